@@ -3,16 +3,16 @@
 use mathlib.Core.Path.{_≡_, refl, sym, ap, ap₂, _∙_}
 use mathlib.Core.List.{List, [], _∷_, _++_}
 use Prim.Native.Nat.{ℕ, zero, suc, _+_, _-_, _*_, _/_, _%_, _^_, _≤_, _<_}
-use native.Mathlib.Nat.{mul-suc, mul-add, mul-assoc, add-mul, add-assoc, mod-one, mod-lt, mod-eq-of-lt, mul-le-mul-right, mul-le-mul-left, mul-left-comm, mul-add-mod-self-right, mul-add-div-right, mul-sub, zero-add, zero-mul, suc-add}
+use native.Mathlib.Nat.{mul-suc, mul-add, mul-assoc, add-mul, add-assoc, mod-one, mod-lt, div-eq-of-lt, div-eq-of-lt-le, mod-eq-of-lt, mul-le-mul-right, mul-le-mul-left, mul-left-comm, mul-add-mod-self-right, mul-add-div-right, mul-sub, one-mul, zero-add, zero-mul, suc-add}
 use native.Mathlib.Omega.{arith}
 use lib.ListN.{length, take, replicate, length-append, length-replicate}
-use lib.Pow.{pow-pos, pow-mono, pow-add, mod-pow-add, high, split, shr-shr, high-ones}
+use lib.Pow.{pow-pos, pow-mono, pow-add, mod-pow-add, high, split, field, shr-shr, high-ones}
 use Rattle.words.specs.Splice.{overlay, splice, part}
 use Rattle.words.specs.Numbers.{Bytes, bytesOf, valueOf, zeroExtended, signBit, signExtended}
 use Rattle.words.proofs.Splices.{splice-same}
 
 -- one byte more
-wider : (n : ℕ) → 2 ^ (8 * suc n) ≡ 256 * 2 ^ (8 * n)
+pub wider : (n : ℕ) → 2 ^ (8 * suc n) ≡ 256 * 2 ^ (8 * n)
 wider n = rw (mul-suc 8 n, pow-add 2 (8 * n) 8) (omega arith)
 
 -- ---- lengths and bounds
@@ -132,6 +132,27 @@ signExtended-below n x h =
     let sign : signBit n x ≤ 1 = omega arith in
     let narrow : 8 * n ≤ 64 = omega arith in
     omega (arith, mul-le-mul-right (2 ^ 64 - 2 ^ (8 * n)) sign, zeroExtended-below n x, pow-mono narrow)
+
+-- the range of n bytes in two halves
+pub halves : (n : ℕ) → 1 ≤ n → 2 ^ (8 * n) ≡ 2 * 2 ^ (8 * n - 1)
+halves n h = let e : 8 * n ≡ 1 + (8 * n - 1) = omega arith in ap (λ (k : ℕ). 2 ^ k) e ∙ pow-add 2 1 (8 * n - 1)
+
+-- two's complement: a number below half of its range stays, another stands as far below 2 ^ 64 as it stands below the end of its range
+sign-is : (n x : ℕ) → 1 ≤ n → signBit n x ≡ zeroExtended n x / 2 ^ (8 * n - 1)
+unfolding signBit zeroExtended
+sign-is n x h =
+    let e : 1 + (8 * n - 1) ≡ 8 * n = omega arith in
+    sym (field x 1 (8 * n - 1)) ∙ ap (λ (k : ℕ). x % 2 ^ k / 2 ^ (8 * n - 1)) e
+
+pub signExtended-positive : (n x : ℕ) → 1 ≤ n → zeroExtended n x < 2 ^ (8 * n - 1) → signExtended n x ≡ zeroExtended n x
+unfolding signExtended
+signExtended-positive n x h small = rw (sign-is n x h, div-eq-of-lt small, zero-mul, zero-add)
+
+pub signExtended-negative : (n x : ℕ) → 1 ≤ n → 2 ^ (8 * n - 1) ≤ zeroExtended n x → signExtended n x ≡ 2 ^ 64 - 2 ^ (8 * n) + zeroExtended n x
+unfolding signExtended
+signExtended-negative n x h large =
+    let one : zeroExtended n x / 2 ^ (8 * n - 1) ≡ 1 = div-eq-of-lt-le (2 ^ (8 * n - 1)) (omega arith) (omega (arith, halves n h, zeroExtended-below n x)) in
+    rw (sign-is n x h, one, one-mul)
 
 -- the bytes above the n lowest, as a number of their own
 signExtended-high : (n x : ℕ) → n ≤ 8 → signExtended n x ≡ signBit n x * (2 ^ (8 * (8 - n)) - 1) * 2 ^ (8 * n) + zeroExtended n x

@@ -143,6 +143,10 @@ overlay-append l [] b = refl
 overlay-append [] (x ∷ a) b = refl
 overlay-append (y ∷ l) (x ∷ a) b = ap (λ (t : List ℕ). x ∷ t) (overlay-append l a b)
 
+-- one byte more at the head of a list
+pub overlay-more : (l bs : List ℕ) (b n : ℕ) → length bs ≡ n → overlay l (bs ++ b ∷ []) ≡ set (overlay l bs) n b
+overlay-more l bs b n e = overlay-append l bs (b ∷ []) ∙ splice-one (overlay l bs) (length bs) b ∙ rw e
+
 -- two runs of bytes put as one are the first and then, after it, the second
 pub splice-append : (l : List ℕ) (n : ℕ) (a b : List ℕ) → splice l n (a ++ b) ≡ splice (splice l n a) (n + length a) b
 unfolding splice
@@ -164,7 +168,7 @@ splice-over l zero a b h = overlay-over l a b h
 splice-over [] (suc n) a b h = refl
 splice-over (x ∷ l) (suc n) a b h = ap (λ (t : List ℕ). x ∷ t) (splice-over l n a b h)
 
-overlay-commute : (l a : List ℕ) (q : ℕ) (b : List ℕ) → length a ≤ q → splice (overlay l a) q b ≡ overlay (splice l q b) a
+pub overlay-commute : (l a : List ℕ) (q : ℕ) (b : List ℕ) → length a ≤ q → splice (overlay l a) q b ≡ overlay (splice l q b) a
 unfolding splice
 overlay-commute l [] q b h = refl
 overlay-commute l (x ∷ a) zero b h = absurd (not-suc-le-zero h)
