@@ -1,20 +1,19 @@
-/* Flakuzhen: how values cross from one machine's calling convention to memory and back, for
- * 64-bit PowerPC (PPC64) and 64-bit zSeries (Z). Link build/libflakuzhen.a or
- * build/libflakuzhen.so.
+/* Flakuzhen: how the values of a call stand in registers and memory on 64-bit PowerPC (PPC64) and
+ * 64-bit zSeries (Z). Link build/libflakuzhen.a or build/libflakuzhen.so.
  *
  * What holds for every function here:
- *  - It is proved to give, for every input, the answer that its definition states. There is no
- *    input that it must not be given.
- *  - A pointer and a length name bytes of the caller's. They are lent for the call alone: nothing
- *    is kept, nothing is allocated and nothing is to be freed. A const pointer's bytes are only
- *    read. The pointer is never null, even for length 0.
- *  - There is no state behind the functions: calls from several threads need no lock, as long as
- *    nothing writes lent bytes during a call.
- *  - An answer's `number` is 0 for yes; else it says why not (enum fz_refusal) and `place` says
- *    where: the offset in the signature of the faulty item's header, or of the first byte too
- *    many. A refusal that concerns no place has place 0. In a refused answer all else is 0.
+ *  - Whatever the numbers and the lent bytes are, the answer is the one that the function's
+ *    definition states. That is proved.
+ *  - A pointer and a length name bytes of the caller's, which are lent for the call alone: nothing
+ *    is kept, allocated or to be freed. Bytes behind a const pointer are only read. A pointer is
+ *    never null, even for length 0.
+ *  - No state is kept between calls. Calls from several threads need no lock, as long as nothing
+ *    writes lent bytes meanwhile.
+ *  - An answer's `number` is 0 for yes; else it says why not (enum fz_refusal), and `place` says
+ *    where: the offset in the signature of the faulty item's header or of the first byte too many.
+ *    A refusal that concerns no place has place 0. In a refused answer all else is 0.
  *
- * Later versions add functions, and words at the end of a struct that is lent by pointer. No word
+ * Later versions add functions, and words at the end of structs that are lent by pointer. No word
  * of a struct ever moves.
  */
 #ifndef FLAKUZHEN_H

@@ -170,6 +170,12 @@ fn sizes_of_structs_within_structs() {
         &structure(&fields),
         1 + 2 + 63 * 3,
     );
+    // an i64 and an i8 take 16 bytes, and what follows starts after them
+    let sixteen = vec![structure(&[I64, I8])];
+    let fields = [sixteen.clone(), vec![I8; 240]].concat();
+    accepted_as_type("16 and 240", &structure(&fields), 1 + 3 + 240);
+    let fields = [sixteen, vec![I8; 241]].concat();
+    refused_as_type("16 and 241", &structure(&fields), 8, 0);
 
     // the inner struct that is too large comes before the outer one
     let large = structure(&vec![DOUBLE; 33]);
@@ -231,6 +237,22 @@ fn a_signature_of_4096_bytes_and_of_4097() {
     refused("4,096 zeros", &[0; 4096], 3, 0);
     refused("4,097 zeros", &[0; 4097], 1, 0);
     refused("70,000 zeros", &[0; 70_000], 1, 0);
+}
+
+#[test]
+fn one_type_that_takes_a_whole_signature() {
+    // a struct's header of 3 bytes, 254 fields of 4 within four structs and one within five
+    let fields = [vec![nested(4, I8); 254], vec![nested(5, I8)]].concat();
+    let whole = structure(&fields);
+    let items = 1 + 254 * 5 + 6;
+    for bytes in both(Some(&whole), &[]) {
+        assert_eq!(bytes.len(), 4096);
+        accepted("in the result", &bytes, 3 + items);
+    }
+    for bytes in both(None, &[whole]) {
+        assert_eq!(bytes.len(), 4096);
+        accepted("in the arguments", &bytes, 3 + items);
+    }
 }
 
 #[test]

@@ -5,10 +5,11 @@
 
 use compare::random::Random;
 use compare::{float_bits, signatures, Difference};
+use std::fmt;
 use std::process::ExitCode;
 use std::time::{Duration, Instant, SystemTime, UNIX_EPOCH};
 
-/// The share of a round: about a fifth of a second.
+/// The share of a round, which takes about a third of a second.
 const SIGNATURES: u64 = 20_000;
 const SINGLES: u64 = 50_000;
 /// How often it says how far it is.
@@ -27,8 +28,8 @@ fn main() -> ExitCode {
     let seed = compare::seed_from_environment().unwrap_or_else(seed_from_the_clock);
     println!("seed {seed:#x}; FLAKUZHEN_SEED={seed:#x} runs the same again");
     match soak(seed, Duration::from_secs(seconds)) {
-        Ok(cases) => {
-            println!("done: {cases} cases, no difference");
+        Ok(done) => {
+            println!("done: {done}; no difference");
             ExitCode::SUCCESS
         }
         Err(difference) => {
@@ -43,28 +44,42 @@ fn seed_from_the_clock() -> u64 {
     now.map_or(0, |since| since.as_nanos() as u64)
 }
 
-/// Rounds until the time is over; gives the count of cases.
-fn soak(seed: u64, time: Duration) -> Result<u64, Difference> {
+/// How many cases were compared.
+#[derive(Default)]
+struct Cases {
+    signatures: u64,
+    floats: u64,
+}
+
+impl fmt::Display for Cases {
+    fn fmt(&self, to: &mut fmt::Formatter<'_>) -> fmt::Result {
+        let Cases { signatures, floats } = self;
+        write!(to, "{signatures} signatures, {floats} float conversions")
+    }
+}
+
+/// Rounds until the time is over.
+fn soak(seed: u64, time: Duration) -> Result<Cases, Difference> {
     let began = Instant::now();
     let mut told = began;
     let mut seeds = Random::new(seed);
-    let mut cases = 0;
+    let mut done = Cases::default();
     while began.elapsed() < time {
-        cases += round(seeds.number())?;
+        round(seeds.number(), &mut done)?;
         if told.elapsed() >= PACE {
             told = Instant::now();
             let spent = began.elapsed();
-            let rate = cases as f64 / spent.as_secs_f64();
+            let rate = (done.signatures + done.floats) as f64 / spent.as_secs_f64();
             let left = time.saturating_sub(spent).as_secs();
-            println!("seed {seed:#x}: {cases} cases, {rate:.0} a second, {left} s left");
+            println!("seed {seed:#x}: {done}; {rate:.0} a second; {left} s left");
         }
     }
-    Ok(cases)
+    Ok(done)
 }
 
-fn round(seed: u64) -> Result<u64, Difference> {
+fn round(seed: u64, done: &mut Cases) -> Result<(), Difference> {
     let told = |difference: Difference| Difference(format!("round {seed:#x}: {difference}"));
-    let signatures = signatures::run(seed, SIGNATURES).map_err(told)?;
-    let floats = float_bits::run(seed, SINGLES).map_err(told)?;
-    Ok(signatures.total() + floats.total())
+    done.signatures += signatures::run(seed, SIGNATURES).map_err(told)?.total();
+    done.floats += float_bits::run(seed, SINGLES).map_err(told)?.total();
+    Ok(())
 }
