@@ -53,19 +53,19 @@ extern "C" {
  * answer. */
 enum fz_refusal {
     FZ_ACCEPTED = 0,
-    FZ_SIGNATURE_TOO_LONG = 1,    /* over 4,096 bytes; tested before all else; place 0 */
-    FZ_NO_ROOM = 2,               /* fewer than 3 bytes for a header, or the length passes the
+    FZ_TOO_LONG = 1,              /* over 4,096 bytes; tested before all else; place 0 */
+    FZ_TRUNCATED = 2,             /* fewer than 3 bytes for a header, or the length passes the
                                      end of what the item stands in */
-    FZ_BAD_TAG = 3,               /* a tag that is not allowed there */
-    FZ_BAD_BODY = 4,              /* a length or a code that is not allowed; an empty struct;
+    FZ_UNEXPECTED_TAG = 3,        /* a tag that is not allowed there */
+    FZ_MALFORMED = 4,             /* a length or a code that is not allowed; an empty struct;
                                      bytes after the result's one type (place: the first) */
     FZ_LONG_DOUBLE_IN_STRUCT = 5, /* a long double inside a struct */
-    FZ_STRUCT_TOO_DEEP = 6,       /* structs nested deeper than 8, where an argument's or a
+    FZ_TOO_DEEP = 6,              /* structs nested deeper than 8, where an argument's or a
                                      result's own struct has depth 1 */
     FZ_TOO_MANY_ARGUMENTS = 7,    /* bytes after the 64th argument (place: the first) */
     FZ_STRUCT_TOO_LARGE = 8,      /* a struct of over 256 bytes */
-    FZ_BYTES_AFTER_END = 9,       /* bytes after the third item (place: the first) */
-    FZ_NO_WIDENED_SINGLE = 14     /* the bits of a double that is no widened single; place 0 */
+    FZ_TRAILING_BYTES = 9,        /* bytes after the third item (place: the first) */
+    FZ_NOT_WIDENED = 14           /* the bits of a double that is no widened single; place 0 */
 };
 
 typedef struct {
@@ -75,7 +75,7 @@ typedef struct {
 } fz_answer;
 
 typedef struct {
-    uint64_t number; /* 0, or FZ_NO_WIDENED_SINGLE */
+    uint64_t number; /* 0, or FZ_NOT_WIDENED */
     uint64_t place;  /* 0 */
     uint64_t bits;
 } fz_narrowed;

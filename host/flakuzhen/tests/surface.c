@@ -38,8 +38,8 @@ static void check_reading(void)
     fz_answer none = fz_read_signature(sig, 0);
 
     CHECK(yes.number == FZ_ACCEPTED && yes.place == 0 && yes.items == 5);
-    CHECK(no.number == FZ_NO_ROOM && no.place == 7 && no.items == 0);
-    CHECK(none.number == FZ_NO_ROOM && none.place == 0 && none.items == 0);
+    CHECK(no.number == FZ_TRUNCATED && no.place == 7 && no.items == 0);
+    CHECK(none.number == FZ_TRUNCATED && none.place == 0 && none.items == 0);
 }
 
 static void check_float_bits(void)
@@ -50,7 +50,7 @@ static void check_float_bits(void)
     CHECK(fz_widen(UINT64_C(0x00000001)) == UINT64_C(0x36A0000000000000));
     CHECK(fz_widen(UINT64_C(0xFFFFFFFF3F800000)) == UINT64_C(0x3FF0000000000000));
     CHECK(yes.number == FZ_ACCEPTED && yes.place == 0 && yes.bits == UINT64_C(0x7F800001));
-    CHECK(no.number == FZ_NO_WIDENED_SINGLE && no.place == 0 && no.bits == 0);
+    CHECK(no.number == FZ_NOT_WIDENED && no.place == 0 && no.bits == 0);
 }
 
 int main(void)
