@@ -11,7 +11,7 @@ use Rattle.words.specs.Splice.{overlay, splice, part}
 use Rattle.words.specs.Numbers.{Bytes, bytesOf, valueOf, zeroExtended, signBit, signExtended}
 use Rattle.words.proofs.Splices.{splice-same}
 
--- one byte more
+-- the range of one byte more
 pub wider : (n : ℕ) → 2 ^ (8 * suc n) ≡ 256 * 2 ^ (8 * n)
 wider n = rw (mul-suc 8 n, pow-add 2 (8 * n) 8) (omega arith)
 
@@ -77,7 +77,8 @@ unfolding bytesOf valueOf
 value-bytesOf zero x = sym (mod-one x)
 value-bytesOf (suc n) x =
     let e : 8 + 8 * n ≡ 8 * suc n = omega (arith, mul-suc 8 n) in
-    rw (length-bytesOf n x, value-bytesOf n x) (sym (mod-pow-add x 8 (8 * n)) ∙ ap (λ (k : ℕ). x % 2 ^ k) e)
+    ap₂ (λ (w v : ℕ). x / 2 ^ (8 * n) % 256 * 2 ^ (8 * w) + v) (length-bytesOf n x) (value-bytesOf n x)
+    ∙ sym (mod-pow-add x 8 (8 * n)) ∙ ap (λ (k : ℕ). x % 2 ^ k) e
 
 pub value-back : (n x : ℕ) → x < 2 ^ (8 * n) → valueOf (bytesOf n x) ≡ x
 value-back n x h = value-bytesOf n x ∙ mod-eq-of-lt h
@@ -114,8 +115,8 @@ bytesOf-append (suc m) n x =
 -- ---- in memory
 
 -- a number that was stored is loaded again
-pub value-splice : (l : List ℕ) (at n x : ℕ) → at + n ≤ length l → x < 2 ^ (8 * n) → valueOf (part at n (splice l at (bytesOf n x))) ≡ x
-value-splice l at n x room small =
+pub load-after-store : (l : List ℕ) (at n x : ℕ) → at + n ≤ length l → x < 2 ^ (8 * n) → valueOf (part at n (splice l at (bytesOf n x))) ≡ x
+load-after-store l at n x room small =
     let e : length (bytesOf n x) ≡ n = length-bytesOf n x in
     let same : part at (length (bytesOf n x)) (splice l at (bytesOf n x)) ≡ bytesOf n x = splice-same l at (bytesOf n x) (omega arith) in
     ap valueOf (rw e at same) ∙ value-back n x small
@@ -137,13 +138,14 @@ signExtended-below n x h =
 pub halves : (n : ℕ) → 1 ≤ n → 2 ^ (8 * n) ≡ 2 * 2 ^ (8 * n - 1)
 halves n h = let e : 8 * n ≡ 1 + (8 * n - 1) = omega arith in ap (λ (k : ℕ). 2 ^ k) e ∙ pow-add 2 1 (8 * n - 1)
 
--- two's complement: a number below half of its range stays, another stands as far below 2 ^ 64 as it stands below the end of its range
+-- the sign tells the halves apart
 sign-is : (n x : ℕ) → 1 ≤ n → signBit n x ≡ zeroExtended n x / 2 ^ (8 * n - 1)
 unfolding signBit zeroExtended
 sign-is n x h =
     let e : 1 + (8 * n - 1) ≡ 8 * n = omega arith in
     sym (field x 1 (8 * n - 1)) ∙ ap (λ (k : ℕ). x % 2 ^ k / 2 ^ (8 * n - 1)) e
 
+-- two's complement: a number in the lower half of its range stays, one in the upper half stands as far below 2 ^ 64 as it stood below the end of its range
 pub signExtended-positive : (n x : ℕ) → 1 ≤ n → zeroExtended n x < 2 ^ (8 * n - 1) → signExtended n x ≡ zeroExtended n x
 unfolding signExtended
 signExtended-positive n x h small = rw (sign-is n x h, div-eq-of-lt small, zero-mul, zero-add)
@@ -173,9 +175,9 @@ value-fill (suc m) s =
     (omega (arith, mul-le-mul-left s (pow-pos (8 * m)), mul-assoc 255 s w, mul-left-comm s 256 w))
 
 -- they stand above the n lowest bytes of x, eight in all
-filled : (n s x : ℕ) → n ≤ 8 → s < 2 → bytesOf 8 (s * (2 ^ (8 * (8 - n)) - 1) * 2 ^ (8 * n) + zeroExtended n x) ≡ replicate (8 - n) (255 * s) ++ bytesOf n x
+doubleword-filled : (n s x : ℕ) → n ≤ 8 → s < 2 → bytesOf 8 (s * (2 ^ (8 * (8 - n)) - 1) * 2 ^ (8 * n) + zeroExtended n x) ≡ replicate (8 - n) (255 * s) ++ bytesOf n x
 unfolding zeroExtended
-filled n s x h t =
+doubleword-filled n s x h t =
     let bs : List ℕ = replicate (8 - n) (255 * s) ++ bytesOf n x in
     let eight : length bs ≡ 8 = simp (length-append, length-replicate, length-bytesOf) (omega arith) in
     let bytes : Bytes bs = bytes-append (replicate (8 - n) (255 * s)) (bytesOf n x) (bytes-replicate (8 - n) (255 * s) (omega arith)) (bytes-bytesOf n x) in
@@ -191,11 +193,11 @@ pub bytesOf-signExtended : (n x : ℕ) → n ≤ 8 → bytesOf n (signExtended n
 bytesOf-signExtended n x h = rw (signExtended-high n x h, bytesOf-low) (bytesOf-zeroExtended n x)
 
 -- all eight bytes of an extended number: zeros above, or the sign's byte, 0 or 255
-pub eight-zeroExtended : (n x : ℕ) → n ≤ 8 → bytesOf 8 (zeroExtended n x) ≡ replicate (8 - n) 0 ++ bytesOf n x
-eight-zeroExtended n x h =
+pub doubleword-zeroExtended : (n x : ℕ) → n ≤ 8 → bytesOf 8 (zeroExtended n x) ≡ replicate (8 - n) 0 ++ bytesOf n x
+doubleword-zeroExtended n x h =
     let e : zeroExtended n x ≡ 0 * (2 ^ (8 * (8 - n)) - 1) * 2 ^ (8 * n) + zeroExtended n x = rw (zero-mul, zero-mul, zero-add) in
-    ap (bytesOf 8) e ∙ filled n 0 x h (omega arith)
+    ap (bytesOf 8) e ∙ doubleword-filled n 0 x h (omega arith)
 
-pub eight-signExtended : (n x : ℕ) → n ≤ 8 → bytesOf 8 (signExtended n x) ≡ replicate (8 - n) (255 * signBit n x) ++ bytesOf n x
+pub doubleword-signExtended : (n x : ℕ) → n ≤ 8 → bytesOf 8 (signExtended n x) ≡ replicate (8 - n) (255 * signBit n x) ++ bytesOf n x
 unfolding signBit
-eight-signExtended n x h = ap (bytesOf 8) (signExtended-high n x h) ∙ filled n (signBit n x) x h (omega arith)
+doubleword-signExtended n x h = ap (bytesOf 8) (signExtended-high n x h) ∙ doubleword-filled n (signBit n x) x h (omega arith)

@@ -43,6 +43,10 @@ splice-is [] (suc n) [] = refl
 splice-is [] (suc n) (b ∷ bs) = refl
 splice-is (x ∷ l) (suc n) bs = ap (λ (t : List ℕ). x ∷ t) (splice-is l n bs)
 
+pub splice-head : (l bs : List ℕ) → splice l 0 bs ≡ overlay l bs
+unfolding splice
+splice-head l bs = refl
+
 -- one byte is a store at an index
 pub splice-one : (l : List ℕ) (n b : ℕ) → splice l n (b ∷ []) ≡ set l n b
 unfolding splice

@@ -5,7 +5,7 @@ use Prim.Native.Nat.{ℕ, zero, suc, _+_, _-_, _*_, _/_, _%_, _^_, _<_}
 use mathlib.Core.List.{List, [], _∷_}
 use lib.ListN.{length, getD}
 
--- each element of bs is a byte
+-- each element of bs is a byte of eight bits, as document 01 takes for granted ("bytes", "64 bits", "8 bytes"). Past the end of bs, 0 stands for no byte
 abbrev pub Bytes : List ℕ → Type 0
 Bytes bs = (i : ℕ) → getD bs i 0 < 256
 
@@ -23,7 +23,7 @@ valueOf (b ∷ bs) = b * 2 ^ (8 * length bs) + valueOf bs
 unfoldable pub zeroExtended : ℕ → ℕ → ℕ
 zeroExtended n x = x % 2 ^ (8 * n)
 
--- the sign of the n lowest bytes of x in two's complement, their top bit: 1 for a negative number, else 0
+-- the sign in "sign-extended": the top bit of the n lowest bytes of x, in two's complement 1 for a negative number, else 0
 unfoldable pub signBit : ℕ → ℕ → ℕ
 signBit n x = x / 2 ^ (8 * n - 1) % 2
 

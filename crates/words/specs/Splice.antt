@@ -7,13 +7,14 @@ use mathlib.Core.Logic.{_⊎_}
 use mathlib.Core.List.{List, [], _∷_}
 use lib.ListN.{take, drop}
 
--- bs over the head of l; what of bs would pass the end of l is lost
+-- bs over the head of l; what of bs would pass the end of l is lost. What a writer leaves in a part that "starts at its offset" and is "written there"
+-- ("Choosing the form by place")
 unfoldable pub overlay : List ℕ → List ℕ → List ℕ
 overlay l [] = l
 overlay [] (b ∷ bs) = []
 overlay (x ∷ l) (b ∷ bs) = b ∷ overlay l bs
 
--- bs over l from the offset n on: the write that "changes nothing else"
+-- bs over l from the offset n on: the same write seen from the whole buffer, which "changes nothing else" ("Frames")
 unfoldable pub splice : List ℕ → ℕ → List ℕ → List ℕ
 unfolding overlay
 splice l zero bs = overlay l bs
@@ -24,6 +25,6 @@ splice (x ∷ l) (suc n) bs = x ∷ splice l n bs
 abbrev pub part : ℕ → ℕ → List ℕ → List ℕ
 part n m l = take m (drop n l)
 
--- the m bytes from p on and the n bytes from q on have no byte in common
+-- the m bytes from p on and the n bytes from q on have no byte in common: where "nothing else" ("Frames") is, seen from a write
 abbrev pub Apart : ℕ → ℕ → ℕ → ℕ → Type 0
 Apart p m q n = (p + m ≤ q) ⊎ (q + n ≤ p)

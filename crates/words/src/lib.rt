@@ -1,5 +1,6 @@
 // Big-endian numbers in lent bytes, and bytes put at the head of a lent part. A function that writes is lent the part that starts where it is to write,
-// so that every caller's write is a splice (the law `lent-tail`). Nothing here knows of signatures or frames.
+// so that every caller's write is a splice (the law `lent-tail`). The loops are plain: at the constant width 8 the compiler makes of `load` and `store` one
+// load or store with its bytes swapped. Nothing here knows of signatures or frames.
 ghost use mathlib.Core.Path.{_≡_};
 ghost use Prim.Native.Nat.{_+_, _≤_};
 ghost use lib.ListN.{length, replicate};
