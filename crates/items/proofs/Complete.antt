@@ -60,7 +60,7 @@ same-sequence reader e ts p q r = cc
 
 module _ (c : Convention) (s : List ℕ) where
   -- the header of an encoded item
-  header-reads : (low high tag : ℕ) (body : List ℕ) (e at next : ℕ) → low ≤ tag → tag ≤ high → Has s at (item tag body) →
+  pub header-reads : (low high tag : ℕ) (body : List ℕ) (e at next : ℕ) → low ≤ tag → tag ≤ high → Has s at (item tag body) →
       next ≡ at + 3 + length body → next ≤ e → bodyAt s low high e at ≡ Body.To next
   header-reads low high tag body e at next l u h q room =
       let is = item-tag s tag body at h in

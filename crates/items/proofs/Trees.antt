@@ -5,6 +5,7 @@ use mathlib.Core.List.{List, [], _∷_, _++_}
 use lib.ListN.{length, getD, length-append}
 use native.Mathlib.Omega.{arith}
 use Rattle.words.specs.Numbers.{Bytes}
+use Rattle.words.proofs.Numbers.{bytes-append}
 use Rattle.types.specs.declared.IntegerKind.{IntegerKind}
 use Rattle.types.specs.declared.FloatFormat.{FloatFormat}
 use Rattle.types.specs.Trees.{Tree, Trees, integer, float, struct, none, _▸_, countOf}
@@ -57,10 +58,6 @@ bytes-none i = omega arith
 pub bytes-cons : (x : ℕ) (l : List ℕ) → x < 256 → Bytes l → Bytes (x ∷ l)
 bytes-cons x l h b zero = h
 bytes-cons x l h b (suc i) = b i
-
-pub bytes-append : (a b : List ℕ) → Bytes a → Bytes b → Bytes (a ++ b)
-bytes-append [] b f g = g
-bytes-append (x ∷ a) b f g = bytes-cons x (a ++ b) (f 0) (bytes-append a b (λ i. f (suc i)) g)
 
 pub bytes-item : (tag : ℕ) (body : List ℕ) → tag < 256 → length body < 65536 → Bytes body → Bytes (item tag body)
 unfolding item

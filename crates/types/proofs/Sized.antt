@@ -5,7 +5,7 @@ use native.Mathlib.Omega.{arith}
 use Rattle.types.specs.declared.Convention.{Convention}
 use Rattle.types.specs.Sizes.{Sized}
 use Rattle.types.specs.Trees.{Tree, Trees, integer, float, struct, none, _▸_, typeOf, fieldsOf}
-use Rattle.types.specs.Limits.{Some, Fits, AllFit}
+use Rattle.types.specs.Limits.{Some, Fits, AllFit, Within, AllWithin, AllSized}
 use Rattle.types.proofs.Laws.{integer-sized, float-sized, Aligned, none-aligned, more-aligned, more-some, shape-sized}
 
 mutual
@@ -23,3 +23,11 @@ mutual
   fields-some : (c : Convention) (ts : Trees) → AllFit c ts → Some ts → 0 < fieldsOf c ts .end
   fields-some c none f s = absurd s
   fields-some c (ts ▸ t) f s = more-some c (fieldsOf c ts) (typeOf c t) (fits-sized c true t (f .1))
+
+pub within-sized : (c : Convention) (t : Tree) → Within c t → Sized c (typeOf c t)
+within-sized c t w = fits-sized c false t (w .fits)
+
+pub all-within-sized : (c : Convention) (ts : Trees) → AllWithin c ts → AllSized c ts
+unfolding AllWithin AllSized
+all-within-sized c none w = tt
+all-within-sized c (ts ▸ t) w = (all-within-sized c ts (w .0), within-sized c t (w .1))

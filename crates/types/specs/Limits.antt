@@ -4,7 +4,7 @@ use Prim.Native.Nat.{ℕ, _+_, _≤_, max}
 use mathlib.Core.Bool.{Bool, true, false}
 use Rattle.types.specs.declared.Convention.{Convention}
 use Rattle.types.specs.declared.FloatFormat.{FloatFormat}
-use Rattle.types.specs.Sizes.{sizeOf}
+use Rattle.types.specs.Sizes.{sizeOf, Sized}
 use Rattle.types.specs.Trees.{Tree, Trees, integer, float, struct, none, _▸_, typeOf}
 
 -- how deep structs stand in each other: "an argument or result struct has depth 1"
@@ -51,3 +51,8 @@ pub record Within (c : Convention) (t : Tree) : Type 0 where
 unfoldable pub AllWithin : Convention → Trees → Type 0
 AllWithin c none = Unit {0}
 AllWithin c (ts ▸ t) = AllWithin c ts × Within c t
+
+-- each type has a size of 1 to 256 bytes and an alignment of 1 to 16
+unfoldable pub AllSized : Convention → Trees → Type 0
+AllSized c none = Unit {0}
+AllSized c (ts ▸ t) = AllSized c ts × Sized c (typeOf c t)
