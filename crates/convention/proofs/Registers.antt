@@ -13,7 +13,10 @@ use Rattle.convention.specs.declared.Cursor.{Cursor}
 use Rattle.convention.specs.declared.Span.{Span}
 use Rattle.convention.specs.declared.RegisterRange.{RegisterRange}
 use Rattle.convention.specs.declared.Rules.{Rules}
+use Rattle.convention.specs.declared.ZClass.{ZClass}
+use Rattle.convention.specs.ZSeries.{zClass, zSpanOf}
 use Rattle.convention.specs.Step.{spanOf, nextOf}
+use Rattle.convention.specs.Spots.{Spot, general, floating, area, copies, Owns, ArgumentRegister}
 use Rattle.convention.specs.Places.{upFrom, register, registersIn, registersOf, registerCount, Numbered, noPlace}
 use Rattle.convention.proofs.Between.{step-between}
 use Rattle.convention.proofs.Bounds.{Named, named-next}
@@ -67,9 +70,35 @@ named-small : (r : Rules) (c : Cursor) → Named r c → (c .general ≤ 32) × 
 named-small (Rules.Power f) c h = omega arith
 named-small Rules.Z c h = omega arith
 
--- a step's registers are among the 32 of their bank
+-- a step's registers are numbers of their bank
 pub step-numbered : (r : Rules) (c : Cursor) (t : ValueType) (n : ℕ) → Named r c → Numbered (spanOf r c t n)
 step-numbered r c t n h =
     let b = step-between r c t n in
     let s = named-small r (nextOf r c t n) (named-next r c t n h) in
     omega arith
+
+z-registers : (c : Cursor) (class : ZClass) (n : ℕ) (x : Spot) → Named Rules.Z c → Owns (zSpanOf c class n) x → ArgumentRegister Rules.Z x
+unfolding zSpanOf
+z-registers c ZClass.Float n (general k) h o = omega arith
+z-registers c ZClass.Simple n (general k) h o = omega arith
+z-registers c ZClass.Reference n (general k) h o = omega arith
+z-registers c ZClass.Float n (floating k) h o = let e : k ≡ c .floating = omega arith in rw e (omega arith)
+z-registers c ZClass.Simple n (floating k) h o = absurd (omega arith)
+z-registers c ZClass.Reference n (floating k) h o = absurd (omega arith)
+z-registers c class n (area k) h o = tt
+z-registers c class n (copies k) h o = tt
+
+-- and those that the convention names
+pub step-registers : (r : Rules) (c : Cursor) (t : ValueType) (n : ℕ) (x : Spot) → Named r c → Owns (spanOf r c t n) x → ArgumentRegister r x
+unfolding spanOf
+step-registers (Rules.Power f) c t n (general k) h o =
+    let b = step-between (Rules.Power f) c t n in
+    let d = named-next (Rules.Power f) c t n h in
+    omega arith
+step-registers (Rules.Power f) c t n (floating k) h o =
+    let b = step-between (Rules.Power f) c t n in
+    let d = named-next (Rules.Power f) c t n h in
+    omega arith
+step-registers (Rules.Power f) c t n (area k) h o = tt
+step-registers (Rules.Power f) c t n (copies k) h o = tt
+step-registers Rules.Z c t n x h o = z-registers c (zClass t n) n x h o
