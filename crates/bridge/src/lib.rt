@@ -7,7 +7,7 @@ ghost use Prim.Native.Nat.{_%_, _^_};
 ghost use Rattle.ieee.specs.Widening.{widen};
 ghost use Rattle.ieee.specs.Narrowing.{narrow};
 ghost use Rattle.signature.specs.Read.{signatureOf};
-ghost use Rattle.bridge.specs.Surface.{readingAnswer, narrowingAnswer};
+ghost use Rattle.bridge.specs.Surface.{readingAnswer, sizesAnswer, narrowingAnswer};
 
 // `fz_answer`: number 0 is yes.
 #[repr(C)]
@@ -15,6 +15,15 @@ pub struct Answer {
     pub number: u64,
     pub place: u64,
     pub items: u64,
+}
+
+// `fz_sizes`: the bytes that the values, the parameter area and the copies of a call take.
+#[repr(C)]
+pub struct Sizes {
+    pub answer: Answer,
+    pub values: u64,
+    pub area: u64,
+    pub copies: u64,
 }
 
 // `fz_narrowed`: number 0 is yes, 14 no.
@@ -41,6 +50,39 @@ pub extern "C" fn fz_read_signature(sig: &[u8]) -> Answer
             number: items::number_of(reason),
             place: place as u64,
             items: 0,
+        },
+    }
+}
+
+#[no_mangle]
+pub extern "C" fn fz_measure(sig: &[u8]) -> Sizes
+    ensures { λ r. ⌜ r ≡ sizesAnswer (signatureOf (now (sig .entry))) ⌝ }
+{
+    let p = plan::plan_of(sig);
+    let values = p.values as u64;
+    let area = p.area as u64;
+    let copies = p.copies as u64;
+    let outcome = p.outcome;
+    match outcome {
+        Outcome::Accepted(_) => Sizes {
+            answer: Answer {
+                number: 0,
+                place: 0,
+                items: 0,
+            },
+            values,
+            area,
+            copies,
+        },
+        Outcome::Refused { reason, place } => Sizes {
+            answer: Answer {
+                number: items::number_of(reason),
+                place: place as u64,
+                items: 0,
+            },
+            values: 0,
+            area: 0,
+            copies: 0,
         },
     }
 }
