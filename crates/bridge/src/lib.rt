@@ -6,6 +6,9 @@ ghost use mathlib.Core.Path.{_≡_};
 ghost use Prim.Native.Nat.{_%_, _^_};
 ghost use Rattle.ieee.specs.Widening.{widen};
 ghost use Rattle.ieee.specs.Narrowing.{narrow};
+ghost use lib.ListN.{length};
+ghost use Rattle.listing.specs.Text.{listingOf};
+ghost use Rattle.listing.specs.Writing.{printed};
 ghost use Rattle.signature.specs.Read.{signatureOf};
 ghost use Rattle.bridge.specs.Surface.{readingAnswer, sizesAnswer, narrowingAnswer};
 
@@ -85,6 +88,14 @@ pub extern "C" fn fz_measure(sig: &[u8]) -> Sizes
             copies: 0,
         },
     }
+}
+
+// The length of the printed plan, which is put at the head of the text where there is room for all of it.
+#[no_mangle]
+pub extern "C" fn fz_listing(sig: &[u8], text: &mut [u8]) -> u64
+    ensures { λ r. ⌜ (r ≡ length (listingOf (now (sig .entry)))) × (now (text .exit) ≡ printed (now (text .entry)) (listingOf (now (sig .entry)))) ⌝ }
+{
+    listing::listing(sig, text) as u64
 }
 
 // The low 32 bits are widened.

@@ -1,5 +1,6 @@
 -- A span's registers one by one. Assumes nothing.
 use mathlib.Core.Path.{_≡_, refl, sym, ap, _∙_}
+use mathlib.Core.Bool.{Bool, true, false}
 use mathlib.Core.List.{List, [], _∷_, _++_, map}
 use Prim.Native.Nat.{ℕ, zero, suc, _+_, _-_, _≤_, _<_}
 use native.Mathlib.Omega.{arith}
@@ -13,13 +14,15 @@ use Rattle.convention.specs.declared.Cursor.{Cursor}
 use Rattle.convention.specs.declared.Span.{Span}
 use Rattle.convention.specs.declared.RegisterRange.{RegisterRange}
 use Rattle.convention.specs.declared.Rules.{Rules}
+use Rattle.convention.specs.declared.ResultPlaces.{ResultPlaces}
 use Rattle.convention.specs.declared.ZClass.{ZClass}
 use Rattle.convention.specs.ZSeries.{zClass, zSpanOf}
-use Rattle.convention.specs.Step.{spanOf, nextOf}
+use Rattle.convention.specs.Values.{pick, pointer}
+use Rattle.convention.specs.Step.{wordOf, spanOf, nextOf, fresh, hiddenFor, returning, resultOf}
 use Rattle.convention.specs.Spots.{Spot, general, floating, area, copies, Owns, ArgumentRegister}
-use Rattle.convention.specs.Places.{upFrom, register, registersIn, registersOf, registerCount, Numbered, noPlace}
+use Rattle.convention.specs.Places.{upFrom, register, registersIn, registersOf, registerCount, Numbered, ResultNumbered, noPlace}
 use Rattle.convention.proofs.Between.{step-between}
-use Rattle.convention.proofs.Bounds.{Named, named-next}
+use Rattle.convention.proofs.Bounds.{Named, named-fresh, named-next}
 
 -- ---- length
 
@@ -76,6 +79,20 @@ step-numbered r c t n h =
     let b = step-between r c t n in
     let s = named-small r (nextOf r c t n) (named-next r c t n h) in
     omega arith
+
+named-returning : (r : Rules) → Named (returning r) (fresh r)
+unfolding returning fresh
+named-returning (Rules.Power f) = omega arith
+named-returning Rules.Z = omega arith
+
+-- those of a result too
+pub result-numbered : (r : Rules) (t : ValueType) (n : ℕ) → ResultNumbered (resultOf r t n)
+unfolding resultOf
+result-numbered r t n = go (hiddenFor r t)
+  where
+    go : (h : Bool) → ResultNumbered (pick h (ResultPlaces.Hidden (spanOf r (fresh r) pointer (wordOf r))) (ResultPlaces.Registers (spanOf (returning r) (fresh r) t n)))
+    go true = step-numbered r (fresh r) pointer (wordOf r) (named-fresh r)
+    go false = step-numbered (returning r) (fresh r) t n (named-returning r)
 
 z-registers : (c : Cursor) (class : ZClass) (n : ℕ) (x : Spot) → Named Rules.Z c → Owns (zSpanOf c class n) x → ArgumentRegister Rules.Z x
 unfolding zSpanOf

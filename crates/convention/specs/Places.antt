@@ -6,6 +6,7 @@ use Rattle.convention.specs.declared.Bank.{Bank}
 use Rattle.convention.specs.declared.Place.{Place}
 use Rattle.convention.specs.declared.RegisterRange.{RegisterRange}
 use Rattle.convention.specs.declared.Span.{Span}
+use Rattle.convention.specs.declared.ResultPlaces.{ResultPlaces}
 
 -- n numbers from `first` on, each `by` more than the one before
 unfoldable pub upFrom : ℕ → ℕ → ℕ → List ℕ
@@ -28,6 +29,11 @@ registerCount s = s .floating .count + s .general .count
 -- register numbers that fit their type
 abbrev pub Numbered : Span → Type 0
 Numbered s = (s .floating .first + s .floating .count ≤ 32) × (s .general .first + s .general .count ≤ 32)
+
+abbrev pub ResultNumbered : ResultPlaces → Type 0
+ResultNumbered ResultPlaces.Nothing = Unit {0}
+ResultNumbered (ResultPlaces.Registers s) = Numbered s
+ResultNumbered (ResultPlaces.Hidden s) = Numbered s
 
 -- the words of w bytes in memory
 unfoldable pub memoryOf : ℕ → Span → List Place

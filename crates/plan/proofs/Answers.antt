@@ -21,8 +21,10 @@ use Rattle.signature.specs.Read.{signatureOf}
 use Rattle.signature.specs.Answer.{argument, listed, table, resultType, signatureAnswer}
 use Rattle.signature.specs.Exact.{ResultSized}
 use Rattle.signature.proofs.Theorems.{accepted}
-use Rattle.plan.specs.Plan.{planIn, typesOf, planAnswer, typeIn, typesIn, planned}
+use Rattle.convention.specs.Step.{rulesOf}
+use Rattle.plan.specs.Plan.{spansOf, tableOf, startIn, planIn, typesOf, planAnswer, typeIn, typesIn, planned}
 use Rattle.plan.specs.Limits.{SmallResult, Plannable}
+use Rattle.plan.proofs.Fold.{length-spans}
 
 abbrev blank : Argument
 blank = argument (ValueType.Integer IntegerKind.I8)
@@ -97,3 +99,37 @@ pub planned-answer : (x : Reading Signature) → planned (signatureAnswer x) ≡
 unfolding planned planAnswer
 planned-answer (got g next n) = ap (planIn n (g .convention) (resultType (g .convention) (g .result))) (table-types (g .convention) (g .arguments))
 planned-answer (no r place) = refl
+
+-- ---- its counts
+
+length-of-types : (c : Convention) (ts : Trees) → length (typesOf c ts) ≡ countOf ts
+length-of-types c ts = sym (ap length (listed-types c ts)) ∙ length-map (listed c ts) ∙ length-listed c ts
+  where
+    length-map : (l : List Argument) → length (map typeIn l) ≡ length l
+    length-map [] = refl
+    length-map (a ∷ l) = ap suc (length-map l)
+
+few : (g : Signature) (next n : ℕ) → countOf (g .arguments) ≤ 64 → planAnswer (got g next n) .count ≤ 64
+unfolding planAnswer planIn
+few g next n h = omega (arith, length-of-types (g .convention) (g .arguments))
+
+none-few : (r : Refusal) (place : ℕ) → planAnswer (no r place) .count ≤ 64
+unfolding planAnswer
+none-few r place = omega arith
+
+-- no plan has more than 64 arguments
+pub answer-few : (s : List ℕ) → planAnswer (signatureOf s) .count ≤ 64
+answer-few s = go (signatureOf s) refl
+  where
+    go : (x : Reading Signature) → signatureOf s ≡ x → planAnswer x .count ≤ 64
+    go (got g next n) e = few g next n (accepted s g next n e .within .few)
+    go (no r place) e = none-few r place
+
+-- its table has a span for each
+pub answer-table : (x : Reading Signature) → planAnswer x .count ≤ length (planAnswer x .spans)
+unfolding planAnswer planIn tableOf
+answer-table (got g next n) =
+    let c = g .convention in
+    let k = startIn c (resultType c (g .result)) in
+    simp length-append (omega (arith, length-spans c (rulesOf c) k (typesOf c (g .arguments))))
+answer-table (no r place) = omega arith
