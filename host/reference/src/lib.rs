@@ -6,9 +6,13 @@
 #![forbid(unsafe_code)]
 
 pub mod float_bits;
+mod listing;
+mod planner;
 mod reader;
 mod types;
 
+pub use listing::listing;
+pub use planner::{float_equivalent, plan, ArgumentPlan, Place, Plan, ResultPlan};
 pub use reader::read;
 pub use types::{struct_size, Convention, Float, Integer, Signature, Type};
 
