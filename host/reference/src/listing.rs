@@ -1,16 +1,22 @@
 //! A plan in print (document 01, "Sums to check against").
 
-use crate::{plan, read, Convention, Place, Plan, ResultPlan};
+use crate::{plan, read, Convention, Place, Plan, Refusal, ResultPlan};
 
 /// The listing of a signature's plan, or the line that says why it is refused.
 pub fn listing(bytes: &[u8]) -> String {
     match read(bytes) {
         Ok(signature) => listing_of(&plan(&signature)),
-        Err(refusal) => format!("refused {} at {}\n", refusal.number, refusal.place),
+        Err(refusal) => refusal_line(&refusal),
     }
 }
 
-fn listing_of(plan: &Plan) -> String {
+/// "A refusal prints `refused 2 at 0`", and a newline as after every line.
+pub fn refusal_line(refusal: &Refusal) -> String {
+    format!("refused {} at {}\n", refusal.number, refusal.place)
+}
+
+/// A plan in print.
+pub fn listing_of(plan: &Plan) -> String {
     let convention = match plan.convention {
         Convention::Ppc64 => "PPC64",
         Convention::Z => "Z",
