@@ -6,6 +6,7 @@
 pub mod encode;
 pub mod float_bits;
 pub mod generate;
+pub mod plans;
 pub mod random;
 pub mod signatures;
 
