@@ -89,7 +89,7 @@ fn nested_struct(random: &mut Random, levels: usize) -> Type {
 
 /// A struct of this many fields, or as many of them as are not too large, with room for `depth`
 /// levels, its own included.
-fn valid_struct(random: &mut Random, count: usize, depth: usize) -> Type {
+pub fn valid_struct(random: &mut Random, count: usize, depth: usize) -> Type {
     let mut fields = Vec::new();
     for _ in 0..count {
         fields.push(valid_field(random, depth - 1));

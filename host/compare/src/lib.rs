@@ -9,6 +9,7 @@ pub mod generate;
 pub mod plans;
 pub mod random;
 pub mod signatures;
+pub mod timing;
 
 use std::fmt;
 

@@ -64,6 +64,9 @@ impl fmt::Display for Histogram {
     }
 }
 
+/// The bytes behind a lent buffer that must stay as they are.
+const NOT_LENT: usize = 40;
+
 /// What the second program answers, in the words of the C surface.
 fn expected_sizes(plan: &Result<Plan, reference::Refusal>) -> Sizes {
     let (number, place, values, area, copies) = match plan {
@@ -125,17 +128,16 @@ pub fn compare(bytes: &[u8], longer: usize, seen: &mut Histogram) -> Result<(), 
 }
 
 /// Holds the library to a listing in buffers without room, with one byte too few, with exactly
-/// enough and with more.
+/// enough and with more. Behind each lie bytes that are not lent.
 fn compare_listing(bytes: &[u8], listing: &str, longer: usize) -> Result<(), String> {
     let length = listing.len();
     for room in [0, length - 1, length, length + longer] {
-        let before: Vec<u8> = (0..room).map(pattern).collect();
-        let mut expected = before.clone();
+        let mut text: Vec<u8> = (0..room + NOT_LENT).map(pattern).collect();
+        let mut expected = text.clone();
         if length <= room {
             expected[..length].copy_from_slice(listing.as_bytes());
         }
-        let mut text = before;
-        let given = surface::listing(bytes, &mut text);
+        let given = surface::listing(bytes, &mut text[..room]);
         if given != length as u64 {
             return Err(format!(
                 "with room for {room} bytes the library gives length {given} to\n{listing}"
