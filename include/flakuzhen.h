@@ -99,16 +99,16 @@ fz_narrowed fz_narrow(uint64_t bits);
  * first at offset 0. An integer, a single and a double take one, a long double two, a struct as
  * many as it fills or begins to fill. The first eight are in r3 to r10 and not in memory; an
  * argument that reaches past the eighth is partly in registers and partly in memory. The first
- * thirteen singles and doubles are in f1 to f13 instead, wherever they come in the list; their
- * doublewords stay unused. Results: integers in r3, singles and doubles in f1, long doubles in f1
- * and f2, structs in the caller's memory.
+ * thirteen singles and doubles are in f1 to f13 instead, and their doublewords stay unused; later
+ * ones are in memory. Results: integers in r3, singles and doubles in f1, long doubles in f1 and
+ * f2, structs in the caller's memory.
  *
- * On Z every argument takes one register or 8 bytes of the stack, where arguments start 160 bytes
- * above the stack pointer. Singles, doubles and structs of only one of these, nested or not, take
- * f0, f2, f4 and f6. All else takes r2 to r6. A long double, and a struct of other than 1, 2, 4 or
- * 8 bytes, is passed by reference: the caller makes a copy of it, and the copy's address is the
- * argument. Results: integers in r2, singles and doubles in f0, long doubles and structs in the
- * caller's memory.
+ * On Z every argument takes one register or, when none of its kind is left, the next 8 bytes of the
+ * stack, from 160 bytes above the stack pointer on. Singles, doubles and structs of only one of
+ * these, nested or not, take f0, f2, f4 and f6. All else takes r2 to r6. A long double, and a
+ * struct of other than 1, 2, 4 or 8 bytes, is passed by reference: the caller makes a copy of it,
+ * and the copy's address is the argument. Results: integers in r2, singles and doubles in f0, long
+ * doubles and structs in the caller's memory.
  *
  * The address of a result in the caller's memory is a hidden first argument: in r3 on PPC64, with
  * the list's first doubleword, and in r2 on Z. */

@@ -370,3 +370,57 @@ fn result_plan(convention: Convention, result: ResultType) -> ResultPlan {
         }
     }
 }
+
+#[cfg(test)]
+mod tests {
+    use super::*;
+    use crate::read;
+
+    /// The call of figure 3-18, for either convention.
+    fn figure_3_18(convention: u8) -> Vec<u8> {
+        let integer = [0x10, 0, 1, 4];
+        let double = [0x11, 0, 1, 1];
+        let long_double = [0x11, 0, 1, 2];
+        let structure = [&[0x12, 0, 8][..], &integer, &double].concat();
+        let mut bytes = vec![1, 0, 1, convention, 2, 0, 4, 0x10, 0, 1, 4, 3, 0, 50];
+        for argument in [
+            &integer[..],
+            &double,
+            &integer,
+            &long_double,
+            &structure,
+            &double,
+            &structure,
+            &integer,
+            &double,
+        ] {
+            bytes.extend_from_slice(argument);
+        }
+        bytes
+    }
+
+    #[test]
+    fn plans_as_the_plain_planner() {
+        for convention in [1, 2] {
+            let bytes = figure_3_18(convention);
+            let expected = crate::plan(&read(&bytes).unwrap());
+            assert_eq!(crate::Plan::from(plan(&bytes).unwrap()), expected);
+        }
+    }
+
+    #[test]
+    fn refuses_as_the_plain_reader() {
+        let bytes = figure_3_18(1);
+        for length in 0..bytes.len() {
+            let part = &bytes[..length];
+            assert_eq!(plan(part).map(|_| ()), read(part).map(|_| ()));
+        }
+        for at in 0..bytes.len() {
+            for value in [0x00, 0x01, 0x02, 0x03, 0x09, 0x10, 0x11, 0x12, 0x13, 0xff] {
+                let mut changed = bytes.clone();
+                changed[at] = value;
+                assert_eq!(plan(&changed).map(|_| ()), read(&changed).map(|_| ()));
+            }
+        }
+    }
+}
