@@ -1,0 +1,5 @@
+pub mod Invariant
+pub mod Entering
+pub mod Writing
+pub mod Leaving
+pub mod Theorem
