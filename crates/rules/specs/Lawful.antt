@@ -1,11 +1,13 @@
--- What the machine asks of a convention's numbers: that the parts of a frame and the sets of registers do not meet, and that sizes stay small. Assumes nothing.
+-- What the machine asks of a convention's numbers: that the parts of a frame and the sets of registers do not meet, and that sizes stay small;
+-- and what the functions that save, restore and write ask of their numbers. Assumes nothing.
 use Prim.Native.Nat.{ℕ, _+_, _*_, _^_, _≤_, _<_}
 use mathlib.Core.Path.{_≡_}
 use mathlib.Core.Logic.{_⊎_}
 use mathlib.Core.Bool.{Bool, true, false, _&&_, _||_}
 use mathlib.Core.List.{List, [], _∷_}
 use lib.Dec.{ltb}
-use Rattle.rules.specs.Rules.{Span, within, Bank, Linkage, LinkRegister, SaveArea, Rules}
+use Rattle.rules.specs.Rules.{Span, within, Bank, Linkage, LinkRegister, SaveArea, Rules, Frame, RegisterBank, General, Floating, Link, ConditionField, None}
+use Rattle.rules.specs.Frames.{okRequest, frameSize}
 
 -- no register of the span, and of the spans, is in the others
 abbrev pub apart : Span → List Span → Bool
@@ -54,3 +56,18 @@ pub record Lawful (k : Rules) : Type 0 where
   pub gpr : BankLaw (k .gpr) (k .end)
   pub fpr : BankLaw (k .fpr) (k .end)
   pub linkage : LinkageLaw (k .linkage) k
+
+-- a request in range whose frame fits below the offset s of the caller's pointer, with the caller's header inside n bytes of memory
+pub record Placed (k : Rules) (f : Frame) (s n : ℕ) : Type 0 where
+  pub lawful : Lawful k
+  pub request : okRequest k f ≡ true
+  pub fits : frameSize k f ≤ s
+  pub room : s + k .header ≤ n
+
+-- register n of the bank is there, and v is a value of it
+abbrev pub Named : RegisterBank → ℕ → ℕ → Type 0
+Named General n v = n < 32
+Named Floating n v = n < 32
+Named Link n v = Unit {0}
+Named ConditionField n v = (n ≤ 7) × (v ≤ 15)
+Named None n v = Unit {0}
