@@ -1,2 +1,5 @@
 pub mod Judging
 pub mod States
+pub mod Coding
+pub mod Outcomes
+pub mod Areas

@@ -4,15 +4,16 @@ use mathlib.Core.Path.{_≡_, refl}
 use mathlib.Core.Bool.{true}
 use mathlib.Core.List.{List}
 use native.Mathlib.Omega.{arith}
+use lib.ListN.{length}
 use lib.Dec.{leb, eqb}
 use borrow.Author.Tests.{leb-true, ltb-true, eqb-true, le-leb, eq-eqb}
 use Rattle.rules.specs.declared.Rules.{Rules}
 use Rattle.rules.specs.declared.Frame.{Frame}
-use Rattle.rules.specs.Frames.{frameSize}
+use Rattle.rules.specs.Frames.{frameSize, bankOf, writableRegister}
 use Rattle.rules.proofs.Facts.{and-yes}
 use Rattle.frame.specs.Answers.{Accepted, judge}
-use Rattle.frame.specs.Machine.{State, stackPointer, frameAt, okFrames, sizes, okMemory, okState, stateTests, enterAnswer}
-use Rattle.frame.specs.Premises.{Sound, CanEnter}
+use Rattle.frame.specs.Machine.{State, stackPointer, frameAt, okFrames, sizes, okMemory, okState, stateTests, enterAnswer, top, writableAddress, writeRegisterAnswer, writeMemoryAnswer, leaveTests, leaveAnswer}
+use Rattle.frame.specs.Premises.{Sound, CanEnter, CanLeave}
 use Rattle.frame.proofs.Judging.{holds-yes, judge-both}
 
 -- what refusal 16 says of the memory
@@ -65,6 +66,24 @@ enter-yes k s n f e =
       state-yes k s n (t .0),
       record { request = a .0; shallow = ltb-true (s .depth) 32 (b .0); room = leb-true (s .base + frameSize k f) (stackPointer k s) (c .0) },
     )
+
+pub write-register-yes : (k : Rules) (s : State) (n b i v : ℕ) → writeRegisterAnswer k s n b i v ≡ Accepted → Sound k s n × (writableRegister k (top k s) (bankOf b) i v ≡ true)
+unfolding writeRegisterAnswer
+write-register-yes k s n b i v e =
+    let t = judge-both (stateTests k s n) _ e in
+    (state-yes k s n (t .0), holds-yes _ _ (t .1) .0)
+
+pub write-memory-yes : (k : Rules) (s : State) (n a m : ℕ) → writeMemoryAnswer k s n a m ≡ Accepted → Sound k s n × (writableAddress k s a m ≡ true)
+unfolding writeMemoryAnswer
+write-memory-yes k s n a m e =
+    let t = judge-both (stateTests k s n) _ e in
+    (state-yes k s n (t .0), holds-yes _ _ (t .1) .0)
+
+pub leave-yes : (k : Rules) (s : State) (l : List ℕ) → leaveAnswer k s l ≡ Accepted → CanLeave k s (length l)
+unfolding leaveAnswer
+leave-yes k s l e =
+    let t = judge-both (stateTests k s (length l)) (leaveTests k s l) e in
+    record { deep = ltb-true 0 (s .depth) (holds-yes _ _ (t .1) .0); sound = state-yes k s (length l) (t .0) }
 
 -- records that agree below d
 pub frames-agree : (k : Rules) (d : ℕ) (fs gs : List Frame) → ((i : ℕ) → i < d → frameAt fs i ≡ frameAt gs i) → okFrames k fs d ≡ okFrames k gs d

@@ -21,3 +21,8 @@ pub record CanEnter (k : Rules) (s : State) (f : Frame) : Type 0 where
   pub request : okRequest k f ≡ true
   pub shallow : s .depth < 32
   pub room : s .base + frameSize k f ≤ stackPointer k s
+
+-- refusals 23, 16 and 22: the frame entered last fits below the caller's pointer, whose header is in the memory
+pub record CanLeave (k : Rules) (s : State) (n : ℕ) : Type 0 where
+  pub deep : 0 < s .depth
+  pub sound : Sound k s n

@@ -25,6 +25,7 @@ use Rattle.rules.proofs.Writing.{field-number, field-fit, field-preserves}
 use Rattle.frame.specs.declared.Answer.the-variants.{Accepted}
 use Rattle.frame.specs.declared.State.{State}
 use Rattle.frame.specs.Machine.{stackPointer, offset, topFrame, callerFrame, stateTests, inside, writableBytes, writableAddress, writeRegisterAnswer, writeMemoryAnswer, writtenRegister, writtenMemory}
+use Rattle.frame.proofs.Areas.{areas}
 use Rattle.frame.proofs.Judging.{holds-yes, judge-both}
 use Rattle.history.specs.Calls.{Machine}
 use Rattle.history.specs.Preserved.{OpenEnter, callerOf}
@@ -48,32 +49,6 @@ rests-same k (o ∷ os) s l = (λ b p q. refl, λ b p q. refl, λ b p. refl)
 
 -- ---- memory
 
-inside-is : (a n b e : ℕ) → inside a n b e ≡ true → (b ≤ a) × (a + n ≤ e)
-inside-is a n b e h = let p = and-yes (leb b a) (leb (a + n) e) h in (leb-true b a (p .0), leb-true (a + n) e (p .1))
-
--- the three areas: own outgoing area, own locals, caller's outgoing area
-areas : (k : Rules) (s : State) (a n : ℕ) → writableBytes k s a n ≡ true
-    → (f : Frame) → topFrame k (s .frames) (s .depth) ≡ f
-    → (g : Frame) → callerFrame k (s .frames) (s .depth) ≡ g
-    → ((offset k s + k .header ≤ a) × (a + n ≤ offset k s + k .header + outgoingLength k f))
-    ⊎ (((offset k s + k .header + outgoingLength k f ≤ a) × (a + n ≤ offset k s + frameSize k f - below (k .linkage) k f))
-    ⊎ ((offset k s + frameSize k f + k .header ≤ a) × (a + n ≤ offset k s + frameSize k f + k .header + outgoingLength k g)))
-unfolding writableBytes
-areas k s a n e f ef g eg =
-    let o = offset k s in
-    let c = o + frameSize k f in
-    let own = inside a n (o + k .header) (o + k .header + outgoingLength k f) in
-    let locals = inside a n (o + k .header + outgoingLength k f) (c - below (k .linkage) k f) in
-    let callers = inside a n (c + k .header) (c + k .header + outgoingLength k g) in
-    let e′ : (leb 1 n && (leb n 256 && (own || (ltb 0 (s .depth) && (locals || callers))))) ≡ true = rw (ef, eg) at e in
-    let p = and-yes (leb 1 n) _ e′ in
-    let q = and-yes (leb n 256) _ (p .1) in
-    ⊎-elim (λ u. inl (inside-is a n (o + k .header) (o + k .header + outgoingLength k f) u))
-    (λ u. inr (⊎-elim (λ w. inl (inside-is a n (o + k .header + outgoingLength k f) (c - below (k .linkage) k f) w))
-    (λ w. inr (inside-is a n (c + k .header) (c + k .header + outgoingLength k g) w))
-    (or-yes locals callers (and-yes (ltb 0 (s .depth)) (locals || callers) u .1))))
-    (or-yes own (ltb 0 (s .depth) && (locals || callers)) (q .1))
-
 -- a byte beside those written stays
 beside : (l : List ℕ) (a : ℕ) (bs : List ℕ) (b : ℕ) → (b < a) ⊎ (a + length bs ≤ b) → getD (splice l a bs) b 0 ≡ getD l b 0
 beside l a bs b h = splice-at-other l a bs b 0 (⊎-elim (λ p. inl (omega arith)) (λ p. inr p) h)
@@ -82,7 +57,7 @@ beside l a bs b h = splice-at-other l a bs b 0 (⊎-elim (λ p. inl (omega arith
 rests-write : (k : Rules) → Lawful k → (os : List OpenEnter) (m : Machine) → Invariant k os m → (a : ℕ) (bs : List ℕ) → writableBytes k (m .state) a (length bs) ≡ true
     → RestsAll k os (offset k (m .state)) (m .memory) (splice (m .memory) a bs)
 rests-write k law [] m i a bs e =
-    λ b p q. beside (m .memory) a bs b (inl (⊎-elim (λ u. omega (arith, law .chain)) (λ u. ⊎-elim (λ w. omega (arith, law .chain)) (λ w. omega (arith, law .chain)) u)
+    λ b p q. beside (m .memory) a bs b (inl (⊎-elim (λ u. omega (arith, law .chain)) (λ u. ⊎-elim (λ w. omega (arith, law .chain)) (λ w. omega (arith, law .chain)) (u .1))
     (areas k (m .state) a (length bs) e (startFrame k) (top-is k [] m i) _ refl)))
 rests-write k law (o ∷ os) m i a bs e =
     let f = o .request in
@@ -95,8 +70,8 @@ rests-write k law (o ∷ os) m i a bs e =
     let under = room-for k law f (t .request) s fits in
     let hd = law .chain in
     let r₂ : (a + length bs ≤ s - below (k .linkage) k f) ⊎ ((s + k .header ≤ a) × (a + length bs ≤ s + k .header + outgoingLength k (callerOf k os)))
-    = ⊎-elim (λ u. inl (omega arith)) (λ u. ⊎-elim (λ w. inl (rw c at (w .1))) (λ w. inr (omega arith)) u) r in (
-      λ b p q. beside (m .memory) a bs b (⊎-elim (λ u. inl (omega arith)) (λ u. ⊎-elim (λ w. inl (omega arith)) (λ w. inl (omega arith)) u) r),
+    = ⊎-elim (λ u. inl (omega arith)) (λ u. ⊎-elim (λ w. inl (rw c at (w .1))) (λ w. inr (omega arith)) (u .1)) r in (
+      λ b p q. beside (m .memory) a bs b (⊎-elim (λ u. inl (omega arith)) (λ u. ⊎-elim (λ w. inl (omega arith)) (λ w. inl (omega arith)) (u .1)) r),
       λ b p q. beside (m .memory) a bs b (⊎-elim (λ u. inr (omega arith)) (λ u. inl (omega arith)) r₂),
       λ b p. beside (m .memory) a bs b (⊎-elim (λ u. inr (omega arith)) (λ u. inr (omega arith)) r₂),
     )

@@ -1,16 +1,16 @@
 -- Where the parts of a frame lie: header, outgoing area, locals and saves in this order below the caller's pointer, other saves in the caller's header. Assumes nothing.
-use Prim.Native.Nat.{ℕ, _+_, _-_, _*_, _%_, _≤_, _<_}
+use Prim.Native.Nat.{ℕ, suc, _+_, _-_, _*_, _%_, _^_, _≤_, _<_}
 use mathlib.Core.Path.{_≡_, sym, ap, _∙_}
 use mathlib.Core.Logic.{inl, inr}
 use mathlib.Core.Bool.{Bool, true, false}
 use native.Mathlib.Omega.{arith}
-use native.Mathlib.Nat.{mod-lt, div-add-mod', mul-add, mul-le-mul-left}
-use lib.Dec.{leb, eqb}
+use native.Mathlib.Nat.{mod-lt, div-add-mod', mul-add, mul-suc, mul-le-mul-left, pow-le-pow-right}
+use lib.Dec.{lit<, leb, eqb}
 use borrow.Author.Tests.{leb-true}
 use Rattle.saves.specs.Saves.{Outside}
 use Rattle.saves.proofs.Saving.{Ascending}
 use Rattle.rules.specs.Rules.{Linkage, LinkRegister, SaveArea, Rules, Frame, Registers, inSpan}
-use Rattle.rules.specs.Frames.{firstGpr, firstFpr, savesCr, okRequest, outgoingLength, below, roundUp, frameSize, flag, gprAt, savesBy, saves}
+use Rattle.rules.specs.Frames.{firstGpr, firstFpr, savesCr, okRequest, outgoingLength, below, roundUp, frameSize, flag, gprAt, savesBy, saves, linkAt}
 use Rattle.rules.specs.Lawful.{LinkageLaw, Lawful}
 use Rattle.rules.proofs.Facts.{and-yes, between}
 
@@ -54,6 +54,10 @@ words-split w n e h = let x : n + (e - n) ≡ e = omega arith in sym (mul-add w 
 pub words-small : (w n : ℕ) → w ≤ 8 → n ≤ 32 → w * n ≤ 256
 words-small w n p q = omega (arith, mul-le-mul-left {m = n} {n = 32} w q)
 
+-- the highest address is one of 64 bits
+pub limit-64 : (k : Rules) → Lawful k → k .limit < 2 ^ 64
+limit-64 k law = omega (arith, law .limit, pow-le-pow-right {n = 2} (lit< tt) {i = 8 * k .word} {j = 64} (omega (arith, law .word)))
+
 flag-le : (b : Bool) → flag b ≤ 1
 flag-le true = omega arith
 flag-le false = omega arith
@@ -89,6 +93,15 @@ gpr-in-by : (p : Linkage) (k : Rules) → LinkageLaw p k → (f : Frame) (s : �
 unfolding below gprAt
 gpr-in-by (LinkRegister c l) k law f s e h = omega arith
 gpr-in-by (SaveArea n) k law f s e h = omega (arith, words-split (k .word) (firstGpr f) (k .end) e)
+
+-- where leave looks for the caller's pointer, in the frame or in the caller's header
+link-in-by : (p : Linkage) (k : Rules) → LinkageLaw p k → k .word ≤ k .header → (o s : ℕ) → o ≤ s → linkAt p k o s + k .word ≤ s + k .header
+unfolding linkAt
+link-in-by (LinkRegister c l) k law h o s e = omega arith
+link-in-by (SaveArea n) k law h o s e = omega (arith, mul-suc (k .word) (k .pointer), mul-le-mul-left {m = suc (k .pointer)} {n = k .end} (k .word) (omega arith))
+
+pub link-in : (k : Rules) → Lawful k → (o s : ℕ) → o ≤ s → linkAt (k .linkage) k o s + k .word ≤ s + k .header
+link-in k law o s e = link-in-by (k .linkage) k (law .linkage) (law .chain) o s e
 
 -- ---- over a lawful convention, for a request in range
 

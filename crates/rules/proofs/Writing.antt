@@ -6,8 +6,10 @@ use mathlib.Core.Bool.{true, false, _&&_, false≢true}
 use native.Mathlib.Omega.{arith}
 use lib.Dec.{leb}
 use borrow.Author.Tests.{leb-true}
-use Rattle.rules.specs.Rules.{Linkage, LinkRegister, SaveArea, Rules, Frame}
-use Rattle.rules.specs.Frames.{savesCr, hasCondition, writableField, withField, preservedFields, preservedCondition}
+use Rattle.rules.specs.Rules.{Linkage, LinkRegister, SaveArea, Rules, Frame, RegisterBank, General, Floating, Link, ConditionField, None}
+use Rattle.rules.specs.Frames.{savesCr, hasCondition, writableField, withField, preservedFields, preservedCondition, firstGpr, firstFpr, writableRegister}
+use Rattle.rules.specs.Lawful.{Lawful, Named}
+use Rattle.rules.proofs.Conventions.{writable-lt}
 use Rattle.rules.proofs.Facts.{and-yes, or-yes, between}
 
 pub writable-field : (k : Rules) (f : Frame) (n v : ℕ) → writableField k f n v ≡ true
@@ -62,3 +64,12 @@ field-preserves k f n v c p z h =
     let q = writable-field k f n v p in
     preserved-same (k .linkage) (withField c n v) c (field-other n c v (q .0) h
     (⊎-elim (λ a. inl a) (λ a. ⊎-elim (λ b. inr b) (λ b. absurd (false≢true (sym z ∙ b .0))) a) (q .1)))
+
+-- a register that may be written is there
+pub writable-named : (k : Rules) → Lawful k → (f : Frame) (b : RegisterBank) (n v : ℕ) → writableRegister k f b n v ≡ true → Named b n v
+unfolding writableRegister
+writable-named k law f General n v e = writable-lt (k .gpr) (k .end) (law .gpr) (firstGpr f) n e
+writable-named k law f Floating n v e = writable-lt (k .fpr) (k .end) (law .fpr) (firstFpr f) n e
+writable-named k law f Link n v e = tt
+writable-named k law f ConditionField n v e = field-number k f n v e
+writable-named k law f None n v e = tt

@@ -40,7 +40,7 @@ LinkageLaw (SaveArea r) k =
 pub record Lawful (k : Rules) : Type 0 where
   pub word : k .word ≤ 8
   pub chain : k .word ≤ k .header
-  pub head : k .header ≤ k .room
+  pub head : k .header + k .least ≤ k .room
   pub room : k .room ≤ 256
   pub least : k .least ≤ 256
   pub some : 0 < k .alignment
