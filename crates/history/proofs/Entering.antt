@@ -19,11 +19,11 @@ use Rattle.rules.specs.Lawful.{Lawful}
 use Rattle.rules.proofs.Facts.{fit-set}
 use Rattle.rules.proofs.Conventions.{pointer-unpreserved}
 use Rattle.rules.proofs.Places.{room-for, chain-in, ascending}
-use Rattle.frame.specs.declared.Answer.the-variants.{Accepted}
-use Rattle.frame.specs.declared.State.{State}
-use Rattle.frame.specs.Machine.{stackPointer, offset, frameAt, okFrames, sizes, enterAnswer, entered, enteredMemory}
-use Rattle.frame.specs.Premises.{CanEnter}
-use Rattle.frame.proofs.States.{enter-yes, frames-agree, sizes-agree}
+use Rattle.machine.specs.declared.Answer.the-variants.{Accepted}
+use Rattle.machine.specs.declared.State.{State}
+use Rattle.machine.specs.Machine.{stackPointer, offset, frameAt, okFrames, sizes, enterAnswer, entered, enteredMemory}
+use Rattle.machine.specs.Premises.{CanEnter}
+use Rattle.machine.proofs.States.{enter-yes, frames-agree, sizes-agree}
 use Rattle.history.specs.Calls.{Machine}
 use Rattle.history.specs.Preserved.{OpenEnter}
 use Rattle.history.proofs.Invariant.{Fit, Base, Top, Invariant, base-of}

@@ -16,8 +16,8 @@ use Rattle.rules.specs.Rules.{within}
 use Rattle.rules.specs.Frames.{firstGpr, firstFpr, savesCr, okRequest, outgoingLength, below, frameSize, saves, preservedCondition}
 use Rattle.rules.specs.Lawful.{Lawful}
 use Rattle.rules.proofs.Places.{ascending}
-use Rattle.frame.specs.Machine.{rulesOf, stackPointer, offset, frameAt, topFrame}
-use Rattle.frame.specs.Premises.{Sound}
+use Rattle.machine.specs.Machine.{rulesOf, stackPointer, offset, frameAt, topFrame}
+use Rattle.machine.specs.Premises.{Sound}
 use Rattle.history.specs.Calls.{Machine}
 use Rattle.history.specs.Preserved.{OpenEnter, callerOf}
 

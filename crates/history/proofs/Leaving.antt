@@ -21,13 +21,13 @@ use Rattle.rules.proofs.Facts.{fit-set}
 use Rattle.rules.proofs.Conventions.{pointer-unpreserved, before-lt}
 use Rattle.rules.proofs.Places.{ranges, gpr-end, fpr-end, room-for, ascending, chain-outside}
 use Rattle.rules.proofs.Restoring.{gpr-held, fpr-held, link-held, lr-fit, cr-fit, cr-held, return-held}
-use Rattle.frame.specs.declared.Answer.the-variants.{Accepted, Refused}
-use Rattle.frame.specs.declared.Refusal.the-variants.{NothingEntered}
-use Rattle.frame.specs.declared.State.{State}
-use Rattle.frame.specs.Answers.{judge}
-use Rattle.frame.specs.Machine.{stackPointer, offset, frameAt, topFrame, okFrames, sizes, stateTests, leaveTests, leaveAnswer, left}
-use Rattle.frame.proofs.Judging.{judge-next}
-use Rattle.frame.proofs.States.{state-accepted, frames-agree, sizes-agree}
+use Rattle.machine.specs.declared.Answer.the-variants.{Accepted, Refused}
+use Rattle.machine.specs.declared.Refusal.the-variants.{NothingEntered}
+use Rattle.machine.specs.declared.State.{State}
+use Rattle.machine.specs.Answers.{judge}
+use Rattle.machine.specs.Machine.{stackPointer, offset, frameAt, topFrame, okFrames, sizes, stateTests, leaveTests, leaveAnswer, left}
+use Rattle.machine.proofs.Judging.{judge-next}
+use Rattle.machine.proofs.States.{state-accepted, frames-agree, sizes-agree}
 use Rattle.history.specs.Calls.{Machine}
 use Rattle.history.specs.Preserved.{OpenEnter, Preserved}
 use Rattle.history.proofs.Invariant.{Fit, Base, Invariant, base-of, top-is, RestsAll, Keeps, room-below, invariant-keeps}

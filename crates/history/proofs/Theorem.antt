@@ -17,11 +17,11 @@ use Rattle.rules.specs.Frames.{withPointer}
 use Rattle.rules.specs.Lawful.{Lawful}
 use Rattle.rules.proofs.Facts.{fit-set}
 use Rattle.rules.proofs.Conventions.{lawful}
-use Rattle.frame.specs.declared.Answer.{Answer}
-use Rattle.frame.specs.declared.Answer.the-variants.{Accepted, Refused}
-use Rattle.frame.specs.Machine.{okMemory, okFrames, sizes, startAnswer, started, startedMemory, startOutcome, startMemory, enterOutcome, enterMemory, writeRegisterOutcome, writeMemoryOutcome, writeMemoryMemory, leaveOutcome}
-use Rattle.frame.proofs.Judging.{never, holds-yes}
-use Rattle.frame.proofs.States.{memory-yes}
+use Rattle.machine.specs.declared.Answer.{Answer}
+use Rattle.machine.specs.declared.Answer.the-variants.{Accepted, Refused}
+use Rattle.machine.specs.Machine.{okMemory, okFrames, sizes, startAnswer, started, startedMemory, startOutcome, startMemory, enterOutcome, enterMemory, writeRegisterOutcome, writeMemoryOutcome, writeMemoryMemory, leaveOutcome}
+use Rattle.machine.proofs.Judging.{never, holds-yes}
+use Rattle.machine.proofs.States.{memory-yes}
 use Rattle.history.specs.Calls.{Call, enter, writeRegister, writeMemory, leave, Machine, answer, after, fresh}
 use Rattle.history.specs.Preserved.{OpenEnter, openAfter, CallHolds, Holds, RegistersFit, CallsFit}
 use Rattle.history.proofs.Invariant.{Base, Invariant, base-of}

@@ -2,31 +2,29 @@
 use Prim.Native.Nat.{ℕ, _+_, _-_, _*_, _^_, _≤_, _<_}
 use mathlib.Core.Path.{_≡_, refl, _∙_}
 use mathlib.Core.Logic.{_⊎_, inl, inr, ⊎-elim}
-use mathlib.Core.Bool.{true, _&&_, _||_, false≢true}
+use mathlib.Core.Bool.{true, false≢true}
 use mathlib.Core.List.{List, [], _∷_}
 use native.Mathlib.Omega.{arith}
 use lib.ListN.{length, getD, set, length-set}
 use lib.Seq.{getD-set-other}
-use lib.Dec.{leb, ltb}
-use borrow.Author.Tests.{leb-true}
+use lib.Dec.{leb}
 use Rattle.words.specs.Splice.{splice}
 use Rattle.words.proofs.Splices.{length-splice, splice-at-other}
 use Rattle.rules.specs.declared.Rules.{Rules}
-use Rattle.rules.specs.declared.Frame.{Frame}
 use Rattle.rules.specs.declared.Registers.{Registers}
 use Rattle.rules.specs.declared.RegisterBank.{RegisterBank}
 use Rattle.rules.specs.declared.RegisterBank.the-variants.{General, Floating, Link, ConditionField, None}
 use Rattle.rules.specs.Frames.{firstGpr, firstFpr, startFrame, outgoingLength, below, frameSize, bankOf, writable, writableField, writableRegister, withRegister}
 use Rattle.rules.specs.Lawful.{Lawful}
-use Rattle.rules.proofs.Facts.{and-yes, or-yes, fit-set}
+use Rattle.rules.proofs.Facts.{and-yes, fit-set}
 use Rattle.rules.proofs.Conventions.{writable-apart, pointer-unwritable}
 use Rattle.rules.proofs.Places.{ranges, room-for}
 use Rattle.rules.proofs.Writing.{field-number, field-fit, field-preserves}
-use Rattle.frame.specs.declared.Answer.the-variants.{Accepted}
-use Rattle.frame.specs.declared.State.{State}
-use Rattle.frame.specs.Machine.{stackPointer, offset, topFrame, callerFrame, stateTests, inside, writableBytes, writableAddress, writeRegisterAnswer, writeMemoryAnswer, writtenRegister, writtenMemory}
-use Rattle.frame.proofs.Areas.{areas}
-use Rattle.frame.proofs.Judging.{holds-yes, judge-both}
+use Rattle.machine.specs.declared.Answer.the-variants.{Accepted}
+use Rattle.machine.specs.declared.State.{State}
+use Rattle.machine.specs.Machine.{stackPointer, offset, topFrame, callerFrame, stateTests, writableBytes, writableAddress, writeRegisterAnswer, writeMemoryAnswer, writtenRegister, writtenMemory}
+use Rattle.machine.proofs.Areas.{areas}
+use Rattle.machine.proofs.Judging.{holds-yes, judge-both}
 use Rattle.history.specs.Calls.{Machine}
 use Rattle.history.specs.Preserved.{OpenEnter, callerOf}
 use Rattle.history.proofs.Invariant.{Fit, Base, Invariant, base-of, top-is, RestsAll, Keeps, room-below, invariant-keeps}

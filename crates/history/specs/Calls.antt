@@ -6,10 +6,10 @@ use lib.ListN.{length}
 use Rattle.rules.specs.declared.Convention.{Convention}
 use Rattle.rules.specs.declared.Frame.{Frame}
 use Rattle.rules.specs.declared.Registers.{Registers}
-use Rattle.frame.specs.declared.State.{State}
-use Rattle.frame.specs.declared.Outcome.{Outcome}
-use Rattle.frame.specs.declared.Answer.{Answer}
-use Rattle.frame.specs.Machine.{startOutcome, startMemory, enterOutcome, enterMemory, writeRegisterOutcome, writeMemoryOutcome, writeMemoryMemory, leaveOutcome}
+use Rattle.machine.specs.declared.State.{State}
+use Rattle.machine.specs.declared.Outcome.{Outcome}
+use Rattle.machine.specs.declared.Answer.{Answer}
+use Rattle.machine.specs.Machine.{startOutcome, startMemory, enterOutcome, enterMemory, writeRegisterOutcome, writeMemoryOutcome, writeMemoryMemory, leaveOutcome}
 
 -- any enter, write or leave: of a request; of a bank, a number and a value; of an address and bytes
 pub data Call : Type 0 where

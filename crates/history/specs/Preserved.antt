@@ -12,9 +12,9 @@ use Rattle.rules.specs.declared.Frame.{Frame}
 use Rattle.rules.specs.declared.Registers.{Registers}
 use Rattle.rules.specs.Rules.{within}
 use Rattle.rules.specs.Frames.{startFrame, outgoingLength, saves, returnAddress, preservedCondition}
-use Rattle.frame.specs.declared.Answer.{Answer}
-use Rattle.frame.specs.declared.Answer.the-variants.{Accepted, Refused}
-use Rattle.frame.specs.Machine.{stackPointer, offset}
+use Rattle.machine.specs.declared.Answer.{Answer}
+use Rattle.machine.specs.declared.Answer.the-variants.{Accepted, Refused}
+use Rattle.machine.specs.Machine.{stackPointer, offset}
 use Rattle.history.specs.Calls.{Call, enter, writeRegister, writeMemory, leave, Machine, answer, after}
 
 -- ---- which enters are open: "told from the calls and their answers, not from the state's records"

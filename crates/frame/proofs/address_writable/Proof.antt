@@ -1,5 +1,5 @@
 -- The address is compared before it is made an offset. Assumes nothing.
-use Rattle.frame.specs.Machine.{writableAddress}
+use Rattle.machine.specs.Machine.{writableAddress}
 use borrow.Author.Tests.{lt-leb, le-leb}
 use native.Mathlib.Omega.{arith}
 use borrow.Author.Needs.{needs}

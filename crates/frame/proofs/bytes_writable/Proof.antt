@@ -1,8 +1,8 @@
 -- The three areas in the definition's order; each lies in the memory, so no sum wraps. Assumes nothing.
 use Rattle.rules.proofs.Places.{size-parts}
-use Rattle.frame.proofs.Coding.{pointer-room, memory-small, top-outgoing, caller-outgoing, top-request, top-room}
+use Rattle.machine.proofs.Coding.{pointer-room, memory-small, top-outgoing, caller-outgoing, top-request, top-room}
 use Rattle.rules.specs.Frames.{outgoingLength, below, frameSize}
-use Rattle.frame.specs.Machine.{offset, top, caller, inside, writableBytes}
+use Rattle.machine.specs.Machine.{offset, top, caller, inside, writableBytes}
 use mathlib.Core.Bool.{true, false}
 use borrow.Author.Tests.{lt-leb, le-leb, lt-ltb, le-ltb}
 use Prim.Native.Nat.{_+_, _-_, _<_}

@@ -1,6 +1,6 @@
 -- The answer decides: a refused call hands back what it was lent, an accepted one pushes the record and saves. Assumes nothing.
-use Rattle.frame.proofs.States.{enter-yes}
-use Rattle.frame.proofs.Outcomes.{enter-accepted, enter-refused}
+use Rattle.machine.proofs.States.{enter-yes}
+use Rattle.machine.proofs.Outcomes.{enter-accepted, enter-refused}
 use Rattle.rules.specs.Lawful.{Lawful}
 use Rattle.rules.proofs.Conventions.{lawful}
 use denote.Ref.{now}

@@ -1,9 +1,10 @@
 -- The state's tests, then the three of an enter in their order. Assumes nothing.
-use Rattle.frame.proofs.States.{state-yes}
-use Rattle.frame.proofs.Judging.{judge-next, judge-stops}
+use Rattle.machine.proofs.States.{state-yes}
+use Rattle.machine.proofs.Judging.{judge-next, judge-stops}
 use Rattle.rules.specs.Frames.{frameSize}
-use Rattle.frame.specs.Answers.{judge, Accepted}
-use Rattle.frame.specs.Machine.{stackPointer, stateTests, enterTests, enterAnswer}
+use Rattle.machine.specs.declared.Answer.the-variants.{Accepted}
+use Rattle.machine.specs.Answers.{judge}
+use Rattle.machine.specs.Machine.{stackPointer, stateTests, enterTests, enterAnswer}
 use lib.Dec.{leb}
 use mathlib.Core.Bool.{true, false}
 use borrow.Author.Tests.{lt-leb, le-leb, lt-ltb, le-ltb, not-true, not-false}

@@ -1,12 +1,13 @@
 -- The state's tests, then the two of a leave; the slot that is loaded lies in the caller's header or the frame. Assumes nothing.
 use Rattle.saves.specs.Saves.{load}
 use Rattle.rules.proofs.Places.{limit-64, link-in}
-use Rattle.frame.proofs.Coding.{top-request, top-room, memory-small, pointer-limit}
-use Rattle.frame.proofs.States.{state-yes}
-use Rattle.frame.proofs.Judging.{judge-next, judge-stops}
+use Rattle.machine.proofs.Coding.{top-request, top-room, memory-small, pointer-limit}
+use Rattle.machine.proofs.States.{state-yes}
+use Rattle.machine.proofs.Judging.{judge-next, judge-stops}
 use Rattle.rules.specs.Frames.{frameSize, linkAt}
-use Rattle.frame.specs.Answers.{judge, Accepted}
-use Rattle.frame.specs.Machine.{stackPointer, offset, top, stateTests, leaveTests, leaveAnswer}
+use Rattle.machine.specs.declared.Answer.the-variants.{Accepted}
+use Rattle.machine.specs.Answers.{judge}
+use Rattle.machine.specs.Machine.{stackPointer, offset, top, stateTests, leaveTests, leaveAnswer}
 use denote.Ref.{now}
 use lib.ListN.{length}
 use borrow.Author.Tests.{lt-ltb, le-ltb, eq-eqb, ne-eqb}

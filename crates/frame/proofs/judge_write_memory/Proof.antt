@@ -1,8 +1,10 @@
 -- The state's tests, then the write's. Assumes nothing.
-use Rattle.frame.specs.Machine.{stateTests, writableAddress, writeMemoryAnswer}
-use Rattle.frame.proofs.States.{state-yes}
-use Rattle.frame.proofs.Judging.{judge-next, judge-stops}
-use Rattle.frame.specs.Answers.{judge, Accepted, NotPermitted, require}
+use Rattle.machine.specs.Machine.{stateTests, writableAddress, writeMemoryAnswer}
+use Rattle.machine.proofs.States.{state-yes}
+use Rattle.machine.proofs.Judging.{judge-next, judge-stops}
+use Rattle.machine.specs.declared.Answer.the-variants.{Accepted}
+use Rattle.machine.specs.declared.Refusal.the-variants.{NotPermitted}
+use Rattle.machine.specs.Answers.{judge, require}
 use mathlib.Core.List.{[], _∷_}
 use borrow.Author.Tests.{not-true, not-false}
 use mathlib.Core.Path.{_≡_, sym, _∙_}

@@ -1,5 +1,5 @@
 -- The end is compared by the difference, which cannot wrap. Assumes nothing.
-use Rattle.frame.proofs.Coding.{leb-sub-left}
+use Rattle.machine.proofs.Coding.{leb-sub-left}
 use borrow.Author.Tests.{lt-leb, le-leb}
 use Prim.Native.Nat.{_+_}
 use native.Mathlib.Omega.{arith}

@@ -1,8 +1,8 @@
 -- The top frame lies below its caller's pointer, whose header is in the memory. Assumes nothing.
 use Rattle.rules.proofs.Places.{limit-64}
-use Rattle.frame.proofs.Coding.{top-request, top-room, top-placed, memory-small, pointer-limit}
+use Rattle.machine.proofs.Coding.{top-request, top-room, top-placed, memory-small, pointer-limit}
 use Rattle.rules.specs.Frames.{frameSize}
-use Rattle.frame.specs.Machine.{top, left}
+use Rattle.machine.specs.Machine.{top, left}
 use denote.Ref.{now}
 use lib.ListN.{length}
 use native.Mathlib.Omega.{arith}

@@ -1,5 +1,5 @@
 -- The stack pointer, the record and the depth are stored. Assumes nothing.
-use Rattle.frame.specs.Machine.{entered}
+use Rattle.machine.specs.Machine.{entered}
 use borrow.Author.Needs.{needs}
 use Rattle.frame.proofs.push.Statement.{statement}
 use Rattle.frame.proofs.push.Tie as tie

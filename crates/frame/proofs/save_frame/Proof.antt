@@ -1,6 +1,6 @@
 -- The back chain, then the saves, in the definition's order. Assumes nothing.
 use Rattle.saves.specs.Saves.{store}
-use Rattle.frame.specs.Machine.{enteredMemory}
+use Rattle.machine.specs.Machine.{enteredMemory}
 use borrow.Author.Needs.{needs}
 use Rattle.frame.proofs.save_frame.Statement.{statement}
 use Rattle.frame.proofs.save_frame.Tie as tie

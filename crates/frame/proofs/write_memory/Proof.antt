@@ -1,9 +1,9 @@
 -- The answer decides: an accepted write is put at the head of the part that starts at its offset. Assumes nothing.
 use Rattle.words.proofs.Splices.{lent-tail}
-use Rattle.frame.proofs.Areas.{address-yes}
-use Rattle.frame.proofs.States.{write-memory-yes}
-use Rattle.frame.proofs.Outcomes.{write-memory-accepted, write-memory-refused}
-use Rattle.frame.specs.Machine.{writtenMemory}
+use Rattle.machine.proofs.Areas.{address-yes}
+use Rattle.machine.proofs.States.{write-memory-yes}
+use Rattle.machine.proofs.Outcomes.{write-memory-accepted, write-memory-refused}
+use Rattle.machine.specs.Machine.{writtenMemory}
 use Rattle.rules.specs.Lawful.{Lawful}
 use Rattle.rules.proofs.Conventions.{lawful}
 use denote.Ref.{now}

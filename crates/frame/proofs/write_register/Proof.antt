@@ -1,9 +1,9 @@
 -- The answer decides: a refused call hands the state back, an accepted one stores the register. Assumes nothing.
 use Rattle.rules.proofs.Writing.{writable-named}
-use Rattle.frame.proofs.States.{write-register-yes}
-use Rattle.frame.proofs.Outcomes.{write-register-accepted, write-register-refused}
+use Rattle.machine.proofs.States.{write-register-yes}
+use Rattle.machine.proofs.Outcomes.{write-register-accepted, write-register-refused}
 use Rattle.rules.specs.Frames.{bankOf}
-use Rattle.frame.specs.Machine.{top, writtenRegister}
+use Rattle.machine.specs.Machine.{top, writtenRegister}
 use Rattle.rules.specs.Lawful.{Lawful}
 use Rattle.rules.proofs.Conventions.{lawful}
 use denote.Ref.{now}

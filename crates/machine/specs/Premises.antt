@@ -5,7 +5,7 @@ use mathlib.Core.Bool.{true}
 use Rattle.rules.specs.declared.Rules.{Rules}
 use Rattle.rules.specs.declared.Frame.{Frame}
 use Rattle.rules.specs.Frames.{okRequest, frameSize}
-use Rattle.frame.specs.Machine.{State, stackPointer, okFrames, sizes, okMemory}
+use Rattle.machine.specs.Machine.{State, stackPointer, okFrames, sizes, okMemory}
 
 -- refusals 23 and 16, with n bytes of memory lent
 pub record Sound (k : Rules) (s : State) (n : ℕ) : Type 0 where

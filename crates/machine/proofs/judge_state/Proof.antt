@@ -1,11 +1,11 @@
 -- The two tests in their order. Assumes nothing.
-use Rattle.frame.specs.Answers.{judge}
+use Rattle.machine.specs.Answers.{judge}
 use borrow.Author.Tests.{eq-eqb, ne-eqb, not-true, not-false}
 use native.Mathlib.Omega.{arith}
 use mathlib.Core.Path.{sym, _∙_}
 use borrow.Author.Needs.{needs}
-use Rattle.frame.proofs.judge_state.Statement.{statement}
-use Rattle.frame.proofs.judge_state.Tie as tie
+use Rattle.machine.proofs.judge_state.Statement.{statement}
+use Rattle.machine.proofs.judge_state.Tie as tie
 
 state-ok-requires : tie.Need-state-ok-requires
 state-ok-requires c κs = search needs

@@ -2,12 +2,12 @@
 use Rattle.rules.proofs.Places.{limit-64}
 -- The memory is tested first; the start's room lies in it. Assumes nothing.
 use Rattle.saves.specs.Saves.{store}
-use Rattle.frame.proofs.States.{memory-yes}
-use Rattle.frame.proofs.Outcomes.{start-accepted, start-refused, accepted-start, refused-start}
-use Rattle.frame.specs.Answers.{BadMemory}
+use Rattle.machine.proofs.States.{memory-yes}
+use Rattle.machine.proofs.Outcomes.{start-accepted, start-refused, accepted-start, refused-start}
+use Rattle.machine.specs.Answers.{BadMemory}
 use Rattle.rules.specs.Lawful.{Lawful}
 use Rattle.rules.specs.Rules.{rules}
-use Rattle.frame.specs.Machine.{okMemory, started, startedMemory, notStarted}
+use Rattle.machine.specs.Machine.{okMemory, started, startedMemory, notStarted}
 use Rattle.rules.proofs.Conventions.{lawful}
 use denote.Ref.{now}
 use lib.ListN.{length}
@@ -17,8 +17,8 @@ use Prim.Native.Nat.{_+_, _-_}
 use native.Mathlib.Omega.{arith}
 use mathlib.Core.Path.{_≡_, sym, _∙_}
 use borrow.Author.Needs.{needs}
-use Rattle.frame.proofs.start.Statement.{statement}
-use Rattle.frame.proofs.start.Tie as tie
+use Rattle.machine.proofs.start.Statement.{statement}
+use Rattle.machine.proofs.start.Tie as tie
 
 rules-of-requires : tie.Need-rules-of-requires
 rules-of-requires c κs = search needs

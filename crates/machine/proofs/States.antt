@@ -11,10 +11,10 @@ use Rattle.rules.specs.declared.Rules.{Rules}
 use Rattle.rules.specs.declared.Frame.{Frame}
 use Rattle.rules.specs.Frames.{frameSize, bankOf, writableRegister}
 use Rattle.rules.proofs.Facts.{and-yes}
-use Rattle.frame.specs.Answers.{Accepted, judge}
-use Rattle.frame.specs.Machine.{State, stackPointer, frameAt, okFrames, sizes, okMemory, okState, stateTests, enterAnswer, top, writableAddress, writeRegisterAnswer, writeMemoryAnswer, leaveTests, leaveAnswer}
-use Rattle.frame.specs.Premises.{Sound, CanEnter, CanLeave}
-use Rattle.frame.proofs.Judging.{holds-yes, judge-both}
+use Rattle.machine.specs.Answers.{Accepted, judge}
+use Rattle.machine.specs.Machine.{State, stackPointer, frameAt, okFrames, sizes, okMemory, okState, stateTests, enterAnswer, top, writableAddress, writeRegisterAnswer, writeMemoryAnswer, leaveTests, leaveAnswer}
+use Rattle.machine.specs.Premises.{Sound, CanEnter, CanLeave}
+use Rattle.machine.proofs.Judging.{holds-yes, judge-both}
 
 -- what refusal 16 says of the memory
 pub memory-yes : (k : Rules) (b n : ℕ) → okMemory k b n ≡ true → (256 ≤ n) × (n ≤ 65536) × (b + n ≤ k .limit)

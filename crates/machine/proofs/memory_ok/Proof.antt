@@ -1,12 +1,12 @@
 -- The definition's tests in their order; the last compares the difference, which cannot wrap. Assumes nothing.
-use Rattle.frame.proofs.Coding.{leb-sub}
-use Rattle.frame.specs.Machine.{okMemory}
+use Rattle.machine.proofs.Coding.{leb-sub}
+use Rattle.machine.specs.Machine.{okMemory}
 use borrow.Author.Tests.{lt-leb, le-leb, eq-eqb, ne-eqb}
 use Prim.Native.Nat.{_%_}
 use native.Mathlib.Omega.{arith}
 use borrow.Author.Needs.{needs}
-use Rattle.frame.proofs.memory_ok.Statement.{statement}
-use Rattle.frame.proofs.memory_ok.Tie as tie
+use Rattle.machine.proofs.memory_ok.Statement.{statement}
+use Rattle.machine.proofs.memory_ok.Tie as tie
 
 returns : tie.Need-returns
 unfolding okMemory

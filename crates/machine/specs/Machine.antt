@@ -14,9 +14,9 @@ use Rattle.rules.specs.declared.Frame.{Frame}
 use Rattle.rules.specs.declared.Registers.{Registers}
 use Rattle.rules.specs.Rules.{rules}
 use Rattle.rules.specs.Frames.{noFrame, startFrame, withPointer, okRequest, outgoingLength, below, frameSize, saves, linkAt, restored, bankOf, writableRegister, withRegister}
-use Rattle.frame.specs.Answers.{Answer, BadMemory, BadRequest, TooManyFrames, NoRoom, NotPermitted, BrokenChain, NothingEntered, BadState, Test, require, judge, settle}
-pub use Rattle.frame.specs.declared.State.{State}
-pub use Rattle.frame.specs.declared.Outcome.{Outcome}
+use Rattle.machine.specs.Answers.{Answer, BadMemory, BadRequest, TooManyFrames, NoRoom, NotPermitted, BrokenChain, NothingEntered, BadState, Test, require, judge, settle}
+pub use Rattle.machine.specs.declared.State.{State}
+pub use Rattle.machine.specs.declared.Outcome.{Outcome}
 
 -- ---- a state
 

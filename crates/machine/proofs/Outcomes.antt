@@ -8,8 +8,8 @@ use Rattle.rules.specs.declared.Convention.{Convention}
 use Rattle.rules.specs.declared.Frame.{Frame}
 use Rattle.rules.specs.declared.Registers.{Registers}
 use Rattle.rules.specs.Rules.{rules}
-use Rattle.frame.specs.Answers.{Accepted, Refused, Refusal, BadMemory, judge}
-use Rattle.frame.specs.Machine.{State, rulesOf, okMemory, startAnswer, started, startedMemory, notStarted, enterAnswer, entered, enteredMemory, writeRegisterAnswer, writeMemoryAnswer, writtenRegister, writtenMemory, leaveAnswer, left, startOutcome, startMemory, enterOutcome, enterMemory, writeRegisterOutcome, writeMemoryOutcome, writeMemoryMemory, leaveOutcome}
+use Rattle.machine.specs.Answers.{Accepted, Refused, Refusal, BadMemory, judge}
+use Rattle.machine.specs.Machine.{State, rulesOf, okMemory, startAnswer, started, startedMemory, notStarted, enterAnswer, entered, enteredMemory, writeRegisterAnswer, writeMemoryAnswer, writtenRegister, writtenMemory, leaveAnswer, left, startOutcome, startMemory, enterOutcome, enterMemory, writeRegisterOutcome, writeMemoryOutcome, writeMemoryMemory, leaveOutcome}
 
 pub accepted-start : (c : Convention) (b n : ℕ) → okMemory (rules c) b n ≡ true → startAnswer c b n ≡ Accepted
 unfolding startAnswer judge

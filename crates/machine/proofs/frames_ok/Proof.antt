@@ -1,14 +1,14 @@
 -- Down from the top record: what is left to test decides the whole. Assumes nothing.
-use Rattle.frame.proofs.Coding.{frames-down, frames-none}
+use Rattle.machine.proofs.Coding.{frames-down, frames-none}
 use Rattle.rules.specs.Frames.{okRequest}
-use Rattle.frame.specs.Machine.{okFrames, frameAt}
+use Rattle.machine.specs.Machine.{okFrames, frameAt}
 use mathlib.Core.Bool.{true, false}
 use borrow.Author.Tests.{not-true, not-false}
 use Prim.Native.Nat.{_-_, _≤_}
 use native.Mathlib.Omega.{arith}
 use mathlib.Core.Path.{_≡_, refl, sym, _∙_}
-use Rattle.frame.proofs.frames_ok.Statement.{statement}
-use Rattle.frame.proofs.frames_ok.Tie as tie
+use Rattle.machine.proofs.frames_ok.Statement.{statement}
+use Rattle.machine.proofs.frames_ok.Tie as tie
 
 abbrev Inv-loop : tie.InvT-loop
 Inv-loop k depth fs d₀ d = (okFrames k fs d ≡ okFrames k fs depth) × (d ≤ depth)

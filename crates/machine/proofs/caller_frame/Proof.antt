@@ -1,10 +1,10 @@
 -- The start, or the record below the top one. Assumes nothing.
-use Rattle.frame.proofs.Coding.{caller-none, caller-some}
+use Rattle.machine.proofs.Coding.{caller-none, caller-some}
 use native.Mathlib.Omega.{arith}
 use mathlib.Core.Path.{sym, _∙_}
 use borrow.Author.Needs.{needs}
-use Rattle.frame.proofs.caller_frame.Statement.{statement}
-use Rattle.frame.proofs.caller_frame.Tie as tie
+use Rattle.machine.proofs.caller_frame.Statement.{statement}
+use Rattle.machine.proofs.caller_frame.Tie as tie
 
 start-frame-requires : tie.Need-start-frame-requires
 start-frame-requires c κs = search needs

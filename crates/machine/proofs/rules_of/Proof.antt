@@ -1,7 +1,7 @@
 -- By the convention. Assumes nothing.
 use borrow.Author.Needs.{needs}
-use Rattle.frame.proofs.rules_of.Statement.{statement}
-use Rattle.frame.proofs.rules_of.Tie as tie
+use Rattle.machine.proofs.rules_of.Statement.{statement}
+use Rattle.machine.proofs.rules_of.Tie as tie
 
 enum-told : tie.Need-enum-told
 enum-told c = search needs

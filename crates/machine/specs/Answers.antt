@@ -3,10 +3,10 @@ use Prim.Native.Nat.{ℕ}
 use mathlib.Core.Bool.{Bool}
 use mathlib.Core.List.{List, [], _∷_}
 use Rattle.rules.specs.Rules.{pick}
-pub use Rattle.frame.specs.declared.Refusal.{Refusal}
-pub use Rattle.frame.specs.declared.Refusal.the-variants.{BadMemory, BadRequest, TooManyFrames, NoRoom, NotPermitted, BrokenChain, NothingEntered, BadState}
-pub use Rattle.frame.specs.declared.Answer.{Answer}
-pub use Rattle.frame.specs.declared.Answer.the-variants.{Accepted, Refused}
+pub use Rattle.machine.specs.declared.Refusal.{Refusal}
+pub use Rattle.machine.specs.declared.Refusal.the-variants.{BadMemory, BadRequest, TooManyFrames, NoRoom, NotPermitted, BrokenChain, NothingEntered, BadState}
+pub use Rattle.machine.specs.declared.Answer.{Answer}
+pub use Rattle.machine.specs.declared.Answer.the-variants.{Accepted, Refused}
 
 -- document 01's number of each refusal ("No"); its place is 0 for all of them
 abbrev pub refusalNumber : Refusal → ℕ

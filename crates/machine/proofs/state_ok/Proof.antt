@@ -1,7 +1,7 @@
 -- The definition's tests in their order; the last compares with a difference, which cannot wrap. Assumes nothing.
-use Rattle.frame.proofs.States.{memory-yes}
-use Rattle.frame.proofs.Coding.{eqb-sub}
-use Rattle.frame.specs.Machine.{okState, stackPointer, sizes}
+use Rattle.machine.proofs.States.{memory-yes}
+use Rattle.machine.proofs.Coding.{eqb-sub}
+use Rattle.machine.specs.Machine.{okState, stackPointer, sizes}
 use lib.Dec.{eqb}
 use mathlib.Core.Bool.{false}
 use borrow.Author.Tests.{lt-leb, le-leb, ne-eqb, not-true, not-false}
@@ -9,8 +9,8 @@ use Prim.Native.Nat.{_+_}
 use native.Mathlib.Omega.{arith}
 use mathlib.Core.Path.{_≡_, sym, _∙_}
 use borrow.Author.Needs.{needs}
-use Rattle.frame.proofs.state_ok.Statement.{statement}
-use Rattle.frame.proofs.state_ok.Tie as tie
+use Rattle.machine.proofs.state_ok.Statement.{statement}
+use Rattle.machine.proofs.state_ok.Tie as tie
 
 returns : tie.Need-returns
 unfolding okState

@@ -1,13 +1,13 @@
 -- Down from the top record: the sum so far and the sizes left make the whole. Assumes nothing.
 use Rattle.rules.proofs.Places.{size-small}
-use Rattle.frame.proofs.Coding.{sizes-down, sizes-none, frames-read}
-use Rattle.frame.specs.Machine.{okFrames, frameAt, sizes}
+use Rattle.machine.proofs.Coding.{sizes-down, sizes-none, frames-read}
+use Rattle.machine.specs.Machine.{okFrames, frameAt, sizes}
 use mathlib.Core.Bool.{true}
 use Prim.Native.Nat.{_+_, _-_, _*_, _≤_}
 use native.Mathlib.Omega.{arith}
 use mathlib.Core.Path.{_≡_}
-use Rattle.frame.proofs.sizes_of.Statement.{statement}
-use Rattle.frame.proofs.sizes_of.Tie as tie
+use Rattle.machine.proofs.sizes_of.Statement.{statement}
+use Rattle.machine.proofs.sizes_of.Tie as tie
 
 abbrev Inv-loop : tie.InvT-loop
 Inv-loop k depth fs d₀ sum₀ d sum = (sum + sizes k fs d ≡ sizes k fs depth) × (d ≤ depth) × (okFrames k fs d ≡ true) × (sum + 65536 * d ≤ 65536 * depth)

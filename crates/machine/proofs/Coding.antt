@@ -16,9 +16,9 @@ use Rattle.rules.specs.Lawful.{Lawful, Placed}
 use Rattle.rules.proofs.Facts.{and-yes}
 use Rattle.rules.proofs.Conventions.{lawful}
 use Rattle.rules.proofs.Places.{ranges}
-use Rattle.frame.specs.Machine.{State, offset, frameAt, topFrame, callerFrame, top, caller, okFrames, sizes}
-use Rattle.frame.specs.Premises.{Sound, CanEnter}
-use Rattle.frame.proofs.States.{memory-yes}
+use Rattle.machine.specs.Machine.{State, offset, frameAt, topFrame, callerFrame, top, caller, okFrames, sizes}
+use Rattle.machine.specs.Premises.{Sound, CanEnter}
+use Rattle.machine.proofs.States.{memory-yes}
 
 -- ---- tests on differences
 

@@ -5,7 +5,7 @@ use mathlib.Core.List.{List, [], _∷_, _++_}
 use native.Mathlib.Omega.{arith}
 use Prim.Native.Nat.{ℕ}
 use Rattle.rules.specs.Rules.{pick}
-use Rattle.frame.specs.Answers.{Accepted, Refused, Refusal, Test, judge}
+use Rattle.machine.specs.Answers.{Accepted, Refused, Refusal, Test, judge}
 
 pub never : {A : Type 0} (r : Refusal) → Refused r ≡ Accepted → A
 never r e = let z : _≡_ {A = ℕ} 0 1 = cc in absurd (omega arith)

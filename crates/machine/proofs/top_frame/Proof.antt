@@ -1,10 +1,10 @@
 -- The start, or the record below the depth. Assumes nothing.
-use Rattle.frame.proofs.Coding.{top-none, top-some}
+use Rattle.machine.proofs.Coding.{top-none, top-some}
 use native.Mathlib.Omega.{arith}
 use mathlib.Core.Path.{sym, _∙_}
 use borrow.Author.Needs.{needs}
-use Rattle.frame.proofs.top_frame.Statement.{statement}
-use Rattle.frame.proofs.top_frame.Tie as tie
+use Rattle.machine.proofs.top_frame.Statement.{statement}
+use Rattle.machine.proofs.top_frame.Tie as tie
 
 start-frame-requires : tie.Need-start-frame-requires
 start-frame-requires c κs = search needs

@@ -14,9 +14,9 @@ use Rattle.rules.specs.Frames.{startFrame, okRequest, outgoingLength, below, fr
 use Rattle.rules.specs.Lawful.{Lawful}
 use Rattle.rules.proofs.Facts.{and-yes, or-yes}
 use Rattle.rules.proofs.Places.{size-parts}
-use Rattle.frame.specs.Machine.{State, offset, frameAt, topFrame, callerFrame, top, caller, okFrames, sizes, inside, writableBytes, writableAddress}
-use Rattle.frame.specs.Premises.{Sound}
-use Rattle.frame.proofs.Coding.{frames-read, sizes-down, top-none, top-some, frame-request, pointer-room}
+use Rattle.machine.specs.Machine.{State, offset, frameAt, topFrame, callerFrame, top, caller, okFrames, sizes, inside, writableBytes, writableAddress}
+use Rattle.machine.specs.Premises.{Sound}
+use Rattle.machine.proofs.Coding.{frames-read, sizes-down, top-none, top-some, frame-request, pointer-room}
 
 inside-is : (a n b e : ℕ) → inside a n b e ≡ true → (b ≤ a) × (a + n ≤ e)
 inside-is a n b e h = let p = and-yes (leb b a) (leb (a + n) e) h in (leb-true b a (p .0), leb-true (a + n) e (p .1))
