@@ -3,3 +3,5 @@ pub mod Entering
 pub mod Writing
 pub mod Leaving
 pub mod Theorem
+pub mod Replaying
+pub mod Examples

@@ -47,9 +47,9 @@ abbrev pub fresh : Convention → ℕ → List ℕ → Registers → Machine
 fresh c b l r = record { state = startOutcome c b (length l) r .state; memory = startMemory c b l }
 
 -- the answers of a list of calls, and the machine after them
-abbrev pub answers : List Call → Machine → List Answer
-answers [] m = []
-answers (c ∷ cs) m = answer c m ∷ answers cs (after c m)
+abbrev pub answersTo : List Call → Machine → List Answer
+answersTo [] m = []
+answersTo (c ∷ cs) m = answer c m ∷ answersTo cs (after c m)
 
 abbrev pub run : List Call → Machine → Machine
 run [] m = m

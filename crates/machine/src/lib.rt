@@ -5,7 +5,7 @@ ghost use Prim.Native.Nat.{_≤_};
 ghost use lib.ListN.{length};
 ghost use Rattle.rules.specs.Rules.{ppc64, z, rules};
 ghost use Rattle.rules.specs.Lawful.{Lawful};
-ghost use Rattle.machine.specs.Answers.{judge};
+ghost use Rattle.machine.specs.Answers.{refusalNumber, answerNumber, judge};
 ghost use Rattle.machine.specs.Machine.{stackPointer, top, caller, okFrames, sizes, okMemory, okState, stateTests, startOutcome, startMemory};
 use rules::Bank;
 use rules::Convention;
@@ -38,6 +38,31 @@ pub enum Refusal {
 pub enum Answer {
     Accepted,
     Refused(Refusal),
+}
+
+// Document 01's number of a refusal, and of an answer: 0 for an accepted call.
+fn refusal_number(r: Refusal) -> u64
+    ensures { λ n. ⌜ n ≡ refusalNumber r ⌝ }
+{
+    match r {
+        Refusal::BadMemory => 16,
+        Refusal::BadRequest => 17,
+        Refusal::TooManyFrames => 18,
+        Refusal::NoRoom => 19,
+        Refusal::NotPermitted => 20,
+        Refusal::BrokenChain => 21,
+        Refusal::NothingEntered => 22,
+        Refusal::BadState => 23,
+    }
+}
+
+pub fn answer_number(a: Answer) -> u64
+    ensures { λ n. ⌜ n ≡ answerNumber a ⌝ }
+{
+    match a {
+        Answer::Accepted => 0,
+        Answer::Refused(r) => refusal_number(r),
+    }
 }
 
 // A machine between two calls. Its memory has `size` bytes from the address `base` on; the first `depth` of `frames` are entered.
