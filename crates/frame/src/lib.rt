@@ -187,11 +187,11 @@ pub fn write_register(s: State, memory: &[u8], bank: u64, number: u64, value: u6
             let b = rules::bank_of(bank);
             let registers = s.registers;
             let r = rules::with_register(registers, b, number as usize, value);
-            let mut t = s;
-            t.registers = r;
+            let mut written = s;
+            written.registers = r;
             Outcome {
                 answer: Answer::Accepted,
-                state: t,
+                state: written,
             }
         }
     }
@@ -278,17 +278,17 @@ fn pop(k: Rules, s: State, memory: &[u8]) -> State
     let d = s.depth - 1;
     let registers = s.registers;
     let r = rules::restore(memory, k, f, o + z, p + z as u64, registers);
-    let mut t = s;
-    t.registers = r;
-    t.depth = d;
-    t.frames[d] = Frame {
+    let mut popped = s;
+    popped.registers = r;
+    popped.depth = d;
+    popped.frames[d] = Frame {
         first_gpr: 0,
         first_fpr: 0,
         saves_cr: false,
         locals: 0,
         outgoing: 0,
     };
-    t
+    popped
 }
 
 // Leaves the frame entered last.

@@ -3,3 +3,4 @@ pub mod States
 pub mod Coding
 pub mod Outcomes
 pub mod Areas
+pub mod Formulas

@@ -44,6 +44,7 @@ unfoldable pub callerFrame : Rules → List Frame → ℕ → Frame
 callerFrame k fs zero = startFrame k
 callerFrame k fs (suc d) = topFrame k fs d
 
+-- the same of a state
 abbrev pub top : Rules → State → Frame
 top k s = topFrame k (s .frames) (s .depth)
 
@@ -75,6 +76,7 @@ stateTests k s n = require (okState k s) BadState ∷ require (eqb n (s .size)) 
 
 -- ---- start
 
+-- "Machine: start 16"
 unfoldable pub startAnswer : Convention → ℕ → ℕ → Answer
 startAnswer c b n = judge (require (okMemory (rules c) b n) BadMemory ∷ [])
 
@@ -89,6 +91,7 @@ started c b n r = record {
   frames = replicate 32 noFrame;
 }
 
+-- the memory with the start's zero word
 unfoldable pub startedMemory : Rules → List ℕ → List ℕ
 startedMemory k l = store l (length l - k .room) (k .word) 0
 
@@ -103,6 +106,7 @@ abbrev pub enterTests : Rules → State → Frame → List Test
 enterTests k s f =
     require (okRequest k f) BadRequest ∷ require (ltb (s .depth) 32) TooManyFrames ∷ require (leb (s .base + frameSize k f) (stackPointer k s)) NoRoom ∷ []
 
+-- what an enter answers, with n bytes of memory lent
 unfoldable pub enterAnswer : Rules → State → ℕ → Frame → Answer
 enterAnswer k s n f = judge (stateTests k s n ++ enterTests k s f)
 
@@ -138,10 +142,11 @@ writableBytes k s a n =
     || (ltb 0 (s .depth) && (inside a n (o + k .header + outgoingLength k f) (c - below (k .linkage) k f)
     || inside a n (c + k .header) (c + k .header + outgoingLength k (caller k s))))))
 
--- "write 20": n bytes of memory lent; register `number` of bank b with the value v; m bytes at the address a
+-- "write 20", with n bytes of memory lent: of the value v to register `number` of bank b
 unfoldable pub writeRegisterAnswer : Rules → State → ℕ → ℕ → ℕ → ℕ → Answer
 writeRegisterAnswer k s n b number v = judge (stateTests k s n ++ (require (writableRegister k (top k s) (bankOf b) number v) NotPermitted ∷ []))
 
+-- the same of m bytes at the address a
 unfoldable pub writableAddress : Rules → State → ℕ → ℕ → Bool
 writableAddress k s a m = leb (s .base) a && writableBytes k s (a - s .base) m
 
@@ -172,6 +177,7 @@ leaveTests k s l =
     ∷ require (eqb (load l (linkAt (k .linkage) k (offset k s) (offset k s + z)) (k .word)) (stackPointer k s + z)) BrokenChain
     ∷ []
 
+-- what a leave answers with the memory l lent
 unfoldable pub leaveAnswer : Rules → State → List ℕ → Answer
 leaveAnswer k s l = judge (stateTests k s (length l) ++ leaveTests k s l)
 

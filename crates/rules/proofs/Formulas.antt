@@ -5,7 +5,7 @@ use mathlib.Core.Bool.{false}
 use mathlib.Core.List.{[], _∷_}
 use native.Mathlib.Omega.{arith}
 use Rattle.rules.specs.Rules.{ppc64, z, Frame, Registers}
-use Rattle.rules.specs.Frames.{firstGpr, firstFpr, savesCr, below, roundUp, frameSize, gprAt, savesBy, saves, wordSave, flag, withField}
+use Rattle.rules.specs.Frames.{firstGpr, firstFpr, savesCr, below, roundUp, frameSize, gprAt, savesBy, saves, linkAt, wordSave, flag, withField}
 
 module _ (f : Frame) (s : ℕ) where
   -- "48 + max(64, P) + L + 8(32 - g) + 8(32 - m), rounded up to 16"
@@ -35,6 +35,15 @@ module _ (f : Frame) (s : ℕ) where
       ∷ []
   unfolding savesBy gprAt
   saves-z r = refl
+
+-- "the back chain (on Z the r15 slot instead)", with the frame's pointer at o and the caller's at s
+link-ppc64 : (o s : ℕ) → linkAt (ppc64 .linkage) ppc64 o s ≡ o
+unfolding linkAt
+link-ppc64 o s = refl
+
+link-z : (o s : ℕ) → linkAt (z .linkage) z o s ≡ s + 120
+unfolding linkAt
+link-z o s = refl
 
 -- "frames: g 29, m 30, L 20, P 64: 176. g 14, m 14, L 0, P 0: 400. Z, g 6, m 8, L 1, P 8: 240."
 abbrev request : ℕ → ℕ → ℕ → ℕ → Frame

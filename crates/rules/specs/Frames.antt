@@ -53,6 +53,7 @@ unfoldable pub below : Linkage → Rules → Frame → ℕ
 below (LinkRegister c l) k f = 8 * (k .end - firstFpr f) + k .word * (k .end - firstGpr f)
 below (SaveArea r) k f = 8 * (k .end - firstFpr f)
 
+-- x "rounded up to" a multiple of a
 unfoldable pub roundUp : ℕ → ℕ → ℕ
 roundUp x a = (x + (a - 1)) / a * a
 
@@ -62,19 +63,21 @@ frameSize k f = roundUp (k .header + outgoingLength k f + f .locals + below (k .
 
 -- ---- what an enter saves
 
+-- a count: 1 where the test holds, else 0
 abbrev pub flag : Bool → ℕ
 flag true = 1
 flag false = 0
 
--- "f(n) at S - 8(32 - n)"; on Z "at S - 8(16 - n)"
+-- the run of floating registers that is saved: "f(n) at S - 8(32 - n)"; on Z "at S - 8(16 - n)"
 abbrev pub fprSave : Rules → Frame → ℕ → List ℕ → Save
 fprSave k f s xs = record { values = xs; from = firstFpr f; count = k .end - firstFpr f; at = s - 8 * (k .end - firstFpr f); width = 8 }
 
--- "r(n) at S - 8(32 - m) - 8(32 - n)"; on Z "at S + 8n"
+-- where the first general register saved stands, r(g): "r(n) at S - 8(32 - m) - 8(32 - n)"; on Z "at S + 8n"
 unfoldable pub gprAt : Linkage → Rules → Frame → ℕ → ℕ
 gprAt (LinkRegister c l) k f s = s - 8 * (k .end - firstFpr f) - k .word * (k .end - firstGpr f)
 gprAt (SaveArea r) k f s = s + k .word * firstGpr f
 
+-- the run of general registers that is saved
 abbrev pub gprSave : Linkage → Rules → Frame → ℕ → List ℕ → Save
 gprSave p k f s xs = record { values = xs; from = firstGpr f; count = k .end - firstGpr f; at = gprAt p k f s; width = k .word }
 
@@ -88,6 +91,7 @@ savesBy (LinkRegister c l) k f s r =
     gprSave (LinkRegister c l) k f s (r .gpr) ∷ fprSave k f s (r .fpr) ∷ wordSave (r .cr) (flag (savesCr f)) (s + c) 4 ∷ wordSave (r .lr) 1 (s + l) (k .word) ∷ []
 savesBy (SaveArea n) k f s r = fprSave k f s (r .fpr) ∷ gprSave (SaveArea n) k f s (r .gpr) ∷ []
 
+-- the same by the convention
 abbrev pub saves : Rules → Frame → ℕ → Registers → List Save
 saves k f s r = savesBy (k .linkage) k f s r
 
@@ -106,7 +110,7 @@ preservedFields c = c / 4096 % 4096
 unfoldable pub mergeFields : ℕ → ℕ → ℕ
 mergeFields old new = old / 16777216 * 16777216 + preservedFields new * 4096 + old % 4096
 
--- "Leave restores these" from the memory m, whatever stands there; p is the caller's pointer
+-- LR and CR as "Leave restores these" from the memory m, whatever stands there; x is what the frame has in them
 unfoldable pub restoredLr : Linkage → Rules → ℕ → List ℕ → ℕ → ℕ
 restoredLr (LinkRegister c l) k s m x = load m (s + l) (k .word)
 restoredLr (SaveArea r) k s m x = x
@@ -115,6 +119,7 @@ unfoldable pub restoredCr : Linkage → Frame → ℕ → List ℕ → ℕ → �
 restoredCr (LinkRegister c l) f s m x = pick (savesCr f) (mergeFields x (load m (s + c) 4)) x
 restoredCr (SaveArea r) f s m x = x
 
+-- the registers after a leave: those saved are restored, "Leave restores them all" on Z; p is the caller's pointer
 unfoldable pub restored : Rules → Frame → ℕ → List ℕ → ℕ → Registers → Registers
 restored k f s m p r = record {
   gpr = set (taken (r .gpr) m (gprSave (k .linkage) k f s [])) (k .pointer) p;
@@ -123,12 +128,14 @@ restored k f s m p r = record {
   cr = restoredCr (k .linkage) f s m (r .cr);
 }
 
--- ---- what a leave must keep: "The return address is LR, on Z r14"; "CR fields 2 to 4"
+-- ---- what demand 3 says is kept besides registers
 
+-- "The return address is LR, on Z r14"
 abbrev pub returnAddress : Linkage → Registers → ℕ
 returnAddress (LinkRegister c l) r = r .lr
 returnAddress (SaveArea n) r = getD (r .gpr) n 0
 
+-- the condition fields that are preserved; none on Z
 abbrev pub preservedCondition : Linkage → ℕ → ℕ
 preservedCondition (LinkRegister c l) cr = preservedFields cr
 preservedCondition (SaveArea n) cr = 0

@@ -57,8 +57,8 @@ restore-requires c κs =
 mul-t14 : tie.Need-mul-t14
 mul-t14 c = search needs
 
-element-set-from-t : tie.Need-element-set-from-t
-element-set-from-t c = search needs
+element-set-from-popped : tie.Need-element-set-from-popped
+element-set-from-popped c = search needs
 
 returns : tie.Need-returns
 unfolding left
@@ -81,5 +81,5 @@ pop-spec =
     add-restore-2
     restore-requires
     mul-t14
-    element-set-from-t
+    element-set-from-popped
     returns)
