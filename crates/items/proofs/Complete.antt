@@ -1,10 +1,9 @@
 -- Every encoding of a type within the limits is read, and gives the type back. Assumes nothing.
-use Prim.Native.Nat.{ℕ, suc, _+_, _-_, _*_, _≤_, _<_}
+use Prim.Native.Nat.{ℕ, _+_, _-_, _≤_}
 use mathlib.Core.Path.{_≡_, refl, sym, ap, _∙_}
-use mathlib.Core.Bool.{Bool, true, false}
-use mathlib.Core.List.{List, [], _∷_, _++_}
+use mathlib.Core.List.{List, [], _∷_}
 use lib.ListN.{length, getD, length-append}
-use lib.Dec.{ltb, eqb}
+use lib.Dec.{ltb}
 use native.Mathlib.Omega.{arith}
 use borrow.Author.Tests.{le-ltb, eq-eqb}
 use Rattle.types.specs.declared.Convention.{Convention}
@@ -15,8 +14,8 @@ use Rattle.types.specs.Structs.{shapeOf}
 use Rattle.types.specs.Trees.{Tree, Trees, integer, float, struct, none, _▸_, typeOf, fieldsOf, countOf}
 use Rattle.items.specs.declared.IntegerCode.{IntegerCode}
 use Rattle.items.specs.declared.Body.{Body}
-use Rattle.items.specs.Reading.{Reading, got, no}
-use Rattle.items.specs.Read.{lengthAt, bodyAt, integerCode, floatCode, integerAt, floatAt, sequence, sizedAt, structAt, itemAt}
+use Rattle.items.specs.Reading.{Reading, got}
+use Rattle.items.specs.Read.{bodyAt, integerCode, floatCode, integerAt, floatAt, sequence, sizedAt, itemAt}
 use Rattle.items.specs.Encode.{integerNumber, floatNumber, item, encodeTree, encodeTrees, itemsOf, itemsIn}
 use Rattle.items.proofs.Laws.{body-to, sequence-done, sequence-more, struct-read, item-integer, item-float, item-struct}
 use Rattle.items.proofs.Levels.{FloatLeft, Left, AllLeft}

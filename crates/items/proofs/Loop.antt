@@ -8,11 +8,10 @@ use Rattle.types.specs.declared.ValueType.{ValueType}
 use Rattle.types.specs.declared.Fields.{Fields}
 use Rattle.types.specs.Sizes.{Sized}
 use Rattle.types.specs.Structs.{noFields, withField, closed}
-use Rattle.types.specs.Trees.{Tree, Trees, none, _▸_, typeOf, fieldsOf}
+use Rattle.types.specs.Trees.{Trees, none, _▸_, fieldsOf}
 use Rattle.types.proofs.Laws.{Aligned, none-aligned, more-aligned, more-end}
 use Rattle.items.specs.declared.Refusal.{Refusal}
 use Rattle.items.specs.declared.ItemRead.{ItemRead}
-use Rattle.items.specs.Reading.{Reading, got, no}
 use Rattle.items.specs.Read.{sequence, structAt, itemAt}
 use Rattle.items.specs.Answer.{itemAnswer, closedAnswer}
 use Rattle.items.proofs.Laws.{contents, sequence-done, sequence-more, sequence-no, struct-refused, struct-read, item-got, item-no, sized-answer}

@@ -1,19 +1,19 @@
 -- What is read is an encoding: the type is within the limits, its bytes stand there, and the place after it and the count of
 -- items are those of its encoding. A property of readings is pushed through each definition. Assumes nothing.
 use Prim.Native.Nat.{ℕ, zero, suc, _+_, _-_, _*_, _≤_, _<_}
-use mathlib.Core.Path.{_≡_, refl, sym, ap, _∙_}
+use mathlib.Core.Path.{_≡_, refl}
 use mathlib.Core.Bool.{Bool, true, false}
-use mathlib.Core.List.{List, [], _∷_, _++_}
+use mathlib.Core.List.{List, [], _∷_}
 use lib.ListN.{length, getD, length-append}
 use lib.Dec.{ltb, eqb}
 use native.Mathlib.Omega.{arith}
-use borrow.Author.Tests.{ltb-true, ltb-false, eqb-true, eqb-false}
+use borrow.Author.Tests.{ltb-false, eqb-true, eqb-false}
 use Rattle.words.specs.Numbers.{Bytes}
 use Rattle.types.specs.declared.Convention.{Convention}
 use Rattle.types.specs.declared.FloatFormat.{FloatFormat}
 use Rattle.types.specs.Sizes.{Sized}
 use Rattle.types.specs.Structs.{shapeOf}
-use Rattle.types.specs.Trees.{Tree, Trees, integer, float, struct, none, _▸_, typeOf, fieldsOf, countOf}
+use Rattle.types.specs.Trees.{Tree, Trees, float, none, _▸_, typeOf, fieldsOf, countOf}
 use Rattle.items.specs.declared.IntegerCode.{IntegerCode}
 use Rattle.items.specs.declared.FloatCode.{FloatCode}
 use Rattle.items.specs.declared.Body.{Body}

@@ -2,7 +2,7 @@
 -- room, tag, length room, then depth (6), body (4), long double (5), contents, size (8)". The list s is the whole signature,
 -- `at` the place of an item's header, e the enclosing end and b the end of an item's body. Assumes nothing.
 use Prim.Native.Nat.{ℕ, zero, suc, _+_, _-_, _*_}
-use mathlib.Core.Bool.{Bool, true, false}
+use mathlib.Core.Bool.{Bool}
 use mathlib.Core.List.{List}
 use lib.ListN.{getD}
 use lib.Dec.{ltb, eqb}

@@ -1,16 +1,15 @@
 -- Every encoding of a signature within the limits is read, and gives the signature back. Assumes nothing.
-use Prim.Native.Nat.{ℕ, _+_, _-_, _≤_, _<_}
+use Prim.Native.Nat.{ℕ, _+_, _-_, _≤_}
 use mathlib.Core.Path.{_≡_, refl, sym, ap, _∙_}
 use mathlib.Core.List.{List, [], _∷_, _++_}
-use lib.ListN.{length, getD, length-append}
+use lib.ListN.{length}
 use native.Mathlib.Omega.{arith}
-use borrow.Author.Tests.{le-ltb, eq-eqb, ne-eqb}
+use borrow.Author.Tests.{le-ltb, ne-eqb}
 use Rattle.types.specs.declared.Convention.{Convention}
-use Rattle.types.specs.Trees.{Tree, Trees, none, countOf}
+use Rattle.types.specs.Trees.{Tree, Trees, countOf}
 use Rattle.types.specs.Limits as limits
-use Rattle.items.specs.declared.Body.{Body}
-use Rattle.items.specs.Reading.{Reading, got, no}
-use Rattle.items.specs.Read.{bodyAt, itemAt}
+use Rattle.items.specs.Reading.{got}
+use Rattle.items.specs.Read.{itemAt}
 use Rattle.items.specs.Encode.{item, encodeTree, encodeTrees, itemsOf, itemsIn}
 use Rattle.items.proofs.Laws.{sequence-done}
 use Rattle.items.proofs.Levels.{within-left, all-within-left}

@@ -10,11 +10,11 @@ use native.Mathlib.Omega.{arith}
 use borrow.Author.Tests.{lt-ltb, le-ltb, eq-eqb, ne-eqb}
 use Rattle.types.specs.declared.Convention.{Convention}
 use Rattle.types.specs.declared.ValueType.{ValueType}
-use Rattle.types.specs.Trees.{Tree, Trees, typeOf}
+use Rattle.types.specs.Trees.{Trees}
 use Rattle.items.specs.declared.Refusal.{Refusal}
 use Rattle.items.specs.declared.Body.{Body}
 use Rattle.items.specs.declared.ItemRead.{ItemRead}
-use Rattle.items.specs.Reading.{Reading, got, no, pick, choose, andThen, inBody}
+use Rattle.items.specs.Reading.{Reading, got, no, pick, andThen, inBody}
 use Rattle.items.specs.Read.{bodyAt, itemAt}
 use Rattle.items.specs.Answer.{itemAnswer}
 use Rattle.items.proofs.Laws.{item-got, item-no}
@@ -23,8 +23,7 @@ use Rattle.signature.specs.declared.ConventionCode.{ConventionCode}
 use Rattle.signature.specs.declared.ConventionRead.{ConventionRead}
 use Rattle.signature.specs.declared.ResultType.{ResultType}
 use Rattle.signature.specs.declared.ResultRead.{ResultRead}
-use Rattle.signature.specs.declared.SignatureRead.{SignatureRead}
-use Rattle.signature.specs.Signature.{Result, nothing, value, Signature}
+use Rattle.signature.specs.Signature.{Result, nothing}
 use Rattle.signature.specs.Read.{maxDepth, conventionCode, conventionBy, conventionAt, resultIn, resultAt, argumentsIn, argumentsAt, afterResult, afterConvention, signatureOf}
 use Rattle.signature.specs.Answer.{conventionAnswer, resultType, resultAnswer, refused, accepted, withArguments, signatureAnswer}
 

@@ -1,7 +1,7 @@
 -- The loop over the arguments: its invariant, and what each way out of a turn gives. Assumes nothing.
 use Prim.Native.Nat.{ℕ, suc, _+_, _-_, _*_, _≤_, _<_}
-use mathlib.Core.Path.{_≡_, refl, sym, ap, _∙_}
-use mathlib.Core.List.{List, [], _∷_, _++_, append-assoc}
+use mathlib.Core.Path.{_≡_, refl, sym, _∙_}
+use mathlib.Core.List.{List, [], _∷_, append-assoc}
 use lib.ListN.{length, set, replicate, length-append}
 use lib.Seq.{set-at}
 use native.Mathlib.Omega.{arith}
@@ -12,7 +12,7 @@ use Rattle.types.specs.declared.ValueType.{ValueType}
 use Rattle.types.specs.Trees.{Tree, Trees, none, _▸_, typeOf, countOf}
 use Rattle.items.specs.declared.Refusal.{Refusal}
 use Rattle.items.specs.declared.ItemRead.{ItemRead}
-use Rattle.items.specs.Reading.{Reading, got, no}
+use Rattle.items.specs.Reading.{got, no}
 use Rattle.items.specs.Read.{sequence, itemAt}
 use Rattle.items.specs.Answer.{itemAnswer}
 use Rattle.items.proofs.Laws.{sequence-done, sequence-full, sequence-more, sequence-no, item-got, item-no}
@@ -22,7 +22,7 @@ use Rattle.signature.specs.declared.ResultType.{ResultType}
 use Rattle.signature.specs.declared.SignatureRead.{SignatureRead}
 use Rattle.signature.specs.declared.Outcome.{Outcome}
 use Rattle.signature.specs.Read.{argumentsIn}
-use Rattle.signature.specs.Answer.{argument, noArguments, listed, table, refused, accepted, withArguments}
+use Rattle.signature.specs.Answer.{argument, noArguments, listed, table, refused, withArguments}
 
 -- the table
 

@@ -1,6 +1,6 @@
 -- What is read is an encoding of a signature within the limits. Assumes nothing.
-use Prim.Native.Nat.{ℕ, _+_, _*_, _≤_, _<_}
-use mathlib.Core.Path.{_≡_, refl, sym, ap, _∙_}
+use Prim.Native.Nat.{ℕ, _+_, _*_, _≤_}
+use mathlib.Core.Path.{_≡_, refl, sym, _∙_}
 use mathlib.Core.List.{List, [], _∷_, _++_}
 use lib.ListN.{length, getD, length-append}
 use lib.Dec.{ltb, eqb}
@@ -10,9 +10,9 @@ use Rattle.words.specs.Numbers.{Bytes}
 use Rattle.types.specs.declared.Convention.{Convention}
 use Rattle.types.specs.Trees.{Tree, Trees, none, countOf}
 use Rattle.types.specs.Limits as limits
-use Rattle.items.specs.Reading.{Reading, got, no, pick, choose, andThen}
-use Rattle.items.specs.Read.{lengthAt, sequence, itemAt}
-use Rattle.items.specs.Encode.{item, encodeTree, encodeTrees, itemsOf, itemsIn}
+use Rattle.items.specs.Reading.{Reading, got, no}
+use Rattle.items.specs.Read.{itemAt}
+use Rattle.items.specs.Encode.{item, encodeTree, encodeTrees, itemsIn}
 use Rattle.items.proofs.Levels.{left-within, all-left-within}
 use Rattle.items.proofs.Has.{Has, has-move, has-append, has-item, has-same, length-item}
 use Rattle.items.proofs.Trees.{tree-third, trees-third}

@@ -1,6 +1,6 @@
 -- What is proved of reading a signature, besides that the program's answer is the definition's (specs/Exact.antt states it).
 -- Assumes nothing.
-use Prim.Native.Nat.{ℕ, _+_, _*_, _≤_, _<_}
+use Prim.Native.Nat.{ℕ, _<_}
 use mathlib.Core.Path.{_≡_, sym, ap, _∙_}
 use mathlib.Core.List.{List, [], _∷_, _++_}
 use lib.ListN.{length}
@@ -10,13 +10,13 @@ use Rattle.words.proofs.Numbers.{bytes-append}
 use Rattle.types.specs.declared.Convention.{Convention}
 use Rattle.types.proofs.Sized.{within-sized, all-within-sized}
 use Rattle.items.specs.declared.Refusal.{Refusal}
-use Rattle.items.specs.Reading.{Reading, got, no}
+use Rattle.items.specs.Reading.{got, no}
 use Rattle.items.specs.Encode.{item, encodeTrees}
 use Rattle.items.proofs.Trees.{bytes-none, bytes-cons, bytes-item, tree-bytes, trees-bytes}
 use Rattle.signature.specs.Signature.{Result, nothing, value, Signature}
 use Rattle.signature.specs.Read.{signatureOf}
 use Rattle.signature.specs.Encode.{conventionNumber, encodeResult, encode, signatureItems, ResultWithin, Within}
-use Rattle.signature.specs.Exact.{Encodes, ReadsExactly, ResultSized, Accepted}
+use Rattle.signature.specs.Exact.{ReadsExactly, ResultSized, Accepted}
 use Rattle.signature.proofs.Sound.{signature-read, length-encode, encode-third}
 use Rattle.signature.proofs.Complete.{encode-reads}
 

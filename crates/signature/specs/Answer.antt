@@ -6,7 +6,7 @@ use lib.Dec.{ltb}
 use Rattle.types.specs.declared.Convention.{Convention}
 use Rattle.types.specs.declared.IntegerKind.{IntegerKind}
 use Rattle.types.specs.declared.ValueType.{ValueType}
-use Rattle.types.specs.Trees.{Tree, Trees, none, _▸_, typeOf, countOf}
+use Rattle.types.specs.Trees.{Trees, none, _▸_, typeOf, countOf}
 use Rattle.items.specs.declared.Refusal.{Refusal}
 use Rattle.items.specs.Reading.{Reading, got, no, pick}
 use Rattle.signature.specs.declared.ResultType.{ResultType}

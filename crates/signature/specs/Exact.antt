@@ -8,7 +8,7 @@ use Rattle.types.specs.declared.Convention.{Convention}
 use Rattle.types.specs.Sizes.{Sized}
 use Rattle.types.specs.Trees.{typeOf}
 use Rattle.types.specs.Limits.{AllSized}
-use Rattle.items.specs.Reading.{Reading, got}
+use Rattle.items.specs.Reading.{got}
 use Rattle.signature.specs.Signature.{Result, nothing, value, Signature}
 use Rattle.signature.specs.Read.{signatureOf}
 use Rattle.signature.specs.Encode.{encode, signatureItems, Within}

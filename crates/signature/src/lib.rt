@@ -6,7 +6,7 @@ use types::Convention;
 use types::IntegerKind;
 use types::ValueType;
 ghost use mathlib.Core.Path.{_≡_};
-ghost use Prim.Native.Nat.{_+_, _*_, _^_, _≤_, _<_};
+ghost use Prim.Native.Nat.{_+_, _^_, _≤_, _<_};
 ghost use lib.ListN.{length};
 ghost use Rattle.signature.specs.Read.{conventionCode, conventionAt, resultIn, resultAt, argumentsIn, argumentsAt, afterConvention, signatureOf};
 ghost use Rattle.signature.specs.Answer.{noArguments, refused, conventionAnswer, resultAnswer, withArguments, signatureAnswer};

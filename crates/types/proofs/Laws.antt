@@ -1,10 +1,8 @@
 -- The laws of sizes, alignments and layouts: bounds first, then what closing a struct finds. Assumes nothing.
-use mathlib.Core.Path.{_≡_, refl, sym, ap, _∙_}
-use mathlib.Core.Bool.{Bool, true, false}
-use Prim.Native.Nat.{ℕ, _+_, _-_, _*_, _/_, _≤_, _<_}
+use mathlib.Core.Path.{_≡_}
+use Prim.Native.Nat.{ℕ, _+_, _-_, _≤_, _<_}
 use native.Mathlib.Nat.{div-mul-le-self, div-add-mod', mod-lt}
 use native.Mathlib.Omega.{arith}
-use lib.Dec.{ltb}
 use borrow.Author.Tests.{lt-ltb, le-ltb}
 use Rattle.types.specs.declared.Convention.{Convention}
 use Rattle.types.specs.declared.IntegerKind.{IntegerKind}
@@ -13,7 +11,7 @@ use Rattle.types.specs.declared.ValueType.{ValueType}
 use Rattle.types.specs.declared.Shape.{Shape}
 use Rattle.types.specs.declared.Fields.{Fields}
 use Rattle.types.specs.declared.Closed.{Closed}
-use Rattle.types.specs.Sizes.{pointerSize, integerSize, floatSize, sizeOf, alignOf, Sized}
+use Rattle.types.specs.Sizes.{pointerSize, integerSize, floatSize, alignOf, Sized}
 use Rattle.types.specs.Structs.{roundUp, noFields, withField, shapeOf, closed}
 
 -- rounding up

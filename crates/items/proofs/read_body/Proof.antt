@@ -5,9 +5,6 @@ use mathlib.Core.Path.{sym}
 use native.Mathlib.Omega.{arith}
 use Rattle.items.proofs.Laws.{body-short, body-low, body-high, body-past, body-to}
 use Rattle.items.proofs.read_body.Tie as tie
-use Rattle.items.proofs.read_body.Reads as reads
-use Rattle.items.proofs.read_body.Lts as lts
-use Rattle.items.proofs.two_bytes.Reads as two-bytes-reads
 
 sub-if1 : tie.Need-sub-if1
 sub-if1 c = search needs

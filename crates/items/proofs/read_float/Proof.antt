@@ -10,9 +10,6 @@ use Rattle.items.specs.declared.FloatCode.{FloatCode}
 use Rattle.types.specs.Trees.{typeOf}
 use Rattle.items.proofs.Laws.{float-length, float-by, long-double-by}
 use Rattle.items.proofs.read_float.Tie as tie
-use Rattle.items.proofs.read_float.Reads as reads
-use Rattle.items.proofs.read_float.Lts as lts
-use Rattle.items.proofs.float_code.Reads as float-code-reads
 
 sub-if1 : tie.Need-sub-if1
 sub-if1 c = search needs

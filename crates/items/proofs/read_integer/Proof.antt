@@ -7,9 +7,6 @@ use Rattle.items.specs.declared.IntegerCode.{IntegerCode}
 use Rattle.types.specs.Trees.{typeOf}
 use Rattle.items.proofs.Laws.{integer-length, integer-by}
 use Rattle.items.proofs.read_integer.Tie as tie
-use Rattle.items.proofs.read_integer.Reads as reads
-use Rattle.items.proofs.read_integer.Lts as lts
-use Rattle.items.proofs.integer_code.Reads as integer-code-reads
 
 sub-if1 : tie.Need-sub-if1
 sub-if1 c = search needs
