@@ -18,6 +18,7 @@ use Rattle.convention.specs.declared.Span.{Span}
 use Rattle.convention.specs.declared.Rules.{Rules}
 use Rattle.convention.specs.Step.{Lawful, spanOf, nextOf, startOf}
 use Rattle.convention.proofs.Bounds.{Named, named-start, named-next, near-next, start-bytes}
+use Rattle.plan.specs.declared.Plan.{Plan}
 use Rattle.plan.specs.Plan.{spansOf, lastOf, valuesOf, noSpan, tableOf, typeIn}
 use Rattle.plan.proofs.Fold.{length-spans}
 
@@ -125,3 +126,10 @@ going-end c r start ts ss k v i h g =
       last = rw none at (g .last);
       total = omega arith;
     }
+
+-- what the loop leaves of the plan
+pub record Kept (p q : Plan) : Type 0 where
+  pub outcome : q .outcome ≡ p .outcome
+  pub convention : q .convention ≡ p .convention
+  pub result : q .result ≡ p .result
+  pub count : q .count ≡ p .count

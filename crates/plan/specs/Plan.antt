@@ -80,18 +80,22 @@ planIn n c r ts = record {
   spans = tableOf (spansOf c (rulesOf c) (startIn c r) ts);
 }
 
--- "Every refusal leaves all buffers and the state untouched; counts are 0"
-abbrev pub refused : Refusal → ℕ → Plan
-refused reason place = record {
-  outcome = Outcome.Refused reason place;
-  convention = Convention.Ppc64;
-  result = ResultPlaces.Nothing;
-  count = 0;
+-- a plan without spans and sizes
+abbrev pub blankPlan : Outcome → Convention → ResultPlaces → ℕ → Plan
+blankPlan o c r n = record {
+  outcome = o;
+  convention = c;
+  result = r;
+  count = n;
   area = 0;
   values = 0;
   copies = 0;
   spans = replicate 64 noSpan;
 }
+
+-- "Every refusal leaves all buffers and the state untouched; counts are 0"
+abbrev pub refused : Refusal → ℕ → Plan
+refused reason place = blankPlan (Outcome.Refused reason place) Convention.Ppc64 ResultPlaces.Nothing 0
 
 -- the arguments' types in order
 unfoldable pub typesOf : Convention → Trees → List ValueType
