@@ -8,7 +8,6 @@ use types::ValueType;
 ghost use mathlib.Core.Path.{_≡_};
 ghost use Prim.Native.Nat.{_+_, _-_, _*_, _≤_, _<_, min, max};
 ghost use lib.ListN.{getD};
-ghost use Rattle.types.specs.Structs.{roundUp};
 ghost use Rattle.convention.specs.declared.Rules.{Rules};
 ghost use Rattle.convention.specs.Values.{registers, bytes, pointer};
 ghost use Rattle.convention.specs.Power.{words, fprs, shareOf, Shared, powerSpan, powerNext};

@@ -9,7 +9,6 @@ use signature::ResultType;
 use signature::SignatureRead;
 use types::Convention;
 ghost use mathlib.Core.Path.{_≡_};
-ghost use Prim.Native.Nat.{_≤_};
 ghost use Rattle.signature.specs.Read.{signatureOf};
 ghost use Rattle.plan.specs.Plan.{hiddenIn, resultIn, blankPlan, planned, planAnswer};
 ghost use Rattle.plan.specs.Limits.{SmallResult, Plannable};

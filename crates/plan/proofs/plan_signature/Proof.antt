@@ -7,7 +7,7 @@ use Rattle.convention.specs.Step.{placed}
 use borrow.Author.Needs.{needs}
 use native.Mathlib.Omega.{arith}
 use Prim.Native.Nat.{_-_}
-use mathlib.Core.Path.{_≡_, refl, sym, ap, _∙_}
+use mathlib.Core.Path.{refl, ap, _∙_}
 use Rattle.plan.proofs.plan_signature.Statement.{statement}
 use Rattle.plan.proofs.plan_signature.Tie as tie
 
