@@ -93,6 +93,65 @@ uint64_t fz_widen(uint64_t bits);
  * double that no single widens to is refused, with bits 0. */
 fz_narrowed fz_narrow(uint64_t bits);
 
+/* ---- Plans: where a call's values stand, and the buffers that they need ----
+ *
+ * On PPC64 the arguments form a list of doublewords (8 bytes each) in the parameter save area, the
+ * first at offset 0. An integer, a single and a double take one, a long double two, a struct as
+ * many as it fills or begins to fill. The first eight are in r3 to r10 and not in memory; an
+ * argument that reaches past the eighth is partly in registers and partly in memory. The first
+ * thirteen singles and doubles are in f1 to f13 instead, and their doublewords stay unused; later
+ * ones are in memory. Results: integers in r3, singles and doubles in f1, long doubles in f1 and
+ * f2, structs in the caller's memory.
+ *
+ * On Z every argument takes one register or, when none of its kind is left, the next 8 bytes of the
+ * stack, from 160 bytes above the stack pointer on. Singles, doubles and structs of only one of
+ * these, nested or not, take f0, f2, f4 and f6. All else takes r2 to r6. A long double, and a
+ * struct of other than 1, 2, 4 or 8 bytes, is passed by reference: the caller makes a copy of it,
+ * and the copy's address is the argument. Results: integers in r2, singles and doubles in f0, long
+ * doubles and structs in the caller's memory.
+ *
+ * The address of a result in the caller's memory is a hidden first argument: in r3 on PPC64, with
+ * the list's first doubleword, and in r2 on Z. */
+
+typedef struct {
+    fz_answer answer; /* its items are 0 */
+    uint64_t values;  /* bytes of all arguments, in order and without gaps between them */
+    uint64_t area;    /* bytes of the parameter area: on PPC64 64 or more; on Z what lies on the
+                         stack, possibly 0 */
+    uint64_t copies;  /* end of the last copy, where each starts at a multiple of 8 and the first
+                         at 0; 0 where no argument is passed by reference */
+} fz_sizes;
+
+/* Plans the call of a function with this signature and gives the sizes of its buffers. */
+fz_sizes fz_measure(const uint8_t *sig, size_t sig_length);
+
+/* Prints the plan to the text_length bytes at text and gives the listing's length. As with
+ * snprintf, a text_length below that length is no error; but then nothing at all is written, and a
+ * terminating zero never is. Bytes past the listing stay as they are. The text must not overlap the
+ * signature. Every line ends with a newline:
+ *
+ *   PPC64 args 3 area 80           the convention, the count of arguments, the area's bytes
+ *   0 r3 r4 r5 r6 r7 r8 r9 @0      an argument, counted from 0: its registers in order, its offset
+ *   1 r10 mem @56                  the second doubleword of this one is in memory, at 64
+ *   2 f1 @72
+ *   result f1 f2                   also: none, or hidden and the register with its address
+ *
+ * On Z only what lies on the stack has an offset, which counts from the stack pointer, and ref
+ * marks an argument that is passed by reference:
+ *
+ *   Z args 7 area 8
+ *   0 r2
+ *   1 r3 ref
+ *   2 f0
+ *   3 r4
+ *   4 r5
+ *   5 r6
+ *   6 mem @160 ref
+ *   result none
+ *
+ * A refused signature's listing is the line 'refused NUMBER at PLACE'. */
+uint64_t fz_listing(const uint8_t *sig, size_t sig_length, char *text, size_t text_length);
+
 #ifdef __cplusplus
 }
 #endif

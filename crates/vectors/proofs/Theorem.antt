@@ -11,8 +11,13 @@ use Rattle.convention.specs.Places.{upFrom, registersOf}
 use Rattle.plan.specs.Plan.{spansOf, lastOf, tableOf, planIn, typesOf, planAnswer}
 use Rattle.listing.specs.Words.{digitsOf, decimal}
 use Rattle.listing.specs.Text.{placesText, lineText, linesText, headText, resultText, refusalText, acceptedText, planText, listingOf}
+use lib.Count.{leadingZeros}
+use Rattle.ieee.specs.Format.{join, split}
+use Rattle.ieee.specs.Widening.{widenFields, widen}
+use Rattle.ieee.specs.Narrowing.{candidateFields, candidate, narrow}
+use Rattle.rules.specs.Frames.{below, roundUp as roundUpFrame, frameSize}
 use Rattle.vectors.specs.Vectors.{AllHold, vectors, figure-3-18, figure-3-18-text, table-10, table-10-text, empty-text}
 
 pub vectors-hold : AllHold vectors
-unfolding vectors figure-3-18 figure-3-18-text table-10 table-10-text empty-text roundUp withField shapeOf typeOf bodyAt integerCode floatCode integerAt floatAt sequence sizedAt contentsAt itemBy structAt itemAt conventionCode conventionAt resultIn resultAt argumentsIn argumentsAt afterResult afterConvention signatureOf words fprs shareOf powerShare zClass zSpanOf zNextOf spanOf nextOf fresh startOf areaOf hiddenFor returning resultOf upFrom registersOf spansOf lastOf tableOf planIn typesOf planAnswer digitsOf decimal placesText lineText linesText headText resultText refusalText acceptedText planText listingOf
-vectors-hold = (refl, (refl, (refl, tt)))
+unfolding vectors figure-3-18 figure-3-18-text table-10 table-10-text empty-text roundUp withField shapeOf typeOf bodyAt integerCode floatCode integerAt floatAt sequence sizedAt contentsAt itemBy structAt itemAt conventionCode conventionAt resultIn resultAt argumentsIn argumentsAt afterResult afterConvention signatureOf words fprs shareOf powerShare zClass zSpanOf zNextOf spanOf nextOf fresh startOf areaOf hiddenFor returning resultOf upFrom registersOf spansOf lastOf tableOf planIn typesOf planAnswer digitsOf decimal placesText lineText linesText headText resultText refusalText acceptedText planText listingOf leadingZeros join split widenFields widen candidateFields candidate narrow below roundUpFrame frameSize
+vectors-hold = (refl, (refl, (refl, (refl, (refl, (refl, (refl, (refl, (refl, (refl, (refl, (refl, tt))))))))))))

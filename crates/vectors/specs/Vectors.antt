@@ -1,15 +1,35 @@
 -- The cases that document 01 wants proved ("Sums to check against", the lines marked P), in one table. Assumes nothing.
 use Prim.Native.Nat.{ℕ}
 use mathlib.Core.Path.{_≡_}
+use mathlib.Core.Bool.{false}
 use mathlib.Core.List.{List, [], _∷_}
+use Rattle.ieee.specs.declared.Narrowed.{Narrowed}
+use Rattle.ieee.specs.Widening.{widen}
+use Rattle.ieee.specs.Narrowing.{narrow}
 use Rattle.listing.specs.Text.{listingOf}
+use Rattle.rules.specs.declared.Rules.{Rules}
+use Rattle.rules.specs.declared.Frame.{Frame}
+use Rattle.rules.specs.Rules.{ppc64, z}
+use Rattle.rules.specs.Frames.{frameSize}
 
 pub data Vector : Type 0 where
   -- a signature's bytes, and its printed plan
   printed : List ℕ → List ℕ → Vector
+  -- a single's bits, and those of the double that it widens to
+  widened : ℕ → ℕ → Vector
+  -- the bits of a double that is no widened single: refusal 14
+  notWidened : ℕ → Vector
+  -- a convention's rules, a frame request's g, m, L and P, and the frame's size
+  sized : Rules → ℕ → ℕ → ℕ → ℕ → ℕ → Vector
+
+abbrev request : ℕ → ℕ → ℕ → ℕ → Frame
+request g m l p = record { «first_gpr» = g; «first_fpr» = m; «saves_cr» = false; locals = l; outgoing = p }
 
 abbrev pub Holds : Vector → Type 0
 Holds (printed s t) = listingOf s ≡ t
+Holds (widened x d) = widen x ≡ d
+Holds (notWidened d) = narrow d ≡ Narrowed.NotWidened
+Holds (sized k g m l p n) = frameSize k (request g m l p) ≡ n
 
 abbrev pub AllHold : List Vector → Type 0
 AllHold [] = Unit {0}
@@ -134,4 +154,20 @@ empty-text =
     ∷ []
 
 unfoldable pub vectors : List Vector
-vectors = printed figure-3-18 figure-3-18-text ∷ printed table-10 table-10-text ∷ printed [] empty-text ∷ []
+vectors =
+    printed figure-3-18 figure-3-18-text
+    ∷ printed table-10 table-10-text
+    ∷ printed [] empty-text
+    -- "singles 3F800000, 00000001, 007FFFFF, 7F800001 widen to .."
+    ∷ widened 0x3f80_0000 0x3ff0_0000_0000_0000
+    ∷ widened 0x0000_0001 0x36a0_0000_0000_0000
+    ∷ widened 0x007f_ffff 0x380f_ffff_c000_0000
+    ∷ widened 0x7f80_0001 0x7ff0_0000_2000_0000
+    -- "3FF0000010000000 and 3690000000000000 give 14"
+    ∷ notWidened 0x3ff0_0000_1000_0000
+    ∷ notWidened 0x3690_0000_0000_0000
+    -- "g 29, m 30, L 20, P 64: 176. g 14, m 14, L 0, P 0: 400. Z, g 6, m 8, L 1, P 8: 240"
+    ∷ sized ppc64 29 30 20 64 176
+    ∷ sized ppc64 14 14 0 0 400
+    ∷ sized z 6 8 1 8 240
+    ∷ []

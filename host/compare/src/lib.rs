@@ -6,8 +6,10 @@
 pub mod encode;
 pub mod float_bits;
 pub mod generate;
+pub mod plans;
 pub mod random;
 pub mod signatures;
+pub mod timing;
 
 use std::fmt;
 

@@ -13,8 +13,11 @@
 
 #![deny(unsafe_code)]
 
+mod plans;
 #[allow(unsafe_code)]
 pub mod surface;
+
+pub use plans::{listing, measure, Sizes};
 
 use std::error::Error;
 use std::fmt;

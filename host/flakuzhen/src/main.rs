@@ -11,10 +11,12 @@ use std::io::{self, Read, Write};
 use std::process::ExitCode;
 
 const USAGE: &str = "\
-usage: flakuzhen read [--hex] [FILE..]
+usage: flakuzhen list [--hex] [FILE..]
+       flakuzhen read [--hex] [FILE..]
 
-read      prints a line for each signature: 'items N' where it is accepted, else
-          'refused NUMBER at PLACE'
+list      prints where each argument of each signature goes, and its result
+read      prints a line for each signature with its count of items, 'items N'
+          Either prints 'refused NUMBER at PLACE' for a signature that is refused.
 --hex     the input is hexadecimal text with '#' comments, not the bytes themselves
 FILE      holds one signature; '-', or no FILE at all, is standard input
 
@@ -55,7 +57,8 @@ fn run(words: &[OsString]) -> Result<Outcome, String> {
         return Err("no command given (flakuzhen --help lists them)".to_string());
     };
     match command.to_str() {
-        Some("read") => read(&inputs(rest)?),
+        Some("list") => Ok(list(&inputs(rest)?)),
+        Some("read") => Ok(read(&inputs(rest)?)),
         Some("--help" | "-h" | "help") => Ok(Outcome {
             text: USAGE.to_string(),
             status: 0,
@@ -66,7 +69,19 @@ fn run(words: &[OsString]) -> Result<Outcome, String> {
     }
 }
 
-fn read(signatures: &[Vec<u8>]) -> Result<Outcome, String> {
+fn list(signatures: &[Vec<u8>]) -> Outcome {
+    let mut text = String::new();
+    let mut status = 0;
+    for signature in signatures {
+        text.push_str(&flakuzhen::listing(signature));
+        if flakuzhen::measure(signature).is_err() {
+            status = 1;
+        }
+    }
+    Outcome { text, status }
+}
+
+fn read(signatures: &[Vec<u8>]) -> Outcome {
     let mut text = String::new();
     let mut status = 0;
     for signature in signatures {
@@ -79,7 +94,7 @@ fn read(signatures: &[Vec<u8>]) -> Result<Outcome, String> {
         };
         text.push_str(&line);
     }
-    Ok(Outcome { text, status })
+    Outcome { text, status }
 }
 
 /// The signatures that the words after a command name.

@@ -4,13 +4,14 @@
 #![forbid(unsafe_code)]
 
 use compare::random::Random;
-use compare::{float_bits, signatures, Difference};
+use compare::{float_bits, plans, signatures, Difference};
 use std::fmt;
 use std::process::ExitCode;
 use std::time::{Duration, Instant, SystemTime, UNIX_EPOCH};
 
-/// The share of a round, which takes about a third of a second.
+/// The share of a round, which takes about a second.
 const SIGNATURES: u64 = 20_000;
+const PLANS: u64 = 5_000;
 const SINGLES: u64 = 50_000;
 /// How often it says how far it is.
 const PACE: Duration = Duration::from_secs(10);
@@ -48,13 +49,21 @@ fn seed_from_the_clock() -> u64 {
 #[derive(Default)]
 struct Cases {
     signatures: u64,
+    plans: u64,
     floats: u64,
 }
 
 impl fmt::Display for Cases {
     fn fmt(&self, to: &mut fmt::Formatter<'_>) -> fmt::Result {
-        let Cases { signatures, floats } = self;
-        write!(to, "{signatures} signatures, {floats} float conversions")
+        let Cases {
+            signatures,
+            plans,
+            floats,
+        } = self;
+        write!(
+            to,
+            "{signatures} signatures, {plans} plans, {floats} float conversions"
+        )
     }
 }
 
@@ -69,7 +78,8 @@ fn soak(seed: u64, time: Duration) -> Result<Cases, Difference> {
         if told.elapsed() >= PACE {
             told = Instant::now();
             let spent = began.elapsed();
-            let rate = (done.signatures + done.floats) as f64 / spent.as_secs_f64();
+            let cases = done.signatures + done.plans + done.floats;
+            let rate = cases as f64 / spent.as_secs_f64();
             let left = time.saturating_sub(spent).as_secs();
             println!("seed {seed:#x}: {done}; {rate:.0} a second; {left} s left");
         }
@@ -80,6 +90,7 @@ fn soak(seed: u64, time: Duration) -> Result<Cases, Difference> {
 fn round(seed: u64, done: &mut Cases) -> Result<(), Difference> {
     let told = |difference: Difference| Difference(format!("round {seed:#x}: {difference}"));
     done.signatures += signatures::run(seed, SIGNATURES).map_err(told)?.total();
+    done.plans += plans::run(seed, PLANS).map_err(told)?.total();
     done.floats += float_bits::run(seed, SINGLES).map_err(told)?.total();
     Ok(())
 }

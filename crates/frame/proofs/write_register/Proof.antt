@@ -1,0 +1,70 @@
+-- The answer decides: a refused call hands the state back, an accepted one stores the register. Assumes nothing.
+use Rattle.rules.proofs.Writing.{writable-named}
+use Rattle.machine.proofs.States.{write-register-yes}
+use Rattle.machine.proofs.Outcomes.{write-register-accepted, write-register-refused}
+use Rattle.rules.specs.Frames.{bankOf}
+use Rattle.machine.specs.Machine.{top, writtenRegister}
+use Rattle.rules.specs.Lawful.{Lawful}
+use Rattle.rules.proofs.Conventions.{lawful}
+use denote.Ref.{now}
+use lib.ListN.{length}
+use mathlib.Core.Path.{sym, _∙_}
+use borrow.Author.Needs.{needs}
+use Rattle.frame.proofs.write_register.Statement.{statement}
+use Rattle.frame.proofs.write_register.Tie as tie
+
+rules-of-requires : tie.Need-rules-of-requires
+rules-of-requires c κs = search needs
+
+judge-write-register-requires : tie.Need-judge-write-register-requires
+judge-write-register-requires c κs =
+    let z = c .before .before in
+    rw (c .rules-of .ensures) (lawful (z .args .s .convention))
+
+enum-known-a : tie.Need-enum-known-a
+enum-known-a c = search needs
+
+enum-told : tie.Need-enum-told
+enum-told c = search needs
+
+bank-of-requires : tie.Need-bank-of-requires
+bank-of-requires c κs = search needs
+
+with-register-requires : tie.Need-with-register-requires
+with-register-requires c κs =
+    let z = c .before .before .before .before .before .before .before in
+    let rules-of = c .before .before .before .before .before .rules-of in
+    let judge-write-register = c .before .before .before .before .judge-write-register in
+    let enum-told = c .before .before .enum-told in
+    let law : Lawful (rules-of .result) = rw (rules-of .ensures) (lawful (z .args .s .convention)) in
+    rw (c .before .bank-of .ensures) (writable-named (rules-of .result) law (top (rules-of .result) (z .args .s)) (bankOf (z .args .bank)) (z .args .number) (z .args .value) (write-register-yes (rules-of .result) (z .args .s) (length (now (z .args .memory))) (z .args .bank) (z .args .number) (z .args .value) (sym (judge-write-register .ensures) ∙ enum-told .given .1) .1))
+
+returns : tie.Need-returns
+returns c =
+    let z = c .before .before .before .before .before .before in
+    let rules-of = c .before .before .before .before .rules-of in
+    let judge-write-register = c .before .before .before .judge-write-register in
+    sym (write-register-refused (z .args .s) (length (now (z .args .memory))) (z .args .bank) (z .args .number) (z .args .value) _ (rw (rules-of .ensures) at (sym (judge-write-register .ensures) ∙ c .before .a .given .1)))
+
+returns-2 : tie.Need-returns-2
+unfolding writtenRegister
+returns-2 c =
+    let z = c .before .before .before .before .before .before .before .before in
+    let bank-of = c .before .before .bank-of in
+    let rules-of = c .before .before .before .before .before .before .rules-of in
+    let judge-write-register = c .before .before .before .before .before .judge-write-register in
+    let enum-told = c .before .before .before .enum-told in
+    rw (c .with-register .ensures, bank-of .ensures) (sym (write-register-accepted (z .args .s) (length (now (z .args .memory))) (z .args .bank) (z .args .number) (z .args .value) (rw (rules-of .ensures) at (sym (judge-write-register .ensures) ∙ enum-told .given .1))))
+
+pub write-register-spec : {M : Type 1} → statement M
+write-register-spec =
+    tie.close
+    (tie.spec
+    rules-of-requires
+    judge-write-register-requires
+    enum-known-a
+    enum-told
+    bank-of-requires
+    with-register-requires
+    returns
+    returns-2)

@@ -1,0 +1,7 @@
+pub mod Invariant
+pub mod Entering
+pub mod Writing
+pub mod Leaving
+pub mod Theorem
+pub mod Replaying
+pub mod Examples

@@ -1,0 +1,141 @@
+-- Demand 3, proved: every list of calls from every accepted start of either convention. The invariant holds at the start and each call keeps it. Assumes nothing.
+use Prim.Native.Nat.{ℕ, _+_, _-_, _*_, _^_, _≤_, _<_}
+use mathlib.Core.Path.{_≡_, refl, sym, _∙_}
+use mathlib.Core.Bool.{true}
+use mathlib.Core.List.{List, [], _∷_}
+use native.Mathlib.Omega.{arith}
+use lib.ListN.{length, getD, set, length-set}
+use lib.Seq.{getD-set-same}
+use Rattle.saves.specs.Saves.{load}
+use Rattle.saves.proofs.Words.{store-length, load-store}
+use Rattle.rules.specs.declared.Convention.{Convention}
+use Rattle.rules.specs.declared.Convention.the-variants.{Ppc64, Z}
+use Rattle.rules.specs.declared.Rules.{Rules}
+use Rattle.rules.specs.declared.Registers.{Registers}
+use Rattle.rules.specs.Rules.{rules}
+use Rattle.rules.specs.Frames.{withPointer}
+use Rattle.rules.specs.Lawful.{Lawful}
+use Rattle.rules.proofs.Facts.{fit-set}
+use Rattle.rules.proofs.Conventions.{lawful}
+use Rattle.machine.specs.declared.Answer.{Answer}
+use Rattle.machine.specs.declared.Answer.the-variants.{Accepted, Refused}
+use Rattle.machine.specs.Machine.{okMemory, okFrames, sizes, startAnswer, started, startedMemory, startOutcome, startMemory, enterOutcome, enterMemory, writeRegisterOutcome, writeMemoryOutcome, writeMemoryMemory, leaveOutcome}
+use Rattle.machine.proofs.Judging.{never, holds-yes}
+use Rattle.machine.proofs.States.{memory-yes}
+use Rattle.history.specs.Calls.{Call, enter, writeRegister, writeMemory, leave, Machine, answer, after, fresh}
+use Rattle.history.specs.Preserved.{OpenEnter, openAfter, CallHolds, Holds, RegistersFit, CallsFit}
+use Rattle.history.proofs.Invariant.{Base, Invariant, base-of}
+use Rattle.history.proofs.Entering.{enter-keeps}
+use Rattle.history.proofs.Writing.{write-register-keeps, write-memory-keeps}
+use Rattle.history.proofs.Leaving.{leave-refused, leave-accepted, leave-keeps}
+
+-- ---- one call
+
+-- a value to write fits a general register
+abbrev Fits : Rules → Call → Type 0
+Fits k (enter f) = Unit {0}
+Fits k (writeRegister b n v) = (v < 2 ^ (8 * k .word)) × (v < 2 ^ 64)
+Fits k (writeMemory a bs) = Unit {0}
+Fits k leave = Unit {0}
+
+module _ (k : Rules) (law : Lawful k) where
+  step : (c : Call) → Fits k c → (os : List OpenEnter) (m : Machine) → Invariant k os m → (a : Answer) → answer c m ≡ a
+      → CallHolds k c a os (after c m) × Invariant k (openAfter c a m os) (after c m)
+  unfolding enterOutcome enterMemory writeRegisterOutcome writeMemoryOutcome writeMemoryMemory leaveOutcome
+  step (enter f) w os m i Accepted e =
+      let r = base-of k os m i .rules in (tt, rw (e, r) (enter-keeps k law os m f i (rw r at e)))
+  step (enter f) w os m i (Refused x) e = (tt, rw e i)
+  step (writeRegister b n v) w os m i Accepted e =
+      let r = base-of k os m i .rules in (tt, rw e (write-register-keeps k law os m b n v (w .0) (w .1) i (rw r at e)))
+  step (writeRegister b n v) w os m i (Refused x) e = (tt, rw e i)
+  step (writeMemory a bs) w os m i Accepted e =
+      let r = base-of k os m i .rules in (tt, rw e (write-memory-keeps k law os m a bs i (rw r at e)))
+  step (writeMemory a bs) w os m i (Refused x) e = (tt, rw e i)
+  step leave w [] m i Accepted e = absurd (never _ (sym (leave-refused k m i) ∙ rw (i .0 .rules) at e))
+  step leave w [] m i (Refused x) e = (tt, rw e i)
+  step leave w (o ∷ os) m i Accepted e = let r = i .0 .rules in rw (e, r) (leave-keeps k law o os m i)
+  step leave w (o ∷ os) m i (Refused x) e = absurd (never x (sym (rw (i .0 .rules) at e) ∙ leave-accepted k law o os m i))
+
+  -- ---- a list of calls
+
+  abbrev AllFit : List Call → Type 0
+  AllFit [] = Unit {0}
+  AllFit (c ∷ cs) = Fits k c × AllFit cs
+
+  holds : (cs : List Call) → AllFit cs → (os : List OpenEnter) (m : Machine) → Invariant k os m → Holds k cs os m
+  holds [] w os m i = tt
+  holds (c ∷ cs) w os m i =
+      let r = step c (w .0) os m i (answer c m) refl in
+      (r .0, holds cs (w .1) (openAfter c (answer c m) m os) (after c m) (r .1))
+
+-- ---- the start
+
+-- both conventions have words of 64 bits
+word-64 : (c : Convention) → 2 ^ (8 * rules c .word) ≡ 2 ^ 64
+word-64 Ppc64 = refl
+word-64 Z = refl
+
+all-fit : (c : Convention) (cs : List Call) → CallsFit cs → AllFit (rules c) (lawful c) cs
+all-fit c [] w = tt
+all-fit c (enter f ∷ cs) w = (tt, all-fit c cs (w .1))
+all-fit c (writeRegister b n v ∷ cs) w = ((rw (word-64 c) (w .0), w .0), all-fit c cs (w .1))
+all-fit c (writeMemory a bs ∷ cs) w = (tt, all-fit c cs (w .1))
+all-fit c (leave ∷ cs) w = (tt, all-fit c cs (w .1))
+
+module _ (c : Convention) (b : ℕ) (l : List ℕ) (r : Registers) (fit : RegistersFit r) (e : startAnswer c b (length l) ≡ Accepted) where
+  abbrev k : Rules
+  k = rules c
+
+  abbrev n : ℕ
+  n = length l
+
+  law : Lawful k
+  law = lawful c
+
+  okay : okMemory k b n ≡ true
+  unfolding startAnswer
+  okay = holds-yes _ _ e .0
+
+  bounds : (256 ≤ n) × (n ≤ 65536) × (b + n ≤ k .limit)
+  bounds = memory-yes k b n okay
+
+  pointer : getD (set (r .gpr) (k .pointer) (b + n - k .room)) (k .pointer) 0 ≡ b + n - k .room
+  pointer = getD-set-same (r .gpr) (k .pointer) (b + n - k .room) 0 (omega (arith, fit .gprs, law .pointer))
+
+  base : Base k (record { state = started c b n r; memory = startedMemory k l })
+  unfolding started startedMemory withPointer okFrames sizes
+  base = record {
+    fit = record {
+      gprs = length-set (r .gpr) (k .pointer) (b + n - k .room) ∙ fit .gprs;
+      fprs = fit .fprs;
+      gpr = fit-set (r .gpr) (k .pointer) (b + n - k .room) (2 ^ (8 * k .word)) (rw (word-64 c) (fit .gpr)) (omega (arith, bounds, law .limit));
+      fpr = fit .fpr;
+      lr = rw (word-64 c) (fit .lr);
+      cr = fit .cr;
+    };
+    frames = refl;
+    rules = refl;
+    sound = record {
+      shallow = omega arith;
+      requests = refl;
+      memory = okay;
+      over = omega (arith, pointer, bounds, law .room);
+      sum = omega (arith, pointer, bounds, law .room);
+      length = store-length l (n - k .room) (k .word) 0;
+    };
+  }
+
+  zero-word : load (startedMemory k l) (getD (set (r .gpr) (k .pointer) (b + n - k .room)) (k .pointer) 0 - b) (k .word) ≡ 0
+  unfolding startedMemory
+  zero-word =
+      let at : getD (set (r .gpr) (k .pointer) (b + n - k .room)) (k .pointer) 0 - b ≡ n - k .room = omega (arith, pointer, bounds, law .room) in
+      rw at (load-store l (n - k .room) (k .word) 0 (omega (arith, law .limit)) (omega (arith, bounds, law .head, law .room, law .chain)))
+
+  start-invariant : Invariant k [] (fresh c b l r)
+  unfolding startOutcome startMemory started withPointer
+  start-invariant = rw e (base, refl, zero-word)
+
+-- DEMAND 3. "The start may be handed any registers, base and memory": for each accepted start, with registers that are values of their types, every list of calls holds.
+pub calls-hold : (c : Convention) (b : ℕ) (l : List ℕ) (r : Registers) → RegistersFit r → startAnswer c b (length l) ≡ Accepted
+    → (cs : List Call) → CallsFit cs → Holds (rules c) cs [] (fresh c b l r)
+calls-hold c b l r fit e cs w = holds (rules c) (lawful c) cs (all-fit c cs w) [] (fresh c b l r) (start-invariant c b l r fit e)

@@ -1,0 +1,29 @@
+-- Document 01's own formulas of the machine, held against the definitions over a convention's numbers. Assumes nothing.
+use Prim.Native.Nat.{ℕ, _+_, _-_, _%_, _^_, _<_}
+use mathlib.Core.Path.{_≡_, refl}
+use mathlib.Core.Bool.{_&&_}
+use native.Mathlib.Omega.{arith}
+use lib.ListN.{length}
+use lib.Seq.{getD-set-same}
+use lib.Dec.{leb, eqb}
+use Rattle.rules.specs.declared.Convention.{Convention}
+use Rattle.rules.specs.declared.Convention.the-variants.{Ppc64, Z}
+use Rattle.rules.specs.declared.Registers.{Registers}
+use Rattle.rules.specs.Rules.{ppc64, z, rules}
+use Rattle.rules.specs.Frames.{withPointer}
+use Rattle.machine.specs.Machine.{stackPointer, okMemory, started}
+
+-- "N not a multiple of 16, under 256, over 65,536, base B not a multiple of 16, B + N over 2^64 - 1", in both conventions
+memory-formula : (c : Convention) (b n : ℕ) → okMemory (rules c) b n ≡ (eqb (n % 16) 0 && (leb 256 n && (leb n 65536 && (eqb (b % 16) 0 && leb (b + n) (2 ^ 64 - 1)))))
+unfolding okMemory
+memory-formula Ppc64 b n = refl
+memory-formula Z b n = refl
+
+-- the stack pointer starts at "B + N - 112 (PPC64), B + N - 160 (Z)"
+start-ppc64 : (b n : ℕ) (r : Registers) → length (r .gpr) ≡ 32 → stackPointer ppc64 (started Ppc64 b n r) ≡ b + n - 112
+unfolding started withPointer
+start-ppc64 b n r h = getD-set-same (r .gpr) 1 (b + n - 112) 0 (omega arith)
+
+start-z : (b n : ℕ) (r : Registers) → length (r .gpr) ≡ 32 → stackPointer z (started Z b n r) ≡ b + n - 160
+unfolding started withPointer
+start-z b n r h = getD-set-same (r .gpr) 15 (b + n - 160) 0 (omega arith)

@@ -1,0 +1,59 @@
+-- Document 01's own formulas, held against the definitions over a convention's numbers, and its worked sizes. Assumes nothing.
+use Prim.Native.Nat.{ℕ, _+_, _-_, _*_, _/_, max}
+use mathlib.Core.Path.{_≡_, refl}
+use mathlib.Core.Bool.{false}
+use mathlib.Core.List.{[], _∷_}
+use native.Mathlib.Omega.{arith}
+use Rattle.rules.specs.Rules.{ppc64, z, Frame, Registers}
+use Rattle.rules.specs.Frames.{firstGpr, firstFpr, savesCr, below, roundUp, frameSize, gprAt, savesBy, saves, linkAt, wordSave, flag, withField}
+
+module _ (f : Frame) (s : ℕ) where
+  -- "48 + max(64, P) + L + 8(32 - g) + 8(32 - m), rounded up to 16"
+  size-ppc64 : frameSize ppc64 f ≡ (48 + max 64 (f .outgoing) + f .locals + 8 * (32 - firstGpr f) + 8 * (32 - firstFpr f) + 15) / 16 * 16
+  unfolding frameSize roundUp below
+  size-ppc64 = omega arith
+
+  -- "160 + P + L + 8(16 - m), rounded up to 8"
+  size-z : frameSize z f ≡ (160 + f .outgoing + f .locals + 8 * (16 - firstFpr f) + 7) / 8 * 8
+  unfolding frameSize roundUp below
+  size-z = omega arith
+
+  -- "f(n) at S - 8(32 - n), r(n) at S - 8(32 - m) - 8(32 - n), CR in the 4 bytes at S + 8 if saved, LR at S + 16"
+  saves-ppc64 : (r : Registers) → saves ppc64 f s r
+      ≡ record { values = r .gpr; from = firstGpr f; count = 32 - firstGpr f; at = s - 8 * (32 - firstFpr f) - 8 * (32 - firstGpr f); width = 8 }
+      ∷ record { values = r .fpr; from = firstFpr f; count = 32 - firstFpr f; at = s - 8 * (32 - firstFpr f); width = 8 }
+      ∷ wordSave (r .cr) (flag (savesCr f)) (s + 8) 4
+      ∷ wordSave (r .lr) 1 (s + 16) 8
+      ∷ []
+  unfolding savesBy gprAt
+  saves-ppc64 r = refl
+
+  -- "r(g) to r15 .. at S + 8n .. f(m) to f15 .. at S - 8(16 - n)"
+  saves-z : (r : Registers) → saves z f s r
+      ≡ record { values = r .fpr; from = firstFpr f; count = 16 - firstFpr f; at = s - 8 * (16 - firstFpr f); width = 8 }
+      ∷ record { values = r .gpr; from = firstGpr f; count = 16 - firstGpr f; at = s + 8 * firstGpr f; width = 8 }
+      ∷ []
+  unfolding savesBy gprAt
+  saves-z r = refl
+
+-- "the back chain (on Z the r15 slot instead)", with the frame's pointer at o and the caller's at s
+link-ppc64 : (o s : ℕ) → linkAt (ppc64 .linkage) ppc64 o s ≡ o
+unfolding linkAt
+link-ppc64 o s = refl
+
+link-z : (o s : ℕ) → linkAt (z .linkage) z o s ≡ s + 120
+unfolding linkAt
+link-z o s = refl
+
+-- "frames: g 29, m 30, L 20, P 64: 176. g 14, m 14, L 0, P 0: 400. Z, g 6, m 8, L 1, P 8: 240."
+abbrev request : ℕ → ℕ → ℕ → ℕ → Frame
+request g m l p = record { «first_gpr» = g; «first_fpr» = m; «saves_cr» = false; locals = l; outgoing = p }
+
+pub sizes-worked : (frameSize ppc64 (request 29 30 20 64) ≡ 176) × (frameSize ppc64 (request 14 14 0 0) ≡ 400) × (frameSize z (request 6 8 1 8) ≡ 240)
+unfolding frameSize roundUp below
+sizes-worked = (refl, refl, refl)
+
+-- condition field 0 is CR's top four bits, field 7 its lowest
+pub fields-worked : (withField 0 0 15 ≡ 4026531840) × (withField 4294967295 2 0 ≡ 4279238655) × (withField 4294967295 7 0 ≡ 4294967280)
+unfolding withField
+fields-worked = (refl, refl, refl)

@@ -1,0 +1,159 @@
+-- Where the parts of a frame lie: header, outgoing area, locals and saves in this order below the caller's pointer, other saves in the caller's header. Assumes nothing.
+use Prim.Native.Nat.{ℕ, suc, _+_, _-_, _*_, _%_, _^_, _≤_, _<_}
+use mathlib.Core.Path.{_≡_, sym, ap, _∙_}
+use mathlib.Core.Logic.{inl, inr}
+use mathlib.Core.Bool.{Bool, true, false}
+use native.Mathlib.Omega.{arith}
+use native.Mathlib.Nat.{mod-lt, div-add-mod', mul-add, mul-suc, mul-le-mul-left, pow-le-pow-right}
+use lib.Dec.{lit<, leb, eqb}
+use borrow.Author.Tests.{leb-true}
+use Rattle.saves.specs.Saves.{Outside}
+use Rattle.saves.proofs.Saving.{Ascending}
+use Rattle.rules.specs.Rules.{Linkage, LinkRegister, SaveArea, Rules, Frame, Registers, inSpan}
+use Rattle.rules.specs.Frames.{firstGpr, firstFpr, savesCr, okRequest, outgoingLength, below, roundUp, frameSize, flag, gprAt, savesBy, saves, linkAt}
+use Rattle.rules.specs.Lawful.{LinkageLaw, Lawful}
+use Rattle.rules.proofs.Facts.{and-yes, between}
+
+-- what the ranges of a request say
+pub record Ranges (k : Rules) (f : Frame) : Type 0 where
+  pub gpr : (k .gpr .request .first ≤ firstGpr f) × (firstGpr f ≤ k .gpr .request .last)
+  pub fpr : (k .fpr .request .first ≤ firstFpr f) × (firstFpr f ≤ k .fpr .request .last)
+  pub locals : f .locals ≤ 32000
+  pub outgoing : f .outgoing ≤ 16392
+
+pub ranges : (k : Rules) (f : Frame) → okRequest k f ≡ true → Ranges k f
+unfolding okRequest
+ranges k f e =
+    let p = and-yes (inSpan (k .gpr .request) (firstGpr f)) _ e in
+    let q = and-yes (inSpan (k .fpr .request) (firstFpr f)) _ (p .1) in
+    let t = and-yes (leb (f .locals) 32000) _ (q .1) in
+    let u = and-yes (eqb (f .outgoing % 8) 0) _ (t .1) in
+    let v = and-yes (leb (f .outgoing) 16392) _ (u .1) in
+    record {
+      gpr = between (k .gpr .request .first) (firstGpr f) (k .gpr .request .last) (p .0);
+      fpr = between (k .fpr .request .first) (firstFpr f) (k .fpr .request .last) (q .0);
+      locals = leb-true (f .locals) 32000 (t .0);
+      outgoing = leb-true (f .outgoing) 16392 (v .0);
+    }
+
+-- ---- arithmetic
+
+pub roundUp-le : (x a : ℕ) → 0 < a → x ≤ roundUp x a
+unfolding roundUp
+roundUp-le x a h = omega (arith, div-add-mod' (x + (a - 1)) a, mod-lt (x + (a - 1)) h)
+
+pub roundUp-lt : (x a : ℕ) → 0 < a → roundUp x a < x + a
+unfolding roundUp
+roundUp-lt x a h = omega (arith, div-add-mod' (x + (a - 1)) a)
+
+-- words up to n, and from n to e
+pub words-split : (w n e : ℕ) → n ≤ e → w * n + w * (e - n) ≡ w * e
+words-split w n e h = let x : n + (e - n) ≡ e = omega arith in sym (mul-add w n (e - n)) ∙ ap (λ (y : ℕ). w * y) x
+
+-- n words of w bytes
+pub words-small : (w n : ℕ) → w ≤ 8 → n ≤ 32 → w * n ≤ 256
+words-small w n p q = omega (arith, mul-le-mul-left {m = n} {n = 32} w q)
+
+-- the highest address is one of 64 bits
+pub limit-64 : (k : Rules) → Lawful k → k .limit < 2 ^ 64
+limit-64 k law = omega (arith, law .limit, pow-le-pow-right {n = 2} (lit< tt) {i = 8 * k .word} {j = 64} (omega (arith, law .word)))
+
+flag-le : (b : Bool) → flag b ≤ 1
+flag-le true = omega arith
+flag-le false = omega arith
+
+-- ---- by the linkage
+
+below-small : (p : Linkage) (k : Rules) → k .word ≤ 8 → k .end ≤ 32 → (f : Frame) → below p k f ≤ 512
+unfolding below
+below-small (LinkRegister c l) k w e f = omega (arith, words-small (k .word) (k .end - firstGpr f) w (omega arith))
+below-small (SaveArea r) k w e f = omega arith
+
+fpr-below : (p : Linkage) (k : Rules) (f : Frame) → 8 * (k .end - firstFpr f) ≤ below p k f
+unfolding below
+fpr-below (LinkRegister c l) k f = omega arith
+fpr-below (SaveArea r) k f = omega arith
+
+ascending-by : (p : Linkage) (k : Rules) → LinkageLaw p k → (f : Frame) (s : ℕ) (r : Registers) → firstGpr f ≤ k .end → below p k f ≤ s
+    → Ascending (s - below p k f) (savesBy p k f s r) (s + k .header)
+unfolding below savesBy gprAt
+ascending-by (LinkRegister c l) k law f s r e h = let b = flag-le (savesCr f) in omega arith
+ascending-by (SaveArea n) k law f s r e h = omega (arith, words-split (k .word) (firstGpr f) (k .end) e)
+
+chain-outside-by : (p : Linkage) (k : Rules) → LinkageLaw p k → (f : Frame) (s : ℕ) (r : Registers) (b : ℕ) → k .gpr .request .first ≤ firstGpr f → below p k f ≤ s
+    → s ≤ b → b < s + k .word → Outside b (savesBy p k f s r)
+unfolding below savesBy gprAt
+chain-outside-by (LinkRegister c l) k law f s r b e h p q = (inr (omega arith), (inr (omega arith), (inl (omega arith), (inl (omega arith), tt))))
+chain-outside-by (SaveArea n) k law f s r b e h p q =
+    (inr (omega arith), (inl (omega (arith, mul-le-mul-left {m = 1} {n = firstGpr f} (k .word) (omega arith))), tt))
+
+-- the general registers lie in the frame's own saves, or in the caller's header
+gpr-in-by : (p : Linkage) (k : Rules) → LinkageLaw p k → (f : Frame) (s : ℕ) → firstGpr f ≤ k .end → below p k f ≤ s
+    → gprAt p k f s + k .word * (k .end - firstGpr f) ≤ s + k .header
+unfolding below gprAt
+gpr-in-by (LinkRegister c l) k law f s e h = omega arith
+gpr-in-by (SaveArea n) k law f s e h = omega (arith, words-split (k .word) (firstGpr f) (k .end) e)
+
+-- where leave looks for the caller's pointer, in the frame or in the caller's header
+link-in-by : (p : Linkage) (k : Rules) → LinkageLaw p k → k .word ≤ k .header → (o s : ℕ) → o ≤ s → linkAt p k o s + k .word ≤ s + k .header
+unfolding linkAt
+link-in-by (LinkRegister c l) k law h o s e = omega arith
+link-in-by (SaveArea n) k law h o s e = omega (arith, mul-suc (k .word) (k .pointer), mul-le-mul-left {m = suc (k .pointer)} {n = k .end} (k .word) (omega arith))
+
+pub link-in : (k : Rules) → Lawful k → (o s : ℕ) → o ≤ s → linkAt (k .linkage) k o s + k .word ≤ s + k .header
+link-in k law o s e = link-in-by (k .linkage) k (law .linkage) (law .chain) o s e
+
+-- ---- over a lawful convention, for a request in range
+
+module _ (k : Rules) (law : Lawful k) (f : Frame) (r : okRequest k f ≡ true) where
+  pub gpr-end : firstGpr f ≤ k .end
+  gpr-end = omega (arith, ranges k f r .gpr, law .gpr .most)
+
+  pub fpr-end : firstFpr f ≤ k .end
+  fpr-end = omega (arith, ranges k f r .fpr, law .fpr .most)
+
+  -- a frame's size is bounded, and at least its parts'
+  pub size-small : frameSize k f ≤ 49600
+  unfolding frameSize
+  size-small =
+      let q = ranges k f r in
+      omega (
+        arith,
+        roundUp-lt (k .header + outgoingLength k f + f .locals + below (k .linkage) k f) (k .alignment) (law .some),
+        below-small (k .linkage) k (law .word) (law .end) f,
+        law .alignment,
+        law .head,
+        law .room,
+        law .least,
+      )
+
+  pub size-parts : k .header + outgoingLength k f + f .locals + below (k .linkage) k f ≤ frameSize k f
+  unfolding frameSize
+  size-parts = roundUp-le (k .header + outgoingLength k f + f .locals + below (k .linkage) k f) (k .alignment) (law .some)
+
+  pub below-le-512 : below (k .linkage) k f ≤ 512
+  below-le-512 = below-small (k .linkage) k (law .word) (law .end) f
+
+  -- with the caller's pointer at s
+  module _ (s : ℕ) (fits : frameSize k f ≤ s) where
+    pub below-le : below (k .linkage) k f ≤ s
+    below-le = omega (arith, size-parts)
+
+    pub room-for : (s - frameSize k f) + k .header + outgoingLength k f ≤ s - below (k .linkage) k f
+    room-for = omega (arith, size-parts)
+
+    pub chain-in : (s - frameSize k f) + k .word ≤ s
+    chain-in = omega (arith, size-parts, law .chain)
+
+    pub fpr-le : 8 * (k .end - firstFpr f) ≤ s
+    fpr-le = omega (arith, below-le, fpr-below (k .linkage) k f)
+
+    pub gpr-in : gprAt (k .linkage) k f s + k .word * (k .end - firstGpr f) ≤ s + k .header
+    gpr-in = gpr-in-by (k .linkage) k (law .linkage) f s gpr-end below-le
+
+    pub ascending : (t : Registers) → Ascending (s - below (k .linkage) k f) (saves k f s t) (s + k .header)
+    ascending t = ascending-by (k .linkage) k (law .linkage) f s t gpr-end below-le
+
+    -- nothing is saved in the caller's back chain
+    pub chain-outside : (t : Registers) (b : ℕ) → s ≤ b → b < s + k .word → Outside b (saves k f s t)
+    chain-outside t b p q = chain-outside-by (k .linkage) k (law .linkage) f s t b (ranges k f r .gpr .0) below-le p q

@@ -1,0 +1,95 @@
+-- The definition's tests in their order. Assumes nothing.
+use Rattle.rules.specs.Frames.{okRequest}
+use Prim.Native.Nat.{_%_}
+use borrow.Author.Tests.{lt-leb, le-leb, eq-eqb, ne-eqb, not-true, not-false}
+use native.Mathlib.Omega.{arith}
+use mathlib.Core.Path.{sym, _∙_}
+use borrow.Author.Needs.{needs}
+use Rattle.rules.proofs.request_ok.Statement.{statement}
+use Rattle.rules.proofs.request_ok.Tie as tie
+
+in-span-requires : tie.Need-in-span-requires
+in-span-requires c κs = search needs
+
+returns : tie.Need-returns
+unfolding okRequest
+returns c = rw (sym (c .before .in-span .ensures) ∙ not-true (c .before .in-span .result) (c .if1 .taken))
+
+in-span-requires-2 : tie.Need-in-span-requires-2
+in-span-requires-2 c κs = search needs
+
+returns-2 : tie.Need-returns-2
+unfolding okRequest
+returns-2 c =
+    let in-span = c .before .before .before .before .in-span in
+    let if1 = c .before .before .before .if1 in
+    rw (sym (in-span .ensures) ∙ not-false (in-span .result) (if1 .left), sym (c .before .in-span2 .ensures) ∙ not-true (c .before .in-span2 .result) (c .if2 .taken))
+
+returns-3 : tie.Need-returns-3
+unfolding okRequest
+returns-3 c =
+    let z = c .before .before .before .before .before .before .before .before in
+    let in-span = c .before .before .before .before .before .before .in-span in
+    let if1 = c .before .before .before .before .before .if1 in
+    let in-span2 = c .before .before .before .in-span2 in
+    let if2 = c .before .before .if2 in
+    rw (sym (in-span .ensures) ∙ not-false (in-span .result) (if1 .left), sym (in-span2 .ensures) ∙ not-false (in-span2 .result) (if2 .left), lt-leb (z .args .f .locals) 32000 (omega arith))
+
+returns-4 : tie.Need-returns-4
+unfolding okRequest
+returns-4 c =
+    let z = c .before .before .before .before .before .before .before .before .before in
+    let in-span = c .before .before .before .before .before .before .before .in-span in
+    let if1 = c .before .before .before .before .before .before .if1 in
+    let in-span2 = c .before .before .before .before .in-span2 in
+    let if2 = c .before .before .before .if2 in
+    rw (sym (in-span .ensures) ∙ not-false (in-span .result) (if1 .left), sym (in-span2 .ensures) ∙ not-false (in-span2 .result) (if2 .left), le-leb (z .args .f .locals) 32000 (omega arith), ne-eqb (z .args .f .outgoing % 8) 0 (λ e. omega arith))
+
+returns-5 : tie.Need-returns-5
+unfolding okRequest
+returns-5 c =
+    let z = c .before .before .before .before .before .before .before .before .before .before in
+    let in-span = c .before .before .before .before .before .before .before .before .in-span in
+    let if1 = c .before .before .before .before .before .before .before .if1 in
+    let in-span2 = c .before .before .before .before .before .in-span2 in
+    let if2 = c .before .before .before .before .if2 in
+    rw (sym (in-span .ensures) ∙ not-false (in-span .result) (if1 .left), sym (in-span2 .ensures) ∙ not-false (in-span2 .result) (if2 .left), le-leb (z .args .f .locals) 32000 (omega arith), eq-eqb (z .args .f .outgoing % 8) 0 (omega arith), lt-leb (z .args .f .outgoing) 16392 (omega arith))
+
+has-condition-requires : tie.Need-has-condition-requires
+has-condition-requires c κs = search needs
+
+returns-6 : tie.Need-returns-6
+unfolding okRequest
+returns-6 c =
+    let z = c .before .before .before .before .before .before .before .before .before .before .before .before in
+    let in-span = c .before .before .before .before .before .before .before .before .before .before .in-span in
+    let if1 = c .before .before .before .before .before .before .before .before .before .if1 in
+    let in-span2 = c .before .before .before .before .before .before .before .in-span2 in
+    let if2 = c .before .before .before .before .before .before .if2 in
+    rw (sym (in-span .ensures) ∙ not-false (in-span .result) (if1 .left), sym (in-span2 .ensures) ∙ not-false (in-span2 .result) (if2 .left), le-leb (z .args .f .locals) 32000 (omega arith), eq-eqb (z .args .f .outgoing % 8) 0 (omega arith), le-leb (z .args .f .outgoing) 16392 (omega arith), sym (c .before .has-condition .ensures) ∙ c .if6 .taken)
+
+returns-7 : tie.Need-returns-7
+unfolding okRequest
+returns-7 c =
+    let z = c .before .before .before .before .before .before .before .before .before .before .before .before .before in
+    let in-span = c .before .before .before .before .before .before .before .before .before .before .before .in-span in
+    let if1 = c .before .before .before .before .before .before .before .before .before .before .if1 in
+    let in-span2 = c .before .before .before .before .before .before .before .before .in-span2 in
+    let if2 = c .before .before .before .before .before .before .before .if2 in
+    let has-condition = c .before .before .has-condition in
+    rw (sym (in-span .ensures) ∙ not-false (in-span .result) (if1 .left), sym (in-span2 .ensures) ∙ not-false (in-span2 .result) (if2 .left), le-leb (z .args .f .locals) 32000 (omega arith), eq-eqb (z .args .f .outgoing % 8) 0 (omega arith), le-leb (z .args .f .outgoing) 16392 (omega arith), sym (has-condition .ensures) ∙ c .before .if6 .left)
+
+pub request-ok-spec : {M : Type 1} → statement M
+request-ok-spec =
+    tie.close
+    (tie.spec
+    in-span-requires
+    returns
+    in-span-requires-2
+    returns-2
+    returns-3
+    returns-4
+    returns-5
+    has-condition-requires
+    returns-6
+    returns-7)

@@ -1,0 +1,72 @@
+-- A convention as a value: its numbers, and the two values. Document 01, "Frames"; the published papers are 000 (PPC64) and 001 (Z).
+-- Assumes nothing.
+use Prim.Native.Nat.{ℕ, _-_, _^_}
+use mathlib.Core.Bool.{Bool, true, false, _&&_, _||_}
+use mathlib.Core.List.{List, [], _∷_}
+use lib.Dec.{leb}
+pub use Rattle.rules.specs.declared.Convention.{Convention}
+pub use Rattle.rules.specs.declared.Convention.the-variants.{Ppc64, Z}
+pub use Rattle.rules.specs.declared.Span.{Span}
+pub use Rattle.rules.specs.declared.Bank.{Bank}
+pub use Rattle.rules.specs.declared.Linkage.{Linkage}
+pub use Rattle.rules.specs.declared.Linkage.the-variants.{LinkRegister, SaveArea}
+pub use Rattle.rules.specs.declared.Rules.{Rules}
+pub use Rattle.rules.specs.declared.Frame.{Frame}
+pub use Rattle.rules.specs.declared.RegisterBank.{RegisterBank}
+pub use Rattle.rules.specs.declared.RegisterBank.the-variants.{General, Floating, Link, ConditionField, None}
+pub use Rattle.rules.specs.declared.Registers.{Registers}
+
+-- the first where the test holds, else the second
+abbrev pub pick : {A : Type 0} → Bool → A → A → A
+pick true a b = a
+pick false a b = b
+
+abbrev pub span : ℕ → ℕ → Span
+span a b = record { first = a; last = b }
+
+-- is n among the registers of the span, and of one of several?
+abbrev pub inSpan : Span → ℕ → Bool
+inSpan v n = leb (v .first) n && leb n (v .last)
+
+abbrev pub within : List Span → ℕ → Bool
+within [] n = false
+within (v ∷ vs) n = inSpan v n || within vs n
+
+-- "PPC64 request: saves r(g) to r31, g 14 to 32; f(m) to f31, m 14 to 32"; "CR in the 4 bytes at S + 8 if saved, LR at S + 16";
+-- "Permitted writes: PPC64 r0, r3 to r12, saved GPRs, f0 to f13, saved FPRs"; "Outgoing areas start at 48, at least 64 long, on PPC64";
+-- "Start .. B + N - 112 (PPC64)"; "Preserved are r2, r13 to r31, f14 to f31"
+abbrev pub ppc64 : Rules
+ppc64 = record {
+  word = 8;
+  header = 48;
+  least = 64;
+  alignment = 16;
+  room = 112;
+  pointer = 1;
+  end = 32;
+  limit = 2 ^ 64 - 1;
+  gpr = record { request = span 14 32; last = 31; volatile = span 0 0 ∷ span 3 12 ∷ []; preserved = span 2 2 ∷ span 13 31 ∷ [] };
+  fpr = record { request = span 14 32; last = 31; volatile = span 0 13 ∷ span 0 13 ∷ []; preserved = span 14 31 ∷ span 14 31 ∷ [] };
+  linkage = LinkRegister 8 16;
+}
+
+-- "Z request: r(g) to r15, g 6 to 14, at S + 8n (the published save area); f(m) to f15, m 8 to 16"; "Z r0 to r5, r14, saved r6 to r13, f0 to f7, saved f8 to f15";
+-- outgoing areas start "at 160 on Z"; "B + N - 160 (Z)"; preserved "on Z instead r6 to r13 and f8 to f15. The return address is LR, on Z r14"
+abbrev pub z : Rules
+z = record {
+  word = 8;
+  header = 160;
+  least = 0;
+  alignment = 8;
+  room = 160;
+  pointer = 15;
+  end = 16;
+  limit = 2 ^ 64 - 1;
+  gpr = record { request = span 6 14; last = 13; volatile = span 0 5 ∷ span 14 14 ∷ []; preserved = span 6 13 ∷ span 6 13 ∷ [] };
+  fpr = record { request = span 8 16; last = 15; volatile = span 0 7 ∷ span 0 7 ∷ []; preserved = span 8 15 ∷ span 8 15 ∷ [] };
+  linkage = SaveArea 14;
+}
+
+abbrev pub rules : Convention → Rules
+rules Ppc64 = ppc64
+rules Z = z
