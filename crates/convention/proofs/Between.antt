@@ -1,8 +1,7 @@
 -- A span lies between its cursor and the next one: what keeps the spans of a signature apart, proved once for each family.
 -- Assumes nothing.
-use Prim.Native.Nat.{ℕ, _+_, _-_, _*_, _≤_, _<_, min}
+use Prim.Native.Nat.{ℕ, _+_, _-_, _≤_, _<_}
 use native.Mathlib.Omega.{arith}
-use native.Mathlib.Nat.{mul-le-mul-left, mul-sub}
 use Rattle.types.specs.declared.ValueType.{ValueType}
 use Rattle.types.specs.Structs.{roundUp}
 use Rattle.convention.specs.declared.Cursor.{Cursor}
@@ -10,11 +9,11 @@ use Rattle.convention.specs.declared.Span.{Span}
 use Rattle.convention.specs.declared.Share.{Share}
 use Rattle.convention.specs.declared.Rules.{Rules}
 use Rattle.convention.specs.declared.ZClass.{ZClass}
-use Rattle.convention.specs.Power.{words, fprs, covered, powerShare, powerSpan, powerNext, Shared}
+use Rattle.convention.specs.Power.{words, covered, powerShare, powerSpan, powerNext, Shared}
 use Rattle.convention.specs.ZSeries.{zClass, zSpanOf, zNextOf}
 use Rattle.convention.specs.Step.{spanOf, nextOf}
 use Rattle.convention.specs.Spots.{Spot, general, floating, area, copies, Owns}
-use Rattle.convention.proofs.Shares.{share-shared, fprs-most}
+use Rattle.convention.proofs.Shares.{share-shared, fprs-most, words-split}
 
 -- each run starts at or after the cursor's counter and ends at or before the next one's; what is in memory lies in the home
 pub record Between (c : Cursor) (s : Span) (d : Cursor) : Type 0 where
@@ -31,8 +30,7 @@ pub record Between (c : Cursor) (s : Span) (d : Cursor) : Type 0 where
 
 power-between : (w : ℕ) (c : Cursor) (n : ℕ) (s : Share) → Shared s n (covered c n) → Between c (powerSpan w c n s) (powerNext w c n s)
 power-between w c n s h =
-    let a = mul-sub w n (s .memory) in
-    let b = mul-le-mul-left w (h .memory) in
+    let a = words-split w n (s .memory) (h .memory) in
     record {
       general-from = omega arith;
       general-to = omega arith;

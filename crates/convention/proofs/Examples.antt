@@ -10,13 +10,11 @@ use Rattle.types.specs.declared.ValueType.{ValueType}
 use Rattle.types.specs.Sizes.{sizeOf}
 use Rattle.convention.specs.declared.Bank.{Bank}
 use Rattle.convention.specs.declared.Place.{Place}
-use Rattle.convention.specs.declared.Span.{Span}
 use Rattle.convention.specs.declared.ResultPlaces.{ResultPlaces}
 use Rattle.convention.specs.declared.ZClass.{ZClass}
-use Rattle.convention.specs.Values.{pointer}
 use Rattle.convention.specs.Power.{words, fprs, shareOf, powerShare}
 use Rattle.convention.specs.ZSeries.{zClass, zSpanOf}
-use Rattle.convention.specs.Step.{rulesOf, wordOf, spanOf, fresh, returning, hiddenFor, resultOf}
+use Rattle.convention.specs.Step.{rulesOf, spanOf, fresh, returning, hiddenFor, resultOf}
 use Rattle.convention.specs.Places.{upFrom, register, registersOf, memoryOf, placesOf}
 
 abbrev int : ValueType

@@ -1,7 +1,7 @@
 -- A span's registers one by one. Assumes nothing.
-use mathlib.Core.Path.{_≡_, refl, sym, ap, _∙_}
+use mathlib.Core.Path.{_≡_, refl, ap, _∙_}
 use mathlib.Core.Bool.{Bool, true, false}
-use mathlib.Core.List.{List, [], _∷_, _++_, map}
+use mathlib.Core.List.{List, _++_, map}
 use Prim.Native.Nat.{ℕ, zero, suc, _+_, _-_, _≤_, _<_}
 use native.Mathlib.Omega.{arith}
 use native.Mathlib.Nat.{add-zero}
@@ -12,7 +12,6 @@ use Rattle.convention.specs.declared.Bank.{Bank}
 use Rattle.convention.specs.declared.Place.{Place}
 use Rattle.convention.specs.declared.Cursor.{Cursor}
 use Rattle.convention.specs.declared.Span.{Span}
-use Rattle.convention.specs.declared.RegisterRange.{RegisterRange}
 use Rattle.convention.specs.declared.Rules.{Rules}
 use Rattle.convention.specs.declared.ResultPlaces.{ResultPlaces}
 use Rattle.convention.specs.declared.ZClass.{ZClass}

@@ -1,7 +1,8 @@
 -- The ways through `shareOf`, and the bounds of what it gives. Assumes nothing.
 use mathlib.Core.Path.{_≡_, refl}
 use mathlib.Core.Bool.{Bool, true, false}
-use Prim.Native.Nat.{ℕ, zero, suc, _-_, _≤_, _<_}
+use Prim.Native.Nat.{ℕ, zero, suc, _+_, _-_, _*_, _≤_, _<_}
+use native.Mathlib.Nat.{mul-sub, mul-le-mul-left}
 use native.Mathlib.Omega.{arith}
 use borrow.Author.Tests.{le-leb, lt-leb, leb-true}
 use lib.Dec.{leb}
@@ -53,3 +54,7 @@ share-room (suc m) room n k = go (leb (suc m) room) refl
     go : (b : Bool) → leb (suc m) room ≡ b → pick b (share 0 (suc m) 0) (share 0 0 n) .floating ≤ room
     go true q = omega (arith, leb-true (suc m) room q)
     go false q = omega arith
+
+-- of n words of w bytes, the m in memory and those before them are all
+pub words-split : (w n m : ℕ) → m ≤ n → w * (n - m) + w * m ≡ w * n
+words-split w n m h = omega (arith, mul-sub w n m, mul-le-mul-left w h)

@@ -1,11 +1,11 @@
 -- The rules as the papers write them: document 01's sentences, each an equation on the definitions by cursors. PowerPC's are by
 -- the count w of words so far and the next FPR; they hold for every word width and edition. Assumes nothing.
-use mathlib.Core.Path.{_≡_, refl, sym, ap, ap₂, _∙_}
+use mathlib.Core.Path.{_≡_, refl, ap, ap₂, _∙_}
 use mathlib.Core.Bool.{Bool, true, false}
-use mathlib.Core.List.{List, [], _∷_, _++_, map, append-nil}
+use mathlib.Core.List.{List, [], _∷_, _++_, map}
 use Prim.Native.Nat.{ℕ, zero, suc, _+_, _-_, _*_, _/_, _≤_, _<_, min, max}
 use native.Mathlib.Omega.{arith}
-use native.Mathlib.Nat.{mul-add, mul-suc, mul-zero, mul-one, mul-div-cancel-left, add-zero, zero-add, add-div-left, div-eq-of-lt, mul-le-mul-left}
+use native.Mathlib.Nat.{mul-add, mul-suc, mul-zero, mul-div-cancel-left, add-zero, zero-add, add-div-left, div-eq-of-lt, mul-le-mul-left}
 use borrow.Author.Tests.{ltb-true, ltb-false}
 use lib.Dec.{ltb, leb}
 use Rattle.types.specs.declared.ValueType.{ValueType}
@@ -13,12 +13,11 @@ use Rattle.types.specs.Structs.{roundUp}
 use Rattle.convention.specs.declared.Bank.{Bank}
 use Rattle.convention.specs.declared.Place.{Place}
 use Rattle.convention.specs.declared.Cursor.{Cursor}
-use Rattle.convention.specs.declared.Span.{Span}
 use Rattle.convention.specs.declared.Share.{Share}
 use Rattle.convention.specs.declared.PowerRules.{PowerRules}
 use Rattle.convention.specs.declared.Rules.{Rules}
 use Rattle.convention.specs.declared.ZClass.{ZClass}
-use Rattle.convention.specs.Values.{pick, cursor, registers, bytes, share, pointer}
+use Rattle.convention.specs.Values.{pick, cursor, registers, bytes, share}
 use Rattle.convention.specs.Power.{words, fprs, shareOf, powerShare}
 use Rattle.convention.specs.ZSeries.{zClass, zSpanOf, zNextOf}
 use Rattle.convention.specs.Step.{spanOf, nextOf, fresh, startOf, areaOf}

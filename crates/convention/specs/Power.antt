@@ -3,7 +3,7 @@
 -- `words-written`, `float-written` and `next-counted` say that this is the same. A word of the argument list that has a GPR is
 -- one of the first eight. Assumes nothing.
 use Prim.Native.Nat.{ℕ, zero, suc, _+_, _-_, _*_, _/_, _≤_, min}
-use mathlib.Core.Bool.{true, false}
+use mathlib.Core.Bool.{false}
 use lib.Dec.{leb}
 use Rattle.types.specs.declared.FloatFormat.{FloatFormat}
 use Rattle.types.specs.declared.ValueType.{ValueType}

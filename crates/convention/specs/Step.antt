@@ -1,13 +1,12 @@
 -- One argument in every convention: its span and the next cursor; the first cursor, the area, and the place of a result.
 -- Document 01, "Places on PPC64" and "Places on Z". A convention is a value of `Rules`. All laws hold at every cursor.
 -- Assumes nothing.
-use Prim.Native.Nat.{ℕ, _+_, _-_, _*_, _≤_, max}
+use Prim.Native.Nat.{ℕ, _*_, _≤_, max}
 use mathlib.Core.Bool.{Bool, true, false}
 use Rattle.types.specs.declared.Convention.{Convention}
 use Rattle.types.specs.declared.FloatFormat.{FloatFormat}
 use Rattle.types.specs.declared.ValueType.{ValueType}
 use Rattle.convention.specs.declared.Edition.{Edition}
-use Rattle.convention.specs.declared.PowerRules.{PowerRules}
 use Rattle.convention.specs.declared.Rules.{Rules}
 use Rattle.convention.specs.declared.Cursor.{Cursor}
 use Rattle.convention.specs.declared.Span.{Span}

@@ -8,7 +8,6 @@ use types::ValueType;
 ghost use mathlib.Core.Path.{_≡_};
 ghost use Prim.Native.Nat.{_+_, _-_, _*_, _≤_, _<_, min, max};
 ghost use lib.ListN.{getD};
-ghost use Rattle.types.specs.Structs.{roundUp};
 ghost use Rattle.convention.specs.declared.Rules.{Rules};
 ghost use Rattle.convention.specs.Values.{registers, bytes, pointer};
 ghost use Rattle.convention.specs.Power.{words, fprs, shareOf, Shared, powerSpan, powerNext};
@@ -268,6 +267,10 @@ fn words_of(word: usize, size: usize) -> usize
     requires { ⌜ (4 ≤ word) × (word ≤ 8) × (size ≤ 256) ⌝ }
     ensures { λ r. ⌜ (r ≡ words word size) × (word * r ≤ 264) × (r ≤ 264) ⌝ }
 {
+    // The usual width by a shift: a division by a variable is slow.
+    if word == 8 {
+        return (size + 7) / 8;
+    }
     (size + (word - 1)) / word
 }
 

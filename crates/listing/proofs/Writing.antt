@@ -2,12 +2,10 @@
 use mathlib.Core.Path.{_≡_, refl, sym, ap, _∙_}
 use mathlib.Core.List.{List, [], _∷_, _++_}
 use Prim.Native.Nat.{ℕ, _+_, _≤_, _<_}
-use native.Mathlib.Omega.{arith}
 use native.Mathlib.Nat.{add-assoc, add-zero}
 use native.Mathlib.Numerals.{add-one}
 use lib.ListN.{length, getD, set, take, length-append}
 use lib.Seq.{set-out, take-suc}
-use Rattle.words.specs.Splice.{splice}
 use Rattle.words.proofs.Splices.{length-splice, splice-one, splice-nothing, splice-append}
 use Rattle.listing.specs.Writing.{Wrote}
 

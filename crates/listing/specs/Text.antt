@@ -1,7 +1,7 @@
 -- The printed plan of a signature, line by line. Document 01, "Sums to check against"; where the places' order matters, as in
 -- the specs of convention. Assumes nothing.
 use Prim.Native.Nat.{ℕ, suc, _+_}
-use mathlib.Core.Bool.{Bool, true, false}
+use mathlib.Core.Bool.{Bool}
 use mathlib.Core.List.{List, [], _∷_, _++_}
 use lib.Dec.{ltb}
 use lib.ListN.{take}
@@ -44,7 +44,7 @@ stored s = ltb 0 (s .memory .length)
 
 -- `mem` once, however many words are there
 abbrev pub memoryText : Span → List ℕ
-memoryText s = pick (stored s) memoryWord []
+memoryText s = pick (stored s) (placeText (Place.Memory (s .memory .start))) []
 
 -- after `@`: the offset of the argument's first doubleword, even if that one is in a register. "Z prints `@` only after `mem`
 -- (from 160)"

@@ -1,6 +1,5 @@
 -- The words and numbers of a printed plan, as bytes of ASCII. Document 01, "Sums to check against". Assumes nothing.
 use Prim.Native.Nat.{ℕ, zero, suc, _+_, _/_, _%_}
-use mathlib.Core.Bool.{true, false}
 use mathlib.Core.List.{List, [], _∷_, _++_}
 use lib.Dec.{ltb}
 use Rattle.convention.specs.Values.{pick}

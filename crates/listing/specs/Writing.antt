@@ -1,13 +1,13 @@
 -- What a function that writes a text leaves in a lent buffer. Assumes nothing.
 use Prim.Native.Nat.{ℕ, _+_, _≤_}
 use mathlib.Core.Path.{_≡_}
-use mathlib.Core.Bool.{true, false}
 use mathlib.Core.List.{List}
 use lib.Dec.{ltb}
 use lib.ListN.{length}
 use Rattle.convention.specs.Values.{pick}
 use Rattle.convention.specs.Places.{Numbered, ResultNumbered}
 use Rattle.words.specs.Splice.{overlay, splice}
+use Rattle.signature.specs.Read.{maxArguments}
 use Rattle.plan.specs.declared.Plan.{Plan}
 use Rattle.plan.specs.Disjoint.{spanAt}
 
@@ -22,7 +22,7 @@ printed buffer t = pick (ltb (length buffer) (length t)) buffer (overlay buffer 
 
 -- what the writer asks of a plan; every plan has it (law `answer-printable`)
 pub record Printable (p : Plan) : Type 0 where
-  pub few : p .count ≤ 64
+  pub few : p .count ≤ maxArguments
   pub room : p .count ≤ length (p .spans)
   pub spans : (i : ℕ) → Numbered (spanAt p i)
   pub result : ResultNumbered (p .result)

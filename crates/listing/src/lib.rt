@@ -95,11 +95,12 @@ fn put_registers(text: &mut [u8], at: usize, s: Span) -> usize
 
 fn put_memory(text: &mut [u8], at: usize, s: Span) -> usize
     requires { ⌜ at < 2 ^ 31 ⌝ }
-    ensures { λ r. ⌜ Wrote (now (text .entry)) (now (text .exit)) at r (memoryText s) × (r ≤ at + 4) ⌝ }
+    ensures { λ r. ⌜ Wrote (now (text .entry)) (now (text .exit)) at r (memoryText s) × (r ≤ at + 22) ⌝ }
 {
     let memory = s.memory;
+    let offset = memory.start;
     if 0 < memory.length {
-        return put_bytes(text, at, b" mem");
+        return put_place(text, at, Place::Memory { offset });
     }
     at
 }

@@ -3,26 +3,24 @@ use mathlib.Core.Path.{_≡_, refl, sym, ap, _∙_}
 use mathlib.Core.List.{List, [], _∷_, _++_, map}
 use Prim.Native.Nat.{ℕ, zero, suc, _+_, _-_, _≤_, _<_}
 use native.Mathlib.Omega.{arith}
-use native.Mathlib.Numerals.{add-one}
-use lib.ListN.{length, getD, take, replicate, length-append, length-replicate, List·getD-append}
+use lib.ListN.{length, getD, take, replicate, length-append, List·getD-append}
 use lib.Seq.{take-at, getD-at}
 use Rattle.types.specs.declared.Convention.{Convention}
 use Rattle.types.specs.declared.IntegerKind.{IntegerKind}
 use Rattle.types.specs.declared.ValueType.{ValueType}
 use Rattle.types.specs.Sizes.{sizeOf}
-use Rattle.types.specs.Trees.{Tree, Trees, none, _▸_, typeOf, countOf}
+use Rattle.types.specs.Trees.{Trees, none, _▸_, typeOf, countOf}
 use Rattle.types.specs.Limits.{AllSized}
 use Rattle.items.specs.declared.Refusal.{Refusal}
 use Rattle.items.specs.Reading.{Reading, got, no}
 use Rattle.signature.specs.declared.Argument.{Argument}
-use Rattle.signature.specs.declared.ResultType.{ResultType}
 use Rattle.signature.specs.Signature.{Result, nothing, value, Signature}
-use Rattle.signature.specs.Read.{signatureOf}
+use Rattle.signature.specs.Read.{maxArguments, signatureOf}
 use Rattle.signature.specs.Answer.{argument, listed, table, resultType, signatureAnswer}
 use Rattle.signature.specs.Exact.{ResultSized}
 use Rattle.signature.proofs.Theorems.{accepted}
 use Rattle.convention.specs.Step.{rulesOf}
-use Rattle.plan.specs.Plan.{spansOf, tableOf, startIn, planIn, typesOf, planAnswer, typeIn, typesIn, planned}
+use Rattle.plan.specs.Plan.{tableOf, startIn, planIn, typesOf, planAnswer, typeIn, planned}
 use Rattle.plan.specs.Limits.{SmallResult, Plannable}
 use Rattle.plan.proofs.Fold.{length-spans}
 
@@ -49,7 +47,7 @@ listed-types c (ts ▸ t) = map-append (listed c ts) (argument (typeOf c t) ∷ 
 pub table-types : (c : Convention) (ts : Trees) → map typeIn (take (countOf ts) (table c ts)) ≡ typesOf c ts
 unfolding table
 table-types c ts =
-    ap (map typeIn) (take-at (listed c ts) (replicate (64 - countOf ts) blank) (countOf ts) (length-listed c ts)) ∙ listed-types c ts
+    ap (map typeIn) (take-at (listed c ts) (replicate (maxArguments - countOf ts) blank) (countOf ts) (length-listed c ts)) ∙ listed-types c ts
 
 listed-small : (c : Convention) (ts : Trees) → AllSized c ts → (i : ℕ) → i < countOf ts → sizeOf c (getD (listed c ts) i blank .ty) ≤ 256
 unfolding listed countOf AllSized
@@ -69,7 +67,7 @@ table-small : (c : Convention) (ts : Trees) → AllSized c ts → (i : ℕ) → 
 unfolding table
 table-small c ts a i h =
     let before : i < length (listed c ts) = omega (arith, length-listed c ts) in
-    rw (List·getD-append (listed c ts) (replicate (64 - countOf ts) blank) blank i before) (listed-small c ts a i h)
+    rw (List·getD-append (listed c ts) (replicate (maxArguments - countOf ts) blank) blank i before) (listed-small c ts a i h)
 
 length-table : (c : Convention) (ts : Trees) → countOf ts ≤ length (table c ts)
 unfolding table
@@ -109,19 +107,19 @@ length-of-types c ts = sym (ap length (listed-types c ts)) ∙ length-map (liste
     length-map [] = refl
     length-map (a ∷ l) = ap suc (length-map l)
 
-few : (g : Signature) (next n : ℕ) → countOf (g .arguments) ≤ 64 → planAnswer (got g next n) .count ≤ 64
+few : (g : Signature) (next n : ℕ) → countOf (g .arguments) ≤ maxArguments → planAnswer (got g next n) .count ≤ maxArguments
 unfolding planAnswer planIn
 few g next n h = omega (arith, length-of-types (g .convention) (g .arguments))
 
-none-few : (r : Refusal) (place : ℕ) → planAnswer (no r place) .count ≤ 64
+none-few : (r : Refusal) (place : ℕ) → planAnswer (no r place) .count ≤ maxArguments
 unfolding planAnswer
 none-few r place = omega arith
 
--- no plan has more than 64 arguments
-pub answer-few : (s : List ℕ) → planAnswer (signatureOf s) .count ≤ 64
+-- no plan has more arguments than a signature may
+pub answer-few : (s : List ℕ) → planAnswer (signatureOf s) .count ≤ maxArguments
 answer-few s = go (signatureOf s) refl
   where
-    go : (x : Reading Signature) → signatureOf s ≡ x → planAnswer x .count ≤ 64
+    go : (x : Reading Signature) → signatureOf s ≡ x → planAnswer x .count ≤ maxArguments
     go (got g next n) e = few g next n (accepted s g next n e .within .few)
     go (no r place) e = none-few r place
 

@@ -1,5 +1,5 @@
 -- The spans of the fold, over any rules: what they own lies in order, so that no two of them meet. Assumes nothing.
-use mathlib.Core.Path.{_≡_, refl, sym, ap, _∙_}
+use mathlib.Core.Path.{_≡_, refl}
 use mathlib.Core.Bool.{Bool, true, false}
 use mathlib.Core.List.{List, [], _∷_, _++_}
 use Prim.Native.Nat.{ℕ, zero, suc, _+_, _-_, _≤_, _<_}
@@ -10,14 +10,15 @@ use lib.ListN.{length, getD, replicate}
 use Rattle.types.specs.declared.Convention.{Convention}
 use Rattle.types.specs.declared.ValueType.{ValueType}
 use Rattle.types.specs.Sizes.{sizeOf}
+use Rattle.signature.specs.Read.{maxArguments}
 use Rattle.convention.specs.declared.Cursor.{Cursor}
 use Rattle.convention.specs.declared.Span.{Span}
 use Rattle.convention.specs.declared.Rules.{Rules}
-use Rattle.convention.specs.Step.{spanOf, nextOf}
+use Rattle.convention.specs.Step.{nextOf}
 use Rattle.convention.specs.Places.{Numbered}
 use Rattle.convention.specs.Spots.{Spot, general, floating, area, copies, Owns, ArgumentRegister}
 use Rattle.convention.proofs.Bounds.{Named, named-next}
-use Rattle.convention.proofs.Between.{Before, From, before-from, before-later, from-earlier, Between, step-between, step-forward, owns-from, owns-before}
+use Rattle.convention.proofs.Between.{Before, From, before-from, before-later, from-earlier, step-between, step-forward, owns-from, owns-before}
 use Rattle.convention.proofs.Registers.{step-numbered, step-registers}
 use Rattle.plan.specs.Plan.{spansOf, lastOf, noSpan, tableOf}
 use Rattle.plan.proofs.Fold.{last-forward}
@@ -36,7 +37,7 @@ getD-blanks (s ∷ l) n (suc i) = getD-blanks l n i
 
 pub in-table : (l : List Span) (i : ℕ) → getD (tableOf l) i noSpan ≡ getD l i noSpan
 unfolding tableOf
-in-table l i = getD-blanks l (64 - length l) i
+in-table l i = getD-blanks l (maxArguments - length l) i
 
 -- ---- one span
 

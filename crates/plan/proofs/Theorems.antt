@@ -1,8 +1,8 @@
 -- Every plan keeps its arguments apart and within bounds (specs/Disjoint.antt states it). Assumes nothing.
-use mathlib.Core.Path.{_≡_, refl, sym, ap, subst, _∙_}
+use mathlib.Core.Path.{_≡_, sym, subst}
 use mathlib.Core.Bool.{Bool, true, false}
-use mathlib.Core.List.{List, [], _∷_, _++_}
-use Prim.Native.Nat.{ℕ, zero, suc, _+_, _≤_, _<_}
+use mathlib.Core.List.{List, []}
+use Prim.Native.Nat.{ℕ, _≤_, _<_}
 use native.Mathlib.Omega.{arith}
 use lib.ListN.{getD, replicate}
 use Rattle.types.specs.declared.Convention.{Convention}
@@ -10,22 +10,20 @@ use Rattle.types.specs.declared.ValueType.{ValueType}
 use Rattle.types.specs.Sizes.{sizeOf}
 use Rattle.items.specs.declared.Refusal.{Refusal}
 use Rattle.items.specs.Reading.{Reading, got, no}
-use Rattle.signature.specs.declared.Outcome.{Outcome}
 use Rattle.signature.specs.declared.ResultType.{ResultType}
 use Rattle.signature.specs.Signature.{Signature}
+use Rattle.signature.specs.Read.{maxArguments}
 use Rattle.signature.specs.Answer.{resultType}
 use Rattle.convention.specs.declared.Cursor.{Cursor}
 use Rattle.convention.specs.declared.Span.{Span}
-use Rattle.convention.specs.declared.Rules.{Rules}
 use Rattle.convention.specs.declared.ResultPlaces.{ResultPlaces}
 use Rattle.convention.specs.Values.{pick, pointer}
-use Rattle.convention.specs.Step.{rulesOf, wordOf, spanOf, nextOf, fresh, startOf, areaOf, hiddenFor, returning, resultOf}
+use Rattle.convention.specs.Step.{rulesOf, wordOf, spanOf, fresh, startOf, areaOf, hiddenFor, returning, resultOf}
 use Rattle.convention.specs.Places.{Numbered}
-use Rattle.convention.specs.Spots.{Spot, general, floating, area, copies, Owns, imageSpot, ArgumentRegister}
-use Rattle.convention.proofs.Bounds.{named-start, rules-word, area-holds, least-area}
+use Rattle.convention.specs.Spots.{Spot, area, copies, Owns, imageSpot}
+use Rattle.convention.proofs.Bounds.{named-start, area-holds, least-area}
 use Rattle.convention.proofs.Between.{before-from, owns-before}
-use Rattle.plan.specs.declared.Plan.{Plan}
-use Rattle.plan.specs.Plan.{spansOf, lastOf, noSpan, tableOf, hiddenIn, resultIn, startIn, endIn, planIn, refused, typesOf, planAnswer}
+use Rattle.plan.specs.Plan.{spansOf, noSpan, hiddenIn, resultIn, startIn, endIn, planIn, refused, typesOf, planAnswer}
 use Rattle.plan.specs.Disjoint.{spanAt, Disjoint, Within}
 use Rattle.plan.proofs.Apart.{in-table, getD-blanks, spanIn, none-owned, owned-from, owned-before, owned-register, owned-apart, span-numbered, span-homed, Homed}
 
@@ -98,10 +96,10 @@ plan-within n c r ts =
 
 -- ---- a refused one
 
-none-at : (i : ℕ) → getD (replicate 64 noSpan) i noSpan ≡ noSpan
-none-at i = getD-blanks [] 64 i
+none-at : (i : ℕ) → getD (replicate maxArguments noSpan) i noSpan ≡ noSpan
+none-at i = getD-blanks [] maxArguments i
 
-none : (i : ℕ) (x : Spot) → Owns (getD (replicate 64 noSpan) i noSpan) x → ⊥
+none : (i : ℕ) (x : Spot) → Owns (getD (replicate maxArguments noSpan) i noSpan) x → ⊥
 none i x o = none-owned x (subst (λ (s : Span). Owns s x) (none-at i) o)
 
 refused-disjoint : (reason : Refusal) (place : ℕ) → Disjoint (refused reason place)

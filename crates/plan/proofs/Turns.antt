@@ -12,12 +12,14 @@ use Rattle.types.specs.declared.IntegerKind.{IntegerKind}
 use Rattle.types.specs.declared.ValueType.{ValueType}
 use Rattle.types.specs.Sizes.{sizeOf}
 use Rattle.signature.specs.declared.Argument.{Argument}
+use Rattle.signature.specs.Read.{maxArguments}
 use Rattle.signature.specs.Answer.{argument}
 use Rattle.convention.specs.declared.Cursor.{Cursor}
 use Rattle.convention.specs.declared.Span.{Span}
 use Rattle.convention.specs.declared.Rules.{Rules}
 use Rattle.convention.specs.Step.{Lawful, spanOf, nextOf, startOf}
 use Rattle.convention.proofs.Bounds.{Named, named-start, named-next, near-next, start-bytes}
+use Rattle.plan.specs.declared.Plan.{Plan}
 use Rattle.plan.specs.Plan.{spansOf, lastOf, valuesOf, noSpan, tableOf, typeIn}
 use Rattle.plan.proofs.Fold.{length-spans}
 
@@ -47,7 +49,7 @@ module _ (c : Convention) (r : Rules) (start : Cursor) (ts : List ValueType) whe
     pub done : List Span
     pub many : length done ≡ i
     pub within : i ≤ length ts
-    pub array : ss ≡ done ++ replicate (64 - i) noSpan
+    pub array : ss ≡ done ++ replicate (maxArguments - i) noSpan
     pub rest : done ++ spansOf c r k (drop i ts) ≡ spansOf c r start ts
     pub last : lastOf c r k (drop i ts) ≡ lastOf c r start ts
     pub total : v + valuesOf c (drop i ts) ≡ valuesOf c ts
@@ -57,7 +59,7 @@ module _ (c : Convention) (r : Rules) (start : Cursor) (ts : List ValueType) whe
     pub small : v ≤ 256 * i
 
 pub going-start : (c : Convention) (r : Rules) (hidden : Bool) (ts : List ValueType) → Lawful r
-    → Going c r (startOf r hidden) ts (replicate 64 noSpan) (startOf r hidden) 0 0
+    → Going c r (startOf r hidden) ts (replicate maxArguments noSpan) (startOf r hidden) 0 0
 going-start c r hidden ts l =
     let b = start-bytes r hidden l in
     record {
@@ -75,7 +77,7 @@ going-start c r hidden ts l =
     }
 
 pub going-more : (c : Convention) (r : Rules) (start : Cursor) (ts : List ValueType) (ss : List Span) (k : Cursor) (v i : ℕ) (t : ValueType)
-    → Lawful r → i < length ts → length ts ≤ 64 → sizeOf c t ≤ 256 → drop i ts ≡ t ∷ drop (suc i) ts
+    → Lawful r → i < length ts → length ts ≤ maxArguments → sizeOf c t ≤ 256 → drop i ts ≡ t ∷ drop (suc i) ts
     → Going c r start ts ss k v i
     → Going c r start ts (set ss i (spanOf r k t (sizeOf c t))) (nextOf r k t (sizeOf c t)) (v + sizeOf c t) (i + 1)
 unfolding spansOf lastOf valuesOf
@@ -83,7 +85,7 @@ going-more c r start ts ss k v i t l h few sm d g =
     let n : ℕ = sizeOf c t in
     let s : Span = spanOf r k t n in
     let b = near-next r k t n l sm in
-    let blank : 64 - i ≡ suc (64 - (i + 1)) = omega arith in
+    let blank : maxArguments - i ≡ suc (maxArguments - (i + 1)) = omega arith in
     let total : v + (n + valuesOf c (drop (suc i) ts)) ≡ valuesOf c ts = rw d at (g .total) in
     record {
       done = g .done ++ s ∷ [];
@@ -91,8 +93,8 @@ going-more c r start ts ss k v i t l h few sm d g =
       within = omega arith;
       array =
           ap (λ (x : List Span). set x i s) (g .array)
-          ∙ rw blank (set-at (g .done) noSpan (replicate (64 - (i + 1)) noSpan) s i (g .many))
-          ∙ sym (append-assoc (g .done) (s ∷ []) (replicate (64 - (i + 1)) noSpan));
+          ∙ rw blank (set-at (g .done) noSpan (replicate (maxArguments - (i + 1)) noSpan) s i (g .many))
+          ∙ sym (append-assoc (g .done) (s ∷ []) (replicate (maxArguments - (i + 1)) noSpan));
       rest = rw add-one (append-assoc (g .done) (s ∷ []) (spansOf c r (nextOf r k t n) (drop (suc i) ts)) ∙ (rw d at (g .rest)));
       last = rw add-one (rw d at (g .last));
       total = rw add-one (omega arith);
@@ -120,8 +122,15 @@ going-end c r start ts ss k v i h g =
     record {
       table =
           g .array
-          ∙ ap (λ (l : List Span). l ++ replicate (64 - i) noSpan) (sym (append-nil (g .done)) ∙ rest)
-          ∙ ap (λ (n : ℕ). spansOf c r start ts ++ replicate (64 - n) noSpan) many;
+          ∙ ap (λ (l : List Span). l ++ replicate (maxArguments - i) noSpan) (sym (append-nil (g .done)) ∙ rest)
+          ∙ ap (λ (n : ℕ). spansOf c r start ts ++ replicate (maxArguments - n) noSpan) many;
       last = rw none at (g .last);
       total = omega arith;
     }
+
+-- what the loop leaves of the plan
+pub record Kept (p q : Plan) : Type 0 where
+  pub outcome : q .outcome ≡ p .outcome
+  pub convention : q .convention ≡ p .convention
+  pub result : q .result ≡ p .result
+  pub count : q .count ≡ p .count

@@ -9,7 +9,7 @@ use Rattle.convention.specs.declared.Span.{Span}
 use Rattle.convention.specs.declared.ResultPlaces.{ResultPlaces}
 use Rattle.convention.specs.Step.{rulesOf}
 use Rattle.convention.specs.Places.{Numbered}
-use Rattle.convention.specs.Spots.{Spot, general, floating, area, copies, Owns, imageSpot, ArgumentRegister}
+use Rattle.convention.specs.Spots.{Spot, area, copies, Owns, imageSpot, ArgumentRegister}
 use Rattle.plan.specs.declared.Plan.{Plan}
 use Rattle.plan.specs.Plan.{noSpan}
 

@@ -8,6 +8,7 @@ use Rattle.types.specs.declared.ValueType.{ValueType}
 use Rattle.types.specs.Sizes.{sizeOf}
 use Rattle.signature.specs.declared.ResultType.{ResultType}
 use Rattle.signature.specs.declared.SignatureRead.{SignatureRead}
+use Rattle.signature.specs.Read.{maxArguments}
 use Rattle.signature.specs.Answer.{argument}
 
 -- refusal 8: no "struct size over 256"
@@ -19,7 +20,7 @@ abbrev pub typeAt : SignatureRead → ℕ → ValueType
 typeAt g i = getD (g .arguments) i (argument (ValueType.Integer IntegerKind.I8)) .ty
 
 pub record Plannable (g : SignatureRead) : Type 0 where
-  pub few : g .count ≤ 64
+  pub few : g .count ≤ maxArguments
   pub room : g .count ≤ length (g .arguments)
   pub result : SmallResult (g .convention) (g .result)
   pub small : (i : ℕ) → i < g .count → sizeOf (g .convention) (typeAt g i) ≤ 256

@@ -1,7 +1,7 @@
 -- The plan of a whole signature: a convention's step folded over the arguments from left to right. Document 01, "Places on
 -- PPC64" and "Places on Z"; the step is the crate convention's. Assumes nothing.
 use Prim.Native.Nat.{ℕ, _+_, _-_}
-use mathlib.Core.Bool.{Bool, true, false}
+use mathlib.Core.Bool.{Bool, false}
 use mathlib.Core.List.{List, [], _∷_, _++_, map}
 use lib.ListN.{length, take, replicate}
 use Rattle.types.specs.declared.Convention.{Convention}
@@ -15,6 +15,7 @@ use Rattle.signature.specs.declared.ResultType.{ResultType}
 use Rattle.signature.specs.declared.Outcome.{Outcome}
 use Rattle.signature.specs.declared.SignatureRead.{SignatureRead}
 use Rattle.signature.specs.Signature.{Signature}
+use Rattle.signature.specs.Read.{maxArguments}
 use Rattle.signature.specs.Answer.{resultType}
 use Rattle.convention.specs.declared.Cursor.{Cursor}
 use Rattle.convention.specs.declared.Span.{Span}
@@ -58,7 +59,7 @@ noSpan = record { general = registers 0 0; floating = registers 0 0; home = byte
 
 -- the program's table: the spans in order, and after them spans of nothing
 unfoldable pub tableOf : List Span → List Span
-tableOf l = l ++ replicate (64 - length l) noSpan
+tableOf l = l ++ replicate (maxArguments - length l) noSpan
 
 -- the cursor of the first argument
 abbrev pub startIn : Convention → ResultType → Cursor
@@ -80,18 +81,22 @@ planIn n c r ts = record {
   spans = tableOf (spansOf c (rulesOf c) (startIn c r) ts);
 }
 
--- "Every refusal leaves all buffers and the state untouched; counts are 0"
-abbrev pub refused : Refusal → ℕ → Plan
-refused reason place = record {
-  outcome = Outcome.Refused reason place;
-  convention = Convention.Ppc64;
-  result = ResultPlaces.Nothing;
-  count = 0;
+-- a plan without spans and sizes
+abbrev pub blankPlan : Outcome → Convention → ResultPlaces → ℕ → Plan
+blankPlan o c r n = record {
+  outcome = o;
+  convention = c;
+  result = r;
+  count = n;
   area = 0;
   values = 0;
   copies = 0;
-  spans = replicate 64 noSpan;
+  spans = replicate maxArguments noSpan;
 }
+
+-- "Every refusal leaves all buffers and the state untouched; counts are 0"
+abbrev pub refused : Refusal → ℕ → Plan
+refused reason place = blankPlan (Outcome.Refused reason place) Convention.Ppc64 ResultPlaces.Nothing 0
 
 -- the arguments' types in order
 unfoldable pub typesOf : Convention → Trees → List ValueType

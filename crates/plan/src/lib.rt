@@ -4,16 +4,13 @@ use convention::ByteRange;
 use convention::RegisterRange;
 use convention::ResultPlaces;
 use convention::Span;
-use items::Refusal;
 use signature::Outcome;
 use signature::ResultType;
 use signature::SignatureRead;
 use types::Convention;
 ghost use mathlib.Core.Path.{_≡_};
-ghost use Prim.Native.Nat.{_≤_};
-ghost use lib.ListN.{replicate};
 ghost use Rattle.signature.specs.Read.{signatureOf};
-ghost use Rattle.plan.specs.Plan.{hiddenIn, resultIn, noSpan, refused, planned, planAnswer};
+ghost use Rattle.plan.specs.Plan.{hiddenIn, resultIn, blankPlan, planned, planAnswer};
 ghost use Rattle.plan.specs.Limits.{SmallResult, Plannable};
 
 // The plan of a signature, or the reader's refusal. `area` is the size of the parameter area, `values` that of all arguments'
@@ -30,37 +27,31 @@ pub struct Plan {
     pub spans: [Span; 64],
 }
 
-fn no_spans() -> [Span; 64]
-    ensures { λ l. ⌜ l ≡ replicate 64 noSpan ⌝ }
+// A plan without spans and sizes.
+fn blank(outcome: Outcome, convention: Convention, result: ResultPlaces, count: usize) -> Plan
+    ensures { λ p. ⌜ p ≡ blankPlan outcome convention result count ⌝ }
 {
     let none = RegisterRange { first: 0, count: 0 };
     let empty = ByteRange {
         start: 0,
         length: 0,
     };
-    [Span {
-        general: none,
-        floating: none,
-        home: empty,
-        memory: empty,
-        copy: empty,
-        indirect: false,
-    }; 64]
-}
-
-fn refuse(reason: Refusal, place: usize) -> Plan
-    ensures { λ p. ⌜ p ≡ refused reason place ⌝ }
-{
-    let spans = no_spans();
     Plan {
-        outcome: Outcome::Refused { reason, place },
-        convention: Convention::Ppc64,
-        result: ResultPlaces::Nothing,
-        count: 0,
+        outcome,
+        convention,
+        result,
+        count,
         area: 0,
         values: 0,
         copies: 0,
-        spans,
+        spans: [Span {
+            general: none,
+            floating: none,
+            home: empty,
+            memory: empty,
+            copy: empty,
+            indirect: false,
+        }; 64],
     }
 }
 
@@ -94,16 +85,19 @@ pub fn plan_signature(g: SignatureRead) -> Plan
 {
     let outcome = g.outcome;
     match outcome {
-        Outcome::Refused { reason, place } => refuse(reason, place),
-        Outcome::Accepted(items) => {
+        Outcome::Refused {
+            reason: _,
+            place: _,
+        } => blank(outcome, Convention::Ppc64, ResultPlaces::Nothing, 0),
+        Outcome::Accepted(_) => {
             let convention = g.convention;
             let returned = g.result;
             let count = g.count;
             let rules = convention::rules_of(convention);
             let hidden = hidden_in(convention, returned);
             let result = result_in(convention, returned);
-            let mut spans = no_spans();
             let mut c = convention::start(convention, hidden);
+            let mut plan = blank(outcome, convention, result, count);
             let mut values: usize = 0;
             let mut i: usize = 0;
             while i < count {
@@ -112,23 +106,15 @@ pub fn plan_signature(g: SignatureRead) -> Plan
                 let size = types::size_of(convention, t);
                 let p = convention::step(rules, c, t, size);
                 let s = p.span;
-                spans[i] = s;
+                plan.spans[i] = s;
                 c = p.next;
                 values = values + size;
                 i = i + 1;
             }
-            let copies = c.copies;
-            let area = convention::area_of(rules, c);
-            Plan {
-                outcome: Outcome::Accepted(items),
-                convention,
-                result,
-                count,
-                area,
-                values,
-                copies,
-                spans,
-            }
+            plan.area = convention::area_of(rules, c);
+            plan.values = values;
+            plan.copies = c.copies;
+            plan
         }
     }
 }

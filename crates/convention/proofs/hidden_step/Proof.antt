@@ -1,8 +1,7 @@
 -- The first cursor has room, and a word is small.
 use Rattle.convention.proofs.Bounds.{rules-lawful, fresh-roomy, word-most}
-use Rattle.convention.specs.Step.{Lawful, Roomy, rulesOf}
+use Rattle.convention.specs.Step.{rulesOf}
 use native.Mathlib.Omega.{arith}
-use mathlib.Core.Path.{sym, ap, subst}
 use borrow.Author.Needs.{needs}
 use Rattle.convention.proofs.hidden_step.Statement.{statement}
 use Rattle.convention.proofs.hidden_step.Tie as tie

@@ -1,7 +1,7 @@
 -- The words in memory are the last of the argument's, so that all its parts lie within its home.
 use Prim.Native.Nat.{_-_, min}
 use mathlib.Core.Path.{_≡_}
-use native.Mathlib.Nat.{mul-sub, mul-le-mul-left}
+use Rattle.convention.proofs.Shares.{words-split}
 use native.Mathlib.Omega.{arith}
 use borrow.Author.Needs.{needs}
 use Rattle.convention.proofs.power_place.Statement.{statement}
@@ -23,16 +23,16 @@ sub-byte-range : tie.Need-sub-byte-range
 sub-byte-range c = search needs
 
 mul-byte-range-2 : tie.Need-mul-byte-range-2
-mul-byte-range-2 c = omega (arith, mul-sub (c .before .before .before .args .word) (c .before .before .before .args .n) (c .before .before .before .args .s .memory), mul-le-mul-left {m = c .before .before .before .args .s .memory} {n = c .before .before .before .args .n} (c .before .before .before .args .word) (omega arith))
+mul-byte-range-2 c = omega (arith, words-split (c .before .before .before .args .word) (c .before .before .before .args .n) (c .before .before .before .args .s .memory) (omega arith))
 
 add-byte-range : tie.Need-add-byte-range
-add-byte-range c = omega (arith, mul-sub (c .before .before .before .args .word) (c .before .before .before .args .n) (c .before .before .before .args .s .memory), mul-le-mul-left {m = c .before .before .before .args .s .memory} {n = c .before .before .before .args .n} (c .before .before .before .args .word) (omega arith))
+add-byte-range c = omega (arith, words-split (c .before .before .before .args .word) (c .before .before .before .args .n) (c .before .before .before .args .s .memory) (omega arith))
 
 mul-byte-range-3 : tie.Need-mul-byte-range-3
-mul-byte-range-3 c = omega (arith, mul-sub (c .before .before .before .args .word) (c .before .before .before .args .n) (c .before .before .before .args .s .memory), mul-le-mul-left {m = c .before .before .before .args .s .memory} {n = c .before .before .before .args .n} (c .before .before .before .args .word) (omega arith))
+mul-byte-range-3 c = omega (arith, words-split (c .before .before .before .args .word) (c .before .before .before .args .n) (c .before .before .before .args .s .memory) (omega arith))
 
 byte-range-requires-2 : tie.Need-byte-range-requires-2
-byte-range-requires-2 c κs = omega (arith, mul-sub (c .before .before .before .args .word) (c .before .before .before .args .n) (c .before .before .before .args .s .memory), mul-le-mul-left {m = c .before .before .before .args .s .memory} {n = c .before .before .before .args .n} (c .before .before .before .args .word) (omega arith))
+byte-range-requires-2 c κs = omega (arith, words-split (c .before .before .before .args .word) (c .before .before .before .args .n) (c .before .before .before .args .s .memory) (omega arith))
 
 byte-range-requires-3 : tie.Need-byte-range-requires-3
 byte-range-requires-3 c κs = search needs

@@ -2,7 +2,6 @@
 use Rattle.convention.proofs.Bounds.{rules-lawful, returning-lawful, fresh-roomy}
 use Rattle.convention.specs.Step.{resultOf, placed}
 use mathlib.Core.Path.{sym, _∙_}
-use native.Mathlib.Omega.{arith}
 use borrow.Author.Needs.{needs}
 use Rattle.convention.proofs.result_places.Statement.{statement}
 use Rattle.convention.proofs.result_places.Tie as tie

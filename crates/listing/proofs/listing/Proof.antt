@@ -1,12 +1,11 @@
 -- The first run gives the length, and the second writes where there is room.
 use Rattle.listing.proofs.Answers.{answer-printable}
-use Rattle.listing.specs.Text.{planText, listingOf}
+use Rattle.listing.specs.Text.{listingOf}
 use Rattle.words.specs.Splice.{splice}
 use lib.ListN.{length}
 use Prim.Native.Nat.{_≤_, _<_}
 use borrow.Author.Tests.{lt-ltb, le-ltb}
 use native.Mathlib.Omega.{arith}
-use mathlib.Core.Path.{_≡_, refl, _∙_}
 use borrow.Author.Needs.{needs}
 use Rattle.listing.proofs.listing.Statement.{statement}
 use Rattle.listing.proofs.listing.Tie as tie

@@ -2,14 +2,13 @@
 use Rattle.listing.proofs.Texts.{wrote-line}
 use Rattle.listing.proofs.Writing.{wrote-length, wrote-nothing, wrote-then}
 use Rattle.listing.specs.Writing.{Wrote}
-use Rattle.listing.specs.Text.{acceptedText, lineText, linesText}
+use Rattle.listing.specs.Text.{acceptedText, linesText}
 use Rattle.plan.specs.Plan.{noSpan}
 use lib.Seq.{take-all, length-take-le, getD-take}
-use lib.ListN.{length, take}
-use borrow.Author.Needs.{needs}
+use lib.ListN.{take}
 use native.Mathlib.Omega.{arith}
 use Prim.Native.Nat.{_+_, _-_, _*_, _≤_}
-use mathlib.Core.Path.{_≡_, sym, ap}
+use mathlib.Core.Path.{sym}
 use Rattle.listing.proofs.put_lines.Statement.{statement}
 use Rattle.listing.proofs.put_lines.Tie as tie
 

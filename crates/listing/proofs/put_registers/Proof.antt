@@ -2,7 +2,7 @@
 use Rattle.listing.proofs.Texts.{wrote-place}
 use Rattle.listing.proofs.Writing.{wrote-length, wrote-nothing}
 use Rattle.listing.specs.Writing.{Wrote}
-use Rattle.listing.specs.Text.{placeText, placesText}
+use Rattle.listing.specs.Text.{placesText}
 use Rattle.convention.proofs.Registers.{length-registers}
 use Rattle.convention.specs.Places.{registersOf}
 use lib.Seq.{take-all}
