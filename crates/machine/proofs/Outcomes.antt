@@ -1,15 +1,17 @@
 -- What a call hands back where it is accepted, and where it is refused. Assumes nothing.
-use Prim.Native.Nat.{ℕ}
+use Prim.Native.Nat.{ℕ, _+_, _-_}
 use mathlib.Core.Path.{_≡_}
 use mathlib.Core.Bool.{true, false}
 use mathlib.Core.List.{List}
-use lib.ListN.{length}
+use lib.ListN.{length, set}
 use Rattle.rules.specs.declared.Convention.{Convention}
 use Rattle.rules.specs.declared.Frame.{Frame}
+use Rattle.rules.specs.declared.Rules.{Rules}
 use Rattle.rules.specs.declared.Registers.{Registers}
 use Rattle.rules.specs.Rules.{rules}
+use Rattle.rules.specs.Frames.{noFrame, frameSize, restored, bankOf, withRegister}
 use Rattle.machine.specs.Answers.{Accepted, Refused, Refusal, BadMemory, judge}
-use Rattle.machine.specs.Machine.{State, rulesOf, okMemory, startAnswer, started, startedMemory, notStarted, enterAnswer, entered, enteredMemory, writeRegisterAnswer, writeMemoryAnswer, writtenRegister, writtenMemory, leaveAnswer, left, startOutcome, startMemory, enterOutcome, enterMemory, writeRegisterOutcome, writeMemoryOutcome, writeMemoryMemory, leaveOutcome}
+use Rattle.machine.specs.Machine.{State, rulesOf, stackPointer, offset, top, okMemory, startAnswer, started, startedMemory, notStarted, enterAnswer, entered, enteredMemory, writeRegisterAnswer, writeMemoryAnswer, writtenRegister, writtenMemory, leaveAnswer, left, startOutcome, startMemory, enterOutcome, enterMemory, writeRegisterOutcome, writeMemoryOutcome, writeMemoryMemory, leaveOutcome}
 
 pub accepted-start : (c : Convention) (b n : ℕ) → okMemory (rules c) b n ≡ true → startAnswer c b n ≡ Accepted
 unfolding startAnswer judge
@@ -50,6 +52,12 @@ module _ (s : State) (n b i v : ℕ) where
   unfolding writeRegisterOutcome
   write-register-refused x e = rw e
 
+-- the state with its registers stored anew, where they are what the definition says
+pub registers-written : (s : State) (b i v : ℕ) (r : Registers) → r ≡ withRegister (s .registers) (bankOf b) i v
+    → record { convention = s .convention; base = s .base; size = s .size; depth = s .depth; registers = r; frames = s .frames } ≡ writtenRegister s b i v
+unfolding writtenRegister
+registers-written s b i v r e = rw e
+
 module _ (s : State) (l : List ℕ) (a : ℕ) (bs : List ℕ) where
   pub write-memory-accepted : writeMemoryAnswer (rulesOf s) s (length l) a (length bs) ≡ Accepted
       → (writeMemoryOutcome s (length l) a (length bs) ≡ record { answer = Accepted; state = s }) × (writeMemoryMemory s l a bs ≡ writtenMemory s l a bs)
@@ -69,3 +77,9 @@ module _ (s : State) (l : List ℕ) where
   pub leave-refused : (x : Refusal) → leaveAnswer (rulesOf s) s l ≡ Refused x → leaveOutcome s l ≡ record { answer = Refused x; state = s }
   unfolding leaveOutcome
   leave-refused x e = rw e
+
+pub registers-restored : (k : Rules) (s : State) (l : List ℕ) (r : Registers)
+    → r ≡ restored k (top k s) (offset k s + frameSize k (top k s)) l (stackPointer k s + frameSize k (top k s)) (s .registers)
+    → record { convention = s .convention; base = s .base; size = s .size; depth = s .depth - 1; registers = r; frames = set (s .frames) (s .depth - 1) noFrame } ≡ left k s l
+unfolding left
+registers-restored k s l r e = rw e

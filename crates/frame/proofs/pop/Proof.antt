@@ -1,8 +1,9 @@
+use Rattle.machine.proofs.Outcomes.{registers-restored}
 -- The top frame lies below its caller's pointer, whose header is in the memory. Assumes nothing.
 use Rattle.rules.proofs.Places.{limit-64}
 use Rattle.machine.proofs.Coding.{top-request, top-room, top-placed, memory-small, pointer-limit}
 use Rattle.rules.specs.Frames.{frameSize}
-use Rattle.machine.specs.Machine.{top, left}
+use Rattle.machine.specs.Machine.{top}
 use denote.Ref.{now}
 use lib.ListN.{length}
 use native.Mathlib.Omega.{arith}
@@ -61,12 +62,13 @@ element-set-from-popped : tie.Need-element-set-from-popped
 element-set-from-popped c = search needs
 
 returns : tie.Need-returns
-unfolding left
 returns c =
+    let z = c .before .before .before .before .before .before .before in
     let frame-size = c .before .before .before .before .frame-size in
     let top-frame = c .before .before .before .before .before .top-frame in
     let stack-pointer = c .before .before .before .stack-pointer in
-    rw (c .restore .ensures, frame-size .ensures, top-frame .ensures, stack-pointer .ensures)
+    let r = rw (frame-size .ensures, top-frame .ensures, stack-pointer .ensures) at (c .restore .ensures) in
+    registers-restored (z .args .k) (z .args .s) (now (z .args .memory)) (c .restore .result) r
 
 pub pop-spec : {M : Type 1} → statement M
 pop-spec =

@@ -1,14 +1,16 @@
+use Rattle.machine.specs.declared.Answer.the-variants.{Accepted}
+use Rattle.machine.specs.declared.State.{State}
 -- The answer decides: a refused call hands the state back, an accepted one stores the register. Assumes nothing.
 use Rattle.rules.proofs.Writing.{writable-named}
 use Rattle.machine.proofs.States.{write-register-yes}
-use Rattle.machine.proofs.Outcomes.{write-register-accepted, write-register-refused}
+use Rattle.machine.proofs.Outcomes.{write-register-accepted, write-register-refused, registers-written}
 use Rattle.rules.specs.Frames.{bankOf}
-use Rattle.machine.specs.Machine.{top, writtenRegister}
+use Rattle.machine.specs.Machine.{top}
 use Rattle.rules.specs.Lawful.{Lawful}
 use Rattle.rules.proofs.Conventions.{lawful}
 use denote.Ref.{now}
 use lib.ListN.{length}
-use mathlib.Core.Path.{sym, _∙_}
+use mathlib.Core.Path.{sym, _∙_, ap}
 use borrow.Author.Needs.{needs}
 use Rattle.frame.proofs.write_register.Statement.{statement}
 use Rattle.frame.proofs.write_register.Tie as tie
@@ -47,14 +49,15 @@ returns c =
     sym (write-register-refused (z .args .s) (length (now (z .args .memory))) (z .args .bank) (z .args .number) (z .args .value) _ (rw (rules-of .ensures) at (sym (judge-write-register .ensures) ∙ c .before .a .given .1)))
 
 returns-2 : tie.Need-returns-2
-unfolding writtenRegister
 returns-2 c =
     let z = c .before .before .before .before .before .before .before .before in
-    let bank-of = c .before .before .bank-of in
     let rules-of = c .before .before .before .before .before .before .rules-of in
     let judge-write-register = c .before .before .before .before .before .judge-write-register in
     let enum-told = c .before .before .before .enum-told in
-    rw (c .with-register .ensures, bank-of .ensures) (sym (write-register-accepted (z .args .s) (length (now (z .args .memory))) (z .args .bank) (z .args .number) (z .args .value) (rw (rules-of .ensures) at (sym (judge-write-register .ensures) ∙ enum-told .given .1))))
+    let bank-of = c .before .before .bank-of in
+    let yes = write-register-accepted (z .args .s) (length (now (z .args .memory))) (z .args .bank) (z .args .number) (z .args .value) (rw (rules-of .ensures) at (sym (judge-write-register .ensures) ∙ enum-told .given .1)) in
+    let r = rw (bank-of .ensures) at (c .with-register .ensures) in
+    ap (λ (t : State). record { answer = Accepted; state = t }) (registers-written (z .args .s) (z .args .bank) (z .args .number) (z .args .value) (c .with-register .result) r) ∙ sym yes
 
 pub write-register-spec : {M : Type 1} → statement M
 write-register-spec =
