@@ -194,7 +194,7 @@ pub fn rules_of(c: Convention) -> Rules
     }
 }
 
-pub fn fresh_of(c: Convention) -> Cursor
+fn fresh_of(c: Convention) -> Cursor
     ensures { λ r. ⌜ r ≡ fresh (rulesOf c) ⌝ }
 {
     match c {
@@ -221,7 +221,7 @@ pub fn alignment_of(c: Convention) -> usize
     }
 }
 
-pub fn word_of(r: Rules) -> usize
+fn word_of(r: Rules) -> usize
     ensures { λ n. ⌜ n ≡ wordOf r ⌝ }
 {
     match r {
