@@ -58,11 +58,16 @@ size-of-requires c κs = search needs
 
 step-requires : tie.Need-step-requires Inv-loop μ-loop
 step-requires c κs =
-    let i = c .before .before .before .loop .i in
-    let g = c .before .before .before .loop .inv .0 in
-    let pre = c .before .before .before .before .before .before .before .before .before .before .before .pre in
-    let many = length-types (c .before .before .before .before .before .before .before .before .before .before .before .args .t1 .count) (c .before .before .before .before .before .before .before .before .before .before .before .args .t1 .arguments) (pre .room) in
-    (rw (c .before .before .before .before .before .before .before .before .rules-of .ensures) (rules-lawful (c .before .before .before .before .before .before .before .before .before .before .before .args .t1 .convention)), named-roomy (c .before .before .before .before .before .before .before .before .rules-of .result) (c .before .before .before .loop .c) (g .named) (omega (arith, g .stack, g .within, pre .few)) (omega (arith, g .copies, g .within, pre .few)), rw (c .size-of .ensures) (pre .small i (omega arith)))
+    let turn = c .before .before .before in
+    let start = turn .before .before .before .before .before .before .before .before in
+    let pre = start .pre in
+    let g = turn .loop .inv .0 in
+    let rules = turn .before .before .before .before .before .rules-of in
+    let many = length-types (start .args .t1 .count) (start .args .t1 .arguments) (pre .room) in (
+      rw (rules .ensures) (rules-lawful (start .args .t1 .convention)),
+      named-roomy (rules .result) (turn .loop .c) (g .named) (omega (arith, g .stack, g .within, pre .few)) (omega (arith, g .copies, g .within, pre .few)),
+      rw (c .size-of .ensures) (pre .small (turn .loop .i) (omega arith)),
+    )
 
 mul-s : tie.Need-mul-s Inv-loop μ-loop
 mul-s c = omega (arith, c .before .before .before .before .before .before .before .before .before .before .before .before .before .pre .few, c .before .before .before .before .loop-test)
@@ -72,11 +77,12 @@ element-set-from-s c = omega (arith, c .before .before .before .before .before .
 
 add-values : tie.Need-add-values Inv-loop μ-loop
 add-values c =
-    let i = c .before .before .before .before .before .before .loop .i in
-    let g = c .before .before .before .before .before .before .loop .inv .0 in
-    let pre = c .before .before .before .before .before .before .before .before .before .before .before .before .before .before .pre in
-    let many = length-types (c .before .before .before .before .before .before .before .before .before .before .before .before .before .before .args .t1 .count) (c .before .before .before .before .before .before .before .before .before .before .before .before .before .before .args .t1 .arguments) (pre .room) in
-    omega (arith, pre .small i (omega arith), g .small, g .within, pre .few, c .before .before .before .size-of .ensures)
+    let turn = c .before .before .before .before .before .before in
+    let start = turn .before .before .before .before .before .before .before .before in
+    let pre = start .pre in
+    let g = turn .loop .inv .0 in
+    let many = length-types (start .args .t1 .count) (start .args .t1 .arguments) (pre .room) in
+    omega (arith, pre .small (turn .loop .i) (omega arith), g .small, g .within, pre .few, c .before .before .before .size-of .ensures)
 
 add-i : tie.Need-add-i Inv-loop μ-loop
 add-i c = omega (arith, c .before .before .before .before .before .before .before .before .before .before .before .before .before .before .pre .few, c .before .before .before .before .before .loop-test)
@@ -87,15 +93,18 @@ loop-less c = omega arith
 loop-again : tie.Need-loop-again Inv-loop μ-loop
 unfolding placed
 loop-again c =
-    let i = c .before .before .before .before .before .before .loop .i in
-    let g = c .before .before .before .before .before .before .loop .inv .0 in
-    let kept = c .before .before .before .before .before .before .loop .inv .1 in
-    let pre = c .before .before .before .before .before .before .before .before .before .before .before .before .before .before .pre in
-    let n = c .before .before .before .before .before .before .before .before .before .before .before .before .before .before .args .t1 .count in
-    let l = c .before .before .before .before .before .before .before .before .before .before .before .before .before .before .args .t1 .arguments in
+    let turn = c .before .before .before .before .before .before in
+    let start = turn .before .before .before .before .before .before .before .before in
+    let pre = start .pre in
+    let i = turn .loop .i in
+    let kept = turn .loop .inv .1 in
+    let rules = turn .before .before .before .before .before .rules-of .ensures in
+    let n = start .args .t1 .count in
+    let l = start .args .t1 .arguments in
     let many = length-types n l (pre .room) in (
-      rw (c .before .before .step .ensures, c .before .before .before .size-of .ensures, c .before .before .before .before .before .before .before .before .before .before .before .rules-of .ensures)
-          (going-more _ _ _ _ _ _ _ _ _ (rules-lawful (c .before .before .before .before .before .before .before .before .before .before .before .before .before .before .args .t1 .convention)) (omega arith) (omega arith) (pre .small i (omega arith)) (types-drop n l i (omega arith) (pre .room)) (rw (c .before .before .before .before .before .before .before .before .before .before .before .rules-of .ensures) at g)),
+      rw (c .before .before .step .ensures, c .before .before .before .size-of .ensures, rules)
+          (going-more _ _ _ _ _ _ _ _ _ (rules-lawful (start .args .t1 .convention)) (omega arith) (omega arith) (pre .small i (omega arith))
+          (types-drop n l i (omega arith) (pre .room)) (rw rules at (turn .loop .inv .0))),
       record { outcome = kept .outcome; convention = kept .convention; result = kept .result; count = kept .count },
     )
 
@@ -119,10 +128,9 @@ returns-2 c =
     let count = kept .count ∙ ap (λ (p : Plan). p .count) blank in
     let rules = c .before .before .before .before .before .before .before .rules-of .ensures in
     let hidden = c .before .before .before .before .before .before .hidden-in .ensures in
-    let start = c .before .before .before .before .start .ensures in
+    let first = c .before .before .before .before .start .ensures in
     let area = c .area-of .ensures in
-    let told = c .before .before .before .before .before .before .before .before .enum-told2 .given .1 in
-    rw told (cc)
+    rw (c .before .before .before .before .before .before .before .before .enum-told2 .given .1) (cc)
 
 pub plan-signature-spec : {M : Type 1} → statement M
 plan-signature-spec =
