@@ -42,10 +42,21 @@ outgoing-length-requires c κs = search needs
 add-locals : tie.Need-add-locals
 add-locals c =
     let z = c .before .before .before .before .before .before in
+    let k = z .args .k in
+    let s = z .args .s in
     let top-frame = c .before .before .before .top-frame in
     let stack-pointer = c .before .before .stack-pointer in
-    let out : c .outgoing-length .result ≡ outgoingLength (z .args .k) (top (z .args .k) (z .args .s)) = c .outgoing-length .ensures ∙ ap (outgoingLength (z .args .k)) (top-frame .ensures) in
-    omega (arith, out, stack-pointer .ensures, top-outgoing (z .args .k) (z .pre .0) (z .args .s) (z .args .len) (z .pre .1), pointer-room (z .args .k) (z .pre .0) (z .args .s) (z .args .len) (z .pre .1), memory-small (z .args .k) (z .pre .0) (z .args .s) (z .args .len) (z .pre .1), z .pre .0 .head, z .pre .0 .room)
+    let out : c .outgoing-length .result ≡ outgoingLength k (top k s) = c .outgoing-length .ensures ∙ ap (outgoingLength k) (top-frame .ensures) in
+    omega (
+      arith,
+      out,
+      stack-pointer .ensures,
+      top-outgoing k (z .pre .0) s (z .args .len) (z .pre .1),
+      pointer-room k (z .pre .0) s (z .args .len) (z .pre .1),
+      memory-small k (z .pre .0) s (z .args .len) (z .pre .1),
+      z .pre .0 .head,
+      z .pre .0 .room,
+    )
 
 lies-inside-requires : tie.Need-lies-inside-requires
 lies-inside-requires c κs = search needs
@@ -54,26 +65,37 @@ returns-3 : tie.Need-returns-3
 unfolding writableBytes
 returns-3 c =
     let z = c .before .before .before .before .before .before .before .before in
+    let k = z .args .k in
+    let s = z .args .s in
     let stack-pointer = c .before .before .before .before .stack-pointer in
     let outgoing-length = c .before .before .outgoing-length in
     let top-frame = c .before .before .before .before .before .top-frame in
     let if1 = c .before .before .before .before .before .before .before .if1 in
     let if2 = c .before .before .before .before .before .before .if2 in
-    let own : inside (z .args .a) (z .args .n) (offset (z .args .k) (z .args .s) + z .args .k .header) (offset (z .args .k) (z .args .s) + z .args .k .header + outgoingLength (z .args .k) (top (z .args .k) (z .args .s))) ≡ true = sym (rw (stack-pointer .ensures, outgoing-length .ensures, top-frame .ensures) at (c .before .lies-inside .ensures)) ∙ c .if3 .taken in
+    let own : inside (z .args .a) (z .args .n) (offset k s + k .header) (offset k s + k .header + outgoingLength k (top k s)) ≡ true
+    = sym (rw (stack-pointer .ensures, outgoing-length .ensures, top-frame .ensures) at (c .before .lies-inside .ensures)) ∙ c .if3 .taken in
     rw (le-leb 1 (z .args .n) (omega (arith, if1 .left)), le-leb (z .args .n) 256 (omega (arith, if2 .left)), own)
 
 returns-4 : tie.Need-returns-4
 unfolding writableBytes
 returns-4 c =
     let z = c .before .before .before .before .before .before .before .before .before in
+    let k = z .args .k in
+    let s = z .args .s in
     let stack-pointer = c .before .before .before .before .before .stack-pointer in
     let outgoing-length = c .before .before .before .outgoing-length in
     let top-frame = c .before .before .before .before .before .before .top-frame in
     let lies-inside = c .before .before .lies-inside in
     let if1 = c .before .before .before .before .before .before .before .before .if1 in
     let if2 = c .before .before .before .before .before .before .before .if2 in
-    let own : inside (z .args .a) (z .args .n) (offset (z .args .k) (z .args .s) + z .args .k .header) (offset (z .args .k) (z .args .s) + z .args .k .header + outgoingLength (z .args .k) (top (z .args .k) (z .args .s))) ≡ false = sym (rw (stack-pointer .ensures, outgoing-length .ensures, top-frame .ensures) at (lies-inside .ensures)) ∙ c .before .if3 .left in
-    rw (le-leb 1 (z .args .n) (omega (arith, if1 .left)), le-leb (z .args .n) 256 (omega (arith, if2 .left)), own, le-ltb 0 (z .args .s .depth) (omega (arith, c .if4 .taken)))
+    let own : inside (z .args .a) (z .args .n) (offset k s + k .header) (offset k s + k .header + outgoingLength k (top k s)) ≡ false
+    = sym (rw (stack-pointer .ensures, outgoing-length .ensures, top-frame .ensures) at (lies-inside .ensures)) ∙ c .before .if3 .left in
+    rw (
+      le-leb 1 (z .args .n) (omega (arith, if1 .left)),
+      le-leb (z .args .n) 256 (omega (arith, if2 .left)),
+      own,
+      le-ltb 0 (s .depth) (omega (arith, c .if4 .taken)),
+    )
 
 frame-size-requires : tie.Need-frame-size-requires
 frame-size-requires c κs =
@@ -85,11 +107,19 @@ frame-size-requires c κs =
 add-c : tie.Need-add-c
 add-c c =
     let z = c .before .before .before .before .before .before .before .before .before .before in
+    let k = z .args .k in
+    let s = z .args .s in
     let top-frame = c .before .before .before .before .before .before .before .top-frame in
     let stack-pointer = c .before .before .before .before .before .before .stack-pointer in
-    let deep : 0 < z .args .s .depth = omega (arith, c .before .if4 .left) in
-    let size : c .frame-size .result ≡ frameSize (z .args .k) (top (z .args .k) (z .args .s)) = c .frame-size .ensures ∙ ap (frameSize (z .args .k)) (top-frame .ensures) in
-    omega (arith, size, stack-pointer .ensures, top-room (z .args .k) (z .pre .0) (z .args .s) (z .args .len) (z .pre .1) deep, memory-small (z .args .k) (z .pre .0) (z .args .s) (z .args .len) (z .pre .1))
+    let deep : 0 < s .depth = omega (arith, c .before .if4 .left) in
+    let size : c .frame-size .result ≡ frameSize k (top k s) = c .frame-size .ensures ∙ ap (frameSize k) (top-frame .ensures) in
+    omega (
+      arith,
+      size,
+      stack-pointer .ensures,
+      top-room k (z .pre .0) s (z .args .len) (z .pre .1) deep,
+      memory-small k (z .pre .0) s (z .args .len) (z .pre .1),
+    )
 
 below-size-requires : tie.Need-below-size-requires
 below-size-requires c κs =
@@ -101,12 +131,14 @@ below-size-requires c κs =
 sub-saves : tie.Need-sub-saves
 sub-saves c =
     let z = c .before .before .before .before .before .before .before .before .before .before .before in
+    let k = z .args .k in
+    let s = z .args .s in
     let if4 = c .before .before .if4 in
     let top-frame = c .before .before .before .before .before .before .before .before .top-frame in
-    let deep : 0 < z .args .s .depth = omega (arith, if4 .left) in
-    let size : c .before .frame-size .result ≡ frameSize (z .args .k) (top (z .args .k) (z .args .s)) = c .before .frame-size .ensures ∙ ap (frameSize (z .args .k)) (top-frame .ensures) in
-    let under : c .below-size .result ≡ below (z .args .k .linkage) (z .args .k) (top (z .args .k) (z .args .s)) = c .below-size .ensures ∙ ap (below (z .args .k .linkage) (z .args .k)) (top-frame .ensures) in
-    omega (arith, size, under, size-parts (z .args .k) (z .pre .0) (top (z .args .k) (z .args .s)) (top-request (z .args .k) (z .pre .0) (z .args .s) (z .args .len) (z .pre .1) deep))
+    let deep : 0 < s .depth = omega (arith, if4 .left) in
+    let size : c .before .frame-size .result ≡ frameSize k (top k s) = c .before .frame-size .ensures ∙ ap (frameSize k) (top-frame .ensures) in
+    let under : c .below-size .result ≡ below (k .linkage) k (top k s) = c .below-size .ensures ∙ ap (below (k .linkage) k) (top-frame .ensures) in
+    omega (arith, size, under, size-parts k (z .pre .0) (top k s) (top-request k (z .pre .0) s (z .args .len) (z .pre .1) deep))
 
 lies-inside-requires-2 : tie.Need-lies-inside-requires-2
 lies-inside-requires-2 c κs = search needs
@@ -115,6 +147,8 @@ returns-5 : tie.Need-returns-5
 unfolding writableBytes
 returns-5 c =
     let z = c .before .before .before .before .before .before .before .before .before .before .before .before .before in
+    let k = z .args .k in
+    let s = z .args .s in
     let if4 = c .before .before .before .before .if4 in
     let stack-pointer = c .before .before .before .before .before .before .before .before .before .stack-pointer in
     let outgoing-length = c .before .before .before .before .before .before .before .outgoing-length in
@@ -125,10 +159,18 @@ returns-5 c =
     let below-size = c .before .before .below-size in
     let if1 = c .before .before .before .before .before .before .before .before .before .before .before .before .if1 in
     let if2 = c .before .before .before .before .before .before .before .before .before .before .before .if2 in
-    let deep : 0 < z .args .s .depth = omega (arith, if4 .left) in
-    let own : inside (z .args .a) (z .args .n) (offset (z .args .k) (z .args .s) + z .args .k .header) (offset (z .args .k) (z .args .s) + z .args .k .header + outgoingLength (z .args .k) (top (z .args .k) (z .args .s))) ≡ false = sym (rw (stack-pointer .ensures, outgoing-length .ensures, top-frame .ensures) at (lies-inside .ensures)) ∙ if3 .left in
-    let locals : inside (z .args .a) (z .args .n) (offset (z .args .k) (z .args .s) + z .args .k .header + outgoingLength (z .args .k) (top (z .args .k) (z .args .s))) ((offset (z .args .k) (z .args .s) + frameSize (z .args .k) (top (z .args .k) (z .args .s))) - below (z .args .k .linkage) (z .args .k) (top (z .args .k) (z .args .s))) ≡ true = sym (rw (stack-pointer .ensures, outgoing-length .ensures, frame-size .ensures, below-size .ensures, top-frame .ensures) at (c .before .lies-inside2 .ensures)) ∙ c .if5 .taken in
-    rw (le-leb 1 (z .args .n) (omega (arith, if1 .left)), le-leb (z .args .n) 256 (omega (arith, if2 .left)), own, lt-ltb 0 (z .args .s .depth) deep, locals)
+    let deep : 0 < s .depth = omega (arith, if4 .left) in
+    let own : inside (z .args .a) (z .args .n) (offset k s + k .header) (offset k s + k .header + outgoingLength k (top k s)) ≡ false
+    = sym (rw (stack-pointer .ensures, outgoing-length .ensures, top-frame .ensures) at (lies-inside .ensures)) ∙ if3 .left in
+    let locals : inside (z .args .a) (z .args .n) (offset k s + k .header + outgoingLength k (top k s)) ((offset k s + frameSize k (top k s)) - below (k .linkage) k (top k s)) ≡ true
+    = sym (rw (
+      stack-pointer .ensures,
+      outgoing-length .ensures,
+      frame-size .ensures,
+      below-size .ensures,
+      top-frame .ensures,
+    ) at (c .before .lies-inside2 .ensures)) ∙ c .if5 .taken in
+    rw (le-leb 1 (z .args .n) (omega (arith, if1 .left)), le-leb (z .args .n) 256 (omega (arith, if2 .left)), own, lt-ltb 0 (s .depth) deep, locals)
 
 caller-frame-requires : tie.Need-caller-frame-requires
 caller-frame-requires c κs = search needs
@@ -136,13 +178,23 @@ caller-frame-requires c κs = search needs
 add-callers : tie.Need-add-callers
 add-callers c =
     let z = c .before .before .before .before .before .before .before .before .before .before .before .before .before .before .before in
+    let k = z .args .k in
+    let s = z .args .s in
     let if4 = c .before .before .before .before .before .before .if4 in
     let frame-size = c .before .before .before .before .before .frame-size in
     let top-frame = c .before .before .before .before .before .before .before .before .before .before .before .before .top-frame in
     let stack-pointer = c .before .before .before .before .before .before .before .before .before .before .before .stack-pointer in
-    let deep : 0 < z .args .s .depth = omega (arith, if4 .left) in
-    let size : frame-size .result ≡ frameSize (z .args .k) (top (z .args .k) (z .args .s)) = frame-size .ensures ∙ ap (frameSize (z .args .k)) (top-frame .ensures) in
-    omega (arith, size, stack-pointer .ensures, top-room (z .args .k) (z .pre .0) (z .args .s) (z .args .len) (z .pre .1) deep, memory-small (z .args .k) (z .pre .0) (z .args .s) (z .args .len) (z .pre .1), z .pre .0 .head, z .pre .0 .room)
+    let deep : 0 < s .depth = omega (arith, if4 .left) in
+    let size : frame-size .result ≡ frameSize k (top k s) = frame-size .ensures ∙ ap (frameSize k) (top-frame .ensures) in
+    omega (
+      arith,
+      size,
+      stack-pointer .ensures,
+      top-room k (z .pre .0) s (z .args .len) (z .pre .1) deep,
+      memory-small k (z .pre .0) s (z .args .len) (z .pre .1),
+      z .pre .0 .head,
+      z .pre .0 .room,
+    )
 
 outgoing-length-requires-2 : tie.Need-outgoing-length-requires-2
 outgoing-length-requires-2 c κs = search needs
@@ -150,15 +202,28 @@ outgoing-length-requires-2 c κs = search needs
 add-lies-inside : tie.Need-add-lies-inside
 add-lies-inside c =
     let z = c .before .before .before .before .before .before .before .before .before .before .before .before .before .before .before .before in
+    let k = z .args .k in
+    let s = z .args .s in
     let if4 = c .before .before .before .before .before .before .before .if4 in
     let frame-size = c .before .before .before .before .before .before .frame-size in
     let top-frame = c .before .before .before .before .before .before .before .before .before .before .before .before .before .top-frame in
     let caller-frame = c .before .before .caller-frame in
     let stack-pointer = c .before .before .before .before .before .before .before .before .before .before .before .before .stack-pointer in
-    let deep : 0 < z .args .s .depth = omega (arith, if4 .left) in
-    let size : frame-size .result ≡ frameSize (z .args .k) (top (z .args .k) (z .args .s)) = frame-size .ensures ∙ ap (frameSize (z .args .k)) (top-frame .ensures) in
-    let out : c .outgoing-length2 .result ≡ outgoingLength (z .args .k) (caller (z .args .k) (z .args .s)) = c .outgoing-length2 .ensures ∙ ap (outgoingLength (z .args .k)) (caller-frame .ensures) in
-    omega (arith, size, out, stack-pointer .ensures, top-room (z .args .k) (z .pre .0) (z .args .s) (z .args .len) (z .pre .1) deep, caller-outgoing (z .args .k) (z .pre .0) (z .args .s) (z .args .len) (z .pre .1), memory-small (z .args .k) (z .pre .0) (z .args .s) (z .args .len) (z .pre .1), z .pre .0 .head, z .pre .0 .room)
+    let deep : 0 < s .depth = omega (arith, if4 .left) in
+    let size : frame-size .result ≡ frameSize k (top k s) = frame-size .ensures ∙ ap (frameSize k) (top-frame .ensures) in
+    let out : c .outgoing-length2 .result ≡ outgoingLength k (caller k s)
+    = c .outgoing-length2 .ensures ∙ ap (outgoingLength k) (caller-frame .ensures) in
+    omega (
+      arith,
+      size,
+      out,
+      stack-pointer .ensures,
+      top-room k (z .pre .0) s (z .args .len) (z .pre .1) deep,
+      caller-outgoing k (z .pre .0) s (z .args .len) (z .pre .1),
+      memory-small k (z .pre .0) s (z .args .len) (z .pre .1),
+      z .pre .0 .head,
+      z .pre .0 .room,
+    )
 
 lies-inside-requires-3 : tie.Need-lies-inside-requires-3
 lies-inside-requires-3 c κs = search needs
@@ -167,6 +232,8 @@ returns-6 : tie.Need-returns-6
 unfolding writableBytes
 returns-6 c =
     let z = c .before .before .before .before .before .before .before .before .before .before .before .before .before .before .before .before .before in
+    let k = z .args .k in
+    let s = z .args .s in
     let if4 = c .before .before .before .before .before .before .before .before .if4 in
     let stack-pointer = c .before .before .before .before .before .before .before .before .before .before .before .before .before .stack-pointer in
     let outgoing-length = c .before .before .before .before .before .before .before .before .before .before .before .outgoing-length in
@@ -180,12 +247,33 @@ returns-6 c =
     let caller-frame = c .before .before .before .caller-frame in
     let if1 = c .before .before .before .before .before .before .before .before .before .before .before .before .before .before .before .before .if1 in
     let if2 = c .before .before .before .before .before .before .before .before .before .before .before .before .before .before .before .if2 in
-    let deep : 0 < z .args .s .depth = omega (arith, if4 .left) in
-    let own : inside (z .args .a) (z .args .n) (offset (z .args .k) (z .args .s) + z .args .k .header) (offset (z .args .k) (z .args .s) + z .args .k .header + outgoingLength (z .args .k) (top (z .args .k) (z .args .s))) ≡ false = sym (rw (stack-pointer .ensures, outgoing-length .ensures, top-frame .ensures) at (lies-inside .ensures)) ∙ if3 .left in
-    let locals : inside (z .args .a) (z .args .n) (offset (z .args .k) (z .args .s) + z .args .k .header + outgoingLength (z .args .k) (top (z .args .k) (z .args .s))) ((offset (z .args .k) (z .args .s) + frameSize (z .args .k) (top (z .args .k) (z .args .s))) - below (z .args .k .linkage) (z .args .k) (top (z .args .k) (z .args .s))) ≡ false = sym (rw (stack-pointer .ensures, outgoing-length .ensures, frame-size .ensures, below-size .ensures, top-frame .ensures) at (lies-inside2 .ensures)) ∙ if5 .left in
-    let callers : c .lies-inside3 .result ≡ inside (z .args .a) (z .args .n) ((offset (z .args .k) (z .args .s) + frameSize (z .args .k) (top (z .args .k) (z .args .s))) + z .args .k .header) ((offset (z .args .k) (z .args .s) + frameSize (z .args .k) (top (z .args .k) (z .args .s))) + z .args .k .header + outgoingLength (z .args .k) (caller (z .args .k) (z .args .s)))
-    = rw (stack-pointer .ensures, frame-size .ensures, c .before .outgoing-length2 .ensures, top-frame .ensures, caller-frame .ensures) at (c .lies-inside3 .ensures) in
-    rw (callers, le-leb 1 (z .args .n) (omega (arith, if1 .left)), le-leb (z .args .n) 256 (omega (arith, if2 .left)), own, lt-ltb 0 (z .args .s .depth) deep, locals)
+    let deep : 0 < s .depth = omega (arith, if4 .left) in
+    let own : inside (z .args .a) (z .args .n) (offset k s + k .header) (offset k s + k .header + outgoingLength k (top k s)) ≡ false
+    = sym (rw (stack-pointer .ensures, outgoing-length .ensures, top-frame .ensures) at (lies-inside .ensures)) ∙ if3 .left in
+    let locals : inside (z .args .a) (z .args .n) (offset k s + k .header + outgoingLength k (top k s)) ((offset k s + frameSize k (top k s)) - below (k .linkage) k (top k s)) ≡ false
+    = sym (rw (
+      stack-pointer .ensures,
+      outgoing-length .ensures,
+      frame-size .ensures,
+      below-size .ensures,
+      top-frame .ensures,
+    ) at (lies-inside2 .ensures)) ∙ if5 .left in
+    let callers : c .lies-inside3 .result ≡ inside (z .args .a) (z .args .n) ((offset k s + frameSize k (top k s)) + k .header) ((offset k s + frameSize k (top k s)) + k .header + outgoingLength k (caller k s))
+    = rw (
+      stack-pointer .ensures,
+      frame-size .ensures,
+      c .before .outgoing-length2 .ensures,
+      top-frame .ensures,
+      caller-frame .ensures,
+    ) at (c .lies-inside3 .ensures) in
+    rw (
+      callers,
+      le-leb 1 (z .args .n) (omega (arith, if1 .left)),
+      le-leb (z .args .n) 256 (omega (arith, if2 .left)),
+      own,
+      lt-ltb 0 (s .depth) deep,
+      locals,
+    )
 
 pub bytes-writable-spec : {M : Type 1} → statement M
 bytes-writable-spec =

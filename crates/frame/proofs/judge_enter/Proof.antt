@@ -31,21 +31,25 @@ returns : tie.Need-returns
 unfolding enterAnswer judge
 returns c =
     let z = c .before .before .before .before .before in
+    let k = z .args .k in
+    let s = z .args .s in
     let judge-state = c .before .before .before .before .judge-state in
     let enum-told = c .before .before .enum-told in
-    let acc : judge (stateTests (z .args .k) (z .args .s) (z .args .n)) ≡ Accepted = sym (judge-state .ensures) ∙ enum-told .given .1 in
-    sym (judge-next (stateTests (z .args .k) (z .args .s) (z .args .n)) (enterTests (z .args .k) (z .args .s) (z .args .f)) acc ∙ rw (sym (c .before .request-ok .ensures) ∙ not-true (c .before .request-ok .result) (c .if1 .taken)))
+    let acc : judge (stateTests k s (z .args .n)) ≡ Accepted = sym (judge-state .ensures) ∙ enum-told .given .1 in
+    sym (judge-next (stateTests k s (z .args .n)) (enterTests k s (z .args .f)) acc ∙ rw (sym (c .before .request-ok .ensures) ∙ not-true (c .before .request-ok .result) (c .if1 .taken)))
 
 returns-2 : tie.Need-returns-2
 unfolding enterAnswer judge
 returns-2 c =
     let z = c .before .before .before .before .before .before .before in
+    let k = z .args .k in
+    let s = z .args .s in
     let judge-state = c .before .before .before .before .before .before .judge-state in
     let enum-told = c .before .before .before .before .enum-told in
     let request-ok = c .before .before .before .request-ok in
     let if1 = c .before .before .if1 in
-    let acc : judge (stateTests (z .args .k) (z .args .s) (z .args .n)) ≡ Accepted = sym (judge-state .ensures) ∙ enum-told .given .1 in
-    sym (judge-next (stateTests (z .args .k) (z .args .s) (z .args .n)) (enterTests (z .args .k) (z .args .s) (z .args .f)) acc ∙ rw (sym (request-ok .ensures) ∙ not-false (request-ok .result) (if1 .left), le-ltb (z .args .s .depth) 32 (omega arith)))
+    let acc : judge (stateTests k s (z .args .n)) ≡ Accepted = sym (judge-state .ensures) ∙ enum-told .given .1 in
+    sym (judge-next (stateTests k s (z .args .n)) (enterTests k s (z .args .f)) acc ∙ rw (sym (request-ok .ensures) ∙ not-false (request-ok .result) (if1 .left), le-ltb (s .depth) 32 (omega arith)))
 
 stack-pointer-requires : tie.Need-stack-pointer-requires
 stack-pointer-requires c κs = search needs
@@ -70,16 +74,23 @@ returns-3 : tie.Need-returns-3
 unfolding enterAnswer judge
 returns-3 c =
     let z = c .before .before .before .before .before .before .before .before .before .before .before in
+    let k = z .args .k in
+    let s = z .args .s in
+    let f = z .args .f in
     let judge-state = c .before .before .before .before .before .before .before .before .before .before .judge-state in
     let enum-told = c .before .before .before .before .before .before .before .before .enum-told in
     let stack-pointer = c .before .before .before .stack-pointer in
     let frame-size = c .before .before .frame-size in
     let request-ok = c .before .before .before .before .before .before .before .request-ok in
     let if1 = c .before .before .before .before .before .before .if1 in
-    let acc : judge (stateTests (z .args .k) (z .args .s) (z .args .n)) ≡ Accepted = sym (judge-state .ensures) ∙ enum-told .given .1 in
-    let no : leb (z .args .s .base + frameSize (z .args .k) (z .args .f)) (stackPointer (z .args .k) (z .args .s)) ≡ false
-    = lt-leb (z .args .s .base + frameSize (z .args .k) (z .args .f)) (stackPointer (z .args .k) (z .args .s)) (omega (arith, stack-pointer .ensures, frame-size .ensures, state-yes (z .args .k) (z .args .s) (z .args .n) acc .over)) in
-    sym (judge-next (stateTests (z .args .k) (z .args .s) (z .args .n)) (enterTests (z .args .k) (z .args .s) (z .args .f)) acc ∙ rw (sym (request-ok .ensures) ∙ not-false (request-ok .result) (if1 .left), lt-ltb (z .args .s .depth) 32 (omega arith), no))
+    let acc : judge (stateTests k s (z .args .n)) ≡ Accepted = sym (judge-state .ensures) ∙ enum-told .given .1 in
+    let no : leb (s .base + frameSize k f) (stackPointer k s) ≡ false
+    = lt-leb (s .base + frameSize k f) (stackPointer k s) (omega (arith, stack-pointer .ensures, frame-size .ensures, state-yes k s (z .args .n) acc .over)) in
+    sym (judge-next (stateTests k s (z .args .n)) (enterTests k s f) acc ∙ rw (
+      sym (request-ok .ensures) ∙ not-false (request-ok .result) (if1 .left),
+      lt-ltb (s .depth) 32 (omega arith),
+      no,
+    ))
 
 returns-4 : tie.Need-returns-4
 unfolding enterAnswer
@@ -92,16 +103,23 @@ returns-5 : tie.Need-returns-5
 unfolding enterAnswer judge
 returns-5 c =
     let z = c .before .before .before .before .before .before .before .before .before .before .before in
+    let k = z .args .k in
+    let s = z .args .s in
+    let f = z .args .f in
     let judge-state = c .before .before .before .before .before .before .before .before .before .before .judge-state in
     let enum-told = c .before .before .before .before .before .before .before .before .enum-told in
     let stack-pointer = c .before .before .before .stack-pointer in
     let frame-size = c .before .before .frame-size in
     let request-ok = c .before .before .before .before .before .before .before .request-ok in
     let if1 = c .before .before .before .before .before .before .if1 in
-    let acc : judge (stateTests (z .args .k) (z .args .s) (z .args .n)) ≡ Accepted = sym (judge-state .ensures) ∙ enum-told .given .1 in
-    let yes : leb (z .args .s .base + frameSize (z .args .k) (z .args .f)) (stackPointer (z .args .k) (z .args .s)) ≡ true
-    = le-leb (z .args .s .base + frameSize (z .args .k) (z .args .f)) (stackPointer (z .args .k) (z .args .s)) (omega (arith, stack-pointer .ensures, frame-size .ensures, state-yes (z .args .k) (z .args .s) (z .args .n) acc .over)) in
-    sym (judge-next (stateTests (z .args .k) (z .args .s) (z .args .n)) (enterTests (z .args .k) (z .args .s) (z .args .f)) acc ∙ rw (sym (request-ok .ensures) ∙ not-false (request-ok .result) (if1 .left), lt-ltb (z .args .s .depth) 32 (omega arith), yes))
+    let acc : judge (stateTests k s (z .args .n)) ≡ Accepted = sym (judge-state .ensures) ∙ enum-told .given .1 in
+    let yes : leb (s .base + frameSize k f) (stackPointer k s) ≡ true
+    = le-leb (s .base + frameSize k f) (stackPointer k s) (omega (arith, stack-pointer .ensures, frame-size .ensures, state-yes k s (z .args .n) acc .over)) in
+    sym (judge-next (stateTests k s (z .args .n)) (enterTests k s f) acc ∙ rw (
+      sym (request-ok .ensures) ∙ not-false (request-ok .result) (if1 .left),
+      lt-ltb (s .depth) 32 (omega arith),
+      yes,
+    ))
 
 pub judge-enter-spec : {M : Type 1} → statement M
 judge-enter-spec =

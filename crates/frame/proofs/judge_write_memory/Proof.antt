@@ -32,10 +32,12 @@ returns : tie.Need-returns
 unfolding writeMemoryAnswer judge
 returns c =
     let z = c .before .before .before .before .before in
+    let k = z .args .k in
+    let s = z .args .s in
     let judge-state = c .before .before .before .before .judge-state in
     let enum-told = c .before .before .enum-told in
-    let acc : judge (stateTests (z .args .k) (z .args .s) (z .args .n)) ≡ Accepted = sym (judge-state .ensures) ∙ enum-told .given .1 in
-    sym (judge-next (stateTests (z .args .k) (z .args .s) (z .args .n)) (require (writableAddress (z .args .k) (z .args .s) (z .args .address) (z .args .m)) NotPermitted ∷ []) acc ∙ rw (sym (c .before .address-writable .ensures) ∙ not-true (c .before .address-writable .result) (c .if1 .taken)))
+    let acc : judge (stateTests k s (z .args .n)) ≡ Accepted = sym (judge-state .ensures) ∙ enum-told .given .1 in
+    sym (judge-next (stateTests k s (z .args .n)) (require (writableAddress k s (z .args .address) (z .args .m)) NotPermitted ∷ []) acc ∙ rw (sym (c .before .address-writable .ensures) ∙ not-true (c .before .address-writable .result) (c .if1 .taken)))
 
 returns-2 : tie.Need-returns-2
 unfolding writeMemoryAnswer
@@ -48,10 +50,12 @@ returns-3 : tie.Need-returns-3
 unfolding writeMemoryAnswer judge
 returns-3 c =
     let z = c .before .before .before .before .before in
+    let k = z .args .k in
+    let s = z .args .s in
     let judge-state = c .before .before .before .before .judge-state in
     let enum-told = c .before .before .enum-told in
-    let acc : judge (stateTests (z .args .k) (z .args .s) (z .args .n)) ≡ Accepted = sym (judge-state .ensures) ∙ enum-told .given .1 in
-    sym (judge-next (stateTests (z .args .k) (z .args .s) (z .args .n)) (require (writableAddress (z .args .k) (z .args .s) (z .args .address) (z .args .m)) NotPermitted ∷ []) acc ∙ rw (sym (c .before .address-writable .ensures) ∙ not-false (c .before .address-writable .result) (c .if1 .left)))
+    let acc : judge (stateTests k s (z .args .n)) ≡ Accepted = sym (judge-state .ensures) ∙ enum-told .given .1 in
+    sym (judge-next (stateTests k s (z .args .n)) (require (writableAddress k s (z .args .address) (z .args .m)) NotPermitted ∷ []) acc ∙ rw (sym (c .before .address-writable .ensures) ∙ not-false (c .before .address-writable .result) (c .if1 .left)))
 
 pub judge-write-memory-spec : {M : Type 1} → statement M
 judge-write-memory-spec =

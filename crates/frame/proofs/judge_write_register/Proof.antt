@@ -40,32 +40,39 @@ returns : tie.Need-returns
 unfolding writeRegisterAnswer judge
 returns c =
     let z = c .before .before .before .before .before .before .before in
+    let k = z .args .k in
+    let s = z .args .s in
     let judge-state = c .before .before .before .before .before .before .judge-state in
     let enum-told = c .before .before .before .before .enum-told in
     let bank-of = c .before .before .bank-of in
     let top-frame = c .before .before .before .top-frame in
-    let acc : judge (stateTests (z .args .k) (z .args .s) (z .args .n)) ≡ Accepted = sym (judge-state .ensures) ∙ enum-told .given .1 in
-    let test : writableRegister (z .args .k) (top (z .args .k) (z .args .s)) (bankOf (z .args .bank)) (z .args .number) (z .args .value) ≡ false = sym (rw (bank-of .ensures, top-frame .ensures) at (c .before .register-writable .ensures)) ∙ not-true (c .before .register-writable .result) (c .if1 .taken) in
-    sym (judge-next (stateTests (z .args .k) (z .args .s) (z .args .n)) (require (writableRegister (z .args .k) (top (z .args .k) (z .args .s)) (bankOf (z .args .bank)) (z .args .number) (z .args .value)) NotPermitted ∷ []) acc ∙ rw test)
+    let acc : judge (stateTests k s (z .args .n)) ≡ Accepted = sym (judge-state .ensures) ∙ enum-told .given .1 in
+    let test : writableRegister k (top k s) (bankOf (z .args .bank)) (z .args .number) (z .args .value) ≡ false
+    = sym (rw (bank-of .ensures, top-frame .ensures) at (c .before .register-writable .ensures)) ∙ not-true (c .before .register-writable .result) (c .if1 .taken) in
+    sym (judge-next (stateTests k s (z .args .n)) (require (writableRegister k (top k s) (bankOf (z .args .bank)) (z .args .number) (z .args .value)) NotPermitted ∷ []) acc ∙ rw test)
 
 returns-2 : tie.Need-returns-2
 unfolding writeRegisterAnswer
 returns-2 c =
     let z = c .before .before .before .before in
+    let k = z .args .k in
     let judge-state = c .before .before .before .judge-state in
-    sym (judge-stops (stateTests (z .args .k) (z .args .s) (z .args .n)) (require (writableRegister (z .args .k) (top (z .args .k) (z .args .s)) (bankOf (z .args .bank)) (z .args .number) (z .args .value)) NotPermitted ∷ []) _ (sym (judge-state .ensures) ∙ c .before .a .given .1))
+    sym (judge-stops (stateTests k (z .args .s) (z .args .n)) (require (writableRegister k (top k (z .args .s)) (bankOf (z .args .bank)) (z .args .number) (z .args .value)) NotPermitted ∷ []) _ (sym (judge-state .ensures) ∙ c .before .a .given .1))
 
 returns-3 : tie.Need-returns-3
 unfolding writeRegisterAnswer judge
 returns-3 c =
     let z = c .before .before .before .before .before .before .before in
+    let k = z .args .k in
+    let s = z .args .s in
     let judge-state = c .before .before .before .before .before .before .judge-state in
     let enum-told = c .before .before .before .before .enum-told in
     let bank-of = c .before .before .bank-of in
     let top-frame = c .before .before .before .top-frame in
-    let acc : judge (stateTests (z .args .k) (z .args .s) (z .args .n)) ≡ Accepted = sym (judge-state .ensures) ∙ enum-told .given .1 in
-    let test : writableRegister (z .args .k) (top (z .args .k) (z .args .s)) (bankOf (z .args .bank)) (z .args .number) (z .args .value) ≡ true = sym (rw (bank-of .ensures, top-frame .ensures) at (c .before .register-writable .ensures)) ∙ not-false (c .before .register-writable .result) (c .if1 .left) in
-    sym (judge-next (stateTests (z .args .k) (z .args .s) (z .args .n)) (require (writableRegister (z .args .k) (top (z .args .k) (z .args .s)) (bankOf (z .args .bank)) (z .args .number) (z .args .value)) NotPermitted ∷ []) acc ∙ rw test)
+    let acc : judge (stateTests k s (z .args .n)) ≡ Accepted = sym (judge-state .ensures) ∙ enum-told .given .1 in
+    let test : writableRegister k (top k s) (bankOf (z .args .bank)) (z .args .number) (z .args .value) ≡ true
+    = sym (rw (bank-of .ensures, top-frame .ensures) at (c .before .register-writable .ensures)) ∙ not-false (c .before .register-writable .result) (c .if1 .left) in
+    sym (judge-next (stateTests k s (z .args .n)) (require (writableRegister k (top k s) (bankOf (z .args .bank)) (z .args .number) (z .args .value)) NotPermitted ∷ []) acc ∙ rw test)
 
 pub judge-write-register-spec : {M : Type 1} → statement M
 judge-write-register-spec =

@@ -32,20 +32,41 @@ sub-d c = search needs
 add-restore : tie.Need-add-restore
 add-restore c =
     let z = c .before .before .before .before .before .before in
+    let l = now (z .args .memory) in
+    let k = z .args .k in
+    let s = z .args .s in
     let frame-size = c .before .before .before .frame-size in
     let top-frame = c .before .before .before .before .top-frame in
     let stack-pointer = c .before .before .stack-pointer in
-    let size : frame-size .result ≡ frameSize (z .args .k) (top (z .args .k) (z .args .s)) = frame-size .ensures ∙ ap (frameSize (z .args .k)) (top-frame .ensures) in
-    omega (arith, size, stack-pointer .ensures, top-room (z .args .k) (z .pre .0) (z .args .s) (length (now (z .args .memory))) (z .pre .1 .sound) (z .pre .1 .deep), memory-small (z .args .k) (z .pre .0) (z .args .s) (length (now (z .args .memory))) (z .pre .1 .sound))
+    let size : frame-size .result ≡ frameSize k (top k s) = frame-size .ensures ∙ ap (frameSize k) (top-frame .ensures) in
+    omega (
+      arith,
+      size,
+      stack-pointer .ensures,
+      top-room k (z .pre .0) s (length l) (z .pre .1 .sound) (z .pre .1 .deep),
+      memory-small k (z .pre .0) s (length l) (z .pre .1 .sound),
+    )
 
 add-restore-2 : tie.Need-add-restore-2
 add-restore-2 c =
     let z = c .before .before .before .before .before .before in
+    let l = now (z .args .memory) in
+    let k = z .args .k in
+    let s = z .args .s in
     let frame-size = c .before .before .before .frame-size in
     let top-frame = c .before .before .before .before .top-frame in
     let stack-pointer = c .before .before .stack-pointer in
-    let size : frame-size .result ≡ frameSize (z .args .k) (top (z .args .k) (z .args .s)) = frame-size .ensures ∙ ap (frameSize (z .args .k)) (top-frame .ensures) in
-    omega (arith, size, stack-pointer .ensures, top-room (z .args .k) (z .pre .0) (z .args .s) (length (now (z .args .memory))) (z .pre .1 .sound) (z .pre .1 .deep), pointer-limit (z .args .k) (z .pre .0) (z .args .s) (length (now (z .args .memory))) (z .pre .1 .sound), z .pre .1 .sound .over, z .pre .1 .sound .length, limit-64 (z .args .k) (z .pre .0))
+    let size : frame-size .result ≡ frameSize k (top k s) = frame-size .ensures ∙ ap (frameSize k) (top-frame .ensures) in
+    omega (
+      arith,
+      size,
+      stack-pointer .ensures,
+      top-room k (z .pre .0) s (length l) (z .pre .1 .sound) (z .pre .1 .deep),
+      pointer-limit k (z .pre .0) s (length l) (z .pre .1 .sound),
+      z .pre .1 .sound .over,
+      z .pre .1 .sound .length,
+      limit-64 k (z .pre .0),
+    )
 
 restore-requires : tie.Need-restore-requires
 restore-requires c κs =

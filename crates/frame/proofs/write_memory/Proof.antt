@@ -32,32 +32,38 @@ enum-told c = search needs
 sub-at : tie.Need-sub-at
 sub-at c =
     let z = c .before .before .before .before .before .before in
+    let l = now (z .args .memory) in
+    let s = z .args .s in
     let rules-of = c .before .before .before .rules-of in
     let judge-write-memory = c .before .before .judge-write-memory in
-    let law : Lawful (rules-of .result) = rw (rules-of .ensures) (lawful (z .args .s .convention)) in
-    let y = write-memory-yes (rules-of .result) (z .args .s) (length (now (z .args .memory))) (z .args .address) (length (now (z .args .bytes))) (sym (judge-write-memory .ensures) ∙ c .enum-told .given .1) in
-    let at = address-yes (rules-of .result) law (z .args .s) (length (now (z .args .memory))) (y .0) (z .args .address) (length (now (z .args .bytes))) (y .1) in
+    let law : Lawful (rules-of .result) = rw (rules-of .ensures) (lawful (s .convention)) in
+    let y = write-memory-yes (rules-of .result) s (length l) (z .args .address) (length (now (z .args .bytes))) (sym (judge-write-memory .ensures) ∙ c .enum-told .given .1) in
+    let at = address-yes (rules-of .result) law s (length l) (y .0) (z .args .address) (length (now (z .args .bytes))) (y .1) in
     at .0
 
 sub-put : tie.Need-sub-put
 sub-put c =
     let z = c .before .before .before .before .before .before in
+    let l = now (z .args .memory) in
+    let s = z .args .s in
     let rules-of = c .before .before .before .rules-of in
     let judge-write-memory = c .before .before .judge-write-memory in
-    let law : Lawful (rules-of .result) = rw (rules-of .ensures) (lawful (z .args .s .convention)) in
-    let y = write-memory-yes (rules-of .result) (z .args .s) (length (now (z .args .memory))) (z .args .address) (length (now (z .args .bytes))) (sym (judge-write-memory .ensures) ∙ c .enum-told .given .1) in
-    let at = address-yes (rules-of .result) law (z .args .s) (length (now (z .args .memory))) (y .0) (z .args .address) (length (now (z .args .bytes))) (y .1) in
+    let law : Lawful (rules-of .result) = rw (rules-of .ensures) (lawful (s .convention)) in
+    let y = write-memory-yes (rules-of .result) s (length l) (z .args .address) (length (now (z .args .bytes))) (sym (judge-write-memory .ensures) ∙ c .enum-told .given .1) in
+    let at = address-yes (rules-of .result) law s (length l) (y .0) (z .args .address) (length (now (z .args .bytes))) (y .1) in
     omega arith
 
 part-put-start : tie.Need-part-put-start
 part-put-start c =
     let z = c .before .before .before .before .before .before in
+    let l = now (z .args .memory) in
+    let s = z .args .s in
     let rules-of = c .before .before .before .rules-of in
     let judge-write-memory = c .before .before .judge-write-memory in
-    let law : Lawful (rules-of .result) = rw (rules-of .ensures) (lawful (z .args .s .convention)) in
-    let y = write-memory-yes (rules-of .result) (z .args .s) (length (now (z .args .memory))) (z .args .address) (length (now (z .args .bytes))) (sym (judge-write-memory .ensures) ∙ c .enum-told .given .1) in
-    let at = address-yes (rules-of .result) law (z .args .s) (length (now (z .args .memory))) (y .0) (z .args .address) (length (now (z .args .bytes))) (y .1) in
-    let h : z .args .address - z .args .s .base ≤ length (now (z .args .memory)) = omega arith in
+    let law : Lawful (rules-of .result) = rw (rules-of .ensures) (lawful (s .convention)) in
+    let y = write-memory-yes (rules-of .result) s (length l) (z .args .address) (length (now (z .args .bytes))) (sym (judge-write-memory .ensures) ∙ c .enum-told .given .1) in
+    let at = address-yes (rules-of .result) law s (length l) (y .0) (z .args .address) (length (now (z .args .bytes))) (y .1) in
+    let h : z .args .address - s .base ≤ length l = omega arith in
     search needs
 
 part-put-end : tie.Need-part-put-end
@@ -66,11 +72,13 @@ part-put-end c = search needs
 put-requires : tie.Need-put-requires
 put-requires c κs =
     let z = c .before .before .before .before .before .before .before in
+    let l = now (z .args .memory) in
+    let s = z .args .s in
     let rules-of = c .before .before .before .before .rules-of in
     let judge-write-memory = c .before .before .before .judge-write-memory in
-    let law : Lawful (rules-of .result) = rw (rules-of .ensures) (lawful (z .args .s .convention)) in
-    let y = write-memory-yes (rules-of .result) (z .args .s) (length (now (z .args .memory))) (z .args .address) (length (now (z .args .bytes))) (sym (judge-write-memory .ensures) ∙ c .before .enum-told .given .1) in
-    let at = address-yes (rules-of .result) law (z .args .s) (length (now (z .args .memory))) (y .0) (z .args .address) (length (now (z .args .bytes))) (y .1) in
+    let law : Lawful (rules-of .result) = rw (rules-of .ensures) (lawful (s .convention)) in
+    let y = write-memory-yes (rules-of .result) s (length l) (z .args .address) (length (now (z .args .bytes))) (sym (judge-write-memory .ensures) ∙ c .before .enum-told .given .1) in
+    let at = address-yes (rules-of .result) law s (length l) (y .0) (z .args .address) (length (now (z .args .bytes))) (y .1) in
     simp (length-take, length-drop) (omega arith)
 
 returns : tie.Need-returns
@@ -88,12 +96,13 @@ returns-2 : tie.Need-returns-2
 unfolding writtenMemory
 returns-2 c =
     let z = c .before .before .before .before .before .before .before .before .before .before in
+    let l = now (z .args .memory) in
     let rules-of = c .before .before .before .before .before .before .before .rules-of in
     let judge-write-memory = c .before .before .before .before .before .before .judge-write-memory in
     let enum-told = c .before .before .before .before .enum-told in
     let put = c .before .before .put in
-    let e = write-memory-accepted (z .args .s) (now (z .args .memory)) (z .args .address) (now (z .args .bytes)) (rw (rules-of .ensures) at (sym (judge-write-memory .ensures) ∙ enum-told .given .1)) in
-    (sym (e .0), rw (put .ensures) (lent-tail (now (z .args .memory)) (z .args .address - z .args .s .base) (now (z .args .bytes))) ∙ sym (e .1))
+    let e = write-memory-accepted (z .args .s) l (z .args .address) (now (z .args .bytes)) (rw (rules-of .ensures) at (sym (judge-write-memory .ensures) ∙ enum-told .given .1)) in
+    (sym (e .0), rw (put .ensures) (lent-tail l (z .args .address - z .args .s .base) (now (z .args .bytes))) ∙ sym (e .1))
 
 pub write-memory-spec : {M : Type 1} → statement M
 write-memory-spec =

@@ -35,11 +35,12 @@ bank-of-requires c κs = search needs
 with-register-requires : tie.Need-with-register-requires
 with-register-requires c κs =
     let z = c .before .before .before .before .before .before .before in
+    let s = z .args .s in
     let rules-of = c .before .before .before .before .before .rules-of in
     let judge-write-register = c .before .before .before .before .judge-write-register in
     let enum-told = c .before .before .enum-told in
-    let law : Lawful (rules-of .result) = rw (rules-of .ensures) (lawful (z .args .s .convention)) in
-    rw (c .before .bank-of .ensures) (writable-named (rules-of .result) law (top (rules-of .result) (z .args .s)) (bankOf (z .args .bank)) (z .args .number) (z .args .value) (write-register-yes (rules-of .result) (z .args .s) (length (now (z .args .memory))) (z .args .bank) (z .args .number) (z .args .value) (sym (judge-write-register .ensures) ∙ enum-told .given .1) .1))
+    let law : Lawful (rules-of .result) = rw (rules-of .ensures) (lawful (s .convention)) in
+    rw (c .before .bank-of .ensures) (writable-named (rules-of .result) law (top (rules-of .result) s) (bankOf (z .args .bank)) (z .args .number) (z .args .value) (write-register-yes (rules-of .result) s (length (now (z .args .memory))) (z .args .bank) (z .args .number) (z .args .value) (sym (judge-write-register .ensures) ∙ enum-told .given .1) .1))
 
 returns : tie.Need-returns
 returns c =

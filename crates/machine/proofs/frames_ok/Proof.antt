@@ -35,7 +35,8 @@ returns : tie.Need-returns Inv-loop μ-loop
 returns c =
     let z = c .before .before .before .before .before in
     let loop = c .before .before .before .before .loop in
-    let e : okRequest (z .args .k) (frameAt (z .args .t2) (loop .d - 1)) ≡ false = sym (c .before .request-ok .ensures) ∙ not-true (c .before .request-ok .result) (c .if1 .taken) in
+    let e : okRequest (z .args .k) (frameAt (z .args .t2) (loop .d - 1)) ≡ false
+    = sym (c .before .request-ok .ensures) ∙ not-true (c .before .request-ok .result) (c .if1 .taken) in
     sym (sym (loop .inv .0) ∙ frames-down (z .args .k) (z .args .t2) (loop .d) (omega arith) ∙ rw e)
 
 loop-less : tie.Need-loop-less Inv-loop μ-loop
@@ -45,7 +46,8 @@ loop-again : tie.Need-loop-again Inv-loop μ-loop
 loop-again c =
     let z = c .before .before .before .before .before in
     let loop = c .before .before .before .before .loop in
-    let e : okRequest (z .args .k) (frameAt (z .args .t2) (loop .d - 1)) ≡ true = sym (c .before .request-ok .ensures) ∙ not-false (c .before .request-ok .result) (c .if1 .left) in
+    let e : okRequest (z .args .k) (frameAt (z .args .t2) (loop .d - 1)) ≡ true
+    = sym (c .before .request-ok .ensures) ∙ not-false (c .before .request-ok .result) (c .if1 .left) in
     (sym (frames-down (z .args .k) (z .args .t2) (loop .d) (omega arith) ∙ rw e) ∙ loop .inv .0, omega arith)
 
 returns-2 : tie.Need-returns-2 Inv-loop μ-loop

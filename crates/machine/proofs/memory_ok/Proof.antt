@@ -30,7 +30,12 @@ returns-4 : tie.Need-returns-4
 unfolding okMemory
 returns-4 c =
     let z = c .before .before .before .before in
-    rw (eq-eqb (z .args .n % 16) 0 (omega arith), le-leb 256 (z .args .n) (omega arith), le-leb (z .args .n) 65536 (omega arith), ne-eqb (z .args .base % 16) 0 (λ e. omega arith))
+    rw (
+      eq-eqb (z .args .n % 16) 0 (omega arith),
+      le-leb 256 (z .args .n) (omega arith),
+      le-leb (z .args .n) 65536 (omega arith),
+      ne-eqb (z .args .base % 16) 0 (λ e. omega arith),
+    )
 
 sub-result : tie.Need-sub-result
 sub-result c = search needs
@@ -39,7 +44,12 @@ returns-5 : tie.Need-returns-5
 unfolding okMemory
 returns-5 c =
     let z = c .before .before .before .before .before in
-    rw (eq-eqb (z .args .n % 16) 0 (omega arith), le-leb 256 (z .args .n) (omega arith), le-leb (z .args .n) 65536 (omega arith), eq-eqb (z .args .base % 16) 0 (omega arith)) (leb-sub (z .args .base) (z .args .n) (z .args .k .limit) (omega (arith, z .pre .memory)))
+    rw (
+      eq-eqb (z .args .n % 16) 0 (omega arith),
+      le-leb 256 (z .args .n) (omega arith),
+      le-leb (z .args .n) 65536 (omega arith),
+      eq-eqb (z .args .base % 16) 0 (omega arith),
+    ) (leb-sub (z .args .base) (z .args .n) (z .args .k .limit) (omega (arith, z .pre .memory)))
 
 pub memory-ok-spec : {M : Type 1} → statement M
 memory-ok-spec = tie.close (tie.spec returns returns-2 returns-3 returns-4 sub-result returns-5)

@@ -46,10 +46,20 @@ loop-less c = omega arith
 loop-again : tie.Need-loop-again Inv-loop μ-loop
 loop-again c =
     let z = c .before .before .before .before in
+    let k = z .args .k in
     let loop = c .before .before .before .loop in
-    let y = frames-read (z .args .k) (z .args .t2) (loop .d) (omega arith) (loop .inv .2) in
-    let small = size-small (z .args .k) (z .pre .0) (frameAt (z .args .t2) (loop .d - 1)) (y .0) in
-    (omega (arith, c .frame-size .ensures, sizes-down (z .args .k) (z .args .t2) (loop .d) (omega arith), loop .inv .0), omega arith, y .1, omega (arith, c .frame-size .ensures))
+    let y = frames-read k (z .args .t2) (loop .d) (omega arith) (loop .inv .2) in
+    let small = size-small k (z .pre .0) (frameAt (z .args .t2) (loop .d - 1)) (y .0) in (
+      omega (
+        arith,
+        c .frame-size .ensures,
+        sizes-down k (z .args .t2) (loop .d) (omega arith),
+        loop .inv .0,
+      ),
+      omega arith,
+      y .1,
+      omega (arith, c .frame-size .ensures),
+    )
 
 returns : tie.Need-returns Inv-loop μ-loop
 returns c =

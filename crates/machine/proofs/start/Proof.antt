@@ -32,9 +32,11 @@ returns : tie.Need-returns
 unfolding notStarted
 returns c =
     let z = c .before .before .before .before in
+    let l = now (z .args .memory) in
     let rules-of = c .before .before .rules-of in
-    let no : okMemory (rules (z .args .c)) (z .args .base) (length (now (z .args .memory))) ≡ false = sym (rw (rules-of .ensures) at (c .before .memory-ok .ensures)) ∙ not-true (c .before .memory-ok .result) (c .if1 .taken) in
-    let e = start-refused (z .args .c) (z .args .base) (now (z .args .memory)) (z .args .registers) BadMemory (refused-start (z .args .c) (z .args .base) (length (now (z .args .memory))) no) in
+    let no : okMemory (rules (z .args .c)) (z .args .base) (length l) ≡ false
+    = sym (rw (rules-of .ensures) at (c .before .memory-ok .ensures)) ∙ not-true (c .before .memory-ok .result) (c .if1 .taken) in
+    let e = start-refused (z .args .c) (z .args .base) l (z .args .registers) BadMemory (refused-start (z .args .c) (z .args .base) (length l) no) in
     (sym (e .0), sym (e .1))
 
 sub-at : tie.Need-sub-at
@@ -78,16 +80,19 @@ returns-2 : tie.Need-returns-2
 unfolding started startedMemory store
 returns-2 c =
     let z = c .before .before .before .before .before .before .before .before .before .before in
+    let l = now (z .args .memory) in
     let rules-of = c .before .before .before .before .before .before .before .before .rules-of in
     let memory-ok = c .before .before .before .before .before .before .before .memory-ok in
     let if1 = c .before .before .before .before .before .before .if1 in
     let with-pointer = c .before .before .before .before .with-pointer in
     let store = c .before .before .store in
     let law : Lawful (rules-of .result) = rw (rules-of .ensures) (lawful (z .args .c)) in
-    let yes = memory-yes (rules-of .result) (z .args .base) (length (now (z .args .memory))) (sym (memory-ok .ensures) ∙ not-false (memory-ok .result) (if1 .left)) in
-    let ok : okMemory (rules (z .args .c)) (z .args .base) (length (now (z .args .memory))) ≡ true = sym (rw (rules-of .ensures) at (memory-ok .ensures)) ∙ not-false (memory-ok .result) (if1 .left) in
-    let e = start-accepted (z .args .c) (z .args .base) (now (z .args .memory)) (z .args .registers) (accepted-start (z .args .c) (z .args .base) (length (now (z .args .memory))) ok) in
-    let at : z .args .base + (length (now (z .args .memory)) - rules-of .result .room) ≡ z .args .base + length (now (z .args .memory)) - rules-of .result .room = omega (arith, law .room, yes) in
+    let yes = memory-yes (rules-of .result) (z .args .base) (length l) (sym (memory-ok .ensures) ∙ not-false (memory-ok .result) (if1 .left)) in
+    let ok : okMemory (rules (z .args .c)) (z .args .base) (length l) ≡ true
+    = sym (rw (rules-of .ensures) at (memory-ok .ensures)) ∙ not-false (memory-ok .result) (if1 .left) in
+    let e = start-accepted (z .args .c) (z .args .base) l (z .args .registers) (accepted-start (z .args .c) (z .args .base) (length l) ok) in
+    let at : z .args .base + (length l - rules-of .result .room) ≡ z .args .base + length l - rules-of .result .room
+    = omega (arith, law .room, yes) in
     (rw (with-pointer .ensures, at, rules-of .ensures) (sym (e .0)), rw (store .ensures, rules-of .ensures) (sym (e .1)))
 
 pub start-spec : {M : Type 1} → statement M

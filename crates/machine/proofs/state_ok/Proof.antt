@@ -38,7 +38,11 @@ returns-3 c =
     let if1 = c .before .before .before .before .before .if1 in
     let frames-ok = c .before .before .before .frames-ok in
     let if2 = c .before .before .if2 in
-    rw (le-leb (z .args .s .depth) 32 (omega (arith, if1 .left)), sym (frames-ok .ensures) ∙ not-false (frames-ok .result) (if2 .left), sym (c .before .memory-ok .ensures) ∙ not-true (c .before .memory-ok .result) (c .if3 .taken))
+    rw (
+      le-leb (z .args .s .depth) 32 (omega (arith, if1 .left)),
+      sym (frames-ok .ensures) ∙ not-false (frames-ok .result) (if2 .left),
+      sym (c .before .memory-ok .ensures) ∙ not-true (c .before .memory-ok .result) (c .if3 .taken),
+    )
 
 stack-pointer-requires : tie.Need-stack-pointer-requires
 stack-pointer-requires c κs = search needs
@@ -47,12 +51,18 @@ returns-4 : tie.Need-returns-4
 unfolding okState
 returns-4 c =
     let z = c .before .before .before .before .before .before .before .before in
+    let s = z .args .s in
     let if1 = c .before .before .before .before .before .before .before .if1 in
     let frames-ok = c .before .before .before .before .before .frames-ok in
     let if2 = c .before .before .before .before .if2 in
     let memory-ok = c .before .before .before .memory-ok in
     let if3 = c .before .before .if3 in
-    rw (le-leb (z .args .s .depth) 32 (omega (arith, if1 .left)), sym (frames-ok .ensures) ∙ not-false (frames-ok .result) (if2 .left), sym (memory-ok .ensures) ∙ not-false (memory-ok .result) (if3 .left), lt-leb (z .args .s .base) (stackPointer (z .args .k) (z .args .s)) (omega (arith, c .before .stack-pointer .ensures)))
+    rw (
+      le-leb (s .depth) 32 (omega (arith, if1 .left)),
+      sym (frames-ok .ensures) ∙ not-false (frames-ok .result) (if2 .left),
+      sym (memory-ok .ensures) ∙ not-false (memory-ok .result) (if3 .left),
+      lt-leb (s .base) (stackPointer (z .args .k) s) (omega (arith, c .before .stack-pointer .ensures)),
+    )
 
 sizes-of-requires : tie.Need-sizes-of-requires
 sizes-of-requires c κs =
@@ -75,6 +85,8 @@ returns-5 : tie.Need-returns-5
 unfolding okState
 returns-5 c =
     let z = c .before .before .before .before .before .before .before .before .before .before .before in
+    let k = z .args .k in
+    let s = z .args .s in
     let sizes-of = c .before .before .sizes-of in
     let if1 = c .before .before .before .before .before .before .before .before .before .before .if1 in
     let frames-ok = c .before .before .before .before .before .before .before .before .frames-ok in
@@ -83,14 +95,22 @@ returns-5 c =
     let if3 = c .before .before .before .before .before .if3 in
     let stack-pointer = c .before .before .before .before .stack-pointer in
     let if4 = c .before .before .before .if4 in
-    let no : eqb (stackPointer (z .args .k) (z .args .s) + sizes (z .args .k) (z .args .s .frames) (z .args .s .depth) + z .args .k .room) (z .args .s .base + z .args .s .size) ≡ false
-    = ne-eqb (stackPointer (z .args .k) (z .args .s) + sizes (z .args .k) (z .args .s .frames) (z .args .s .depth) + z .args .k .room) (z .args .s .base + z .args .s .size) (λ e. omega (arith, sizes-of .ensures .0, c .if5 .taken)) in
-    rw (le-leb (z .args .s .depth) 32 (omega (arith, if1 .left)), sym (frames-ok .ensures) ∙ not-false (frames-ok .result) (if2 .left), sym (memory-ok .ensures) ∙ not-false (memory-ok .result) (if3 .left), le-leb (z .args .s .base) (stackPointer (z .args .k) (z .args .s)) (omega (arith, stack-pointer .ensures, if4 .left)), no)
+    let no : eqb (stackPointer k s + sizes k (s .frames) (s .depth) + k .room) (s .base + s .size) ≡ false
+    = ne-eqb (stackPointer k s + sizes k (s .frames) (s .depth) + k .room) (s .base + s .size) (λ e. omega (arith, sizes-of .ensures .0, c .if5 .taken)) in
+    rw (
+      le-leb (s .depth) 32 (omega (arith, if1 .left)),
+      sym (frames-ok .ensures) ∙ not-false (frames-ok .result) (if2 .left),
+      sym (memory-ok .ensures) ∙ not-false (memory-ok .result) (if3 .left),
+      le-leb (s .base) (stackPointer k s) (omega (arith, stack-pointer .ensures, if4 .left)),
+      no,
+    )
 
 returns-6 : tie.Need-returns-6
 unfolding okState
 returns-6 c =
     let z = c .before .before .before .before .before .before .before .before .before .before .before in
+    let k = z .args .k in
+    let s = z .args .s in
     let stack-pointer = c .before .before .before .before .stack-pointer in
     let sizes-of = c .before .before .sizes-of in
     let if1 = c .before .before .before .before .before .before .before .before .before .before .if1 in
@@ -99,9 +119,16 @@ returns-6 c =
     let memory-ok = c .before .before .before .before .before .before .memory-ok in
     let if3 = c .before .before .before .before .before .if3 in
     let if4 = c .before .before .before .if4 in
-    let sum : stackPointer (z .args .k) (z .args .s) + (sizes (z .args .k) (z .args .s .frames) (z .args .s .depth) + z .args .k .room) ≡ stackPointer (z .args .k) (z .args .s) + sizes (z .args .k) (z .args .s .frames) (z .args .s .depth) + z .args .k .room = omega arith in
-    rw (stack-pointer .ensures, sizes-of .ensures .0, le-leb (z .args .s .depth) 32 (omega (arith, if1 .left)), sym (frames-ok .ensures) ∙ not-false (frames-ok .result) (if2 .left), sym (memory-ok .ensures) ∙ not-false (memory-ok .result) (if3 .left), le-leb (z .args .s .base) (stackPointer (z .args .k) (z .args .s)) (omega (arith, stack-pointer .ensures, if4 .left)))
-    (eqb-sub (stackPointer (z .args .k) (z .args .s)) (sizes (z .args .k) (z .args .s .frames) (z .args .s .depth) + z .args .k .room) (z .args .s .base + z .args .s .size) (omega (arith, sizes-of .ensures .0, c .if5 .left)) ∙ rw sum)
+    let sum : stackPointer k s + (sizes k (s .frames) (s .depth) + k .room) ≡ stackPointer k s + sizes k (s .frames) (s .depth) + k .room = omega arith in
+    rw (
+      stack-pointer .ensures,
+      sizes-of .ensures .0,
+      le-leb (s .depth) 32 (omega (arith, if1 .left)),
+      sym (frames-ok .ensures) ∙ not-false (frames-ok .result) (if2 .left),
+      sym (memory-ok .ensures) ∙ not-false (memory-ok .result) (if3 .left),
+      le-leb (s .base) (stackPointer k s) (omega (arith, stack-pointer .ensures, if4 .left)),
+    )
+    (eqb-sub (stackPointer k s) (sizes k (s .frames) (s .depth) + k .room) (s .base + s .size) (omega (arith, sizes-of .ensures .0, c .if5 .left)) ∙ rw sum)
 
 pub state-ok-spec : {M : Type 1} → statement M
 state-ok-spec =

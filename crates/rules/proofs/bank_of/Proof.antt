@@ -19,11 +19,21 @@ returns-3 c = let b = c .before .before .before .args .b in rw (ne-eqb b 0 (λ e
 
 returns-4 : tie.Need-returns-4
 unfolding bankOf
-returns-4 c = let b = c .before .before .before .before .args .b in rw (ne-eqb b 0 (λ e. omega arith), ne-eqb b 1 (λ e. omega arith), ne-eqb b 2 (λ e. omega arith), eq-eqb b 3 (omega arith))
+returns-4 c = let b = c .before .before .before .before .args .b in rw (
+  ne-eqb b 0 (λ e. omega arith),
+  ne-eqb b 1 (λ e. omega arith),
+  ne-eqb b 2 (λ e. omega arith),
+  eq-eqb b 3 (omega arith),
+)
 
 returns-5 : tie.Need-returns-5
 unfolding bankOf
-returns-5 c = let b = c .before .before .before .before .args .b in rw (ne-eqb b 0 (λ e. omega arith), ne-eqb b 1 (λ e. omega arith), ne-eqb b 2 (λ e. omega arith), ne-eqb b 3 (λ e. omega arith))
+returns-5 c = let b = c .before .before .before .before .args .b in rw (
+  ne-eqb b 0 (λ e. omega arith),
+  ne-eqb b 1 (λ e. omega arith),
+  ne-eqb b 2 (λ e. omega arith),
+  ne-eqb b 3 (λ e. omega arith),
+)
 
 pub bank-of-spec : {M : Type 1} → statement M
 bank-of-spec = tie.close (tie.spec returns returns-2 returns-3 returns-4 returns-5)

@@ -33,7 +33,11 @@ mul-result-2 c =
 add-result : tie.Need-add-result
 add-result c =
     let z = c .before .before in
-    omega (arith, words-small (z .args .k .word) (z .args .k .end - z .args .f .«first_gpr») (z .pre .0 .word) (omega (arith, z .pre .0 .end)), z .pre .0 .end)
+    omega (
+      arith,
+      words-small (z .args .k .word) (z .args .k .end - z .args .f .«first_gpr») (z .pre .0 .word) (omega (arith, z .pre .0 .end)),
+      z .pre .0 .end,
+    )
 
 enum-told-2 : tie.Need-enum-told-2
 enum-told-2 c = search needs

@@ -27,7 +27,11 @@ returns-3 c =
     let z = c .before .before .before .before in
     let has-condition = c .before .before .before .has-condition in
     let if1 = c .before .before .if1 in
-    rw (sym (has-condition .ensures) ∙ not-false (has-condition .result) (if1 .left), le-leb (z .args .v) 15 (omega arith), le-leb (z .args .n) 1 (omega arith))
+    rw (
+      sym (has-condition .ensures) ∙ not-false (has-condition .result) (if1 .left),
+      le-leb (z .args .v) 15 (omega arith),
+      le-leb (z .args .n) 1 (omega arith),
+    )
 
 in-span-requires : tie.Need-in-span-requires
 in-span-requires c κs = search needs
@@ -38,7 +42,12 @@ returns-4 c =
     let z = c .before .before .before .before .before .before in
     let has-condition = c .before .before .before .before .before .has-condition in
     let if1 = c .before .before .before .before .if1 in
-    rw (sym (has-condition .ensures) ∙ not-false (has-condition .result) (if1 .left), le-leb (z .args .v) 15 (omega arith), lt-leb (z .args .n) 1 (omega arith), sym (c .before .in-span .ensures) ∙ c .if4 .taken)
+    rw (
+      sym (has-condition .ensures) ∙ not-false (has-condition .result) (if1 .left),
+      le-leb (z .args .v) 15 (omega arith),
+      lt-leb (z .args .n) 1 (omega arith),
+      sym (c .before .in-span .ensures) ∙ c .if4 .taken,
+    )
 
 returns-5 : tie.Need-returns-5
 unfolding writableField
@@ -48,7 +57,13 @@ returns-5 c =
     let if1 = c .before .before .before .before .before .before .if1 in
     let in-span = c .before .before .before .in-span in
     let if4 = c .before .before .if4 in
-    rw (sym (has-condition .ensures) ∙ not-false (has-condition .result) (if1 .left), le-leb (z .args .v) 15 (omega arith), lt-leb (z .args .n) 1 (omega arith), sym (in-span .ensures) ∙ if4 .left, not-true (z .args .f .«saves_cr») (c .if5 .taken))
+    rw (
+      sym (has-condition .ensures) ∙ not-false (has-condition .result) (if1 .left),
+      le-leb (z .args .v) 15 (omega arith),
+      lt-leb (z .args .n) 1 (omega arith),
+      sym (in-span .ensures) ∙ if4 .left,
+      not-true (z .args .f .«saves_cr») (c .if5 .taken),
+    )
 
 in-span-requires-2 : tie.Need-in-span-requires-2
 in-span-requires-2 c κs = search needs
@@ -61,7 +76,14 @@ returns-6 c =
     let if1 = c .before .before .before .before .before .before .before .if1 in
     let in-span = c .before .before .before .before .in-span in
     let if4 = c .before .before .before .if4 in
-    rw (c .in-span2 .ensures, sym (has-condition .ensures) ∙ not-false (has-condition .result) (if1 .left), le-leb (z .args .v) 15 (omega arith), lt-leb (z .args .n) 1 (omega arith), sym (in-span .ensures) ∙ if4 .left, not-false (z .args .f .«saves_cr») (c .before .if5 .left))
+    rw (
+      c .in-span2 .ensures,
+      sym (has-condition .ensures) ∙ not-false (has-condition .result) (if1 .left),
+      le-leb (z .args .v) 15 (omega arith),
+      lt-leb (z .args .n) 1 (omega arith),
+      sym (in-span .ensures) ∙ if4 .left,
+      not-false (z .args .f .«saves_cr») (c .before .if5 .left),
+    )
 
 pub field-writable-spec : {M : Type 1} → statement M
 field-writable-spec =

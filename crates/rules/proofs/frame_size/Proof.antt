@@ -16,27 +16,51 @@ outgoing-length-requires c κs = search needs
 add-round-up : tie.Need-add-round-up
 add-round-up c =
     let z = c .before .before .before in
-    omega (arith, size-small (z .args .k) (z .pre .0) (z .args .f) (z .pre .1), size-parts (z .args .k) (z .pre .0) (z .args .f) (z .pre .1), c .before .outgoing-length .ensures)
+    omega (
+      arith,
+      size-small (z .args .k) (z .pre .0) (z .args .f) (z .pre .1),
+      size-parts (z .args .k) (z .pre .0) (z .args .f) (z .pre .1),
+      c .before .outgoing-length .ensures,
+    )
 
 add-round-up-2 : tie.Need-add-round-up-2
 add-round-up-2 c =
     let z = c .before .before .before .before in
     let outgoing-length = c .before .before .outgoing-length in
-    omega (arith, size-small (z .args .k) (z .pre .0) (z .args .f) (z .pre .1), size-parts (z .args .k) (z .pre .0) (z .args .f) (z .pre .1), outgoing-length .ensures)
+    omega (
+      arith,
+      size-small (z .args .k) (z .pre .0) (z .args .f) (z .pre .1),
+      size-parts (z .args .k) (z .pre .0) (z .args .f) (z .pre .1),
+      outgoing-length .ensures,
+    )
 
 add-round-up-3 : tie.Need-add-round-up-3
 add-round-up-3 c =
     let z = c .before .before .before .before in
     let outgoing-length = c .before .before .outgoing-length in
     let below-size = c .before .before .before .below-size in
-    omega (arith, size-small (z .args .k) (z .pre .0) (z .args .f) (z .pre .1), size-parts (z .args .k) (z .pre .0) (z .args .f) (z .pre .1), outgoing-length .ensures, below-size .ensures)
+    omega (
+      arith,
+      size-small (z .args .k) (z .pre .0) (z .args .f) (z .pre .1),
+      size-parts (z .args .k) (z .pre .0) (z .args .f) (z .pre .1),
+      outgoing-length .ensures,
+      below-size .ensures,
+    )
 
 round-up-requires : tie.Need-round-up-requires
 round-up-requires c κs =
     let z = c .before .before .before .before in
     let outgoing-length = c .before .before .outgoing-length in
     let below-size = c .before .before .before .below-size in
-    omega (arith, size-small (z .args .k) (z .pre .0) (z .args .f) (z .pre .1), size-parts (z .args .k) (z .pre .0) (z .args .f) (z .pre .1), outgoing-length .ensures, below-size .ensures, z .pre .0 .some, z .pre .0 .alignment)
+    omega (
+      arith,
+      size-small (z .args .k) (z .pre .0) (z .args .f) (z .pre .1),
+      size-parts (z .args .k) (z .pre .0) (z .args .f) (z .pre .1),
+      outgoing-length .ensures,
+      below-size .ensures,
+      z .pre .0 .some,
+      z .pre .0 .alignment,
+    )
 
 returns : tie.Need-returns
 unfolding frameSize

@@ -48,7 +48,14 @@ enum-told-2 c = search needs
 mul-result-3 : tie.Need-mul-result-3
 mul-result-3 c =
     let z = c .before .before in
-    omega (arith, words-small (z .args .k .word) (z .args .f .«first_gpr») (z .pre .lawful .word) (omega (arith, z .pre .lawful .end, gpr-end (z .args .k) (z .pre .lawful) (z .args .f) (z .pre .request))))
+    omega (
+      arith,
+      words-small (z .args .k .word) (z .args .f .«first_gpr») (z .pre .lawful .word) (omega (
+        arith,
+        z .pre .lawful .end,
+        gpr-end (z .args .k) (z .pre .lawful) (z .args .f) (z .pre .request),
+      )),
+    )
 
 add-result : tie.Need-add-result
 unfolding gprAt

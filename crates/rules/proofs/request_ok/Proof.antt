@@ -33,7 +33,11 @@ returns-3 c =
     let if1 = c .before .before .before .before .before .if1 in
     let in-span2 = c .before .before .before .in-span2 in
     let if2 = c .before .before .if2 in
-    rw (sym (in-span .ensures) ∙ not-false (in-span .result) (if1 .left), sym (in-span2 .ensures) ∙ not-false (in-span2 .result) (if2 .left), lt-leb (z .args .f .locals) 32000 (omega arith))
+    rw (
+      sym (in-span .ensures) ∙ not-false (in-span .result) (if1 .left),
+      sym (in-span2 .ensures) ∙ not-false (in-span2 .result) (if2 .left),
+      lt-leb (z .args .f .locals) 32000 (omega arith),
+    )
 
 returns-4 : tie.Need-returns-4
 unfolding okRequest
@@ -43,17 +47,29 @@ returns-4 c =
     let if1 = c .before .before .before .before .before .before .if1 in
     let in-span2 = c .before .before .before .before .in-span2 in
     let if2 = c .before .before .before .if2 in
-    rw (sym (in-span .ensures) ∙ not-false (in-span .result) (if1 .left), sym (in-span2 .ensures) ∙ not-false (in-span2 .result) (if2 .left), le-leb (z .args .f .locals) 32000 (omega arith), ne-eqb (z .args .f .outgoing % 8) 0 (λ e. omega arith))
+    rw (
+      sym (in-span .ensures) ∙ not-false (in-span .result) (if1 .left),
+      sym (in-span2 .ensures) ∙ not-false (in-span2 .result) (if2 .left),
+      le-leb (z .args .f .locals) 32000 (omega arith),
+      ne-eqb (z .args .f .outgoing % 8) 0 (λ e. omega arith),
+    )
 
 returns-5 : tie.Need-returns-5
 unfolding okRequest
 returns-5 c =
     let z = c .before .before .before .before .before .before .before .before .before .before in
+    let f = z .args .f in
     let in-span = c .before .before .before .before .before .before .before .before .in-span in
     let if1 = c .before .before .before .before .before .before .before .if1 in
     let in-span2 = c .before .before .before .before .before .in-span2 in
     let if2 = c .before .before .before .before .if2 in
-    rw (sym (in-span .ensures) ∙ not-false (in-span .result) (if1 .left), sym (in-span2 .ensures) ∙ not-false (in-span2 .result) (if2 .left), le-leb (z .args .f .locals) 32000 (omega arith), eq-eqb (z .args .f .outgoing % 8) 0 (omega arith), lt-leb (z .args .f .outgoing) 16392 (omega arith))
+    rw (
+      sym (in-span .ensures) ∙ not-false (in-span .result) (if1 .left),
+      sym (in-span2 .ensures) ∙ not-false (in-span2 .result) (if2 .left),
+      le-leb (f .locals) 32000 (omega arith),
+      eq-eqb (f .outgoing % 8) 0 (omega arith),
+      lt-leb (f .outgoing) 16392 (omega arith),
+    )
 
 has-condition-requires : tie.Need-has-condition-requires
 has-condition-requires c κs = search needs
@@ -62,22 +78,38 @@ returns-6 : tie.Need-returns-6
 unfolding okRequest
 returns-6 c =
     let z = c .before .before .before .before .before .before .before .before .before .before .before .before in
+    let f = z .args .f in
     let in-span = c .before .before .before .before .before .before .before .before .before .before .in-span in
     let if1 = c .before .before .before .before .before .before .before .before .before .if1 in
     let in-span2 = c .before .before .before .before .before .before .before .in-span2 in
     let if2 = c .before .before .before .before .before .before .if2 in
-    rw (sym (in-span .ensures) ∙ not-false (in-span .result) (if1 .left), sym (in-span2 .ensures) ∙ not-false (in-span2 .result) (if2 .left), le-leb (z .args .f .locals) 32000 (omega arith), eq-eqb (z .args .f .outgoing % 8) 0 (omega arith), le-leb (z .args .f .outgoing) 16392 (omega arith), sym (c .before .has-condition .ensures) ∙ c .if6 .taken)
+    rw (
+      sym (in-span .ensures) ∙ not-false (in-span .result) (if1 .left),
+      sym (in-span2 .ensures) ∙ not-false (in-span2 .result) (if2 .left),
+      le-leb (f .locals) 32000 (omega arith),
+      eq-eqb (f .outgoing % 8) 0 (omega arith),
+      le-leb (f .outgoing) 16392 (omega arith),
+      sym (c .before .has-condition .ensures) ∙ c .if6 .taken,
+    )
 
 returns-7 : tie.Need-returns-7
 unfolding okRequest
 returns-7 c =
     let z = c .before .before .before .before .before .before .before .before .before .before .before .before .before in
+    let f = z .args .f in
     let in-span = c .before .before .before .before .before .before .before .before .before .before .before .in-span in
     let if1 = c .before .before .before .before .before .before .before .before .before .before .if1 in
     let in-span2 = c .before .before .before .before .before .before .before .before .in-span2 in
     let if2 = c .before .before .before .before .before .before .before .if2 in
     let has-condition = c .before .before .has-condition in
-    rw (sym (in-span .ensures) ∙ not-false (in-span .result) (if1 .left), sym (in-span2 .ensures) ∙ not-false (in-span2 .result) (if2 .left), le-leb (z .args .f .locals) 32000 (omega arith), eq-eqb (z .args .f .outgoing % 8) 0 (omega arith), le-leb (z .args .f .outgoing) 16392 (omega arith), sym (has-condition .ensures) ∙ c .before .if6 .left)
+    rw (
+      sym (in-span .ensures) ∙ not-false (in-span .result) (if1 .left),
+      sym (in-span2 .ensures) ∙ not-false (in-span2 .result) (if2 .left),
+      le-leb (f .locals) 32000 (omega arith),
+      eq-eqb (f .outgoing % 8) 0 (omega arith),
+      le-leb (f .outgoing) 16392 (omega arith),
+      sym (has-condition .ensures) ∙ c .before .if6 .left,
+    )
 
 pub request-ok-spec : {M : Type 1} → statement M
 request-ok-spec =

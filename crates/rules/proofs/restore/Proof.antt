@@ -24,7 +24,15 @@ load-run-requires : tie.Need-load-run-requires
 load-run-requires c κs =
     let z = c .before .before .before .before .before .before in
     let gpr-at = c .before .before .before .before .gpr-at in
-    omega (arith, gpr-end (z .args .k) (z .pre .lawful) (z .args .f) (z .pre .request), gpr-in (z .args .k) (z .pre .lawful) (z .args .f) (z .pre .request) (z .args .s) (z .pre .fits), z .pre .room, z .pre .lawful .end, z .pre .lawful .word, gpr-at .ensures)
+    omega (
+      arith,
+      gpr-end (z .args .k) (z .pre .lawful) (z .args .f) (z .pre .request),
+      gpr-in (z .args .k) (z .pre .lawful) (z .args .f) (z .pre .request) (z .args .s) (z .pre .fits),
+      z .pre .room,
+      z .pre .lawful .end,
+      z .pre .lawful .word,
+      gpr-at .ensures,
+    )
 
 mul-general : tie.Need-mul-general
 mul-general c = search needs
@@ -43,7 +51,14 @@ sub-load-run-2 c =
 load-run-requires-2 : tie.Need-load-run-requires-2
 load-run-requires-2 c κs =
     let z = c .before .before .before .before .before .before .before in
-    omega (arith, fpr-end (z .args .k) (z .pre .lawful) (z .args .f) (z .pre .request), fpr-le (z .args .k) (z .pre .lawful) (z .args .f) (z .pre .request) (z .args .s) (z .pre .fits), z .pre .room, z .pre .lawful .end, z .pre .lawful .word)
+    omega (
+      arith,
+      fpr-end (z .args .k) (z .pre .lawful) (z .args .f) (z .pre .request),
+      fpr-le (z .args .k) (z .pre .lawful) (z .args .f) (z .pre .request) (z .args .s) (z .pre .fits),
+      z .pre .room,
+      z .pre .lawful .end,
+      z .pre .lawful .word,
+    )
 
 restore-lr-requires : tie.Need-restore-lr-requires
 restore-lr-requires c κs = search needs

@@ -22,7 +22,14 @@ sub-save-run c =
 save-run-requires : tie.Need-save-run-requires
 save-run-requires c κs =
     let z = c .before .before .before .before .before in
-    omega (arith, fpr-end (z .args .k) (z .pre .lawful) (z .args .f) (z .pre .request), fpr-le (z .args .k) (z .pre .lawful) (z .args .f) (z .pre .request) (z .args .s) (z .pre .fits), z .pre .room, z .pre .lawful .end, z .pre .lawful .word)
+    omega (
+      arith,
+      fpr-end (z .args .k) (z .pre .lawful) (z .args .f) (z .pre .request),
+      fpr-le (z .args .k) (z .pre .lawful) (z .args .f) (z .pre .request) (z .args .s) (z .pre .fits),
+      z .pre .room,
+      z .pre .lawful .end,
+      z .pre .lawful .word,
+    )
 
 same-length : tie.Need-same-length
 same-length c = search needs

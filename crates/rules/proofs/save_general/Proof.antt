@@ -18,7 +18,15 @@ save-run-requires : tie.Need-save-run-requires
 save-run-requires c κs =
     let z = c .before .before .before .before .before .before in
     let gpr-at = c .before .before .before .before .gpr-at in
-    omega (arith, gpr-end (z .args .k) (z .pre .lawful) (z .args .f) (z .pre .request), gpr-in (z .args .k) (z .pre .lawful) (z .args .f) (z .pre .request) (z .args .s) (z .pre .fits), z .pre .room, z .pre .lawful .end, z .pre .lawful .word, gpr-at .ensures)
+    omega (
+      arith,
+      gpr-end (z .args .k) (z .pre .lawful) (z .args .f) (z .pre .request),
+      gpr-in (z .args .k) (z .pre .lawful) (z .args .f) (z .pre .request) (z .args .s) (z .pre .fits),
+      z .pre .room,
+      z .pre .lawful .end,
+      z .pre .lawful .word,
+      gpr-at .ensures,
+    )
 
 same-length : tie.Need-same-length
 same-length c = search needs

@@ -30,7 +30,13 @@ save-condition-requires c κs =
     let linkage = c .before .before .before .before .before .before .before .before .before .before .linkage in
     let save-general = c .before .before .before .before .before .before .before .save-general in
     let save-floating = c .before .before .before .save-floating in
-    omega (arith, law-at (z .args .k .linkage) _ (z .args .k) (linkage .given .1) (z .pre .lawful .linkage), z .pre .room, save-general .kept .0, save-floating .kept .0)
+    omega (
+      arith,
+      law-at (z .args .k .linkage) _ (z .args .k) (linkage .given .1) (z .pre .lawful .linkage),
+      z .pre .room,
+      save-general .kept .0,
+      save-floating .kept .0,
+    )
 
 add-store : tie.Need-add-store
 add-store c =
@@ -45,7 +51,14 @@ store-requires c κs =
     let save-general = c .before .before .before .before .before .before .before .before .before .before .before .save-general in
     let save-floating = c .before .before .before .before .before .before .before .save-floating in
     let save-condition = c .before .before .before .save-condition in
-    omega (arith, law-at (z .args .k .linkage) _ (z .args .k) (linkage .given .1) (z .pre .lawful .linkage), z .pre .room, save-general .kept .0, save-floating .kept .0, save-condition .kept .0)
+    omega (
+      arith,
+      law-at (z .args .k .linkage) _ (z .args .k) (linkage .given .1) (z .pre .lawful .linkage),
+      z .pre .room,
+      save-general .kept .0,
+      save-floating .kept .0,
+      save-condition .kept .0,
+    )
 
 enum-told : tie.Need-enum-told
 enum-told c = search needs
