@@ -1,0 +1,98 @@
+-- The loop over a struct's fields: its invariant, and what each way out of a turn gives. Assumes nothing.
+use Prim.Native.Nat.{ℕ, _+_, _-_, _*_, _≤_, _<_}
+use mathlib.Core.Path.{_≡_, refl, sym, ap, _∙_}
+use mathlib.Core.List.{List}
+use native.Mathlib.Omega.{arith}
+use Rattle.types.specs.declared.Convention.{Convention}
+use Rattle.types.specs.declared.ValueType.{ValueType}
+use Rattle.types.specs.declared.Fields.{Fields}
+use Rattle.types.specs.Sizes.{Sized}
+use Rattle.types.specs.Structs.{noFields, withField, closed}
+use Rattle.types.specs.Trees.{Tree, Trees, none, _▸_, typeOf, fieldsOf}
+use Rattle.types.proofs.Laws.{Aligned, none-aligned, more-aligned, more-end}
+use Rattle.items.specs.declared.Refusal.{Refusal}
+use Rattle.items.specs.declared.ItemRead.{ItemRead}
+use Rattle.items.specs.Reading.{Reading, got, no}
+use Rattle.items.specs.Read.{sequence, structAt, itemAt}
+use Rattle.items.specs.Answer.{itemAnswer, closedAnswer}
+use Rattle.items.proofs.Laws.{contents, sequence-done, sequence-more, sequence-no, struct-refused, struct-read, item-got, item-no, sized-answer}
+use Rattle.items.proofs.Sound.{item-taken}
+
+-- what an answer says of an item within the end e; the tree is gone, its type is there
+pub record Answered (c : Convention) (e at : ℕ) (t : ValueType) (next n : ℕ) : Type 0 where
+  pub on : at + 3 ≤ next
+  pub inside : next ≤ e
+  pub third : at + 3 * n ≤ next
+  pub sized : Sized c t
+
+pub item-answered : (c : Convention) (d : ℕ) (s : List ℕ) (e at : ℕ) (r : ItemRead) (t : ValueType) (next n : ℕ) → d ≤ 8 →
+    r ≡ itemAnswer c (itemAt c d s e at) → r ≡ ItemRead.Item t next n → Answered c e at t next n
+item-answered c d s e at r t next n h found q =
+    let (tree, is, same) = item-got c (itemAt c d s e at) t next n (sym q ∙ found) in
+    let k = item-taken c d s e at tree next n h is in
+    record { on = k .on; inside = k .inside; third = k .third; sized = rw same (k .sized) }
+
+-- the fields so far, and that reading on from here gives what the struct's contents are
+pub record Turn (c : Convention) (d : ℕ) (s : List ℕ) (at b : ℕ) (fields : Fields) (next n : ℕ) : Type 0 where
+  pub ts : Trees
+  pub left : ℕ
+  pub enough : b - next ≤ left
+  pub layout : fields ≡ fieldsOf c ts
+  pub rest : contents c d s at b ≡ sequence (itemAt c (d - 1) s b) b left next n ts
+  pub within : next ≤ b
+  pub third : at + 3 * n ≤ next
+  pub aligned : Aligned fields
+  pub end : fields .end ≤ 272 * next
+
+same-field : (c : Convention) {l k : Fields} {t u : ValueType} → l ≡ k → t ≡ u → withField c l t ≡ withField c k u
+same-field c p q = cc
+
+module _ (c : Convention) (d : ℕ) (s : List ℕ) (at b : ℕ) where
+  pub turn-start : (l : Fields) → l ≡ noFields → at + 3 < b → Turn c d s at b l (at + 3) 1
+  unfolding fieldsOf
+  turn-start l q h = record {
+    ts = none;
+    left = b - (at + 3);
+    enough = omega arith;
+    layout = q;
+    rest = refl;
+    within = omega arith;
+    third = omega arith;
+    aligned = rw q none-aligned;
+    end = rw q (omega arith);
+  }
+
+  module _ (l : Fields) (next n : ℕ) (turn : Turn c d s at b l next n) (h : next < b) (r : ItemRead)
+      (found : r ≡ itemAnswer c (itemAt c (d - 1) s b next)) where
+    pub turn-more : d ≤ 8 → (t : ValueType) (after m : ℕ) → r ≡ ItemRead.Item t after m → (k : Fields) → k ≡ withField c l t →
+        Turn c d s at b k after (n + m)
+    unfolding fieldsOf
+    turn-more deep t after m q k is =
+        let (tree, read, same) = item-got c (itemAt c (d - 1) s b next) t after m (sym q ∙ found) in
+        let a = item-answered c (d - 1) s b next r t after m (omega arith) found q in
+        let grown = more-end c l t (a .sized) in
+        record {
+          ts = turn .ts ▸ tree;
+          left = turn .left - 1;
+          enough = omega arith;
+          layout = is ∙ same-field c (turn .layout) same;
+          rest = sequence-more (itemAt c (d - 1) s b) b (contents c d s at b) (turn .left) next n (turn .ts) (turn .rest) h (omega arith) tree after m read;
+          within = a .inside;
+          third = omega arith;
+          aligned = rw is (more-aligned c l t (a .sized) (turn .aligned));
+          end = rw is (omega arith);
+        }
+
+    pub turn-no : 0 < d → at + 3 < b → (x : Refusal) (place : ℕ) → r ≡ ItemRead.Refused x place →
+        ItemRead.Refused x place ≡ itemAnswer c (structAt c d s at b)
+    turn-no some more x place q =
+        let read = item-no c (itemAt c (d - 1) s b next) x place (sym q ∙ found) in
+        sym (ap (itemAnswer c) (struct-refused c d s at b some more x place
+        (sequence-no (itemAt c (d - 1) s b) b (contents c d s at b) (turn .left) next n (turn .ts) (turn .rest) h (omega arith) x place read)))
+
+  pub turn-end : (l : Fields) (next n : ℕ) → Turn c d s at b l next n → b ≤ next → 0 < d → at + 3 < b →
+      closedAnswer at b n (closed l) ≡ itemAnswer c (structAt c d s at b)
+  turn-end l next n turn h some more =
+      let read = sequence-done (itemAt c (d - 1) s b) b (contents c d s at b) (turn .left) next n (turn .ts) (turn .rest) h in
+      ap (λ (k : Fields). closedAnswer at b n (closed k)) (turn .layout)
+      ∙ sym (ap (itemAnswer c) (struct-read c d s at b some more (turn .ts) next n read) ∙ sized-answer c at b n (turn .ts))

@@ -1,0 +1,105 @@
+-- What reading a type item finds: document 01, "A signature's bytes", with the refusals in the order "At an item: header
+-- room, tag, length room, then depth (6), body (4), long double (5), contents, size (8)". The list s is the whole signature,
+-- `at` the place of an item's header, e the enclosing end and b the end of an item's body. Assumes nothing.
+use Prim.Native.Nat.{ℕ, zero, suc, _+_, _-_, _*_}
+use mathlib.Core.Bool.{Bool, true, false}
+use mathlib.Core.List.{List}
+use lib.ListN.{getD}
+use lib.Dec.{ltb, eqb}
+use Rattle.types.specs.declared.Convention.{Convention}
+use Rattle.types.specs.declared.IntegerKind.{IntegerKind}
+use Rattle.types.specs.declared.FloatFormat.{FloatFormat}
+use Rattle.types.specs.Structs.{shapeOf, tooLarge}
+use Rattle.types.specs.Trees.{Tree, Trees, integer, float, struct, none, _▸_, fieldsOf}
+use Rattle.items.specs.declared.Refusal.{Refusal}
+use Rattle.items.specs.declared.Body.{Body}
+use Rattle.items.specs.declared.IntegerCode.{IntegerCode}
+use Rattle.items.specs.declared.FloatCode.{FloatCode}
+use Rattle.items.specs.Reading.{Reading, got, no, pick, choose, andThen, inBody}
+
+-- "a two-byte length", big-endian, after the "one-byte tag"
+abbrev pub lengthAt : List ℕ → ℕ → ℕ
+lengthAt s at = getD s (at + 1) 0 * 256 + getD s (at + 2) 0
+
+-- "header room, tag, length room", where the tags from `low` to `high` are allowed
+unfoldable pub bodyAt : List ℕ → ℕ → ℕ → ℕ → ℕ → Body
+bodyAt s low high e at =
+    pick (ltb e (at + 3)) (Body.Refused Refusal.Truncated)
+    (pick (ltb (getD s at 0) low) (Body.Refused Refusal.UnexpectedTag)
+    (pick (ltb high (getD s at 0)) (Body.Refused Refusal.UnexpectedTag)
+    (pick (ltb e (at + 3 + lengthAt s at)) (Body.Refused Refusal.Truncated)
+    (Body.To (at + 3 + lengthAt s at)))))
+
+-- "codes 0 to 8 for i8, u8, i16, u16, i32, u32, i64, u64, pointer"
+unfoldable pub integerCode : ℕ → IntegerCode
+integerCode x =
+    pick (eqb x 0) (IntegerCode.Kind IntegerKind.I8)
+    (pick (eqb x 1) (IntegerCode.Kind IntegerKind.U8)
+    (pick (eqb x 2) (IntegerCode.Kind IntegerKind.I16)
+    (pick (eqb x 3) (IntegerCode.Kind IntegerKind.U16)
+    (pick (eqb x 4) (IntegerCode.Kind IntegerKind.I32)
+    (pick (eqb x 5) (IntegerCode.Kind IntegerKind.U32)
+    (pick (eqb x 6) (IntegerCode.Kind IntegerKind.I64)
+    (pick (eqb x 7) (IntegerCode.Kind IntegerKind.U64)
+    (pick (eqb x 8) (IntegerCode.Kind IntegerKind.Pointer) IntegerCode.Unknown))))))))
+
+-- "codes 0 single, 1 double, 2 long double"
+unfoldable pub floatCode : ℕ → FloatCode
+floatCode x =
+    pick (eqb x 0) (FloatCode.Format FloatFormat.Single)
+    (pick (eqb x 1) (FloatCode.Format FloatFormat.Double)
+    (pick (eqb x 2) (FloatCode.Format FloatFormat.LongDouble) FloatCode.Unknown))
+
+abbrev pub integerBy : IntegerCode → ℕ → ℕ → Reading Tree
+integerBy (IntegerCode.Kind k) at b = got (integer k) b 1
+integerBy IntegerCode.Unknown at b = no Refusal.Malformed at
+
+-- "0x10 whole number, length 1"
+unfoldable pub integerAt : List ℕ → ℕ → ℕ → Reading Tree
+integerAt s at b = pick (eqb b (at + 4)) (integerBy (integerCode (getD s (at + 3) 0)) at b) (no Refusal.Malformed at)
+
+-- 5: "long double inside a struct"
+abbrev pub floatBy : FloatCode → Bool → ℕ → ℕ → Reading Tree
+floatBy (FloatCode.Format FloatFormat.Single) inside at b = got (float FloatFormat.Single) b 1
+floatBy (FloatCode.Format FloatFormat.Double) inside at b = got (float FloatFormat.Double) b 1
+floatBy (FloatCode.Format FloatFormat.LongDouble) inside at b = pick inside (no Refusal.LongDoubleInStruct at) (got (float FloatFormat.LongDouble) b 1)
+floatBy FloatCode.Unknown inside at b = no Refusal.Malformed at
+
+-- "0x11 float, length 1"
+unfoldable pub floatAt : List ℕ → Bool → ℕ → ℕ → Reading Tree
+floatAt s inside at b = pick (eqb b (at + 4)) (floatBy (floatCode (getD s (at + 3) 0)) inside at b) (no Refusal.Malformed at)
+
+-- Type items one after the other up to the end e, at most `most` of them, after the types ts, which took n items. Only
+-- arguments are limited: a struct's `most` is its body's length, and no item is shorter than its header.
+unfoldable pub sequence : (ℕ → Reading Tree) → ℕ → ℕ → ℕ → ℕ → Trees → Reading Trees
+sequence item e zero next n ts = pick (ltb next e) (no Refusal.TooManyArguments next) (got ts next n)
+sequence item e (suc most) next n ts =
+    choose (ltb next e) (λ _. andThen (item next) (λ t after m. sequence item e most after (n + m) (ts ▸ t))) (λ _. got ts next n)
+
+-- "size (8)": a struct of the types ts, whose body ends at b
+unfoldable pub sizedAt : Convention → ℕ → ℕ → ℕ → Trees → Reading Tree
+sizedAt c at b n ts = pick (tooLarge (shapeOf (fieldsOf c ts))) (no Refusal.StructTooLarge at) (got (struct ts) b n)
+
+-- "0x12 struct: one or more type items"; n counts its own header first
+unfoldable pub contentsAt : Convention → (ℕ → Reading Tree) → ℕ → ℕ → Reading Tree
+contentsAt c item at b =
+    choose (eqb b (at + 3)) (λ _. no Refusal.Malformed at)
+    (λ _. andThen (sequence item b (b - (at + 3)) (at + 3) 1 none) (λ ts next n. sizedAt c at b n ts))
+
+-- by the tag, 0x10, 0x11 or 0x12
+abbrev pub byTag : ℕ → Reading Tree → Reading Tree → (Unit {0} → Reading Tree) → Reading Tree
+byTag tag i f s = choose (eqb tag 0x10) (λ _. i) (λ _. choose (eqb tag 0x11) (λ _. f) s)
+
+-- a type item, by what a struct's is
+unfoldable pub itemBy : (ℕ → ℕ → Reading Tree) → Bool → List ℕ → ℕ → ℕ → Reading Tree
+itemBy structure inside s e at =
+    inBody (bodyAt s 0x10 0x12 e at) at (λ b. byTag (getD s at 0) (integerAt s at b) (floatAt s inside at b) (λ _. structure at b))
+
+-- "Reading a struct and reading a field call each other, and the depth left falls": d levels of structs are left, 8 outside
+-- any struct. 6: "struct depth over 8"
+unfoldable pub structAt : Convention → ℕ → List ℕ → ℕ → ℕ → Reading Tree
+structAt c zero s at b = no Refusal.TooDeep at
+structAt c (suc d) s at b = contentsAt c (λ k. itemBy (structAt c d s) (ltb d 8) s b k) at b
+
+unfoldable pub itemAt : Convention → ℕ → List ℕ → ℕ → ℕ → Reading Tree
+itemAt c d s e at = itemBy (structAt c d s) (ltb d 8) s e at

@@ -1,0 +1,23 @@
+-- Document 01's numbers for the refusals of a signature, "When the bridge says no". Assumes nothing.
+use Prim.Native.Nat.{ℕ}
+use Rattle.items.specs.declared.Refusal.{Refusal}
+
+abbrev pub numberOf : Refusal → ℕ
+-- "signature over 4,096 bytes"
+numberOf Refusal.TooLong = 1
+-- "fewer than 3 bytes for a header, or the length passes the enclosing end"
+numberOf Refusal.Truncated = 2
+-- "tag not allowed there"
+numberOf Refusal.UnexpectedTag = 3
+-- "length or code not allowed; empty struct; bytes after the result's one type"
+numberOf Refusal.Malformed = 4
+-- "long double inside a struct"
+numberOf Refusal.LongDoubleInStruct = 5
+-- "struct depth over 8"
+numberOf Refusal.TooDeep = 6
+-- "bytes left after the 64th argument"
+numberOf Refusal.TooManyArguments = 7
+-- "struct size over 256"
+numberOf Refusal.StructTooLarge = 8
+-- "bytes after the third item"
+numberOf Refusal.TrailingBytes = 9

@@ -1,0 +1,98 @@
+-- Every encoding of a signature within the limits is read, and gives the signature back. Assumes nothing.
+use Prim.Native.Nat.{ℕ, _+_, _-_, _≤_, _<_}
+use mathlib.Core.Path.{_≡_, refl, sym, ap, _∙_}
+use mathlib.Core.List.{List, [], _∷_, _++_}
+use lib.ListN.{length, getD, length-append}
+use native.Mathlib.Omega.{arith}
+use borrow.Author.Tests.{le-ltb, eq-eqb, ne-eqb}
+use Rattle.types.specs.declared.Convention.{Convention}
+use Rattle.types.specs.Trees.{Tree, Trees, none, countOf}
+use Rattle.types.specs.Limits as limits
+use Rattle.items.specs.declared.Body.{Body}
+use Rattle.items.specs.Reading.{Reading, got, no}
+use Rattle.items.specs.Read.{bodyAt, itemAt}
+use Rattle.items.specs.Encode.{item, encodeTree, encodeTrees, itemsOf, itemsIn}
+use Rattle.items.proofs.Laws.{sequence-done}
+use Rattle.items.proofs.Levels.{within-left, all-within-left}
+use Rattle.items.proofs.Has.{Has, has-move, has-left, has-right, has-all, item-body, item-byte, length-item}
+use Rattle.items.proofs.Trees.{tree-long}
+use Rattle.items.proofs.Complete.{header-reads, tree-reads, trees-read}
+use Rattle.signature.specs.declared.ConventionCode.{ConventionCode}
+use Rattle.signature.specs.Signature.{Result, nothing, value, Signature}
+use Rattle.signature.specs.Read.{maxDepth, maxArguments, conventionCode, conventionAt, resultIn, resultAt, argumentsIn, argumentsAt, afterResult, afterConvention, signatureOf}
+use Rattle.signature.specs.Encode.{conventionNumber, encodeResult, encode, resultItems, signatureItems, ResultWithin, Within}
+use Rattle.signature.proofs.Laws.{convention-by, result-none, result-to, arguments-to}
+use Rattle.signature.proofs.Sound.{length-encode}
+
+convention-code : (c : Convention) → ConventionCode.Known c ≡ conventionCode (conventionNumber c)
+unfolding conventionCode
+convention-code Convention.Ppc64 = refl
+convention-code Convention.Z = refl
+
+module _ (s : List ℕ) where
+  convention-reads : (c : Convention) → Has s 0 (item 0x01 (conventionNumber c ∷ [])) → 4 ≤ length s → conventionAt s ≡ got c 4 1
+  convention-reads c h room =
+      let to = header-reads c s 0x01 0x01 0x01 (conventionNumber c ∷ []) (length s) 0 4 (omega arith) (omega arith) h refl room in
+      convention-by s 4 to refl (ConventionCode.Known c)
+      (convention-code c ∙ ap conventionCode (sym (item-byte s 0x01 (conventionNumber c) 0 h)))
+
+  module _ (c : Convention) where
+    value-reads : (t : Tree) (at b : ℕ) → limits.Within c t → Has s at (encodeTree t) → b ≡ at + length (encodeTree t) → resultIn c s at b ≡ got (value t) b (itemsOf t + 1)
+    unfolding resultIn
+    value-reads t at b w h q =
+        let long = tree-long t in
+        let differs : at ≡ b → ⊥ = λ z. omega arith in
+        let most : b ≤ b = omega arith in
+        rw (ne-eqb at b differs, tree-reads c s t maxDepth b at b (within-left c t w) h q most, le-ltb b b most)
+
+    result-in-reads : (r : Result) (at b : ℕ) → ResultWithin c r → Has s at (encodeResult r) → b ≡ at + length (encodeResult r) →
+        resultIn c s at b ≡ got r b (resultItems r + 1)
+    unfolding encodeResult ResultWithin resultItems
+    result-in-reads nothing at b w h q = result-none c s at b (omega arith)
+    result-in-reads (value t) at b w h q = value-reads t at b w h q
+
+    result-reads : (r : Result) (at next : ℕ) → ResultWithin c r → Has s at (item 0x02 (encodeResult r)) → next ≡ at + 3 + length (encodeResult r) →
+        next ≤ length s → resultAt c s at ≡ got r next (resultItems r + 1)
+    result-reads r at next w h q room =
+        let to = header-reads c s 0x02 0x02 0x02 (encodeResult r) (length s) at next (omega arith) (omega arith) h q room in
+        result-to c s at next to ∙ result-in-reads r (at + 3) next w (item-body s 0x02 (encodeResult r) at h) q
+
+    arguments-read : (ts : Trees) (at next : ℕ) → limits.AllWithin c ts → countOf ts ≤ maxArguments → Has s at (item 0x03 (encodeTrees ts)) →
+        next ≡ at + 3 + length (encodeTrees ts) → next ≤ length s → argumentsAt c s at ≡ got ts next (1 + itemsIn ts)
+    unfolding argumentsIn
+    arguments-read ts at next w few h q room =
+        let to = header-reads c s 0x03 0x03 0x03 (encodeTrees ts) (length s) at next (omega arith) (omega arith) h q room in
+        let left = maxArguments - countOf ts in
+        let rest = trees-read c s ts maxDepth next maxArguments (at + 3) 1 (all-within-left c ts w) (item-body s 0x03 (encodeTrees ts) at h) (omega arith) few
+        left next (1 + itemsIn ts) refl q refl in
+        arguments-to c s at next to ∙ sequence-done (itemAt c maxDepth s next) next _ left next (1 + itemsIn ts) ts rest (omega arith)
+
+  -- the whole, from its three items
+  all-reads : (g : Signature) (at n : ℕ) → length s ≤ 4096 → conventionAt s ≡ got (g .convention) 4 1 → resultAt (g .convention) s 4 ≡ got (g .result) at n →
+      (m : ℕ) → argumentsAt (g .convention) s at ≡ got (g .arguments) (length s) m → signatureOf s ≡ got g (length s) (1 + n + m)
+  unfolding signatureOf afterConvention afterResult
+  all-reads g at n short first second m third =
+      let last : length s ≤ length s = omega arith in
+      rw (le-ltb 4096 (length s) short, first, second, third, le-ltb (length s) (length s) last)
+
+pub encode-reads : (g : Signature) → Within g → signatureOf (encode g) ≡ got g (length (encode g)) (signatureItems g)
+unfolding encode signatureItems
+encode-reads g w =
+    let c = g .convention in
+    let s = encode g in
+    let one = item 0x01 (conventionNumber c ∷ []) in
+    let two = item 0x02 (encodeResult (g .result)) in
+    let three = item 0x03 (encodeTrees (g .arguments)) in
+    let size = length-encode g in
+    let size₁ : length one ≡ 4 = length-item 0x01 (conventionNumber c ∷ []) in
+    let size₂ = length-item 0x02 (encodeResult (g .result)) in
+    let all : Has s 0 (one ++ (two ++ three)) = has-all s in
+    let second : Has s 4 (two ++ three) = has-move s (two ++ three) (0 + length one) 4 (omega arith) (has-right s one (two ++ three) 0 all) in
+    let at = 7 + length (encodeResult (g .result)) in
+    let third : Has s at three = has-move s three (4 + length two) at (omega arith) (has-right s two three 4 second) in
+    let n = resultItems (g .result) + 1 in
+    let m = 1 + itemsIn (g .arguments) in
+    all-reads s g at n (w .short) (convention-reads s c (has-left s one (two ++ three) 0 all) (omega arith))
+    (result-reads s c (g .result) 4 at (w .result) (has-left s two three 4 second) refl (omega arith)) m
+    (arguments-read s c (g .arguments) at (length s) (w .arguments) (w .few) third (omega arith) (omega arith))
+    ∙ ap (got g (length s)) (omega arith)

@@ -1,0 +1,51 @@
+-- Worked readings, computed by the definitions: document 01's example, the empty signature, and the depth at its limit and one past it. Assumes nothing.
+use Prim.Native.Nat.{ℕ, zero, suc}
+use mathlib.Core.Path.{_≡_, refl}
+use mathlib.Core.List.{List, [], _∷_, _++_, map}
+use Rattle.types.specs.declared.Convention.{Convention}
+use Rattle.types.specs.declared.IntegerKind.{IntegerKind}
+use Rattle.types.specs.declared.FloatFormat.{FloatFormat}
+use Rattle.types.specs.Trees.{Tree, Trees, integer, float, struct, none, _▸_, fieldsOf}
+use Rattle.items.specs.Refusals.{numberOf}
+use Rattle.items.specs.Reading.{Reading, got, no}
+use Rattle.types.specs.Structs.{roundUp, withField, shapeOf}
+use Rattle.items.specs.Read.{bodyAt, integerCode, floatCode, integerAt, floatAt, sequence, sizedAt, contentsAt, itemBy, structAt, itemAt}
+use Rattle.items.specs.Encode.{item, encodeTree}
+use Rattle.signature.specs.Signature.{Result, nothing, value, Signature}
+use Rattle.signature.specs.Read.{conventionCode, conventionAt, resultIn, resultAt, argumentsIn, argumentsAt, afterResult, afterConvention, signatureOf}
+use Rattle.signature.specs.Encode.{encodeResult, encode}
+
+-- "PPC64, no result, arguments i32 and double: `01 0001 01 02 0000 03 0008 10 0001 04 11 0001 01` (18 bytes, 5 items)"
+pub example : List ℕ
+example = 0x01 ∷ 0 ∷ 1 ∷ 1 ∷ 0x02 ∷ 0 ∷ 0 ∷ 0x03 ∷ 0 ∷ 8 ∷ 0x10 ∷ 0 ∷ 1 ∷ 4 ∷ 0x11 ∷ 0 ∷ 1 ∷ 1 ∷ []
+
+pub example-read : signatureOf example ≡
+    got (record { convention = Convention.Ppc64; result = nothing; arguments = none ▸ integer IntegerKind.I32 ▸ float FloatFormat.Double }) 18 5
+unfolding example bodyAt integerCode floatCode integerAt floatAt sequence roundUp withField shapeOf fieldsOf sizedAt contentsAt itemBy structAt itemAt conventionCode conventionAt resultIn resultAt argumentsIn argumentsAt afterResult afterConvention signatureOf
+example-read = refl
+
+-- the answer in document 01's numbers: a refusal's number and place, or 0 and the count of items
+answer : Reading Signature → ℕ × ℕ
+answer (got g next n) = (0, n)
+answer (no r place) = (numberOf r, place)
+
+nested : ℕ → Tree
+nested zero = integer IntegerKind.I8
+nested (suc n) = struct (none ▸ nested n)
+
+of : Trees → List ℕ
+of ts = encode (record { convention = Convention.Z; result = nothing; arguments = ts })
+
+-- each row: what is computed, and what it is to be
+pub rows : List ((ℕ × ℕ) × (ℕ × ℕ))
+rows =
+    -- "`refused 2 at 0`, as for empty input"
+    (answer (signatureOf []), (2, 0))
+    -- "depth 8 yes, 9 gives 6"
+    ∷ (answer (signatureOf (of (none ▸ nested 8))), (0, 12))
+    ∷ (answer (signatureOf (of (none ▸ nested 9))), (6, 34))
+    ∷ []
+
+pub rows-hold : map (λ (r : (ℕ × ℕ) × (ℕ × ℕ)). r .0) rows ≡ map (λ (r : (ℕ × ℕ) × (ℕ × ℕ)). r .1) rows
+unfolding rows answer nested of item encodeTree encodeResult encode bodyAt integerCode floatCode integerAt floatAt sequence roundUp withField shapeOf fieldsOf sizedAt contentsAt itemBy structAt itemAt conventionCode conventionAt resultIn resultAt argumentsIn argumentsAt afterResult afterConvention signatureOf
+rows-hold = refl

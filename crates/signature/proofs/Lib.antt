@@ -1,0 +1,7 @@
+-- Laws that belong to no one function.
+pub mod Laws
+pub mod Loop
+pub mod Sound
+pub mod Complete
+pub mod Theorems
+pub mod Examples

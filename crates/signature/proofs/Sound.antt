@@ -1,0 +1,243 @@
+-- What is read is an encoding of a signature within the limits. Assumes nothing.
+use Prim.Native.Nat.{ℕ, _+_, _*_, _≤_, _<_}
+use mathlib.Core.Path.{_≡_, refl, sym, ap, _∙_}
+use mathlib.Core.List.{List, [], _∷_, _++_}
+use lib.ListN.{length, getD, length-append}
+use lib.Dec.{ltb, eqb}
+use native.Mathlib.Omega.{arith}
+use borrow.Author.Tests.{ltb-false, eqb-true}
+use Rattle.words.specs.Numbers.{Bytes}
+use Rattle.types.specs.declared.Convention.{Convention}
+use Rattle.types.specs.Trees.{Tree, Trees, none, countOf}
+use Rattle.types.specs.Limits as limits
+use Rattle.items.specs.Reading.{Reading, got, no, pick, choose, andThen}
+use Rattle.items.specs.Read.{lengthAt, sequence, itemAt}
+use Rattle.items.specs.Encode.{item, encodeTree, encodeTrees, itemsOf, itemsIn}
+use Rattle.items.proofs.Levels.{left-within, all-left-within}
+use Rattle.items.proofs.Has.{Has, has-move, has-append, has-item, has-same, length-item}
+use Rattle.items.proofs.Trees.{tree-third, trees-third}
+use Rattle.items.proofs.Sound.{by-pick, by-choose, by-then, by-body, Got, Framed, Read, Ended, none-read, sequence-sound, item-sound}
+use Rattle.signature.specs.declared.ConventionCode.{ConventionCode}
+use Rattle.signature.specs.declared.ResultType.{ResultType}
+use Rattle.signature.specs.declared.ResultRead.{ResultRead}
+use Rattle.signature.specs.Answer.{resultAnswer}
+use Rattle.signature.specs.Signature.{Result, nothing, value, Signature}
+use Rattle.signature.specs.Read.{maxDepth, maxArguments, conventionCode, conventionBy, conventionAt, resultIn, resultAt, argumentsIn, argumentsAt, afterResult, afterConvention, signatureOf}
+use Rattle.signature.proofs.Laws.{result-got}
+use Rattle.signature.specs.Encode.{conventionNumber, encodeResult, encode, resultItems, signatureItems, ResultWithin, Within}
+
+-- an item of the signature that ends the item's framing
+pub framed-item : (s : List ℕ) (tag at b : ℕ) (body : List ℕ) → Framed s tag tag (length s) at b → b ≡ at + 3 + length body → Bytes s →
+    Has s (at + 3) body → Has s at (item tag body)
+framed-item s tag at b body f q bytes h = has-item s bytes tag body at (omega arith) (omega arith) h
+
+-- the convention
+
+pub record ConventionSound (s : List ℕ) (c : Convention) (next n : ℕ) : Type 0 where
+  pub here : Bytes s → Has s 0 (item 0x01 (conventionNumber c ∷ []))
+  pub ends : next ≡ 4
+  pub inside : next ≤ length s
+  pub count : n ≡ 1
+
+abbrev CodeIs : ℕ → ConventionCode → Type 0
+CodeIs x (ConventionCode.Known c) = x ≡ conventionNumber c
+CodeIs x ConventionCode.Unknown = Unit {0}
+
+code-is : (x : ℕ) → CodeIs x (conventionCode x)
+unfolding conventionCode
+code-is x = by-pick (CodeIs x) (eqb x 1) _ _ (eqb-true x 1) (λ _. by-pick (CodeIs x) (eqb x 2) _ _ (eqb-true x 2) (λ _. tt))
+
+pub convention-sound : (s : List ℕ) → Got (ConventionSound s) (conventionAt s)
+unfolding conventionAt Has
+convention-sound s = by-body (ConventionSound s) s 0x01 0x01 (length s) 0 _ (λ b framed.
+    by-pick (Got (ConventionSound s)) (eqb b 4) _ _ (λ q. code b framed (eqb-true b 4 q) (conventionCode (getD s 3 0)) (code-is (getD s 3 0))) (λ _. tt))
+  where
+    code : (b : ℕ) → Framed s 0x01 0x01 (length s) 0 b → b ≡ 4 → (x : ConventionCode) → CodeIs (getD s 3 0) x → Got (ConventionSound s) (conventionBy x)
+    code b framed q (ConventionCode.Known c) v =
+        let inside = framed .inside in
+        record { here = λ bytes. framed-item s 0x01 0 b (conventionNumber c ∷ []) framed q bytes (v, tt); ends = refl; inside = omega arith; count = refl }
+    code b framed q ConventionCode.Unknown v = tt
+
+-- the result
+
+pub record ResultSound (c : Convention) (s : List ℕ) (at : ℕ) (r : Result) (next n : ℕ) : Type 0 where
+  pub within : ResultWithin c r
+  pub here : Bytes s → Has s at (item 0x02 (encodeResult r))
+  pub ends : next ≡ at + 3 + length (encodeResult r)
+  pub inside : next ≤ length s
+  pub count : n ≡ resultItems r + 1
+
+module _ (c : Convention) (s : List ℕ) (at b : ℕ) (framed : Framed s 0x02 0x02 (length s) at b) where
+  result-one-sound : (t : Tree) (next n : ℕ) → Read c maxDepth s b (at + 3) t next n → b ≤ next → ResultSound c s at (value t) b (n + 1)
+  unfolding ResultWithin encodeResult resultItems
+  result-one-sound t next n r last =
+      let ends = r .ends in
+      let inside = r .inside in
+      let count = r .count in
+      record {
+        within = left-within c t (r .within);
+        here = λ bytes. framed-item s 0x02 at b (encodeTree t) framed (omega arith) bytes (r .here bytes);
+        ends = omega arith;
+        inside = framed .inside;
+        count = omega arith;
+      }
+
+  result-none-sound : at + 3 ≡ b → ResultSound c s at nothing b 1
+  unfolding ResultWithin encodeResult resultItems Has
+  result-none-sound q = record {
+    within = tt;
+    here = λ bytes. framed-item s 0x02 at b [] framed (omega arith) bytes tt;
+    ends = omega arith;
+    inside = framed .inside;
+    count = refl;
+  }
+
+  result-in-sound : Got (ResultSound c s at) (resultIn c s (at + 3) b)
+  unfolding resultIn
+  result-in-sound = by-choose (Got (ResultSound c s at)) (eqb (at + 3) b) _ _ (λ q. result-none-sound (eqb-true (at + 3) b q))
+      (λ _. by-then (Read c maxDepth s b (at + 3)) (ResultSound c s at) (itemAt c maxDepth s b (at + 3)) _ (item-sound c maxDepth s b (at + 3))
+      (λ t next n r. by-pick (Got (ResultSound c s at)) (ltb next b) _ _ (λ _. tt) (λ l. result-one-sound t next n r (ltb-false next b l))))
+
+pub result-sound : (c : Convention) (s : List ℕ) (at : ℕ) → Got (ResultSound c s at) (resultAt c s at)
+unfolding resultAt
+result-sound c s at = by-body (ResultSound c s at) s 0x02 0x02 (length s) at _ (λ b framed. result-in-sound c s at b framed)
+
+-- the arguments
+
+pub record ArgumentsSound (c : Convention) (s : List ℕ) (at : ℕ) (ts : Trees) (next n : ℕ) : Type 0 where
+  pub within : limits.AllWithin c ts
+  pub here : Bytes s → Has s at (item 0x03 (encodeTrees ts))
+  pub ends : next ≡ at + 3 + length (encodeTrees ts)
+  pub inside : next ≤ length s
+  pub few : countOf ts ≤ maxArguments
+  pub count : n ≡ 1 + itemsIn ts
+
+arguments-ended : (c : Convention) (s : List ℕ) (at b : ℕ) → Framed s 0x03 0x03 (length s) at b → (ts : Trees) (next n : ℕ) →
+    Ended c maxDepth s b (at + 3) 1 maxArguments ts next n → ArgumentsSound c s at ts next n
+arguments-ended c s at b framed ts next n e =
+    let ends = e .all .ends in
+    let inside = e .all .inside in
+    let last = e .last in
+    record {
+      within = all-left-within c ts (e .all .within);
+      here = λ bytes. framed-item s 0x03 at b (encodeTrees ts) framed (omega arith) bytes (e .all .here bytes);
+      ends = omega arith;
+      inside = omega arith;
+      few = e .few;
+      count = e .all .count;
+    }
+
+weaken : {A : Type 0} (P Q : A → ℕ → ℕ → Type 0) (x : Reading A) → ((a : A) (next n : ℕ) → P a next n → Q a next n) → Got P x → Got Q x
+weaken P Q (got a next n) f p = f a next n p
+weaken P Q (no r place) f p = tt
+
+pub arguments-sound : (c : Convention) (s : List ℕ) (at : ℕ) → Got (ArgumentsSound c s at) (argumentsAt c s at)
+unfolding argumentsAt argumentsIn countOf
+arguments-sound c s at = by-body (ArgumentsSound c s at) s 0x03 0x03 (length s) at _ (λ b framed.
+    let ends = framed .ends in
+    weaken (Ended c maxDepth s b (at + 3) 1 maxArguments) (ArgumentsSound c s at) (argumentsIn c s (at + 3) b) (arguments-ended c s at b framed)
+    (sequence-sound c maxDepth s b (at + 3) 1 maxArguments (itemAt c maxDepth s b) (λ k. item-sound c maxDepth s b k) maxArguments (at + 3) 1 none
+    (none-read c maxDepth s b (at + 3) 1 (omega arith)) refl))
+
+-- the whole
+
+pub length-encode : (g : Signature) → length (encode g) ≡ 10 + length (encodeResult (g .result)) + length (encodeTrees (g .arguments))
+unfolding encode
+length-encode g =
+    let one = item 0x01 (conventionNumber (g .convention) ∷ []) in
+    let two = item 0x02 (encodeResult (g .result)) in
+    let three = item 0x03 (encodeTrees (g .arguments)) in
+    let size₁ : length one ≡ 4 = length-item 0x01 (conventionNumber (g .convention) ∷ []) in
+    let size₂ = length-item 0x02 (encodeResult (g .result)) in
+    let size₃ = length-item 0x03 (encodeTrees (g .arguments)) in
+    let sum = length-append one (two ++ three) in
+    let sum′ = length-append two three in
+    omega arith
+
+has-encode : (s : List ℕ) (g : Signature) (at : ℕ) → Has s 0 (item 0x01 (conventionNumber (g .convention) ∷ [])) → Has s 4 (item 0x02 (encodeResult (g .result))) →
+    at ≡ 7 + length (encodeResult (g .result)) → Has s at (item 0x03 (encodeTrees (g .arguments))) → Has s 0 (encode g)
+unfolding encode
+has-encode s g at first second q third =
+    let one = item 0x01 (conventionNumber (g .convention) ∷ []) in
+    let two = item 0x02 (encodeResult (g .result)) in
+    let three = item 0x03 (encodeTrees (g .arguments)) in
+    let size₁ : length one ≡ 4 = length-item 0x01 (conventionNumber (g .convention) ∷ []) in
+    let size₂ = length-item 0x02 (encodeResult (g .result)) in
+    has-append s one (two ++ three) 0 first (has-move s (two ++ three) 4 (0 + length one) (omega arith)
+    (has-append s two three 4 second (has-move s three at (4 + length two) (omega arith) third)))
+
+-- what is got of a signature; only that it has the encoding's bytes needs that it has bytes
+pub record SignatureSound (s : List ℕ) (g : Signature) (next n : ℕ) : Type 0 where
+  pub within : Within g
+  pub here : Bytes s → s ≡ encode g
+  pub size : length s ≡ length (encode g)
+  pub ends : next ≡ length s
+  pub items : n ≡ signatureItems g
+
+module _ (s : List ℕ) (short : length s ≤ 4096) (c : Convention) (at₁ n₁ : ℕ) (first : ConventionSound s c at₁ n₁) (r : Result) (at₂ n₂ : ℕ)
+    (second : ResultSound c s at₁ r at₂ n₂) where
+  all-sound : (ts : Trees) (next m : ℕ) → ArgumentsSound c s at₂ ts next m → length s ≤ next →
+      SignatureSound s (record { convention = c; result = r; arguments = ts }) next (n₁ + n₂ + m)
+  unfolding signatureItems
+  all-sound ts next m third last =
+      let g : Signature = record { convention = c; result = r; arguments = ts } in
+      let size = length-encode g in
+      let two = item 0x02 (encodeResult r) in
+      record {
+        within = record { result = second .within; arguments = third .within; few = third .few; short = omega arith };
+        here = λ bytes. has-same s (encode g) (omega arith)
+            (has-encode s g at₂ (first .here bytes) (has-move s two at₁ 4 (first .ends) (second .here bytes)) (omega arith) (third .here bytes));
+        size = omega arith;
+        ends = omega arith;
+        items = omega arith;
+      }
+
+  after-result-sound : Got (SignatureSound s) (afterResult s c r at₂ (n₁ + n₂))
+  unfolding afterResult
+  after-result-sound = by-then (ArgumentsSound c s at₂) (SignatureSound s) (argumentsAt c s at₂) _ (arguments-sound c s at₂)
+      (λ ts next m third. by-pick (Got (SignatureSound s)) (ltb next (length s)) _ _ (λ _. tt) (λ l. all-sound ts next m third (ltb-false next (length s) l)))
+
+after-convention-sound : (s : List ℕ) → length s ≤ 4096 → (c : Convention) (at n : ℕ) → ConventionSound s c at n → Got (SignatureSound s) (afterConvention s c at n)
+unfolding afterConvention
+after-convention-sound s short c at n first = by-then (ResultSound c s at) (SignatureSound s) (resultAt c s at) _ (result-sound c s at)
+    (λ r next m second. after-result-sound s short c at n first r next m second)
+
+signature-sound : (s : List ℕ) → Got (SignatureSound s) (signatureOf s)
+unfolding signatureOf
+signature-sound s = by-choose (Got (SignatureSound s)) (ltb 4096 (length s)) _ _ (λ _. tt)
+    (λ l. by-then (ConventionSound s) (SignatureSound s) (conventionAt s) _ (convention-sound s) (after-convention-sound s (ltb-false 4096 (length s) l)))
+
+-- the same of a reading that is known
+
+pub convention-read : (s : List ℕ) (c : Convention) (next n : ℕ) → conventionAt s ≡ got c next n → ConventionSound s c next n
+convention-read s c next n q = rw q at (convention-sound s)
+
+pub result-read : (c : Convention) (s : List ℕ) (at : ℕ) (r : Result) (next n : ℕ) → resultAt c s at ≡ got r next n → ResultSound c s at r next n
+result-read c s at r next n q = rw q at (result-sound c s at)
+
+pub signature-read : (s : List ℕ) (g : Signature) (next n : ℕ) → signatureOf s ≡ got g next n → SignatureSound s g next n
+signature-read s g next n q = rw q at (signature-sound s)
+
+pub result-third : (r : Result) → 3 * resultItems r ≤ length (encodeResult r)
+unfolding resultItems encodeResult
+result-third nothing = omega arith
+result-third (value t) = tree-third t
+
+-- what a program's answer says of the result's item: it ends within the signature, three bytes or more for each item in it
+pub record Bounded (s : List ℕ) (at next n : ℕ) : Type 0 where
+  pub inside : next ≤ length s
+  pub third : at + 3 * n ≤ next
+
+pub result-bounded : (c : Convention) (s : List ℕ) (at : ℕ) (x : ResultRead) (t : ResultType) (next n : ℕ) → x ≡ resultAnswer c (resultAt c s at) →
+    x ≡ ResultRead.Result t next n → Bounded s at next n
+result-bounded c s at x t next n found q =
+    let (r, read, same) = result-got c (resultAt c s at) t next n (sym q ∙ found) in
+    let k = result-read c s at r next n read in
+    let third = result-third r in
+    record { inside = k .inside; third = omega arith }
+
+-- "at most a third of the input length"
+
+pub encode-third : (g : Signature) → 3 * signatureItems g ≤ length (encode g)
+unfolding signatureItems
+encode-third g = omega (arith, length-encode g, result-third (g .result), trees-third (g .arguments))

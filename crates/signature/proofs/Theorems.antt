@@ -1,0 +1,85 @@
+-- What is proved of reading a signature, besides that the program's answer is the definition's (specs/Exact.antt states it).
+-- Assumes nothing.
+use Prim.Native.Nat.{ℕ, _+_, _*_, _≤_, _<_}
+use mathlib.Core.Path.{_≡_, sym, ap, _∙_}
+use mathlib.Core.List.{List, [], _∷_, _++_}
+use lib.ListN.{length}
+use native.Mathlib.Omega.{arith}
+use Rattle.words.specs.Numbers.{Bytes}
+use Rattle.words.proofs.Numbers.{bytes-append}
+use Rattle.types.specs.declared.Convention.{Convention}
+use Rattle.types.proofs.Sized.{within-sized, all-within-sized}
+use Rattle.items.specs.declared.Refusal.{Refusal}
+use Rattle.items.specs.Reading.{Reading, got, no}
+use Rattle.items.specs.Encode.{item, encodeTrees}
+use Rattle.items.proofs.Trees.{bytes-none, bytes-cons, bytes-item, tree-bytes, trees-bytes}
+use Rattle.signature.specs.Signature.{Result, nothing, value, Signature}
+use Rattle.signature.specs.Read.{signatureOf}
+use Rattle.signature.specs.Encode.{conventionNumber, encodeResult, encode, signatureItems, ResultWithin, Within}
+use Rattle.signature.specs.Exact.{Encodes, ReadsExactly, ResultSized, Accepted}
+use Rattle.signature.proofs.Sound.{signature-read, length-encode, encode-third}
+use Rattle.signature.proofs.Complete.{encode-reads}
+
+same-got : (g : Signature) {k l n m : ℕ} → k ≡ l → n ≡ m → got g k n ≡ got g l m
+same-got g p q = cc
+
+-- the encoder theorem
+pub reads-exactly : (s : List ℕ) → Bytes s → ReadsExactly s
+reads-exactly s bytes = record {
+  only = λ g next n q. let r = signature-read s g next n q in record { within = r .within; bytes = r .here bytes; items = r .items };
+  all = λ g n e. ap signatureOf (e .bytes) ∙ encode-reads g (e .within) ∙ same-got g (ap length (sym (e .bytes))) (sym (e .items));
+}
+
+result-sized : (c : Convention) (r : Result) → ResultWithin c r → ResultSized c r
+unfolding ResultWithin
+result-sized c nothing w = tt
+result-sized c (value t) w = within-sized c t w
+
+-- the bounds on what is accepted
+pub accepted : (s : List ℕ) (g : Signature) (next n : ℕ) → signatureOf s ≡ got g next n → Accepted s g n
+accepted s g next n q =
+    let r = signature-read s g next n q in
+    let third = encode-third g in
+    record {
+      within = r .within;
+      third = omega arith;
+      result = result-sized (g .convention) (g .result) (r .within .result);
+      arguments = all-within-sized (g .convention) (g .arguments) (r .within .arguments);
+    }
+
+-- an encoding is never refused
+pub encode-not-refused : (g : Signature) → Within g → (r : Refusal) (place : ℕ) → signatureOf (encode g) ≡ no r place → ⊥
+encode-not-refused g w r place q =
+    let read = encode-reads g w in
+    let z : _≡_ {A = ℕ} 0 1 = cc in
+    omega arith
+
+-- two signatures within the limits have different bytes
+pub encode-injective : (g h : Signature) → Within g → Within h → encode g ≡ encode h → g ≡ h
+encode-injective g h w v q =
+    let read : got g (length (encode g)) (signatureItems g) ≡ got h (length (encode h)) (signatureItems h) =
+    sym (encode-reads g w) ∙ ap signatureOf q ∙ encode-reads h v in
+    cc
+
+-- an encoding within the limits is a list of bytes
+
+result-bytes : (r : Result) → length (encodeResult r) < 65536 → Bytes (encodeResult r)
+unfolding encodeResult
+result-bytes nothing l = bytes-none
+result-bytes (value t) l = tree-bytes t l
+
+convention-byte : (c : Convention) → conventionNumber c < 256
+convention-byte Convention.Ppc64 = omega arith
+convention-byte Convention.Z = omega arith
+
+pub encode-bytes : (g : Signature) → Within g → Bytes (encode g)
+unfolding encode
+encode-bytes g w =
+    let size = length-encode g in
+    let short = w .short in
+    let c = conventionNumber (g .convention) in
+    bytes-append (item 0x01 (c ∷ [])) (item 0x02 (encodeResult (g .result)) ++ item 0x03 (encodeTrees (g .arguments)))
+    (bytes-item 0x01 (c ∷ []) (omega arith) (omega arith) (bytes-cons c [] (convention-byte (g .convention)) bytes-none))
+    (bytes-append (item 0x02 (encodeResult (g .result))) (item 0x03 (encodeTrees (g .arguments)))
+    (bytes-item 0x02 (encodeResult (g .result)) (omega arith) (omega arith) (result-bytes (g .result) (omega arith)))
+    (bytes-item 0x03 (encodeTrees (g .arguments)) (omega arith) (omega arith) (trees-bytes (g .arguments) (omega arith))))

@@ -1,0 +1,68 @@
+-- The program's answer for each reading. Assumes nothing.
+use Prim.Native.Nat.{ℕ, _+_, _-_}
+use mathlib.Core.List.{List, [], _∷_, _++_}
+use lib.ListN.{replicate}
+use lib.Dec.{ltb}
+use Rattle.types.specs.declared.Convention.{Convention}
+use Rattle.types.specs.declared.IntegerKind.{IntegerKind}
+use Rattle.types.specs.declared.ValueType.{ValueType}
+use Rattle.types.specs.Trees.{Tree, Trees, none, _▸_, typeOf, countOf}
+use Rattle.items.specs.declared.Refusal.{Refusal}
+use Rattle.items.specs.Reading.{Reading, got, no, pick}
+use Rattle.signature.specs.declared.ResultType.{ResultType}
+use Rattle.signature.specs.declared.Argument.{Argument}
+use Rattle.signature.specs.declared.Outcome.{Outcome}
+use Rattle.signature.specs.declared.SignatureRead.{SignatureRead}
+use Rattle.signature.specs.declared.ConventionRead.{ConventionRead}
+use Rattle.signature.specs.declared.ResultRead.{ResultRead}
+use Rattle.signature.specs.Signature.{Result, nothing, value, Signature}
+use Rattle.signature.specs.Read.{maxArguments}
+
+abbrev pub conventionAnswer : Reading Convention → ConventionRead
+conventionAnswer (got c next n) = ConventionRead.Known c
+conventionAnswer (no r place) = ConventionRead.Refused r
+
+abbrev pub resultType : Convention → Result → ResultType
+resultType c nothing = ResultType.Nothing
+resultType c (value t) = ResultType.Value (typeOf c t)
+
+abbrev pub resultAnswer : Convention → Reading Result → ResultRead
+resultAnswer c (got r next n) = ResultRead.Result (resultType c r) next n
+resultAnswer c (no r place) = ResultRead.Refused r place
+
+-- the table of arguments: their types in order, and an i8 in each place after them
+
+abbrev pub argument : ValueType → Argument
+argument t = record { ty = t }
+
+abbrev pub noArguments : List Argument
+noArguments = replicate maxArguments (argument (ValueType.Integer IntegerKind.I8))
+
+unfoldable pub listed : Convention → Trees → List Argument
+listed c none = []
+listed c (ts ▸ t) = listed c ts ++ argument (typeOf c t) ∷ []
+
+unfoldable pub table : Convention → Trees → List Argument
+table c ts = listed c ts ++ replicate (maxArguments - countOf ts) (argument (ValueType.Integer IntegerKind.I8))
+
+-- "Every refusal leaves all buffers and the state untouched; counts are 0"
+abbrev pub refused : Refusal → ℕ → SignatureRead
+refused r place = record {
+  outcome = Outcome.Refused r place;
+  convention = Convention.Ppc64;
+  result = ResultType.Nothing;
+  count = 0;
+  arguments = noArguments;
+}
+
+abbrev pub accepted : Convention → ResultType → Trees → ℕ → SignatureRead
+accepted c r ts n = record { outcome = Outcome.Accepted n; convention = c; result = r; count = countOf ts; arguments = table c ts }
+
+abbrev pub signatureAnswer : Reading Signature → SignatureRead
+signatureAnswer (got g next n) = accepted (g .convention) (resultType (g .convention) (g .result)) (g .arguments) n
+signatureAnswer (no r place) = refused r place
+
+-- from the arguments on, in a signature of `all` bytes, where the convention and the result's type took n items
+abbrev pub withArguments : Convention → ResultType → ℕ → ℕ → Reading Trees → SignatureRead
+withArguments c r n all (got ts next m) = pick (ltb next all) (refused Refusal.TrailingBytes next) (accepted c r ts (n + m))
+withArguments c r n all (no x place) = refused x place

@@ -1,0 +1,42 @@
+-- The bytes of a signature, and the signatures that the bridge carries: document 01, "A signature's bytes", from a signature
+-- to its bytes. Assumes nothing.
+use Prim.Native.Nat.{ℕ, _+_, _≤_}
+use mathlib.Core.List.{List, [], _∷_, _++_}
+use lib.ListN.{length}
+use Rattle.types.specs.declared.Convention.{Convention}
+use Rattle.types.specs.Trees.{countOf}
+use Rattle.types.specs.Limits as types
+use Rattle.items.specs.Encode.{item, encodeTree, encodeTrees, itemsOf, itemsIn}
+use Rattle.signature.specs.Signature.{Result, nothing, value, Signature}
+
+abbrev pub conventionNumber : Convention → ℕ
+conventionNumber Convention.Ppc64 = 1
+conventionNumber Convention.Z = 2
+
+unfoldable pub encodeResult : Result → List ℕ
+encodeResult nothing = []
+encodeResult (value t) = encodeTree t
+
+-- "A signature is three items in this order, and nothing after"
+unfoldable pub encode : Signature → List ℕ
+encode g =
+    item 0x01 (conventionNumber (g .convention) ∷ []) ++ (item 0x02 (encodeResult (g .result)) ++ item 0x03 (encodeTrees (g .arguments)))
+
+unfoldable pub resultItems : Result → ℕ
+resultItems nothing = 0
+resultItems (value t) = itemsOf t
+
+-- "its count of items, headers of nested ones included"
+unfoldable pub signatureItems : Signature → ℕ
+signatureItems g = 3 + resultItems (g .result) + itemsIn (g .arguments)
+
+unfoldable pub ResultWithin : Convention → Result → Type 0
+ResultWithin c nothing = Unit {0}
+ResultWithin c (value t) = types.Within c t
+
+-- the limits of refusals 1, 4 to 8
+pub record Within (g : Signature) : Type 0 where
+  pub result : ResultWithin (g .convention) (g .result)
+  pub arguments : types.AllWithin (g .convention) (g .arguments)
+  pub few : countOf (g .arguments) ≤ 64
+  pub short : length (encode g) ≤ 4096

@@ -1,0 +1,69 @@
+-- What reading a signature finds: document 01, "A signature's bytes" and the refusals 1 to 9 of "When the bridge says no",
+-- "Order: 1 first, then left to right". The list s is the signature, `at` the place of an item's header. Assumes nothing.
+use Prim.Native.Nat.{ℕ, _+_}
+use mathlib.Core.List.{List}
+use lib.ListN.{length, getD}
+use lib.Dec.{ltb, eqb}
+use Rattle.types.specs.declared.Convention.{Convention}
+use Rattle.types.specs.Trees.{Tree, Trees, none}
+use Rattle.items.specs.declared.Refusal.{Refusal}
+use Rattle.items.specs.Reading.{Reading, got, no, pick, choose, andThen, inBody}
+use Rattle.items.specs.Read.{bodyAt, sequence, itemAt}
+use Rattle.signature.specs.declared.ConventionCode.{ConventionCode}
+use Rattle.signature.specs.Signature.{Result, nothing, value, Signature}
+
+-- 1: "signature over 4,096 bytes"
+abbrev pub maxLength : ℕ
+maxLength = 4096
+
+-- 7: "bytes left after the 64th argument"
+abbrev pub maxArguments : ℕ
+maxArguments = 64
+
+-- the depth left outside any struct; 6: "struct depth over 8"
+abbrev pub maxDepth : ℕ
+maxDepth = 8
+
+-- "code 1 PPC64, 2 Z"
+unfoldable pub conventionCode : ℕ → ConventionCode
+conventionCode x = pick (eqb x 1) (ConventionCode.Known Convention.Ppc64) (pick (eqb x 2) (ConventionCode.Known Convention.Z) ConventionCode.Unknown)
+
+abbrev pub conventionBy : ConventionCode → Reading Convention
+conventionBy (ConventionCode.Known c) = got c 4 1
+conventionBy ConventionCode.Unknown = no Refusal.Malformed 0
+
+-- "tag 0x01: length 1"
+unfoldable pub conventionAt : List ℕ → Reading Convention
+conventionAt s =
+    inBody (bodyAt s 0x01 0x01 (length s) 0) 0 (λ b. pick (eqb b 4) (conventionBy (conventionCode (getD s 3 0))) (no Refusal.Malformed 0))
+
+-- "empty body for none, else one type item"; 4: "bytes after the result's one type (place: the first such byte)"
+unfoldable pub resultIn : Convention → List ℕ → ℕ → ℕ → Reading Result
+resultIn c s at b =
+    choose (eqb at b) (λ _. got nothing b 1)
+    (λ _. andThen (itemAt c maxDepth s b at) (λ t next n. pick (ltb next b) (no Refusal.Malformed next) (got (value t) b (n + 1))))
+
+-- "tag 0x02: result"
+unfoldable pub resultAt : Convention → List ℕ → ℕ → Reading Result
+resultAt c s at = inBody (bodyAt s 0x02 0x02 (length s) at) at (λ b. resultIn c s (at + 3) b)
+
+-- "0 to 64 type items"; their item's own header is counted first
+unfoldable pub argumentsIn : Convention → List ℕ → ℕ → ℕ → Reading Trees
+argumentsIn c s at b = sequence (itemAt c maxDepth s b) b maxArguments at 1 none
+
+-- "tag 0x03: arguments"
+unfoldable pub argumentsAt : Convention → List ℕ → ℕ → Reading Trees
+argumentsAt c s at = inBody (bodyAt s 0x03 0x03 (length s) at) at (λ b. argumentsIn c s (at + 3) b)
+
+-- 9: "bytes after the third item (place: there)"; n items came before it
+unfoldable pub afterResult : List ℕ → Convention → Result → ℕ → ℕ → Reading Signature
+afterResult s c r at n =
+    andThen (argumentsAt c s at) (λ ts next m.
+    pick (ltb next (length s)) (no Refusal.TrailingBytes next) (got (record { convention = c; result = r; arguments = ts }) next (n + m)))
+
+unfoldable pub afterConvention : List ℕ → Convention → ℕ → ℕ → Reading Signature
+afterConvention s c at n = andThen (resultAt c s at) (λ r next m. afterResult s c r next (n + m))
+
+-- "A signature is three items in this order, and nothing after"
+unfoldable pub signatureOf : List ℕ → Reading Signature
+signatureOf s = choose (ltb maxLength (length s)) (λ _. no Refusal.TooLong 0) (λ _. andThen (conventionAt s) (afterConvention s))

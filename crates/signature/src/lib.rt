@@ -1,0 +1,239 @@
+// Reads a whole signature: the convention, the result's type and the types of 0 to 64 arguments.
+use items::Body;
+use items::ItemRead;
+use items::Refusal;
+use types::Convention;
+use types::IntegerKind;
+use types::ValueType;
+ghost use mathlib.Core.Path.{_≡_};
+ghost use Prim.Native.Nat.{_+_, _*_, _^_, _≤_, _<_};
+ghost use lib.ListN.{length};
+ghost use Rattle.signature.specs.Read.{conventionCode, conventionAt, resultIn, resultAt, argumentsIn, argumentsAt, afterConvention, signatureOf};
+ghost use Rattle.signature.specs.Answer.{noArguments, refused, conventionAnswer, resultAnswer, withArguments, signatureAnswer};
+
+pub enum ResultType {
+    Nothing,
+    Value(ValueType),
+}
+
+pub struct Argument {
+    pub ty: ValueType,
+}
+
+// Accepted, with the count of items; or why and where refused.
+pub enum Outcome {
+    Accepted(usize),
+    Refused { reason: Refusal, place: usize },
+}
+
+// The answer on a signature. A refused one has no result and no arguments; the places of the table past `count` hold an i8.
+pub struct SignatureRead {
+    pub outcome: Outcome,
+    pub convention: Convention,
+    pub result: ResultType,
+    pub count: usize,
+    pub arguments: [Argument; 64],
+}
+
+pub enum ConventionCode {
+    Known(Convention),
+    Unknown,
+}
+
+// The first item.
+pub enum ConventionRead {
+    Known(Convention),
+    Refused(Refusal),
+}
+
+// The second item, with the place of the third and the count of its items.
+pub enum ResultRead {
+    Result {
+        ty: ResultType,
+        next: usize,
+        items: usize,
+    },
+    Refused {
+        reason: Refusal,
+        place: usize,
+    },
+}
+
+fn no_arguments() -> [Argument; 64]
+    ensures { λ r. ⌜ r ≡ noArguments ⌝ }
+{
+    [Argument {
+        ty: ValueType::Integer(IntegerKind::I8),
+    }; 64]
+}
+
+fn refuse(reason: Refusal, place: usize) -> SignatureRead
+    ensures { λ r. ⌜ r ≡ refused reason place ⌝ }
+{
+    let arguments = no_arguments();
+    SignatureRead {
+        outcome: Outcome::Refused { reason, place },
+        convention: Convention::Ppc64,
+        result: ResultType::Nothing,
+        count: 0,
+        arguments,
+    }
+}
+
+fn convention_code(code: u8) -> ConventionCode
+    ensures { λ r. ⌜ r ≡ conventionCode code ⌝ }
+{
+    match code {
+        1 => ConventionCode::Known(Convention::Ppc64),
+        2 => ConventionCode::Known(Convention::Z),
+        _ => ConventionCode::Unknown,
+    }
+}
+
+// The first item, at 0.
+fn read_convention(s: &[u8]) -> ConventionRead
+    ensures { λ r. ⌜ r ≡ conventionAnswer (conventionAt (now (s .entry))) ⌝ }
+{
+    match items::read_body(s, 0x01, 0x01, 0, s.len()) {
+        Body::Refused(reason) => ConventionRead::Refused(reason),
+        Body::To(to) => {
+            if to != 4 {
+                return ConventionRead::Refused(Refusal::Malformed);
+            }
+            match convention_code(s[3]) {
+                ConventionCode::Known(c) => ConventionRead::Known(c),
+                ConventionCode::Unknown => ConventionRead::Refused(Refusal::Malformed),
+            }
+        }
+    }
+}
+
+// The result's type, in the second item's body from `at` to `end`.
+fn read_result_body(s: &[u8], c: Convention, at: usize, end: usize) -> ResultRead
+    requires { ⌜ (at ≤ end) × (end ≤ length (now s)) × (end ≤ 2 ^ 16) ⌝ }
+    ensures { λ r. ⌜ r ≡ resultAnswer c (resultIn c (now (s .entry)) at end) ⌝ }
+{
+    if at == end {
+        return ResultRead::Result {
+            ty: ResultType::Nothing,
+            next: end,
+            items: 1,
+        };
+    }
+    match items::read_item(s, c, at, end, 8) {
+        ItemRead::Refused { reason, place } => ResultRead::Refused { reason, place },
+        ItemRead::Item { ty, next, items } => {
+            if next < end {
+                return ResultRead::Refused {
+                    reason: Refusal::Malformed,
+                    place: next,
+                };
+            }
+            ResultRead::Result {
+                ty: ResultType::Value(ty),
+                next: end,
+                items: items + 1,
+            }
+        }
+    }
+}
+
+// The second item, at `at`.
+fn read_result(s: &[u8], c: Convention, at: usize) -> ResultRead
+    requires { ⌜ (at ≤ length (now s)) × (length (now s) ≤ 2 ^ 16) ⌝ }
+    ensures { λ r. ⌜ r ≡ resultAnswer c (resultAt c (now (s .entry)) at) ⌝ }
+{
+    match items::read_body(s, 0x02, 0x02, at, s.len()) {
+        Body::Refused(reason) => ResultRead::Refused { reason, place: at },
+        Body::To(to) => read_result_body(s, c, at + 3, to),
+    }
+}
+
+// The arguments, in the third item's body from `at` to `end`, and the signature's end; `earlier` items came before this one.
+fn read_arguments_body(
+    s: &[u8],
+    c: Convention,
+    result: ResultType,
+    at: usize,
+    end: usize,
+    earlier: usize,
+) -> SignatureRead
+    requires { ⌜ (at ≤ end) × (end ≤ length (now s)) × (end ≤ 2 ^ 16) × (earlier ≤ 2 ^ 16) ⌝ }
+    ensures { λ r. ⌜ r ≡ withArguments c result earlier (length (now (s .entry))) (argumentsIn c (now (s .entry)) at end) ⌝ }
+{
+    let mut arguments = no_arguments();
+    let mut count: usize = 0;
+    let mut next = at;
+    let mut items: usize = 1;
+    while next < end {
+        if count == 64 {
+            return refuse(Refusal::TooManyArguments, next);
+        }
+        match items::read_item(s, c, next, end, 8) {
+            ItemRead::Item {
+                ty,
+                next: after,
+                items: more,
+            } => {
+                arguments[count] = Argument { ty };
+                count = count + 1;
+                next = after;
+                items = items + more;
+            }
+            ItemRead::Refused { reason, place } => {
+                return refuse(reason, place);
+            }
+        }
+    }
+    if next < s.len() {
+        return refuse(Refusal::TrailingBytes, next);
+    }
+    SignatureRead {
+        outcome: Outcome::Accepted(earlier + items),
+        convention: c,
+        result,
+        count,
+        arguments,
+    }
+}
+
+// The third item, at `at`, and the signature's end.
+fn read_arguments(
+    s: &[u8],
+    c: Convention,
+    result: ResultType,
+    at: usize,
+    earlier: usize,
+) -> SignatureRead
+    requires { ⌜ (at ≤ length (now s)) × (length (now s) ≤ 2 ^ 16) × (earlier ≤ 2 ^ 16) ⌝ }
+    ensures { λ r. ⌜ r ≡ withArguments c result earlier (length (now (s .entry))) (argumentsAt c (now (s .entry)) at) ⌝ }
+{
+    match items::read_body(s, 0x03, 0x03, at, s.len()) {
+        Body::Refused(reason) => refuse(reason, at),
+        Body::To(to) => read_arguments_body(s, c, result, at + 3, to, earlier),
+    }
+}
+
+// The second and the third item.
+fn read_types(s: &[u8], c: Convention) -> SignatureRead
+    requires { ⌜ (4 ≤ length (now s)) × (length (now s) ≤ 2 ^ 16) ⌝ }
+    ensures { λ r. ⌜ r ≡ signatureAnswer (afterConvention (now (s .entry)) c 4 1) ⌝ }
+{
+    match read_result(s, c, 4) {
+        ResultRead::Refused { reason, place } => refuse(reason, place),
+        ResultRead::Result { ty, next, items } => read_arguments(s, c, ty, next, 1 + items),
+    }
+}
+
+// A signature: any bytes at all.
+pub fn read_signature(s: &[u8]) -> SignatureRead
+    ensures { λ r. ⌜ r ≡ signatureAnswer (signatureOf (now (s .entry))) ⌝ }
+{
+    if 4096 < s.len() {
+        return refuse(Refusal::TooLong, 0);
+    }
+    match read_convention(s) {
+        ConventionRead::Refused(reason) => refuse(reason, 0),
+        ConventionRead::Known(c) => read_types(s, c),
+    }
+}

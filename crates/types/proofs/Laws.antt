@@ -1,0 +1,94 @@
+-- The laws of sizes, alignments and layouts: bounds first, then what closing a struct finds. Assumes nothing.
+use mathlib.Core.Path.{_≡_, refl, sym, ap, _∙_}
+use mathlib.Core.Bool.{Bool, true, false}
+use Prim.Native.Nat.{ℕ, _+_, _-_, _*_, _/_, _≤_, _<_}
+use native.Mathlib.Nat.{div-mul-le-self, div-add-mod', mod-lt}
+use native.Mathlib.Omega.{arith}
+use lib.Dec.{ltb}
+use borrow.Author.Tests.{lt-ltb, le-ltb}
+use Rattle.types.specs.declared.Convention.{Convention}
+use Rattle.types.specs.declared.IntegerKind.{IntegerKind}
+use Rattle.types.specs.declared.FloatFormat.{FloatFormat}
+use Rattle.types.specs.declared.ValueType.{ValueType}
+use Rattle.types.specs.declared.Shape.{Shape}
+use Rattle.types.specs.declared.Fields.{Fields}
+use Rattle.types.specs.declared.Closed.{Closed}
+use Rattle.types.specs.Sizes.{pointerSize, integerSize, floatSize, sizeOf, alignOf, Sized}
+use Rattle.types.specs.Structs.{roundUp, noFields, withField, shapeOf, closed}
+
+-- rounding up
+
+pub round-up-most : (n a : ℕ) → 0 < a → roundUp n a < n + a
+unfolding roundUp
+round-up-most n a h = omega (arith, div-mul-le-self (n + (a - 1)) a)
+
+pub round-up-least : (n a : ℕ) → 0 < a → n ≤ roundUp n a
+unfolding roundUp
+round-up-least n a h = omega (arith, div-add-mod' (n + (a - 1)) a, mod-lt (n + (a - 1)) h)
+
+-- a type that is no struct is small
+
+pointer-sized : (c : Convention) → (0 < pointerSize c) × (pointerSize c ≤ 16)
+pointer-sized Convention.Ppc64 = omega arith
+pointer-sized Convention.Z = omega arith
+
+integer-most : (c : Convention) (k : IntegerKind) → (0 < integerSize c k) × (integerSize c k ≤ 16)
+integer-most c IntegerKind.I8 = omega arith
+integer-most c IntegerKind.U8 = omega arith
+integer-most c IntegerKind.I16 = omega arith
+integer-most c IntegerKind.U16 = omega arith
+integer-most c IntegerKind.I32 = omega arith
+integer-most c IntegerKind.U32 = omega arith
+integer-most c IntegerKind.I64 = omega arith
+integer-most c IntegerKind.U64 = omega arith
+integer-most c IntegerKind.Pointer = pointer-sized c
+
+float-most : (f : FloatFormat) → (0 < floatSize f) × (floatSize f ≤ 16)
+float-most FloatFormat.Single = omega arith
+float-most FloatFormat.Double = omega arith
+float-most FloatFormat.LongDouble = omega arith
+
+pub integer-sized : (c : Convention) (k : IntegerKind) → Sized c (ValueType.Integer k)
+integer-sized c k = let m = integer-most c k in record { some = m .0; small = omega arith; aligned = m .0; narrow = m .1 }
+
+pub float-sized : (c : Convention) (f : FloatFormat) → Sized c (ValueType.Float f)
+float-sized c f = let m = float-most f in record { some = m .0; small = omega arith; aligned = m .0; narrow = m .1 }
+
+-- the fields so far
+
+-- an alignment of 1 to 16
+pub record Aligned (l : Fields) : Type 0 where
+  pub least : 0 < l .align
+  pub most : l .align ≤ 16
+
+pub none-aligned : Aligned noFields
+none-aligned = record { least = omega arith; most = omega arith }
+
+module _ (c : Convention) (l : Fields) (t : ValueType) (sized : Sized c t) where
+  pub more-aligned : Aligned l → Aligned (withField c l t)
+  unfolding withField
+  more-aligned a = record { least = omega arith; most = omega arith }
+
+  -- a field takes its size and at most 15 bytes before it
+  pub more-end : withField c l t .end < l .end + 272
+  unfolding withField
+  more-end = omega (arith, round-up-most (l .end) (alignOf c t) (sized .aligned))
+
+  pub more-some : 0 < withField c l t .end
+  unfolding withField
+  more-some = omega arith
+
+-- closing
+
+module _ (l : Fields) where
+  pub closed-large : 256 < roundUp (l .end) (l .align) → closed l ≡ Closed.TooLarge
+  unfolding closed shapeOf
+  closed-large h = simp (lt-ltb 256 (roundUp (l .end) (l .align)) h)
+
+  pub closed-small : roundUp (l .end) (l .align) ≤ 256 → closed l ≡ Closed.Shape (shapeOf l)
+  unfolding closed shapeOf
+  closed-small h = simp (le-ltb 256 (roundUp (l .end) (l .align)) h)
+
+  pub shape-sized : (c : Convention) → Aligned l → 0 < l .end → shapeOf l .size ≤ 256 → Sized c (ValueType.Struct (shapeOf l))
+  unfolding shapeOf
+  shape-sized c a h small = record { some = omega (arith, round-up-least (l .end) (l .align) (a .least)); small = small; aligned = a .least; narrow = a .most }

@@ -1,0 +1,58 @@
+-- The size and the alignment of a type, and the float that it is equivalent to.
+-- Document 01, "A signature's bytes". Assumes nothing.
+use Prim.Native.Nat.{ℕ, _≤_, _<_}
+use Rattle.types.specs.declared.Convention.{Convention}
+use Rattle.types.specs.declared.IntegerKind.{IntegerKind}
+use Rattle.types.specs.declared.FloatFormat.{FloatFormat}
+use Rattle.types.specs.declared.Equivalent.{Equivalent}
+use Rattle.types.specs.declared.ValueType.{ValueType}
+
+-- "pointer (8 bytes)", on both machines
+abbrev pub pointerSize : Convention → ℕ
+pointerSize Convention.Ppc64 = 8
+pointerSize Convention.Z = 8
+
+-- "whole number .. i8, u8, i16, u16, i32, u32, i64, u64, pointer": in bytes
+abbrev pub integerSize : Convention → IntegerKind → ℕ
+integerSize c IntegerKind.I8 = 1
+integerSize c IntegerKind.U8 = 1
+integerSize c IntegerKind.I16 = 2
+integerSize c IntegerKind.U16 = 2
+integerSize c IntegerKind.I32 = 4
+integerSize c IntegerKind.U32 = 4
+integerSize c IntegerKind.I64 = 8
+integerSize c IntegerKind.U64 = 8
+integerSize c IntegerKind.Pointer = pointerSize c
+
+-- "float .. single, double, long double (16 bytes)"
+abbrev pub floatSize : FloatFormat → ℕ
+floatSize FloatFormat.Single = 4
+floatSize FloatFormat.Double = 8
+floatSize FloatFormat.LongDouble = 16
+
+abbrev pub sizeOf : Convention → ValueType → ℕ
+sizeOf c (ValueType.Integer k) = integerSize c k
+sizeOf c (ValueType.Float f) = floatSize f
+sizeOf c (ValueType.Struct s) = s .size
+
+-- "Field alignment is the field's size, for a struct its largest field alignment"
+abbrev pub alignOf : Convention → ValueType → ℕ
+alignOf c (ValueType.Integer k) = integerSize c k
+alignOf c (ValueType.Float f) = floatSize f
+alignOf c (ValueType.Struct s) = s .align
+
+-- The float that a value is placed as on Z: "Single, double, or a struct with one field that is either or again such a
+-- struct". 001: "a structure equivalent to a floating point type".
+abbrev pub equivalentOf : ValueType → Equivalent
+equivalentOf (ValueType.Integer k) = Equivalent.Nothing
+equivalentOf (ValueType.Float FloatFormat.Single) = Equivalent.Single
+equivalentOf (ValueType.Float FloatFormat.Double) = Equivalent.Double
+equivalentOf (ValueType.Float FloatFormat.LongDouble) = Equivalent.Nothing
+equivalentOf (ValueType.Struct s) = s .equivalent
+
+-- what holds of each type that is read: a size of 1 to 256 bytes and an alignment of 1 to 16
+pub record Sized (c : Convention) (t : ValueType) : Type 0 where
+  pub some : 0 < sizeOf c t
+  pub small : sizeOf c t ≤ 256
+  pub aligned : 0 < alignOf c t
+  pub narrow : alignOf c t ≤ 16

@@ -1,0 +1,49 @@
+-- The layout of a struct: its fields one after the other, each at the next multiple of its alignment.
+-- Document 01, "A signature's bytes". Assumes nothing.
+use Prim.Native.Nat.{ℕ, _+_, _-_, _*_, _/_, max}
+use mathlib.Core.Bool.{Bool, true, false}
+use lib.Dec.{ltb}
+use Rattle.types.specs.declared.Convention.{Convention}
+use Rattle.types.specs.declared.Equivalent.{Equivalent}
+use Rattle.types.specs.declared.Shape.{Shape}
+use Rattle.types.specs.declared.ValueType.{ValueType}
+use Rattle.types.specs.declared.Fields.{Fields}
+use Rattle.types.specs.declared.Closed.{Closed}
+use Rattle.types.specs.Sizes.{sizeOf, alignOf, equivalentOf}
+
+-- n, rounded up to a multiple of a
+unfoldable pub roundUp : ℕ → ℕ → ℕ
+roundUp n a = (n + (a - 1)) / a * a
+
+abbrev pub noFields : Fields
+noFields = record { end = 0; align = 1; empty = true; equivalent = Equivalent.Nothing }
+
+-- "a struct with one field that is either [single or double] or again such a struct": the first field's float, while it
+-- is the only field
+abbrev pub equivalentAfter : Bool → ValueType → Equivalent
+equivalentAfter true t = equivalentOf t
+equivalentAfter false t = Equivalent.Nothing
+
+-- one field more; the struct's alignment is "its largest field alignment"
+unfoldable pub withField : Convention → Fields → ValueType → Fields
+withField c l t = record {
+  end = roundUp (l .end) (alignOf c t) + sizeOf c t;
+  align = max (l .align) (alignOf c t);
+  empty = false;
+  equivalent = equivalentAfter (l .empty) t;
+}
+
+-- "a struct's size is rounded up to its alignment"
+unfoldable pub shapeOf : Fields → Shape
+shapeOf l = record { size = roundUp (l .end) (l .align); align = l .align; equivalent = l .equivalent }
+
+abbrev pub unlessTooLarge : Bool → Shape → Closed
+unlessTooLarge true s = Closed.TooLarge
+unlessTooLarge false s = Closed.Shape s
+
+-- refusal 8: "struct size over 256"
+abbrev pub tooLarge : Shape → Bool
+tooLarge s = ltb 256 (s .size)
+
+unfoldable pub closed : Fields → Closed
+closed l = unlessTooLarge (tooLarge (shapeOf l)) (shapeOf l)

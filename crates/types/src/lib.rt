@@ -1,0 +1,212 @@
+// The types that a signature names: integers, floats and structs, with the size and the alignment of each, and the layout
+// of a struct's fields one after the other.
+ghost use mathlib.Core.Path.{_≡_};
+ghost use Prim.Native.Nat.{_+_, _^_, _≤_, _<_, max};
+ghost use Rattle.types.specs.Sizes.{pointerSize, integerSize, floatSize, sizeOf, alignOf, equivalentOf, Sized};
+ghost use Rattle.types.specs.Structs.{roundUp, noFields, withField, equivalentAfter, closed};
+
+// A calling convention, as a signature's first item names it. The sizes of types are those of its machine.
+pub enum Convention {
+    Ppc64,
+    Z,
+}
+
+// An integer type or a pointer. Document 01 calls these whole numbers.
+pub enum IntegerKind {
+    I8,
+    U8,
+    I16,
+    U16,
+    I32,
+    U32,
+    I64,
+    U64,
+    Pointer,
+}
+
+pub enum FloatFormat {
+    Single,
+    Double,
+    LongDouble,
+}
+
+// The float that a struct is equivalent to: that of its only field, however deep it stands.
+pub enum Equivalent {
+    Nothing,
+    Single,
+    Double,
+}
+
+// A struct's size and alignment in bytes, at most 256 and 16, and its equivalent float. Kept small: a signature has a
+// table of these.
+pub struct Shape {
+    pub size: u16,
+    pub align: u8,
+    pub equivalent: Equivalent,
+}
+
+pub enum ValueType {
+    Integer(IntegerKind),
+    Float(FloatFormat),
+    Struct(Shape),
+}
+
+pub fn pointer_size(c: Convention) -> usize
+    ensures { λ r. ⌜ r ≡ pointerSize c ⌝ }
+{
+    match c {
+        Convention::Ppc64 => 8,
+        Convention::Z => 8,
+    }
+}
+
+pub fn integer_size(c: Convention, k: IntegerKind) -> usize
+    ensures { λ r. ⌜ r ≡ integerSize c k ⌝ }
+{
+    match k {
+        IntegerKind::I8 => 1,
+        IntegerKind::U8 => 1,
+        IntegerKind::I16 => 2,
+        IntegerKind::U16 => 2,
+        IntegerKind::I32 => 4,
+        IntegerKind::U32 => 4,
+        IntegerKind::I64 => 8,
+        IntegerKind::U64 => 8,
+        IntegerKind::Pointer => pointer_size(c),
+    }
+}
+
+pub fn float_size(f: FloatFormat) -> usize
+    ensures { λ r. ⌜ r ≡ floatSize f ⌝ }
+{
+    match f {
+        FloatFormat::Single => 4,
+        FloatFormat::Double => 8,
+        FloatFormat::LongDouble => 16,
+    }
+}
+
+pub fn size_of(c: Convention, t: ValueType) -> usize
+    ensures { λ r. ⌜ r ≡ sizeOf c t ⌝ }
+{
+    match t {
+        ValueType::Integer(k) => integer_size(c, k),
+        ValueType::Float(f) => float_size(f),
+        ValueType::Struct(s) => s.size as usize,
+    }
+}
+
+pub fn align_of(c: Convention, t: ValueType) -> usize
+    ensures { λ r. ⌜ r ≡ alignOf c t ⌝ }
+{
+    match t {
+        ValueType::Integer(k) => integer_size(c, k),
+        ValueType::Float(f) => float_size(f),
+        ValueType::Struct(s) => s.align as usize,
+    }
+}
+
+pub fn equivalent_of(t: ValueType) -> Equivalent
+    ensures { λ r. ⌜ r ≡ equivalentOf t ⌝ }
+{
+    match t {
+        ValueType::Integer(_) => Equivalent::Nothing,
+        ValueType::Float(f) => match f {
+            FloatFormat::Single => Equivalent::Single,
+            FloatFormat::Double => Equivalent::Double,
+            FloatFormat::LongDouble => Equivalent::Nothing,
+        },
+        ValueType::Struct(s) => s.equivalent,
+    }
+}
+
+// The fields of a struct so far: where the last one ends, the largest alignment, whether there is none yet, and the float
+// that the only one is equivalent to.
+pub struct Fields {
+    pub end: usize,
+    pub align: usize,
+    pub empty: bool,
+    pub equivalent: Equivalent,
+}
+
+// What a struct is once its last field is there.
+pub enum Closed {
+    Shape(Shape),
+    TooLarge,
+}
+
+fn round_up(n: usize, a: usize) -> usize
+    requires { ⌜ (0 < a) × (a ≤ 16) × (n < 2 ^ 32 + 272) ⌝ }
+    ensures { λ r. ⌜ r ≡ roundUp n a ⌝ }
+{
+    (n + (a - 1)) / a * a
+}
+
+fn larger(a: usize, b: usize) -> usize
+    ensures { λ r. ⌜ r ≡ max a b ⌝ }
+{
+    if a < b { b } else { a }
+}
+
+fn equivalent_after(empty: bool, t: ValueType) -> Equivalent
+    ensures { λ r. ⌜ r ≡ equivalentAfter empty t ⌝ }
+{
+    if empty {
+        equivalent_of(t)
+    } else {
+        Equivalent::Nothing
+    }
+}
+
+impl Fields {
+    pub fn new() -> Fields
+        ensures { λ r. ⌜ r ≡ noFields ⌝ }
+    {
+        Fields {
+            end: 0,
+            align: 1,
+            empty: true,
+            equivalent: Equivalent::Nothing,
+        }
+    }
+
+    // One field more, at the next multiple of its alignment.
+    pub fn with_field(self, c: Convention, t: ValueType) -> Fields
+        requires { ⌜ (self .end < 2 ^ 32) × Sized c t ⌝ }
+        ensures { λ r. ⌜ r ≡ withField c self t ⌝ }
+    {
+        let end = self.end;
+        let align = self.align;
+        let empty = self.empty;
+        let size = size_of(c, t);
+        let a = align_of(c, t);
+        let start = round_up(end, a);
+        let most = larger(align, a);
+        let equivalent = equivalent_after(empty, t);
+        Fields {
+            end: start + size,
+            align: most,
+            empty: false,
+            equivalent,
+        }
+    }
+
+    // The struct of these fields, unless it is over 256 bytes.
+    pub fn close(self) -> Closed
+        requires { ⌜ (self .end < 2 ^ 32) × (0 < self .align) × (self .align ≤ 16) ⌝ }
+        ensures { λ r. ⌜ r ≡ closed self ⌝ }
+    {
+        let end = self.end;
+        let align = self.align;
+        let equivalent = self.equivalent;
+        let size = round_up(end, align);
+        if 256 < size {
+            return Closed::TooLarge;
+        }
+        Closed::Shape(Shape {
+            size: size as u16,
+            align: align as u8,
+            equivalent,
+        })
+    }
+}
