@@ -1,2 +1,3 @@
 -- What the exported functions answer. Assumes nothing.
 pub mod Surface
+pub mod Frames

@@ -1,5 +1,7 @@
 // The surface for C and Rust, which include/flakuzhen.h declares: each function calls one of the crates below and lays its
 // answer out in 64-bit words.
+pub mod frames; // frames.rt: the frame machine
+
 use ieee::Narrowed;
 use signature::Outcome;
 ghost use mathlib.Core.Path.{_≡_};
