@@ -6,6 +6,7 @@
 #![forbid(unsafe_code)]
 
 pub mod float_bits;
+pub mod machine;
 mod reader;
 mod types;
 
