@@ -4,14 +4,17 @@
 #![forbid(unsafe_code)]
 
 use compare::random::Random;
-use compare::{float_bits, signatures, Difference};
+use compare::{float_bits, machine_lists, signatures, Difference};
+use reference::Convention;
 use std::fmt;
 use std::process::ExitCode;
 use std::time::{Duration, Instant, SystemTime, UNIX_EPOCH};
 
-/// The share of a round, which takes about a third of a second.
+/// The share of a round, which takes about half a second.
 const SIGNATURES: u64 = 20_000;
 const SINGLES: u64 = 50_000;
+const LISTS: u64 = 500;
+const STATES: u64 = 2_000;
 /// How often it says how far it is.
 const PACE: Duration = Duration::from_secs(10);
 
@@ -49,12 +52,26 @@ fn seed_from_the_clock() -> u64 {
 struct Cases {
     signatures: u64,
     floats: u64,
+    machine_calls: u64,
+}
+
+impl Cases {
+    fn total(&self) -> u64 {
+        self.signatures + self.floats + self.machine_calls
+    }
 }
 
 impl fmt::Display for Cases {
     fn fmt(&self, to: &mut fmt::Formatter<'_>) -> fmt::Result {
-        let Cases { signatures, floats } = self;
-        write!(to, "{signatures} signatures, {floats} float conversions")
+        let Cases {
+            signatures,
+            floats,
+            machine_calls,
+        } = self;
+        write!(
+            to,
+            "{signatures} signatures, {floats} float conversions, {machine_calls} machine calls"
+        )
     }
 }
 
@@ -69,7 +86,7 @@ fn soak(seed: u64, time: Duration) -> Result<Cases, Difference> {
         if told.elapsed() >= PACE {
             told = Instant::now();
             let spent = began.elapsed();
-            let rate = (done.signatures + done.floats) as f64 / spent.as_secs_f64();
+            let rate = done.total() as f64 / spent.as_secs_f64();
             let left = time.saturating_sub(spent).as_secs();
             println!("seed {seed:#x}: {done}; {rate:.0} a second; {left} s left");
         }
@@ -81,5 +98,12 @@ fn round(seed: u64, done: &mut Cases) -> Result<(), Difference> {
     let told = |difference: Difference| Difference(format!("round {seed:#x}: {difference}"));
     done.signatures += signatures::run(seed, SIGNATURES).map_err(told)?.total();
     done.floats += float_bits::run(seed, SINGLES).map_err(told)?.total();
+    for convention in [Convention::Ppc64, Convention::Z] {
+        let reach = machine_lists::run(seed, convention, LISTS).map_err(told)?;
+        done.machine_calls += reach.calls;
+    }
+    done.machine_calls += machine_lists::run_nonsense(seed, STATES)
+        .map_err(told)?
+        .calls;
     Ok(())
 }
