@@ -48,8 +48,8 @@ pub struct Reach {
     /// less.
     pub last_free_byte: u64,
     pub one_byte_too_many: u64,
-    /// Leaves whose promise was tested: the caller finds all as it was.
-    pub promises: u64,
+    /// Leaves after which the caller was seen to find all that a call must preserve.
+    pub preserving: u64,
     /// Accepted leaves that restored bytes by chance.
     pub foreign_leaves: u64,
 }
@@ -60,19 +60,19 @@ impl fmt::Display for Reach {
         let [locals, own, callers] = self.memory_writes;
         writeln!(
             to,
-            "{} lists, {} of them of {LONGEST_LIST} calls; {} calls",
+            "{} lists or states, {} of {LONGEST_LIST} calls; {} calls",
             self.lists, self.longest, self.calls
         )?;
         writeln!(
             to,
             "accepted: {} starts, {} enters ({} to the last free byte), {} leaves ({} from foreign \
-             bytes, {} with the promise tested)",
+             bytes, {} seen to preserve the caller's)",
             self.starts,
             self.enters,
             self.last_free_byte,
             self.leaves,
             self.foreign_leaves,
-            self.promises
+            self.preserving
         )?;
         writeln!(
             to,
@@ -197,7 +197,7 @@ fn areas(machine: &Machine) -> Vec<Area> {
 
 /// What a caller relies on, told from the calls and their answers alone: what it finds again after
 /// a matching leave, whatever the calls between were.
-struct Promise {
+struct Preserved {
     convention: Convention,
     registers: Registers,
     /// The caller's stack pointer, and the memory from there up.
@@ -207,7 +207,7 @@ struct Promise {
     open: Vec<(u64, u64)>,
 }
 
-impl Promise {
+impl Preserved {
     /// Just before an enter; `callers_outgoing` is what the caller itself asked for.
     fn new(pair: &Pair, convention: Convention, request: &Request, callers_outgoing: u64) -> Self {
         let machine = pair.state();
@@ -221,7 +221,7 @@ impl Promise {
             let length = if saved == Saved::Cr { 4 } else { 8 };
             open.push((at as u64, at as u64 + length));
         }
-        Promise {
+        Preserved {
             convention,
             registers: machine.registers,
             pointer,
@@ -230,8 +230,8 @@ impl Promise {
         }
     }
 
-    /// Whether it is kept just after the matching leave.
-    fn kept(&self, pair: &Pair) -> bool {
+    /// Whether it is all there just after the matching leave.
+    fn holds(&self, pair: &Pair) -> bool {
         let machine = pair.state();
         let (old, new) = (&self.registers, &machine.registers);
         let registers = match self.convention {
@@ -334,7 +334,8 @@ fn expect(given: u64, expected: u64, what: &str) -> Result<(), Difference> {
     }
 }
 
-/// Calls alone, so that every leave must keep its promise. At times another length is lent.
+/// Calls alone, so that every leave must give its caller back what it had. At times another length
+/// is lent.
 fn run_undisturbed(
     random: &mut Random,
     machine: &mut Counted,
@@ -342,8 +343,8 @@ fn run_undisturbed(
     style: Style,
     count: usize,
 ) -> Result<(), Difference> {
-    // the promises to the callers of all open frames, each with what its frame asked for
-    let mut open: Vec<(Promise, u64)> = Vec::new();
+    // for each open frame, what its caller relies on, and the outgoing area that it asked for
+    let mut open: Vec<(Preserved, u64)> = Vec::new();
     for _ in 0..count {
         let call = calls::call(random, machine.pair.state(), style);
         if random.once_in(50) {
@@ -355,11 +356,11 @@ fn run_undisturbed(
             )?;
             continue;
         }
-        let promise = match &call {
+        let preserved = match &call {
             Call::Enter(request) if fits(machine.pair.state(), convention, request) => {
                 let callers = open.last().map_or(0, |&(_, outgoing)| outgoing);
-                let promise = Promise::new(&machine.pair, convention, request, callers);
-                Some((promise, request.outgoing))
+                let preserved = Preserved::new(&machine.pair, convention, request, callers);
+                Some((preserved, request.outgoing))
             }
             _ => None,
         };
@@ -367,19 +368,19 @@ fn run_undisturbed(
             continue;
         }
         match call {
-            Call::Enter(_) => open.extend(promise),
+            Call::Enter(_) => open.extend(preserved),
             Call::Leave => {
-                let kept = open
+                let there = open
                     .pop()
-                    .is_some_and(|(promise, _)| promise.kept(&machine.pair));
-                if !kept {
+                    .is_some_and(|(preserved, _)| preserved.holds(&machine.pair));
+                if !there {
                     return Err(Difference(format!(
                         "both programs leave a frame and do not give its caller back what it had; \
                          now {}",
                         told(machine.pair.state())
                     )));
                 }
-                machine.reach.promises += 1;
+                machine.reach.preserving += 1;
             }
             _ => {}
         }
@@ -536,9 +537,9 @@ fn run_state(random: &mut Random, reach: &mut Reach) -> Result<(), Difference> {
     machine.reach.lists += 1;
     for _ in 0..1 + random.below(6) {
         mend(random, &mut machine.pair);
-        let call = match random.below(3) {
-            0 => calls::call(random, machine.pair.state(), Style::Mixed),
-            _ => Call::Leave,
+        let call = match random.once_in(2) {
+            true => calls::call(random, machine.pair.state(), Style::Mixed),
+            false => Call::Leave,
         };
         let lent = match random.below(12) {
             0 => other_length(random, length),

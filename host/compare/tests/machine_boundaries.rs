@@ -510,6 +510,15 @@ fn a_leave_with_every_byte_of_the_memory_changed() {
 }
 
 #[test]
+fn a_leave_with_no_frame_looks_at_no_memory() {
+    for convention in BOTH {
+        let mut pair = started(convention, 256);
+        pair.change_memory(0, &[0xff; 256]);
+        answers(&mut pair, &Call::Leave, 22);
+    }
+}
+
+#[test]
 fn cr_is_restored_in_fields_2_to_4_alone() {
     for saves_cr in [0, 1] {
         let mut pair = started(Ppc64, 1024);

@@ -55,7 +55,7 @@ fn compare_lists(convention: Convention) -> Reach {
             ("starts", reach.starts),
             ("enters", reach.enters),
             ("leaves", reach.leaves),
-            ("leaves with the promise tested", reach.promises),
+            ("leaves seen to preserve the caller's", reach.preserving),
             ("writes of general registers", reach.register_writes[0]),
             ("writes of floating registers", reach.register_writes[1]),
             ("writes of saved registers", reach.saved_register_writes),
