@@ -120,8 +120,7 @@ impl Machine {
         accepted(answer.number, answer.place, ())
     }
 
-    /// The caller's stack pointer while no frame is entered, else the last frame's: r1 on PPC64,
-    /// r15 on Z.
+    /// The register that is the stack pointer: r1 on PPC64, r15 on Z.
     pub fn stack_pointer(&self) -> u64 {
         match self.state.convention {
             2 => self.state.registers.gpr[15],

@@ -1,6 +1,7 @@
 //! The C surface as it stands in `include/flakuzhen.h`, each function made safe and nothing more:
-//! answers keep all their words. This file and its modules are all the unsafe code. Nothing but the
-//! tests holds the declarations here to the library's, so they are kept next to each other.
+//! answers keep all their words. This module, with the files in `surface/`, is the one with unsafe
+//! code. Nothing but the tests holds the declarations here to the library's, so they are kept next
+//! to each other.
 
 pub mod machine;
 
