@@ -1,7 +1,8 @@
-# make run    prove what the command needs, build it and read an example signature
+# make run    prove what the command needs, build it and list the call of figure 3-18
 # make test   the whole gate: every proof, every must-fail edit, every comparison
 # make lib    build/libflakuzhen.a and build/libflakuzhen.so, from proved code alone
 # make soak   the comparisons on fresh seeds; SECONDS=n says for how long
+# make bench  the time of the proved planner beside the second program's
 # make lint   what the gate does not ask: layout and clippy of the Rust code
 # make clean  remove all that is built
 
@@ -12,16 +13,15 @@ CC = gcc
 PROVED_FROM := crates.txt $(shell find crates -print 2>/dev/null)
 ARCHIVE := build/libflakuzhen.a
 SHARED := build/libflakuzhen.so
-EXAMPLE := examples/readings/ppc64-two-arguments.hex
+EXAMPLE := examples/signatures/ppc64-figure-3-18.hex
 # no network and no other versions than Cargo.lock's
 CARGO_WORDS := --release --offline --locked
 
-.PHONY: run test lib soak lint clean
+.PHONY: run test lib soak bench lint clean
 .DELETE_ON_ERROR:
 
 run: $(ARCHIVE)
-	@cat $(EXAMPLE)
-	@cd host && cargo run $(CARGO_WORDS) --quiet -p flakuzhen -- read --hex ../$(EXAMPLE)
+	@cd host && cargo run $(CARGO_WORDS) --quiet -p flakuzhen -- list --hex ../$(EXAMPLE)
 
 test:
 	@.ci/run
@@ -40,6 +40,10 @@ $(SHARED): $(ARCHIVE) include/flakuzhen.map
 
 soak: $(ARCHIVE)
 	cd host && cargo run $(CARGO_WORDS) --quiet -p compare --bin soak -- $(SECONDS)
+
+# a profile of its own: with all optimisations and without the tests' checks of sums
+bench: $(ARCHIVE)
+	cd host && cargo run --profile bench --offline --locked --quiet -p compare --bin bench
 
 lint: $(ARCHIVE)
 	cd host && cargo fmt --check && cargo clippy $(CARGO_WORDS) --all-targets -- -D warnings

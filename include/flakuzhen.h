@@ -53,19 +53,19 @@ extern "C" {
  * answer. */
 enum fz_refusal {
     FZ_ACCEPTED = 0,
-    FZ_SIGNATURE_TOO_LONG = 1,    /* over 4,096 bytes; tested before all else; place 0 */
-    FZ_NO_ROOM = 2,               /* fewer than 3 bytes for a header, or the length passes the
+    FZ_TOO_LONG = 1,              /* over 4,096 bytes; tested before all else; place 0 */
+    FZ_TRUNCATED = 2,             /* fewer than 3 bytes for a header, or the length passes the
                                      end of what the item stands in */
-    FZ_BAD_TAG = 3,               /* a tag that is not allowed there */
-    FZ_BAD_BODY = 4,              /* a length or a code that is not allowed; an empty struct;
+    FZ_UNEXPECTED_TAG = 3,        /* a tag that is not allowed there */
+    FZ_MALFORMED = 4,             /* a length or a code that is not allowed; an empty struct;
                                      bytes after the result's one type (place: the first) */
     FZ_LONG_DOUBLE_IN_STRUCT = 5, /* a long double inside a struct */
-    FZ_STRUCT_TOO_DEEP = 6,       /* structs nested deeper than 8, where an argument's or a
+    FZ_TOO_DEEP = 6,              /* structs nested deeper than 8, where an argument's or a
                                      result's own struct has depth 1 */
     FZ_TOO_MANY_ARGUMENTS = 7,    /* bytes after the 64th argument (place: the first) */
     FZ_STRUCT_TOO_LARGE = 8,      /* a struct of over 256 bytes */
-    FZ_BYTES_AFTER_END = 9,       /* bytes after the third item (place: the first) */
-    FZ_NO_WIDENED_SINGLE = 14     /* the bits of a double that is no widened single; place 0 */
+    FZ_TRAILING_BYTES = 9,        /* bytes after the third item (place: the first) */
+    FZ_NOT_WIDENED = 14           /* the bits of a double that is no widened single; place 0 */
 };
 
 typedef struct {
@@ -75,7 +75,7 @@ typedef struct {
 } fz_answer;
 
 typedef struct {
-    uint64_t number; /* 0, or FZ_NO_WIDENED_SINGLE */
+    uint64_t number; /* 0, or FZ_NOT_WIDENED */
     uint64_t place;  /* 0 */
     uint64_t bits;
 } fz_narrowed;
@@ -93,7 +93,66 @@ uint64_t fz_widen(uint64_t bits);
  * double that no single widens to is refused, with bits 0. */
 fz_narrowed fz_narrow(uint64_t bits);
 
-/* The frame machine.
+/* ---- Plans: where a call's values stand, and the buffers that they need ----
+ *
+ * On PPC64 the arguments form a list of doublewords (8 bytes each) in the parameter save area, the
+ * first at offset 0. An integer, a single and a double take one, a long double two, a struct as
+ * many as it fills or begins to fill. The first eight are in r3 to r10 and not in memory; an
+ * argument that reaches past the eighth is partly in registers and partly in memory. The first
+ * thirteen singles and doubles are in f1 to f13 instead, and their doublewords stay unused; later
+ * ones are in memory. Results: integers in r3, singles and doubles in f1, long doubles in f1 and
+ * f2, structs in the caller's memory.
+ *
+ * On Z every argument takes one register or, when none of its kind is left, the next 8 bytes of the
+ * stack, from 160 bytes above the stack pointer on. Singles, doubles and structs of only one of
+ * these, nested or not, take f0, f2, f4 and f6. All else takes r2 to r6. A long double, and a
+ * struct of other than 1, 2, 4 or 8 bytes, is passed by reference: the caller makes a copy of it,
+ * and the copy's address is the argument. Results: integers in r2, singles and doubles in f0, long
+ * doubles and structs in the caller's memory.
+ *
+ * The address of a result in the caller's memory is a hidden first argument: in r3 on PPC64, with
+ * the list's first doubleword, and in r2 on Z. */
+
+typedef struct {
+    fz_answer answer; /* its items are 0 */
+    uint64_t values;  /* bytes of all arguments, in order and without gaps between them */
+    uint64_t area;    /* bytes of the parameter area: on PPC64 64 or more; on Z what lies on the
+                         stack, possibly 0 */
+    uint64_t copies;  /* end of the last copy, where each starts at a multiple of 8 and the first
+                         at 0; 0 where no argument is passed by reference */
+} fz_sizes;
+
+/* Plans the call of a function with this signature and gives the sizes of its buffers. */
+fz_sizes fz_measure(const uint8_t *sig, size_t sig_length);
+
+/* Prints the plan to the text_length bytes at text and gives the listing's length. As with
+ * snprintf, a text_length below that length is no error; but then nothing at all is written, and a
+ * terminating zero never is. Bytes past the listing stay as they are. The text must not overlap the
+ * signature. Every line ends with a newline:
+ *
+ *   PPC64 args 3 area 80           the convention, the count of arguments, the area's bytes
+ *   0 r3 r4 r5 r6 r7 r8 r9 @0      an argument, counted from 0: its registers in order, its offset
+ *   1 r10 mem @56                  the second doubleword of this one is in memory, at 64
+ *   2 f1 @72
+ *   result f1 f2                   also: none, or hidden and the register with its address
+ *
+ * On Z only what lies on the stack has an offset, which counts from the stack pointer, and ref
+ * marks an argument that is passed by reference:
+ *
+ *   Z args 7 area 8
+ *   0 r2
+ *   1 r3 ref
+ *   2 f0
+ *   3 r4
+ *   4 r5
+ *   5 r6
+ *   6 mem @160 ref
+ *   result none
+ *
+ * A refused signature's listing is the line 'refused NUMBER at PLACE'. */
+uint64_t fz_listing(const uint8_t *sig, size_t sig_length, char *text, size_t text_length);
+
+/* ---- The frame machine: functions that enter and leave frames on a stack ----
  *
  * It keeps the registers and the stack of a running program: a function that is called enters a
  * frame, which saves the registers that it will change, writes registers and memory as it likes

@@ -6,8 +6,11 @@ ghost use mathlib.Core.Path.{_≡_};
 ghost use Prim.Native.Nat.{_%_, _^_};
 ghost use Rattle.ieee.specs.Widening.{widen};
 ghost use Rattle.ieee.specs.Narrowing.{narrow};
+ghost use lib.ListN.{length};
+ghost use Rattle.listing.specs.Text.{listingOf};
+ghost use Rattle.listing.specs.Writing.{printed};
 ghost use Rattle.signature.specs.Read.{signatureOf};
-ghost use Rattle.bridge.specs.Surface.{readingAnswer, narrowingAnswer};
+ghost use Rattle.bridge.specs.Surface.{readingAnswer, sizesAnswer, narrowingAnswer};
 
 // `fz_answer`: number 0 is yes.
 #[repr(C)]
@@ -15,6 +18,15 @@ pub struct Answer {
     pub number: u64,
     pub place: u64,
     pub items: u64,
+}
+
+// `fz_sizes`: the bytes that the values, the parameter area and the copies of a call take.
+#[repr(C)]
+pub struct Sizes {
+    pub answer: Answer,
+    pub values: u64,
+    pub area: u64,
+    pub copies: u64,
 }
 
 // `fz_narrowed`: number 0 is yes, 14 no.
@@ -43,6 +55,47 @@ pub extern "C" fn fz_read_signature(sig: &[u8]) -> Answer
             items: 0,
         },
     }
+}
+
+#[no_mangle]
+pub extern "C" fn fz_measure(sig: &[u8]) -> Sizes
+    ensures { λ r. ⌜ r ≡ sizesAnswer (signatureOf (now (sig .entry))) ⌝ }
+{
+    let p = plan::plan_of(sig);
+    let values = p.values as u64;
+    let area = p.area as u64;
+    let copies = p.copies as u64;
+    let outcome = p.outcome;
+    match outcome {
+        Outcome::Accepted(_) => Sizes {
+            answer: Answer {
+                number: 0,
+                place: 0,
+                items: 0,
+            },
+            values,
+            area,
+            copies,
+        },
+        Outcome::Refused { reason, place } => Sizes {
+            answer: Answer {
+                number: items::number_of(reason),
+                place: place as u64,
+                items: 0,
+            },
+            values: 0,
+            area: 0,
+            copies: 0,
+        },
+    }
+}
+
+// The length of the printed plan, which is put at the head of the text where there is room for all of it.
+#[no_mangle]
+pub extern "C" fn fz_listing(sig: &[u8], text: &mut [u8]) -> u64
+    ensures { λ r. ⌜ (r ≡ length (listingOf (now (sig .entry)))) × (now (text .exit) ≡ printed (now (text .entry)) (listingOf (now (sig .entry)))) ⌝ }
+{
+    listing::listing(sig, text) as u64
 }
 
 // The low 32 bits are widened.

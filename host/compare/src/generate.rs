@@ -21,37 +21,38 @@ const TELLING_BYTES: [u8; 14] = [
 /// A signature within all limits.
 pub fn valid(random: &mut Random) -> Signature {
     let convention = random.pick(&[Convention::Ppc64, Convention::Z]);
-    let mut room = LONGEST_SIGNATURE - FRAME;
-    let mut result = None;
-    if random.once_in(2) {
-        let given = valid_type(random);
-        room -= encode::type_item(&given).len();
-        result = Some(given);
-    }
+    let result = random.once_in(2).then(|| valid_type(random));
     let count = match random.below(16) {
         0 => MOST_ARGUMENTS,
         1..=3 => random.below(MOST_ARGUMENTS + 1),
         _ => random.below(9),
     };
-    let mut arguments = Vec::new();
-    for _ in 0..count {
-        let argument = valid_type(random);
-        let length = encode::type_item(&argument).len();
-        if length > room {
-            break;
-        }
-        room -= length;
-        arguments.push(argument);
-    }
+    let arguments = (0..count).map(|_| valid_type(random));
+    fitting(convention, result, arguments)
+}
+
+/// The signature with these types, without the arguments that would make it too long.
+pub fn fitting(
+    convention: Convention,
+    result: Option<Type>,
+    arguments: impl Iterator<Item = Type>,
+) -> Signature {
+    let length = |of: &Type| encode::type_item(of).len();
+    let mut room = LONGEST_SIGNATURE - FRAME - result.as_ref().map_or(0, length);
+    let fits = |argument: &Type| {
+        let rest = room.checked_sub(length(argument));
+        room = rest.unwrap_or(room);
+        rest.is_some()
+    };
     Signature {
         convention,
         result,
-        arguments,
+        arguments: arguments.take_while(fits).collect(),
     }
 }
 
 /// A type that an argument or a result may have.
-fn valid_type(random: &mut Random) -> Type {
+pub fn valid_type(random: &mut Random) -> Type {
     match random.below(16) {
         0..=7 => Type::Integer(random.pick(&INTEGERS)),
         8..=11 => Type::Float(random.pick(&FLOATS)),
@@ -88,7 +89,7 @@ fn nested_struct(random: &mut Random, levels: usize) -> Type {
 
 /// A struct of this many fields, or as many of them as are not too large, with room for `depth`
 /// levels, its own included.
-fn valid_struct(random: &mut Random, count: usize, depth: usize) -> Type {
+pub fn valid_struct(random: &mut Random, count: usize, depth: usize) -> Type {
     let mut fields = Vec::new();
     for _ in 0..count {
         fields.push(valid_field(random, depth - 1));

@@ -9,8 +9,10 @@ pub mod generate;
 pub mod machine_calls;
 pub mod machine_lists;
 pub mod machines;
+pub mod plans;
 pub mod random;
 pub mod signatures;
+pub mod timing;
 
 use std::fmt;
 

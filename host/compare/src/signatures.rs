@@ -115,7 +115,8 @@ pub fn run(seed: u64, cases: u64) -> Result<Histogram, Difference> {
     Ok(histogram)
 }
 
-fn hex(bytes: &[u8]) -> String {
+/// The bytes for people.
+pub(crate) fn hex(bytes: &[u8]) -> String {
     let mut text = format!("of {} bytes:", bytes.len());
     for byte in bytes {
         text.push_str(&format!(" {byte:02x}"));

@@ -14,8 +14,11 @@
 #![deny(unsafe_code)]
 
 pub mod machine;
+mod plans;
 #[allow(unsafe_code)]
 pub mod surface;
+
+pub use plans::{listing, measure, Sizes};
 
 use std::error::Error;
 use std::fmt;

@@ -12,11 +12,13 @@ use std::io::{self, Read, Write};
 use std::process::ExitCode;
 
 const USAGE: &str = "\
-usage: flakuzhen read [--hex] [FILE..]
+usage: flakuzhen list [--hex] [FILE..]
+       flakuzhen read [--hex] [FILE..]
        flakuzhen replay FILE
 
-read      prints a line for each signature: 'items N' where it is accepted, else
-          'refused NUMBER at PLACE'
+list      prints where each argument of each signature goes, and its result
+read      prints a line for each signature with its count of items, 'items N'
+          Either prints 'refused NUMBER at PLACE' for a signature that is refused.
 --hex     the input is hexadecimal text with '#' comments, not the bytes themselves
 FILE      holds one signature; '-', or no FILE at all, is standard input
 
@@ -70,7 +72,8 @@ fn run(words: &[OsString]) -> Result<Outcome, String> {
         return Err("no command given (flakuzhen --help lists them)".to_string());
     };
     match command.to_str() {
-        Some("read") => read(&inputs(rest)?),
+        Some("list") => Ok(list(&inputs(rest)?)),
+        Some("read") => Ok(read(&inputs(rest)?)),
         Some("replay") => replay_file(rest),
         Some("--help" | "-h" | "help") => Ok(Outcome {
             text: USAGE.to_string(),
@@ -82,7 +85,19 @@ fn run(words: &[OsString]) -> Result<Outcome, String> {
     }
 }
 
-fn read(signatures: &[Vec<u8>]) -> Result<Outcome, String> {
+fn list(signatures: &[Vec<u8>]) -> Outcome {
+    let mut text = String::new();
+    let mut status = 0;
+    for signature in signatures {
+        text.push_str(&flakuzhen::listing(signature));
+        if flakuzhen::measure(signature).is_err() {
+            status = 1;
+        }
+    }
+    Outcome { text, status }
+}
+
+fn read(signatures: &[Vec<u8>]) -> Outcome {
     let mut text = String::new();
     let mut status = 0;
     for signature in signatures {
@@ -95,7 +110,7 @@ fn read(signatures: &[Vec<u8>]) -> Result<Outcome, String> {
         };
         text.push_str(&line);
     }
-    Ok(Outcome { text, status })
+    Outcome { text, status }
 }
 
 fn replay_file(words: &[OsString]) -> Result<Outcome, String> {

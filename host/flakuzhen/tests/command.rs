@@ -41,7 +41,7 @@ fn complains(output: &Output, about: &str) {
 }
 
 fn examples() -> PathBuf {
-    Path::new(env!("CARGO_MANIFEST_DIR")).join("../../examples/readings")
+    Path::new(env!("CARGO_MANIFEST_DIR")).join("../../examples/signatures")
 }
 
 fn example(name: &str) -> String {
@@ -54,16 +54,83 @@ fn example(name: &str) -> String {
 #[test]
 fn reads_the_examples() {
     let readings = [
-        ("ppc64-two-arguments.hex", 0, "items 5\n"),
+        ("ppc64-dgemm.hex", 0, "items 17\n"),
         ("ppc64-figure-3-18.hex", 0, "items 17\n"),
-        ("z-table-10.hex", 0, "items 13\n"),
+        ("ppc64-ldiv.hex", 0, "items 8\n"),
+        ("ppc64-straddling-struct.hex", 0, "items 16\n"),
+        ("ppc64-two-arguments.hex", 0, "items 5\n"),
         ("refused-long-double-field.hex", 1, "refused 5 at 17\n"),
+        ("z-powl.hex", 0, "items 6\n"),
+        ("z-small-structs.hex", 0, "items 27\n"),
+        ("z-table-10.hex", 0, "items 13\n"),
     ];
     for (name, status, text) in readings {
         prints(&run(&["read", "--hex", &example(name)], b""), status, text);
     }
-    let all = std::fs::read_dir(examples()).expect("the folder of examples");
-    assert_eq!(all.count(), readings.len(), "an example is not tested here");
+    let names: Vec<&str> = readings.iter().map(|reading| reading.0).collect();
+    assert_eq!(all_examples(), names);
+}
+
+/// The names of all signatures among the examples, in their order.
+fn all_examples() -> Vec<String> {
+    let folder = std::fs::read_dir(examples()).expect("the folder of examples");
+    let names = folder.map(|entry| entry.expect("an example").file_name().into_string());
+    let mut names: Vec<String> = names
+        .map(|name| name.expect("a name that can be printed"))
+        .filter(|name| name.ends_with(".hex"))
+        .collect();
+    names.sort();
+    names
+}
+
+/// What stands next to the example's signature.
+fn stored_listing(name: &str) -> String {
+    let path = examples().join(name).with_extension("listing");
+    std::fs::read_to_string(&path).unwrap_or_else(|fault| panic!("{path:?}: {fault}"))
+}
+
+const FIGURE_3_18: &str = "\
+PPC64 args 9 area 96
+0 r3 @0
+1 f1 @8
+2 r5 @16
+3 r6 r7 @24
+4 r8 r9 @40
+5 f2 @56
+6 mem @64
+7 mem @80
+8 f3 @88
+result r3
+";
+
+#[test]
+fn lists_the_examples() {
+    for name in all_examples() {
+        let listing = stored_listing(&name);
+        let status = i32::from(listing.starts_with("refused "));
+        let output = run(&["list", "--hex", &example(&name)], b"");
+        prints(&output, status, &listing);
+    }
+    // as document 01 has it
+    assert_eq!(stored_listing("ppc64-figure-3-18.hex"), FIGURE_3_18);
+}
+
+#[test]
+fn lists_several_files_in_their_order() {
+    let names = ["z-table-10.hex", "refused-long-double-field.hex"];
+    let [first, second] = names.map(example);
+    let output = run(&["list", &first, "--hex", &second, "-"], b"01 00");
+    let text = names.map(stored_listing).concat() + "refused 2 at 0\n";
+    prints(&output, 1, &text);
+}
+
+#[test]
+fn lists_bytes_from_standard_input() {
+    let listing = "PPC64 args 2 area 64\n0 r3 @0\n1 f1 @8\nresult none\n";
+    prints(&run(&["list"], &EXAMPLE), 0, listing);
+    prints(&run(&["list", "-"], &EXAMPLE), 0, listing);
+    prints(&run(&["list"], b""), 1, "refused 2 at 0\n");
+    prints(&run(&["list"], &[0; 4097]), 1, "refused 1 at 0\n");
 }
 
 #[test]
@@ -85,7 +152,9 @@ fn reads_bytes_from_standard_input() {
 #[test]
 fn says_how_it_is_used() {
     let output = run(&["--help"], b"");
-    assert!(String::from_utf8_lossy(&output.stdout).starts_with("usage: flakuzhen read"));
+    let usage = String::from_utf8_lossy(&output.stdout);
+    assert!(usage.starts_with("usage: flakuzhen list"));
+    assert!(usage.contains("flakuzhen read"));
     assert_eq!(output.status.code(), Some(0));
 }
 
@@ -93,40 +162,49 @@ fn says_how_it_is_used() {
 fn unknown_words() {
     complains(&run::<&str>(&[], b""), "no command");
     complains(&run(&["reed"], b""), "\"reed\"");
+    complains(&run(&["--hex"], b""), "\"--hex\"");
     complains(&run(&["two\nlines"], b""), "two\\nlines");
-    complains(&run(&["read", "--hax"], &EXAMPLE), "\"--hax\"");
-    complains(&run(&["read", "--", "--hex"], &EXAMPLE), "\"--hex\"");
+    for command in ["list", "read"] {
+        complains(&run(&[command, "--hax"], &EXAMPLE), "\"--hax\"");
+        complains(&run(&[command, "--", "--hex"], &EXAMPLE), "\"--hex\"");
+    }
 }
 
 #[test]
 fn files_that_are_not_there_print_nothing_of_the_others() {
     let there = example("z-table-10.hex");
-    complains(
-        &run(&["read", "--hex", &there, "not-there"], b""),
-        "\"not-there\"",
-    );
-    complains(
-        &run(&["read", env!("CARGO_MANIFEST_DIR")], b""),
-        "directory",
-    );
+    for command in ["list", "read"] {
+        complains(
+            &run(&[command, "--hex", &there, "not-there"], b""),
+            "\"not-there\"",
+        );
+        complains(
+            &run(&[command, env!("CARGO_MANIFEST_DIR")], b""),
+            "directory",
+        );
+    }
 }
 
 #[test]
 fn oversized_input() {
-    complains(
-        &run(&["read"], &vec![0; (1 << 20) + 1]),
-        "over 1048576 bytes",
-    );
-    prints(&run(&["read"], &vec![0; 1 << 20]), 1, "refused 1 at 0\n");
+    for command in ["list", "read"] {
+        complains(
+            &run(&[command], &vec![0; (1 << 20) + 1]),
+            "over 1048576 bytes",
+        );
+        prints(&run(&[command], &vec![0; 1 << 20]), 1, "refused 1 at 0\n");
+    }
 }
 
 #[test]
 fn text_that_is_no_hexadecimal() {
-    complains(
-        &run(&["read", "--hex"], b"01 0001\n0x"),
-        "standard input: line 2: 'x'",
-    );
-    complains(&run(&["read", "--hex"], b"010"), "line 1: half a byte");
+    for command in ["list", "read"] {
+        complains(
+            &run(&[command, "--hex"], b"01 0001\n0x"),
+            "standard input: line 2: 'x'",
+        );
+        complains(&run(&[command, "--hex"], b"010"), "line 1: half a byte");
+    }
 }
 
 fn replays() -> PathBuf {

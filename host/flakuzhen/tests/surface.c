@@ -1,6 +1,7 @@
 /* The C surface, used as a C or C++ program uses it. Ends with the count of what is wrong. */
 #include "check.h"
 #include "flakuzhen.h"
+#include <string.h>
 
 static void check_layout(void)
 {
@@ -23,8 +24,8 @@ static void check_reading(void)
     fz_answer none = fz_read_signature(sig, 0);
 
     CHECK(yes.number == FZ_ACCEPTED && yes.place == 0 && yes.items == 5);
-    CHECK(no.number == FZ_NO_ROOM && no.place == 7 && no.items == 0);
-    CHECK(none.number == FZ_NO_ROOM && none.place == 0 && none.items == 0);
+    CHECK(no.number == FZ_TRUNCATED && no.place == 7 && no.items == 0);
+    CHECK(none.number == FZ_TRUNCATED && none.place == 0 && none.items == 0);
 }
 
 static void check_float_bits(void)
@@ -35,7 +36,55 @@ static void check_float_bits(void)
     CHECK(fz_widen(UINT64_C(0x00000001)) == UINT64_C(0x36A0000000000000));
     CHECK(fz_widen(UINT64_C(0xFFFFFFFF3F800000)) == UINT64_C(0x3FF0000000000000));
     CHECK(yes.number == FZ_ACCEPTED && yes.place == 0 && yes.bits == UINT64_C(0x7F800001));
-    CHECK(no.number == FZ_NO_WIDENED_SINGLE && no.place == 0 && no.bits == 0);
+    CHECK(no.number == FZ_NOT_WIDENED && no.place == 0 && no.bits == 0);
+}
+
+/* Z, result struct of i64, arguments long double and single */
+static const uint8_t call[25] = {0x01, 0x00, 0x01, 0x02, 0x02, 0x00, 0x07, 0x12, 0x00,
+                                 0x04, 0x10, 0x00, 0x01, 0x06, 0x03, 0x00, 0x08, 0x11,
+                                 0x00, 0x01, 0x02, 0x11, 0x00, 0x01, 0x00};
+
+static void check_measuring(void)
+{
+    fz_sizes yes = fz_measure(call, sizeof call);
+    fz_sizes no = fz_measure(call, sizeof call - 1);
+
+    CHECK(SIZE(fz_sizes, 6));
+    CHECK(WORD(fz_sizes, answer, 0));
+    CHECK(WORD(fz_sizes, values, 3));
+    CHECK(WORD(fz_sizes, area, 4));
+    CHECK(WORD(fz_sizes, copies, 5));
+    CHECK(yes.answer.number == FZ_ACCEPTED && yes.answer.place == 0 && yes.answer.items == 0);
+    CHECK(yes.values == 20 && yes.area == 0 && yes.copies == 16);
+    CHECK(no.answer.number == FZ_TRUNCATED && no.answer.place == 14 && no.answer.items == 0);
+    CHECK(no.values == 0 && no.area == 0 && no.copies == 0);
+}
+
+/* Lists the call to a text of `room` bytes and holds the whole of it, and what lies behind it, to
+ * the listing where that fits and to what was there before where it does not. */
+static void check_listing_in(size_t room)
+{
+    static const char listing[] = "Z args 2 area 0\n0 r3 ref\n1 f0\nresult hidden r2\n";
+    const size_t length = sizeof listing - 1;
+    char text[100], expected[100];
+
+    memset(text, '?', sizeof text);
+    memset(expected, '?', sizeof expected);
+    if (room >= length)
+        memcpy(expected, listing, length);
+    CHECK(fz_listing(call, sizeof call, text, room) == length);
+    CHECK(memcmp(text, expected, sizeof text) == 0);
+}
+
+static void check_listing(void)
+{
+    char text[32] = "";
+    size_t room;
+
+    for (room = 0; room <= 100; room++)
+        check_listing_in(room);
+    CHECK(fz_listing(call, 0, text, sizeof text) == 15);
+    CHECK(strcmp(text, "refused 2 at 0\n") == 0);
 }
 
 int main(void)
@@ -43,5 +92,7 @@ int main(void)
     check_layout();
     check_reading();
     check_float_bits();
+    check_measuring();
+    check_listing();
     return wrong;
 }

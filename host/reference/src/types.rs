@@ -102,7 +102,8 @@ fn struct_alignment(fields: &[Type]) -> usize {
     fields.iter().map(Type::alignment).max().unwrap_or(1)
 }
 
-fn round_up(number: usize, step: usize) -> usize {
+/// The next multiple of `step`, or the number itself where it is one.
+pub(crate) fn round_up(number: usize, step: usize) -> usize {
     number.div_ceil(step) * step
 }
 

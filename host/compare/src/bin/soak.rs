@@ -4,14 +4,15 @@
 #![forbid(unsafe_code)]
 
 use compare::random::Random;
-use compare::{float_bits, machine_lists, signatures, Difference};
+use compare::{float_bits, machine_lists, plans, signatures, Difference};
 use reference::Convention;
 use std::fmt;
 use std::process::ExitCode;
 use std::time::{Duration, Instant, SystemTime, UNIX_EPOCH};
 
-/// The share of a round, which takes about half a second.
+/// The share of a round, which takes about a second.
 const SIGNATURES: u64 = 20_000;
+const PLANS: u64 = 5_000;
 const SINGLES: u64 = 50_000;
 const LISTS: u64 = 500;
 const STATES: u64 = 2_000;
@@ -51,13 +52,14 @@ fn seed_from_the_clock() -> u64 {
 #[derive(Default)]
 struct Cases {
     signatures: u64,
+    plans: u64,
     floats: u64,
     machine_calls: u64,
 }
 
 impl Cases {
     fn total(&self) -> u64 {
-        self.signatures + self.floats + self.machine_calls
+        self.signatures + self.plans + self.floats + self.machine_calls
     }
 }
 
@@ -65,12 +67,14 @@ impl fmt::Display for Cases {
     fn fmt(&self, to: &mut fmt::Formatter<'_>) -> fmt::Result {
         let Cases {
             signatures,
+            plans,
             floats,
             machine_calls,
         } = self;
         write!(
             to,
-            "{signatures} signatures, {floats} float conversions, {machine_calls} machine calls"
+            "{signatures} signatures, {plans} plans, {floats} float conversions, {machine_calls} \
+             machine calls"
         )
     }
 }
@@ -97,6 +101,7 @@ fn soak(seed: u64, time: Duration) -> Result<Cases, Difference> {
 fn round(seed: u64, done: &mut Cases) -> Result<(), Difference> {
     let told = |difference: Difference| Difference(format!("round {seed:#x}: {difference}"));
     done.signatures += signatures::run(seed, SIGNATURES).map_err(told)?.total();
+    done.plans += plans::run(seed, PLANS).map_err(told)?.total();
     done.floats += float_bits::run(seed, SINGLES).map_err(told)?.total();
     for convention in [Convention::Ppc64, Convention::Z] {
         let reach = machine_lists::run(seed, convention, LISTS).map_err(told)?;

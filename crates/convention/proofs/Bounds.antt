@@ -1,0 +1,123 @@
+-- The bounds of a cursor: the registers that a convention names, and how far one argument moves the bytes. Assumes nothing.
+use mathlib.Core.Path.{_≡_, refl, sym}
+use mathlib.Core.Bool.{Bool, true, false}
+use Prim.Native.Nat.{ℕ, _+_, _-_, _*_, _/_, _%_, _≤_, _<_, min, max}
+use native.Mathlib.Omega.{arith}
+use native.Mathlib.Nat.{div-mul-le-self, mul-comm}
+use Rattle.types.specs.declared.Convention.{Convention}
+use Rattle.types.specs.declared.ValueType.{ValueType}
+use Rattle.types.specs.Sizes.{pointerSize}
+use Rattle.types.specs.Structs.{roundUp}
+use Rattle.convention.specs.declared.Cursor.{Cursor}
+use Rattle.convention.specs.declared.Rules.{Rules}
+use Rattle.convention.specs.declared.ZClass.{ZClass}
+use Rattle.convention.specs.Values.{pointer}
+use Rattle.convention.specs.Power.{words, fprs, covered, powerShare}
+use Rattle.convention.specs.ZSeries.{zClass, zNextOf}
+use Rattle.convention.specs.Step.{Lawful, Roomy, rulesOf, wordOf, nextOf, fresh, startOf, areaOf, returning}
+use Rattle.convention.proofs.Shares.{share-room}
+
+-- ---- the conventions
+
+pub rules-lawful : (c : Convention) → Lawful (rulesOf c)
+rules-lawful Convention.Ppc64 = omega arith
+rules-lawful Convention.Z = tt
+
+-- a pointer is a word
+pub rules-word : (c : Convention) → wordOf (rulesOf c) ≡ pointerSize c
+rules-word Convention.Ppc64 = refl
+rules-word Convention.Z = refl
+
+pub returning-lawful : (r : Rules) → Lawful r → Lawful (returning r)
+unfolding returning
+returning-lawful (Rules.Power f) h = h
+returning-lawful Rules.Z h = tt
+
+pub word-some : (r : Rules) → Lawful r → 0 < wordOf r
+word-some (Rules.Power f) h = omega arith
+word-some Rules.Z h = omega arith
+
+pub word-most : (r : Rules) → Lawful r → wordOf r ≤ 8
+word-most (Rules.Power f) h = omega arith
+word-most Rules.Z h = omega arith
+
+-- ---- the registers: r3 to r10 and f1 to f13; on Z r2 to r6, and f0, f2, f4 and f6
+
+-- the next register is one of these or the first after them
+abbrev pub Named : Rules → Cursor → Type 0
+Named (Rules.Power f) c = (3 ≤ c .general) × (c .general ≤ 11) × (1 ≤ c .floating) × (c .floating ≤ 14)
+Named Rules.Z c = (2 ≤ c .general) × (c .general ≤ 7) × (c .floating ≤ 8) × (c .floating % 2 ≡ 0)
+
+pub named-fresh : (r : Rules) → Named r (fresh r)
+unfolding fresh
+named-fresh (Rules.Power f) = omega arith
+named-fresh Rules.Z = omega arith
+
+z-named : (c : Cursor) (class : ZClass) (n : ℕ) → Named Rules.Z c → Named Rules.Z (zNextOf c class n)
+unfolding zNextOf
+z-named c ZClass.Float n h = omega arith
+z-named c ZClass.Simple n h = omega arith
+z-named c ZClass.Reference n h = omega arith
+
+pub named-next : (r : Rules) (c : Cursor) (t : ValueType) (n : ℕ) → Named r c → Named r (nextOf r c t n)
+unfolding nextOf powerShare
+named-next (Rules.Power f) c t n h =
+    let room : powerShare f c t n .floating ≤ 14 - c .floating = share-room (fprs (f .edition) t) (14 - c .floating) (words (f .word) n) (covered c (words (f .word) n)) in
+    omega arith
+named-next Rules.Z c t n h = z-named c (zClass t n) n h
+
+pub named-start : (r : Rules) (hidden : Bool) → Named r (startOf r hidden)
+unfolding startOf
+named-start r true = named-next r (fresh r) pointer (wordOf r) (named-fresh r)
+named-start r false = named-fresh r
+
+-- ---- the bytes
+
+word-bound : (w n : ℕ) → 4 ≤ w → w ≤ 8 → n ≤ 256 → w * words w n ≤ 264
+unfolding words
+word-bound w n h k s = omega (arith, div-mul-le-self (n + (w - 1)) w, mul-comm ((n + (w - 1)) / w) w)
+
+-- an argument of at most 256 bytes moves the area and the copies by at most 264
+pub record Near (c d : Cursor) : Type 0 where
+  pub stack : d .stack ≤ c .stack + 264
+  pub copies : d .copies ≤ c .copies + 264
+
+z-near : (c : Cursor) (class : ZClass) (n : ℕ) → n ≤ 256 → Near c (zNextOf c class n)
+unfolding zNextOf roundUp
+z-near c ZClass.Float n h = omega arith
+z-near c ZClass.Simple n h = omega arith
+z-near c ZClass.Reference n h = omega arith
+
+pub near-next : (r : Rules) (c : Cursor) (t : ValueType) (n : ℕ) → Lawful r → n ≤ 256 → Near c (nextOf r c t n)
+unfolding nextOf
+near-next (Rules.Power f) c t n l h = let b = word-bound (f .word) n (l .0) (l .1) h in record { stack = omega arith; copies = omega arith }
+near-next Rules.Z c t n l h = z-near c (zClass t n) n h
+
+-- the bytes of the first cursor: none
+fresh-bytes : (r : Rules) → (fresh r .stack ≡ 0) × (fresh r .copies ≡ 0)
+unfolding fresh
+fresh-bytes (Rules.Power f) = (refl, refl)
+fresh-bytes Rules.Z = (refl, refl)
+
+pub start-bytes : (r : Rules) (hidden : Bool) → Lawful r → (startOf r hidden .stack ≤ 264) × (startOf r hidden .copies ≤ 264)
+unfolding startOf
+start-bytes r true l = let b = near-next r (fresh r) pointer (wordOf r) l (omega (arith, word-most r l)) in omega (arith, fresh-bytes r)
+start-bytes r false l = omega (arith, fresh-bytes r)
+
+pub named-roomy : (r : Rules) (c : Cursor) → Named r c → c .stack ≤ 60000 → c .copies ≤ 60000 → Roomy c
+named-roomy (Rules.Power f) c h s k = omega arith
+named-roomy Rules.Z c h s k = omega arith
+
+pub fresh-roomy : (r : Rules) → Roomy (fresh r)
+fresh-roomy r = named-roomy r (fresh r) (named-fresh r) (omega (arith, fresh-bytes r)) (omega (arith, fresh-bytes r))
+
+-- "The area is 8 times the larger of 8 and the final w": never less than 8 words
+pub least-area : (w : ℕ) (e : _) (c : Cursor) → 8 * w ≤ areaOf (Rules.Power (record { word = w; edition = e })) c
+unfolding areaOf
+least-area w e c = omega arith
+
+-- all bytes before the last cursor lie in the area
+pub area-holds : (r : Rules) (e : Cursor) → e .stack ≤ areaOf r e
+unfolding areaOf
+area-holds (Rules.Power f) e = omega arith
+area-holds Rules.Z e = omega arith

@@ -1,0 +1,7 @@
+-- Laws that belong to no one function.
+pub mod Shares
+pub mod Bounds
+pub mod Between
+pub mod Registers
+pub mod Written
+pub mod Examples

@@ -1,0 +1,213 @@
+-- The rules as the papers write them: document 01's sentences, each an equation on the definitions by cursors. PowerPC's are by
+-- the count w of words so far and the next FPR; they hold for every word width and edition. Assumes nothing.
+use mathlib.Core.Path.{_≡_, refl, sym, ap, ap₂, _∙_}
+use mathlib.Core.Bool.{Bool, true, false}
+use mathlib.Core.List.{List, [], _∷_, _++_, map, append-nil}
+use Prim.Native.Nat.{ℕ, zero, suc, _+_, _-_, _*_, _/_, _≤_, _<_, min, max}
+use native.Mathlib.Omega.{arith}
+use native.Mathlib.Nat.{mul-add, mul-suc, mul-zero, mul-one, mul-div-cancel-left, add-zero, zero-add, add-div-left, div-eq-of-lt, mul-le-mul-left}
+use borrow.Author.Tests.{ltb-true, ltb-false}
+use lib.Dec.{ltb, leb}
+use Rattle.types.specs.declared.ValueType.{ValueType}
+use Rattle.types.specs.Structs.{roundUp}
+use Rattle.convention.specs.declared.Bank.{Bank}
+use Rattle.convention.specs.declared.Place.{Place}
+use Rattle.convention.specs.declared.Cursor.{Cursor}
+use Rattle.convention.specs.declared.Span.{Span}
+use Rattle.convention.specs.declared.Share.{Share}
+use Rattle.convention.specs.declared.PowerRules.{PowerRules}
+use Rattle.convention.specs.declared.Rules.{Rules}
+use Rattle.convention.specs.declared.ZClass.{ZClass}
+use Rattle.convention.specs.Values.{pick, cursor, registers, bytes, share, pointer}
+use Rattle.convention.specs.Power.{words, fprs, shareOf, powerShare}
+use Rattle.convention.specs.ZSeries.{zClass, zSpanOf, zNextOf}
+use Rattle.convention.specs.Step.{spanOf, nextOf, fresh, startOf, areaOf}
+use Rattle.convention.specs.Places.{upFrom, register, registersOf, memoryOf, placesOf}
+
+-- ---- PowerPC: the count of words
+
+-- the cursor at word w of the list, with the next FPR m, and k bytes of copies
+abbrev pub counted : ℕ → ℕ → ℕ → ℕ → Cursor
+counted word w m k = cursor (3 + min w 8) m (word * w) k
+
+-- "The doubleword count w starts at 0, or at 1 when the result is a struct: its address is then a hidden first argument in r3"
+pub start-written : (f : PowerRules) → startOf (Rules.Power f) false ≡ counted (f .word) 0 1 0
+unfolding startOf fresh
+start-written f = rw (mul-zero (f .word))
+
+pub hidden-written : (f : PowerRules) → 0 < f .word → startOf (Rules.Power f) true ≡ counted (f .word) 1 1 0
+unfolding startOf fresh nextOf words fprs shareOf powerShare
+hidden-written f h =
+    let one : (f .word + (f .word - 1)) / f .word ≡ 1 = add-div-left (f .word - 1) h ∙ ap (λ (x : ℕ). x + 1) (div-eq-of-lt (omega arith)) in
+    rw (one, zero-add (f .word * 1))
+
+-- "Offset in the area is 8w"
+pub offset-written : (f : PowerRules) (w m k : ℕ) (t : ValueType) (n : ℕ) → spanOf (Rules.Power f) (counted (f .word) w m k) t n .home .start ≡ f .word * w
+unfolding spanOf
+offset-written f w m k t n = refl
+
+same-covered : (n w : ℕ) → min n (11 - (3 + min w 8)) ≡ min n (8 - w)
+same-covered n w = omega arith
+
+-- an argument at word w: how many of its words have a GPR, and what share it takes
+abbrev pub shareAt : PowerRules → ℕ → ℕ → ValueType → ℕ → Share
+shareAt f w m t n = shareOf (fprs (f .edition) t) (14 - m) (words (f .word) n) (min (words (f .word) n) (8 - w))
+
+-- every argument, a float too, moves w by its words
+pub next-counted : (f : PowerRules) (w m k : ℕ) (t : ValueType) (n : ℕ)
+    → nextOf (Rules.Power f) (counted (f .word) w m k) t n ≡ counted (f .word) (w + words (f .word) n) (m + shareAt f w m t n .floating) k
+unfolding nextOf powerShare
+next-counted f w m k t n =
+    let len : ℕ = words (f .word) n in
+    let g : 3 + min w 8 + min len (8 - w) ≡ 3 + min (w + len) 8 = omega arith in
+    rw (same-covered len w, g, mul-add (f .word) w len)
+
+-- "The area is 8 times the larger of 8 and the final w"
+pub area-written : (f : PowerRules) (w m k : ℕ) → areaOf (Rules.Power f) (counted (f .word) w m k) ≡ f .word * max 8 w
+unfolding areaOf
+area-written f w m k = go (ltb w 8) refl
+  where
+    go : (b : Bool) → ltb w 8 ≡ b → max (f .word * 8) (f .word * w) ≡ f .word * max 8 w
+    go true q =
+        let h : w < 8 = ltb-true w 8 q in
+        let le : w ≤ 8 = omega arith in
+        let e : max 8 w ≡ 8 = omega arith in
+        rw e (omega (arith, mul-le-mul-left (f .word) le))
+    go false q =
+        let h : 8 ≤ w = ltb-false w 8 q in
+        let e : max 8 w ≡ w = omega arith in
+        rw e (omega (arith, mul-le-mul-left (f .word) h))
+
+-- ---- PowerPC: integers, structs and long doubles
+
+-- "goes to r(3+w) while w < 8, then to memory": the place of word j
+abbrev pub wordPlace : ℕ → ℕ → Place
+wordPlace word j = pick (ltb j 8) (register Bank.General (3 + j)) (Place.Memory (word * j))
+
+cover-low : (n w : ℕ) → w < 8 → min (suc n) (8 - w) ≡ suc (min n (8 - (w + 1)))
+cover-low n w h = omega arith
+
+cover-high : (n w : ℕ) → 8 ≤ w → min n (8 - w) ≡ 0
+cover-high n w h = omega arith
+
+low : (w : ℕ) → w < 8 → min w 8 ≡ w
+low w h = omega arith
+
+next-low : (w : ℕ) → w < 8 → 3 + w + 1 ≡ 3 + min (w + 1) 8
+next-low w h = omega arith
+
+less-suc : (n x : ℕ) → suc n - suc x ≡ n - x
+less-suc n x = omega arith
+
+more-suc : (w x : ℕ) → w + suc x ≡ w + 1 + x
+more-suc w x = omega arith
+
+none-less : (n : ℕ) → n - 0 ≡ n
+none-less n = omega arith
+
+none-more : (w : ℕ) → w + 1 + 0 ≡ suc (w + 0)
+none-more w = omega arith
+
+-- n words from word w on: those below 8 in GPRs, the others in memory
+straddle : (word n w : ℕ)
+    → map (register Bank.General) (upFrom (3 + min w 8) 1 (min n (8 - w))) ++ map Place.Memory (upFrom (word * (w + min n (8 - w))) word (n - min n (8 - w)))
+    ≡ map (wordPlace word) (upFrom w 1 n)
+unfolding upFrom
+straddle word zero w = let z : min 0 (8 - w) ≡ 0 = omega arith in rw z
+straddle word (suc n) w = go (ltb w 8) refl (straddle word n (w + 1))
+  where
+    go : (b : Bool) → ltb w 8 ≡ b
+        → map (register Bank.General) (upFrom (3 + min (w + 1) 8) 1 (min n (8 - (w + 1)))) ++ map Place.Memory (upFrom (word * (w + 1 + min n (8 - (w + 1)))) word (n - min n (8 - (w + 1))))
+        ≡ map (wordPlace word) (upFrom (w + 1) 1 n)
+        → map (register Bank.General) (upFrom (3 + min w 8) 1 (min (suc n) (8 - w))) ++ map Place.Memory (upFrom (word * (w + min (suc n) (8 - w))) word (suc n - min (suc n) (8 - w)))
+        ≡ pick b (register Bank.General (3 + w)) (Place.Memory (word * w)) ∷ map (wordPlace word) (upFrom (w + 1) 1 n)
+    go true e ih =
+        let h : w < 8 = ltb-true w 8 e in
+        rw (cover-low n w h, low w h, less-suc n (min n (8 - (w + 1))), more-suc w (min n (8 - (w + 1))), next-low w h)
+        (ap (λ (l : List Place). register Bank.General (3 + w) ∷ l) ih)
+    go false e ih =
+        let h : 8 ≤ w = ltb-false w 8 e in
+        let i : map Place.Memory (upFrom (word * (w + 1 + 0)) word (n - 0)) ≡ map (wordPlace word) (upFrom (w + 1) 1 n) = rw (cover-high n (w + 1) (omega arith)) at ih in
+        let d : word * (w + 1 + 0) ≡ word * (w + 0) + word = ap (λ (x : ℕ). word * x) (none-more w) ∙ mul-suc word (w + 0) in
+        rw (cover-high (suc n) w h, none-less (suc n))
+        (ap₂ (λ (p : Place) (l : List Place). p ∷ l) (ap (λ (y : ℕ). Place.Memory (word * y)) (add-zero w)) (rw (d, none-less n) at i))
+
+-- "Each doubleword of a whole, struct or long double goes to r(3+w) while w < 8, then to memory; one argument may straddle"
+pub words-written : (f : PowerRules) (w m k : ℕ) (t : ValueType) (n : ℕ) → 0 < f .word → fprs (f .edition) t ≡ 0
+    → placesOf (f .word) (spanOf (Rules.Power f) (counted (f .word) w m k) t n) ≡ map (wordPlace (f .word)) (upFrom w 1 (words (f .word) n))
+unfolding spanOf powerShare shareOf placesOf registersOf memoryOf upFrom
+words-written f w m k t n h z =
+    let len : ℕ = words (f .word) n in
+    let a : len - (len - min len (8 - w)) ≡ min len (8 - w) = omega arith in
+    rw (same-covered len w, z, a, ← mul-add (f .word) w (min len (8 - w)), mul-div-cancel-left (len - min len (8 - w)) h) (straddle (f .word) len w)
+
+-- ---- PowerPC: singles and doubles
+
+-- "Singles and doubles take f1 to f13 in order, skip their GPR, and aren't stored in memory; after f13, memory only"
+pub float-written : (f : PowerRules) (w m k : ℕ) (t : ValueType) (n : ℕ) → 0 < f .word → fprs (f .edition) t ≡ 1
+    → placesOf (f .word) (spanOf (Rules.Power f) (counted (f .word) w m k) t n)
+    ≡ pick (leb 1 (14 - m)) (register Bank.Floating m ∷ []) (map Place.Memory (upFrom (f .word * w) (f .word) (words (f .word) n)))
+unfolding spanOf powerShare shareOf placesOf registersOf memoryOf upFrom
+float-written f w m k t n h z = rw z (go (leb 1 (14 - m)))
+  where
+    len : ℕ
+    len = words (f .word) n
+
+    go : (b : Bool) → placesOf (f .word) (record {
+      general = registers (3 + min w 8) (pick b (share 0 1 0) (share 0 0 len) .general);
+      floating = registers m (pick b (share 0 1 0) (share 0 0 len) .floating);
+      home = bytes (f .word * w) (f .word * len);
+      memory = bytes (f .word * w + f .word * (len - pick b (share 0 1 0) (share 0 0 len) .memory)) (f .word * pick b (share 0 1 0) (share 0 0 len) .memory);
+      copy = bytes k 0;
+      indirect = false;
+    }) ≡ pick b (register Bank.Floating m ∷ []) (map Place.Memory (upFrom (f .word * w) (f .word) len))
+    go true = rw (mul-div-cancel-left 0 h)
+    go false =
+        let a : len - len ≡ 0 = omega arith in
+        rw (a, mul-div-cancel-left len h, mul-zero (f .word), add-zero (f .word * w))
+
+-- ---- Z
+
+-- "Counters start at gr 2 (3 with a hidden result address in r2 ..), fr 0, stack offset 160", which is byte 0 of the area
+pub z-start-written : startOf Rules.Z false ≡ cursor 2 0 0 0
+unfolding startOf fresh
+z-start-written = refl
+
+pub z-hidden-written : startOf Rules.Z true ≡ cursor 3 0 0 0
+unfolding startOf fresh nextOf zClass zNextOf
+z-hidden-written = refl
+
+-- "f0, f2, f4, f6, then 8 stack bytes"
+pub z-float-written : (c : Cursor) (t : ValueType) (n : ℕ) → zClass t n ≡ ZClass.Float
+    → placesOf 8 (spanOf Rules.Z c t n) ≡ pick (ltb (c .floating) 8) (register Bank.Floating (c .floating) ∷ []) (Place.Memory (c .stack) ∷ [])
+unfolding placesOf registersOf memoryOf upFrom spanOf zSpanOf
+z-float-written c t n e = rw e (go (ltb (c .floating) 8) refl)
+  where
+    go : (b : Bool) → ltb (c .floating) 8 ≡ b
+        → (map (register Bank.Floating) (upFrom (c .floating) 1 (min 1 (8 - c .floating))) ++ []) ++ map Place.Memory (upFrom (c .stack) 8 (8 * (1 - (0 + min 1 (8 - c .floating))) / 8))
+        ≡ pick b (register Bank.Floating (c .floating) ∷ []) (Place.Memory (c .stack) ∷ [])
+    go true q = let m : min 1 (8 - c .floating) ≡ 1 = omega (arith, ltb-true (c .floating) 8 q) in rw m
+    go false q = let m : min 1 (8 - c .floating) ≡ 0 = omega (arith, ltb-false (c .floating) 8 q) in rw m
+
+z-held : (c : Cursor) (b : Bool) → ltb (c .general) 7 ≡ b
+    → map (register Bank.General) (upFrom (c .general) 1 (min 1 (7 - c .general))) ++ map Place.Memory (upFrom (c .stack) 8 (8 * (1 - (min 1 (7 - c .general) + 0)) / 8))
+    ≡ pick b (register Bank.General (c .general) ∷ []) (Place.Memory (c .stack) ∷ [])
+unfolding upFrom
+z-held c true q = let m : min 1 (7 - c .general) ≡ 1 = omega (arith, ltb-true (c .general) 7 q) in rw m
+z-held c false q = let m : min 1 (7 - c .general) ≡ 0 = omega (arith, ltb-false (c .general) 7 q) in rw m
+
+-- "Everything else: r2 to r6, then 8 stack bytes"
+pub z-simple-written : (c : Cursor) (t : ValueType) (n : ℕ) → zClass t n ≡ ZClass.Simple
+    → placesOf 8 (spanOf Rules.Z c t n) ≡ pick (ltb (c .general) 7) (register Bank.General (c .general) ∷ []) (Place.Memory (c .stack) ∷ [])
+unfolding placesOf registersOf memoryOf upFrom spanOf zSpanOf
+z-simple-written c t n e = rw e (z-held c (ltb (c .general) 7) refl)
+
+-- "other structs and long double go by pointer to a copy, at the next multiple of 8 in the copy buffer"
+pub z-reference-written : (c : Cursor) (t : ValueType) (n : ℕ) → zClass t n ≡ ZClass.Reference
+    → placesOf 8 (spanOf Rules.Z c t n) ≡ pick (ltb (c .general) 7) (register Bank.General (c .general) ∷ []) (Place.Memory (c .stack) ∷ [])
+unfolding placesOf registersOf memoryOf upFrom spanOf zSpanOf
+z-reference-written c t n e = rw e (z-held c (ltb (c .general) 7) refl)
+
+pub z-copy-written : (c : Cursor) (t : ValueType) (n : ℕ) → zClass t n ≡ ZClass.Reference → spanOf Rules.Z c t n .copy ≡ bytes (roundUp (c .copies) 8) n
+unfolding spanOf zSpanOf
+z-copy-written c t n e = rw e

@@ -1,0 +1,110 @@
+-- One argument in every convention: its span and the next cursor; the first cursor, the area, and the place of a result.
+-- Document 01, "Places on PPC64" and "Places on Z". A convention is a value of `Rules`. All laws hold at every cursor.
+-- Assumes nothing.
+use Prim.Native.Nat.{ℕ, _+_, _-_, _*_, _≤_, max}
+use mathlib.Core.Bool.{Bool, true, false}
+use Rattle.types.specs.declared.Convention.{Convention}
+use Rattle.types.specs.declared.FloatFormat.{FloatFormat}
+use Rattle.types.specs.declared.ValueType.{ValueType}
+use Rattle.convention.specs.declared.Edition.{Edition}
+use Rattle.convention.specs.declared.PowerRules.{PowerRules}
+use Rattle.convention.specs.declared.Rules.{Rules}
+use Rattle.convention.specs.declared.Cursor.{Cursor}
+use Rattle.convention.specs.declared.Span.{Span}
+use Rattle.convention.specs.declared.Placed.{Placed}
+use Rattle.convention.specs.declared.ResultPlaces.{ResultPlaces}
+use Rattle.convention.specs.Values.{pick, cursor, pointer}
+use Rattle.convention.specs.Power.{words, powerShare, powerSpan, powerNext}
+use Rattle.convention.specs.ZSeries.{zClass, zSpanOf, zNextOf}
+
+-- ---- the conventions
+
+abbrev pub power : ℕ → Edition → Rules
+power w e = Rules.Power (record { word = w; edition = e })
+
+abbrev pub ppc64 : Rules
+ppc64 = power 8 Edition.Earlier
+
+abbrev pub rulesOf : Convention → Rules
+rulesOf Convention.Ppc64 = ppc64
+rulesOf Convention.Z = Rules.Z
+
+-- the bytes of a frame's header, below the parameter area: 000, 3.2.2, "for a total of 48 bytes"; 001, "160 bytes above the
+-- initial stack pointer"
+abbrev pub headerOf : Convention → ℕ
+headerOf Convention.Ppc64 = 48
+headerOf Convention.Z = 160
+
+-- what a stack pointer is a multiple of; document 01, "Frames": "rounded up to 16", "rounded up to 8"
+abbrev pub alignmentOf : Convention → ℕ
+alignmentOf Convention.Ppc64 = 16
+alignmentOf Convention.Z = 8
+
+-- the bytes of a word of the argument list, and of a pointer
+abbrev pub wordOf : Rules → ℕ
+wordOf (Rules.Power f) = f .word
+wordOf Rules.Z = 8
+
+-- what the laws ask of a convention
+abbrev pub Lawful : Rules → Type 0
+Lawful (Rules.Power f) = (4 ≤ f .word) × (f .word ≤ 8)
+Lawful Rules.Z = Unit {0}
+
+-- a cursor whose numbers leave room for an argument more in their types
+abbrev pub Roomy : Cursor → Type 0
+Roomy c = (c .general ≤ 11) × (c .floating ≤ 14) × (c .stack ≤ 60000) × (c .copies ≤ 60000)
+
+-- ---- one argument, of a type and its size n
+
+unfoldable pub spanOf : Rules → Cursor → ValueType → ℕ → Span
+spanOf (Rules.Power f) c t n = powerSpan (f .word) c (words (f .word) n) (powerShare f c t n)
+spanOf Rules.Z c t n = zSpanOf c (zClass t n) n
+
+unfoldable pub nextOf : Rules → Cursor → ValueType → ℕ → Cursor
+nextOf (Rules.Power f) c t n = powerNext (f .word) c (words (f .word) n) (powerShare f c t n)
+nextOf Rules.Z c t n = zNextOf c (zClass t n) n
+
+abbrev pub placedAs : Span → Cursor → Placed
+placedAs s d = record { span = s; next = d }
+
+unfoldable pub placed : Rules → Cursor → ValueType → ℕ → Placed
+placed r c t n = placedAs (spanOf r c t n) (nextOf r c t n)
+
+-- ---- the whole list
+
+-- PPC64: "The doubleword count w starts at 0", r(3+0), f1. Z: "Counters start at gr 2 .., fr 0, stack offset 160"
+unfoldable pub fresh : Rules → Cursor
+fresh (Rules.Power f) = cursor 3 1 0 0
+fresh Rules.Z = cursor 2 0 0 0
+
+-- a result's "address is then a hidden first argument": placed as a first argument that is a pointer
+unfoldable pub startOf : Rules → Bool → Cursor
+startOf r hidden = pick hidden (nextOf r (fresh r) pointer (wordOf r)) (fresh r)
+
+-- from the last cursor: "The area is 8 times the larger of 8 and the final w"; Z: "The area is the stack bytes used, possibly 0"
+unfoldable pub areaOf : Rules → Cursor → ℕ
+areaOf (Rules.Power f) e = max (f .word * 8) (e .stack)
+areaOf Rules.Z e = e .stack
+
+-- ---- the result
+
+-- "when the result is a struct: its address is then a hidden first argument"; Z: "for struct or long double"
+unfoldable pub hiddenFor : Rules → ValueType → Bool
+hiddenFor r (ValueType.Integer k) = false
+hiddenFor r (ValueType.Struct s) = true
+hiddenFor (Rules.Power f) (ValueType.Float x) = false
+hiddenFor Rules.Z (ValueType.Float FloatFormat.Single) = false
+hiddenFor Rules.Z (ValueType.Float FloatFormat.Double) = false
+hiddenFor Rules.Z (ValueType.Float FloatFormat.LongDouble) = true
+
+-- "whole r3; single or double f1; long double f1, f2"; Z: "whole r2; single or double f0". Each is where a first argument of
+-- its type would be, by the later edition's rule for a long double
+unfoldable pub returning : Rules → Rules
+returning (Rules.Power f) = power (f .word) Edition.Later
+returning Rules.Z = Rules.Z
+
+unfoldable pub resultOf : Rules → ValueType → ℕ → ResultPlaces
+resultOf r t n =
+    pick (hiddenFor r t)
+    (ResultPlaces.Hidden (spanOf r (fresh r) pointer (wordOf r)))
+    (ResultPlaces.Registers (spanOf (returning r) (fresh r) t n))

@@ -1,0 +1,28 @@
+-- Short names for the values of the declared types, and a choice between two. Assumes nothing.
+use Prim.Native.Nat.{ℕ}
+use mathlib.Core.Bool.{Bool, true, false}
+use Rattle.types.specs.declared.IntegerKind.{IntegerKind}
+use Rattle.types.specs.declared.ValueType.{ValueType}
+use Rattle.convention.specs.declared.Cursor.{Cursor}
+use Rattle.convention.specs.declared.RegisterRange.{RegisterRange}
+use Rattle.convention.specs.declared.ByteRange.{ByteRange}
+use Rattle.convention.specs.declared.Share.{Share}
+
+abbrev pub pick : {A : Type 0} → Bool → A → A → A
+pick true a b = a
+pick false a b = b
+
+abbrev pub cursor : ℕ → ℕ → ℕ → ℕ → Cursor
+cursor g f s c = record { general = g; floating = f; stack = s; copies = c }
+
+abbrev pub registers : ℕ → ℕ → RegisterRange
+registers first n = record { first = first; count = n }
+
+abbrev pub bytes : ℕ → ℕ → ByteRange
+bytes start n = record { start = start; length = n }
+
+abbrev pub share : ℕ → ℕ → ℕ → Share
+share g f m = record { general = g; floating = f; memory = m }
+
+abbrev pub pointer : ValueType
+pointer = ValueType.Integer IntegerKind.Pointer

@@ -1,0 +1,34 @@
+-- Every plan can be printed. Assumes nothing.
+use mathlib.Core.List.{List}
+use Prim.Native.Nat.{ℕ}
+use Rattle.types.specs.declared.Convention.{Convention}
+use Rattle.types.specs.Sizes.{sizeOf}
+use Rattle.items.specs.Reading.{Reading, got, no}
+use Rattle.signature.specs.declared.ResultType.{ResultType}
+use Rattle.signature.specs.Signature.{Signature}
+use Rattle.signature.specs.Read.{signatureOf}
+use Rattle.signature.specs.Answer.{resultType}
+use Rattle.convention.specs.Step.{rulesOf}
+use Rattle.convention.specs.Places.{ResultNumbered}
+use Rattle.convention.proofs.Registers.{result-numbered}
+use Rattle.plan.specs.Plan.{resultIn, planIn, planAnswer}
+use Rattle.plan.proofs.Answers.{answer-few, answer-table}
+use Rattle.plan.proofs.Theorems.{within}
+use Rattle.listing.specs.Writing.{Printable}
+
+result-of : (c : Convention) (r : ResultType) → ResultNumbered (resultIn c r)
+result-of c ResultType.Nothing = tt
+result-of c (ResultType.Value t) = result-numbered (rulesOf c) t (sizeOf c t)
+
+result-in : (x : Reading Signature) → ResultNumbered (planAnswer x .result)
+unfolding planAnswer planIn
+result-in (got g next n) = result-of (g .convention) (resultType (g .convention) (g .result))
+result-in (no r place) = tt
+
+pub answer-printable : (s : List ℕ) → Printable (planAnswer (signatureOf s))
+answer-printable s = record {
+  few = answer-few s;
+  room = answer-table (signatureOf s);
+  spans = within (signatureOf s) .numbered;
+  result = result-in (signatureOf s);
+}

@@ -1,0 +1,5 @@
+-- Laws that belong to no one function.
+pub mod Decimals
+pub mod Writing
+pub mod Texts
+pub mod Answers

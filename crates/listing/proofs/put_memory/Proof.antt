@@ -1,0 +1,26 @@
+-- The word stands where some bytes do.
+use Rattle.listing.proofs.Writing.{wrote-nothing}
+use borrow.Author.Tests.{lt-ltb, le-ltb}
+use native.Mathlib.Omega.{arith}
+use borrow.Author.Needs.{needs}
+use Rattle.listing.proofs.put_memory.Statement.{statement}
+use Rattle.listing.proofs.put_memory.Tie as tie
+
+slice-aggregate-put-bytes : tie.Need-slice-aggregate-put-bytes
+slice-aggregate-put-bytes c = search needs
+
+put-bytes-requires : tie.Need-put-bytes-requires
+put-bytes-requires c κs = search needs
+
+same-length : tie.Need-same-length
+same-length c = search needs
+
+returns : tie.Need-returns
+returns c = let w = c .before .before .put-bytes .ensures in (rw (lt-ltb 0 (c .before .before .before .before .before .before .before .before .before .args .s .memory .length) (omega arith)) w, omega (arith, w .end))
+
+returns-2 : tie.Need-returns-2
+returns-2 c = (rw (le-ltb 0 (c .before .before .before .before .args .s .memory .length) (omega arith)) (wrote-nothing _ _), omega arith)
+
+pub put-memory-spec : {M : Type 1} → statement M
+put-memory-spec =
+    tie.close (tie.spec slice-aggregate-put-bytes put-bytes-requires same-length returns returns-2)

@@ -1,0 +1,6 @@
+-- Laws that belong to no one function.
+pub mod Fold
+pub mod Turns
+pub mod Answers
+pub mod Apart
+pub mod Theorems

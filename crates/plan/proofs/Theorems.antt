@@ -1,0 +1,138 @@
+-- Every plan keeps its arguments apart and within bounds (specs/Disjoint.antt states it). Assumes nothing.
+use mathlib.Core.Path.{_≡_, refl, sym, ap, subst, _∙_}
+use mathlib.Core.Bool.{Bool, true, false}
+use mathlib.Core.List.{List, [], _∷_, _++_}
+use Prim.Native.Nat.{ℕ, zero, suc, _+_, _≤_, _<_}
+use native.Mathlib.Omega.{arith}
+use lib.ListN.{getD, replicate}
+use Rattle.types.specs.declared.Convention.{Convention}
+use Rattle.types.specs.declared.ValueType.{ValueType}
+use Rattle.types.specs.Sizes.{sizeOf}
+use Rattle.items.specs.declared.Refusal.{Refusal}
+use Rattle.items.specs.Reading.{Reading, got, no}
+use Rattle.signature.specs.declared.Outcome.{Outcome}
+use Rattle.signature.specs.declared.ResultType.{ResultType}
+use Rattle.signature.specs.Signature.{Signature}
+use Rattle.signature.specs.Answer.{resultType}
+use Rattle.convention.specs.declared.Cursor.{Cursor}
+use Rattle.convention.specs.declared.Span.{Span}
+use Rattle.convention.specs.declared.Rules.{Rules}
+use Rattle.convention.specs.declared.ResultPlaces.{ResultPlaces}
+use Rattle.convention.specs.Values.{pick, pointer}
+use Rattle.convention.specs.Step.{rulesOf, wordOf, spanOf, nextOf, fresh, startOf, areaOf, hiddenFor, returning, resultOf}
+use Rattle.convention.specs.Places.{Numbered}
+use Rattle.convention.specs.Spots.{Spot, general, floating, area, copies, Owns, imageSpot, ArgumentRegister}
+use Rattle.convention.proofs.Bounds.{named-start, rules-word, area-holds, least-area}
+use Rattle.convention.proofs.Between.{before-from, owns-before}
+use Rattle.plan.specs.declared.Plan.{Plan}
+use Rattle.plan.specs.Plan.{spansOf, lastOf, noSpan, tableOf, hiddenIn, resultIn, startIn, endIn, planIn, refused, typesOf, planAnswer}
+use Rattle.plan.specs.Disjoint.{spanAt, Disjoint, Within}
+use Rattle.plan.proofs.Apart.{in-table, getD-blanks, spanIn, none-owned, owned-from, owned-before, owned-register, owned-apart, span-numbered, span-homed, Homed}
+
+-- ---- an accepted signature
+
+module _ (n : ℕ) (c : Convention) (r : ResultType) (ts : List ValueType) where
+  -- the table's span is the fold's
+  in-plan : (i : ℕ) → spanAt (planIn n c r ts) i ≡ spanIn c (rulesOf c) (startIn c r) ts i
+  unfolding planIn
+  in-plan i = in-table (spansOf c (rulesOf c) (startIn c r) ts) i
+
+  owned : (i : ℕ) (x : Spot) → Owns (spanAt (planIn n c r ts) i) x → Owns (spanIn c (rulesOf c) (startIn c r) ts i) x
+  owned i x o = subst (λ (s : Span). Owns s x) (in-plan i) o
+
+-- a hidden address comes before the first argument
+hidden-from : (c : Convention) (ts : List ValueType) (i : ℕ) (x : Spot)
+    → Owns (spanOf (rulesOf c) (fresh (rulesOf c)) pointer (wordOf (rulesOf c))) x → Owns (spanIn c (rulesOf c) (startOf (rulesOf c) true) ts i) x → ⊥
+unfolding startOf
+hidden-from c ts i x a b =
+    before-from (startOf (rulesOf c) true) x
+    (owns-before (rulesOf c) (fresh (rulesOf c)) pointer (wordOf (rulesOf c)) x a)
+    (owned-from c (rulesOf c) (startOf (rulesOf c) true) ts i x b)
+
+hidden-apart : (c : Convention) (r : ResultType) (ts : List ValueType) (s : Span) (i : ℕ) (x : Spot)
+    → resultIn c r ≡ ResultPlaces.Hidden s → Owns s x → Owns (spanIn c (rulesOf c) (startIn c r) ts i) x → ⊥
+unfolding resultOf
+hidden-apart c ResultType.Nothing ts s i x e a b = let z : _≡_ {A = ℕ} 0 1 = cc in omega arith
+hidden-apart c (ResultType.Value t) ts s i x e a b = go (hiddenFor (rulesOf c) t) e b
+  where
+    address : Span
+    address = spanOf (rulesOf c) (fresh (rulesOf c)) pointer (wordOf (rulesOf c))
+
+    held : Span
+    held = spanOf (returning (rulesOf c)) (fresh (rulesOf c)) t (sizeOf c t)
+
+    go : (h : Bool) → pick h (ResultPlaces.Hidden address) (ResultPlaces.Registers held) ≡ ResultPlaces.Hidden s
+        → Owns (spanIn c (rulesOf c) (startOf (rulesOf c) h) ts i) x → ⊥
+    go true q o = let same : s ≡ address = cc in hidden-from c ts i x (subst (λ (y : Span). Owns y x) same a) o
+    go false q o = let z : _≡_ {A = ℕ} 0 1 = cc in omega arith
+
+plan-disjoint : (n : ℕ) (c : Convention) (r : ResultType) (ts : List ValueType) → Disjoint (planIn n c r ts)
+unfolding planIn
+plan-disjoint n c r ts =
+    let k : Cursor = startIn c r in
+    record {
+      apart = λ i j x h a b. owned-apart c (rulesOf c) k ts i j x h (owned n c r ts i x a) (owned n c r ts j x b);
+      image = λ i j b h x y. owned-apart c (rulesOf c) k ts i j (imageSpot b) h (owned n c r ts i (imageSpot b) x) (owned n c r ts j (imageSpot b) y);
+      hidden = λ s i x e a b. hidden-apart c r ts s i x e a (owned n c r ts i x b);
+    }
+
+least : (c : Convention) (e : Cursor) → c ≡ Convention.Ppc64 → 64 ≤ areaOf (rulesOf c) e
+least Convention.Ppc64 e h = least-area 8 _ e
+least Convention.Z e h = let z : _≡_ {A = ℕ} 0 1 = cc in absurd (omega arith)
+
+plan-within : (n : ℕ) (c : Convention) (r : ResultType) (ts : List ValueType) → Within (planIn n c r ts)
+unfolding planIn
+plan-within n c r ts =
+    let k : Cursor = startIn c r in
+    let e : Cursor = endIn c r ts in
+    let named = named-start (rulesOf c) (hiddenIn c r) in
+    record {
+      registers = λ i x o. owned-register c (rulesOf c) k ts i x named (owned n c r ts i x o);
+      numbered = λ i. subst Numbered (sym (in-plan n c r ts i)) (span-numbered c (rulesOf c) k ts i named);
+      area = λ i b o. let l : b < e .stack = owned-before c (rulesOf c) k ts i (area b) (owned n c r ts i (area b) o) in omega (arith, area-holds (rulesOf c) e);
+      copies = λ i b o. owned-before c (rulesOf c) k ts i (copies b) (owned n c r ts i (copies b) o);
+      memory-from = λ i. subst Homed (sym (in-plan n c r ts i)) (span-homed c (rulesOf c) k ts i) .from;
+      memory-to = λ i. subst Homed (sym (in-plan n c r ts i)) (span-homed c (rulesOf c) k ts i) .to;
+      least = λ m a q. least c e q;
+    }
+
+-- ---- a refused one
+
+none-at : (i : ℕ) → getD (replicate 64 noSpan) i noSpan ≡ noSpan
+none-at i = getD-blanks [] 64 i
+
+none : (i : ℕ) (x : Spot) → Owns (getD (replicate 64 noSpan) i noSpan) x → ⊥
+none i x o = none-owned x (subst (λ (s : Span). Owns s x) (none-at i) o)
+
+refused-disjoint : (reason : Refusal) (place : ℕ) → Disjoint (refused reason place)
+refused-disjoint reason place = record {
+  apart = λ i j x h a b. none i x a;
+  image = λ i j b h x y. none i (imageSpot b) x;
+  hidden = λ s i x e a b. none i x b;
+}
+
+refused-within : (reason : Refusal) (place : ℕ) → Within (refused reason place)
+refused-within reason place =
+    let numbered : Numbered noSpan = omega arith in
+    let homed : Homed noSpan = record { from = omega arith; to = omega arith } in
+    record {
+      registers = λ i x o. absurd (none i x o);
+      numbered = λ i. subst Numbered (sym (none-at i)) numbered;
+      area = λ i b o. absurd (none i (area b) o);
+      copies = λ i b o. absurd (none i (copies b) o);
+      memory-from = λ i. subst Homed (sym (none-at i)) homed .from;
+      memory-to = λ i. subst Homed (sym (none-at i)) homed .to;
+      least = λ m a q. let z : _≡_ {A = ℕ} 0 1 = cc in absurd (omega arith);
+    }
+
+-- ---- every answer of the planner
+
+pub disjoint : (x : Reading Signature) → Disjoint (planAnswer x)
+unfolding planAnswer
+disjoint (got g next n) = plan-disjoint n (g .convention) (resultType (g .convention) (g .result)) (typesOf (g .convention) (g .arguments))
+disjoint (no reason place) = refused-disjoint reason place
+
+pub within : (x : Reading Signature) → Within (planAnswer x)
+unfolding planAnswer
+within (got g next n) = plan-within n (g .convention) (resultType (g .convention) (g .result)) (typesOf (g .convention) (g .arguments))
+within (no reason place) = refused-within reason place

@@ -1,0 +1,127 @@
+-- A turn of the planner's loop: what is planned so far and what is left make up the whole fold. Assumes nothing.
+use mathlib.Core.Path.{_≡_, refl, sym, ap, _∙_}
+use mathlib.Core.Bool.{Bool}
+use mathlib.Core.List.{List, [], _∷_, _++_, map, append-assoc, append-nil}
+use Prim.Native.Nat.{ℕ, zero, suc, _+_, _-_, _*_, _≤_, _<_}
+use native.Mathlib.Omega.{arith}
+use native.Mathlib.Numerals.{add-one}
+use lib.ListN.{length, getD, set, take, drop, replicate, length-append, drop-of-length-le}
+use lib.Seq.{set-at}
+use Rattle.types.specs.declared.Convention.{Convention}
+use Rattle.types.specs.declared.IntegerKind.{IntegerKind}
+use Rattle.types.specs.declared.ValueType.{ValueType}
+use Rattle.types.specs.Sizes.{sizeOf}
+use Rattle.signature.specs.declared.Argument.{Argument}
+use Rattle.signature.specs.Answer.{argument}
+use Rattle.convention.specs.declared.Cursor.{Cursor}
+use Rattle.convention.specs.declared.Span.{Span}
+use Rattle.convention.specs.declared.Rules.{Rules}
+use Rattle.convention.specs.Step.{Lawful, spanOf, nextOf, startOf}
+use Rattle.convention.proofs.Bounds.{Named, named-start, named-next, near-next, start-bytes}
+use Rattle.plan.specs.Plan.{spansOf, lastOf, valuesOf, noSpan, tableOf, typeIn}
+use Rattle.plan.proofs.Fold.{length-spans}
+
+-- ---- the types of the reader's table
+
+abbrev blank : Argument
+blank = argument (ValueType.Integer IntegerKind.I8)
+
+pub length-types : (n : ℕ) (l : List Argument) → n ≤ length l → length (map typeIn (take n l)) ≡ n
+length-types zero l h = refl
+length-types (suc n) [] h = absurd (omega arith)
+length-types (suc n) (a ∷ l) h = ap suc (length-types n l (omega arith))
+
+-- the next type, and those after it
+pub types-drop : (n : ℕ) (l : List Argument) (i : ℕ) → i < n → n ≤ length l
+    → drop i (map typeIn (take n l)) ≡ getD l i blank .ty ∷ drop (suc i) (map typeIn (take n l))
+types-drop zero l i h k = absurd (omega arith)
+types-drop (suc n) [] i h k = absurd (omega arith)
+types-drop (suc n) (a ∷ l) zero h k = refl
+types-drop (suc n) (a ∷ l) (suc i) h k = types-drop n l i (omega arith) (omega arith)
+
+-- ---- the loop
+
+module _ (c : Convention) (r : Rules) (start : Cursor) (ts : List ValueType) where
+  -- i arguments are planned: the table ss holds their spans, k is the next one's cursor, and their values have v bytes
+  pub record Going (ss : List Span) (k : Cursor) (v i : ℕ) : Type 0 where
+    pub done : List Span
+    pub many : length done ≡ i
+    pub within : i ≤ length ts
+    pub array : ss ≡ done ++ replicate (64 - i) noSpan
+    pub rest : done ++ spansOf c r k (drop i ts) ≡ spansOf c r start ts
+    pub last : lastOf c r k (drop i ts) ≡ lastOf c r start ts
+    pub total : v + valuesOf c (drop i ts) ≡ valuesOf c ts
+    pub named : Named r k
+    pub stack : k .stack ≤ 264 * i + 264
+    pub copies : k .copies ≤ 264 * i + 264
+    pub small : v ≤ 256 * i
+
+pub going-start : (c : Convention) (r : Rules) (hidden : Bool) (ts : List ValueType) → Lawful r
+    → Going c r (startOf r hidden) ts (replicate 64 noSpan) (startOf r hidden) 0 0
+going-start c r hidden ts l =
+    let b = start-bytes r hidden l in
+    record {
+      done = [];
+      many = refl;
+      within = omega arith;
+      array = refl;
+      rest = refl;
+      last = refl;
+      total = omega arith;
+      named = named-start r hidden;
+      stack = omega arith;
+      copies = omega arith;
+      small = omega arith;
+    }
+
+pub going-more : (c : Convention) (r : Rules) (start : Cursor) (ts : List ValueType) (ss : List Span) (k : Cursor) (v i : ℕ) (t : ValueType)
+    → Lawful r → i < length ts → length ts ≤ 64 → sizeOf c t ≤ 256 → drop i ts ≡ t ∷ drop (suc i) ts
+    → Going c r start ts ss k v i
+    → Going c r start ts (set ss i (spanOf r k t (sizeOf c t))) (nextOf r k t (sizeOf c t)) (v + sizeOf c t) (i + 1)
+unfolding spansOf lastOf valuesOf
+going-more c r start ts ss k v i t l h few sm d g =
+    let n : ℕ = sizeOf c t in
+    let s : Span = spanOf r k t n in
+    let b = near-next r k t n l sm in
+    let blank : 64 - i ≡ suc (64 - (i + 1)) = omega arith in
+    let total : v + (n + valuesOf c (drop (suc i) ts)) ≡ valuesOf c ts = rw d at (g .total) in
+    record {
+      done = g .done ++ s ∷ [];
+      many = simp length-append (omega (arith, g .many));
+      within = omega arith;
+      array =
+          ap (λ (x : List Span). set x i s) (g .array)
+          ∙ rw blank (set-at (g .done) noSpan (replicate (64 - (i + 1)) noSpan) s i (g .many))
+          ∙ sym (append-assoc (g .done) (s ∷ []) (replicate (64 - (i + 1)) noSpan));
+      rest = rw add-one (append-assoc (g .done) (s ∷ []) (spansOf c r (nextOf r k t n) (drop (suc i) ts)) ∙ (rw d at (g .rest)));
+      last = rw add-one (rw d at (g .last));
+      total = rw add-one (omega arith);
+      named = named-next r k t n (g .named);
+      stack = omega (arith, g .stack, b .stack);
+      copies = omega (arith, g .copies, b .copies);
+      small = omega (arith, g .small);
+    }
+
+-- all arguments are planned: the table, the cursor and the size are the whole fold's
+pub record Gone (c : Convention) (r : Rules) (start : Cursor) (ts : List ValueType) (ss : List Span) (k : Cursor) (v : ℕ) : Type 0 where
+  pub table : ss ≡ tableOf (spansOf c r start ts)
+  pub last : k ≡ lastOf c r start ts
+  pub total : v ≡ valuesOf c ts
+
+pub going-end : (c : Convention) (r : Rules) (start : Cursor) (ts : List ValueType) (ss : List Span) (k : Cursor) (v i : ℕ)
+    → length ts ≤ i → Going c r start ts ss k v i → Gone c r start ts ss k v
+unfolding spansOf lastOf valuesOf tableOf
+going-end c r start ts ss k v i h g =
+    let none : drop i ts ≡ [] = drop-of-length-le ts h in
+    let rest : g .done ++ [] ≡ spansOf c r start ts = rw none at (g .rest) in
+    let total : v + 0 ≡ valuesOf c ts = rw none at (g .total) in
+    let size = length-spans c r start ts in
+    let many : i ≡ length (spansOf c r start ts) = omega (arith, g .within) in
+    record {
+      table =
+          g .array
+          ∙ ap (λ (l : List Span). l ++ replicate (64 - i) noSpan) (sym (append-nil (g .done)) ∙ rest)
+          ∙ ap (λ (n : ℕ). spansOf c r start ts ++ replicate (64 - n) noSpan) many;
+      last = rw none at (g .last);
+      total = omega arith;
+    }

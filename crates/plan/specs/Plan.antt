@@ -1,0 +1,119 @@
+-- The plan of a whole signature: a convention's step folded over the arguments from left to right. Document 01, "Places on
+-- PPC64" and "Places on Z"; the step is the crate convention's. Assumes nothing.
+use Prim.Native.Nat.{ℕ, _+_, _-_}
+use mathlib.Core.Bool.{Bool, true, false}
+use mathlib.Core.List.{List, [], _∷_, _++_, map}
+use lib.ListN.{length, take, replicate}
+use Rattle.types.specs.declared.Convention.{Convention}
+use Rattle.types.specs.declared.ValueType.{ValueType}
+use Rattle.types.specs.Sizes.{sizeOf}
+use Rattle.types.specs.Trees.{Trees, none, _▸_, typeOf}
+use Rattle.items.specs.declared.Refusal.{Refusal}
+use Rattle.items.specs.Reading.{Reading, got, no}
+use Rattle.signature.specs.declared.Argument.{Argument}
+use Rattle.signature.specs.declared.ResultType.{ResultType}
+use Rattle.signature.specs.declared.Outcome.{Outcome}
+use Rattle.signature.specs.declared.SignatureRead.{SignatureRead}
+use Rattle.signature.specs.Signature.{Signature}
+use Rattle.signature.specs.Answer.{resultType}
+use Rattle.convention.specs.declared.Cursor.{Cursor}
+use Rattle.convention.specs.declared.Span.{Span}
+use Rattle.convention.specs.declared.ResultPlaces.{ResultPlaces}
+use Rattle.convention.specs.declared.Rules.{Rules}
+use Rattle.convention.specs.Values.{registers, bytes}
+use Rattle.convention.specs.Step.{rulesOf, spanOf, nextOf, startOf, areaOf, hiddenFor, resultOf}
+use Rattle.plan.specs.declared.Plan.{Plan}
+
+-- ---- the fold, over any rules
+
+-- the span of each argument, from the cursor k on
+unfoldable pub spansOf : Convention → Rules → Cursor → List ValueType → List Span
+spansOf c r k [] = []
+spansOf c r k (t ∷ ts) = spanOf r k t (sizeOf c t) ∷ spansOf c r (nextOf r k t (sizeOf c t)) ts
+
+-- the cursor past the last argument
+unfoldable pub lastOf : Convention → Rules → Cursor → List ValueType → Cursor
+lastOf c r k [] = k
+lastOf c r k (t ∷ ts) = lastOf c r (nextOf r k t (sizeOf c t)) ts
+
+-- "The value buffer holds the arguments in order without gaps": all their bytes
+unfoldable pub valuesOf : Convention → List ValueType → ℕ
+valuesOf c [] = 0
+valuesOf c (t ∷ ts) = sizeOf c t + valuesOf c ts
+
+-- ---- the result
+
+abbrev pub hiddenIn : Convention → ResultType → Bool
+hiddenIn c ResultType.Nothing = false
+hiddenIn c (ResultType.Value t) = hiddenFor (rulesOf c) t
+
+abbrev pub resultIn : Convention → ResultType → ResultPlaces
+resultIn c ResultType.Nothing = ResultPlaces.Nothing
+resultIn c (ResultType.Value t) = resultOf (rulesOf c) t (sizeOf c t)
+
+-- ---- the plan
+
+abbrev pub noSpan : Span
+noSpan = record { general = registers 0 0; floating = registers 0 0; home = bytes 0 0; memory = bytes 0 0; copy = bytes 0 0; indirect = false }
+
+-- the program's table: the spans in order, and after them spans of nothing
+unfoldable pub tableOf : List Span → List Span
+tableOf l = l ++ replicate (64 - length l) noSpan
+
+-- the cursor of the first argument
+abbrev pub startIn : Convention → ResultType → Cursor
+startIn c r = startOf (rulesOf c) (hiddenIn c r)
+
+abbrev pub endIn : Convention → ResultType → List ValueType → Cursor
+endIn c r ts = lastOf c (rulesOf c) (startIn c r) ts
+
+-- a signature of n items: its convention, its result and its arguments' types
+unfoldable pub planIn : ℕ → Convention → ResultType → List ValueType → Plan
+planIn n c r ts = record {
+  outcome = Outcome.Accepted n;
+  convention = c;
+  result = resultIn c r;
+  count = length ts;
+  area = areaOf (rulesOf c) (endIn c r ts);
+  values = valuesOf c ts;
+  copies = endIn c r ts .copies;
+  spans = tableOf (spansOf c (rulesOf c) (startIn c r) ts);
+}
+
+-- "Every refusal leaves all buffers and the state untouched; counts are 0"
+abbrev pub refused : Refusal → ℕ → Plan
+refused reason place = record {
+  outcome = Outcome.Refused reason place;
+  convention = Convention.Ppc64;
+  result = ResultPlaces.Nothing;
+  count = 0;
+  area = 0;
+  values = 0;
+  copies = 0;
+  spans = replicate 64 noSpan;
+}
+
+-- the arguments' types in order
+unfoldable pub typesOf : Convention → Trees → List ValueType
+typesOf c none = []
+typesOf c (ts ▸ t) = typesOf c ts ++ typeOf c t ∷ []
+
+-- of what the reader finds in a signature's bytes
+unfoldable pub planAnswer : Reading Signature → Plan
+planAnswer (got g next n) = planIn n (g .convention) (resultType (g .convention) (g .result)) (typesOf (g .convention) (g .arguments))
+planAnswer (no reason place) = refused reason place
+
+-- ---- the same of the reader's answer
+
+abbrev pub typeIn : Argument → ValueType
+typeIn a = a .ty
+
+abbrev pub typesIn : SignatureRead → List ValueType
+typesIn g = map typeIn (take (g .count) (g .arguments))
+
+abbrev pub plannedAs : Outcome → SignatureRead → Plan
+plannedAs (Outcome.Accepted n) g = planIn n (g .convention) (g .result) (typesIn g)
+plannedAs (Outcome.Refused reason place) g = refused reason place
+
+unfoldable pub planned : SignatureRead → Plan
+planned g = plannedAs (g .outcome) g

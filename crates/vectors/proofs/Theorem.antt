@@ -1,0 +1,18 @@
+-- Every case of the table holds: each side computes. Assumes nothing.
+use mathlib.Core.Path.{refl}
+use Rattle.types.specs.Structs.{roundUp, withField, shapeOf}
+use Rattle.types.specs.Trees.{typeOf}
+use Rattle.items.specs.Read.{bodyAt, integerCode, floatCode, integerAt, floatAt, sequence, sizedAt, contentsAt, itemBy, structAt, itemAt}
+use Rattle.signature.specs.Read.{conventionCode, conventionAt, resultIn, resultAt, argumentsIn, argumentsAt, afterResult, afterConvention, signatureOf}
+use Rattle.convention.specs.Power.{words, fprs, shareOf, powerShare}
+use Rattle.convention.specs.ZSeries.{zClass, zSpanOf, zNextOf}
+use Rattle.convention.specs.Step.{spanOf, nextOf, fresh, startOf, areaOf, hiddenFor, returning, resultOf}
+use Rattle.convention.specs.Places.{upFrom, registersOf}
+use Rattle.plan.specs.Plan.{spansOf, lastOf, tableOf, planIn, typesOf, planAnswer}
+use Rattle.listing.specs.Words.{digitsOf, decimal}
+use Rattle.listing.specs.Text.{placesText, lineText, linesText, headText, resultText, refusalText, acceptedText, planText, listingOf}
+use Rattle.vectors.specs.Vectors.{AllHold, vectors, figure-3-18, figure-3-18-text, table-10, table-10-text, empty-text}
+
+pub vectors-hold : AllHold vectors
+unfolding vectors figure-3-18 figure-3-18-text table-10 table-10-text empty-text roundUp withField shapeOf typeOf bodyAt integerCode floatCode integerAt floatAt sequence sizedAt contentsAt itemBy structAt itemAt conventionCode conventionAt resultIn resultAt argumentsIn argumentsAt afterResult afterConvention signatureOf words fprs shareOf powerShare zClass zSpanOf zNextOf spanOf nextOf fresh startOf areaOf hiddenFor returning resultOf upFrom registersOf spansOf lastOf tableOf planIn typesOf planAnswer digitsOf decimal placesText lineText linesText headText resultText refusalText acceptedText planText listingOf
+vectors-hold = (refl, (refl, (refl, tt)))

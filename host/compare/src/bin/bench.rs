@@ -1,0 +1,161 @@
+//! The time that planning a call takes in the proved library and in the second program, on the
+//! same signatures, in turns.
+
+#![forbid(unsafe_code)]
+
+use compare::encode::{self, INTEGERS};
+use compare::generate;
+use compare::random::Random;
+use compare::timing;
+use flakuzhen::surface::plans as library;
+use reference::{compact, Convention, Float, Signature, Type};
+use std::collections::HashSet;
+use std::hint::black_box;
+use std::ops::RangeInclusive;
+use std::process::ExitCode;
+
+const SIGNATURES: usize = 10_000;
+const ROUNDS: usize = 101;
+const COUNTS: [RangeInclusive<usize>; 3] = [0..=8, 9..=32, 33..=64];
+
+const SIDES: &str = "\
+library         fz_measure: reads and tests the signature's bytes, plans the call and gives the
+                sizes of its three buffers
+second program  compact::plan: the same from the same bytes in ordinary Rust, in one pass and
+                without trees; it also keeps every argument's places, in one vector
+";
+
+/// Signatures with a like number of arguments.
+struct Group {
+    counts: RangeInclusive<usize>,
+    signatures: Vec<Vec<u8>>,
+}
+
+/// What all signatures of a group took together.
+#[derive(Default)]
+struct Sums {
+    signatures: f64,
+    bytes: f64,
+    /// Nanoseconds.
+    library: f64,
+    second: f64,
+}
+
+fn main() -> ExitCode {
+    let seed = compare::seed();
+    let groups = groups(seed);
+    for bytes in groups.iter().flat_map(|group| &group.signatures) {
+        if !agree(bytes) {
+            eprintln!("the two differ on a signature of seed {seed:#x}: nothing is measured");
+            return ExitCode::FAILURE;
+        }
+    }
+    println!(
+        "Planning a call, over {SIGNATURES} different accepted signatures of both conventions:"
+    );
+    println!(
+        "medians of {ROUNDS} rounds, in which the two take turns, in nanoseconds a signature."
+    );
+    println!("\n{SIDES}");
+    println!("arguments  signatures  mean bytes  library  second program  ratio");
+    let mut all = Sums::default();
+    for group in &groups {
+        let sums = measured(group);
+        print(&group.counts, &sums);
+        all.signatures += sums.signatures;
+        all.bytes += sums.bytes;
+        all.library += sums.library;
+        all.second += sums.second;
+    }
+    print(&(0..=64), &all);
+    ExitCode::SUCCESS
+}
+
+/// Different accepted signatures, every number of arguments as likely as another, in groups by it.
+fn groups(seed: u64) -> Vec<Group> {
+    let group = |counts: &RangeInclusive<usize>| Group {
+        counts: counts.clone(),
+        signatures: Vec::new(),
+    };
+    let mut groups: Vec<Group> = COUNTS.iter().map(group).collect();
+    let mut random = Random::new(seed);
+    let mut known = HashSet::new();
+    while known.len() < SIGNATURES {
+        let signature = signature(&mut random);
+        let bytes = encode::signature(&signature);
+        if known.insert(bytes.clone()) {
+            let count = signature.arguments.len();
+            let group = groups
+                .iter_mut()
+                .find(|group| group.counts.contains(&count));
+            let group = group.expect("a group for every count");
+            group.signatures.push(bytes);
+        }
+    }
+    groups
+}
+
+fn signature(random: &mut Random) -> Signature {
+    let convention = random.pick(&[Convention::Ppc64, Convention::Z]);
+    let result = random.once_in(2).then(|| usual_type(random));
+    let count = random.below(65);
+    generate::fitting(convention, result, (0..count).map(|_| usual_type(random)))
+}
+
+/// As calls usually have them: mostly integers and pointers, some floats, now and then a struct
+/// of a few fields.
+fn usual_type(random: &mut Random) -> Type {
+    match random.below(16) {
+        0..=8 => Type::Integer(random.pick(&INTEGERS)),
+        9..=11 => Type::Float(random.pick(&[Float::Single, Float::Double])),
+        12 => Type::Float(Float::LongDouble),
+        _ => {
+            let count = 1 + random.below(6);
+            generate::valid_struct(random, count, 3)
+        }
+    }
+}
+
+/// Both accept the signature and give the same sizes.
+fn agree(bytes: &[u8]) -> bool {
+    let sizes = library::measure(bytes);
+    let given = [sizes.values, sizes.area, sizes.copies];
+    compact::plan(bytes).is_ok_and(|plan| {
+        let planned = [plan.values, plan.area, plan.copies];
+        sizes.answer.number == 0 && given == planned.map(|size| size as u64)
+    })
+}
+
+fn measured(group: &Group) -> Sums {
+    let (library, second) = timing::medians(
+        &group.signatures,
+        ROUNDS,
+        |bytes| {
+            black_box(library::measure(black_box(bytes)));
+        },
+        |bytes| {
+            // what is made is also dropped within the time, as a caller would
+            let _ = black_box(compact::plan(black_box(bytes)));
+        },
+    );
+    let signatures = group.signatures.len() as f64;
+    Sums {
+        signatures,
+        bytes: group.signatures.iter().map(Vec::len).sum::<usize>() as f64,
+        library: library * signatures,
+        second: second * signatures,
+    }
+}
+
+fn print(counts: &RangeInclusive<usize>, sums: &Sums) {
+    println!(
+        "{:>2} to {:>2}   {:>10}  {:>10.0}  {:>7.0}  {:>14.0}  {:>5.2}",
+        counts.start(),
+        counts.end(),
+        sums.signatures,
+        sums.bytes / sums.signatures,
+        sums.library / sums.signatures,
+        sums.second / sums.signatures,
+        sums.library / sums.second
+    );
+}

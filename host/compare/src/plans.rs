@@ -1,0 +1,369 @@
+//! Planning compared: the sizes, and the listing byte for byte, in buffers of every kind of
+//! length.
+
+use crate::encode::{self, INTEGERS};
+use crate::generate;
+use crate::random::Random;
+use crate::signatures::hex;
+use crate::Difference;
+use flakuzhen::surface::plans::{self as surface, Sizes};
+use flakuzhen::surface::Answer;
+use reference::{
+    compact, float_equivalent, ArgumentPlan, Convention, Float, Integer, Place, Plan, ResultPlan,
+    Signature, Type,
+};
+use std::collections::BTreeMap;
+use std::fmt;
+
+/// How often each answer was given, and how often each interesting case came.
+#[derive(Clone, Default)]
+pub struct Histogram {
+    /// Yes at 0, each refusal at its number.
+    pub answers: [u64; 10],
+    pub cases: BTreeMap<String, u64>,
+    /// The bytes of the longest listing.
+    pub longest: usize,
+}
+
+impl Histogram {
+    pub fn total(&self) -> u64 {
+        self.answers.iter().sum()
+    }
+
+    pub fn accepted(&self) -> u64 {
+        self.answers[0]
+    }
+
+    /// How often the case of this name came.
+    pub fn case(&self, name: &str) -> u64 {
+        self.cases.get(name).copied().unwrap_or(0)
+    }
+
+    fn count(&mut self, name: &str) {
+        match self.cases.get_mut(name) {
+            Some(count) => *count += 1,
+            None => {
+                self.cases.insert(name.to_string(), 1);
+            }
+        }
+    }
+}
+
+impl fmt::Display for Histogram {
+    fn fmt(&self, to: &mut fmt::Formatter<'_>) -> fmt::Result {
+        let (total, accepted) = (self.total(), self.accepted());
+        write!(to, "{total} signatures planned: accepted {accepted}")?;
+        for (number, count) in self.answers.iter().enumerate().skip(1) {
+            write!(to, ", {number}: {count}")?;
+        }
+        write!(to, "; longest listing {} bytes", self.longest)?;
+        for (name, count) in &self.cases {
+            write!(to, "\n  {name}: {count}")?;
+        }
+        Ok(())
+    }
+}
+
+/// The bytes behind a lent buffer that must stay as they are.
+const NOT_LENT: usize = 40;
+
+/// What the second program answers, in the words of the C surface.
+fn expected_sizes(plan: &Result<Plan, reference::Refusal>) -> Sizes {
+    let (number, place, values, area, copies) = match plan {
+        Ok(plan) => (0, 0, plan.values, plan.area, plan.copies),
+        Err(refusal) => (refusal.number, refusal.place, 0, 0, 0),
+    };
+    Sizes {
+        answer: Answer {
+            number,
+            place: place as u64,
+            items: 0,
+        },
+        values: values as u64,
+        area: area as u64,
+        copies: copies as u64,
+    }
+}
+
+/// Compares the two on one signature. `longer` is by how much the longest buffer for the listing
+/// is longer than it.
+pub fn compare(bytes: &[u8], longer: usize, seen: &mut Histogram) -> Result<(), Difference> {
+    let differ = |told: String| {
+        Err(Difference(format!(
+            "{told}\nfor the signature {}",
+            hex(bytes)
+        )))
+    };
+    let signature = reference::read(bytes);
+    let plan = signature
+        .as_ref()
+        .map(reference::plan)
+        .map_err(|&refusal| refusal);
+
+    let expected = expected_sizes(&plan);
+    let given = surface::measure(bytes);
+    if given != expected {
+        return differ(format!(
+            "the library answers {given:?}\nthe second program {expected:?}"
+        ));
+    }
+    let compact = compact::plan(bytes).map(Plan::from);
+    if compact != plan {
+        return differ(format!(
+            "the second program's planners differ: {plan:?}\nand the compact one {compact:?}"
+        ));
+    }
+    let listing = match &plan {
+        Ok(plan) => reference::listing_of(plan),
+        Err(refusal) => reference::refusal_line(refusal),
+    };
+    compare_listing(bytes, &listing, longer).or_else(differ)?;
+
+    seen.answers[expected.answer.number as usize] += 1;
+    seen.longest = seen.longest.max(listing.len());
+    if let (Ok(signature), Ok(plan)) = (&signature, &plan) {
+        count_cases(signature, plan, seen);
+    }
+    Ok(())
+}
+
+/// Holds the library to a listing in buffers without room, with one byte too few, with exactly
+/// enough and with more. Behind each lie bytes that are not lent.
+fn compare_listing(bytes: &[u8], listing: &str, longer: usize) -> Result<(), String> {
+    let length = listing.len();
+    for room in [0, length - 1, length, length + longer] {
+        let mut text: Vec<u8> = (0..room + NOT_LENT).map(pattern).collect();
+        let mut expected = text.clone();
+        if length <= room {
+            expected[..length].copy_from_slice(listing.as_bytes());
+        }
+        let given = surface::listing(bytes, &mut text[..room]);
+        if given != length as u64 {
+            return Err(format!(
+                "with room for {room} bytes the library gives length {given} to\n{listing}"
+            ));
+        }
+        if text != expected {
+            return Err(format!(
+                "with room for {room} bytes the library leaves\n{}\nand not\n{}",
+                text.escape_ascii(),
+                expected.escape_ascii()
+            ));
+        }
+    }
+    Ok(())
+}
+
+/// What the buffer holds before: no byte of it can be one of a listing.
+fn pattern(at: usize) -> u8 {
+    0x80 | (at * 11 + 5) as u8
+}
+
+/// Counts which interesting cases a plan has.
+fn count_cases(signature: &Signature, plan: &Plan, seen: &mut Histogram) {
+    let convention = match plan.convention {
+        Convention::Ppc64 => "PPC64",
+        Convention::Z => "Z",
+    };
+    let mut count = |case: &str| seen.count(&format!("{convention} {case}"));
+    count("calls");
+    match plan.arguments.len() {
+        0 => count("no arguments"),
+        64 => count("64 arguments"),
+        _ => {}
+    }
+    count(match &signature.result {
+        None => "result none",
+        Some(Type::Integer(_)) => "result integer",
+        Some(Type::Float(Float::LongDouble)) => "result long double",
+        Some(Type::Float(_)) => "result single or double",
+        Some(of @ Type::Struct(_)) if float_equivalent(of).is_some() => "result float-like struct",
+        Some(Type::Struct(_)) => "result other struct",
+    });
+    if matches!(plan.result, ResultPlan::Hidden(_)) {
+        count("hidden result");
+    }
+    let least = match plan.convention {
+        Convention::Ppc64 => 64,
+        Convention::Z => 0,
+    };
+    count(match plan.area == least {
+        true => "smallest area",
+        false => "larger area",
+    });
+    if plan.copies % 8 != 0 {
+        count("copies end off a multiple of 8");
+    }
+    let mut copies_end = 0;
+    for (argument, of) in plan.arguments.iter().zip(&signature.arguments) {
+        count(&argument_case(plan.convention, argument, of));
+        if let Some(start) = argument.copy {
+            if start > copies_end {
+                count("gap before a copy");
+            }
+            copies_end = start + of.size();
+        }
+    }
+}
+
+/// A name for how an argument stands.
+fn argument_case(convention: Convention, argument: &ArgumentPlan, of: &Type) -> String {
+    let kind = match of {
+        Type::Integer(_) => "integer",
+        Type::Float(Float::Single) => "single",
+        Type::Float(Float::Double) => "double",
+        Type::Float(Float::LongDouble) => "long double",
+        Type::Struct(_) if float_equivalent(of).is_some() => "float-like struct",
+        Type::Struct(_) => "other struct",
+    };
+    let first = argument.places[0];
+    let last = argument.places[argument.places.len() - 1];
+    let place = match (first, last) {
+        (Place::Memory(_), _) => "in memory",
+        (_, Place::Memory(_)) => "straddling",
+        // on PPC64 a float may have a register although its doubleword is not one of the first 8
+        (Place::Floating(_), _) if argument.offset >= Some(64) => "in FPR past r10",
+        (Place::Floating(_), _) => "in FPR",
+        (Place::General(_), _) => "in GPR",
+    };
+    let how = match (convention, argument.by_reference()) {
+        (Convention::Z, true) => " by reference".to_string(),
+        (Convention::Z, false) if matches!(of, Type::Struct(_)) => format!(" of {}", of.size()),
+        _ => String::new(),
+    };
+    format!("{kind}{how} {place}")
+}
+
+/// A kind of argument that a call is mostly made of.
+#[derive(Clone, Copy)]
+enum Mostly {
+    Anything,
+    Integers,
+    Floats,
+    LongDoubles,
+    /// Of 1 to 12 bytes.
+    SmallStructs,
+    FloatLikeStructs,
+    /// Of 1 to 10 doublewords.
+    MiddlingStructs,
+    /// Of 256 bytes, or a few less.
+    LargeStructs,
+}
+
+/// Large structs make long signatures and show little: they come once in 13.
+const MIXES: [Mostly; 13] = [
+    Mostly::Anything,
+    Mostly::Anything,
+    Mostly::Integers,
+    Mostly::Integers,
+    Mostly::Floats,
+    Mostly::Floats,
+    Mostly::LongDoubles,
+    Mostly::LongDoubles,
+    Mostly::SmallStructs,
+    Mostly::SmallStructs,
+    Mostly::FloatLikeStructs,
+    Mostly::MiddlingStructs,
+    Mostly::LargeStructs,
+];
+
+/// A signature within all limits whose call is of interest: mostly one or two kinds of argument,
+/// in any number.
+pub fn interesting(random: &mut Random) -> Signature {
+    let convention = random.pick(&[Convention::Ppc64, Convention::Z]);
+    let mixes = [random.pick(&MIXES), random.pick(&MIXES), Mostly::Anything];
+    let result = random.once_in(2).then(|| {
+        let mix = random.pick(&mixes);
+        argument(random, mix)
+    });
+    let count = match random.below(8) {
+        0 => 64,
+        1..=2 => random.below(65),
+        3..=5 => random.below(25),
+        _ => random.below(9),
+    };
+    let arguments = (0..count).map(|_| {
+        // the last of the three comes seldom
+        let mix = mixes[random.below(9) / 4];
+        argument(random, mix)
+    });
+    generate::fitting(convention, result, arguments)
+}
+
+fn argument(random: &mut Random, mix: Mostly) -> Type {
+    match mix {
+        Mostly::Anything => generate::valid_type(random),
+        Mostly::Integers => Type::Integer(random.pick(&INTEGERS)),
+        Mostly::Floats => single_or_double(random),
+        Mostly::LongDoubles => Type::Float(Float::LongDouble),
+        Mostly::SmallStructs => small_struct(random),
+        Mostly::FloatLikeStructs => {
+            let levels = 1 + random.below(8);
+            (0..levels).fold(single_or_double(random), |inner, _| {
+                Type::Struct(vec![inner])
+            })
+        }
+        Mostly::MiddlingStructs => {
+            let count = 1 + random.below(10);
+            struct_of_doublewords(random, count)
+        }
+        Mostly::LargeStructs => {
+            let count = 31 + random.below(2);
+            struct_of_doublewords(random, count)
+        }
+    }
+}
+
+fn single_or_double(random: &mut Random) -> Type {
+    Type::Float(random.pick(&[Float::Single, Float::Double]))
+}
+
+/// A struct of 1 to 12 bytes.
+fn small_struct(random: &mut Random) -> Type {
+    if random.once_in(2) {
+        return Type::Struct(vec![Type::Integer(Integer::U8); 1 + random.below(12)]);
+    }
+    let field = |random: &mut Random| match random.below(4) {
+        0 => Type::Float(Float::Single),
+        1 => Type::Integer(Integer::I32),
+        2 => Type::Integer(Integer::U16),
+        _ => Type::Integer(Integer::I8),
+    };
+    Type::Struct((0..1 + random.below(3)).map(|_| field(random)).collect())
+}
+
+/// A struct of this many doublewords, the last of which may be a part of one.
+fn struct_of_doublewords(random: &mut Random, count: usize) -> Type {
+    let narrow = random.once_in(2);
+    let mut fields = Vec::new();
+    for _ in 1..count {
+        match narrow {
+            // with these the struct's size is no multiple of 8
+            true => fields.extend([Type::Integer(Integer::U32), Type::Float(Float::Single)]),
+            false => fields.push(Type::Integer(
+                random.pick(&[Integer::I64, Integer::Pointer]),
+            )),
+        }
+    }
+    let last = random.pick(&[Integer::I8, Integer::U16, Integer::I32]);
+    fields.push(Type::Integer(last));
+    Type::Struct(fields)
+}
+
+/// Compares the two on at least this many accepted signatures and on as many of every other sort.
+pub fn run(seed: u64, accepted: u64) -> Result<Histogram, Difference> {
+    let mut random = Random::new(seed);
+    let mut seen = Histogram::default();
+    while seen.accepted() < accepted {
+        let valid = encode::signature(&generate::valid(&mut random));
+        let chosen = encode::signature(&interesting(&mut random));
+        let also_chosen = encode::signature(&interesting(&mut random));
+        let damaged = generate::damaged(&mut random, &chosen);
+        let faulty = generate::faulty(&mut random);
+        let noise = generate::noise(&mut random);
+        for bytes in [valid, chosen, also_chosen, damaged, faulty, noise] {
+            compare(&bytes, 1 + random.below(100), &mut seen)?;
+        }
+    }
+    Ok(seen)
+}

@@ -1,0 +1,426 @@
+//! The planner once more, as a program has it that plans often: from the bytes to the plan in one
+//! pass and without trees. `planner` is the one to read next to the document. This one is what
+//! time is measured against, and the comparisons hold it to that one.
+
+use crate::{Convention, Place, Refusal, ResultPlan};
+
+/// Registers that follow each other, on Z always one.
+#[derive(Clone, Copy, Debug, Default, PartialEq, Eq)]
+pub struct Registers {
+    pub first: u8,
+    pub count: u8,
+}
+
+/// Doublewords of memory that follow each other, counted as in [`Place::Memory`].
+#[derive(Clone, Copy, Debug, Default, PartialEq, Eq)]
+pub struct Memory {
+    pub offset: u16,
+    pub doublewords: u8,
+}
+
+/// Where an argument stands: first in registers, then in memory.
+#[derive(Clone, Copy, Debug, Default, PartialEq, Eq)]
+pub struct Argument {
+    pub general: Registers,
+    pub floating: Registers,
+    pub memory: Memory,
+    /// The offset that a listing names: on PPC64 of the first doubleword, wherever that stands.
+    pub offset: Option<u16>,
+    /// Where the copy starts, if the argument is passed by reference.
+    pub copy: Option<u16>,
+}
+
+#[derive(Clone, Debug, PartialEq, Eq)]
+pub struct Plan {
+    pub convention: Convention,
+    pub arguments: Vec<Argument>,
+    pub result: ResultType,
+    pub area: usize,
+    pub values: usize,
+    pub copies: usize,
+}
+
+/// All that the result's places depend on.
+#[derive(Clone, Copy, Debug, PartialEq, Eq)]
+pub enum ResultType {
+    None,
+    Integer,
+    Float,
+    LongDouble,
+    Struct,
+}
+
+/// All that places depend on.
+#[derive(Clone, Copy, PartialEq, Eq)]
+enum Kind {
+    Integer,
+    /// A single or a double.
+    Float,
+    LongDouble,
+    Struct,
+    /// A struct of one field that is a `Float` or again such a struct.
+    FloatStruct,
+}
+
+#[derive(Clone, Copy)]
+struct Shape {
+    kind: Kind,
+    size: usize,
+    alignment: usize,
+}
+
+const INTEGER_SIZES: [usize; 9] = [1, 1, 2, 2, 4, 4, 8, 8, 8];
+const FLOAT_SIZES: [usize; 3] = [4, 8, 16];
+
+/// Reads a signature and plans its call.
+pub fn plan(bytes: &[u8]) -> Result<Plan, Refusal> {
+    if bytes.len() > 4096 {
+        return refuse(1, 0);
+    }
+    let convention_end = header(bytes, 0, bytes.len(), |tag| tag == 0x01)?;
+    let convention = match bytes[3..convention_end] {
+        [1] => Convention::Ppc64,
+        [2] => Convention::Z,
+        _ => return refuse(4, 0),
+    };
+    let result_end = header(bytes, convention_end, bytes.len(), |tag| tag == 0x02)?;
+    let result = result_type(bytes, convention_end + 3, result_end)?;
+    let end = header(bytes, result_end, bytes.len(), |tag| tag == 0x03)?;
+    let plan = match convention {
+        Convention::Ppc64 => plan_ppc64(bytes, result_end + 3, end, result)?,
+        Convention::Z => plan_z(bytes, result_end + 3, end, result)?,
+    };
+    if end < bytes.len() {
+        return refuse(9, end);
+    }
+    Ok(plan)
+}
+
+fn plan_ppc64(bytes: &[u8], body: usize, end: usize, result: ResultType) -> Result<Plan, Refusal> {
+    let hidden = result == ResultType::Struct;
+    let mut doublewords = usize::from(hidden);
+    let mut floats = 0;
+    let (arguments, values) = arguments(bytes, body, end, |shape| {
+        let first = doublewords;
+        let count = shape.size.div_ceil(8);
+        doublewords += count;
+        let mut argument = Argument {
+            offset: Some(8 * first as u16),
+            ..Argument::default()
+        };
+        let in_registers = if shape.kind == Kind::Float {
+            if floats < 13 {
+                floats += 1;
+                argument.floating = Registers {
+                    first: floats,
+                    count: 1,
+                };
+                return argument;
+            }
+            0
+        } else {
+            count.min(8usize.saturating_sub(first))
+        };
+        if in_registers > 0 {
+            argument.general = Registers {
+                first: 3 + first as u8,
+                count: in_registers as u8,
+            };
+        }
+        if in_registers < count {
+            argument.memory = Memory {
+                offset: 8 * (first + in_registers) as u16,
+                doublewords: (count - in_registers) as u8,
+            };
+        }
+        argument
+    })?;
+    Ok(Plan {
+        convention: Convention::Ppc64,
+        arguments,
+        result,
+        area: 8 * doublewords.max(8),
+        values,
+        copies: 0,
+    })
+}
+
+fn plan_z(bytes: &[u8], body: usize, end: usize, result: ResultType) -> Result<Plan, Refusal> {
+    let hidden = matches!(result, ResultType::Struct | ResultType::LongDouble);
+    let mut general = 2 + u8::from(hidden);
+    let mut floating = 0;
+    let mut stack: u16 = 160;
+    let mut copies = 0;
+    let (arguments, values) = arguments(bytes, body, end, |shape| {
+        let mut argument = Argument::default();
+        let by_reference = match shape.kind {
+            Kind::LongDouble => true,
+            Kind::Struct => !matches!(shape.size, 1 | 2 | 4 | 8),
+            _ => false,
+        };
+        if by_reference {
+            let start = next_multiple(copies, 8);
+            argument.copy = Some(start as u16);
+            copies = start + shape.size;
+        }
+        let as_float = matches!(shape.kind, Kind::Float | Kind::FloatStruct);
+        if as_float && floating <= 6 {
+            argument.floating = Registers {
+                first: floating,
+                count: 1,
+            };
+            floating += 2;
+        } else if !as_float && general <= 6 {
+            argument.general = Registers {
+                first: general,
+                count: 1,
+            };
+            general += 1;
+        } else {
+            argument.offset = Some(stack);
+            argument.memory = Memory {
+                offset: stack,
+                doublewords: 1,
+            };
+            stack += 8;
+        }
+        argument
+    })?;
+    Ok(Plan {
+        convention: Convention::Z,
+        arguments,
+        result,
+        area: usize::from(stack - 160),
+        values,
+        copies,
+    })
+}
+
+/// The arguments that stand from `body` to `end`, each placed by `place`, and the size of their
+/// values.
+fn arguments(
+    bytes: &[u8],
+    body: usize,
+    end: usize,
+    mut place: impl FnMut(Shape) -> Argument,
+) -> Result<(Vec<Argument>, usize), Refusal> {
+    // each takes at least four bytes
+    let mut arguments = Vec::with_capacity(((end - body) / 4).min(64));
+    let mut values = 0;
+    let mut at = body;
+    while at < end {
+        if arguments.len() == 64 {
+            return refuse(7, at);
+        }
+        let (shape, after) = shape(bytes, at, end, 1)?;
+        values += shape.size;
+        arguments.push(place(shape));
+        at = after;
+    }
+    Ok((arguments, values))
+}
+
+fn result_type(bytes: &[u8], body: usize, end: usize) -> Result<ResultType, Refusal> {
+    if body == end {
+        return Ok(ResultType::None);
+    }
+    let (shape, after) = shape(bytes, body, end, 1)?;
+    if after < end {
+        return refuse(4, after);
+    }
+    Ok(match shape.kind {
+        Kind::Integer => ResultType::Integer,
+        Kind::Float => ResultType::Float,
+        Kind::LongDouble => ResultType::LongDouble,
+        Kind::Struct | Kind::FloatStruct => ResultType::Struct,
+    })
+}
+
+/// The type item at `at`, whose own depth would be `depth` if it were a struct, and its end.
+fn shape(bytes: &[u8], at: usize, limit: usize, depth: usize) -> Result<(Shape, usize), Refusal> {
+    let end = header(bytes, at, limit, |tag| matches!(tag, 0x10..=0x12))?;
+    let body = &bytes[at + 3..end];
+    let shape = match (bytes[at], body) {
+        (0x10, &[code @ 0..=8]) => scalar(Kind::Integer, INTEGER_SIZES[usize::from(code)]),
+        (0x11, &[2]) if depth > 1 => return refuse(5, at),
+        (0x11, &[2]) => scalar(Kind::LongDouble, 16),
+        (0x11, &[code @ 0..=1]) => scalar(Kind::Float, FLOAT_SIZES[usize::from(code)]),
+        (0x12, _) => struct_shape(bytes, at, end, depth)?,
+        _ => return refuse(4, at),
+    };
+    Ok((shape, end))
+}
+
+fn scalar(kind: Kind, size: usize) -> Shape {
+    Shape {
+        kind,
+        size,
+        alignment: size,
+    }
+}
+
+fn struct_shape(bytes: &[u8], at: usize, end: usize, depth: usize) -> Result<Shape, Refusal> {
+    if depth > 8 {
+        return refuse(6, at);
+    }
+    let mut next = at + 3;
+    if next == end {
+        return refuse(4, at);
+    }
+    let mut size = 0;
+    let mut alignment = 1;
+    let mut kind = Kind::Struct;
+    while next < end {
+        let (field, after) = shape(bytes, next, end, depth + 1)?;
+        let only = next == at + 3 && after == end;
+        if only && matches!(field.kind, Kind::Float | Kind::FloatStruct) {
+            kind = Kind::FloatStruct;
+        }
+        size = next_multiple(size, field.alignment) + field.size;
+        alignment = alignment.max(field.alignment);
+        next = after;
+    }
+    size = next_multiple(size, alignment);
+    if size > 256 {
+        return refuse(8, at);
+    }
+    Ok(Shape {
+        kind,
+        size,
+        alignment,
+    })
+}
+
+/// Alignments are powers of two.
+fn next_multiple(number: usize, alignment: usize) -> usize {
+    (number + alignment - 1) & !(alignment - 1)
+}
+
+/// Tests the header at `at` and gives the end of its item.
+fn header(
+    bytes: &[u8],
+    at: usize,
+    limit: usize,
+    allowed: impl Fn(u8) -> bool,
+) -> Result<usize, Refusal> {
+    let &[tag, high, low, ..] = &bytes[at..limit] else {
+        return refuse(2, at);
+    };
+    if !allowed(tag) {
+        return refuse(3, at);
+    }
+    let end = at + 3 + usize::from(u16::from_be_bytes([high, low]));
+    if end > limit {
+        return refuse(2, at);
+    }
+    Ok(end)
+}
+
+fn refuse<T>(number: u64, place: usize) -> Result<T, Refusal> {
+    Err(Refusal { number, place })
+}
+
+/// As `planner` says it, for comparing the two.
+impl From<Plan> for crate::Plan {
+    fn from(plan: Plan) -> crate::Plan {
+        crate::Plan {
+            convention: plan.convention,
+            arguments: plan.arguments.iter().map(argument_plan).collect(),
+            result: result_plan(plan.convention, plan.result),
+            area: plan.area,
+            values: plan.values,
+            copies: plan.copies,
+        }
+    }
+}
+
+fn argument_plan(argument: &Argument) -> crate::ArgumentPlan {
+    let numbers = |registers: Registers| {
+        let first = usize::from(registers.first);
+        first..first + usize::from(registers.count)
+    };
+    let memory = argument.memory;
+    let offsets = (0..usize::from(memory.doublewords)).map(|n| usize::from(memory.offset) + 8 * n);
+    let general = numbers(argument.general).map(Place::General);
+    let floating = numbers(argument.floating).map(Place::Floating);
+    crate::ArgumentPlan {
+        places: general
+            .chain(floating)
+            .chain(offsets.map(Place::Memory))
+            .collect(),
+        offset: argument.offset.map(usize::from),
+        copy: argument.copy.map(usize::from),
+    }
+}
+
+fn result_plan(convention: Convention, result: ResultType) -> ResultPlan {
+    let (general, floating) = match convention {
+        Convention::Ppc64 => (Place::General(3), Place::Floating(1)),
+        Convention::Z => (Place::General(2), Place::Floating(0)),
+    };
+    match (result, convention) {
+        (ResultType::None, _) => ResultPlan::None,
+        (ResultType::Integer, _) => ResultPlan::Registers(vec![general]),
+        (ResultType::Float, _) => ResultPlan::Registers(vec![floating]),
+        (ResultType::LongDouble, Convention::Ppc64) => {
+            ResultPlan::Registers(vec![floating, Place::Floating(2)])
+        }
+        (ResultType::LongDouble, Convention::Z) | (ResultType::Struct, _) => {
+            ResultPlan::Hidden(general)
+        }
+    }
+}
+
+#[cfg(test)]
+mod tests {
+    use super::*;
+    use crate::read;
+
+    /// The call of figure 3-18, for either convention.
+    fn figure_3_18(convention: u8) -> Vec<u8> {
+        let integer = [0x10, 0, 1, 4];
+        let double = [0x11, 0, 1, 1];
+        let long_double = [0x11, 0, 1, 2];
+        let structure = [&[0x12, 0, 8][..], &integer, &double].concat();
+        let mut bytes = vec![1, 0, 1, convention, 2, 0, 4, 0x10, 0, 1, 4, 3, 0, 50];
+        for argument in [
+            &integer[..],
+            &double,
+            &integer,
+            &long_double,
+            &structure,
+            &double,
+            &structure,
+            &integer,
+            &double,
+        ] {
+            bytes.extend_from_slice(argument);
+        }
+        bytes
+    }
+
+    #[test]
+    fn plans_as_the_plain_planner() {
+        for convention in [1, 2] {
+            let bytes = figure_3_18(convention);
+            let expected = crate::plan(&read(&bytes).unwrap());
+            assert_eq!(crate::Plan::from(plan(&bytes).unwrap()), expected);
+        }
+    }
+
+    #[test]
+    fn refuses_as_the_plain_reader() {
+        let bytes = figure_3_18(1);
+        for length in 0..bytes.len() {
+            let part = &bytes[..length];
+            assert_eq!(plan(part).map(|_| ()), read(part).map(|_| ()));
+        }
+        for at in 0..bytes.len() {
+            for value in [0x00, 0x01, 0x02, 0x03, 0x09, 0x10, 0x11, 0x12, 0x13, 0xff] {
+                let mut changed = bytes.clone();
+                changed[at] = value;
+                assert_eq!(plan(&changed).map(|_| ()), read(&changed).map(|_| ()));
+            }
+        }
+    }
+}

@@ -1,0 +1,515 @@
+//! The planner: where each argument of a call stands, and how large the buffers around the call
+//! are (document 01, "Places on PPC64" and "Places on Z"; 000, 3.2.3; 001, "Parameter passing").
+
+use crate::types::round_up;
+use crate::{Convention, Float, Signature, Type};
+
+/// Where a doubleword stands.
+#[derive(Clone, Copy, Debug, PartialEq, Eq)]
+pub enum Place {
+    /// The general register with this number.
+    General(usize),
+    /// The floating register with this number.
+    Floating(usize),
+    /// Memory at this offset: on PPC64 from the start of the parameter save area, on Z from the
+    /// stack pointer, 160 bytes below the parameter area's start.
+    Memory(usize),
+}
+
+/// Where an argument stands.
+#[derive(Clone, Debug, PartialEq, Eq)]
+pub struct ArgumentPlan {
+    /// The places of its doublewords, in order. On Z there is always one, which holds the address
+    /// of an argument that is passed by reference.
+    pub places: Vec<Place>,
+    /// PPC64: the offset in the parameter save area of its first doubleword, which may be in a
+    /// register nonetheless. Z: its offset on the stack, if it stands there.
+    pub offset: Option<usize>,
+    /// Where its copy starts in the copy buffer, if it is passed by reference.
+    pub copy: Option<usize>,
+}
+
+/// Where the result stands.
+#[derive(Clone, Debug, PartialEq, Eq)]
+pub enum ResultPlan {
+    /// There is no result.
+    None,
+    Registers(Vec<Place>),
+    /// In memory of the caller's. Its address is a hidden first argument, in this register.
+    Hidden(Place),
+}
+
+/// Where everything of a call stands.
+#[derive(Clone, Debug, PartialEq, Eq)]
+pub struct Plan {
+    pub convention: Convention,
+    pub arguments: Vec<ArgumentPlan>,
+    pub result: ResultPlan,
+    /// The bytes of the parameter area.
+    pub area: usize,
+    /// The bytes of all arguments' values, without gaps.
+    pub values: usize,
+    /// The end of the last copy; 0 where nothing is passed by reference.
+    pub copies: usize,
+}
+
+impl ArgumentPlan {
+    pub fn by_reference(&self) -> bool {
+        self.copy.is_some()
+    }
+}
+
+pub fn plan(signature: &Signature) -> Plan {
+    match signature.convention {
+        Convention::Ppc64 => plan_ppc64(signature),
+        Convention::Z => plan_z(signature),
+    }
+}
+
+/// "The value buffer holds the arguments in order without gaps."
+fn values(signature: &Signature) -> usize {
+    signature.arguments.iter().map(Type::size).sum()
+}
+
+fn plan_ppc64(signature: &Signature) -> Plan {
+    let result = ppc64_result(signature.result.as_ref());
+    // "The doubleword count w starts at 0, or at 1 when the result is a struct."
+    let mut doublewords = match result {
+        ResultPlan::Hidden(_) => 1,
+        _ => 0,
+    };
+    let mut floats = 0;
+    let mut arguments = Vec::new();
+    for argument in &signature.arguments {
+        let first = doublewords;
+        doublewords += ppc64_doublewords(argument);
+        let places = if is_single_or_double(argument) {
+            floats += 1;
+            vec![ppc64_float_place(floats, first)]
+        } else {
+            (first..doublewords).map(ppc64_place).collect()
+        };
+        arguments.push(ArgumentPlan {
+            places,
+            offset: Some(8 * first),
+            copy: None,
+        });
+    }
+    Plan {
+        convention: Convention::Ppc64,
+        arguments,
+        result,
+        // "The area is 8 times the larger of 8 and the final w."
+        area: 8 * doublewords.max(8),
+        values: values(signature),
+        copies: 0,
+    }
+}
+
+/// "Sizes in doublewords: whole, single, double 1; long double 2; struct size / 8 rounded up."
+fn ppc64_doublewords(of: &Type) -> usize {
+    match of {
+        Type::Integer(_) | Type::Float(Float::Single | Float::Double) => 1,
+        Type::Float(Float::LongDouble) => 2,
+        Type::Struct(_) => of.size().div_ceil(8),
+    }
+}
+
+/// "Each doubleword of a whole, struct or long double goes to r(3+w) while w < 8, then to memory."
+fn ppc64_place(doubleword: usize) -> Place {
+    match doubleword {
+        0..=7 => Place::General(3 + doubleword),
+        _ => Place::Memory(8 * doubleword),
+    }
+}
+
+/// "Singles and doubles take f1 to f13 in order [..]; after f13, memory only." `number` counts
+/// them from 1, `doubleword` is where this one lies in the parameter save area.
+fn ppc64_float_place(number: usize, doubleword: usize) -> Place {
+    match number {
+        1..=13 => Place::Floating(number),
+        _ => Place::Memory(8 * doubleword),
+    }
+}
+
+fn ppc64_result(of: Option<&Type>) -> ResultPlan {
+    match of {
+        None => ResultPlan::None,
+        Some(Type::Integer(_)) => ResultPlan::Registers(vec![Place::General(3)]),
+        Some(Type::Float(Float::Single | Float::Double)) => {
+            ResultPlan::Registers(vec![Place::Floating(1)])
+        }
+        Some(Type::Float(Float::LongDouble)) => {
+            ResultPlan::Registers(vec![Place::Floating(1), Place::Floating(2)])
+        }
+        Some(Type::Struct(_)) => ResultPlan::Hidden(Place::General(3)),
+    }
+}
+
+/// What is next, in the words of 001's algorithm.
+struct ZCursor {
+    /// The number of the next general register.
+    gr: usize,
+    /// The number of the next floating register.
+    fr: usize,
+    /// The offset of the next stack argument.
+    stack: usize,
+    /// The end of the last copy.
+    copies: usize,
+}
+
+/// Where the stack arguments start.
+const Z_STACK: usize = 160;
+
+fn plan_z(signature: &Signature) -> Plan {
+    let result = z_result(signature.result.as_ref());
+    // "Counters start at gr 2 (3 with a hidden result address in r2 [..]), fr 0, stack offset 160."
+    let mut cursor = ZCursor {
+        gr: match result {
+            ResultPlan::Hidden(_) => 3,
+            _ => 2,
+        },
+        fr: 0,
+        stack: Z_STACK,
+        copies: 0,
+    };
+    let place = |argument| z_argument(argument, &mut cursor);
+    let arguments = signature.arguments.iter().map(place).collect();
+    Plan {
+        convention: Convention::Z,
+        arguments,
+        result,
+        // "The area is the stack bytes used, possibly 0."
+        area: cursor.stack - Z_STACK,
+        values: values(signature),
+        copies: cursor.copies,
+    }
+}
+
+fn z_argument(argument: &Type, cursor: &mut ZCursor) -> ArgumentPlan {
+    let mut copy = None;
+    if z_by_reference(argument) {
+        // "at the next multiple of 8 in the copy buffer"
+        let start = round_up(cursor.copies, 8);
+        cursor.copies = start + argument.size();
+        copy = Some(start);
+    }
+    let place = if float_equivalent(argument).is_some() && cursor.fr <= 6 {
+        cursor.fr += 2;
+        Place::Floating(cursor.fr - 2)
+    } else if float_equivalent(argument).is_none() && cursor.gr <= 6 {
+        cursor.gr += 1;
+        Place::General(cursor.gr - 1)
+    } else {
+        cursor.stack += 8;
+        Place::Memory(cursor.stack - 8)
+    };
+    let offset = match place {
+        Place::Memory(offset) => Some(offset),
+        _ => None,
+    };
+    ArgumentPlan {
+        places: vec![place],
+        offset,
+        copy,
+    }
+}
+
+/// "Structs of 1, 2, 4 or 8 bytes go by value; other structs and long double go by pointer to a
+/// copy."
+fn z_by_reference(of: &Type) -> bool {
+    match of {
+        Type::Struct(_) => !matches!(of.size(), 1 | 2 | 4 | 8),
+        Type::Float(Float::LongDouble) => true,
+        _ => false,
+    }
+}
+
+/// The float that an argument is placed as on Z: "Single, double, or a struct with one field that
+/// is either or again such a struct."
+pub fn float_equivalent(of: &Type) -> Option<Float> {
+    match of {
+        Type::Float(Float::LongDouble) | Type::Integer(_) => None,
+        Type::Float(float) => Some(*float),
+        Type::Struct(fields) => match fields.as_slice() {
+            [only] => float_equivalent(only),
+            _ => None,
+        },
+    }
+}
+
+/// "Results: whole r2; single or double f0"; else hidden, "for struct or long double".
+fn z_result(of: Option<&Type>) -> ResultPlan {
+    match of {
+        None => ResultPlan::None,
+        Some(Type::Integer(_)) => ResultPlan::Registers(vec![Place::General(2)]),
+        Some(Type::Float(Float::Single | Float::Double)) => {
+            ResultPlan::Registers(vec![Place::Floating(0)])
+        }
+        Some(Type::Float(Float::LongDouble) | Type::Struct(_)) => {
+            ResultPlan::Hidden(Place::General(2))
+        }
+    }
+}
+
+fn is_single_or_double(of: &Type) -> bool {
+    matches!(of, Type::Float(Float::Single | Float::Double))
+}
+
+#[cfg(test)]
+mod tests {
+    use super::Place::{Floating, General, Memory};
+    use super::*;
+    use crate::Integer;
+
+    const I8: Type = Type::Integer(Integer::I8);
+    const I32: Type = Type::Integer(Integer::I32);
+    const I64: Type = Type::Integer(Integer::I64);
+    const SINGLE: Type = Type::Float(Float::Single);
+    const DOUBLE: Type = Type::Float(Float::Double);
+    const LONG_DOUBLE: Type = Type::Float(Float::LongDouble);
+
+    fn structure(fields: &[Type]) -> Type {
+        Type::Struct(fields.to_vec())
+    }
+
+    fn plan_of(convention: Convention, result: Option<Type>, arguments: &[Type]) -> Plan {
+        plan(&Signature {
+            convention,
+            result,
+            arguments: arguments.to_vec(),
+        })
+    }
+
+    fn ppc64(arguments: &[Type]) -> Plan {
+        plan_of(Convention::Ppc64, None, arguments)
+    }
+
+    fn z(arguments: &[Type]) -> Plan {
+        plan_of(Convention::Z, None, arguments)
+    }
+
+    /// The places of each argument.
+    fn places(plan: &Plan) -> Vec<&[Place]> {
+        let arguments = plan.arguments.iter();
+        arguments
+            .map(|argument| argument.places.as_slice())
+            .collect()
+    }
+
+    /// The one place of each argument of a plan for Z.
+    fn only_places(plan: &Plan) -> Vec<Place> {
+        let arguments = plan.arguments.iter();
+        arguments.map(|argument| argument.places[0]).collect()
+    }
+
+    #[test]
+    fn figure_3_18() {
+        let s = structure(&[I32, DOUBLE]);
+        let plan = plan_of(
+            Convention::Ppc64,
+            Some(I32),
+            &[
+                I32,
+                DOUBLE,
+                I32,
+                LONG_DOUBLE,
+                s.clone(),
+                DOUBLE,
+                s,
+                I32,
+                DOUBLE,
+            ],
+        );
+        let expected: [&[Place]; 9] = [
+            &[General(3)],
+            &[Floating(1)],
+            &[General(5)],
+            &[General(6), General(7)],
+            &[General(8), General(9)],
+            &[Floating(2)],
+            &[Memory(64), Memory(72)],
+            &[Memory(80)],
+            &[Floating(3)],
+        ];
+        assert_eq!(places(&plan), expected);
+        let offsets: Vec<_> = plan.arguments.iter().map(|one| one.offset).collect();
+        assert_eq!(
+            offsets,
+            [0, 8, 16, 24, 40, 56, 64, 80, 88].map(Some).to_vec()
+        );
+        assert_eq!(plan.result, ResultPlan::Registers(vec![General(3)]));
+        assert_eq!((plan.area, plan.values, plan.copies), (96, 84, 0));
+    }
+
+    #[test]
+    fn table_10() {
+        let plan = plan_of(
+            Convention::Z,
+            Some(I32),
+            &[I32, I32, DOUBLE, I32, I32, I64, DOUBLE, DOUBLE, I32],
+        );
+        let expected = [
+            General(2),
+            General(3),
+            Floating(0),
+            General(4),
+            General(5),
+            General(6),
+            Floating(2),
+            Floating(4),
+            Memory(160),
+        ];
+        assert_eq!(only_places(&plan), expected);
+        assert_eq!(plan.result, ResultPlan::Registers(vec![General(2)]));
+        assert_eq!((plan.area, plan.values, plan.copies), (8, 52, 0));
+    }
+
+    #[test]
+    fn on_ppc64_a_float_uses_up_its_general_register() {
+        let plan = ppc64(&[SINGLE, I8, DOUBLE, I8]);
+        let expected: [&[Place]; 4] =
+            [&[Floating(1)], &[General(4)], &[Floating(2)], &[General(6)]];
+        assert_eq!(places(&plan), expected);
+    }
+
+    #[test]
+    fn on_ppc64_the_fourteenth_float_is_in_memory_alone() {
+        let plan = ppc64(&[DOUBLE; 15]);
+        assert_eq!(plan.arguments[12].places, [Floating(13)]);
+        assert_eq!(plan.arguments[13].places, [Memory(104)]);
+        assert_eq!(plan.arguments[14].places, [Memory(112)]);
+        assert_eq!(plan.area, 120);
+    }
+
+    #[test]
+    fn on_ppc64_one_argument_may_straddle() {
+        let plan = ppc64(&[structure(&[I64; 7]), LONG_DOUBLE, I8]);
+        assert_eq!(plan.arguments[1].places, [General(10), Memory(64)]);
+        assert_eq!(plan.arguments[1].offset, Some(56));
+        assert_eq!(plan.arguments[2].places, [Memory(72)]);
+        assert_eq!((plan.area, plan.values), (80, 73));
+        let plan = ppc64(&[structure(&[I64; 7]), structure(&[I64, I64, I8])]);
+        let expected = [General(10), Memory(64), Memory(72)];
+        assert_eq!(plan.arguments[1].places, expected);
+    }
+
+    #[test]
+    fn on_ppc64_a_struct_of_one_float_is_a_struct() {
+        let plan = ppc64(&[structure(&[DOUBLE]), DOUBLE]);
+        let expected: [&[Place]; 2] = [&[General(3)], &[Floating(1)]];
+        assert_eq!(places(&plan), expected);
+    }
+
+    #[test]
+    fn results_on_ppc64() {
+        let of = |result| plan_of(Convention::Ppc64, result, &[I8]);
+        assert_eq!(of(None).result, ResultPlan::None);
+        let registers = |places: &[Place]| ResultPlan::Registers(places.to_vec());
+        assert_eq!(of(Some(I8)).result, registers(&[General(3)]));
+        assert_eq!(of(Some(SINGLE)).result, registers(&[Floating(1)]));
+        assert_eq!(of(Some(DOUBLE)).result, registers(&[Floating(1)]));
+        let long_double = of(Some(LONG_DOUBLE));
+        assert_eq!(long_double.result, registers(&[Floating(1), Floating(2)]));
+        assert_eq!(long_double.arguments[0].places, [General(3)]);
+        let hidden = of(Some(structure(&[SINGLE])));
+        assert_eq!(hidden.result, ResultPlan::Hidden(General(3)));
+        assert_eq!(hidden.arguments[0].places, [General(4)]);
+        assert_eq!(hidden.arguments[0].offset, Some(8));
+    }
+
+    #[test]
+    fn the_smallest_areas() {
+        assert_eq!(ppc64(&[]).area, 64);
+        assert_eq!(ppc64(&[I8; 8]).area, 64);
+        assert_eq!(ppc64(&[I8; 9]).area, 72);
+        let hidden = plan_of(Convention::Ppc64, Some(structure(&[I8])), &[I8; 8]);
+        assert_eq!(hidden.area, 72);
+        assert_eq!(hidden.arguments[7].places, [Memory(64)]);
+        assert_eq!(z(&[]).area, 0);
+        assert_eq!(z(&[I8; 5]).area, 0);
+        assert_eq!(z(&[I8; 6]).area, 8);
+        assert_eq!(z(&[SINGLE; 4]).area, 0);
+    }
+
+    #[test]
+    fn on_z_floats_have_even_numbers_and_their_own_count() {
+        let plan = z(&[SINGLE, I8, DOUBLE, SINGLE, DOUBLE, SINGLE, I8, DOUBLE]);
+        let expected = [
+            Floating(0),
+            General(2),
+            Floating(2),
+            Floating(4),
+            Floating(6),
+            Memory(160),
+            General(3),
+            Memory(168),
+        ];
+        assert_eq!(only_places(&plan), expected);
+        assert_eq!(plan.area, 16);
+    }
+
+    #[test]
+    fn on_z_a_struct_of_one_float_is_placed_as_that_float() {
+        assert_eq!(float_equivalent(&SINGLE), Some(Float::Single));
+        let nested = structure(&[structure(&[DOUBLE])]);
+        assert_eq!(float_equivalent(&nested), Some(Float::Double));
+        for other in [
+            I32,
+            LONG_DOUBLE,
+            structure(&[I32]),
+            structure(&[SINGLE, SINGLE]),
+            structure(&[structure(&[SINGLE]), I8]),
+        ] {
+            assert_eq!(float_equivalent(&other), None);
+        }
+        let plan = z(&[nested, structure(&[SINGLE]), structure(&[SINGLE, SINGLE])]);
+        assert_eq!(only_places(&plan), [Floating(0), Floating(2), General(2)]);
+        assert_eq!(plan.copies, 0);
+    }
+
+    #[test]
+    fn on_z_structs_of_1_2_4_and_8_bytes_go_by_value_and_others_by_reference() {
+        for size in 1..=17 {
+            let plan = z(&[structure(&vec![I8; size])]);
+            let by_value = [1, 2, 4, 8].contains(&size);
+            assert_eq!(plan.arguments[0].by_reference(), !by_value, "{size}");
+            assert_eq!(plan.copies, if by_value { 0 } else { size });
+            assert_eq!(plan.values, size);
+            assert_eq!(only_places(&plan), [General(2)]);
+        }
+    }
+
+    #[test]
+    fn on_z_copies_start_at_multiples_of_8_and_the_end_is_not_rounded() {
+        let plan = z(&[
+            structure(&[I8; 3]),
+            I8,
+            LONG_DOUBLE,
+            structure(&[I8; 9]),
+            structure(&[I8; 5]),
+        ]);
+        let copies: Vec<_> = plan.arguments.iter().map(|one| one.copy).collect();
+        assert_eq!(copies, [Some(0), None, Some(8), Some(24), Some(40)]);
+        assert_eq!((plan.copies, plan.values, plan.area), (45, 34, 0));
+        let plan = z(&[LONG_DOUBLE; 6]);
+        assert_eq!(plan.arguments[5].places, [Memory(160)]);
+        assert_eq!(plan.arguments[5].copy, Some(80));
+    }
+
+    #[test]
+    fn results_on_z() {
+        let of = |result| plan_of(Convention::Z, result, &[I8]);
+        assert_eq!(of(None).result, ResultPlan::None);
+        let registers = |place| ResultPlan::Registers(vec![place]);
+        assert_eq!(of(Some(I8)).result, registers(General(2)));
+        assert_eq!(of(Some(SINGLE)).result, registers(Floating(0)));
+        assert_eq!(of(Some(DOUBLE)).result, registers(Floating(0)));
+        // every struct is hidden, also small and float-like ones
+        for of_memory in [LONG_DOUBLE, structure(&[I8]), structure(&[DOUBLE])] {
+            let hidden = of(Some(of_memory));
+            assert_eq!(hidden.result, ResultPlan::Hidden(General(2)));
+            assert_eq!(only_places(&hidden), [General(3)]);
+        }
+    }
+}
