@@ -152,6 +152,130 @@ fz_sizes fz_measure(const uint8_t *sig, size_t sig_length);
  * A refused signature's listing is the line 'refused NUMBER at PLACE'. */
 uint64_t fz_listing(const uint8_t *sig, size_t sig_length, char *text, size_t text_length);
 
+/* ---- The frame machine: functions that enter and leave frames on a stack ----
+ *
+ * It keeps the registers and the stack of a running program: a function that is called enters a
+ * frame, which saves the registers that it will change, writes registers and memory as it likes
+ * within the limits of its convention, and leaves the frame, which restores what was saved. So no
+ * list of these calls breaks what the functions further up the stack rely on.
+ *
+ * The machine's state is a struct of the caller's, an fz_machine; the stack is in bytes of the
+ * caller's, the memory, whose first byte has the address that the start was given (its base). Both
+ * are lent anew to every call and belong together: the memory has the length that it had at the
+ * start. What is lent to one call must not overlap. Numbers in memory are big-endian.
+ *
+ * Only the answer's number counts here: place and items are 0. A refused call leaves the state and
+ * the memory as they were. State and memory may be changed or made up between the calls: every call
+ * tests the state first, and a leave restores what stands in the memory that it is lent.
+ */
+
+/* Why a call of the machine is refused. A start tests 16 alone; any other call tests 23, then 16,
+ * then its own: enter 17, 18, 19; the writes 20; leave 22, 21. The first that fails is the
+ * answer. */
+enum fz_machine_refusal {
+    FZ_BAD_MEMORY = 16,      /* at the start: a memory_length that is no multiple of 16, under 256
+                                or over 65,536; a base that is no multiple of 16; base plus length
+                                over 2^64 - 1. Later: not the length of the start */
+    FZ_BAD_REQUEST = 17,     /* a frame request out of the ranges at fz_frame */
+    FZ_TOO_MANY_FRAMES = 18, /* already 32 frames */
+    FZ_STACK_FULL = 19,      /* the new stack pointer would be below the memory's base */
+    FZ_NOT_WRITABLE = 20,    /* a write that the function may not do */
+    FZ_BROKEN_CHAIN = 21,    /* the doubleword at the stack pointer, on Z the one where r15 was
+                                saved, is not the caller's stack pointer */
+    FZ_NO_FRAME = 22,        /* a leave with no frame entered */
+    FZ_BAD_STATE = 23        /* a state that no calls lead to: a convention that is none, a depth
+                                over 32, the record of an entered frame that is out of range, a base
+                                or size that a start refuses, a cr over 32 bits, a stack pointer
+                                below the base or not the start's less the sizes of all frames */
+};
+
+/* 66 words. On Z, r16 up, f16 up, LR and CR are carried along and never change. */
+typedef struct {
+    uint64_t gpr[32]; /* the stack pointer is r1 on PPC64, r15 on Z */
+    uint64_t fpr[32];
+    uint64_t lr;
+    uint64_t cr; /* 32 bits: field 0 is the top four of them, field 7 the lowest */
+} fz_registers;
+
+/* What a function needs of its frame. 5 words.
+ *
+ *              PPC64                              Z
+ *   first_gpr  14 to 32: saves it up to r31       6 to 14: saves it up to r15
+ *   first_fpr  14 to 32: saves it up to f31       8 to 16: saves it up to f15
+ *   saves_cr   1: saves CR; 0: does not           0
+ *   locals     0 to 32,000 bytes                  the same
+ *   outgoing   0 to 16,392 bytes, a multiple      the same
+ *              of 8, for arguments that its own
+ *              calls pass in memory; the frame
+ *              has room for 64 in any case
+ *
+ * From the new stack pointer up, a frame is: a header (48 bytes on PPC64, 160 on Z) with the
+ * caller's stack pointer in its first 8, the outgoing area, the locals, which are as much larger as
+ * makes the frame a multiple of 16 (8 on Z), then the saves. On PPC64 these are the general
+ * registers and above them the floating ones; LR and CR are saved in the caller's header, at 16 and
+ * 8. On Z they are the floating registers alone, and the general register n is saved in the
+ * caller's header, at 8n. */
+typedef struct {
+    uint64_t first_gpr;
+    uint64_t first_fpr;
+    uint64_t saves_cr;
+    uint64_t locals;
+    uint64_t outgoing;
+} fz_frame;
+
+/* The state. 230 words. */
+typedef struct {
+    uint64_t convention; /* 1 PPC64, 2 Z */
+    uint64_t base;       /* the address of the memory's first byte */
+    uint64_t size;       /* the memory's length */
+    uint64_t depth;      /* frames entered and not left */
+    fz_registers registers;
+    fz_frame frames[32]; /* their requests, the oldest first; the others are 0 */
+} fz_machine;
+
+/* Starts a machine for a convention, whatever *machine held. The registers are those handed in (of
+ * cr the low 32 bits), but for the stack pointer: it is 112 bytes below the memory's end on PPC64,
+ * 160 on Z, and eight zeros are written there. A refused start leaves the memory as it was, and in
+ * *machine the convention, the registers as handed in and all else 0: a state that every other call
+ * refuses with 23. */
+fz_answer fz_start_ppc64(fz_machine *machine, const fz_registers *registers, uint64_t base,
+                         uint8_t *memory, size_t memory_length);
+fz_answer fz_start_z(fz_machine *machine, const fz_registers *registers, uint64_t base,
+                     uint8_t *memory, size_t memory_length);
+
+/* Enters a frame: saves the registers that the request names (on PPC64 LR too), stores the caller's
+ * stack pointer at the new one, and keeps the request in the state. No register but the stack
+ * pointer changes. */
+fz_answer fz_enter(fz_machine *machine, const fz_frame *request, uint8_t *memory,
+                   size_t memory_length);
+
+/* Writes a register of the function whose frame was entered last, or of the start where there is
+ * none:
+ *
+ *   bank  number     PPC64: may be written               Z: may be written
+ *   0     0 to 31    r0, r3 to r12; those it has saved   r0 to r5, r14; those it has saved, but r15
+ *   1     0 to 31    f0 to f13; those it has saved       f0 to f7; those it has saved
+ *   2     any        LR                                  -
+ *   3     0 to 7     fields of CR, to a value of 0 to    -
+ *                    15: 0, 1, 5, 6, 7; if it has saved
+ *                    CR all
+ *
+ * The memory is only asked for its length. */
+fz_answer fz_write_register(fz_machine *machine, uint64_t bank, uint64_t number, uint64_t value,
+                            const uint8_t *memory, size_t memory_length);
+
+/* Writes 1 to 256 bytes at an address. They must lie wholly in one of three areas: the locals or
+ * the outgoing area of the frame that was entered last, or the outgoing area of its caller. The
+ * start has an outgoing area of 64 bytes on PPC64, of none on Z, and no locals. The state stays as
+ * it is. */
+fz_answer fz_write_memory(fz_machine *machine, uint64_t address, const uint8_t *bytes,
+                          size_t bytes_length, uint8_t *memory, size_t memory_length);
+
+/* Leaves the frame that was entered last: restores from the memory what its enter saved (of CR only
+ * fields 2 to 4), sets the stack pointer to the caller's and the frame's record to 0. The memory
+ * stays as it is. */
+fz_answer fz_leave(fz_machine *machine, const uint8_t *memory, size_t memory_length);
+
 #ifdef __cplusplus
 }
 #endif

@@ -6,6 +6,9 @@
 pub mod encode;
 pub mod float_bits;
 pub mod generate;
+pub mod machine_calls;
+pub mod machine_lists;
+pub mod machines;
 pub mod plans;
 pub mod random;
 pub mod signatures;

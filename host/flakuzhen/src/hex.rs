@@ -15,7 +15,7 @@ pub fn decode(text: &[u8]) -> Result<Vec<u8>, String> {
 }
 
 /// Adds the bytes of one group of digits, which stand without a gap.
-fn decode_group(group: &[u8], bytes: &mut Vec<u8>) -> Result<(), String> {
+pub fn decode_group(group: &[u8], bytes: &mut Vec<u8>) -> Result<(), String> {
     for pair in group.chunks(2) {
         let mut byte = 0;
         for &digit in pair {

@@ -13,6 +13,7 @@
 
 #![deny(unsafe_code)]
 
+pub mod machine;
 mod plans;
 #[allow(unsafe_code)]
 pub mod surface;
@@ -73,6 +74,14 @@ impl Refusal {
             8 => "a struct of over 256 bytes",
             9 => "bytes after the third item",
             14 => "the bits of a double that is no widened single",
+            16 => "a machine's memory or base that is not allowed, or a memory of another length",
+            17 => "a frame request out of range",
+            18 => "already 32 frames",
+            19 => "no room on the stack for the frame",
+            20 => "a write that is not permitted",
+            21 => "the back chain, on Z the saved r15, is not the caller's stack pointer",
+            22 => "no frame to leave",
+            23 => "a machine state that cannot be",
             _ => "a refusal that this version has no words for",
         }
     }
@@ -97,7 +106,7 @@ mod tests {
             number: 0,
             place: 0,
         };
-        for number in (1..=9).chain([14]) {
+        for number in (1..=9).chain([14]).chain(16..=23) {
             let refusal = Refusal { number, place: 3 };
             assert_ne!(refusal.message(), unknown.message());
             assert!(refusal

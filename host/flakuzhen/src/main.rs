@@ -4,6 +4,7 @@
 #![forbid(unsafe_code)]
 
 mod hex;
+mod replay;
 
 use std::ffi::{OsStr, OsString};
 use std::fs::File;
@@ -13,6 +14,7 @@ use std::process::ExitCode;
 const USAGE: &str = "\
 usage: flakuzhen list [--hex] [FILE..]
        flakuzhen read [--hex] [FILE..]
+       flakuzhen replay FILE
 
 list      prints where each argument of each signature goes, and its result
 read      prints a line for each signature with its count of items, 'items N'
@@ -20,7 +22,20 @@ read      prints a line for each signature with its count of items, 'items N'
 --hex     the input is hexadecimal text with '#' comments, not the bytes themselves
 FILE      holds one signature; '-', or no FILE at all, is standard input
 
-Exit status: 0 all accepted; 1 a signature was refused; 2 a word or a file is wrong.
+replay    makes calls of the frame machine, on registers and memory of zeros, and prints
+          each answer with the number of its line: 'accepted' or 'refused NUMBER at PLACE',
+          and the stack pointer where the call moves it
+FILE      has one call to a line, and '#' comments; '-' is standard input:
+            start ppc64 SIZE BASE       or 'start z SIZE BASE': of the memory, in bytes
+            enter g=29 m=30 cr=1 locals=20 out=64
+                                        saves r29 up, f30 up and CR; bytes of locals and
+                                        of outgoing arguments (cr, locals, out: else 0)
+            write r29 0x1234            also f14, lr, or cr2 for a field of CR
+            write mem ADDRESS BYTES     the bytes in hexadecimal
+            leave
+
+Exit status: 0 all accepted; 1 a signature or a call was refused; 2 a word, a file or a line
+is wrong.
 ";
 
 /// The most that is taken of a file, far above the 4,096 bytes that a signature may have and
@@ -59,6 +74,7 @@ fn run(words: &[OsString]) -> Result<Outcome, String> {
     match command.to_str() {
         Some("list") => Ok(list(&inputs(rest)?)),
         Some("read") => Ok(read(&inputs(rest)?)),
+        Some("replay") => replay_file(rest),
         Some("--help" | "-h" | "help") => Ok(Outcome {
             text: USAGE.to_string(),
             status: 0,
@@ -97,6 +113,17 @@ fn read(signatures: &[Vec<u8>]) -> Outcome {
     Outcome { text, status }
 }
 
+fn replay_file(words: &[OsString]) -> Result<Outcome, String> {
+    let [file] = words else {
+        return Err("replay takes one FILE ('-' is standard input)".to_string());
+    };
+    if file != "-" && file.as_encoded_bytes().starts_with(b"-") {
+        return Err(format!("unknown option {file:?}"));
+    }
+    let text = input(file, false)?;
+    replay::replay(&text).map_err(|fault| told_of(file, fault))
+}
+
 /// The signatures that the words after a command name.
 fn inputs(words: &[OsString]) -> Result<Vec<Vec<u8>>, String> {
     let mut as_hex = false;
@@ -119,12 +146,17 @@ fn inputs(words: &[OsString]) -> Result<Vec<Vec<u8>>, String> {
     files.iter().map(|file| input(file, as_hex)).collect()
 }
 
-/// The signature that a file holds.
-fn input(file: &OsStr, as_hex: bool) -> Result<Vec<u8>, String> {
-    let told = |fault: String| match file == "-" {
+/// A fault, with the file that has it.
+fn told_of(file: &OsStr, fault: String) -> String {
+    match file == "-" {
         true => format!("standard input: {fault}"),
         false => format!("{file:?}: {fault}"),
-    };
+    }
+}
+
+/// What a file holds.
+fn input(file: &OsStr, as_hex: bool) -> Result<Vec<u8>, String> {
+    let told = |fault| told_of(file, fault);
     let bytes = bytes_of(file).map_err(|fault| told(fault.to_string()))?;
     if bytes.len() as u64 > LARGEST_INPUT {
         return Err(told(format!("over {LARGEST_INPUT} bytes")));

@@ -1,5 +1,5 @@
-//! The header and both libraries, used from C and from C++ (`surface.c`), and the names that the
-//! shared library shows.
+//! The header and both libraries, used from C and from C++, and the names that the shared library
+//! shows.
 
 use std::collections::BTreeSet;
 use std::path::{Path, PathBuf};
@@ -24,9 +24,19 @@ fn run(command: &mut Command) -> Output {
     output
 }
 
-/// Compiles and runs `surface.c` with these words of a compiler and this library.
+/// The programs that use the header: a file in this folder, without its ending.
+const PROGRAMS: [&str; 2] = ["surface", "machine"];
+
+/// Compiles and runs the programs with these words of a compiler and this library.
 fn compile_and_run(name: &str, compiler: &[&str], library: &str) {
-    let program = Path::new(env!("CARGO_TARGET_TMPDIR")).join(name);
+    for source in PROGRAMS {
+        compile_and_run_one(source, name, compiler, library);
+    }
+}
+
+fn compile_and_run_one(source: &str, name: &str, compiler: &[&str], library: &str) {
+    let program = Path::new(env!("CARGO_TARGET_TMPDIR")).join(format!("{source}-{name}"));
+    let tests = root().join("host/flakuzhen/tests");
     let build = root().join("build");
     run(Command::new(compiler[0])
         .args(&compiler[1..])
@@ -34,7 +44,7 @@ fn compile_and_run(name: &str, compiler: &[&str], library: &str) {
         .arg(root().join("include"))
         .arg("-o")
         .arg(&program)
-        .arg(root().join("host/flakuzhen/tests/surface.c"))
+        .arg(tests.join(format!("{source}.c")))
         // what follows is a library, whatever language was named before
         .args(["-x", "none"])
         .arg(build.join(library)));

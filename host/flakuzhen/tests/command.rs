@@ -206,3 +206,110 @@ fn text_that_is_no_hexadecimal() {
         complains(&run(&[command, "--hex"], b"010"), "line 1: half a byte");
     }
 }
+
+fn replays() -> PathBuf {
+    Path::new(env!("CARGO_MANIFEST_DIR")).join("../../examples/replays")
+}
+
+#[test]
+fn replays_the_examples() {
+    let mut replayed = 0;
+    for entry in std::fs::read_dir(replays()).expect("the folder of lists of calls") {
+        let list = entry.expect("an entry").path();
+        if list.extension() != Some(OsStr::new("calls")) {
+            continue;
+        }
+        let stored = std::fs::read_to_string(list.with_extension("out")).expect("its output");
+        // both examples show refusals
+        prints(
+            &run(&[OsStr::new("replay"), list.as_os_str()], b""),
+            1,
+            &stored,
+        );
+        let text = std::fs::read(&list).expect("the list");
+        prints(&run(&["replay", "-"], &text), 1, &stored);
+        replayed += 1;
+    }
+    assert_eq!(replayed, 2);
+}
+
+#[test]
+fn replays_each_call_and_says_the_stack_pointer_where_it_moves() {
+    let list = b"\n# a comment\n  start ppc64 4096 0x10000 # and one more\r\n\
+        \tenter g=29 m=30 cr=1 locals=20 out=64\nwrite r29 0x1234\nwrite f30 1\nwrite lr 2\n\
+        write cr2 7\nwrite mem 0x10f10 0011 2233\nleave";
+    let said = "3 start: accepted, stack pointer 0x10f90\n\
+        4 enter: accepted, stack pointer 0x10ee0\n\
+        5 write r29: accepted\n6 write f30: accepted\n7 write lr: accepted\n\
+        8 write cr2: accepted\n9 write mem: accepted\n\
+        10 leave: accepted, stack pointer 0x10f90\n";
+    prints(&run(&["replay", "-"], list), 0, said);
+    prints(&run(&["replay", "-"], b"# nothing\n\n"), 0, "");
+    let said = "1 start: refused 16 at 0\n2 leave: refused 23 at 0\n";
+    prints(
+        &run(&["replay", "-"], b"start z 1048576 0\nleave\n"),
+        1,
+        said,
+    );
+}
+
+#[test]
+fn a_bad_line_is_told_with_its_number_and_no_call_is_made() {
+    let faults: [(&[u8], &str); 27] = [
+        (b"jump", "\"jump\" is no call"),
+        (b"Leave", "\"Leave\" is no call"),
+        (b"leave now", "a leave has no words"),
+        (b"start", "a start is 'start ppc64 SIZE BASE'"),
+        (b"start ppc64 4096", "a start is"),
+        (b"start ppc64 4096 0 0", "a start is"),
+        (b"start ppc32 4096 0", "\"ppc32\" is no convention"),
+        (b"start z 1048577 0", "a memory of over 1048576 bytes"),
+        (b"start z -16 0", "\"-16\" is no number"),
+        (b"enter m=30", "an enter without g="),
+        (b"enter g=29", "an enter without m="),
+        (b"enter g=29 m=30 g=29", "\"g\" twice"),
+        (b"enter g=29 m=30 x=1", "\"x=1\" in an enter"),
+        (b"enter g=29 m=30 cr", "\"cr\" in an enter"),
+        (b"enter g= m=30", "\"\" is no number"),
+        (b"enter g=0x m=30", "\"0x\" is no number"),
+        (b"enter g=+29 m=30", "\"+29\" is no number"),
+        (b"write", "a write is"),
+        (b"write r29", "a write is"),
+        (b"write r29 1 2", "a write is"),
+        (b"write x1 1", "\"x1\" is nothing to write"),
+        (b"write r 1", "\"r\" is nothing to write"),
+        (b"write r+1 1", "\"r+1\" is nothing to write"),
+        (
+            b"write r1 18446744073709551616",
+            "\"18446744073709551616\" is over 64 bits",
+        ),
+        (b"write mem 0", "a write of no bytes"),
+        (b"write mem 0 0g", "'g' is no hexadecimal digit"),
+        (b"write \xff 1", "this is no text"),
+    ];
+    for (line, fault) in faults {
+        let list = [b"start z 4096 0\n\n", line, b"\nleave\nand another\n"].concat();
+        complains(
+            &run(&["replay", "-"], &list),
+            &format!("standard input: line 3: {fault}"),
+        );
+    }
+    complains(
+        &run(&["replay", "-"], b"\nleave"),
+        "line 2: \"leave\" before the first start",
+    );
+    let odd = b"start z 4096 0\nwrite mem 0 123";
+    complains(&run(&["replay", "-"], odd), "line 2: half a byte");
+}
+
+#[test]
+fn replay_takes_one_file() {
+    complains(&run(&["replay"], b""), "replay takes one FILE");
+    complains(&run(&["replay", "-", "-"], b""), "replay takes one FILE");
+    complains(&run(&["replay", "--hex"], b""), "\"--hex\"");
+    complains(&run(&["replay", "not-there"], b""), "\"not-there\"");
+    complains(
+        &run(&["replay", "-"], &vec![b'\n'; (1 << 20) + 1]),
+        "over 1048576 bytes",
+    );
+}

@@ -1,22 +1,7 @@
 /* The C surface, used as a C or C++ program uses it. Ends with the count of what is wrong. */
+#include "check.h"
 #include "flakuzhen.h"
-#include <stdio.h>
 #include <string.h>
-
-/* the layout that the library is compiled to, word by word */
-#define WORD(structure, member, word) (offsetof(structure, member) == 8 * (word))
-#define SIZE(structure, words) (sizeof(structure) == 8 * (words))
-
-static int wrong = 0;
-
-static void check(int holds, const char *what)
-{
-    if (!holds) {
-        printf("wrong: %s\n", what);
-        wrong++;
-    }
-}
-#define CHECK(fact) check((fact) != 0, #fact)
 
 static void check_layout(void)
 {

@@ -8,6 +8,7 @@
 pub mod compact;
 pub mod float_bits;
 mod listing;
+pub mod machine;
 mod planner;
 mod reader;
 mod types;

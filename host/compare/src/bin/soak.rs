@@ -4,7 +4,8 @@
 #![forbid(unsafe_code)]
 
 use compare::random::Random;
-use compare::{float_bits, plans, signatures, Difference};
+use compare::{float_bits, machine_lists, plans, signatures, Difference};
+use reference::Convention;
 use std::fmt;
 use std::process::ExitCode;
 use std::time::{Duration, Instant, SystemTime, UNIX_EPOCH};
@@ -13,6 +14,8 @@ use std::time::{Duration, Instant, SystemTime, UNIX_EPOCH};
 const SIGNATURES: u64 = 20_000;
 const PLANS: u64 = 5_000;
 const SINGLES: u64 = 50_000;
+const LISTS: u64 = 500;
+const STATES: u64 = 2_000;
 /// How often it says how far it is.
 const PACE: Duration = Duration::from_secs(10);
 
@@ -51,6 +54,13 @@ struct Cases {
     signatures: u64,
     plans: u64,
     floats: u64,
+    machine_calls: u64,
+}
+
+impl Cases {
+    fn total(&self) -> u64 {
+        self.signatures + self.plans + self.floats + self.machine_calls
+    }
 }
 
 impl fmt::Display for Cases {
@@ -59,10 +69,12 @@ impl fmt::Display for Cases {
             signatures,
             plans,
             floats,
+            machine_calls,
         } = self;
         write!(
             to,
-            "{signatures} signatures, {plans} plans, {floats} float conversions"
+            "{signatures} signatures, {plans} plans, {floats} float conversions, {machine_calls} \
+             machine calls"
         )
     }
 }
@@ -78,8 +90,7 @@ fn soak(seed: u64, time: Duration) -> Result<Cases, Difference> {
         if told.elapsed() >= PACE {
             told = Instant::now();
             let spent = began.elapsed();
-            let cases = done.signatures + done.plans + done.floats;
-            let rate = cases as f64 / spent.as_secs_f64();
+            let rate = done.total() as f64 / spent.as_secs_f64();
             let left = time.saturating_sub(spent).as_secs();
             println!("seed {seed:#x}: {done}; {rate:.0} a second; {left} s left");
         }
@@ -92,5 +103,12 @@ fn round(seed: u64, done: &mut Cases) -> Result<(), Difference> {
     done.signatures += signatures::run(seed, SIGNATURES).map_err(told)?.total();
     done.plans += plans::run(seed, PLANS).map_err(told)?.total();
     done.floats += float_bits::run(seed, SINGLES).map_err(told)?.total();
+    for convention in [Convention::Ppc64, Convention::Z] {
+        let reach = machine_lists::run(seed, convention, LISTS).map_err(told)?;
+        done.machine_calls += reach.calls;
+    }
+    done.machine_calls += machine_lists::run_nonsense(seed, STATES)
+        .map_err(told)?
+        .calls;
     Ok(())
 }

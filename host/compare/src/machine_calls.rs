@@ -1,0 +1,359 @@
+//! Calls of the frame machine at random, aimed at the edges: frames down to the last free byte, 32
+//! of them, writes at the borders of the areas, requests and registers at the ends of their ranges.
+
+use crate::machines::{random_bytes, random_registers, stack_pointer, Call};
+use crate::random::Random;
+use reference::machine::{frame_size, pointer_register, save_slots, Machine, Request};
+use reference::Convention;
+
+/// What the calls of a list are mostly.
+#[derive(Clone, Copy, Debug)]
+pub enum Style {
+    /// Small frames, as deep as it goes.
+    Climb,
+    /// All calls.
+    Mixed,
+    /// Writes, of few frames.
+    Writes,
+}
+
+pub const STYLES: [Style; 3] = [Style::Climb, Style::Mixed, Style::Writes];
+
+/// A memory's length that a start takes: mostly a few frames', at times the smallest and the
+/// largest.
+pub fn memory_length(random: &mut Random) -> usize {
+    let steps = match random.below(24) {
+        0 | 1 => 16,
+        2..=5 => 16 + random.below(64),
+        6 => 4096,
+        7 => 16 + random.below(4081),
+        8..=15 => 256 + random.below(256),
+        _ => 64 + random.below(192),
+    };
+    16 * steps
+}
+
+/// A base that a start takes with a memory of this length.
+pub fn base(random: &mut Random, length: usize) -> u64 {
+    let highest = u64::MAX - 15 - length as u64;
+    match random.below(8) {
+        0 => 0,
+        1 => 16,
+        2 => highest,
+        3 => highest - 16,
+        _ => (random.number() % highest) / 16 * 16,
+    }
+}
+
+/// A start of this convention that is accepted.
+pub fn start(random: &mut Random, convention: Convention, length: usize) -> Call {
+    Call::Start {
+        convention,
+        registers: Box::new(random_registers(random)),
+        base: base(random, length),
+    }
+}
+
+/// A start, and the bytes that it is lent of a memory of this length, that is refused: the length
+/// or the base is wrong, by as little as can be where that is so.
+pub fn refused_start(random: &mut Random, convention: Convention, length: usize) -> (Call, usize) {
+    let mut lent = length;
+    let mut base = base(random, length);
+    match random.below(6) {
+        0 => lent = random.pick(&[0, 16, 239, 240, 248, 255]).min(length - 1),
+        1 => lent += 1 + random.below(15),
+        2 => base += 1 + random.number() % 15,
+        // base and length are 2^64, or more
+        3 => base = u64::MAX - 15 - length as u64 + 16,
+        4 => base = u64::MAX - 15,
+        _ => {
+            lent -= 1 + random.below(15);
+            base ^= 8;
+        }
+    }
+    let call = Call::Start {
+        convention,
+        registers: Box::new(random_registers(random)),
+        base,
+    };
+    (call, lent)
+}
+
+/// The ranges of a convention: the lowest and the highest first saved general register, the same
+/// for the floating ones, and the most that `saves_cr` may be.
+fn ranges(convention: Convention) -> ([u64; 2], [u64; 2], u64) {
+    match convention {
+        Convention::Ppc64 => ([14, 32], [14, 32], 1),
+        Convention::Z => ([6, 14], [8, 16], 0),
+    }
+}
+
+/// A number of the range, its ends more often than the others.
+fn within(random: &mut Random, [lowest, highest]: [u64; 2]) -> u64 {
+    match random.below(6) {
+        0 => lowest,
+        1 | 2 => highest,
+        _ => lowest + random.number() % (highest - lowest + 1),
+    }
+}
+
+/// A request that 17 has nothing against.
+pub fn request(random: &mut Random, convention: Convention) -> Request {
+    let (gprs, fprs, most_cr) = ranges(convention);
+    Request {
+        first_gpr: within(random, gprs),
+        first_fpr: within(random, fprs),
+        saves_cr: random.number() % (most_cr + 1),
+        locals: match random.below(16) {
+            0 => 32_000,
+            1 => random.number() % 32_001,
+            2..=8 => 0,
+            _ => random.number() % 300,
+        },
+        outgoing: match random.below(16) {
+            0 => 16_392,
+            1 => random.number() % 2_050 * 8,
+            2..=8 => 0,
+            _ => random.number() % 20 * 8,
+        },
+    }
+}
+
+/// The request that saves and keeps the least.
+fn smallest_request(convention: Convention) -> Request {
+    let (gprs, fprs, _) = ranges(convention);
+    Request {
+        first_gpr: gprs[1],
+        first_fpr: fprs[1],
+        ..Request::default()
+    }
+}
+
+/// A small request, of which many fit.
+pub fn small_request(random: &mut Random, convention: Convention) -> Request {
+    let mut request = smallest_request(convention);
+    match random.below(4) {
+        0 => request.locals = random.number() % 17,
+        1 => request.outgoing = random.number() % 10 * 8,
+        2 => request.first_gpr -= random.number() % 3,
+        _ => {}
+    }
+    request
+}
+
+/// A request for just the room that is left, or a byte more or less.
+fn fitting_request(random: &mut Random, convention: Convention, room: u64) -> Request {
+    let mut fitting = match random.once_in(2) {
+        true => small_request(random, convention),
+        false => request(random, convention),
+    };
+    fitting.locals = 0;
+    let needed = frame_size(convention, &fitting);
+    if room >= needed && room - needed <= 31_990 {
+        // what rounding adds is not known here, so a few bytes around the room are tried
+        fitting.locals = (room - needed + random.number() % 18).saturating_sub(1);
+        if random.once_in(2) {
+            // the most that makes no larger frame
+            while frame_size(convention, &fitting) > room {
+                fitting.locals -= 1;
+            }
+            while fitting.locals < 32_000 && frame_size(convention, &next(fitting)) <= room {
+                fitting = next(fitting);
+            }
+            if random.once_in(2) {
+                fitting = next(fitting);
+            }
+        }
+    }
+    fitting
+}
+
+/// The same with a byte more of locals.
+pub fn next(request: Request) -> Request {
+    Request {
+        locals: request.locals + 1,
+        ..request
+    }
+}
+
+/// The request with one number out of its range.
+pub fn broken_request(random: &mut Random, convention: Convention, request: Request) -> Request {
+    let (gprs, fprs, most_cr) = ranges(convention);
+    let mut broken = request;
+    let outside = |random: &mut Random, [lowest, highest]: [u64; 2]| match random.below(5) {
+        0 => lowest - 1,
+        1 => highest + 1,
+        2 => random.number() % lowest,
+        3 => u64::MAX - random.number() % 40,
+        _ => random.number() | 64,
+    };
+    match random.below(6) {
+        0 => broken.first_gpr = outside(random, gprs),
+        1 => broken.first_fpr = outside(random, fprs),
+        2 => broken.saves_cr = random.pick(&[most_cr + 1, 2, 256, u64::MAX]),
+        3 => broken.locals = random.pick(&[32_001, 32_016, 1 << 32, u64::MAX - 400, u64::MAX]),
+        4 => broken.outgoing = random.pick(&[16_400, 1 << 32, u64::MAX - 7, u64::MAX - 399]),
+        _ => broken.outgoing = (broken.outgoing / 8 * 8) | (1 + random.number() % 7),
+    }
+    broken
+}
+
+/// A call for this state, whether or not it can be.
+pub fn call(random: &mut Random, machine: &Machine, style: Style) -> Call {
+    // enters, register writes, memory writes, leaves
+    let mut weights = match style {
+        Style::Climb => [24, 2, 4, 2],
+        Style::Mixed => [8, 6, 12, 4],
+        Style::Writes => [2, 16, 32, 2],
+    };
+    if let Some(convention) = machine.possible() {
+        let room = stack_pointer(machine) - machine.base;
+        if room < frame_size(convention, &smallest_request(convention)) {
+            // now and then it is told that the stack is full
+            weights[0] = 1;
+            weights[3] *= 2;
+        } else if machine.depth == 0 {
+            weights[0] *= 4;
+            weights[3] = 1;
+        }
+    }
+    let mut left = random.below(weights.iter().sum());
+    for (kind, weight) in weights.into_iter().enumerate() {
+        if left < weight {
+            return match kind {
+                0 => enter(random, machine, style),
+                1 => write_register(random, machine),
+                2 => write_memory(random, machine),
+                _ => Call::Leave,
+            };
+        }
+        left -= weight;
+    }
+    unreachable!("the number is below the sum of the weights")
+}
+
+fn enter(random: &mut Random, machine: &Machine, style: Style) -> Call {
+    let Some(convention) = machine.possible() else {
+        let convention = random.pick(&[Convention::Ppc64, Convention::Z]);
+        return Call::Enter(request(random, convention));
+    };
+    let room = stack_pointer(machine) - machine.base;
+    let small = match style {
+        Style::Climb => true,
+        Style::Mixed => random.once_in(2),
+        Style::Writes => random.once_in(4),
+    };
+    let asked = match random.below(8) {
+        0 => fitting_request(random, convention, room),
+        _ if small => small_request(random, convention),
+        _ => request(random, convention),
+    };
+    match random.below(16) {
+        0 => Call::Enter(broken_request(random, convention, asked)),
+        _ => Call::Enter(asked),
+    }
+}
+
+fn write_register(random: &mut Random, machine: &Machine) -> Call {
+    let bank = match random.below(16) {
+        0..=5 => 0,
+        6..=9 => 1,
+        10 | 11 => 2,
+        12..=14 => 3,
+        _ => random.pick(&[4, 5, 256, u64::MAX]),
+    };
+    let top = match machine.depth {
+        1..=32 => machine.frames[machine.depth as usize - 1],
+        _ => Request::default(),
+    };
+    let first_saved = if bank == 0 {
+        top.first_gpr
+    } else {
+        top.first_fpr
+    };
+    let number = match (bank, random.below(8)) {
+        (_, 0) => random.number(),
+        (3, _) => random.number() % 9,
+        (2, 1..=6) => 0,
+        (_, 1..=3) => first_saved
+            .wrapping_add(random.number() % 3)
+            .wrapping_sub(1),
+        _ => random.number() % 34,
+    };
+    let value = match (bank, random.below(8)) {
+        (3, 1..=6) => random.number() % 16,
+        (3, 7) => 16,
+        _ => random.number(),
+    };
+    Call::WriteRegister {
+        bank,
+        number,
+        value,
+    }
+}
+
+fn write_memory(random: &mut Random, machine: &Machine) -> Call {
+    let Some(convention) = machine.possible() else {
+        let length = random.below(260);
+        return Call::WriteMemory {
+            address: machine.base.wrapping_add(random.number() % 70_000),
+            bytes: random_bytes(random, length),
+        };
+    };
+    let mut areas = machine.areas(convention);
+    if !random.once_in(8) && areas.iter().any(|area| area.start < area.end) {
+        areas.retain(|area| area.start < area.end);
+    }
+    let area = areas[random.below(areas.len())];
+    let room = (area.end - area.start) as usize;
+    let length = match random.below(12) {
+        0 => 0,
+        1 => 256,
+        2 => 257,
+        3 => room.min(300),
+        4 => (room + 1).min(300),
+        5 | 6 => 1,
+        7 => 8,
+        _ => 1 + random.below(room.clamp(1, 256)),
+    };
+    // from just before the area, up to just after it
+    let near = match random.below(12) {
+        0 => area.start.wrapping_sub(1),
+        1..=3 => area.start,
+        4 => area.start + 1,
+        5..=7 => area.end.saturating_sub(length as u128),
+        8 => (area.end + 1).saturating_sub(length as u128),
+        9 => area.end,
+        _ => area.start + random.number() as u128 % (area.end - area.start + 1),
+    };
+    let address = match random.below(24) {
+        0 => protected(random, machine, convention),
+        1 => machine
+            .base
+            .wrapping_add(random.number() % (machine.size + 8)),
+        2 => random.pick(&[0, machine.base.wrapping_sub(1), u64::MAX, u64::MAX - 7]),
+        _ => near as u64,
+    };
+    Call::WriteMemory {
+        address,
+        bytes: random_bytes(random, length),
+    }
+}
+
+/// The address of a back chain, of a header's doubleword or of a save slot.
+pub fn protected(random: &mut Random, machine: &Machine, convention: Convention) -> u64 {
+    let pointer = machine.registers.gpr[pointer_register(convention)];
+    if machine.depth == 0 {
+        return pointer + 8 * (random.number() % 6);
+    }
+    let top = machine.frames[machine.depth as usize - 1];
+    let caller = pointer + frame_size(convention, &top);
+    match random.below(4) {
+        0 => pointer,
+        1 => caller + 8 * (random.number() % 6),
+        _ => {
+            let slots = save_slots(convention, &top, u128::from(caller));
+            slots[random.below(slots.len())].1 as u64
+        }
+    }
+}

@@ -1,0 +1,671 @@
+//! The frame machine at each edge of its rules, one step on either side. Each case states the answer
+//! that document 01 gives, and both programs are held to it; after every call both states and
+//! memories are compared too.
+
+use compare::machine_calls;
+use compare::machines::{random_registers, stack_pointer, Call, Pair};
+use compare::random::Random;
+use reference::machine::{Machine, Registers, Request};
+use reference::Convention::{self, Ppc64, Z};
+
+const BASE: u64 = 0x4000;
+const BOTH: [Convention; 2] = [Ppc64, Z];
+
+/// Both give this answer to the call.
+fn answers(pair: &mut Pair, call: &Call, number: u64) {
+    let lent = pair.memory().len();
+    answers_lending(pair, call, lent, number);
+}
+
+fn answers_lending(pair: &mut Pair, call: &Call, lent: usize, number: u64) {
+    match pair.call_lending(call, lent) {
+        Ok(given) => assert_eq!(given, number, "{call:x?} with {lent} bytes of memory"),
+        Err(difference) => panic!("{difference}"),
+    }
+}
+
+fn start(convention: Convention, base: u64) -> Call {
+    Call::Start {
+        convention,
+        registers: Box::new(random_registers(&mut Random::new(7))),
+        base,
+    }
+}
+
+fn started(convention: Convention, length: usize) -> Pair {
+    let mut pair = Pair::new(&mut Random::new(9), length);
+    answers(&mut pair, &start(convention, BASE), 0);
+    pair
+}
+
+fn request(g: u64, m: u64, saves_cr: u64, locals: u64, outgoing: u64) -> Request {
+    Request {
+        first_gpr: g,
+        first_fpr: m,
+        saves_cr,
+        locals,
+        outgoing,
+    }
+}
+
+/// The request that saves and keeps the least.
+fn smallest(convention: Convention) -> Request {
+    match convention {
+        Ppc64 => request(32, 32, 0, 0, 0),
+        Z => request(14, 16, 0, 0, 0),
+    }
+}
+
+/// The request that saves the most.
+fn all_saved(convention: Convention) -> Request {
+    match convention {
+        Ppc64 => request(14, 14, 1, 0, 0),
+        Z => request(6, 8, 0, 0, 0),
+    }
+}
+
+#[test]
+fn starts_of_every_length_and_base() {
+    let mut pair = Pair::new(&mut Random::new(3), 65_600);
+    for convention in BOTH {
+        for length in (0..=520).chain(65_500..=65_600) {
+            let allowed = length % 16 == 0 && (256..=65_536).contains(&length);
+            let number = if allowed { 0 } else { 16 };
+            answers_lending(&mut pair, &start(convention, BASE), length, number);
+        }
+        for low in 0..=64 {
+            let number = if low % 16 == 0 { 0 } else { 16 };
+            answers_lending(&mut pair, &start(convention, low), 256, number);
+            let high = u64::MAX - 300 + low;
+            // 2^64 - 1 - 256 is no multiple of 16: the highest base is 15 lower
+            let allowed = high % 16 == 0 && high <= u64::MAX - 256;
+            let number = if allowed { 0 } else { 16 };
+            answers_lending(&mut pair, &start(convention, high), 256, number);
+        }
+    }
+}
+
+#[test]
+fn the_frame_sizes_of_the_document() {
+    let sizes = [
+        (Ppc64, request(29, 30, 0, 20, 64), 176),
+        (Ppc64, request(14, 14, 0, 0, 0), 400),
+        (Z, request(6, 8, 0, 1, 8), 240),
+    ];
+    for (convention, request, size) in sizes {
+        let mut pair = started(convention, 4096);
+        let before = stack_pointer(pair.state());
+        answers(&mut pair, &Call::Enter(request), 0);
+        assert_eq!(stack_pointer(pair.state()), before - size);
+        answers(&mut pair, &Call::Leave, 0);
+        assert_eq!(stack_pointer(pair.state()), before);
+    }
+}
+
+/// The size that document 01 gives, or nothing where 17 refuses the request.
+fn stated_size(convention: Convention, of: &Request) -> Option<u64> {
+    let (g, m, cr) = (of.first_gpr, of.first_fpr, of.saves_cr);
+    if of.locals > 32_000 || of.outgoing > 16_392 || of.outgoing % 8 != 0 {
+        return None;
+    }
+    match convention {
+        Ppc64 if (14..=32).contains(&g) && (14..=32).contains(&m) && cr <= 1 => {
+            let size = 48 + of.outgoing.max(64) + of.locals + 8 * (32 - g) + 8 * (32 - m);
+            Some(size.div_ceil(16) * 16)
+        }
+        Z if (6..=14).contains(&g) && (8..=16).contains(&m) && cr == 0 => {
+            let size = 160 + of.outgoing + of.locals + 8 * (16 - m);
+            Some(size.div_ceil(8) * 8)
+        }
+        _ => None,
+    }
+}
+
+#[test]
+fn every_first_register_of_a_request() {
+    let mut accepted = 0;
+    for convention in BOTH {
+        let mut pair = started(convention, 2048);
+        let before = stack_pointer(pair.state());
+        for g in 0..=34 {
+            for m in 0..=34 {
+                for cr in 0..=2 {
+                    for (locals, outgoing) in [(0, 0), (9, 72), (13, 4)] {
+                        let request = request(g, m, cr, locals, outgoing);
+                        let size = stated_size(convention, &request);
+                        let number = if size.is_some() { 0 } else { 17 };
+                        answers(&mut pair, &Call::Enter(request), number);
+                        if let Some(size) = size {
+                            accepted += 1;
+                            assert_eq!(stack_pointer(pair.state()), before - size);
+                            answers(&mut pair, &Call::Leave, 0);
+                        }
+                    }
+                }
+            }
+        }
+    }
+    assert_eq!(accepted, 19 * 19 * 2 * 2 + 9 * 9 * 2);
+}
+
+#[test]
+fn every_edge_of_locals_and_outgoing_area() {
+    let locals = [
+        0,
+        1,
+        7,
+        8,
+        15,
+        16,
+        31_999,
+        32_000,
+        32_001,
+        1 << 63,
+        u64::MAX,
+    ];
+    let mut outgoing: Vec<u64> = (0..=80).collect();
+    outgoing.extend(16_380..=16_402);
+    outgoing.extend([1 << 32, 1 << 63, u64::MAX - 7, u64::MAX]);
+    for convention in BOTH {
+        let mut pair = started(convention, 65_536);
+        let before = stack_pointer(pair.state());
+        for &locals in &locals {
+            for &outgoing in &outgoing {
+                let request = Request {
+                    locals,
+                    outgoing,
+                    ..all_saved(convention)
+                };
+                let size = stated_size(convention, &request);
+                let number = if size.is_some() { 0 } else { 17 };
+                answers(&mut pair, &Call::Enter(request), number);
+                if let Some(size) = size {
+                    assert_eq!(stack_pointer(pair.state()), before - size);
+                    answers(&mut pair, &Call::Leave, 0);
+                }
+            }
+        }
+    }
+}
+
+#[test]
+fn thirty_two_frames_and_a_thirty_third() {
+    for convention in BOTH {
+        // the most registers saved, each with a value of its own in each frame
+        let mut pair = started(convention, 16_384);
+        let mut random = Random::new(5);
+        let mut found: Vec<Registers> = Vec::new();
+        for depth in 0..32 {
+            found.push(pair.state().registers);
+            answers(&mut pair, &Call::Enter(all_saved(convention)), 0);
+            assert_eq!(pair.state().depth, depth + 1);
+            for (bank, numbers) in writable(convention, &all_saved(convention)) {
+                for number in numbers {
+                    let value = if bank == 3 {
+                        random.number() % 16
+                    } else {
+                        random.number()
+                    };
+                    let call = Call::WriteRegister {
+                        bank,
+                        number,
+                        value,
+                    };
+                    answers(&mut pair, &call, 0);
+                }
+            }
+        }
+        answers(&mut pair, &Call::Enter(all_saved(convention)), 18);
+        // 17 comes before 18, and 18 before 19
+        answers(&mut pair, &Call::Enter(request(0, 0, 0, 0, 0)), 17);
+        let large = Request {
+            locals: 32_000,
+            ..all_saved(convention)
+        };
+        answers(&mut pair, &Call::Enter(large), 18);
+        for depth in (0..32).rev() {
+            answers(&mut pair, &Call::Leave, 0);
+            let (old, new) = (&found[depth], pair.state().registers);
+            match convention {
+                Ppc64 => {
+                    assert_eq!((old.gpr[1], &old.gpr[13..]), (new.gpr[1], &new.gpr[13..]));
+                    assert_eq!((&old.fpr[14..], old.lr), (&new.fpr[14..], new.lr));
+                    assert_eq!(old.cr & 0x00ff_f000, new.cr & 0x00ff_f000);
+                }
+                Z => {
+                    assert_eq!(old.gpr[6..], new.gpr[6..]);
+                    assert_eq!(old.fpr[8..], new.fpr[8..]);
+                }
+            }
+        }
+        answers(&mut pair, &Call::Leave, 22);
+        assert_eq!(pair.state().frames, [Request::default(); 32]);
+    }
+}
+
+#[test]
+fn frames_down_to_the_last_free_byte() {
+    for convention in BOTH {
+        for base in [0, BASE, u64::MAX - 15 - 1024] {
+            for all in [false, true] {
+                let frame = match all {
+                    true => all_saved(convention),
+                    false => smallest(convention),
+                };
+                let mut pair = Pair::new(&mut Random::new(4), 1024);
+                answers(&mut pair, &start(convention, base), 0);
+                let room = match convention {
+                    Ppc64 => 1024 - 112,
+                    Z => 1024 - 160,
+                };
+                let mut full = frame;
+                while stated_size(convention, &machine_calls::next(full)) <= Some(room) {
+                    full = machine_calls::next(full);
+                }
+                answers(&mut pair, &Call::Enter(machine_calls::next(full)), 19);
+                answers(&mut pair, &Call::Enter(full), 0);
+                assert_eq!(stack_pointer(pair.state()), base);
+                answers(&mut pair, &Call::Enter(smallest(convention)), 19);
+                answers(&mut pair, &Call::Leave, 0);
+            }
+        }
+    }
+}
+
+/// The registers that document 01 lets a frame write: their banks and numbers.
+fn writable(convention: Convention, top: &Request) -> Vec<(u64, Vec<u64>)> {
+    let (g, m) = (top.first_gpr, top.first_fpr);
+    match convention {
+        Ppc64 => vec![
+            (0, [0].into_iter().chain(3..=12).chain(g..=31).collect()),
+            (1, (0..=13).chain(m..=31).collect()),
+            (2, vec![0]),
+            (
+                3,
+                match top.saves_cr {
+                    1 => (0..=7).collect(),
+                    _ => vec![0, 1, 5, 6, 7],
+                },
+            ),
+        ],
+        Z => vec![
+            (0, (0..=5).chain(g..=13).chain([14]).collect()),
+            (1, (0..=7).chain(m..=15).collect()),
+        ],
+    }
+}
+
+/// Writes of every register, whether or not it may be written.
+fn every_register(pair: &mut Pair, convention: Convention, top: &Request) {
+    let writable = writable(convention, top);
+    let may = |bank, number| {
+        let mut numbers = writable.iter().filter(|(of, _)| *of == bank);
+        numbers.any(|(_, numbers)| bank == 2 || numbers.contains(&number))
+    };
+    let numbers = (0..=40).chain([63, 64, 256, 1 << 32, (1 << 32) + 3, u64::MAX]);
+    for number in numbers {
+        for bank in [0, 1, 2, 3, 4, 256, 1 << 32, u64::MAX] {
+            for value in [0, 15, 16, 1 << 32, u64::MAX] {
+                let allowed = may(bank, number) && (bank != 3 || value <= 15);
+                let call = Call::WriteRegister {
+                    bank,
+                    number,
+                    value,
+                };
+                answers(pair, &call, if allowed { 0 } else { 20 });
+            }
+        }
+    }
+}
+
+#[test]
+fn every_register_of_every_frame() {
+    for convention in BOTH {
+        let none = match convention {
+            Ppc64 => request(32, 32, 0, 0, 0),
+            // r15 is above all that could be saved and written
+            Z => request(16, 16, 0, 0, 0),
+        };
+        let mut pair = started(convention, 1024);
+        every_register(&mut pair, convention, &none);
+        let (gprs, fprs, most_cr) = match convention {
+            Ppc64 => (14..=32, 14..=32, 1),
+            Z => (6..=14, 8..=16, 0),
+        };
+        let mut frames = Vec::new();
+        for cr in 0..=most_cr {
+            frames.extend(gprs.clone().map(|g| request(g, *fprs.end(), cr, 0, 0)));
+            frames.extend(fprs.clone().map(|m| request(*gprs.end(), m, cr, 0, 0)));
+        }
+        for frame in frames {
+            answers(&mut pair, &Call::Enter(frame), 0);
+            every_register(&mut pair, convention, &frame);
+            answers(&mut pair, &Call::Leave, 0);
+        }
+        // what a caller saved is not the callee's to write
+        answers(&mut pair, &Call::Enter(all_saved(convention)), 0);
+        answers(&mut pair, &Call::Enter(smallest(convention)), 0);
+        every_register(&mut pair, convention, &smallest(convention));
+    }
+}
+
+#[test]
+fn every_value_of_every_field_of_cr() {
+    let mut pair = started(Ppc64, 1024);
+    answers(&mut pair, &Call::Enter(request(32, 32, 1, 0, 0)), 0);
+    for number in 0..=8 {
+        for value in 0..=17 {
+            let before = pair.state().registers.cr;
+            let call = Call::WriteRegister {
+                bank: 3,
+                number,
+                value,
+            };
+            let allowed = number <= 7 && value <= 15;
+            answers(&mut pair, &call, if allowed { 0 } else { 20 });
+            if allowed {
+                let digit = |cr: u64, field: u64| cr >> (28 - 4 * field) & 15;
+                let after = pair.state().registers.cr;
+                for field in 0..=7 {
+                    let expected = if field == number {
+                        value
+                    } else {
+                        digit(before, field)
+                    };
+                    assert_eq!(digit(after, field), expected);
+                }
+            }
+        }
+    }
+}
+
+/// Two frames, and the areas that document 01 lets the second write, as offsets in memory.
+fn two_frames(convention: Convention) -> (Pair, Vec<(u64, u64)>) {
+    let mut pair = started(convention, 2048);
+    let (outer, inner) = match convention {
+        Ppc64 => (request(31, 30, 1, 5, 80), request(29, 31, 0, 30, 72)),
+        Z => (request(6, 14, 0, 5, 24), request(13, 15, 0, 30, 16)),
+    };
+    answers(&mut pair, &Call::Enter(outer), 0);
+    let caller = stack_pointer(pair.state()) - BASE;
+    answers(&mut pair, &Call::Enter(inner), 0);
+    let own = stack_pointer(pair.state()) - BASE;
+    let areas = match convention {
+        Ppc64 => vec![
+            (own + 48, own + 48 + 72),
+            // 48 + 72 + 30 + 24 + 8 is 182, rounded up to 192
+            (own + 120, own + 192 - 32),
+            (caller + 48, caller + 48 + 80),
+        ],
+        Z => vec![
+            (own + 160, own + 160 + 16),
+            // 160 + 16 + 30 + 8 is 214, rounded up to 216
+            (own + 176, own + 216 - 8),
+            (caller + 160, caller + 160 + 24),
+        ],
+    };
+    (pair, areas)
+}
+
+#[test]
+fn memory_writes_at_every_address() {
+    for convention in BOTH {
+        let (mut pair, areas) = two_frames(convention);
+        let mut random = Random::new(6);
+        for offset in 0..2048 + 8 {
+            for length in [1, 2, 3, 8, 16, 24, 25, 32, 33, 40, 41, 72, 73, 80, 81] {
+                let inside = areas
+                    .iter()
+                    .any(|&(start, end)| start <= offset && offset + length <= end);
+                let call = Call::WriteMemory {
+                    address: BASE + offset,
+                    bytes: compare::machines::random_bytes(&mut random, length as usize),
+                };
+                answers(&mut pair, &call, if inside { 0 } else { 20 });
+            }
+        }
+        for address in [0, BASE - 1, u64::MAX - 80, u64::MAX - 7, u64::MAX] {
+            for length in [1, 8, 9, 81, 82] {
+                let bytes = vec![1; length];
+                answers(&mut pair, &Call::WriteMemory { address, bytes }, 20);
+            }
+        }
+        answers(&mut pair, &Call::Leave, 0);
+        answers(&mut pair, &Call::Leave, 0);
+    }
+}
+
+#[test]
+fn the_start_writes_its_own_outgoing_area() {
+    for convention in BOTH {
+        let mut pair = started(convention, 256);
+        for offset in 0..300 {
+            for length in [1, 63, 64, 65] {
+                let call = Call::WriteMemory {
+                    address: BASE + offset,
+                    bytes: vec![offset as u8; length as usize],
+                };
+                // 64 bytes on PPC64, which are the memory's last; none on Z
+                let inside = convention == Ppc64 && offset >= 192 && offset + length <= 256;
+                answers(&mut pair, &call, if inside { 0 } else { 20 });
+            }
+        }
+    }
+}
+
+#[test]
+fn memory_writes_of_every_length() {
+    for convention in BOTH {
+        let mut pair = started(convention, 2048);
+        let frame = Request {
+            locals: 600,
+            ..smallest(convention)
+        };
+        answers(&mut pair, &Call::Enter(frame), 0);
+        let header_and_outgoing = match convention {
+            Ppc64 => 112,
+            Z => 160,
+        };
+        let address = stack_pointer(pair.state()) + header_and_outgoing;
+        for length in (0..=300).chain([511, 512, 513, 599, 600]) {
+            let number = if (1..=256).contains(&length) { 0 } else { 20 };
+            let bytes = vec![length as u8; length];
+            answers(&mut pair, &Call::WriteMemory { address, bytes }, number);
+        }
+    }
+}
+
+#[test]
+fn a_leave_with_every_byte_of_the_memory_changed() {
+    for convention in BOTH {
+        let (mut pair, _) = two_frames(convention);
+        let entered = pair.state().clone();
+        let memory = pair.memory().to_vec();
+        let own = (stack_pointer(&entered) - BASE) as usize;
+        let caller = match convention {
+            Ppc64 => own + 192,
+            Z => own + 216,
+        };
+        let chain = match convention {
+            Ppc64 => own..own + 8,
+            Z => caller + 120..caller + 128,
+        };
+        // r29 to r31, f31 and LR; r13, r14 and f15
+        let slots = match convention {
+            Ppc64 => vec![caller - 32..caller, caller + 16..caller + 24],
+            Z => vec![caller + 104..caller + 120, caller - 8..caller],
+        };
+        answers(&mut pair, &Call::Leave, 0);
+        let left = pair.state().clone();
+        for (at, byte) in memory.iter().enumerate() {
+            pair.change_state(|state| *state = entered.clone());
+            pair.change_memory(at, &[byte ^ 0x10]);
+            let number = if chain.contains(&at) { 21 } else { 0 };
+            answers(&mut pair, &Call::Leave, number);
+            let matters = slots.iter().any(|slot| slot.contains(&at));
+            assert_eq!(*pair.state() != left, matters || number == 21, "byte {at}");
+            pair.change_memory(at, &[*byte]);
+        }
+    }
+}
+
+#[test]
+fn a_leave_with_no_frame_looks_at_no_memory() {
+    for convention in BOTH {
+        let mut pair = started(convention, 256);
+        pair.change_memory(0, &[0xff; 256]);
+        answers(&mut pair, &Call::Leave, 22);
+    }
+}
+
+#[test]
+fn cr_is_restored_in_fields_2_to_4_alone() {
+    for saves_cr in [0, 1] {
+        let mut pair = started(Ppc64, 1024);
+        pair.change_state(|state| state.registers.cr = 0x1234_5678);
+        answers(&mut pair, &Call::Enter(request(32, 32, saves_cr, 0, 0)), 0);
+        pair.change_state(|state| state.registers.cr = 0xabcd_ef98);
+        answers(&mut pair, &Call::Leave, 0);
+        let expected = [0xabcd_ef98, 0xab34_5f98][saves_cr as usize];
+        assert_eq!(pair.state().registers.cr, expected);
+    }
+}
+
+/// Every call with every kind of memory, in a state that cannot be.
+fn refuses_all(pair: &mut Pair, change: impl FnOnce(&mut Machine)) {
+    let before = pair.state().clone();
+    pair.change_state(change);
+    let length = pair.memory().len();
+    for lent in [length, length - 16, 0, 7] {
+        // what else is wrong with them is tested later
+        answers_lending(pair, &Call::Enter(Request::default()), lent, 23);
+        let call = Call::WriteRegister {
+            bank: 9,
+            number: 9,
+            value: 9,
+        };
+        answers_lending(pair, &call, lent, 23);
+        let call = Call::WriteMemory {
+            address: 0,
+            bytes: Vec::new(),
+        };
+        answers_lending(pair, &call, lent, 23);
+        answers_lending(pair, &Call::Leave, lent, 23);
+    }
+    pair.change_state(|state| *state = before);
+}
+
+#[test]
+fn states_that_cannot_be() {
+    for convention in BOTH {
+        let (mut pair, _) = two_frames(convention);
+        let pointer = match convention {
+            Ppc64 => 1,
+            Z => 15,
+        };
+        let step = match convention {
+            Ppc64 => 16,
+            Z => 8,
+        };
+        for code in [0, 3, 256, 257, 1 << 32, (1 << 32) + 1, u64::MAX] {
+            refuses_all(&mut pair, |state| state.convention = code);
+        }
+        // the other convention has another stack pointer
+        refuses_all(&mut pair, |state| state.convention = 3 - state.convention);
+        for depth in [0, 1, 3, 32, 33, 34, 1 << 32, (1 << 32) + 2, u64::MAX] {
+            refuses_all(&mut pair, |state| state.depth = depth);
+        }
+        for base in [0, BASE - 16, BASE + 1, BASE + 8, BASE + 16, u64::MAX - 15] {
+            refuses_all(&mut pair, |state| state.base = base);
+        }
+        for size in [0, 16, 240, 2032, 2056, 2064, 65_536, 65_552, u64::MAX - 15] {
+            refuses_all(&mut pair, |state| state.size = size);
+        }
+        for by in [1, 8, 16, step, 0u64.wrapping_sub(step), 1 << 63] {
+            refuses_all(&mut pair, |state| {
+                let moved = state.registers.gpr[pointer].wrapping_add(by);
+                state.registers.gpr[pointer] = moved;
+            });
+        }
+        for bit in 32..64 {
+            refuses_all(&mut pair, |state| state.registers.cr |= 1 << bit);
+        }
+        for frame in [0, 1] {
+            refuses_all(&mut pair, |state| state.frames[frame] = Request::default());
+            refuses_all(&mut pair, |state| state.frames[frame].first_gpr = 5);
+            refuses_all(&mut pair, |state| state.frames[frame].first_fpr = 33);
+            refuses_all(&mut pair, |state| state.frames[frame].saves_cr = 2);
+            refuses_all(&mut pair, |state| state.frames[frame].locals += 16);
+            refuses_all(&mut pair, |state| state.frames[frame].locals = u64::MAX);
+            refuses_all(&mut pair, |state| state.frames[frame].outgoing += 16);
+            refuses_all(&mut pair, |state| state.frames[frame].outgoing += 1);
+        }
+        // records in another order make the same sum, so this one can be
+        pair.change_state(|state| state.frames.swap(0, 1));
+        assert!(pair.state().possible().is_some());
+        answers(&mut pair, &Call::Enter(smallest(convention)), 0);
+    }
+}
+
+#[test]
+fn stack_pointers_below_the_memory() {
+    for convention in BOTH {
+        for base in [0, 16, 4096, BASE] {
+            let mut pair = Pair::new(&mut Random::new(8), 1024);
+            answers(&mut pair, &start(convention, base), 0);
+            let mut below = false;
+            // each frame is one that could be, but not all of them in this memory
+            for depth in 1..=32 {
+                pair.change_state(|state| {
+                    let frame = smallest(convention);
+                    let size = stated_size(convention, &frame).expect("it is allowed");
+                    state.depth = depth;
+                    state.frames[depth as usize - 1] = frame;
+                    let pointer = match convention {
+                        Ppc64 => &mut state.registers.gpr[1],
+                        Z => &mut state.registers.gpr[15],
+                    };
+                    below |= *pointer - base < size;
+                    // below address 0 it is a number near 2^64
+                    *pointer = pointer.wrapping_sub(size);
+                });
+                if below {
+                    refuses_all(&mut pair, |_| {});
+                    break;
+                }
+                let call = Call::WriteRegister {
+                    bank: 0,
+                    number: 0,
+                    value: depth,
+                };
+                answers(&mut pair, &call, 0);
+            }
+            assert!(below);
+        }
+    }
+}
+
+#[test]
+fn records_above_the_depth_are_not_looked_at() {
+    for convention in BOTH {
+        let (mut pair, _) = two_frames(convention);
+        let noise = request(99, 98, 97, u64::MAX, 95);
+        pair.change_state(|state| state.frames[2..].fill(noise));
+        answers(&mut pair, &Call::Leave, 0);
+        answers(&mut pair, &Call::Enter(smallest(convention)), 0);
+        answers(&mut pair, &Call::Enter(smallest(convention)), 0);
+        assert_eq!(pair.state().frames[2], smallest(convention));
+        assert_eq!(pair.state().frames[3], noise);
+    }
+}
+
+#[test]
+fn memories_of_another_length() {
+    for convention in BOTH {
+        let (mut pair, _) = two_frames(convention);
+        for lent in [0, 1, 16, 2032, 2047, 2049, 2064, 2112] {
+            answers_lending(&mut pair, &Call::Enter(Request::default()), lent, 16);
+            answers_lending(&mut pair, &Call::Leave, lent, 16);
+        }
+    }
+}

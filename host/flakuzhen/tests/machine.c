@@ -1,0 +1,150 @@
+/* The frame machine, used as a C or C++ program uses it. Ends with the count of what is wrong. */
+#include "check.h"
+#include "flakuzhen.h"
+#include <string.h>
+
+#define BASE UINT64_C(0x10000)
+#define LENGTH 1024
+
+static fz_machine machine;
+static fz_registers registers;
+static uint8_t memory[LENGTH];
+
+static void check_layout(void)
+{
+    CHECK(SIZE(fz_registers, 66));
+    CHECK(WORD(fz_registers, gpr, 0));
+    CHECK(WORD(fz_registers, fpr, 32));
+    CHECK(WORD(fz_registers, lr, 64));
+    CHECK(WORD(fz_registers, cr, 65));
+    CHECK(SIZE(fz_frame, 5));
+    CHECK(WORD(fz_frame, first_gpr, 0));
+    CHECK(WORD(fz_frame, first_fpr, 1));
+    CHECK(WORD(fz_frame, saves_cr, 2));
+    CHECK(WORD(fz_frame, locals, 3));
+    CHECK(WORD(fz_frame, outgoing, 4));
+    CHECK(SIZE(fz_machine, 230));
+    CHECK(WORD(fz_machine, convention, 0));
+    CHECK(WORD(fz_machine, base, 1));
+    CHECK(WORD(fz_machine, size, 2));
+    CHECK(WORD(fz_machine, depth, 3));
+    CHECK(WORD(fz_machine, registers, 4));
+    CHECK(WORD(fz_machine, frames, 70));
+}
+
+/* an answer has a place and a count of items for others alone */
+static int answers(fz_answer answer, uint64_t number)
+{
+    return answer.number == number && answer.place == 0 && answer.items == 0;
+}
+
+static uint64_t doubleword(uint64_t address)
+{
+    uint64_t value = 0;
+    int i;
+
+    for (i = 0; i < 8; i++)
+        value = value << 8 | memory[address - BASE + (uint64_t)i];
+    return value;
+}
+
+static void hand_in_registers(void)
+{
+    int n;
+
+    for (n = 0; n < 32; n++) {
+        registers.gpr[n] = 100 + (uint64_t)n;
+        registers.fpr[n] = 200 + (uint64_t)n;
+    }
+    registers.lr = 300;
+    registers.cr = UINT64_C(0x12345678);
+    memset(memory, 0xee, sizeof memory);
+}
+
+static void check_ppc64(void)
+{
+    static const fz_frame request = {29, 30, 1, 20, 64};
+    static const fz_frame none = {13, 30, 1, 20, 64};
+    static const fz_frame large = {32, 32, 0, 1024, 0};
+    static const uint8_t bytes[4] = {1, 2, 3, 4};
+    uint64_t s = BASE + LENGTH - 112;
+    fz_machine before;
+
+    hand_in_registers();
+    CHECK(answers(fz_start_ppc64(&machine, &registers, BASE, memory, LENGTH), FZ_ACCEPTED));
+    CHECK(machine.convention == 1 && machine.base == BASE && machine.size == LENGTH);
+    CHECK(machine.depth == 0 && machine.registers.gpr[1] == s && doubleword(s) == 0);
+    before = machine;
+
+    CHECK(answers(fz_leave(&machine, memory, LENGTH), FZ_NO_FRAME));
+    CHECK(answers(fz_enter(&machine, &none, memory, LENGTH), FZ_BAD_REQUEST));
+    CHECK(answers(fz_enter(&machine, &large, memory, LENGTH), FZ_STACK_FULL));
+    CHECK(memcmp(&machine, &before, sizeof machine) == 0);
+
+    CHECK(answers(fz_enter(&machine, &request, memory, LENGTH), FZ_ACCEPTED));
+    CHECK(machine.depth == 1 && machine.registers.gpr[1] == s - 176);
+    CHECK(memcmp(&machine.frames[0], &request, sizeof request) == 0);
+    CHECK(doubleword(s - 8) == 231 && doubleword(s - 24) == 131 && doubleword(s + 16) == 300);
+    CHECK(doubleword(s + 8) == UINT64_C(0x12345678eeeeeeee) && doubleword(s - 176) == s);
+
+    CHECK(answers(fz_write_register(&machine, 0, 29, 7, memory, LENGTH), FZ_ACCEPTED));
+    CHECK(answers(fz_write_register(&machine, 0, 28, 7, memory, LENGTH), FZ_NOT_WRITABLE));
+    CHECK(answers(fz_write_register(&machine, 1, 30, 8, memory, LENGTH), FZ_ACCEPTED));
+    CHECK(answers(fz_write_register(&machine, 2, 0, 9, memory, LENGTH), FZ_ACCEPTED));
+    CHECK(answers(fz_write_register(&machine, 3, 2, 15, memory, LENGTH), FZ_ACCEPTED));
+    CHECK(answers(fz_write_register(&machine, 3, 7, 0, memory, LENGTH), FZ_ACCEPTED));
+    CHECK(machine.registers.gpr[29] == 7 && machine.registers.fpr[30] == 8);
+    CHECK(machine.registers.lr == 9 && machine.registers.cr == UINT64_C(0x12f45670));
+
+    CHECK(answers(fz_write_memory(&machine, s - 176 + 48, bytes, 4, memory, LENGTH), FZ_ACCEPTED));
+    CHECK(doubleword(s - 176 + 48) == UINT64_C(0x01020304eeeeeeee));
+    CHECK(answers(fz_write_memory(&machine, s, bytes, 4, memory, LENGTH), FZ_NOT_WRITABLE));
+    CHECK(answers(fz_write_memory(&machine, s + 48, bytes, 0, memory, LENGTH), FZ_NOT_WRITABLE));
+
+    CHECK(answers(fz_leave(&machine, memory, LENGTH - 16), FZ_BAD_MEMORY));
+    memory[s - 176 - BASE] ^= 1;
+    CHECK(answers(fz_leave(&machine, memory, LENGTH), FZ_BROKEN_CHAIN));
+    memory[s - 176 - BASE] ^= 1;
+    CHECK(answers(fz_leave(&machine, memory, LENGTH), FZ_ACCEPTED));
+    before.registers.cr = UINT64_C(0x12345670);
+    CHECK(memcmp(&machine, &before, sizeof machine) == 0);
+}
+
+static void check_z(void)
+{
+    static const fz_frame request = {6, 8, 0, 1, 8};
+    uint64_t s = BASE + LENGTH - 160;
+    fz_machine before;
+    int i;
+
+    hand_in_registers();
+    CHECK(answers(fz_start_z(&machine, &registers, BASE + 8, memory, LENGTH), FZ_BAD_MEMORY));
+    CHECK(machine.convention == 2 && machine.base == 0 && machine.size == 0);
+    CHECK(memcmp(&machine.registers, &registers, sizeof registers) == 0);
+    CHECK(answers(fz_enter(&machine, &request, memory, LENGTH), FZ_BAD_STATE));
+    CHECK(answers(fz_start_z(&machine, &registers, BASE, memory, LENGTH), FZ_ACCEPTED));
+    before = machine;
+    CHECK(answers(fz_enter(&machine, &request, memory, LENGTH), FZ_ACCEPTED));
+    CHECK(machine.registers.gpr[15] == s - 240 && doubleword(s - 240) == s);
+    CHECK(doubleword(s + 48) == 106 && doubleword(s + 120) == s && doubleword(s - 8) == 215);
+    CHECK(answers(fz_leave(&machine, memory, LENGTH), FZ_ACCEPTED));
+    CHECK(memcmp(&machine, &before, sizeof machine) == 0);
+
+    CHECK(answers(fz_start_z(&machine, &registers, BASE, memory, LENGTH), FZ_ACCEPTED));
+    machine.depth = 33;
+    CHECK(answers(fz_leave(&machine, memory, LENGTH), FZ_BAD_STATE));
+    for (i = 0; i < 32; i++)
+        machine.frames[i] = request;
+    machine.depth = 32;
+    machine.size = 32 * 240 + 160 + 96;
+    machine.registers.gpr[15] = BASE + 96;
+    CHECK(answers(fz_enter(&machine, &request, memory, LENGTH), FZ_BAD_MEMORY));
+}
+
+int main(void)
+{
+    check_layout();
+    check_ppc64();
+    check_z();
+    return wrong;
+}
