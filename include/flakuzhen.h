@@ -178,11 +178,11 @@ enum fz_machine_refusal {
                                 over 2^64 - 1. Later: not the length of the start */
     FZ_BAD_REQUEST = 17,     /* a frame request out of the ranges at fz_frame */
     FZ_TOO_MANY_FRAMES = 18, /* already 32 frames */
-    FZ_STACK_FULL = 19,      /* the new stack pointer would be below the memory's base */
-    FZ_NOT_WRITABLE = 20,    /* a write that the function may not do */
+    FZ_NO_ROOM = 19,         /* the new stack pointer would be below the memory's base */
+    FZ_NOT_PERMITTED = 20,   /* a write that the function may not do */
     FZ_BROKEN_CHAIN = 21,    /* the doubleword at the stack pointer, on Z the one where r15 was
                                 saved, is not the caller's stack pointer */
-    FZ_NO_FRAME = 22,        /* a leave with no frame entered */
+    FZ_NOTHING_ENTERED = 22, /* a leave with no frame entered */
     FZ_BAD_STATE = 23        /* a state that no calls lead to: a convention that is none, a depth
                                 over 32, the record of an entered frame that is out of range, a base
                                 or size that a start refuses, a cr over 32 bits, a stack pointer

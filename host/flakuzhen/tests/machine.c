@@ -76,9 +76,9 @@ static void check_ppc64(void)
     CHECK(machine.depth == 0 && machine.registers.gpr[1] == s && doubleword(s) == 0);
     before = machine;
 
-    CHECK(answers(fz_leave(&machine, memory, LENGTH), FZ_NO_FRAME));
+    CHECK(answers(fz_leave(&machine, memory, LENGTH), FZ_NOTHING_ENTERED));
     CHECK(answers(fz_enter(&machine, &none, memory, LENGTH), FZ_BAD_REQUEST));
-    CHECK(answers(fz_enter(&machine, &large, memory, LENGTH), FZ_STACK_FULL));
+    CHECK(answers(fz_enter(&machine, &large, memory, LENGTH), FZ_NO_ROOM));
     CHECK(memcmp(&machine, &before, sizeof machine) == 0);
 
     CHECK(answers(fz_enter(&machine, &request, memory, LENGTH), FZ_ACCEPTED));
@@ -88,7 +88,7 @@ static void check_ppc64(void)
     CHECK(doubleword(s + 8) == UINT64_C(0x12345678eeeeeeee) && doubleword(s - 176) == s);
 
     CHECK(answers(fz_write_register(&machine, 0, 29, 7, memory, LENGTH), FZ_ACCEPTED));
-    CHECK(answers(fz_write_register(&machine, 0, 28, 7, memory, LENGTH), FZ_NOT_WRITABLE));
+    CHECK(answers(fz_write_register(&machine, 0, 28, 7, memory, LENGTH), FZ_NOT_PERMITTED));
     CHECK(answers(fz_write_register(&machine, 1, 30, 8, memory, LENGTH), FZ_ACCEPTED));
     CHECK(answers(fz_write_register(&machine, 2, 0, 9, memory, LENGTH), FZ_ACCEPTED));
     CHECK(answers(fz_write_register(&machine, 3, 2, 15, memory, LENGTH), FZ_ACCEPTED));
@@ -98,8 +98,8 @@ static void check_ppc64(void)
 
     CHECK(answers(fz_write_memory(&machine, s - 176 + 48, bytes, 4, memory, LENGTH), FZ_ACCEPTED));
     CHECK(doubleword(s - 176 + 48) == UINT64_C(0x01020304eeeeeeee));
-    CHECK(answers(fz_write_memory(&machine, s, bytes, 4, memory, LENGTH), FZ_NOT_WRITABLE));
-    CHECK(answers(fz_write_memory(&machine, s + 48, bytes, 0, memory, LENGTH), FZ_NOT_WRITABLE));
+    CHECK(answers(fz_write_memory(&machine, s, bytes, 4, memory, LENGTH), FZ_NOT_PERMITTED));
+    CHECK(answers(fz_write_memory(&machine, s + 48, bytes, 0, memory, LENGTH), FZ_NOT_PERMITTED));
 
     CHECK(answers(fz_leave(&machine, memory, LENGTH - 16), FZ_BAD_MEMORY));
     memory[s - 176 - BASE] ^= 1;
