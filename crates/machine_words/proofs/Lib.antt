@@ -1,1 +1,4 @@
 pub mod Laws
+pub mod Refused
+pub mod ReadBack
+pub mod Theorems
