@@ -50,7 +50,7 @@ length-register-words r g h = simp length-append (omega arith)
 pub splice-next : (l : List ℕ) (i x : ℕ) (xs : List ℕ) → splice (set l i x) (i + 1) xs ≡ splice l i (x ∷ xs)
 splice-next l i x xs = sym (splice-append l i (x ∷ []) xs ∙ ap (λ (t : List ℕ). splice t (i + 1) xs) (splice-one l i x))
 
-part-next : (a m : ℕ) (l : List ℕ) → a < length l → part a (suc m) l ≡ getD l a 0 ∷ part (a + 1) m l
+pub part-next : (a m : ℕ) (l : List ℕ) → a < length l → part a (suc m) l ≡ getD l a 0 ∷ part (a + 1) m l
 part-next a m l h = rw (add-one, drop-cons l a 0)
 
 module _ (l f : List ℕ) (at s n i : ℕ) (h : i < n) (k : s + n ≤ length f) where

@@ -127,7 +127,7 @@ module _ (ws : List ℕ) (n : ℕ) (bs : List ℕ) where
 -- ---- a state whose depth, registers or one record is put
 
 module _ (ws : List ℕ) (n : length ws ≡ 230) (m : isMachine ws ≡ true) where
-  depth-machine : (d : ℕ) → isMachine (set ws 3 d) ≡ true
+  pub depth-machine : (d : ℕ) → isMachine (set ws 3 d) ≡ true
   unfolding isMachine
   depth-machine d = rw (getD-set-other ws 3 0 d 0 (λ e. omega arith), getD-set-other ws 3 69 d 0 (λ e. omega arith)) m
 

@@ -40,7 +40,7 @@ use Rattle.machine_words.proofs.ReadBack.{flag-back, cr-word, registers
 
 -- ---- what is read
 
-accepted-machine : (k : Rules) (ws : List ℕ) (n : ℕ) (ts : List Test) → judge (stateTests k (stateIn ws) n ++ ts) ≡ Accepted → isMachine ws ≡ true
+pub accepted-machine : (k : Rules) (ws : List ℕ) (n : ℕ) (ts : List Test) → judge (stateTests k (stateIn ws) n ++ ts) ≡ Accepted → isMachine ws ≡ true
 accepted-machine k ws n ts e = go (isMachine ws) refl
   where
     go : (b : Bool) → isMachine ws ≡ b → isMachine ws ≡ true
@@ -70,7 +70,7 @@ state-read : (ws : List ℕ) → length ws ≡ 230 → Read (stateIn ws .registe
 unfolding stateIn
 state-read ws n = registers-read ws 4 (omega arith)
 
-frames-32 : (ws : List ℕ) → length (stateIn ws .frames) ≡ 32
+pub frames-32 : (ws : List ℕ) → length (stateIn ws .frames) ≡ 32
 unfolding stateIn
 frames-32 ws = length-frames 32 ws 0
 
