@@ -1,9 +1,9 @@
 -- What a call does not change stays word for word: an accepted enter changes the depth, the stack pointer's word and its record, an accepted write of a register that register's word alone. Assumes nothing.
-use Prim.Native.Nat.{ℕ, zero, suc, _+_, _-_, _*_, _%_, _^_, _≤_, _<_}
+use Prim.Native.Nat.{ℕ, zero, suc, _+_, _-_, _%_, _^_, _<_}
 use native.Mathlib.Nat.{mod-eq-of-lt, zero-add, suc-add}
 use native.Mathlib.Omega.{arith}
 use mathlib.Core.Path.{_≡_, refl, sym, ap, _∙_}
-use mathlib.Core.Logic.{inl, inr}
+use mathlib.Core.Logic.{inr}
 use mathlib.Core.Bool.{true, false≢true}
 use mathlib.Core.List.{List, [], _∷_}
 use lib.ListN.{length, getD, set, take, length-set}
@@ -15,7 +15,6 @@ use Rattle.words.proofs.Splices.{length-part, splice-one, splice-other}
 use Rattle.rules.specs.declared.Convention.{Convention}
 use Rattle.rules.specs.declared.Convention.the-variants.{Ppc64, Z}
 use Rattle.rules.specs.declared.Rules.{Rules}
-use Rattle.rules.specs.declared.Registers.{Registers}
 use Rattle.rules.specs.declared.RegisterBank.{RegisterBank}
 use Rattle.rules.specs.declared.RegisterBank.the-variants.{General, Floating, Link, ConditionField, None}
 use Rattle.rules.specs.Lawful.{Named}

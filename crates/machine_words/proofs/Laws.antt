@@ -4,7 +4,7 @@ use native.Mathlib.Numerals.{add-one}
 use native.Mathlib.Omega.{arith}
 use mathlib.Core.Path.{_≡_, refl, sym, ap, _∙_}
 use mathlib.Core.List.{List, [], _∷_, _++_}
-use lib.ListN.{length, getD, take, drop, set, length-append, drop-of-length-le}
+use lib.ListN.{length, getD, drop, set, length-append, drop-of-length-le}
 use lib.Seq.{drop-cons, take-all}
 use Rattle.words.specs.Splice.{overlay, splice, part}
 use Rattle.words.proofs.Splices.{splice-one, splice-nothing, splice-append, splice-head}
@@ -13,7 +13,6 @@ use Rattle.rules.specs.declared.Registers.{Registers}
 use Rattle.rules.specs.Frames.{noFrame}
 use Rattle.machine.specs.declared.State.{State}
 use Rattle.machine.specs.declared.Refusal.{Refusal}
-use Rattle.machine.specs.declared.Answer.{Answer}
 use Rattle.machine.specs.declared.Answer.the-variants.{Accepted, Refused}
 use Rattle.machine.specs.Machine.{rulesOf, enterOutcome, writeRegisterOutcome, leaveOutcome, left}
 use Rattle.machine.proofs.States.{enter-yes, leave-yes}
@@ -50,7 +49,7 @@ length-register-words r g h = simp length-append (omega arith)
 pub splice-next : (l : List ℕ) (i x : ℕ) (xs : List ℕ) → splice (set l i x) (i + 1) xs ≡ splice l i (x ∷ xs)
 splice-next l i x xs = sym (splice-append l i (x ∷ []) xs ∙ ap (λ (t : List ℕ). splice t (i + 1) xs) (splice-one l i x))
 
-pub part-next : (a m : ℕ) (l : List ℕ) → a < length l → part a (suc m) l ≡ getD l a 0 ∷ part (a + 1) m l
+part-next : (a m : ℕ) (l : List ℕ) → a < length l → part a (suc m) l ≡ getD l a 0 ∷ part (a + 1) m l
 part-next a m l h = rw (add-one, drop-cons l a 0)
 
 module _ (l f : List ℕ) (at s n i : ℕ) (h : i < n) (k : s + n ≤ length f) where

@@ -1,6 +1,6 @@
 -- What the reading turns into refusals: words that are no machine's give 23 before any other test, and a request whose flag is neither 0 nor 1 gives 17. Assumes nothing.
 use Prim.Native.Nat.{ℕ, _+_, _<_}
-use mathlib.Core.Path.{_≡_, refl}
+use mathlib.Core.Path.{_≡_}
 use mathlib.Core.Bool.{false}
 use mathlib.Core.List.{List, _++_}
 use lib.ListN.{getD}
