@@ -4,7 +4,7 @@ use native.Mathlib.Numerals.{add-one}
 use native.Mathlib.Omega.{arith}
 use mathlib.Core.Path.{_≡_, refl, sym, ap, _∙_}
 use mathlib.Core.List.{List, [], _∷_, _++_}
-use lib.ListN.{length, getD, take, drop, set, length-append, drop-of-length-le}
+use lib.ListN.{length, getD, drop, set, length-append, drop-of-length-le}
 use lib.Seq.{drop-cons, take-all}
 use Rattle.words.specs.Splice.{overlay, splice, part}
 use Rattle.words.proofs.Splices.{splice-one, splice-nothing, splice-append, splice-head}
@@ -13,7 +13,6 @@ use Rattle.rules.specs.declared.Registers.{Registers}
 use Rattle.rules.specs.Frames.{noFrame}
 use Rattle.machine.specs.declared.State.{State}
 use Rattle.machine.specs.declared.Refusal.{Refusal}
-use Rattle.machine.specs.declared.Answer.{Answer}
 use Rattle.machine.specs.declared.Answer.the-variants.{Accepted, Refused}
 use Rattle.machine.specs.Machine.{rulesOf, enterOutcome, writeRegisterOutcome, leaveOutcome, left}
 use Rattle.machine.proofs.States.{enter-yes, leave-yes}

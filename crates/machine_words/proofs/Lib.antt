@@ -1,1 +1,5 @@
 pub mod Laws
+pub mod Refused
+pub mod ReadBack
+pub mod Theorems
+pub mod Kept

@@ -2,7 +2,6 @@
 use Rattle.words.specs.Splice.{splice}
 use Rattle.machine_words.specs.Words.{framesWords}
 use Rattle.machine_words.proofs.Laws.{frames-turn, frames-end}
-use denote.Ref.{now}
 use lib.ListN.{length, drop}
 use Prim.Native.Nat.{_+_, _-_, _*_, _≤_, zero-le}
 use native.Mathlib.Omega.{arith}
