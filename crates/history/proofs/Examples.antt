@@ -1,14 +1,15 @@
--- A list of calls worked on numbers, so that the theorem is seen to speak of something: a PPC64 start on 512 bytes, a frame entered, refused and accepted writes, two leaves.
+-- A list of calls of each convention worked on numbers, so that the theorem is seen to speak of something: a start on 512 bytes, a frame entered, refused and accepted
+-- writes, and leaves.
 -- Assumes nothing.
 use Prim.Native.Nat.{_+_, _-_}
 use mathlib.Core.Path.{_≡_, refl}
-use mathlib.Core.Bool.{true}
-use mathlib.Core.List.{List, [], _∷_}
+use mathlib.Core.Bool.{true, false}
+use mathlib.Core.List.{List, [], _∷_, _++_}
 use lib.ListN.{replicate}
 use Rattle.words.specs.Splice.{overlay, splice}
 use Rattle.words.specs.Numbers.{bytesOf, valueOf}
 use Rattle.saves.specs.Saves.{store, load, saveRun, loadRun}
-use Rattle.rules.specs.declared.Convention.the-variants.{Ppc64}
+use Rattle.rules.specs.declared.Convention.the-variants.{Ppc64, Z}
 use Rattle.rules.specs.declared.Frame.{Frame}
 use Rattle.rules.specs.declared.Registers.{Registers}
 use Rattle.rules.specs.Frames.{withPointer, okRequest, below, roundUp, frameSize, gprAt, savesBy, linkAt, mergeFields, restoredLr, restoredCr, restored, bankOf, writableField, writableRegister, withField, withRegister}
@@ -40,9 +41,31 @@ calls =
 abbrev start : Machine
 start = fresh Ppc64 4096 (replicate 512 1) registers
 
--- The answers: 22 where nothing is entered, 20 where r28 is not saved and where the back chain is in no area. After the calls the saved registers, LR and
--- condition field 2 are back.
+-- the same on Z: all that a request may save, with one byte of locals and 8 of outgoing area
+abbrev request-z : Frame
+request-z = record { «first_gpr» = 6; «first_fpr» = 8; «saves_cr» = false; locals = 1; outgoing = 8 }
+
+abbrev calls-z : List Call
+calls-z =
+    enter request
+    ∷ enter request-z
+    ∷ writeRegister 0 6 5
+    ∷ writeRegister 0 14 5
+    ∷ writeRegister 0 15 5
+    ∷ writeRegister 1 8 5
+    ∷ writeRegister 2 0 5
+    ∷ writeRegister 3 0 5
+    ∷ leave
+    ∷ []
+
+abbrev start-z : Machine
+start-z = fresh Z 4096 (replicate 512 1) registers
+
+-- The answers on PPC64: 22 where nothing is entered, 20 where r28 is not saved and where the back chain is in no area. On Z: 17 where CR is asked for, 20 for the stack
+-- pointer, LR and CR. After the calls the saved registers, LR and condition field 2 are back.
 pub worked : (numbers (answersTo calls start) ≡ 22 ∷ 0 ∷ 0 ∷ 20 ∷ 0 ∷ 0 ∷ 0 ∷ 20 ∷ 0 ∷ 22 ∷ [])
     × (run calls start .state .registers ≡ record { gpr = 7 ∷ (4096 + 512 - 112) ∷ replicate 30 7; fpr = replicate 32 9; lr = 11; cr = 0 })
+    × (numbers (answersTo calls-z start-z) ≡ 17 ∷ 0 ∷ 0 ∷ 0 ∷ 20 ∷ 0 ∷ 20 ∷ 20 ∷ 0 ∷ [])
+    × (run calls-z start-z .state .registers ≡ record { gpr = replicate 15 7 ++ (4096 + 512 - 160) ∷ replicate 16 7; fpr = replicate 32 9; lr = 11; cr = 0 })
 unfolding overlay splice bytesOf valueOf store load saveRun loadRun withPointer okRequest below roundUp frameSize gprAt savesBy linkAt mergeFields restoredLr restoredCr restored bankOf writableField writableRegister withField withRegister judge topFrame callerFrame okFrames sizes okMemory okState startAnswer started startedMemory enterAnswer entered enteredMemory writableBytes writableAddress writeRegisterAnswer writeMemoryAnswer writtenRegister writtenMemory leaveAnswer left startOutcome startMemory enterOutcome enterMemory writeRegisterOutcome writeMemoryOutcome writeMemoryMemory leaveOutcome
-worked = (refl, refl)
+worked = (refl, refl, refl, refl)
