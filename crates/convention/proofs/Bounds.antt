@@ -8,6 +8,7 @@ use Rattle.types.specs.declared.Convention.{Convention}
 use Rattle.types.specs.declared.ValueType.{ValueType}
 use Rattle.types.specs.Sizes.{pointerSize}
 use Rattle.types.specs.Structs.{roundUp}
+use Rattle.convention.specs.declared.Edition.{Edition}
 use Rattle.convention.specs.declared.Cursor.{Cursor}
 use Rattle.convention.specs.declared.Rules.{Rules}
 use Rattle.convention.specs.declared.ZClass.{ZClass}
@@ -112,7 +113,7 @@ pub fresh-roomy : (r : Rules) → Roomy (fresh r)
 fresh-roomy r = named-roomy r (fresh r) (named-fresh r) (omega (arith, fresh-bytes r)) (omega (arith, fresh-bytes r))
 
 -- "The area is 8 times the larger of 8 and the final w": never less than 8 words
-pub least-area : (w : ℕ) (e : _) (c : Cursor) → 8 * w ≤ areaOf (Rules.Power (record { word = w; edition = e })) c
+pub least-area : (w : ℕ) (e : Edition) (c : Cursor) → 8 * w ≤ areaOf (Rules.Power (record { word = w; edition = e })) c
 unfolding areaOf
 least-area w e c = omega arith
 

@@ -195,18 +195,19 @@ unfolding upFrom
 z-held c true q = let m : min 1 (7 - c .general) ≡ 1 = omega (arith, ltb-true (c .general) 7 q) in rw m
 z-held c false q = let m : min 1 (7 - c .general) ≡ 0 = omega (arith, ltb-false (c .general) 7 q) in rw m
 
--- "Everything else: r2 to r6, then 8 stack bytes"
-pub z-simple-written : (c : Cursor) (t : ValueType) (n : ℕ) → zClass t n ≡ ZClass.Simple
+-- "Everything else: r2 to r6, then 8 stack bytes", a value and a pointer to a copy alike
+pub z-general-written : (c : Cursor) (t : ValueType) (n : ℕ) → (zClass t n ≡ ZClass.Float → ⊥)
     → placesOf 8 (spanOf Rules.Z c t n) ≡ pick (ltb (c .general) 7) (register Bank.General (c .general) ∷ []) (Place.Memory (c .stack) ∷ [])
 unfolding placesOf registersOf memoryOf upFrom spanOf zSpanOf
-z-simple-written c t n e = rw e (z-held c (ltb (c .general) 7) refl)
+z-general-written c t n h = go (zClass t n) h
+  where
+    go : (k : ZClass) → (k ≡ ZClass.Float → ⊥)
+        → placesOf 8 (zSpanOf c k n) ≡ pick (ltb (c .general) 7) (register Bank.General (c .general) ∷ []) (Place.Memory (c .stack) ∷ [])
+    go ZClass.Float f = absurd (f refl)
+    go ZClass.Simple f = z-held c (ltb (c .general) 7) refl
+    go ZClass.Reference f = z-held c (ltb (c .general) 7) refl
 
 -- "other structs and long double go by pointer to a copy, at the next multiple of 8 in the copy buffer"
-pub z-reference-written : (c : Cursor) (t : ValueType) (n : ℕ) → zClass t n ≡ ZClass.Reference
-    → placesOf 8 (spanOf Rules.Z c t n) ≡ pick (ltb (c .general) 7) (register Bank.General (c .general) ∷ []) (Place.Memory (c .stack) ∷ [])
-unfolding placesOf registersOf memoryOf upFrom spanOf zSpanOf
-z-reference-written c t n e = rw e (z-held c (ltb (c .general) 7) refl)
-
 pub z-copy-written : (c : Cursor) (t : ValueType) (n : ℕ) → zClass t n ≡ ZClass.Reference → spanOf Rules.Z c t n .copy ≡ bytes (roundUp (c .copies) 8) n
 unfolding spanOf zSpanOf
 z-copy-written c t n e = rw e
