@@ -1,0 +1,72 @@
+// The surface for C and Rust, which include/flakuzhen.h declares: each function calls one of the crates below and lays its
+// answer out in 64-bit words.
+use ieee::Narrowed;
+use signature::Outcome;
+ghost use mathlib.Core.Path.{_≡_};
+ghost use Prim.Native.Nat.{_%_, _^_};
+ghost use Rattle.ieee.specs.Widening.{widen};
+ghost use Rattle.ieee.specs.Narrowing.{narrow};
+ghost use Rattle.signature.specs.Read.{signatureOf};
+ghost use Rattle.bridge.specs.Surface.{readingAnswer, narrowingAnswer};
+
+// `fz_answer`: number 0 is yes.
+#[repr(C)]
+pub struct Answer {
+    pub number: u64,
+    pub place: u64,
+    pub items: u64,
+}
+
+// `fz_narrowed`: number 0 is yes, 14 no.
+#[repr(C)]
+pub struct NarrowingAnswer {
+    pub number: u64,
+    pub place: u64,
+    pub bits: u64,
+}
+
+#[no_mangle]
+pub extern "C" fn fz_read_signature(sig: &[u8]) -> Answer
+    ensures { λ r. ⌜ r ≡ readingAnswer (signatureOf (now (sig .entry))) ⌝ }
+{
+    let read = signature::read_signature(sig);
+    let outcome = read.outcome;
+    match outcome {
+        Outcome::Accepted(items) => Answer {
+            number: 0,
+            place: 0,
+            items: items as u64,
+        },
+        Outcome::Refused { reason, place } => Answer {
+            number: items::number_of(reason),
+            place: place as u64,
+            items: 0,
+        },
+    }
+}
+
+// The low 32 bits are widened.
+#[no_mangle]
+pub extern "C" fn fz_widen(bits: u64) -> u64
+    ensures { λ r. ⌜ r ≡ widen (bits % 2 ^ 32) ⌝ }
+{
+    ieee::widen((bits % 0x1_0000_0000) as u32)
+}
+
+#[no_mangle]
+pub extern "C" fn fz_narrow(bits: u64) -> NarrowingAnswer
+    ensures { λ r. ⌜ r ≡ narrowingAnswer (narrow bits) ⌝ }
+{
+    match ieee::narrow(bits) {
+        Narrowed::Single(x) => NarrowingAnswer {
+            number: 0,
+            place: 0,
+            bits: x as u64,
+        },
+        Narrowed::NotWidened => NarrowingAnswer {
+            number: 14,
+            place: 0,
+            bits: 0,
+        },
+    }
+}

@@ -1,0 +1,21 @@
+-- `widen` meets its contract: the sign takes no part in widening, and stands above 63 bits. Assumes nothing.
+use borrow.Author.Needs.{needs}
+use native.Mathlib.Omega.{arith}
+use Rattle.ieee.proofs.Magnitudes.{magnitude-below, widen-sign}
+use Rattle.ieee.proofs.widen.Statement.{statement}
+use Rattle.ieee.proofs.widen.Tie as tie
+
+mul-result : tie.Need-mul-result
+mul-result c = search needs
+
+widen-magnitude-requires : tie.Need-widen-magnitude-requires
+widen-magnitude-requires c κs = search needs
+
+add-result : tie.Need-add-result
+add-result c = omega (arith, magnitude-below (c .before .args .x))
+
+returns : tie.Need-returns
+returns c = omega (arith, widen-sign (c .before .args .x) (omega arith))
+
+pub widen-spec : {M : Type 1} → statement M
+widen-spec = tie.close (tie.spec mul-result widen-magnitude-requires add-result returns)

@@ -1,0 +1,333 @@
+//! Signatures at random: valid ones, valid ones with a rule broken, and bytes damaged by chance.
+
+use crate::encode::{
+    self, ARGUMENTS, CONVENTION, FLOAT, FLOATS, INTEGER, INTEGERS, RESULT, STRUCT,
+};
+use crate::random::Random;
+use reference::{struct_size, Convention, Float, Signature, Type};
+
+const LONGEST_SIGNATURE: usize = 4096;
+const MOST_ARGUMENTS: usize = 64;
+const DEEPEST_STRUCT: usize = 8;
+const LARGEST_STRUCT: usize = 256;
+/// The bytes of a signature's three headers and its convention's code.
+const FRAME: usize = 10;
+
+/// Bytes that mean something somewhere in a signature.
+const TELLING_BYTES: [u8; 14] = [
+    0x00, 0x01, 0x02, 0x03, 0x04, 0x08, 0x09, 0x0f, 0x10, 0x11, 0x12, 0x13, 0x80, 0xff,
+];
+
+/// A signature within all limits.
+pub fn valid(random: &mut Random) -> Signature {
+    let convention = random.pick(&[Convention::Ppc64, Convention::Z]);
+    let mut room = LONGEST_SIGNATURE - FRAME;
+    let mut result = None;
+    if random.once_in(2) {
+        let given = valid_type(random);
+        room -= encode::type_item(&given).len();
+        result = Some(given);
+    }
+    let count = match random.below(16) {
+        0 => MOST_ARGUMENTS,
+        1..=3 => random.below(MOST_ARGUMENTS + 1),
+        _ => random.below(9),
+    };
+    let mut arguments = Vec::new();
+    for _ in 0..count {
+        let argument = valid_type(random);
+        let length = encode::type_item(&argument).len();
+        if length > room {
+            break;
+        }
+        room -= length;
+        arguments.push(argument);
+    }
+    Signature {
+        convention,
+        result,
+        arguments,
+    }
+}
+
+/// A type that an argument or a result may have.
+fn valid_type(random: &mut Random) -> Type {
+    match random.below(16) {
+        0..=7 => Type::Integer(random.pick(&INTEGERS)),
+        8..=11 => Type::Float(random.pick(&FLOATS)),
+        12 => {
+            let levels = 1 + random.below(DEEPEST_STRUCT);
+            nested_struct(random, levels)
+        }
+        13 => {
+            let count = 1 + random.below(80);
+            valid_struct(random, count, DEEPEST_STRUCT)
+        }
+        _ => {
+            let count = 1 + random.below(5);
+            valid_struct(random, count, DEEPEST_STRUCT)
+        }
+    }
+}
+
+/// Structs within each other, this many, with a field or two beside.
+fn nested_struct(random: &mut Random, levels: usize) -> Type {
+    let mut fields = Vec::new();
+    if random.once_in(4) {
+        fields.push(scalar_field(random));
+    }
+    match levels {
+        1 => fields.push(scalar_field(random)),
+        _ => fields.push(nested_struct(random, levels - 1)),
+    }
+    if random.once_in(4) {
+        fields.push(scalar_field(random));
+    }
+    Type::Struct(fields)
+}
+
+/// A struct of this many fields, or as many of them as are not too large, with room for `depth`
+/// levels, its own included.
+fn valid_struct(random: &mut Random, count: usize, depth: usize) -> Type {
+    let mut fields = Vec::new();
+    for _ in 0..count {
+        fields.push(valid_field(random, depth - 1));
+        if struct_size(&fields) > LARGEST_STRUCT {
+            fields.pop();
+            break;
+        }
+    }
+    Type::Struct(fields)
+}
+
+/// A field with room for `depth` levels of structs.
+fn valid_field(random: &mut Random, depth: usize) -> Type {
+    if depth > 0 && random.once_in(8) {
+        let count = 1 + random.below(4);
+        return valid_struct(random, count, depth);
+    }
+    scalar_field(random)
+}
+
+fn scalar_field(random: &mut Random) -> Type {
+    match random.below(3) {
+        0 => Type::Float(random.pick(&[Float::Single, Float::Double])),
+        _ => Type::Integer(random.pick(&INTEGERS)),
+    }
+}
+
+/// An item that need not follow the rules. Lengths are made when it is turned into bytes, so that
+/// breaking one rule does not break the nesting too.
+#[derive(Clone)]
+struct Loose {
+    tag: u8,
+    body: Vec<u8>,
+    /// Items that follow `body` within this one.
+    items: Vec<Loose>,
+    /// Bytes that follow `items` within this one.
+    rest: Vec<u8>,
+    /// What the length is more than the true one.
+    length_error: i64,
+}
+
+impl Loose {
+    fn leaf(tag: u8, body: &[u8]) -> Loose {
+        Loose {
+            tag,
+            body: body.to_vec(),
+            items: Vec::new(),
+            rest: Vec::new(),
+            length_error: 0,
+        }
+    }
+
+    fn parent(tag: u8, items: Vec<Loose>) -> Loose {
+        Loose {
+            items,
+            ..Loose::leaf(tag, &[])
+        }
+    }
+
+    fn of_type(of: &Type) -> Loose {
+        match of {
+            Type::Integer(integer) => Loose::leaf(INTEGER, &[encode::integer_code(*integer)]),
+            Type::Float(float) => Loose::leaf(FLOAT, &[encode::float_code(*float)]),
+            Type::Struct(fields) => {
+                Loose::parent(STRUCT, fields.iter().map(Loose::of_type).collect())
+            }
+        }
+    }
+
+    /// A parent whose own header is never written: its items are the signature's three.
+    fn of_signature(of: &Signature) -> Loose {
+        let code = encode::convention_code(of.convention);
+        let result = of.result.iter().map(Loose::of_type).collect();
+        let arguments = of.arguments.iter().map(Loose::of_type).collect();
+        let items = vec![
+            Loose::leaf(CONVENTION, &[code]),
+            Loose::parent(RESULT, result),
+            Loose::parent(ARGUMENTS, arguments),
+        ];
+        Loose::parent(0, items)
+    }
+
+    fn write_content(&self, to: &mut Vec<u8>) {
+        to.extend_from_slice(&self.body);
+        for item in &self.items {
+            item.write(to);
+        }
+        to.extend_from_slice(&self.rest);
+    }
+
+    fn write(&self, to: &mut Vec<u8>) {
+        to.push(self.tag);
+        let length_at = to.len();
+        to.extend_from_slice(&[0, 0]);
+        self.write_content(to);
+        let length = (to.len() - length_at - 2) as i64 + self.length_error;
+        let said = length.clamp(0, 0xffff) as u16;
+        to[length_at..length_at + 2].copy_from_slice(&said.to_be_bytes());
+    }
+
+    /// How many items stand here, this one included.
+    fn count(&self) -> usize {
+        1 + self.items.iter().map(Loose::count).sum::<usize>()
+    }
+
+    /// The item with this number, where each is numbered before those within it.
+    fn numbered(&mut self, number: usize) -> &mut Loose {
+        if number == 0 {
+            return self;
+        }
+        let mut left = number - 1;
+        for item in &mut self.items {
+            let count = item.count();
+            if left < count {
+                return item.numbered(left);
+            }
+            left -= count;
+        }
+        unreachable!("the number is below the count")
+    }
+
+    /// The numbers of the items that have others within them.
+    fn parents(&self, own: usize, to: &mut Vec<usize>) {
+        if !self.items.is_empty() {
+            to.push(own);
+        }
+        let mut number = own + 1;
+        for item in &self.items {
+            item.parents(number, to);
+            number += item.count();
+        }
+    }
+}
+
+/// A valid signature with one or two rules broken at random places.
+pub fn faulty(random: &mut Random) -> Vec<u8> {
+    let mut whole = Loose::of_signature(&valid(random));
+    for _ in 0..1 + random.below(2) {
+        let mut parents = Vec::new();
+        whole.parents(0, &mut parents);
+        if random.once_in(2) && !parents.is_empty() {
+            let number = random.pick(&parents);
+            break_parent(random, whole.numbered(number));
+        } else {
+            let number = random.below(whole.count());
+            break_item(random, whole.numbered(number));
+        }
+    }
+    let mut bytes = Vec::new();
+    whole.write_content(&mut bytes);
+    if random.once_in(40) {
+        // near the longest that is read
+        bytes.resize(LONGEST_SIGNATURE - 4 + random.below(9), random.byte());
+    }
+    bytes
+}
+
+/// Breaks a rule that any item has.
+fn break_item(random: &mut Random, item: &mut Loose) {
+    match random.below(7) {
+        0 => item.tag = random.pick(&TELLING_BYTES),
+        1 if !item.body.is_empty() => item.body[0] = random.pick(&TELLING_BYTES),
+        2 => item.body.push(random.pick(&TELLING_BYTES)),
+        3 => {
+            item.body.clear();
+            item.items.clear();
+        }
+        4 => {
+            for _ in 0..1 + random.below(10) {
+                *item = Loose::parent(STRUCT, vec![item.clone()]);
+            }
+        }
+        5 => item.length_error = random.pick(&[-4, -3, -2, -1, 1, 2, 3, 4, 256, 60_000]),
+        _ => item.tag = random.byte(),
+    }
+}
+
+/// Breaks a rule of an item with others within it.
+fn break_parent(random: &mut Random, item: &mut Loose) {
+    let at = random.below(item.items.len());
+    match random.below(6) {
+        0 => item.items.insert(at, Loose::leaf(FLOAT, &[2])),
+        1 | 2 => repeat_items(random, item),
+        3 => {
+            for _ in 0..1 + random.below(5) {
+                item.rest.push(random.pick(&TELLING_BYTES));
+            }
+        }
+        4 => {
+            item.items.remove(at);
+        }
+        _ => {
+            let copy = item.items[at].clone();
+            item.items.push(copy);
+        }
+    }
+}
+
+/// Repeats the items within this one, up to about two hundred: too many arguments, a struct that
+/// is too large, a signature that is too long.
+fn repeat_items(random: &mut Random, item: &mut Loose) {
+    let pattern = item.items.clone();
+    let most = 1 + random.below(200);
+    while item.items.len() < most {
+        item.items.extend_from_slice(&pattern);
+    }
+}
+
+/// The bytes with one to four changes that know nothing of signatures.
+pub fn damaged(random: &mut Random, bytes: &[u8]) -> Vec<u8> {
+    let mut bytes = bytes.to_vec();
+    for _ in 0..1 + random.below(4) {
+        damage(random, &mut bytes);
+    }
+    bytes
+}
+
+fn damage(random: &mut Random, bytes: &mut Vec<u8>) {
+    let at = random.below(bytes.len() + 1);
+    match random.below(6) {
+        0 => bytes.truncate(at),
+        1 => bytes.insert(at, random.pick(&TELLING_BYTES)),
+        2 => bytes.insert(at, random.byte()),
+        _ if at == bytes.len() => bytes.push(random.byte()),
+        3 => bytes[at] ^= 1 << random.below(8),
+        4 => bytes[at] = random.pick(&TELLING_BYTES),
+        _ => {
+            bytes.remove(at);
+        }
+    }
+}
+
+/// Up to 40 bytes of no plan at all, or of those that mean something.
+pub fn noise(random: &mut Random) -> Vec<u8> {
+    let telling = random.once_in(2);
+    (0..random.below(41))
+        .map(|_| match telling {
+            true => random.pick(&TELLING_BYTES),
+            false => random.byte(),
+        })
+        .collect()
+}

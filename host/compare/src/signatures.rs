@@ -1,0 +1,124 @@
+//! Reading compared: number, place and count of items.
+
+use crate::encode;
+use crate::generate;
+use crate::random::Random;
+use crate::Difference;
+use flakuzhen::surface::{self, Answer};
+use std::fmt;
+
+/// How often each answer was given: yes at 0, each refusal at its number.
+#[derive(Clone, Default)]
+pub struct Histogram {
+    pub answers: [u64; 10],
+}
+
+impl Histogram {
+    pub fn count(&mut self, number: u64) {
+        self.answers[number as usize] += 1;
+    }
+
+    pub fn total(&self) -> u64 {
+        self.answers.iter().sum()
+    }
+}
+
+impl fmt::Display for Histogram {
+    fn fmt(&self, to: &mut fmt::Formatter<'_>) -> fmt::Result {
+        write!(
+            to,
+            "{} signatures: accepted {}",
+            self.total(),
+            self.answers[0]
+        )?;
+        for (number, count) in self.answers.iter().enumerate().skip(1) {
+            write!(to, ", {number}: {count}")?;
+        }
+        Ok(())
+    }
+}
+
+/// What the second program answers, in the words of the C surface.
+pub fn expected(bytes: &[u8]) -> Answer {
+    match reference::read(bytes) {
+        Ok(signature) => Answer {
+            number: 0,
+            place: 0,
+            items: signature.items() as u64,
+        },
+        Err(refusal) => Answer {
+            number: refusal.number,
+            place: refusal.place as u64,
+            items: 0,
+        },
+    }
+}
+
+/// Compares the two on one signature and gives the answer that they share.
+pub fn compare(bytes: &[u8]) -> Result<Answer, Difference> {
+    let expected = expected(bytes);
+    let given = surface::read_signature(bytes);
+    if given != expected {
+        let told = format!(
+            "the library answers {given:?}\nthe second program {expected:?}\nto the signature {}",
+            hex(bytes)
+        );
+        return Err(Difference(told));
+    }
+    Ok(given)
+}
+
+/// Compares the two on a signature made from a tree, which both must accept and the second
+/// program must give back.
+pub fn compare_valid(random: &mut Random) -> Result<Vec<u8>, Difference> {
+    let made = generate::valid(random);
+    let bytes = encode::signature(&made);
+    let answer = compare(&bytes)?;
+    let read = reference::read(&bytes);
+    if read.as_ref() != Ok(&made) {
+        return Err(Difference(format!(
+            "made from {made:?}\nread as {read:?}\nthe signature {}",
+            hex(&bytes)
+        )));
+    }
+    // "at most a third of the input length"
+    if answer.items * 3 > bytes.len() as u64 {
+        return Err(Difference(format!(
+            "{} items in the signature {}",
+            answer.items,
+            hex(&bytes)
+        )));
+    }
+    Ok(bytes)
+}
+
+/// Compares the two on at least this many generated signatures.
+pub fn run(seed: u64, cases: u64) -> Result<Histogram, Difference> {
+    let mut random = Random::new(seed);
+    let mut histogram = Histogram::default();
+    while histogram.total() < cases {
+        let valid = compare_valid(&mut random)?;
+        histogram.count(0);
+        let faulty = generate::faulty(&mut random);
+        let also_faulty = generate::faulty(&mut random);
+        let others = [
+            generate::damaged(&mut random, &valid),
+            generate::damaged(&mut random, &faulty),
+            faulty,
+            also_faulty,
+            generate::noise(&mut random),
+        ];
+        for bytes in &others {
+            histogram.count(compare(bytes)?.number);
+        }
+    }
+    Ok(histogram)
+}
+
+fn hex(bytes: &[u8]) -> String {
+    let mut text = format!("of {} bytes:", bytes.len());
+    for byte in bytes {
+        text.push_str(&format!(" {byte:02x}"));
+    }
+    text
+}

@@ -1,0 +1,120 @@
+//! Reading, compared on generated signatures and on all of some small families.
+
+use compare::encode::{item, signature_of, ARGUMENTS, STRUCT};
+use compare::random::Random;
+use compare::signatures::{self, Histogram};
+use reference::Convention;
+
+/// The signatures of the largest test; the others add to them.
+const CASES: u64 = 400_000;
+
+fn compare(bytes: &[u8], histogram: &mut Histogram) {
+    match signatures::compare(bytes) {
+        Ok(answer) => histogram.count(answer.number),
+        Err(difference) => panic!("{difference}"),
+    }
+}
+
+#[test]
+fn generated_signatures() {
+    let seed = compare::seed();
+    println!("seed {seed:#x}");
+    let histogram = match signatures::run(seed, CASES) {
+        Ok(histogram) => histogram,
+        Err(difference) => panic!("seed {seed:#x}: {difference}"),
+    };
+    println!("{histogram}");
+    assert!(histogram.total() >= CASES);
+    for (number, &count) in histogram.answers.iter().enumerate() {
+        assert!(
+            count >= 1_000,
+            "the answer {number} came only {count} times"
+        );
+    }
+}
+
+#[test]
+fn every_prefix_of_valid_signatures() {
+    let seed = compare::seed();
+    println!("seed {seed:#x}");
+    let mut random = Random::new(seed);
+    let mut histogram = Histogram::default();
+    for _ in 0..300 {
+        let bytes = match signatures::compare_valid(&mut random) {
+            Ok(bytes) => bytes,
+            Err(difference) => panic!("seed {seed:#x}: {difference}"),
+        };
+        for length in 0..bytes.len() {
+            compare(&bytes[..length], &mut histogram);
+        }
+    }
+    println!("{histogram}");
+    // a part of a signature always ends inside an item or before one
+    assert_eq!(histogram.answers[2], histogram.total());
+}
+
+#[test]
+fn every_change_of_one_byte() {
+    let mut histogram = Histogram::default();
+    let small = [1, 0, 1, 1, 2, 0, 0, 3, 0, 8, 0x10, 0, 1, 4, 0x11, 0, 1, 1];
+    let within = item(STRUCT, &item(STRUCT, &[0x10, 0, 1, 2, 0x11, 0, 1, 0]));
+    let nested = signature_of(
+        Convention::Z,
+        &within,
+        &[within.clone(), within.clone()].concat(),
+    );
+    for bytes in [&small[..], &nested] {
+        for at in 0..bytes.len() {
+            let mut changed = bytes.to_vec();
+            for value in 0..=255 {
+                changed[at] = value;
+                compare(&changed, &mut histogram);
+                // with another length, the same change may let the rest be read
+                compare(&changed[..changed.len() - 1], &mut histogram);
+            }
+        }
+    }
+    println!("{histogram}");
+}
+
+/// All strings of up to `longest` of these bytes.
+fn all_strings(longest: usize, of: &[u8]) -> Vec<Vec<u8>> {
+    let mut all: Vec<Vec<u8>> = vec![Vec::new()];
+    let mut from = 0;
+    for _ in 0..longest {
+        let until = all.len();
+        for shorter in from..until {
+            for &byte in of {
+                let mut longer = all[shorter].clone();
+                longer.push(byte);
+                all.push(longer);
+            }
+        }
+        from = until;
+    }
+    all
+}
+
+#[test]
+fn every_short_body_of_the_bytes_that_matter() {
+    let mut histogram = Histogram::default();
+    for body in all_strings(6, &[0x00, 0x01, 0x02, 0x04, 0x10, 0x11, 0x12]) {
+        let result = signature_of(Convention::Ppc64, &body, &[]);
+        compare(&result, &mut histogram);
+        let field = signature_of(Convention::Z, &[], &item(STRUCT, &body));
+        compare(&field, &mut histogram);
+    }
+    println!("{histogram}");
+}
+
+#[test]
+fn every_short_rest_after_the_first_item() {
+    let mut histogram = Histogram::default();
+    for rest in all_strings(7, &[0x00, 0x01, 0x02, ARGUMENTS]) {
+        compare(&[&[1, 0, 1, 1][..], &rest].concat(), &mut histogram);
+    }
+    for whole in all_strings(2, &(0..=255).collect::<Vec<u8>>()) {
+        compare(&whole, &mut histogram);
+    }
+    println!("{histogram}");
+}

@@ -1,0 +1,116 @@
+//! The proved library for Rust. The functions here answer with a value or a [`Refusal`];
+//! [`surface`] has the same functions with the C surface's own answers.
+//!
+//! ```
+//! // PPC64, no result, arguments i32 and double: five items
+//! let signature = [1, 0, 1, 1, 2, 0, 0, 3, 0, 8, 0x10, 0, 1, 4, 0x11, 0, 1, 1];
+//! assert_eq!(flakuzhen::read_signature(&signature), Ok(5));
+//!
+//! // the same without its last byte: the arguments' length passes the end
+//! let refusal = flakuzhen::read_signature(&signature[..17]).unwrap_err();
+//! assert_eq!((refusal.number, refusal.place), (2, 7));
+//! ```
+
+#![deny(unsafe_code)]
+
+#[allow(unsafe_code)]
+pub mod surface;
+
+use std::error::Error;
+use std::fmt;
+
+/// Why an input is refused.
+#[derive(Clone, Copy, Debug, PartialEq, Eq)]
+pub struct Refusal {
+    /// The number of document 01's table; never 0.
+    pub number: u64,
+    /// The offset of the faulty item's header or byte in the signature, or 0 for a refusal that
+    /// names no place.
+    pub place: u64,
+}
+
+/// Reads a signature and gives its count of items, those nested in others included.
+pub fn read_signature(signature: &[u8]) -> Result<u64, Refusal> {
+    let answer = surface::read_signature(signature);
+    accepted(answer.number, answer.place, answer.items)
+}
+
+/// The bits of the double that has a single's value. A NaN's bits are moved as they are: a
+/// signaling one stays one.
+pub fn widen(single: u32) -> u64 {
+    surface::widen(u64::from(single))
+}
+
+/// The bits of the single that [`widen`] makes these bits of, refused where there is none.
+pub fn narrow(double: u64) -> Result<u32, Refusal> {
+    let answer = surface::narrow(double);
+    // the library's promise: an accepted answer is a single's 32 bits
+    accepted(answer.number, answer.place, answer.bits as u32)
+}
+
+fn accepted<T>(number: u64, place: u64, value: T) -> Result<T, Refusal> {
+    if number == 0 {
+        Ok(value)
+    } else {
+        Err(Refusal { number, place })
+    }
+}
+
+impl Refusal {
+    /// What the number means, in words.
+    pub fn message(&self) -> &'static str {
+        match self.number {
+            1 => "the signature is over 4,096 bytes",
+            2 => "no room for an item's header, or its length passes the enclosing end",
+            3 => "a tag that is not allowed there",
+            4 => "a length or code that is not allowed, an empty struct, or bytes after the result's type",
+            5 => "a long double inside a struct",
+            6 => "structs nested deeper than 8",
+            7 => "bytes after the 64th argument",
+            8 => "a struct of over 256 bytes",
+            9 => "bytes after the third item",
+            14 => "the bits of a double that is no widened single",
+            _ => "a refusal that this version has no words for",
+        }
+    }
+}
+
+impl fmt::Display for Refusal {
+    fn fmt(&self, to: &mut fmt::Formatter<'_>) -> fmt::Result {
+        let Refusal { number, place } = self;
+        write!(to, "refused {number} at {place}: {}", self.message())
+    }
+}
+
+impl Error for Refusal {}
+
+#[cfg(test)]
+mod tests {
+    use super::*;
+
+    #[test]
+    fn every_refusal_of_these_functions_has_words() {
+        let unknown = Refusal {
+            number: 0,
+            place: 0,
+        };
+        for number in (1..=9).chain([14]) {
+            let refusal = Refusal { number, place: 3 };
+            assert_ne!(refusal.message(), unknown.message());
+            assert!(refusal
+                .to_string()
+                .starts_with(&format!("refused {number} at 3: ")));
+        }
+    }
+
+    #[test]
+    fn a_single_there_and_back() {
+        assert_eq!(widen(0x7F80_0001), 0x7FF0_0000_2000_0000);
+        assert_eq!(narrow(0x7FF0_0000_2000_0000), Ok(0x7F80_0001));
+        let refusal = Refusal {
+            number: 14,
+            place: 0,
+        };
+        assert_eq!(narrow(0x3690_0000_0000_0000), Err(refusal));
+    }
+}

@@ -1,0 +1,434 @@
+//! The reader of signatures: document 01, "A signature's bytes" and refusals 1 to 9 of "When the
+//! bridge says no". Offsets count from the signature's first byte.
+
+use crate::{Convention, Float, Integer, Refusal, Signature, Type};
+
+const LONGEST_SIGNATURE: usize = 4096;
+const MOST_ARGUMENTS: usize = 64;
+const DEEPEST_STRUCT: usize = 8;
+const LARGEST_STRUCT: usize = 256;
+
+const CONVENTION: u8 = 0x01;
+const RESULT: u8 = 0x02;
+const ARGUMENTS: u8 = 0x03;
+const INTEGER: u8 = 0x10;
+const FLOAT: u8 = 0x11;
+const STRUCT: u8 = 0x12;
+
+/// An item whose header has passed its tests: where the header stands, and the body's bounds.
+struct Item {
+    place: usize,
+    tag: u8,
+    body: usize,
+    end: usize,
+}
+
+/// Reads a whole signature.
+pub fn read(bytes: &[u8]) -> Result<Signature, Refusal> {
+    if bytes.len() > LONGEST_SIGNATURE {
+        return refuse(1, 0);
+    }
+    let first = item(bytes, 0, bytes.len(), &[CONVENTION])?;
+    let convention = match bytes[first.body..first.end] {
+        [1] => Convention::Ppc64,
+        [2] => Convention::Z,
+        _ => return refuse(4, first.place),
+    };
+    let second = item(bytes, first.end, bytes.len(), &[RESULT])?;
+    let result = result(bytes, &second)?;
+    let third = item(bytes, second.end, bytes.len(), &[ARGUMENTS])?;
+    let arguments = arguments(bytes, &third)?;
+    if third.end < bytes.len() {
+        return refuse(9, third.end);
+    }
+    Ok(Signature {
+        convention,
+        result,
+        arguments,
+    })
+}
+
+/// "empty body for none, else one type item"
+fn result(bytes: &[u8], item: &Item) -> Result<Option<Type>, Refusal> {
+    if item.body == item.end {
+        return Ok(None);
+    }
+    let (result, after) = type_item(bytes, item.body, item.end, 1)?;
+    if after < item.end {
+        return refuse(4, after);
+    }
+    Ok(Some(result))
+}
+
+/// "0 to 64 type items"
+fn arguments(bytes: &[u8], item: &Item) -> Result<Vec<Type>, Refusal> {
+    let mut arguments = Vec::new();
+    let mut place = item.body;
+    while place < item.end {
+        if arguments.len() == MOST_ARGUMENTS {
+            return refuse(7, place);
+        }
+        let (argument, after) = type_item(bytes, place, item.end, 1)?;
+        arguments.push(argument);
+        place = after;
+    }
+    Ok(arguments)
+}
+
+/// The type whose item stands at `place`, and the offset after that item. A struct that stands
+/// there has this `depth`; "an argument or result struct has depth 1".
+fn type_item(
+    bytes: &[u8],
+    place: usize,
+    end: usize,
+    depth: usize,
+) -> Result<(Type, usize), Refusal> {
+    let item = item(bytes, place, end, &[INTEGER, FLOAT, STRUCT])?;
+    let read = match item.tag {
+        INTEGER => integer(bytes, &item)?,
+        FLOAT => float(bytes, &item, depth)?,
+        _ => structure(bytes, &item, depth)?,
+    };
+    Ok((read, item.end))
+}
+
+fn integer(bytes: &[u8], item: &Item) -> Result<Type, Refusal> {
+    let integer = match bytes[item.body..item.end] {
+        [0] => Integer::I8,
+        [1] => Integer::U8,
+        [2] => Integer::I16,
+        [3] => Integer::U16,
+        [4] => Integer::I32,
+        [5] => Integer::U32,
+        [6] => Integer::I64,
+        [7] => Integer::U64,
+        [8] => Integer::Pointer,
+        _ => return refuse(4, item.place),
+    };
+    Ok(Type::Integer(integer))
+}
+
+fn float(bytes: &[u8], item: &Item, depth: usize) -> Result<Type, Refusal> {
+    let float = match bytes[item.body..item.end] {
+        [0] => Float::Single,
+        [1] => Float::Double,
+        [2] => Float::LongDouble,
+        _ => return refuse(4, item.place),
+    };
+    let inside_a_struct = depth > 1;
+    if float == Float::LongDouble && inside_a_struct {
+        return refuse(5, item.place);
+    }
+    Ok(Type::Float(float))
+}
+
+fn structure(bytes: &[u8], item: &Item, depth: usize) -> Result<Type, Refusal> {
+    if depth > DEEPEST_STRUCT {
+        return refuse(6, item.place);
+    }
+    if item.body == item.end {
+        return refuse(4, item.place);
+    }
+    let mut fields = Vec::new();
+    let mut place = item.body;
+    while place < item.end {
+        let (field, after) = type_item(bytes, place, item.end, depth + 1)?;
+        fields.push(field);
+        place = after;
+    }
+    let structure = Type::Struct(fields);
+    if structure.size() > LARGEST_STRUCT {
+        return refuse(8, item.place);
+    }
+    Ok(structure)
+}
+
+/// The header at `place`, in an enclosing body that ends at `end`. "At an item: header room, tag,
+/// length room."
+fn item(bytes: &[u8], place: usize, end: usize, allowed: &[u8]) -> Result<Item, Refusal> {
+    if end - place < 3 {
+        return refuse(2, place);
+    }
+    let tag = bytes[place];
+    if !allowed.contains(&tag) {
+        return refuse(3, place);
+    }
+    let length = usize::from(bytes[place + 1]) * 256 + usize::from(bytes[place + 2]);
+    let body = place + 3;
+    if length > end - body {
+        return refuse(2, place);
+    }
+    Ok(Item {
+        place,
+        tag,
+        body,
+        end: body + length,
+    })
+}
+
+fn refuse<T>(number: u64, place: usize) -> Result<T, Refusal> {
+    Err(Refusal { number, place })
+}
+
+#[cfg(test)]
+mod tests {
+    use super::*;
+
+    /// The bytes that hexadecimal text says; spaces count for nothing.
+    fn hex(text: &str) -> Vec<u8> {
+        let digits: String = text.split_whitespace().collect();
+        (0..digits.len())
+            .step_by(2)
+            .map(|at| u8::from_str_radix(&digits[at..at + 2], 16).unwrap())
+            .collect()
+    }
+
+    /// An item with the length that its body has.
+    fn item(tag: u8, body: &[u8]) -> Vec<u8> {
+        let mut bytes = vec![tag];
+        bytes.extend_from_slice(&(body.len() as u16).to_be_bytes());
+        bytes.extend_from_slice(body);
+        bytes
+    }
+
+    fn signature(result: &[u8], arguments: &[u8]) -> Vec<u8> {
+        [
+            item(CONVENTION, &[1]),
+            item(RESULT, result),
+            item(ARGUMENTS, arguments),
+        ]
+        .concat()
+    }
+
+    /// `innermost` within structs, `count` of them.
+    fn nested(count: usize, innermost: &[u8]) -> Vec<u8> {
+        (0..count).fold(innermost.to_vec(), |inner, _| item(STRUCT, &inner))
+    }
+
+    fn refused(bytes: &[u8], number: u64, place: usize) {
+        assert_eq!(read(bytes), Err(Refusal { number, place }));
+    }
+
+    const I8_ITEM: [u8; 4] = [INTEGER, 0, 1, 0];
+    const DOUBLE_ITEM: [u8; 4] = [FLOAT, 0, 1, 1];
+    const LONG_DOUBLE_ITEM: [u8; 4] = [FLOAT, 0, 1, 2];
+    /// Where the result's body starts in a signature.
+    const RESULT_BODY: usize = 7;
+    /// Where the arguments' body starts in a signature without result.
+    const ARGUMENTS_BODY: usize = 10;
+
+    #[test]
+    fn the_documents_example() {
+        let bytes = hex("01 0001 01 02 0000 03 0008 10 0001 04 11 0001 01");
+        assert_eq!(bytes.len(), 18);
+        let signature = read(&bytes).unwrap();
+        assert_eq!(signature.items(), 5);
+        assert_eq!(
+            signature,
+            Signature {
+                convention: Convention::Ppc64,
+                result: None,
+                arguments: vec![Type::Integer(Integer::I32), Type::Float(Float::Double)],
+            }
+        );
+    }
+
+    #[test]
+    fn every_code_of_every_kind() {
+        let codes = [
+            Integer::I8,
+            Integer::U8,
+            Integer::I16,
+            Integer::U16,
+            Integer::I32,
+            Integer::U32,
+            Integer::I64,
+            Integer::U64,
+            Integer::Pointer,
+        ];
+        for (code, integer) in codes.into_iter().enumerate() {
+            let read = read(&signature(&item(INTEGER, &[code as u8]), &[])).unwrap();
+            assert_eq!(read.result, Some(Type::Integer(integer)));
+        }
+        let codes = [Float::Single, Float::Double, Float::LongDouble];
+        for (code, float) in codes.into_iter().enumerate() {
+            let read = read(&signature(&item(FLOAT, &[code as u8]), &[])).unwrap();
+            assert_eq!(read.result, Some(Type::Float(float)));
+        }
+        let z = read(&hex("01 0001 02 02 0000 03 0000")).unwrap();
+        assert_eq!((z.convention, z.items()), (Convention::Z, 3));
+    }
+
+    #[test]
+    fn refusal_1_is_a_signature_over_4096_bytes_whatever_it_holds() {
+        refused(&[0; 4097], 1, 0);
+        refused(&[0; 4096], 3, 0);
+    }
+
+    #[test]
+    fn refusal_2_is_no_room_for_a_header_or_its_length() {
+        refused(&[], 2, 0);
+        refused(&hex("01 00"), 2, 0);
+        refused(&hex("01 0001"), 2, 0);
+        refused(&hex("01 0001 01"), 2, 4);
+        refused(&hex("01 0001 01 02 0000"), 2, 7);
+        // the enclosing end counts, not the signature's
+        refused(&hex("01 0001 01 02 0003 10 0001 04 03 0000"), 2, 7);
+        refused(&hex("01 0001 01 02 0002 10 00 03 0000"), 2, 7);
+        refused(
+            &signature(&[], &[INTEGER, 0, 1, 0, INTEGER, 0]),
+            2,
+            ARGUMENTS_BODY + 4,
+        );
+    }
+
+    #[test]
+    fn refusal_3_is_a_tag_not_allowed_there() {
+        refused(&hex("02 0000 01"), 3, 0);
+        refused(&hex("01 0001 01 03 0000"), 3, 4);
+        refused(&hex("01 0001 01 02 0000 02 0000"), 3, 7);
+        refused(&signature(&item(0x13, &[0]), &[]), 3, RESULT_BODY);
+        refused(
+            &signature(&[], &item(STRUCT, &item(0x03, &[]))),
+            3,
+            ARGUMENTS_BODY + 3,
+        );
+    }
+
+    #[test]
+    fn refusal_4_is_a_length_or_a_code_not_allowed() {
+        refused(&hex("01 0001 00 02 0000 03 0000"), 4, 0);
+        refused(&hex("01 0001 03 02 0000 03 0000"), 4, 0);
+        refused(&hex("01 0000 02 0000 03 0000"), 4, 0);
+        refused(&hex("01 0002 01 01 02 0000 03 0000"), 4, 0);
+        refused(&signature(&item(INTEGER, &[9]), &[]), 4, RESULT_BODY);
+        refused(&signature(&item(INTEGER, &[0, 0]), &[]), 4, RESULT_BODY);
+        refused(&signature(&item(FLOAT, &[]), &[]), 4, RESULT_BODY);
+        refused(&signature(&item(FLOAT, &[3]), &[]), 4, RESULT_BODY);
+        refused(&signature(&[], &item(STRUCT, &[])), 4, ARGUMENTS_BODY);
+    }
+
+    #[test]
+    fn refusal_4_is_also_a_byte_after_the_results_one_type() {
+        let two = [I8_ITEM, I8_ITEM].concat();
+        refused(&signature(&two, &[]), 4, RESULT_BODY + 4);
+        refused(
+            &signature(&[INTEGER, 0, 1, 0, 0xff], &[]),
+            4,
+            RESULT_BODY + 4,
+        );
+    }
+
+    #[test]
+    fn refusal_5_is_a_long_double_inside_a_struct() {
+        refused(
+            &signature(&nested(1, &LONG_DOUBLE_ITEM), &[]),
+            5,
+            RESULT_BODY + 3,
+        );
+        refused(
+            &signature(&[], &nested(8, &LONG_DOUBLE_ITEM)),
+            5,
+            ARGUMENTS_BODY + 24,
+        );
+        assert!(read(&signature(&LONG_DOUBLE_ITEM, &LONG_DOUBLE_ITEM)).is_ok());
+    }
+
+    #[test]
+    fn refusal_6_is_a_struct_at_depth_9() {
+        assert!(read(&signature(&nested(8, &I8_ITEM), &nested(8, &I8_ITEM))).is_ok());
+        refused(&signature(&nested(9, &I8_ITEM), &[]), 6, RESULT_BODY + 24);
+        refused(
+            &signature(&[], &nested(9, &I8_ITEM)),
+            6,
+            ARGUMENTS_BODY + 24,
+        );
+    }
+
+    #[test]
+    fn refusal_7_is_a_byte_after_the_64th_argument() {
+        assert!(read(&signature(&[], &I8_ITEM.repeat(64))).is_ok());
+        refused(
+            &signature(&[], &I8_ITEM.repeat(65)),
+            7,
+            ARGUMENTS_BODY + 256,
+        );
+        let with_a_byte = [I8_ITEM.repeat(64), vec![0xff]].concat();
+        refused(&signature(&[], &with_a_byte), 7, ARGUMENTS_BODY + 256);
+    }
+
+    #[test]
+    fn refusal_8_is_a_struct_over_256_bytes() {
+        let doubles = DOUBLE_ITEM.repeat(32);
+        assert!(read(&signature(&[], &item(STRUCT, &doubles))).is_ok());
+        let more = [doubles, I8_ITEM.to_vec()].concat();
+        refused(&signature(&[], &item(STRUCT, &more)), 8, ARGUMENTS_BODY);
+    }
+
+    #[test]
+    fn refusal_9_is_a_byte_after_the_third_item() {
+        refused(&hex("01 0001 01 02 0000 03 0000 00"), 9, 10);
+        refused(&hex("01 0001 01 02 0000 03 0000 03 0000"), 9, 10);
+    }
+
+    #[test]
+    fn the_order_at_a_header_is_room_then_tag_then_length() {
+        // two bytes with a wrong tag: no room comes first
+        refused(&hex("ff ff"), 2, 0);
+        // a wrong tag with a length that passes the end: the tag comes first
+        refused(&hex("ff ff ff"), 3, 0);
+        // a length that passes the end, of an item whose length is never allowed: room first
+        refused(&hex("01 0005 01"), 2, 0);
+    }
+
+    #[test]
+    fn the_order_at_a_struct_is_length_room_depth_body_contents_size() {
+        let at = RESULT_BODY + 24;
+        // at depth 9 with a length that passes the end
+        let long = [STRUCT, 0xff, 0xff];
+        refused(&signature(&nested(8, &long), &[]), 2, at);
+        // at depth 9 and empty
+        refused(&signature(&nested(9, &[]), &[]), 6, at);
+        // a faulty field of a struct that is too large
+        let faulty = [DOUBLE_ITEM.repeat(33), vec![INTEGER, 0, 1, 9]].concat();
+        refused(
+            &signature(&item(STRUCT, &faulty), &[]),
+            4,
+            RESULT_BODY + 3 + 132,
+        );
+        // a struct that is too large makes the one around it too large: the inner one comes first
+        let inner = nested(2, &DOUBLE_ITEM.repeat(33));
+        refused(&signature(&inner, &[]), 8, RESULT_BODY + 3);
+    }
+
+    #[test]
+    fn the_order_at_a_float_is_body_then_long_double() {
+        refused(
+            &signature(&nested(1, &item(FLOAT, &[2, 2])), &[]),
+            4,
+            RESULT_BODY + 3,
+        );
+        refused(
+            &signature(&nested(1, &item(FLOAT, &[3])), &[]),
+            4,
+            RESULT_BODY + 3,
+        );
+    }
+
+    #[test]
+    fn what_stands_further_left_is_refused_first() {
+        // a faulty result before what is missing after it
+        refused(&hex("01 0001 01 02 0004 10 0001 09"), 4, 7);
+        // bytes after the result's type before a faulty third item
+        refused(&hex("01 0001 01 02 0005 10 0001 00 ff ff"), 4, 11);
+        // a faulty result type before the bytes after it
+        refused(&hex("01 0001 01 02 0005 10 0001 09 ff 03 0000"), 4, 7);
+        // bytes after the 64th argument before bytes after the third item
+        let mut bytes = signature(&[], &[I8_ITEM.repeat(64), vec![0]].concat());
+        bytes.push(0);
+        refused(&bytes, 7, ARGUMENTS_BODY + 256);
+        // the 64th argument's own fault before bytes after it
+        let faulty = [I8_ITEM.repeat(63), vec![INTEGER, 0, 1, 9, 0]].concat();
+        refused(&signature(&[], &faulty), 4, ARGUMENTS_BODY + 252);
+    }
+}
