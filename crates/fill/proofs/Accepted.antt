@@ -21,8 +21,7 @@ use Rattle.convention.specs.Values.{pick, pointer}
 use Rattle.convention.specs.Step.{rulesOf, wordOf, spanOf, fresh, hiddenFor, returning, resultOf}
 use Rattle.convention.specs.ZSeries.{zClass, zSpanOf}
 use Rattle.plan.specs.declared.Plan.{Plan}
-use Rattle.plan.specs.Plan.{resultIn, planIn, planAnswer, planned}
-use Rattle.plan.proofs.Answers.{planned-answer}
+use Rattle.plan.specs.Plan.{resultIn, planIn, planAnswer}
 use Rattle.slots.specs.declared.Answer.{Answer}
 use Rattle.slots.specs.declared.Refusal.{Refusal}
 use Rattle.slots.specs.Buffers.{Buffers, buffers, Slot, put, putAll}
@@ -30,7 +29,6 @@ use Rattle.slots.specs.Placements.{Placement, hiddenSlots, slotsOfAll}
 use Rattle.slots.specs.Limits.{Held, Fits}
 use Rattle.slots.specs.Refusals.{test, differ, firstOf}
 use Rattle.slots.specs.Arguments.{argumentsIn, argumentsOf, planFor, Carried}
-use Rattle.slots.proofs.Answered.{carried}
 use Rattle.slots.proofs.Buffers.{putAll-lengths, putAll-append}
 use Rattle.slots.proofs.Planned.{all-with}
 use Rattle.slots.proofs.Refusals.{first-done, differ-false}
@@ -140,12 +138,6 @@ module _ (s : List ℕ) where
       → a ≡ firstOf (fillTests have (p .values) (p .area) (p .copies) base) → a ≡ fillAnswer s have base
   unfolding fillAnswer
   answer-tested have base n p a q e t = rw e (subst (λ (p : Plan). a ≡ firstOf (fillTests have (p .values) (p .area) (p .copies) base)) q t)
-
-  pub plan-same : (g : SignatureRead) (p : Plan) → g ≡ signatureAnswer (signatureOf s) → p ≡ planned g → p ≡ planFor s
-  plan-same g p e q = q ∙ ap planned e ∙ planned-answer (signatureOf s)
-
-  pub carried-same : (g : SignatureRead) (p : Plan) → g ≡ signatureAnswer (signatureOf s) → p ≡ planFor s → Carried g p
-  carried-same g p e q = rw (e, q) (carried s)
 
 -- a hidden address changes the image alone
 hidden-whole : (q : ResultPlaces) (address : ℕ) (image area copies i : List ℕ) → buffers i [] [] ≡ putAll (hiddenSlots q address) (buffers image [] [])

@@ -1,6 +1,6 @@
 -- The slots of one argument, by the way that it is passed. Assumes nothing.
-use mathlib.Core.Path.{_≡_, refl, sym, ap, ap₂, _∙_}
-use mathlib.Core.Bool.{Bool, true, false}
+use mathlib.Core.Path.{_≡_, sym, ap, ap₂, _∙_}
+use mathlib.Core.Bool.{true, false}
 use mathlib.Core.List.{List, _++_}
 use Prim.Native.Nat.{ℕ, _+_, _-_, _*_, _≤_, _<_}
 use native.Mathlib.Omega.{arith}
@@ -15,8 +15,7 @@ use Rattle.convention.specs.declared.Rules.{Rules}
 use Rattle.slots.specs.Buffers.{buffers, generalAt, floatingAt, put, putAll}
 use Rattle.slots.specs.Forms.{startsAtHead, extended, homeBytes, floatWord, floatBytes}
 use Rattle.slots.specs.Placements.{Placement, standing, copyBytes, slotsOf}
-use Rattle.types.specs.declared.Equivalent.{Equivalent}
-use Rattle.slots.specs.Limits.{FloatSized, Held}
+use Rattle.slots.specs.Limits.{Held}
 
 module _ (r : Rules) (base : ℕ) (p : Placement) (v image area copies : List ℕ) (h : Held r p) where
   -- in an FPR
@@ -75,22 +74,3 @@ copy-none p v copies e = rw (e, splice-nothing)
 pub copy-put : (p : Placement) (v copies : List ℕ) → p .span .indirect ≡ true
     → splice copies (p .span .copy .start) (copyBytes p v) ≡ splice copies (p .span .copy .start) v
 copy-put p v copies e = rw e
-
--- ---- sizes
-
-pub float-small : (e : Equivalent) (n : ℕ) → FloatSized e n → (n ≤ 8) × (e ≡ Equivalent.Single → n ≡ 4)
-float-small Equivalent.Single n h = (omega arith, λ e. h)
-float-small Equivalent.Double n h = (omega arith, λ e. let z : _≡_ {A = ℕ} 0 1 = cc in absurd (omega arith))
-float-small Equivalent.Nothing n h = absurd h
-
--- an argument that is passed by pointer, or stands at the end of its word, has one word
-pub one-word : (r : Rules) (p : Placement) → Held r p → p .span .floating .count ≤ 0 → startsAtHead r (p .ty) ≡ false
-    → 8 * p .span .general .count + p .span .memory .length ≡ 8
-one-word r p h none e = let no : p .span .floating .count ≡ 0 = omega arith in h .words no ∙ h .end e
-
-pub indirect-end : (r : Rules) (p : Placement) → Held r p → p .span .indirect ≡ true → startsAtHead r (p .ty) ≡ false
-indirect-end r p h e = go (startsAtHead r (p .ty)) refl
-  where
-    go : (b : Bool) → startsAtHead r (p .ty) ≡ b → b ≡ false
-    go true q = let f : p .span .indirect ≡ false = h .whole q in let z : _≡_ {A = ℕ} 0 1 = cc in absurd (omega arith)
-    go false q = refl

@@ -9,6 +9,7 @@ use Rattle.types.specs.declared.ValueType.{ValueType}
 use Rattle.types.specs.Trees.{Trees, none, _▸_, countOf}
 use Rattle.items.specs.Reading.{Reading, got, no}
 use Rattle.signature.specs.declared.ResultType.{ResultType}
+use Rattle.signature.specs.declared.SignatureRead.{SignatureRead}
 use Rattle.signature.specs.Signature.{Signature}
 use Rattle.signature.specs.Read.{signatureOf}
 use Rattle.signature.specs.Answer.{resultType, signatureAnswer}
@@ -17,13 +18,14 @@ use Rattle.convention.specs.declared.Cursor.{Cursor}
 use Rattle.convention.specs.declared.Span.{Span}
 use Rattle.convention.specs.Step.{rulesOf}
 use Rattle.convention.proofs.Bounds.{named-start, area-holds}
-use Rattle.plan.specs.Plan.{spansOf, valuesOf, noSpan, tableOf, hiddenIn, startIn, endIn, planIn, planAnswer, typesOf}
+use Rattle.plan.specs.declared.Plan.{Plan}
+use Rattle.plan.specs.Plan.{spansOf, valuesOf, noSpan, tableOf, hiddenIn, startIn, endIn, planIn, planAnswer, typesOf, planned}
 use Rattle.plan.specs.Limits.{Plannable}
 use Rattle.plan.proofs.Fold.{length-spans}
-use Rattle.plan.proofs.Answers.{table-types, answer-plannable}
+use Rattle.plan.proofs.Answers.{table-types, answer-plannable, planned-answer}
 use Rattle.slots.specs.Placements.{Placement, placements}
 use Rattle.slots.specs.Limits.{Held, Fits, All, sizesOf}
-use Rattle.slots.specs.Arguments.{argumentsIn, Carried}
+use Rattle.slots.specs.Arguments.{argumentsIn, planFor, Carried}
 use Rattle.slots.proofs.Typed.{all-typed}
 use Rattle.slots.proofs.Planned.{placements-table, placements-sizes, all-held, all-fit}
 
@@ -90,3 +92,12 @@ carried s = go (signatureOf s) refl
           total = ap sizesOf same ∙ placements-sizes c (rulesOf c) k ts ∙ planned-values n c r ts;
         }
     go (no reason place) e = record { few = omega arith; types = omega arith; spans = omega arith; held = none-all _; fit = none-all _; total = refl }
+
+-- ---- the same of what the reader and the planner answered
+
+module _ (s : List ℕ) (g : SignatureRead) (p : Plan) (read : g ≡ signatureAnswer (signatureOf s)) where
+  pub plan-same : p ≡ planned g → p ≡ planFor s
+  plan-same e = e ∙ ap planned read ∙ planned-answer (signatureOf s)
+
+  pub carried-same : p ≡ planFor s → Carried g p
+  carried-same e = rw (read, e) (carried s)

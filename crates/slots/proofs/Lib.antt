@@ -8,3 +8,4 @@ pub mod Answered
 pub mod Turns
 pub mod Refusals
 pub mod Examples
+pub mod Limits

@@ -50,6 +50,11 @@ abbrev pub afterReading : Outcome → Answer → Answer
 afterReading (Outcome.Accepted n) a = a
 afterReading (Outcome.Refused reason place) a = Answer.Refused (Refusal.Signature reason) place
 
+-- of two answers, the first that refuses
+abbrev pub orElse : Answer → Answer → Answer
+orElse Answer.Done a = a
+orElse (Answer.Refused reason place) a = Answer.Refused reason place
+
 abbrev pub isDone : Answer → Bool
 isDone Answer.Done = true
 isDone (Answer.Refused reason place) = false

@@ -7,12 +7,13 @@ use types::FloatFormat;
 use types::IntegerKind;
 use types::ValueType;
 ghost use mathlib.Core.Path.{_≡_};
+ghost use mathlib.Core.Bool.{false};
 ghost use Prim.Native.Nat.{_^_, _≤_, _<_};
 ghost use lib.ListN.{length};
 ghost use Rattle.types.specs.declared.Equivalent.{Equivalent};
 ghost use Rattle.types.specs.Sizes.{equivalentOf};
 ghost use Rattle.words.specs.Numbers.{valueOf};
-ghost use Rattle.slots.specs.Forms.{signedKind, isSigned, headFirst, startsAtHead, extended, singleWord, floatWord};
+ghost use Rattle.slots.specs.Forms.{signedKind, isSigned, headFirst, startsAtHead, extended, roomOf, ownStart, singleWord, floatWord};
 ghost use Rattle.slots.specs.Refusals.{numberOf};
 
 // Why a call is refused; `number_of` gives document 01's number.
@@ -135,4 +136,15 @@ pub fn float_word(r: Rules, t: ValueType, v: &[u8]) -> u64
         Equivalent::Single => single_word(r, x),
         Equivalent::Double => x,
     }
+}
+
+// Where in its words a value's own bytes start: a value of n bytes that stands at the end of its word is in the last n of eight.
+pub fn own_start(r: Rules, t: ValueType, n: usize) -> usize
+    requires { ⌜ (startsAtHead r t ≡ false → (n ≤ 8) × (roomOf r n ≡ 8)) ⌝ }
+    ensures { λ at. ⌜ at ≡ ownStart r t n ⌝ }
+{
+    if starts_at_head(r, t) {
+        return 0;
+    }
+    8 - n
 }

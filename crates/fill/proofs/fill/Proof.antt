@@ -6,7 +6,8 @@ use Rattle.signature.specs.Read.{signatureOf}
 use Rattle.plan.specs.declared.Plan.{Plan}
 use Rattle.plan.proofs.Answers.{answer-plannable}
 use Rattle.fill.specs.Fill.{fillBuffers}
-use Rattle.fill.proofs.Accepted.{Lent, tests-passed, all-ready, hidden-fits, answer-refused, answer-tested, plan-same, carried-same, hidden-length, buffers-done}
+use Rattle.slots.proofs.Answered.{plan-same, carried-same}
+use Rattle.fill.proofs.Accepted.{Lent, tests-passed, all-ready, hidden-fits, answer-refused, answer-tested, hidden-length, buffers-done}
 use borrow.Author.Needs.{needs}
 use Rattle.fill.proofs.fill.Statement.{statement}
 use Rattle.fill.proofs.fill.Tie as tie

@@ -11,7 +11,8 @@ use Rattle.words.proofs.Splices.{lent-tail}
 use Rattle.types.specs.Sizes.{equivalentOf}
 use Rattle.slots.specs.Buffers.{buffers}
 use Rattle.slots.specs.Placements.{Placement, placement}
-use Rattle.fill.proofs.Arguments.{argument-float, argument-words, stands-address, stands-head, stands-end, copy-none, copy-put, float-small, one-word, indirect-end}
+use Rattle.fill.proofs.Arguments.{argument-float, argument-words, stands-address, stands-head, stands-end, copy-none, copy-put}
+use Rattle.slots.proofs.Limits.{float-small, one-word, indirect-end}
 use borrow.Author.Needs.{needs}
 use Rattle.fill.proofs.put_argument.Statement.{statement}
 use Rattle.fill.proofs.put_argument.Tie as tie
