@@ -1,0 +1,76 @@
+-- The slots of one argument, by the way that it is passed. Assumes nothing.
+use mathlib.Core.Path.{_≡_, sym, ap, ap₂, _∙_}
+use mathlib.Core.Bool.{true, false}
+use mathlib.Core.List.{List, _++_}
+use Prim.Native.Nat.{ℕ, _+_, _-_, _*_, _≤_, _<_}
+use native.Mathlib.Omega.{arith}
+use lib.ListN.{length, take, replicate}
+use lib.Seq.{take-all}
+use Rattle.words.specs.Splice.{splice, part}
+use Rattle.words.specs.Numbers.{bytesOf, valueOf}
+use Rattle.words.proofs.Splices.{splice-nothing}
+use Rattle.words.proofs.Numbers.{length-bytesOf}
+use Rattle.types.specs.Sizes.{equivalentOf}
+use Rattle.convention.specs.declared.Rules.{Rules}
+use Rattle.slots.specs.Buffers.{buffers, generalAt, floatingAt, put, putAll}
+use Rattle.slots.specs.Forms.{startsAtHead, extended, homeBytes, floatWord, floatBytes}
+use Rattle.slots.specs.Placements.{Placement, standing, copyBytes, slotsOf}
+use Rattle.slots.specs.Limits.{Held}
+
+module _ (r : Rules) (base : ℕ) (p : Placement) (v image area copies : List ℕ) (h : Held r p) where
+  -- in an FPR
+  pub argument-float : 0 < p .span .floating .count
+      → buffers (splice image (floatingAt (p .span .floating .first)) (bytesOf 8 (floatWord r (equivalentOf (p .ty)) (valueOf v)))) area copies
+      ≡ putAll (slotsOf r base p v) (buffers image area copies)
+  unfolding slotsOf putAll put floatBytes
+  argument-float some =
+      let one : p .span .floating .count ≡ 1 = omega (arith, h .floats) in
+      let none : p .span .general .count ≡ 0 = h .alone one .0 in
+      let empty : p .span .memory .length ≡ 0 = h .alone one .1 in
+      let direct : p .span .indirect ≡ false = h .direct one in
+      let f : List ℕ = bytesOf 8 (floatWord r (equivalentOf (p .ty)) (valueOf v)) in
+      let all : take 8 f ≡ f = take-all 8 f (omega (arith, length-bytesOf 8 (floatWord r (equivalentOf (p .ty)) (valueOf v)))) in
+      rw (one, none, empty, direct, all, splice-nothing, splice-nothing, splice-nothing)
+
+  -- in general registers and memory, where the words bs stand there
+  pub argument-words : (bs i a c : List ℕ) → p .span .floating .count ≤ 0 → standing r base p v ≡ bs
+      → i ≡ splice image (generalAt (p .span .general .first)) (take (8 * p .span .general .count) bs)
+      → a ≡ splice area (p .span .memory .start) (part (8 * p .span .general .count) (p .span .memory .length) bs)
+      → c ≡ splice copies (p .span .copy .start) (copyBytes p v)
+      → buffers i a c ≡ putAll (slotsOf r base p v) (buffers image area copies)
+  unfolding slotsOf putAll put
+  argument-words bs i a c none e x y z =
+      let no : p .span .floating .count ≡ 0 = omega arith in
+      let f : List ℕ = floatBytes r (p .ty) v in
+      let fpr : splice image (floatingAt (p .span .floating .first)) (take (8 * p .span .floating .count) f) ≡ image = rw (no, splice-nothing) in
+      let i' : splice (splice image (floatingAt (p .span .floating .first)) (take (8 * p .span .floating .count) f)) (generalAt (p .span .general .first)) (take (8 * p .span .general .count) (standing r base p v)) ≡ i =
+      ap₂ (λ (l m : List ℕ). splice l (generalAt (p .span .general .first)) (take (8 * p .span .general .count) m)) fpr e ∙ sym x in
+      let a' : splice area (p .span .memory .start) (part (8 * p .span .general .count) (p .span .memory .length) (standing r base p v)) ≡ a =
+      ap (λ (m : List ℕ). splice area (p .span .memory .start) (part (8 * p .span .general .count) (p .span .memory .length) m)) e ∙ sym y in
+      rw (i', a', ← z)
+
+-- what stands in the words: the address of a copy, the value from its head on, or the value at the end of its only word
+module _ (r : Rules) (base : ℕ) (p : Placement) (v : List ℕ) (h : Held r p) where
+  pub stands-address : p .span .indirect ≡ true → standing r base p v ≡ bytesOf 8 (base + p .span .copy .start)
+  unfolding standing
+  stands-address e = rw e
+
+  pub stands-head : p .span .floating .count ≤ 0 → p .span .indirect ≡ false → startsAtHead r (p .ty) ≡ true → length v ≡ p .size
+      → standing r base p v ≡ v ++ replicate (8 * p .span .general .count + p .span .memory .length - length v) 0
+  unfolding standing homeBytes
+  stands-head none e s n =
+      let no : p .span .floating .count ≡ 0 = omega arith in
+      rw (e, s, h .words no, n)
+
+  pub stands-end : p .span .indirect ≡ false → startsAtHead r (p .ty) ≡ false → length v ≡ p .size
+      → standing r base p v ≡ bytesOf 8 (extended (p .ty) (length v) (valueOf v))
+  unfolding standing homeBytes
+  stands-end e s n = rw (e, s, h .end s, n)
+
+-- no copy is put where there is none
+pub copy-none : (p : Placement) (v copies : List ℕ) → p .span .indirect ≡ false → copies ≡ splice copies (p .span .copy .start) (copyBytes p v)
+copy-none p v copies e = rw (e, splice-nothing)
+
+pub copy-put : (p : Placement) (v copies : List ℕ) → p .span .indirect ≡ true
+    → splice copies (p .span .copy .start) (copyBytes p v) ≡ splice copies (p .span .copy .start) v
+copy-put p v copies e = rw e

@@ -1,0 +1,5 @@
+-- Laws that belong to no one function.
+pub mod Pieces
+pub mod Arguments
+pub mod Turns
+pub mod Accepted

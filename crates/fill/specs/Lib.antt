@@ -1,0 +1,2 @@
+-- What filling does. Assumes nothing.
+pub mod Fill

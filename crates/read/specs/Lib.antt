@@ -1,0 +1,2 @@
+-- What reading does. Assumes nothing.
+pub mod Read

@@ -1,0 +1,103 @@
+-- Whatever bytes a signature has, its arguments are carried: each is held by its span and lies in its buffers. Assumes nothing.
+use mathlib.Core.Path.{_≡_, refl, sym, ap, _∙_, subst}
+use mathlib.Core.List.{List, [], _++_}
+use Prim.Native.Nat.{ℕ, _+_, _-_, _≤_}
+use native.Mathlib.Omega.{arith}
+use lib.ListN.{length, replicate, length-append}
+use Rattle.types.specs.declared.Convention.{Convention}
+use Rattle.types.specs.declared.ValueType.{ValueType}
+use Rattle.types.specs.Trees.{Trees, none, _▸_, countOf}
+use Rattle.items.specs.Reading.{Reading, got, no}
+use Rattle.signature.specs.declared.ResultType.{ResultType}
+use Rattle.signature.specs.declared.SignatureRead.{SignatureRead}
+use Rattle.signature.specs.Signature.{Signature}
+use Rattle.signature.specs.Read.{signatureOf}
+use Rattle.signature.specs.Answer.{resultType, signatureAnswer}
+use Rattle.signature.proofs.Theorems.{accepted}
+use Rattle.convention.specs.declared.Cursor.{Cursor}
+use Rattle.convention.specs.declared.Span.{Span}
+use Rattle.convention.specs.Step.{rulesOf}
+use Rattle.convention.proofs.Bounds.{named-start, area-holds}
+use Rattle.plan.specs.declared.Plan.{Plan}
+use Rattle.plan.specs.Plan.{spansOf, valuesOf, noSpan, tableOf, hiddenIn, startIn, endIn, planIn, planAnswer, typesOf, planned}
+use Rattle.plan.specs.Limits.{Plannable}
+use Rattle.plan.proofs.Fold.{length-spans}
+use Rattle.plan.proofs.Answers.{table-types, answer-plannable, planned-answer}
+use Rattle.slots.specs.Placements.{Placement, placements}
+use Rattle.slots.specs.Limits.{Held, Fits, All, sizesOf}
+use Rattle.slots.specs.Arguments.{argumentsIn, planFor, Carried}
+use Rattle.slots.proofs.Typed.{all-typed}
+use Rattle.slots.proofs.Planned.{placements-table, placements-sizes, all-held, all-fit}
+
+-- the arguments of an accepted signature are those of its plan's fold
+pub arguments-got : (g : Signature) (next n : ℕ)
+    → argumentsIn (signatureAnswer (got g next n)) (planAnswer (got g next n))
+    ≡ placements (g .convention) (typesOf (g .convention) (g .arguments))
+    (spansOf (g .convention) (rulesOf (g .convention)) (startIn (g .convention) (resultType (g .convention) (g .result))) (typesOf (g .convention) (g .arguments)))
+unfolding argumentsIn planAnswer planIn tableOf
+arguments-got g next n =
+    let c : Convention = g .convention in
+    let k : Cursor = startIn c (resultType c (g .result)) in
+    let ts : List ValueType = typesOf c (g .arguments) in
+    let ss : List Span = spansOf c (rulesOf c) k ts in
+    ap (λ (l : List ValueType). placements c l (ss ++ replicate (64 - length ss) noSpan)) (table-types c (g .arguments))
+    ∙ placements-table c (rulesOf c) k ts (replicate (64 - length ss) noSpan)
+
+length-typesOf : (c : Convention) (ts : Trees) → length (typesOf c ts) ≡ countOf ts
+unfolding typesOf countOf
+length-typesOf c none = refl
+length-typesOf c (ts ▸ t) = simp length-append (omega (arith, length-typesOf c ts))
+
+-- every slot of the plan's table is there
+planned-room : (n : ℕ) (c : Convention) (r : ResultType) (ts : List ValueType) (m : ℕ) → length ts ≡ m → m ≤ 64 → m ≤ length (planIn n c r ts .spans)
+unfolding planIn tableOf
+planned-room n c r ts m e h =
+    let ss : List Span = spansOf c (rulesOf c) (startIn c r) ts in
+    omega (arith, length-spans c (rulesOf c) (startIn c r) ts, length-append ss (replicate (64 - length ss) noSpan))
+
+planned-fit : (n : ℕ) (c : Convention) (r : ResultType) (ts : List ValueType)
+    → All (Fits (planIn n c r ts .area) (planIn n c r ts .copies)) (placements c ts (spansOf c (rulesOf c) (startIn c r) ts))
+unfolding planIn
+planned-fit n c r ts =
+    all-fit c (rulesOf c) (startIn c r) ts _ _ (named-start (rulesOf c) (hiddenIn c r)) (area-holds (rulesOf c) (endIn c r ts)) (omega arith)
+
+planned-values : (n : ℕ) (c : Convention) (r : ResultType) (ts : List ValueType) → valuesOf c ts ≡ planIn n c r ts .values
+unfolding planIn
+planned-values n c r ts = refl
+
+-- a refused signature has no arguments
+none-all : (P : Placement → Type 0) → All P []
+unfolding All
+none-all P = tt
+
+pub carried : (s : List ℕ) → Carried (signatureAnswer (signatureOf s)) (planAnswer (signatureOf s))
+unfolding planAnswer argumentsIn placements sizesOf
+carried s = go (signatureOf s) refl
+  where
+    go : (x : Reading Signature) → signatureOf s ≡ x → Carried (signatureAnswer x) (planAnswer x)
+    go (got g next n) e =
+        let c : Convention = g .convention in
+        let r : ResultType = resultType c (g .result) in
+        let ts : List ValueType = typesOf c (g .arguments) in
+        let k : Cursor = startIn c r in
+        let a = accepted s g next n e in
+        let same = arguments-got g next n in
+        let plan = subst Plannable (ap signatureAnswer e) (answer-plannable s) in
+        record {
+          few = a .within .few;
+          types = plan .room;
+          spans = planned-room n c r ts (countOf (g .arguments)) (length-typesOf c (g .arguments)) (a .within .few);
+          held = subst (All (Held (rulesOf c))) (sym same) (all-held c k ts (all-typed c (g .arguments) (a .arguments)));
+          fit = subst (All (Fits (planIn n c r ts .area) (planIn n c r ts .copies))) (sym same) (planned-fit n c r ts);
+          total = ap sizesOf same ∙ placements-sizes c (rulesOf c) k ts ∙ planned-values n c r ts;
+        }
+    go (no reason place) e = record { few = omega arith; types = omega arith; spans = omega arith; held = none-all _; fit = none-all _; total = refl }
+
+-- ---- the same of what the reader and the planner answered
+
+module _ (s : List ℕ) (g : SignatureRead) (p : Plan) (read : g ≡ signatureAnswer (signatureOf s)) where
+  pub plan-same : p ≡ planned g → p ≡ planFor s
+  plan-same e = e ∙ ap planned read ∙ planned-answer (signatureOf s)
+
+  pub carried-same : p ≡ planFor s → Carried g p
+  carried-same e = rw (read, e) (carried s)

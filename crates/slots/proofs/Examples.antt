@@ -1,0 +1,46 @@
+-- Worked examples of the forms, for a reader to compare with document 01, "What stands in a slot". Each computes. Assumes nothing.
+use mathlib.Core.Path.{_≡_, refl}
+use mathlib.Core.List.{[], _∷_}
+use Rattle.words.specs.Numbers.{bytesOf, valueOf, zeroExtended, signBit, signExtended}
+use Rattle.types.specs.declared.IntegerKind.{IntegerKind}
+use Rattle.types.specs.declared.FloatFormat.{FloatFormat}
+use Rattle.types.specs.declared.Equivalent.{Equivalent}
+use Rattle.types.specs.declared.ValueType.{ValueType}
+use Rattle.convention.specs.declared.Rules.{Rules}
+use Rattle.convention.specs.Power.{words}
+use Rattle.convention.specs.Step.{ppc64}
+use Rattle.slots.specs.Forms.{startsAtHead, extended, homeBytes, floatBytes}
+
+-- a struct of three bytes
+three : ValueType
+three = ValueType.Struct (record { size = 3; align = 1; equivalent = Equivalent.Nothing })
+
+-- "Wholes are sign- or zero-extended to 64 bits": the i16 -2, and the u16 65534
+signed : homeBytes ppc64 (ValueType.Integer IntegerKind.I16) 2 (0xff ∷ 0xfe ∷ [])
+    ≡ 0xff ∷ 0xff ∷ 0xff ∷ 0xff ∷ 0xff ∷ 0xff ∷ 0xff ∷ 0xfe ∷ []
+unfolding homeBytes startsAtHead extended words bytesOf valueOf signExtended zeroExtended signBit
+signed = refl
+
+unsigned : homeBytes ppc64 (ValueType.Integer IntegerKind.U16) 2 (0xff ∷ 0xfe ∷ []) ≡ 0 ∷ 0 ∷ 0 ∷ 0 ∷ 0 ∷ 0 ∷ 0xff ∷ 0xfe ∷ []
+unfolding homeBytes startsAtHead extended words bytesOf valueOf zeroExtended
+unsigned = refl
+
+-- "in memory it is the second word, the first zero": the single 1.0
+single-in-memory : homeBytes ppc64 (ValueType.Float FloatFormat.Single) 4 (0x3f ∷ 0x80 ∷ 0 ∷ 0 ∷ []) ≡ 0 ∷ 0 ∷ 0 ∷ 0 ∷ 0x3f ∷ 0x80 ∷ 0 ∷ 0 ∷ []
+unfolding homeBytes startsAtHead extended words bytesOf valueOf zeroExtended
+single-in-memory = refl
+
+-- "A Z single stands in the upper half of its FPR, lower half zero"
+z-single : floatBytes Rules.Z (ValueType.Float FloatFormat.Single) (0x3f ∷ 0x80 ∷ 0 ∷ 0 ∷ []) ≡ 0x3f ∷ 0x80 ∷ 0 ∷ 0 ∷ 0 ∷ 0 ∷ 0 ∷ 0 ∷ []
+unfolding floatBytes bytesOf valueOf
+z-single = refl
+
+-- "On PPC64 every struct starts at its first doubleword's head, zeros at its tail"
+power-struct : homeBytes ppc64 three 3 (1 ∷ 2 ∷ 3 ∷ []) ≡ 1 ∷ 2 ∷ 3 ∷ 0 ∷ 0 ∷ 0 ∷ 0 ∷ 0 ∷ []
+unfolding homeBytes startsAtHead words three
+power-struct = refl
+
+-- on Z "other small ones are right-justified, zeros above"
+z-struct : homeBytes Rules.Z (ValueType.Struct (record { size = 2; align = 1; equivalent = Equivalent.Nothing })) 2 (1 ∷ 2 ∷ []) ≡ 0 ∷ 0 ∷ 0 ∷ 0 ∷ 0 ∷ 0 ∷ 1 ∷ 2 ∷ []
+unfolding homeBytes startsAtHead extended bytesOf valueOf zeroExtended
+z-struct = refl

@@ -1,0 +1,11 @@
+-- Laws that belong to no one function.
+pub mod Forms
+pub mod Typed
+pub mod Held
+pub mod Planned
+pub mod Buffers
+pub mod Answered
+pub mod Turns
+pub mod Refusals
+pub mod Examples
+pub mod Limits

@@ -1,0 +1,27 @@
+-- The laws of tests in order. Assumes nothing.
+use mathlib.Core.Path.{_≡_, refl}
+use mathlib.Core.Bool.{Bool, true, false}
+use mathlib.Core.List.{List, _∷_}
+use Prim.Native.Nat.{ℕ}
+use native.Mathlib.Omega.{arith}
+use borrow.Author.Tests.{eqb-true}
+use lib.Dec.{eqb}
+use Rattle.convention.specs.Values.{pick}
+use Rattle.slots.specs.declared.Answer.{Answer}
+use Rattle.slots.specs.Refusals.{Test, differ, firstOf}
+
+-- where nothing is refused, no test holds
+pub first-done : (t : Test) (ts : List Test) → firstOf (t ∷ ts) ≡ Answer.Done → (t .holds ≡ false) × (firstOf ts ≡ Answer.Done)
+unfolding firstOf
+first-done t ts = go (t .holds)
+  where
+    go : (b : Bool) → pick b (Answer.Refused (t .reason) 0) (firstOf ts) ≡ Answer.Done → (b ≡ false) × (firstOf ts ≡ Answer.Done)
+    go true e = let z : _≡_ {A = ℕ} 0 1 = cc in absurd (omega arith)
+    go false e = (refl, e)
+
+pub differ-false : (m n : ℕ) → differ m n ≡ false → m ≡ n
+differ-false m n = go (eqb m n) refl
+  where
+    go : (b : Bool) → eqb m n ≡ b → pick b false true ≡ false → m ≡ n
+    go true q e = eqb-true m n q
+    go false q e = let z : _≡_ {A = ℕ} 0 1 = cc in absurd (omega arith)

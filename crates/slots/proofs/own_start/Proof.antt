@@ -1,0 +1,27 @@
+-- At the head, or in the last n bytes of the only word.
+use mathlib.Core.Path.{sym, _∙_}
+use Prim.Native.Nat.{_-_}
+use native.Mathlib.Omega.{arith}
+use Rattle.slots.specs.Forms.{ownStart}
+use borrow.Author.Needs.{needs}
+use Rattle.slots.proofs.own_start.Statement.{statement}
+use Rattle.slots.proofs.own_start.Tie as tie
+
+starts-at-head-requires : tie.Need-starts-at-head-requires
+starts-at-head-requires c κs = search needs
+
+returns : tie.Need-returns
+unfolding ownStart
+returns c = rw (sym (c .before .starts-at-head .ensures) ∙ c .if1 .taken)
+
+sub-result : tie.Need-sub-result
+sub-result c = omega (arith, c .before .before .pre (sym (c .before .starts-at-head .ensures) ∙ c .if1 .left))
+
+returns-2 : tie.Need-returns-2
+unfolding ownStart
+returns-2 c =
+    let h = sym (c .before .starts-at-head .ensures) ∙ c .if1 .left in
+    rw (h, c .before .before .pre h .1)
+
+pub own-start-spec : {M : Type 1} → statement M
+own-start-spec = tie.close (tie.spec starts-at-head-requires returns sub-result returns-2)

@@ -1,0 +1,39 @@
+-- The arguments of a signature with their places: the reader's types and the planner's spans. Assumes nothing.
+use Prim.Native.Nat.{ℕ, _≤_}
+use mathlib.Core.Path.{_≡_}
+use mathlib.Core.List.{List}
+use lib.ListN.{length}
+use Rattle.signature.specs.declared.SignatureRead.{SignatureRead}
+use Rattle.signature.specs.Read.{signatureOf}
+use Rattle.signature.specs.Answer.{signatureAnswer}
+use Rattle.convention.specs.declared.Rules.{Rules}
+use Rattle.convention.specs.Step.{rulesOf}
+use Rattle.plan.specs.declared.Plan.{Plan}
+use Rattle.plan.specs.Plan.{planAnswer, typesIn}
+use Rattle.slots.specs.Placements.{Placement, placements}
+use Rattle.slots.specs.Limits.{Held, Fits, All, sizesOf}
+
+-- of a signature that was read, with its plan
+unfoldable pub argumentsIn : SignatureRead → Plan → List Placement
+argumentsIn g p = placements (g .convention) (typesIn g) (p .spans)
+
+-- of a signature's bytes; none of a refused one
+unfoldable pub argumentsOf : List ℕ → List Placement
+argumentsOf s = argumentsIn (signatureAnswer (signatureOf s)) (planAnswer (signatureOf s))
+
+-- the plan of a signature's bytes, and the rules of its convention
+abbrev pub planFor : List ℕ → Plan
+planFor s = planAnswer (signatureOf s)
+
+abbrev pub rulesFor : List ℕ → Rules
+rulesFor s = rulesOf (signatureAnswer (signatureOf s) .convention)
+
+-- What holds of every signature's arguments, whatever its bytes (law `carried`): there are at most 64; each is held by its span, and
+-- lies in the area and the copies of its plan; their sizes are those of the values.
+pub record Carried (g : SignatureRead) (p : Plan) : Type 0 where
+  pub few : g .count ≤ 64
+  pub types : g .count ≤ length (g .arguments)
+  pub spans : g .count ≤ length (p .spans)
+  pub held : All (Held (rulesOf (g .convention))) (argumentsIn g p)
+  pub fit : All (Fits (p .area) (p .copies)) (argumentsIn g p)
+  pub total : sizesOf (argumentsIn g p) ≡ p .values

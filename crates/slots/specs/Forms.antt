@@ -1,0 +1,104 @@
+-- The form of a value in its place. Document 01, "What stands in a slot". A form is a list of bytes: that of a value in general
+-- registers and memory, word after word, and that of a float in an FPR. n is the value's size in bytes, v its bytes.
+-- Assumes nothing.
+-- ---- in general registers and memory
+use Prim.Native.Nat.{ℕ, _+_, _-_, _*_, _^_}
+use mathlib.Core.Bool.{Bool, true, false}
+use mathlib.Core.List.{List, [], _++_}
+use lib.ListN.{take, replicate}
+use Rattle.words.specs.Numbers.{bytesOf, valueOf, zeroExtended, signExtended}
+use Rattle.ieee.specs.declared.Narrowed.{Narrowed}
+use Rattle.ieee.specs.Widening.{widen}
+use Rattle.ieee.specs.Narrowing.{narrow}
+use Rattle.types.specs.declared.IntegerKind.{IntegerKind}
+use Rattle.types.specs.declared.FloatFormat.{FloatFormat}
+use Rattle.types.specs.declared.Equivalent.{Equivalent}
+use Rattle.types.specs.declared.ValueType.{ValueType}
+use Rattle.types.specs.Sizes.{equivalentOf}
+use Rattle.convention.specs.declared.Rules.{Rules}
+use Rattle.convention.specs.Values.{pick}
+use Rattle.convention.specs.Power.{words}
+
+-- the bytes of the words that a value takes: "Sizes in doublewords .. struct size / 8 rounded up"; Z: "8 stack bytes", or a register
+abbrev pub roomOf : Rules → ℕ → ℕ
+roomOf (Rules.Power f) n = f .word * words (f .word) n
+roomOf Rules.Z n = 8
+
+-- the integers in two's complement, those of the codes "i8 .. i16 .. i32 .. i64"
+abbrev pub signedKind : IntegerKind → Bool
+signedKind IntegerKind.I8 = true
+signedKind IntegerKind.U8 = false
+signedKind IntegerKind.I16 = true
+signedKind IntegerKind.U16 = false
+signedKind IntegerKind.I32 = true
+signedKind IntegerKind.U32 = false
+signedKind IntegerKind.I64 = true
+signedKind IntegerKind.U64 = false
+signedKind IntegerKind.Pointer = false
+
+abbrev pub isSigned : ValueType → Bool
+isSigned (ValueType.Integer k) = signedKind k
+isSigned (ValueType.Float f) = false
+isSigned (ValueType.Struct s) = false
+
+-- "On PPC64 every struct starts at its first doubleword's head, zeros at its tail"; a long double fills its words. Every other
+-- value stands at the end of its word: an integer, a single in memory ("the second word, the first zero"; Z: "right-justified on
+-- the stack"), and on Z a small struct ("right-justified, zeros above")
+abbrev pub headFirst : ValueType → Bool
+headFirst (ValueType.Integer k) = false
+headFirst (ValueType.Float FloatFormat.Single) = false
+headFirst (ValueType.Float FloatFormat.Double) = false
+headFirst (ValueType.Float FloatFormat.LongDouble) = true
+headFirst (ValueType.Struct s) = true
+
+unfoldable pub startsAtHead : Rules → ValueType → Bool
+startsAtHead (Rules.Power f) t = headFirst t
+startsAtHead Rules.Z t = false
+
+-- "Wholes are sign- or zero-extended to 64 bits"; of everything else the bytes above are zeros
+unfoldable pub extended : ValueType → ℕ → ℕ → ℕ
+extended t n x = pick (isSigned t) (signExtended n x) (zeroExtended n x)
+
+-- the form of a value in general registers and memory
+unfoldable pub homeBytes : Rules → ValueType → ℕ → List ℕ → List ℕ
+homeBytes r t n v =
+    pick (startsAtHead r t) (v ++ replicate (roomOf r n - n) 0) (bytesOf (roomOf r n) (extended t n (valueOf v)))
+
+-- where in that form the value's own bytes start: "Reading takes a value's own bytes and ignores the slot's padding"
+unfoldable pub ownStart : Rules → ValueType → ℕ → ℕ
+ownStart r t n = pick (startsAtHead r t) 0 (roomOf r n - n)
+
+-- ---- in a floating register
+
+-- a single's bits x as the 64 bits of its FPR: "A PPC64 single is widened bit for bit in an FPR, never quieted"; "A Z single stands
+-- in the upper half of its FPR, lower half zero (ours)"
+abbrev pub singleWord : Rules → ℕ → ℕ
+singleWord (Rules.Power f) x = widen x
+singleWord Rules.Z x = x * 2 ^ 32
+
+-- "On Z, a struct placed as a float stands as that float": it is told by the float that the type is equivalent to
+abbrev pub floatWord : Rules → Equivalent → ℕ → ℕ
+floatWord r Equivalent.Single x = singleWord r x
+floatWord r Equivalent.Double x = x
+floatWord r Equivalent.Nothing x = x
+
+-- the form of a value in an FPR
+unfoldable pub floatBytes : Rules → ValueType → List ℕ → List ℕ
+floatBytes r t v = bytesOf 8 (floatWord r (equivalentOf t) (valueOf v))
+
+-- the value's own bytes in an FPR's eight: a single's four, of which there are none where the FPR is no widened single (14)
+abbrev pub narrowedBytes : Narrowed → List ℕ
+narrowedBytes (Narrowed.Single x) = bytesOf 4 x
+narrowedBytes Narrowed.NotWidened = []
+
+abbrev pub singleValue : Rules → List ℕ → List ℕ
+singleValue (Rules.Power f) bs = narrowedBytes (narrow (valueOf bs))
+singleValue Rules.Z bs = take 4 bs
+
+abbrev pub floatValueAs : Rules → Equivalent → List ℕ → List ℕ
+floatValueAs r Equivalent.Single bs = singleValue r bs
+floatValueAs r Equivalent.Double bs = bs
+floatValueAs r Equivalent.Nothing bs = bs
+
+unfoldable pub floatValue : Rules → ValueType → List ℕ → List ℕ
+floatValue r t bs = floatValueAs r (equivalentOf t) bs

@@ -1,0 +1,52 @@
+-- What holds of each argument of a plan: how its span and its form agree, and that its places lie in the plan's area and
+-- copies. The law `carried` has it of every signature. Assumes nothing.
+use Prim.Native.Nat.{ℕ, _+_, _*_, _%_, _≤_, _<_}
+use mathlib.Core.Path.{_≡_}
+use mathlib.Core.Bool.{true, false}
+use mathlib.Core.List.{List, [], _∷_}
+use Rattle.types.specs.declared.Equivalent.{Equivalent}
+use Rattle.types.specs.Sizes.{equivalentOf}
+use Rattle.convention.specs.declared.Rules.{Rules}
+use Rattle.slots.specs.Forms.{roomOf, startsAtHead}
+use Rattle.slots.specs.Placements.{Placement}
+
+-- the size of the float that a type is equivalent to
+abbrev pub FloatSized : Equivalent → ℕ → Type 0
+FloatSized Equivalent.Single n = n ≡ 4
+FloatSized Equivalent.Double n = n ≡ 8
+FloatSized Equivalent.Nothing n = ⊥
+
+-- the span has room for exactly the argument's form
+pub record Held (r : Rules) (p : Placement) : Type 0 where
+  -- an FPR holds a whole float, and then nothing else does
+  pub floats : p .span .floating .count ≤ 1
+  pub alone : p .span .floating .count ≡ 1 → (p .span .general .count ≡ 0) × (p .span .memory .length ≡ 0)
+  pub direct : p .span .floating .count ≡ 1 → p .span .indirect ≡ false
+  pub float : p .span .floating .count ≡ 1 → FloatSized (equivalentOf (p .ty)) (p .size)
+  -- else general registers and memory hold all words
+  pub words : p .span .floating .count ≡ 0 → 8 * p .span .general .count + p .span .memory .length ≡ roomOf r (p .size)
+  pub doublewords : p .span .memory .length % 8 ≡ 0
+  -- zeros fill the last of them
+  pub head : startsAtHead r (p .ty) ≡ true → (p .size ≤ roomOf r (p .size)) × (roomOf r (p .size) < p .size + 8)
+  pub whole : startsAtHead r (p .ty) ≡ true → p .span .indirect ≡ false
+  -- or there is one word
+  pub end : startsAtHead r (p .ty) ≡ false → roomOf r (p .size) ≡ 8
+  pub small : startsAtHead r (p .ty) ≡ false → p .span .indirect ≡ false → (1 ≤ p .size) × (p .size ≤ 8)
+  pub copied : p .span .indirect ≡ true → p .span .copy .length ≡ p .size
+
+-- the places lie in the registers' banks, in an area of a bytes, and in copies of c bytes
+pub record Fits (a c : ℕ) (p : Placement) : Type 0 where
+  pub general : p .span .general .first + p .span .general .count ≤ 32
+  pub floating : p .span .floating .first + p .span .floating .count ≤ 32
+  pub memory : p .span .memory .start + p .span .memory .length ≤ a
+  pub copies : p .span .copy .start + p .span .copy .length ≤ c
+
+-- each of several
+unfoldable pub All : (Placement → Type 0) → List Placement → Type 0
+All P [] = Unit {0}
+All P (p ∷ ps) = P p × All P ps
+
+-- the bytes of all values
+unfoldable pub sizesOf : List Placement → ℕ
+sizesOf [] = 0
+sizesOf (p ∷ ps) = p .size + sizesOf ps

@@ -1,0 +1,95 @@
+-- An argument with its place: its type, its size and its span of the plan; the slots that it is put in, and its value read back.
+-- Document 01, "What stands in a slot". Assumes nothing.
+use Prim.Native.Nat.{ℕ, _+_, _-_, _*_}
+use mathlib.Core.List.{List, [], _∷_, _++_}
+use lib.ListN.{take, drop}
+use lib.Dec.{ltb}
+use Rattle.words.specs.Splice.{part}
+use Rattle.words.specs.Numbers.{bytesOf, valueOf}
+use Rattle.types.specs.declared.Convention.{Convention}
+use Rattle.types.specs.declared.ValueType.{ValueType}
+use Rattle.types.specs.Sizes.{sizeOf}
+use Rattle.convention.specs.declared.Rules.{Rules}
+use Rattle.convention.specs.declared.Span.{Span}
+use Rattle.convention.specs.declared.ResultPlaces.{ResultPlaces}
+use Rattle.convention.specs.Values.{pick}
+use Rattle.convention.specs.Spots.{general, floating, area, copies}
+use Rattle.slots.specs.Buffers.{Buffers, Slot, slot, bytesAt}
+use Rattle.slots.specs.Forms.{homeBytes, floatBytes, floatValue, ownStart}
+
+pub record Placement : Type 0 where
+  pub ty : ValueType
+  pub size : ℕ
+  pub span : Span
+
+abbrev pub placement : ValueType → ℕ → Span → Placement
+placement t n s = record { ty = t; size = n; span = s }
+
+-- the arguments in order, each type with its span
+unfoldable pub placements : Convention → List ValueType → List Span → List Placement
+placements c [] ss = []
+placements c (t ∷ ts) [] = []
+placements c (t ∷ ts) (s ∷ ss) = placement t (sizeOf c t) s ∷ placements c ts ss
+
+-- ---- the slots of an argument
+
+-- what stands in an argument's general registers and memory: the value, or the address of its copy, which is its offset in the copy
+-- buffer from the buffer's base on
+unfoldable pub standing : Rules → ℕ → Placement → List ℕ → List ℕ
+standing r base p v =
+    pick (p .span .indirect) (bytesOf 8 (base + p .span .copy .start)) (homeBytes r (p .ty) (p .size) v)
+
+-- "by pointer to a copy": the copy is the value, byte for byte
+abbrev pub copyBytes : Placement → List ℕ → List ℕ
+copyBytes p v = pick (p .span .indirect) v []
+
+-- the floating registers, the general registers, the rest of the words in memory, and the copy; none of these is there where the span
+-- has none
+unfoldable pub slotsOf : Rules → ℕ → Placement → List ℕ → List Slot
+slotsOf r base p v =
+    slot (floating (p .span .floating .first)) (take (8 * p .span .floating .count) (floatBytes r (p .ty) v))
+    ∷ slot (general (p .span .general .first)) (take (8 * p .span .general .count) (standing r base p v))
+    ∷ slot (area (p .span .memory .start)) (part (8 * p .span .general .count) (p .span .memory .length) (standing r base p v))
+    ∷ slot (copies (p .span .copy .start)) (copyBytes p v)
+    ∷ []
+
+-- "The value buffer holds the arguments in order without gaps": the slots of all arguments, left to right
+unfoldable pub slotsOfAll : Rules → ℕ → List Placement → List ℕ → List Slot
+slotsOfAll r base [] v = []
+slotsOfAll r base (p ∷ ps) v = slotsOf r base p (take (p .size) v) ++ slotsOfAll r base ps (drop (p .size) v)
+
+-- the hidden address in its register; "The hidden address is ignored where none is needed"
+abbrev pub hiddenSlots : ResultPlaces → ℕ → List Slot
+hiddenSlots ResultPlaces.Nothing address = []
+hiddenSlots (ResultPlaces.Registers s) address = []
+hiddenSlots (ResultPlaces.Hidden s) address = slot (general (s .general .first)) (bytesOf 8 address) ∷ []
+
+-- ---- a value read back
+
+-- the words of an argument, as they stand in its general registers and memory
+unfoldable pub wordsAt : Span → Buffers → List ℕ
+wordsAt s b = bytesAt (general (s .general .first)) (8 * s .general .count) b ++ bytesAt (area (s .memory .start)) (s .memory .length) b
+
+-- an FPR's eight bytes
+abbrev pub floatAt : Span → Buffers → List ℕ
+floatAt s b = bytesAt (floating (s .floating .first)) 8 b
+
+-- the address of an argument that is passed by pointer
+abbrev pub addressAt : Span → Buffers → ℕ
+addressAt s b = valueOf (wordsAt s b)
+
+-- "Reading takes a value's own bytes and ignores the slot's padding": of its words; or, by the address in the slot, of the copies
+unfoldable pub wordsValue : Rules → ℕ → Placement → Buffers → List ℕ
+wordsValue r base p b =
+    pick (p .span .indirect) (bytesAt (copies (addressAt (p .span) b - base)) (p .size) b)
+    (part (ownStart r (p .ty) (p .size)) (p .size) (wordsAt (p .span) b))
+
+-- "it prefers an FPR to memory"
+unfoldable pub valueAt : Rules → ℕ → Placement → Buffers → List ℕ
+valueAt r base p b =
+    pick (ltb 0 (p .span .floating .count)) (floatValue r (p .ty) (floatAt (p .span) b)) (wordsValue r base p b)
+
+-- the value buffer: all arguments in order
+unfoldable pub valuesAt : Rules → ℕ → List Placement → Buffers → List ℕ
+valuesAt r base [] b = []
+valuesAt r base (p ∷ ps) b = valueAt r base p b ++ valuesAt r base ps b

@@ -1,0 +1,60 @@
+-- The refusals after reading. Document 01, "When the bridge says no": their numbers, and the first that holds of several.
+-- Assumes nothing.
+use Prim.Native.Nat.{ℕ}
+use mathlib.Core.Bool.{Bool, true, false}
+use mathlib.Core.List.{List, [], _∷_}
+use lib.Dec.{eqb}
+use Rattle.items.specs.Refusals as items
+use Rattle.signature.specs.declared.Outcome.{Outcome}
+use Rattle.convention.specs.Values.{pick}
+use Rattle.slots.specs.declared.Refusal.{Refusal}
+use Rattle.slots.specs.declared.Answer.{Answer}
+
+abbrev pub numberOf : Refusal → ℕ
+-- 1 to 9
+numberOf (Refusal.Signature r) = items.numberOf r
+-- "value buffer not exactly the arguments' total size"
+numberOf Refusal.ValuesSize = 10
+-- "parameter buffer shorter than the area"
+numberOf Refusal.AreaTooShort = 11
+-- "filling only: last copy ends at C, C above 0, and copy buffer under C, base not a multiple of 8, or base + C over 2^64 - 1"
+numberOf Refusal.BadCopies = 12
+-- "a by-pointer argument not wholly inside the copy buffer"
+numberOf Refusal.OutsideCopies = 13
+-- "a single's PPC64 FPR that is no widened single"
+numberOf Refusal.NotWidened = 14
+-- "register image not 512 bytes"
+numberOf Refusal.ImageSize = 15
+-- "home or view asked of Z, or a view of an argument that isn't there"
+numberOf Refusal.NoView = 24
+
+-- "not exactly", "not 512 bytes": two numbers are not the same
+abbrev pub differ : ℕ → ℕ → Bool
+differ m n = pick (eqb m n) false true
+
+-- a test that refuses where it holds
+pub record Test : Type 0 where
+  pub holds : Bool
+  pub reason : Refusal
+
+abbrev pub test : Bool → Refusal → Test
+test b r = record { holds = b; reason = r }
+
+-- the answer of tests in order: the first that holds refuses; "place .. 0 for refusals 1 and 10 to 24"
+unfoldable pub firstOf : List Test → Answer
+firstOf [] = Answer.Done
+firstOf (t ∷ ts) = pick (t .holds) (Answer.Refused (t .reason) 0) (firstOf ts)
+
+-- a signature's refusal comes before all others
+abbrev pub afterReading : Outcome → Answer → Answer
+afterReading (Outcome.Accepted n) a = a
+afterReading (Outcome.Refused reason place) a = Answer.Refused (Refusal.Signature reason) place
+
+-- of two answers, the first that refuses
+abbrev pub orElse : Answer → Answer → Answer
+orElse Answer.Done a = a
+orElse (Answer.Refused reason place) a = Answer.Refused reason place
+
+abbrev pub isDone : Answer → Bool
+isDone Answer.Done = true
+isDone (Answer.Refused reason place) = false

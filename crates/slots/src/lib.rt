@@ -1,0 +1,150 @@
+// What stands in the slots of one argument: the 64 bits of a value in a general register, in memory or in an FPR, and the refusals
+// of filling, reading, home and view.
+use convention::Rules;
+use ieee::Narrowed;
+use types::Equivalent;
+use types::FloatFormat;
+use types::IntegerKind;
+use types::ValueType;
+ghost use mathlib.Core.Path.{_≡_};
+ghost use mathlib.Core.Bool.{false};
+ghost use Prim.Native.Nat.{_^_, _≤_, _<_};
+ghost use lib.ListN.{length};
+ghost use Rattle.types.specs.declared.Equivalent.{Equivalent};
+ghost use Rattle.types.specs.Sizes.{equivalentOf};
+ghost use Rattle.words.specs.Numbers.{valueOf};
+ghost use Rattle.slots.specs.Forms.{signedKind, isSigned, headFirst, startsAtHead, extended, roomOf, ownStart, singleWord, floatWord};
+ghost use Rattle.slots.specs.Refusals.{numberOf};
+
+// Why a call is refused; `number_of` gives document 01's number.
+pub enum Refusal {
+    Signature(items::Refusal),
+    ValuesSize,
+    AreaTooShort,
+    BadCopies,
+    OutsideCopies,
+    NotWidened,
+    ImageSize,
+    NoView,
+}
+
+// The answer of a call: done, or why and where refused. Only a signature's refusal has a place other than 0.
+pub enum Answer {
+    Done,
+    Refused { reason: Refusal, place: usize },
+}
+
+pub fn number_of(r: Refusal) -> u64
+    ensures { λ n. ⌜ n ≡ numberOf r ⌝ }
+{
+    match r {
+        Refusal::Signature(s) => items::number_of(s),
+        Refusal::ValuesSize => 10,
+        Refusal::AreaTooShort => 11,
+        Refusal::BadCopies => 12,
+        Refusal::OutsideCopies => 13,
+        Refusal::NotWidened => 14,
+        Refusal::ImageSize => 15,
+        Refusal::NoView => 24,
+    }
+}
+
+fn signed_kind(k: IntegerKind) -> bool
+    ensures { λ b. ⌜ b ≡ signedKind k ⌝ }
+{
+    match k {
+        IntegerKind::I8 => true,
+        IntegerKind::U8 => false,
+        IntegerKind::I16 => true,
+        IntegerKind::U16 => false,
+        IntegerKind::I32 => true,
+        IntegerKind::U32 => false,
+        IntegerKind::I64 => true,
+        IntegerKind::U64 => false,
+        IntegerKind::Pointer => false,
+    }
+}
+
+fn is_signed(t: ValueType) -> bool
+    ensures { λ b. ⌜ b ≡ isSigned t ⌝ }
+{
+    match t {
+        ValueType::Integer(k) => signed_kind(k),
+        ValueType::Float(_) => false,
+        ValueType::Struct(_) => false,
+    }
+}
+
+fn head_first(t: ValueType) -> bool
+    ensures { λ b. ⌜ b ≡ headFirst t ⌝ }
+{
+    match t {
+        ValueType::Integer(_) => false,
+        ValueType::Float(f) => match f {
+            FloatFormat::Single => false,
+            FloatFormat::Double => false,
+            FloatFormat::LongDouble => true,
+        },
+        ValueType::Struct(_) => true,
+    }
+}
+
+// Whether a value starts at the head of its first word, and zeros fill the last one; else it stands at the end of its only word.
+pub fn starts_at_head(r: Rules, t: ValueType) -> bool
+    ensures { λ b. ⌜ b ≡ startsAtHead r t ⌝ }
+{
+    match r {
+        Rules::Power(_) => head_first(t),
+        Rules::Z => false,
+    }
+}
+
+// The 64 bits of a value that stands at the end of its word.
+pub fn value_word(t: ValueType, v: &[u8]) -> u64
+    requires { ⌜ (1 ≤ length (now v)) × (length (now v) ≤ 8) ⌝ }
+    ensures { λ x. ⌜ x ≡ extended t (length (now (v .entry))) (valueOf (now (v .entry))) ⌝ }
+{
+    let n = v.len();
+    let x = words::load(v, 0, n);
+    if is_signed(t) {
+        return words::sign_extend(x, n);
+    }
+    words::zero_extend(x, n)
+}
+
+// The 64 bits of an FPR that holds a single.
+fn single_word(r: Rules, x: u64) -> u64
+    requires { ⌜ x < 2 ^ 32 ⌝ }
+    ensures { λ d. ⌜ d ≡ singleWord r x ⌝ }
+{
+    match r {
+        Rules::Power(_) => ieee::widen(x as u32),
+        Rules::Z => x * 0x1_0000_0000,
+    }
+}
+
+// The 64 bits of an FPR that holds a float, or on Z a struct that is placed as one.
+pub fn float_word(r: Rules, t: ValueType, v: &[u8]) -> u64
+    requires { ⌜ (length (now v) ≤ 8) × (equivalentOf t ≡ Equivalent.Single → length (now v) ≡ 4) ⌝ }
+    ensures { λ d. ⌜ d ≡ floatWord r (equivalentOf t) (valueOf (now (v .entry))) ⌝ }
+{
+    let n = v.len();
+    let x = words::load(v, 0, n);
+    let e = types::equivalent_of(t);
+    match e {
+        Equivalent::Nothing => x,
+        Equivalent::Single => single_word(r, x),
+        Equivalent::Double => x,
+    }
+}
+
+// Where in its words a value's own bytes start: a value of n bytes that stands at the end of its word is in the last n of eight.
+pub fn own_start(r: Rules, t: ValueType, n: usize) -> usize
+    requires { ⌜ (startsAtHead r t ≡ false → (n ≤ 8) × (roomOf r n ≡ 8)) ⌝ }
+    ensures { λ at. ⌜ at ≡ ownStart r t n ⌝ }
+{
+    if starts_at_head(r, t) {
+        return 0;
+    }
+    8 - n
+}
