@@ -1,8 +1,13 @@
 //! The planner once more, as a program has it that plans often: from the bytes to the plan in one
-//! pass and without trees. `planner` is the one to read next to the document. This one is what
-//! time is measured against, and the comparisons hold it to that one.
+//! pass and without trees; and filling and reading by its plans. `planner` and `marshal` are the
+//! ones to read next to the document. These are what time is measured against, and the comparisons
+//! hold them to those.
 
 use crate::{Convention, Place, Refusal, ResultPlan};
+
+mod marshal;
+
+pub use marshal::{fill, read};
 
 /// Registers that follow each other, on Z always one.
 #[derive(Clone, Copy, Debug, Default, PartialEq, Eq)]
@@ -28,6 +33,20 @@ pub struct Argument {
     pub offset: Option<u16>,
     /// Where the copy starts, if the argument is passed by reference.
     pub copy: Option<u16>,
+    /// The bytes of its value.
+    pub size: u16,
+    pub content: Content,
+}
+
+/// All that matters for how a value stands in its place, beside its size.
+#[derive(Clone, Copy, Debug, Default, PartialEq, Eq)]
+pub enum Content {
+    SignedInteger,
+    UnsignedInteger,
+    Float,
+    /// A long double or a struct.
+    #[default]
+    Other,
 }
 
 #[derive(Clone, Debug, PartialEq, Eq)]
@@ -67,6 +86,7 @@ struct Shape {
     kind: Kind,
     size: usize,
     alignment: usize,
+    content: Content,
 }
 
 const INTEGER_SIZES: [usize; 9] = [1, 1, 2, 2, 4, 4, 8, 8, 8];
@@ -214,7 +234,11 @@ fn arguments(
         }
         let (shape, after) = shape(bytes, at, end, 1)?;
         values += shape.size;
-        arguments.push(place(shape));
+        arguments.push(Argument {
+            size: shape.size as u16,
+            content: shape.content,
+            ..place(shape)
+        });
         at = after;
     }
     Ok((arguments, values))
@@ -241,21 +265,30 @@ fn shape(bytes: &[u8], at: usize, limit: usize, depth: usize) -> Result<(Shape, 
     let end = header(bytes, at, limit, |tag| matches!(tag, 0x10..=0x12))?;
     let body = &bytes[at + 3..end];
     let shape = match (bytes[at], body) {
-        (0x10, &[code @ 0..=8]) => scalar(Kind::Integer, INTEGER_SIZES[usize::from(code)]),
+        (0x10, &[code @ 0..=8]) => {
+            let content = match code {
+                0 | 2 | 4 | 6 => Content::SignedInteger,
+                _ => Content::UnsignedInteger,
+            };
+            scalar(Kind::Integer, INTEGER_SIZES[usize::from(code)], content)
+        }
         (0x11, &[2]) if depth > 1 => return refuse(5, at),
-        (0x11, &[2]) => scalar(Kind::LongDouble, 16),
-        (0x11, &[code @ 0..=1]) => scalar(Kind::Float, FLOAT_SIZES[usize::from(code)]),
+        (0x11, &[2]) => scalar(Kind::LongDouble, 16, Content::Other),
+        (0x11, &[code @ 0..=1]) => {
+            scalar(Kind::Float, FLOAT_SIZES[usize::from(code)], Content::Float)
+        }
         (0x12, _) => struct_shape(bytes, at, end, depth)?,
         _ => return refuse(4, at),
     };
     Ok((shape, end))
 }
 
-fn scalar(kind: Kind, size: usize) -> Shape {
+fn scalar(kind: Kind, size: usize, content: Content) -> Shape {
     Shape {
         kind,
         size,
         alignment: size,
+        content,
     }
 }
 
@@ -288,6 +321,7 @@ fn struct_shape(bytes: &[u8], at: usize, end: usize, depth: usize) -> Result<Sha
         kind,
         size,
         alignment,
+        content: Content::Other,
     })
 }
 

@@ -9,6 +9,7 @@ pub mod compact;
 pub mod float_bits;
 mod listing;
 pub mod machine;
+pub mod marshal;
 mod planner;
 mod reader;
 mod types;
