@@ -1,0 +1,233 @@
+-- One argument: what its slots hold once they are put, that later slots leave it, and that reading it gives the value back.
+-- Assumes nothing.
+use mathlib.Core.Path.{_≡_, refl, sym, ap, ap₂, _∙_}
+use mathlib.Core.Logic.{inr}
+use mathlib.Core.Bool.{Bool, true, false}
+use mathlib.Core.List.{List, [], _++_}
+use Prim.Native.Nat.{ℕ, _+_, _-_, _*_, _^_, _≤_, _<_}
+use native.Mathlib.Omega.{arith}
+use native.Mathlib.Nat.{add-sub-cancel-left}
+use borrow.Author.Tests.{ltb-true, ltb-false, le-leb}
+use lib.Dec.{ltb}
+use lib.ListN.{length, take}
+use lib.Seq.{take-all, take-add, length-take-le}
+use Rattle.words.specs.Splice.{splice, part}
+use Rattle.words.specs.Numbers.{Bytes, bytesOf, valueOf}
+use Rattle.words.proofs.Splices.{splice-same, splice-other, length-splice, length-part}
+use Rattle.words.proofs.Numbers.{length-bytesOf, value-back}
+use Rattle.types.specs.Sizes.{equivalentOf}
+use Rattle.convention.specs.declared.Cursor.{Cursor}
+use Rattle.convention.specs.declared.Rules.{Rules}
+use Rattle.convention.specs.Values.{pick}
+use Rattle.convention.specs.Spots.{general, floating, area, copies}
+use Rattle.slots.specs.declared.Answer.{Answer}
+use Rattle.slots.specs.Buffers.{Buffers, Slot, put, putAll, bytesAt}
+use Rattle.slots.specs.Forms.{roomOf, homeBytes, ownStart, floatWord, floatBytes, floatValueAs, floatValue}
+use Rattle.slots.specs.Placements.{Placement, standing, copyBytes, slotsOf, wordsAt, floatAt, addressAt, wordsValue, valueAt}
+use Rattle.slots.specs.Limits.{Held, Fits}
+use Rattle.slots.proofs.Limits.{one-word, indirect-end}
+use Rattle.read.specs.Read.{floatAnswer, inCopies, copyAnswer, argumentAnswer}
+use Rattle.roundtrip.proofs.Kept.{Upto, Banked, AllLater, kept-all}
+use Rattle.roundtrip.proofs.Forms.{float-back, own-back, length-home}
+
+-- what the buffers b hold of the argument p, of value v
+pub record Stands (r : Rules) (base : ℕ) (p : Placement) (v : List ℕ) (b : Buffers) : Type 0 where
+  pub floats : bytesAt (floating (p .span .floating .first)) (8 * p .span .floating .count) b ≡ take (8 * p .span .floating .count) (floatBytes r (p .ty) v)
+  pub registers : bytesAt (general (p .span .general .first)) (8 * p .span .general .count) b ≡ take (8 * p .span .general .count) (standing r base p v)
+  pub memory : bytesAt (area (p .span .memory .start)) (p .span .memory .length) b
+      ≡ part (8 * p .span .general .count) (p .span .memory .length) (standing r base p v)
+  pub copy : bytesAt (copies (p .span .copy .start)) (length (copyBytes p v)) b ≡ copyBytes p v
+
+-- an argument, its value, and the lengths of the buffers
+pub record Given (r : Rules) (base : ℕ) (p : Placement) (v : List ℕ) (b : Buffers) : Type 0 where
+  pub held : Held r p
+  pub fits : Fits (length (b .area)) (length (b .copies)) p
+  pub image : length (b .image) ≡ 512
+  pub size : length v ≡ p .size
+  pub bytes : Bytes v
+  pub low : base + (p .span .copy .start + p .span .copy .length) < 2 ^ 64
+
+module _ (r : Rules) (base : ℕ) (p : Placement) (v : List ℕ) (b : Buffers) (g : Given r base p v b) where
+  -- ---- lengths
+
+  -- all words of an argument that is in no FPR
+  words-length : p .span .floating .count ≤ 0 → length (standing r base p v) ≡ 8 * p .span .general .count + p .span .memory .length
+  unfolding standing
+  words-length none = go (p .span .indirect) refl
+    where
+      no : p .span .floating .count ≡ 0
+      no = omega arith
+
+      go : (i : Bool) → p .span .indirect ≡ i
+          → length (pick i (bytesOf 8 (base + p .span .copy .start)) (homeBytes r (p .ty) (p .size) v)) ≡ 8 * p .span .general .count + p .span .memory .length
+      go true q = length-bytesOf 8 (base + p .span .copy .start) ∙ sym (one-word r p (g .held) none (indirect-end r p (g .held) q))
+      go false q =
+          ap (λ (n : ℕ). length (homeBytes r (p .ty) n v)) (sym (g .size))
+          ∙ length-home r (p .ty) v (λ e. rw (g .size) (g .held .head e .0))
+          ∙ ap (roomOf r) (g .size)
+          ∙ sym (g .held .words no)
+
+  floats-length : length (take (8 * p .span .floating .count) (floatBytes r (p .ty) v)) ≡ 8 * p .span .floating .count
+  unfolding floatBytes
+  floats-length =
+      length-take-le (8 * p .span .floating .count) (bytesOf 8 (floatWord r (equivalentOf (p .ty)) (valueOf v)))
+      (omega (arith, g .held .floats, length-bytesOf 8 (floatWord r (equivalentOf (p .ty)) (valueOf v))))
+
+  -- an FPR leaves no words
+  word-room : 8 * p .span .general .count + p .span .memory .length ≤ length (standing r base p v)
+  word-room = go (ltb 0 (p .span .floating .count)) refl
+    where
+      go : (f : Bool) → ltb 0 (p .span .floating .count) ≡ f → 8 * p .span .general .count + p .span .memory .length ≤ length (standing r base p v)
+      go true q =
+          let some : 0 < p .span .floating .count = ltb-true 0 (p .span .floating .count) q in
+          let one : p .span .floating .count ≡ 1 = omega (arith, g .held .floats) in
+          omega (arith, g .held .alone one)
+      go false q = let none : p .span .floating .count ≤ 0 = ltb-false 0 (p .span .floating .count) q in omega (arith, words-length none)
+
+  registers-length : length (take (8 * p .span .general .count) (standing r base p v)) ≡ 8 * p .span .general .count
+  registers-length = length-take-le (8 * p .span .general .count) (standing r base p v) (omega (arith, word-room))
+
+  memory-length : length (part (8 * p .span .general .count) (p .span .memory .length) (standing r base p v)) ≡ p .span .memory .length
+  memory-length = length-part (8 * p .span .general .count) (p .span .memory .length) (standing r base p v) (omega (arith, word-room))
+
+  copy-room : p .span .copy .start + length (copyBytes p v) ≤ length (b .copies)
+  copy-room = go (p .span .indirect) refl
+    where
+      go : (i : Bool) → p .span .indirect ≡ i → p .span .copy .start + length (pick i v []) ≤ length (b .copies)
+      go true q = omega (arith, g .held .copied q, g .size, g .fits .copies)
+      go false q = omega (arith, g .fits .copies)
+
+  -- ---- put
+  pub stands-put : Stands r base p v (putAll (slotsOf r base p v) b)
+  unfolding slotsOf putAll put bytesAt
+  stands-put =
+      let f : ℕ = 256 + 8 * p .span .floating .first in
+      let a : ℕ = 8 * p .span .general .first in
+      let fs : List ℕ = take (8 * p .span .floating .count) (floatBytes r (p .ty) v) in
+      let ws : List ℕ = take (8 * p .span .general .count) (standing r base p v) in
+      let ms : List ℕ = part (8 * p .span .general .count) (p .span .memory .length) (standing r base p v) in
+      let i : List ℕ = splice (b .image) f fs in
+      let li : length i ≡ length (b .image) = length-splice (b .image) f fs in
+      let e = floats-length in
+      let h = registers-length in
+      record {
+        floats =
+            ap (λ (m : ℕ). part f m (splice i a ws)) (sym floats-length)
+            ∙ splice-other i a ws f (length fs) (inr (omega (arith, g .fits)))
+            ∙ splice-same (b .image) f fs (omega (arith, g .fits, g .image));
+        registers =
+            ap (λ (m : ℕ). part a m (splice i a ws)) (sym registers-length)
+            ∙ splice-same i a ws (omega (arith, g .fits, g .image));
+        memory =
+            ap (λ (m : ℕ). part (p .span .memory .start) m (splice (b .area) (p .span .memory .start) ms)) (sym memory-length)
+            ∙ splice-same (b .area) (p .span .memory .start) ms (omega (arith, g .fits, memory-length));
+        copy = splice-same (b .copies) (p .span .copy .start) (copyBytes p v) copy-room;
+      }
+
+  -- ---- read
+  module _ (c : Buffers) (s : Stands r base p v c) (l : length (c .copies) ≡ length (b .copies)) where
+    words-back : p .span .floating .count ≤ 0 → wordsAt (p .span) c ≡ standing r base p v
+    unfolding wordsAt
+    words-back none =
+        ap₂ (λ (x y : List ℕ). x ++ y) (s .registers) (s .memory)
+        ∙ sym (take-add (8 * p .span .general .count) (p .span .memory .length) (standing r base p v))
+        ∙ take-all (8 * p .span .general .count + p .span .memory .length) (standing r base p v) (omega (arith, words-length none))
+
+    float-stands : 0 < p .span .floating .count → floatAt (p .span) c ≡ bytesOf 8 (floatWord r (equivalentOf (p .ty)) (valueOf v))
+    unfolding floatBytes
+    float-stands some =
+        let one : p .span .floating .count ≡ 1 = omega (arith, g .held .floats) in
+        let w : List ℕ = bytesOf 8 (floatWord r (equivalentOf (p .ty)) (valueOf v)) in
+        let x : bytesAt (floating (p .span .floating .first)) 8 c ≡ take 8 w = rw one at (s .floats) in
+        x ∙ take-all 8 w (omega (arith, length-bytesOf 8 (floatWord r (equivalentOf (p .ty)) (valueOf v))))
+
+    address-back : p .span .floating .count ≤ 0 → p .span .indirect ≡ true → addressAt (p .span) c ≡ base + p .span .copy .start
+    unfolding standing
+    address-back none q =
+        let m : standing r base p v ≡ bytesOf 8 (base + p .span .copy .start) = rw q in
+        ap valueOf (words-back none ∙ m) ∙ value-back 8 (base + p .span .copy .start) (omega (arith, g .low))
+
+    copied-back : p .span .indirect ≡ true → bytesAt (copies (p .span .copy .start)) (p .size) c ≡ v
+    copied-back q =
+        let x : bytesAt (copies (p .span .copy .start)) (length v) c ≡ v = rw q at (s .copy) in
+        ap (λ (n : ℕ). bytesAt (copies (p .span .copy .start)) n c) (sym (g .size)) ∙ x
+
+    own-value : p .span .floating .count ≤ 0 → p .span .indirect ≡ false → part (ownStart r (p .ty) (p .size)) (p .size) (wordsAt (p .span) c) ≡ v
+    unfolding standing
+    own-value none q =
+        let m : standing r base p v ≡ homeBytes r (p .ty) (p .size) v = rw q in
+        ap (part (ownStart r (p .ty) (p .size)) (p .size)) (words-back none ∙ m)
+        ∙ ap (λ (n : ℕ). part (ownStart r (p .ty) n) n (homeBytes r (p .ty) n v)) (sym (g .size))
+        ∙ own-back r (p .ty) v (g .bytes) (λ e. rw (g .size) (g .held .small e q .1, g .held .end e))
+
+    in-copies : p .span .indirect ≡ true → inCopies (base + p .span .copy .start) base (p .size) (length (c .copies)) ≡ true
+    in-copies q =
+        let e : base + p .span .copy .start - base ≡ p .span .copy .start = add-sub-cancel-left base (p .span .copy .start) in
+        let x : base ≤ base + p .span .copy .start = omega arith in
+        let y : p .span .copy .start + p .size ≤ length (c .copies) = omega (arith, g .held .copied q, g .fits .copies) in
+        simp (le-leb base (base + p .span .copy .start) x, e, le-leb (p .span .copy .start + p .size) (length (c .copies)) y)
+
+    pub stands-done : argumentAnswer r base p c ≡ Answer.Done
+    unfolding argumentAnswer
+    stands-done = go (ltb 0 (p .span .floating .count)) refl
+      where
+        words : (i : Bool) → p .span .indirect ≡ i → p .span .floating .count ≤ 0
+            → pick i (copyAnswer (inCopies (addressAt (p .span) c) base (p .size) (length (c .copies)))) Answer.Done ≡ Answer.Done
+        words true q none =
+            ap (λ (x : ℕ). copyAnswer (inCopies x base (p .size) (length (c .copies)))) (address-back none q) ∙ ap copyAnswer (in-copies q)
+        words false q none = refl
+
+        go : (f : Bool) → ltb 0 (p .span .floating .count) ≡ f
+            → pick f (floatAnswer r (equivalentOf (p .ty)) (valueOf (floatAt (p .span) c)))
+            (pick (p .span .indirect) (copyAnswer (inCopies (addressAt (p .span) c) base (p .size) (length (c .copies)))) Answer.Done)
+            ≡ Answer.Done
+        go true q =
+            let some : 0 < p .span .floating .count = ltb-true 0 (p .span .floating .count) q in
+            let one : p .span .floating .count ≡ 1 = omega (arith, g .held .floats) in
+            ap (λ (l : List ℕ). floatAnswer r (equivalentOf (p .ty)) (valueOf l)) (float-stands some)
+            ∙ float-back r (equivalentOf (p .ty)) v (rw (g .size) (g .held .float one)) (g .bytes) .0
+        go false q = words (p .span .indirect) refl (ltb-false 0 (p .span .floating .count) q)
+
+    pub stands-value : valueAt r base p c ≡ v
+    unfolding valueAt wordsValue floatValue
+    stands-value = go (ltb 0 (p .span .floating .count)) refl
+      where
+        words : (i : Bool) → p .span .indirect ≡ i → p .span .floating .count ≤ 0
+            → pick i (bytesAt (copies (addressAt (p .span) c - base)) (p .size) c) (part (ownStart r (p .ty) (p .size)) (p .size) (wordsAt (p .span) c)) ≡ v
+        words true q none =
+            ap (λ (x : ℕ). bytesAt (copies (x - base)) (p .size) c) (address-back none q)
+            ∙ ap (λ (x : ℕ). bytesAt (copies x) (p .size) c) (add-sub-cancel-left base (p .span .copy .start))
+            ∙ copied-back q
+        words false q none = own-value none q
+
+        go : (f : Bool) → ltb 0 (p .span .floating .count) ≡ f
+            → pick f (floatValueAs r (equivalentOf (p .ty)) (floatAt (p .span) c))
+            (pick (p .span .indirect) (bytesAt (copies (addressAt (p .span) c - base)) (p .size) c)
+            (part (ownStart r (p .ty) (p .size)) (p .size) (wordsAt (p .span) c)))
+            ≡ v
+        go true q =
+            let some : 0 < p .span .floating .count = ltb-true 0 (p .span .floating .count) q in
+            let one : p .span .floating .count ≡ 1 = omega (arith, g .held .floats) in
+            ap (floatValueAs r (equivalentOf (p .ty))) (float-stands some)
+            ∙ float-back r (equivalentOf (p .ty)) v (rw (g .size) (g .held .float one)) (g .bytes) .1
+        go false q = words (p .span .indirect) refl (ltb-false 0 (p .span .floating .count) q)
+
+-- ---- kept
+
+-- the four places end at or before a cursor, and lie in their banks
+pub record Behind (d : Cursor) (p : Placement) (v : List ℕ) : Type 0 where
+  pub floats : Upto d (floating (p .span .floating .first)) (8 * p .span .floating .count)
+  pub floats-bank : Banked (floating (p .span .floating .first)) (8 * p .span .floating .count)
+  pub registers : Upto d (general (p .span .general .first)) (8 * p .span .general .count)
+  pub registers-bank : Banked (general (p .span .general .first)) (8 * p .span .general .count)
+  pub memory : Upto d (area (p .span .memory .start)) (p .span .memory .length)
+  pub copy : Upto d (copies (p .span .copy .start)) (length (copyBytes p v))
+
+pub stands-kept : (r : Rules) (base : ℕ) (p : Placement) (v : List ℕ) (b : Buffers) (d : Cursor) (ss : List Slot) → Behind d p v → AllLater d ss
+    → Stands r base p v b → Stands r base p v (putAll ss b)
+stands-kept r base p v b d ss h l s = record {
+  floats = kept-all d _ _ ss b (h .floats) (h .floats-bank) l ∙ s .floats;
+  registers = kept-all d _ _ ss b (h .registers) (h .registers-bank) l ∙ s .registers;
+  memory = kept-all d _ _ ss b (h .memory) tt l ∙ s .memory;
+  copy = kept-all d _ _ ss b (h .copy) tt l ∙ s .copy;
+}

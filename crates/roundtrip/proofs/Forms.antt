@@ -1,0 +1,102 @@
+-- A value's own bytes back out of its form. Assumes nothing.
+use mathlib.Core.Path.{_≡_, refl, sym, ap, _∙_}
+use mathlib.Core.Bool.{Bool, true, false}
+use mathlib.Core.List.{List, _++_}
+use Prim.Native.Nat.{ℕ, _+_, _-_, _*_, _/_, _^_, _≤_, _<_}
+use native.Mathlib.Omega.{arith}
+use lib.ListN.{length, take, replicate, length-append, length-replicate}
+use lib.Seq.{take-all, take-append-le, take-at, drop-at}
+use Rattle.words.specs.Splice.{part}
+use Rattle.words.specs.Numbers.{Bytes, bytesOf, valueOf, zeroExtended, signExtended}
+use Rattle.words.proofs.Numbers.{length-bytesOf, value-below, value-back, bytesOf-value, bytesOf-append, bytesOf-zeroExtended, bytesOf-signExtended}
+use Rattle.ieee.specs.declared.Narrowed.{Narrowed}
+use Rattle.ieee.specs.Widening.{widen}
+use Rattle.ieee.specs.Narrowing.{narrow}
+use Rattle.ieee.proofs.Laws.{widen-below, narrow-widen}
+use Rattle.types.specs.declared.Equivalent.{Equivalent}
+use Rattle.types.specs.declared.ValueType.{ValueType}
+use Rattle.convention.specs.declared.Rules.{Rules}
+use Rattle.convention.specs.Values.{pick}
+use Rattle.slots.specs.declared.Answer.{Answer}
+use Rattle.slots.specs.Forms.{roomOf, isSigned, startsAtHead, extended, homeBytes, ownStart, floatWord, narrowedBytes, floatValueAs}
+use Rattle.slots.specs.Limits.{FloatSized}
+use Rattle.read.specs.Read.{narrowedAnswer, floatAnswer}
+
+-- n bytes as a number of n bytes
+own-number : (v : List ℕ) (n : ℕ) → length v ≡ n → Bytes v → bytesOf n (valueOf v) ≡ v
+own-number v n e h = ap (λ (m : ℕ). bytesOf m (valueOf v)) (sym e) ∙ bytesOf-value v h
+
+value-four : (v : List ℕ) → length v ≡ 4 → Bytes v → valueOf v < 2 ^ 32
+value-four v e h = let l : valueOf v < 2 ^ (8 * length v) = value-below v h in rw e at l
+
+-- ---- in an FPR
+
+pub float-back : (r : Rules) (e : Equivalent) (v : List ℕ) → FloatSized e (length v) → Bytes v
+    → (floatAnswer r e (valueOf (bytesOf 8 (floatWord r e (valueOf v)))) ≡ Answer.Done) × (floatValueAs r e (bytesOf 8 (floatWord r e (valueOf v))) ≡ v)
+float-back (Rules.Power f) Equivalent.Single v s h =
+    let x : ℕ = valueOf v in
+    let bits : valueOf (bytesOf 8 (widen x)) ≡ widen x = value-back 8 (widen x) (widen-below x) in
+    let single : narrow (valueOf (bytesOf 8 (widen x))) ≡ Narrowed.Single x = ap narrow bits ∙ narrow-widen x (value-four v s h) in
+    (ap narrowedAnswer single, ap narrowedBytes single ∙ own-number v 4 s h)
+float-back Rules.Z Equivalent.Single v s h =
+    let x : ℕ = valueOf v in
+    let split : bytesOf 8 (x * 2 ^ 32) ≡ bytesOf 4 (x * 2 ^ 32 / 2 ^ 32) ++ bytesOf 4 (x * 2 ^ 32) = bytesOf-append 4 4 (x * 2 ^ 32) in
+    let high : x * 2 ^ 32 / 2 ^ 32 ≡ x = omega arith in (
+      refl,
+      ap (take 4) split
+          ∙ take-at (bytesOf 4 (x * 2 ^ 32 / 2 ^ 32)) (bytesOf 4 (x * 2 ^ 32)) 4 (length-bytesOf 4 (x * 2 ^ 32 / 2 ^ 32))
+          ∙ ap (bytesOf 4) high
+          ∙ own-number v 4 s h,
+    )
+float-back (Rules.Power f) Equivalent.Double v s h = (refl, own-number v 8 s h)
+float-back Rules.Z Equivalent.Double v s h = (refl, own-number v 8 s h)
+float-back r Equivalent.Nothing v s h = absurd s
+
+-- ---- in general registers and memory
+
+extended-back : (t : ValueType) (n x : ℕ) → n ≤ 8 → bytesOf n (extended t n x) ≡ bytesOf n x
+unfolding extended
+extended-back t n x h = go (isSigned t)
+  where
+    go : (b : Bool) → bytesOf n (pick b (signExtended n x) (zeroExtended n x)) ≡ bytesOf n x
+    go true = bytesOf-signExtended n x h
+    go false = bytesOf-zeroExtended n x
+
+-- the last n of eight bytes
+end-back : (n y : ℕ) → n ≤ 8 → part (8 - n) n (bytesOf 8 y) ≡ bytesOf n y
+end-back n y h =
+    let e : 8 ≡ 8 - n + n = omega arith in
+    let split : bytesOf 8 y ≡ bytesOf (8 - n) (y / 2 ^ (8 * n)) ++ bytesOf n y = ap (λ (m : ℕ). bytesOf m y) e ∙ bytesOf-append (8 - n) n y in
+    ap (part (8 - n) n) split
+    ∙ ap (take n) (drop-at (bytesOf (8 - n) (y / 2 ^ (8 * n))) (bytesOf n y) (8 - n) (length-bytesOf (8 - n) (y / 2 ^ (8 * n))))
+    ∙ take-all n (bytesOf n y) (omega (arith, length-bytesOf n y))
+
+pub own-back : (r : Rules) (t : ValueType) (v : List ℕ) → Bytes v
+    → (startsAtHead r t ≡ false → (length v ≤ 8) × (roomOf r (length v) ≡ 8))
+    → part (ownStart r t (length v)) (length v) (homeBytes r t (length v) v) ≡ v
+unfolding ownStart homeBytes
+own-back r t v h small = go (startsAtHead r t) refl
+  where
+    go : (b : Bool) → startsAtHead r t ≡ b
+        → part (pick b 0 (roomOf r (length v) - length v)) (length v)
+        (pick b (v ++ replicate (roomOf r (length v) - length v) 0) (bytesOf (roomOf r (length v)) (extended t (length v) (valueOf v))))
+        ≡ v
+    go true q =
+        take-append-le (length v) v (replicate (roomOf r (length v) - length v) 0) (omega arith) ∙ take-all (length v) v (omega arith)
+    go false q =
+        let s = small q in
+        rw (s .1) (end-back (length v) (extended t (length v) (valueOf v)) (s .0))
+        ∙ extended-back t (length v) (valueOf v) (s .0) ∙ bytesOf-value v h
+
+pub length-home : (r : Rules) (t : ValueType) (v : List ℕ) → (startsAtHead r t ≡ true → length v ≤ roomOf r (length v))
+    → length (homeBytes r t (length v) v) ≡ roomOf r (length v)
+unfolding homeBytes
+length-home r t v h = go (startsAtHead r t) refl
+  where
+    go : (b : Bool) → startsAtHead r t ≡ b
+        → length (pick b (v ++ replicate (roomOf r (length v) - length v) 0) (bytesOf (roomOf r (length v)) (extended t (length v) (valueOf v))))
+        ≡ roomOf r (length v)
+    go true q =
+        let k = h q in
+        omega (arith, length-append v (replicate (roomOf r (length v) - length v) 0), length-replicate {A = ℕ} (roomOf r (length v) - length v) 0)
+    go false q = length-bytesOf (roomOf r (length v)) (extended t (length v) (valueOf v))

@@ -1,0 +1,5 @@
+-- The theorems, and the laws that they rest on.
+pub mod Kept
+pub mod Forms
+pub mod Arguments
+pub mod Theorems

@@ -1,0 +1,226 @@
+-- Reading after filling gives the values back (specs/RoundTrip.antt states it). Assumes nothing.
+-- ---- the arguments of a plan, from the cursor k on
+use mathlib.Core.Path.{_≡_, refl, sym, ap, ap₂, _∙_, subst}
+use mathlib.Core.Bool.{Bool, true, false}
+use mathlib.Core.List.{List, [], _∷_, _++_, append-nil}
+use Prim.Native.Nat.{ℕ, _+_, _-_, _^_, _≤_, _<_}
+use native.Mathlib.Omega.{arith}
+use borrow.Author.Tests.{eq-eqb, le-ltb}
+use lib.ListN.{length, take, drop, length-drop, drop-of-length-le}
+use lib.Seq.{length-take-le, take-add, take-all}
+use Rattle.words.specs.Splice.{overlay}
+use Rattle.words.specs.Numbers.{Bytes}
+use Rattle.words.proofs.Splices.{overlay-is}
+use Rattle.words.proofs.Numbers.{bytes-part}
+use Rattle.types.specs.declared.Convention.{Convention}
+use Rattle.types.specs.declared.ValueType.{ValueType}
+use Rattle.types.specs.Sizes.{sizeOf}
+use Rattle.items.specs.Reading.{Reading, got, no}
+use Rattle.signature.specs.declared.Outcome.{Outcome}
+use Rattle.signature.specs.Signature.{Signature}
+use Rattle.signature.specs.Read.{signatureOf}
+use Rattle.signature.specs.Answer.{resultType, signatureAnswer}
+use Rattle.convention.specs.declared.Cursor.{Cursor}
+use Rattle.convention.specs.declared.Rules.{Rules}
+use Rattle.convention.specs.Values.{pick}
+use Rattle.convention.specs.Step.{rulesOf, spanOf, nextOf}
+use Rattle.convention.proofs.Bounds.{Named, named-next, named-start}
+use Rattle.convention.proofs.Between.{step-between}
+use Rattle.convention.proofs.Registers.{step-numbered}
+use Rattle.plan.specs.declared.Plan.{Plan}
+use Rattle.plan.specs.Plan.{spansOf, hiddenIn, startIn, planAnswer, typesOf}
+use Rattle.slots.specs.declared.Answer.{Answer}
+use Rattle.slots.specs.Buffers.{Buffers, buffers, Slot, putAll}
+use Rattle.slots.specs.Placements.{Placement, placement, placements, copyBytes, slotsOf, slotsOfAll, hiddenSlots, valuesAt}
+use Rattle.slots.specs.Limits.{Held, Fits, All, sizesOf}
+use Rattle.slots.specs.Refusals.{firstOf, orElse, afterReading}
+use Rattle.slots.specs.Arguments.{argumentsIn, argumentsOf, planFor, rulesFor, Carried}
+use Rattle.slots.proofs.Buffers.{SameLengths, same-then, putAll-lengths, putAll-append}
+use Rattle.slots.proofs.Answered.{carried, arguments-got}
+use Rattle.fill.specs.Fill.{lengths, fillTests, fillAnswer, filledSlots, fillBuffers}
+use Rattle.fill.proofs.Accepted.{Lent, tests-passed}
+use Rattle.read.specs.declared.Sizes.{Sizes}
+use Rattle.read.specs.Read.{sizes, argumentAnswer, argumentsAnswer, readTests, readAnswer, readValues}
+use Rattle.roundtrip.specs.RoundTrip.{Filled, left, ReadBack}
+use Rattle.roundtrip.proofs.Kept.{all-later}
+use Rattle.roundtrip.proofs.Arguments.{Stands, Given, stands-put, stands-done, stands-value, Behind, stands-kept}
+
+-- the buffers have room for the arguments ps of a copies' end at m
+record Roomy (r : Rules) (base : ℕ) (ps : List Placement) (a m : ℕ) (v : List ℕ) (b : Buffers) : Type 0 where
+  held : All (Held r) ps
+  fit : All (Fits a m) ps
+  image : length (b .image) ≡ 512
+  area : a ≤ length (b .area)
+  copies : m ≤ length (b .copies)
+  low : base + m < 2 ^ 64
+  total : length v ≡ sizesOf ps
+  bytes : Bytes v
+
+copy-behind : (p : Placement) (v : List ℕ) (d : Cursor) → (p .span .indirect ≡ true → length v ≤ p .span .copy .length)
+    → p .span .copy .start + p .span .copy .length ≤ d .copies → p .span .copy .start + length (copyBytes p v) ≤ d .copies
+copy-behind p v d h k = go (p .span .indirect) refl
+  where
+    go : (i : Bool) → p .span .indirect ≡ i → p .span .copy .start + length (pick i v []) ≤ d .copies
+    go true q = omega (arith, h q)
+    go false q = omega arith
+
+step-behind : (r : Rules) (k : Cursor) (t : ValueType) (n : ℕ) (v : List ℕ) → Named r k → Held r (placement t n (spanOf r k t n)) → length v ≡ n
+    → Behind (nextOf r k t n) (placement t n (spanOf r k t n)) v
+step-behind r k t n v named held size =
+    let b = step-between r k t n in
+    let q = step-numbered r k t n named in
+    record {
+      floats = omega arith;
+      floats-bank = omega arith;
+      registers = omega arith;
+      registers-bank = omega arith;
+      memory = omega arith;
+      copy = copy-behind (placement t n (spanOf r k t n)) v (nextOf r k t n) (λ e. omega (arith, held .copied e)) (b .copy-to);
+    }
+
+split-whole : (n : ℕ) (v : List ℕ) → take n v ++ drop n v ≡ v
+split-whole n v =
+    let m : ℕ = length (drop n v) in
+    ap (λ (l : List ℕ). take n v ++ l) (sym (take-all m (drop n v) (omega arith)))
+    ∙ sym (take-add n m v) ∙ take-all (n + m) v (omega (arith, length-drop n v))
+
+bytes-drop : (n : ℕ) (v : List ℕ) → Bytes v → Bytes (drop n v)
+bytes-drop n v h = subst Bytes (take-all (length (drop n v)) (drop n v) (omega arith)) (bytes-part n (length (drop n v)) v h)
+
+-- every argument can be read, and the values are those that were put
+arguments-back : (c : Convention) (r : Rules) (base a m : ℕ) (k : Cursor) (ts : List ValueType) (v : List ℕ) (b : Buffers) → Named r k
+    → Roomy r base (placements c ts (spansOf c r k ts)) a m v b
+    → (argumentsAnswer r base (placements c ts (spansOf c r k ts)) (putAll (slotsOfAll r base (placements c ts (spansOf c r k ts)) v) b) ≡ Answer.Done)
+    × (valuesAt r base (placements c ts (spansOf c r k ts)) (putAll (slotsOfAll r base (placements c ts (spansOf c r k ts)) v) b) ≡ v)
+unfolding placements spansOf slotsOfAll argumentsAnswer valuesAt All sizesOf
+arguments-back c r base a m k [] [] b named h = (refl, refl)
+arguments-back c r base a m k [] (x ∷ v) b named h = absurd (omega (arith, h .total))
+arguments-back c r base a m k (t ∷ ts) v b named h =
+    let n : ℕ = sizeOf c t in
+    let p : Placement = placement t n (spanOf r k t n) in
+    let d : Cursor = nextOf r k t n in
+    let ps : List Placement = placements c ts (spansOf c r d ts) in
+    let x : List ℕ = take n v in
+    let y : List ℕ = drop n v in
+    let xs : List Slot = slotsOf r base p x in
+    let ys : List Slot = slotsOfAll r base ps y in
+    let total : length v ≡ n + sizesOf ps = h .total in
+    let size : length x ≡ n = length-take-le n v (omega arith) in
+    let given : Given r base p x b = record {
+      held = h .held .0;
+      fits = record { general = h .fit .0 .general; floating = h .fit .0 .floating; memory = omega (arith, h .fit .0 .memory, h .area); copies = omega (arith, h .fit .0 .copies, h .copies) };
+      image = h .image;
+      size = size;
+      bytes = bytes-part 0 n v (h .bytes);
+      low = omega (arith, h .fit .0 .copies, h .low);
+    } in
+    let b1 : Buffers = putAll xs b in
+    let b2 : Buffers = putAll ys b1 in
+    let l1 : SameLengths b b1 = putAll-lengths xs b in
+    let l2 : SameLengths b b2 = same-then l1 (putAll-lengths ys b1) in
+    let stands : Stands r base p x b2 =
+    stands-kept r base p x b1 d ys (step-behind r k t n x named (h .held .0) size) (all-later c r base d ts y (named-next r k t n named)) (stands-put r base p x b given) in
+    let rest = arguments-back c r base a m d ts y b1 (named-next r k t n named) (record {
+      held = h .held .1;
+      fit = h .fit .1;
+      image = l1 .image ∙ h .image;
+      area = omega (arith, h .area, l1 .area);
+      copies = omega (arith, h .copies, l1 .copies);
+      low = h .low;
+      total = omega (arith, length-drop n v);
+      bytes = bytes-drop n v (h .bytes);
+    }) in
+    let done : argumentAnswer r base p b2 ≡ Answer.Done = stands-done r base p x b given b2 stands (l2 .copies) in
+    let value = stands-value r base p x b given b2 stands (l2 .copies) in
+    rw (putAll-append xs ys b) (ap₂ orElse done (rest .0), ap₂ (λ (i j : List ℕ). i ++ j) value (rest .1) ∙ split-whole n v)
+
+-- ---- a whole signature
+
+read-tests : (have : Sizes) (values area : ℕ) → have .image ≡ 512 → have .values ≡ values → area ≤ have .area → firstOf (readTests have values area) ≡ Answer.Done
+unfolding firstOf readTests
+read-tests have values area i v a = simp (eq-eqb _ _ i, eq-eqb _ _ v, le-ltb _ _ a)
+
+reading-done : (o : Outcome) (x : Answer) → afterReading o x ≡ Answer.Done → (y : Answer) → y ≡ Answer.Done → (x ≡ Answer.Done) × (afterReading o y ≡ Answer.Done)
+reading-done (Outcome.Accepted n) x e y q = (e, q)
+reading-done (Outcome.Refused reason place) x e y q = let z : _≡_ {A = ℕ} 0 1 = cc in absurd (omega arith)
+
+overlay-whole : (l bs : List ℕ) → length l ≡ length bs → overlay l bs ≡ bs
+overlay-whole l bs e =
+    let short : length l ≤ length bs = omega arith in
+    let none : drop (length bs) l ≡ [] = drop-of-length-le l short in
+    overlay-is l bs (omega arith) ∙ ap (λ (t : List ℕ). bs ++ t) none ∙ append-nil bs
+
+-- a refused signature has no arguments, and no values
+none-back : (base : ℕ) (v : List ℕ) (b : Buffers) (reason : _) (place : ℕ) → length v ≡ planAnswer (no reason place) .values
+    → (argumentsAnswer (rulesOf Convention.Ppc64) base (argumentsIn (signatureAnswer (no reason place)) (planAnswer (no reason place)))
+    (putAll (slotsOfAll (rulesOf Convention.Ppc64) base (argumentsIn (signatureAnswer (no reason place)) (planAnswer (no reason place))) v) b)
+    ≡ Answer.Done)
+    × (valuesAt (rulesOf Convention.Ppc64) base (argumentsIn (signatureAnswer (no reason place)) (planAnswer (no reason place)))
+    (putAll (slotsOfAll (rulesOf Convention.Ppc64) base (argumentsIn (signatureAnswer (no reason place)) (planAnswer (no reason place))) v) b)
+    ≡ v)
+unfolding argumentsAnswer valuesAt argumentsIn placements planAnswer
+none-back base [] b reason place q = (refl, refl)
+none-back base (y ∷ v) b reason place q = absurd (omega arith)
+
+-- a signature's arguments, after its slots are put in any buffers that have room for them
+plan-back : (s : List ℕ) (base : ℕ) (v : List ℕ) (b : Buffers) → Bytes v → length v ≡ planFor s .values → length (b .image) ≡ 512 → planFor s .area ≤ length (b .area)
+    → planFor s .copies ≤ length (b .copies) → base + planFor s .copies < 2 ^ 64
+    → (argumentsAnswer (rulesFor s) base (argumentsOf s) (putAll (slotsOfAll (rulesFor s) base (argumentsOf s) v) b) ≡ Answer.Done)
+    × (valuesAt (rulesFor s) base (argumentsOf s) (putAll (slotsOfAll (rulesFor s) base (argumentsOf s) v) b) ≡ v)
+unfolding argumentsOf
+plan-back s base v b bytes values image area copies low = go (signatureOf s) (carried s) values area copies low
+  where
+    go : (x : Reading Signature) → Carried (signatureAnswer x) (planAnswer x) → length v ≡ planAnswer x .values → planAnswer x .area ≤ length (b .area)
+        → planAnswer x .copies ≤ length (b .copies) → base + planAnswer x .copies < 2 ^ 64
+        → (argumentsAnswer (rulesOf (signatureAnswer x .convention)) base (argumentsIn (signatureAnswer x) (planAnswer x))
+        (putAll (slotsOfAll (rulesOf (signatureAnswer x .convention)) base (argumentsIn (signatureAnswer x) (planAnswer x)) v) b)
+        ≡ Answer.Done)
+        × (valuesAt (rulesOf (signatureAnswer x .convention)) base (argumentsIn (signatureAnswer x) (planAnswer x))
+        (putAll (slotsOfAll (rulesOf (signatureAnswer x .convention)) base (argumentsIn (signatureAnswer x) (planAnswer x)) v) b)
+        ≡ v)
+    go (got g next n) h e i j k =
+        let c : Convention = g .convention in
+        let same = arguments-got g next n in
+        let f = h .fit in
+        rw same
+        (arguments-back c (rulesOf c) base (planAnswer (got g next n) .area) (planAnswer (got g next n) .copies) (startIn c (resultType c (g .result))) (typesOf c (g .arguments)) v b
+        (named-start (rulesOf c) (hiddenIn c (resultType c (g .result))))
+        (record {
+          held = subst (All (Held (rulesOf c))) same (h .held);
+          fit = subst (All (Fits (planAnswer (got g next n) .area) (planAnswer (got g next n) .copies))) same (h .fit);
+          image = image;
+          area = i;
+          copies = j;
+          low = k;
+          total = e ∙ sym (h .total) ∙ ap sizesOf same;
+          bytes = bytes;
+        }))
+    go (no reason place) h e i j k = none-back base v b reason place e
+
+-- THE ROUND TRIP: for all inputs that fill accepts, read with the same signature and copy base on what fill left accepts, and gives the
+-- values back, all of them
+pub read-after-fill : (s values image area copies into : List ℕ) (base hidden : ℕ) → Filled s values image area copies base hidden → length into ≡ length values
+    → ReadBack s values base (left s values image area copies base hidden) into
+unfolding fillAnswer fillBuffers filledSlots readAnswer readValues
+read-after-fill s values image area copies into base hidden h size =
+    let p : Plan = planFor s in
+    let b : Buffers = buffers image area copies in
+    let hs : List Slot = hiddenSlots (p .result) hidden in
+    let ss : List Slot = slotsOfAll (rulesFor s) base (argumentsOf s) values in
+    let b0 : Buffers = putAll hs b in
+    let after : Buffers = putAll (hs ++ ss) b in
+    let l0 : SameLengths b b0 = putAll-lengths hs b in
+    let l : SameLengths b after = putAll-lengths (hs ++ ss) b in
+    let tests : firstOf (fillTests (lengths values image area copies) (p .values) (p .area) (p .copies) base) ≡ Answer.Done =
+    reading-done (p .outcome) _ (h .accepted) Answer.Done refl .0 in
+    let lent : Lent (lengths values image area copies) p base = tests-passed (lengths values image area copies) p base (h .low) tests in
+    let back = plan-back s base values b0 (h .bytes) (lent .values) (l0 .image ∙ lent .image) (omega (arith, lent .area, l0 .area)) (omega (arith, lent .copies, l0 .copies)) (lent .low) in
+    let e : after ≡ putAll ss b0 = putAll-append hs ss b in
+    let good : firstOf (readTests (sizes into (after .image) (after .area)) (p .values) (p .area)) ≡ Answer.Done =
+    read-tests (sizes into (after .image) (after .area)) (p .values) (p .area) (l .image ∙ lent .image) (size ∙ lent .values) (omega (arith, lent .area, l .area)) in
+    let done : argumentsAnswer (rulesFor s) base (argumentsOf s) after ≡ Answer.Done = ap (argumentsAnswer (rulesFor s) base (argumentsOf s)) e ∙ back .0 in
+    let value : valuesAt (rulesFor s) base (argumentsOf s) after ≡ values = ap (valuesAt (rulesFor s) base (argumentsOf s)) e ∙ back .1 in
+    record {
+      accepted = reading-done (p .outcome) _ (h .accepted) _ (ap₂ orElse good done) .1;
+      same = ap (overlay into) value ∙ overlay-whole into values size;
+    }

@@ -1,0 +1,2 @@
+-- What filling and reading are to each other. Assumes nothing.
+pub mod RoundTrip
