@@ -3,3 +3,4 @@ pub mod Kept
 pub mod Forms
 pub mod Arguments
 pub mod Theorems
+pub mod Places
