@@ -4,3 +4,4 @@ pub mod Forms
 pub mod Arguments
 pub mod Theorems
 pub mod Places
+pub mod Alone
