@@ -3,3 +3,5 @@ pub mod Kept
 pub mod Forms
 pub mod Arguments
 pub mod Theorems
+pub mod Places
+pub mod Alone

@@ -1,2 +1,3 @@
 -- What filling and reading are to each other. Assumes nothing.
 pub mod RoundTrip
+pub mod Places

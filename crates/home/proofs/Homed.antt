@@ -1,0 +1,185 @@
+-- The home of each argument of PPC64 holds all its words, and lies in the parameter area. Assumes nothing.
+use mathlib.Core.Path.{_≡_, refl, sym, ap, ap₂, _∙_, subst}
+use mathlib.Core.Bool.{Bool, true, false}
+use mathlib.Core.List.{List, [], _∷_}
+use Prim.Native.Nat.{ℕ, zero, suc, _+_, _-_, _≤_, _<_}
+use native.Mathlib.Omega.{arith}
+use borrow.Author.Tests.{ltb-false, leb-false}
+use native.Mathlib.Nat.{add-sub-cancel-left}
+use lib.ListN.{length, getD, take, drop}
+use Rattle.words.specs.Splice.{part}
+use Rattle.types.specs.declared.Convention.{Convention}
+use Rattle.types.specs.declared.ValueType.{ValueType}
+use Rattle.types.specs.Sizes.{sizeOf}
+use Rattle.items.specs.Reading.{Reading, got, no}
+use Rattle.signature.specs.declared.Outcome.{Outcome}
+use Rattle.signature.specs.declared.ResultType.{ResultType}
+use Rattle.signature.specs.declared.SignatureRead.{SignatureRead}
+use Rattle.signature.specs.Signature.{Signature}
+use Rattle.signature.specs.Read.{signatureOf}
+use Rattle.signature.specs.Answer.{resultType, signatureAnswer}
+use Rattle.convention.specs.declared.Cursor.{Cursor}
+use Rattle.convention.specs.declared.Rules.{Rules}
+use Rattle.convention.specs.Values.{pick}
+use Rattle.convention.specs.Power.{words}
+use Rattle.convention.specs.Step.{ppc64, rulesOf, spanOf, nextOf}
+use Rattle.convention.proofs.Bounds.{area-holds}
+use Rattle.plan.specs.declared.Plan.{Plan}
+use Rattle.plan.specs.Plan.{spansOf, lastOf, startIn, endIn, planIn, planAnswer, typesOf}
+use Rattle.plan.proofs.Fold.{last-forward}
+use Rattle.slots.specs.declared.Answer.{Answer}
+use Rattle.slots.specs.Forms.{roomOf, startsAtHead, ownStart}
+use Rattle.slots.specs.Placements.{Placement, placement, placements}
+use Rattle.slots.specs.Limits.{Held, All}
+use Rattle.slots.specs.Refusals.{firstOf, afterReading, isDone}
+use Rattle.slots.specs.Arguments.{argumentsIn, argumentsOf, planFor, rulesFor, Carried}
+use Rattle.slots.proofs.Answered.{arguments-got, carried-same}
+use Rattle.slots.proofs.Turns.{argumentAt, next-argument}
+use Rattle.slots.proofs.Refusals.{first-done}
+use Rattle.home.specs.View.{viewTests, viewAnswer, isRefused, noArgument, ownBytes, viewOf}
+
+-- ---- each argument
+pub record Homed (a : ℕ) (p : Placement) : Type 0 where
+  pub direct : p .span .indirect ≡ false
+  pub within : p .span .home .start + roomOf ppc64 (p .size) ≤ a
+  pub least : p .size ≤ roomOf ppc64 (p .size)
+
+step-homed : (k : Cursor) (t : ValueType) (n a : ℕ) → nextOf ppc64 k t n .stack ≤ a → Homed a (placement t n (spanOf ppc64 k t n))
+unfolding spanOf nextOf words
+step-homed k t n a h = record { direct = refl; within = omega arith; least = omega arith }
+
+all-homed : (k : Cursor) (ts : List ValueType) (a : ℕ) → lastOf Convention.Ppc64 ppc64 k ts .stack ≤ a
+    → All (Homed a) (placements Convention.Ppc64 ts (spansOf Convention.Ppc64 ppc64 k ts))
+unfolding placements spansOf lastOf All
+all-homed k [] a h = tt
+all-homed k (t ∷ ts) a h =
+    let d : Cursor = nextOf ppc64 k t (sizeOf Convention.Ppc64 t) in
+    (step-homed k t (sizeOf Convention.Ppc64 t) a (omega (arith, last-forward Convention.Ppc64 ppc64 d ts)), all-homed d ts a h)
+
+-- ---- a whole signature
+
+plan-homed : (n : ℕ) (c : Convention) (r : ResultType) (ts : List ValueType) → c ≡ Convention.Ppc64
+    → All (Homed (planIn n c r ts .area)) (placements c ts (spansOf c (rulesOf c) (startIn c r) ts))
+unfolding planIn
+plan-homed n Convention.Ppc64 r ts e = all-homed (startIn Convention.Ppc64 r) ts _ (area-holds ppc64 (endIn Convention.Ppc64 r ts))
+plan-homed n Convention.Z r ts e = let z : _≡_ {A = ℕ} 0 1 = cc in absurd (omega arith)
+
+refused-homed : (reason : _) (place : ℕ) → All (Homed (planAnswer (no reason place) .area)) (argumentsIn (signatureAnswer (no reason place)) (planAnswer (no reason place)))
+unfolding argumentsIn placements All
+refused-homed reason place = tt
+
+pub homed : (s : List ℕ) → signatureAnswer (signatureOf s) .convention ≡ Convention.Ppc64 → All (Homed (planFor s .area)) (argumentsOf s)
+unfolding argumentsOf planAnswer
+homed s e = go (signatureOf s) e
+  where
+    go : (x : Reading Signature) → signatureAnswer x .convention ≡ Convention.Ppc64 → All (Homed (planAnswer x .area)) (argumentsIn (signatureAnswer x) (planAnswer x))
+    go (got g next n) q =
+        subst (All (Homed (planAnswer (got g next n) .area))) (sym (arguments-got g next n))
+        (plan-homed n (g .convention) (resultType (g .convention) (g .result)) (typesOf (g .convention) (g .arguments)) q)
+    go (no reason place) q = refused-homed reason place
+
+-- ---- one of them
+
+pub all-at : (P : Placement → Type 0) (ps : List Placement) (i : ℕ) (p : Placement) (qs : List Placement) → drop i ps ≡ p ∷ qs → All P ps → P p
+unfolding All
+all-at P [] zero p qs e h = let z : _≡_ {A = ℕ} 0 1 = cc in absurd (omega arith)
+all-at P [] (suc i) p qs e h = let z : _≡_ {A = ℕ} 0 1 = cc in absurd (omega arith)
+all-at P (x ∷ ps) zero p qs e h = let q : x ≡ p = cc in subst P q (h .0)
+all-at P (x ∷ ps) (suc i) p qs e h = all-at P ps i p qs e (h .1)
+
+pub getD-at : (ps : List Placement) (i : ℕ) (p none : Placement) (qs : List Placement) → drop i ps ≡ p ∷ qs → getD ps i none ≡ p
+getD-at [] zero p none qs e = let z : _≡_ {A = ℕ} 0 1 = cc in absurd (omega arith)
+getD-at [] (suc i) p none qs e = let z : _≡_ {A = ℕ} 0 1 = cc in absurd (omega arith)
+getD-at (x ∷ ps) zero p none qs e = cc
+getD-at (x ∷ ps) (suc i) p none qs e = getD-at ps i p none qs e
+
+-- the value's own bytes in its home
+pub own-homed : (r : Rules) (p : Placement) (a : ℕ) → r ≡ ppc64 → Held r p → Homed a p
+    → p .span .home .start + ownStart r (p .ty) (p .size) + p .size ≤ a
+unfolding ownStart
+own-homed r p a e h m = rw e (go (startsAtHead ppc64 (p .ty)))
+  where
+    go : (b : Bool) → p .span .home .start + pick b 0 (roomOf ppc64 (p .size) - p .size) + p .size ≤ a
+    go true = omega (arith, m .within, m .least)
+    go false = omega (arith, m .within, m .least)
+
+-- ---- what no test refuses
+
+pub not-refused : (a : Answer) → isRefused a ≡ false → a ≡ Answer.Done
+not-refused Answer.Done e = refl
+not-refused (Answer.Refused reason place) e = let z : _≡_ {A = ℕ} 0 1 = cc in absurd (omega arith)
+
+pub reading-done : (o : Outcome) (x : Answer) → afterReading o x ≡ Answer.Done → x ≡ Answer.Done
+reading-done (Outcome.Accepted n) x e = e
+reading-done (Outcome.Refused reason place) x e = let z : _≡_ {A = ℕ} 0 1 = cc in absurd (omega arith)
+
+pub record Viewed (c : Convention) (count index have area : ℕ) : Type 0 where
+  pub convention : c ≡ Convention.Ppc64
+  pub there : index < count
+  pub room : area ≤ have
+
+pub view-passed : (c : Convention) (count index have area : ℕ) → firstOf (viewTests c count index have area) ≡ Answer.Done → Viewed c count index have area
+unfolding viewTests
+view-passed Convention.Ppc64 count index have area e =
+    let a = first-done _ _ e in
+    let b = first-done _ _ (a .1) in
+    record { convention = refl; there = leb-false count index (a .0); room = ltb-false have area (b .0) }
+view-passed Convention.Z count index have area e = let a = first-done _ _ e in let q : true ≡ false = a .0 in let z : _≡_ {A = ℕ} 0 1 = cc in absurd (omega arith)
+
+-- ---- the argument that is viewed
+
+pub record Hand (s : List ℕ) (have index : ℕ) (g : SignatureRead) (p : Plan) : Type 0 where
+  pub done : viewAnswer s have index ≡ Answer.Done
+  pub small : index < 64
+  pub room : p .area ≤ have
+  pub rules : rulesOf (g .convention) ≡ ppc64
+  pub held : Held (rulesOf (g .convention)) (argumentAt g p index)
+  pub homed : Homed (p .area) (argumentAt g p index)
+  pub at : getD (argumentsOf s) index noArgument ≡ argumentAt g p index
+
+pub answer-same : (s : List ℕ) (have index : ℕ) (g : SignatureRead) (p : Plan) (a : Answer) → g ≡ signatureAnswer (signatureOf s) → p ≡ planFor s
+    → a ≡ afterReading (p .outcome) (firstOf (viewTests (g .convention) (g .count) index have (p .area))) → a ≡ viewAnswer s have index
+unfolding viewAnswer
+answer-same s have index g p a read plan e =
+    e ∙ ap₂ (λ (g : SignatureRead) (p : Plan). afterReading (p .outcome) (firstOf (viewTests (g .convention) (g .count) index have (p .area)))) read plan
+
+pub hand : (s : List ℕ) (have index : ℕ) (g : SignatureRead) (p : Plan) (a : Answer) → g ≡ signatureAnswer (signatureOf s) → p ≡ planFor s
+    → a ≡ afterReading (p .outcome) (firstOf (viewTests (g .convention) (g .count) index have (p .area))) → a ≡ Answer.Done → Hand s have index g p
+unfolding argumentsOf
+hand s have index g p a read plan e d =
+    let v = view-passed (g .convention) (g .count) index have (p .area) (reading-done (p .outcome) _ (sym e ∙ d)) in
+    let c : Carried g p = carried-same s g p read plan in
+    let next = next-argument g p index (v .there) (c .types) (c .spans) in
+    let homes : All (Homed (p .area)) (argumentsIn g p) = rw (read, plan) (homed s (ap (λ (x : SignatureRead). x .convention) (sym read) ∙ v .convention)) in
+    record {
+      done = sym (answer-same s have index g p a read plan e) ∙ d;
+      small = omega (arith, v .there, c .few);
+      room = v .room;
+      rules = ap rulesOf (v .convention);
+      held = all-at (Held (rulesOf (g .convention))) (argumentsIn g p) index (argumentAt g p index) _ next (c .held);
+      homed = all-at (Homed (p .area)) (argumentsIn g p) index (argumentAt g p index) _ next homes;
+      at = ap₂ (λ (g : SignatureRead) (p : Plan). getD (argumentsIn g p) index noArgument) (sym read) (sym plan) ∙ getD-at (argumentsIn g p) index (argumentAt g p index) noArgument _ next;
+    }
+
+-- ---- the view
+
+pub view-kept : (s area : List ℕ) (index : ℕ) (a : Answer) → a ≡ viewAnswer s (length area) index → isRefused a ≡ true → [] ≡ viewOf s area index
+unfolding viewOf
+view-kept s area index a e q = rw (← e) (go a q)
+  where
+    go : (a : Answer) → isRefused a ≡ true → [] ≡ pick (isDone a) (ownBytes (rulesFor s) (getD (argumentsOf s) index noArgument) area) []
+    go Answer.Done q = let z : _≡_ {A = ℕ} 0 1 = cc in absurd (omega arith)
+    go (Answer.Refused reason place) q = refl
+
+pub view-shown : (s area : List ℕ) (index : ℕ) (g : SignatureRead) (p : Plan) (own n : ℕ) → Hand s (length area) index g p → g ≡ signatureAnswer (signatureOf s)
+    → own ≡ ownStart (rulesOf (g .convention)) (argumentAt g p index .ty) (argumentAt g p index .size) → n ≡ argumentAt g p index .size
+    → take (argumentAt g p index .span .home .start + own + n - (argumentAt g p index .span .home .start + own)) (drop (argumentAt g p index .span .home .start + own) area)
+    ≡ viewOf s area index
+unfolding viewOf
+view-shown s area index g p own n h read o z =
+    let start : ℕ = argumentAt g p index .span .home .start + own in
+    ap (λ (m : ℕ). take m (drop start area)) (add-sub-cancel-left start n)
+    ∙ ap₂ (λ (x m : ℕ). part (argumentAt g p index .span .home .start + x) m area) o z
+    ∙ ap (λ (x : SignatureRead). ownBytes (rulesOf (x .convention)) (argumentAt g p index) area) read
+    ∙ ap (λ (q : Placement). ownBytes (rulesFor s) q area) (sym (h .at))
+    ∙ sym (ap (λ (a : Answer). pick (isDone a) (ownBytes (rulesFor s) (getD (argumentsOf s) index noArgument) area) []) (h .done))

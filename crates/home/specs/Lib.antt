@@ -1,0 +1,2 @@
+-- What a view is. Assumes nothing.
+pub mod View

@@ -1,0 +1,54 @@
+-- A view of an argument in the homed parameter area. Document 01, "What stands in a slot": "A view hands back the part of the lent parameter
+-- area that is the argument's own bytes; an empty part means refused, and a check on the same inputs gives the number". Assumes nothing.
+use Prim.Native.Nat.{ℕ, _+_}
+use mathlib.Core.Bool.{Bool, true, false}
+use mathlib.Core.List.{List, [], _∷_}
+use lib.Dec.{ltb, leb}
+use lib.ListN.{length, getD}
+use Rattle.words.specs.Splice.{part}
+use Rattle.types.specs.declared.Convention.{Convention}
+use Rattle.types.specs.declared.IntegerKind.{IntegerKind}
+use Rattle.types.specs.declared.ValueType.{ValueType}
+use Rattle.signature.specs.Read.{signatureOf}
+use Rattle.signature.specs.Answer.{signatureAnswer}
+use Rattle.convention.specs.declared.Rules.{Rules}
+use Rattle.convention.specs.Values.{pick}
+use Rattle.plan.specs.Plan.{noSpan}
+use Rattle.slots.specs.declared.Refusal.{Refusal}
+use Rattle.slots.specs.declared.Answer.{Answer}
+use Rattle.slots.specs.Forms.{ownStart}
+use Rattle.slots.specs.Placements.{Placement, placement}
+use Rattle.slots.specs.Refusals.{Test, test, firstOf, afterReading, isDone}
+use Rattle.slots.specs.Arguments.{argumentsOf, planFor, rulesFor}
+
+-- "asked of Z": only PPC64 has homes for its register arguments
+abbrev pub homeless : Convention → Bool
+homeless Convention.Ppc64 = false
+homeless Convention.Z = true
+
+-- 24: "home or view asked of Z, or a view of an argument that isn't there", of `count`
+abbrev pub noView : Convention → ℕ → ℕ → Bool
+noView c count index = pick (homeless c) true (leb count index)
+
+-- "24, .. 11", where the plan asks for an area of this size
+unfoldable pub viewTests : Convention → ℕ → ℕ → ℕ → ℕ → List Test
+viewTests c count index have area = test (noView c count index) Refusal.NoView ∷ test (ltb have area) Refusal.AreaTooShort ∷ []
+
+unfoldable pub viewAnswer : List ℕ → ℕ → ℕ → Answer
+viewAnswer s have index =
+    afterReading (planFor s .outcome)
+    (firstOf (viewTests (signatureAnswer (signatureOf s) .convention) (signatureAnswer (signatureOf s) .count) index have (planFor s .area)))
+
+abbrev pub isRefused : Answer → Bool
+isRefused Answer.Done = false
+isRefused (Answer.Refused reason place) = true
+
+abbrev pub noArgument : Placement
+noArgument = placement (ValueType.Integer IntegerKind.I8) 1 noSpan
+
+-- an argument's own bytes in its home
+abbrev pub ownBytes : Rules → Placement → List ℕ → List ℕ
+ownBytes r p area = part (p .span .home .start + ownStart r (p .ty) (p .size)) (p .size) area
+
+unfoldable pub viewOf : List ℕ → List ℕ → ℕ → List ℕ
+viewOf s area index = pick (isDone (viewAnswer s (length area) index)) (ownBytes (rulesFor s) (getD (argumentsOf s) index noArgument) area) []

@@ -1,0 +1,84 @@
+-- Filling changes only named slots and copies, and reading an argument looks at its own slots and copy alone. Assumes nothing.
+-- ---- filling
+use mathlib.Core.Path.{_≡_, refl, ap, ap₂, _∙_}
+use mathlib.Core.Logic.{inl, inr}
+use mathlib.Core.Bool.{Bool, true, false}
+use mathlib.Core.List.{List, [], _∷_}
+use Prim.Native.Nat.{ℕ, _+_, _-_, _≤_, _<_}
+use native.Mathlib.Omega.{arith}
+use borrow.Author.Tests.{ltb-true, ltb-false}
+use lib.Dec.{ltb}
+use lib.ListN.{length, getD}
+use Rattle.words.specs.Splice.{splice, part}
+use Rattle.words.proofs.Splices.{splice-at-other}
+use Rattle.words.specs.Numbers.{valueOf}
+use Rattle.convention.specs.declared.Rules.{Rules}
+use Rattle.convention.specs.Values.{pick}
+use Rattle.convention.specs.Spots.{Spot, general, floating, area, copies}
+use Rattle.slots.specs.Buffers.{Buffers, Slot, generalAt, floatingAt, put, putAll, bytesAt}
+use Rattle.slots.specs.Forms.{floatValue, ownStart}
+use Rattle.slots.specs.Placements.{Placement, wordsAt, floatAt, addressAt, wordsValue, valueAt}
+use Rattle.slots.specs.declared.Answer.{Answer}
+use Rattle.fill.specs.Fill.{filledSlots, fillBuffers}
+use Rattle.roundtrip.specs.Places.{Byte, inImage, inArea, inCopies, Among, CoversFrom, Touches}
+
+-- a byte of the buffers, 0 where there is none
+abbrev pub byteAt : Byte → Buffers → ℕ
+byteAt (inImage i) b = getD (b .image) i 0
+byteAt (inArea i) b = getD (b .area) i 0
+byteAt (inCopies i) b = getD (b .copies) i 0
+
+splice-kept : (l : List ℕ) (n : ℕ) (bs : List ℕ) (i : ℕ) → (Among n (length bs) i → ⊥) → getD (splice l n bs) i 0 ≡ getD l i 0
+splice-kept l n bs i h = go (ltb i n) refl
+  where
+    go : (t : Bool) → ltb i n ≡ t → getD (splice l n bs) i 0 ≡ getD l i 0
+    go true e = let q : i < n = ltb-true i n e in splice-at-other l n bs i 0 (inl (omega arith))
+    go false e = let q : n ≤ i = ltb-false i n e in past (ltb i (n + length bs)) refl q
+      where
+        past : (t : Bool) → ltb i (n + length bs) ≡ t → n ≤ i → getD (splice l n bs) i 0 ≡ getD l i 0
+        past true e q = absurd (h (q, ltb-true i (n + length bs) e))
+        past false e q = let k : n + length bs ≤ i = ltb-false i (n + length bs) e in splice-at-other l n bs i 0 (inr (omega arith))
+
+put-kept : (p : Spot) (bs : List ℕ) (b : Buffers) (x : Byte) → (CoversFrom p (length bs) x → ⊥) → byteAt x (put p bs b) ≡ byteAt x b
+unfolding put
+put-kept (general n) bs b (inImage i) h = splice-kept (b .image) (generalAt n) bs i h
+put-kept (general n) bs b (inArea i) h = refl
+put-kept (general n) bs b (inCopies i) h = refl
+put-kept (floating n) bs b (inImage i) h = splice-kept (b .image) (floatingAt n) bs i h
+put-kept (floating n) bs b (inArea i) h = refl
+put-kept (floating n) bs b (inCopies i) h = refl
+put-kept (area n) bs b (inImage i) h = refl
+put-kept (area n) bs b (inArea i) h = splice-kept (b .area) n bs i h
+put-kept (area n) bs b (inCopies i) h = refl
+put-kept (copies n) bs b (inImage i) h = refl
+put-kept (copies n) bs b (inArea i) h = refl
+put-kept (copies n) bs b (inCopies i) h = splice-kept (b .copies) n bs i h
+
+all-kept : (ss : List Slot) (b : Buffers) (x : Byte) → (Touches ss x → ⊥) → byteAt x (putAll ss b) ≡ byteAt x b
+unfolding putAll Touches
+all-kept [] b x h = refl
+all-kept (s ∷ ss) b x h =
+    all-kept ss (put (s .spot) (s .bytes) b) x (λ t. h (inr t)) ∙ put-kept (s .spot) (s .bytes) b x (λ t. h (inl t))
+
+-- "Filling changes only named slots and copies"
+pub fill-only : (s values : List ℕ) (base hidden : ℕ) (b : Buffers) (x : Byte) → (Touches (filledSlots s values base hidden) x → ⊥)
+    → byteAt x (fillBuffers s values base hidden Answer.Done b) ≡ byteAt x b
+unfolding fillBuffers
+fill-only s values base hidden b x h = all-kept (filledSlots s values base hidden) b x h
+
+-- ---- reading
+
+-- two sets of buffers that agree on an argument's own slots, and on its copy
+pub record Agree (base : ℕ) (p : Placement) (b c : Buffers) : Type 0 where
+  pub float : floatAt (p .span) b ≡ floatAt (p .span) c
+  pub words : wordsAt (p .span) b ≡ wordsAt (p .span) c
+  pub copy : bytesAt (copies (addressAt (p .span) b - base)) (p .size) b ≡ bytesAt (copies (addressAt (p .span) b - base)) (p .size) c
+
+-- "reading follows the same rules": the value depends on these bytes alone
+pub read-own : (r : Rules) (base : ℕ) (p : Placement) (b c : Buffers) → Agree base p b c → valueAt r base p b ≡ valueAt r base p c
+unfolding valueAt wordsValue
+read-own r base p b c h =
+    let copied : bytesAt (copies (addressAt (p .span) b - base)) (p .size) b ≡ bytesAt (copies (addressAt (p .span) c - base)) (p .size) c =
+    h .copy ∙ ap (λ (l : List ℕ). bytesAt (copies (valueOf l - base)) (p .size) c) (h .words) in
+    ap₂ (pick (ltb 0 (p .span .floating .count))) (ap (floatValue r (p .ty)) (h .float))
+    (ap₂ (pick (p .span .indirect)) copied (ap (part (ownStart r (p .ty) (p .size)) (p .size)) (h .words)))
