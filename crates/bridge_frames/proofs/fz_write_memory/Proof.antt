@@ -1,9 +1,9 @@
 -- By the call of machine_words. Assumes nothing.
-use Rattle.bridge.specs.Frames.{frameAnswer}
+use Rattle.bridge_frames.specs.Frames.{frameAnswer}
 use mathlib.Core.Path.{ap, _∙_}
 use borrow.Author.Needs.{needs}
-use Rattle.bridge.proofs.frames.fz_write_memory.Statement.{statement}
-use Rattle.bridge.proofs.frames.fz_write_memory.Tie as tie
+use Rattle.bridge_frames.proofs.fz_write_memory.Statement.{statement}
+use Rattle.bridge_frames.proofs.fz_write_memory.Tie as tie
 
 write-memory-requires : tie.Need-write-memory-requires
 write-memory-requires c κs = search needs

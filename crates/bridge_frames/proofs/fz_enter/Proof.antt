@@ -1,9 +1,9 @@
 -- By the call of machine_words. Assumes nothing.
-use Rattle.bridge.specs.Frames.{frameAnswer}
+use Rattle.bridge_frames.specs.Frames.{frameAnswer}
 use mathlib.Core.Path.{ap, _∙_}
 use borrow.Author.Needs.{needs}
-use Rattle.bridge.proofs.frames.fz_enter.Statement.{statement}
-use Rattle.bridge.proofs.frames.fz_enter.Tie as tie
+use Rattle.bridge_frames.proofs.fz_enter.Statement.{statement}
+use Rattle.bridge_frames.proofs.fz_enter.Tie as tie
 
 enter-requires : tie.Need-enter-requires
 enter-requires c κs = search needs

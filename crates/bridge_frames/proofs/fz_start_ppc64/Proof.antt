@@ -1,9 +1,9 @@
 -- By the call of machine_words. Assumes nothing.
-use Rattle.bridge.specs.Frames.{frameAnswer}
+use Rattle.bridge_frames.specs.Frames.{frameAnswer}
 use mathlib.Core.Path.{ap, _∙_}
 use borrow.Author.Needs.{needs}
-use Rattle.bridge.proofs.frames.fz_start_ppc64.Statement.{statement}
-use Rattle.bridge.proofs.frames.fz_start_ppc64.Tie as tie
+use Rattle.bridge_frames.proofs.fz_start_ppc64.Statement.{statement}
+use Rattle.bridge_frames.proofs.fz_start_ppc64.Tie as tie
 
 start-ppc64-requires : tie.Need-start-ppc64-requires
 start-ppc64-requires c κs = search needs

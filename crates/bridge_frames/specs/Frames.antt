@@ -2,7 +2,8 @@
 -- (.. 0 for refusals 1 and 10 to 24) .. counts are 0." Assumes nothing.
 use Rattle.machine.specs.declared.Answer as machine
 use Rattle.machine.specs.Answers.{answerNumber}
-use Rattle.bridge.specs.declared.Answer.{Answer}
+use Rattle.answers.specs.declared.Answer.{Answer}
+use Rattle.answers.specs.Answers.{answerOf}
 
 unfoldable pub frameAnswer : machine.Answer → Answer
-frameAnswer a = record { number = answerNumber a; place = 0; items = 0 }
+frameAnswer a = answerOf (answerNumber a) 0

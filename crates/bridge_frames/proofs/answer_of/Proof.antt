@@ -1,8 +1,8 @@
 -- The machine's number, in the surface's words. Assumes nothing.
-use Rattle.bridge.specs.Frames.{frameAnswer}
+use Rattle.bridge_frames.specs.Frames.{frameAnswer}
 use borrow.Author.Needs.{needs}
-use Rattle.bridge.proofs.frames.answer_of.Statement.{statement}
-use Rattle.bridge.proofs.frames.answer_of.Tie as tie
+use Rattle.bridge_frames.proofs.answer_of.Statement.{statement}
+use Rattle.bridge_frames.proofs.answer_of.Tie as tie
 
 answer-number-requires : tie.Need-answer-number-requires
 answer-number-requires c κs = search needs
