@@ -36,7 +36,8 @@ use Rattle.slots.specs.Arguments.{argumentsIn, argumentsOf, planFor, rulesFor, 
 use Rattle.slots.proofs.Answered.{arguments-got, carried-same}
 use Rattle.slots.proofs.Turns.{argumentAt, next-argument}
 use Rattle.slots.proofs.Refusals.{first-done}
-use Rattle.home.specs.View.{viewTests, viewAnswer, isRefused, noArgument, ownBytes, viewOf}
+use Rattle.home.specs.declared.ViewPart.{ViewPart}
+use Rattle.home.specs.View.{viewTests, viewAnswer, isRefused, noArgument, ownBytes, ownPart, viewPart, viewOf}
 
 -- ---- each argument
 pub record Homed (a : ℕ) (p : Placement) : Type 0 where
@@ -161,25 +162,58 @@ hand s have index g p a read plan e d =
       at = ap₂ (λ (g : SignatureRead) (p : Plan). getD (argumentsIn g p) index noArgument) (sym read) (sym plan) ∙ getD-at (argumentsIn g p) index (argumentAt g p index) noArgument _ next;
     }
 
--- ---- the view
+-- ---- the part that is viewed
 
-pub view-kept : (s area : List ℕ) (index : ℕ) (a : Answer) → a ≡ viewAnswer s (length area) index → isRefused a ≡ true → [] ≡ viewOf s area index
-unfolding viewOf
-view-kept s area index a e q = rw (← e) (go a q)
-  where
-    go : (a : Answer) → isRefused a ≡ true → [] ≡ pick (isDone a) (ownBytes (rulesFor s) (getD (argumentsOf s) index noArgument) area) []
-    go Answer.Done q = let z : _≡_ {A = ℕ} 0 1 = cc in absurd (omega arith)
-    go (Answer.Refused reason place) q = refl
+refused-part : (a : Answer) (r : Rules) (p : Placement) → isRefused a ≡ true → _≡_ {A = ViewPart} (record { answer = a; start = 0; length = 0 }) (ownPart a r p)
+refused-part Answer.Done r p q = let z : _≡_ {A = ℕ} 0 1 = cc in absurd (omega arith)
+refused-part (Answer.Refused reason place) r p q = refl
 
-pub view-shown : (s area : List ℕ) (index : ℕ) (g : SignatureRead) (p : Plan) (own n : ℕ) → Hand s (length area) index g p → g ≡ signatureAnswer (signatureOf s)
+pub part-refused : (s : List ℕ) (have index : ℕ) (a : Answer) → a ≡ viewAnswer s have index → isRefused a ≡ true
+    → _≡_ {A = ViewPart} (record { answer = a; start = 0; length = 0 }) (viewPart s have index)
+unfolding viewPart
+part-refused s have index a e q = rw (← e) (refused-part a (rulesFor s) (getD (argumentsOf s) index noArgument) q)
+
+pub part-shown : (s : List ℕ) (have index : ℕ) (g : SignatureRead) (p : Plan) (a : Answer) (own n : ℕ) → Hand s have index g p → g ≡ signatureAnswer (signatureOf s)
+    → a ≡ viewAnswer s have index
     → own ≡ ownStart (rulesOf (g .convention)) (argumentAt g p index .ty) (argumentAt g p index .size) → n ≡ argumentAt g p index .size
-    → take (argumentAt g p index .span .home .start + own + n - (argumentAt g p index .span .home .start + own)) (drop (argumentAt g p index .span .home .start + own) area)
-    ≡ viewOf s area index
-unfolding viewOf
-view-shown s area index g p own n h read o z =
-    let start : ℕ = argumentAt g p index .span .home .start + own in
-    ap (λ (m : ℕ). take m (drop start area)) (add-sub-cancel-left start n)
-    ∙ ap₂ (λ (x m : ℕ). part (argumentAt g p index .span .home .start + x) m area) o z
-    ∙ ap (λ (x : SignatureRead). ownBytes (rulesOf (x .convention)) (argumentAt g p index) area) read
-    ∙ ap (λ (q : Placement). ownBytes (rulesFor s) q area) (sym (h .at))
-    ∙ sym (ap (λ (a : Answer). pick (isDone a) (ownBytes (rulesFor s) (getD (argumentsOf s) index noArgument) area) []) (h .done))
+    → _≡_ {A = ViewPart} (record { answer = a; start = argumentAt g p index .span .home .start + own; length = n }) (viewPart s have index)
+unfolding viewPart
+part-shown s have index g p a own n h read e o z =
+    let done : a ≡ Answer.Done = e ∙ h .done in
+    rw (← e, done, o, z, h .at) (ap (λ (x : SignatureRead). ownPart Answer.Done (rulesOf (x .convention)) (argumentAt g p index)) read)
+
+pub part-answer : (s : List ℕ) (have index : ℕ) → viewPart s have index .answer ≡ viewAnswer s have index
+unfolding viewPart
+part-answer s have index = refl
+
+viewAnswer-is : (s : List ℕ) (have index : ℕ)
+    → viewAnswer s have index
+    ≡ afterReading (planFor s .outcome) (firstOf (viewTests (signatureAnswer (signatureOf s) .convention) (signatureAnswer (signatureOf s) .count) index have (planFor s .area)))
+unfolding viewAnswer
+viewAnswer-is s have index = refl
+
+-- it lies in the area
+pub part-within : (s : List ℕ) (have index : ℕ) → viewPart s have index .start + viewPart s have index .length ≤ have
+unfolding viewPart
+part-within s have index = go (viewAnswer s have index) refl
+  where
+    go : (a : Answer) → a ≡ viewAnswer s have index
+        → ownPart a (rulesFor s) (getD (argumentsOf s) index noArgument) .start + ownPart a (rulesFor s) (getD (argumentsOf s) index noArgument) .length ≤ have
+    go Answer.Done e =
+        let h = hand s have index (signatureAnswer (signatureOf s)) (planFor s) Answer.Done refl refl (e ∙ viewAnswer-is s have index) refl in
+        rw (h .at) (omega (arith, own-homed (rulesFor s) _ _ (h .rules) (h .held) (h .homed), h .room))
+    go (Answer.Refused reason place) e = omega arith
+
+-- and is the view
+pub part-view : (s area : List ℕ) (index : ℕ) (v : ViewPart) → v ≡ viewPart s (length area) index
+    → take (v .start + v .length - v .start) (drop (v .start) area) ≡ viewOf s area index
+unfolding viewPart viewOf
+part-view s area index v e =
+    ap (λ (m : ℕ). take m (drop (v .start) area)) (add-sub-cancel-left (v .start) (v .length))
+    ∙ ap (λ (v : ViewPart). take (v .length) (drop (v .start) area)) e
+    ∙ go (viewAnswer s (length area) index)
+  where
+    go : (a : Answer) → take (ownPart a (rulesFor s) (getD (argumentsOf s) index noArgument) .length) (drop (ownPart a (rulesFor s) (getD (argumentsOf s) index noArgument) .start) area)
+        ≡ pick (isDone a) (ownBytes (rulesFor s) (getD (argumentsOf s) index noArgument) area) []
+    go Answer.Done = refl
+    go (Answer.Refused reason place) = refl

@@ -8,7 +8,14 @@ ghost use mathlib.Core.Path.{_≡_};
 ghost use Prim.Native.Nat.{_+_, _≤_, _<_};
 ghost use lib.ListN.{length};
 ghost use Rattle.slots.specs.Refusals.{firstOf, afterReading};
-ghost use Rattle.home.specs.View.{homeless, viewTests, viewAnswer, viewOf, isRefused};
+ghost use Rattle.home.specs.View.{homeless, viewTests, viewAnswer, viewPart, viewOf, isRefused};
+
+// The part of an area that is an argument's own bytes: none where the answer refuses.
+pub struct ViewPart {
+    pub answer: Answer,
+    pub start: usize,
+    pub length: usize,
+}
 
 fn is_homeless(c: Convention) -> bool
     ensures { λ b. ⌜ b ≡ homeless c ⌝ }
@@ -75,28 +82,21 @@ fn is_refused(a: Answer) -> bool
     }
 }
 
-// The answer on the same inputs as `view`'s.
-pub fn check_view(area: &[u8], sig: &[u8], index: usize) -> Answer
-    ensures { λ a. ⌜ a ≡ viewAnswer (now (sig .entry)) (length (now (area .entry))) index ⌝ }
+// Where the own bytes of argument `index` lie in a homed area of `have` bytes.
+pub fn view_part(sig: &[u8], index: usize, have: usize) -> ViewPart
+    ensures { λ p. ⌜ p ≡ viewPart (now (sig .entry)) have index ⌝ }
 {
     let g = signature::read_signature(sig);
     let p = plan::plan_signature(g);
     let outcome = p.outcome;
     let convention = g.convention;
-    answer_of(outcome, convention, g.count, index, area.len(), p.area)
-}
-
-// The own bytes of argument `index` in the homed area; none where `check_view` refuses.
-pub fn view<'a>(area: &'a [u8], sig: &[u8], index: usize) -> &'a [u8]
-    ensures { λ r. ⌜ now r ≡ viewOf (now (sig .entry)) (now (area .entry)) index ⌝ }
-{
-    let g = signature::read_signature(sig);
-    let p = plan::plan_signature(g);
-    let outcome = p.outcome;
-    let convention = g.convention;
-    let answer = answer_of(outcome, convention, g.count, index, area.len(), p.area);
+    let answer = answer_of(outcome, convention, g.count, index, have, p.area);
     if is_refused(answer) {
-        return &area[0..0];
+        return ViewPart {
+            answer,
+            start: 0,
+            length: 0,
+        };
     }
     let a = g.arguments[index];
     let t = a.ty;
@@ -104,6 +104,27 @@ pub fn view<'a>(area: &'a [u8], sig: &[u8], index: usize) -> &'a [u8]
     let place = s.home;
     let n = types::size_of(convention, t);
     let start = place.start as usize + slots::own_start(convention::rules_of(convention), t, n);
-    let end = start + n;
+    ViewPart {
+        answer,
+        start,
+        length: n,
+    }
+}
+
+// The answer on the same inputs as `view`'s.
+pub fn check_view(area: &[u8], sig: &[u8], index: usize) -> Answer
+    ensures { λ a. ⌜ a ≡ viewAnswer (now (sig .entry)) (length (now (area .entry))) index ⌝ }
+{
+    let p = view_part(sig, index, area.len());
+    p.answer
+}
+
+// The own bytes of argument `index` in the homed area; none where `check_view` refuses.
+pub fn view<'a>(area: &'a [u8], sig: &[u8], index: usize) -> &'a [u8]
+    ensures { λ r. ⌜ now r ≡ viewOf (now (sig .entry)) (now (area .entry)) index ⌝ }
+{
+    let p = view_part(sig, index, area.len());
+    let start = p.start;
+    let end = start + p.length;
     &area[start..end]
 }
