@@ -5,16 +5,17 @@ use Rattle.convention.specs.Step.{rulesOf}
 use Rattle.plan.proofs.Answers.{answer-plannable}
 use Rattle.slots.specs.Forms.{ownStart}
 use Rattle.slots.proofs.Answered.{plan-same}
+use Rattle.slots.proofs.Refusals.{not-refused}
 use Rattle.slots.proofs.Turns.{argumentAt}
-use Rattle.home.proofs.Homed.{Hand, hand, own-homed, not-refused, answer-same, part-refused, part-shown}
+use Rattle.home.proofs.Homed.{Hand, hand, own-homed, answer-same, part-refused, part-shown}
 use borrow.Author.Needs.{needs}
 use Rattle.home.proofs.view_part.Statement.{statement}
 use Rattle.home.proofs.view_part.Tie as tie
 
 viewed : (c : tie.Else1) → Hand (c .before .before .before .before .before .before .args .sig .now) (c .before .before .before .before .before .before .args .have) (c .before .before .before .before .before .before .args .index) (c .before .before .before .before .read-signature .result) (c .before .before .before .plan-signature .result)
 viewed c =
-    hand (c .before .before .before .before .before .before .args .sig .now) (c .before .before .before .before .before .before .args .have) (c .before .before .before .before .before .before .args .index) _ _ (c .before .before .answer-of .result) (c .before .before .before .before .read-signature .ensures)
-    (plan-same (c .before .before .before .before .before .before .args .sig .now) _ _ (c .before .before .before .before .read-signature .ensures) (c .before .before .before .plan-signature .ensures)) (c .before .before .answer-of .ensures) (not-refused _ (sym (c .before .is-refused .ensures) ∙ c .if1 .left))
+    hand (c .before .before .before .before .before .before .args .sig .now) (c .before .before .before .before .before .before .args .have) (c .before .before .before .before .before .before .args .index) _ _ (c .before .before .view-answer .result) (c .before .before .before .before .read-signature .ensures)
+    (plan-same (c .before .before .before .before .before .before .args .sig .now) _ _ (c .before .before .before .before .read-signature .ensures) (c .before .before .before .plan-signature .ensures)) (c .before .before .view-answer .ensures) (not-refused _ (sym (c .before .is-refused .ensures) ∙ c .if1 .left))
 
 -- where the value's own bytes start
 own : (c : tie.After-own-start) → c .own-start .result ≡ ownStart (rulesOf (c .before .before .before .before .before .before .before .before .before .before .before .read-signature .result .convention)) (argumentAt (c .before .before .before .before .before .before .before .before .before .before .before .read-signature .result) (c .before .before .before .before .before .before .before .before .before .before .plan-signature .result) (c .before .before .before .before .before .before .before .before .before .before .before .before .before .args .index) .ty) (argumentAt (c .before .before .before .before .before .before .before .before .before .before .before .read-signature .result) (c .before .before .before .before .before .before .before .before .before .before .plan-signature .result) (c .before .before .before .before .before .before .before .before .before .before .before .before .before .args .index) .size)
@@ -26,8 +27,8 @@ read-signature-requires c κs = search needs
 plan-signature-requires : tie.Need-plan-signature-requires
 plan-signature-requires c κs = rw (c .read-signature .ensures) (answer-plannable (c .before .before .args .sig .now))
 
-answer-of-requires : tie.Need-answer-of-requires
-answer-of-requires c κs = search needs
+view-answer-requires : tie.Need-view-answer-requires
+view-answer-requires c κs = search needs
 
 is-refused-requires : tie.Need-is-refused-requires
 is-refused-requires c κs = search needs
@@ -36,7 +37,7 @@ returns : tie.Need-returns
 returns c =
     let start = c .before .before .before .before .before .before in
     let same = plan-same (start .args .sig .now) _ _ (c .before .before .before .before .read-signature .ensures) (c .before .before .before .plan-signature .ensures) in
-    part-refused (start .args .sig .now) (start .args .have) (start .args .index) _ (answer-same (start .args .sig .now) _ (start .args .index) _ _ _ (c .before .before .before .before .read-signature .ensures) same (c .before .before .answer-of .ensures)) (sym (c .before .is-refused .ensures) ∙ c .if1 .taken)
+    part-refused (start .args .sig .now) (start .args .have) (start .args .index) _ (answer-same (start .args .sig .now) _ (start .args .index) _ _ _ (c .before .before .before .before .read-signature .ensures) same (c .before .before .view-answer .ensures)) (sym (c .before .is-refused .ensures) ∙ c .if1 .taken)
 
 mul-a : tie.Need-mul-a
 mul-a c = omega (arith, viewed c .small)
@@ -77,7 +78,7 @@ returns-2 c =
     let read = c .before .before .before .before .before .before .before .before .before .before .before .read-signature .ensures in
     let same = plan-same (start .args .sig .now) _ _ read (c .before .before .before .before .before .before .before .before .before .before .plan-signature .ensures) in
     part-shown (start .args .sig .now) (start .args .have) (start .args .index) _ _ _ _ _ h read
-    (answer-same (start .args .sig .now) _ (start .args .index) _ _ _ read same (c .before .before .before .before .before .before .before .before .before .answer-of .ensures)) (own c) (c .before .before .before .size-of .ensures)
+    (answer-same (start .args .sig .now) _ (start .args .index) _ _ _ read same (c .before .before .before .before .before .before .before .before .before .view-answer .ensures)) (own c) (c .before .before .before .size-of .ensures)
 
 pub view-part-spec : {M : Type 1} → statement M
 view-part-spec =
@@ -85,7 +86,7 @@ view-part-spec =
     (tie.spec
     read-signature-requires
     plan-signature-requires
-    answer-of-requires
+    view-answer-requires
     is-refused-requires
     returns
     mul-a
