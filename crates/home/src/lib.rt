@@ -125,8 +125,8 @@ fn put_homes(area: &mut [u8], image: &[u8], g: SignatureRead, p: Plan)
 }
 
 // Whether there are homes, and the image and the area have the lengths that a plan asks for.
-fn home_tested(c: Convention, i: usize, have: usize, area: usize) -> Answer
-    ensures { λ a. ⌜ a ≡ firstOf (homeTests c i have area) ⌝ }
+fn home_tested(c: Convention, image: usize, lent: usize, area: usize) -> Answer
+    ensures { λ a. ⌜ a ≡ firstOf (homeTests c image lent area) ⌝ }
 {
     if is_homeless(c) {
         return Answer::Refused {
@@ -134,13 +134,13 @@ fn home_tested(c: Convention, i: usize, have: usize, area: usize) -> Answer
             place: 0,
         };
     }
-    if i != 512 {
+    if image != 512 {
         return Answer::Refused {
             reason: Refusal::ImageSize,
             place: 0,
         };
     }
-    if have < area {
+    if lent < area {
         return Answer::Refused {
             reason: Refusal::AreaTooShort,
             place: 0,
@@ -169,9 +169,9 @@ pub fn home(sig: &[u8], image: &[u8], area: &mut [u8]) -> Answer
             if slots::is_refused(lengths) {
                 return lengths;
             }
-            let answer = first_unwidened(image, g, p);
-            if slots::is_refused(answer) {
-                return answer;
+            let floats = first_unwidened(image, g, p);
+            if slots::is_refused(floats) {
+                return floats;
             }
             put_homes(area, image, g, p);
             Answer::Done

@@ -211,10 +211,10 @@ fn take_argument(
     requires { ⌜ Readable r base (placement t n s) (buffers (now image) (now area) (now copies)) × (n ≤ length (now out)) ⌝ }
     ensures { λ _. ⌜ now (out .exit) ≡ overlay (now (out .entry)) (valueAt r base (placement t n s) (buffers (now (image .entry)) (now (area .entry)) (now (copies .entry)))) ⌝ }
 {
-    let floating = s.floating;
+    let fpr = s.floating;
     let indirect = s.indirect;
-    if 0 < floating.count {
-        let at = 256 + 8 * (floating.first as usize);
+    if 0 < fpr.count {
+        let at = 256 + 8 * (fpr.first as usize);
         take_float(out, image, r, types::equivalent_of(t), at);
         return;
     }
