@@ -360,8 +360,18 @@ fz_answer fz_read(const uint8_t *sig, size_t sig_length,
                   const uint8_t *copies, size_t copies_length,
                   uint64_t copy_base);
 
+/* PPC64. Every argument has its place in the area, also one that is passed in registers. This
+ * copies those that came in registers to their places, as a callee does that wants its arguments
+ * side by side: general registers as they are, a floating register's single as it would stand in
+ * memory. The hidden address's doubleword and all other bytes stay.
+ * Refuses, in this order: what fz_read_signature refuses, FZ_NO_VIEW, FZ_IMAGE_SIZE,
+ * FZ_AREA_TOO_SHORT, FZ_NOT_WIDENED. */
+fz_answer fz_home(const uint8_t *sig, size_t sig_length,
+                  const uint8_t *image, size_t image_length,
+                  uint8_t *area, size_t area_length);
+
 /* PPC64. Where the bytes of argument `index`, counted from 0, stand in an area in which all
- * arguments stand: the value's own, without what is around them. In a refused answer
+ * arguments stand (fz_home): the value's own, without what is around them. In a refused answer
  * start and length are 0; else the length is never 0.
  * Refuses, in this order: what fz_read_signature refuses, FZ_NO_VIEW, FZ_AREA_TOO_SHORT. */
 fz_part fz_view(const uint8_t *area, size_t area_length,

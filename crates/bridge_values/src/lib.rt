@@ -6,6 +6,7 @@ ghost use lib.ListN.{length};
 ghost use Rattle.slots.specs.Buffers.{buffers};
 ghost use Rattle.fill.specs.Fill.{lengths, fillAnswer, fillBuffers};
 ghost use Rattle.read.specs.Read.{sizes, readAnswer, readValues};
+ghost use Rattle.home.specs.Home.{homeAnswer, homeArea};
 ghost use Rattle.home.specs.View.{viewPart};
 ghost use Rattle.bridge_values.specs.Values.{callAnswer, partAnswer};
 
@@ -64,6 +65,15 @@ pub extern "C" fn fz_read(
     ensures { λ _. ⌜ now (values .exit) ≡ readValues (now (sig .entry)) base (readAnswer (now (sig .entry)) (sizes (now (values .entry)) (now (image .entry)) (now (area .entry))) base (buffers (now (image .entry)) (now (area .entry)) (now (copies .entry)))) (buffers (now (image .entry)) (now (area .entry)) (now (copies .entry))) (now (values .entry)) ⌝ }
 {
     let a = read::read(sig, values, image, area, copies, base);
+    answer_of(a)
+}
+
+#[no_mangle]
+pub extern "C" fn fz_home(sig: &[u8], image: &[u8], area: &mut [u8]) -> Answer
+    ensures { λ r. ⌜ r ≡ callAnswer (homeAnswer (now (sig .entry)) (now (image .entry)) (length (now (area .entry)))) ⌝ }
+    ensures { λ _. ⌜ now (area .exit) ≡ homeArea (now (sig .entry)) (homeAnswer (now (sig .entry)) (now (image .entry)) (length (now (area .entry)))) (now (image .entry)) (now (area .entry)) ⌝ }
+{
+    let a = home::home(sig, image, area);
     answer_of(a)
 }
 
