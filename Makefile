@@ -2,7 +2,7 @@
 # make test   the whole gate: every proof, every must-fail edit, every comparison
 # make lib    build/libflakuzhen.a and build/libflakuzhen.so, from proved code alone
 # make soak   the comparisons on fresh seeds; SECONDS=n says for how long
-# make bench  the time of the proved planner beside the second program's
+# make bench  the time of planning, filling and reading beside the second program's
 # make lint   what the gate does not ask: layout and clippy of the Rust code
 # make clean  remove all that is built
 
@@ -51,6 +51,8 @@ soak: $(ARCHIVE)
 # a profile of its own: with all optimisations and without the tests' checks of sums
 bench: $(ARCHIVE)
 	cd host && cargo run --profile bench --offline --locked --quiet -p compare --bin bench
+	@echo
+	cd host && cargo run --profile bench --offline --locked --quiet -p compare --bin bench-marshal
 
 lint: $(ARCHIVE)
 	cd host && cargo fmt --check && cargo clippy $(CARGO_WORDS) --all-targets -- -D warnings
