@@ -1,7 +1,7 @@
 -- A view of an argument in the homed parameter area. Document 01, "What stands in a slot": "A view hands back the part of the lent parameter
 -- area that is the argument's own bytes; an empty part means refused, and a check on the same inputs gives the number". Assumes nothing.
 use Prim.Native.Nat.{ℕ, _+_}
-use mathlib.Core.Bool.{Bool, true, false}
+use mathlib.Core.Bool.{Bool, true}
 use mathlib.Core.List.{List, [], _∷_}
 use lib.Dec.{ltb, leb}
 use lib.ListN.{length, getD}

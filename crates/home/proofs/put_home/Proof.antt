@@ -1,14 +1,12 @@
 -- A float in its memory form, or general registers as they stand.
-use mathlib.Core.Path.{_≡_, sym, ap, _∙_}
-use mathlib.Core.List.{List, []}
-use Prim.Native.Nat.{ℕ, _+_, _*_}
+use mathlib.Core.Path.{sym, ap, _∙_}
+use mathlib.Core.List.{[]}
+use Prim.Native.Nat.{ℕ, _*_}
 use native.Mathlib.Omega.{arith}
 use native.Mathlib.Nat.{add-sub-cancel-left}
-use lib.ListN.{length, take, drop}
+use lib.ListN.{take, drop}
 use Rattle.words.specs.Splice.{overlay}
 use Rattle.words.specs.Numbers.{bytesOf}
-use Rattle.types.specs.Sizes.{equivalentOf}
-use Rattle.home.specs.Home.{memoryWord}
 use Rattle.home.proofs.Registers.{homed-float, homed-general, float-room, general-room}
 use borrow.Author.Needs.{needs}
 use Rattle.home.proofs.put_home.Statement.{statement}
