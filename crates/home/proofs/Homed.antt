@@ -8,7 +8,6 @@ use borrow.Author.Tests.{ltb-false, leb-false}
 use native.Mathlib.Nat.{add-sub-cancel-left}
 use lib.Dec.{leb}
 use lib.ListN.{length, getD, take, drop}
-use Rattle.words.specs.Splice.{part}
 use Rattle.types.specs.declared.Convention.{Convention}
 use Rattle.types.specs.declared.FloatFormat.{FloatFormat}
 use Rattle.types.specs.declared.ValueType.{ValueType}

@@ -1,4 +1,5 @@
--- Filling changes only named slots and copies, and reading an argument looks at its own slots and copy alone. Assumes nothing.
+-- Filling changes only named slots and copies, home only homes, and reading an argument looks at its own slots and copy alone.
+-- Assumes nothing.
 -- ---- filling
 use mathlib.Core.Path.{_≡_, refl, ap, ap₂, _∙_}
 use mathlib.Core.Logic.{inl, inr}
@@ -19,8 +20,11 @@ use Rattle.slots.specs.Buffers.{Buffers, Slot, generalAt, floatingAt, put, putA
 use Rattle.slots.specs.Forms.{floatValue, ownStart}
 use Rattle.slots.specs.Placements.{Placement, wordsAt, floatAt, addressAt, wordsValue, valueAt}
 use Rattle.slots.specs.declared.Answer.{Answer}
+use Rattle.slots.specs.Arguments.{argumentsOf, rulesFor}
 use Rattle.fill.specs.Fill.{filledSlots, fillBuffers}
+use Rattle.home.specs.Home.{homedBytes, homed, homeArea}
 use Rattle.roundtrip.specs.Places.{Byte, inImage, inArea, inCopies, Among, CoversFrom, Touches}
+use Rattle.roundtrip.specs.Views.{HomeTouches}
 
 -- a byte of the buffers, 0 where there is none
 abbrev pub byteAt : Byte → Buffers → ℕ
@@ -65,6 +69,19 @@ pub fill-only : (s values : List ℕ) (base hidden : ℕ) (b : Buffers) (x : Byt
     → byteAt x (fillBuffers s values base hidden Answer.Done b) ≡ byteAt x b
 unfolding fillBuffers
 fill-only s values base hidden b x h = all-kept (filledSlots s values base hidden) b x h
+
+-- ---- home
+
+homed-only : (r : Rules) (ps : List Placement) (image l : List ℕ) (i : ℕ) → (HomeTouches r ps image i → ⊥) → getD (homed r ps image l) i 0 ≡ getD l i 0
+unfolding homed HomeTouches
+homed-only r [] image l i h = refl
+homed-only r (p ∷ ps) image l i h =
+    homed-only r ps image (splice l (p .span .home .start) (homedBytes r p image)) i (λ t. h (inr t)) ∙ splice-kept l (p .span .home .start) (homedBytes r p image) i (λ t. h (inl t))
+
+-- home changes only the homes of register doublewords: "all else stay"
+pub home-only : (s image l : List ℕ) (i : ℕ) → (HomeTouches (rulesFor s) (argumentsOf s) image i → ⊥) → getD (homeArea s Answer.Done image l) i 0 ≡ getD l i 0
+unfolding homeArea
+home-only s image l i h = homed-only (rulesFor s) (argumentsOf s) image l i h
 
 -- ---- reading
 

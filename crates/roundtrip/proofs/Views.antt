@@ -21,10 +21,13 @@ use Rattle.signature.specs.Read.{signatureOf}
 use Rattle.signature.specs.Answer.{resultType, signatureAnswer}
 use Rattle.convention.specs.declared.Cursor.{Cursor}
 use Rattle.convention.specs.declared.Rules.{Rules}
-use Rattle.convention.specs.Values.{pick}
-use Rattle.convention.specs.Step.{ppc64, rulesOf, spanOf, nextOf}
+use Rattle.convention.specs.declared.ResultPlaces.{ResultPlaces}
+use Rattle.convention.specs.declared.Span.{Span}
+use Rattle.convention.specs.Values.{pick, pointer}
+use Rattle.convention.specs.Power.{words}
+use Rattle.convention.specs.Step.{ppc64, rulesOf, spanOf, nextOf, fresh, startOf, hiddenFor, returning, resultOf}
 use Rattle.plan.specs.declared.Plan.{Plan}
-use Rattle.plan.specs.Plan.{spansOf, startIn, planAnswer, typesOf}
+use Rattle.plan.specs.Plan.{spansOf, resultIn, startIn, planIn, planAnswer, typesOf}
 use Rattle.slots.specs.declared.Answer.{Answer}
 use Rattle.slots.specs.Buffers.{Buffers, buffers, bytesAt}
 use Rattle.slots.specs.Forms.{roomOf, startsAtHead, homeBytes, ownStart, floatValueAs, floatValue}
@@ -39,8 +42,8 @@ use Rattle.read.specs.Read.{wordsAnswer, argumentAnswer, argumentsAnswer}
 use Rattle.read.proofs.Parts.{part-part}
 use Rattle.home.specs.Home.{registerAnswer, registersAnswer, homeTests, homeAnswer, homedBytes, homed, homeArea, Homed}
 use Rattle.home.specs.View.{viewTests, viewAnswer, noArgument, ownBytes, viewOf}
-use Rattle.home.proofs.Homed.{homed-all}
-use Rattle.home.proofs.Registers.{homed-general}
+use Rattle.home.proofs.Homed.{homed-all, reading-done}
+use Rattle.home.proofs.Registers.{homed-general, home-passed}
 use Rattle.roundtrip.specs.RoundTrip.{Filled, left}
 use Rattle.roundtrip.specs.Views.{valueLists, homedArea, Viewed}
 use Rattle.roundtrip.proofs.Forms.{float-back, own-back, length-home}
@@ -219,22 +222,32 @@ views base (p ∷ ps) v b a m h homes from room (suc i) l =
 
 -- ---- a whole signature
 
-plan-homes : (c : Convention) (r : ResultType) (ts : List ValueType) → c ≡ Convention.Ppc64 → HomesFrom 0 (placements c ts (spansOf c (rulesOf c) (startIn c r) ts))
-plan-homes Convention.Ppc64 r ts e = homes-later 0 (startIn Convention.Ppc64 r .stack) _ (omega arith) (homes-from (startIn Convention.Ppc64 r) ts)
+plan-homes : (c : Convention) (r : ResultType) (ts : List ValueType) → c ≡ Convention.Ppc64 → HomesFrom (startIn c r .stack) (placements c ts (spansOf c (rulesOf c) (startIn c r) ts))
+plan-homes Convention.Ppc64 r ts e = homes-from (startIn Convention.Ppc64 r) ts
 plan-homes Convention.Z r ts e = let z : _≡_ {A = ℕ} 0 1 = cc in absurd (omega arith)
 
-none-homes : (reason : _) (place : ℕ) → HomesFrom 0 (argumentsIn (signatureAnswer (no reason place)) (planAnswer (no reason place)))
+none-homes : (n : ℕ) (reason : _) (place : ℕ) → HomesFrom n (argumentsIn (signatureAnswer (no reason place)) (planAnswer (no reason place)))
 unfolding argumentsIn placements HomesFrom
-none-homes reason place = tt
+none-homes n reason place = tt
 
-homes-follow : (s : List ℕ) → signatureAnswer (signatureOf s) .convention ≡ Convention.Ppc64 → HomesFrom 0 (argumentsOf s)
+-- of a signature whose hidden address, if it has one, is the first doubleword
+abbrev StartsFrom : ℕ → Reading Signature → Type 0
+StartsFrom n (got g next m) = n ≤ startIn (g .convention) (resultType (g .convention) (g .result)) .stack
+StartsFrom n (no reason place) = Unit {0}
+
+homes-follow : (s : List ℕ) (n : ℕ) → signatureAnswer (signatureOf s) .convention ≡ Convention.Ppc64 → StartsFrom n (signatureOf s) → HomesFrom n (argumentsOf s)
 unfolding argumentsOf
-homes-follow s e = go (signatureOf s) e
+homes-follow s n = go (signatureOf s)
   where
-    go : (x : Reading Signature) → signatureAnswer x .convention ≡ Convention.Ppc64 → HomesFrom 0 (argumentsIn (signatureAnswer x) (planAnswer x))
-    go (got g next n) q =
-        subst (HomesFrom 0) (sym (arguments-got g next n)) (plan-homes (g .convention) (resultType (g .convention) (g .result)) (typesOf (g .convention) (g .arguments)) q)
-    go (no reason place) q = none-homes reason place
+    go : (x : Reading Signature) → signatureAnswer x .convention ≡ Convention.Ppc64 → StartsFrom n x → HomesFrom n (argumentsIn (signatureAnswer x) (planAnswer x))
+    go (got g next m) q l =
+        subst (HomesFrom n) (sym (arguments-got g next m))
+        (homes-later n (startIn (g .convention) (resultType (g .convention) (g .result)) .stack) _ l (plan-homes (g .convention) (resultType (g .convention) (g .result)) (typesOf (g .convention) (g .arguments)) q))
+    go (no reason place) q l = none-homes n reason place
+
+starts-any : (x : Reading Signature) → StartsFrom 0 x
+starts-any (got g next m) = omega arith
+starts-any (no reason place) = tt
 
 -- what can be read can be homed
 register-done : (r : Rules) (base : ℕ) (p : Placement) (b : Buffers) → argumentAnswer r base p b ≡ Answer.Done → registerAnswer r (p .ty) (p .span) (b .image) ≡ Answer.Done
@@ -301,5 +314,37 @@ view-after-home s values image area copies base hidden h power =
       same = λ i k.
           view-shows s (homedArea s b) i _ (answered i k)
           (subst (λ (r : Rules). ownBytes r (getD (argumentsOf s) i noArgument) (homed r (argumentsOf s) (b .image) (b .area)) ≡ getD (valueLists (argumentsOf s) values) i []) (sym rules)
-          (views base (argumentsOf s) values b (p .area) 0 (subst (λ (r : Rules). AllPut r base (argumentsOf s) values b) rules (l .all)) (homed-all s power) (homes-follow s power) (l .area) i (counted s i k)));
+          (views base (argumentsOf s) values b (p .area) 0 (subst (λ (r : Rules). AllPut r base (argumentsOf s) values b) rules (l .all)) (homed-all s power) (homes-follow s 0 power (starts-any (signatureOf s))) (l .area) i (counted s i k)));
     }
+
+-- ---- the hidden address
+
+hidden-start : (c : Convention) (r : ResultType) (x : Span) → c ≡ Convention.Ppc64 → resultIn c r ≡ ResultPlaces.Hidden x → 8 ≤ startIn c r .stack
+unfolding resultOf startOf nextOf fresh words
+hidden-start Convention.Ppc64 ResultType.Nothing x q e = let z : _≡_ {A = ℕ} 0 1 = cc in absurd (omega arith)
+hidden-start Convention.Ppc64 (ResultType.Value t) x q e = go (hiddenFor ppc64 t) e
+  where
+    go : (b : Bool)
+        → pick b (ResultPlaces.Hidden (spanOf ppc64 (fresh ppc64) pointer 8)) (ResultPlaces.Registers (spanOf (returning ppc64) (fresh ppc64) t (sizeOf Convention.Ppc64 t))) ≡ ResultPlaces.Hidden x
+        → 8 ≤ startOf ppc64 b .stack
+    go true e = omega arith
+    go false e = let z : _≡_ {A = ℕ} 0 1 = cc in absurd (omega arith)
+hidden-start Convention.Z r x q e = let z : _≡_ {A = ℕ} 0 1 = cc in absurd (omega arith)
+
+starts-hidden : (y : Reading Signature) (x : Span) → signatureAnswer y .convention ≡ Convention.Ppc64 → planAnswer y .result ≡ ResultPlaces.Hidden x → StartsFrom 8 y
+unfolding planAnswer planIn
+starts-hidden (got g next m) x q e = hidden-start (g .convention) (resultType (g .convention) (g .result)) x q e
+starts-hidden (no reason place) x q e = tt
+
+-- "The hidden address's doubleword .. stay": where the result has a hidden address, home leaves the first doubleword, whatever it answers
+pub hidden-stays : (s image area : List ℕ) (x : Span) → planFor s .result ≡ ResultPlaces.Hidden x → part 0 8 (homeArea s (homeAnswer s image (length area)) image area) ≡ part 0 8 area
+unfolding homeArea homeAnswer
+hidden-stays s image area x e = go (homeAnswer s image (length area)) refl
+  where
+    go : (a : Answer) → homeAnswer s image (length area) ≡ a → part 0 8 (pick (isDone a) (homed (rulesFor s) (argumentsOf s) image area) area) ≡ part 0 8 area
+    go Answer.Done q =
+        let tests = or-done _ _ (reading-done (planFor s .outcome) _ q) .0 in
+        let power = home-passed _ _ _ _ tests .convention in
+        subst (λ (r : Rules). part 0 8 (homed r (argumentsOf s) image area) ≡ part 0 8 area) (sym (ap rulesOf power))
+        (homed-kept (argumentsOf s) 8 0 8 image area (homes-follow s 8 power (starts-hidden (signatureOf s) x power e)) (omega arith))
+    go (Answer.Refused reason place) q = refl

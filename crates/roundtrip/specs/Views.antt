@@ -3,16 +3,19 @@
 -- argument's own bytes". proofs/Views.antt proves it. Assumes nothing.
 use Prim.Native.Nat.{ℕ, _<_}
 use mathlib.Core.Path.{_≡_}
+use mathlib.Core.Logic.{_⊎_}
 use mathlib.Core.List.{List, [], _∷_}
 use lib.ListN.{length, getD, take, drop}
 use Rattle.signature.specs.Read.{signatureOf}
 use Rattle.signature.specs.Answer.{signatureAnswer}
+use Rattle.convention.specs.declared.Rules.{Rules}
 use Rattle.slots.specs.declared.Answer.{Answer}
 use Rattle.slots.specs.Buffers.{Buffers}
 use Rattle.slots.specs.Placements.{Placement}
 use Rattle.slots.specs.Arguments.{argumentsOf}
-use Rattle.home.specs.Home.{homeAnswer, homeArea}
+use Rattle.home.specs.Home.{homeAnswer, homedBytes, homeArea}
 use Rattle.home.specs.View.{viewAnswer, viewOf}
+use Rattle.roundtrip.specs.Places.{Among}
 
 -- "The value buffer holds the arguments in order without gaps": each argument's value
 unfoldable pub valueLists : List Placement → List ℕ → List (List ℕ)
@@ -28,3 +31,8 @@ pub record Viewed (s values : List ℕ) (b : Buffers) : Type 0 where
   pub homed : homeAnswer s (b .image) (length (b .area)) ≡ Answer.Done
   pub accepted : (i : ℕ) → i < signatureAnswer (signatureOf s) .count → viewAnswer s (length (homedArea s b)) i ≡ Answer.Done
   pub same : (i : ℕ) → i < signatureAnswer (signatureOf s) .count → viewOf s (homedArea s b) i ≡ getD (valueLists (argumentsOf s) values) i []
+
+-- a byte of the area that home writes: of an argument's register doublewords, in its home
+unfoldable pub HomeTouches : Rules → List Placement → List ℕ → ℕ → Type 0
+HomeTouches r [] image i = ⊥
+HomeTouches r (p ∷ ps) image i = Among (p .span .home .start) (length (homedBytes r p image)) i ⊎ HomeTouches r ps image i

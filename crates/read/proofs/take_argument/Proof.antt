@@ -56,7 +56,7 @@ returns : tie.Need-returns
 unfolding valueAt floatValue bytesAt
 returns c =
     let start = c .before .before .before .before .before .before .before .before .before .before .before .before .before in
-    simp (lt-ltb _ _ (c .before .before .before .before .before .before .if1 .taken)) (c .before .before .take-float .ensures ∙ rw (c .before .before .before .equivalent-of .ensures))
+    simp (lt-ltb 0 (start .args .s .floating .count) (omega (arith, c .before .before .before .before .before .before .if1 .taken))) (c .before .before .take-float .ensures ∙ rw (c .before .before .before .equivalent-of .ensures))
 
 word-at-requires : tie.Need-word-at-requires
 word-at-requires c κs =
