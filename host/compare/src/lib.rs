@@ -3,6 +3,7 @@
 
 #![forbid(unsafe_code)]
 
+pub mod cases;
 pub mod encode;
 pub mod float_bits;
 pub mod generate;

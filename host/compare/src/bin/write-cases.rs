@@ -1,0 +1,25 @@
+//! Writes a file of cases for `targets/replay.c`, and says how many there are of each kind.
+
+#![forbid(unsafe_code)]
+
+use compare::cases::{self, Answers};
+use std::process::ExitCode;
+
+/// Of every operation together.
+const LEAST: usize = 50_000;
+
+fn main() -> ExitCode {
+    let words: Vec<String> = std::env::args().skip(1).collect();
+    let [path] = words.as_slice() else {
+        eprintln!("usage: write-cases FILE");
+        return ExitCode::from(2);
+    };
+    let seed = compare::seed();
+    let cases = cases::all(seed, LEAST);
+    println!("seed {seed:#x}: {}", Answers::of(&cases));
+    if let Err(fault) = std::fs::write(path, cases::file(&cases)) {
+        eprintln!("write-cases: {path}: {fault}");
+        return ExitCode::from(2);
+    }
+    ExitCode::SUCCESS
+}
