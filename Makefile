@@ -5,14 +5,27 @@
 # make bench  the time of the proved planner beside the second program's
 # make lint   what the gate does not ask: layout and clippy of the Rust code
 # make clean  remove all that is built
+#
+# For other machines, with TARGET=powerpc64 or TARGET=s390x (docs/TARGETS.md, targets/targets.mk):
+#
+# make lib TARGET=..   build/TARGET/libflakuzhen.a and build/TARGET/libflakuzhen.so
+# make run TARGET=..   the command there, under emulation
+# make test-targets    a file of cases replayed on both, under emulation
+# make bench-targets   the archives' sizes and the instructions of a plan
 
 SECONDS = 600
 CC = gcc
 
 # the inputs of a proof: a change of any file or folder here proves the library again
 PROVED_FROM := crates.txt $(shell find crates -print 2>/dev/null)
+# the crates that export functions
+BRIDGES := bridge
 ARCHIVE := build/libflakuzhen.a
 SHARED := build/libflakuzhen.so
+# makes a rule's shared library of its archive, which comes first
+SHARED_WORDS = -shared -o $@ -Wl,-soname,libflakuzhen.so \
+    -Wl,--version-script,include/flakuzhen.map -Wl,--no-undefined \
+    -Wl,--whole-archive $< -Wl,--no-whole-archive
 EXAMPLE := examples/signatures/ppc64-figure-3-18.hex
 # no network and no other versions than Cargo.lock's
 CARGO_WORDS := --release --offline --locked
@@ -20,13 +33,15 @@ CARGO_WORDS := --release --offline --locked
 .PHONY: run test lib soak bench lint clean
 .DELETE_ON_ERROR:
 
+ifndef TARGET
 run: $(ARCHIVE)
 	@cd host && cargo run $(CARGO_WORDS) --quiet -p flakuzhen -- list --hex ../$(EXAMPLE)
 
+lib: $(ARCHIVE) $(SHARED)
+endif
+
 test:
 	@.ci/run
-
-lib: $(ARCHIVE) $(SHARED)
 
 # rt writes the archive only where the bridge and all below it are proved
 $(ARCHIVE): $(PROVED_FROM)
@@ -35,8 +50,7 @@ $(ARCHIVE): $(PROVED_FROM)
 	cp target/staticlib/libbridge.a $@
 
 $(SHARED): $(ARCHIVE) include/flakuzhen.map
-	$(CC) -shared -o $@ -Wl,-soname,libflakuzhen.so -Wl,--version-script,include/flakuzhen.map \
-	    -Wl,--no-undefined -Wl,--whole-archive $(ARCHIVE) -Wl,--no-whole-archive
+	$(CC) $(SHARED_WORDS)
 
 soak: $(ARCHIVE)
 	cd host && cargo run $(CARGO_WORDS) --quiet -p compare --bin soak -- $(SECONDS)
@@ -47,6 +61,8 @@ bench: $(ARCHIVE)
 
 lint: $(ARCHIVE)
 	cd host && cargo fmt --check && cargo clippy $(CARGO_WORDS) --all-targets -- -D warnings
+
+include targets/targets.mk
 
 clean:
 	rm -rf build target host/target
