@@ -272,9 +272,12 @@ static void check_guards(int operation)
 {
     size_t i;
 
-    for (i = 0; i < 8; i++)
-        if (guarded.before[i] != i || guarded.after[i] != i)
-            mismatch(operation, "word beside the state", i, 1, 0);
+    for (i = 0; i < 8; i++) {
+        if (guarded.before[i] != i)
+            mismatch(operation, "word before the state", i, guarded.before[i], i);
+        if (guarded.after[i] != i)
+            mismatch(operation, "word after the state", i, guarded.after[i], i);
+    }
 }
 
 static void call_machine(int operation, const uint64_t *numbers)

@@ -47,7 +47,7 @@ $(foreach source,$(PROGRAMS),$(eval $(call program,$(source))))
 build/cases: $(ARCHIVE)
 	cd host && cargo run $(CARGO_WORDS) --quiet -p compare --bin write-cases -- ../$@
 
-test-targets: build/cases \
+test-targets: build/cases $(SHARED) \
     $(foreach target,$(CHOSEN),$(addprefix build/$(target)/, \
         flakuzhen replay $(HEADER_TESTS) $(HEADER_TESTS:%=%-shared)))
 	@scripts/target-tools run $(CHOSEN)

@@ -48,6 +48,22 @@ fn replay(program: &Path, cases: &[Case]) -> (Option<i32>, String) {
     (output.status.code(), said)
 }
 
+/// The functions of the library, in the order of their names.
+fn exported() -> Vec<String> {
+    let output = Command::new("nm")
+        .args(["-g", "--defined-only"])
+        .arg(root().join("build/libflakuzhen.a"))
+        .output();
+    let names = String::from_utf8(output.expect("nm starts").stdout).expect("names");
+    let words = names.lines().filter_map(|line| line.split(' ').next_back());
+    let mut exported: Vec<String> = words
+        .filter(|name| name.starts_with("fz_"))
+        .map(str::to_string)
+        .collect();
+    exported.sort();
+    exported
+}
+
 #[test]
 fn the_library_of_this_machine_replays_them_all() {
     let seed = compare::seed();
@@ -57,6 +73,14 @@ fn the_library_of_this_machine_replays_them_all() {
     assert_eq!(status, Some(0));
     let line = format!("{} cases replayed, 0 mismatches\n", cases::calls(&cases));
     assert!(said.ends_with(&line));
+    let mut replayed: Vec<&str> = said
+        .lines()
+        .filter_map(|line| line.split_once(' '))
+        .filter(|(name, count)| name.starts_with("fz_") && *count != "0")
+        .map(|(name, _)| name)
+        .collect();
+    replayed.sort();
+    assert_eq!(replayed, exported());
 }
 
 /// The refusals of each operation.
