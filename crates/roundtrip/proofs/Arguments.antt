@@ -3,13 +3,13 @@
 use mathlib.Core.Path.{_≡_, refl, sym, ap, ap₂, _∙_}
 use mathlib.Core.Logic.{inr}
 use mathlib.Core.Bool.{Bool, true, false}
-use mathlib.Core.List.{List, [], _++_}
+use mathlib.Core.List.{List, [], _∷_, _++_}
 use Prim.Native.Nat.{ℕ, _+_, _-_, _*_, _^_, _≤_, _<_}
 use native.Mathlib.Omega.{arith}
 use native.Mathlib.Nat.{add-sub-cancel-left}
 use borrow.Author.Tests.{ltb-true, ltb-false, le-leb}
 use lib.Dec.{ltb}
-use lib.ListN.{length, take}
+use lib.ListN.{length, take, drop}
 use lib.Seq.{take-all, take-add, length-take-le}
 use Rattle.words.specs.Splice.{splice, part}
 use Rattle.words.specs.Numbers.{Bytes, bytesOf, valueOf}
@@ -26,7 +26,9 @@ use Rattle.slots.specs.Forms.{roomOf, homeBytes, ownStart, floatWord, floatByte
 use Rattle.slots.specs.Placements.{Placement, standing, copyBytes, slotsOf, wordsAt, floatAt, addressAt, wordsValue, valueAt}
 use Rattle.slots.specs.Limits.{Held, Fits}
 use Rattle.slots.proofs.Limits.{one-word, indirect-end}
-use Rattle.read.specs.Read.{floatAnswer, inCopies, copyAnswer, argumentAnswer}
+use Rattle.slots.proofs.Buffers.{SameLengths}
+use Rattle.slots.specs.Refusals.{floatAnswer}
+use Rattle.read.specs.Read.{inCopies, copyAnswer, argumentAnswer}
 use Rattle.roundtrip.proofs.Kept.{Upto, Banked, AllLater, kept-all}
 use Rattle.roundtrip.proofs.Forms.{float-back, own-back, length-home}
 
@@ -133,7 +135,7 @@ module _ (r : Rules) (base : ℕ) (p : Placement) (v : List ℕ) (b : Buffers) (
         ∙ sym (take-add (8 * p .span .general .count) (p .span .memory .length) (standing r base p v))
         ∙ take-all (8 * p .span .general .count + p .span .memory .length) (standing r base p v) (omega (arith, words-length none))
 
-    float-stands : 0 < p .span .floating .count → floatAt (p .span) c ≡ bytesOf 8 (floatWord r (equivalentOf (p .ty)) (valueOf v))
+    pub float-stands : 0 < p .span .floating .count → floatAt (p .span) c ≡ bytesOf 8 (floatWord r (equivalentOf (p .ty)) (valueOf v))
     unfolding floatBytes
     float-stands some =
         let one : p .span .floating .count ≡ 1 = omega (arith, g .held .floats) in
@@ -152,7 +154,7 @@ module _ (r : Rules) (base : ℕ) (p : Placement) (v : List ℕ) (b : Buffers) (
         let x : bytesAt (copies (p .span .copy .start)) (length v) c ≡ v = rw q at (s .copy) in
         ap (λ (n : ℕ). bytesAt (copies (p .span .copy .start)) n c) (sym (g .size)) ∙ x
 
-    own-value : p .span .floating .count ≤ 0 → p .span .indirect ≡ false → part (ownStart r (p .ty) (p .size)) (p .size) (wordsAt (p .span) c) ≡ v
+    pub own-value : p .span .floating .count ≤ 0 → p .span .indirect ≡ false → part (ownStart r (p .ty) (p .size)) (p .size) (wordsAt (p .span) c) ≡ v
     unfolding standing
     own-value none q =
         let m : standing r base p v ≡ homeBytes r (p .ty) (p .size) v = rw q in
@@ -230,4 +232,27 @@ stands-kept r base p v b d ss h l s = record {
   registers = kept-all d _ _ ss b (h .registers) (h .registers-bank) l ∙ s .registers;
   memory = kept-all d _ _ ss b (h .memory) tt l ∙ s .memory;
   copy = kept-all d _ _ ss b (h .copy) tt l ∙ s .copy;
+}
+
+-- ---- several
+
+-- an argument that stands in buffers with room for it
+pub record Put (r : Rules) (base : ℕ) (p : Placement) (v : List ℕ) (b : Buffers) : Type 0 where
+  pub given : Given r base p v b
+  pub stands : Stands r base p v b
+
+-- each of several, the values one after the other
+unfoldable pub AllPut : Rules → ℕ → List Placement → List ℕ → Buffers → Type 0
+AllPut r base [] v b = Unit {0}
+AllPut r base (p ∷ ps) v b = Put r base p (take (p .size) v) b × AllPut r base ps (drop (p .size) v) b
+
+-- room depends on lengths alone
+pub given-same : (r : Rules) (base : ℕ) (p : Placement) (v : List ℕ) (b c : Buffers) → SameLengths b c → Given r base p v b → Given r base p v c
+given-same r base p v b c l g = record {
+  held = g .held;
+  fits = record { general = g .fits .general; floating = g .fits .floating; memory = omega (arith, g .fits .memory, l .area); copies = omega (arith, g .fits .copies, l .copies) };
+  image = l .image ∙ g .image;
+  size = g .size;
+  bytes = g .bytes;
+  low = g .low;
 }

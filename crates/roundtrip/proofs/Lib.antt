@@ -5,3 +5,4 @@ pub mod Arguments
 pub mod Theorems
 pub mod Places
 pub mod Alone
+pub mod Views

@@ -33,7 +33,7 @@ use Rattle.slots.specs.declared.Answer.{Answer}
 use Rattle.slots.specs.Buffers.{Buffers, buffers, Slot, putAll}
 use Rattle.slots.specs.Placements.{Placement, placement, placements, copyBytes, slotsOf, slotsOfAll, hiddenSlots, valuesAt}
 use Rattle.slots.specs.Limits.{Held, Fits, All, sizesOf}
-use Rattle.slots.specs.Refusals.{firstOf, orElse, afterReading}
+use Rattle.slots.specs.Refusals.{firstOf, orElse, firstOfAll, afterReading}
 use Rattle.slots.specs.Arguments.{argumentsIn, argumentsOf, planFor, rulesFor, Carried}
 use Rattle.slots.proofs.Buffers.{SameLengths, same-then, putAll-lengths, putAll-append}
 use Rattle.slots.proofs.Answered.{carried, arguments-got}
@@ -43,7 +43,7 @@ use Rattle.read.specs.declared.Sizes.{Sizes}
 use Rattle.read.specs.Read.{sizes, argumentAnswer, argumentsAnswer, readTests, readAnswer, readValues}
 use Rattle.roundtrip.specs.RoundTrip.{Filled, left, ReadBack}
 use Rattle.roundtrip.proofs.Kept.{all-later}
-use Rattle.roundtrip.proofs.Arguments.{Stands, Given, stands-put, stands-done, stands-value, Behind, stands-kept}
+use Rattle.roundtrip.proofs.Arguments.{Stands, Given, stands-put, stands-done, stands-value, Behind, stands-kept, AllPut, given-same}
 
 -- the buffers have room for the arguments ps of a copies' end at m
 record Roomy (r : Rules) (base : ℕ) (ps : List Placement) (a m : ℕ) (v : List ℕ) (b : Buffers) : Type 0 where
@@ -87,15 +87,13 @@ split-whole n v =
 bytes-drop : (n : ℕ) (v : List ℕ) → Bytes v → Bytes (drop n v)
 bytes-drop n v h = subst Bytes (take-all (length (drop n v)) (drop n v) (omega arith)) (bytes-part n (length (drop n v)) v h)
 
--- every argument can be read, and the values are those that were put
-arguments-back : (c : Convention) (r : Rules) (base a m : ℕ) (k : Cursor) (ts : List ValueType) (v : List ℕ) (b : Buffers) → Named r k
+-- every argument stands once all are put: those after it leave its slots
+all-put : (c : Convention) (r : Rules) (base a m : ℕ) (k : Cursor) (ts : List ValueType) (v : List ℕ) (b : Buffers) → Named r k
     → Roomy r base (placements c ts (spansOf c r k ts)) a m v b
-    → (argumentsAnswer r base (placements c ts (spansOf c r k ts)) (putAll (slotsOfAll r base (placements c ts (spansOf c r k ts)) v) b) ≡ Answer.Done)
-    × (valuesAt r base (placements c ts (spansOf c r k ts)) (putAll (slotsOfAll r base (placements c ts (spansOf c r k ts)) v) b) ≡ v)
-unfolding placements spansOf slotsOfAll argumentsAnswer valuesAt All sizesOf
-arguments-back c r base a m k [] [] b named h = (refl, refl)
-arguments-back c r base a m k [] (x ∷ v) b named h = absurd (omega (arith, h .total))
-arguments-back c r base a m k (t ∷ ts) v b named h =
+    → AllPut r base (placements c ts (spansOf c r k ts)) v (putAll (slotsOfAll r base (placements c ts (spansOf c r k ts)) v) b)
+unfolding placements spansOf slotsOfAll AllPut All sizesOf
+all-put c r base a m k [] v b named h = tt
+all-put c r base a m k (t ∷ ts) v b named h =
     let n : ℕ = sizeOf c t in
     let p : Placement = placement t n (spanOf r k t n) in
     let d : Cursor = nextOf r k t n in
@@ -120,7 +118,7 @@ arguments-back c r base a m k (t ∷ ts) v b named h =
     let l2 : SameLengths b b2 = same-then l1 (putAll-lengths ys b1) in
     let stands : Stands r base p x b2 =
     stands-kept r base p x b1 d ys (step-behind r k t n x named (h .held .0) size) (all-later c r base d ts y (named-next r k t n named)) (stands-put r base p x b given) in
-    let rest = arguments-back c r base a m d ts y b1 (named-next r k t n named) (record {
+    let rest = all-put c r base a m d ts y b1 (named-next r k t n named) (record {
       held = h .held .1;
       fit = h .fit .1;
       image = l1 .image ∙ h .image;
@@ -130,9 +128,20 @@ arguments-back c r base a m k (t ∷ ts) v b named h =
       total = omega (arith, length-drop n v);
       bytes = bytes-drop n v (h .bytes);
     }) in
-    let done : argumentAnswer r base p b2 ≡ Answer.Done = stands-done r base p x b given b2 stands (l2 .copies) in
-    let value = stands-value r base p x b given b2 stands (l2 .copies) in
-    rw (putAll-append xs ys b) (ap₂ orElse done (rest .0), ap₂ (λ (i j : List ℕ). i ++ j) value (rest .1) ∙ split-whole n v)
+    rw (putAll-append xs ys b) (record { given = given-same r base p x b b2 l2 given; stands = stands }, rest)
+
+-- every argument can be read, and the values are those that were put
+pub put-back : (r : Rules) (base : ℕ) (ps : List Placement) (v : List ℕ) (b : Buffers) → AllPut r base ps v b → length v ≡ sizesOf ps
+    → (argumentsAnswer r base ps b ≡ Answer.Done) × (valuesAt r base ps b ≡ v)
+unfolding AllPut argumentsAnswer firstOfAll valuesAt sizesOf
+put-back r base [] [] b h e = (refl, refl)
+put-back r base [] (x ∷ v) b h e = absurd (omega arith)
+put-back r base (p ∷ ps) v b h e =
+    let x : List ℕ = take (p .size) v in
+    let rest = put-back r base ps (drop (p .size) v) b (h .1) (omega (arith, length-drop (p .size) v)) in
+    let done : argumentAnswer r base p b ≡ Answer.Done = stands-done r base p x b (h .0 .given) b (h .0 .stands) refl in
+    let value = stands-value r base p x b (h .0 .given) b (h .0 .stands) refl in
+    (ap₂ orElse done (rest .0), ap₂ (λ (i j : List ℕ). i ++ j) value (rest .1) ∙ split-whole (p .size) v)
 
 -- ---- a whole signature
 
@@ -150,40 +159,28 @@ overlay-whole l bs e =
     let none : drop (length bs) l ≡ [] = drop-of-length-le l short in
     overlay-is l bs (omega arith) ∙ ap (λ (t : List ℕ). bs ++ t) none ∙ append-nil bs
 
--- a refused signature has no arguments, and no values
-none-back : (base : ℕ) (v : List ℕ) (b : Buffers) (reason : _) (place : ℕ) → length v ≡ planAnswer (no reason place) .values
-    → (argumentsAnswer (rulesOf Convention.Ppc64) base (argumentsIn (signatureAnswer (no reason place)) (planAnswer (no reason place)))
-    (putAll (slotsOfAll (rulesOf Convention.Ppc64) base (argumentsIn (signatureAnswer (no reason place)) (planAnswer (no reason place))) v) b)
-    ≡ Answer.Done)
-    × (valuesAt (rulesOf Convention.Ppc64) base (argumentsIn (signatureAnswer (no reason place)) (planAnswer (no reason place)))
-    (putAll (slotsOfAll (rulesOf Convention.Ppc64) base (argumentsIn (signatureAnswer (no reason place)) (planAnswer (no reason place))) v) b)
-    ≡ v)
-unfolding argumentsAnswer valuesAt argumentsIn placements planAnswer
-none-back base [] b reason place q = (refl, refl)
-none-back base (y ∷ v) b reason place q = absurd (omega arith)
+-- a refused signature has no arguments
+none-put : (base : ℕ) (v : List ℕ) (b : Buffers) (reason : _) (place : ℕ)
+    → AllPut (rulesOf Convention.Ppc64) base (argumentsIn (signatureAnswer (no reason place)) (planAnswer (no reason place))) v b
+unfolding AllPut argumentsIn placements
+none-put base v b reason place = tt
 
 -- a signature's arguments, after its slots are put in any buffers that have room for them
-plan-back : (s : List ℕ) (base : ℕ) (v : List ℕ) (b : Buffers) → Bytes v → length v ≡ planFor s .values → length (b .image) ≡ 512 → planFor s .area ≤ length (b .area)
+plan-put : (s : List ℕ) (base : ℕ) (v : List ℕ) (b : Buffers) → Bytes v → length v ≡ planFor s .values → length (b .image) ≡ 512 → planFor s .area ≤ length (b .area)
     → planFor s .copies ≤ length (b .copies) → base + planFor s .copies < 2 ^ 64
-    → (argumentsAnswer (rulesFor s) base (argumentsOf s) (putAll (slotsOfAll (rulesFor s) base (argumentsOf s) v) b) ≡ Answer.Done)
-    × (valuesAt (rulesFor s) base (argumentsOf s) (putAll (slotsOfAll (rulesFor s) base (argumentsOf s) v) b) ≡ v)
+    → AllPut (rulesFor s) base (argumentsOf s) v (putAll (slotsOfAll (rulesFor s) base (argumentsOf s) v) b)
 unfolding argumentsOf
-plan-back s base v b bytes values image area copies low = go (signatureOf s) (carried s) values area copies low
+plan-put s base v b bytes values image area copies low = go (signatureOf s) (carried s) values area copies low
   where
     go : (x : Reading Signature) → Carried (signatureAnswer x) (planAnswer x) → length v ≡ planAnswer x .values → planAnswer x .area ≤ length (b .area)
         → planAnswer x .copies ≤ length (b .copies) → base + planAnswer x .copies < 2 ^ 64
-        → (argumentsAnswer (rulesOf (signatureAnswer x .convention)) base (argumentsIn (signatureAnswer x) (planAnswer x))
+        → AllPut (rulesOf (signatureAnswer x .convention)) base (argumentsIn (signatureAnswer x) (planAnswer x)) v
         (putAll (slotsOfAll (rulesOf (signatureAnswer x .convention)) base (argumentsIn (signatureAnswer x) (planAnswer x)) v) b)
-        ≡ Answer.Done)
-        × (valuesAt (rulesOf (signatureAnswer x .convention)) base (argumentsIn (signatureAnswer x) (planAnswer x))
-        (putAll (slotsOfAll (rulesOf (signatureAnswer x .convention)) base (argumentsIn (signatureAnswer x) (planAnswer x)) v) b)
-        ≡ v)
     go (got g next n) h e i j k =
         let c : Convention = g .convention in
         let same = arguments-got g next n in
-        let f = h .fit in
         rw same
-        (arguments-back c (rulesOf c) base (planAnswer (got g next n) .area) (planAnswer (got g next n) .copies) (startIn c (resultType c (g .result))) (typesOf c (g .arguments)) v b
+        (all-put c (rulesOf c) base (planAnswer (got g next n) .area) (planAnswer (got g next n) .copies) (startIn c (resultType c (g .result))) (typesOf c (g .arguments)) v b
         (named-start (rulesOf c) (hiddenIn c (resultType c (g .result))))
         (record {
           held = subst (All (Held (rulesOf c))) same (h .held);
@@ -195,32 +192,60 @@ plan-back s base v b bytes values image area copies low = go (signatureOf s) (ca
           total = e ∙ sym (h .total) ∙ ap sizesOf same;
           bytes = bytes;
         }))
-    go (no reason place) h e i j k = none-back base v b reason place e
+    go (no reason place) h e i j k = none-put base v _ reason place
 
--- THE ROUND TRIP: for all inputs that fill accepts, read with the same signature and copy base on what fill left accepts, and gives the
--- values back, all of them
-pub read-after-fill : (s values image area copies into : List ℕ) (base hidden : ℕ) → Filled s values image area copies base hidden → length into ≡ length values
-    → ReadBack s values base (left s values image area copies base hidden) into
-unfolding fillAnswer fillBuffers filledSlots readAnswer readValues
-read-after-fill s values image area copies into base hidden h size =
+-- what an accepted filling leaves: every argument stands, and the buffers have the lengths that the plan asks for
+pub record Left (s values : List ℕ) (base : ℕ) (b : Buffers) : Type 0 where
+  pub all : AllPut (rulesFor s) base (argumentsOf s) values b
+  pub image : length (b .image) ≡ 512
+  pub total : length values ≡ planFor s .values
+  pub area : planFor s .area ≤ length (b .area)
+
+pub filled-left : (s values image area copies : List ℕ) (base hidden : ℕ) → Filled s values image area copies base hidden → Left s values base (left s values image area copies base hidden)
+unfolding fillAnswer fillBuffers filledSlots
+filled-left s values image area copies base hidden h =
     let p : Plan = planFor s in
     let b : Buffers = buffers image area copies in
     let hs : List Slot = hiddenSlots (p .result) hidden in
     let ss : List Slot = slotsOfAll (rulesFor s) base (argumentsOf s) values in
     let b0 : Buffers = putAll hs b in
-    let after : Buffers = putAll (hs ++ ss) b in
     let l0 : SameLengths b b0 = putAll-lengths hs b in
-    let l : SameLengths b after = putAll-lengths (hs ++ ss) b in
+    let l : SameLengths b (putAll (hs ++ ss) b) = putAll-lengths (hs ++ ss) b in
     let tests : firstOf (fillTests (lengths values image area copies) (p .values) (p .area) (p .copies) base) ≡ Answer.Done =
     reading-done (p .outcome) _ (h .accepted) Answer.Done refl .0 in
     let lent : Lent (lengths values image area copies) p base = tests-passed (lengths values image area copies) p base (h .low) tests in
-    let back = plan-back s base values b0 (h .bytes) (lent .values) (l0 .image ∙ lent .image) (omega (arith, lent .area, l0 .area)) (omega (arith, lent .copies, l0 .copies)) (lent .low) in
-    let e : after ≡ putAll ss b0 = putAll-append hs ss b in
-    let good : firstOf (readTests (sizes into (after .image) (after .area)) (p .values) (p .area)) ≡ Answer.Done =
-    read-tests (sizes into (after .image) (after .area)) (p .values) (p .area) (l .image ∙ lent .image) (size ∙ lent .values) (omega (arith, lent .area, l .area)) in
-    let done : argumentsAnswer (rulesFor s) base (argumentsOf s) after ≡ Answer.Done = ap (argumentsAnswer (rulesFor s) base (argumentsOf s)) e ∙ back .0 in
-    let value : valuesAt (rulesFor s) base (argumentsOf s) after ≡ values = ap (valuesAt (rulesFor s) base (argumentsOf s)) e ∙ back .1 in
+    let put = plan-put s base values b0 (h .bytes) (lent .values) (l0 .image ∙ lent .image) (omega (arith, lent .area, l0 .area)) (omega (arith, lent .copies, l0 .copies)) (lent .low) in
     record {
-      accepted = reading-done (p .outcome) _ (h .accepted) _ (ap₂ orElse good done) .1;
-      same = ap (overlay into) value ∙ overlay-whole into values size;
+      all = rw (putAll-append hs ss b) put;
+      image = l .image ∙ lent .image;
+      total = lent .values;
+      area = omega (arith, lent .area, l .area);
+    }
+
+-- an accepted filling's signature is read, and a later answer decides
+pub filled-answer : (s values image area copies : List ℕ) (base hidden : ℕ) → Filled s values image area copies base hidden → (y : Answer) → y ≡ Answer.Done
+    → afterReading (planFor s .outcome) y ≡ Answer.Done
+unfolding fillAnswer
+filled-answer s values image area copies base hidden h y q = reading-done (planFor s .outcome) _ (h .accepted) y q .1
+
+pub values-total : (s : List ℕ) → sizesOf (argumentsOf s) ≡ planFor s .values
+unfolding argumentsOf
+values-total s = carried s .total
+
+-- THE ROUND TRIP: for all inputs that fill accepts, read with the same signature and copy base on what fill left accepts, and gives the
+-- values back, all of them
+pub read-after-fill : (s values image area copies into : List ℕ) (base hidden : ℕ) → Filled s values image area copies base hidden → length into ≡ length values
+    → ReadBack s values base (left s values image area copies base hidden) into
+unfolding readAnswer readValues
+read-after-fill s values image area copies into base hidden h size =
+    let p : Plan = planFor s in
+    let after : Buffers = left s values image area copies base hidden in
+    let l : Left s values base after = filled-left s values image area copies base hidden h in
+    let total : length values ≡ sizesOf (argumentsOf s) = l .total ∙ sym (values-total s) in
+    let back = put-back (rulesFor s) base (argumentsOf s) values after (l .all) total in
+    let good : firstOf (readTests (sizes into (after .image) (after .area)) (p .values) (p .area)) ≡ Answer.Done =
+    read-tests (sizes into (after .image) (after .area)) (p .values) (p .area) (l .image) (size ∙ l .total) (l .area) in
+    record {
+      accepted = filled-answer s values image area copies base hidden h _ (ap₂ orElse good (back .0));
+      same = ap (overlay into) (back .1) ∙ overlay-whole into values size;
     }

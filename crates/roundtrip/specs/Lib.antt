@@ -1,3 +1,4 @@
--- What filling and reading are to each other. Assumes nothing.
+-- What filling, reading, home and views are to each other. Assumes nothing.
 pub mod RoundTrip
 pub mod Places
+pub mod Views

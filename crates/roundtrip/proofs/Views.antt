@@ -1,0 +1,305 @@
+-- After filling, home and each view give the values (specs/Views.antt states it). Assumes nothing.
+use mathlib.Core.Path.{_≡_, refl, sym, ap, ap₂, _∙_, subst}
+use mathlib.Core.Logic.{inl, inr}
+use mathlib.Core.Bool.{Bool, true, false}
+use mathlib.Core.List.{List, [], _∷_, _++_}
+use Prim.Native.Nat.{ℕ, zero, suc, _+_, _-_, _*_, _≤_, _<_}
+use native.Mathlib.Omega.{arith}
+use borrow.Author.Tests.{lt-ltb, le-ltb, ltb-true, ltb-false, eq-eqb, lt-leb}
+use lib.Dec.{ltb}
+use lib.ListN.{length, getD, take, drop, length-drop}
+use Rattle.words.specs.Splice.{splice, part}
+use Rattle.words.specs.Numbers.{valueOf}
+use Rattle.words.proofs.Splices.{splice-same, splice-other, length-splice, length-part, part-add}
+use Rattle.types.specs.declared.Convention.{Convention}
+use Rattle.types.specs.declared.ValueType.{ValueType}
+use Rattle.types.specs.Sizes.{sizeOf, equivalentOf}
+use Rattle.items.specs.Reading.{Reading, got, no}
+use Rattle.signature.specs.declared.ResultType.{ResultType}
+use Rattle.signature.specs.Signature.{Signature}
+use Rattle.signature.specs.Read.{signatureOf}
+use Rattle.signature.specs.Answer.{resultType, signatureAnswer}
+use Rattle.convention.specs.declared.Cursor.{Cursor}
+use Rattle.convention.specs.declared.Rules.{Rules}
+use Rattle.convention.specs.Values.{pick}
+use Rattle.convention.specs.Step.{ppc64, rulesOf, spanOf, nextOf}
+use Rattle.plan.specs.declared.Plan.{Plan}
+use Rattle.plan.specs.Plan.{spansOf, startIn, planAnswer, typesOf}
+use Rattle.slots.specs.declared.Answer.{Answer}
+use Rattle.slots.specs.Buffers.{Buffers, buffers, bytesAt}
+use Rattle.slots.specs.Forms.{roomOf, startsAtHead, homeBytes, ownStart, floatValueAs, floatValue}
+use Rattle.slots.specs.Placements.{Placement, placements, wordsAt}
+use Rattle.slots.specs.Limits.{All}
+use Rattle.slots.specs.Refusals.{firstOf, orElse, firstOfAll, floatAnswer, isDone}
+use Rattle.slots.specs.Arguments.{argumentsIn, argumentsOf, planFor, rulesFor, Carried}
+use Rattle.slots.proofs.Answered.{carried, arguments-got}
+use Rattle.slots.proofs.Refusals.{or-done}
+use Rattle.slots.proofs.Turns.{next-argument}
+use Rattle.read.specs.Read.{wordsAnswer, argumentAnswer, argumentsAnswer}
+use Rattle.read.proofs.Parts.{part-part}
+use Rattle.home.specs.Home.{registerAnswer, registersAnswer, homeTests, homeAnswer, homedBytes, homed, homeArea, Homed}
+use Rattle.home.specs.View.{viewTests, viewAnswer, noArgument, ownBytes, viewOf}
+use Rattle.home.proofs.Homed.{homed-all}
+use Rattle.home.proofs.Registers.{homed-general}
+use Rattle.roundtrip.specs.RoundTrip.{Filled, left}
+use Rattle.roundtrip.specs.Views.{valueLists, homedArea, Viewed}
+use Rattle.roundtrip.proofs.Forms.{float-back, own-back, length-home}
+use Rattle.roundtrip.proofs.Arguments.{float-stands, own-value, Put, AllPut, given-same}
+use Rattle.roundtrip.proofs.Theorems.{put-back, values-total, Left, filled-left, filled-answer}
+
+-- ---- one argument
+
+module _ (base : ℕ) (p : Placement) (v : List ℕ) (b : Buffers) (a : ℕ) (h : Put ppc64 base p v b) (m : Homed a p) where
+  -- a float's home holds the value in its memory form
+  float-homed : 0 < p .span .floating .count → homedBytes ppc64 p (b .image) ≡ homeBytes ppc64 (p .ty) (p .size) v
+  unfolding homedBytes floatValue bytesAt
+  float-homed some =
+      let one : p .span .floating .count ≡ 1 = omega (arith, h .given .held .floats) in
+      let bits = float-stands ppc64 base p v b (h .given) b (h .stands) refl some in
+      simp (lt-ltb 0 (p .span .floating .count) some)
+      (ap (homeBytes ppc64 (p .ty) (p .size))
+      (ap (floatValueAs ppc64 (equivalentOf (p .ty))) bits ∙ float-back ppc64 (equivalentOf (p .ty)) v (rw (h .given .size) (h .given .held .float one)) (h .given .bytes) .1))
+
+  float-length : length (homeBytes ppc64 (p .ty) (p .size) v) ≡ roomOf ppc64 (p .size)
+  float-length =
+      ap (λ (n : ℕ). length (homeBytes ppc64 (p .ty) n v)) (sym (h .given .size))
+      ∙ length-home ppc64 (p .ty) v (λ e. rw (h .given .size) (m .least))
+      ∙ ap (roomOf ppc64) (h .given .size)
+
+  registers-length : length (part (8 * p .span .general .first) (8 * p .span .general .count) (b .image)) ≡ 8 * p .span .general .count
+  registers-length =
+      length-part (8 * p .span .general .first) (8 * p .span .general .count) (b .image) (omega (arith, h .given .fits .general, h .given .image))
+
+  -- home writes no further than the argument's home
+  homed-length : length (homedBytes ppc64 p (b .image)) ≤ roomOf ppc64 (p .size)
+  homed-length = go (ltb 0 (p .span .floating .count)) refl
+    where
+      go : (f : Bool) → ltb 0 (p .span .floating .count) ≡ f → length (homedBytes ppc64 p (b .image)) ≤ roomOf ppc64 (p .size)
+      go true q = rw (float-homed (ltb-true 0 (p .span .floating .count) q)) (omega (arith, float-length))
+      go false q =
+          let none : p .span .floating .count ≤ 0 = ltb-false 0 (p .span .floating .count) q in
+          let no : p .span .floating .count ≡ 0 = omega arith in
+          rw (homed-general p (b .image) none) (omega (arith, registers-length, h .given .held .words no))
+
+  own-within : ownStart ppc64 (p .ty) (p .size) + p .size ≤ roomOf ppc64 (p .size)
+  unfolding ownStart
+  own-within = go (startsAtHead ppc64 (p .ty))
+    where
+      go : (s : Bool) → pick s 0 (roomOf ppc64 (p .size) - p .size) + p .size ≤ roomOf ppc64 (p .size)
+      go true = omega (arith, m .least)
+      go false = omega (arith, m .least)
+
+  -- an area whose home of the argument is as home left it shows the value
+  module _ (room : a ≤ length (b .area)) (l : List ℕ)
+      (same : part (p .span .home .start) (roomOf ppc64 (p .size)) l ≡ part (p .span .home .start) (roomOf ppc64 (p .size)) (splice (b .area) (p .span .home .start) (homedBytes ppc64 p (b .image)))) where
+    float-own : 0 < p .span .floating .count → part (ownStart ppc64 (p .ty) (p .size)) (p .size) (part (p .span .home .start) (roomOf ppc64 (p .size)) l) ≡ v
+    float-own some =
+        let start : ℕ = p .span .home .start in
+        let hs : List ℕ = homeBytes ppc64 (p .ty) (p .size) v in
+        let whole : part start (roomOf ppc64 (p .size)) l ≡ hs =
+        same
+        ∙ ap (λ (x : List ℕ). part start (roomOf ppc64 (p .size)) (splice (b .area) start x)) (float-homed some)
+        ∙ ap (λ (n : ℕ). part start n (splice (b .area) start hs)) (sym float-length)
+        ∙ splice-same (b .area) start hs (omega (arith, float-length, m .within)) in
+        ap (part (ownStart ppc64 (p .ty) (p .size)) (p .size)) whole
+        ∙ ap (λ (n : ℕ). part (ownStart ppc64 (p .ty) n) n (homeBytes ppc64 (p .ty) n v)) (sym (h .given .size))
+        ∙ own-back ppc64 (p .ty) v (h .given .bytes) (λ e. rw (h .given .size) (h .given .held .small e (m .direct) .1, h .given .held .end e))
+
+    words-own : p .span .floating .count ≤ 0 → part (ownStart ppc64 (p .ty) (p .size)) (p .size) (part (p .span .home .start) (roomOf ppc64 (p .size)) l) ≡ v
+    unfolding wordsAt bytesAt
+    words-own none =
+        let start : ℕ = p .span .home .start in
+        let k : ℕ = 8 * p .span .general .count in
+        let n : ℕ = p .span .memory .length in
+        let ws : List ℕ = part (8 * p .span .general .first) k (b .image) in
+        let no : p .span .floating .count ≡ 0 = omega arith in
+        let all : k + n ≡ roomOf ppc64 (p .size) = h .given .held .words no in
+        let after : p .span .memory .start ≡ start + k = m .follows no in
+        let put : List ℕ = splice (b .area) start ws in
+        let first : part start k put ≡ ws = ap (λ (z : ℕ). part start z put) (sym registers-length) ∙ splice-same (b .area) start ws (omega (arith, registers-length, m .within)) in
+        let second : part (start + k) n put ≡ part (p .span .memory .start) n (b .area) =
+        splice-other (b .area) start ws (start + k) n (inr (omega (arith, registers-length))) ∙ ap (λ (z : ℕ). part z n (b .area)) (sym after) in
+        let whole : part start (roomOf ppc64 (p .size)) l ≡ wordsAt (p .span) b =
+        same
+        ∙ ap (λ (x : List ℕ). part start (roomOf ppc64 (p .size)) (splice (b .area) start x)) (homed-general p (b .image) none)
+        ∙ ap (λ (z : ℕ). part start z put) (sym all)
+        ∙ part-add start k n put
+        ∙ ap₂ (λ (x y : List ℕ). x ++ y) first second in
+        ap (part (ownStart ppc64 (p .ty) (p .size)) (p .size)) whole ∙ own-value ppc64 base p v b (h .given) b (h .stands) refl none (m .direct)
+
+    pub home-own : ownBytes ppc64 p l ≡ v
+    home-own =
+        sym (part-part (p .span .home .start) (roomOf ppc64 (p .size)) (ownStart ppc64 (p .ty) (p .size)) (p .size) l own-within) ∙ go (ltb 0 (p .span .floating .count)) refl
+      where
+        go : (f : Bool) → ltb 0 (p .span .floating .count) ≡ f
+            → part (ownStart ppc64 (p .ty) (p .size)) (p .size) (part (p .span .home .start) (roomOf ppc64 (p .size)) l) ≡ v
+        go true q = float-own (ltb-true 0 (p .span .floating .count) q)
+        go false q = words-own (ltb-false 0 (p .span .floating .count) q)
+
+  -- ---- writes below its home leave it
+  abbrev pub over : ℕ → List ℕ → Buffers
+  over n bs = buffers (b .image) (splice (b .area) n bs) (b .copies)
+
+  memory-kept : (n : ℕ) (bs : List ℕ) → n + length bs ≤ p .span .home .start
+      → part (p .span .memory .start) (p .span .memory .length) (splice (b .area) n bs) ≡ part (p .span .memory .start) (p .span .memory .length) (b .area)
+  memory-kept n bs l = go (ltb 0 (p .span .floating .count)) refl
+    where
+      go : (f : Bool) → ltb 0 (p .span .floating .count) ≡ f
+          → part (p .span .memory .start) (p .span .memory .length) (splice (b .area) n bs) ≡ part (p .span .memory .start) (p .span .memory .length) (b .area)
+      go true q =
+          let some : 0 < p .span .floating .count = ltb-true 0 (p .span .floating .count) q in
+          let one : p .span .floating .count ≡ 1 = omega (arith, h .given .held .floats) in
+          rw (h .given .held .alone one .1)
+      go false q =
+          let none : p .span .floating .count ≤ 0 = ltb-false 0 (p .span .floating .count) q in
+          let no : p .span .floating .count ≡ 0 = omega arith in
+          splice-other (b .area) n bs (p .span .memory .start) (p .span .memory .length) (inr (omega (arith, m .follows no)))
+
+  pub put-over : (n : ℕ) (bs : List ℕ) → n + length bs ≤ p .span .home .start → Put ppc64 base p v (over n bs)
+  unfolding bytesAt
+  put-over n bs l = record {
+    given = given-same ppc64 base p v b (over n bs) (record { image = refl; area = length-splice (b .area) n bs; copies = refl }) (h .given);
+    stands = record {
+      floats = h .stands .floats;
+      registers = h .stands .registers;
+      memory = memory-kept n bs l ∙ h .stands .memory;
+      copy = h .stands .copy;
+    };
+  }
+
+-- ---- several, whose homes follow each other
+
+unfoldable HomesFrom : ℕ → List Placement → Type 0
+HomesFrom n [] = Unit {0}
+HomesFrom n (p ∷ ps) = (n ≤ p .span .home .start) × HomesFrom (p .span .home .start + roomOf ppc64 (p .size)) ps
+
+homes-from : (k : Cursor) (ts : List ValueType) → HomesFrom (k .stack) (placements Convention.Ppc64 ts (spansOf Convention.Ppc64 ppc64 k ts))
+unfolding placements spansOf HomesFrom spanOf nextOf
+homes-from k [] = tt
+homes-from k (t ∷ ts) = (omega arith, homes-from (nextOf ppc64 k t (sizeOf Convention.Ppc64 t)) ts)
+
+homes-later : (n m : ℕ) (ps : List Placement) → n ≤ m → HomesFrom m ps → HomesFrom n ps
+unfolding HomesFrom
+homes-later n m [] l h = tt
+homes-later n m (p ∷ ps) l h = (omega (arith, h .0), h .1)
+
+-- what lies before the homes stays
+homed-kept : (ps : List Placement) (n q m : ℕ) (image l : List ℕ) → HomesFrom n ps → q + m ≤ n → part q m (homed ppc64 ps image l) ≡ part q m l
+unfolding homed HomesFrom
+homed-kept [] n q m image l h k = refl
+homed-kept (p ∷ ps) n q m image l h k =
+    homed-kept ps (p .span .home .start + roomOf ppc64 (p .size)) q m image (splice l (p .span .home .start) (homedBytes ppc64 p image)) (h .1) (omega (arith, h .0))
+    ∙ splice-other l (p .span .home .start) (homedBytes ppc64 p image) q m (inl (omega (arith, h .0)))
+
+all-over : (base : ℕ) (ps : List Placement) (v : List ℕ) (b : Buffers) (a m n : ℕ) (bs : List ℕ) → AllPut ppc64 base ps v b → All (Homed a) ps → HomesFrom m ps → n + length bs ≤ m
+    → AllPut ppc64 base ps v (buffers (b .image) (splice (b .area) n bs) (b .copies))
+unfolding AllPut All HomesFrom
+all-over base [] v b a m n bs h homes from l = tt
+all-over base (p ∷ ps) v b a m n bs h homes from l = (
+  put-over base p (take (p .size) v) b a (h .0) (homes .0) n bs (omega (arith, from .0)),
+  all-over base ps (drop (p .size) v) b a (p .span .home .start + roomOf ppc64 (p .size)) n bs (h .1) (homes .1) (from .1) (omega (arith, from .0)),
+)
+
+views : (base : ℕ) (ps : List Placement) (v : List ℕ) (b : Buffers) (a m : ℕ) → AllPut ppc64 base ps v b → All (Homed a) ps → HomesFrom m ps → a ≤ length (b .area)
+    → (i : ℕ) → i < length ps → ownBytes ppc64 (getD ps i noArgument) (homed ppc64 ps (b .image) (b .area)) ≡ getD (valueLists ps v) i []
+unfolding AllPut All HomesFrom homed valueLists
+views base [] v b a m h homes from room i l = absurd (omega arith)
+views base (p ∷ ps) v b a m h homes from room zero l =
+    let l1 : List ℕ = splice (b .area) (p .span .home .start) (homedBytes ppc64 p (b .image)) in
+    home-own base p (take (p .size) v) b a (h .0) (homes .0) room (homed ppc64 ps (b .image) l1)
+    (homed-kept ps (p .span .home .start + roomOf ppc64 (p .size)) (p .span .home .start) (roomOf ppc64 (p .size)) (b .image) l1 (from .1) (omega arith))
+views base (p ∷ ps) v b a m h homes from room (suc i) l =
+    let bs : List ℕ = homedBytes ppc64 p (b .image) in
+    let l1 : List ℕ = splice (b .area) (p .span .home .start) bs in
+    let d : ℕ = p .span .home .start + roomOf ppc64 (p .size) in
+    let c : Buffers = buffers (b .image) l1 (b .copies) in
+    let shorter = homed-length base p (take (p .size) v) b a (h .0) (homes .0) in
+    views base ps (drop (p .size) v) c a d (all-over base ps (drop (p .size) v) b a d (p .span .home .start) bs (h .1) (homes .1) (from .1) (omega (arith, shorter))) (homes .1) (from .1)
+    (omega (arith, length-splice (b .area) (p .span .home .start) bs)) i (omega arith)
+
+-- ---- a whole signature
+
+plan-homes : (c : Convention) (r : ResultType) (ts : List ValueType) → c ≡ Convention.Ppc64 → HomesFrom 0 (placements c ts (spansOf c (rulesOf c) (startIn c r) ts))
+plan-homes Convention.Ppc64 r ts e = homes-later 0 (startIn Convention.Ppc64 r .stack) _ (omega arith) (homes-from (startIn Convention.Ppc64 r) ts)
+plan-homes Convention.Z r ts e = let z : _≡_ {A = ℕ} 0 1 = cc in absurd (omega arith)
+
+none-homes : (reason : _) (place : ℕ) → HomesFrom 0 (argumentsIn (signatureAnswer (no reason place)) (planAnswer (no reason place)))
+unfolding argumentsIn placements HomesFrom
+none-homes reason place = tt
+
+homes-follow : (s : List ℕ) → signatureAnswer (signatureOf s) .convention ≡ Convention.Ppc64 → HomesFrom 0 (argumentsOf s)
+unfolding argumentsOf
+homes-follow s e = go (signatureOf s) e
+  where
+    go : (x : Reading Signature) → signatureAnswer x .convention ≡ Convention.Ppc64 → HomesFrom 0 (argumentsIn (signatureAnswer x) (planAnswer x))
+    go (got g next n) q =
+        subst (HomesFrom 0) (sym (arguments-got g next n)) (plan-homes (g .convention) (resultType (g .convention) (g .result)) (typesOf (g .convention) (g .arguments)) q)
+    go (no reason place) q = none-homes reason place
+
+-- what can be read can be homed
+register-done : (r : Rules) (base : ℕ) (p : Placement) (b : Buffers) → argumentAnswer r base p b ≡ Answer.Done → registerAnswer r (p .ty) (p .span) (b .image) ≡ Answer.Done
+unfolding argumentAnswer registerAnswer bytesAt
+register-done r base p b = go (wordsAnswer base p b) (ltb 0 (p .span .floating .count))
+  where
+    go : (x : Answer) (f : Bool) → pick f (floatAnswer r (equivalentOf (p .ty)) (valueOf (part (256 + 8 * p .span .floating .first) 8 (b .image)))) x ≡ Answer.Done
+        → pick f (floatAnswer r (equivalentOf (p .ty)) (valueOf (part (256 + 8 * p .span .floating .first) 8 (b .image)))) Answer.Done ≡ Answer.Done
+    go x true e = e
+    go x false e = refl
+
+registers-done : (r : Rules) (base : ℕ) (ps : List Placement) (b : Buffers) → argumentsAnswer r base ps b ≡ Answer.Done → registersAnswer r ps (b .image) ≡ Answer.Done
+unfolding argumentsAnswer registersAnswer firstOfAll
+registers-done r base [] b e = refl
+registers-done r base (p ∷ ps) b e =
+    let both = or-done (argumentAnswer r base p b) (firstOfAll (λ (p : Placement). argumentAnswer r base p b) ps) e in
+    ap₂ orElse (register-done r base p b (both .0)) (registers-done r base ps b (both .1))
+
+home-tests : (c : Convention) (i have area : ℕ) → c ≡ Convention.Ppc64 → i ≡ 512 → area ≤ have → firstOf (homeTests c i have area) ≡ Answer.Done
+unfolding firstOf homeTests
+home-tests c i have area e x y = rw e (simp (eq-eqb _ _ x, le-ltb _ _ y))
+
+view-tests : (c : Convention) (count index have area : ℕ) → c ≡ Convention.Ppc64 → index < count → area ≤ have → firstOf (viewTests c count index have area) ≡ Answer.Done
+unfolding firstOf viewTests
+view-tests c count index have area e x y = rw e (simp (lt-leb _ _ x, le-ltb _ _ y))
+
+length-homed : (r : Rules) (ps : List Placement) (image l : List ℕ) → length (homed r ps image l) ≡ length l
+unfolding homed
+length-homed r [] image l = refl
+length-homed r (p ∷ ps) image l =
+    length-homed r ps image (splice l (p .span .home .start) (homedBytes r p image)) ∙ length-splice l (p .span .home .start) (homedBytes r p image)
+
+-- as many arguments as the signature counts
+counted : (s : List ℕ) (i : ℕ) → i < signatureAnswer (signatureOf s) .count → i < length (argumentsOf s)
+unfolding argumentsOf
+counted s i l =
+    let g = signatureAnswer (signatureOf s) in
+    let p : Plan = planFor s in
+    let c : Carried g p = carried s in
+    let e = next-argument g p i l (c .types) (c .spans) in
+    omega (arith, length-drop i (argumentsIn g p), ap (λ (x : List Placement). length x) e)
+
+view-shows : (s area : List ℕ) (i : ℕ) (v : List ℕ) → viewAnswer s (length area) i ≡ Answer.Done → ownBytes (rulesFor s) (getD (argumentsOf s) i noArgument) area ≡ v → viewOf s area i ≡ v
+unfolding viewOf
+view-shows s area i v done e = ap (λ (a : Answer). pick (isDone a) (ownBytes (rulesFor s) (getD (argumentsOf s) i noArgument) area) []) done ∙ e
+
+-- THE VIEWS: for all inputs that fill accepts on PPC64, home of what fill left accepts, and each argument's view is accepted and is its value
+pub view-after-home : (s values image area copies : List ℕ) (base hidden : ℕ) → Filled s values image area copies base hidden
+    → signatureAnswer (signatureOf s) .convention ≡ Convention.Ppc64 → Viewed s values (left s values image area copies base hidden)
+unfolding homeAnswer viewAnswer homeArea
+view-after-home s values image area copies base hidden h power =
+    let p : Plan = planFor s in
+    let b : Buffers = left s values image area copies base hidden in
+    let l : Left s values base b = filled-left s values image area copies base hidden h in
+    let rules : rulesFor s ≡ ppc64 = ap rulesOf power in
+    let back = put-back (rulesFor s) base (argumentsOf s) values b (l .all) (l .total ∙ sym (values-total s)) in
+    let tests = home-tests (signatureAnswer (signatureOf s) .convention) (length (b .image)) (length (b .area)) (p .area) power (l .image) (l .area) in
+    let size : length (homedArea s b) ≡ length (b .area) = length-homed (rulesFor s) (argumentsOf s) (b .image) (b .area) in
+    let answered : (i : ℕ) → i < signatureAnswer (signatureOf s) .count → viewAnswer s (length (homedArea s b)) i ≡ Answer.Done =
+    λ i k. filled-answer s values image area copies base hidden h _ (view-tests (signatureAnswer (signatureOf s) .convention) (signatureAnswer (signatureOf s) .count) i (length (homedArea s b)) (p .area) power k (omega (arith, l .area, size))) in
+    record {
+      homed = filled-answer s values image area copies base hidden h _ (ap₂ orElse tests (registers-done (rulesFor s) base (argumentsOf s) b (back .0)));
+      accepted = answered;
+      same = λ i k.
+          view-shows s (homedArea s b) i _ (answered i k)
+          (subst (λ (r : Rules). ownBytes r (getD (argumentsOf s) i noArgument) (homed r (argumentsOf s) (b .image) (b .area)) ≡ getD (valueLists (argumentsOf s) values) i []) (sym rules)
+          (views base (argumentsOf s) values b (p .area) 0 (subst (λ (r : Rules). AllPut r base (argumentsOf s) values b) rules (l .all)) (homed-all s power) (homes-follow s power) (l .area) i (counted s i k)));
+    }
