@@ -20,6 +20,10 @@ enum {
     WRITE_REGISTER,
     WRITE_MEMORY,
     LEAVE,
+    FILL,
+    READ,
+    HOME,
+    VIEW,
     OPERATIONS,
     SET_MACHINE = 100,
     CHANGE_MACHINE = 101
@@ -42,10 +46,14 @@ static const struct shape {
     [WRITE_REGISTER] = {"fz_write_register", 4, 0, 3, 2},
     [WRITE_MEMORY] = {"fz_write_memory", 2, 1, 3, 2},
     [LEAVE] = {"fz_leave", 1, 0, 3, 2},
+    [FILL] = {"fz_fill", 2, 5, 3, 0},
+    [READ] = {"fz_read", 1, 5, 3, 0},
+    [HOME] = {"fz_home", 0, 3, 3, 0},
+    [VIEW] = {"fz_view", 1, 2, 5, 0},
 };
 
 #define MOST_NUMBERS 4
-#define MOST_LENT 2
+#define MOST_LENT 5
 #define MOST_WORDS 6
 
 static unsigned long made[OPERATIONS], mismatches;
@@ -261,6 +269,39 @@ static void call_plain(int operation, const uint64_t *numbers)
     }
 }
 
+/* Calls of one call's values: the buffers are in the order of the function's parameters. */
+static void call_values(int operation, const uint64_t *numbers)
+{
+    uint8_t *at[MOST_LENT];
+    size_t length[MOST_LENT];
+    fz_part part;
+    int i;
+
+    for (i = 0; i < shapes[operation].lent; i++) {
+        at[i] = lent(&own[i]);
+        length[i] = own[i].length;
+    }
+    switch (operation) {
+    case FILL:
+        set_answer(fz_fill(at[0], length[0], at[1], length[1], at[2], length[2], at[3], length[3],
+                           at[4], length[4], numbers[0], numbers[1]));
+        break;
+    case READ:
+        set_answer(fz_read(at[0], length[0], at[1], length[1], at[2], length[2], at[3], length[3],
+                           at[4], length[4], numbers[0]));
+        break;
+    case HOME:
+        set_answer(fz_home(at[0], length[0], at[1], length[1], at[2], length[2]));
+        break;
+    case VIEW:
+        part = fz_view(at[0], length[0], at[1], length[1], numbers[0]);
+        set_answer(part.answer);
+        answer[3] = part.start;
+        answer[4] = part.length;
+        break;
+    }
+}
+
 /* a machine between words that no call may change */
 static struct {
     uint64_t before[8];
@@ -325,6 +366,9 @@ static void call_machine(int operation, const uint64_t *numbers)
 
 static void replay(int operation)
 {
+    static const char *const names[MOST_LENT] = {
+        "byte of the first buffer", "byte of the second buffer", "byte of the third buffer",
+        "byte of the fourth buffer", "byte of the fifth buffer"};
     const struct shape *shape = &shapes[operation];
     uint64_t numbers[MOST_NUMBERS];
     int i;
@@ -339,6 +383,8 @@ static void replay(int operation)
     memset(answer, 0xc5, sizeof answer);
     if (shape->kept)
         call_machine(operation, numbers);
+    else if (operation >= FILL)
+        call_values(operation, numbers);
     else
         call_plain(operation, numbers);
     for (i = 0; i < shape->words; i++) {
@@ -355,7 +401,7 @@ static void replay(int operation)
     }
     for (i = 0; i < shape->lent; i++) {
         take_changes(&own[i]);
-        compare(operation, i ? "byte of the second buffer" : "byte of the first buffer", &own[i]);
+        compare(operation, names[i], &own[i]);
     }
 }
 

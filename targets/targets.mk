@@ -38,7 +38,7 @@ build/%/$(notdir $(1))-shared: $(1).c include/flakuzhen.h build/%/libflakuzhen.s
 	$$*-linux-gnu-gcc $$(C_WORDS) build/$$*/libflakuzhen.so
 endef
 
-HEADER_TESTS := layout surface machine
+HEADER_TESTS := layout surface machine marshal
 PROGRAMS := targets/flakuzhen targets/replay targets/plan $(HEADER_TESTS:%=host/flakuzhen/tests/%)
 $(foreach source,$(PROGRAMS),$(eval $(call program,$(source))))
 

@@ -15,6 +15,7 @@
 //! How many numbers, buffers and words there are depends on the operation alone. The file ends with
 //! a code of 0.
 
+mod calls;
 mod floats;
 mod machines;
 mod signatures;
@@ -22,6 +23,9 @@ mod signatures;
 use crate::random::Random;
 use std::collections::BTreeMap;
 use std::fmt;
+
+/// The calls in a file of cases, at the least.
+pub const LEAST: usize = 60_000;
 
 /// What a case is of, with its code in the file.
 #[derive(Clone, Copy, Debug, PartialEq, Eq, PartialOrd, Ord)]
@@ -37,6 +41,10 @@ pub enum Operation {
     WriteRegister = 9,
     WriteMemory = 10,
     Leave = 11,
+    Fill = 12,
+    Read = 13,
+    Home = 14,
+    View = 15,
     /// No call: the state and the memory that the next calls of the frame machine find.
     SetMachine = 100,
     /// No call: changes of that state and that memory.
@@ -45,7 +53,7 @@ pub enum Operation {
 
 impl Operation {
     /// Those that call the library.
-    pub const CALLS: [Operation; 11] = [
+    pub const CALLS: [Operation; 15] = [
         Operation::ReadSignature,
         Operation::Measure,
         Operation::Listing,
@@ -57,6 +65,10 @@ impl Operation {
         Operation::WriteRegister,
         Operation::WriteMemory,
         Operation::Leave,
+        Operation::Fill,
+        Operation::Read,
+        Operation::Home,
+        Operation::View,
     ];
 
     fn is_call(self) -> bool {
@@ -106,16 +118,17 @@ pub fn all(seed: u64, least: usize) -> Vec<Case> {
     let mut random = Random::new(seed);
     let mut cases = signatures::boundaries();
     cases.extend(floats::boundaries(&mut random));
-    while calls(&cases) < least {
+    while count_calls(&cases) < least {
         signatures::some(&mut random, &mut cases);
         floats::some(&mut random, &mut cases);
         machines::some(&mut random, &mut cases);
+        calls::some(&mut random, &mut cases);
     }
     cases
 }
 
 /// How many of the cases call the library.
-pub fn calls(cases: &[Case]) -> usize {
+pub fn count_calls(cases: &[Case]) -> usize {
     cases.iter().filter(|case| case.operation.is_call()).count()
 }
 

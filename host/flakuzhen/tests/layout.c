@@ -28,6 +28,11 @@ WORD(fz_sizes, values, 3);
 WORD(fz_sizes, area, 4);
 WORD(fz_sizes, copies, 5);
 
+SIZE(fz_part, 5);
+WORD(fz_part, answer, 0);
+WORD(fz_part, start, 3);
+WORD(fz_part, length, 4);
+
 SIZE(fz_registers, 66);
 WORD(fz_registers, gpr, 0);
 WORD(fz_registers, fpr, 32);

@@ -5,9 +5,6 @@
 use compare::cases::{self, Answers};
 use std::process::ExitCode;
 
-/// Of every operation together.
-const LEAST: usize = 50_000;
-
 fn main() -> ExitCode {
     let words: Vec<String> = std::env::args().skip(1).collect();
     let [path] = words.as_slice() else {
@@ -15,7 +12,7 @@ fn main() -> ExitCode {
         return ExitCode::from(2);
     };
     let seed = compare::seed();
-    let cases = cases::all(seed, LEAST);
+    let cases = cases::all(seed, cases::LEAST);
     println!("seed {seed:#x}: {}", Answers::of(&cases));
     if let Err(fault) = std::fs::write(path, cases::file(&cases)) {
         eprintln!("write-cases: {path}: {fault}");
