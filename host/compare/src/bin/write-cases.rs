@@ -13,10 +13,10 @@ fn main() -> ExitCode {
     };
     let seed = compare::seed();
     let cases = cases::all(seed, cases::LEAST);
-    println!("seed {seed:#x}: {}", Answers::of(&cases));
     if let Err(fault) = std::fs::write(path, cases::file(&cases)) {
         eprintln!("write-cases: {path}: {fault}");
         return ExitCode::from(2);
     }
+    println!("seed {seed:#x}: {}", Answers::of(&cases));
     ExitCode::SUCCESS
 }
