@@ -5,6 +5,13 @@
 # make bench  the time of planning, filling and reading beside the second program's
 # make lint   what the gate does not ask: layout and clippy of the Rust code
 # make clean  remove all that is built
+#
+# For other machines, with TARGET=powerpc64 or TARGET=s390x (docs/TARGETS.md, targets/targets.mk):
+#
+# make lib TARGET=..   build/TARGET/libflakuzhen.a and build/TARGET/libflakuzhen.so
+# make run TARGET=..   the command there, under emulation
+# make test-targets    a file of cases replayed on both, under emulation
+# make bench-targets   the archives' sizes and the instructions of a plan
 
 SECONDS = 600
 CC = gcc
@@ -15,6 +22,10 @@ PROVED_FROM := crates.txt $(shell find crates -print 2>/dev/null)
 BRIDGES := bridge bridge_values bridge_frames
 ARCHIVE := build/libflakuzhen.a
 SHARED := build/libflakuzhen.so
+# makes a rule's shared library of its archive, which comes first
+SHARED_WORDS = -shared -o $@ -Wl,-soname,libflakuzhen.so \
+    -Wl,--version-script,include/flakuzhen.map -Wl,--no-undefined \
+    -Wl,--whole-archive $< -Wl,--no-whole-archive
 EXAMPLE := examples/signatures/ppc64-figure-3-18.hex
 # no network and no other versions than Cargo.lock's
 CARGO_WORDS := --release --offline --locked
@@ -22,13 +33,15 @@ CARGO_WORDS := --release --offline --locked
 .PHONY: run test lib soak bench lint clean
 .DELETE_ON_ERROR:
 
+ifndef TARGET
 run: $(ARCHIVE)
 	@cd host && cargo run $(CARGO_WORDS) --quiet -p flakuzhen -- list --hex ../$(EXAMPLE)
 
+lib: $(ARCHIVE) $(SHARED)
+endif
+
 test:
 	@.ci/run
-
-lib: $(ARCHIVE) $(SHARED)
 
 # rt writes a bridge's archive, which has one object, only where the bridge and all below it are proved,
 # and fails else; the library has the objects of all bridges
@@ -42,8 +55,7 @@ $(ARCHIVE): $(PROVED_FROM)
 	ar rcsD $@ $(BRIDGES:%=build/objects/%.o)
 
 $(SHARED): $(ARCHIVE) include/flakuzhen.map
-	$(CC) -shared -o $@ -Wl,-soname,libflakuzhen.so -Wl,--version-script,include/flakuzhen.map \
-	    -Wl,--no-undefined -Wl,--whole-archive $(ARCHIVE) -Wl,--no-whole-archive
+	$(CC) $(SHARED_WORDS)
 
 soak: $(ARCHIVE)
 	cd host && cargo run $(CARGO_WORDS) --quiet -p compare --bin soak -- $(SECONDS)
@@ -56,6 +68,8 @@ bench: $(ARCHIVE)
 
 lint: $(ARCHIVE)
 	cd host && cargo fmt --check && cargo clippy $(CARGO_WORDS) --all-targets -- -D warnings
+
+include targets/targets.mk
 
 clean:
 	rm -rf build target host/target

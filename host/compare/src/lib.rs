@@ -4,6 +4,7 @@
 #![forbid(unsafe_code)]
 
 pub mod calls;
+pub mod cases;
 pub mod compiled_calls;
 pub mod encode;
 pub mod float_bits;

@@ -394,7 +394,8 @@ fn fits(machine: &Machine, convention: Convention, request: &Request) -> bool {
     request_allowed(convention, request) && frame_size(convention, request) <= room
 }
 
-fn other_length(random: &mut Random, length: usize) -> usize {
+/// A length that is not the memory's, which is this one, and no longer than its guard lets it be.
+pub fn other_length(random: &mut Random, length: usize) -> usize {
     match random.below(5) {
         0 => length - 16,
         1 => length + 16,
@@ -461,7 +462,7 @@ fn foreign_state(
 }
 
 /// One change of a state: most make one that cannot be, some one that can.
-fn change(random: &mut Random, state: &mut Machine) {
+pub fn change(random: &mut Random, state: &mut Machine) {
     let convention = convention_of(state.convention).unwrap_or(Convention::Ppc64);
     let pointer = &mut state.registers.gpr[pointer_register(convention)];
     let step = random.pick(&[1, 8, 16, 112, 160, 4096]);
@@ -555,7 +556,7 @@ fn run_state(random: &mut Random, reach: &mut Reach) -> Result<(), Difference> {
 
 /// A state with records by chance and the stack pointer that they make, which may be out of the
 /// memory.
-fn make_up(random: &mut Random, convention: Convention, length: usize, state: &mut Machine) {
+pub fn make_up(random: &mut Random, convention: Convention, length: usize, state: &mut Machine) {
     state.convention = match convention {
         Convention::Ppc64 => 1,
         Convention::Z => 2,
@@ -597,12 +598,16 @@ fn make_up(random: &mut Random, convention: Convention, length: usize, state: &m
 /// Mostly puts the caller's stack pointer where a leave looks for it, in a memory that holds
 /// nothing else of the machine.
 fn mend(random: &mut Random, pair: &mut Pair) {
-    let state = pair.state();
-    let Some(convention) = state.possible() else {
-        return;
-    };
-    if state.depth == 0 || state.size != pair.memory().len() as u64 || random.once_in(4) {
-        return;
+    if let Some((at, bytes)) = mending(random, pair.state(), pair.memory().len()) {
+        pair.change_memory(at, &bytes);
+    }
+}
+
+/// The bytes that mend the memory of this length, and where they go.
+pub fn mending(random: &mut Random, state: &Machine, length: usize) -> Option<(usize, [u8; 8])> {
+    let convention = state.possible()?;
+    if state.depth == 0 || state.size != length as u64 || random.once_in(4) {
+        return None;
     }
     let pointer = stack_pointer(state);
     let caller = pointer + frame_size(convention, &state.frames[state.depth as usize - 1]);
@@ -614,5 +619,5 @@ fn mend(random: &mut Random, pair: &mut Pair) {
     if random.once_in(8) {
         bytes[random.below(8)] ^= 1 << random.below(8);
     }
-    pair.change_memory((at - state.base) as usize, &bytes);
+    Some(((at - state.base) as usize, bytes))
 }

@@ -45,25 +45,13 @@ impl Pair {
     /// A memory of this length, with bytes and a state by chance.
     pub fn new(random: &mut Random, length: usize) -> Pair {
         let bytes = random_bytes(random, GUARD + length + GUARD);
-        let mut pair = Pair {
-            library: library::Machine::default(),
+        let state = random_state(random);
+        Pair {
+            library: library_machine(&state),
             library_bytes: bytes.clone(),
-            second: Machine {
-                convention: random.number(),
-                base: random.number(),
-                size: random.number(),
-                depth: random.number(),
-                registers: random_registers(random),
-                frames: [Request::default(); 32],
-            },
+            second: state,
             second_bytes: bytes,
-        };
-        pair.change_state(|machine| {
-            for frame in &mut machine.frames {
-                frame.locals = random.number();
-            }
-        });
-        pair
+        }
     }
 
     /// The state that both have.
@@ -167,39 +155,42 @@ impl Pair {
         }
     }
 
-    /// What the second program answers, in the words of the C surface: "counts are 0", and so is
-    /// every place of these refusals.
     fn call_second(&mut self, call: &Call, lent: usize) -> Answer {
-        let machine = &mut self.second;
         let memory = &mut self.second_bytes[GUARD..GUARD + lent];
-        let answer = match call {
-            Call::Start {
-                convention,
-                registers,
-                base,
-            } => {
-                let (started, answer) = second::start(*convention, registers, *base, memory);
-                *machine = started;
-                answer
-            }
-            Call::Enter(request) => machine.enter(request, memory),
-            Call::WriteRegister {
-                bank,
-                number,
-                value,
-            } => machine.write_register(*bank, *number, *value, memory),
-            Call::WriteMemory { address, bytes } => machine.write_memory(*address, bytes, memory),
-            Call::Leave => machine.leave(memory),
-        };
-        let (number, place) = match answer {
-            Ok(()) => (0, 0),
-            Err(refusal) => (refusal.number, refusal.place as u64),
-        };
-        Answer {
-            number,
-            place,
-            items: 0,
+        call_second(&mut self.second, call, memory)
+    }
+}
+
+/// What the second program answers, in the words of the C surface: "counts are 0", and so is every
+/// place of these refusals.
+pub fn call_second(machine: &mut Machine, call: &Call, memory: &mut [u8]) -> Answer {
+    let answer = match call {
+        Call::Start {
+            convention,
+            registers,
+            base,
+        } => {
+            let (started, answer) = second::start(*convention, registers, *base, memory);
+            *machine = started;
+            answer
         }
+        Call::Enter(request) => machine.enter(request, memory),
+        Call::WriteRegister {
+            bank,
+            number,
+            value,
+        } => machine.write_register(*bank, *number, *value, memory),
+        Call::WriteMemory { address, bytes } => machine.write_memory(*address, bytes, memory),
+        Call::Leave => machine.leave(memory),
+    };
+    let (number, place) = match answer {
+        Ok(()) => (0, 0),
+        Err(refusal) => (refusal.number, refusal.place as u64),
+    };
+    Answer {
+        number,
+        place,
+        items: 0,
     }
 }
 
@@ -227,6 +218,22 @@ pub fn random_bytes(random: &mut Random, length: usize) -> Vec<u8> {
     }
     bytes.truncate(length);
     bytes
+}
+
+/// A state by chance, which is none that calls lead to.
+pub fn random_state(random: &mut Random) -> Machine {
+    let mut state = Machine {
+        convention: random.number(),
+        base: random.number(),
+        size: random.number(),
+        depth: random.number(),
+        registers: random_registers(random),
+        frames: [Request::default(); 32],
+    };
+    for frame in &mut state.frames {
+        frame.locals = random.number();
+    }
+    state
 }
 
 /// Registers by chance, CR with bits above its 32 too.

@@ -10,28 +10,6 @@ static fz_machine machine;
 static fz_registers registers;
 static uint8_t memory[LENGTH];
 
-static void check_layout(void)
-{
-    CHECK(SIZE(fz_registers, 66));
-    CHECK(WORD(fz_registers, gpr, 0));
-    CHECK(WORD(fz_registers, fpr, 32));
-    CHECK(WORD(fz_registers, lr, 64));
-    CHECK(WORD(fz_registers, cr, 65));
-    CHECK(SIZE(fz_frame, 5));
-    CHECK(WORD(fz_frame, first_gpr, 0));
-    CHECK(WORD(fz_frame, first_fpr, 1));
-    CHECK(WORD(fz_frame, saves_cr, 2));
-    CHECK(WORD(fz_frame, locals, 3));
-    CHECK(WORD(fz_frame, outgoing, 4));
-    CHECK(SIZE(fz_machine, 230));
-    CHECK(WORD(fz_machine, convention, 0));
-    CHECK(WORD(fz_machine, base, 1));
-    CHECK(WORD(fz_machine, size, 2));
-    CHECK(WORD(fz_machine, depth, 3));
-    CHECK(WORD(fz_machine, registers, 4));
-    CHECK(WORD(fz_machine, frames, 70));
-}
-
 /* an answer has a place and a count of items for others alone */
 static int answers(fz_answer answer, uint64_t number)
 {
@@ -143,7 +121,6 @@ static void check_z(void)
 
 int main(void)
 {
-    check_layout();
     check_ppc64();
     check_z();
     return wrong;

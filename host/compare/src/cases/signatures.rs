@@ -1,0 +1,170 @@
+//! Cases of reading, measuring and listing.
+
+use super::{changes, Case, Operation};
+use crate::encode::{self, ARGUMENTS, CONVENTION, FLOAT, INTEGER, RESULT, STRUCT};
+use crate::generate;
+use crate::plans;
+use crate::random::Random;
+use crate::signatures::expected;
+use reference::{Convention, Integer, Type};
+
+/// Each limit of a signature with a step on either side of it, and every prefix of a signature.
+pub fn boundaries() -> Vec<Case> {
+    let mut signatures = Vec::new();
+    for convention in [Convention::Ppc64, Convention::Z] {
+        for count in [0, 63, 64, 65] {
+            let arguments = encode::item(INTEGER, &[4]).repeat(count);
+            signatures.push(of(convention, &[], &arguments));
+        }
+        for bytes in [255, 256, 257] {
+            let field = encode::item(INTEGER, &[0]);
+            let large = encode::item(STRUCT, &field.repeat(bytes));
+            signatures.push(of(convention, &large, &large));
+        }
+        for depth in [0, 1, 8, 9] {
+            let nested = (0..depth).fold(encode::item(FLOAT, &[1]), |inner, _| {
+                encode::item(STRUCT, &inner)
+            });
+            signatures.push(of(convention, &nested, &nested));
+        }
+        for length in 4093..=4097 {
+            signatures.push(of(convention, &[], &structs_of_length(length - 10)));
+        }
+        let long_double = encode::item(FLOAT, &[2]);
+        for inside in [long_double.clone(), encode::item(STRUCT, &long_double)] {
+            signatures.push(of(convention, &inside, &inside.repeat(9)));
+        }
+    }
+    for code in [0, 1, 2, 3, 255] {
+        signatures.push(encode::item(CONVENTION, &[code]));
+        for (tag, last) in [(INTEGER, 8), (FLOAT, 2)] {
+            for code in [0, last, last + 1] {
+                let of_code = encode::item(tag, &[code]);
+                signatures.push(of(Convention::Z, &of_code, &of_code));
+            }
+        }
+        signatures.push(vec![code; 3]);
+    }
+    let some = vec![Type::Integer(Integer::I16), Type::Integer(Integer::U64)];
+    let whole = of(
+        Convention::Ppc64,
+        &encode::type_item(&Type::Struct(some.clone())),
+        &encode::type_items(&[Type::Struct(some.clone()), some[0].clone()]),
+    );
+    for length in 0..whole.len() {
+        signatures.push(whole[..length].to_vec());
+    }
+    signatures.push([&whole[..], &[0]].concat());
+    let mut cases = Vec::new();
+    for signature in &signatures {
+        cases.push(reading(signature));
+        cases.push(measuring(signature));
+        for room in Room::ALL {
+            cases.push(listing(signature, room));
+        }
+    }
+    cases
+}
+
+/// Types of this length: structs of single bytes, in the number that leaves a multiple of 4 for
+/// their fields.
+fn structs_of_length(length: usize) -> Vec<u8> {
+    let count = 8 - length % 4;
+    let fields = (length - 3 * count) / 4;
+    let field = encode::item(INTEGER, &[1]);
+    (0..count)
+        .flat_map(|at| encode::item(STRUCT, &field.repeat((fields + at) / count)))
+        .collect()
+}
+
+fn of(convention: Convention, result: &[u8], arguments: &[u8]) -> Vec<u8> {
+    [
+        encode::item(CONVENTION, &[encode::convention_code(convention)]),
+        encode::item(RESULT, result),
+        encode::item(ARGUMENTS, arguments),
+    ]
+    .concat()
+}
+
+/// Some signatures of each kind, with a case or more of each.
+pub fn some(random: &mut Random, cases: &mut Vec<Case>) {
+    let valid = encode::signature(&generate::valid(random));
+    let chosen = encode::signature(&plans::interesting(random));
+    let damaged = generate::damaged(random, &chosen);
+    let faulty = generate::faulty(random);
+    let also_faulty = generate::faulty(random);
+    let noise = generate::noise(random);
+    for signature in [&valid, &damaged, &faulty, &also_faulty, &noise] {
+        cases.push(reading(signature));
+    }
+    for signature in [&valid, &chosen, &damaged, &faulty] {
+        cases.push(measuring(signature));
+    }
+    for signature in [&valid, &chosen, &damaged] {
+        let room = random.pick(&Room::ALL);
+        cases.push(listing(signature, room));
+    }
+}
+
+fn reading(signature: &[u8]) -> Case {
+    let answer = expected(signature);
+    Case {
+        operation: Operation::ReadSignature,
+        numbers: vec![],
+        lent: vec![signature.to_vec()],
+        answer: vec![answer.number, answer.place, answer.items],
+        changes: vec![vec![]],
+    }
+}
+
+fn measuring(signature: &[u8]) -> Case {
+    let plan = reference::read(signature).map(|signature| reference::plan(&signature));
+    let answer = match plan {
+        Ok(plan) => [0, 0, plan.values, plan.area, plan.copies],
+        Err(refusal) => [refusal.number as usize, refusal.place, 0, 0, 0],
+    };
+    let [number, place, values, area, copies] = answer.map(|number| number as u64);
+    Case {
+        operation: Operation::Measure,
+        numbers: vec![],
+        lent: vec![signature.to_vec()],
+        answer: vec![number, place, 0, values, area, copies],
+        changes: vec![vec![]],
+    }
+}
+
+/// How long the text is that a listing is printed to.
+#[derive(Clone, Copy)]
+enum Room {
+    None,
+    OneTooShort,
+    Exact,
+    Longer,
+}
+
+impl Room {
+    const ALL: [Room; 4] = [Room::None, Room::OneTooShort, Room::Exact, Room::Longer];
+}
+
+fn listing(signature: &[u8], room: Room) -> Case {
+    let listing = reference::listing(signature);
+    let length = match room {
+        Room::None => 0,
+        Room::OneTooShort => listing.len() - 1,
+        Room::Exact => listing.len(),
+        Room::Longer => listing.len() + 33,
+    };
+    // no byte of a listing is one of these
+    let before: Vec<u8> = (0..length).map(|at| 0x80 | at as u8).collect();
+    let mut after = before.clone();
+    if listing.len() <= length {
+        after[..listing.len()].copy_from_slice(listing.as_bytes());
+    }
+    Case {
+        operation: Operation::Listing,
+        numbers: vec![],
+        answer: vec![listing.len() as u64],
+        changes: vec![vec![], changes(&before, &after)],
+        lent: vec![signature.to_vec(), before],
+    }
+}

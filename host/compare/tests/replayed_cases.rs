@@ -1,0 +1,199 @@
+//! The cases for other machines (`targets/replay.c`), replayed on this one: that they hold here
+//! too, that all answers are among them, and that the program notices whatever differs.
+
+use compare::cases::{self, Answers, Case, Change, Operation};
+use std::path::{Path, PathBuf};
+use std::process::Command;
+
+fn root() -> PathBuf {
+    let root = Path::new(env!("CARGO_MANIFEST_DIR")).join("../..");
+    root.canonicalize().expect("the repository's folder")
+}
+
+fn own(name: &str) -> PathBuf {
+    Path::new(env!("CARGO_TARGET_TMPDIR")).join(name)
+}
+
+/// Compiles the program, under a name of the test's own.
+fn compile(name: &str) -> PathBuf {
+    let program = own(name);
+    let status = Command::new("gcc")
+        .args([
+            "-std=c99",
+            "-O2",
+            "-pedantic",
+            "-Wall",
+            "-Wextra",
+            "-Werror",
+            "-I",
+        ])
+        .arg(root().join("include"))
+        .arg("-o")
+        .arg(&program)
+        .arg(root().join("targets/replay.c"))
+        .arg(root().join("build/libflakuzhen.a"))
+        .status();
+    assert!(status.expect("gcc starts").success());
+    program
+}
+
+/// Replays the cases, and gives the exit status and what was said.
+fn replay(program: &Path, cases: &[Case]) -> (Option<i32>, String) {
+    let file = program.with_extension("cases");
+    std::fs::write(&file, cases::file(cases)).expect("the file of cases");
+    let output = Command::new(program).arg(file).output();
+    let output = output.expect("the program starts");
+    assert_eq!(String::from_utf8_lossy(&output.stderr), "");
+    let said = String::from_utf8_lossy(&output.stdout).into_owned();
+    (output.status.code(), said)
+}
+
+/// The functions of the library, in the order of their names.
+fn exported() -> Vec<String> {
+    let output = Command::new("nm")
+        .args(["-g", "--defined-only"])
+        .arg(root().join("build/libflakuzhen.a"))
+        .output();
+    let names = String::from_utf8(output.expect("nm starts").stdout).expect("names");
+    let words = names.lines().filter_map(|line| line.split(' ').next_back());
+    let mut exported: Vec<String> = words
+        .filter(|name| name.starts_with("fz_"))
+        .map(str::to_string)
+        .collect();
+    exported.sort();
+    exported
+}
+
+#[test]
+fn the_library_of_this_machine_replays_them_all() {
+    let seed = compare::seed();
+    let cases = cases::all(seed, cases::LEAST);
+    let (status, said) = replay(&compile("replay-all"), &cases);
+    println!("seed {seed:#x}\n{said}");
+    assert_eq!(status, Some(0));
+    let line = format!(
+        "{} cases replayed, 0 mismatches\n",
+        cases::count_calls(&cases)
+    );
+    assert!(said.ends_with(&line));
+    let mut replayed: Vec<&str> = said
+        .lines()
+        .filter_map(|line| line.split_once(' '))
+        .filter(|(name, count)| name.starts_with("fz_") && *count != "0")
+        .map(|(name, _)| name)
+        .collect();
+    replayed.sort();
+    assert_eq!(replayed, exported());
+}
+
+/// The refusals of each operation.
+fn refusals(of: Operation) -> Vec<u64> {
+    match of {
+        Operation::ReadSignature | Operation::Measure => (1..=9).collect(),
+        Operation::Narrow => vec![14],
+        Operation::StartPpc64 | Operation::StartZ => vec![16],
+        Operation::Enter => vec![16, 17, 18, 19, 23],
+        Operation::WriteRegister | Operation::WriteMemory => vec![16, 20, 23],
+        Operation::Leave => vec![16, 21, 22, 23],
+        Operation::Fill => (1..=12).chain([15]).collect(),
+        Operation::Read => (1..=11).chain([13, 14, 15]).collect(),
+        Operation::Home => (1..=9).chain([11, 14, 15, 24]).collect(),
+        Operation::View => (1..=9).chain([11, 24]).collect(),
+        _ => vec![],
+    }
+}
+
+#[test]
+fn every_operation_gives_every_answer() {
+    let cases = cases::all(compare::seed(), cases::LEAST);
+    let answers = Answers::of(&cases);
+    println!("{answers}");
+    for operation in Operation::CALLS {
+        let accepted = answers.count(operation, 0);
+        assert!(accepted >= 100, "{operation:?}: accepted only {accepted}");
+        for number in refusals(operation) {
+            // of the signature's refusals these have but a few each
+            let least = match operation >= Operation::Fill && number <= 9 {
+                true => 0,
+                false => 10,
+            };
+            let refused = answers.count(operation, number);
+            assert!(refused >= least, "{operation:?}: {number} only {refused}");
+        }
+    }
+    for &(operation, number) in answers.0.keys() {
+        let known = number == 0 || refusals(operation).contains(&number);
+        assert!(known, "{operation:?} does not refuse with {number}");
+    }
+}
+
+/// The case of this number with what must be replayed before it.
+fn with_its_machine(cases: &[Case], number: usize) -> Vec<Case> {
+    let of_the_machine = Operation::StartPpc64..=Operation::Leave;
+    let start = match of_the_machine.contains(&cases[number].operation) {
+        false => number,
+        true => (0..number)
+            .rfind(|&at| cases[at].operation == Operation::SetMachine)
+            .expect("a machine is set before it is called"),
+    };
+    cases[start..=number].to_vec()
+}
+
+/// The cases that say something else than this one: a word of its answer, or a byte of what it was
+/// lent.
+fn altered(case: &Case) -> Vec<Case> {
+    let mut all = Vec::new();
+    for word in 0..case.answer.len() {
+        let mut other = case.clone();
+        other.answer[word] ^= 1 << (9 * word);
+        all.push(other);
+    }
+    // the state and the memory of a machine come before what a call is lent for itself
+    let kept = case.changes.len() - case.lent.len();
+    for buffer in 0..case.changes.len() {
+        let mut other = case.clone();
+        match other.changes[buffer].last_mut() {
+            Some(Change { bytes, .. }) => bytes[0] ^= 0x80,
+            // nothing is lent that could change
+            None if buffer >= kept && case.lent[buffer - kept].is_empty() => continue,
+            // a change where there is none
+            None => other.changes[buffer].push(Change {
+                at: 0,
+                bytes: match buffer >= kept {
+                    true => vec![!case.lent[buffer - kept][0]],
+                    // which these bytes are only by the least of chances
+                    false => b"altered!".to_vec(),
+                },
+            }),
+        }
+        all.push(other);
+    }
+    all
+}
+
+#[test]
+fn the_program_notices_what_differs() {
+    let program = compile("replay-altered");
+    let cases = cases::all(compare::seed(), 10_000);
+    let mut noticed = 0;
+    for operation in Operation::CALLS {
+        for accepted in [true, false] {
+            let of = |case: &Case| case.operation == operation && (case.answer[0] == 0) == accepted;
+            let Some(number) = cases.iter().position(of) else {
+                continue;
+            };
+            let right = with_its_machine(&cases, number);
+            assert_eq!(replay(&program, &right).0, Some(0));
+            for wrong in altered(&cases[number]) {
+                let mut list = right.clone();
+                *list.last_mut().expect("the case itself") = wrong.clone();
+                let (status, said) = replay(&program, &list);
+                assert_eq!(status, Some(1), "{wrong:?}\n{said}");
+                assert!(said.ends_with(", 1 mismatches\n"), "{wrong:?}\n{said}");
+                noticed += 1;
+            }
+        }
+    }
+    println!("{noticed} altered cases were noticed");
+    assert!(noticed >= 120, "only {noticed} altered cases");
+}

@@ -1,0 +1,62 @@
+# The library, its tests and the command for other machines: docs/TARGETS.md. A machine's compilers
+# and its C library are those of Debian's packages; scripts/install-target-tools installs them.
+
+TARGETS := powerpc64 s390x
+# those that are asked for
+CHOSEN := $(or $(TARGET),$(TARGETS))
+ifneq ($(filter-out $(TARGETS),$(CHOSEN)),)
+$(error TARGET is $(TARGET), and can be: $(TARGETS))
+endif
+
+.PHONY: test-targets bench-targets build/cases
+
+ifdef TARGET
+run: build/$(TARGET)/flakuzhen
+	@scripts/target-tools run $(TARGET)
+	@scripts/run-target $(TARGET) $< list --hex $(EXAMPLE)
+
+lib: build/$(TARGET)/libflakuzhen.a build/$(TARGET)/libflakuzhen.so
+endif
+
+# one run for all that are asked for, so that each bridge is proved once
+$(CHOSEN:%=build/%/libflakuzhen.a) &: $(ARCHIVE) scripts/target-lib scripts/target-clang
+	scripts/target-lib "$(BRIDGES)" $(CHOSEN)
+
+$(TARGETS:%=build/%/libflakuzhen.so): build/%/libflakuzhen.so: build/%/libflakuzhen.a \
+    include/flakuzhen.map
+	$*-linux-gnu-gcc $(SHARED_WORDS)
+
+# ---- programs, with the archive and with the shared library ----
+
+C_WORDS = -std=c99 -O2 -pedantic -Wall -Wextra -Werror -Iinclude -o $@ $<
+
+define program # SOURCE, without its ending
+build/%/$(notdir $(1)): $(1).c include/flakuzhen.h build/%/libflakuzhen.a
+	$$*-linux-gnu-gcc -static $$(C_WORDS) build/$$*/libflakuzhen.a
+
+build/%/$(notdir $(1))-shared: $(1).c include/flakuzhen.h build/%/libflakuzhen.so
+	$$*-linux-gnu-gcc $$(C_WORDS) build/$$*/libflakuzhen.so
+endef
+
+HEADER_TESTS := layout surface machine marshal
+PROGRAMS := targets/flakuzhen targets/replay targets/plan $(HEADER_TESTS:%=host/flakuzhen/tests/%)
+$(foreach source,$(PROGRAMS),$(eval $(call program,$(source))))
+
+# ---- tests ----
+
+build/cases: $(ARCHIVE)
+	cd host && cargo run $(CARGO_WORDS) --quiet -p compare --bin write-cases -- ../$@
+
+test-targets: build/cases $(SHARED) \
+    $(foreach target,$(CHOSEN),$(addprefix build/$(target)/, \
+        flakuzhen replay $(HEADER_TESTS) $(HEADER_TESTS:%=%-shared)))
+	@scripts/target-tools run $(CHOSEN)
+	@set -e; for target in $(CHOSEN); do scripts/test-target $$target $(HEADER_TESTS); done
+
+build/x86_64/plan: targets/plan.c include/flakuzhen.h $(ARCHIVE)
+	@mkdir -p $(@D)
+	$(CC) -static $(C_WORDS) $(ARCHIVE)
+
+bench-targets: $(patsubst %,build/%/plan,x86_64 $(CHOSEN))
+	@scripts/target-tools run $(CHOSEN)
+	@scripts/bench-targets $(CHOSEN)
