@@ -51,23 +51,18 @@ float-end k (ValueType.Float FloatFormat.Double) n h = refl
 float-end k (ValueType.Float FloatFormat.LongDouble) n h = absurd (omega arith)
 float-end k (ValueType.Struct s) n h = absurd (omega arith)
 
--- words in memory follow those in registers, whatever the share
+-- words in memory follow those in registers, also those of a float of n words that has no FPR
+float-follows : (b : Bool) (at n : ℕ) → pick b (share 0 1 0) (share 0 0 n) .floating ≡ 0
+    → at + 8 * (n - pick b (share 0 1 0) (share 0 0 n) .memory) ≡ at + 8 * pick b (share 0 1 0) (share 0 0 n) .general
+float-follows true at n e = absurd (omega arith)
+float-follows false at n e = omega arith
+
 memory-follows : (k : Cursor) (t : ValueType) (n : ℕ) → spanOf ppc64 k t n .floating .count ≡ 0
     → spanOf ppc64 k t n .memory .start ≡ k .stack + 8 * spanOf ppc64 k t n .general .count
 unfolding spanOf powerShare shareOf fprs
 memory-follows k (ValueType.Integer x) n h = omega arith
-memory-follows k (ValueType.Float FloatFormat.Single) n h = go (leb 1 (14 - k .floating)) h
-  where
-    go : (b : Bool) → pick b (share 0 1 0) (share 0 0 (words 8 n)) .floating ≡ 0
-        → k .stack + 8 * (words 8 n - pick b (share 0 1 0) (share 0 0 (words 8 n)) .memory) ≡ k .stack + 8 * pick b (share 0 1 0) (share 0 0 (words 8 n)) .general
-    go true e = absurd (omega arith)
-    go false e = omega arith
-memory-follows k (ValueType.Float FloatFormat.Double) n h = go (leb 1 (14 - k .floating)) h
-  where
-    go : (b : Bool) → pick b (share 0 1 0) (share 0 0 (words 8 n)) .floating ≡ 0
-        → k .stack + 8 * (words 8 n - pick b (share 0 1 0) (share 0 0 (words 8 n)) .memory) ≡ k .stack + 8 * pick b (share 0 1 0) (share 0 0 (words 8 n)) .general
-    go true e = absurd (omega arith)
-    go false e = omega arith
+memory-follows k (ValueType.Float FloatFormat.Single) n h = float-follows (leb 1 (14 - k .floating)) (k .stack) (words 8 n) h
+memory-follows k (ValueType.Float FloatFormat.Double) n h = float-follows (leb 1 (14 - k .floating)) (k .stack) (words 8 n) h
 memory-follows k (ValueType.Float FloatFormat.LongDouble) n h = omega arith
 memory-follows k (ValueType.Struct s) n h = omega arith
 

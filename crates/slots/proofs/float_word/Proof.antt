@@ -1,4 +1,4 @@
--- The value's bytes are loaded as a number; a single's four bytes are below 2 .before .before .before .before .before .before .before .before .before .before .before .before .before .before .before .before .before .before .before .before .before .before .before .before .before .before .before .before .before .before .before .before.
+-- The value's bytes are loaded as a number; a single's four bytes are below 2^32.
 use mathlib.Core.Path.{_≡_, sym, ap, _∙_}
 use Prim.Native.Nat.{_^_, _*_, _<_}
 use lib.ListN.{length}
