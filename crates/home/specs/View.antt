@@ -20,11 +20,7 @@ use Rattle.slots.specs.Forms.{ownStart}
 use Rattle.slots.specs.Placements.{Placement, placement}
 use Rattle.slots.specs.Refusals.{Test, test, firstOf, afterReading, isDone}
 use Rattle.slots.specs.Arguments.{argumentsOf, planFor, rulesFor}
-
--- "asked of Z": only PPC64 has homes for its register arguments
-abbrev pub homeless : Convention → Bool
-homeless Convention.Ppc64 = false
-homeless Convention.Z = true
+use Rattle.home.specs.Home.{homeless}
 
 -- 24: "home or view asked of Z, or a view of an argument that isn't there", of `count`
 abbrev pub noView : Convention → ℕ → ℕ → Bool
@@ -38,10 +34,6 @@ unfoldable pub viewAnswer : List ℕ → ℕ → ℕ → Answer
 viewAnswer s have index =
     afterReading (planFor s .outcome)
     (firstOf (viewTests (signatureAnswer (signatureOf s) .convention) (signatureAnswer (signatureOf s) .count) index have (planFor s .area)))
-
-abbrev pub isRefused : Answer → Bool
-isRefused Answer.Done = false
-isRefused (Answer.Refused reason place) = true
 
 abbrev pub noArgument : Placement
 noArgument = placement (ValueType.Integer IntegerKind.I8) 1 noSpan

@@ -7,16 +7,17 @@ use Rattle.convention.specs.Step.{rulesOf}
 use Rattle.plan.proofs.Answers.{answer-plannable}
 use Rattle.slots.specs.Forms.{ownStart}
 use Rattle.slots.proofs.Answered.{plan-same}
+use Rattle.slots.proofs.Refusals.{not-refused}
 use Rattle.slots.proofs.Turns.{argumentAt}
-use Rattle.home.proofs.Homed.{Hand, hand, own-homed, not-refused, answer-same, view-kept, view-shown}
+use Rattle.home.proofs.Homed.{Hand, hand, own-homed, answer-same, view-kept, view-shown}
 use borrow.Author.Needs.{needs}
 use Rattle.home.proofs.view.Statement.{statement}
 use Rattle.home.proofs.view.Tie as tie
 
 viewed : (c : tie.Else1) → Hand (c .before .before .before .before .before .before .before .args .sig .now) (length (c .before .before .before .before .before .before .before .args .area .now)) (c .before .before .before .before .before .before .before .args .index) (c .before .before .before .before .read-signature .result) (c .before .before .before .plan-signature .result)
 viewed c =
-    hand (c .before .before .before .before .before .before .before .args .sig .now) (length (c .before .before .before .before .before .before .before .args .area .now)) (c .before .before .before .before .before .before .before .args .index) _ _ (c .before .before .answer-of .result) (c .before .before .before .before .read-signature .ensures)
-    (plan-same (c .before .before .before .before .before .before .before .args .sig .now) _ _ (c .before .before .before .before .read-signature .ensures) (c .before .before .before .plan-signature .ensures)) (c .before .before .answer-of .ensures) (not-refused _ (sym (c .before .is-refused .ensures) ∙ c .if1 .left))
+    hand (c .before .before .before .before .before .before .before .args .sig .now) (length (c .before .before .before .before .before .before .before .args .area .now)) (c .before .before .before .before .before .before .before .args .index) _ _ (c .before .before .view-answer .result) (c .before .before .before .before .read-signature .ensures)
+    (plan-same (c .before .before .before .before .before .before .before .args .sig .now) _ _ (c .before .before .before .before .read-signature .ensures) (c .before .before .before .plan-signature .ensures)) (c .before .before .view-answer .ensures) (not-refused _ (sym (c .before .is-refused .ensures) ∙ c .if1 .left))
 
 -- where the value's own bytes start
 own : (c : tie.After-own-start) → c .own-start .result ≡ ownStart (rulesOf (c .before .before .before .before .before .before .before .before .before .before .before .read-signature .result .convention)) (argumentAt (c .before .before .before .before .before .before .before .before .before .before .before .read-signature .result) (c .before .before .before .before .before .before .before .before .before .before .plan-signature .result) (c .before .before .before .before .before .before .before .before .before .before .before .before .before .before .args .index) .ty) (argumentAt (c .before .before .before .before .before .before .before .before .before .before .before .read-signature .result) (c .before .before .before .before .before .before .before .before .before .before .plan-signature .result) (c .before .before .before .before .before .before .before .before .before .before .before .before .before .before .args .index) .size)
@@ -28,8 +29,8 @@ read-signature-requires c κs = search needs
 plan-signature-requires : tie.Need-plan-signature-requires
 plan-signature-requires c κs = rw (c .read-signature .ensures) (answer-plannable (c .before .before .before .args .sig .now))
 
-answer-of-requires : tie.Need-answer-of-requires
-answer-of-requires c κs = search needs
+view-answer-requires : tie.Need-view-answer-requires
+view-answer-requires c κs = search needs
 
 is-refused-requires : tie.Need-is-refused-requires
 is-refused-requires c κs = search needs
@@ -47,7 +48,7 @@ returns : tie.Need-returns
 returns c =
     let start = c .before .before .before .before .before .before .before .before in
     let same = plan-same (start .args .sig .now) _ _ (c .before .before .before .before .before .read-signature .ensures) (c .before .before .before .before .plan-signature .ensures) in
-    view-kept (start .args .sig .now) (start .args .area .now) (start .args .index) _ (answer-same (start .args .sig .now) _ (start .args .index) _ _ _ (c .before .before .before .before .before .read-signature .ensures) same (c .before .before .before .answer-of .ensures)) (sym (c .before .before .is-refused .ensures) ∙ c .before .if1 .taken)
+    view-kept (start .args .sig .now) (start .args .area .now) (start .args .index) _ (answer-same (start .args .sig .now) _ (start .args .index) _ _ _ (c .before .before .before .before .before .read-signature .ensures) same (c .before .before .before .view-answer .ensures)) (sym (c .before .before .is-refused .ensures) ∙ c .before .if1 .taken)
 
 mul-a : tie.Need-mul-a
 mul-a c = omega (arith, viewed c .small)
@@ -112,7 +113,7 @@ view-spec =
     (tie.spec
     read-signature-requires
     plan-signature-requires
-    answer-of-requires
+    view-answer-requires
     is-refused-requires
     sub-result
     part-result-start

@@ -1,9 +1,9 @@
 -- By what narrowing finds.
 use mathlib.Core.Path.{ap, sym, _∙_}
-use Rattle.read.specs.Read.{narrowedAnswer}
+use Rattle.slots.specs.Refusals.{narrowedAnswer}
 use borrow.Author.Needs.{needs}
-use Rattle.read.proofs.narrowed_answer.Statement.{statement}
-use Rattle.read.proofs.narrowed_answer.Tie as tie
+use Rattle.slots.proofs.narrowed_answer.Statement.{statement}
+use Rattle.slots.proofs.narrowed_answer.Tie as tie
 
 narrow-requires : tie.Need-narrow-requires
 narrow-requires c κs = search needs

@@ -4,8 +4,8 @@ use borrow.Author.Tests.{lt-ltb, le-ltb, le-leb, lt-leb}
 use Rattle.slots.specs.Refusals.{firstOf}
 use Rattle.home.specs.View.{viewTests}
 use borrow.Author.Needs.{needs}
-use Rattle.home.proofs.tested.Statement.{statement}
-use Rattle.home.proofs.tested.Tie as tie
+use Rattle.home.proofs.view_tested.Statement.{statement}
+use Rattle.home.proofs.view_tested.Tie as tie
 
 is-homeless-requires : tie.Need-is-homeless-requires
 is-homeless-requires c κs = search needs
@@ -26,5 +26,5 @@ returns-4 : tie.Need-returns-4
 unfolding firstOf viewTests
 returns-4 c = simp (sym (c .before .before .before .is-homeless .ensures) ∙ c .before .before .if1 .left, lt-leb _ _ (c .before .if2 .left), le-ltb _ _ (c .if3 .left))
 
-pub tested-spec : {M : Type 1} → statement M
-tested-spec = tie.close (tie.spec is-homeless-requires returns returns-2 returns-3 returns-4)
+pub view-tested-spec : {M : Type 1} → statement M
+view-tested-spec = tie.close (tie.spec is-homeless-requires returns returns-2 returns-3 returns-4)

@@ -1,8 +1,8 @@
 -- By the convention and the float.
 use mathlib.Core.Path.{_∙_}
 use borrow.Author.Needs.{needs}
-use Rattle.read.proofs.float_answer.Statement.{statement}
-use Rattle.read.proofs.float_answer.Tie as tie
+use Rattle.slots.proofs.float_answer.Statement.{statement}
+use Rattle.slots.proofs.float_answer.Tie as tie
 
 enum-told : tie.Need-enum-told
 enum-told c = search needs
