@@ -1,0 +1,84 @@
+-- A hidden address is put in its register, through the part of the image that starts there.
+use mathlib.Core.Path.{sym, ap, _∙_, subst}
+use mathlib.Core.List.{List, []}
+use Prim.Native.Nat.{ℕ, _-_, _*_}
+use native.Mathlib.Omega.{arith}
+use lib.ListN.{length}
+use borrow.Rule.Slice.PartMut.{putMid}
+use Rattle.words.specs.Numbers.{bytesOf}
+use Rattle.words.proofs.Splices.{lent-tail}
+use Rattle.convention.specs.declared.ResultPlaces.{ResultPlaces}
+use Rattle.slots.specs.Buffers.{buffers, put, putAll}
+use Rattle.slots.specs.Placements.{hiddenSlots}
+use Rattle.marshal.specs.Room.{HiddenFits}
+use borrow.Author.Needs.{needs}
+use Rattle.marshal.proofs.put_hidden.Statement.{statement}
+use Rattle.marshal.proofs.put_hidden.Tie as tie
+
+-- the register lies in the image
+room : (c : tie.After-struct-known) → HiddenFits (ResultPlaces.Hidden (c .before .before .before .result .given .0 .0)) (length (c .before .before .before .before .before .before .args .image .now))
+room c = subst (λ (q : ResultPlaces). HiddenFits q (length (c .before .before .before .before .before .before .args .image .now))) (c .before .before .before .result .given .1) (c .before .before .before .before .before .before .pre)
+
+enum-told : tie.Need-enum-told
+enum-told c = search needs
+
+enum-told-2 : tie.Need-enum-told-2
+enum-told-2 c = search needs
+
+enum-known-result : tie.Need-enum-known-result
+enum-known-result c = search needs
+
+cast-at : tie.Need-cast-at
+cast-at c = search needs
+
+mul-at : tie.Need-mul-at
+mul-at c = search needs
+
+sub-put-number : tie.Need-sub-put-number
+sub-put-number c = omega (arith, room c)
+
+part-put-number-start : tie.Need-part-put-number-start
+part-put-number-start c = omega (arith, room c)
+
+part-put-number-end : tie.Need-part-put-number-end
+part-put-number-end c = search needs
+
+put-number-requires : tie.Need-put-number-requires
+put-number-requires c κs = omega (arith, room (c .before))
+
+returns : tie.Need-returns
+unfolding putAll
+returns c = sym (ap (λ (q : ResultPlaces). putAll (hiddenSlots q (c .before .before .before .args .address)) (buffers (c .before .before .before .args .image .now) [] [])) (c .enum-told .given .1))
+
+returns-2 : tie.Need-returns-2
+unfolding putAll
+returns-2 c = sym (ap (λ (q : ResultPlaces). putAll (hiddenSlots q (c .before .before .before .args .address)) (buffers (c .before .before .before .args .image .now) [] [])) (c .enum-told2 .given .1))
+
+same-length : tie.Need-same-length
+same-length c = search needs
+
+returns-3 : tie.Need-returns-3
+unfolding putAll put
+returns-3 c =
+    let l : List ℕ = c .before .before .before .before .before .before .before .before .before .before .args .image .now in
+    let at : ℕ = 8 * c .before .before .before .before .before .before .before .result .given .0 .0 .general .first in
+    ap (λ (i : List ℕ). buffers i [] []) (ap (putMid at (length l - at) l) (c .before .before .put-number .ensures) ∙ lent-tail l at (bytesOf 8 (c .before .before .before .before .before .before .before .before .before .before .args .address)))
+    ∙ sym (ap (λ (q : ResultPlaces). putAll (hiddenSlots q (c .before .before .before .before .before .before .before .before .before .before .args .address)) (buffers l [] [])) (c .before .before .before .before .before .before .before .result .given .1))
+
+pub put-hidden-spec : {M : Type 1} → statement M
+put-hidden-spec =
+    tie.close
+    (tie.spec
+    enum-told
+    enum-told-2
+    enum-known-result
+    cast-at
+    mul-at
+    sub-put-number
+    part-put-number-start
+    part-put-number-end
+    put-number-requires
+    returns
+    returns-2
+    same-length
+    returns-3)

@@ -1,0 +1,2 @@
+-- What putting values asks of the buffers. Assumes nothing.
+pub mod Room
