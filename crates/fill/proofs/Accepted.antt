@@ -32,9 +32,9 @@ use Rattle.slots.specs.Arguments.{argumentsIn, argumentsOf, planFor, Carried}
 use Rattle.slots.proofs.Buffers.{putAll-lengths, putAll-append}
 use Rattle.slots.proofs.Planned.{all-with}
 use Rattle.slots.proofs.Refusals.{first-done, differ-false}
-use Rattle.marshal.specs.Room.{HiddenFits, Ready, AllReady}
+use Rattle.marshal.specs.Room.{Ready}
 use Rattle.fill.specs.declared.Lengths.{Lengths}
-use Rattle.fill.specs.Fill.{badCopies, fillTests, fillAnswer, filledSlots, fillBuffers}
+use Rattle.fill.specs.Fill.{badCopies, fillTests, fillAnswer, filledSlots, fillBuffers, HiddenFits, AllReady}
 
 -- ---- the tests
 copies-good : (e n base : ℕ) → base < 2 ^ 64 → badCopies e n base ≡ false → (e ≤ n) × (base + e < 2 ^ 64)

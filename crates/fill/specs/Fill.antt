@@ -1,17 +1,24 @@
 -- Filling: its answer, and what the buffers hold afterwards. Document 01, "When the bridge says no" and "What stands in a slot".
 -- Assumes nothing.
-use Prim.Native.Nat.{ℕ, _+_, _-_, _%_, _^_}
+use Prim.Native.Nat.{ℕ, _+_, _-_, _%_, _^_, _≤_, _<_}
+use mathlib.Core.Path.{_≡_}
 use mathlib.Core.Bool.{Bool, true, false}
 use mathlib.Core.List.{List, [], _∷_, _++_}
 use lib.Dec.{eqb, ltb}
 use lib.ListN.{length}
+use Rattle.signature.specs.declared.SignatureRead.{SignatureRead}
+use Rattle.convention.specs.declared.ResultPlaces.{ResultPlaces}
 use Rattle.convention.specs.Values.{pick}
+use Rattle.convention.specs.Step.{rulesOf}
+use Rattle.plan.specs.declared.Plan.{Plan}
 use Rattle.slots.specs.declared.Refusal.{Refusal}
 use Rattle.slots.specs.declared.Answer.{Answer}
 use Rattle.slots.specs.Buffers.{Buffers, Slot, putAll}
 use Rattle.slots.specs.Placements.{slotsOfAll, hiddenSlots}
 use Rattle.slots.specs.Refusals.{Test, test, differ, firstOf, afterReading, isDone}
-use Rattle.slots.specs.Arguments.{argumentsOf, planFor, rulesFor}
+use Rattle.slots.specs.Limits.{All, sizesOf}
+use Rattle.slots.specs.Arguments.{argumentsIn, argumentsOf, planFor, rulesFor}
+use Rattle.marshal.specs.Room.{Ready}
 use Rattle.fill.specs.declared.Lengths.{Lengths}
 
 abbrev pub lengths : List ℕ → List ℕ → List ℕ → List ℕ → Lengths
@@ -51,3 +58,19 @@ filledSlots s values base hidden =
 -- "Filling changes only named slots and copies"; "Every refusal leaves all buffers .. untouched"
 unfoldable pub fillBuffers : List ℕ → List ℕ → ℕ → ℕ → Answer → Buffers → Buffers
 fillBuffers s values base hidden answer b = pick (isDone answer) (putAll (filledSlots s values base hidden) b) b
+
+-- ---- what the helpers ask; every filling that no test refuses has it (laws `all-ready` and `hidden-fits`)
+
+-- a hidden address has a general register
+abbrev pub HiddenFits : ResultPlaces → ℕ → Type 0
+HiddenFits ResultPlaces.Nothing i = Unit {0}
+HiddenFits (ResultPlaces.Registers s) i = Unit {0}
+HiddenFits (ResultPlaces.Hidden s) i = (s .general .first < 32) × (i ≡ 512)
+
+-- all arguments, of values of v bytes
+pub record AllReady (g : SignatureRead) (p : Plan) (base v i a c : ℕ) : Type 0 where
+  pub few : g .count ≤ 64
+  pub types : g .count ≤ length (g .arguments)
+  pub spans : g .count ≤ length (p .spans)
+  pub each : All (Ready (rulesOf (g .convention)) base i a c) (argumentsIn g p)
+  pub total : sizesOf (argumentsIn g p) ≡ v

@@ -1,11 +1,19 @@
 // Filling: the values of a call's arguments are put where its signature's plan says, unless a buffer is too small or its base unfit.
+use convention::ResultPlaces;
+use plan::Plan;
 use signature::Outcome;
+use signature::SignatureRead;
 use slots::Answer;
 use slots::Refusal;
 ghost use mathlib.Core.Path.{_≡_};
-ghost use Rattle.slots.specs.Buffers.{buffers};
+ghost use mathlib.Core.List.{[]};
+ghost use lib.ListN.{length};
+ghost use Rattle.convention.specs.Step.{rulesOf};
+ghost use Rattle.slots.specs.Buffers.{buffers, putAll};
+ghost use Rattle.slots.specs.Placements.{slotsOfAll, hiddenSlots};
 ghost use Rattle.slots.specs.Refusals.{firstOf};
-ghost use Rattle.fill.specs.Fill.{badCopies, fillTests, fillAnswer, fillBuffers, lengths};
+ghost use Rattle.slots.specs.Arguments.{argumentsIn};
+ghost use Rattle.fill.specs.Fill.{badCopies, fillTests, fillAnswer, fillBuffers, lengths, HiddenFits, AllReady};
 
 // The lengths of the lent buffers.
 pub struct Lengths {
@@ -13,6 +21,51 @@ pub struct Lengths {
     pub image: usize,
     pub area: usize,
     pub copies: usize,
+}
+
+// All arguments, left to right.
+fn put_arguments(
+    image: &mut [u8],
+    area: &mut [u8],
+    copies: &mut [u8],
+    g: SignatureRead,
+    p: Plan,
+    values: &[u8],
+    base: u64,
+)
+    requires { ⌜ AllReady g p base (length (now values)) (length (now image)) (length (now area)) (length (now copies)) ⌝ }
+    ensures { λ _. ⌜ buffers (now (image .exit)) (now (area .exit)) (now (copies .exit)) ≡ putAll (slotsOfAll (rulesOf (g .convention)) base (argumentsIn g p) (now (values .entry))) (buffers (now (image .entry)) (now (area .entry)) (now (copies .entry))) ⌝ }
+{
+    let convention = g.convention;
+    let count = g.count;
+    let rules = convention::rules_of(convention);
+    let mut v: usize = 0;
+    let mut i: usize = 0;
+    while i < count {
+        let a = g.arguments[i];
+        let t = a.ty;
+        let s = p.spans[i];
+        let end = v + types::size_of(convention, t);
+        marshal::put_argument(image, area, copies, rules, t, s, &values[v..end], base);
+        v = end;
+        i = i + 1;
+    }
+}
+
+// The hidden address in its register, where the result needs one.
+fn put_hidden(image: &mut [u8], result: ResultPlaces, address: u64)
+    requires { ⌜ HiddenFits result (length (now image)) ⌝ }
+    ensures { λ _. ⌜ buffers (now (image .exit)) [] [] ≡ putAll (hiddenSlots result address) (buffers (now (image .entry)) [] []) ⌝ }
+{
+    match result {
+        ResultPlaces::Nothing => {}
+        ResultPlaces::Registers(_) => {}
+        ResultPlaces::Hidden(s) => {
+            let general = s.general;
+            let at = 8 * (general.first as usize);
+            words::put_number(&mut image[at..], 8, address);
+        }
+    }
 }
 
 // Whether copies that end at e can't stand in a copy buffer of n bytes at its base.
@@ -96,8 +149,8 @@ pub fn fill(
                 return answer;
             }
             let result = p.result;
-            marshal::put_hidden(image, result, hidden);
-            marshal::put_arguments(image, area, copies, g, p, values, base);
+            put_hidden(image, result, hidden);
+            put_arguments(image, area, copies, g, p, values, base);
             Answer::Done
         }
     }

@@ -1,22 +1,17 @@
-// Values put where a plan says: each argument's in its registers, memory and copy, and the hidden address of a result in its register. A
-// slot or a copy is written through the part of its buffer that starts at its offset.
-use convention::ResultPlaces;
+// The value of one argument put where its span says: in registers, memory and copy. A slot or a copy is written through the part of its
+// buffer that starts at its offset.
 use convention::Rules;
 use convention::Span;
-use plan::Plan;
-use signature::SignatureRead;
 use types::ValueType;
 ghost use mathlib.Core.Path.{_≡_};
-ghost use mathlib.Core.List.{[], _++_};
+ghost use mathlib.Core.List.{_++_};
 ghost use Prim.Native.Nat.{_+_, _*_, _≤_, _<_};
 ghost use lib.ListN.{length, take, replicate};
 ghost use Rattle.words.specs.Splice.{overlay, splice, part};
 ghost use Rattle.words.specs.Numbers.{bytesOf};
-ghost use Rattle.convention.specs.Step.{rulesOf};
 ghost use Rattle.slots.specs.Buffers.{buffers, putAll};
-ghost use Rattle.slots.specs.Placements.{placement, slotsOf, slotsOfAll, hiddenSlots};
-ghost use Rattle.slots.specs.Arguments.{argumentsIn};
-ghost use Rattle.marshal.specs.Room.{padded, WordsFit, HiddenFits, Ready, AllReady};
+ghost use Rattle.slots.specs.Placements.{placement, slotsOf};
+ghost use Rattle.marshal.specs.Room.{padded, WordsFit, Ready};
 
 // The bytes v at the head of s, and zeros after them.
 fn put_padded(s: &mut [u8], v: &[u8], zeros: usize)
@@ -65,7 +60,7 @@ fn put_bytes(image: &mut [u8], area: &mut [u8], s: Span, v: &[u8])
 }
 
 // One argument of type t and value v in its span s.
-fn put_argument(
+pub fn put_argument(
     image: &mut [u8],
     area: &mut [u8],
     copies: &mut [u8],
@@ -97,49 +92,4 @@ fn put_argument(
         return;
     }
     put_word(image, area, s, slots::value_word(t, v));
-}
-
-// All arguments, left to right.
-pub fn put_arguments(
-    image: &mut [u8],
-    area: &mut [u8],
-    copies: &mut [u8],
-    g: SignatureRead,
-    p: Plan,
-    values: &[u8],
-    base: u64,
-)
-    requires { ⌜ AllReady g p base (length (now values)) (length (now image)) (length (now area)) (length (now copies)) ⌝ }
-    ensures { λ _. ⌜ buffers (now (image .exit)) (now (area .exit)) (now (copies .exit)) ≡ putAll (slotsOfAll (rulesOf (g .convention)) base (argumentsIn g p) (now (values .entry))) (buffers (now (image .entry)) (now (area .entry)) (now (copies .entry))) ⌝ }
-{
-    let convention = g.convention;
-    let count = g.count;
-    let rules = convention::rules_of(convention);
-    let mut v: usize = 0;
-    let mut i: usize = 0;
-    while i < count {
-        let a = g.arguments[i];
-        let t = a.ty;
-        let s = p.spans[i];
-        let end = v + types::size_of(convention, t);
-        put_argument(image, area, copies, rules, t, s, &values[v..end], base);
-        v = end;
-        i = i + 1;
-    }
-}
-
-// The hidden address in its register, where the result needs one.
-pub fn put_hidden(image: &mut [u8], result: ResultPlaces, address: u64)
-    requires { ⌜ HiddenFits result (length (now image)) ⌝ }
-    ensures { λ _. ⌜ buffers (now (image .exit)) [] [] ≡ putAll (hiddenSlots result address) (buffers (now (image .entry)) [] []) ⌝ }
-{
-    match result {
-        ResultPlaces::Nothing => {}
-        ResultPlaces::Registers(_) => {}
-        ResultPlaces::Hidden(s) => {
-            let general = s.general;
-            let at = 8 * (general.first as usize);
-            words::put_number(&mut image[at..], 8, address);
-        }
-    }
 }

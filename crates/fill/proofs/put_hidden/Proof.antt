@@ -10,10 +10,10 @@ use Rattle.words.proofs.Splices.{lent-tail}
 use Rattle.convention.specs.declared.ResultPlaces.{ResultPlaces}
 use Rattle.slots.specs.Buffers.{buffers, put, putAll}
 use Rattle.slots.specs.Placements.{hiddenSlots}
-use Rattle.marshal.specs.Room.{HiddenFits}
+use Rattle.fill.specs.Fill.{HiddenFits}
 use borrow.Author.Needs.{needs}
-use Rattle.marshal.proofs.put_hidden.Statement.{statement}
-use Rattle.marshal.proofs.put_hidden.Tie as tie
+use Rattle.fill.proofs.put_hidden.Statement.{statement}
+use Rattle.fill.proofs.put_hidden.Tie as tie
 
 -- the register lies in the image
 room : (c : tie.After-struct-known) → HiddenFits (ResultPlaces.Hidden (c .before .before .before .result .given .0 .0)) (length (c .before .before .before .before .before .before .args .image .now))

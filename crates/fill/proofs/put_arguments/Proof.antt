@@ -13,10 +13,10 @@ use Rattle.slots.specs.Buffers.{buffers}
 use Rattle.slots.specs.Placements.{Placement}
 use Rattle.slots.specs.Arguments.{argumentsIn}
 use Rattle.slots.proofs.Turns.{argumentAt, next-argument, no-argument}
 use Rattle.marshal.specs.Room.{Ready}
-use Rattle.marshal.proofs.Turns.{Going, AtHand, going-start, at-hand, going-more, going-end}
-use Rattle.marshal.proofs.put_arguments.Statement.{statement}
-use Rattle.marshal.proofs.put_arguments.Tie as tie
+use Rattle.fill.proofs.Turns.{Going, AtHand, going-start, at-hand, going-more, going-end}
+use Rattle.fill.proofs.put_arguments.Statement.{statement}
+use Rattle.fill.proofs.put_arguments.Tie as tie
 
 abbrev Inv-loop : tie.InvT-loop
 Inv-loop image₀ area₀ copies₀ values base g p convention count rules v₀ i₀ image area copies v i =
