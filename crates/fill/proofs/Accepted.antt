@@ -27,13 +27,14 @@ use Rattle.slots.specs.declared.Refusal.{Refusal}
 use Rattle.slots.specs.Buffers.{Buffers, buffers, Slot, put, putAll}
 use Rattle.slots.specs.Placements.{Placement, hiddenSlots, slotsOfAll}
 use Rattle.slots.specs.Limits.{Held, Fits}
-use Rattle.slots.specs.Refusals.{test, differ, firstOf}
+use Rattle.slots.specs.Refusals.{test, differ, firstOf, isRefused}
 use Rattle.slots.specs.Arguments.{argumentsIn, argumentsOf, planFor, Carried}
 use Rattle.slots.proofs.Buffers.{putAll-lengths, putAll-append}
 use Rattle.slots.proofs.Planned.{all-with}
 use Rattle.slots.proofs.Refusals.{first-done, differ-false}
+use Rattle.marshal.specs.Room.{Ready}
 use Rattle.fill.specs.declared.Lengths.{Lengths}
-use Rattle.fill.specs.Fill.{badCopies, fillTests, fillAnswer, filledSlots, fillBuffers, HiddenFits, Ready, AllReady}
+use Rattle.fill.specs.Fill.{badCopies, fillTests, fillAnswer, filledSlots, fillBuffers, HiddenFits, AllReady}
 
 -- ---- the tests
 copies-good : (e n base : ℕ) → base < 2 ^ 64 → badCopies e n base ≡ false → (e ≤ n) × (base + e < 2 ^ 64)
@@ -149,6 +150,12 @@ hidden-whole (ResultPlaces.Hidden s) address image area copies i e = ap (λ (b :
 
 pub hidden-length : (q : ResultPlaces) (address : ℕ) (image i : List ℕ) → buffers i [] [] ≡ putAll (hiddenSlots q address) (buffers image [] []) → length i ≡ length image
 hidden-length q address image i e = ap (λ (b : Buffers). length (b .image)) e ∙ putAll-lengths (hiddenSlots q address) (buffers image [] []) .image
+
+-- a refusal leaves them
+pub buffers-kept : (s values : List ℕ) (base hidden : ℕ) (a : Answer) (b : Buffers) → isRefused a ≡ true → b ≡ fillBuffers s values base hidden a b
+unfolding fillBuffers
+buffers-kept s values base hidden Answer.Done b e = let z : _≡_ {A = ℕ} 0 1 = cc in absurd (omega arith)
+buffers-kept s values base hidden (Answer.Refused reason place) b e = refl
 
 pub buffers-done : (s values image area copies i : List ℕ) (base hidden : ℕ) (g : SignatureRead) (p : Plan) (b : Buffers)
     → g ≡ signatureAnswer (signatureOf s) → p ≡ planFor s

@@ -1,5 +1,3 @@
 -- Laws that belong to no one function.
-pub mod Pieces
-pub mod Arguments
 pub mod Turns
 pub mod Accepted

@@ -1,14 +1,12 @@
 -- Filling: its answer, and what the buffers hold afterwards. Document 01, "When the bridge says no" and "What stands in a slot".
 -- Assumes nothing.
-use Prim.Native.Nat.{ℕ, _+_, _-_, _*_, _%_, _^_, _≤_, _<_}
+use Prim.Native.Nat.{ℕ, _+_, _-_, _%_, _^_, _≤_, _<_}
 use mathlib.Core.Path.{_≡_}
 use mathlib.Core.Bool.{Bool, true, false}
 use mathlib.Core.List.{List, [], _∷_, _++_}
 use lib.Dec.{eqb, ltb}
-use lib.ListN.{length, replicate}
+use lib.ListN.{length}
 use Rattle.signature.specs.declared.SignatureRead.{SignatureRead}
-use Rattle.convention.specs.declared.Rules.{Rules}
-use Rattle.convention.specs.declared.Span.{Span}
 use Rattle.convention.specs.declared.ResultPlaces.{ResultPlaces}
 use Rattle.convention.specs.Values.{pick}
 use Rattle.convention.specs.Step.{rulesOf}
@@ -16,10 +14,11 @@ use Rattle.plan.specs.declared.Plan.{Plan}
 use Rattle.slots.specs.declared.Refusal.{Refusal}
 use Rattle.slots.specs.declared.Answer.{Answer}
 use Rattle.slots.specs.Buffers.{Buffers, Slot, putAll}
-use Rattle.slots.specs.Placements.{Placement, slotsOfAll, hiddenSlots}
+use Rattle.slots.specs.Placements.{slotsOfAll, hiddenSlots}
 use Rattle.slots.specs.Refusals.{Test, test, differ, firstOf, afterReading, isDone}
-use Rattle.slots.specs.Limits.{Held, Fits, All, sizesOf}
+use Rattle.slots.specs.Limits.{All, sizesOf}
 use Rattle.slots.specs.Arguments.{argumentsIn, argumentsOf, planFor, rulesFor}
+use Rattle.marshal.specs.Room.{Ready}
 use Rattle.fill.specs.declared.Lengths.{Lengths}
 
 abbrev pub lengths : List ℕ → List ℕ → List ℕ → List ℕ → Lengths
@@ -60,29 +59,13 @@ filledSlots s values base hidden =
 unfoldable pub fillBuffers : List ℕ → List ℕ → ℕ → ℕ → Answer → Buffers → Buffers
 fillBuffers s values base hidden answer b = pick (isDone answer) (putAll (filledSlots s values base hidden) b) b
 
--- ---- what the helpers ask
-
--- v, and zeros to the end of a span's words
-abbrev pub padded : Span → List ℕ → List ℕ
-padded s v = v ++ replicate (8 * s .general .count + s .memory .length - length v) 0
-
--- a span's words lie in the image and the area
-abbrev pub WordsFit : Span → List ℕ → List ℕ → Type 0
-WordsFit s image area =
-    (s .general .first + s .general .count ≤ 32) × (length image ≡ 512) × (s .memory .start + s .memory .length ≤ length area) × (s .memory .length % 8 ≡ 0)
+-- ---- what the helpers ask; every filling that no test refuses has it (laws `all-ready` and `hidden-fits`)
 
 -- a hidden address has a general register
 abbrev pub HiddenFits : ResultPlaces → ℕ → Type 0
 HiddenFits ResultPlaces.Nothing i = Unit {0}
 HiddenFits (ResultPlaces.Registers s) i = Unit {0}
 HiddenFits (ResultPlaces.Hidden s) i = (s .general .first < 32) × (i ≡ 512)
-
--- an argument, and the lengths of the buffers that it is put in
-pub record Ready (r : Rules) (base i a c : ℕ) (p : Placement) : Type 0 where
-  pub held : Held r p
-  pub fits : Fits a c p
-  pub registers : i ≡ 512
-  pub low : base + (p .span .copy .start + p .span .copy .length) < 2 ^ 64
 
 -- all arguments, of values of v bytes
 pub record AllReady (g : SignatureRead) (p : Plan) (base v i a c : ℕ) : Type 0 where

@@ -1,26 +1,19 @@
-// Filling: each argument's value is put in its registers, memory and copy, as its signature's plan says. A slot or a copy is written
-// through the part of its buffer that starts at its offset.
+// Filling: the values of a call's arguments are put where its signature's plan says, unless a buffer is too small or its base unfit.
 use convention::ResultPlaces;
-use convention::Rules;
-use convention::Span;
 use plan::Plan;
 use signature::Outcome;
 use signature::SignatureRead;
 use slots::Answer;
 use slots::Refusal;
-use types::ValueType;
 ghost use mathlib.Core.Path.{_≡_};
-ghost use mathlib.Core.List.{[], _++_};
-ghost use Prim.Native.Nat.{_+_, _-_, _*_, _^_, _≤_, _<_};
-ghost use lib.ListN.{length, take, replicate};
-ghost use Rattle.words.specs.Splice.{overlay, splice, part};
-ghost use Rattle.words.specs.Numbers.{bytesOf};
+ghost use mathlib.Core.List.{[]};
+ghost use lib.ListN.{length};
 ghost use Rattle.convention.specs.Step.{rulesOf};
 ghost use Rattle.slots.specs.Buffers.{buffers, putAll};
-ghost use Rattle.slots.specs.Placements.{placement, slotsOf, slotsOfAll, hiddenSlots};
+ghost use Rattle.slots.specs.Placements.{slotsOfAll, hiddenSlots};
 ghost use Rattle.slots.specs.Refusals.{firstOf};
 ghost use Rattle.slots.specs.Arguments.{argumentsIn};
-ghost use Rattle.fill.specs.Fill.{badCopies, fillTests, fillAnswer, fillBuffers, lengths, padded, WordsFit, HiddenFits, Ready, AllReady};
+ghost use Rattle.fill.specs.Fill.{badCopies, fillTests, fillAnswer, fillBuffers, lengths, HiddenFits, AllReady};
 
 // The lengths of the lent buffers.
 pub struct Lengths {
@@ -28,87 +21,6 @@ pub struct Lengths {
     pub image: usize,
     pub area: usize,
     pub copies: usize,
-}
-
-// The bytes v at the head of s, and zeros after them.
-fn put_padded(s: &mut [u8], v: &[u8], zeros: usize)
-    requires { ⌜ length (now v) + zeros ≤ length (now s) ⌝ }
-    ensures { λ _. ⌜ now (s .exit) ≡ overlay (now (s .entry)) (now (v .entry) ++ replicate zeros 0) ⌝ }
-{
-    words::put(s, v);
-    let end = v.len();
-    words::put_zeros(&mut s[end..], zeros);
-}
-
-// The eight bytes of x in the only word of a span: a general register or a doubleword of memory.
-fn put_word(image: &mut [u8], area: &mut [u8], s: Span, x: u64)
-    requires { ⌜ WordsFit s (now image) (now area) × (8 * s .general .count + s .memory .length ≡ 8) ⌝ }
-    ensures { λ _. ⌜ (now (image .exit) ≡ splice (now (image .entry)) (8 * s .general .first) (take (8 * s .general .count) (bytesOf 8 x))) × (now (area .exit) ≡ splice (now (area .entry)) (s .memory .start) (part (8 * s .general .count) (s .memory .length) (bytesOf 8 x))) ⌝ }
-{
-    let general = s.general;
-    let memory = s.memory;
-    if 0 < general.count {
-        let at = 8 * (general.first as usize);
-        words::put_number(&mut image[at..], 8, x);
-        return;
-    }
-    let start = memory.start as usize;
-    words::put_number(&mut area[start..], 8, x);
-}
-
-// The bytes v at the head of a span's words, and zeros after them: the first words in general registers, the others in memory.
-fn put_bytes(image: &mut [u8], area: &mut [u8], s: Span, v: &[u8])
-    requires { ⌜ WordsFit s (now image) (now area) × (length (now v) ≤ 8 * s .general .count + s .memory .length) × (8 * s .general .count + s .memory .length < length (now v) + 8) ⌝ }
-    ensures { λ _. ⌜ (now (image .exit) ≡ splice (now (image .entry)) (8 * s .general .first) (take (8 * s .general .count) (padded s (now (v .entry))))) × (now (area .exit) ≡ splice (now (area .entry)) (s .memory .start) (part (8 * s .general .count) (s .memory .length) (padded s (now (v .entry))))) ⌝ }
-{
-    let general = s.general;
-    let memory = s.memory;
-    let at = 8 * (general.first as usize);
-    let start = memory.start as usize;
-    let held = 8 * (general.count as usize);
-    let stored = memory.length as usize;
-    let n = v.len();
-    if n <= held {
-        put_padded(&mut image[at..], v, held - n);
-        return;
-    }
-    words::put(&mut image[at..], &v[0..held]);
-    put_padded(&mut area[start..], &v[held..], stored - (n - held));
-}
-
-// One argument of type t and value v in its span s.
-fn put_argument(
-    image: &mut [u8],
-    area: &mut [u8],
-    copies: &mut [u8],
-    r: Rules,
-    t: ValueType,
-    s: Span,
-    v: &[u8],
-    base: u64,
-)
-    requires { ⌜ Ready r base (length (now image)) (length (now area)) (length (now copies)) (placement t (length (now v)) s) ⌝ }
-    ensures { λ _. ⌜ buffers (now (image .exit)) (now (area .exit)) (now (copies .exit)) ≡ putAll (slotsOf r base (placement t (length (now (v .entry))) s) (now (v .entry))) (buffers (now (image .entry)) (now (area .entry)) (now (copies .entry))) ⌝ }
-{
-    let floating = s.floating;
-    let copy = s.copy;
-    let indirect = s.indirect;
-    if 0 < floating.count {
-        let at = 256 + 8 * (floating.first as usize);
-        words::put_number(&mut image[at..], 8, slots::float_word(r, t, v));
-        return;
-    }
-    if indirect {
-        let start = copy.start as usize;
-        words::put(&mut copies[start..], v);
-        put_word(image, area, s, base + start as u64);
-        return;
-    }
-    if slots::starts_at_head(r, t) {
-        put_bytes(image, area, s, v);
-        return;
-    }
-    put_word(image, area, s, slots::value_word(t, v));
 }
 
 // All arguments, left to right.
@@ -134,7 +46,7 @@ fn put_arguments(
         let t = a.ty;
         let s = p.spans[i];
         let end = v + types::size_of(convention, t);
-        put_argument(image, area, copies, rules, t, s, &values[v..end], base);
+        marshal::put_argument(image, area, copies, rules, t, s, &values[v..end], base);
         v = end;
         i = i + 1;
     }
@@ -232,15 +144,14 @@ pub fn fill(
                 area: area.len(),
                 copies: copies.len(),
             };
-            match tested(have, p.values, p.area, p.copies, base) {
-                Answer::Refused { reason, place } => Answer::Refused { reason, place },
-                Answer::Done => {
-                    let result = p.result;
-                    put_hidden(image, result, hidden);
-                    put_arguments(image, area, copies, g, p, values, base);
-                    Answer::Done
-                }
+            let answer = tested(have, p.values, p.area, p.copies, base);
+            if slots::is_refused(answer) {
+                return answer;
             }
+            let result = p.result;
+            put_hidden(image, result, hidden);
+            put_arguments(image, area, copies, g, p, values, base);
+            Answer::Done
         }
     }
 }

@@ -1,5 +1,3 @@
 -- Laws that belong to no one function.
-pub mod Decimals
-pub mod Writing
-pub mod Texts
+pub mod Lines
 pub mod Answers

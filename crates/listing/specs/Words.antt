@@ -1,8 +1,7 @@
--- The words and numbers of a printed plan, as bytes of ASCII. Document 01, "Sums to check against". Assumes nothing.
-use Prim.Native.Nat.{ℕ, zero, suc, _+_, _/_, _%_}
-use mathlib.Core.List.{List, [], _∷_, _++_}
-use lib.Dec.{ltb}
-use Rattle.convention.specs.Values.{pick}
+-- The words of a printed plan's first and last line and of a refusal, as bytes of ASCII; `line` has those of an argument's line. Document
+-- 01, "Sums to check against". Assumes nothing.
+use Prim.Native.Nat.{ℕ}
+use mathlib.Core.List.{List, [], _∷_}
 
 -- "PPC64"
 abbrev pub ppc64Name : List ℕ
@@ -19,26 +18,6 @@ argsWord = 32 ∷ 97 ∷ 114 ∷ 103 ∷ 115 ∷ 32 ∷ []
 -- " area "
 abbrev pub areaWord : List ℕ
 areaWord = 32 ∷ 97 ∷ 114 ∷ 101 ∷ 97 ∷ 32 ∷ []
-
--- " r"
-abbrev pub generalMark : List ℕ
-generalMark = 32 ∷ 114 ∷ []
-
--- " f"
-abbrev pub floatingMark : List ℕ
-floatingMark = 32 ∷ 102 ∷ []
-
--- " mem"
-abbrev pub memoryWord : List ℕ
-memoryWord = 32 ∷ 109 ∷ 101 ∷ 109 ∷ []
-
--- " @"
-abbrev pub offsetMark : List ℕ
-offsetMark = 32 ∷ 64 ∷ []
-
--- " ref"
-abbrev pub referenceWord : List ℕ
-referenceWord = 32 ∷ 114 ∷ 101 ∷ 102 ∷ []
 
 -- "result"
 abbrev pub resultWord : List ℕ
@@ -59,20 +38,3 @@ refusedWord = 114 ∷ 101 ∷ 102 ∷ 117 ∷ 115 ∷ 101 ∷ 100 ∷ 32 ∷ []
 -- " at "
 abbrev pub atWord : List ℕ
 atWord = 32 ∷ 97 ∷ 116 ∷ 32 ∷ []
-
--- "newline after each line"
-abbrev pub newline : List ℕ
-newline = 10 ∷ []
-
--- the digit of a number below 10
-abbrev pub digit : ℕ → ℕ
-digit n = 48 + n
-
--- a number of at most k digits, in base ten and without leading zeros
-unfoldable pub digitsOf : ℕ → ℕ → List ℕ
-digitsOf zero n = []
-digitsOf (suc k) n = pick (ltb n 10) (digit n ∷ []) (digitsOf k (n / 10) ++ digit (n % 10) ∷ [])
-
--- a number below 2 ^ 64 has at most 20 digits; the laws `decimal-small` and `decimal-more` say what this is
-unfoldable pub decimal : ℕ → List ℕ
-decimal n = digitsOf 20 n

@@ -1,20 +1,14 @@
--- What a function that writes a text leaves in a lent buffer. Assumes nothing.
-use Prim.Native.Nat.{ℕ, _+_, _≤_}
-use mathlib.Core.Path.{_≡_}
+-- What the printed plan leaves in a lent buffer, and what its writer asks of a plan. Assumes nothing.
+use Prim.Native.Nat.{ℕ, _≤_}
 use mathlib.Core.List.{List}
 use lib.Dec.{ltb}
 use lib.ListN.{length}
 use Rattle.convention.specs.Values.{pick}
 use Rattle.convention.specs.Places.{Numbered, ResultNumbered}
-use Rattle.words.specs.Splice.{overlay, splice}
+use Rattle.words.specs.Splice.{overlay}
 use Rattle.signature.specs.Read.{maxArguments}
 use Rattle.plan.specs.declared.Plan.{Plan}
 use Rattle.plan.specs.Disjoint.{spanAt}
-
--- the text t was put at the offset `at`, what passes the buffer's end being lost; `next` is where it ends
-pub record Wrote (before after : List ℕ) (at next : ℕ) (t : List ℕ) : Type 0 where
-  pub bytes : after ≡ splice before at t
-  pub end : next ≡ at + length t
 
 -- "as with snprintf: a buffer that is too short is left as it was"
 abbrev pub printed : List ℕ → List ℕ → List ℕ

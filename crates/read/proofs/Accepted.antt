@@ -21,8 +21,9 @@ use Rattle.slots.specs.Refusals.{firstOf, orElse, afterReading, isRefused}
 use Rattle.slots.specs.Arguments.{argumentsIn, argumentsOf, planFor, rulesFor, Carried}
 use Rattle.slots.proofs.Planned.{all-with}
 use Rattle.slots.proofs.Refusals.{first-done, differ-false, or-refused, not-refused}
+use Rattle.unmarshal.specs.Readable.{Ready}
 use Rattle.read.specs.declared.Sizes.{Sizes}
-use Rattle.read.specs.Read.{argumentsAnswer, readTests, readAnswer, readValues, Ready, AllReady}
+use Rattle.read.specs.Read.{argumentsAnswer, readTests, readAnswer, readValues, AllReady}
 
 -- ---- what no test refuses
 pub record Lent (have : Sizes) (p : Plan) : Type 0 where

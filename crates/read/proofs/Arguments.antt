@@ -1,36 +1,22 @@
--- One argument that can be read: its bytes are there, and as many as its size. Assumes nothing.
-use mathlib.Core.Path.{_≡_, refl, sym, _∙_}
+-- What no refusal of an argument tells: it can be read. Assumes nothing.
+use mathlib.Core.Path.{_≡_, refl}
 use mathlib.Core.Bool.{Bool, true, false}
-use mathlib.Core.List.{List}
-use Prim.Native.Nat.{ℕ, _+_, _-_, _*_, _≤_, _<_}
+use mathlib.Core.List.{List, [], _∷_}
+use Prim.Native.Nat.{ℕ, _+_, _-_, _≤_}
 use native.Mathlib.Omega.{arith}
-use borrow.Author.Tests.{lt-ltb, le-ltb, leb-true, ltb-true, ltb-false}
-use lib.Dec.{ltb, leb}
-use lib.ListN.{length, length-append}
-use lib.Seq.{length-take-le}
-use Rattle.words.specs.Splice.{part}
-use Rattle.words.specs.Numbers.{valueOf}
-use Rattle.words.proofs.Splices.{length-part}
-use Rattle.words.proofs.Numbers.{length-bytesOf}
-use Rattle.ieee.specs.declared.Narrowed.{Narrowed}
-use Rattle.ieee.specs.Narrowing.{narrow}
-use Rattle.types.specs.declared.Equivalent.{Equivalent}
-use Rattle.types.specs.Sizes.{equivalentOf}
+use borrow.Author.Tests.{lt-ltb, le-ltb, leb-true}
+use lib.Dec.{leb}
+use lib.ListN.{length}
 use Rattle.convention.specs.declared.Rules.{Rules}
 use Rattle.convention.specs.Values.{pick}
-use Rattle.convention.specs.Spots.{copies}
 use Rattle.slots.specs.declared.Answer.{Answer}
-use Rattle.slots.specs.Buffers.{Buffers, bytesAt}
-use Rattle.slots.specs.Forms.{startsAtHead, ownStart, roomOf, narrowedBytes, floatValueAs, floatValue}
-use Rattle.slots.specs.Placements.{Placement, wordsAt, floatAt, addressAt, wordsValue, valueAt}
-use Rattle.slots.specs.Limits.{FloatSized}
-use Rattle.slots.specs.Refusals.{narrowedAnswer, floatAnswer}
-use Rattle.read.specs.Read.{FloatRoom, inCopies, copyAnswer, argumentAnswer, Readable}
-
-pub float-room : (e : Equivalent) (n l : ℕ) → FloatSized e n → n ≤ l → FloatRoom e l
-float-room Equivalent.Single n l h k = omega arith
-float-room Equivalent.Double n l h k = omega arith
-float-room Equivalent.Nothing n l h k = absurd h
+use Rattle.slots.specs.Buffers.{Buffers}
+use Rattle.slots.specs.Placements.{Placement, addressAt}
+use Rattle.slots.specs.Refusals.{firstOfAll}
+use Rattle.slots.specs.Limits.{All}
+use Rattle.slots.proofs.Refusals.{or-done}
+use Rattle.unmarshal.specs.Readable.{Ready, Readable}
+use Rattle.read.specs.Read.{inCopies, copyAnswer, argumentAnswer, argumentsAnswer}
 
 inside-facts : (address base n c : ℕ) → copyAnswer (inCopies address base n c) ≡ Answer.Done → (base ≤ address) × (address - base + n ≤ c)
 inside-facts address base n c = go (leb base address) refl
@@ -43,80 +29,19 @@ inside-facts address base n c = go (leb base address) refl
     go true q e = last (leb (address - base + n) c) refl (leb-true base address q) e
     go false q e = let z : _≡_ {A = ℕ} 0 1 = cc in absurd (omega arith)
 
-module _ (r : Rules) (base : ℕ) (p : Placement) (b : Buffers) (h : Readable r base p b) where
-  -- 13 was not given: the copy is inside
-  pub copy-inside : p .span .floating .count ≤ 0 → p .span .indirect ≡ true
-      → (base ≤ addressAt (p .span) b) × (addressAt (p .span) b - base + p .size ≤ length (b .copies))
+module _ (r : Rules) (base : ℕ) (b : Buffers) where
+  readable : (p : Placement) → Ready r (length (b .image)) (length (b .area)) p → argumentAnswer r base p b ≡ Answer.Done → Readable r base p b
   unfolding argumentAnswer
-  copy-inside none e = inside-facts (addressAt (p .span) b) base (p .size) (length (b .copies)) (simp (le-ltb 0 (p .span .floating .count) none, e) at (h .done))
+  readable p ready done = record {
+    ready = ready;
+    exact = λ some. simp (lt-ltb 0 (p .span .floating .count) some) at done;
+    inside = λ none e. inside-facts (addressAt (p .span) b) base (p .size) (length (b .copies)) (simp (le-ltb 0 (p .span .floating .count) none, e) at done);
+  }
 
-  -- the value's own bytes lie in its words
-  pub own-within : p .span .floating .count ≤ 0 → p .span .indirect ≡ false
-      → ownStart r (p .ty) (p .size) + p .size ≤ 8 * p .span .general .count + p .span .memory .length
-  unfolding ownStart
-  own-within none e = go (startsAtHead r (p .ty)) refl
-    where
-      no : p .span .floating .count ≡ 0
-      no = omega arith
-
-      go : (s : Bool) → startsAtHead r (p .ty) ≡ s → pick s 0 (roomOf r (p .size) - p .size) + p .size ≤ 8 * p .span .general .count + p .span .memory .length
-      go true q = omega (arith, h .ready .held .head q, h .ready .held .words no)
-      go false q = omega (arith, h .ready .held .small q e, h .ready .held .end q, h .ready .held .words no)
-
-  length-words : length (wordsAt (p .span) b) ≡ 8 * p .span .general .count + p .span .memory .length
-  unfolding wordsAt bytesAt
-  length-words =
-      length-append (part (8 * p .span .general .first) (8 * p .span .general .count) (b .image)) (part (p .span .memory .start) (p .span .memory .length) (b .area))
-      ∙ rw (
-        length-part (8 * p .span .general .first) (8 * p .span .general .count) (b .image) (omega (arith, h .ready)),
-        length-part (p .span .memory .start) (p .span .memory .length) (b .area) (omega (arith, h .ready)),
-      )
-
-  length-fpr : 0 < p .span .floating .count → length (floatAt (p .span) b) ≡ 8
-  unfolding bytesAt
-  length-fpr some = length-part (256 + 8 * p .span .floating .first) 8 (b .image) (omega (arith, h .ready))
-
-  float-done : 0 < p .span .floating .count → floatAnswer r (equivalentOf (p .ty)) (valueOf (floatAt (p .span) b)) ≡ Answer.Done
-  unfolding argumentAnswer
-  float-done some = simp (lt-ltb 0 (p .span .floating .count) some) at (h .done)
-
--- a value in an FPR
-narrowed-length : (q : Narrowed) → narrowedAnswer q ≡ Answer.Done → length (narrowedBytes q) ≡ 4
-narrowed-length (Narrowed.Single x) e = length-bytesOf 4 x
-narrowed-length Narrowed.NotWidened e = let z : _≡_ {A = ℕ} 0 1 = cc in absurd (omega arith)
-
-float-length : (r : Rules) (e : Equivalent) (bs : List ℕ) (n : ℕ) → FloatSized e n → length bs ≡ 8 → floatAnswer r e (valueOf bs) ≡ Answer.Done
-    → length (floatValueAs r e bs) ≡ n
-float-length (Rules.Power f) Equivalent.Single bs n s l d = narrowed-length (narrow (valueOf bs)) d ∙ sym s
-float-length Rules.Z Equivalent.Single bs n s l d = length-take-le 4 bs (omega arith) ∙ sym s
-float-length r Equivalent.Double bs n s l d = l ∙ sym s
-float-length r Equivalent.Nothing bs n s l d = absurd s
-
-copy-length : (at n : ℕ) (b : Buffers) → at + n ≤ length (b .copies) → length (bytesAt (copies at) n b) ≡ n
-unfolding bytesAt
-copy-length at n b h = length-part at n (b .copies) h
-
--- every value that can be read has its size
-pub value-length : (r : Rules) (base : ℕ) (p : Placement) (b : Buffers) → Readable r base p b → length (valueAt r base p b) ≡ p .size
-unfolding valueAt wordsValue floatValue
-value-length r base p b h = go (ltb 0 (p .span .floating .count)) refl
-  where
-    words : (i : Bool) → p .span .indirect ≡ i → p .span .floating .count ≤ 0
-        → length
-        (pick i (bytesAt (copies (addressAt (p .span) b - base)) (p .size) b) (part (ownStart r (p .ty) (p .size)) (p .size) (wordsAt (p .span) b)))
-        ≡ p .size
-    words true q none = copy-length (addressAt (p .span) b - base) (p .size) b (copy-inside r base p b h none q .1)
-    words false q none =
-        length-part (ownStart r (p .ty) (p .size)) (p .size) (wordsAt (p .span) b) (omega (arith, own-within r base p b h none q, length-words r base p b h))
-
-    go : (f : Bool) → ltb 0 (p .span .floating .count) ≡ f
-        → length
-        (pick f (floatValueAs r (equivalentOf (p .ty)) (floatAt (p .span) b))
-        (pick (p .span .indirect) (bytesAt (copies (addressAt (p .span) b - base)) (p .size) b)
-        (part (ownStart r (p .ty) (p .size)) (p .size) (wordsAt (p .span) b))))
-        ≡ p .size
-    go true q =
-        let some : 0 < p .span .floating .count = ltb-true 0 (p .span .floating .count) q in
-        float-length r (equivalentOf (p .ty)) (floatAt (p .span) b) (p .size) (h .ready .held .float (omega (arith, h .ready .held .floats))) (length-fpr r base p b h some)
-        (float-done r base p b h some)
-    go false q = words (p .span .indirect) refl (ltb-false 0 (p .span .floating .count) q)
+  pub all-readable : (ps : List Placement) → All (Ready r (length (b .image)) (length (b .area))) ps → argumentsAnswer r base ps b ≡ Answer.Done
+      → All (λ (p : Placement). Readable r base p b) ps
+  unfolding All argumentsAnswer firstOfAll
+  all-readable [] each done = tt
+  all-readable (p ∷ ps) each done =
+      let both = or-done (argumentAnswer r base p b) (argumentsAnswer r base ps b) done in
+      (readable p (each .0) (both .0), all-readable ps (each .1) (both .1))

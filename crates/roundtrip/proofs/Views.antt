@@ -39,7 +39,6 @@ use Rattle.slots.proofs.Answered.{carried, arguments-got}
 use Rattle.slots.proofs.Refusals.{or-done}
 use Rattle.slots.proofs.Turns.{next-argument}
 use Rattle.read.specs.Read.{wordsAnswer, argumentAnswer, argumentsAnswer}
-use Rattle.read.proofs.Parts.{part-part}
 use Rattle.home.specs.Home.{registerAnswer, registersAnswer, homeTests, homeAnswer, homedBytes, homed, homeArea, Homed}
 use Rattle.home.specs.View.{viewTests, viewAnswer, noArgument, ownBytes, viewOf}
 use Rattle.home.proofs.Homed.{homed-all, reading-done}

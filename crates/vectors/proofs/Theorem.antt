@@ -9,8 +9,9 @@ use Rattle.convention.specs.ZSeries.{zClass, zSpanOf, zNextOf}
 use Rattle.convention.specs.Step.{spanOf, nextOf, fresh, startOf, areaOf, hiddenFor, returning, resultOf}
 use Rattle.convention.specs.Places.{upFrom, registersOf}
 use Rattle.plan.specs.Plan.{spansOf, lastOf, tableOf, planIn, typesOf, planAnswer}
-use Rattle.listing.specs.Words.{digitsOf, decimal}
-use Rattle.listing.specs.Text.{placesText, lineText, linesText, headText, resultText, refusalText, acceptedText, planText, listingOf}
+use Rattle.text.specs.Decimals.{digitsOf, decimal}
+use Rattle.line.specs.Line.{placesText, lineText}
+use Rattle.listing.specs.Text.{linesText, headText, resultText, refusalText, acceptedText, planText, listingOf}
 use lib.Count.{leadingZeros}
 use Rattle.ieee.specs.Format.{join, split}
 use Rattle.ieee.specs.Widening.{widenFields, widen}

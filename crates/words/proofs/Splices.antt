@@ -191,3 +191,13 @@ pub splice-commute : (l : List ℕ) (p : ℕ) (a : List ℕ) (q : ℕ) (b : List
     → splice (splice l p a) q b ≡ splice (splice l q b) p a
 splice-commute l p a q b (inl h) = ordered-commute l p a q b h
 splice-commute l p a q b (inr h) = sym (ordered-commute l q b p a h)
+
+-- ---- parts of parts
+take-inner : (lo n k : ℕ) (l : List ℕ) → lo + n ≤ k → take n (drop lo (take k l)) ≡ take n (drop lo l)
+take-inner zero n k l h = take-take n k l (omega arith)
+take-inner (suc lo) n zero l h = absurd (omega arith)
+take-inner (suc lo) n (suc k) [] h = refl
+take-inner (suc lo) n (suc k) (x ∷ l) h = take-inner lo n k l (omega arith)
+
+pub part-part : (at k lo n : ℕ) (l : List ℕ) → lo + n ≤ k → part lo n (part at k l) ≡ part (at + lo) n l
+part-part at k lo n l h = take-inner lo n k (drop at l) h ∙ rw drop-drop

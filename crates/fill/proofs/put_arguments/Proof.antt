@@ -13,7 +13,7 @@ use Rattle.slots.specs.Buffers.{buffers}
 use Rattle.slots.specs.Placements.{Placement}
 use Rattle.slots.specs.Arguments.{argumentsIn}
 use Rattle.slots.proofs.Turns.{argumentAt, next-argument, no-argument}
-use Rattle.fill.specs.Fill.{Ready}
+use Rattle.marshal.specs.Room.{Ready}
 use Rattle.fill.proofs.Turns.{Going, AtHand, going-start, at-hand, going-more, going-end}
 use Rattle.fill.proofs.put_arguments.Statement.{statement}
 use Rattle.fill.proofs.put_arguments.Tie as tie

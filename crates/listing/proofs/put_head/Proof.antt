@@ -1,5 +1,5 @@
 -- Each part in its turn.
-use Rattle.listing.proofs.Writing.{wrote-then}
+use Rattle.text.proofs.Writing.{wrote-then}
 use Rattle.listing.specs.Text.{headText}
 use native.Mathlib.Omega.{arith}
 use borrow.Author.Needs.{needs}
@@ -9,23 +9,17 @@ use Rattle.listing.proofs.put_head.Tie as tie
 put-name-requires : tie.Need-put-name-requires
 put-name-requires c κs = search needs
 
-slice-aggregate-put-bytes : tie.Need-slice-aggregate-put-bytes
-slice-aggregate-put-bytes c = search needs
+slice-aggregate-put-labelled : tie.Need-slice-aggregate-put-labelled
+slice-aggregate-put-labelled c = search needs
 
-put-bytes-requires : tie.Need-put-bytes-requires
-put-bytes-requires c κs = search needs
+put-labelled-requires : tie.Need-put-labelled-requires
+put-labelled-requires c κs = search needs
 
-put-decimal-requires : tie.Need-put-decimal-requires
-put-decimal-requires c κs = search needs
+slice-aggregate-put-labelled-2 : tie.Need-slice-aggregate-put-labelled-2
+slice-aggregate-put-labelled-2 c = search needs
 
-slice-aggregate-put-bytes-2 : tie.Need-slice-aggregate-put-bytes-2
-slice-aggregate-put-bytes-2 c = search needs
-
-put-bytes-requires-2 : tie.Need-put-bytes-requires-2
-put-bytes-requires-2 c κs = search needs
-
-put-decimal-requires-2 : tie.Need-put-decimal-requires-2
-put-decimal-requires-2 c κs = search needs
+put-labelled-requires-2 : tie.Need-put-labelled-requires-2
+put-labelled-requires-2 c κs = search needs
 
 put-byte-requires : tie.Need-put-byte-requires
 put-byte-requires c κs = search needs
@@ -36,25 +30,21 @@ same-length c = search needs
 returns : tie.Need-returns
 unfolding headText
 returns c =
-    let name = c .before .before .before .before .before .before .before .before .before .before .before .before .before .before .before .before .before .before .before .before .before .before .before .before .put-name .ensures in
-    let args = c .before .before .before .before .before .before .before .before .before .before .before .before .before .before .before .before .before .before .before .put-bytes .ensures in
-    let count = c .before .before .before .before .before .before .before .before .before .before .before .before .before .before .before .put-decimal .ensures in
-    let area = c .before .before .before .before .before .before .before .before .before .before .put-bytes2 .ensures in
-    let size = c .before .before .before .before .before .before .put-decimal2 .ensures in
+    let name = c .before .before .before .before .before .before .before .before .before .before .before .before .before .before .before .before .put-name .ensures in
+    let count = c .before .before .before .before .before .before .before .before .before .before .before .put-labelled .ensures in
+    let area = c .before .before .before .before .before .before .put-labelled2 .ensures in
     let end = c .before .before .put-byte .ensures in
-    (wrote-then (name .0) (wrote-then args (wrote-then (count .0) (wrote-then area (wrote-then (size .0) end)))), omega (arith, name .1, args .end, count .1, area .end, size .1, end .end))
+    (wrote-then (name .0) (wrote-then (count .0) (wrote-then (area .0) end)), omega (arith, name .1, count .1, area .1, end .end))
 
 pub put-head-spec : {M : Type 1} → statement M
 put-head-spec =
     tie.close
     (tie.spec
     put-name-requires
-    slice-aggregate-put-bytes
-    put-bytes-requires
-    put-decimal-requires
-    slice-aggregate-put-bytes-2
-    put-bytes-requires-2
-    put-decimal-requires-2
+    slice-aggregate-put-labelled
+    put-labelled-requires
+    slice-aggregate-put-labelled-2
+    put-labelled-requires-2
     put-byte-requires
     same-length
     returns)

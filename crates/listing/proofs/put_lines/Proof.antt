@@ -1,7 +1,7 @@
 -- The lines so far are written.
-use Rattle.listing.proofs.Texts.{wrote-line}
-use Rattle.listing.proofs.Writing.{wrote-length, wrote-nothing, wrote-then}
-use Rattle.listing.specs.Writing.{Wrote}
+use Rattle.listing.proofs.Lines.{wrote-line}
+use Rattle.text.proofs.Writing.{wrote-length, wrote-nothing, wrote-then}
+use Rattle.text.specs.Writing.{Wrote}
 use Rattle.listing.specs.Text.{acceptedText, linesText}
 use Rattle.plan.specs.Plan.{noSpan}
 use lib.Seq.{take-all, length-take-le, getD-take}

@@ -1,5 +1,5 @@
 -- Each part in its turn.
-use Rattle.listing.proofs.Writing.{wrote-then}
+use Rattle.text.proofs.Writing.{wrote-then}
 use Rattle.listing.specs.Text.{resultText}
 use borrow.Author.Needs.{needs}
 use Rattle.listing.proofs.put_result.Statement.{statement}

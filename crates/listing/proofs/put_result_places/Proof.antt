@@ -1,5 +1,5 @@
 -- By cases on the result.
-use Rattle.listing.proofs.Writing.{wrote-then}
+use Rattle.text.proofs.Writing.{wrote-then}
 use Rattle.convention.specs.Places.{ResultNumbered}
 use native.Mathlib.Omega.{arith}
 use mathlib.Core.Path.{subst}

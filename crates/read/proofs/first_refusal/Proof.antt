@@ -10,7 +10,8 @@ use Rattle.slots.specs.Buffers.{buffers}
 use Rattle.slots.specs.Placements.{Placement}
 use Rattle.slots.specs.Arguments.{argumentsIn}
 use Rattle.slots.proofs.Turns.{argumentAt, next-argument, no-argument, Checking, checking-start, checking-ready, checking-refused, checking-more, checking-end}
-use Rattle.read.specs.Read.{argumentAnswer, argumentsAnswer, Ready}
+use Rattle.unmarshal.specs.Readable.{Ready}
+use Rattle.read.specs.Read.{argumentAnswer, argumentsAnswer}
 use Rattle.read.proofs.first_refusal.Statement.{statement}
 use Rattle.read.proofs.first_refusal.Tie as tie
 

@@ -7,6 +7,7 @@ use Rattle.slots.specs.Buffers.{buffers}
 use Rattle.slots.proofs.Answered.{plan-same, carried-same}
 use Rattle.slots.proofs.Refusals.{not-refused}
 use Rattle.read.specs.Read.{readValues}
+use Rattle.read.proofs.Arguments.{all-readable}
 use Rattle.read.proofs.Accepted.{Lent, tests-passed, all-ready, answer-refused, answer-lengths, answer-arguments, values-kept, values-taken}
 use borrow.Author.Needs.{needs}
 use Rattle.read.proofs.read.Statement.{statement}
@@ -72,9 +73,13 @@ take-arguments-requires c κs =
     let same = plan-same (start .args .sig .now) _ p read (c .before .before .before .before .before .before .before .before .before .plan-signature .ensures) in
     let lent : Lent _ p = tests-passed _ p (sym (c .before .before .before .before .before .before .tested .ensures) ∙ not-refused _ (sym (c .before .before .before .before .before .is-refused .ensures) ∙ c .before .before .before .before .if1 .left)) in
     let carried = carried-same (start .args .sig .now) _ p read same in
+    let ready = all-ready _ p _ _ carried (lent .image) (lent .area) in
+    let done = sym (c .before .before .before .first-refusal .ensures) ∙ not-refused _ (sym (c .before .before .is-refused2 .ensures) ∙ c .before .if2 .left) in
     record {
-      ready = all-ready _ p _ _ carried (lent .image) (lent .area);
-      done = sym (c .before .before .before .first-refusal .ensures) ∙ not-refused _ (sym (c .before .before .is-refused2 .ensures) ∙ c .before .if2 .left);
+      few = ready .few;
+      types = ready .types;
+      spans = ready .spans;
+      each = all-readable _ _ _ _ (ready .each) done;
       total = carried .total ∙ sym (lent .values);
     }
 

@@ -1,7 +1,7 @@
 -- The size is the rounded end, and it decides.
 use borrow.Author.Needs.{needs}
 use Rattle.types.proofs.Fields.close.Statement.{statement}
-use mathlib.Core.Path.{sym, _∙_}
+use mathlib.Core.Path.{sym}
 use native.Mathlib.Omega.{arith}
 use Rattle.types.specs.Structs.{shapeOf}
 use Rattle.types.proofs.Laws.{closed-large, closed-small}
@@ -21,7 +21,7 @@ cast-t8 c = search needs
 
 returns-2 : tie.Need-returns-2
 unfolding shapeOf
-returns-2 c = (cc) ∙ sym (closed-small _ (omega arith))
+returns-2 c = rw (closed-small (c .before .before .args .self) (omega arith), c .before .round-up .ensures)
 
 pub close-spec : {M : Type 1} → statement M
 close-spec = tie.close (tie.spec round-up-requires returns cast-t7 cast-t8 returns-2)

@@ -26,7 +26,14 @@ add-t12 c = omega (arith, round-up-most (c .before .before .before .before .befo
 
 returns : tie.Need-returns
 unfolding withField
-returns c = cc
+returns c =
+    rw (
+      c .before .before .before .before .size-of .ensures,
+      c .before .before .round-up .ensures,
+      c .before .larger .ensures,
+      c .equivalent-after .ensures,
+      c .before .before .before .align-of .ensures,
+    )
 
 pub with-field-spec : {M : Type 1} → statement M
 with-field-spec =

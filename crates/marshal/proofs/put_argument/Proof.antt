@@ -1,0 +1,204 @@
+-- By the way that the argument is passed: in an FPR, by a pointer to its copy, from the head of its words on, or at the end of one.
+use mathlib.Core.Path.{refl, sym, ap, _∙_}
+use mathlib.Core.List.{List, _++_}
+use Prim.Native.Nat.{ℕ, _+_, _-_, _*_}
+use native.Mathlib.Omega.{arith}
+use lib.ListN.{length, replicate}
+use borrow.Rule.Slice.PartMut.{putMid}
+use Rattle.words.specs.Splice.{splice}
+use Rattle.words.specs.Numbers.{bytesOf}
+use Rattle.words.proofs.Splices.{lent-tail}
+use Rattle.types.specs.Sizes.{equivalentOf}
+use Rattle.slots.specs.Buffers.{buffers}
+use Rattle.slots.specs.Placements.{Placement, placement}
+use Rattle.marshal.proofs.Arguments.{argument-float, argument-words, stands-address, stands-head, stands-end, copy-none, copy-put}
+use Rattle.slots.proofs.Limits.{float-small, one-word, indirect-end}
+use borrow.Author.Needs.{needs}
+use Rattle.marshal.proofs.put_argument.Statement.{statement}
+use Rattle.marshal.proofs.put_argument.Tie as tie
+
+-- the argument with its place
+abbrev argument : (c : tie.Start) → Placement
+argument c = placement (c .args .t) (length (c .args .v .now)) (c .args .s)
+
+cast-at : tie.Need-cast-at
+cast-at c = search needs
+
+mul-at : tie.Need-mul-at
+mul-at c = search needs
+
+add-at : tie.Need-add-at
+add-at c = search needs
+
+sub-put-number : tie.Need-sub-put-number
+sub-put-number c = search needs
+
+part-put-number-start : tie.Need-part-put-number-start
+part-put-number-start c = search needs
+
+part-put-number-end : tie.Need-part-put-number-end
+part-put-number-end c = search needs
+
+float-word-requires : tie.Need-float-word-requires
+float-word-requires c κs =
+    let start = c .before .before .before .before .before .before .before .before .before .before in
+    let held = start .pre .held in
+    float-small (equivalentOf (start .args .t)) (length (start .args .v .now)) (held .float (omega (arith, held .floats, c .before .before .if1 .taken)))
+
+put-number-requires : tie.Need-put-number-requires
+put-number-requires c κs = search needs
+
+same-length : tie.Need-same-length
+same-length c = search needs
+
+returns : tie.Need-returns
+returns c =
+    let start = c .before .before .before .before .before .before .before .before .before .before .before .before .before .before in
+    let l : List ℕ = start .args .image .now in
+    let at : ℕ = 256 + 8 * start .args .s .floating .first in
+    ap (λ (i : List ℕ). buffers i (start .args .area .now) (start .args .copies .now)) (ap (putMid at (length l - at) l) (c .before .before .put-number .ensures) ∙ lent-tail l at (bytesOf 8 (c .before .before .before .float-word .result)) ∙ ap (λ (x : ℕ). splice l at (bytesOf 8 x)) (c .before .before .before .float-word .ensures))
+    ∙ argument-float (start .args .r) (start .args .base) (argument start) (start .args .v .now) l (start .args .area .now) (start .args .copies .now) (start .pre .held) (c .before .before .before .before .before .before .if1 .taken)
+
+cast-start : tie.Need-cast-start
+cast-start c = search needs
+
+sub-put : tie.Need-sub-put
+sub-put c = search needs
+
+part-put-start : tie.Need-part-put-start
+part-put-start c = search needs
+
+part-put-end : tie.Need-part-put-end
+part-put-end c = search needs
+
+put-requires : tie.Need-put-requires
+put-requires c κs =
+    let pre = c .before .before .before .before .before .before .before .before .before .before .before .pre in
+    omega (arith, pre .held .copied (c .before .before .if2 .taken), pre .fits .copies)
+
+add-put-word : tie.Need-add-put-word
+add-put-word c = search needs
+
+put-word-requires : tie.Need-put-word-requires
+put-word-requires c κs =
+    let start = c .before .before .before .before .before .before .before .before .before .before .before .before .before .before .before .before in
+    let pre = start .pre in
+    ((pre .fits .general, pre .registers, pre .fits .memory, pre .held .doublewords), one-word (start .args .r) (argument start) (pre .held) (c .before .before .before .before .before .before .before .before .if1 .left) (indirect-end (start .args .r) (argument start) (pre .held) (c .before .before .before .before .before .before .before .if2 .taken)))
+
+same-length-2 : tie.Need-same-length-2
+same-length-2 c = search needs
+
+same-length-3 : tie.Need-same-length-3
+same-length-3 c = search needs
+
+same-length-4 : tie.Need-same-length-4
+same-length-4 c = search needs
+
+returns-2 : tie.Need-returns-2
+returns-2 c =
+    let start = c .before .before .before .before .before .before .before .before .before .before .before .before .before .before .before .before .before .before .before .before .before in
+    let l : List ℕ = start .args .copies .now in
+    let v : List ℕ = start .args .v .now in
+    let at : ℕ = start .args .s .copy .start in
+    let copied = ap (putMid at (length l - at) l) (c .before .before .before .before .before .before .before .before .before .put .ensures) ∙ lent-tail l at v in
+    argument-words (start .args .r) (start .args .base) (argument start) v (start .args .image .now) (start .args .area .now) l (start .pre .held)
+    (bytesOf 8 (start .args .base + at)) _ _ _ (c .before .before .before .before .before .before .before .before .before .before .before .before .before .if1 .left)
+    (stands-address (start .args .r) (start .args .base) (argument start) v (start .pre .held) (c .before .before .before .before .before .before .before .before .before .before .before .before .if2 .taken))
+    (c .before .before .before .before .put-word .ensures .0) (c .before .before .before .before .put-word .ensures .1)
+    (copied ∙ sym (copy-put (argument start) v l (c .before .before .before .before .before .before .before .before .before .before .before .before .if2 .taken)))
+
+starts-at-head-requires : tie.Need-starts-at-head-requires
+starts-at-head-requires c κs = search needs
+
+put-bytes-requires : tie.Need-put-bytes-requires
+put-bytes-requires c κs =
+    let start = c .before .before .before .before .before .before .before .before .before .before .before .before .before in
+    let pre = start .pre in
+    let h = sym (c .before .before .before .starts-at-head .ensures) ∙ c .before .before .if3 .taken in
+    let w = pre .held .words (omega (arith, c .before .before .before .before .before .if1 .left)) in
+    let f = pre .held .head h in
+    ((pre .fits .general, pre .registers, pre .fits .memory, pre .held .doublewords), omega (arith, w, f), omega (arith, w, f))
+
+same-length-5 : tie.Need-same-length-5
+same-length-5 c = search needs
+
+same-length-6 : tie.Need-same-length-6
+same-length-6 c = search needs
+
+returns-3 : tie.Need-returns-3
+returns-3 c =
+    let start = c .before .before .before .before .before .before .before .before .before .before .before .before .before .before .before .before .before .before in
+    let v : List ℕ = start .args .v .now in
+    let s = start .args .s in
+    let h = sym (c .before .before .before .before .before .before .before .before .starts-at-head .ensures) ∙ c .before .before .before .before .before .before .before .if3 .taken in
+    argument-words (start .args .r) (start .args .base) (argument start) v (start .args .image .now) (start .args .area .now) (start .args .copies .now) (start .pre .held)
+    (v ++ replicate (8 * s .general .count + s .memory .length - length v) 0) _ _ _ (c .before .before .before .before .before .before .before .before .before .before .if1 .left)
+    (stands-head (start .args .r) (start .args .base) (argument start) v (start .pre .held) (c .before .before .before .before .before .before .before .before .before .before .if1 .left) (c .before .before .before .before .before .before .before .before .before .if2 .left) h refl)
+    (c .before .before .before .before .put-bytes .ensures .0) (c .before .before .before .before .put-bytes .ensures .1)
+    (copy-none (argument start) v (start .args .copies .now) (c .before .before .before .before .before .before .before .before .before .if2 .left))
+
+value-word-requires : tie.Need-value-word-requires
+value-word-requires c κs =
+    let start = c .before .before .before .before .before .before .before .before .before .before .before .before .before in
+    let h = sym (c .before .before .before .starts-at-head .ensures) ∙ c .before .before .if3 .left in
+    start .pre .held .small h (c .before .before .before .before .if2 .left)
+
+put-word-requires-2 : tie.Need-put-word-requires-2
+put-word-requires-2 c κs =
+    let start = c .before .before .before .before .before .before .before .before .before .before .before .before .before .before in
+    let pre = start .pre in
+    let h = sym (c .before .before .before .before .starts-at-head .ensures) ∙ c .before .before .before .if3 .left in
+    ((pre .fits .general, pre .registers, pre .fits .memory, pre .held .doublewords), one-word (start .args .r) (argument start) (pre .held) (c .before .before .before .before .before .before .if1 .left) h)
+
+same-length-7 : tie.Need-same-length-7
+same-length-7 c = search needs
+
+same-length-8 : tie.Need-same-length-8
+same-length-8 c = search needs
+
+returns-4 : tie.Need-returns-4
+returns-4 c =
+    let start = c .before .before .before .before .before .before .before .before .before .before .before .before .before .before .before .before .before .before .before in
+    let v : List ℕ = start .args .v .now in
+    let h = sym (c .before .before .before .before .before .before .before .before .before .starts-at-head .ensures) ∙ c .before .before .before .before .before .before .before .before .if3 .left in
+    argument-words (start .args .r) (start .args .base) (argument start) v (start .args .image .now) (start .args .area .now) (start .args .copies .now) (start .pre .held)
+    (bytesOf 8 (c .before .before .before .before .before .value-word .result)) _ _ _ (c .before .before .before .before .before .before .before .before .before .before .before .if1 .left)
+    (stands-end (start .args .r) (start .args .base) (argument start) v (start .pre .held) (c .before .before .before .before .before .before .before .before .before .before .if2 .left) h refl ∙ ap (bytesOf 8) (sym (c .before .before .before .before .before .value-word .ensures)))
+    (c .before .before .before .before .put-word2 .ensures .0) (c .before .before .before .before .put-word2 .ensures .1)
+    (copy-none (argument start) v (start .args .copies .now) (c .before .before .before .before .before .before .before .before .before .before .if2 .left))
+
+pub put-argument-spec : {M : Type 1} → statement M
+put-argument-spec =
+    tie.close
+    (tie.spec
+    cast-at
+    mul-at
+    add-at
+    sub-put-number
+    part-put-number-start
+    part-put-number-end
+    float-word-requires
+    put-number-requires
+    same-length
+    returns
+    cast-start
+    sub-put
+    part-put-start
+    part-put-end
+    put-requires
+    add-put-word
+    put-word-requires
+    same-length-2
+    same-length-3
+    same-length-4
+    returns-2
+    starts-at-head-requires
+    put-bytes-requires
+    same-length-5
+    same-length-6
+    returns-3
+    value-word-requires
+    put-word-requires-2
+    same-length-7
+    same-length-8
+    returns-4)

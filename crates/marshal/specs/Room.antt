@@ -1,0 +1,25 @@
+-- What putting a value asks of the buffers: room for the argument's words and copy. Assumes nothing.
+use Prim.Native.Nat.{ℕ, _+_, _-_, _*_, _%_, _^_, _≤_, _<_}
+use mathlib.Core.Path.{_≡_}
+use mathlib.Core.List.{List, _++_}
+use lib.ListN.{length, replicate}
+use Rattle.convention.specs.declared.Rules.{Rules}
+use Rattle.convention.specs.declared.Span.{Span}
+use Rattle.slots.specs.Placements.{Placement}
+use Rattle.slots.specs.Limits.{Held, Fits}
+
+-- v, and zeros to the end of a span's words
+abbrev pub padded : Span → List ℕ → List ℕ
+padded s v = v ++ replicate (8 * s .general .count + s .memory .length - length v) 0
+
+-- a span's words lie in the image and the area
+abbrev pub WordsFit : Span → List ℕ → List ℕ → Type 0
+WordsFit s image area =
+    (s .general .first + s .general .count ≤ 32) × (length image ≡ 512) × (s .memory .start + s .memory .length ≤ length area) × (s .memory .length % 8 ≡ 0)
+
+-- an argument, and the lengths of the buffers that it is put in
+pub record Ready (r : Rules) (base i a c : ℕ) (p : Placement) : Type 0 where
+  pub held : Held r p
+  pub fits : Fits a c p
+  pub registers : i ≡ 512
+  pub low : base + (p .span .copy .start + p .span .copy .length) < 2 ^ 64

@@ -1,0 +1,130 @@
+-- By the way that the argument is passed; a copy lies inside, since it was not refused.
+use mathlib.Core.Path.{_≡_, ap, _∙_}
+use mathlib.Core.Bool.{true}
+use Prim.Native.Nat.{ℕ, _+_, _-_, _≤_}
+use native.Mathlib.Omega.{arith}
+use borrow.Author.Tests.{lt-ltb, le-ltb}
+use lib.ListN.{length}
+use Rattle.words.specs.Splice.{overlay, part}
+use Rattle.types.specs.Sizes.{equivalentOf}
+use Rattle.slots.specs.Buffers.{Buffers, buffers, bytesAt}
+use Rattle.slots.specs.Forms.{floatValue}
+use Rattle.slots.specs.Placements.{Placement, placement, wordsAt, addressAt, wordsValue, valueAt}
+use Rattle.slots.proofs.Limits.{one-word, indirect-end}
+use Rattle.unmarshal.proofs.Arguments.{float-room, own-within}
+use borrow.Author.Needs.{needs}
+use Rattle.unmarshal.proofs.take_argument.Statement.{statement}
+use Rattle.unmarshal.proofs.take_argument.Tie as tie
+
+abbrev argument : (c : tie.Start) → Placement
+argument c = placement (c .args .t) (c .args .n) (c .args .s)
+
+abbrev lent : (c : tie.Start) → Buffers
+lent c = buffers (c .args .image .now) (c .args .area .now) (c .args .copies .now)
+
+inside : (c : tie.Start) → c .args .s .floating .count ≤ 0 → c .args .s .indirect ≡ true
+    → (c .args .base ≤ addressAt (c .args .s) (lent c)) × (addressAt (c .args .s) (lent c) - c .args .base + c .args .n ≤ length (c .args .copies .now))
+inside c none e = c .pre .0 .inside none e
+
+address : (c : tie.After-word-at) → c .word-at .result ≡ addressAt (c .before .before .before .before .before .before .before .before .before .args .s) (lent (c .before .before .before .before .before .before .before .before .before))
+unfolding wordsAt bytesAt
+address c = c .word-at .ensures
+
+cast-at : tie.Need-cast-at
+cast-at c = search needs
+
+mul-at : tie.Need-mul-at
+mul-at c = search needs
+
+add-at : tie.Need-add-at
+add-at c = search needs
+
+equivalent-of-requires : tie.Need-equivalent-of-requires
+equivalent-of-requires c κs = search needs
+
+take-float-requires : tie.Need-take-float-requires
+take-float-requires c κs =
+    let start = c .before .before .before .before .before .before .before .before .before .before in
+    let ready = start .pre .0 .ready in
+    (omega (arith, ready), rw (c .equivalent-of .ensures) (float-room (equivalentOf (start .args .t)) (start .args .n) (length (start .args .out .now)) (ready .held .float (omega (arith, ready .held .floats, c .before .before .before .if1 .taken))) (start .pre .1)))
+
+same-length : tie.Need-same-length
+same-length c = search needs
+
+returns : tie.Need-returns
+unfolding valueAt floatValue bytesAt
+returns c =
+    let start = c .before .before .before .before .before .before .before .before .before .before .before .before .before in
+    simp (lt-ltb 0 (start .args .s .floating .count) (omega (arith, c .before .before .before .before .before .before .if1 .taken))) (c .before .before .take-float .ensures ∙ rw (c .before .before .before .equivalent-of .ensures))
+
+word-at-requires : tie.Need-word-at-requires
+word-at-requires c κs =
+    let start = c .before .before .before .before .before .before .before .before in
+    let ready = start .pre .0 .ready in
+    ((ready .general, ready .registers, ready .memory), one-word (start .args .r) (argument start) (ready .held) (c .before .if1 .left) (indirect-end (start .args .r) (argument start) (ready .held) (c .if2 .taken)))
+
+sub-from : tie.Need-sub-from
+sub-from c =
+    let h = inside (c .before .before .before .before .before .before .before .before .before) (c .before .before .if1 .left) (c .before .if2 .taken) in
+    let e = address c in
+    omega (arith, h .0, e)
+
+take-part-requires : tie.Need-take-part-requires
+take-part-requires c κs =
+    let h = inside (c .before .before .before .before .before .before .before .before .before .before) (c .before .before .before .if1 .left) (c .before .before .if2 .taken) in
+    let e = address (c .before) in
+    (omega (arith, h .1, e), c .before .before .before .before .before .before .before .before .before .before .pre .1)
+
+same-length-2 : tie.Need-same-length-2
+same-length-2 c = search needs
+
+returns-2 : tie.Need-returns-2
+unfolding valueAt wordsValue bytesAt
+returns-2 c =
+    let start = c .before .before .before .before .before .before .before .before .before .before .before .before .before in
+    simp (le-ltb _ _ (c .before .before .before .before .before .before .if1 .left), c .before .before .before .before .before .if2 .taken)
+    (c .before .before .take-part .ensures
+    ∙ ap (λ (x : ℕ). overlay (start .args .out .now) (part (x - start .args .base) (start .args .n) (start .args .copies .now))) (address (c .before .before .before .before)))
+
+own-start-requires : tie.Need-own-start-requires
+own-start-requires c κs =
+    let start = c .before .before .before .before .before .before .before .before .before in
+    let held = start .pre .0 .ready .held in
+    λ e. (held .small e (c .before .if2 .left) .1, held .end e)
+
+take-words-requires : tie.Need-take-words-requires
+take-words-requires c κs =
+    let start = c .before .before .before .before .before .before .before .before .before .before in
+    let ready = start .pre .0 .ready in
+    let own = own-within (start .args .r) (start .args .base) (argument start) (lent start) (start .pre .0) (c .before .before .before .if1 .left) (c .before .before .if2 .left) in
+    ((ready .general, ready .registers, ready .memory), rw (c .own-start .ensures) own, start .pre .1)
+
+same-length-3 : tie.Need-same-length-3
+same-length-3 c = search needs
+
+returns-3 : tie.Need-returns-3
+unfolding valueAt wordsValue wordsAt bytesAt
+returns-3 c =
+    let start = c .before .before .before .before .before .before .before .before .before .before .before .before .before in
+    simp (le-ltb _ _ (c .before .before .before .before .before .before .if1 .left), c .before .before .before .before .before .if2 .left) (c .before .before .take-words .ensures ∙ rw (c .before .before .before .own-start .ensures))
+
+pub take-argument-spec : {M : Type 1} → statement M
+take-argument-spec =
+    tie.close
+    (tie.spec
+    cast-at
+    mul-at
+    add-at
+    equivalent-of-requires
+    take-float-requires
+    same-length
+    returns
+    word-at-requires
+    sub-from
+    take-part-requires
+    same-length-2
+    returns-2
+    own-start-requires
+    take-words-requires
+    same-length-3
+    returns-3)

@@ -1,0 +1,42 @@
+-- The only word is a general register or eight bytes of memory.
+use mathlib.Core.Path.{ap, _∙_}
+use Prim.Native.Nat.{_*_}
+use Rattle.words.specs.Numbers.{valueOf}
+use Rattle.slots.specs.Buffers.{bytesAt}
+use Rattle.slots.specs.Placements.{wordsAt}
+use Rattle.unmarshal.proofs.Parts.{word-registers, word-memory}
+use borrow.Author.Needs.{needs}
+use Rattle.unmarshal.proofs.word_at.Statement.{statement}
+use Rattle.unmarshal.proofs.word_at.Tie as tie
+
+cast-load : tie.Need-cast-load
+cast-load c = search needs
+
+mul-load : tie.Need-mul-load
+mul-load c = search needs
+
+load-requires : tie.Need-load-requires
+load-requires c κs = search needs
+
+returns : tie.Need-returns
+unfolding wordsAt bytesAt
+returns c =
+    let s = c .before .before .before .before .before .before .before .before .args .s in
+    c .load .ensures ∙ ap valueOf (word-registers (c .before .before .before .before .before .before .before .before .args .image .now) (c .before .before .before .before .before .before .before .before .args .area .now) (8 * s .general .first) (s .memory .start) (s .general .count) (s .memory .length) (c .before .before .before .before .before .before .before .before .pre .1) (c .before .before .if1 .taken))
+
+cast-load-2 : tie.Need-cast-load-2
+cast-load-2 c = search needs
+
+load-requires-2 : tie.Need-load-requires-2
+load-requires-2 c κs = search needs
+
+returns-2 : tie.Need-returns-2
+unfolding wordsAt bytesAt
+returns-2 c =
+    let s = c .before .before .before .before .before .before .before .before .args .s in
+    c .load2 .ensures ∙ ap valueOf (word-memory (c .before .before .before .before .before .before .before .before .args .image .now) (c .before .before .before .before .before .before .before .before .args .area .now) (8 * s .general .first) (s .memory .start) (s .general .count) (s .memory .length) (c .before .before .before .before .before .before .before .before .pre .1) (c .before .before .if1 .left))
+
+pub word-at-spec : {M : Type 1} → statement M
+word-at-spec =
+    tie.close
+    (tie.spec cast-load mul-load load-requires returns cast-load-2 load-requires-2 returns-2)

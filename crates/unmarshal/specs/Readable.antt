@@ -1,0 +1,57 @@
+-- What taking values asks: places that lie in the buffers, and that neither 13 nor 14 refuses an argument. Every reading that nothing
+-- refuses has it (law `all-readable` of the crate read). Assumes nothing.
+use Prim.Native.Nat.{ℕ, _+_, _-_, _≤_, _<_}
+use mathlib.Core.Path.{_≡_}
+use mathlib.Core.Bool.{true}
+use mathlib.Core.List.{List}
+use lib.ListN.{length}
+use Rattle.words.specs.Numbers.{valueOf}
+use Rattle.types.specs.declared.Equivalent.{Equivalent}
+use Rattle.types.specs.Sizes.{equivalentOf}
+use Rattle.signature.specs.declared.SignatureRead.{SignatureRead}
+use Rattle.convention.specs.declared.Rules.{Rules}
+use Rattle.convention.specs.declared.Span.{Span}
+use Rattle.convention.specs.Step.{rulesOf}
+use Rattle.plan.specs.declared.Plan.{Plan}
+use Rattle.slots.specs.declared.Answer.{Answer}
+use Rattle.slots.specs.Buffers.{Buffers}
+use Rattle.slots.specs.Placements.{Placement, floatAt, addressAt}
+use Rattle.slots.specs.Refusals.{floatAnswer}
+use Rattle.slots.specs.Limits.{Held, All, sizesOf}
+use Rattle.slots.specs.Arguments.{argumentsIn}
+
+-- a span's words lie in the image and the area
+abbrev pub WordsFit : Span → List ℕ → List ℕ → Type 0
+WordsFit s image area =
+    (s .general .first + s .general .count ≤ 32) × (length image ≡ 512) × (s .memory .start + s .memory .length ≤ length area)
+
+-- room for a float
+abbrev pub FloatRoom : Equivalent → ℕ → Type 0
+FloatRoom Equivalent.Single n = 4 ≤ n
+FloatRoom Equivalent.Double n = 8 ≤ n
+FloatRoom Equivalent.Nothing n = 8 ≤ n
+
+-- an argument, and the lengths of the image and the area
+pub record Ready (r : Rules) (i a : ℕ) (p : Placement) : Type 0 where
+  pub held : Held r p
+  pub general : p .span .general .first + p .span .general .count ≤ 32
+  pub floating : p .span .floating .first + p .span .floating .count ≤ 32
+  pub memory : p .span .memory .start + p .span .memory .length ≤ a
+  pub registers : i ≡ 512
+
+-- an argument that can be read
+pub record Readable (r : Rules) (base : ℕ) (p : Placement) (b : Buffers) : Type 0 where
+  pub ready : Ready r (length (b .image)) (length (b .area)) p
+  -- 14 is not given
+  pub exact : 0 < p .span .floating .count → floatAnswer r (equivalentOf (p .ty)) (valueOf (floatAt (p .span) b)) ≡ Answer.Done
+  -- 13 is not given
+  pub inside : p .span .floating .count ≤ 0 → p .span .indirect ≡ true
+      → (base ≤ addressAt (p .span) b) × (addressAt (p .span) b - base + p .size ≤ length (b .copies))
+
+-- all arguments, into values of v bytes
+pub record AllReadable (g : SignatureRead) (p : Plan) (base v : ℕ) (b : Buffers) : Type 0 where
+  pub few : g .count ≤ 64
+  pub types : g .count ≤ length (g .arguments)
+  pub spans : g .count ≤ length (p .spans)
+  pub each : All (λ (q : Placement). Readable (rulesOf (g .convention)) base q b) (argumentsIn g p)
+  pub total : sizesOf (argumentsIn g p) ≡ v

@@ -1,0 +1,160 @@
+// The values of arguments taken out of their registers, memory and copies. An argument is taken only where nothing refuses its reading.
+use convention::Rules;
+use convention::Span;
+use ieee::Narrowed;
+use plan::Plan;
+use signature::SignatureRead;
+use types::Equivalent;
+use types::ValueType;
+ghost use mathlib.Core.Path.{_≡_};
+ghost use mathlib.Core.List.{[]};
+ghost use Prim.Native.Nat.{_+_, _*_, _≤_};
+ghost use lib.ListN.{length};
+ghost use Rattle.words.specs.Splice.{overlay, part};
+ghost use Rattle.ieee.specs.Narrowing.{narrow as narrowOf};
+ghost use Rattle.convention.specs.Step.{rulesOf};
+ghost use Rattle.slots.specs.Buffers.{buffers};
+ghost use Rattle.slots.specs.Forms.{narrowedBytes, floatValueAs};
+ghost use Rattle.slots.specs.Placements.{placement, wordsAt, addressAt, valueAt, valuesAt};
+ghost use Rattle.slots.specs.Arguments.{argumentsIn};
+ghost use Rattle.unmarshal.specs.Readable.{WordsFit, FloatRoom, Readable, AllReadable};
+
+// The 64 bits of a span's only word.
+pub fn word_at(image: &[u8], area: &[u8], s: Span) -> u64
+    requires { ⌜ WordsFit s (now image) (now area) × (8 * s .general .count + s .memory .length ≡ 8) ⌝ }
+    ensures { λ x. ⌜ x ≡ addressAt s (buffers (now (image .entry)) (now (area .entry)) []) ⌝ }
+{
+    let general = s.general;
+    let memory = s.memory;
+    if 0 < general.count {
+        return words::load(image, 8 * (general.first as usize), 8);
+    }
+    words::load(area, memory.start as usize, 8)
+}
+
+// The n bytes of src from `at` on, at the head of out.
+fn take_part(out: &mut [u8], src: &[u8], at: usize, n: usize)
+    requires { ⌜ (at + n ≤ length (now src)) × (n ≤ length (now out)) ⌝ }
+    ensures { λ _. ⌜ now (out .exit) ≡ overlay (now (out .entry)) (part at n (now (src .entry))) ⌝ }
+{
+    let end = at + n;
+    words::put(out, &src[at..end]);
+}
+
+// The bytes of a span's words from lo on, n of them, at the head of out.
+fn take_words(out: &mut [u8], image: &[u8], area: &[u8], s: Span, lo: usize, n: usize)
+    requires { ⌜ WordsFit s (now image) (now area) × (lo + n ≤ 8 * s .general .count + s .memory .length) × (n ≤ length (now out)) ⌝ }
+    ensures { λ _. ⌜ now (out .exit) ≡ overlay (now (out .entry)) (part lo n (wordsAt s (buffers (now (image .entry)) (now (area .entry)) []))) ⌝ }
+{
+    let general = s.general;
+    let memory = s.memory;
+    let at = 8 * (general.first as usize);
+    let start = memory.start as usize;
+    let held = 8 * (general.count as usize);
+    if lo + n <= held {
+        take_part(out, image, at + lo, n);
+        return;
+    }
+    if held <= lo {
+        take_part(out, area, start + (lo - held), n);
+        return;
+    }
+    let first = held - lo;
+    take_part(out, image, at + lo, first);
+    take_part(&mut out[first..], area, start, n - first);
+}
+
+// The value of a PPC64 single in an FPR at the head of out.
+fn take_narrowed(out: &mut [u8], x: u64)
+    requires { ⌜ 4 ≤ length (now out) ⌝ }
+    ensures { λ _. ⌜ now (out .exit) ≡ overlay (now (out .entry)) (narrowedBytes (narrowOf x)) ⌝ }
+{
+    match ieee::narrow(x) {
+        Narrowed::Single(bits) => {
+            words::put_number(out, 4, bits as u64);
+        }
+        Narrowed::NotWidened => {}
+    }
+}
+
+// The value in an FPR, whose eight bytes start at `at` of the image, at the head of out.
+fn take_float(out: &mut [u8], image: &[u8], r: Rules, e: Equivalent, at: usize)
+    requires { ⌜ (at + 8 ≤ length (now image)) × (FloatRoom e (length (now out))) ⌝ }
+    ensures { λ _. ⌜ now (out .exit) ≡ overlay (now (out .entry)) (floatValueAs r e (part at 8 (now (image .entry)))) ⌝ }
+{
+    match e {
+        Equivalent::Nothing => {
+            take_part(out, image, at, 8);
+        }
+        Equivalent::Double => {
+            take_part(out, image, at, 8);
+        }
+        Equivalent::Single => match r {
+            Rules::Power(_) => {
+                take_narrowed(out, words::load(image, at, 8));
+            }
+            Rules::Z => {
+                take_part(out, image, at, 4);
+            }
+        },
+    }
+}
+
+// The value of one argument, of a type and its size, at the head of out.
+fn take_argument(
+    out: &mut [u8],
+    image: &[u8],
+    area: &[u8],
+    copies: &[u8],
+    r: Rules,
+    t: ValueType,
+    n: usize,
+    s: Span,
+    base: u64,
+)
+    requires { ⌜ Readable r base (placement t n s) (buffers (now image) (now area) (now copies)) × (n ≤ length (now out)) ⌝ }
+    ensures { λ _. ⌜ now (out .exit) ≡ overlay (now (out .entry)) (valueAt r base (placement t n s) (buffers (now (image .entry)) (now (area .entry)) (now (copies .entry)))) ⌝ }
+{
+    let fpr = s.floating;
+    let indirect = s.indirect;
+    if 0 < fpr.count {
+        let at = 256 + 8 * (fpr.first as usize);
+        take_float(out, image, r, types::equivalent_of(t), at);
+        return;
+    }
+    if indirect {
+        let from = (word_at(image, area, s) - base) as usize;
+        take_part(out, copies, from, n);
+        return;
+    }
+    take_words(out, image, area, s, slots::own_start(r, t, n), n);
+}
+
+// The values of all arguments, one after the other.
+pub fn take_arguments(
+    values: &mut [u8],
+    image: &[u8],
+    area: &[u8],
+    copies: &[u8],
+    g: SignatureRead,
+    p: Plan,
+    base: u64,
+)
+    requires { ⌜ AllReadable g p base (length (now values)) (buffers (now image) (now area) (now copies)) ⌝ }
+    ensures { λ _. ⌜ now (values .exit) ≡ overlay (now (values .entry)) (valuesAt (rulesOf (g .convention)) base (argumentsIn g p) (buffers (now (image .entry)) (now (area .entry)) (now (copies .entry)))) ⌝ }
+{
+    let convention = g.convention;
+    let count = g.count;
+    let rules = convention::rules_of(convention);
+    let mut v: usize = 0;
+    let mut i: usize = 0;
+    while i < count {
+        let a = g.arguments[i];
+        let t = a.ty;
+        let s = p.spans[i];
+        let n = types::size_of(convention, t);
+        take_argument(&mut values[v..], image, area, copies, rules, t, n, s, base);
+        v = v + n;
+        i = i + 1;
+    }
+}
