@@ -1,4 +1,5 @@
--- What a call does not change stays word for word: an accepted enter changes the depth, the stack pointer's word and its record, an accepted write of a register that register's word alone. Assumes nothing.
+-- What a call does not change stays word for word: an accepted enter changes the depth, the stack pointer's word and its record, an accepted write of a register that register's word alone,
+-- an accepted leave the depth, the registers that it restores and its record, which it zeroes. Assumes nothing.
 use Prim.Native.Nat.{ℕ, zero, suc, _+_, _-_, _%_, _^_, _<_}
 use native.Mathlib.Nat.{mod-eq-of-lt, zero-add, suc-add}
 use native.Mathlib.Omega.{arith}
@@ -19,15 +20,15 @@ use Rattle.rules.specs.declared.RegisterBank.{RegisterBank}
 use Rattle.rules.specs.declared.RegisterBank.the-variants.{General, Floating, Link, ConditionField, None}
 use Rattle.rules.specs.Lawful.{Named}
 use Rattle.rules.specs.Rules.{rules}
-use Rattle.rules.specs.Frames.{noFrame, frameSize, withPointer, bankOf, writableRegister, withField, withRegister}
+use Rattle.rules.specs.Frames.{noFrame, frameSize, withPointer, restored, bankOf, writableRegister, withField, withRegister}
 use Rattle.rules.proofs.Facts.{and-yes}
 use Rattle.rules.proofs.Conventions.{lawful}
 use Rattle.rules.proofs.Writing.{writable-named}
 use Rattle.machine.specs.declared.Answer.the-variants.{Accepted}
-use Rattle.machine.specs.Machine.{rulesOf, stackPointer, top, enterAnswer, entered, enterOutcome, writeRegisterAnswer, writtenRegister, writeRegisterOutcome}
-use Rattle.machine.proofs.States.{enter-yes, write-register-yes}
+use Rattle.machine.specs.Machine.{rulesOf, stackPointer, offset, top, enterAnswer, entered, enterOutcome, writeRegisterAnswer, writtenRegister, writeRegisterOutcome, leaveAnswer, left, leaveOutcome}
+use Rattle.machine.proofs.States.{enter-yes, write-register-yes, leave-yes}
 use Rattle.word_layout.specs.Words.{isMachine, registersIn, frameIn, stateIn, withRegisters, withFrame}
-use Rattle.word_layout.specs.Calls.{changed, enterWords, writeRegisterWords}
+use Rattle.word_layout.specs.Calls.{changed, enterWords, writeRegisterWords, leaveWords}
 use Rattle.word_layout.proofs.Laws.{registers-put}
 use Rattle.word_layout.proofs.ReadBack.{registers-other, depth-machine}
 use Rattle.word_layout.proofs.Theorems.{accepted-machine, frames-32}
@@ -171,3 +172,20 @@ module _ (ws : List ℕ) (n b i v : ℕ) (l : length ws ≡ 230) where
       let k = rulesOf s in
       let yes = write-register-yes k s n b i v e .1 in
       rw e (one-word k (accepted-machine k ws n _ e) (bankOf b) (writable-named k (lawful (s .convention)) (top k s) (bankOf b) i v yes) yes)
+
+-- ---- leave
+
+module _ (ws m : List ℕ) where
+  -- the depth, the registers as restored, and the record
+  pub leave-changes : leaveAnswer (rulesOf (stateIn ws)) (stateIn ws) m ≡ Accepted
+      → leaveWords ws m
+      ≡ (let s = stateIn ws in
+      let k = rulesOf s in
+      let size = frameSize k (top k s) in
+      withFrame (withRegisters (set ws 3 (s .depth - 1)) (restored k (top k s) (offset k s + size) m (stackPointer k s + size) (s .registers))) (s .depth - 1) noFrame)
+  unfolding leaveWords leaveOutcome left changed
+  leave-changes e =
+      let s = stateIn ws in
+      let can = leave-yes (rulesOf s) s m e in
+      let there : s .depth - 1 < length (s .frames) = omega (arith, can .deep, can .sound .shallow, frames-32 ws) in
+      rw (e, getD-set-same (s .frames) (s .depth - 1) noFrame noFrame there)
