@@ -11,6 +11,7 @@ use machine::State;
 use rules::Frame;
 use rules::Rules;
 
+// Are a memory's base and length in range? (Refusal 16.)
 pub fn memory_ok(k: Rules, base: u64, n: usize) -> bool
     requires { ⌜ Lawful k ⌝ }
     ensures { λ r. ⌜ r ≡ okMemory k base n ⌝ }
@@ -59,6 +60,7 @@ fn sizes_of(k: Rules, fs: [Frame; 32], depth: usize) -> usize
     sum
 }
 
+// The word of the stack pointer's register.
 pub fn stack_pointer(k: Rules, s: State) -> u64
     requires { ⌜ Lawful k ⌝ }
     ensures { λ r. ⌜ r ≡ stackPointer k s ⌝ }

@@ -1,6 +1,5 @@
 -- The memory is tested first; the start's room lies in it. Assumes nothing.
 use Rattle.rules.proofs.Places.{limit-64}
--- The memory is tested first; the start's room lies in it. Assumes nothing.
 use Rattle.saves.specs.Saves.{store}
 use Rattle.machine.proofs.States.{memory-yes}
 use Rattle.machine.proofs.Outcomes.{start-accepted, start-refused, accepted-start, refused-start}
