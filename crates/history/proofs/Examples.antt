@@ -6,17 +6,17 @@ use mathlib.Core.Path.{_≡_, refl}
 use mathlib.Core.Bool.{true, false}
 use mathlib.Core.List.{List, [], _∷_, _++_}
 use lib.ListN.{replicate}
+use Rattle.words.specs.Basics.{roundUp}
 use Rattle.words.specs.Splice.{overlay, splice}
 use Rattle.words.specs.Numbers.{bytesOf, valueOf}
 use Rattle.saves.specs.Saves.{store, load, saveRun, loadRun}
 use Rattle.rules.specs.declared.Convention.the-variants.{Ppc64, Z}
 use Rattle.rules.specs.declared.Frame.{Frame}
 use Rattle.rules.specs.declared.Registers.{Registers}
-use Rattle.rules.specs.Frames.{withPointer, okRequest, below, roundUp, frameSize, gprAt, savesBy, linkAt, mergeFields, restoredLr, restoredCr, restored, bankOf, writableField, writableRegister, withField, withRegister}
+use Rattle.rules.specs.Frames.{withPointer, okRequest, below, frameSize, gprAt, savesBy, linkAt, mergeFields, restoredLr, restoredCr, restored, bankOf, writableField, writableRegister, withField, withRegister}
 use Rattle.machine.specs.Answers.{judge}
 use Rattle.machine.specs.Machine.{topFrame, callerFrame, okFrames, sizes, okMemory, okState, startAnswer, started, startedMemory, enterAnswer, entered, enteredMemory, writableBytes, writableAddress, writeRegisterAnswer, writeMemoryAnswer, writtenRegister, writtenMemory, leaveAnswer, left, startOutcome, startMemory, enterOutcome, enterMemory, writeRegisterOutcome, writeMemoryOutcome, writeMemoryMemory, leaveOutcome}
-use Rattle.history.specs.Calls.{Call, enter, writeRegister, writeMemory, leave, Machine, fresh, answersTo, run}
-use Rattle.history.specs.Encoded.{numbers}
+use Rattle.history.specs.Calls.{Call, enter, writeRegister, writeMemory, leave, Machine, fresh, answersTo, numbers, run}
 
 abbrev registers : Registers
 registers = record { gpr = replicate 32 7; fpr = replicate 32 9; lr = 11; cr = 0 }

@@ -3,5 +3,4 @@ pub mod Entering
 pub mod Writing
 pub mod Leaving
 pub mod Theorem
-pub mod Replaying
 pub mod Examples

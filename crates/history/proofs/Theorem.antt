@@ -1,10 +1,9 @@
 -- Demand 3, proved: every list of calls from every accepted start of either convention. The invariant holds at the start and each call keeps it. Assumes nothing.
-use Prim.Native.Nat.{ℕ, _+_, _-_, _*_, _^_, _≤_, _<_, _/_, min, zero, suc}
+use Prim.Native.Nat.{ℕ, _+_, _-_, _*_, _^_, _≤_, _<_}
 use mathlib.Core.Path.{_≡_, refl, sym, _∙_}
-use mathlib.Core.Bool.{Bool, true, false}
+use mathlib.Core.Bool.{true}
 use mathlib.Core.List.{List, [], _∷_}
 use native.Mathlib.Omega.{arith}
-use lib.Dec.{eqb}
 use lib.ListN.{length, getD, set, length-set}
 use lib.Seq.{getD-set-same}
 use Rattle.saves.specs.Saves.{load}
@@ -13,7 +12,7 @@ use Rattle.rules.specs.declared.Convention.{Convention}
 use Rattle.rules.specs.declared.Convention.the-variants.{Ppc64, Z}
 use Rattle.rules.specs.declared.Rules.{Rules}
 use Rattle.rules.specs.declared.Registers.{Registers}
-use Rattle.rules.specs.Rules.{pick, rules}
+use Rattle.rules.specs.Rules.{rules}
 use Rattle.rules.specs.Frames.{withPointer}
 use Rattle.rules.specs.Lawful.{Lawful}
 use Rattle.rules.proofs.Facts.{fit-set}
@@ -24,8 +23,7 @@ use Rattle.machine.specs.Machine.{okMemory, okFrames, sizes, startAnswer, start
 use Rattle.machine.proofs.Judging.{never, holds-yes}
 use Rattle.machine.proofs.States.{memory-yes}
 use Rattle.history.specs.Calls.{Call, enter, writeRegister, writeMemory, leave, Machine, answer, after, fresh}
-use Rattle.history.specs.Encoded.{bytesAt, requestOf, callOf, callAt, callsFrom, callsIn}
-use Rattle.history.specs.Preserved.{OpenEnter, openAfter, CallHolds, Holds, RegistersFit, CallFits, CallsFit}
+use Rattle.history.specs.Preserved.{OpenEnter, openAfter, CallHolds, Holds, RegistersFit, CallsFit}
 use Rattle.history.proofs.Invariant.{Base, Invariant, base-of}
 use Rattle.history.proofs.Entering.{enter-keeps}
 use Rattle.history.proofs.Writing.{write-register-keeps, write-memory-keeps}
@@ -141,25 +139,3 @@ module _ (c : Convention) (b : ℕ) (l : List ℕ) (r : Registers) (fit : Regist
 pub calls-hold : (c : Convention) (b : ℕ) (l : List ℕ) (r : Registers) → RegistersFit r → startAnswer c b (length l) ≡ Accepted
     → (cs : List Call) → CallsFit cs → Holds (rules c) cs [] (fresh c b l r)
 calls-hold c b l r fit e cs w = holds (rules c) (lawful c) cs (all-fit c cs w) [] (fresh c b l r) (start-invariant c b l r fit e)
-
--- ---- a replayed list is one of them
-
-call-fits : (bs : List ℕ) (kind a b c d e : ℕ) → c < 2 ^ 64 → CallFits (callOf bs kind a b c d e)
-unfolding callOf
-call-fits bs kind a b c d e h = go (eqb kind 0) (eqb kind 1) (eqb kind 2)
-  where
-    go : (x y z : Bool) → CallFits (pick x leave (pick y (enter (requestOf a b c d e)) (pick z (writeRegister a b c) (writeMemory a (bytesAt bs b c)))))
-    go true y z = tt
-    go false true z = tt
-    go false false true = h
-    go false false false = tt
-
-calls-fit : (n : ℕ) (ws bs : List ℕ) (i : ℕ) → ((j : ℕ) → getD ws j 0 < 2 ^ 64) → CallsFit (callsFrom n ws bs i)
-unfolding callsFrom callAt
-calls-fit zero ws bs i h = tt
-calls-fit (suc n) ws bs i h = (call-fits bs (getD ws i 0) (getD ws (i + 1) 0) (getD ws (i + 2) 0) (getD ws (i + 3) 0) (getD ws (i + 4) 0) (getD ws (i + 5) 0) (h (i + 3)), calls-fit n ws bs (i + 6) h)
-
--- demand 3 holds of what `replay` runs from an accepted start, whatever the numbers and bytes that it is lent
-pub replayed-hold : (c : Convention) (b : ℕ) (l : List ℕ) (r : Registers) → RegistersFit r → startAnswer c b (length l) ≡ Accepted
-    → (ws bs : List ℕ) → ((j : ℕ) → getD ws j 0 < 2 ^ 64) → (room : ℕ) → Holds (rules c) (callsIn ws bs room) [] (fresh c b l r)
-replayed-hold c b l r fit e ws bs h room = calls-hold c b l r fit e (callsIn ws bs room) (calls-fit (min (length ws / 6) room) ws bs 0 h)

@@ -4,7 +4,7 @@ use mathlib.Core.Bool.{Bool, true, false}
 use mathlib.Core.List.{List, [], _∷_, _++_}
 use native.Mathlib.Omega.{arith}
 use Prim.Native.Nat.{ℕ}
-use Rattle.rules.specs.Rules.{pick}
+use Rattle.words.specs.Basics.{pick}
 use Rattle.machine.specs.Answers.{Accepted, Refused, Refusal, Test, judge}
 
 pub never : {A : Type 0} (r : Refusal) → Refused r ≡ Accepted → A

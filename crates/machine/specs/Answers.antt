@@ -2,7 +2,7 @@
 use Prim.Native.Nat.{ℕ}
 use mathlib.Core.Bool.{Bool}
 use mathlib.Core.List.{List, [], _∷_}
-use Rattle.rules.specs.Rules.{pick}
+use Rattle.words.specs.Basics.{pick}
 pub use Rattle.machine.specs.declared.Refusal.{Refusal}
 pub use Rattle.machine.specs.declared.Refusal.the-variants.{BadMemory, BadRequest, TooManyFrames, NoRoom, NotPermitted, BrokenChain, NothingEntered, BadState}
 pub use Rattle.machine.specs.declared.Answer.{Answer}

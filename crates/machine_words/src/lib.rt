@@ -1,239 +1,14 @@
-// The frame machine's state in 64-bit words, as a caller in C lends it, and the machine's calls over such words. A call reads the words into a
-// state, makes the machine's own call, and where that is accepted puts back the words that the call may change.
+// The machine's calls over a state in 64-bit words, as a caller in C lends it. A call reads the words into a state, makes the machine's own call, and where that is
+// accepted puts back the words that the call may change.
 ghost use mathlib.Core.Path.{_≡_};
-ghost use Prim.Native.Nat.{_+_, _≤_, _<_};
 ghost use lib.ListN.{length};
-ghost use Rattle.words.specs.Splice.{splice, part};
-ghost use Rattle.rules.specs.Frames.{flag};
 ghost use Rattle.machine.specs.Machine.{startOutcome, startMemory, enterOutcome, enterMemory, writeRegisterOutcome, writeMemoryOutcome, writeMemoryMemory, leaveOutcome};
-ghost use Rattle.machine_words.specs.Words.{codeOf, conventionOf, depthIn, registersIn, frameIn, framesIn, stateIn, registerWords, framesWords, stateWords, withRegisters, withFrame};
-ghost use Rattle.machine_words.specs.Calls.{changed, startWords, enterWords, writeRegisterWords, leaveWords};
+ghost use Rattle.word_layout.specs.Words.{registersIn, frameIn, stateIn};
+ghost use Rattle.word_layout.specs.Calls.{startWords, enterWords, writeRegisterWords, leaveWords};
+use abi::Ppc64;
+use abi::Z;
 use machine::Answer;
-use machine::Ppc64;
-use machine::State;
-use machine::Z;
 use rules::Convention;
-use rules::Frame;
-use rules::Registers;
-
-// ---- reading
-
-// n words of `from` from `start` on, over the words of `to` from `at` on.
-fn copy(to: &mut [u64], at: usize, from: &[u64], start: usize, n: usize)
-    requires { ⌜ (at + n ≤ length (now to)) × (start + n ≤ length (now from)) ⌝ }
-    ensures { λ _. ⌜ now (to .exit) ≡ splice (now (to .entry)) at (part start n (now (from .entry))) ⌝ }
-{
-    let mut i: usize = 0;
-    while i < n {
-        to[at + i] = from[start + i];
-        i += 1;
-    }
-}
-
-// The registers in the 66 words from `at` on; of CR the low 32 bits.
-fn registers_in(words: &[u64], at: usize) -> Registers
-    requires { ⌜ at + 66 ≤ length (now words) ⌝ }
-    ensures { λ r. ⌜ r ≡ registersIn (now (words .entry)) at ⌝ }
-{
-    let mut gpr: [u64; 32] = [0; 32];
-    let mut fpr: [u64; 32] = [0; 32];
-    copy(&mut gpr, 0, words, at, 32);
-    copy(&mut fpr, 0, words, at + 32, 32);
-    Registers {
-        gpr: gpr,
-        fpr: fpr,
-        lr: words[at + 64],
-        cr: (words[at + 65] % 4294967296) as u32,
-    }
-}
-
-// The request or the record in the five words from `at` on; one that is refused where its flag is neither 0 nor 1.
-fn frame_in(words: &[u64], at: usize) -> Frame
-    requires { ⌜ at + 5 ≤ length (now words) ⌝ }
-    ensures { λ r. ⌜ r ≡ frameIn (now (words .entry)) at ⌝ }
-{
-    let flag = words[at + 2];
-    if 1 < flag {
-        return Frame {
-            first_gpr: 0,
-            first_fpr: 0,
-            saves_cr: false,
-            locals: 0,
-            outgoing: 0,
-        };
-    }
-    Frame {
-        first_gpr: words[at] as usize,
-        first_fpr: words[at + 1] as usize,
-        saves_cr: flag == 1,
-        locals: words[at + 3] as usize,
-        outgoing: words[at + 4] as usize,
-    }
-}
-
-// All 32 records.
-fn frames_in(words: &[u64]) -> [Frame; 32]
-    requires { ⌜ length (now words) ≡ 230 ⌝ }
-    ensures { λ r. ⌜ r ≡ framesIn 32 (now (words .entry)) 0 ⌝ }
-{
-    let none = Frame {
-        first_gpr: 0,
-        first_fpr: 0,
-        saves_cr: false,
-        locals: 0,
-        outgoing: 0,
-    };
-    let mut fs = [none; 32];
-    let mut i: usize = 0;
-    while i < 32 {
-        let f = frame_in(words, 70 + 5 * i);
-        fs[i] = f;
-        i += 1;
-    }
-    fs
-}
-
-// The convention of a code; a code that is none is not accepted by `depth_in`.
-fn convention_of(code: u64) -> Convention
-    ensures { λ r. ⌜ r ≡ conventionOf code ⌝ }
-{
-    if code == 1 {
-        return Convention::Ppc64;
-    }
-    Convention::Z
-}
-
-// The depth; one over 32, which every call refuses, where the convention's code or CR cannot be.
-fn depth_in(words: &[u64]) -> usize
-    requires { ⌜ length (now words) ≡ 230 ⌝ }
-    ensures { λ r. ⌜ r ≡ depthIn (now (words .entry)) ⌝ }
-{
-    let code = words[0];
-    if code < 1 {
-        return 33;
-    }
-    if 2 < code {
-        return 33;
-    }
-    if 4294967295 < words[69] {
-        return 33;
-    }
-    words[3] as usize
-}
-
-// The state that 230 words are read as.
-fn state_in(words: &[u64]) -> State
-    requires { ⌜ length (now words) ≡ 230 ⌝ }
-    ensures { λ r. ⌜ r ≡ stateIn (now (words .entry)) ⌝ }
-{
-    let convention = convention_of(words[0]);
-    let depth = depth_in(words);
-    let registers = registers_in(words, 4);
-    let frames = frames_in(words);
-    State {
-        convention: convention,
-        base: words[1],
-        size: words[2] as usize,
-        depth: depth,
-        registers: registers,
-        frames: frames,
-    }
-}
-
-// ---- writing
-
-// The 32 registers of a bank over the words from `at` on.
-fn put_bank(words: &mut [u64], at: usize, bank: [u64; 32])
-    requires { ⌜ at + 32 ≤ length (now words) ⌝ }
-    ensures { λ _. ⌜ (now (words .exit) ≡ splice (now (words .entry)) at bank) × (length bank ≡ 32) ⌝ }
-{
-    copy(words, at, &bank, 0, 32);
-}
-
-// The registers over the words 4 to 69.
-fn put_registers(words: &mut [u64], r: Registers)
-    requires { ⌜ length (now words) ≡ 230 ⌝ }
-    ensures { λ _. ⌜ (now (words .exit) ≡ withRegisters (now (words .entry)) r) × (length (registerWords r) ≡ 66) ⌝ }
-{
-    let gpr = r.gpr;
-    let fpr = r.fpr;
-    put_bank(words, 4, gpr);
-    put_bank(words, 36, fpr);
-    words[68] = r.lr;
-    words[69] = r.cr as u64;
-}
-
-fn flag_word(b: bool) -> u64
-    ensures { λ r. ⌜ r ≡ flag b ⌝ }
-{
-    if b { 1 } else { 0 }
-}
-
-// The record i.
-fn put_frame(words: &mut [u64], i: usize, f: Frame)
-    requires { ⌜ (length (now words) ≡ 230) × (i < 32) ⌝ }
-    ensures { λ _. ⌜ now (words .exit) ≡ withFrame (now (words .entry)) i f ⌝ }
-{
-    let at = 70 + 5 * i;
-    words[at] = f.first_gpr as u64;
-    words[at + 1] = f.first_fpr as u64;
-    words[at + 2] = flag_word(f.saves_cr);
-    words[at + 3] = f.locals as u64;
-    words[at + 4] = f.outgoing as u64;
-}
-
-// All 32 records.
-fn put_frames(words: &mut [u64], fs: [Frame; 32])
-    requires { ⌜ length (now words) ≡ 230 ⌝ }
-    ensures { λ _. ⌜ (now (words .exit) ≡ splice (now (words .entry)) 70 (framesWords fs)) × (length fs ≡ 32) ⌝ }
-{
-    let mut i: usize = 0;
-    while i < 32 {
-        let f = fs[i];
-        put_frame(words, i, f);
-        i += 1;
-    }
-}
-
-// The code of a convention.
-fn code_of(c: Convention) -> u64
-    ensures { λ r. ⌜ r ≡ codeOf c ⌝ }
-{
-    match c {
-        Convention::Ppc64 => 1,
-        Convention::Z => 2,
-    }
-}
-
-// All 230 words of a state.
-fn put_state(words: &mut [u64], s: State)
-    requires { ⌜ length (now words) ≡ 230 ⌝ }
-    ensures { λ _. ⌜ now (words .exit) ≡ stateWords s ⌝ }
-{
-    let c = s.convention;
-    let registers = s.registers;
-    let frames = s.frames;
-    words[0] = code_of(c);
-    words[1] = s.base;
-    words[2] = s.size as u64;
-    words[3] = s.depth as u64;
-    put_registers(words, registers);
-    put_frames(words, frames);
-}
-
-// What an enter or a leave changes: the depth, the registers, and the record i.
-fn put_changed(words: &mut [u64], s: State, i: usize)
-    requires { ⌜ (length (now words) ≡ 230) × (i < 32) ⌝ }
-    ensures { λ _. ⌜ now (words .exit) ≡ changed (now (words .entry)) s i ⌝ }
-{
-    let registers = s.registers;
-    let f = s.frames[i];
-    words[3] = s.depth as u64;
-    put_registers(words, registers);
-    put_frame(words, i, f);
-}
-
-// ---- the calls
 
 // The fresh start on PPC64: all the words are written, also where it is refused.
 pub fn start_ppc64(
@@ -246,9 +21,9 @@ pub fn start_ppc64(
     ensures { λ _. ⌜ now (words .exit) ≡ startWords Convention.Ppc64 (now (registers .entry)) base (length (now (memory .entry))) ⌝ }
     ensures { λ _. ⌜ now (memory .exit) ≡ startMemory Convention.Ppc64 base (now (memory .entry)) ⌝ }
 {
-    let o = Ppc64::start(memory, base, registers_in(registers, 0));
+    let o = Ppc64::start(memory, base, state_words::registers_in(registers, 0));
     let s = o.state;
-    put_state(words, s);
+    state_words::put_state(words, s);
     o.answer
 }
 
@@ -263,9 +38,9 @@ pub fn start_z(
     ensures { λ _. ⌜ now (words .exit) ≡ startWords Convention.Z (now (registers .entry)) base (length (now (memory .entry))) ⌝ }
     ensures { λ _. ⌜ now (memory .exit) ≡ startMemory Convention.Z base (now (memory .entry)) ⌝ }
 {
-    let o = Z::start(memory, base, registers_in(registers, 0));
+    let o = Z::start(memory, base, state_words::registers_in(registers, 0));
     let s = o.state;
-    put_state(words, s);
+    state_words::put_state(words, s);
     o.answer
 }
 
@@ -275,15 +50,15 @@ pub fn enter(words: &mut [u64; 230], request: &[u64; 5], memory: &mut [u8]) -> A
     ensures { λ _. ⌜ now (words .exit) ≡ enterWords (now (words .entry)) (length (now (memory .entry))) (now (request .entry)) ⌝ }
     ensures { λ _. ⌜ now (memory .exit) ≡ enterMemory (stateIn (now (words .entry))) (now (memory .entry)) (frameIn (now (request .entry)) 0) ⌝ }
 {
-    let s = state_in(words);
-    let f = frame_in(request, 0);
+    let s = state_words::state_in(words);
+    let f = state_words::frame_in(request, 0);
     let o = frame::enter(s, memory, f);
     let a = o.answer;
     match a {
         Answer::Refused(r) => Answer::Refused(r),
         Answer::Accepted => {
             let t = o.state;
-            put_changed(words, t, s.depth);
+            state_words::put_changed(words, t, s.depth);
             Answer::Accepted
         }
     }
@@ -300,7 +75,7 @@ pub fn write_register(
     ensures { λ r. ⌜ r ≡ writeRegisterOutcome (stateIn (now (words .entry))) (length (now (memory .entry))) bank number value .answer ⌝ }
     ensures { λ _. ⌜ now (words .exit) ≡ writeRegisterWords (now (words .entry)) (length (now (memory .entry))) bank number value ⌝ }
 {
-    let s = state_in(words);
+    let s = state_words::state_in(words);
     let o = frame::write_register(s, memory, bank, number, value);
     let a = o.answer;
     match a {
@@ -308,7 +83,7 @@ pub fn write_register(
         Answer::Accepted => {
             let t = o.state;
             let registers = t.registers;
-            put_registers(words, registers);
+            state_words::put_registers(words, registers);
             Answer::Accepted
         }
     }
@@ -319,7 +94,7 @@ pub fn write_memory(words: &[u64; 230], address: u64, bytes: &[u8], memory: &mut
     ensures { λ r. ⌜ r ≡ writeMemoryOutcome (stateIn (now (words .entry))) (length (now (memory .entry))) address (length (now (bytes .entry))) .answer ⌝ }
     ensures { λ _. ⌜ now (memory .exit) ≡ writeMemoryMemory (stateIn (now (words .entry))) (now (memory .entry)) address (now (bytes .entry)) ⌝ }
 {
-    let s = state_in(words);
+    let s = state_words::state_in(words);
     let o = frame::write_memory(s, memory, address, bytes);
     o.answer
 }
@@ -329,14 +104,14 @@ pub fn leave(words: &mut [u64; 230], memory: &[u8]) -> Answer
     ensures { λ r. ⌜ r ≡ leaveOutcome (stateIn (now (words .entry))) (now (memory .entry)) .answer ⌝ }
     ensures { λ _. ⌜ now (words .exit) ≡ leaveWords (now (words .entry)) (now (memory .entry)) ⌝ }
 {
-    let s = state_in(words);
+    let s = state_words::state_in(words);
     let o = frame::leave(s, memory);
     let a = o.answer;
     match a {
         Answer::Refused(r) => Answer::Refused(r),
         Answer::Accepted => {
             let t = o.state;
-            put_changed(words, t, t.depth);
+            state_words::put_changed(words, t, t.depth);
             Answer::Accepted
         }
     }

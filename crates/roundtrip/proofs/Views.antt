@@ -10,7 +10,7 @@ use lib.Dec.{ltb}
 use lib.ListN.{length, getD, take, drop, length-drop}
 use Rattle.words.specs.Splice.{splice, part}
 use Rattle.words.specs.Numbers.{valueOf}
-use Rattle.words.proofs.Splices.{splice-same, splice-other, length-splice, length-part, part-add}
+use Rattle.words.proofs.Splices.{splice-same, splice-other, length-splice, length-part, part-add, part-part}
 use Rattle.types.specs.declared.Convention.{Convention}
 use Rattle.types.specs.declared.ValueType.{ValueType}
 use Rattle.types.specs.Sizes.{sizeOf, equivalentOf}

@@ -1,12 +1,14 @@
--- Tests, and what they say. Assumes nothing.
+-- Tests, and what they say; small facts that the proofs of several functions cite. Assumes nothing.
 use Prim.Native.Nat.{ℕ, zero, suc, _≤_, _<_}
-use mathlib.Core.Path.{_≡_, refl}
+use mathlib.Core.Path.{_≡_, refl, subst}
 use mathlib.Core.Logic.{_⊎_, inl, inr}
 use mathlib.Core.Bool.{Bool, true, false, _&&_, _||_, false≢true}
 use mathlib.Core.List.{List, [], _∷_}
 use lib.ListN.{getD, set}
 use lib.Dec.{leb}
 use borrow.Author.Tests.{leb-true}
+use Rattle.rules.specs.Rules.{Linkage, Rules}
+use Rattle.rules.specs.Lawful.{LinkageLaw}
 
 pub and-yes : (a b : Bool) → (a && b) ≡ true → (a ≡ true) × (b ≡ true)
 and-yes true b e = (refl, e)
@@ -26,3 +28,7 @@ fit-set (x ∷ xs) zero v n h p zero = p
 fit-set (x ∷ xs) zero v n h p (suc i) = h (suc i)
 fit-set (x ∷ xs) (suc j) v n h p zero = h 0
 fit-set (x ∷ xs) (suc j) v n h p (suc i) = fit-set xs j v n (λ k. h (suc k)) p i
+
+-- the law of a linkage that is known
+pub law-at : (p q : Linkage) (k : Rules) → p ≡ q → LinkageLaw p k → LinkageLaw q k
+law-at p q k e h = subst (λ (r : Linkage). LinkageLaw r k) e h

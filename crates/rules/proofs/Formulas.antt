@@ -4,8 +4,9 @@ use mathlib.Core.Path.{_≡_, refl}
 use mathlib.Core.Bool.{false}
 use mathlib.Core.List.{[], _∷_}
 use native.Mathlib.Omega.{arith}
+use Rattle.words.specs.Basics.{roundUp}
 use Rattle.rules.specs.Rules.{ppc64, z, Frame, Registers}
-use Rattle.rules.specs.Frames.{firstGpr, firstFpr, savesCr, below, roundUp, frameSize, gprAt, savesBy, saves, linkAt, wordSave, flag, withField}
+use Rattle.rules.specs.Frames.{firstGpr, firstFpr, savesCr, below, frameSize, gprAt, savesBy, saves, linkAt, wordSave, flag, withField}
 
 module _ (f : Frame) (s : ℕ) where
   -- "48 + max(64, P) + L + 8(32 - g) + 8(32 - m), rounded up to 16"

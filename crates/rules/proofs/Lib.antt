@@ -4,4 +4,3 @@ pub mod Places
 pub mod Formulas
 pub mod Restoring
 pub mod Writing
-pub mod Coding

@@ -4,13 +4,14 @@ use mathlib.Core.Path.{_≡_, sym, ap, _∙_}
 use mathlib.Core.Logic.{inl, inr}
 use mathlib.Core.Bool.{Bool, true, false}
 use native.Mathlib.Omega.{arith}
-use native.Mathlib.Nat.{mod-lt, div-add-mod', mul-add, mul-suc, mul-le-mul-left, pow-le-pow-right}
+use native.Mathlib.Nat.{mul-add, mul-suc, mul-le-mul-left, pow-le-pow-right}
 use lib.Dec.{lit<, leb, eqb}
 use borrow.Author.Tests.{leb-true}
+use Rattle.words.proofs.Basics.{round-up-least, round-up-most}
 use Rattle.saves.specs.Saves.{Outside}
 use Rattle.saves.proofs.Saving.{Ascending}
 use Rattle.rules.specs.Rules.{Linkage, LinkRegister, SaveArea, Rules, Frame, Registers, inSpan}
-use Rattle.rules.specs.Frames.{firstGpr, firstFpr, savesCr, okRequest, outgoingLength, below, roundUp, frameSize, flag, gprAt, savesBy, saves, linkAt}
+use Rattle.rules.specs.Frames.{firstGpr, firstFpr, savesCr, okRequest, outgoingLength, below, frameSize, flag, gprAt, savesBy, saves, linkAt}
 use Rattle.rules.specs.Lawful.{LinkageLaw, Lawful}
 use Rattle.rules.proofs.Facts.{and-yes, between}
 
@@ -37,14 +38,6 @@ ranges k f e =
     }
 
 -- ---- arithmetic
-
-pub roundUp-le : (x a : ℕ) → 0 < a → x ≤ roundUp x a
-unfolding roundUp
-roundUp-le x a h = omega (arith, div-add-mod' (x + (a - 1)) a, mod-lt (x + (a - 1)) h)
-
-pub roundUp-lt : (x a : ℕ) → 0 < a → roundUp x a < x + a
-unfolding roundUp
-roundUp-lt x a h = omega (arith, div-add-mod' (x + (a - 1)) a)
 
 -- words up to n, and from n to e
 pub words-split : (w n e : ℕ) → n ≤ e → w * n + w * (e - n) ≡ w * e
@@ -119,7 +112,7 @@ module _ (k : Rules) (law : Lawful k) (f : Frame) (r : okRequest k f ≡ true) w
       let q = ranges k f r in
       omega (
         arith,
-        roundUp-lt (k .header + outgoingLength k f + f .locals + below (k .linkage) k f) (k .alignment) (law .some),
+        round-up-most (k .header + outgoingLength k f + f .locals + below (k .linkage) k f) (k .alignment) (law .some),
         below-small (k .linkage) k (law .word) (law .end) f,
         law .alignment,
         law .head,
@@ -129,7 +122,7 @@ module _ (k : Rules) (law : Lawful k) (f : Frame) (r : okRequest k f ≡ true) w
 
   pub size-parts : k .header + outgoingLength k f + f .locals + below (k .linkage) k f ≤ frameSize k f
   unfolding frameSize
-  size-parts = roundUp-le (k .header + outgoingLength k f + f .locals + below (k .linkage) k f) (k .alignment) (law .some)
+  size-parts = round-up-least (k .header + outgoingLength k f + f .locals + below (k .linkage) k f) (k .alignment) (law .some)
 
   pub below-le-512 : below (k .linkage) k f ≤ 512
   below-le-512 = below-small (k .linkage) k (law .word) (law .end) f

@@ -7,7 +7,8 @@ use native.Mathlib.Omega.{arith}
 use lib.ListN.{getD}
 use Rattle.saves.specs.Saves.{load}
 use Rattle.saves.proofs.Saving.{Held, HeldAll}
-use Rattle.rules.specs.Rules.{pick, Linkage, LinkRegister, SaveArea, Rules, Frame, Registers}
+use Rattle.words.specs.Basics.{pick}
+use Rattle.rules.specs.Rules.{Linkage, LinkRegister, SaveArea, Rules, Frame, Registers}
 use Rattle.rules.specs.Frames.{firstGpr, savesCr, flag, gprAt, gprSave, fprSave, savesBy, linkAt, preservedFields, mergeFields, restoredLr, restoredCr, returnAddress, preservedCondition}
 use Rattle.rules.specs.Lawful.{LinkageLaw}
 use Rattle.rules.proofs.Places.{words-split}

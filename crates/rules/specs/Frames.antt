@@ -6,8 +6,10 @@ use mathlib.Core.Bool.{Bool, true, false, not, _&&_, _||_}
 use mathlib.Core.List.{List, [], _∷_}
 use lib.ListN.{getD, set}
 use lib.Dec.{leb, eqb}
+use Rattle.words.specs.Basics.{pick}
+unfoldable pub use Rattle.words.specs.Basics.{roundUp}
 use Rattle.saves.specs.Saves.{Save, load, taken}
-use Rattle.rules.specs.Rules.{pick, inSpan, within, Bank, Linkage, LinkRegister, SaveArea, Rules, Frame, RegisterBank, General, Floating, Link, ConditionField, None, Registers}
+use Rattle.rules.specs.Rules.{inSpan, within, Bank, Linkage, LinkRegister, SaveArea, Rules, Frame, RegisterBank, General, Floating, Link, ConditionField, None, Registers}
 
 -- the letters of document 01: g and m, the first general and floating register saved, and whether CR is
 abbrev pub firstGpr : Frame → ℕ
@@ -52,10 +54,6 @@ outgoingLength k f = max (k .least) (f .outgoing)
 unfoldable pub below : Linkage → Rules → Frame → ℕ
 below (LinkRegister c l) k f = 8 * (k .end - firstFpr f) + k .word * (k .end - firstGpr f)
 below (SaveArea r) k f = 8 * (k .end - firstFpr f)
-
--- x "rounded up to" a multiple of a
-unfoldable pub roundUp : ℕ → ℕ → ℕ
-roundUp x a = (x + (a - 1)) / a * a
 
 -- "Size: 48 + max(64, P) + L + 8(32 - g) + 8(32 - m), rounded up to 16"; on Z "160 + P + L + 8(16 - m), rounded up to 8"
 unfoldable pub frameSize : Rules → Frame → ℕ

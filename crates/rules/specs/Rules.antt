@@ -1,7 +1,7 @@
 -- A convention as a value: its numbers, and the two values. Document 01, "Frames"; the published papers are 000 (PPC64) and 001 (Z).
 -- Assumes nothing.
 use Prim.Native.Nat.{ℕ, _-_, _^_}
-use mathlib.Core.Bool.{Bool, true, false, _&&_, _||_}
+use mathlib.Core.Bool.{Bool, false, _&&_, _||_}
 use mathlib.Core.List.{List, [], _∷_}
 use lib.Dec.{leb}
 pub use Rattle.rules.specs.declared.Convention.{Convention}
@@ -15,11 +15,6 @@ pub use Rattle.rules.specs.declared.Frame.{Frame}
 pub use Rattle.rules.specs.declared.RegisterBank.{RegisterBank}
 pub use Rattle.rules.specs.declared.RegisterBank.the-variants.{General, Floating, Link, ConditionField, None}
 pub use Rattle.rules.specs.declared.Registers.{Registers}
-
--- the first where the test holds, else the second
-abbrev pub pick : {A : Type 0} → Bool → A → A → A
-pick true a b = a
-pick false a b = b
 
 abbrev pub span : ℕ → ℕ → Span
 span a b = record { first = a; last = b }

@@ -7,7 +7,7 @@ use Prim.Native.Nat.{ℕ, zero, suc, _+_, _-_, _≤_, _<_}
 use native.Mathlib.Nat.{le-of-suc-le-suc, not-suc-le-zero, add-zero, zero-add, suc-add}
 use native.Mathlib.Omega.{arith}
 use lib.ListN.{length, getD, take, drop, set, length-drop, drop-of-length-le}
-use lib.Seq.{take-all, length-take-le, take-add, drop-drop, getD-take, getD-drop}
+use lib.Seq.{take-all, take-take, length-take-le, take-add, drop-drop, getD-take, getD-drop}
 use borrow.Rule.Slice.PartMut.{putMid, midOf}
 use Rattle.words.specs.Splice.{overlay, splice, part, Apart}
 
@@ -164,6 +164,10 @@ overlay-over l [] b h = refl
 overlay-over l (x ∷ a) [] h = absurd (not-suc-le-zero h)
 overlay-over [] (x ∷ a) (y ∷ b) h = refl
 overlay-over (z ∷ l) (x ∷ a) (y ∷ b) h = ap (λ (t : List ℕ). y ∷ t) (overlay-over l a b (le-of-suc-le-suc h))
+
+-- one byte and then, after it, the rest
+pub splice-next : (l : List ℕ) (i x : ℕ) (xs : List ℕ) → splice (set l i x) (i + 1) xs ≡ splice l i (x ∷ xs)
+splice-next l i x xs = sym (splice-append l i (x ∷ []) xs ∙ ap (λ (t : List ℕ). splice t (i + 1) xs) (splice-one l i x))
 
 -- of two runs at the same place the second wins, where it is as long as the first
 pub splice-over : (l : List ℕ) (n : ℕ) (a b : List ℕ) → length a ≤ length b → splice (splice l n a) n b ≡ splice l n b

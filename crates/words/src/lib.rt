@@ -1,9 +1,10 @@
 // Big-endian numbers in lent bytes, and bytes put at the head of a lent part. A function that writes is lent the part that starts where it is to write,
 // so that every caller's write is a splice (the law `lent-tail`). The loops are plain: at the constant width 8 the compiler makes of `load` and `store` one
-// load or store with its bytes swapped. Nothing here knows of signatures or frames.
+// load or store with its bytes swapped. Beside them stand the few functions on numbers that layers of both families use. Nothing here knows of signatures or frames.
 ghost use mathlib.Core.Path.{_≡_};
-ghost use Prim.Native.Nat.{_+_, _≤_};
+ghost use Prim.Native.Nat.{_+_, _^_, _≤_, _<_, min, max};
 ghost use lib.ListN.{length, replicate};
+ghost use Rattle.words.specs.Basics.{roundUp};
 ghost use Rattle.words.specs.Splice.{overlay, splice, part};
 ghost use Rattle.words.specs.Numbers.{bytesOf, valueOf, zeroExtended, signExtended};
 
@@ -87,4 +88,24 @@ pub fn sign_extend(x: u64, n: usize) -> u64
         return low;
     }
     low + (u64::MAX - (sign - 1) - sign)
+}
+
+pub fn smaller(a: usize, b: usize) -> usize
+    ensures { λ r. ⌜ r ≡ min a b ⌝ }
+{
+    if a < b { a } else { b }
+}
+
+pub fn larger(a: usize, b: usize) -> usize
+    ensures { λ r. ⌜ r ≡ max a b ⌝ }
+{
+    if a < b { b } else { a }
+}
+
+// x rounded up to a multiple of a.
+pub fn round_up(x: usize, a: usize) -> usize
+    requires { ⌜ (0 < a) × (x + a ≤ 2 ^ 64) ⌝ }
+    ensures { λ r. ⌜ r ≡ roundUp x a ⌝ }
+{
+    (x + (a - 1)) / a * a
 }

@@ -1,6 +1,6 @@
 -- The machine's own call of the state read; where it is accepted, what it changed is put back. Assumes nothing.
 use Rattle.machine.specs.declared.Outcome.{Outcome}
-use Rattle.machine_words.proofs.Laws.{leave-depth, leave-yes-words, leave-no-words}
+use Rattle.word_layout.proofs.Laws.{leave-depth, leave-yes-words, leave-no-words}
 use denote.Ref.{now}
 use mathlib.Core.Path.{sym, ap, _∙_}
 use borrow.Author.Needs.{needs}

@@ -1,7 +1,7 @@
 -- The start of the registers read, and all its words. Assumes nothing.
 use Rattle.machine.specs.declared.Outcome.{Outcome}
-use Rattle.machine_words.specs.Words.{stateWords}
-use Rattle.machine_words.specs.Calls.{startWords}
+use Rattle.word_layout.specs.Words.{stateWords}
+use Rattle.word_layout.specs.Calls.{startWords}
 use mathlib.Core.Path.{ap, _∙_}
 use borrow.Author.Needs.{needs}
 use Rattle.machine_words.proofs.start_z.Statement.{statement}

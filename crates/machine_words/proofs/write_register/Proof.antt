@@ -1,6 +1,6 @@
 -- The machine's own call of the state read; where it is accepted, the registers are put back. Assumes nothing.
 use Rattle.machine.specs.declared.Outcome.{Outcome}
-use Rattle.machine_words.proofs.Laws.{write-yes-words, write-no-words}
+use Rattle.word_layout.proofs.Laws.{write-yes-words, write-no-words}
 use denote.Ref.{now}
 use lib.ListN.{length}
 use mathlib.Core.Path.{sym, ap, _∙_}

@@ -1,0 +1,99 @@
+// What each call but the start answers: the tests of the state, then those of the call, in their order.
+ghost use mathlib.Core.Path.{_≡_};
+ghost use Rattle.rules.specs.Lawful.{Lawful};
+ghost use Rattle.machine.specs.Machine.{enterAnswer, writeRegisterAnswer, writeMemoryAnswer, leaveAnswer};
+use machine::Answer;
+use machine::Refusal;
+use machine::State;
+use rules::Frame;
+use rules::Rules;
+
+pub fn judge_enter(k: Rules, s: State, n: usize, f: Frame) -> Answer
+    requires { ⌜ Lawful k ⌝ }
+    ensures { λ r. ⌜ r ≡ enterAnswer k s n f ⌝ }
+{
+    let a = state_checks::judge_state(k, s, n);
+    match a {
+        Answer::Refused(r) => Answer::Refused(r),
+        Answer::Accepted => {
+            if !rules::request_ok(k, f) {
+                return Answer::Refused(Refusal::BadRequest);
+            }
+            if 32 <= s.depth {
+                return Answer::Refused(Refusal::TooManyFrames);
+            }
+            let p = state_checks::stack_pointer(k, s);
+            let z = rules::frame_size(k, f);
+            if p - s.base < z as u64 {
+                return Answer::Refused(Refusal::NoRoom);
+            }
+            Answer::Accepted
+        }
+    }
+}
+
+pub fn judge_write_register(
+    k: Rules,
+    s: State,
+    n: usize,
+    bank: u64,
+    number: u64,
+    value: u64,
+) -> Answer
+    requires { ⌜ Lawful k ⌝ }
+    ensures { λ r. ⌜ r ≡ writeRegisterAnswer k s n bank number value ⌝ }
+{
+    let a = state_checks::judge_state(k, s, n);
+    match a {
+        Answer::Refused(r) => Answer::Refused(r),
+        Answer::Accepted => {
+            let f = state_checks::top_frame(k, s);
+            let b = writing::bank_of(bank);
+            if !writing::register_writable(k, f, b, number as usize, value) {
+                return Answer::Refused(Refusal::NotPermitted);
+            }
+            Answer::Accepted
+        }
+    }
+}
+
+pub fn judge_write_memory(k: Rules, s: State, n: usize, address: u64, m: usize) -> Answer
+    requires { ⌜ Lawful k ⌝ }
+    ensures { λ r. ⌜ r ≡ writeMemoryAnswer k s n address m ⌝ }
+{
+    let a = state_checks::judge_state(k, s, n);
+    match a {
+        Answer::Refused(r) => Answer::Refused(r),
+        Answer::Accepted => {
+            if !write_areas::address_writable(k, s, address, m, n) {
+                return Answer::Refused(Refusal::NotPermitted);
+            }
+            Answer::Accepted
+        }
+    }
+}
+
+pub fn judge_leave(k: Rules, s: State, memory: &[u8]) -> Answer
+    requires { ⌜ Lawful k ⌝ }
+    ensures { λ r. ⌜ r ≡ leaveAnswer k s (now (memory .entry)) ⌝ }
+{
+    let a = state_checks::judge_state(k, s, memory.len());
+    match a {
+        Answer::Refused(r) => Answer::Refused(r),
+        Answer::Accepted => {
+            if s.depth == 0 {
+                return Answer::Refused(Refusal::NothingEntered);
+            }
+            let f = state_checks::top_frame(k, s);
+            let z = rules::frame_size(k, f);
+            let p = state_checks::stack_pointer(k, s);
+            let b = s.base;
+            let o = (p - b) as usize;
+            let at = restoring::link_at(k, o, o + z);
+            if words::load(memory, at, k.word) != p + z as u64 {
+                return Answer::Refused(Refusal::BrokenChain);
+            }
+            Answer::Accepted
+        }
+    }
+}

@@ -1,0 +1,22 @@
+-- What is saved, in the order of the code. Assumes nothing.
+use Prim.Native.Nat.{ℕ, _+_}
+use mathlib.Core.Path.{_≡_}
+use mathlib.Core.List.{List, [], _∷_}
+use Rattle.saves.specs.Saves.{store, saveRun, saved, saveAll}
+use Rattle.rules.specs.declared.Linkage.{Linkage}
+use Rattle.rules.specs.declared.Linkage.the-variants.{LinkRegister, SaveArea}
+use Rattle.rules.specs.declared.Rules.{Rules}
+use Rattle.rules.specs.declared.Frame.{Frame}
+use Rattle.rules.specs.declared.Registers.{Registers}
+use Rattle.rules.specs.Frames.{savesCr, flag, gprSave, fprSave, savesBy}
+
+pub saves-link : (p : Linkage) (c l : ℕ) (k : Rules) (f : Frame) (s : ℕ) (r : Registers) (m : List ℕ) → p ≡ LinkRegister c l
+    → saveAll m (savesBy p k f s r)
+    ≡ store (saveRun (saved (saved m (gprSave p k f s (r .gpr))) (fprSave k f s (r .fpr))) (r .cr ∷ []) (s + c) 4 0 (flag (savesCr f))) (s + l) (k .word) (r .lr)
+unfolding savesBy saveRun
+saves-link p c l k f s r m e = rw e
+
+pub saves-area : (p : Linkage) (n : ℕ) (k : Rules) (f : Frame) (s : ℕ) (r : Registers) (m : List ℕ) → p ≡ SaveArea n
+    → saveAll m (savesBy p k f s r) ≡ saved (saved m (fprSave k f s (r .fpr))) (gprSave p k f s (r .gpr))
+unfolding savesBy
+saves-area p n k f s r m e = rw e

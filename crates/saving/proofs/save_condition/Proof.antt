@@ -1,0 +1,26 @@
+-- One word, or none. Assumes nothing.
+-- One word, or none. Assumes nothing.
+use Rattle.saves.specs.Saves.{saveRun, store}
+use borrow.Author.Needs.{needs}
+use Rattle.saving.proofs.save_condition.Statement.{statement}
+use Rattle.saving.proofs.save_condition.Tie as tie
+
+store-requires : tie.Need-store-requires
+store-requires c κs = search needs
+
+same-length : tie.Need-same-length
+same-length c = search needs
+
+returns : tie.Need-returns
+unfolding saveRun store
+returns c =
+    let if1 = c .before .before .before .before .if1 in
+    let store = c .before .before .store in
+    rw (if1 .taken) (store .ensures)
+
+returns-2 : tie.Need-returns-2
+unfolding saveRun
+returns-2 c = rw (c .if1 .left)
+
+pub save-condition-spec : {M : Type 1} → statement M
+save-condition-spec = tie.close (tie.spec store-requires same-length returns returns-2)

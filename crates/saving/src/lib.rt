@@ -1,0 +1,79 @@
+// What an enter saves: the registers that a request names, with CR and LR where the convention keeps them, in the lent memory around the caller's stack pointer.
+ghost use mathlib.Core.Path.{_≡_};
+ghost use mathlib.Core.List.{[], _∷_};
+ghost use Prim.Native.Nat.{_+_, _≤_};
+ghost use lib.ListN.{length};
+ghost use Rattle.saves.specs.Saves.{saveRun, saveAll};
+ghost use Rattle.rules.specs.Frames.{flag, saves, gprAt, gprSave, fprSave};
+ghost use Rattle.rules.specs.Lawful.{Placed};
+use rules::Frame;
+use rules::Linkage;
+use rules::Registers;
+use rules::Rules;
+
+// Where the general registers of a frame are saved, with the caller's pointer at s.
+pub fn gpr_at(k: Rules, f: Frame, s: usize, n: usize) -> usize
+    requires { ⌜ Placed k f s n ⌝ }
+    ensures { λ r. ⌜ r ≡ gprAt (k .linkage) k f s ⌝ }
+{
+    let e = k.end;
+    let w = k.word;
+    let g = f.first_gpr;
+    let m = f.first_fpr;
+    let linkage = k.linkage;
+    match linkage {
+        Linkage::LinkRegister(_, _) => s - 8 * (e - m) - w * (e - g),
+        Linkage::SaveArea(_) => s + w * g,
+    }
+}
+
+// A condition register in the word at `at`, or nothing.
+fn save_condition(memory: &mut [u8], at: usize, on: bool, cr: u32)
+    requires { ⌜ at + 4 ≤ length (now memory) ⌝ }
+    ensures { λ _. ⌜ now (memory .exit) ≡ saveRun (now (memory .entry)) (cr ∷ []) at 4 0 (flag on) ⌝ }
+{
+    if on {
+        words::store(memory, at, 4, cr as u64);
+    }
+}
+
+fn save_general(memory: &mut [u8], k: Rules, f: Frame, r: Registers, s: usize)
+    requires { ⌜ Placed k f s (length (now memory)) ⌝ }
+    ensures { λ _. ⌜ now (memory .exit) ≡ saveAll (now (memory .entry)) (gprSave (k .linkage) k f s (r .gpr) ∷ []) ⌝ }
+{
+    let n = memory.len();
+    let at = gpr_at(k, f, s, n);
+    let gpr = r.gpr;
+    let g = f.first_gpr;
+    saves::save_run(memory, &gpr, at, k.word, g, k.end - g);
+}
+
+fn save_floating(memory: &mut [u8], k: Rules, f: Frame, r: Registers, s: usize)
+    requires { ⌜ Placed k f s (length (now memory)) ⌝ }
+    ensures { λ _. ⌜ now (memory .exit) ≡ saveAll (now (memory .entry)) (fprSave k f s (r .fpr) ∷ []) ⌝ }
+{
+    let fpr = r.fpr;
+    let m = f.first_fpr;
+    let c = k.end - m;
+    saves::save_run(memory, &fpr, s - 8 * c, 8, m, c);
+}
+
+// All that an enter saves besides the back chain, with the caller's pointer at s.
+pub fn save_registers(memory: &mut [u8], k: Rules, f: Frame, r: Registers, s: usize)
+    requires { ⌜ Placed k f s (length (now memory)) ⌝ }
+    ensures { λ _. ⌜ now (memory .exit) ≡ saveAll (now (memory .entry)) (saves k f s r) ⌝ }
+{
+    let linkage = k.linkage;
+    match linkage {
+        Linkage::LinkRegister(cr_at, lr_at) => {
+            save_general(memory, k, f, r, s);
+            save_floating(memory, k, f, r, s);
+            save_condition(memory, s + cr_at, f.saves_cr, r.cr);
+            words::store(memory, s + lr_at, k.word, r.lr);
+        }
+        Linkage::SaveArea(_) => {
+            save_floating(memory, k, f, r, s);
+            save_general(memory, k, f, r, s);
+        }
+    }
+}

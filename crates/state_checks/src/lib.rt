@@ -1,0 +1,137 @@
+// The tests that every call makes of a state and its memory (refusals 23 and 16), and what calls read of a state: the stack pointer, the frame entered last and its caller.
+ghost use mathlib.Core.Path.{_≡_};
+ghost use mathlib.Core.Bool.{true};
+ghost use Prim.Native.Nat.{_≤_};
+ghost use Rattle.rules.specs.Lawful.{Lawful};
+ghost use Rattle.machine.specs.Answers.{judge};
+ghost use Rattle.machine.specs.Machine.{stackPointer, top, caller, okFrames, sizes, okMemory, okState, stateTests};
+use machine::Answer;
+use machine::Refusal;
+use machine::State;
+use rules::Frame;
+use rules::Rules;
+
+// Are a memory's base and length in range? (Refusal 16.)
+pub fn memory_ok(k: Rules, base: u64, n: usize) -> bool
+    requires { ⌜ Lawful k ⌝ }
+    ensures { λ r. ⌜ r ≡ okMemory k base n ⌝ }
+{
+    if n % 16 != 0 {
+        return false;
+    }
+    if n < 256 {
+        return false;
+    }
+    if 65536 < n {
+        return false;
+    }
+    if base % 16 != 0 {
+        return false;
+    }
+    base <= k.limit - n as u64
+}
+
+fn frames_ok(k: Rules, fs: [Frame; 32], depth: usize) -> bool
+    requires { ⌜ depth ≤ 32 ⌝ }
+    ensures { λ r. ⌜ r ≡ okFrames k fs depth ⌝ }
+{
+    let mut d = depth;
+    while 0 < d {
+        d -= 1;
+        let f = fs[d];
+        if !rules::request_ok(k, f) {
+            return false;
+        }
+    }
+    true
+}
+
+fn sizes_of(k: Rules, fs: [Frame; 32], depth: usize) -> usize
+    requires { ⌜ (Lawful k) × (depth ≤ 32) × (okFrames k fs depth ≡ true) ⌝ }
+    ensures { λ r. ⌜ (r ≡ sizes k fs depth) × (r ≤ 2097152) ⌝ }
+{
+    let mut d = depth;
+    let mut sum: usize = 0;
+    while 0 < d {
+        d -= 1;
+        let f = fs[d];
+        sum += rules::frame_size(k, f);
+    }
+    sum
+}
+
+// The word of the stack pointer's register.
+pub fn stack_pointer(k: Rules, s: State) -> u64
+    requires { ⌜ Lawful k ⌝ }
+    ensures { λ r. ⌜ r ≡ stackPointer k s ⌝ }
+{
+    let i = k.pointer;
+    let registers = s.registers;
+    registers.gpr[i]
+}
+
+fn state_ok(k: Rules, s: State) -> bool
+    requires { ⌜ Lawful k ⌝ }
+    ensures { λ r. ⌜ r ≡ okState k s ⌝ }
+{
+    let d = s.depth;
+    if 32 < d {
+        return false;
+    }
+    let fs = s.frames;
+    if !frames_ok(k, fs, d) {
+        return false;
+    }
+    let b = s.base;
+    let n = s.size;
+    if !memory_ok(k, b, n) {
+        return false;
+    }
+    let p = stack_pointer(k, s);
+    if p < b {
+        return false;
+    }
+    let used = (sizes_of(k, fs, d) + k.room) as u64;
+    let end = b + n as u64;
+    if end < used {
+        return false;
+    }
+    p == end - used
+}
+
+// Refusals 23 and 16.
+pub fn judge_state(k: Rules, s: State, n: usize) -> Answer
+    requires { ⌜ Lawful k ⌝ }
+    ensures { λ r. ⌜ r ≡ judge (stateTests k s n) ⌝ }
+{
+    if !state_ok(k, s) {
+        return Answer::Refused(Refusal::BadState);
+    }
+    if n != s.size {
+        return Answer::Refused(Refusal::BadMemory);
+    }
+    Answer::Accepted
+}
+
+// The frame entered last, and its caller; the start where there is none.
+pub fn top_frame(k: Rules, s: State) -> Frame
+    requires { ⌜ s .depth ≤ 32 ⌝ }
+    ensures { λ r. ⌜ r ≡ top k s ⌝ }
+{
+    let d = s.depth;
+    if d == 0 {
+        return rules::start_frame(k);
+    }
+    s.frames[d - 1]
+}
+
+pub fn caller_frame(k: Rules, s: State) -> Frame
+    requires { ⌜ s .depth ≤ 32 ⌝ }
+    ensures { λ r. ⌜ r ≡ caller k s ⌝ }
+{
+    let d = s.depth;
+    if d <= 1 {
+        return rules::start_frame(k);
+    }
+    s.frames[d - 2]
+}

@@ -1,0 +1,93 @@
+-- The frame machine's state as 230 words of 64 bits, the layout that a caller in C lends (`fz_machine`): word 0 the convention's code, 1 the base, 2 the size,
+-- 3 the depth, 4 to 35 the general registers, 36 to 67 the floating registers, 68 LR, 69 CR, and five words for each of 32 records from word 70 on: the first
+-- general and the first floating register saved, whether CR is (0 or 1), locals, outgoing. The layout is ours; what it holds is document 01's, "Frames".
+-- Assumes nothing.
+use Prim.Native.Nat.{ℕ, zero, suc, _+_, _-_, _*_, _%_, _^_}
+use mathlib.Core.Bool.{Bool, _&&_}
+use mathlib.Core.List.{List, [], _∷_, _++_}
+use lib.ListN.{getD, set}
+use lib.Dec.{leb, eqb}
+use Rattle.words.specs.Splice.{splice, part}
+use Rattle.rules.specs.declared.Convention.{Convention}
+use Rattle.rules.specs.declared.Frame.{Frame}
+use Rattle.rules.specs.declared.Registers.{Registers}
+use Rattle.rules.specs.declared.Convention.the-variants.{Ppc64, Z}
+use Rattle.words.specs.Basics.{pick}
+use Rattle.rules.specs.Frames.{firstGpr, firstFpr, savesCr, noFrame, flag}
+use Rattle.machine.specs.declared.State.{State}
+
+-- ---- reading
+
+-- "code 1 PPC64, 2 Z" ("A signature's bytes"), and the convention of a code
+abbrev pub codeOf : Convention → ℕ
+codeOf Ppc64 = 1
+codeOf Z = 2
+
+abbrev pub conventionOf : ℕ → Convention
+conventionOf n = pick (eqb n 1) Ppc64 Z
+
+-- Are the words a machine's? Not where word 0 is no convention's code, or word 69 no 32-bit word ("CR is one 32-bit word").
+unfoldable pub isMachine : List ℕ → Bool
+isMachine ws = leb 1 (getD ws 0 0) && (leb (getD ws 0 0) 2 && leb (getD ws 69 0) (2 ^ 32 - 1))
+
+-- the depth; words that are no machine's are read as one of depth 33, which is refused by 23 ("depth over 32") before anything else
+unfoldable pub depthIn : List ℕ → ℕ
+depthIn ws = pick (isMachine ws) (getD ws 3 0) 33
+
+-- the registers in the 66 words from `at` on; of CR's word the low 32 bits
+unfoldable pub registersIn : List ℕ → ℕ → Registers
+registersIn ws at = record {
+  gpr = part at 32 ws;
+  fpr = part (at + 32) 32 ws;
+  lr = getD ws (at + 64) 0;
+  cr = getD ws (at + 65) 0 % 2 ^ 32;
+}
+
+-- the request or the record in the five words from `at` on; where "CR or not" is neither 0 nor 1, one that 17 refuses: r0 is the first register saved
+unfoldable pub frameIn : List ℕ → ℕ → Frame
+frameIn ws at =
+    pick (leb (getD ws (at + 2) 0) 1)
+    (record { «first_gpr» = getD ws at 0; «first_fpr» = getD ws (at + 1) 0; «saves_cr» = eqb (getD ws (at + 2) 0) 1; locals = getD ws (at + 3) 0; outgoing = getD ws (at + 4) 0 })
+    noFrame
+
+-- the n records from record i on
+unfoldable pub framesIn : ℕ → List ℕ → ℕ → List Frame
+framesIn zero ws i = []
+framesIn (suc n) ws i = frameIn ws (70 + 5 * i) ∷ framesIn n ws (i + 1)
+
+-- the state that 230 words are read as
+unfoldable pub stateIn : List ℕ → State
+stateIn ws = record {
+  convention = conventionOf (getD ws 0 0);
+  base = getD ws 1 0;
+  size = getD ws 2 0;
+  depth = depthIn ws;
+  registers = registersIn ws 4;
+  frames = framesIn 32 ws 0;
+}
+
+-- ---- writing
+
+unfoldable pub registerWords : Registers → List ℕ
+registerWords r = r .gpr ++ (r .fpr ++ r .lr ∷ r .cr ∷ [])
+
+unfoldable pub frameWords : Frame → List ℕ
+frameWords f = firstGpr f ∷ firstFpr f ∷ flag (savesCr f) ∷ f .locals ∷ f .outgoing ∷ []
+
+unfoldable pub framesWords : List Frame → List ℕ
+framesWords [] = []
+framesWords (f ∷ fs) = frameWords f ++ framesWords fs
+
+-- all the words of a state
+unfoldable pub stateWords : State → List ℕ
+stateWords s = codeOf (s .convention) ∷ s .base ∷ s .size ∷ s .depth ∷ (registerWords (s .registers) ++ framesWords (s .frames))
+
+-- ws with the depth d; with the registers r; with the record i at f
+abbrev pub withDepth : List ℕ → ℕ → List ℕ
+withDepth ws d = set ws 3 d
+
+abbrev pub withRegisters : List ℕ → Registers → List ℕ
+withRegisters ws r = splice ws 4 (registerWords r)
+
+abbrev pub withFrame : List ℕ → ℕ → Frame → List ℕ
+withFrame ws i f = splice ws (70 + 5 * i) (frameWords f)
