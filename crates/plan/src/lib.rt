@@ -180,10 +180,10 @@ fn measure_arguments(
                 next: after,
                 items: more,
             } => {
-                let size = types::size_of(convention, ty);
-                let p = convention::step(rules, c, ty, size);
+                let bytes = types::size_of(convention, ty);
+                let p = convention::step(rules, c, ty, bytes);
                 c = p.next;
-                values = values + size;
+                values = values + bytes;
                 count = count + 1;
                 next = after;
                 items = items + more;

@@ -220,16 +220,20 @@ fn read_head_after(s: &[u8], c: Convention) -> HeadRead
 {
     match read_result(s, c, 4) {
         ResultRead::Refused { reason, place } => HeadRead::Refused { reason, place },
-        ResultRead::Result { ty, next, items } => {
-            match items::read_body(s, 0x03, 0x03, next, s.len()) {
+        ResultRead::Result {
+            ty,
+            next: third,
+            items,
+        } => {
+            match items::read_body(s, 0x03, 0x03, third, s.len()) {
                 Body::Refused(reason) => HeadRead::Refused {
                     reason,
-                    place: next,
+                    place: third,
                 },
                 Body::To(to) => HeadRead::Head {
                     convention: c,
                     result: ty,
-                    at: next + 3,
+                    at: third + 3,
                     end: to,
                     earlier: 1 + items,
                 },
