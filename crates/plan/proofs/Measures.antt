@@ -10,7 +10,7 @@ use lib.Dec.{ltb}
 use Rattle.types.specs.declared.Convention.{Convention}
 use Rattle.types.specs.declared.ValueType.{ValueType}
 use Rattle.types.specs.Sizes.{sizeOf}
-use Rattle.types.specs.Trees.{Tree, Trees, none, _▸_, typeOf}
+use Rattle.types.specs.Trees.{Trees, none, _▸_, typeOf}
 use Rattle.items.specs.declared.Refusal.{Refusal}
 use Rattle.items.specs.declared.ItemRead.{ItemRead}
 use Rattle.items.specs.Reading.{Reading, got, no, pick}
@@ -20,7 +20,7 @@ use Rattle.items.proofs.Loop.{item-answered}
 use Rattle.signature.specs.declared.Outcome.{Outcome}
 use Rattle.signature.specs.declared.ResultType.{ResultType}
 use Rattle.signature.specs.declared.HeadRead.{HeadRead}
-use Rattle.signature.specs.Signature.{Result, Signature}
+use Rattle.signature.specs.Signature.{Result}
 use Rattle.signature.specs.Read.{argumentsIn, signatureOf, headOf}
 use Rattle.signature.specs.Answer.{resultType, headAnswer}
 use Rattle.signature.proofs.Laws.{thenArguments, signature-then}
