@@ -9,12 +9,12 @@ use Rattle.signature.specs.declared.Outcome.{Outcome}
 use Rattle.signature.specs.declared.SignatureRead.{SignatureRead}
 use Rattle.signature.specs.Signature.{Signature}
 use Rattle.signature.specs.Answer.{signatureAnswer}
-use Rattle.plan.specs.declared.Plan.{Plan}
-use Rattle.plan.specs.Plan.{planIn, planAnswer}
+use Rattle.plan.specs.declared.Measured.{Measured}
+use Rattle.plan.specs.Plan.{planIn, planAnswer, measureOf}
 use Rattle.answers.specs.declared.Answer.{Answer}
 use Rattle.answers.specs.Answers.{yes}
 use Rattle.bridge.specs.declared.Sizes.{Sizes}
-use Rattle.bridge.specs.Surface.{readingAnswer, planSizes, sizesAnswer}
+use Rattle.bridge.specs.Surface.{readingAnswer, sizesAnswer}
 
 module _ (r : SignatureRead) where
   pub accepted-answer : (x : Reading Signature) → r ≡ signatureAnswer x → (n : ℕ) → r .outcome ≡ Outcome.Accepted n →
@@ -33,19 +33,20 @@ module _ (r : SignatureRead) where
       let number : n ≡ numberOf x = is ∙ ap numberOf same in
       cc
 
-module _ (p : Plan) where
-  pub accepted-sizes : (x : Reading Signature) → p ≡ planAnswer x → (n : ℕ) → p .outcome ≡ Outcome.Accepted n → planSizes yes p ≡ sizesAnswer x
+module _ (m : Measured) where
+  pub accepted-sizes : (x : Reading Signature) → m ≡ measureOf (planAnswer x) → (n : ℕ) → m .outcome ≡ Outcome.Accepted n →
+      _≡_ {A = Sizes} (record { answer = yes; values = m .values; area = m .area; copies = m .copies }) (sizesAnswer x)
   unfolding sizesAnswer planAnswer
-  accepted-sizes (got g next m) e n q = ap (planSizes yes) e
-  accepted-sizes (no x place) e n q = let z : _≡_ {A = ℕ} 0 1 = cc (ap (λ (y : Plan). y .outcome) e) in absurd (omega arith)
+  accepted-sizes (got g next k) e n q = ap (λ (y : Measured). record { answer = yes; values = y .values; area = y .area; copies = y .copies }) e
+  accepted-sizes (no x place) e n q = let z : _≡_ {A = ℕ} 0 1 = cc (ap (λ (y : Measured). y .outcome) e) in absurd (omega arith)
 
-  pub refused-sizes : (x : Reading Signature) → p ≡ planAnswer x → (reason : Refusal) (place : ℕ) → p .outcome ≡ Outcome.Refused reason place →
+  pub refused-sizes : (x : Reading Signature) → m ≡ measureOf (planAnswer x) → (reason : Refusal) (place : ℕ) → m .outcome ≡ Outcome.Refused reason place →
       (n : ℕ) → n ≡ numberOf reason →
       _≡_ {A = Sizes} (record { answer = record { number = n; place = place; items = 0 }; values = 0; area = 0; copies = 0 }) (sizesAnswer x)
   unfolding sizesAnswer planAnswer planIn
-  refused-sizes (got g next m) e reason place q n is = let z : _≡_ {A = ℕ} 0 1 = cc (ap (λ (y : Plan). y .outcome) e) in absurd (omega arith)
+  refused-sizes (got g next k) e reason place q n is = let z : _≡_ {A = ℕ} 0 1 = cc (ap (λ (y : Measured). y .outcome) e) in absurd (omega arith)
   refused-sizes (no x r) e reason place q n is =
-      let same : reason ≡ x = cc (ap (λ (y : Plan). y .outcome) e) in
-      let there : place ≡ r = cc (ap (λ (y : Plan). y .outcome) e) in
+      let same : reason ≡ x = cc (ap (λ (y : Measured). y .outcome) e) in
+      let there : place ≡ r = cc (ap (λ (y : Measured). y .outcome) e) in
       let number : n ≡ numberOf x = is ∙ ap numberOf same in
       cc

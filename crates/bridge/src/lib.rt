@@ -54,11 +54,11 @@ pub extern "C" fn fz_read_signature(sig: &[u8]) -> Answer
 pub extern "C" fn fz_measure(sig: &[u8]) -> Sizes
     ensures { λ r. ⌜ r ≡ sizesAnswer (signatureOf (now (sig .entry))) ⌝ }
 {
-    let p = plan::plan_of(sig);
-    let values = p.values as u64;
-    let area = p.area as u64;
-    let copies = p.copies as u64;
-    let outcome = p.outcome;
+    let m = plan::measure(sig);
+    let values = m.values as u64;
+    let area = m.area as u64;
+    let copies = m.copies as u64;
+    let outcome = m.outcome;
     match outcome {
         Outcome::Accepted(_) => Sizes {
             answer: Answer {

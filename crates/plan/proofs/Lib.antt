@@ -1,6 +1,7 @@
 -- Laws that belong to no one function.
 pub mod Fold
 pub mod Turns
+pub mod Measures
 pub mod Answers
 pub mod Apart
 pub mod Theorems

@@ -2,7 +2,7 @@
 use mathlib.Core.Path.{_≡_, refl, sym, ap, _∙_}
 use mathlib.Core.Bool.{Bool}
 use mathlib.Core.List.{List, [], _∷_, _++_, map, append-assoc, append-nil}
-use Prim.Native.Nat.{ℕ, zero, suc, _+_, _-_, _*_, _≤_, _<_}
+use Prim.Native.Nat.{ℕ, zero, suc, _+_, _-_, _≤_, _<_}
 use native.Mathlib.Omega.{arith}
 use native.Mathlib.Numerals.{add-one}
 use lib.ListN.{length, getD, set, take, drop, replicate, length-append, drop-of-length-le}
@@ -18,10 +18,9 @@ use Rattle.convention.specs.declared.Cursor.{Cursor}
 use Rattle.convention.specs.declared.Span.{Span}
 use Rattle.convention.specs.declared.Rules.{Rules}
 use Rattle.convention.specs.Step.{Lawful, spanOf, nextOf, startOf}
-use Rattle.convention.proofs.Bounds.{Named, named-start, named-next, near-next, start-bytes}
 use Rattle.plan.specs.declared.Plan.{Plan}
 use Rattle.plan.specs.Plan.{spansOf, lastOf, valuesOf, noSpan, tableOf, typeIn}
-use Rattle.plan.proofs.Fold.{length-spans}
+use Rattle.plan.proofs.Fold.{length-spans, Reached, reached-start, reached-more}
 
 -- ---- the types of the reader's table
 
@@ -53,28 +52,20 @@ module _ (c : Convention) (r : Rules) (start : Cursor) (ts : List ValueType) whe
     pub rest : done ++ spansOf c r k (drop i ts) ≡ spansOf c r start ts
     pub last : lastOf c r k (drop i ts) ≡ lastOf c r start ts
     pub total : v + valuesOf c (drop i ts) ≡ valuesOf c ts
-    pub named : Named r k
-    pub stack : k .stack ≤ 264 * i + 264
-    pub copies : k .copies ≤ 264 * i + 264
-    pub small : v ≤ 256 * i
+    pub reached : Reached r k v i
 
 pub going-start : (c : Convention) (r : Rules) (hidden : Bool) (ts : List ValueType) → Lawful r
     → Going c r (startOf r hidden) ts (replicate maxArguments noSpan) (startOf r hidden) 0 0
-going-start c r hidden ts l =
-    let b = start-bytes r hidden l in
-    record {
-      done = [];
-      many = refl;
-      within = omega arith;
-      array = refl;
-      rest = refl;
-      last = refl;
-      total = omega arith;
-      named = named-start r hidden;
-      stack = omega arith;
-      copies = omega arith;
-      small = omega arith;
-    }
+going-start c r hidden ts l = record {
+  done = [];
+  many = refl;
+  within = omega arith;
+  array = refl;
+  rest = refl;
+  last = refl;
+  total = omega arith;
+  reached = reached-start r hidden l;
+}
 
 pub going-more : (c : Convention) (r : Rules) (start : Cursor) (ts : List ValueType) (ss : List Span) (k : Cursor) (v i : ℕ) (t : ValueType)
     → Lawful r → i < length ts → length ts ≤ maxArguments → sizeOf c t ≤ 256 → drop i ts ≡ t ∷ drop (suc i) ts
@@ -84,7 +75,6 @@ unfolding spansOf lastOf valuesOf
 going-more c r start ts ss k v i t l h few sm d g =
     let n : ℕ = sizeOf c t in
     let s : Span = spanOf r k t n in
-    let b = near-next r k t n l sm in
     let blank : maxArguments - i ≡ suc (maxArguments - (i + 1)) = omega arith in
     let total : v + (n + valuesOf c (drop (suc i) ts)) ≡ valuesOf c ts = rw d at (g .total) in
     record {
@@ -98,10 +88,7 @@ going-more c r start ts ss k v i t l h few sm d g =
       rest = rw add-one (append-assoc (g .done) (s ∷ []) (spansOf c r (nextOf r k t n) (drop (suc i) ts)) ∙ (rw d at (g .rest)));
       last = rw add-one (rw d at (g .last));
       total = rw add-one (omega arith);
-      named = named-next r k t n (g .named);
-      stack = omega (arith, g .stack, b .stack);
-      copies = omega (arith, g .copies, b .copies);
-      small = omega (arith, g .small);
+      reached = reached-more r k v i t n l sm (g .reached);
     }
 
 -- all arguments are planned: the table, the cursor and the size are the whole fold's

@@ -4,12 +4,13 @@ use Prim.Native.Nat.{ℕ, _+_, _-_}
 use mathlib.Core.Bool.{Bool, false}
 use mathlib.Core.List.{List, [], _∷_, _++_, map}
 use lib.ListN.{length, take, replicate}
+use lib.Dec.{ltb}
 use Rattle.types.specs.declared.Convention.{Convention}
 use Rattle.types.specs.declared.ValueType.{ValueType}
 use Rattle.types.specs.Sizes.{sizeOf}
 use Rattle.types.specs.Trees.{Trees, none, _▸_, typeOf}
 use Rattle.items.specs.declared.Refusal.{Refusal}
-use Rattle.items.specs.Reading.{Reading, got, no}
+use Rattle.items.specs.Reading.{Reading, got, no, pick}
 use Rattle.signature.specs.declared.Argument.{Argument}
 use Rattle.signature.specs.declared.ResultType.{ResultType}
 use Rattle.signature.specs.declared.Outcome.{Outcome}
@@ -24,6 +25,7 @@ use Rattle.convention.specs.declared.Rules.{Rules}
 use Rattle.convention.specs.Values.{registers, bytes}
 use Rattle.convention.specs.Step.{rulesOf, spanOf, nextOf, startOf, areaOf, hiddenFor, resultOf}
 use Rattle.plan.specs.declared.Plan.{Plan}
+use Rattle.plan.specs.declared.Measured.{Measured}
 
 -- ---- the fold, over any rules
 
@@ -122,3 +124,14 @@ plannedAs (Outcome.Refused reason place) g = refused reason place
 
 unfoldable pub planned : SignatureRead → Plan
 planned g = plannedAs (g .outcome) g
+
+-- ---- the sizes alone
+
+-- of a plan: its outcome and its sizes, without the places
+abbrev pub measureOf : Plan → Measured
+measureOf p = record { outcome = p .outcome; area = p .area; values = p .values; copies = p .copies }
+
+-- from the arguments on, in a signature of `all` bytes, where n items came before theirs: as `withArguments` of the reader
+abbrev pub planWith : Convention → ResultType → ℕ → ℕ → Reading Trees → Plan
+planWith c r n all (got ts next m) = pick (ltb next all) (refused Refusal.TrailingBytes next) (planIn (n + m) c r (typesOf c ts))
+planWith c r n all (no x place) = refused x place

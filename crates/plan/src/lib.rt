@@ -4,13 +4,18 @@ use convention::ByteRange;
 use convention::RegisterRange;
 use convention::ResultPlaces;
 use convention::Span;
+use items::ItemRead;
+use items::Refusal;
+use signature::HeadRead;
 use signature::Outcome;
 use signature::ResultType;
 use signature::SignatureRead;
 use types::Convention;
 ghost use mathlib.Core.Path.{_≡_};
-ghost use Rattle.signature.specs.Read.{signatureOf};
-ghost use Rattle.plan.specs.Plan.{hiddenIn, resultIn, blankPlan, planned, planAnswer};
+ghost use Prim.Native.Nat.{_^_, _≤_};
+ghost use lib.ListN.{length};
+ghost use Rattle.signature.specs.Read.{argumentsIn, signatureOf};
+ghost use Rattle.plan.specs.Plan.{hiddenIn, resultIn, blankPlan, refused, planned, planAnswer, measureOf, planWith};
 ghost use Rattle.plan.specs.Limits.{SmallResult, Plannable};
 
 // The plan of a signature, or the reader's refusal. `area` is the size of the parameter area, `values` that of all arguments'
@@ -25,6 +30,14 @@ pub struct Plan {
     pub values: usize,
     pub copies: usize,
     pub spans: [Span; 64],
+}
+
+// A plan's outcome and sizes, without its places.
+pub struct Measured {
+    pub outcome: Outcome,
+    pub area: usize,
+    pub values: usize,
+    pub copies: usize,
 }
 
 // A plan without spans and sizes.
@@ -124,4 +137,86 @@ pub fn plan_of(s: &[u8]) -> Plan
     ensures { λ p. ⌜ p ≡ planAnswer (signatureOf (now (s .entry))) ⌝ }
 {
     plan_signature(signature::read_signature(s))
+}
+
+fn no_measure(reason: Refusal, place: usize) -> Measured
+    ensures { λ m. ⌜ m ≡ measureOf (refused reason place) ⌝ }
+{
+    Measured {
+        outcome: Outcome::Refused { reason, place },
+        area: 0,
+        values: 0,
+        copies: 0,
+    }
+}
+
+// The sizes from the arguments on, which stand from `at` to `end`; `earlier` items came before theirs. Each is read, placed and
+// let go: no table is made.
+fn measure_arguments(
+    s: &[u8],
+    convention: Convention,
+    returned: ResultType,
+    at: usize,
+    end: usize,
+    earlier: usize,
+) -> Measured
+    requires { ⌜ (at ≤ end) × (end ≤ length (now s)) × (end ≤ 2 ^ 16) × (earlier ≤ 2 ^ 16) ⌝ }
+    ensures { λ m. ⌜ m ≡ measureOf (planWith convention returned earlier (length (now (s .entry))) (argumentsIn convention (now (s .entry)) at end)) ⌝ }
+{
+    let rules = convention::rules_of(convention);
+    let hidden = hidden_in(convention, returned);
+    let mut c = convention::start(convention, hidden);
+    let mut values: usize = 0;
+    let mut count: usize = 0;
+    let mut next = at;
+    let mut items: usize = 1;
+    while next < end {
+        if count == 64 {
+            return no_measure(Refusal::TooManyArguments, next);
+        }
+        match items::read_item(s, convention, next, end, 8) {
+            ItemRead::Item {
+                ty,
+                next: after,
+                items: more,
+            } => {
+                let bytes = types::size_of(convention, ty);
+                let p = convention::step(rules, c, ty, bytes);
+                c = p.next;
+                values = values + bytes;
+                count = count + 1;
+                next = after;
+                items = items + more;
+            }
+            ItemRead::Refused { reason, place } => {
+                return no_measure(reason, place);
+            }
+        }
+    }
+    if next < s.len() {
+        return no_measure(Refusal::TrailingBytes, next);
+    }
+    let area = convention::area_of(rules, c);
+    Measured {
+        outcome: Outcome::Accepted(earlier + items),
+        area,
+        values,
+        copies: c.copies,
+    }
+}
+
+// The sizes of the plan of a signature's bytes: any bytes at all.
+pub fn measure(s: &[u8]) -> Measured
+    ensures { λ m. ⌜ m ≡ measureOf (planAnswer (signatureOf (now (s .entry)))) ⌝ }
+{
+    match signature::read_head(s) {
+        HeadRead::Refused { reason, place } => no_measure(reason, place),
+        HeadRead::Head {
+            convention,
+            result,
+            at,
+            end,
+            earlier,
+        } => measure_arguments(s, convention, result, at, end, earlier),
+    }
 }

@@ -14,7 +14,7 @@ use Rattle.types.specs.Trees.{Trees}
 use Rattle.items.specs.declared.Refusal.{Refusal}
 use Rattle.items.specs.declared.Body.{Body}
 use Rattle.items.specs.declared.ItemRead.{ItemRead}
-use Rattle.items.specs.Reading.{Reading, got, no, pick, andThen, inBody}
+use Rattle.items.specs.Reading.{Reading, got, no, pick, choose, andThen, inBody}
 use Rattle.items.specs.Read.{bodyAt, itemAt}
 use Rattle.items.specs.Answer.{itemAnswer}
 use Rattle.items.proofs.Laws.{item-got, item-no}
@@ -23,9 +23,10 @@ use Rattle.signature.specs.declared.ConventionCode.{ConventionCode}
 use Rattle.signature.specs.declared.ConventionRead.{ConventionRead}
 use Rattle.signature.specs.declared.ResultType.{ResultType}
 use Rattle.signature.specs.declared.ResultRead.{ResultRead}
-use Rattle.signature.specs.Signature.{Result, nothing}
-use Rattle.signature.specs.Read.{maxDepth, conventionCode, conventionBy, conventionAt, resultIn, resultAt, argumentsIn, argumentsAt, afterResult, afterConvention, signatureOf}
-use Rattle.signature.specs.Answer.{conventionAnswer, resultType, resultAnswer, refused, accepted, withArguments, signatureAnswer}
+use Rattle.signature.specs.declared.HeadRead.{HeadRead}
+use Rattle.signature.specs.Signature.{Result, nothing, Signature, Head}
+use Rattle.signature.specs.Read.{maxDepth, conventionCode, conventionBy, conventionAt, resultIn, resultAt, argumentsIn, argumentsAt, afterResult, afterConvention, signatureOf, headAfter, headOf}
+use Rattle.signature.specs.Answer.{conventionAnswer, resultType, resultAnswer, headAnswer, refused, accepted, withArguments, signatureAnswer}
 
 -- the convention
 
@@ -107,10 +108,6 @@ module _ (c : Convention) (s : List ℕ) (at : ℕ) where
   unfolding resultAt
   result-to b q = rw q
 
-  pub arguments-refused : (r : Refusal) → bodyAt s 0x03 0x03 (length s) at ≡ Body.Refused r → argumentsAt c s at ≡ no r at
-  unfolding argumentsAt
-  arguments-refused r q = rw q
-
   pub arguments-to : (b : ℕ) → bodyAt s 0x03 0x03 (length s) at ≡ Body.To b → argumentsAt c s at ≡ argumentsIn c s (at + 3) b
   unfolding argumentsAt
   arguments-to b q = rw q
@@ -126,44 +123,117 @@ pub result-was-refused : (c : Convention) (x : Reading Result) (r : Refusal) (pl
 result-was-refused c (got y a m) r place q = let z : _≡_ {A = ℕ} 0 1 = cc in absurd (omega arith)
 result-was-refused c (no x p) r place q = cc
 
--- the whole
+-- what comes before the arguments
 
-module _ (s : List ℕ) (c : Convention) where
+module _ (s : List ℕ) (c : Convention) (at n : ℕ) (x : ResultRead) (found : x ≡ resultAnswer c (resultAt c s at)) where
+  pub head-no-result : (r : Refusal) (place : ℕ) → x ≡ ResultRead.Refused r place → headAfter s c at n ≡ no r place
+  unfolding headAfter
+  head-no-result r place q = rw (result-was-refused c (resultAt c s at) r place (sym q ∙ found))
+
+  module _ (t : ResultType) (next m : ℕ) (q : x ≡ ResultRead.Result t next m) where
+    pub head-no-arguments : (r : Refusal) → bodyAt s 0x03 0x03 (length s) next ≡ Body.Refused r → headAfter s c at n ≡ no r next
+    unfolding headAfter
+    head-no-arguments r body = let (tree, read, same) = result-got c (resultAt c s at) t next m (sym q ∙ found) in rw (read, body)
+
+    pub head-to : (b : ℕ) → bodyAt s 0x03 0x03 (length s) next ≡ Body.To b → headAnswer (headAfter s c at n) ≡ HeadRead.Head c t (next + 3) b (n + m)
+    unfolding headAfter
+    head-to b body =
+        let (tree, read, same) = result-got c (resultAt c s at) t next m (sym q ∙ found) in
+        rw (read, body) (ap (λ (u : ResultType). HeadRead.Head c u (next + 3) b (n + m)) (sym same))
+
+module _ (s : List ℕ) where
+  pub head-long : 4096 < length s → headOf s ≡ no Refusal.TooLong 0
+  unfolding headOf
+  head-long h = rw (lt-ltb 4096 (length s) h)
+
+  module _ (short : length s ≤ 4096) (x : ConventionRead) (found : x ≡ conventionAnswer (conventionAt s)) where
+    pub head-no-convention : (r : Refusal) → x ≡ ConventionRead.Refused r → headOf s ≡ no r 0
+    unfolding headOf
+    head-no-convention r q = rw (le-ltb 4096 (length s) short, first-refused (conventionAt s) r (convention-first s) (sym q ∙ found))
+
+    pub head-known : (c : Convention) → x ≡ ConventionRead.Known c → headOf s ≡ headAfter s c 4 1
+    unfolding headOf
+    head-known c q = rw (le-ltb 4096 (length s) short, convention-known s x c found q)
+
+-- what a program's answer says of it
+
+same-head : {c k : Convention} (r : Result) {b d at next n m : ℕ} → c ≡ k → b ≡ d → at ≡ next → n ≡ m →
+    _≡_ {A = Reading Head} (got (record { convention = k; result = r; end = d }) next m) (got (record { convention = c; result = r; end = b }) at n)
+same-head r p q u v = cc
+
+pub head-got : (x : Reading Head) (c : Convention) (t : ResultType) (at b n : ℕ) → HeadRead.Head c t at b n ≡ headAnswer x →
+    (r : Result) × (x ≡ got (record { convention = c; result = r; end = b }) at n) × (t ≡ resultType c r)
+head-got (got h next m) c t at b n q = (h .result, same-head (h .result) (cc) (cc) (cc) (cc), cc)
+head-got (no r place) c t at b n q = let z : _≡_ {A = ℕ} 0 1 = cc in absurd (omega arith)
+
+pub head-was-refused : (x : Reading Head) (r : Refusal) (place : ℕ) → HeadRead.Refused r place ≡ headAnswer x → x ≡ no r place
+head-was-refused (got h next m) r place q = let z : _≡_ {A = ℕ} 0 1 = cc in absurd (omega arith)
+head-was-refused (no x p) r place q = cc
+
+-- the whole: its head, then the arguments
+
+module _ (s : List ℕ) where
+  -- a signature from its arguments on, where n items came before theirs
+  abbrev pub thenArguments : Convention → Result → ℕ → Reading Trees → Reading Signature
+  thenArguments c r n x =
+      andThen x (λ ts next m. pick (ltb next (length s)) (no Refusal.TrailingBytes next) (got (record { convention = c; result = r; arguments = ts }) next (n + m)))
+
+  abbrev pub afterHead : Head → ℕ → ℕ → Reading Signature
+  afterHead h at n = thenArguments (h .convention) (h .result) n (argumentsIn (h .convention) s at (h .end))
+
+  pub signature-head : signatureOf s ≡ andThen (headOf s) afterHead
+  unfolding signatureOf headOf afterConvention headAfter afterResult argumentsAt
+  signature-head = whole (ltb 4096 (length s))
+    where
+      third : (c : Convention) (r : Result) (at n : ℕ) (x : Body) →
+          thenArguments c r n (inBody x at (λ b. argumentsIn c s (at + 3) b))
+          ≡ andThen (inBody x at (λ b. got (record { convention = c; result = r; end = b }) (at + 3) n)) afterHead
+      third c r at n (Body.To b) = refl
+      third c r at n (Body.Refused x) = refl
+
+      second : (c : Convention) (n : ℕ) (x : Reading Result) →
+          andThen x (λ r next m. afterResult s c r next (n + m))
+          ≡ andThen (andThen x (λ r next m. inBody (bodyAt s 0x03 0x03 (length s) next) next (λ b. got (record { convention = c; result = r; end = b }) (next + 3) (n + m)))) afterHead
+      second c n (got r next m) = third c r next (n + m) (bodyAt s 0x03 0x03 (length s) next)
+      second c n (no r place) = refl
+
+      first : (x : Reading Convention) → andThen x (afterConvention s) ≡ andThen (andThen x (headAfter s)) afterHead
+      first (got c at n) = second c n (resultAt c s at)
+      first (no r place) = refl
+
+      whole : (long : Bool) →
+          choose long (λ _. no Refusal.TooLong 0) (λ _. andThen (conventionAt s) (afterConvention s))
+          ≡ andThen (choose long (λ _. no Refusal.TooLong 0) (λ _. andThen (conventionAt s) (headAfter s))) afterHead
+      whole true = refl
+      whole false = first (conventionAt s)
+
   -- the arguments' answer is the signature's
-  arguments-answer : (r : Result) (n : ℕ) (x : Reading Trees) →
-      signatureAnswer (andThen x (λ ts next m. pick (ltb next (length s)) (no Refusal.TrailingBytes next) (got (record { convention = c; result = r; arguments = ts }) next (n + m))))
-      ≡ withArguments c (resultType c r) n (length s) x
-  arguments-answer r n (got ts next m) = go (ltb next (length s))
+  arguments-answer : (c : Convention) (r : Result) (n : ℕ) (x : Reading Trees) →
+      signatureAnswer (thenArguments c r n x) ≡ withArguments c (resultType c r) n (length s) x
+  arguments-answer c r n (got ts next m) = go (ltb next (length s))
     where
       go : (more : Bool) →
           signatureAnswer (pick more (no Refusal.TrailingBytes next) (got (record { convention = c; result = r; arguments = ts }) next (n + m)))
           ≡ pick more (refused Refusal.TrailingBytes next) (accepted c (resultType c r) ts (n + m))
       go true = refl
       go false = refl
-  arguments-answer r n (no x place) = refl
+  arguments-answer c r n (no x place) = refl
 
-  module _ (at n : ℕ) (x : ResultRead) (found : x ≡ resultAnswer c (resultAt c s at)) where
-    pub types-refused : (r : Refusal) (place : ℕ) → x ≡ ResultRead.Refused r place → signatureAnswer (afterConvention s c at n) ≡ refused r place
-    unfolding afterConvention
-    types-refused r place q = rw (result-was-refused c (resultAt c s at) r place (sym q ∙ found))
+  module _ (x : HeadRead) (found : x ≡ headAnswer (headOf s)) where
+    pub signature-refused : (r : Refusal) (place : ℕ) → x ≡ HeadRead.Refused r place → signatureOf s ≡ no r place
+    signature-refused r place q = signature-head ∙ ap (λ (y : Reading Head). andThen y afterHead) (head-was-refused (headOf s) r place (sym q ∙ found))
 
-    pub types-read : (t : ResultType) (next m : ℕ) → x ≡ ResultRead.Result t next m →
-        signatureAnswer (afterConvention s c at n) ≡ withArguments c t (n + m) (length s) (argumentsAt c s next)
-    unfolding afterConvention afterResult
-    types-read t next m q =
-        let (r, read, same) = result-got c (resultAt c s at) t next m (sym q ∙ found) in
-        rw read (arguments-answer r (n + m) (argumentsAt c s next) ∙ ap (λ (u : ResultType). withArguments c u (n + m) (length s) (argumentsAt c s next)) (sym same))
+    -- the result's tree is gone, its type is there
+    pub signature-then : (c : Convention) (t : ResultType) (at b n : ℕ) → x ≡ HeadRead.Head c t at b n →
+        (r : Result) × (signatureOf s ≡ thenArguments c r n (argumentsIn c s at b)) × (t ≡ resultType c r)
+    signature-then c t at b n q =
+        let (r, read, same) = head-got (headOf s) c t at b n (sym q ∙ found) in
+        (r, signature-head ∙ ap (λ (y : Reading Head). andThen y afterHead) read, same)
 
-module _ (s : List ℕ) where
-  pub signature-long : 4096 < length s → signatureOf s ≡ no Refusal.TooLong 0
-  unfolding signatureOf
-  signature-long h = rw (lt-ltb 4096 (length s) h)
-
-  module _ (short : length s ≤ 4096) (x : ConventionRead) (found : x ≡ conventionAnswer (conventionAt s)) where
-    pub signature-refused : (r : Refusal) → x ≡ ConventionRead.Refused r → signatureOf s ≡ no r 0
-    unfolding signatureOf
-    signature-refused r q = rw (le-ltb 4096 (length s) short, first-refused (conventionAt s) r (convention-first s) (sym q ∙ found))
-
-    pub signature-known : (c : Convention) → x ≡ ConventionRead.Known c → signatureOf s ≡ afterConvention s c 4 1
-    unfolding signatureOf
-    signature-known c q = rw (le-ltb 4096 (length s) short, convention-known s x c found q)
+    pub signature-arguments : (c : Convention) (t : ResultType) (at b n : ℕ) → x ≡ HeadRead.Head c t at b n →
+        signatureAnswer (signatureOf s) ≡ withArguments c t n (length s) (argumentsIn c s at b)
+    signature-arguments c t at b n q =
+        let (r, read, same) = signature-then c t at b n q in
+        ap signatureAnswer read
+        ∙ arguments-answer c r n (argumentsIn c s at b)
+        ∙ ap (λ (u : ResultType). withArguments c u n (length s) (argumentsIn c s at b)) (sym same)

@@ -47,68 +47,87 @@ same-set : {l k : List Argument} {i j : ℕ} {t u : ValueType} → l ≡ k → i
 same-set p q r = cc
 
 -- the arguments so far, and that reading on from here gives all of them
-pub record Turn (c : Convention) (s : List ℕ) (start e : ℕ) (arguments : List Argument) (count next n : ℕ) : Type 0 where
-  pub ts : Trees
+pub record Turn (c : Convention) (s : List ℕ) (start e : ℕ) (ts : Trees) (count next n : ℕ) : Type 0 where
   pub left : ℕ
   pub few : count + left ≡ 64
   pub many : count ≡ countOf ts
-  pub types : arguments ≡ table c ts
   pub within : next ≤ e
   pub third : start + 3 * n ≤ next + 3
   pub rest : argumentsIn c s start e ≡ sequence (itemAt c 8 s e) e left next n ts
 
-module _ (c : Convention) (s : List ℕ) (start e : ℕ) where
-  pub turn-start : (l : List Argument) → l ≡ noArguments → start ≤ e → Turn c s start e l 0 start 1
-  unfolding argumentsIn countOf
-  turn-start l q h = record {
-    ts = none;
-    left = 64;
-    few = refl;
-    many = refl;
-    types = q ∙ table-none c;
-    within = h;
-    third = omega arith;
-    rest = refl;
-  }
+-- an argument more, whose tree is known to the definitions alone
+pub record More (c : Convention) (s : List ℕ) (start e : ℕ) (ts : Trees) (t : ValueType) (count next n : ℕ) : Type 0 where
+  pub tree : Tree
+  pub same : t ≡ typeOf c tree
+  pub turn : Turn c s start e (ts ▸ tree) count next n
 
-  module _ (l : List Argument) (count next n : ℕ) (turn : Turn c s start e l count next n) where
+module _ (c : Convention) (s : List ℕ) (start e : ℕ) where
+  pub turn-start : start ≤ e → Turn c s start e none 0 start 1
+  unfolding argumentsIn countOf
+  turn-start h = record { left = 64; few = refl; many = refl; within = h; third = omega arith; rest = refl }
+
+  module _ (ts : Trees) (count next n : ℕ) (turn : Turn c s start e ts count next n) where
     module _ (h : next < e) where
       pub turn-full : count ≡ 64 → argumentsIn c s start e ≡ no Refusal.TooManyArguments next
-      turn-full q = sequence-full (itemAt c 8 s e) e (argumentsIn c s start e) (turn .left) next n (turn .ts) (turn .rest) h (omega arith)
+      turn-full q = sequence-full (itemAt c 8 s e) e (argumentsIn c s start e) (turn .left) next n ts (turn .rest) h (omega arith)
 
       module _ (some : count ≡ 64 → ⊥) (r : ItemRead) (found : r ≡ itemAnswer c (itemAt c 8 s e next)) where
         pub turn-no : (x : Refusal) (place : ℕ) → r ≡ ItemRead.Refused x place → argumentsIn c s start e ≡ no x place
         turn-no x place q =
-            sequence-no (itemAt c 8 s e) e (argumentsIn c s start e) (turn .left) next n (turn .ts) (turn .rest) h (omega arith) x place
+            sequence-no (itemAt c 8 s e) e (argumentsIn c s start e) (turn .left) next n ts (turn .rest) h (omega arith) x place
             (item-no c (itemAt c 8 s e next) x place (sym q ∙ found))
 
-        pub turn-more : (t : ValueType) (after m : ℕ) → r ≡ ItemRead.Item t after m → Turn c s start e (set l count (argument t)) (count + 1) after (n + m)
+        pub turn-more : (t : ValueType) (after m : ℕ) → r ≡ ItemRead.Item t after m → More c s start e ts t (count + 1) after (n + m)
         unfolding countOf
         turn-more t after m q =
             let (tree, read, same) = item-got c (itemAt c 8 s e next) t after m (sym q ∙ found) in
             let a = item-answered c 8 s e next r t after m (omega arith) found q in
             record {
-              ts = turn .ts ▸ tree;
-              left = turn .left - 1;
-              few = omega arith;
-              many = omega arith;
-              types = same-set (turn .types) (turn .many) same ∙ table-more c (turn .ts) tree (omega arith);
-              within = a .inside;
-              third = omega arith;
-              rest = sequence-more (itemAt c 8 s e) e (argumentsIn c s start e) (turn .left) next n (turn .ts) (turn .rest) h (omega arith) tree after m read;
+              tree = tree;
+              same = same;
+              turn = record {
+                left = turn .left - 1;
+                few = omega arith;
+                many = omega arith;
+                within = a .inside;
+                third = omega arith;
+                rest = sequence-more (itemAt c 8 s e) e (argumentsIn c s start e) (turn .left) next n ts (turn .rest) h (omega arith) tree after m read;
+              };
             }
 
+    pub turn-last : e ≤ next → argumentsIn c s start e ≡ got ts next n
+    turn-last last = sequence-done (itemAt c 8 s e) e (argumentsIn c s start e) (turn .left) next n ts (turn .rest) last
+
+-- the same with the table of their types
+pub record Tabled (c : Convention) (s : List ℕ) (start e : ℕ) (arguments : List Argument) (count next n : ℕ) : Type 0 where
+  pub ts : Trees
+  pub turn : Turn c s start e ts count next n
+  pub types : arguments ≡ table c ts
+
+module _ (c : Convention) (s : List ℕ) (start e : ℕ) where
+  pub tabled-start : (l : List Argument) → l ≡ noArguments → start ≤ e → Tabled c s start e l 0 start 1
+  tabled-start l q h = record { ts = none; turn = turn-start c s start e h; types = q ∙ table-none c }
+
+  module _ (l : List Argument) (count next n : ℕ) (tabled : Tabled c s start e l count next n) where
+    pub tabled-more : next < e → (count ≡ 64 → ⊥) → (r : ItemRead) → r ≡ itemAnswer c (itemAt c 8 s e next) → (t : ValueType) (after m : ℕ) →
+        r ≡ ItemRead.Item t after m → Tabled c s start e (set l count (argument t)) (count + 1) after (n + m)
+    tabled-more h some r found t after m q =
+        let turn = tabled .turn in
+        let more = turn-more c s start e (tabled .ts) count next n turn h some r found t after m q in
+        record {
+          ts = tabled .ts ▸ more .tree;
+          turn = more .turn;
+          types = same-set (tabled .types) (turn .many) (more .same) ∙ table-more c (tabled .ts) (more .tree) (omega (arith, turn .few, turn .many));
+        }
+
     module _ (last : e ≤ next) (result : ResultType) (before : ℕ) where
-      all-read : argumentsIn c s start e ≡ got (turn .ts) next n
-      all-read = sequence-done (itemAt c 8 s e) e (argumentsIn c s start e) (turn .left) next n (turn .ts) (turn .rest) last
+      pub tabled-trailing : next < length s → refused Refusal.TrailingBytes next ≡ withArguments c result before (length s) (argumentsIn c s start e)
+      tabled-trailing h = rw (turn-last c s start e (tabled .ts) count next n (tabled .turn) last, lt-ltb next (length s) h)
 
-      pub turn-trailing : next < length s → refused Refusal.TrailingBytes next ≡ withArguments c result before (length s) (argumentsIn c s start e)
-      turn-trailing h = rw (all-read, lt-ltb next (length s) h)
-
-      pub turn-end : length s ≤ next →
+      pub tabled-end : length s ≤ next →
           _≡_ {A = SignatureRead} (record { outcome = Outcome.Accepted (before + n); convention = c; result = result; count = count; arguments = l })
           (withArguments c result before (length s) (argumentsIn c s start e))
-      turn-end h = rw (all-read, le-ltb next (length s) h) (cc (turn .many, turn .types))
+      tabled-end h = rw (turn-last c s start e (tabled .ts) count next n (tabled .turn) last, le-ltb next (length s) h) (cc (tabled .turn .many, tabled .types))
 
   pub arguments-no : (r : Refusal) (place : ℕ) → argumentsIn c s start e ≡ no r place → (result : ResultType) (before all : ℕ) →
       refused r place ≡ withArguments c result before all (argumentsIn c s start e)

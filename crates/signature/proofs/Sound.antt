@@ -20,10 +20,11 @@ use Rattle.items.proofs.Sound.{by-pick, by-choose, by-then, by-body, Got, Frame
 use Rattle.signature.specs.declared.ConventionCode.{ConventionCode}
 use Rattle.signature.specs.declared.ResultType.{ResultType}
 use Rattle.signature.specs.declared.ResultRead.{ResultRead}
-use Rattle.signature.specs.Answer.{resultAnswer}
-use Rattle.signature.specs.Signature.{Result, nothing, value, Signature}
-use Rattle.signature.specs.Read.{maxDepth, maxArguments, conventionCode, conventionBy, conventionAt, resultIn, resultAt, argumentsIn, argumentsAt, afterResult, afterConvention, signatureOf}
-use Rattle.signature.proofs.Laws.{result-got}
+use Rattle.signature.specs.declared.HeadRead.{HeadRead}
+use Rattle.signature.specs.Answer.{resultAnswer, headAnswer}
+use Rattle.signature.specs.Signature.{Result, nothing, value, Signature, Head}
+use Rattle.signature.specs.Read.{maxDepth, maxArguments, conventionCode, conventionBy, conventionAt, resultIn, resultAt, argumentsIn, argumentsAt, afterResult, afterConvention, signatureOf, headAfter, headOf}
+use Rattle.signature.proofs.Laws.{result-got, head-got}
 use Rattle.signature.specs.Encode.{conventionNumber, encodeResult, encode, resultItems, signatureItems, ResultWithin, Within}
 
 -- an item of the signature that ends the item's framing
@@ -222,6 +223,33 @@ pub result-third : (r : Result) → 3 * resultItems r ≤ length (encodeResult r
 unfolding resultItems encodeResult
 result-third nothing = omega arith
 result-third (value t) = tree-third t
+
+-- what comes before the arguments: they stand within the signature, after three bytes or more for each item
+pub record HeadBounded (s : List ℕ) (at b n : ℕ) : Type 0 where
+  pub inside : at ≤ b
+  pub within : b ≤ length s
+  pub short : length s ≤ 4096
+  pub third : 3 * n ≤ at
+
+abbrev HeadSound : List ℕ → Head → ℕ → ℕ → Type 0
+HeadSound s h next n = HeadBounded s next (h .end) n
+
+head-after-sound : (s : List ℕ) → length s ≤ 4096 → (c : Convention) (at n : ℕ) → ConventionSound s c at n → Got (HeadSound s) (headAfter s c at n)
+unfolding headAfter
+head-after-sound s short c at n first = by-then (ResultSound c s at) (HeadSound s) (resultAt c s at) _ (result-sound c s at)
+    (λ r next m second. by-body (HeadSound s) s 0x03 0x03 (length s) next _ (λ b framed.
+    let third = result-third r in
+    let ends = framed .ends in
+    record { inside = omega arith; within = framed .inside; short = short; third = omega arith }))
+
+head-sound : (s : List ℕ) → Got (HeadSound s) (headOf s)
+unfolding headOf
+head-sound s = by-choose (Got (HeadSound s)) (ltb 4096 (length s)) _ _ (λ _. tt)
+    (λ l. by-then (ConventionSound s) (HeadSound s) (conventionAt s) _ (convention-sound s) (head-after-sound s (ltb-false 4096 (length s) l)))
+
+pub head-bounded : (s : List ℕ) (x : HeadRead) (c : Convention) (t : ResultType) (at b n : ℕ) → x ≡ headAnswer (headOf s) →
+    x ≡ HeadRead.Head c t at b n → HeadBounded s at b n
+head-bounded s x c t at b n found q = let (r, read, same) = head-got (headOf s) c t at b n (sym q ∙ found) in rw read at (head-sound s)
 
 -- what a program's answer says of the result's item: it ends within the signature, three bytes or more for each item in it
 pub record Bounded (s : List ℕ) (at next n : ℕ) : Type 0 where

@@ -15,7 +15,8 @@ use Rattle.signature.specs.declared.Outcome.{Outcome}
 use Rattle.signature.specs.declared.SignatureRead.{SignatureRead}
 use Rattle.signature.specs.declared.ConventionRead.{ConventionRead}
 use Rattle.signature.specs.declared.ResultRead.{ResultRead}
-use Rattle.signature.specs.Signature.{Result, nothing, value, Signature}
+use Rattle.signature.specs.declared.HeadRead.{HeadRead}
+use Rattle.signature.specs.Signature.{Result, nothing, value, Signature, Head}
 use Rattle.signature.specs.Read.{maxArguments}
 
 abbrev pub conventionAnswer : Reading Convention → ConventionRead
@@ -29,6 +30,10 @@ resultType c (value t) = ResultType.Value (typeOf c t)
 abbrev pub resultAnswer : Convention → Reading Result → ResultRead
 resultAnswer c (got r next n) = ResultRead.Result (resultType c r) next n
 resultAnswer c (no r place) = ResultRead.Refused r place
+
+abbrev pub headAnswer : Reading Head → HeadRead
+headAnswer (got h next n) = HeadRead.Head (h .convention) (resultType (h .convention) (h .result)) next (h .end) n
+headAnswer (no r place) = HeadRead.Refused r place
 
 -- the table of arguments: their types in order, and an i8 in each place after them
 

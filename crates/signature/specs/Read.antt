@@ -10,7 +10,7 @@ use Rattle.items.specs.declared.Refusal.{Refusal}
 use Rattle.items.specs.Reading.{Reading, got, no, pick, choose, andThen, inBody}
 use Rattle.items.specs.Read.{bodyAt, sequence, itemAt}
 use Rattle.signature.specs.declared.ConventionCode.{ConventionCode}
-use Rattle.signature.specs.Signature.{Result, nothing, value, Signature}
+use Rattle.signature.specs.Signature.{Result, nothing, value, Signature, Head}
 
 -- 1: "signature over 4,096 bytes"
 abbrev pub maxLength : ℕ
@@ -67,3 +67,13 @@ afterConvention s c at n = andThen (resultAt c s at) (λ r next m. afterResult s
 -- "A signature is three items in this order, and nothing after"
 unfoldable pub signatureOf : List ℕ → Reading Signature
 signatureOf s = choose (ltb maxLength (length s)) (λ _. no Refusal.TooLong 0) (λ _. andThen (conventionAt s) (afterConvention s))
+
+-- The same items, read up to the arguments: `next` is where the third item's body starts. The law `signature-head` says that
+-- reading a signature is reading its head and then the arguments.
+unfoldable pub headAfter : List ℕ → Convention → ℕ → ℕ → Reading Head
+headAfter s c at n =
+    andThen (resultAt c s at) (λ r next m.
+    inBody (bodyAt s 0x03 0x03 (length s) next) next (λ b. got (record { convention = c; result = r; end = b }) (next + 3) (n + m)))
+
+unfoldable pub headOf : List ℕ → Reading Head
+headOf s = choose (ltb maxLength (length s)) (λ _. no Refusal.TooLong 0) (λ _. andThen (conventionAt s) (headAfter s))

@@ -1,4 +1,5 @@
 -- A signature: a calling convention, a result's type or none, and the arguments' types in order. Assumes nothing.
+use Prim.Native.Nat.{ℕ}
 use Rattle.types.specs.declared.Convention.{Convention}
 use Rattle.types.specs.Trees.{Tree, Trees}
 
@@ -10,3 +11,9 @@ pub record Signature : Type 0 where
   pub convention : Convention
   pub result : Result
   pub arguments : Trees
+
+-- what stands before the arguments, whose item's body ends at `end`
+pub record Head : Type 0 where
+  pub convention : Convention
+  pub result : Result
+  pub end : ℕ

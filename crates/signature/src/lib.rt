@@ -8,8 +8,8 @@ use types::ValueType;
 ghost use mathlib.Core.Path.{_≡_};
 ghost use Prim.Native.Nat.{_+_, _^_, _≤_, _<_};
 ghost use lib.ListN.{length};
-ghost use Rattle.signature.specs.Read.{conventionCode, conventionAt, resultIn, resultAt, argumentsIn, argumentsAt, afterConvention, signatureOf};
-ghost use Rattle.signature.specs.Answer.{noArguments, refused, conventionAnswer, resultAnswer, withArguments, signatureAnswer};
+ghost use Rattle.signature.specs.Read.{conventionCode, conventionAt, resultIn, resultAt, argumentsIn, headAfter, headOf, signatureOf};
+ghost use Rattle.signature.specs.Answer.{noArguments, refused, conventionAnswer, resultAnswer, headAnswer, withArguments, signatureAnswer};
 
 pub enum ResultType {
     Nothing,
@@ -52,6 +52,22 @@ pub enum ResultRead {
         ty: ResultType,
         next: usize,
         items: usize,
+    },
+    Refused {
+        reason: Refusal,
+        place: usize,
+    },
+}
+
+// What stands before the arguments: the convention and the result's type; the arguments' bytes are those from `at` to `end`,
+// and `earlier` items came before theirs.
+pub enum HeadRead {
+    Head {
+        convention: Convention,
+        result: ResultType,
+        at: usize,
+        end: usize,
+        earlier: usize,
     },
     Refused {
         reason: Refusal,
@@ -150,7 +166,7 @@ fn read_result(s: &[u8], c: Convention, at: usize) -> ResultRead
 }
 
 // The arguments, in the third item's body from `at` to `end`, and the signature's end; `earlier` items came before this one.
-fn read_arguments_body(
+fn read_arguments(
     s: &[u8],
     c: Convention,
     result: ResultType,
@@ -197,31 +213,49 @@ fn read_arguments_body(
     }
 }
 
-// The third item, at `at`, and the signature's end.
-fn read_arguments(
-    s: &[u8],
-    c: Convention,
-    result: ResultType,
-    at: usize,
-    earlier: usize,
-) -> SignatureRead
-    requires { ⌜ (at ≤ length (now s)) × (length (now s) ≤ 2 ^ 16) × (earlier ≤ 2 ^ 16) ⌝ }
-    ensures { λ r. ⌜ r ≡ withArguments c result earlier (length (now (s .entry))) (argumentsAt c (now (s .entry)) at) ⌝ }
+// The second item and the third one's header.
+fn read_head_after(s: &[u8], c: Convention) -> HeadRead
+    requires { ⌜ (4 ≤ length (now s)) × (length (now s) ≤ 2 ^ 16) ⌝ }
+    ensures { λ r. ⌜ r ≡ headAnswer (headAfter (now (s .entry)) c 4 1) ⌝ }
 {
-    match items::read_body(s, 0x03, 0x03, at, s.len()) {
-        Body::Refused(reason) => refuse(reason, at),
-        Body::To(to) => read_arguments_body(s, c, result, at + 3, to, earlier),
+    match read_result(s, c, 4) {
+        ResultRead::Refused { reason, place } => HeadRead::Refused { reason, place },
+        ResultRead::Result {
+            ty,
+            next: third,
+            items,
+        } => {
+            match items::read_body(s, 0x03, 0x03, third, s.len()) {
+                Body::Refused(reason) => HeadRead::Refused {
+                    reason,
+                    place: third,
+                },
+                Body::To(to) => HeadRead::Head {
+                    convention: c,
+                    result: ty,
+                    at: third + 3,
+                    end: to,
+                    earlier: 1 + items,
+                },
+            }
+        }
     }
 }
 
-// The second and the third item.
-fn read_types(s: &[u8], c: Convention) -> SignatureRead
-    requires { ⌜ (4 ≤ length (now s)) × (length (now s) ≤ 2 ^ 16) ⌝ }
-    ensures { λ r. ⌜ r ≡ signatureAnswer (afterConvention (now (s .entry)) c 4 1) ⌝ }
+// All that comes before the arguments, of any bytes at all. No table of arguments is made here: what plans without one starts
+// from this.
+pub fn read_head(s: &[u8]) -> HeadRead
+    ensures { λ r. ⌜ r ≡ headAnswer (headOf (now (s .entry))) ⌝ }
 {
-    match read_result(s, c, 4) {
-        ResultRead::Refused { reason, place } => refuse(reason, place),
-        ResultRead::Result { ty, next, items } => read_arguments(s, c, ty, next, 1 + items),
+    if 4096 < s.len() {
+        return HeadRead::Refused {
+            reason: Refusal::TooLong,
+            place: 0,
+        };
+    }
+    match read_convention(s) {
+        ConventionRead::Refused(reason) => HeadRead::Refused { reason, place: 0 },
+        ConventionRead::Known(c) => read_head_after(s, c),
     }
 }
 
@@ -229,11 +263,14 @@ fn read_types(s: &[u8], c: Convention) -> SignatureRead
 pub fn read_signature(s: &[u8]) -> SignatureRead
     ensures { λ r. ⌜ r ≡ signatureAnswer (signatureOf (now (s .entry))) ⌝ }
 {
-    if 4096 < s.len() {
-        return refuse(Refusal::TooLong, 0);
-    }
-    match read_convention(s) {
-        ConventionRead::Refused(reason) => refuse(reason, 0),
-        ConventionRead::Known(c) => read_types(s, c),
+    match read_head(s) {
+        HeadRead::Refused { reason, place } => refuse(reason, place),
+        HeadRead::Head {
+            convention,
+            result,
+            at,
+            end,
+            earlier,
+        } => read_arguments(s, convention, result, at, end, earlier),
     }
 }

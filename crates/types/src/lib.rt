@@ -96,12 +96,14 @@ pub fn size_of(c: Convention, t: ValueType) -> usize
     }
 }
 
-pub fn align_of(c: Convention, t: ValueType) -> usize
+// The alignment of a type that has this size: all but structs are aligned by their size, which is looked up once.
+fn align_of(c: Convention, t: ValueType, size: usize) -> usize
+    requires { ⌜ size ≡ sizeOf c t ⌝ }
     ensures { λ r. ⌜ r ≡ alignOf c t ⌝ }
 {
     match t {
-        ValueType::Integer(k) => integer_size(c, k),
-        ValueType::Float(f) => float_size(f),
+        ValueType::Integer(_) => size,
+        ValueType::Float(_) => size,
         ValueType::Struct(s) => s.align as usize,
     }
 }
@@ -179,7 +181,7 @@ impl Fields {
         let align = self.align;
         let empty = self.empty;
         let size = size_of(c, t);
-        let a = align_of(c, t);
+        let a = align_of(c, t, size);
         let start = round_up(end, a);
         let most = larger(align, a);
         let equivalent = equivalent_after(empty, t);

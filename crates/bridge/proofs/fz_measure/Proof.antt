@@ -1,11 +1,11 @@
--- By the plan's outcome.
+-- By the outcome.
 use borrow.Author.Needs.{needs}
 use Rattle.bridge.proofs.fz_measure.Statement.{statement}
 use Rattle.bridge.proofs.Laws.{accepted-sizes, refused-sizes}
 use Rattle.bridge.proofs.fz_measure.Tie as tie
 
-plan-of-requires : tie.Need-plan-of-requires
-plan-of-requires c κs = search needs
+measure-requires : tie.Need-measure-requires
+measure-requires c κs = search needs
 
 enum-told : tie.Need-enum-told
 enum-told c = search needs
@@ -17,12 +17,12 @@ number-of-requires : tie.Need-number-of-requires
 number-of-requires c κs = search needs
 
 returns : tie.Need-returns
-returns c = accepted-sizes _ _ (c .before .before .plan-of .ensures) _ (c .enum-told .given .1)
+returns c = accepted-sizes _ _ (c .before .before .measure .ensures) _ (c .enum-told .given .1)
 
 returns-2 : tie.Need-returns-2
-returns-2 c = refused-sizes _ _ (c .before .before .before .before .plan-of .ensures) _ _ (c .before .before .outcome .given .1) _ (c .number-of .ensures)
+returns-2 c = refused-sizes _ _ (c .before .before .before .before .measure .ensures) _ _ (c .before .before .outcome .given .1) _ (c .number-of .ensures)
 
 pub fz-measure-spec : {M : Type 1} → statement M
 fz-measure-spec =
     tie.close
-    (tie.spec plan-of-requires enum-told enum-known-outcome number-of-requires returns returns-2)
+    (tie.spec measure-requires enum-told enum-known-outcome number-of-requires returns returns-2)

@@ -2,7 +2,8 @@
 use Rattle.plan.proofs.Turns.{Going, Kept, length-types, types-drop, going-start, going-more, going-end}
 use Rattle.plan.specs.Plan.{planned, planIn, typesIn}
 use Rattle.plan.specs.declared.Plan.{Plan}
-use Rattle.convention.proofs.Bounds.{rules-lawful, named-roomy}
+use Rattle.plan.proofs.Fold.{reached-roomy}
+use Rattle.convention.proofs.Bounds.{rules-lawful}
 use Rattle.convention.specs.Step.{placed}
 use borrow.Author.Needs.{needs}
 use native.Mathlib.Omega.{arith}
@@ -65,7 +66,7 @@ step-requires c κs =
     let rules = turn .before .before .before .before .before .rules-of in
     let many = length-types (start .args .t1 .count) (start .args .t1 .arguments) (pre .room) in (
       rw (rules .ensures) (rules-lawful (start .args .t1 .convention)),
-      named-roomy (rules .result) (turn .loop .c) (g .named) (omega (arith, g .stack, g .within, pre .few)) (omega (arith, g .copies, g .within, pre .few)),
+      reached-roomy _ _ _ _ (omega (arith, g .within, pre .few)) (g .reached),
       rw (c .size-of .ensures) (pre .small (turn .loop .i) (omega arith)),
     )
 
@@ -82,7 +83,7 @@ add-values c =
     let pre = start .pre in
     let g = turn .loop .inv .0 in
     let many = length-types (start .args .t1 .count) (start .args .t1 .arguments) (pre .room) in
-    omega (arith, pre .small (turn .loop .i) (omega arith), g .small, g .within, pre .few, c .before .before .before .size-of .ensures)
+    omega (arith, pre .small (turn .loop .i) (omega arith), g .reached .small, g .within, pre .few, c .before .before .before .size-of .ensures)
 
 add-i : tie.Need-add-i Inv-loop μ-loop
 add-i c = omega (arith, c .before .before .before .before .before .before .before .before .before .before .before .before .before .before .pre .few, c .before .before .before .before .before .loop-test)

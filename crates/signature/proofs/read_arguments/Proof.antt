@@ -1,46 +1,98 @@
--- The header, then the body.
-use borrow.Author.Needs.{needs}
+-- The loop keeps the arguments so far, and that reading on from here gives all of them.
 use Rattle.signature.proofs.read_arguments.Statement.{statement}
-use mathlib.Core.Path.{sym, ap, _∙_}
+use mathlib.Core.Path.{_∙_}
+use Prim.Native.Nat.{_-_}
+use borrow.Author.Needs.{needs}
 use native.Mathlib.Omega.{arith}
-use Rattle.items.proofs.Sound.{body-framed}
-use Rattle.signature.specs.Answer.{withArguments}
-use Rattle.signature.proofs.Laws.{arguments-refused, arguments-to}
+use Rattle.items.proofs.Loop.{item-answered}
+use Rattle.signature.proofs.Loop.{Tabled, turn-full, turn-no, tabled-start, tabled-more, tabled-trailing, tabled-end, arguments-no}
 use Rattle.signature.proofs.read_arguments.Tie as tie
 
-read-body-requires : tie.Need-read-body-requires
-read-body-requires c κs = search needs
+abbrev Inv-loop : tie.InvT-loop
+Inv-loop s c result at end earlier arguments₀ count₀ next₀ items₀ arguments count next items = Tabled c s at end arguments count next items
 
-enum-known-reason : tie.Need-enum-known-reason
-enum-known-reason c = search needs
+abbrev μ-loop : tie.MeasureT-loop
+μ-loop s c result at end earlier arguments₀ count₀ next₀ items₀ arguments count next items = end - next
 
-refuse-requires : tie.Need-refuse-requires
+no-arguments-requires : tie.Need-no-arguments-requires Inv-loop μ-loop
+no-arguments-requires c κs = search needs
+
+loop-holds : tie.Need-loop-holds Inv-loop μ-loop
+loop-holds c = tabled-start _ _ _ _ _ (c .no-arguments .ensures) (omega arith)
+
+refuse-requires : tie.Need-refuse-requires Inv-loop μ-loop
 refuse-requires c κs = search needs
 
-enum-known-to : tie.Need-enum-known-to
-enum-known-to c = search needs
+returns : tie.Need-returns Inv-loop μ-loop
+returns c = c .refuse .ensures ∙ arguments-no _ _ _ _ _ _ (turn-full _ _ _ _ _ _ _ _ (c .before .before .before .loop .inv .turn) (c .before .before .loop-test .taken) (c .before .if1 .taken)) _ _ _
 
-add-read-arguments-body : tie.Need-add-read-arguments-body
-add-read-arguments-body c = search needs
+read-item-requires : tie.Need-read-item-requires Inv-loop μ-loop
+read-item-requires c κs = omega arith
 
-read-arguments-body-requires : tie.Need-read-arguments-body-requires
-read-arguments-body-requires c κs = let f = body-framed _ _ _ _ _ _ (sym (c .before .before .before .read-body .ensures) ∙ c .before .to .given .1) in omega arith
+enum-known-ty : tie.Need-enum-known-ty Inv-loop μ-loop
+enum-known-ty c = search needs
 
-returns : tie.Need-returns
-returns c = c .refuse .ensures ∙ sym (ap (withArguments _ _ _ _) (arguments-refused _ _ _ _ (sym (c .before .before .before .before .read-body .ensures) ∙ c .before .before .reason .given .1)))
+mul-arguments : tie.Need-mul-arguments Inv-loop μ-loop
+mul-arguments c = omega arith
 
-returns-2 : tie.Need-returns-2
-returns-2 c = c .read-arguments-body .ensures ∙ sym (ap (withArguments _ _ _ _) (arguments-to _ _ _ _ (sym (c .before .before .before .before .read-body .ensures) ∙ c .before .before .to .given .1)))
+array-set-from-arguments : tie.Need-array-set-from-arguments Inv-loop μ-loop
+array-set-from-arguments c = omega arith
+
+add-count : tie.Need-add-count Inv-loop μ-loop
+add-count c = omega arith
+
+add-items : tie.Need-add-items Inv-loop μ-loop
+add-items c = let a = item-answered _ _ _ _ _ _ _ _ _ (omega arith) (c .before .before .before .read-item .ensures) (c .before .ty .given .1) in omega arith
+
+loop-less : tie.Need-loop-less Inv-loop μ-loop
+loop-less c = let a = item-answered _ _ _ _ _ _ _ _ _ (omega arith) (c .before .before .before .read-item .ensures) (c .before .ty .given .1) in omega arith
+
+loop-again : tie.Need-loop-again Inv-loop μ-loop
+loop-again c = tabled-more _ _ _ _ _ _ _ _ (c .before .before .before .before .before .before .loop .inv) (c .before .before .before .before .before .loop-test .taken) (c .before .before .before .before .if1 .left) _ (c .before .before .before .read-item .ensures) _ _ _ (c .before .ty .given .1)
+
+enum-known-reason : tie.Need-enum-known-reason Inv-loop μ-loop
+enum-known-reason c = search needs
+
+refuse-requires-2 : tie.Need-refuse-requires-2 Inv-loop μ-loop
+refuse-requires-2 c κs = search needs
+
+returns-2 : tie.Need-returns-2 Inv-loop μ-loop
+returns-2 c = c .refuse2 .ensures ∙ arguments-no _ _ _ _ _ _ (turn-no _ _ _ _ _ _ _ _ (c .before .before .before .before .before .before .before .loop .inv .turn) (c .before .before .before .before .before .before .loop-test .taken) (c .before .before .before .before .before .if1 .left) _ (c .before .before .before .before .read-item .ensures) _ _ (c .before .before .reason .given .1)) _ _ _
+
+refuse-requires-3 : tie.Need-refuse-requires-3 Inv-loop μ-loop
+refuse-requires-3 c κs = search needs
+
+returns-3 : tie.Need-returns-3 Inv-loop μ-loop
+returns-3 c = c .refuse3 .ensures ∙ tabled-trailing _ _ _ _ _ _ _ _ (c .before .before .before .loop .inv) (c .before .before .loop-test .left) _ _ (c .before .if2 .taken)
+
+add-t24 : tie.Need-add-t24 Inv-loop μ-loop
+add-t24 c = omega arith
+
+returns-4 : tie.Need-returns-4 Inv-loop μ-loop
+returns-4 c = tabled-end _ _ _ _ _ _ _ _ (c .before .before .loop .inv) (c .before .loop-test .left) _ _ (c .if2 .left)
 
 pub read-arguments-spec : {M : Type 1} → statement M
 read-arguments-spec =
     tie.close
     (tie.spec
-    read-body-requires
-    enum-known-reason
+    Inv-loop
+    μ-loop
+    no-arguments-requires
+    loop-holds
     refuse-requires
-    enum-known-to
-    add-read-arguments-body
-    read-arguments-body-requires
     returns
-    returns-2)
+    read-item-requires
+    enum-known-ty
+    mul-arguments
+    array-set-from-arguments
+    add-count
+    add-items
+    loop-less
+    loop-again
+    enum-known-reason
+    refuse-requires-2
+    returns-2
+    refuse-requires-3
+    returns-3
+    add-t24
+    returns-4)

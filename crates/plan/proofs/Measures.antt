@@ -1,0 +1,111 @@
+-- The loop that measures: the arguments that are read and placed so far, and what each way out of it gives. Assumes nothing.
+use mathlib.Core.Path.{_≡_, refl, sym, ap, _∙_}
+use mathlib.Core.Bool.{Bool, true, false}
+use mathlib.Core.List.{List}
+use Prim.Native.Nat.{ℕ, _+_, _≤_, _<_}
+use native.Mathlib.Omega.{arith}
+use borrow.Author.Tests.{lt-ltb, le-ltb}
+use lib.ListN.{length}
+use lib.Dec.{ltb}
+use Rattle.types.specs.declared.Convention.{Convention}
+use Rattle.types.specs.declared.ValueType.{ValueType}
+use Rattle.types.specs.Sizes.{sizeOf}
+use Rattle.types.specs.Trees.{Trees, none, _▸_, typeOf}
+use Rattle.items.specs.declared.Refusal.{Refusal}
+use Rattle.items.specs.declared.ItemRead.{ItemRead}
+use Rattle.items.specs.Reading.{Reading, got, no, pick}
+use Rattle.items.specs.Read.{itemAt}
+use Rattle.items.specs.Answer.{itemAnswer}
+use Rattle.items.proofs.Loop.{item-answered}
+use Rattle.signature.specs.declared.Outcome.{Outcome}
+use Rattle.signature.specs.declared.ResultType.{ResultType}
+use Rattle.signature.specs.declared.HeadRead.{HeadRead}
+use Rattle.signature.specs.Signature.{Result}
+use Rattle.signature.specs.Read.{argumentsIn, signatureOf, headOf}
+use Rattle.signature.specs.Answer.{resultType, headAnswer}
+use Rattle.signature.proofs.Laws.{thenArguments, signature-then}
+use Rattle.signature.proofs.Loop.{Turn, turn-start, turn-more, turn-last}
+use Rattle.convention.specs.declared.Cursor.{Cursor}
+use Rattle.convention.specs.declared.Rules.{Rules}
+use Rattle.convention.specs.Step.{Lawful, rulesOf, nextOf, startOf, areaOf}
+use Rattle.plan.specs.declared.Measured.{Measured}
+use Rattle.plan.specs.Plan.{lastOf, valuesOf, typesOf, startIn, planIn, refused, planAnswer, measureOf, planWith}
+use Rattle.plan.proofs.Fold.{last-more, values-more, Reached, reached-start, reached-more}
+
+-- ---- the loop
+
+-- reading on from here gives all arguments; the cursor k and the v bytes of values are those of the arguments so far
+pub record Measuring (c : Convention) (s : List ℕ) (at e : ℕ) (r : Rules) (start : Cursor) (k : Cursor) (v count next n : ℕ) : Type 0 where
+  pub ts : Trees
+  pub turn : Turn c s at e ts count next n
+  pub last : k ≡ lastOf c r start (typesOf c ts)
+  pub total : v ≡ valuesOf c (typesOf c ts)
+  pub reached : Reached r k v count
+
+same-next : (c : Convention) (r : Rules) {k l : Cursor} {t u : ValueType} → k ≡ l → t ≡ u → nextOf r k t (sizeOf c t) ≡ nextOf r l u (sizeOf c u)
+same-next c r p q = cc
+
+module _ (c : Convention) (s : List ℕ) (at e : ℕ) (r : Rules) where
+  pub measuring-start : (hidden : Bool) → Lawful r → at ≤ e → Measuring c s at e r (startOf r hidden) (startOf r hidden) 0 0 at 1
+  unfolding typesOf lastOf valuesOf
+  measuring-start hidden l h = record { ts = none; turn = turn-start c s at e h; last = refl; total = refl; reached = reached-start r hidden l }
+
+  module _ (start k : Cursor) (v count next n : ℕ) (m : Measuring c s at e r start k v count next n) where
+    pub measuring-more : Lawful r → next < e → (count ≡ 64 → ⊥) → (x : ItemRead) → x ≡ itemAnswer c (itemAt c 8 s e next) → (t : ValueType) (after j : ℕ) →
+        x ≡ ItemRead.Item t after j → Measuring c s at e r start (nextOf r k t (sizeOf c t)) (v + sizeOf c t) (count + 1) after (n + j)
+    unfolding typesOf
+    measuring-more l h some x found t after j q =
+        let a = item-answered c 8 s e next x t after j (omega arith) found q in
+        let more = turn-more c s at e (m .ts) count next n (m .turn) h some x found t after j q in
+        let so-far : List ValueType = typesOf c (m .ts) in
+        let u : ValueType = typeOf c (more .tree) in
+        record {
+          ts = m .ts ▸ more .tree;
+          turn = more .turn;
+          last = same-next c r (m .last) (more .same) ∙ sym (last-more c r start so-far u);
+          total = omega (arith, m .total, ap (sizeOf c) (more .same), values-more c so-far u);
+          reached = reached-more r k v count t (sizeOf c t) l (a .sized .small) (m .reached);
+        }
+
+-- ---- the answers
+
+module _ (c : Convention) (s : List ℕ) (at e : ℕ) (result : ResultType) (earlier : ℕ) where
+  pub measure-no : (x : Refusal) (place : ℕ) → argumentsIn c s at e ≡ no x place →
+      measureOf (refused x place) ≡ measureOf (planWith c result earlier (length s) (argumentsIn c s at e))
+  measure-no x place q = rw q
+
+  module _ (k : Cursor) (v count next n : ℕ) (m : Measuring c s at e (rulesOf c) (startIn c result) k v count next n) (last : e ≤ next) where
+    pub measure-trailing : next < length s →
+        measureOf (refused Refusal.TrailingBytes next) ≡ measureOf (planWith c result earlier (length s) (argumentsIn c s at e))
+    measure-trailing h = rw (turn-last c s at e (m .ts) count next n (m .turn) last, lt-ltb next (length s) h)
+
+    pub measure-end : length s ≤ next →
+        _≡_ {A = Measured} (record { outcome = Outcome.Accepted (earlier + n); area = areaOf (rulesOf c) k; values = v; copies = k .copies })
+        (measureOf (planWith c result earlier (length s) (argumentsIn c s at e)))
+    unfolding planIn
+    measure-end h = rw (turn-last c s at e (m .ts) count next n (m .turn) last, le-ltb next (length s) h) (cc (m .last, m .total))
+
+-- the plan of what is read from the arguments on
+plan-then : (s : List ℕ) (c : Convention) (r : Result) (n : ℕ) (x : Reading Trees) →
+    planAnswer (thenArguments s c r n x) ≡ planWith c (resultType c r) n (length s) x
+unfolding planAnswer
+plan-then s c r n (got ts next m) = go (ltb next (length s))
+  where
+    go : (more : Bool) →
+        planAnswer (pick more (no Refusal.TrailingBytes next) (got (record { convention = c; result = r; arguments = ts }) next (n + m)))
+        ≡ pick more (refused Refusal.TrailingBytes next) (planIn (n + m) c (resultType c r) (typesOf c ts))
+    go true = refl
+    go false = refl
+plan-then s c r n (no x place) = refl
+
+pub measured-refused : (s : List ℕ) (r : Refusal) (place : ℕ) → signatureOf s ≡ no r place → measureOf (refused r place) ≡ measureOf (planAnswer (signatureOf s))
+unfolding planAnswer
+measured-refused s r place q = rw q
+
+pub plan-arguments : (s : List ℕ) (x : HeadRead) → x ≡ headAnswer (headOf s) → (c : Convention) (t : ResultType) (at b n : ℕ) → x ≡ HeadRead.Head c t at b n →
+    planAnswer (signatureOf s) ≡ planWith c t n (length s) (argumentsIn c s at b)
+plan-arguments s x found c t at b n q =
+    let (r, read, same) = signature-then s x found c t at b n q in
+    ap planAnswer read
+    ∙ plan-then s c r n (argumentsIn c s at b)
+    ∙ ap (λ (u : ResultType). planWith c u n (length s) (argumentsIn c s at b)) (sym same)

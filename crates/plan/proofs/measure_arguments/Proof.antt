@@ -1,0 +1,136 @@
+-- The loop reads and places one argument a turn; reading on from here gives all of them, and the cursor and the size are those of
+-- the arguments so far (`Measuring`).
+use borrow.Author.Needs.{needs}
+use native.Mathlib.Omega.{arith}
+use Prim.Native.Nat.{_-_}
+use mathlib.Core.Path.{_∙_}
+use Rattle.items.proofs.Loop.{item-answered}
+use Rattle.signature.proofs.Loop.{turn-full, turn-no}
+use Rattle.convention.specs.Step.{placed}
+use Rattle.convention.proofs.Bounds.{rules-lawful}
+use Rattle.plan.proofs.Fold.{reached-roomy}
+use Rattle.plan.proofs.Measures.{Measuring, measuring-start, measuring-more, measure-no, measure-trailing, measure-end}
+use Rattle.plan.proofs.measure_arguments.Statement.{statement}
+use Rattle.plan.proofs.measure_arguments.Tie as tie
+
+abbrev Inv-loop : tie.InvT-loop
+Inv-loop s convention at end earlier rules hidden c₀ values₀ count₀ next₀ items₀ c values count next items = Measuring convention s at end rules c₀ c values count next items
+
+abbrev μ-loop : tie.MeasureT-loop
+μ-loop s convention at end earlier rules hidden c₀ values₀ count₀ next₀ items₀ c values count next items = end - next
+
+rules-of-requires : tie.Need-rules-of-requires Inv-loop μ-loop
+rules-of-requires c κs = search needs
+
+hidden-in-requires : tie.Need-hidden-in-requires Inv-loop μ-loop
+hidden-in-requires c κs = search needs
+
+start-requires : tie.Need-start-requires Inv-loop μ-loop
+start-requires c κs = search needs
+
+loop-holds : tie.Need-loop-holds Inv-loop μ-loop
+loop-holds c = rw (c .start .ensures, c .before .before .rules-of .ensures) (measuring-start _ _ _ _ _ _ (rules-lawful (c .before .before .before .before .args .convention)) (omega arith))
+
+no-measure-requires : tie.Need-no-measure-requires Inv-loop μ-loop
+no-measure-requires c κs = search needs
+
+returns : tie.Need-returns Inv-loop μ-loop
+returns c = c .no-measure .ensures ∙ measure-no _ _ _ _ _ _ _ _ (turn-full _ _ _ _ _ _ _ _ (c .before .before .before .loop .inv .turn) (c .before .before .loop-test .taken) (c .before .if1 .taken))
+
+read-item-requires : tie.Need-read-item-requires Inv-loop μ-loop
+read-item-requires c κs = omega arith
+
+enum-known-ty : tie.Need-enum-known-ty Inv-loop μ-loop
+enum-known-ty c = search needs
+
+size-of-requires : tie.Need-size-of-requires Inv-loop μ-loop
+size-of-requires c κs = search needs
+
+step-requires : tie.Need-step-requires Inv-loop μ-loop
+step-requires c κs =
+    let a = item-answered _ _ _ _ _ _ _ _ _ (omega arith) (c .before .before .before .before .read-item .ensures) (c .before .before .ty .given .1) in
+    let m = c .before .before .before .before .before .before .before .loop .inv in (
+      rw (c .before .before .before .before .before .before .before .before .before .before .rules-of .ensures) (rules-lawful (c .before .before .before .before .before .before .before .before .before .before .before .before .args .convention)),
+      reached-roomy _ _ _ _ (omega (arith, m .turn .few)) (m .reached),
+      rw (c .size-of .ensures) (a .sized .small),
+    )
+
+add-values : tie.Need-add-values Inv-loop μ-loop
+add-values c =
+    let a = item-answered _ _ _ _ _ _ _ _ _ (omega arith) (c .before .before .before .before .before .before .read-item .ensures) (c .before .before .before .before .ty .given .1) in
+    let m = c .before .before .before .before .before .before .before .before .before .loop .inv in
+    omega (arith, a .sized .small, m .reached .small, m .turn .few, c .before .before .size-of .ensures)
+
+add-count : tie.Need-add-count Inv-loop μ-loop
+add-count c = omega (arith, c .before .before .before .before .before .before .before .before .before .loop .inv .turn .few)
+
+add-items : tie.Need-add-items Inv-loop μ-loop
+add-items c = let a = item-answered _ _ _ _ _ _ _ _ _ (omega arith) (c .before .before .before .before .before .before .read-item .ensures) (c .before .before .before .before .ty .given .1) in omega arith
+
+loop-less : tie.Need-loop-less Inv-loop μ-loop
+loop-less c = let a = item-answered _ _ _ _ _ _ _ _ _ (omega arith) (c .before .before .before .before .before .before .read-item .ensures) (c .before .before .before .before .ty .given .1) in omega arith
+
+loop-again : tie.Need-loop-again Inv-loop μ-loop
+unfolding placed
+loop-again c =
+    let rules = c .before .before .before .before .before .before .before .before .before .before .before .before .rules-of .ensures in
+    rw (c .before .step .ensures, c .before .before .size-of .ensures, rules)
+    (measuring-more _ _ _ _ _ _ _ _ _ _ _ (rw rules at (c .before .before .before .before .before .before .before .before .before .loop .inv)) (rules-lawful (c .before .before .before .before .before .before .before .before .before .before .before .before .before .before .args .convention)) (c .before .before .before .before .before .before .before .before .loop-test .taken) (c .before .before .before .before .before .before .before .if1 .left) _ (c .before .before .before .before .before .before .read-item .ensures) _ _ _ (c .before .before .before .before .ty .given .1))
+
+enum-known-reason : tie.Need-enum-known-reason Inv-loop μ-loop
+enum-known-reason c = search needs
+
+no-measure-requires-2 : tie.Need-no-measure-requires-2 Inv-loop μ-loop
+no-measure-requires-2 c κs = search needs
+
+returns-2 : tie.Need-returns-2 Inv-loop μ-loop
+returns-2 c = c .no-measure2 .ensures ∙ measure-no _ _ _ _ _ _ _ _ (turn-no _ _ _ _ _ _ _ _ (c .before .before .before .before .before .before .before .loop .inv .turn) (c .before .before .before .before .before .before .loop-test .taken) (c .before .before .before .before .before .if1 .left) _ (c .before .before .before .before .read-item .ensures) _ _ (c .before .before .reason .given .1))
+
+no-measure-requires-3 : tie.Need-no-measure-requires-3 Inv-loop μ-loop
+no-measure-requires-3 c κs = search needs
+
+returns-3 : tie.Need-returns-3 Inv-loop μ-loop
+returns-3 c =
+    let m = rw (c .before .before .before .before .before .before .rules-of .ensures, c .before .before .before .before .start .ensures, c .before .before .before .before .before .hidden-in .ensures) at (c .before .before .before .loop .inv) in
+    c .no-measure3 .ensures ∙ measure-trailing _ _ _ _ _ _ _ _ _ _ _ m (c .before .before .loop-test .left) (c .before .if2 .taken)
+
+area-of-requires : tie.Need-area-of-requires Inv-loop μ-loop
+area-of-requires c κs = rw (c .before .before .before .before .before .rules-of .ensures) (rules-lawful (c .before .before .before .before .before .before .before .args .convention))
+
+add-t25 : tie.Need-add-t25 Inv-loop μ-loop
+add-t25 c = omega arith
+
+returns-4 : tie.Need-returns-4 Inv-loop μ-loop
+returns-4 c =
+    let m = rw (c .before .before .before .before .before .before .rules-of .ensures, c .before .before .before .before .start .ensures, c .before .before .before .before .before .hidden-in .ensures) at (c .before .before .before .loop .inv) in
+    rw (c .area-of .ensures, c .before .before .before .before .before .before .rules-of .ensures) (measure-end _ _ _ _ _ _ _ _ _ _ _ m (c .before .before .loop-test .left) (c .before .if2 .left))
+
+pub measure-arguments-spec : {M : Type 1} → statement M
+measure-arguments-spec =
+    tie.close
+    (tie.spec
+    Inv-loop
+    μ-loop
+    rules-of-requires
+    hidden-in-requires
+    start-requires
+    loop-holds
+    no-measure-requires
+    returns
+    read-item-requires
+    enum-known-ty
+    size-of-requires
+    step-requires
+    add-values
+    add-count
+    add-items
+    loop-less
+    loop-again
+    enum-known-reason
+    no-measure-requires-2
+    returns-2
+    no-measure-requires-3
+    returns-3
+    area-of-requires
+    add-t25
+    returns-4)
