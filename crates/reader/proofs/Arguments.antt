@@ -1,19 +1,18 @@
 -- Stepping through an accepted signature gives its arguments in order: past two items and into the third stands the first
 -- argument's item, and the item after k others is the k-th argument's, of its type and at its place in the encoding.
 -- Assumes nothing.
-use Prim.Native.Nat.{ℕ, zero, suc, _+_, _-_, _≤_, _<_}
+use Prim.Native.Nat.{ℕ, zero, suc, _+_, _≤_, _<_}
 use mathlib.Core.Path.{_≡_, refl, sym, ap, _∙_}
-use mathlib.Core.Bool.{Bool, true, false}
 use mathlib.Core.List.{List}
 use lib.ListN.{length, getD, length-append}
 use lib.Dec.{ltb, eqb}
 use native.Mathlib.Omega.{arith}
-use borrow.Author.Tests.{lt-ltb, le-ltb, eq-eqb, ne-eqb, ltb-true, ltb-false, eqb-true}
+use borrow.Author.Tests.{le-ltb, eq-eqb, ne-eqb, ltb-false, eqb-true}
 use Rattle.types.specs.declared.Convention.{Convention}
 use Rattle.types.specs.Trees.{Tree, Trees, none, _▸_, typeOf, countOf}
 use Rattle.items.specs.declared.Refusal.{Refusal}
 use Rattle.items.specs.declared.Body.{Body}
-use Rattle.items.specs.Reading.{Reading, got, no, pick, andThen, inBody}
+use Rattle.items.specs.Reading.{Reading, got, no, pick, inBody}
 use Rattle.items.specs.Read.{lengthAt, bodyAt, sequence, itemAt}
 use Rattle.items.specs.Encode.{encodeTree, encodeTrees}
 use Rattle.items.proofs.Laws.{body-to}
@@ -27,7 +26,7 @@ use Rattle.signature.specs.Encode.{encodeResult}
 use Rattle.signature.specs.Answer.{signatureAnswer}
 use Rattle.signature.proofs.Sound.{convention-read, result-read}
 use Rattle.reader.specs.declared.ArgumentRead.{ArgumentRead}
-use Rattle.reader.specs.Step.{endIn, bodyIn, bodyStart, bodyEnd, typeIn}
+use Rattle.reader.specs.Step.{bodyIn, bodyStart, bodyEnd, typeIn}
 use Rattle.reader.specs.Argument.{argumentIn, argumentAnswer, argumentsStart, steppedTo}
 use Rattle.reader.proofs.Laws.{end-within, body-here, start-found, end-found}
 
@@ -229,6 +228,10 @@ arguments-stepped s g p index h =
         (argumentsIn (g .convention) s (10 + length (encodeResult (g .result))) (length s)) →
         Stepped (g .convention) s (length s) (10 + length (encodeResult (g .result))) (p .short) (omega arith) none (10 + length (encodeResult (g .result))) (g .arguments) (p .next) (p .count)
     got-of s g p all = rw (p .read) at all
+
+pub arguments-in-order : (s : List ℕ) (g : Signature) (next n : ℕ) → signatureOf s ≡ got g next n → (index : ℕ) → index < countOf (g .arguments) →
+    steppedTo (g .convention) s (argumentsStart s) (length s) index ≡ argumentIn (g .convention) (10 + length (encodeResult (g .result))) index (g .arguments)
+arguments-in-order s g next n q index h = arguments-stepped s g (rw q at (signature-placed s)) index h
 
 -- what the whole reading's answer says of one argument
 

@@ -1,7 +1,6 @@
 -- The stepping definitions, a law for each way through them. Assumes nothing.
 use Prim.Native.Nat.{ℕ, zero, suc, _+_, _-_, _≤_, _<_}
 use mathlib.Core.Path.{_≡_, refl, sym, ap, _∙_}
-use mathlib.Core.Bool.{Bool, true, false}
 use mathlib.Core.List.{List}
 use lib.ListN.{length, getD}
 use lib.Dec.{ltb}
@@ -14,14 +13,14 @@ use Rattle.types.specs.Trees.{Tree, typeOf}
 use Rattle.items.specs.declared.Refusal.{Refusal}
 use Rattle.items.specs.declared.Body.{Body}
 use Rattle.items.specs.declared.ItemRead.{ItemRead}
-use Rattle.items.specs.Reading.{Reading, got, no, pick}
+use Rattle.items.specs.Reading.{got, no}
 use Rattle.items.specs.Read.{bodyAt, itemAt}
 use Rattle.items.specs.Answer.{itemAnswer}
 use Rattle.items.proofs.Laws.{body-short, item-refused, item-got, item-no}
-use Rattle.items.proofs.Sound.{by-pick, Framed, body-framed}
+use Rattle.items.proofs.Sound.{by-pick, body-framed}
 use Rattle.reader.specs.declared.Header.{Header}
 use Rattle.reader.specs.declared.ArgumentRead.{ArgumentRead}
-use Rattle.reader.specs.Step.{endIn, leftAt, bodyIn, headerBy, headerIn, startBy, bodyStart, endBy, bodyEnd, typeIn}
+use Rattle.reader.specs.Step.{endIn, leftAt, bodyIn, headerIn, bodyStart, bodyEnd, typeIn}
 use Rattle.reader.specs.Argument.{steppedTo}
 
 -- the end

@@ -1,7 +1,6 @@
 -- Three bytes further, where the header is not refused.
 use borrow.Author.Needs.{needs}
 use mathlib.Core.Path.{sym, _∙_}
-use native.Mathlib.Omega.{arith}
 use Rattle.reader.proofs.body_start.Statement.{statement}
 use Rattle.reader.proofs.Laws.{body-inside, start-found, start-refused}
 use Rattle.reader.proofs.body_start.Tie as tie

@@ -3,7 +3,7 @@
 -- The struct is Copy: what it owns is had twice, one copy is kept for the exit, and of the other the callee has the slice's part, beside
 -- the lifetime's token, which comes back. Assumes nothing.
 use mathlib.Core.Path.{_≡_, refl}
-use Prim.Native.Nat.{ℕ, _<_, _^_}
+use Prim.Native.Nat.{_<_, _^_}
 use mathlib.Core.List.{[], _∷_}
 use lib.Dec.{T as Holds}
 use lib.ListN.{length}

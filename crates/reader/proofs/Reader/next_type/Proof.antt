@@ -141,6 +141,10 @@ module _ {M : Type 1} (𝓤 : URA M) (H : Heap 𝓤) (A : Atoms 𝓤) (W : Given
   abbrev vh : Values (D .parts)
   vh = (h .signature, (h .at, (h .end, tt)))
 
+  -- what whoever holds the reader knows of its machine value
+  typed : Is (B κ′) h (T′.lowered h ∷ []) → Holds (hasTy (T′.mir (named 1)) (T′.lowered h)) × WT (T′.lowered h)
+  typed was = LL.lawful D L 𝓤 H A W .typed h _ was .0
+
   -- the call of `type_in`: what it is passed, what it asks, and what is known of its result
   abbrev type-args : RefT (List ℕ) × (ℕ × (ℕ × (Convention × Unit {0})))
   type-args = (h .signature, (h .at, (h .end, (c, tt))))
@@ -203,20 +207,19 @@ module _ {M : Type 1} (𝓤 : URA M) (H : Heap 𝓤) (A : Atoms 𝓤) (W : Given
         opens ! tt (B κ′) {h = h} b o (λ vs. spelt ! (B κ′) (Is (B κ′)) (shows 𝓤 H A (B κ′)) (LL.vals D L) (LL.tells D L) fullShare h vs b o $
         use1 W (‵ (fat fullShare (T′.mir erased) b o (T′.lowered h))) (W .laws .raw-at fullShare (T′.mir erased) b o (T′.lowered h)) $
         move ! (1 ∷ []) $ peeks ! (B κ′) (Is (B κ′)) (shows 𝓤 H A (B κ′)) h (T′.lowered h ∷ []) (λ was. move ! (1 ∷ 0 ∷ []) $
-        let wt = LL.lawful D L 𝓤 H A W .typed h _ was .0 in
         -- [the reader's cell; what it owns; the open borrow; obs; auth; 'a's token; the convention's; the locals from the last to room for _0]
-        assigns ! (of-opd ! (load ! (from ! (hop ! (look ! 19 refl) (fld ! refl (stop !)))) (look-in ! 0 (sub ! 1 refl (whole !))))) (from ! (stop !)) (init ! 15 refl (tt, wt .1 .1 .0)) $
-        assigns ! (of-opd ! (load ! (from ! (hop ! (look ! 19 refl) (fld ! refl (stop !)))) (look-in ! 0 (sub ! 0 refl (whole !))))) (from ! (stop !)) (init ! 9 refl (tt, wt .1 .0)) $
-        assigns ! (of-opd ! (load ! (from ! (hop ! (look ! 19 refl) (fld ! refl (stop !)))) (look-in ! 0 (sub ! 2 refl (whole !))))) (from ! (stop !)) (init ! 7 refl (tt, wt .1 .1 .1 .0)) $
+        assigns ! (of-opd ! (load ! (from ! (hop ! (look ! 19 refl) (fld ! refl (stop !)))) (look-in ! 0 (sub ! 1 refl (whole !))))) (from ! (stop !)) (init ! 15 refl (tt, typed was .1 .1 .0)) $
+        assigns ! (of-opd ! (load ! (from ! (hop ! (look ! 19 refl) (fld ! refl (stop !)))) (look-in ! 0 (sub ! 0 refl (whole !))))) (from ! (stop !)) (init ! 9 refl (tt, typed was .1 .0)) $
+        assigns ! (of-opd ! (load ! (from ! (hop ! (look ! 19 refl) (fld ! refl (stop !)))) (look-in ! 0 (sub ! 2 refl (whole !))))) (from ! (stop !)) (init ! 7 refl (tt, typed was .1 .1 .1 .0)) $
         -- `type_in`
-        move ! (5 ∷ 1 ∷ 6 ∷ []) $ use3 W (raw (TypeIn 𝓤 H A at-mem run .pre to-type) ⊛ ‵ Kept) (goes-type (wt .1 .1 .0 .fits) (wt .1 .1 .1 .0 .fits)) $ split ! $
+        move ! (5 ∷ 1 ∷ 6 ∷ []) $ use3 W (raw (TypeIn 𝓤 H A at-mem run .pre to-type) ⊛ ‵ Kept) (goes-type (typed was .1 .1 .0 .fits) (typed was .1 .1 .1 .0 .fits)) $ split ! $
         calls-at ! fm (TypeIn 𝓤 H A at-mem run) known-type to-type (and-then ! (load ! (from ! (stop !)) (look ! 8 refl)) (and-then ! (load ! (from ! (stop !)) (look ! 14 refl)) (and-then ! (load ! (from ! (stop !)) (look ! 6 refl)) (and-then ! (load ! (from ! (stop !)) (look ! 16 refl)) (no-more !))))) (λ u.
         use1 W (later (some (λ (t : ItemRead). ((‵ (flft κ′ q′) ⊛ ‵ ftrue) ⊛ ‵ (ItemOwn t u)) ⊛ raw (ensured 𝓤 H A type-in.ended (type-in.clauses 𝓤 H A at-mem run) (κ′, tt) type-args tt t)))) (id⊢ 𝓤 _) $ await ! tt $ pick ! (λ t.
         split ! $ move ! (1 ∷ []) $ use1 W (raw (fact 𝓤 (t ≡ found))) (said-type t) $ heard ! (t ≡ found) (λ e. split ! $ move ! (1 ∷ []) $
         -- [the item's; 'a's token; what is kept; the reader's cell; the open borrow; obs; auth; the locals]
         peeks ! S.the-row (Is S.the-row) (shows 𝓤 H A S.the-row) t (u ∷ []) (λ is. land ! (from ! (stop !)) (init ! 13 refl (EL.lawful S.the-type S′.the-laws 𝓤 H A W tt .typed t _ is .0)) $
         -- `place_after`
-        use1 W (‵ (ItemOwn t u) ⊛ ‵ (ItemOwn t u)) (EL.copy S.the-type S′.the-copy 𝓤 H A W .twice t (u ∷ [])) $ split ! $ use1 W (raw (PlaceAfter 𝓤 H A at-mem run .pre (to-place t u))) (goes-place t u (wt .1 .1 .0 .fits)) $
+        use1 W (‵ (ItemOwn t u) ⊛ ‵ (ItemOwn t u)) (EL.copy S.the-type S′.the-copy 𝓤 H A W .twice t (u ∷ [])) $ split ! $ use1 W (raw (PlaceAfter 𝓤 H A at-mem run .pre (to-place t u))) (goes-place t u (typed was .1 .1 .0 .fits)) $
         calls-at ! fm (PlaceAfter 𝓤 H A at-mem run) known-place (to-place t u) (and-then ! (load ! (from ! (stop !)) (look ! 14 refl)) (and-then ! (load ! (from ! (stop !)) (look ! 16 refl)) (no-more !))) (λ w.
         use1 W (later (some (λ (r : ℕ). (‵ ftrue ⊛ ‵ (usize .own r (w ∷ []))) ⊛ raw (ensured 𝓤 H A place-after.ended (place-after.clauses 𝓤 H A at-mem run) tt (t, (h .at, tt)) tt r)))) (id⊢ 𝓤 _) $ await ! tt $ pick ! (λ r.
         split ! $ move ! (1 ∷ []) $ use1 W (raw (fact 𝓤 (r ≡ placeAfter t (h .at)))) (said-place t r) $ heard ! (r ≡ placeAfter t (h .at)) (λ e′. split ! $ drop ! $
