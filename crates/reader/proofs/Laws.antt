@@ -46,14 +46,14 @@ Inside s at (Body.Refused r) = Unit {0}
 
 inside : (s : List ℕ) (at e : ℕ) → Inside s at (bodyIn s at e)
 unfolding bodyIn
-inside s at e = by-pick (Inside s at) (ltb 4096 (length s)) _ _ (λ _. tt) (λ _. go (bodyAt s 0x00 0xff (endIn s e) at) refl)
+inside s at e = by-pick (Inside s at) (ltb 4096 (length s)) _ _ (λ _. tt) (λ _. go _ _ (bodyAt s _ _ (endIn s e) at) refl)
   where
-    go : (x : Body) → bodyAt s 0x00 0xff (endIn s e) at ≡ x → Inside s at x
-    go (Body.To b) found =
-        let framed = body-framed s 0x00 0xff (endIn s e) at b found in
+    go : (low high : ℕ) (x : Body) → bodyAt s low high (endIn s e) at ≡ x → Inside s at x
+    go low high (Body.To b) found =
+        let framed = body-framed s low high (endIn s e) at b found in
         let within = end-inside s e (endIn s e) refl in
         omega arith
-    go (Body.Refused r) found = tt
+    go low high (Body.Refused r) found = tt
 
 -- the parts of an item
 

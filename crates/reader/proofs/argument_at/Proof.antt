@@ -16,7 +16,7 @@ enum-known-outcome-2 : tie.Need-enum-known-outcome-2
 enum-known-outcome-2 c = search needs
 
 returns : tie.Need-returns
-returns c = argument-missing _ _ _ (c .before .before .before .before .before .read-signature .ensures) _ (c .before .before .before .outcome2 .given .1) (c .if1 .taken)
+returns c = argument-missing _ _ _ (c .before .before .before .before .before .read-signature .ensures) _ (c .before .before .before .outcome2 .given .1) (omega arith)
 
 arguments-start-requires : tie.Need-arguments-start-requires
 arguments-start-requires c κs = search needs
