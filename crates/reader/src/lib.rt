@@ -8,8 +8,6 @@ use signature::Outcome;
 use types::Convention;
 use types::ValueType;
 ghost use mathlib.Core.Path.{_≡_};
-ghost use Prim.Native.Nat.{_-_};
-ghost use lib.ListN.{length};
 ghost use Rattle.items.specs.Answer.{itemAnswer};
 ghost use Rattle.signature.specs.Read.{signatureOf};
 ghost use Rattle.reader.specs.Step.{endIn, leftAt, bodyIn, headerIn, bodyStart, bodyEnd, typeIn, placeAfter};
@@ -46,6 +44,7 @@ fn end_in(s: &[u8], end: usize) -> usize
     end
 }
 
+// How many bytes of a part are left from `at` on.
 fn left_at(s: &[u8], at: usize, end: usize) -> usize
     ensures { λ r. ⌜ r ≡ leftAt (now (s .entry)) at end ⌝ }
 {
@@ -70,6 +69,7 @@ fn body_in(s: &[u8], at: usize, end: usize) -> Body
     items::read_body(s, 0x00, 0xff, at, to)
 }
 
+// The same, with the item's tag.
 fn header_in(s: &[u8], at: usize, end: usize) -> Header
     ensures { λ r. ⌜ r ≡ headerIn (now (s .entry)) at end ⌝ }
 {
@@ -82,6 +82,7 @@ fn header_in(s: &[u8], at: usize, end: usize) -> Header
     }
 }
 
+// Where the item's body starts; `at` if the header is refused.
 fn body_start(s: &[u8], at: usize, end: usize) -> usize
     ensures { λ r. ⌜ r ≡ bodyStart (now (s .entry)) at end ⌝ }
 {
@@ -91,6 +92,7 @@ fn body_start(s: &[u8], at: usize, end: usize) -> usize
     }
 }
 
+// Where the item's body ends; `at` if the header is refused.
 fn body_end(s: &[u8], at: usize, end: usize) -> usize
     ensures { λ r. ⌜ r ≡ bodyEnd (now (s .entry)) at end ⌝ }
 {
