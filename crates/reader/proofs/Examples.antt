@@ -1,0 +1,42 @@
+-- Document 01's example, stepped through: each item's header, the arguments' types, and one argument of the whole.
+-- Assumes nothing.
+use Prim.Native.Nat.{ℕ}
+use mathlib.Core.Path.{_≡_, refl}
+use mathlib.Core.List.{List, [], _∷_, map}
+use Rattle.types.specs.declared.Convention.{Convention}
+use Rattle.types.specs.declared.IntegerKind.{IntegerKind}
+use Rattle.types.specs.declared.FloatFormat.{FloatFormat}
+use Rattle.types.specs.declared.ValueType.{ValueType}
+use Rattle.types.specs.Structs.{roundUp, withField, shapeOf}
+use Rattle.types.specs.Trees.{typeOf, fieldsOf, countOf}
+use Rattle.items.specs.declared.Refusal.{Refusal}
+use Rattle.items.specs.Read.{bodyAt, integerCode, floatCode, integerAt, floatAt, sequence, sizedAt, contentsAt, itemBy, structAt, itemAt}
+use Rattle.items.specs.Encode.{item, encodeTree, encodeTrees}
+use Rattle.signature.specs.Encode.{encodeResult}
+use Rattle.signature.specs.Read.{conventionCode, conventionAt, resultIn, resultAt, argumentsIn, argumentsAt, afterResult, afterConvention, signatureOf}
+use Rattle.reader.specs.declared.Header.{Header}
+use Rattle.reader.specs.declared.ArgumentRead.{ArgumentRead}
+use Rattle.reader.specs.Step.{endIn, bodyIn, headerIn, bodyStart, bodyEnd, typeIn}
+use Rattle.reader.specs.Argument.{argumentIn, argumentAnswer, argumentsStart, steppedTo}
+
+-- "PPC64, no result, arguments i32 and double: `01 0001 01 02 0000 03 0008 10 0001 04 11 0001 01`"
+pub example : List ℕ
+example = 0x01 ∷ 0 ∷ 1 ∷ 1 ∷ 0x02 ∷ 0 ∷ 0 ∷ 0x03 ∷ 0 ∷ 8 ∷ 0x10 ∷ 0 ∷ 1 ∷ 4 ∷ 0x11 ∷ 0 ∷ 1 ∷ 1 ∷ []
+
+-- three items, at 0, 4 and 7, and none at 18
+pub headers : map (λ (at : ℕ). headerIn example at 18) (0 ∷ 4 ∷ 7 ∷ 18 ∷ [])
+    ≡ Header.Found 0x01 4 ∷ Header.Found 0x02 7 ∷ Header.Found 0x03 18 ∷ Header.Refused Refusal.Truncated ∷ []
+unfolding example endIn bodyIn headerIn bodyAt
+headers = refl
+
+-- "arguments i32 and double", at 10 and 14
+pub arguments : map (λ (index : ℕ). argumentAnswer index (signatureOf example)) (0 ∷ 1 ∷ 2 ∷ [])
+    ≡ ArgumentRead.Argument (ValueType.Integer IntegerKind.I32) 10 ∷ ArgumentRead.Argument (ValueType.Float FloatFormat.Double) 14 ∷ ArgumentRead.Missing ∷ []
+unfolding example bodyAt integerCode floatCode integerAt floatAt sequence roundUp withField shapeOf fieldsOf sizedAt contentsAt itemBy structAt itemAt conventionCode conventionAt resultIn resultAt argumentsIn argumentsAt afterResult afterConvention signatureOf item encodeTree encodeTrees encodeResult typeOf countOf argumentIn
+arguments = refl
+
+-- the same by stepping
+pub stepped : map (λ (k : ℕ). steppedTo Convention.Ppc64 example (argumentsStart example) 18 k) (0 ∷ 1 ∷ [])
+    ≡ ArgumentRead.Argument (ValueType.Integer IntegerKind.I32) 10 ∷ ArgumentRead.Argument (ValueType.Float FloatFormat.Double) 14 ∷ []
+unfolding example endIn bodyIn bodyStart bodyEnd typeIn bodyAt integerCode floatCode integerAt floatAt sequence roundUp withField shapeOf fieldsOf sizedAt contentsAt itemBy structAt itemAt typeOf argumentsStart steppedTo
+stepped = refl

@@ -1,0 +1,42 @@
+-- One argument of a signature: its type, and the place of its item by the encoder. Below it, the same by stepping.
+-- Assumes nothing.
+use Prim.Native.Nat.{ℕ, zero, suc, _+_}
+use mathlib.Core.List.{List}
+use lib.ListN.{length}
+use lib.Dec.{eqb}
+use Rattle.types.specs.declared.Convention.{Convention}
+use Rattle.types.specs.Trees.{Tree, Trees, none, _▸_, typeOf, countOf}
+use Rattle.items.specs.Reading.{Reading, got, no, pick}
+use Rattle.items.specs.Encode.{encodeTrees}
+use Rattle.signature.specs.Signature.{Signature}
+use Rattle.signature.specs.Encode.{encodeResult}
+use Rattle.reader.specs.declared.ArgumentRead.{ArgumentRead}
+use Rattle.reader.specs.Step.{bodyStart, bodyEnd, typeIn}
+
+-- Number `index`, counted from 0, of the types ts, whose items stand one after the other from `start` on.
+unfoldable pub argumentIn : Convention → ℕ → ℕ → Trees → ArgumentRead
+argumentIn c start index none = ArgumentRead.Missing
+argumentIn c start index (ts ▸ t) =
+    pick (eqb index (countOf ts)) (ArgumentRead.Argument (typeOf c t) (start + length (encodeTrees ts))) (argumentIn c start index ts)
+
+-- of a whole reading: the convention's item is 4 bytes, the other two have a header of 3 each
+abbrev pub argumentAnswer : ℕ → Reading Signature → ArgumentRead
+argumentAnswer index (got g next n) = argumentIn (g .convention) (10 + length (encodeResult (g .result))) index (g .arguments)
+argumentAnswer index (no r place) = ArgumentRead.Refused r place
+
+-- the arguments' first item: past two items, and into the third
+unfoldable pub argumentsStart : List ℕ → ℕ
+argumentsStart s = bodyStart s (bodyEnd s (bodyEnd s 0 (length s)) (length s)) (length s)
+
+abbrev pub onward : Reading Tree → (ℕ → ArgumentRead) → ArgumentRead
+onward (got t next n) f = f next
+onward (no r place) f = ArgumentRead.Refused r place
+
+abbrev pub here : Convention → ℕ → Reading Tree → ArgumentRead
+here c at (got t next n) = ArgumentRead.Argument (typeOf c t) at
+here c at (no r place) = ArgumentRead.Refused r place
+
+-- the type item after k others, from `at` on; the first refusal on the way is the answer
+unfoldable pub steppedTo : Convention → List ℕ → ℕ → ℕ → ℕ → ArgumentRead
+steppedTo c s at e zero = here c at (typeIn c s at e)
+steppedTo c s at e (suc k) = onward (typeIn c s at e) (λ next. steppedTo c s next e k)
