@@ -54,6 +54,12 @@ fn example(name: &str) -> String {
 #[test]
 fn reads_the_examples() {
     let readings = [
+        ("limit-64-arguments.hex", 0, "items 67\n"),
+        ("limit-65-arguments.hex", 1, "refused 7 at 266\n"),
+        ("limit-depth-8.hex", 0, "items 12\n"),
+        ("limit-depth-9.hex", 1, "refused 6 at 34\n"),
+        ("limit-struct-of-256-bytes.hex", 0, "items 36\n"),
+        ("limit-struct-of-264-bytes.hex", 1, "refused 8 at 10\n"),
         ("ppc64-dgemm.hex", 0, "items 17\n"),
         ("ppc64-figure-3-18.hex", 0, "items 17\n"),
         ("ppc64-ldiv.hex", 0, "items 8\n"),
