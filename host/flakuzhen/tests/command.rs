@@ -91,7 +91,12 @@ fn all_examples() -> Vec<String> {
 
 /// What stands next to the example's signature.
 fn stored_listing(name: &str) -> String {
-    let path = examples().join(name).with_extension("listing");
+    stored(&examples().join(name), "listing")
+}
+
+/// The text with this ending next to a file.
+fn stored(file: &Path, ending: &str) -> String {
+    let path = file.with_extension(ending);
     std::fs::read_to_string(&path).unwrap_or_else(|fault| panic!("{path:?}: {fault}"))
 }
 
@@ -225,18 +230,16 @@ fn replays_the_examples() {
         if list.extension() != Some(OsStr::new("calls")) {
             continue;
         }
-        let stored = std::fs::read_to_string(list.with_extension("out")).expect("its output");
-        // both examples show refusals
-        prints(
-            &run(&[OsStr::new("replay"), list.as_os_str()], b""),
-            1,
-            &stored,
-        );
+        // each example shows a refusal
+        let words = [OsStr::new("replay"), list.as_os_str()];
+        prints(&run(&words, b""), 1, &stored(&list, "out"));
+        let words = [&words[..], &[OsStr::new("--picture")]].concat();
+        prints(&run(&words, b""), 1, &stored(&list, "picture"));
         let text = std::fs::read(&list).expect("the list");
-        prints(&run(&["replay", "-"], &text), 1, &stored);
+        prints(&run(&["replay", "-"], &text), 1, &stored(&list, "out"));
         replayed += 1;
     }
-    assert_eq!(replayed, 2);
+    assert_eq!(replayed, 3);
 }
 
 #[test]
