@@ -2,7 +2,7 @@
 # make test   the whole gate: every proof, every must-fail edit, every comparison
 # make lib    build/libflakuzhen.a and build/libflakuzhen.so, from proved code alone
 # make soak   the comparisons on fresh seeds; SECONDS=n says for how long
-# make bench  the time of the proved planner beside the second program's
+# make bench  the time of planning, filling and reading beside the second program's
 # make lint   what the gate does not ask: layout and clippy of the Rust code
 # make clean  remove all that is built
 
@@ -11,6 +11,8 @@ CC = gcc
 
 # the inputs of a proof: a change of any file or folder here proves the library again
 PROVED_FROM := crates.txt $(shell find crates -print 2>/dev/null)
+# the crates that export functions
+BRIDGES := bridge bridge_values bridge_frames
 ARCHIVE := build/libflakuzhen.a
 SHARED := build/libflakuzhen.so
 EXAMPLE := examples/signatures/ppc64-figure-3-18.hex
@@ -28,11 +30,16 @@ test:
 
 lib: $(ARCHIVE) $(SHARED)
 
-# rt writes the archive only where the bridge and all below it are proved
+# rt writes a bridge's archive, which has one object, only where the bridge and all below it are proved,
+# and fails else; the library has the objects of all bridges
 $(ARCHIVE): $(PROVED_FROM)
-	rt staticlib bridge
-	@mkdir -p build
-	cp target/staticlib/libbridge.a $@
+	@rm -rf $@ build/objects
+	@mkdir -p build/objects
+	set -e; for bridge in $(BRIDGES); do \
+	    rt staticlib $$bridge; \
+	    ar x --output build/objects target/staticlib/lib$$bridge.a; \
+	done
+	ar rcsD $@ $(BRIDGES:%=build/objects/%.o)
 
 $(SHARED): $(ARCHIVE) include/flakuzhen.map
 	$(CC) -shared -o $@ -Wl,-soname,libflakuzhen.so -Wl,--version-script,include/flakuzhen.map \
@@ -44,6 +51,8 @@ soak: $(ARCHIVE)
 # a profile of its own: with all optimisations and without the tests' checks of sums
 bench: $(ARCHIVE)
 	cd host && cargo run --profile bench --offline --locked --quiet -p compare --bin bench
+	@echo
+	cd host && cargo run --profile bench --offline --locked --quiet -p compare --bin bench-marshal
 
 lint: $(ARCHIVE)
 	cd host && cargo fmt --check && cargo clippy $(CARGO_WORDS) --all-targets -- -D warnings

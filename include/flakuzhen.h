@@ -276,6 +276,108 @@ fz_answer fz_write_memory(fz_machine *machine, uint64_t address, const uint8_t *
  * stays as it is. */
 fz_answer fz_leave(fz_machine *machine, const uint8_t *memory, size_t memory_length);
 
+/* ---- Calls: values put into registers and memory, and taken back ----
+ *
+ * Each function here works on one call, described by its signature, and on buffers of these kinds.
+ * Numbers in them are big-endian, and addresses are those of the machine that the signature is
+ * for; they need not mean anything to the program that calls this library. fz_measure gives the
+ * lengths that a call needs, fz_listing the registers and doublewords of each argument.
+ *
+ *   values  the values of all arguments, in order and without gaps, each of its type's size: 2
+ *           bytes for an i16, a struct's padding included
+ *   image   the registers, 512 bytes: general register n at 8n, floating register n at 256 + 8n
+ *   area    the parameter area in the caller's stack frame, which begins 48 bytes above the stack
+ *           pointer on PPC64, 160 on Z. It may be longer than the call needs
+ *   copies  Z alone: the values of the arguments that are passed by reference. `copy_base` is the
+ *           address of its first byte. It may be longer than the call needs
+ *
+ * How a value stands in its registers and doublewords:
+ *
+ *   integer         extended to 64 bits, a signed one with its sign, an unsigned one with zeros
+ *   single          PPC64: in a floating register the double of the same value (fz_widen); in the
+ *                   area the second 4 bytes of a doubleword, after 4 zeros
+ *                   Z: in a floating register the first 4 bytes, 4 zeros after them; in the area
+ *                   the last 4 of 8 bytes, after 4 zeros
+ *   double          its 8 bytes
+ *   long double     PPC64: its 16 bytes, in two doublewords; Z: by reference
+ *   struct          PPC64: its bytes from the first doubleword's first byte on, zeros after them
+ *                   to the last doubleword's end
+ *                   Z: one with nothing but a single or a double in it, nested or not, as that;
+ *                   another of 1, 2, 4 or 8 bytes at the end of 8 bytes, after zeros; any other by
+ *                   reference
+ *   by reference    the value in the copies, its address in the register or the 8 bytes
+ *
+ * What a call changes must not overlap anything else that it is lent. A refused call changes
+ * nothing. `place` is 0 unless the signature is refused, and `items` always. */
+
+/* Why a call is refused whose signature is accepted. */
+enum fz_marshal_refusal {
+    FZ_VALUES_SIZE = 10,    /* values not exactly of the arguments' total size */
+    FZ_AREA_TOO_SHORT = 11, /* the area shorter than the call needs */
+    FZ_BAD_COPIES = 12,     /* filling a call with copies, the last of which ends at C: the copy
+                               buffer shorter than C, copy_base no multiple of 8, or copy_base + C
+                               over 2^64 - 1 */
+    FZ_OUTSIDE_COPIES = 13, /* reading: an argument by reference that does not lie wholly inside
+                               the copy buffer */
+    /* FZ_NOT_WIDENED = 14     a single's floating register on PPC64 that holds no widened single */
+    FZ_IMAGE_SIZE = 15,     /* the image not 512 bytes */
+    FZ_NO_VIEW = 24         /* home or view for Z, or a view of an argument that is not there */
+};
+
+/* A part of a buffer: `length` bytes from offset `start` on. */
+typedef struct {
+    fz_answer answer;
+    uint64_t start;
+    uint64_t length;
+} fz_part;
+
+/* Puts the values of the arguments into the image, the area and the copies, as a caller does. The
+ * copies stand at multiples of 8 from copy_base on, in the arguments' order. Where the result is a
+ * struct, or on Z a long double, `hidden` is the address for it and goes to r3 on PPC64, to r2 on
+ * Z; else it is ignored. So are the copies and copy_base of a call without copies. Only the named
+ * registers, doublewords and copies change: all other bytes of the three buffers stay.
+ * Refuses, in this order: what fz_read_signature refuses, FZ_IMAGE_SIZE, FZ_VALUES_SIZE,
+ * FZ_AREA_TOO_SHORT, FZ_BAD_COPIES. */
+fz_answer fz_fill(const uint8_t *sig, size_t sig_length,
+                  const uint8_t *values, size_t values_length,
+                  uint8_t *image, size_t image_length,
+                  uint8_t *area, size_t area_length,
+                  uint8_t *copies, size_t copies_length,
+                  uint64_t copy_base, uint64_t hidden);
+
+/* Takes the values of the arguments out of the image, the area and the copies, as a callee does.
+ * After fz_fill with the same signature and copy_base they are the values that it was given, all
+ * bytes. Zeros and signs around a value are not looked at. An argument by reference is read from
+ * wherever its address points: that need not be where fz_fill would put it, nor a multiple of 8,
+ * but must lie with all its bytes between copy_base and copy_base + copies_length, which are
+ * compared as numbers without limit. The hidden address is not returned.
+ * Refuses, in this order: what fz_read_signature refuses, FZ_IMAGE_SIZE, FZ_VALUES_SIZE,
+ * FZ_AREA_TOO_SHORT, then from the first argument on FZ_OUTSIDE_COPIES and FZ_NOT_WIDENED. */
+fz_answer fz_read(const uint8_t *sig, size_t sig_length,
+                  uint8_t *values, size_t values_length,
+                  const uint8_t *image, size_t image_length,
+                  const uint8_t *area, size_t area_length,
+                  const uint8_t *copies, size_t copies_length,
+                  uint64_t copy_base);
+
+/* PPC64. Every argument has its place in the area, also one that is passed in registers. This
+ * copies those that came in registers to their places, as a callee does that wants its arguments
+ * side by side: general registers as they are, a floating register's single as it would stand in
+ * memory. The hidden address's doubleword and all other bytes stay.
+ * Refuses, in this order: what fz_read_signature refuses, FZ_NO_VIEW, FZ_IMAGE_SIZE,
+ * FZ_AREA_TOO_SHORT, FZ_NOT_WIDENED. */
+fz_answer fz_home(const uint8_t *sig, size_t sig_length,
+                  const uint8_t *image, size_t image_length,
+                  uint8_t *area, size_t area_length);
+
+/* PPC64. Where the bytes of argument `index`, counted from 0, stand in an area in which all
+ * arguments stand (fz_home): the value's own, without what is around them. In a refused answer
+ * start and length are 0; else the length is never 0.
+ * Refuses, in this order: what fz_read_signature refuses, FZ_NO_VIEW, FZ_AREA_TOO_SHORT. */
+fz_part fz_view(const uint8_t *area, size_t area_length,
+                const uint8_t *sig, size_t sig_length,
+                uint64_t index);
+
 #ifdef __cplusplus
 }
 #endif

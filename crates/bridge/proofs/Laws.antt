@@ -11,9 +11,10 @@ use Rattle.signature.specs.Signature.{Signature}
 use Rattle.signature.specs.Answer.{signatureAnswer}
 use Rattle.plan.specs.declared.Plan.{Plan}
 use Rattle.plan.specs.Plan.{planIn, planAnswer}
-use Rattle.bridge.specs.declared.Answer.{Answer}
+use Rattle.answers.specs.declared.Answer.{Answer}
+use Rattle.answers.specs.Answers.{yes}
 use Rattle.bridge.specs.declared.Sizes.{Sizes}
-use Rattle.bridge.specs.Surface.{readingAnswer, yes, planSizes, sizesAnswer}
+use Rattle.bridge.specs.Surface.{readingAnswer, planSizes, sizesAnswer}
 
 module _ (r : SignatureRead) where
   pub accepted-answer : (x : Reading Signature) → r ≡ signatureAnswer x → (n : ℕ) → r .outcome ≡ Outcome.Accepted n →

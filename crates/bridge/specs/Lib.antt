@@ -1,3 +1,2 @@
 -- What the exported functions answer. Assumes nothing.
 pub mod Surface
-pub mod Frames

@@ -8,20 +8,18 @@ use Rattle.items.specs.Reading.{Reading, got, no}
 use Rattle.signature.specs.Signature.{Signature}
 use Rattle.plan.specs.declared.Plan.{Plan}
 use Rattle.plan.specs.Plan.{planAnswer}
-use Rattle.bridge.specs.declared.Answer.{Answer}
+use Rattle.answers.specs.declared.Answer.{Answer}
+use Rattle.answers.specs.Answers.{answerOf, yes}
 use Rattle.bridge.specs.declared.Sizes.{Sizes}
 use Rattle.bridge.specs.declared.NarrowingAnswer.{NarrowingAnswer}
 
 abbrev pub refusedAnswer : Refusal → ℕ → Answer
-refusedAnswer r place = record { number = numberOf r; place = place; items = 0 }
+refusedAnswer r place = answerOf (numberOf r) place
 
 -- "An accepted reading reports its count of items"; number 0 says yes
 unfoldable pub readingAnswer : Reading Signature → Answer
 readingAnswer (got g next n) = record { number = 0; place = 0; items = n }
 readingAnswer (no r place) = refusedAnswer r place
-
-abbrev pub yes : Answer
-yes = record { number = 0; place = 0; items = 0 }
 
 -- of a plan: the sizes of the values, the area and the copies; a refused signature's are 0
 abbrev pub planSizes : Answer → Plan → Sizes

@@ -1,7 +1,6 @@
-// The surface for C and Rust, which include/flakuzhen.h declares: each function calls one of the crates below and lays its
-// answer out in 64-bit words.
-pub mod frames; // frames.rt: the frame machine
-
+// The surface for C and Rust, which include/flakuzhen.h declares: signatures, plans and floats. Each function calls one of the crates
+// below and lays its answer out in 64-bit words.
+use answers::Answer;
 use ieee::Narrowed;
 use signature::Outcome;
 ghost use mathlib.Core.Path.{_≡_};
@@ -13,14 +12,6 @@ ghost use Rattle.listing.specs.Text.{listingOf};
 ghost use Rattle.listing.specs.Writing.{printed};
 ghost use Rattle.signature.specs.Read.{signatureOf};
 ghost use Rattle.bridge.specs.Surface.{readingAnswer, sizesAnswer, narrowingAnswer};
-
-// `fz_answer`: number 0 is yes.
-#[repr(C)]
-pub struct Answer {
-    pub number: u64,
-    pub place: u64,
-    pub items: u64,
-}
 
 // `fz_sizes`: the bytes that the values, the parameter area and the copies of a call take.
 #[repr(C)]

@@ -2,13 +2,15 @@
 use mathlib.Core.Path.{_≡_, refl, sym, ap, ap₂, _∙_, subst}
 use mathlib.Core.Bool.{Bool, true, false}
 use mathlib.Core.List.{List, [], _∷_}
-use Prim.Native.Nat.{ℕ, zero, suc, _+_, _-_, _≤_, _<_}
+use Prim.Native.Nat.{ℕ, zero, suc, _+_, _-_, _*_, _≤_, _<_}
 use native.Mathlib.Omega.{arith}
 use borrow.Author.Tests.{ltb-false, leb-false}
 use native.Mathlib.Nat.{add-sub-cancel-left}
+use lib.Dec.{leb}
 use lib.ListN.{length, getD, take, drop}
 use Rattle.words.specs.Splice.{part}
 use Rattle.types.specs.declared.Convention.{Convention}
+use Rattle.types.specs.declared.FloatFormat.{FloatFormat}
 use Rattle.types.specs.declared.ValueType.{ValueType}
 use Rattle.types.specs.Sizes.{sizeOf}
 use Rattle.items.specs.Reading.{Reading, got, no}
@@ -20,8 +22,8 @@ use Rattle.signature.specs.Read.{signatureOf}
 use Rattle.signature.specs.Answer.{resultType, signatureAnswer}
 use Rattle.convention.specs.declared.Cursor.{Cursor}
 use Rattle.convention.specs.declared.Rules.{Rules}
-use Rattle.convention.specs.Values.{pick}
-use Rattle.convention.specs.Power.{words}
+use Rattle.convention.specs.Values.{pick, share}
+use Rattle.convention.specs.Power.{words, fprs, shareOf, powerShare}
 use Rattle.convention.specs.Step.{ppc64, rulesOf, spanOf, nextOf}
 use Rattle.convention.proofs.Bounds.{area-holds}
 use Rattle.plan.specs.declared.Plan.{Plan}
@@ -31,22 +33,48 @@ use Rattle.slots.specs.declared.Answer.{Answer}
 use Rattle.slots.specs.Forms.{roomOf, startsAtHead, ownStart}
 use Rattle.slots.specs.Placements.{Placement, placement, placements}
 use Rattle.slots.specs.Limits.{Held, All}
-use Rattle.slots.specs.Refusals.{firstOf, afterReading, isDone}
+use Rattle.slots.specs.Refusals.{firstOf, afterReading, isDone, isRefused}
 use Rattle.slots.specs.Arguments.{argumentsIn, argumentsOf, planFor, rulesFor, Carried}
 use Rattle.slots.proofs.Answered.{arguments-got, carried-same}
 use Rattle.slots.proofs.Turns.{argumentAt, next-argument}
 use Rattle.slots.proofs.Refusals.{first-done}
-use Rattle.home.specs.View.{viewTests, viewAnswer, isRefused, noArgument, ownBytes, viewOf}
+use Rattle.home.specs.declared.ViewPart.{ViewPart}
+use Rattle.home.specs.Home.{Homed}
+use Rattle.home.specs.View.{viewTests, viewAnswer, noArgument, ownBytes, ownPart, viewPart, viewOf}
 
 -- ---- each argument
-pub record Homed (a : ℕ) (p : Placement) : Type 0 where
-  pub direct : p .span .indirect ≡ false
-  pub within : p .span .home .start + roomOf ppc64 (p .size) ≤ a
-  pub least : p .size ≤ roomOf ppc64 (p .size)
+
+float-end : (k : Cursor) (t : ValueType) (n : ℕ) → 0 < spanOf ppc64 k t n .floating .count → startsAtHead ppc64 t ≡ false
+unfolding spanOf powerShare shareOf fprs startsAtHead
+float-end k (ValueType.Integer x) n h = refl
+float-end k (ValueType.Float FloatFormat.Single) n h = refl
+float-end k (ValueType.Float FloatFormat.Double) n h = refl
+float-end k (ValueType.Float FloatFormat.LongDouble) n h = absurd (omega arith)
+float-end k (ValueType.Struct s) n h = absurd (omega arith)
+
+-- words in memory follow those in registers, whatever the share
+memory-follows : (k : Cursor) (t : ValueType) (n : ℕ) → spanOf ppc64 k t n .floating .count ≡ 0
+    → spanOf ppc64 k t n .memory .start ≡ k .stack + 8 * spanOf ppc64 k t n .general .count
+unfolding spanOf powerShare shareOf fprs
+memory-follows k (ValueType.Integer x) n h = omega arith
+memory-follows k (ValueType.Float FloatFormat.Single) n h = go (leb 1 (14 - k .floating)) h
+  where
+    go : (b : Bool) → pick b (share 0 1 0) (share 0 0 (words 8 n)) .floating ≡ 0
+        → k .stack + 8 * (words 8 n - pick b (share 0 1 0) (share 0 0 (words 8 n)) .memory) ≡ k .stack + 8 * pick b (share 0 1 0) (share 0 0 (words 8 n)) .general
+    go true e = absurd (omega arith)
+    go false e = omega arith
+memory-follows k (ValueType.Float FloatFormat.Double) n h = go (leb 1 (14 - k .floating)) h
+  where
+    go : (b : Bool) → pick b (share 0 1 0) (share 0 0 (words 8 n)) .floating ≡ 0
+        → k .stack + 8 * (words 8 n - pick b (share 0 1 0) (share 0 0 (words 8 n)) .memory) ≡ k .stack + 8 * pick b (share 0 1 0) (share 0 0 (words 8 n)) .general
+    go true e = absurd (omega arith)
+    go false e = omega arith
+memory-follows k (ValueType.Float FloatFormat.LongDouble) n h = omega arith
+memory-follows k (ValueType.Struct s) n h = omega arith
 
 step-homed : (k : Cursor) (t : ValueType) (n a : ℕ) → nextOf ppc64 k t n .stack ≤ a → Homed a (placement t n (spanOf ppc64 k t n))
 unfolding spanOf nextOf words
-step-homed k t n a h = record { direct = refl; within = omega arith; least = omega arith }
+step-homed k t n a h = record { direct = refl; within = omega arith; least = omega arith; float = float-end k t n; follows = memory-follows k t n }
 
 all-homed : (k : Cursor) (ts : List ValueType) (a : ℕ) → lastOf Convention.Ppc64 ppc64 k ts .stack ≤ a
     → All (Homed a) (placements Convention.Ppc64 ts (spansOf Convention.Ppc64 ppc64 k ts))
@@ -68,9 +96,9 @@ refused-homed : (reason : _) (place : ℕ) → All (Homed (planAnswer (no reason
 unfolding argumentsIn placements All
 refused-homed reason place = tt
 
-pub homed : (s : List ℕ) → signatureAnswer (signatureOf s) .convention ≡ Convention.Ppc64 → All (Homed (planFor s .area)) (argumentsOf s)
+pub homed-all : (s : List ℕ) → signatureAnswer (signatureOf s) .convention ≡ Convention.Ppc64 → All (Homed (planFor s .area)) (argumentsOf s)
 unfolding argumentsOf planAnswer
-homed s e = go (signatureOf s) e
+homed-all s e = go (signatureOf s) e
   where
     go : (x : Reading Signature) → signatureAnswer x .convention ≡ Convention.Ppc64 → All (Homed (planAnswer x .area)) (argumentsIn (signatureAnswer x) (planAnswer x))
     go (got g next n) q =
@@ -104,10 +132,6 @@ own-homed r p a e h m = rw e (go (startsAtHead ppc64 (p .ty)))
     go false = omega (arith, m .within, m .least)
 
 -- ---- what no test refuses
-
-pub not-refused : (a : Answer) → isRefused a ≡ false → a ≡ Answer.Done
-not-refused Answer.Done e = refl
-not-refused (Answer.Refused reason place) e = let z : _≡_ {A = ℕ} 0 1 = cc in absurd (omega arith)
 
 pub reading-done : (o : Outcome) (x : Answer) → afterReading o x ≡ Answer.Done → x ≡ Answer.Done
 reading-done (Outcome.Accepted n) x e = e
@@ -150,7 +174,7 @@ hand s have index g p a read plan e d =
     let v = view-passed (g .convention) (g .count) index have (p .area) (reading-done (p .outcome) _ (sym e ∙ d)) in
     let c : Carried g p = carried-same s g p read plan in
     let next = next-argument g p index (v .there) (c .types) (c .spans) in
-    let homes : All (Homed (p .area)) (argumentsIn g p) = rw (read, plan) (homed s (ap (λ (x : SignatureRead). x .convention) (sym read) ∙ v .convention)) in
+    let homes : All (Homed (p .area)) (argumentsIn g p) = rw (read, plan) (homed-all s (ap (λ (x : SignatureRead). x .convention) (sym read) ∙ v .convention)) in
     record {
       done = sym (answer-same s have index g p a read plan e) ∙ d;
       small = omega (arith, v .there, c .few);
@@ -161,25 +185,58 @@ hand s have index g p a read plan e d =
       at = ap₂ (λ (g : SignatureRead) (p : Plan). getD (argumentsIn g p) index noArgument) (sym read) (sym plan) ∙ getD-at (argumentsIn g p) index (argumentAt g p index) noArgument _ next;
     }
 
--- ---- the view
+-- ---- the part that is viewed
 
-pub view-kept : (s area : List ℕ) (index : ℕ) (a : Answer) → a ≡ viewAnswer s (length area) index → isRefused a ≡ true → [] ≡ viewOf s area index
-unfolding viewOf
-view-kept s area index a e q = rw (← e) (go a q)
-  where
-    go : (a : Answer) → isRefused a ≡ true → [] ≡ pick (isDone a) (ownBytes (rulesFor s) (getD (argumentsOf s) index noArgument) area) []
-    go Answer.Done q = let z : _≡_ {A = ℕ} 0 1 = cc in absurd (omega arith)
-    go (Answer.Refused reason place) q = refl
+refused-part : (a : Answer) (r : Rules) (p : Placement) → isRefused a ≡ true → _≡_ {A = ViewPart} (record { answer = a; start = 0; length = 0 }) (ownPart a r p)
+refused-part Answer.Done r p q = let z : _≡_ {A = ℕ} 0 1 = cc in absurd (omega arith)
+refused-part (Answer.Refused reason place) r p q = refl
 
-pub view-shown : (s area : List ℕ) (index : ℕ) (g : SignatureRead) (p : Plan) (own n : ℕ) → Hand s (length area) index g p → g ≡ signatureAnswer (signatureOf s)
+pub part-refused : (s : List ℕ) (have index : ℕ) (a : Answer) → a ≡ viewAnswer s have index → isRefused a ≡ true
+    → _≡_ {A = ViewPart} (record { answer = a; start = 0; length = 0 }) (viewPart s have index)
+unfolding viewPart
+part-refused s have index a e q = rw (← e) (refused-part a (rulesFor s) (getD (argumentsOf s) index noArgument) q)
+
+pub part-shown : (s : List ℕ) (have index : ℕ) (g : SignatureRead) (p : Plan) (a : Answer) (own n : ℕ) → Hand s have index g p → g ≡ signatureAnswer (signatureOf s)
+    → a ≡ viewAnswer s have index
     → own ≡ ownStart (rulesOf (g .convention)) (argumentAt g p index .ty) (argumentAt g p index .size) → n ≡ argumentAt g p index .size
-    → take (argumentAt g p index .span .home .start + own + n - (argumentAt g p index .span .home .start + own)) (drop (argumentAt g p index .span .home .start + own) area)
-    ≡ viewOf s area index
-unfolding viewOf
-view-shown s area index g p own n h read o z =
-    let start : ℕ = argumentAt g p index .span .home .start + own in
-    ap (λ (m : ℕ). take m (drop start area)) (add-sub-cancel-left start n)
-    ∙ ap₂ (λ (x m : ℕ). part (argumentAt g p index .span .home .start + x) m area) o z
-    ∙ ap (λ (x : SignatureRead). ownBytes (rulesOf (x .convention)) (argumentAt g p index) area) read
-    ∙ ap (λ (q : Placement). ownBytes (rulesFor s) q area) (sym (h .at))
-    ∙ sym (ap (λ (a : Answer). pick (isDone a) (ownBytes (rulesFor s) (getD (argumentsOf s) index noArgument) area) []) (h .done))
+    → _≡_ {A = ViewPart} (record { answer = a; start = argumentAt g p index .span .home .start + own; length = n }) (viewPart s have index)
+unfolding viewPart
+part-shown s have index g p a own n h read e o z =
+    let done : a ≡ Answer.Done = e ∙ h .done in
+    rw (← e, done, o, z, h .at) (ap (λ (x : SignatureRead). ownPart Answer.Done (rulesOf (x .convention)) (argumentAt g p index)) read)
+
+pub part-answer : (s : List ℕ) (have index : ℕ) → viewPart s have index .answer ≡ viewAnswer s have index
+unfolding viewPart
+part-answer s have index = refl
+
+viewAnswer-is : (s : List ℕ) (have index : ℕ)
+    → viewAnswer s have index
+    ≡ afterReading (planFor s .outcome) (firstOf (viewTests (signatureAnswer (signatureOf s) .convention) (signatureAnswer (signatureOf s) .count) index have (planFor s .area)))
+unfolding viewAnswer
+viewAnswer-is s have index = refl
+
+-- it lies in the area
+pub part-within : (s : List ℕ) (have index : ℕ) → viewPart s have index .start + viewPart s have index .length ≤ have
+unfolding viewPart
+part-within s have index = go (viewAnswer s have index) refl
+  where
+    go : (a : Answer) → a ≡ viewAnswer s have index
+        → ownPart a (rulesFor s) (getD (argumentsOf s) index noArgument) .start + ownPart a (rulesFor s) (getD (argumentsOf s) index noArgument) .length ≤ have
+    go Answer.Done e =
+        let h = hand s have index (signatureAnswer (signatureOf s)) (planFor s) Answer.Done refl refl (e ∙ viewAnswer-is s have index) refl in
+        rw (h .at) (omega (arith, own-homed (rulesFor s) _ _ (h .rules) (h .held) (h .homed), h .room))
+    go (Answer.Refused reason place) e = omega arith
+
+-- and is the view
+pub part-view : (s area : List ℕ) (index : ℕ) (v : ViewPart) → v ≡ viewPart s (length area) index
+    → take (v .start + v .length - v .start) (drop (v .start) area) ≡ viewOf s area index
+unfolding viewPart viewOf
+part-view s area index v e =
+    ap (λ (m : ℕ). take m (drop (v .start) area)) (add-sub-cancel-left (v .start) (v .length))
+    ∙ ap (λ (v : ViewPart). take (v .length) (drop (v .start) area)) e
+    ∙ go (viewAnswer s (length area) index)
+  where
+    go : (a : Answer) → take (ownPart a (rulesFor s) (getD (argumentsOf s) index noArgument) .length) (drop (ownPart a (rulesFor s) (getD (argumentsOf s) index noArgument) .start) area)
+        ≡ pick (isDone a) (ownBytes (rulesFor s) (getD (argumentsOf s) index noArgument) area) []
+    go Answer.Done = refl
+    go (Answer.Refused reason place) = refl

@@ -20,11 +20,8 @@ use Rattle.slots.specs.Forms.{ownStart}
 use Rattle.slots.specs.Placements.{Placement, placement}
 use Rattle.slots.specs.Refusals.{Test, test, firstOf, afterReading, isDone}
 use Rattle.slots.specs.Arguments.{argumentsOf, planFor, rulesFor}
-
--- "asked of Z": only PPC64 has homes for its register arguments
-abbrev pub homeless : Convention → Bool
-homeless Convention.Ppc64 = false
-homeless Convention.Z = true
+use Rattle.home.specs.declared.ViewPart.{ViewPart}
+use Rattle.home.specs.Home.{homeless}
 
 -- 24: "home or view asked of Z, or a view of an argument that isn't there", of `count`
 abbrev pub noView : Convention → ℕ → ℕ → Bool
@@ -39,16 +36,23 @@ viewAnswer s have index =
     afterReading (planFor s .outcome)
     (firstOf (viewTests (signatureAnswer (signatureOf s) .convention) (signatureAnswer (signatureOf s) .count) index have (planFor s .area)))
 
-abbrev pub isRefused : Answer → Bool
-isRefused Answer.Done = false
-isRefused (Answer.Refused reason place) = true
-
 abbrev pub noArgument : Placement
 noArgument = placement (ValueType.Integer IntegerKind.I8) 1 noSpan
 
+-- where an argument's own bytes start in the area
+abbrev pub ownAt : Rules → Placement → ℕ
+ownAt r p = p .span .home .start + ownStart r (p .ty) (p .size)
+
 -- an argument's own bytes in its home
 abbrev pub ownBytes : Rules → Placement → List ℕ → List ℕ
-ownBytes r p area = part (p .span .home .start + ownStart r (p .ty) (p .size)) (p .size) area
+ownBytes r p area = part (ownAt r p) (p .size) area
 
 unfoldable pub viewOf : List ℕ → List ℕ → ℕ → List ℕ
 viewOf s area index = pick (isDone (viewAnswer s (length area) index)) (ownBytes (rulesFor s) (getD (argumentsOf s) index noArgument) area) []
+
+-- the same bytes by their start and length
+abbrev pub ownPart : Answer → Rules → Placement → ViewPart
+ownPart a r p = record { answer = a; start = pick (isDone a) (ownAt r p) 0; length = pick (isDone a) (p .size) 0 }
+
+unfoldable pub viewPart : List ℕ → ℕ → ℕ → ViewPart
+viewPart s have index = ownPart (viewAnswer s have index) (rulesFor s) (getD (argumentsOf s) index noArgument)

@@ -17,13 +17,12 @@ use Rattle.slots.specs.declared.Refusal.{Refusal}
 use Rattle.slots.specs.Buffers.{Buffers}
 use Rattle.slots.specs.Placements.{Placement, valuesAt}
 use Rattle.slots.specs.Limits.{Held, Fits}
-use Rattle.slots.specs.Refusals.{firstOf, orElse, afterReading}
+use Rattle.slots.specs.Refusals.{firstOf, orElse, afterReading, isRefused}
 use Rattle.slots.specs.Arguments.{argumentsIn, argumentsOf, planFor, rulesFor, Carried}
 use Rattle.slots.proofs.Planned.{all-with}
-use Rattle.slots.proofs.Refusals.{first-done, differ-false}
+use Rattle.slots.proofs.Refusals.{first-done, differ-false, or-refused, not-refused}
 use Rattle.read.specs.declared.Sizes.{Sizes}
-use Rattle.read.specs.Read.{isRefused, argumentsAnswer, readTests, readAnswer, readValues, Ready, AllReady}
-use Rattle.read.proofs.Turns.{or-refused, not-refused}
+use Rattle.read.specs.Read.{argumentsAnswer, readTests, readAnswer, readValues, Ready, AllReady}
 
 -- ---- what no test refuses
 pub record Lent (have : Sizes) (p : Plan) : Type 0 where

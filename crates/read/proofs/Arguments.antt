@@ -24,7 +24,8 @@ use Rattle.slots.specs.Buffers.{Buffers, bytesAt}
 use Rattle.slots.specs.Forms.{startsAtHead, ownStart, roomOf, narrowedBytes, floatValueAs, floatValue}
 use Rattle.slots.specs.Placements.{Placement, wordsAt, floatAt, addressAt, wordsValue, valueAt}
 use Rattle.slots.specs.Limits.{FloatSized}
-use Rattle.read.specs.Read.{FloatRoom, narrowedAnswer, floatAnswer, inCopies, copyAnswer, argumentAnswer, Readable}
+use Rattle.slots.specs.Refusals.{narrowedAnswer, floatAnswer}
+use Rattle.read.specs.Read.{FloatRoom, inCopies, copyAnswer, argumentAnswer, Readable}
 
 pub float-room : (e : Equivalent) (n l : ℕ) → FloatSized e n → n ≤ l → FloatRoom e l
 float-room Equivalent.Single n l h k = omega arith

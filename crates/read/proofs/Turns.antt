@@ -1,6 +1,5 @@
--- A turn of each of the reader's two loops: what is left gives what the whole gives. Assumes nothing.
+-- A turn of the loop that takes the values: what is left gives what the whole gives. Assumes nothing.
 use mathlib.Core.Path.{_≡_, refl, sym, ap, _∙_}
-use mathlib.Core.Bool.{true, false}
 use mathlib.Core.List.{List, [], _∷_, _++_}
 use Prim.Native.Nat.{ℕ, suc, _+_, _≤_}
 use native.Mathlib.Omega.{arith}
@@ -12,57 +11,14 @@ use Rattle.convention.specs.declared.Rules.{Rules}
 use Rattle.slots.specs.declared.Answer.{Answer}
 use Rattle.slots.specs.Buffers.{Buffers}
 use Rattle.slots.specs.Placements.{Placement, valueAt, valuesAt}
-use Rattle.slots.specs.Refusals.{orElse}
+use Rattle.slots.specs.Refusals.{orElse, firstOfAll}
 use Rattle.slots.specs.Limits.{All, sizesOf}
-use Rattle.read.specs.Read.{isRefused, argumentAnswer, argumentsAnswer, Ready, Readable}
+use Rattle.slots.proofs.Refusals.{or-done}
+use Rattle.read.specs.Read.{argumentAnswer, argumentsAnswer, Ready, Readable}
 use Rattle.read.proofs.Arguments.{value-length}
 
--- ---- answers
-pub or-refused : (a b : Answer) → isRefused a ≡ true → orElse a b ≡ a
-or-refused Answer.Done b e = let z : _≡_ {A = ℕ} 0 1 = cc in absurd (omega arith)
-or-refused (Answer.Refused reason place) b e = refl
-
-pub not-refused : (a : Answer) → isRefused a ≡ false → a ≡ Answer.Done
-not-refused Answer.Done e = refl
-not-refused (Answer.Refused reason place) e = let z : _≡_ {A = ℕ} 0 1 = cc in absurd (omega arith)
-
-or-done : (a b : Answer) → orElse a b ≡ Answer.Done → (a ≡ Answer.Done) × (b ≡ Answer.Done)
-or-done Answer.Done b e = (refl, e)
-or-done (Answer.Refused reason place) b e = let z : _≡_ {A = ℕ} 0 1 = cc in absurd (omega arith)
-
 module _ (r : Rules) (base : ℕ) (ps : List Placement) (b : Buffers) where
-  -- ---- the first pass: i arguments can be read
-  pub record Checking (i : ℕ) : Type 0 where
-    pub each : All (Ready r (length (b .image)) (length (b .area))) (drop i ps)
-    pub rest : argumentsAnswer r base (drop i ps) b ≡ argumentsAnswer r base ps b
-
-  pub checking-start : All (Ready r (length (b .image)) (length (b .area))) ps → Checking 0
-  checking-start each = record { each = each; rest = refl }
-
-  module _ (i : ℕ) (p : Placement) (e : drop i ps ≡ p ∷ drop (suc i) ps) (c : Checking i) where
-    pub checking-ready : Ready r (length (b .image)) (length (b .area)) p
-    unfolding All
-    checking-ready = let each : Ready r (length (b .image)) (length (b .area)) p × All (Ready r (length (b .image)) (length (b .area))) (drop (suc i) ps) = rw e at (c .each) in each .0
-
-    pub checking-refused : (a : Answer) → a ≡ argumentAnswer r base p b → isRefused a ≡ true → a ≡ argumentsAnswer r base ps b
-    unfolding argumentsAnswer
-    checking-refused a q t =
-        let rest : orElse (argumentAnswer r base p b) (argumentsAnswer r base (drop (suc i) ps) b) ≡ argumentsAnswer r base ps b = rw e at (c .rest) in
-        sym (or-refused a (argumentsAnswer r base (drop (suc i) ps) b) t) ∙ ap (λ (x : Answer). orElse x (argumentsAnswer r base (drop (suc i) ps) b)) q ∙ rest
-
-    pub checking-more : (a : Answer) → a ≡ argumentAnswer r base p b → isRefused a ≡ false → Checking (i + 1)
-    unfolding All argumentsAnswer
-    checking-more a q t =
-        let each : Ready r (length (b .image)) (length (b .area)) p × All (Ready r (length (b .image)) (length (b .area))) (drop (suc i) ps) = rw e at (c .each) in
-        let rest : orElse (argumentAnswer r base p b) (argumentsAnswer r base (drop (suc i) ps) b) ≡ argumentsAnswer r base ps b = rw e at (c .rest) in
-        let done : argumentAnswer r base p b ≡ Answer.Done = sym q ∙ not-refused a t in
-        record { each = rw add-one (each .1); rest = rw add-one (rw done at rest) }
-
-  pub checking-end : (i : ℕ) → drop i ps ≡ [] → Checking i → Answer.Done ≡ argumentsAnswer r base ps b
-  unfolding argumentsAnswer
-  checking-end i e c = rw e at (c .rest)
-
-  -- ---- the second pass: i values, of v bytes, are taken, and the value buffer is l
+  -- i values, of v bytes, are taken, and the value buffer is l
   pub record Taking (l₀ l : List ℕ) (v i : ℕ) : Type 0 where
     pub same : length l ≡ length l₀
     pub each : All (Ready r (length (b .image)) (length (b .area))) (drop i ps)
@@ -75,7 +31,7 @@ module _ (r : Rules) (base : ℕ) (ps : List Placement) (b : Buffers) where
 
   module _ (l₀ l : List ℕ) (v i : ℕ) (p : Placement) (e : drop i ps ≡ p ∷ drop (suc i) ps) (t : Taking l₀ l v i) where
     pub taking-readable : Readable r base p b
-    unfolding All argumentsAnswer
+    unfolding All argumentsAnswer firstOfAll
     taking-readable =
         let each : Ready r (length (b .image)) (length (b .area)) p × All (Ready r (length (b .image)) (length (b .area))) (drop (suc i) ps) = rw e at (t .each) in
         let done : orElse (argumentAnswer r base p b) (argumentsAnswer r base (drop (suc i) ps) b) ≡ Answer.Done = rw e at (t .done) in
@@ -88,7 +44,7 @@ module _ (r : Rules) (base : ℕ) (ps : List Placement) (b : Buffers) where
         omega (arith, t .same)
 
     pub taking-more : Taking l₀ (splice l v (valueAt r base p b)) (v + p .size) (i + 1)
-    unfolding All argumentsAnswer sizesOf valuesAt
+    unfolding All argumentsAnswer firstOfAll sizesOf valuesAt
     taking-more =
         let each : Ready r (length (b .image)) (length (b .area)) p × All (Ready r (length (b .image)) (length (b .area))) (drop (suc i) ps) = rw e at (t .each) in
         let done : orElse (argumentAnswer r base p b) (argumentsAnswer r base (drop (suc i) ps) b) ≡ Answer.Done = rw e at (t .done) in

@@ -8,8 +8,6 @@ use lib.Dec.{ltb, leb}
 use lib.ListN.{length}
 use Rattle.words.specs.Splice.{overlay}
 use Rattle.words.specs.Numbers.{valueOf}
-use Rattle.ieee.specs.declared.Narrowed.{Narrowed}
-use Rattle.ieee.specs.Narrowing.{narrow}
 use Rattle.types.specs.declared.Equivalent.{Equivalent}
 use Rattle.types.specs.Sizes.{equivalentOf}
 use Rattle.signature.specs.declared.SignatureRead.{SignatureRead}
@@ -22,23 +20,12 @@ use Rattle.slots.specs.declared.Refusal.{Refusal}
 use Rattle.slots.specs.declared.Answer.{Answer}
 use Rattle.slots.specs.Buffers.{Buffers}
 use Rattle.slots.specs.Placements.{Placement, floatAt, addressAt, valuesAt}
-use Rattle.slots.specs.Refusals.{Test, test, differ, firstOf, afterReading, orElse, isDone}
+use Rattle.slots.specs.Refusals.{Test, test, differ, firstOf, afterReading, orElse, firstOfAll, isDone, floatAnswer}
 use Rattle.slots.specs.Limits.{Held, All, sizesOf}
 use Rattle.slots.specs.Arguments.{argumentsIn, argumentsOf, planFor, rulesFor}
 use Rattle.read.specs.declared.Sizes.{Sizes}
 
 -- ---- one argument
-abbrev pub narrowedAnswer : Narrowed → Answer
-narrowedAnswer (Narrowed.Single x) = Answer.Done
-narrowedAnswer Narrowed.NotWidened = Answer.Refused Refusal.NotWidened 0
-
--- 14: "a single's PPC64 FPR that is no widened single"; x are the FPR's 64 bits
-abbrev pub floatAnswer : Rules → Equivalent → ℕ → Answer
-floatAnswer (Rules.Power f) Equivalent.Single x = narrowedAnswer (narrow x)
-floatAnswer (Rules.Power f) Equivalent.Double x = Answer.Done
-floatAnswer (Rules.Power f) Equivalent.Nothing x = Answer.Done
-floatAnswer Rules.Z e x = Answer.Done
-
 -- n bytes at an address lie wholly in a copy buffer of c bytes at its base, in unbounded integers
 abbrev pub inCopies : ℕ → ℕ → ℕ → ℕ → Bool
 inCopies address base n c = pick (leb base address) (leb (address - base + n) c) false
@@ -58,12 +45,7 @@ argumentAnswer r base p b =
 
 -- "13 and 14 by argument, left to right"
 unfoldable pub argumentsAnswer : Rules → ℕ → List Placement → Buffers → Answer
-argumentsAnswer r base [] b = Answer.Done
-argumentsAnswer r base (p ∷ ps) b = orElse (argumentAnswer r base p b) (argumentsAnswer r base ps b)
-
-abbrev pub isRefused : Answer → Bool
-isRefused Answer.Done = false
-isRefused (Answer.Refused reason place) = true
+argumentsAnswer r base ps b = firstOfAll (λ (p : Placement). argumentAnswer r base p b) ps
 
 -- ---- the whole
 

@@ -24,7 +24,7 @@ ghost use Rattle.slots.specs.Forms.{narrowedBytes, floatValueAs};
 ghost use Rattle.slots.specs.Placements.{placement, wordsAt, floatAt, addressAt, valueAt, valuesAt};
 ghost use Rattle.slots.specs.Refusals.{firstOf};
 ghost use Rattle.slots.specs.Arguments.{argumentsIn};
-ghost use Rattle.read.specs.Read.{narrowedAnswer, floatAnswer, inCopies, copyAnswer, argumentAnswer, argumentsAnswer, isRefused, readTests, readAnswer, readValues, sizes, WordsFit, FloatRoom, Ready, AllReady, Readable, AllReadable};
+ghost use Rattle.read.specs.Read.{inCopies, copyAnswer, argumentAnswer, argumentsAnswer, readTests, readAnswer, readValues, sizes, WordsFit, FloatRoom, Ready, AllReady, Readable, AllReadable};
 
 // The lengths of the lent buffers that are tested.
 pub struct Sizes {
@@ -44,32 +44,6 @@ fn word_at(image: &[u8], area: &[u8], s: Span) -> u64
         return words::load(image, 8 * (general.first as usize), 8);
     }
     words::load(area, memory.start as usize, 8)
-}
-
-fn narrowed_answer(x: u64) -> Answer
-    ensures { λ a. ⌜ a ≡ narrowedAnswer (narrowOf x) ⌝ }
-{
-    match ieee::narrow(x) {
-        Narrowed::Single(_) => Answer::Done,
-        Narrowed::NotWidened => Answer::Refused {
-            reason: Refusal::NotWidened,
-            place: 0,
-        },
-    }
-}
-
-// Whether an FPR's 64 bits can be read.
-fn float_answer(r: Rules, e: Equivalent, x: u64) -> Answer
-    ensures { λ a. ⌜ a ≡ floatAnswer r e x ⌝ }
-{
-    match r {
-        Rules::Power(_) => match e {
-            Equivalent::Nothing => Answer::Done,
-            Equivalent::Single => narrowed_answer(x),
-            Equivalent::Double => Answer::Done,
-        },
-        Rules::Z => Answer::Done,
-    }
 }
 
 // Whether n bytes at an address lie in a copy buffer of `length` bytes at its base.
@@ -115,7 +89,7 @@ fn argument_answer(
     let indirect = s.indirect;
     if 0 < floating.count {
         let x = words::load(image, 256 + 8 * (floating.first as usize), 8);
-        return float_answer(r, types::equivalent_of(t), x);
+        return slots::float_answer(r, types::equivalent_of(t), x);
     }
     if indirect {
         let address = word_at(image, area, s);
@@ -192,18 +166,6 @@ fn take_float(out: &mut [u8], image: &[u8], r: Rules, e: Equivalent, at: usize)
     }
 }
 
-fn is_refused(a: Answer) -> bool
-    ensures { λ b. ⌜ b ≡ isRefused a ⌝ }
-{
-    match a {
-        Answer::Done => false,
-        Answer::Refused {
-            reason: _,
-            place: _,
-        } => true,
-    }
-}
-
 // The refusal of the first argument, left to right, that can't be read.
 pub fn first_refusal(
     image: &[u8],
@@ -226,7 +188,7 @@ pub fn first_refusal(
         let s = p.spans[i];
         let n = types::size_of(convention, t);
         let answer = argument_answer(image, area, copies, rules, t, n, s, base);
-        if is_refused(answer) {
+        if slots::is_refused(answer) {
             return answer;
         }
         i = i + 1;
@@ -249,10 +211,10 @@ fn take_argument(
     requires { ⌜ Readable r base (placement t n s) (buffers (now image) (now area) (now copies)) × (n ≤ length (now out)) ⌝ }
     ensures { λ _. ⌜ now (out .exit) ≡ overlay (now (out .entry)) (valueAt r base (placement t n s) (buffers (now (image .entry)) (now (area .entry)) (now (copies .entry)))) ⌝ }
 {
-    let floating = s.floating;
+    let fpr = s.floating;
     let indirect = s.indirect;
-    if 0 < floating.count {
-        let at = 256 + 8 * (floating.first as usize);
+    if 0 < fpr.count {
+        let at = 256 + 8 * (fpr.first as usize);
         take_float(out, image, r, types::equivalent_of(t), at);
         return;
     }
@@ -347,11 +309,11 @@ pub fn read(
                 area: area.len(),
             };
             let lengths = tested(have, p.values, p.area);
-            if is_refused(lengths) {
+            if slots::is_refused(lengths) {
                 return lengths;
             }
             let answer = first_refusal(image, area, copies, g, p, base);
-            if is_refused(answer) {
+            if slots::is_refused(answer) {
                 return answer;
             }
             take_arguments(values, image, area, copies, g, p, base);

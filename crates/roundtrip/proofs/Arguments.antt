@@ -26,7 +26,8 @@ use Rattle.slots.specs.Forms.{roomOf, homeBytes, ownStart, floatWord, floatByte
 use Rattle.slots.specs.Placements.{Placement, standing, copyBytes, slotsOf, wordsAt, floatAt, addressAt, wordsValue, valueAt}
 use Rattle.slots.specs.Limits.{Held, Fits}
 use Rattle.slots.proofs.Limits.{one-word, indirect-end}
-use Rattle.read.specs.Read.{floatAnswer, inCopies, copyAnswer, argumentAnswer}
+use Rattle.slots.specs.Refusals.{floatAnswer}
+use Rattle.read.specs.Read.{inCopies, copyAnswer, argumentAnswer}
 use Rattle.roundtrip.proofs.Kept.{Upto, Banked, AllLater, kept-all}
 use Rattle.roundtrip.proofs.Forms.{float-back, own-back, length-home}
 

@@ -20,7 +20,7 @@ use Rattle.convention.specs.Values.{pick}
 use Rattle.slots.specs.declared.Answer.{Answer}
 use Rattle.slots.specs.Forms.{roomOf, isSigned, startsAtHead, extended, homeBytes, ownStart, floatWord, narrowedBytes, floatValueAs}
 use Rattle.slots.specs.Limits.{FloatSized}
-use Rattle.read.specs.Read.{narrowedAnswer, floatAnswer}
+use Rattle.slots.specs.Refusals.{narrowedAnswer, floatAnswer}
 
 -- n bytes as a number of n bytes
 own-number : (v : List ℕ) (n : ℕ) → length v ≡ n → Bytes v → bytesOf n (valueOf v) ≡ v

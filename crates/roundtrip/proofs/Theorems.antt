@@ -33,7 +33,7 @@ use Rattle.slots.specs.declared.Answer.{Answer}
 use Rattle.slots.specs.Buffers.{Buffers, buffers, Slot, putAll}
 use Rattle.slots.specs.Placements.{Placement, placement, placements, copyBytes, slotsOf, slotsOfAll, hiddenSlots, valuesAt}
 use Rattle.slots.specs.Limits.{Held, Fits, All, sizesOf}
-use Rattle.slots.specs.Refusals.{firstOf, orElse, afterReading}
+use Rattle.slots.specs.Refusals.{firstOf, orElse, firstOfAll, afterReading}
 use Rattle.slots.specs.Arguments.{argumentsIn, argumentsOf, planFor, rulesFor, Carried}
 use Rattle.slots.proofs.Buffers.{SameLengths, same-then, putAll-lengths, putAll-append}
 use Rattle.slots.proofs.Answered.{carried, arguments-got}
@@ -92,7 +92,7 @@ arguments-back : (c : Convention) (r : Rules) (base a m : ℕ) (k : Cursor) (ts 
     → Roomy r base (placements c ts (spansOf c r k ts)) a m v b
     → (argumentsAnswer r base (placements c ts (spansOf c r k ts)) (putAll (slotsOfAll r base (placements c ts (spansOf c r k ts)) v) b) ≡ Answer.Done)
     × (valuesAt r base (placements c ts (spansOf c r k ts)) (putAll (slotsOfAll r base (placements c ts (spansOf c r k ts)) v) b) ≡ v)
-unfolding placements spansOf slotsOfAll argumentsAnswer valuesAt All sizesOf
+unfolding placements spansOf slotsOfAll argumentsAnswer firstOfAll valuesAt All sizesOf
 arguments-back c r base a m k [] [] b named h = (refl, refl)
 arguments-back c r base a m k [] (x ∷ v) b named h = absurd (omega (arith, h .total))
 arguments-back c r base a m k (t ∷ ts) v b named h =
@@ -158,7 +158,7 @@ none-back : (base : ℕ) (v : List ℕ) (b : Buffers) (reason : _) (place : ℕ)
     × (valuesAt (rulesOf Convention.Ppc64) base (argumentsIn (signatureAnswer (no reason place)) (planAnswer (no reason place)))
     (putAll (slotsOfAll (rulesOf Convention.Ppc64) base (argumentsIn (signatureAnswer (no reason place)) (planAnswer (no reason place))) v) b)
     ≡ v)
-unfolding argumentsAnswer valuesAt argumentsIn placements planAnswer
+unfolding argumentsAnswer firstOfAll valuesAt argumentsIn placements planAnswer
 none-back base [] b reason place q = (refl, refl)
 none-back base (y ∷ v) b reason place q = absurd (omega arith)
 

@@ -8,7 +8,7 @@ use borrow.Author.Tests.{eqb-true}
 use lib.Dec.{eqb}
 use Rattle.convention.specs.Values.{pick}
 use Rattle.slots.specs.declared.Answer.{Answer}
-use Rattle.slots.specs.Refusals.{Test, differ, firstOf}
+use Rattle.slots.specs.Refusals.{Test, differ, firstOf, orElse, isRefused}
 
 -- where nothing is refused, no test holds
 pub first-done : (t : Test) (ts : List Test) → firstOf (t ∷ ts) ≡ Answer.Done → (t .holds ≡ false) × (firstOf ts ≡ Answer.Done)
@@ -25,3 +25,17 @@ differ-false m n = go (eqb m n) refl
     go : (b : Bool) → eqb m n ≡ b → pick b false true ≡ false → m ≡ n
     go true q e = eqb-true m n q
     go false q e = let z : _≡_ {A = ℕ} 0 1 = cc in absurd (omega arith)
+
+-- ---- one answer before another
+
+pub or-refused : (a b : Answer) → isRefused a ≡ true → orElse a b ≡ a
+or-refused Answer.Done b e = let z : _≡_ {A = ℕ} 0 1 = cc in absurd (omega arith)
+or-refused (Answer.Refused reason place) b e = refl
+
+pub not-refused : (a : Answer) → isRefused a ≡ false → a ≡ Answer.Done
+not-refused Answer.Done e = refl
+not-refused (Answer.Refused reason place) e = let z : _≡_ {A = ℕ} 0 1 = cc in absurd (omega arith)
+
+pub or-done : (a b : Answer) → orElse a b ≡ Answer.Done → (a ≡ Answer.Done) × (b ≡ Answer.Done)
+or-done Answer.Done b e = (refl, e)
+or-done (Answer.Refused reason place) b e = let z : _≡_ {A = ℕ} 0 1 = cc in absurd (omega arith)

@@ -1,8 +1,10 @@
 -- The arguments of a signature one by one, as a loop over them goes. Assumes nothing.
 use mathlib.Core.Path.{_≡_, refl, sym, ap, _∙_}
+use mathlib.Core.Bool.{true, false}
 use mathlib.Core.List.{List, [], _∷_}
-use Prim.Native.Nat.{ℕ, zero, suc, _≤_, _<_}
+use Prim.Native.Nat.{ℕ, zero, suc, _+_, _≤_, _<_}
 use native.Mathlib.Omega.{arith}
+use native.Mathlib.Numerals.{add-one}
 use lib.ListN.{length, getD, drop}
 use lib.Seq.{drop-cons}
 use Rattle.types.specs.declared.Convention.{Convention}
@@ -15,8 +17,12 @@ use Rattle.convention.specs.declared.Span.{Span}
 use Rattle.plan.specs.declared.Plan.{Plan}
 use Rattle.plan.specs.Plan.{noSpan, typesIn}
 use Rattle.plan.proofs.Turns.{types-drop, length-types}
+use Rattle.slots.specs.declared.Answer.{Answer}
 use Rattle.slots.specs.Placements.{Placement, placement, placements}
+use Rattle.slots.specs.Limits.{All}
+use Rattle.slots.specs.Refusals.{orElse, firstOfAll, isRefused}
 use Rattle.slots.specs.Arguments.{argumentsIn}
+use Rattle.slots.proofs.Refusals.{or-refused, not-refused}
 
 drop-placements : (c : Convention) (ts : List ValueType) (ss : List Span) (i : ℕ) → drop i (placements c ts ss) ≡ placements c (drop i ts) (drop i ss)
 unfolding placements
@@ -55,3 +61,37 @@ no-argument g p i h types =
     none [] (suc i) h = refl
     none (t ∷ ts) zero h = absurd (omega arith)
     none (t ∷ ts) (suc i) h = none ts i (omega arith)
+
+-- ---- a loop that tests them, each by f, of which it needs P
+
+module _ (f : Placement → Answer) (P : Placement → Type 0) (ps : List Placement) where
+  -- i arguments are not refused
+  pub record Checking (i : ℕ) : Type 0 where
+    pub each : All P (drop i ps)
+    pub rest : firstOfAll f (drop i ps) ≡ firstOfAll f ps
+
+  pub checking-start : All P ps → Checking 0
+  checking-start each = record { each = each; rest = refl }
+
+  module _ (i : ℕ) (p : Placement) (e : drop i ps ≡ p ∷ drop (suc i) ps) (c : Checking i) where
+    pub checking-ready : P p
+    unfolding All
+    checking-ready = let each : P p × All P (drop (suc i) ps) = rw e at (c .each) in each .0
+
+    pub checking-refused : (a : Answer) → a ≡ f p → isRefused a ≡ true → a ≡ firstOfAll f ps
+    unfolding firstOfAll
+    checking-refused a q t =
+        let rest : orElse (f p) (firstOfAll f (drop (suc i) ps)) ≡ firstOfAll f ps = rw e at (c .rest) in
+        sym (or-refused a (firstOfAll f (drop (suc i) ps)) t) ∙ ap (λ (x : Answer). orElse x (firstOfAll f (drop (suc i) ps))) q ∙ rest
+
+    pub checking-more : (a : Answer) → a ≡ f p → isRefused a ≡ false → Checking (i + 1)
+    unfolding All firstOfAll
+    checking-more a q t =
+        let each : P p × All P (drop (suc i) ps) = rw e at (c .each) in
+        let rest : orElse (f p) (firstOfAll f (drop (suc i) ps)) ≡ firstOfAll f ps = rw e at (c .rest) in
+        let done : f p ≡ Answer.Done = sym q ∙ not-refused a t in
+        record { each = rw add-one (each .1); rest = rw add-one (rw done at rest) }
+
+  pub checking-end : (i : ℕ) → drop i ps ≡ [] → Checking i → Answer.Done ≡ firstOfAll f ps
+  unfolding firstOfAll
+  checking-end i e c = rw e at (c .rest)

@@ -4,8 +4,12 @@ use Prim.Native.Nat.{ℕ}
 use mathlib.Core.Bool.{Bool, true, false}
 use mathlib.Core.List.{List, [], _∷_}
 use lib.Dec.{eqb}
+use Rattle.ieee.specs.declared.Narrowed.{Narrowed}
+use Rattle.ieee.specs.Narrowing.{narrow}
+use Rattle.types.specs.declared.Equivalent.{Equivalent}
 use Rattle.items.specs.Refusals as items
 use Rattle.signature.specs.declared.Outcome.{Outcome}
+use Rattle.convention.specs.declared.Rules.{Rules}
 use Rattle.convention.specs.Values.{pick}
 use Rattle.slots.specs.declared.Refusal.{Refusal}
 use Rattle.slots.specs.declared.Answer.{Answer}
@@ -55,6 +59,28 @@ abbrev pub orElse : Answer → Answer → Answer
 orElse Answer.Done a = a
 orElse (Answer.Refused reason place) a = Answer.Refused reason place
 
+-- "by argument, left to right": of several, the first that refuses
+unfoldable pub firstOfAll : {A : Type 0} → (A → Answer) → List A → Answer
+firstOfAll f [] = Answer.Done
+firstOfAll f (x ∷ xs) = orElse (f x) (firstOfAll f xs)
+
 abbrev pub isDone : Answer → Bool
 isDone Answer.Done = true
 isDone (Answer.Refused reason place) = false
+
+abbrev pub isRefused : Answer → Bool
+isRefused Answer.Done = false
+isRefused (Answer.Refused reason place) = true
+
+-- ---- an FPR
+
+abbrev pub narrowedAnswer : Narrowed → Answer
+narrowedAnswer (Narrowed.Single x) = Answer.Done
+narrowedAnswer Narrowed.NotWidened = Answer.Refused Refusal.NotWidened 0
+
+-- 14: "a single's PPC64 FPR that is no widened single"; x are the FPR's 64 bits
+abbrev pub floatAnswer : Rules → Equivalent → ℕ → Answer
+floatAnswer (Rules.Power f) Equivalent.Single x = narrowedAnswer (narrow x)
+floatAnswer (Rules.Power f) Equivalent.Double x = Answer.Done
+floatAnswer (Rules.Power f) Equivalent.Nothing x = Answer.Done
+floatAnswer Rules.Z e x = Answer.Done

@@ -14,7 +14,8 @@ ghost use Rattle.types.specs.declared.Equivalent.{Equivalent};
 ghost use Rattle.types.specs.Sizes.{equivalentOf};
 ghost use Rattle.words.specs.Numbers.{valueOf};
 ghost use Rattle.slots.specs.Forms.{signedKind, isSigned, headFirst, startsAtHead, extended, roomOf, ownStart, singleWord, floatWord};
-ghost use Rattle.slots.specs.Refusals.{numberOf};
+ghost use Rattle.ieee.specs.Narrowing.{narrow as narrowOf};
+ghost use Rattle.slots.specs.Refusals.{numberOf, isRefused, narrowedAnswer, floatAnswer};
 
 // Why a call is refused; `number_of` gives document 01's number.
 pub enum Refusal {
@@ -147,4 +148,42 @@ pub fn own_start(r: Rules, t: ValueType, n: usize) -> usize
         return 0;
     }
     8 - n
+}
+
+fn narrowed_answer(x: u64) -> Answer
+    ensures { λ a. ⌜ a ≡ narrowedAnswer (narrowOf x) ⌝ }
+{
+    match ieee::narrow(x) {
+        Narrowed::Single(_) => Answer::Done,
+        Narrowed::NotWidened => Answer::Refused {
+            reason: Refusal::NotWidened,
+            place: 0,
+        },
+    }
+}
+
+// Whether an FPR's 64 bits can be read.
+pub fn float_answer(r: Rules, e: Equivalent, x: u64) -> Answer
+    ensures { λ a. ⌜ a ≡ floatAnswer r e x ⌝ }
+{
+    match r {
+        Rules::Power(_) => match e {
+            Equivalent::Nothing => Answer::Done,
+            Equivalent::Single => narrowed_answer(x),
+            Equivalent::Double => Answer::Done,
+        },
+        Rules::Z => Answer::Done,
+    }
+}
+
+pub fn is_refused(a: Answer) -> bool
+    ensures { λ b. ⌜ b ≡ isRefused a ⌝ }
+{
+    match a {
+        Answer::Done => false,
+        Answer::Refused {
+            reason: _,
+            place: _,
+        } => true,
+    }
 }

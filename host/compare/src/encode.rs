@@ -44,23 +44,48 @@ pub fn float_code(float: Float) -> u8 {
 
 /// An item with its body's own length, which fits two bytes.
 pub fn item(tag: u8, body: &[u8]) -> Vec<u8> {
-    let length = u16::try_from(body.len()).expect("a body that its length can say");
-    let mut bytes = vec![tag];
-    bytes.extend_from_slice(&length.to_be_bytes());
+    let mut bytes = header(tag, body.len()).to_vec();
     bytes.extend_from_slice(body);
     bytes
 }
 
+fn header(tag: u8, length: usize) -> [u8; 3] {
+    let length = u16::try_from(length).expect("a body that its length can say");
+    let [high, low] = length.to_be_bytes();
+    [tag, high, low]
+}
+
 pub fn type_item(of: &Type) -> Vec<u8> {
-    match of {
-        Type::Integer(integer) => item(INTEGER, &[integer_code(*integer)]),
-        Type::Float(float) => item(FLOAT, &[float_code(*float)]),
-        Type::Struct(fields) => item(STRUCT, &type_items(fields)),
-    }
+    type_items(std::slice::from_ref(of))
 }
 
 pub fn type_items(of: &[Type]) -> Vec<u8> {
-    of.iter().flat_map(type_item).collect()
+    let mut bytes = Vec::with_capacity(of.iter().map(type_length).sum());
+    for each in of {
+        write_type(each, &mut bytes);
+    }
+    bytes
+}
+
+/// The length of a type's item.
+pub fn type_length(of: &Type) -> usize {
+    match of {
+        Type::Integer(_) | Type::Float(_) => 4,
+        Type::Struct(fields) => 3 + fields.iter().map(type_length).sum::<usize>(),
+    }
+}
+
+fn write_type(of: &Type, to: &mut Vec<u8>) {
+    match of {
+        Type::Integer(integer) => to.extend([INTEGER, 0, 1, integer_code(*integer)]),
+        Type::Float(float) => to.extend([FLOAT, 0, 1, float_code(*float)]),
+        Type::Struct(fields) => {
+            to.extend(header(STRUCT, type_length(of) - 3));
+            for field in fields {
+                write_type(field, to);
+            }
+        }
+    }
 }
 
 /// A signature with these bodies of its result and its arguments, well formed or not.

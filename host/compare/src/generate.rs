@@ -37,10 +37,9 @@ pub fn fitting(
     result: Option<Type>,
     arguments: impl Iterator<Item = Type>,
 ) -> Signature {
-    let length = |of: &Type| encode::type_item(of).len();
-    let mut room = LONGEST_SIGNATURE - FRAME - result.as_ref().map_or(0, length);
+    let mut room = LONGEST_SIGNATURE - FRAME - result.as_ref().map_or(0, encode::type_length);
     let fits = |argument: &Type| {
-        let rest = room.checked_sub(length(argument));
+        let rest = room.checked_sub(encode::type_length(argument));
         room = rest.unwrap_or(room);
         rest.is_some()
     };

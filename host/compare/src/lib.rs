@@ -3,16 +3,20 @@
 
 #![forbid(unsafe_code)]
 
+pub mod calls;
+pub mod compiled_calls;
 pub mod encode;
 pub mod float_bits;
 pub mod generate;
 pub mod machine_calls;
 pub mod machine_lists;
 pub mod machines;
+pub mod marshal;
 pub mod plans;
 pub mod random;
 pub mod signatures;
 pub mod timing;
+pub mod usual;
 
 use std::fmt;
 

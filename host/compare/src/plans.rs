@@ -160,7 +160,7 @@ fn pattern(at: usize) -> u8 {
 }
 
 /// Counts which interesting cases a plan has.
-fn count_cases(signature: &Signature, plan: &Plan, seen: &mut Histogram) {
+pub(crate) fn count_cases(signature: &Signature, plan: &Plan, seen: &mut Histogram) {
     let convention = match plan.convention {
         Convention::Ppc64 => "PPC64",
         Convention::Z => "Z",

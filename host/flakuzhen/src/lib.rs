@@ -14,10 +14,12 @@
 #![deny(unsafe_code)]
 
 pub mod machine;
+mod marshal;
 mod plans;
 #[allow(unsafe_code)]
 pub mod surface;
 
+pub use marshal::{fill, home, read, view};
 pub use plans::{listing, measure, Sizes};
 
 use std::error::Error;
@@ -73,7 +75,12 @@ impl Refusal {
             7 => "bytes after the 64th argument",
             8 => "a struct of over 256 bytes",
             9 => "bytes after the third item",
+            10 => "the buffer of values is not exactly of the arguments' size",
+            11 => "the buffer of parameters is shorter than the area",
+            12 => "the copy buffer is too short, or its address is no multiple of 8 or too high",
+            13 => "an address that does not lie in the copy buffer with all that it points at",
             14 => "the bits of a double that is no widened single",
+            15 => "the image of the registers is not 512 bytes",
             16 => "a machine's memory or base that is not allowed, or a memory of another length",
             17 => "a frame request out of range",
             18 => "already 32 frames",
@@ -82,6 +89,7 @@ impl Refusal {
             21 => "the back chain, on Z the saved r15, is not the caller's stack pointer",
             22 => "no frame to leave",
             23 => "a machine state that cannot be",
+            24 => "no home or view for this convention, or no argument with this index",
             _ => "a refusal that this version has no words for",
         }
     }
@@ -106,7 +114,7 @@ mod tests {
             number: 0,
             place: 0,
         };
-        for number in (1..=9).chain([14]).chain(16..=23) {
+        for number in 1..=24 {
             let refusal = Refusal { number, place: 3 };
             assert_ne!(refusal.message(), unknown.message());
             assert!(refusal

@@ -4,6 +4,7 @@
 //! to each other.
 
 pub mod machine;
+pub mod marshal;
 pub mod plans;
 
 /// `fz_answer`: number 0 is yes.

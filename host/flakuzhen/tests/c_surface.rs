@@ -25,7 +25,7 @@ fn run(command: &mut Command) -> Output {
 }
 
 /// The programs that use the header: a file in this folder, without its ending.
-const PROGRAMS: [&str; 2] = ["surface", "machine"];
+const PROGRAMS: [&str; 3] = ["surface", "machine", "marshal"];
 
 /// Compiles and runs the programs with these words of a compiler and this library.
 fn compile_and_run(name: &str, compiler: &[&str], library: &str) {

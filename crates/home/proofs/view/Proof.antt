@@ -1,38 +1,20 @@
--- Where nothing is refused, the argument's own bytes lie in its home, and this in the area (`Hand`).
-use mathlib.Core.Path.{_≡_, sym, _∙_}
-use Prim.Native.Nat.{_-_}
+-- The part that is viewed lies in the area.
+use Prim.Native.Nat.{_+_, _≤_}
 use native.Mathlib.Omega.{arith}
 use lib.ListN.{length}
-use Rattle.convention.specs.Step.{rulesOf}
-use Rattle.plan.proofs.Answers.{answer-plannable}
-use Rattle.slots.specs.Forms.{ownStart}
-use Rattle.slots.proofs.Answered.{plan-same}
-use Rattle.slots.proofs.Turns.{argumentAt}
-use Rattle.home.proofs.Homed.{Hand, hand, own-homed, not-refused, answer-same, view-kept, view-shown}
+use Rattle.home.proofs.Homed.{part-within, part-view}
 use borrow.Author.Needs.{needs}
 use Rattle.home.proofs.view.Statement.{statement}
 use Rattle.home.proofs.view.Tie as tie
 
-viewed : (c : tie.Else1) → Hand (c .before .before .before .before .before .before .before .args .sig .now) (length (c .before .before .before .before .before .before .before .args .area .now)) (c .before .before .before .before .before .before .before .args .index) (c .before .before .before .before .read-signature .result) (c .before .before .before .plan-signature .result)
-viewed c =
-    hand (c .before .before .before .before .before .before .before .args .sig .now) (length (c .before .before .before .before .before .before .before .args .area .now)) (c .before .before .before .before .before .before .before .args .index) _ _ (c .before .before .answer-of .result) (c .before .before .before .before .read-signature .ensures)
-    (plan-same (c .before .before .before .before .before .before .before .args .sig .now) _ _ (c .before .before .before .before .read-signature .ensures) (c .before .before .before .plan-signature .ensures)) (c .before .before .answer-of .ensures) (not-refused _ (sym (c .before .is-refused .ensures) ∙ c .if1 .left))
+within : (c : tie.After-view-part) → c .view-part .result .start + c .view-part .result .length ≤ length (c .before .before .before .args .area .now)
+within c = rw (c .view-part .ensures) (part-within (c .before .before .before .args .sig .now) _ (c .before .before .before .args .index))
 
--- where the value's own bytes start
-own : (c : tie.After-own-start) → c .own-start .result ≡ ownStart (rulesOf (c .before .before .before .before .before .before .before .before .before .before .before .read-signature .result .convention)) (argumentAt (c .before .before .before .before .before .before .before .before .before .before .before .read-signature .result) (c .before .before .before .before .before .before .before .before .before .before .plan-signature .result) (c .before .before .before .before .before .before .before .before .before .before .before .before .before .before .args .index) .ty) (argumentAt (c .before .before .before .before .before .before .before .before .before .before .before .read-signature .result) (c .before .before .before .before .before .before .before .before .before .before .plan-signature .result) (c .before .before .before .before .before .before .before .before .before .before .before .before .before .before .args .index) .size)
-own c = c .own-start .ensures ∙ rw (c .before .rules-of .ensures, c .before .before .before .size-of .ensures)
+view-part-requires : tie.Need-view-part-requires
+view-part-requires c κs = search needs
 
-read-signature-requires : tie.Need-read-signature-requires
-read-signature-requires c κs = search needs
-
-plan-signature-requires : tie.Need-plan-signature-requires
-plan-signature-requires c κs = rw (c .read-signature .ensures) (answer-plannable (c .before .before .before .args .sig .now))
-
-answer-of-requires : tie.Need-answer-of-requires
-answer-of-requires c κs = search needs
-
-is-refused-requires : tie.Need-is-refused-requires
-is-refused-requires c κs = search needs
+add-end : tie.Need-add-end
+add-end c = omega (arith, within (c .before))
 
 sub-result : tie.Need-sub-result
 sub-result c = search needs
@@ -41,94 +23,20 @@ part-result-start : tie.Need-part-result-start
 part-result-start c = search needs
 
 part-result-end : tie.Need-part-result-end
-part-result-end c = search needs
+part-result-end c = omega (arith, within (c .before))
 
 returns : tie.Need-returns
 returns c =
-    let start = c .before .before .before .before .before .before .before .before in
-    let same = plan-same (start .args .sig .now) _ _ (c .before .before .before .before .before .read-signature .ensures) (c .before .before .before .before .plan-signature .ensures) in
-    view-kept (start .args .sig .now) (start .args .area .now) (start .args .index) _ (answer-same (start .args .sig .now) _ (start .args .index) _ _ _ (c .before .before .before .before .before .read-signature .ensures) same (c .before .before .before .answer-of .ensures)) (sym (c .before .before .is-refused .ensures) ∙ c .before .if1 .taken)
-
-mul-a : tie.Need-mul-a
-mul-a c = omega (arith, viewed c .small)
-
-element-copy-out-a : tie.Need-element-copy-out-a
-element-copy-out-a c = omega (arith, viewed c .small)
-
-mul-s : tie.Need-mul-s
-mul-s c = omega (arith, viewed (c .before) .small)
-
-element-copy-out-s : tie.Need-element-copy-out-s
-element-copy-out-s c = omega (arith, viewed (c .before) .small)
-
-size-of-requires : tie.Need-size-of-requires
-size-of-requires c κs = search needs
-
-cast-start : tie.Need-cast-start
-cast-start c = search needs
-
-rules-of-requires : tie.Need-rules-of-requires
-rules-of-requires c κs = search needs
-
-own-start-requires : tie.Need-own-start-requires
-own-start-requires c κs =
-    let h = viewed (c .before .before .before .before .before .before) in
-    rw (c .rules-of .ensures, c .before .before .size-of .ensures) (λ e. (h .held .small e (h .homed .direct) .1, h .held .end e))
-
-add-start : tie.Need-add-start
-add-start c =
-    let h = viewed (c .before .before .before .before .before .before .before) in
-    let o = own-homed _ _ _ (h .rules) (h .held) (h .homed) in
-    omega (arith, o, own c, h .room)
-
-add-end : tie.Need-add-end
-add-end c =
-    let h = viewed (c .before .before .before .before .before .before .before) in
-    let o = own-homed _ _ _ (h .rules) (h .held) (h .homed) in
-    omega (arith, o, own c, h .room, c .before .before .before .size-of .ensures)
-
-sub-result-2 : tie.Need-sub-result-2
-sub-result-2 c = search needs
-
-part-result-start-2 : tie.Need-part-result-start-2
-part-result-start-2 c = search needs
-
-part-result-end-2 : tie.Need-part-result-end-2
-part-result-end-2 c =
-    let h = viewed (c .before .before .before .before .before .before .before) in
-    let o = own-homed _ _ _ (h .rules) (h .held) (h .homed) in
-    omega (arith, o, own c, h .room, c .before .before .before .size-of .ensures)
-
-returns-2 : tie.Need-returns-2
-returns-2 c =
-    let at-own = c .before in
-    let start = c .before .before .before .before .before .before .before .before .before .before .before .before .before .before .before in
-    let h = viewed (c .before .before .before .before .before .before .before .before) in
-    view-shown (start .args .sig .now) (start .args .area .now) (start .args .index) _ _ _ _ h (c .before .before .before .before .before .before .before .before .before .before .before .before .read-signature .ensures) (own at-own) (c .before .before .before .before .size-of .ensures)
+    let start = c .before .before .before .before .before in
+    part-view (start .args .sig .now) (start .args .area .now) (start .args .index) _ (c .before .before .view-part .ensures)
 
 pub view-spec : {M : Type 1} → statement M
 view-spec =
     tie.close
     (tie.spec
-    read-signature-requires
-    plan-signature-requires
-    answer-of-requires
-    is-refused-requires
+    view-part-requires
+    add-end
     sub-result
     part-result-start
     part-result-end
-    returns
-    mul-a
-    element-copy-out-a
-    mul-s
-    element-copy-out-s
-    size-of-requires
-    cast-start
-    rules-of-requires
-    own-start-requires
-    add-start
-    add-end
-    sub-result-2
-    part-result-start-2
-    part-result-end-2
-    returns-2)
+    returns)

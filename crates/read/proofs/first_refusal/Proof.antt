@@ -4,19 +4,19 @@ use mathlib.Core.Path.{_≡_, sym, _∙_}
 use mathlib.Core.List.{_∷_}
 use Prim.Native.Nat.{suc, _-_}
 use native.Mathlib.Omega.{arith}
-use lib.ListN.{drop}
+use lib.ListN.{length, drop}
 use Rattle.convention.specs.Step.{rulesOf}
 use Rattle.slots.specs.Buffers.{buffers}
 use Rattle.slots.specs.Placements.{Placement}
 use Rattle.slots.specs.Arguments.{argumentsIn}
-use Rattle.slots.proofs.Turns.{argumentAt, next-argument, no-argument}
-use Rattle.read.specs.Read.{argumentAnswer}
-use Rattle.read.proofs.Turns.{Checking, checking-start, checking-ready, checking-refused, checking-more, checking-end}
+use Rattle.slots.proofs.Turns.{argumentAt, next-argument, no-argument, Checking, checking-start, checking-ready, checking-refused, checking-more, checking-end}
+use Rattle.read.specs.Read.{argumentAnswer, argumentsAnswer, Ready}
 use Rattle.read.proofs.first_refusal.Statement.{statement}
 use Rattle.read.proofs.first_refusal.Tie as tie
 
 abbrev Inv-loop : tie.InvT-loop
-Inv-loop image area copies base g p convention count rules i₀ i = Checking (rulesOf (g .convention)) base (argumentsIn g p) (buffers image area copies) i
+Inv-loop image area copies base g p convention count rules i₀ i =
+    Checking (λ (q : Placement). argumentAnswer (rulesOf (g .convention)) base q (buffers image area copies)) (Ready (rulesOf (g .convention)) (length image) (length area)) (argumentsIn g p) i
 
 abbrev μ-loop : tie.MeasureT-loop
 μ-loop image area copies base g p convention count rules i₀ i = count - i
@@ -35,7 +35,7 @@ rules-of-requires : tie.Need-rules-of-requires Inv-loop μ-loop
 rules-of-requires c κs = search needs
 
 loop-holds : tie.Need-loop-holds Inv-loop μ-loop
-loop-holds c = checking-start _ _ _ _ (c .before .before .before .before .pre .each)
+loop-holds c = checking-start _ _ _ (c .before .before .before .before .pre .each)
 
 mul-a : tie.Need-mul-a Inv-loop μ-loop
 mul-a c = omega (arith, c .before .before .before .before .before .before .pre .few)
@@ -53,15 +53,16 @@ size-of-requires : tie.Need-size-of-requires Inv-loop μ-loop
 size-of-requires c κs = search needs
 
 argument-answer-requires : tie.Need-argument-answer-requires Inv-loop μ-loop
-argument-answer-requires c κs = rw (c .size-of .ensures, c .before .before .before .before .before .rules-of .ensures) (checking-ready _ _ _ _ _ (hand c) (next c) (c .before .before .before .before .loop .inv))
+argument-answer-requires c κs = rw (c .size-of .ensures, c .before .before .before .before .before .rules-of .ensures) (checking-ready _ _ _ _ (hand c) (next c) (c .before .before .before .before .loop .inv))
 
 is-refused-requires : tie.Need-is-refused-requires Inv-loop μ-loop
 is-refused-requires c κs = search needs
 
 returns : tie.Need-returns Inv-loop μ-loop
+unfolding argumentsAnswer
 returns c =
     let sized = c .before .before .before in
-    checking-refused _ _ _ _ _ (hand sized) (next sized) (sized .before .before .before .before .loop .inv) _ (asked (c .before .before)) (sym (c .before .is-refused .ensures) ∙ c .if1 .taken)
+    checking-refused _ _ _ _ (hand sized) (next sized) (sized .before .before .before .before .loop .inv) _ (asked (c .before .before)) (sym (c .before .is-refused .ensures) ∙ c .if1 .taken)
 
 add-i : tie.Need-add-i Inv-loop μ-loop
 add-i c = omega (arith, c .before .before .before .before .before .before .before .before .before .before .before .before .pre .few, c .before .before .before .before .before .before .loop-test .taken)
@@ -72,10 +73,11 @@ loop-less c = omega (arith, c .before .before .before .before .before .before .l
 loop-again : tie.Need-loop-again Inv-loop μ-loop
 loop-again c =
     let sized = c .before .before .before in
-    checking-more _ _ _ _ _ (hand sized) (next sized) (sized .before .before .before .before .loop .inv) _ (asked (c .before .before)) (sym (c .before .is-refused .ensures) ∙ c .if1 .left)
+    checking-more _ _ _ _ (hand sized) (next sized) (sized .before .before .before .before .loop .inv) _ (asked (c .before .before)) (sym (c .before .is-refused .ensures) ∙ c .if1 .left)
 
 returns-2 : tie.Need-returns-2 Inv-loop μ-loop
-returns-2 c = checking-end _ _ _ _ _ (no-argument (c .before .before .before .before .before .before .args .t4) (c .before .before .before .before .before .before .args .t5) (c .before .loop .i) (omega (arith, c .loop-test .left)) (c .before .before .before .before .before .before .pre .types)) (c .before .loop .inv)
+unfolding argumentsAnswer
+returns-2 c = checking-end _ _ _ _ (no-argument (c .before .before .before .before .before .before .args .t4) (c .before .before .before .before .before .before .args .t5) (c .before .loop .i) (omega (arith, c .loop-test .left)) (c .before .before .before .before .before .before .pre .types)) (c .before .loop .inv)
 
 pub first-refusal-spec : {M : Type 1} → statement M
 first-refusal-spec =

@@ -5,8 +5,8 @@ use Rattle.plan.proofs.Answers.{answer-plannable}
 use Rattle.slots.specs.declared.Answer.{Answer}
 use Rattle.slots.specs.Buffers.{buffers}
 use Rattle.slots.proofs.Answered.{plan-same, carried-same}
+use Rattle.slots.proofs.Refusals.{not-refused}
 use Rattle.read.specs.Read.{readValues}
-use Rattle.read.proofs.Turns.{not-refused}
 use Rattle.read.proofs.Accepted.{Lent, tests-passed, all-ready, answer-refused, answer-lengths, answer-arguments, values-kept, values-taken}
 use borrow.Author.Needs.{needs}
 use Rattle.read.proofs.read.Statement.{statement}

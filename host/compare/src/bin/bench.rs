@@ -3,20 +3,16 @@
 
 #![forbid(unsafe_code)]
 
-use compare::encode::{self, INTEGERS};
-use compare::generate;
-use compare::random::Random;
 use compare::timing;
+use compare::usual::{self, Group};
 use flakuzhen::surface::plans as library;
-use reference::{compact, Convention, Float, Signature, Type};
-use std::collections::HashSet;
+use reference::compact;
 use std::hint::black_box;
 use std::ops::RangeInclusive;
 use std::process::ExitCode;
 
 const SIGNATURES: usize = 10_000;
 const ROUNDS: usize = 101;
-const COUNTS: [RangeInclusive<usize>; 3] = [0..=8, 9..=32, 33..=64];
 
 const SIDES: &str = "\
 library         fz_measure: reads and tests the signature's bytes, plans the call and gives the
@@ -24,12 +20,6 @@ library         fz_measure: reads and tests the signature's bytes, plans the cal
 second program  compact::plan: the same from the same bytes in ordinary Rust, in one pass and
                 without trees; it also keeps every argument's places, in one vector
 ";
-
-/// Signatures with a like number of arguments.
-struct Group {
-    counts: RangeInclusive<usize>,
-    signatures: Vec<Vec<u8>>,
-}
 
 /// What all signatures of a group took together.
 #[derive(Default)]
@@ -43,7 +33,7 @@ struct Sums {
 
 fn main() -> ExitCode {
     let seed = compare::seed();
-    let groups = groups(seed);
+    let groups = usual::groups(seed, SIGNATURES);
     for bytes in groups.iter().flat_map(|group| &group.signatures) {
         if !agree(bytes) {
             eprintln!("the two differ on a signature of seed {seed:#x}: nothing is measured");
@@ -69,51 +59,6 @@ fn main() -> ExitCode {
     }
     print(&(0..=64), &all);
     ExitCode::SUCCESS
-}
-
-/// Different accepted signatures, every number of arguments as likely as another, in groups by it.
-fn groups(seed: u64) -> Vec<Group> {
-    let group = |counts: &RangeInclusive<usize>| Group {
-        counts: counts.clone(),
-        signatures: Vec::new(),
-    };
-    let mut groups: Vec<Group> = COUNTS.iter().map(group).collect();
-    let mut random = Random::new(seed);
-    let mut known = HashSet::new();
-    while known.len() < SIGNATURES {
-        let signature = signature(&mut random);
-        let bytes = encode::signature(&signature);
-        if known.insert(bytes.clone()) {
-            let count = signature.arguments.len();
-            let group = groups
-                .iter_mut()
-                .find(|group| group.counts.contains(&count));
-            let group = group.expect("a group for every count");
-            group.signatures.push(bytes);
-        }
-    }
-    groups
-}
-
-fn signature(random: &mut Random) -> Signature {
-    let convention = random.pick(&[Convention::Ppc64, Convention::Z]);
-    let result = random.once_in(2).then(|| usual_type(random));
-    let count = random.below(65);
-    generate::fitting(convention, result, (0..count).map(|_| usual_type(random)))
-}
-
-/// As calls usually have them: mostly integers and pointers, some floats, now and then a struct
-/// of a few fields.
-fn usual_type(random: &mut Random) -> Type {
-    match random.below(16) {
-        0..=8 => Type::Integer(random.pick(&INTEGERS)),
-        9..=11 => Type::Float(random.pick(&[Float::Single, Float::Double])),
-        12 => Type::Float(Float::LongDouble),
-        _ => {
-            let count = 1 + random.below(6);
-            generate::valid_struct(random, count, 3)
-        }
-    }
 }
 
 /// Both accept the signature and give the same sizes.

@@ -4,8 +4,9 @@
 
 #![forbid(unsafe_code)]
 
+use compare::calls::Operation;
 use compare::random::Random;
-use compare::{float_bits, machine_lists, plans, signatures, Difference};
+use compare::{float_bits, machine_lists, marshal, plans, signatures, Difference};
 use reference::Convention;
 use std::fmt;
 use std::io::{self, IsTerminal, Write};
@@ -15,6 +16,8 @@ use std::time::{Duration, Instant, SystemTime, UNIX_EPOCH};
 /// The share of a round, which takes about a second.
 const SIGNATURES: u64 = 20_000;
 const PLANS: u64 = 5_000;
+/// Of each operation.
+const CALLS: u64 = 2_000;
 const SINGLES: u64 = 50_000;
 const LISTS: u64 = 500;
 const STATES: u64 = 2_000;
@@ -55,13 +58,14 @@ fn seed_from_the_clock() -> u64 {
 struct Cases {
     signatures: u64,
     plans: u64,
+    calls: u64,
     floats: u64,
     machine_calls: u64,
 }
 
 impl Cases {
     fn total(&self) -> u64 {
-        self.signatures + self.plans + self.floats + self.machine_calls
+        self.signatures + self.plans + self.calls + self.floats + self.machine_calls
     }
 }
 
@@ -70,13 +74,14 @@ impl fmt::Display for Cases {
         let Cases {
             signatures,
             plans,
+            calls,
             floats,
             machine_calls,
         } = self;
         write!(
             to,
-            "{signatures} signatures, {plans} plans, {floats} float conversions, {machine_calls} \
-             machine calls"
+            "{signatures} signatures, {plans} plans, {calls} calls, {floats} float conversions, \
+             {machine_calls} machine calls"
         )
     }
 }
@@ -150,6 +155,9 @@ fn round(seed: u64, done: &mut Cases) -> Result<(), Difference> {
     let told = |difference: Difference| Difference(format!("round {seed:#x}: {difference}"));
     done.signatures += signatures::run(seed, SIGNATURES).map_err(told)?.total();
     done.plans += plans::run(seed, PLANS).map_err(told)?.total();
+    for operation in Operation::ALL {
+        done.calls += marshal::run(operation, seed, CALLS).map_err(told)?.total();
+    }
     done.floats += float_bits::run(seed, SINGLES).map_err(told)?.total();
     for convention in [Convention::Ppc64, Convention::Z] {
         let reach = machine_lists::run(seed, convention, LISTS).map_err(told)?;

@@ -1,0 +1,2 @@
+-- The words of an answer. Assumes nothing.
+pub mod Answers

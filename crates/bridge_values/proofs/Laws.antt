@@ -1,0 +1,25 @@
+-- An answer in the surface's words, and what stands beside it. Assumes nothing.
+use Prim.Native.Nat.{ℕ}
+use mathlib.Core.Path.{_≡_, ap, _∙_}
+use Rattle.slots.specs.declared.Answer as slots
+use Rattle.slots.specs.declared.Refusal.{Refusal}
+use Rattle.slots.specs.Refusals.{numberOf}
+use Rattle.home.specs.declared.ViewPart.{ViewPart}
+use Rattle.answers.specs.declared.Answer.{Answer}
+use Rattle.answers.specs.Answers.{answerOf, yes}
+use Rattle.bridge_values.specs.declared.Part.{Part}
+use Rattle.bridge_values.specs.Values.{callAnswer, partAnswer}
+
+pub done-answer : (a : slots.Answer) → a ≡ slots.Answer.Done → yes ≡ callAnswer a
+unfolding callAnswer
+done-answer a e = rw e
+
+pub refused-answer : (a : slots.Answer) (reason : Refusal) (place n : ℕ) → a ≡ slots.Answer.Refused reason place → n ≡ numberOf reason
+    → answerOf n place ≡ callAnswer a
+unfolding callAnswer
+refused-answer a reason place n e is = rw (e, is)
+
+pub part-answer : (p v : ViewPart) (a : Answer) → p ≡ v → a ≡ callAnswer (p .answer)
+    → _≡_ {A = Part} (record { answer = a; start = p .start; length = p .length }) (partAnswer v)
+unfolding partAnswer
+part-answer p v a e is = rw is (ap partAnswer e)

@@ -1,0 +1,120 @@
+-- The loop puts one argument a turn; those that are left give what all give (`Homing`).
+use borrow.Author.Needs.{needs}
+use mathlib.Core.Path.{_≡_, sym, ap, _∙_}
+use mathlib.Core.List.{List, _∷_}
+use Prim.Native.Nat.{ℕ, suc, _+_, _-_, _≤_}
+use native.Mathlib.Omega.{arith}
+use lib.ListN.{length, drop}
+use borrow.Rule.Slice.PartMut.{putMid}
+use Rattle.words.specs.Splice.{splice, part}
+use Rattle.words.proofs.Splices.{lent-tail, length-part}
+use Rattle.types.specs.declared.Convention.{Convention}
+use Rattle.types.specs.Sizes.{sizeOf}
+use Rattle.convention.specs.Step.{ppc64, rulesOf}
+use Rattle.slots.specs.Placements.{Placement, placement}
+use Rattle.slots.specs.Arguments.{argumentsIn}
+use Rattle.slots.proofs.Turns.{argumentAt, next-argument, no-argument}
+use Rattle.home.specs.Home.{homedBytes, Registered}
+use Rattle.home.proofs.Registers.{registered-at, homed-same, Homing, homing-start, homing-ready, homing-more, homing-end}
+use Rattle.home.proofs.put_homes.Statement.{statement}
+use Rattle.home.proofs.put_homes.Tie as tie
+
+abbrev Inv-loop : tie.InvT-loop
+Inv-loop area₀ image g p count i₀ area i = Homing (p .area) (length image) (rulesOf (g .convention)) (argumentsIn g p) image area₀ area i
+
+abbrev μ-loop : tie.MeasureT-loop
+μ-loop area₀ image g p count i₀ area i = count - i
+
+-- the argument at hand
+abbrev hand : (c : tie.After-s Inv-loop μ-loop) → Placement
+hand c = argumentAt (c .before .before .before .before .before .before .args .t3) (c .before .before .before .before .before .before .args .t4) (c .before .before .before .loop .i)
+
+next : (c : tie.After-s Inv-loop μ-loop) → drop (c .before .before .before .loop .i) (argumentsIn (c .before .before .before .before .before .before .args .t3) (c .before .before .before .before .before .before .args .t4)) ≡ hand c ∷ drop (suc (c .before .before .before .loop .i)) (argumentsIn (c .before .before .before .before .before .before .args .t3) (c .before .before .before .before .before .before .args .t4))
+next c = next-argument (c .before .before .before .before .before .before .args .t3) (c .before .before .before .before .before .before .args .t4) (c .before .before .before .loop .i) (c .before .before .loop-test .taken) (c .before .before .before .before .before .before .pre .0 .types) (c .before .before .before .before .before .before .pre .0 .spans)
+
+ready : (c : tie.After-s Inv-loop μ-loop) → Registered (c .before .before .before .before .before .before .args .t4 .area) (length (c .before .before .before .before .before .before .args .image .now)) (hand c)
+ready c = homing-ready _ _ _ _ _ _ _ _ (hand c) (next c) (c .before .before .before .loop .inv)
+
+within : (c : tie.After-s Inv-loop μ-loop) → hand c .span .home .start ≤ length (c .before .before .before .loop .area)
+within c = omega (arith, ready c .homed .within, c .before .before .before .before .before .before .pre .1, c .before .before .before .loop .inv .same)
+
+loop-holds : tie.Need-loop-holds Inv-loop μ-loop
+loop-holds c = homing-start _ _ _ _ _ _ (c .before .before .pre .0 .each)
+
+mul-a : tie.Need-mul-a Inv-loop μ-loop
+mul-a c = omega (arith, c .before .before .before .before .pre .0 .few)
+
+element-copy-out-a : tie.Need-element-copy-out-a Inv-loop μ-loop
+element-copy-out-a c = omega (arith, c .before .before .before .before .pre .0 .few)
+
+mul-s : tie.Need-mul-s Inv-loop μ-loop
+mul-s c = omega (arith, c .before .before .before .before .before .pre .0 .few)
+
+element-copy-out-s : tie.Need-element-copy-out-s Inv-loop μ-loop
+element-copy-out-s c = omega (arith, c .before .before .before .before .before .pre .0 .few)
+
+cast-start : tie.Need-cast-start Inv-loop μ-loop
+cast-start c = search needs
+
+sub-put-home : tie.Need-sub-put-home Inv-loop μ-loop
+sub-put-home c = omega (arith, within (c .before .before))
+
+part-put-home-start : tie.Need-part-put-home-start Inv-loop μ-loop
+part-put-home-start c = omega (arith, within (c .before .before))
+
+part-put-home-end : tie.Need-part-put-home-end Inv-loop μ-loop
+part-put-home-end c = search needs
+
+put-home-requires : tie.Need-put-home-requires Inv-loop μ-loop
+put-home-requires c κs =
+    let h = c .before .before .before in
+    let l : List ℕ = h .before .before .before .loop .area in
+    let start : ℕ = hand h .span .home .start in
+    let size : length (part start (length l - start) l) ≡ length l - start = length-part start (length l - start) l (omega (arith, within h)) in
+    registered-at _ _ _ _ _ _ (h .before .before .before .before .before .before .pre .0 .convention) (omega (arith, size, within h, h .before .before .before .before .before .before .pre .1, h .before .before .before .loop .inv .same)) (ready h)
+
+add-i : tie.Need-add-i Inv-loop μ-loop
+add-i c = omega (arith, c .before .before .before .before .before .before .before .before .before .before .before .before .pre .0 .few, c .before .before .before .before .before .before .before .before .loop-test .taken)
+
+loop-less : tie.Need-loop-less Inv-loop μ-loop
+loop-less c = omega (arith, c .before .before .before .before .before .before .before .before .loop-test .taken)
+
+loop-again : tie.Need-loop-again Inv-loop μ-loop
+loop-again c =
+    let h = c .before .before .before .before .before .before in
+    let l : List ℕ = h .before .before .before .loop .area in
+    let image : List ℕ = h .before .before .before .before .before .before .args .image .now in
+    let start : ℕ = hand h .span .home .start in
+    let x : List ℕ = homedBytes ppc64 (placement (hand h .ty) (sizeOf Convention.Ppc64 (hand h .ty)) (hand h .span)) image in
+    let y : List ℕ = homedBytes (rulesOf (h .before .before .before .before .before .before .args .t3 .convention)) (hand h) image in
+    let same : x ≡ y = homed-same _ (hand h .ty) (hand h .span) image (h .before .before .before .before .before .before .pre .0 .convention) in
+    let e : putMid start (length l - start) l (c .before .before .put-home .last .0) ≡ splice l start y = ap (putMid start (length l - start) l) (c .before .before .put-home .ensures) ∙ lent-tail l start x ∙ ap (splice l start) same in
+    rw e (homing-more _ _ _ _ _ _ _ _ (hand h) (next h) (h .before .before .before .loop .inv))
+
+same-length : tie.Need-same-length Inv-loop μ-loop
+same-length c = c .before .loop .inv .same
+
+returns : tie.Need-returns Inv-loop μ-loop
+returns c = homing-end _ _ _ _ _ _ _ _ (no-argument (c .before .before .before .before .args .t3) (c .before .before .before .before .args .t4) (c .before .loop .i) (omega (arith, c .loop-test .left)) (c .before .before .before .before .pre .0 .types)) (c .before .loop .inv)
+
+pub put-homes-spec : {M : Type 1} → statement M
+put-homes-spec =
+    tie.close
+    (tie.spec
+    Inv-loop
+    μ-loop
+    loop-holds
+    mul-a
+    element-copy-out-a
+    mul-s
+    element-copy-out-s
+    cast-start
+    sub-put-home
+    part-put-home-start
+    part-put-home-end
+    put-home-requires
+    add-i
+    loop-less
+    loop-again
+    same-length
+    returns)

@@ -1,0 +1,183 @@
+//! Filling, reading, home and view, compared on generated calls.
+
+use compare::calls::{Fault, Operation};
+use compare::marshal::{self, Histogram};
+
+/// The calls of each operation.
+const CALLS: u64 = 50_000;
+
+/// How often each fault must have been the one that was answered, each fault before each later
+/// one, each edge, and each of what accepted calls may be like.
+const FAULTS: u64 = 1_000;
+const ORDERS: u64 = 100;
+const EDGES: u64 = 200;
+const CASES: u64 = 200;
+
+/// What accepted calls of PPC64 must have been like.
+const PPC64: [&str; 20] = [
+    "PPC64 64 arguments",
+    "PPC64 double in FPR",
+    "PPC64 double in FPR past r10",
+    "PPC64 double in memory",
+    "PPC64 float-like struct in GPR",
+    "PPC64 float-like struct in memory",
+    "PPC64 hidden result",
+    "PPC64 integer in GPR",
+    "PPC64 integer in memory",
+    "PPC64 larger area",
+    "PPC64 long double in GPR",
+    "PPC64 long double in memory",
+    "PPC64 long double straddling",
+    "PPC64 other struct in GPR",
+    "PPC64 other struct in memory",
+    "PPC64 other struct straddling",
+    "PPC64 single in FPR",
+    "PPC64 single in FPR past r10",
+    "PPC64 single in memory",
+    "PPC64 smallest area",
+];
+
+/// What accepted calls of Z must have been like.
+const Z: [&str; 29] = [
+    "Z 64 arguments",
+    "Z copies end off a multiple of 8",
+    "Z double in FPR",
+    "Z double in memory",
+    "Z float-like struct of 4 in FPR",
+    "Z float-like struct of 4 in memory",
+    "Z float-like struct of 8 in FPR",
+    "Z float-like struct of 8 in memory",
+    "Z gap before a copy",
+    "Z hidden result",
+    "Z integer in GPR",
+    "Z integer in memory",
+    "Z larger area",
+    "Z long double by reference in GPR",
+    "Z long double by reference in memory",
+    "Z no arguments",
+    "Z other struct by reference in GPR",
+    "Z other struct by reference in memory",
+    "Z other struct of 1 in GPR",
+    "Z other struct of 1 in memory",
+    "Z other struct of 2 in GPR",
+    "Z other struct of 2 in memory",
+    "Z other struct of 4 in GPR",
+    "Z other struct of 4 in memory",
+    "Z other struct of 8 in GPR",
+    "Z other struct of 8 in memory",
+    "Z single in FPR",
+    "Z single in memory",
+    "Z smallest area",
+];
+
+/// What singles in floating registers of PPC64 must have been.
+const SINGLES: [&str; 3] = [
+    "a signaling NaN in a floating register",
+    "a subnormal single in a floating register",
+    "an infinite single in a floating register",
+];
+
+/// Runs the comparison and holds what came to what must have come.
+fn run(operation: Operation, edges: &[&str], cases: &[&str]) -> Histogram {
+    let seed = compare::seed();
+    println!("seed {seed:#x}");
+    let seen = match marshal::run(operation, seed, CALLS) {
+        Ok(seen) => seen,
+        Err(difference) => panic!("seed {seed:#x}: {difference}"),
+    };
+    println!("{seen}");
+    assert!(seen.total() >= CALLS);
+    assert!(seen.answers[0] >= CALLS / 4);
+    for number in 1..=9 {
+        assert!(seen.answers[number] > 0, "{number} never came");
+    }
+    let faults = operation.faults();
+    for (at, &fault) in faults.iter().enumerate() {
+        let count = seen.faults.get(&fault).copied().unwrap_or(0);
+        assert!(count >= FAULTS, "{fault:?} came only {count} times");
+        for &later in &faults[at + 1..] {
+            let count = seen.orders.get(&(fault, later)).copied().unwrap_or(0);
+            let least = if together(fault, later) { ORDERS } else { 0 };
+            assert!(
+                count >= least,
+                "{fault:?} before {later:?} came only {count} times"
+            );
+        }
+    }
+    for edge in edges {
+        let count = seen.edges.get(edge).copied().unwrap_or(0);
+        assert!(count >= EDGES, "'{edge}' came only {count} times");
+    }
+    for edge in seen.edges.keys() {
+        assert!(edges.contains(edge), "'{edge}' is not named");
+    }
+    for case in cases {
+        let count = seen.accepted.case(case);
+        assert!(count >= CASES, "'{case}' came only {count} times");
+    }
+    seen
+}
+
+/// Whether one call can have both faults: widened singles are of PPC64 alone.
+fn together(fault: Fault, other: Fault) -> bool {
+    let of_z = [Fault::ForZ, Fault::OutsideCopies];
+    !(of_z.contains(&fault) && other == Fault::NotWidened)
+}
+
+#[test]
+fn fill() {
+    let edges = [
+        "an area that just fits",
+        "an area that is too short by one",
+        "base 0",
+        "copies that are too short by one",
+        "copies that just fit",
+        "the highest base",
+        "the lowest base that is too high",
+        "values of one byte too many or too few",
+    ];
+    let edges = [&edges[..], &SINGLES].concat();
+    let seen = run(Operation::Fill, &edges, &[&PPC64[..], &Z].concat());
+    assert_eq!(seen.read_back, seen.answers[0]);
+    assert_eq!(seen.viewed_back, seen.accepted.case("PPC64 calls"));
+}
+
+#[test]
+fn read() {
+    let edges = [
+        "a copy at the buffer's end",
+        "a copy between multiples of 8",
+        "a copy that reaches past 2^64",
+        "a low address",
+        "an address anywhere",
+        "an address below the copies",
+        "an address just below the copies",
+        "an address just past the copies",
+        "an address one too high",
+        "an area that just fits",
+        "an area that is too short by one",
+        "copies shorter than an argument",
+        "values of one byte too many or too few",
+    ];
+    let edges = [&edges[..], &SINGLES].concat();
+    run(Operation::Read, &edges, &[&PPC64[..], &Z].concat());
+}
+
+#[test]
+fn home() {
+    let edges = ["an area that just fits", "an area that is too short by one"];
+    let edges = [&edges[..], &SINGLES].concat();
+    run(Operation::Home, &edges, &PPC64);
+}
+
+#[test]
+fn view() {
+    let edges = [
+        "an area that just fits",
+        "an area that is too short by one",
+        "an index of an argument with a bit above",
+        "the index after the last argument's",
+        "the last argument",
+    ];
+    run(Operation::View, &edges, &PPC64);
+}

@@ -1,0 +1,105 @@
+/* Filling, reading, home and view, used as a C or C++ program uses them. Ends with the count of
+ * what is wrong. */
+#include "check.h"
+#include "flakuzhen.h"
+#include <string.h>
+
+/* PPC64, no result, arguments i32 and single */
+static const uint8_t ppc64[18] = {0x01, 0x00, 0x01, 0x01, 0x02, 0x00, 0x00, 0x03, 0x00,
+                                  0x08, 0x10, 0x00, 0x01, 0x04, 0x11, 0x00, 0x01, 0x00};
+/* Z, result long double, argument long double */
+static const uint8_t z[18] = {0x01, 0x00, 0x01, 0x02, 0x02, 0x00, 0x04, 0x11, 0x00,
+                              0x01, 0x02, 0x03, 0x00, 0x04, 0x11, 0x00, 0x01, 0x02};
+
+/* what a call is lent */
+static uint8_t image[512], area[64], copies[16];
+
+static void start(void)
+{
+    memset(image, 0xee, sizeof image);
+    memset(area, 0xee, sizeof area);
+    memset(copies, 0xee, sizeof copies);
+}
+
+static int answers(fz_answer answer, uint64_t number, uint64_t place)
+{
+    return answer.number == number && answer.place == place && answer.items == 0;
+}
+
+static void check_layout(void)
+{
+    CHECK(SIZE(fz_part, 5));
+    CHECK(WORD(fz_part, answer, 0));
+    CHECK(WORD(fz_part, start, 3));
+    CHECK(WORD(fz_part, length, 4));
+}
+
+static void check_ppc64(void)
+{
+    /* -2, and the smallest single above 0 */
+    static const uint8_t values[8] = {0xff, 0xff, 0xff, 0xfe, 0x00, 0x00, 0x00, 0x01};
+    static const uint8_t r3[8] = {0xff, 0xff, 0xff, 0xff, 0xff, 0xff, 0xff, 0xfe};
+    static const uint8_t f1[8] = {0x36, 0xa0, 0x00, 0x00, 0x00, 0x00, 0x00, 0x00};
+    static const uint8_t homed[16] = {0xff, 0xff, 0xff, 0xff, 0xff, 0xff, 0xff, 0xfe,
+                                      0x00, 0x00, 0x00, 0x00, 0x00, 0x00, 0x00, 0x01};
+    uint8_t back[8];
+    fz_part part;
+
+    start();
+    CHECK(answers(fz_fill(ppc64, 18, values, 8, image, 512, area, 64, copies, 0, 1, 0), 0, 0));
+    CHECK(memcmp(image + 8 * 3, r3, 8) == 0);
+    CHECK(memcmp(image + 256 + 8 * 1, f1, 8) == 0);
+    CHECK(image[23] == 0xee && image[32] == 0xee && area[0] == 0xee);
+    CHECK(answers(fz_read(ppc64, 18, back, 8, image, 512, area, 64, copies, 0, 1), 0, 0));
+    CHECK(memcmp(back, values, 8) == 0);
+
+    CHECK(answers(fz_home(ppc64, 18, image, 512, area, 64), 0, 0));
+    CHECK(memcmp(area, homed, 16) == 0 && area[16] == 0xee);
+    part = fz_view(area, 64, ppc64, 18, 1);
+    CHECK(answers(part.answer, 0, 0) && part.start == 12 && part.length == 4);
+    part = fz_view(area, 64, ppc64, 18, 2);
+    CHECK(answers(part.answer, FZ_NO_VIEW, 0) && part.start == 0 && part.length == 0);
+    part = fz_view(area, 63, ppc64, 18, 1);
+    CHECK(answers(part.answer, FZ_AREA_TOO_SHORT, 0) && part.start == 0 && part.length == 0);
+
+    CHECK(answers(fz_fill(ppc64, 17, values, 8, image, 512, area, 64, copies, 0, 1, 0), 2, 7));
+    CHECK(answers(fz_fill(ppc64, 18, values, 8, image, 511, area, 64, copies, 0, 1, 0),
+                  FZ_IMAGE_SIZE, 0));
+    CHECK(answers(fz_fill(ppc64, 18, values, 7, image, 512, area, 64, copies, 0, 1, 0),
+                  FZ_VALUES_SIZE, 0));
+    image[256 + 8 * 1 + 7] = 1;
+    CHECK(answers(fz_read(ppc64, 18, back, 8, image, 512, area, 64, copies, 0, 1),
+                  FZ_NOT_WIDENED, 0));
+    CHECK(answers(fz_home(ppc64, 18, image, 512, area, 64), FZ_NOT_WIDENED, 0));
+}
+
+static void check_z(void)
+{
+    static const uint8_t values[16] = {1, 2, 3, 4, 5, 6, 7, 8, 9, 10, 11, 12, 13, 14, 15, 16};
+    /* r2 with the hidden address, r3 with the copy's */
+    static const uint8_t registers[16] = {0, 0, 0, 0, 0, 0, 0x20, 0x00,
+                                          0, 0, 0, 0, 0, 0, 0x10, 0x00};
+    uint8_t back[16];
+
+    start();
+    CHECK(answers(fz_fill(z, 18, values, 16, image, 512, area, 0, copies, 16, 0x1000, 0x2000),
+                  0, 0));
+    CHECK(memcmp(image + 8 * 2, registers, 16) == 0);
+    CHECK(memcmp(copies, values, 16) == 0);
+    CHECK(answers(fz_read(z, 18, back, 16, image, 512, area, 0, copies, 16, 0x1000), 0, 0));
+    CHECK(memcmp(back, values, 16) == 0);
+    CHECK(answers(fz_read(z, 18, back, 16, image, 512, area, 0, copies, 15, 0x1000),
+                  FZ_OUTSIDE_COPIES, 0));
+    CHECK(answers(fz_fill(z, 18, values, 16, image, 512, area, 0, copies, 16, 0x1004, 0x2000),
+                  FZ_BAD_COPIES, 0));
+    CHECK(answers(fz_home(z, 18, image, 512, area, 64), FZ_NO_VIEW, 0));
+    CHECK(answers(fz_view(area, 64, z, 18, 0).answer, FZ_NO_VIEW, 0));
+}
+
+int main(void)
+{
+    check_layout();
+    check_ppc64();
+    check_z();
+    return wrong;
+}
