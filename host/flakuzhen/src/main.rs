@@ -3,6 +3,7 @@
 
 #![forbid(unsafe_code)]
 
+mod call_picture;
 mod hex;
 mod replay;
 mod stack_picture;
@@ -13,7 +14,7 @@ use std::io::{self, Read, Write};
 use std::process::ExitCode;
 
 const USAGE: &str = "\
-usage: flakuzhen list [--hex] [FILE..]
+usage: flakuzhen list [--hex] [--picture] [FILE..]
        flakuzhen read [--hex] [FILE..]
        flakuzhen replay [--picture] FILE
 
@@ -21,6 +22,8 @@ list      prints where each argument of each signature goes, and its result
 read      prints a line for each signature with its count of items, 'items N'
           Either prints 'refused NUMBER at PLACE' for a signature that is refused.
 --hex     the input is hexadecimal text with '#' comments, not the bytes themselves
+--picture draws a table of the registers, the parameter area and the copies instead, a row
+          to a doubleword, with the argument that has each byte
 FILE      holds one signature; '-', or no FILE at all, is standard input
 
 replay    makes calls of the frame machine, on registers and memory of zeros, and prints
@@ -75,7 +78,14 @@ fn run(words: &[OsString]) -> Result<Outcome, String> {
         return Err("no command given (flakuzhen --help lists them)".to_string());
     };
     match command.to_str() {
-        Some("list") => Ok(list(&Words::of(rest, &["--hex"])?.signatures()?)),
+        Some("list") => {
+            let words = Words::of(rest, &["--hex", "--picture"])?;
+            let print = match words.has("--picture") {
+                true => call_picture::draw,
+                false => flakuzhen::listing,
+            };
+            Ok(list(&words.signatures()?, print))
+        }
         Some("read") => Ok(read(&Words::of(rest, &["--hex"])?.signatures()?)),
         Some("replay") => replay_file(&Words::of(rest, &["--picture"])?),
         Some("--help" | "-h" | "help") => Ok(Outcome {
@@ -88,11 +98,11 @@ fn run(words: &[OsString]) -> Result<Outcome, String> {
     }
 }
 
-fn list(signatures: &[Vec<u8>]) -> Outcome {
+fn list(signatures: &[Vec<u8>], print: fn(&[u8]) -> String) -> Outcome {
     let mut text = String::new();
     let mut status = 0;
     for signature in signatures {
-        text.push_str(&flakuzhen::listing(signature));
+        text.push_str(&print(signature));
         if flakuzhen::measure(signature).is_err() {
             status = 1;
         }

@@ -40,8 +40,8 @@ pub fn draw(machine: &Machine) -> String {
             "  {name}, {} bytes at {pointer:#x}\n",
             end - start
         ));
-        for rows in runs(&parts, start..end).iter().rev() {
-            text.push_str(&row(function, &parts[rows.start / WORD], rows));
+        for run in runs(&parts, start..end).iter().rev() {
+            text.push_str(&row(function, &parts[run.start / WORD], run));
         }
         end = start;
     }

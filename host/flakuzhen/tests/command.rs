@@ -94,6 +94,10 @@ fn stored_listing(name: &str) -> String {
     stored(&examples().join(name), "listing")
 }
 
+fn stored_picture(name: &str) -> String {
+    stored(&examples().join(name), "picture")
+}
+
 /// The text with this ending next to a file.
 fn stored(file: &Path, ending: &str) -> String {
     let path = file.with_extension(ending);
@@ -124,6 +128,54 @@ fn lists_the_examples() {
     }
     // as document 01 has it
     assert_eq!(stored_listing("ppc64-figure-3-18.hex"), FIGURE_3_18);
+}
+
+#[test]
+fn draws_the_examples() {
+    for name in all_examples() {
+        let picture = stored_picture(&name);
+        let status = i32::from(picture.starts_with("refused "));
+        let output = run(&["list", "--picture", "--hex", &example(&name)], b"");
+        prints(&output, status, &picture);
+    }
+}
+
+#[test]
+fn draws_several_files_in_their_order() {
+    let names = ["z-powl.hex", "refused-long-double-field.hex"];
+    let [first, second] = names.map(example);
+    let output = run(&["list", &first, "--hex", &second, "--picture"], b"");
+    prints(&output, 1, &names.map(stored_picture).concat());
+    complains(&run(&["read", "--picture"], &EXAMPLE), "\"--picture\"");
+}
+
+#[test]
+fn draws_a_call_without_arguments() {
+    let z = [1, 0, 1, 2, 2, 0, 0, 3, 0, 0];
+    let picture = "Z args 0 area 0\n\nresult none\n";
+    prints(&run(&["list", "--picture"], &z), 0, picture);
+    // its result is a struct of an i8
+    let ppc64 = [1, 0, 1, 1, 2, 0, 7, 0x12, 0, 4, 0x10, 0, 1, 0, 3, 0, 0];
+    let picture = "\
+PPC64 args 0 area 64
+
+registers    0   1   2   3   4   5   6   7
+r3           h   h   h   h   h   h   h   h
+
+area         0   1   2   3   4   5   6   7
+@0                                          h is in r3
+@8
+@16
+@24
+@32
+@40
+@48
+@56
+
+result hidden r3
+  h   the address for the result
+";
+    prints(&run(&["list", "--picture"], &ppc64), 0, picture);
 }
 
 #[test]
