@@ -222,6 +222,27 @@ fn says_how_it_is_used() {
 }
 
 #[test]
+fn the_manual_page_has_the_words_of_the_help() {
+    let page = Path::new(env!("CARGO_MANIFEST_DIR")).join("../../docs/flakuzhen.1");
+    let page = std::fs::read_to_string(page).expect("the manual page");
+    let page = page.replace("\\-", "-");
+    let help = run(&["--help"], b"").stdout;
+    let help = String::from_utf8(help).expect("a text");
+    let usage = help.split("\n\n").next().expect("the first lines");
+    let words = usage.split(|mark: char| mark.is_whitespace() || "[]".contains(mark));
+    let mut found = 0;
+    for word in words.filter(|word| !word.is_empty() && *word != "usage:") {
+        let named = page.contains(&format!("\n.B {word}\n")) || page.contains(&format!(" {word}"));
+        assert!(
+            named || word.starts_with("FILE"),
+            "{word} is not in the manual page"
+        );
+        found += 1;
+    }
+    assert!(found >= 10);
+}
+
+#[test]
 fn unknown_words() {
     complains(&run::<&str>(&[], b""), "no command");
     complains(&run(&["reed"], b""), "\"reed\"");
