@@ -96,6 +96,25 @@ fn faults(crates: &str, architecture: &str) -> Vec<String> {
     faults
 }
 
+/// The lines that the drawing would have, the highest crates first: each with those below it that
+/// are not below another of them.
+fn lines(listed: &Arrows) -> String {
+    let mut names: Vec<&String> = listed.keys().collect();
+    names.sort_by_key(|name| std::cmp::Reverse(reached(listed, name).len()));
+    let mut text = String::new();
+    for name in names {
+        let all = &listed[name];
+        let through: BTreeSet<String> = all.iter().flat_map(|at| reached(listed, at)).collect();
+        let below: Vec<&str> = all.difference(&through).map(String::as_str).collect();
+        let line = match below.is_empty() {
+            true => format!("  {name}"),
+            false => format!("  {name:<14} -> {}", below.join("  ")),
+        };
+        text = text + &line + "\n";
+    }
+    text
+}
+
 fn file(name: &str) -> String {
     let path = Path::new(env!("CARGO_MANIFEST_DIR"))
         .join("../..")
@@ -105,11 +124,13 @@ fn file(name: &str) -> String {
 
 #[test]
 fn the_drawing_has_the_crates_and_their_arrows() {
-    let faults = faults(&file("crates.txt"), &file("docs/ARCHITECTURE.md"));
+    let crates = file("crates.txt");
+    let faults = faults(&crates, &file("docs/ARCHITECTURE.md"));
     assert!(
         faults.is_empty(),
-        "docs/ARCHITECTURE.md:\n{}",
-        faults.join("\n")
+        "docs/ARCHITECTURE.md:\n{}\nthe drawing's lines, from crates.txt:\n{}",
+        faults.join("\n"),
+        lines(&listed(&crates))
     );
 }
 
@@ -140,6 +161,18 @@ fn told(crates: &str, architecture: &str, expected: &[&str]) {
 fn arrows_that_follow_through_others_are_there() {
     let crates = "# all\nbottom:\nmiddle: bottom\nside: bottom\ntop: middle bottom\n";
     told(crates, ARCHITECTURE, &[]);
+}
+
+#[test]
+fn lines_to_draw() {
+    let crates = "bottom:\nmiddle: bottom\nside: bottom\ntop: middle side bottom\n";
+    let expected = "  \
+  top            -> middle  side
+  middle         -> bottom
+  side           -> bottom
+  bottom
+";
+    assert_eq!(lines(&listed(crates)), expected);
 }
 
 #[test]

@@ -14,7 +14,8 @@ use std::io::{self, Read, Write};
 use std::process::ExitCode;
 
 const USAGE: &str = "\
-usage: flakuzhen list [--hex] [--picture] [FILE..]
+usage: flakuzhen list [--hex] [FILE..]
+       flakuzhen list --picture [--hex] [FILE..]
        flakuzhen read [--hex] [FILE..]
        flakuzhen replay [--picture] FILE
 
