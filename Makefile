@@ -1,9 +1,12 @@
 # make run    prove what the command needs, build it and list the call of figure 3-18
 # make test   the whole gate: every proof, every must-fail edit, every comparison
 # make lib    build/libflakuzhen.a and build/libflakuzhen.so, from proved code alone
+# make examples  the same call planned, filled and read by a program in C and one in Rust
+# make install  the command, the libraries, the header and the manual page, under PREFIX=/usr/local
 # make soak   the comparisons on fresh seeds; SECONDS=n says for how long
 # make bench  the time of planning, filling and reading beside the second program's
 # make lint   what the gate does not ask: layout and clippy of the Rust code
+# make sanitize  the C programs and the Rust tests under AddressSanitizer
 # make clean  remove all that is built
 #
 # For other machines, with TARGET=powerpc64 or TARGET=s390x (docs/TARGETS.md, targets/targets.mk):
@@ -14,6 +17,7 @@
 # make bench-targets   the archives' sizes and the instructions of a plan
 
 SECONDS = 600
+PREFIX = /usr/local
 CC = gcc
 
 # the inputs of a proof: a change of any file or folder here proves the library again
@@ -30,7 +34,7 @@ EXAMPLE := examples/signatures/ppc64-figure-3-18.hex
 # no network and no other versions than Cargo.lock's
 CARGO_WORDS := --release --offline --locked
 
-.PHONY: run test lib soak bench lint clean
+.PHONY: run test lib examples install soak sanitize bench lint clean
 .DELETE_ON_ERROR:
 
 ifndef TARGET
@@ -57,8 +61,31 @@ $(ARCHIVE): $(PROVED_FROM)
 $(SHARED): $(ARCHIVE) include/flakuzhen.map
 	$(CC) $(SHARED_WORDS)
 
+examples: $(ARCHIVE)
+	$(CC) -Iinclude -o build/call examples/c/call.c $(ARCHIVE)
+	build/call
+	cd host && cargo run $(CARGO_WORDS) --quiet -p call
+
+# DESTDIR is put before PREFIX where files are copied, and nowhere else
+INSTALLED = $(DESTDIR)$(PREFIX)
+VERSION := $(shell sed -n 's/^version = "\(.*\)"$$/\1/p' host/Cargo.toml)
+
+install: $(ARCHIVE) $(SHARED)
+	cd host && cargo build $(CARGO_WORDS) --quiet -p flakuzhen
+	install -d $(addprefix $(INSTALLED)/,bin include lib/pkgconfig share/man/man1)
+	install -m 755 host/target/release/flakuzhen $(INSTALLED)/bin
+	install -m 644 include/flakuzhen.h $(INSTALLED)/include
+	install -m 644 $(ARCHIVE) $(INSTALLED)/lib
+	install -m 755 $(SHARED) $(INSTALLED)/lib
+	sed -e 's|@PREFIX@|$(PREFIX)|' -e 's|@VERSION@|$(VERSION)|' include/flakuzhen.pc.in \
+	    > $(INSTALLED)/lib/pkgconfig/flakuzhen.pc
+	install -m 644 docs/flakuzhen.1 $(INSTALLED)/share/man/man1
+
 soak: $(ARCHIVE)
 	cd host && cargo run $(CARGO_WORDS) --quiet -p compare --bin soak -- $(SECONDS)
+
+sanitize: $(ARCHIVE) $(SHARED)
+	@scripts/sanitize
 
 # a profile of its own: with all optimisations and without the tests' checks of sums
 bench: $(ARCHIVE)

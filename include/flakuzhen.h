@@ -1,5 +1,32 @@
 /* Flakuzhen: how the values of a call stand in registers and memory on 64-bit PowerPC (PPC64) and
- * 64-bit zSeries (Z). Link build/libflakuzhen.a or build/libflakuzhen.so.
+ * 64-bit zSeries (Z), as these machines' calling conventions say. Link with -lflakuzhen.
+ *
+ * A program that calls a function of such a machine, or that is called by one, does this:
+ *
+ *   1. It describes the function by a signature, a short string of bytes (see below).
+ *   2. fz_measure plans the call and says how many bytes its buffers need; fz_listing prints where
+ *      each argument goes.
+ *   3. fz_fill puts the arguments' values into an image of the registers and into memory, as the
+ *      calling function must. Or:
+ *   4. fz_read takes them out of there, as the called function finds them; fz_home and fz_view
+ *      give it them side by side in memory.
+ *
+ * examples/c/call.c plans, fills and reads a call. The machine need not be the one that this
+ * program runs on: nothing is executed, and addresses are numbers. The frame machine
+ * (fz_start_ppc64 to fz_leave) stands apart from this: it keeps a stack on which functions enter
+ * and leave frames. Compilers of today differ from the conventions in a few points:
+ * docs/COMPILERS.md says in which, and what to do.
+ *
+ * Words that come up everywhere:
+ *
+ *   doubleword      8 bytes: the size of a register, and of most arguments' share of memory
+ *   r0 .. r31       general registers (r0 to r15 on Z), for integers and addresses
+ *   f0 .. f31       floating registers (f0 to f15 on Z)
+ *   big-endian      the highest byte of a number comes first, as on both machines
+ *   stack pointer   the register with the address of the running function's stack frame
+ *   parameter area  the part of the caller's frame with the arguments that are in no register
+ *   hidden address  where the caller wants a result that fits no register; it is passed along as
+ *                   a first argument that the signature does not name
  *
  * What holds for every function here:
  *  - Whatever the numbers and the lent bytes are, the answer is the one that the function's

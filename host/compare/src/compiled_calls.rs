@@ -1,8 +1,10 @@
-//! The calls of `data/compiled-calls.txt`, on which compiled code agreed.
+//! The calls of `data/compiled-calls.txt` and `data/described-calls.txt`, on which compiled code
+//! agreed.
 
 use crate::calls::Call;
 
-const DATA: &str = include_str!("../data/compiled-calls.txt");
+const COMPILED: &str = include_str!("../data/compiled-calls.txt");
+const DESCRIBED: &str = include_str!("../data/described-calls.txt");
 const IMAGE: usize = 512;
 
 /// A call before it is filled and after.
@@ -13,14 +15,24 @@ pub struct CompiledCall {
     pub after: Call,
 }
 
-/// All calls of the file. A line that does not follow the file's own head panics.
+/// The calls that document 01 and the compilers pass in the same way.
 pub fn all() -> Vec<CompiledCall> {
+    calls_of("compiled-calls.txt", COMPILED)
+}
+
+/// The calls that they do not, each described by another signature, with which they do.
+pub fn described() -> Vec<CompiledCall> {
+    calls_of("described-calls.txt", DESCRIBED)
+}
+
+/// All calls of a file. A line that does not follow the files' own head panics.
+fn calls_of(file: &str, text: &str) -> Vec<CompiledCall> {
     let mut calls = Vec::new();
-    for (number, line) in DATA.lines().enumerate() {
+    for (number, line) in text.lines().enumerate() {
         if line.is_empty() || line.starts_with('#') {
             continue;
         }
-        let place = format!("compiled-calls.txt, line {}", number + 1);
+        let place = format!("{file}, line {}", number + 1);
         if let Some(text) = line.strip_prefix("call ") {
             calls.push(started(format!("{place}: {text}")));
         } else if calls.last_mut().and_then(|call| take(call, line)).is_none() {

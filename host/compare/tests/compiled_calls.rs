@@ -50,6 +50,18 @@ fn both_programs() {
     }
 }
 
+/// Calls that compilers pass in another way than document 01, described as `docs/COMPILERS.md`
+/// advises.
+#[test]
+fn described_for_compilers() {
+    let calls = compiled_calls::described();
+    assert_eq!(calls.len(), 92);
+    for call in calls {
+        holds(&call, expected);
+        holds(&call, compared);
+    }
+}
+
 #[test]
 fn the_file_has_what_it_is_for() {
     let calls = compiled_calls::all();

@@ -3,8 +3,10 @@
 
 #![forbid(unsafe_code)]
 
+mod call_picture;
 mod hex;
 mod replay;
+mod stack_picture;
 
 use std::ffi::{OsStr, OsString};
 use std::fs::File;
@@ -13,18 +15,23 @@ use std::process::ExitCode;
 
 const USAGE: &str = "\
 usage: flakuzhen list [--hex] [FILE..]
+       flakuzhen list --picture [--hex] [FILE..]
        flakuzhen read [--hex] [FILE..]
-       flakuzhen replay FILE
+       flakuzhen replay [--picture] FILE
 
 list      prints where each argument of each signature goes, and its result
 read      prints a line for each signature with its count of items, 'items N'
           Either prints 'refused NUMBER at PLACE' for a signature that is refused.
 --hex     the input is hexadecimal text with '#' comments, not the bytes themselves
+--picture draws a table of the registers, the parameter area and the copies instead, a row
+          to a doubleword, with the argument that has each byte
 FILE      holds one signature; '-', or no FILE at all, is standard input
 
 replay    makes calls of the frame machine, on registers and memory of zeros, and prints
           each answer with the number of its line: 'accepted' or 'refused NUMBER at PLACE',
           and the stack pointer where the call moves it
+--picture draws the stack too, from the highest address down, after each call that changes
+          the drawing: frames, headers, save slots and areas with their addresses and bytes
 FILE      has one call to a line, and '#' comments; '-' is standard input:
             start ppc64 SIZE BASE       or 'start z SIZE BASE': of the memory, in bytes
             enter g=29 m=30 cr=1 locals=20 out=64
@@ -72,9 +79,16 @@ fn run(words: &[OsString]) -> Result<Outcome, String> {
         return Err("no command given (flakuzhen --help lists them)".to_string());
     };
     match command.to_str() {
-        Some("list") => Ok(list(&inputs(rest)?)),
-        Some("read") => Ok(read(&inputs(rest)?)),
-        Some("replay") => replay_file(rest),
+        Some("list") => {
+            let words = Words::of(rest, &["--hex", "--picture"])?;
+            let print = match words.has("--picture") {
+                true => call_picture::draw,
+                false => flakuzhen::listing,
+            };
+            Ok(list(&words.signatures()?, print))
+        }
+        Some("read") => Ok(read(&Words::of(rest, &["--hex"])?.signatures()?)),
+        Some("replay") => replay_file(&Words::of(rest, &["--picture"])?),
         Some("--help" | "-h" | "help") => Ok(Outcome {
             text: USAGE.to_string(),
             status: 0,
@@ -85,11 +99,11 @@ fn run(words: &[OsString]) -> Result<Outcome, String> {
     }
 }
 
-fn list(signatures: &[Vec<u8>]) -> Outcome {
+fn list(signatures: &[Vec<u8>], print: fn(&[u8]) -> String) -> Outcome {
     let mut text = String::new();
     let mut status = 0;
     for signature in signatures {
-        text.push_str(&flakuzhen::listing(signature));
+        text.push_str(&print(signature));
         if flakuzhen::measure(signature).is_err() {
             status = 1;
         }
@@ -113,37 +127,49 @@ fn read(signatures: &[Vec<u8>]) -> Outcome {
     Outcome { text, status }
 }
 
-fn replay_file(words: &[OsString]) -> Result<Outcome, String> {
-    let [file] = words else {
+fn replay_file(words: &Words) -> Result<Outcome, String> {
+    let [file] = words.files[..] else {
         return Err("replay takes one FILE ('-' is standard input)".to_string());
     };
-    if file != "-" && file.as_encoded_bytes().starts_with(b"-") {
-        return Err(format!("unknown option {file:?}"));
-    }
     let text = input(file, false)?;
-    replay::replay(&text).map_err(|fault| told_of(file, fault))
+    replay::replay(&text, words.has("--picture")).map_err(|fault| told_of(file, fault))
 }
 
-/// The signatures that the words after a command name.
-fn inputs(words: &[OsString]) -> Result<Vec<Vec<u8>>, String> {
-    let mut as_hex = false;
-    let mut options_end = false;
-    let mut files: Vec<&OsStr> = Vec::new();
-    for word in words {
-        match word.to_str() {
-            Some("--hex") if !options_end => as_hex = true,
-            Some("--") if !options_end => options_end = true,
-            Some("-") => files.push(word),
-            _ if !options_end && word.as_encoded_bytes().starts_with(b"-") => {
-                return Err(format!("unknown option {word:?}"));
+/// The words after a command.
+struct Words<'a> {
+    options: Vec<&'a str>,
+    files: Vec<&'a OsStr>,
+}
+
+impl<'a> Words<'a> {
+    /// Tells the options, which are among the known ones, from the files.
+    fn of(words: &'a [OsString], known: &[&str]) -> Result<Words<'a>, String> {
+        let (mut options, mut files) = (Vec::new(), Vec::new());
+        let mut options_end = false;
+        for word in words {
+            let is_option = word.as_encoded_bytes().starts_with(b"-") && word != "-";
+            match word.to_str() {
+                _ if options_end || !is_option => files.push(word.as_os_str()),
+                Some("--") => options_end = true,
+                Some(option) if known.contains(&option) => options.push(option),
+                _ => return Err(format!("unknown option {word:?}")),
             }
-            _ => files.push(word),
         }
+        Ok(Words { options, files })
     }
-    if files.is_empty() {
-        files.push(OsStr::new("-"));
+
+    fn has(&self, option: &str) -> bool {
+        self.options.contains(&option)
     }
-    files.iter().map(|file| input(file, as_hex)).collect()
+
+    /// The signatures in the files, or in standard input where none is named.
+    fn signatures(&self) -> Result<Vec<Vec<u8>>, String> {
+        let as_hex = self.has("--hex");
+        if self.files.is_empty() {
+            return Ok(vec![input(OsStr::new("-"), as_hex)?]);
+        }
+        self.files.iter().map(|file| input(file, as_hex)).collect()
+    }
 }
 
 /// A fault, with the file that has it.

@@ -3,6 +3,7 @@
 //! gives its message and nothing else.
 
 use crate::hex;
+use crate::stack_picture;
 use crate::Outcome;
 use flakuzhen::machine::{Convention, Frame, Machine, Register, Registers, State};
 use flakuzhen::Refusal;
@@ -38,12 +39,14 @@ struct Line {
     call: Call,
 }
 
-/// Makes the calls of a text and says each answer.
-pub fn replay(text: &[u8]) -> Result<Outcome, String> {
+/// Makes the calls of a text and says each answer; with a picture, the stack follows wherever the
+/// drawing has changed.
+pub fn replay(text: &[u8], with_picture: bool) -> Result<Outcome, String> {
     let lines = parse(text)?;
     let mut machine = no_machine();
     let mut text = String::new();
     let mut status = 0;
+    let mut drawn = String::new();
     for Line { number, name, call } in &lines {
         let answer = match make(call, &mut machine) {
             Ok(()) => accepted(call, &machine),
@@ -53,6 +56,13 @@ pub fn replay(text: &[u8]) -> Result<Outcome, String> {
             }
         };
         text.push_str(&format!("{number} {name}: {answer}\n"));
+        if with_picture {
+            let picture = stack_picture::draw(&machine);
+            if picture != drawn {
+                text.push_str(&picture);
+                drawn = picture;
+            }
+        }
     }
     Ok(Outcome { text, status })
 }

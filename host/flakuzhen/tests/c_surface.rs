@@ -1,5 +1,5 @@
-//! The header and both libraries, used from C and from C++, and the names that the shared library
-//! shows.
+//! The header and both libraries, used from C and from C++, as they are built and as they are
+//! installed; the C example; and the names that the shared library shows.
 
 use std::collections::BTreeSet;
 use std::path::{Path, PathBuf};
@@ -35,21 +35,37 @@ fn compile_and_run(name: &str, compiler: &[&str], library: &str) {
 }
 
 fn compile_and_run_one(source: &str, name: &str, compiler: &[&str], library: &str) {
-    let program = Path::new(env!("CARGO_TARGET_TMPDIR")).join(format!("{source}-{name}"));
-    let tests = root().join("host/flakuzhen/tests");
-    let build = root().join("build");
+    let program = temporary(&format!("{source}-{name}"));
+    let source = root().join(format!("host/flakuzhen/tests/{source}.c"));
+    compile(&source, &program, compiler, library);
+    run_with_library(&program, "build");
+}
+
+/// A place for what a test makes.
+fn temporary(name: &str) -> PathBuf {
+    Path::new(env!("CARGO_TARGET_TMPDIR")).join(name)
+}
+
+fn compile(source: &Path, program: &Path, compiler: &[&str], library: &str) {
     run(Command::new(compiler[0])
         .args(&compiler[1..])
-        .args(["-pedantic", "-Wall", "-Wextra", "-Werror", "-I"])
+        .args(WARNINGS)
+        .arg("-I")
         .arg(root().join("include"))
         .arg("-o")
-        .arg(&program)
-        .arg(tests.join(format!("{source}.c")))
+        .arg(program)
+        .arg(source)
         // what follows is a library, whatever language was named before
         .args(["-x", "none"])
-        .arg(build.join(library)));
-    run(Command::new(&program).env("LD_LIBRARY_PATH", &build));
+        .arg(root().join("build").join(library)));
 }
+
+/// Runs a program that finds the shared library in this folder.
+fn run_with_library(program: &Path, folder: impl AsRef<Path>) -> Output {
+    run(Command::new(program).env("LD_LIBRARY_PATH", root().join(folder)))
+}
+
+const WARNINGS: [&str; 4] = ["-pedantic", "-Wall", "-Wextra", "-Werror"];
 
 const C: [&str; 2] = ["gcc", "-std=c99"];
 const CPP: [&str; 4] = ["g++", "-x", "c++", "-std=c++11"];
@@ -72,6 +88,83 @@ fn cpp_with_the_archive() {
 #[test]
 fn cpp_with_the_shared_library() {
     compile_and_run("cpp-shared", &CPP, "libflakuzhen.so");
+}
+
+/// The C example must print what is stored next to it.
+fn prints_what_is_stored(output: &Output) {
+    let stored = std::fs::read_to_string(root().join("examples/call.out")).expect("its output");
+    assert_eq!(String::from_utf8_lossy(&output.stdout), stored);
+}
+
+fn run_the_example(name: &str, words: &[&str], library: &str) {
+    let program = temporary(&format!("call-{name}"));
+    let compiler = [&C[..], words].concat();
+    compile(&root().join(EXAMPLE), &program, &compiler, library);
+    prints_what_is_stored(&run_with_library(&program, "build"));
+}
+
+const EXAMPLE: &str = "examples/c/call.c";
+
+#[test]
+fn the_example_with_the_archive() {
+    run_the_example("archive", &[], "libflakuzhen.a");
+}
+
+#[test]
+fn the_example_with_the_shared_library() {
+    run_the_example("shared", &[], "libflakuzhen.so");
+}
+
+#[test]
+fn the_example_under_sanitizers() {
+    let words = [
+        "-g",
+        "-fsanitize=address,undefined",
+        "-fno-sanitize-recover=all",
+    ];
+    run_the_example("sanitized", &words, "libflakuzhen.so");
+}
+
+/// Installs everything in a folder of its own, and uses it from there.
+#[test]
+fn installed() {
+    let prefix = temporary("installed");
+    let _ = std::fs::remove_dir_all(&prefix);
+    run(Command::new("make")
+        .current_dir(root())
+        // what the tests were started with is not for the command
+        .env_remove("MAKEFLAGS")
+        .env_remove("RUSTFLAGS")
+        // the libraries are those that all tests here use: nothing is proved again
+        .args(["-o", "build/libflakuzhen.a", "-o", "build/libflakuzhen.so"])
+        .arg("install")
+        .arg(format!("PREFIX={}", prefix.display())));
+    let signature = root().join("examples/signatures/ppc64-figure-3-18.hex");
+    let listing = std::fs::read(signature.with_extension("listing")).expect("its listing");
+    let output = run(Command::new(prefix.join("bin/flakuzhen"))
+        .args(["list", "--hex"])
+        .arg(signature));
+    assert_eq!(output.stdout, listing);
+    assert!(prefix.join("share/man/man1/flakuzhen.1").is_file());
+    assert!(prefix.join("lib/libflakuzhen.a").is_file());
+
+    let mut words = Command::new("pkg-config");
+    words.args(["--cflags", "--libs", "flakuzhen"]);
+    words.env("PKG_CONFIG_PATH", prefix.join("lib/pkgconfig"));
+    if words.output().is_err() {
+        println!("pkg-config is not installed: its file was not tried");
+        return;
+    }
+    let words = String::from_utf8(run(&mut words).stdout).expect("words of a compiler");
+    let program = temporary("call-installed");
+    run(Command::new(C[0])
+        .args(&C[1..])
+        .args(WARNINGS)
+        .arg("-o")
+        .arg(&program)
+        .arg(root().join(EXAMPLE))
+        .args(words.split_whitespace()));
+    prints_what_is_stored(&run_with_library(&program, prefix.join("lib")));
 }
 
 /// The functions that the header declares: each name that begins a parameter list, outside of

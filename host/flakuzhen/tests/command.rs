@@ -54,6 +54,12 @@ fn example(name: &str) -> String {
 #[test]
 fn reads_the_examples() {
     let readings = [
+        ("limit-64-arguments.hex", 0, "items 67\n"),
+        ("limit-65-arguments.hex", 1, "refused 7 at 266\n"),
+        ("limit-depth-8.hex", 0, "items 12\n"),
+        ("limit-depth-9.hex", 1, "refused 6 at 34\n"),
+        ("limit-struct-of-256-bytes.hex", 0, "items 36\n"),
+        ("limit-struct-of-264-bytes.hex", 1, "refused 8 at 10\n"),
         ("ppc64-dgemm.hex", 0, "items 17\n"),
         ("ppc64-figure-3-18.hex", 0, "items 17\n"),
         ("ppc64-ldiv.hex", 0, "items 8\n"),
@@ -85,7 +91,16 @@ fn all_examples() -> Vec<String> {
 
 /// What stands next to the example's signature.
 fn stored_listing(name: &str) -> String {
-    let path = examples().join(name).with_extension("listing");
+    stored(&examples().join(name), "listing")
+}
+
+fn stored_picture(name: &str) -> String {
+    stored(&examples().join(name), "picture")
+}
+
+/// The text with this ending next to a file.
+fn stored(file: &Path, ending: &str) -> String {
+    let path = file.with_extension(ending);
     std::fs::read_to_string(&path).unwrap_or_else(|fault| panic!("{path:?}: {fault}"))
 }
 
@@ -113,6 +128,54 @@ fn lists_the_examples() {
     }
     // as document 01 has it
     assert_eq!(stored_listing("ppc64-figure-3-18.hex"), FIGURE_3_18);
+}
+
+#[test]
+fn draws_the_examples() {
+    for name in all_examples() {
+        let picture = stored_picture(&name);
+        let status = i32::from(picture.starts_with("refused "));
+        let output = run(&["list", "--picture", "--hex", &example(&name)], b"");
+        prints(&output, status, &picture);
+    }
+}
+
+#[test]
+fn draws_several_files_in_their_order() {
+    let names = ["z-powl.hex", "refused-long-double-field.hex"];
+    let [first, second] = names.map(example);
+    let output = run(&["list", &first, "--hex", &second, "--picture"], b"");
+    prints(&output, 1, &names.map(stored_picture).concat());
+    complains(&run(&["read", "--picture"], &EXAMPLE), "\"--picture\"");
+}
+
+#[test]
+fn draws_a_call_without_arguments() {
+    let z = [1, 0, 1, 2, 2, 0, 0, 3, 0, 0];
+    let picture = "Z args 0 area 0\n\nresult none\n";
+    prints(&run(&["list", "--picture"], &z), 0, picture);
+    // its result is a struct of an i8
+    let ppc64 = [1, 0, 1, 1, 2, 0, 7, 0x12, 0, 4, 0x10, 0, 1, 0, 3, 0, 0];
+    let picture = "\
+PPC64 args 0 area 64
+
+registers    0   1   2   3   4   5   6   7
+r3           h   h   h   h   h   h   h   h
+
+area         0   1   2   3   4   5   6   7
+@0                                          h is in r3
+@8
+@16
+@24
+@32
+@40
+@48
+@56
+
+result hidden r3
+  h   the address for the result
+";
+    prints(&run(&["list", "--picture"], &ppc64), 0, picture);
 }
 
 #[test]
@@ -156,6 +219,27 @@ fn says_how_it_is_used() {
     assert!(usage.starts_with("usage: flakuzhen list"));
     assert!(usage.contains("flakuzhen read"));
     assert_eq!(output.status.code(), Some(0));
+}
+
+#[test]
+fn the_manual_page_has_the_words_of_the_help() {
+    let page = Path::new(env!("CARGO_MANIFEST_DIR")).join("../../docs/flakuzhen.1");
+    let page = std::fs::read_to_string(page).expect("the manual page");
+    let page = page.replace("\\-", "-");
+    let help = run(&["--help"], b"").stdout;
+    let help = String::from_utf8(help).expect("a text");
+    let usage = help.split("\n\n").next().expect("the first lines");
+    let words = usage.split(|mark: char| mark.is_whitespace() || "[]".contains(mark));
+    let mut found = 0;
+    for word in words.filter(|word| !word.is_empty() && *word != "usage:") {
+        let named = page.contains(&format!("\n.B {word}\n")) || page.contains(&format!(" {word}"));
+        assert!(
+            named || word.starts_with("FILE"),
+            "{word} is not in the manual page"
+        );
+        found += 1;
+    }
+    assert!(found >= 10);
 }
 
 #[test]
@@ -219,18 +303,16 @@ fn replays_the_examples() {
         if list.extension() != Some(OsStr::new("calls")) {
             continue;
         }
-        let stored = std::fs::read_to_string(list.with_extension("out")).expect("its output");
-        // both examples show refusals
-        prints(
-            &run(&[OsStr::new("replay"), list.as_os_str()], b""),
-            1,
-            &stored,
-        );
+        // each example shows a refusal
+        let words = [OsStr::new("replay"), list.as_os_str()];
+        prints(&run(&words, b""), 1, &stored(&list, "out"));
+        let words = [&words[..], &[OsStr::new("--picture")]].concat();
+        prints(&run(&words, b""), 1, &stored(&list, "picture"));
         let text = std::fs::read(&list).expect("the list");
-        prints(&run(&["replay", "-"], &text), 1, &stored);
+        prints(&run(&["replay", "-"], &text), 1, &stored(&list, "out"));
         replayed += 1;
     }
-    assert_eq!(replayed, 2);
+    assert_eq!(replayed, 3);
 }
 
 #[test]

@@ -1,5 +1,6 @@
-//! The comparisons on fresh seeds for as many seconds as the one word says. A difference ends it
-//! with status 1 and the seed that shows it again.
+//! The comparisons of all operations on fresh seeds, for as many seconds as the one word says. On a
+//! terminal one line keeps telling how far it is; elsewhere a line a minute does. A difference ends
+//! it with status 1 and the seed that shows it again.
 
 #![forbid(unsafe_code)]
 
@@ -8,6 +9,7 @@ use compare::random::Random;
 use compare::{float_bits, machine_lists, marshal, plans, signatures, Difference};
 use reference::Convention;
 use std::fmt;
+use std::io::{self, IsTerminal, Write};
 use std::process::ExitCode;
 use std::time::{Duration, Instant, SystemTime, UNIX_EPOCH};
 
@@ -19,8 +21,8 @@ const CALLS: u64 = 2_000;
 const SINGLES: u64 = 50_000;
 const LISTS: u64 = 500;
 const STATES: u64 = 2_000;
-/// How often it says how far it is.
-const PACE: Duration = Duration::from_secs(10);
+/// How often it tells how far it is, where that is no terminal.
+const PACE: Duration = Duration::from_secs(60);
 
 fn main() -> ExitCode {
     let words: Vec<String> = std::env::args().skip(1).collect();
@@ -84,21 +86,67 @@ impl fmt::Display for Cases {
     }
 }
 
+/// Tells how far a run is.
+struct Progress {
+    on_terminal: bool,
+    began: Instant,
+    told: Instant,
+    time: Duration,
+}
+
+impl Progress {
+    fn new(time: Duration) -> Progress {
+        let now = Instant::now();
+        Progress {
+            on_terminal: io::stdout().is_terminal(),
+            began: now,
+            told: now,
+            time,
+        }
+    }
+
+    fn over(&self) -> bool {
+        self.began.elapsed() >= self.time
+    }
+
+    fn tell(&mut self, done: &Cases) {
+        let spent = self.began.elapsed();
+        let rate = done.total() as f64 / spent.as_secs_f64();
+        let left = self.time.saturating_sub(spent).as_secs();
+        if self.on_terminal {
+            let (minutes, seconds) = (left / 60, left % 60);
+            let cases = done.total();
+            self.write_over(&format!(
+                "{cases} cases, {rate:.0} a second, {minutes}:{seconds:02} left"
+            ));
+        } else if self.told.elapsed() >= PACE {
+            self.told = Instant::now();
+            println!("{done}; {rate:.0} a second; {left} s left");
+        }
+    }
+
+    /// Replaces the terminal's line.
+    fn write_over(&self, line: &str) {
+        if self.on_terminal {
+            print!("\r\x1b[K{line}");
+            // a terminal that is gone is no reason to stop
+            let _ = io::stdout().flush();
+        }
+    }
+}
+
 /// Rounds until the time is over.
 fn soak(seed: u64, time: Duration) -> Result<Cases, Difference> {
-    let began = Instant::now();
-    let mut told = began;
+    let mut progress = Progress::new(time);
     let mut seeds = Random::new(seed);
     let mut done = Cases::default();
-    while began.elapsed() < time {
-        round(seeds.number(), &mut done)?;
-        if told.elapsed() >= PACE {
-            told = Instant::now();
-            let spent = began.elapsed();
-            let rate = done.total() as f64 / spent.as_secs_f64();
-            let left = time.saturating_sub(spent).as_secs();
-            println!("seed {seed:#x}: {done}; {rate:.0} a second; {left} s left");
+    while !progress.over() {
+        let found = round(seeds.number(), &mut done);
+        progress.tell(&done);
+        if found.is_err() || progress.over() {
+            progress.write_over("");
         }
+        found?;
     }
     Ok(done)
 }

@@ -1,0 +1,173 @@
+/* A call planned, filled and read, for both machines. The function that is called is
+ *
+ *     long area(int rows, float scale, struct { double x, y; } corner, short border);
+ *
+ * Build it against what `make install` has put in place:
+ *
+ *     cc -o call call.c $(pkg-config --cflags --libs flakuzhen)
+ */
+#include <flakuzhen.h>
+#include <inttypes.h>
+#include <stdio.h>
+#include <stdlib.h>
+#include <string.h>
+
+#define PPC64 1
+#define Z 2
+
+/* the signature; its fourth byte is the convention */
+static uint8_t signature[] = {
+    0x01, 0, 1, PPC64,          /* the convention */
+    0x02, 0, 4, 0x10, 0, 1, 6,  /* the result: i64 */
+    0x03, 0, 23,                /* the arguments, 23 bytes of them */
+    0x10, 0, 1, 4,              /* rows:   i32 */
+    0x11, 0, 1, 0,              /* scale:  single */
+    0x12, 0, 8,                 /* corner: a struct of */
+    0x11, 0, 1, 1,              /*         double */
+    0x11, 0, 1, 1,              /*         and double */
+    0x10, 0, 1, 2,              /* border: i16 */
+};
+
+/* where the copies of arguments that go by reference shall be, on the machine that is called */
+#define COPY_BASE 0x10000
+
+/* Values stand in the buffers with their highest byte first, whatever this machine does. */
+static void put(uint8_t *to, uint64_t bits, int bytes)
+{
+    while (bytes-- > 0)
+        *to++ = (uint8_t)(bits >> 8 * bytes);
+}
+
+static uint64_t get(const uint8_t *from, int bytes)
+{
+    uint64_t bits = 0;
+
+    while (bytes-- > 0)
+        bits = bits << 8 | *from++;
+    return bits;
+}
+
+static uint64_t double_bits(double number)
+{
+    uint64_t bits;
+
+    memcpy(&bits, &number, sizeof bits);
+    return bits;
+}
+
+static double double_of(uint64_t bits)
+{
+    double number;
+
+    memcpy(&number, &bits, sizeof number);
+    return number;
+}
+
+static uint32_t single_bits(float number)
+{
+    uint32_t bits;
+
+    memcpy(&bits, &number, sizeof bits);
+    return bits;
+}
+
+static float single_of(uint32_t bits)
+{
+    float number;
+
+    memcpy(&number, &bits, sizeof number);
+    return number;
+}
+
+/* Ends the program where the library says no. */
+static void must(fz_answer answer, const char *what)
+{
+    if (answer.number != FZ_ACCEPTED) {
+        fprintf(stderr, "%s: refused %" PRIu64 " at %" PRIu64 "\n", what, answer.number,
+                answer.place);
+        exit(1);
+    }
+}
+
+/* A buffer of zeros. It has an address even where it needs no byte. */
+static uint8_t *buffer(uint64_t size)
+{
+    uint8_t *bytes = calloc(size + 1, 1);
+
+    if (bytes == NULL)
+        abort();
+    return bytes;
+}
+
+static void print_listing(void)
+{
+    uint64_t length = fz_listing(signature, sizeof signature, "", 0);
+    char *text = (char *)buffer(length);
+
+    fz_listing(signature, sizeof signature, text, length);
+    fputs(text, stdout);
+    free(text);
+}
+
+static void print_registers(const uint8_t *image)
+{
+    for (int n = 0; n < 64; n++) {
+        uint64_t value = get(image + 8 * n, 8);
+
+        if (value != 0)
+            printf("%c%d = %016" PRIx64 "\n", n < 32 ? 'r' : 'f', n % 32, value);
+    }
+}
+
+static void print_call(uint8_t convention)
+{
+    fz_sizes sizes;
+    uint8_t image[512] = {0};
+    uint8_t *values, *area, *copies, *back;
+
+    /* plan */
+    signature[3] = convention;
+    sizes = fz_measure(signature, sizeof signature);
+    must(sizes.answer, "plan");
+    print_listing();
+    printf("values %" PRIu64 " area %" PRIu64 " copies %" PRIu64 "\n", sizes.values, sizes.area,
+           sizes.copies);
+
+    /* fill: the values in order, without gaps */
+    values = buffer(sizes.values);
+    area = buffer(sizes.area);
+    copies = buffer(sizes.copies);
+    put(values, (uint32_t)-3, 4);
+    put(values + 4, single_bits(1.5f), 4);
+    put(values + 8, double_bits(2.0), 8);
+    put(values + 16, double_bits(0.25), 8);
+    put(values + 24, 7, 2);
+    must(fz_fill(signature, sizeof signature, values, sizes.values, image, sizeof image, area,
+                 sizes.area, copies, sizes.copies, COPY_BASE, 0),
+         "fill");
+    print_registers(image);
+    for (uint64_t at = 0; at < sizes.copies; at += 8)
+        printf("copy @%" PRIu64 " = %016" PRIx64 "\n", at, get(copies + at, 8));
+
+    /* read: the same values, as the called function finds them */
+    back = buffer(sizes.values);
+    must(fz_read(signature, sizeof signature, back, sizes.values, image, sizeof image, area,
+                 sizes.area, copies, sizes.copies, COPY_BASE),
+         "read");
+    printf("rows %d scale %g corner (%g, %g) border %d\n", (int32_t)get(back, 4),
+           single_of((uint32_t)get(back + 4, 4)), double_of(get(back + 8, 8)),
+           double_of(get(back + 16, 8)), (int16_t)get(back + 24, 2));
+
+    free(values);
+    free(area);
+    free(copies);
+    free(back);
+}
+
+int main(void)
+{
+    print_call(PPC64);
+    putchar('\n');
+    print_call(Z);
+    return 0;
+}

@@ -1,0 +1,197 @@
+//! The stack of a frame machine, drawn as a table from the highest address down.
+//!
+//! How a frame is laid out is said nowhere here: the library is asked. A word that a leave restores
+//! a register from is that register's save slot; words that may be written are an area; what is
+//! neither is header. So the picture cannot show another layout than the one that is proved.
+
+use flakuzhen::machine::{Machine, Registers};
+use std::ops::Range;
+
+/// Bytes that are asked for at a time: CR's save slot is the smallest of all parts.
+const WORD: usize = 4;
+
+#[derive(Clone, PartialEq, Eq)]
+enum Part {
+    Header,
+    BackChain,
+    Outgoing,
+    Locals,
+    /// The number of the frame, the oldest being 1, and the name of the register.
+    Saved(usize, String),
+}
+
+/// The picture, or nothing for a machine that is none.
+pub fn draw(machine: &Machine) -> String {
+    if machine.memory().is_empty() {
+        return String::new();
+    }
+    let functions = functions(machine);
+    let parts = parts(&functions);
+    let mut text = String::new();
+    let mut end = machine.memory().len();
+    for (number, function) in functions.iter().rev().enumerate() {
+        let start = place_of(function);
+        let name = match number {
+            0 => "start".to_string(),
+            _ => format!("frame {number}"),
+        };
+        let pointer = function.stack_pointer();
+        text.push_str(&format!(
+            "  {name}, {} bytes at {pointer:#x}\n",
+            end - start
+        ));
+        for run in runs(&parts, start..end).iter().rev() {
+            text.push_str(&row(function, &parts[run.start / WORD], run));
+        }
+        end = start;
+    }
+    text
+}
+
+/// The machine as it is for the function that was entered last, then for its caller, and so on to
+/// the start: as each finds it when it is returned to.
+fn functions(machine: &Machine) -> Vec<Machine> {
+    let mut functions = vec![machine.clone()];
+    loop {
+        let mut caller = functions[functions.len() - 1].clone();
+        if caller.leave().is_err() {
+            return functions;
+        }
+        functions.push(caller);
+    }
+}
+
+/// Where in the memory a function's frame starts.
+fn place_of(function: &Machine) -> usize {
+    (function.stack_pointer() - function.state().base) as usize
+}
+
+/// What each word of the memory is.
+fn parts(functions: &[Machine]) -> Vec<Part> {
+    let size = functions[0].memory().len();
+    let start_of = |index: usize| functions.get(index).map_or(size, place_of);
+    let mut parts = vec![Part::Header; size / WORD];
+    for (index, function) in functions.iter().enumerate() {
+        let own = start_of(index)..start_of(index + 1);
+        mark_areas(function, own.clone(), &mut parts);
+        if let Some(caller) = functions.get(index + 1) {
+            // what it has saved is in its own frame and in its caller's
+            let reach = own.start..start_of(index + 2);
+            mark_saves(function, caller, reach, &mut parts);
+        }
+        // the doubleword at the stack pointer
+        parts[own.start / WORD..][..2].fill(Part::BackChain);
+    }
+    parts
+}
+
+/// Marks what the function may write of its own frame.
+fn mark_areas(function: &Machine, own: Range<usize>, parts: &mut [Part]) {
+    let mut function = function.clone();
+    let mut areas: Vec<Range<usize>> = Vec::new();
+    for at in own.step_by(WORD) {
+        if !may_write(&mut function, at..at + WORD) {
+            continue;
+        }
+        match areas.last_mut() {
+            // a write that reaches into both is accepted within one area alone
+            Some(area) if area.end == at && may_write(&mut function, at - WORD..at + WORD) => {
+                area.end += WORD;
+            }
+            _ => areas.push(at..at + WORD),
+        }
+    }
+    let depth = function.state().depth as usize;
+    let asked = depth > 0 && function.state().frames[depth - 1].locals > 0;
+    let names = match areas.len() {
+        // a lone area is the locals just where locals were asked for: else there are none
+        1 if asked => vec![Part::Locals],
+        _ => vec![Part::Outgoing, Part::Locals],
+    };
+    for (area, name) in areas.into_iter().zip(names) {
+        parts[area.start / WORD..area.end / WORD].fill(name);
+    }
+}
+
+/// Whether the function may write these bytes of the memory. They are written as they are.
+fn may_write(function: &mut Machine, place: Range<usize>) -> bool {
+    let bytes = function.memory()[place.clone()].to_vec();
+    let address = function.state().base + place.start as u64;
+    function.write_memory(address, &bytes).is_ok()
+}
+
+/// Marks the words that a leave restores registers from: those whose change it shows.
+fn mark_saves(function: &Machine, caller: &Machine, reach: Range<usize>, parts: &mut [Part]) {
+    let frame = function.state().depth as usize;
+    let (state, mut memory) = function.clone().into_parts();
+    for at in reach.step_by(WORD) {
+        flip(&mut memory[at..at + WORD]);
+        let mut changed = Machine::from_parts(state.clone(), memory);
+        let name = match changed.leave() {
+            Ok(()) => difference(&caller.state().registers, &changed.state().registers),
+            // the caller's stack pointer is the one thing that a leave tests: on PPC64 the back
+            // chain, which has a name of its own, on Z the slot of r15
+            Err(_) => Some("r15".to_string()),
+        };
+        if let Some(name) = name {
+            parts[at / WORD] = Part::Saved(frame, name);
+        }
+        memory = changed.into_parts().1;
+        flip(&mut memory[at..at + WORD]);
+    }
+}
+
+fn flip(bytes: &mut [u8]) {
+    for byte in bytes {
+        *byte = !*byte;
+    }
+}
+
+/// The name of the first register that is not the same.
+fn difference(one: &Registers, other: &Registers) -> Option<String> {
+    let general = (0..32).find(|&n| one.gpr[n] != other.gpr[n]);
+    let floating = (0..32).find(|&n| one.fpr[n] != other.fpr[n]);
+    let link = (one.lr != other.lr).then(|| "lr".to_string());
+    let condition = (one.cr != other.cr).then(|| "cr".to_string());
+    general
+        .map(|n| format!("r{n}"))
+        .or_else(|| floating.map(|n| format!("f{n}")))
+        .or(link)
+        .or(condition)
+}
+
+/// The runs of words that are the same part, within a range of the memory.
+fn runs(parts: &[Part], within: Range<usize>) -> Vec<Range<usize>> {
+    let mut runs: Vec<Range<usize>> = Vec::new();
+    for at in within.step_by(WORD) {
+        match runs.last_mut() {
+            Some(run) if parts[run.start / WORD] == parts[at / WORD] => run.end = at + WORD,
+            _ => runs.push(at..at + WORD),
+        }
+    }
+    runs
+}
+
+/// A line of the picture: address, bytes, what they are, and what stands there where that is a
+/// register's value or a stack pointer.
+fn row(function: &Machine, part: &Part, bytes: &Range<usize>) -> String {
+    let address = function.state().base + bytes.start as u64;
+    let (name, shown) = match part {
+        Part::Header => ("header".to_string(), false),
+        Part::BackChain => ("back chain".to_string(), true),
+        Part::Outgoing => ("outgoing area".to_string(), false),
+        Part::Locals => ("locals".to_string(), false),
+        Part::Saved(frame, register) => (format!("frame {frame} saved {register}"), true),
+    };
+    let last = function.state().base + function.memory().len() as u64 - 1;
+    let width = format!("{last:#x}").len();
+    let mut line = format!("    {address:<#width$x} {:>6}  {name}", bytes.len());
+    if shown {
+        line.push_str(" = ");
+        for byte in &function.memory()[bytes.clone()] {
+            line.push_str(&format!("{byte:02x}"));
+        }
+    }
+    line.push('\n');
+    line
+}
