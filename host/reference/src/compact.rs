@@ -92,8 +92,64 @@ struct Shape {
 const INTEGER_SIZES: [usize; 9] = [1, 1, 2, 2, 4, 4, 8, 8, 8];
 const FLOAT_SIZES: [usize; 3] = [4, 8, 16];
 
+/// The bytes of the parameter area, of all values and of the copies.
+#[derive(Clone, Copy, Debug, PartialEq, Eq)]
+pub struct Sizes {
+    pub area: usize,
+    pub values: usize,
+    pub copies: usize,
+}
+
+/// What becomes of the arguments' places.
+trait Keeper {
+    /// Comes first, with the most arguments that there can be.
+    fn expect(&mut self, most: usize);
+    fn keep(&mut self, argument: Argument);
+}
+
+impl Keeper for Vec<Argument> {
+    fn expect(&mut self, most: usize) {
+        self.reserve_exact(most);
+    }
+
+    fn keep(&mut self, argument: Argument) {
+        self.push(argument);
+    }
+}
+
+/// Keeps none.
+struct Nobody;
+
+impl Keeper for Nobody {
+    fn expect(&mut self, _most: usize) {}
+
+    fn keep(&mut self, _argument: Argument) {}
+}
+
 /// Reads a signature and plans its call.
 pub fn plan(bytes: &[u8]) -> Result<Plan, Refusal> {
+    let mut arguments = Vec::new();
+    let (convention, result, sizes) = place(bytes, &mut arguments)?;
+    Ok(Plan {
+        convention,
+        arguments,
+        result,
+        area: sizes.area,
+        values: sizes.values,
+        copies: sizes.copies,
+    })
+}
+
+/// The sizes of the plan alone: no place is kept.
+pub fn measure(bytes: &[u8]) -> Result<Sizes, Refusal> {
+    place(bytes, &mut Nobody).map(|(_, _, sizes)| sizes)
+}
+
+/// Reads a signature and places its arguments.
+fn place(
+    bytes: &[u8],
+    keeper: &mut impl Keeper,
+) -> Result<(Convention, ResultType, Sizes), Refusal> {
     if bytes.len() > 4096 {
         return refuse(1, 0);
     }
@@ -106,21 +162,27 @@ pub fn plan(bytes: &[u8]) -> Result<Plan, Refusal> {
     let result_end = header(bytes, convention_end, bytes.len(), |tag| tag == 0x02)?;
     let result = result_type(bytes, convention_end + 3, result_end)?;
     let end = header(bytes, result_end, bytes.len(), |tag| tag == 0x03)?;
-    let plan = match convention {
-        Convention::Ppc64 => plan_ppc64(bytes, result_end + 3, end, result)?,
-        Convention::Z => plan_z(bytes, result_end + 3, end, result)?,
+    let sizes = match convention {
+        Convention::Ppc64 => place_ppc64(bytes, result_end + 3, end, result, keeper)?,
+        Convention::Z => place_z(bytes, result_end + 3, end, result, keeper)?,
     };
     if end < bytes.len() {
         return refuse(9, end);
     }
-    Ok(plan)
+    Ok((convention, result, sizes))
 }
 
-fn plan_ppc64(bytes: &[u8], body: usize, end: usize, result: ResultType) -> Result<Plan, Refusal> {
+fn place_ppc64(
+    bytes: &[u8],
+    body: usize,
+    end: usize,
+    result: ResultType,
+    keeper: &mut impl Keeper,
+) -> Result<Sizes, Refusal> {
     let hidden = result == ResultType::Struct;
     let mut doublewords = usize::from(hidden);
     let mut floats = 0;
-    let (arguments, values) = arguments(bytes, body, end, |shape| {
+    let values = arguments(bytes, body, end, keeper, |shape| {
         let first = doublewords;
         let count = shape.size.div_ceil(8);
         doublewords += count;
@@ -155,23 +217,26 @@ fn plan_ppc64(bytes: &[u8], body: usize, end: usize, result: ResultType) -> Resu
         }
         argument
     })?;
-    Ok(Plan {
-        convention: Convention::Ppc64,
-        arguments,
-        result,
+    Ok(Sizes {
         area: 8 * doublewords.max(8),
         values,
         copies: 0,
     })
 }
 
-fn plan_z(bytes: &[u8], body: usize, end: usize, result: ResultType) -> Result<Plan, Refusal> {
+fn place_z(
+    bytes: &[u8],
+    body: usize,
+    end: usize,
+    result: ResultType,
+    keeper: &mut impl Keeper,
+) -> Result<Sizes, Refusal> {
     let hidden = matches!(result, ResultType::Struct | ResultType::LongDouble);
     let mut general = 2 + u8::from(hidden);
     let mut floating = 0;
     let mut stack: u16 = 160;
     let mut copies = 0;
-    let (arguments, values) = arguments(bytes, body, end, |shape| {
+    let values = arguments(bytes, body, end, keeper, |shape| {
         let mut argument = Argument::default();
         let by_reference = match shape.kind {
             Kind::LongDouble => true,
@@ -206,42 +271,42 @@ fn plan_z(bytes: &[u8], body: usize, end: usize, result: ResultType) -> Result<P
         }
         argument
     })?;
-    Ok(Plan {
-        convention: Convention::Z,
-        arguments,
-        result,
+    Ok(Sizes {
         area: usize::from(stack - 160),
         values,
         copies,
     })
 }
 
-/// The arguments that stand from `body` to `end`, each placed by `place`, and the size of their
-/// values.
+/// Hands over the arguments that stand from `body` to `end`, each placed by `place`, and gives the
+/// size of their values.
 fn arguments(
     bytes: &[u8],
     body: usize,
     end: usize,
+    keeper: &mut impl Keeper,
     mut place: impl FnMut(Shape) -> Argument,
-) -> Result<(Vec<Argument>, usize), Refusal> {
+) -> Result<usize, Refusal> {
     // each takes at least four bytes
-    let mut arguments = Vec::with_capacity(((end - body) / 4).min(64));
+    keeper.expect(((end - body) / 4).min(64));
+    let mut count = 0;
     let mut values = 0;
     let mut at = body;
     while at < end {
-        if arguments.len() == 64 {
+        if count == 64 {
             return refuse(7, at);
         }
         let (shape, after) = shape(bytes, at, end, 1)?;
         values += shape.size;
-        arguments.push(Argument {
+        count += 1;
+        keeper.keep(Argument {
             size: shape.size as u16,
             content: shape.content,
             ..place(shape)
         });
         at = after;
     }
-    Ok((arguments, values))
+    Ok(values)
 }
 
 fn result_type(bytes: &[u8], body: usize, end: usize) -> Result<ResultType, Refusal> {
@@ -439,6 +504,12 @@ mod tests {
             let bytes = figure_3_18(convention);
             let expected = crate::plan(&read(&bytes).unwrap());
             assert_eq!(crate::Plan::from(plan(&bytes).unwrap()), expected);
+            let sizes = Sizes {
+                area: expected.area,
+                values: expected.values,
+                copies: expected.copies,
+            };
+            assert_eq!(measure(&bytes), Ok(sizes));
         }
     }
 

@@ -1,4 +1,4 @@
-//! The time that planning a call takes in the proved library and in the second program, on the
+//! The time that measuring a call takes in the proved library and in the second program, on the
 //! same signatures, in turns.
 
 #![forbid(unsafe_code)]
@@ -15,10 +15,12 @@ const SIGNATURES: usize = 10_000;
 const ROUNDS: usize = 101;
 
 const SIDES: &str = "\
-library         fz_measure: reads and tests the signature's bytes, plans the call and gives the
-                sizes of its three buffers
-second program  compact::plan: the same from the same bytes in ordinary Rust, in one pass and
-                without trees; it also keeps every argument's places, in one vector
+library         fz_measure: reads and tests the signature's bytes, places every argument and gives
+                the sizes of the call's three buffers; no place is kept
+second program  compact::measure: the same from the same bytes in ordinary Rust, in one pass and
+                without trees
+with places     compact::plan: the same, and every argument's places kept in one vector. The library
+                keeps them where they are used: see filling and reading
 ";
 
 /// What all signatures of a group took together.
@@ -29,6 +31,7 @@ struct Sums {
     /// Nanoseconds.
     library: f64,
     second: f64,
+    places: f64,
 }
 
 fn main() -> ExitCode {
@@ -41,13 +44,15 @@ fn main() -> ExitCode {
         }
     }
     println!(
-        "Planning a call, over {SIGNATURES} different accepted signatures of both conventions:"
+        "Measuring a call, over {SIGNATURES} different accepted signatures of both conventions:"
     );
     println!(
         "medians of {ROUNDS} rounds, in which the two take turns, in nanoseconds a signature."
     );
     println!("\n{SIDES}");
-    println!("arguments  signatures  mean bytes  library  second program  ratio");
+    println!(
+        "arguments  signatures  mean bytes  library  second program  ratio  with places  ratio"
+    );
     let mut all = Sums::default();
     for group in &groups {
         let sums = measured(group);
@@ -56,6 +61,7 @@ fn main() -> ExitCode {
         all.bytes += sums.bytes;
         all.library += sums.library;
         all.second += sums.second;
+        all.places += sums.places;
     }
     print(&(0..=64), &all);
     ExitCode::SUCCESS
@@ -65,42 +71,44 @@ fn main() -> ExitCode {
 fn agree(bytes: &[u8]) -> bool {
     let sizes = library::measure(bytes);
     let given = [sizes.values, sizes.area, sizes.copies];
-    compact::plan(bytes).is_ok_and(|plan| {
-        let planned = [plan.values, plan.area, plan.copies];
-        sizes.answer.number == 0 && given == planned.map(|size| size as u64)
-    })
+    let same = |sizes: [usize; 3]| given == sizes.map(|size| size as u64);
+    sizes.answer.number == 0
+        && compact::measure(bytes).is_ok_and(|m| same([m.values, m.area, m.copies]))
+        && compact::plan(bytes).is_ok_and(|plan| same([plan.values, plan.area, plan.copies]))
 }
 
 fn measured(group: &Group) -> Sums {
-    let (library, second) = timing::medians(
-        &group.signatures,
-        ROUNDS,
-        |bytes| {
-            black_box(library::measure(black_box(bytes)));
-        },
-        |bytes| {
-            // what is made is also dropped within the time, as a caller would
-            let _ = black_box(compact::plan(black_box(bytes)));
-        },
-    );
+    let library = |bytes: &Vec<u8>| {
+        black_box(library::measure(black_box(bytes)));
+    };
+    let (own, second) = timing::medians(&group.signatures, ROUNDS, library, |bytes| {
+        let _ = black_box(compact::measure(black_box(bytes)));
+    });
+    let (_, places) = timing::medians(&group.signatures, ROUNDS, library, |bytes| {
+        // what is made is also dropped within the time, as a caller would
+        let _ = black_box(compact::plan(black_box(bytes)));
+    });
     let signatures = group.signatures.len() as f64;
     Sums {
         signatures,
         bytes: group.signatures.iter().map(Vec::len).sum::<usize>() as f64,
-        library: library * signatures,
+        library: own * signatures,
         second: second * signatures,
+        places: places * signatures,
     }
 }
 
 fn print(counts: &RangeInclusive<usize>, sums: &Sums) {
     println!(
-        "{:>2} to {:>2}   {:>10}  {:>10.0}  {:>7.0}  {:>14.0}  {:>5.2}",
+        "{:>2} to {:>2}   {:>10}  {:>10.0}  {:>7.0}  {:>14.0}  {:>5.2}  {:>11.0}  {:>5.2}",
         counts.start(),
         counts.end(),
         sums.signatures,
         sums.bytes / sums.signatures,
         sums.library / sums.signatures,
         sums.second / sums.signatures,
-        sums.library / sums.second
+        sums.library / sums.second,
+        sums.places / sums.signatures,
+        sums.library / sums.places
     );
 }
