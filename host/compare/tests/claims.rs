@@ -1,0 +1,134 @@
+//! `docs/CLAIMS.md` beside the repository: the files, names and must-fail edits that it names are
+//! there. Whether a statement says what the page says is for a reader.
+
+use std::collections::BTreeSet;
+use std::fs;
+use std::path::{Path, PathBuf};
+
+fn root() -> PathBuf {
+    Path::new(env!("CARGO_MANIFEST_DIR")).join("../..")
+}
+
+/// The text of the table's rows: what stands between the bars, row by row, without the headings.
+fn rows(text: &str) -> Vec<Vec<&str>> {
+    let lines = text.lines().filter(|line| line.starts_with("| "));
+    lines
+        .map(|line| line.trim_matches('|').split(" | ").map(str::trim).collect())
+        .collect()
+}
+
+/// What stands in backquotes, if it is one name: letters, digits and what names are joined with.
+fn names(text: &str) -> BTreeSet<&str> {
+    let quoted = text.split('`').skip(1).step_by(2);
+    // of `Encodes .items` and `Outcome::Accepted` the first name; `z-..-written` is several
+    quoted
+        .map(|name| name.split([' ', ':']).next().unwrap_or(name))
+        .filter(|name| !name.is_empty() && !name.contains("..") && !name.contains('/'))
+        .filter(|name| {
+            name.chars()
+                .all(|c| c.is_alphanumeric() || matches!(c, '_' | '-'))
+        })
+        .collect()
+}
+
+/// The paths below `crates/`.
+fn paths(text: &str) -> BTreeSet<&str> {
+    let words = text.split([' ', ',', ';', ')', '(', '`', '\n']);
+    words
+        .filter(|word| word.starts_with("crates/"))
+        .map(|word| word.trim_end_matches(['.', ':']))
+        .collect()
+}
+
+/// The edits in the third column of the table of wrong programs.
+fn edits(text: &str) -> BTreeSet<&str> {
+    let (_, table) = text
+        .split_once("| wrong program |")
+        .expect("a table of wrong programs");
+    let (table, _) = table.split_once("\n\n").expect("an end of the table");
+    rows(table)
+        .iter()
+        .filter_map(|cells| cells.get(2))
+        .flat_map(|cell| cell.split(", "))
+        .collect()
+}
+
+/// All Rattle and proofs below a folder.
+fn sources(folder: &Path, into: &mut String) {
+    let entries = fs::read_dir(folder).expect("a folder of the crates");
+    for entry in entries {
+        let path = entry.expect("an entry").path();
+        if path.is_dir() {
+            sources(&path, into);
+        } else if path
+            .extension()
+            .is_some_and(|end| end == "rt" || end == "antt")
+        {
+            into.push_str(&fs::read_to_string(&path).expect("a source"));
+        }
+    }
+}
+
+/// What the page names and the repository does not have.
+fn faults(page: &str) -> Vec<String> {
+    let root = root();
+    let mut text = String::new();
+    sources(&root.join("crates"), &mut text);
+    let known: BTreeSet<&str> = text
+        .split(|c: char| !(c.is_alphanumeric() || matches!(c, '_' | '-')))
+        .collect();
+    let tables = page
+        .lines()
+        .filter(|line| line.starts_with("| "))
+        .collect::<Vec<_>>()
+        .join("\n");
+    let crates = fs::read_to_string(root.join("crates.txt")).expect("crates.txt");
+    let mut faults = Vec::new();
+    for path in paths(page) {
+        if !root.join(path).exists() {
+            faults.push(format!("no file {path}"));
+        }
+    }
+    for edit in edits(page) {
+        let there = edit.split_once('/').is_some_and(|(name, label)| {
+            let file = format!("crates/{name}/must-fail/{label}.edit");
+            root.join(file).exists()
+        });
+        if !there {
+            faults.push(format!("no edit {edit}"));
+        }
+    }
+    for name in names(&tables) {
+        if !known.contains(name) && !crates.contains(&format!("{name}:")) && name != "requires" {
+            faults.push(format!("nothing is called {name}"));
+        }
+    }
+    faults
+}
+
+fn page() -> String {
+    fs::read_to_string(root().join("docs/CLAIMS.md")).expect("docs/CLAIMS.md")
+}
+
+#[test]
+fn what_the_claims_name_is_there() {
+    let faults = faults(&page());
+    assert!(faults.is_empty(), "{}", faults.join("\n"));
+}
+
+#[test]
+fn what_is_not_there_is_found() {
+    let page = page()
+        .replace("signature/refuse_everything", "signature/refuse_nothing")
+        .replace("`fillAnswer`", "`fillAnswering`")
+        .replace(
+            "crates/plan/specs/Disjoint.antt",
+            "crates/plan/specs/Apart.antt",
+        );
+    let expected = [
+        "no file crates/plan/specs/Apart.antt",
+        "no edit signature/refuse_nothing",
+        "nothing is called fillAnswering",
+    ];
+    assert_eq!(faults(&page), expected);
+}
