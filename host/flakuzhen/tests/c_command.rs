@@ -379,7 +379,7 @@ fn lines_that_are_wrong() {
 
 #[test]
 fn lines_that_are_no_text() {
-    let texts: [(&[u8], bool); 18] = [
+    let texts: [(&[u8], bool); 19] = [
         (b"\x7f", true),
         (b"\x80", false),
         (b"\xbf", false),
@@ -397,6 +397,7 @@ fn lines_that_are_no_text() {
         (b"\xf0\x90\x80\x80", true),
         (b"\xf4\x8f\xbf", false),
         (b"\xf4\x90\x80\x80", false),
+        (b"\xf8\x90\x80\x80", false),
         (b"\xf8\x88\x80\x80\x80", false),
     ];
     for (text, is_text) in texts {
