@@ -158,10 +158,14 @@ static int run(fz_answer (*command)(const bytes *, bytes *), int count, char **w
         }
         free(where.file.at);
     }
-    for (i = 0; i < files; i++)
+    for (i = 0; i < files; i++) {
         if (command(&signatures[i], &out).number != FZ_ACCEPTED)
             status = 1;
+        free(signatures[i].at);
+    }
     print(out.at, out.length);
+    free(signatures);
+    free(out.at);
     return status;
 }
 
@@ -177,6 +181,9 @@ static int run_replay(int count, char **words)
     more(&out, 0);
     status = replay(&where, &calls, &out);
     print(out.at, out.length);
+    free(where.file.at);
+    free(calls.at);
+    free(out.at);
     return status;
 }
 
