@@ -1,11 +1,10 @@
-/* The command `flakuzhen` for machines that Rust's standard library is not at hand for: `list` and
- * `read` of the Rust command (host/flakuzhen), with the same output, messages and exit statuses.
- * All inputs are read before anything is printed, so that a word or a file that is wrong gives one
- * line on standard error and nothing else. */
-#include "flakuzhen.h"
+/* The command `flakuzhen` for machines that Rust's standard library is not at hand for: that of
+ * host/flakuzhen but for its pictures, with the same output, messages and exit statuses. All inputs
+ * are read before anything is printed, so that a word, a file or a line that is wrong gives one line
+ * on standard error and nothing else. */
+#include "command.h"
 #include <errno.h>
 #include <signal.h>
-#include <stdarg.h>
 #include <stdio.h>
 #include <stdlib.h>
 #include <string.h>
@@ -13,6 +12,7 @@
 static const char usage[] =
     "usage: flakuzhen list [--hex] [FILE..]\n"
     "       flakuzhen read [--hex] [FILE..]\n"
+    "       flakuzhen replay FILE\n"
     "\n"
     "list      prints where each argument of each signature goes, and its result\n"
     "read      prints a line for each signature with its count of items, 'items N'\n"
@@ -20,161 +20,64 @@ static const char usage[] =
     "--hex     the input is hexadecimal text with '#' comments, not the bytes themselves\n"
     "FILE      holds one signature; '-', or no FILE at all, is standard input\n"
     "\n"
-    "Exit status: 0 all accepted; 1 a signature was refused; 2 a word or a file is wrong.\n";
+    "replay    makes calls of the frame machine, on registers and memory of zeros, and prints\n"
+    "          each answer with the number of its line: 'accepted' or 'refused NUMBER at PLACE',\n"
+    "          and the stack pointer where the call moves it\n"
+    "FILE      has one call to a line, and '#' comments; '-' is standard input:\n"
+    "            start ppc64 SIZE BASE       or 'start z SIZE BASE': of the memory, in bytes\n"
+    "            enter g=29 m=30 cr=1 locals=20 out=64\n"
+    "                                        saves r29 up, f30 up and CR; bytes of locals and\n"
+    "                                        of outgoing arguments (cr, locals, out: else 0)\n"
+    "            write r29 0x1234            also f14, lr, or cr2 for a field of CR\n"
+    "            write mem ADDRESS BYTES     the bytes in hexadecimal\n"
+    "            leave\n"
+    "\n"
+    "Exit status: 0 all accepted; 1 a signature or a call was refused; 2 a word, a file or a line\n"
+    "is wrong.\n"
+    "\n"
+    "Pictures (--picture) are drawn by the Rust command alone.\n";
 
 /* the most that is taken of a file */
 #define LARGEST_INPUT ((size_t)1 << 20)
 
-/* ---- bytes that grow ---- */
-
-typedef struct {
-    uint8_t *at;
-    size_t length, room;
-} bytes;
-
-/* Ends with status 2 and one line: where the fault is, or NULL, and what it is. */
-static void fail(const bytes *where, const char *what, ...)
+/* The bytes that hexadecimal text says: two digits a byte, white space between bytes. */
+static bytes decode(place *where, const bytes *content)
 {
-    va_list rest;
+    span text = {content->at, content->length};
+    bytes decoded = {NULL, 0, 0};
 
-    fputs("flakuzhen: ", stderr);
-    if (where != NULL) {
-        fwrite(where->at, 1, where->length, stderr);
-        fputs(": ", stderr);
+    more(&decoded, 0);
+    for (where->line = 1; text.length > 0; where->line++) {
+        span line = next_line(&text), word;
+
+        for (word = next_word(&line); word.length != 0; word = next_word(&line))
+            decode_word(where, word, &decoded);
     }
-    va_start(rest, what);
-    vfprintf(stderr, what, rest);
-    va_end(rest);
-    fputc('\n', stderr);
-    exit(2);
+    return decoded;
 }
 
-/* Makes room for so many more bytes, which is never none: the library takes no null pointer. */
-static uint8_t *more(bytes *to, size_t count)
-{
-    if (count >= to->room - to->length) {
-        to->room = 2 * (to->length + count) + 64;
-        to->at = realloc(to->at, to->room);
-        if (to->at == NULL)
-            fail(NULL, "no memory left");
-    }
-    return to->at + to->length;
-}
-
-static void add(bytes *to, const char *format, ...)
-{
-    char text[64];
-    va_list rest;
-    int length;
-
-    va_start(rest, format);
-    length = vsnprintf(text, sizeof text, format, rest);
-    va_end(rest);
-    memcpy(more(to, (size_t)length), text, (size_t)length);
-    to->length += (size_t)length;
-}
-
-/* Adds a byte as it is where it can be printed and is no quote, else its escape, of which `other`
- * is the form for bytes that have none of their own. */
-static void add_escaped(bytes *to, unsigned char byte, const char *quotes, const char *other)
-{
-    if (byte == '\t' || byte == '\n' || byte == '\r')
-        add(to, "\\%c", byte == '\t' ? 't' : byte == '\n' ? 'n' : 'r');
-    else if (byte == '\\' || (byte && strchr(quotes, byte)))
-        add(to, "\\%c", byte);
-    else if (byte >= 0x20 && byte < 0x7f)
-        add(to, "%c", byte);
-    else
-        add(to, other, byte);
-}
-
-/* A word in quotes, to name it in a message. Letters beyond ASCII stay as they are. */
-static bytes quoted(const char *word)
-{
-    bytes text = {NULL, 0, 0};
-
-    add(&text, "\"");
-    for (; *word; word++) {
-        unsigned char byte = (unsigned char)*word;
-
-        add_escaped(&text, byte, "\"", byte < 0x80 ? "\\u{%x}" : "%c");
-    }
-    add(&text, "\"");
-    return text;
-}
-
-static void fail_at_word(const char *what, const char *word, const char *rest)
-{
-    bytes text = quoted(word);
-
-    fail(NULL, "%s %.*s%s", what, (int)text.length, (char *)text.at, rest);
-}
-
-/* ---- inputs ---- */
-
-/* The bytes that hexadecimal text says: two digits a byte, white space between bytes, comments from
- * '#' to the end of a line. They take the text's own room. */
-static void decode(bytes *text, const bytes *name)
-{
-    static const char digits[] = "0123456789abcdef0123456789ABCDEF";
-    size_t from, to = 0, line = 1;
-    int half = 0, comment = 0;
-
-    for (from = 0; from <= text->length; from++) {
-        unsigned char byte = from < text->length ? text->at[from] : '\n';
-        int space = byte == ' ' || byte == '\t' || byte == '\n' || byte == '\f' || byte == '\r';
-        const char *digit = byte ? strchr(digits, byte) : NULL;
-
-        comment = comment || byte == '#';
-        if (comment || space) {
-            if (half)
-                fail(name, "line %zu: half a byte: a group of digits has an odd count", line);
-        } else if (digit == NULL) {
-            bytes escaped = {NULL, 0, 0};
-
-            add_escaped(&escaped, byte, "'\"", "\\x%02x");
-            fail(name, "line %zu: '%.*s' is no hexadecimal digit", line, (int)escaped.length,
-                 (char *)escaped.at);
-        } else {
-            uint8_t value = (uint8_t)((digit - digits) % 16);
-
-            if (half)
-                text->at[to++] |= value;
-            else
-                text->at[to] = (uint8_t)(value << 4);
-            half = !half;
-        }
-        if (byte == '\n') {
-            comment = 0;
-            line++;
-        }
-    }
-    text->length = to;
-}
-
-static bytes input(const char *path, int hex)
+/* What a file holds. Sets where its faults are. */
+static bytes input(const char *path, place *where)
 {
     int standard = strcmp(path, "-") == 0;
-    bytes content = {NULL, 0, 0}, name = {NULL, 0, 0};
+    bytes content = {NULL, 0, 0};
     FILE *file = standard ? stdin : fopen(path, "rb");
+    int fault = errno;
 
     if (standard)
-        add(&name, "standard input");
+        add(&where->file, "standard input");
     else
-        name = quoted(path);
+        add_quoted(&where->file, span_of(path));
     if (file == NULL)
-        fail(&name, "%s (os error %d)", strerror(errno), errno);
+        fail(where, "%s (os error %d)", strerror(fault), fault);
     more(&content, LARGEST_INPUT + 1);
     content.length = fread(content.at, 1, LARGEST_INPUT + 1, file);
     if (ferror(file))
-        fail(&name, "%s (os error %d)", strerror(errno), errno);
+        fail(where, "%s (os error %d)", strerror(errno), errno);
     if (content.length > LARGEST_INPUT)
-        fail(&name, "over %zu bytes", LARGEST_INPUT);
+        fail(where, "over %zu bytes", LARGEST_INPUT);
     if (!standard)
         fclose(file);
-    if (hex)
-        decode(&content, &name);
-    free(name.at);
     return content;
 }
 
@@ -208,36 +111,79 @@ static void print(const void *text, size_t length)
         fail(NULL, "standard output: %s (os error %d)", strerror(errno), errno);
 }
 
-/* Runs a command on the files that the words after it name. */
+/* The words after a command: tells the options from the files, moves the files to the front and
+ * gives their count. Where `hex` is NULL there is no such option, nor is there one of pictures where
+ * the Rust command `draws` none. */
+static int files_of(int count, char **words, int *hex, int draws)
+{
+    int options_end = 0, files = 0, i;
+
+    for (i = 0; i < count; i++) {
+        if (options_end || words[i][0] != '-' || words[i][1] == '\0')
+            words[files++] = words[i];
+        else if (strcmp(words[i], "--") == 0)
+            options_end = 1;
+        else if (hex != NULL && strcmp(words[i], "--hex") == 0)
+            *hex = 1;
+        else if (draws && strcmp(words[i], "--picture") == 0)
+            fail(NULL, "--picture: pictures are drawn by the Rust command alone");
+        else
+            fail_at_word(NULL, "unknown option ", span_of(words[i]), "");
+    }
+    return files;
+}
+
+/* Runs a command on the signatures in the files, or in standard input where none is named. */
 static int run(fz_answer (*command)(const bytes *, bytes *), int count, char **words)
 {
     static char dash[] = "-";
     char *standard_input[] = {dash};
     bytes *signatures = calloc((size_t)count + 1, sizeof *signatures), out = {NULL, 0, 0};
-    int hex = 0, options_end = 0, files = 0, status = 0, i;
+    int hex = 0, files = files_of(count, words, &hex, command == list), status = 0, i;
 
     if (signatures == NULL)
         fail(NULL, "no memory left");
-    for (i = 0; i < count; i++) {
-        if (!options_end && strcmp(words[i], "--hex") == 0)
-            hex = 1;
-        else if (!options_end && strcmp(words[i], "--") == 0)
-            options_end = 1;
-        else if (!options_end && words[i][0] == '-' && words[i][1] != '\0')
-            fail_at_word("unknown option", words[i], "");
-        else
-            words[files++] = words[i];
-    }
     if (files == 0) {
         words = standard_input;
         files = 1;
     }
-    for (i = 0; i < files; i++)
-        signatures[i] = input(words[i], hex);
-    for (i = 0; i < files; i++)
+    for (i = 0; i < files; i++) {
+        place where = {{NULL, 0, 0}, 0};
+        bytes content = input(words[i], &where);
+
+        signatures[i] = content;
+        if (hex) {
+            signatures[i] = decode(&where, &content);
+            free(content.at);
+        }
+        free(where.file.at);
+    }
+    for (i = 0; i < files; i++) {
         if (command(&signatures[i], &out).number != FZ_ACCEPTED)
             status = 1;
+        free(signatures[i].at);
+    }
     print(out.at, out.length);
+    free(signatures);
+    free(out.at);
+    return status;
+}
+
+static int run_replay(int count, char **words)
+{
+    place where = {{NULL, 0, 0}, 0};
+    bytes calls, out = {NULL, 0, 0};
+    int status;
+
+    if (files_of(count, words, NULL, 1) != 1)
+        fail(NULL, "replay takes one FILE ('-' is standard input)");
+    calls = input(words[0], &where);
+    more(&out, 0);
+    status = replay(&where, &calls, &out);
+    print(out.at, out.length);
+    free(where.file.at);
+    free(calls.at);
+    free(out.at);
     return status;
 }
 
@@ -253,9 +199,11 @@ int main(int count, char **words)
         return run(list, count - 2, words + 2);
     if (strcmp(command, "read") == 0)
         return run(read_items, count - 2, words + 2);
+    if (strcmp(command, "replay") == 0)
+        return run_replay(count - 2, words + 2);
     if (strcmp(command, "--help") != 0 && strcmp(command, "-h") != 0 &&
         strcmp(command, "help") != 0)
-        fail_at_word("unknown command", command, " (flakuzhen --help lists them)");
+        fail_at_word(NULL, "unknown command ", span_of(command), " (flakuzhen --help lists them)");
     print(usage, sizeof usage - 1);
     return 0;
 }

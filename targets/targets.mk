@@ -28,7 +28,7 @@ $(TARGETS:%=build/%/libflakuzhen.so): build/%/libflakuzhen.so: build/%/libflakuz
 
 # ---- programs, with the archive and with the shared library ----
 
-C_WORDS = -std=c99 -O2 -pedantic -Wall -Wextra -Werror -Iinclude -o $@ $<
+C_WORDS = -std=c99 -O2 -pedantic -Wall -Wextra -Werror -Iinclude -o $@ $(filter %.c,$^)
 
 define program # SOURCE, without its ending
 build/%/$(notdir $(1)): $(1).c include/flakuzhen.h build/%/libflakuzhen.a
@@ -41,6 +41,10 @@ endef
 HEADER_TESTS := layout surface machine marshal
 PROGRAMS := targets/flakuzhen targets/replay targets/plan $(HEADER_TESTS:%=host/flakuzhen/tests/%)
 $(foreach source,$(PROGRAMS),$(eval $(call program,$(source))))
+
+# the command has more files
+$(foreach target,$(TARGETS),build/$(target)/flakuzhen build/$(target)/flakuzhen-shared): \
+    targets/text.c targets/calls.c targets/command.h
 
 # ---- tests ----
 
