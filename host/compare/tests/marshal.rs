@@ -2,6 +2,7 @@
 
 use compare::calls::{Fault, Operation};
 use compare::marshal::{self, Histogram};
+use compare::plans::{PPC64, Z};
 
 /// The calls of each operation.
 const CALLS: u64 = 50_000;
@@ -12,63 +13,6 @@ const FAULTS: u64 = 1_000;
 const ORDERS: u64 = 100;
 const EDGES: u64 = 200;
 const CASES: u64 = 200;
-
-/// What accepted calls of PPC64 must have been like.
-const PPC64: [&str; 20] = [
-    "PPC64 64 arguments",
-    "PPC64 double in FPR",
-    "PPC64 double in FPR past r10",
-    "PPC64 double in memory",
-    "PPC64 float-like struct in GPR",
-    "PPC64 float-like struct in memory",
-    "PPC64 hidden result",
-    "PPC64 integer in GPR",
-    "PPC64 integer in memory",
-    "PPC64 larger area",
-    "PPC64 long double in GPR",
-    "PPC64 long double in memory",
-    "PPC64 long double straddling",
-    "PPC64 other struct in GPR",
-    "PPC64 other struct in memory",
-    "PPC64 other struct straddling",
-    "PPC64 single in FPR",
-    "PPC64 single in FPR past r10",
-    "PPC64 single in memory",
-    "PPC64 smallest area",
-];
-
-/// What accepted calls of Z must have been like.
-const Z: [&str; 29] = [
-    "Z 64 arguments",
-    "Z copies end off a multiple of 8",
-    "Z double in FPR",
-    "Z double in memory",
-    "Z float-like struct of 4 in FPR",
-    "Z float-like struct of 4 in memory",
-    "Z float-like struct of 8 in FPR",
-    "Z float-like struct of 8 in memory",
-    "Z gap before a copy",
-    "Z hidden result",
-    "Z integer in GPR",
-    "Z integer in memory",
-    "Z larger area",
-    "Z long double by reference in GPR",
-    "Z long double by reference in memory",
-    "Z no arguments",
-    "Z other struct by reference in GPR",
-    "Z other struct by reference in memory",
-    "Z other struct of 1 in GPR",
-    "Z other struct of 1 in memory",
-    "Z other struct of 2 in GPR",
-    "Z other struct of 2 in memory",
-    "Z other struct of 4 in GPR",
-    "Z other struct of 4 in memory",
-    "Z other struct of 8 in GPR",
-    "Z other struct of 8 in memory",
-    "Z single in FPR",
-    "Z single in memory",
-    "Z smallest area",
-];
 
 /// What singles in floating registers of PPC64 must have been.
 const SINGLES: [&str; 3] = [

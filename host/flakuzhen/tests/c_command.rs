@@ -1,10 +1,12 @@
 //! The command in C for other machines (`targets/flakuzhen.c`), compiled for this one and held to
 //! the Rust command: the same output, the same messages, the same exit status. It has no pictures.
 
-use std::io::Write;
+mod support;
+
 use std::path::{Path, PathBuf};
-use std::process::{Command, Output, Stdio};
+use std::process::{Command, Output};
 use std::sync::OnceLock;
+use support::run;
 
 fn root() -> PathBuf {
     let root = Path::new(env!("CARGO_MANIFEST_DIR")).join("../..");
@@ -37,21 +39,6 @@ fn in_c() -> &'static Path {
         assert!(status.expect("gcc starts").success());
         program
     })
-}
-
-fn run(program: &Path, words: &[&str], input: &[u8]) -> Output {
-    let mut child = Command::new(program)
-        .args(words)
-        .stdin(Stdio::piped())
-        .stdout(Stdio::piped())
-        .stderr(Stdio::piped())
-        .spawn()
-        .expect("the command starts");
-    let mut stdin = child.stdin.take().expect("it has a standard input");
-    // a command that ends without reading leaves nobody to write to
-    let _ = stdin.write_all(input);
-    drop(stdin);
-    child.wait_with_output().expect("the command ends")
 }
 
 /// Runs both, and gives the exit status that they share.

@@ -1,26 +1,16 @@
 //! The command: what it prints, where, and with which exit status.
 
+mod support;
+
 use std::ffi::OsStr;
-use std::io::Write;
 use std::path::{Path, PathBuf};
-use std::process::{Command, Output, Stdio};
+use std::process::Output;
 
 const EXAMPLE: [u8; 18] = [1, 0, 1, 1, 2, 0, 0, 3, 0, 8, 0x10, 0, 1, 4, 0x11, 0, 1, 1];
 
 /// Runs the command on these words, with these bytes as its standard input.
 fn run<S: AsRef<OsStr>>(words: &[S], input: &[u8]) -> Output {
-    let mut child = Command::new(env!("CARGO_BIN_EXE_flakuzhen"))
-        .args(words)
-        .stdin(Stdio::piped())
-        .stdout(Stdio::piped())
-        .stderr(Stdio::piped())
-        .spawn()
-        .expect("the command starts");
-    let mut stdin = child.stdin.take().expect("it has a standard input");
-    // a command that ends without reading leaves nobody to write to
-    let _ = stdin.write_all(input);
-    drop(stdin);
-    child.wait_with_output().expect("the command ends")
+    support::run(Path::new(env!("CARGO_BIN_EXE_flakuzhen")), words, input)
 }
 
 fn prints(output: &Output, status: i32, text: &str) {
