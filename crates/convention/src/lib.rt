@@ -6,7 +6,7 @@ use types::FloatFormat;
 use types::IntegerKind;
 use types::ValueType;
 ghost use mathlib.Core.Path.{_≡_};
-ghost use Prim.Native.Nat.{_+_, _-_, _*_, _≤_, _<_, min, max};
+ghost use Prim.Native.Nat.{_+_, _-_, _*_, _≤_, _<_, min};
 ghost use lib.ListN.{getD};
 ghost use Rattle.convention.specs.declared.Rules.{Rules};
 ghost use Rattle.convention.specs.Values.{registers, bytes, pointer};
@@ -230,18 +230,6 @@ fn word_of(r: Rules) -> usize
     }
 }
 
-fn smaller(a: usize, b: usize) -> usize
-    ensures { λ r. ⌜ r ≡ min a b ⌝ }
-{
-    if a < b { a } else { b }
-}
-
-fn larger(a: usize, b: usize) -> usize
-    ensures { λ r. ⌜ r ≡ max a b ⌝ }
-{
-    if a < b { b } else { a }
-}
-
 fn register_range(first: usize, count: usize) -> RegisterRange
     requires { ⌜ (first < 256) × (count < 256) ⌝ }
     ensures { λ r. ⌜ r ≡ registers first count ⌝ }
@@ -355,7 +343,7 @@ fn power_step(f: PowerRules, c: Cursor, t: ValueType, size: usize) -> Placed
     let word = f.word;
     let edition = f.edition;
     let n = words_of(word, size);
-    let k = smaller(n, PowerRules::PAST_GENERAL - c.general);
+    let k = words::smaller(n, PowerRules::PAST_GENERAL - c.general);
     let s = share_of(
         fprs_of(edition, t),
         PowerRules::PAST_FLOATING - c.floating,
@@ -514,7 +502,7 @@ pub fn area_of(r: Rules, e: Cursor) -> usize
     ensures { λ n. ⌜ n ≡ areaOf r e ⌝ }
 {
     match r {
-        Rules::Power(f) => larger(f.word * PowerRules::LEAST_WORDS, e.stack),
+        Rules::Power(f) => words::larger(f.word * PowerRules::LEAST_WORDS, e.stack),
         Rules::Z => e.stack,
     }
 }

@@ -1,6 +1,6 @@
 -- By cases on the class.
+use Rattle.words.specs.Basics.{roundUp}
 use Rattle.convention.specs.ZSeries.{zSpanOf, zNextOf}
-use Rattle.types.specs.Structs.{roundUp}
 use borrow.Author.Needs.{needs}
 use Rattle.convention.proofs.z_by_class.Statement.{statement}
 use Rattle.convention.proofs.z_by_class.Tie as tie
