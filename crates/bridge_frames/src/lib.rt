@@ -1,12 +1,12 @@
-// The frame machine for C and Rust: `fz_machine` is 230 words, `fz_registers` 66 and `fz_frame` 5, in the layout of the crate machine_words.
+// The frame machine for C and Rust: `fz_machine` is 230 words, `fz_registers` 66 and `fz_frame` 5, in the layout of the crate word_layout.
 // A refused call leaves the machine's words and the memory as they were; a refused start leaves the registers as handed in and all else 0.
 use answers::Answer;
 ghost use mathlib.Core.Path.{_≡_};
 ghost use lib.ListN.{length};
 ghost use Rattle.rules.specs.declared.Convention.the-variants.{Ppc64, Z};
 ghost use Rattle.machine.specs.Machine.{startOutcome, startMemory, enterOutcome, enterMemory, writeRegisterOutcome, writeMemoryOutcome, writeMemoryMemory, leaveOutcome};
-ghost use Rattle.machine_words.specs.Words.{registersIn, frameIn, stateIn};
-ghost use Rattle.machine_words.specs.Calls.{startWords, enterWords, writeRegisterWords, leaveWords};
+ghost use Rattle.word_layout.specs.Words.{registersIn, frameIn, stateIn};
+ghost use Rattle.word_layout.specs.Calls.{startWords, enterWords, writeRegisterWords, leaveWords};
 ghost use Rattle.bridge_frames.specs.Frames.{frameAnswer};
 
 fn answer_of(a: machine::Answer) -> Answer

@@ -2,8 +2,8 @@
 -- Assumes nothing.
 use Prim.Native.Nat.{ℕ, _+_, _-_, _≤_, _<_}
 use native.Mathlib.Omega.{arith}
+use Rattle.words.specs.Basics.{roundUp}
 use Rattle.types.specs.declared.ValueType.{ValueType}
-use Rattle.types.specs.Structs.{roundUp}
 use Rattle.convention.specs.declared.Cursor.{Cursor}
 use Rattle.convention.specs.declared.Span.{Span}
 use Rattle.convention.specs.declared.Share.{Share}

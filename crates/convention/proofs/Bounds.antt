@@ -4,10 +4,10 @@ use mathlib.Core.Bool.{Bool, true, false}
 use Prim.Native.Nat.{ℕ, _+_, _-_, _*_, _/_, _%_, _≤_, _<_}
 use native.Mathlib.Omega.{arith}
 use native.Mathlib.Nat.{div-mul-le-self, mul-comm}
+use Rattle.words.specs.Basics.{roundUp}
 use Rattle.types.specs.declared.Convention.{Convention}
 use Rattle.types.specs.declared.ValueType.{ValueType}
 use Rattle.types.specs.Sizes.{pointerSize}
-use Rattle.types.specs.Structs.{roundUp}
 use Rattle.convention.specs.declared.Edition.{Edition}
 use Rattle.convention.specs.declared.Cursor.{Cursor}
 use Rattle.convention.specs.declared.Rules.{Rules}

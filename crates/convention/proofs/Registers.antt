@@ -7,6 +7,7 @@ use native.Mathlib.Omega.{arith}
 use native.Mathlib.Nat.{add-zero}
 use lib.ListN.{length, getD, length-append, List·getD-append}
 use lib.Seq.{getD-append-add}
+use Rattle.words.specs.Basics.{pick}
 use Rattle.types.specs.declared.ValueType.{ValueType}
 use Rattle.convention.specs.declared.Bank.{Bank}
 use Rattle.convention.specs.declared.Place.{Place}
@@ -16,7 +17,7 @@ use Rattle.convention.specs.declared.Rules.{Rules}
 use Rattle.convention.specs.declared.ResultPlaces.{ResultPlaces}
 use Rattle.convention.specs.declared.ZClass.{ZClass}
 use Rattle.convention.specs.ZSeries.{zClass, zSpanOf}
-use Rattle.convention.specs.Values.{pick, pointer}
+use Rattle.convention.specs.Values.{pointer}
 use Rattle.convention.specs.Step.{wordOf, spanOf, nextOf, fresh, hiddenFor, returning, resultOf}
 use Rattle.convention.specs.Spots.{Spot, general, floating, area, copies, Owns, ArgumentRegister}
 use Rattle.convention.specs.Places.{upFrom, register, registersIn, registersOf, registerCount, Numbered, ResultNumbered, noPlace}

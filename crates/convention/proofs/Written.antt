@@ -8,8 +8,8 @@ use native.Mathlib.Omega.{arith}
 use native.Mathlib.Nat.{mul-add, mul-suc, mul-zero, mul-div-cancel-left, add-zero, zero-add, add-div-left, div-eq-of-lt, mul-le-mul-left}
 use borrow.Author.Tests.{ltb-true, ltb-false}
 use lib.Dec.{ltb, leb}
+use Rattle.words.specs.Basics.{pick, roundUp}
 use Rattle.types.specs.declared.ValueType.{ValueType}
-use Rattle.types.specs.Structs.{roundUp}
 use Rattle.convention.specs.declared.Bank.{Bank}
 use Rattle.convention.specs.declared.Place.{Place}
 use Rattle.convention.specs.declared.Cursor.{Cursor}
@@ -17,7 +17,7 @@ use Rattle.convention.specs.declared.Share.{Share}
 use Rattle.convention.specs.declared.PowerRules.{PowerRules}
 use Rattle.convention.specs.declared.Rules.{Rules}
 use Rattle.convention.specs.declared.ZClass.{ZClass}
-use Rattle.convention.specs.Values.{pick, cursor, registers, bytes, share}
+use Rattle.convention.specs.Values.{cursor, registers, bytes, share}
 use Rattle.convention.specs.Power.{words, fprs, shareOf, powerShare}
 use Rattle.convention.specs.ZSeries.{zClass, zSpanOf, zNextOf}
 use Rattle.convention.specs.Step.{spanOf, nextOf, fresh, startOf, areaOf}

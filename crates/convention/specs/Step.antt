@@ -3,6 +3,7 @@
 -- Assumes nothing.
 use Prim.Native.Nat.{ℕ, _*_, _≤_, max}
 use mathlib.Core.Bool.{Bool, true, false}
+use Rattle.words.specs.Basics.{pick}
 use Rattle.types.specs.declared.Convention.{Convention}
 use Rattle.types.specs.declared.FloatFormat.{FloatFormat}
 use Rattle.types.specs.declared.ValueType.{ValueType}
@@ -12,7 +13,7 @@ use Rattle.convention.specs.declared.Cursor.{Cursor}
 use Rattle.convention.specs.declared.Span.{Span}
 use Rattle.convention.specs.declared.Placed.{Placed}
 use Rattle.convention.specs.declared.ResultPlaces.{ResultPlaces}
-use Rattle.convention.specs.Values.{pick, cursor, pointer}
+use Rattle.convention.specs.Values.{cursor, pointer}
 use Rattle.convention.specs.Power.{words, powerShare, powerSpan, powerNext}
 use Rattle.convention.specs.ZSeries.{zClass, zSpanOf, zNextOf}
 

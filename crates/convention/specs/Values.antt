@@ -1,16 +1,11 @@
--- Short names for the values of the declared types, and a choice between two. Assumes nothing.
+-- Short names for the values of the declared types. Assumes nothing.
 use Prim.Native.Nat.{ℕ}
-use mathlib.Core.Bool.{Bool, true, false}
 use Rattle.types.specs.declared.IntegerKind.{IntegerKind}
 use Rattle.types.specs.declared.ValueType.{ValueType}
 use Rattle.convention.specs.declared.Cursor.{Cursor}
 use Rattle.convention.specs.declared.RegisterRange.{RegisterRange}
 use Rattle.convention.specs.declared.ByteRange.{ByteRange}
 use Rattle.convention.specs.declared.Share.{Share}
-
-abbrev pub pick : {A : Type 0} → Bool → A → A → A
-pick true a b = a
-pick false a b = b
 
 abbrev pub cursor : ℕ → ℕ → ℕ → ℕ → Cursor
 cursor g f s c = record { general = g; floating = f; stack = s; copies = c }

@@ -3,15 +3,15 @@
 use Prim.Native.Nat.{ℕ, _+_, _-_, _*_, min}
 use mathlib.Core.Bool.{Bool, true, false}
 use lib.Dec.{eqb}
+use Rattle.words.specs.Basics.{pick, roundUp}
 use Rattle.types.specs.declared.Equivalent.{Equivalent}
 use Rattle.types.specs.declared.FloatFormat.{FloatFormat}
 use Rattle.types.specs.declared.ValueType.{ValueType}
-use Rattle.types.specs.Structs.{roundUp}
 use Rattle.convention.specs.declared.Cursor.{Cursor}
 use Rattle.convention.specs.declared.ByteRange.{ByteRange}
 use Rattle.convention.specs.declared.Span.{Span}
 use Rattle.convention.specs.declared.ZClass.{ZClass}
-use Rattle.convention.specs.Values.{pick, cursor, registers, bytes}
+use Rattle.convention.specs.Values.{cursor, registers, bytes}
 
 -- "Structs of 1, 2, 4 or 8 bytes go by value; other structs .. by pointer to a copy"
 abbrev pub bySize : ℕ → ZClass

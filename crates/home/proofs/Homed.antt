@@ -8,6 +8,7 @@ use borrow.Author.Tests.{ltb-false, leb-false}
 use native.Mathlib.Nat.{add-sub-cancel-left}
 use lib.Dec.{leb}
 use lib.ListN.{length, getD, take, drop}
+use Rattle.words.specs.Basics.{pick}
 use Rattle.types.specs.declared.Convention.{Convention}
 use Rattle.types.specs.declared.FloatFormat.{FloatFormat}
 use Rattle.types.specs.declared.ValueType.{ValueType}
@@ -21,7 +22,7 @@ use Rattle.signature.specs.Read.{signatureOf}
 use Rattle.signature.specs.Answer.{resultType, signatureAnswer}
 use Rattle.convention.specs.declared.Cursor.{Cursor}
 use Rattle.convention.specs.declared.Rules.{Rules}
-use Rattle.convention.specs.Values.{pick, share}
+use Rattle.convention.specs.Values.{share}
 use Rattle.convention.specs.Power.{words, fprs, shareOf, powerShare}
 use Rattle.convention.specs.Step.{ppc64, rulesOf, spanOf, nextOf}
 use Rattle.convention.proofs.Bounds.{area-holds}

@@ -7,6 +7,7 @@ use mathlib.Core.Bool.{Bool, true, false}
 use mathlib.Core.List.{List, [], _∷_}
 use lib.Dec.{ltb}
 use lib.ListN.{length}
+use Rattle.words.specs.Basics.{pick}
 use Rattle.words.specs.Splice.{splice, part}
 use Rattle.words.specs.Numbers.{valueOf}
 use Rattle.ieee.specs.declared.Narrowed.{Narrowed}
@@ -20,7 +21,6 @@ use Rattle.signature.specs.Read.{signatureOf}
 use Rattle.signature.specs.Answer.{signatureAnswer}
 use Rattle.convention.specs.declared.Rules.{Rules}
 use Rattle.convention.specs.declared.Span.{Span}
-use Rattle.convention.specs.Values.{pick}
 use Rattle.convention.specs.Step.{ppc64}
 use Rattle.plan.specs.declared.Plan.{Plan}
 use Rattle.slots.specs.declared.Refusal.{Refusal}

@@ -9,6 +9,7 @@ use lib.Dec.{ltb}
 use native.Mathlib.Numerals.{sub-one}
 use native.Mathlib.Omega.{arith}
 use borrow.Author.Tests.{lt-ltb, le-ltb, eq-eqb, ne-eqb}
+use Rattle.words.specs.Basics.{pick}
 use Rattle.types.specs.declared.Convention.{Convention}
 use Rattle.types.specs.declared.FloatFormat.{FloatFormat}
 use Rattle.types.specs.declared.ValueType.{ValueType}
@@ -19,7 +20,7 @@ use Rattle.items.specs.declared.Body.{Body}
 use Rattle.items.specs.declared.IntegerCode.{IntegerCode}
 use Rattle.items.specs.declared.FloatCode.{FloatCode}
 use Rattle.items.specs.declared.ItemRead.{ItemRead}
-use Rattle.items.specs.Reading.{Reading, got, no, pick}
+use Rattle.items.specs.Reading.{Reading, got, no}
 use Rattle.items.specs.Read.{lengthAt, bodyAt, integerCode, floatCode, integerBy, integerAt, floatBy, floatAt, sequence, sizedAt, contentsAt, itemBy, structAt, itemAt}
 use Rattle.items.specs.Answer.{itemAnswer, closedAnswer}
 

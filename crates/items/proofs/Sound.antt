@@ -8,6 +8,7 @@ use lib.ListN.{length, getD, length-append}
 use lib.Dec.{ltb, eqb}
 use native.Mathlib.Omega.{arith}
 use borrow.Author.Tests.{ltb-false, eqb-true, eqb-false}
+use Rattle.words.specs.Basics.{pick}
 use Rattle.words.specs.Numbers.{Bytes}
 use Rattle.types.specs.declared.Convention.{Convention}
 use Rattle.types.specs.declared.FloatFormat.{FloatFormat}
@@ -17,7 +18,7 @@ use Rattle.types.specs.Trees.{Tree, Trees, float, none, _▸_, typeOf, fieldsOf
 use Rattle.items.specs.declared.IntegerCode.{IntegerCode}
 use Rattle.items.specs.declared.FloatCode.{FloatCode}
 use Rattle.items.specs.declared.Body.{Body}
-use Rattle.items.specs.Reading.{Reading, got, no, pick, choose, andThen, inBody}
+use Rattle.items.specs.Reading.{Reading, got, no, choose, andThen, inBody}
 use Rattle.items.specs.Read.{lengthAt, bodyAt, integerCode, floatCode, integerBy, integerAt, floatBy, floatAt, sequence, sizedAt, contentsAt, itemBy, structAt, itemAt}
 use Rattle.items.specs.Encode.{integerNumber, floatNumber, item, encodeTree, encodeTrees, itemsOf, itemsIn}
 use Rattle.items.proofs.Levels.{FloatLeft, Left, AllLeft, left-sized}

@@ -6,6 +6,7 @@ use mathlib.Core.Bool.{Bool}
 use mathlib.Core.List.{List}
 use lib.ListN.{getD}
 use lib.Dec.{ltb, eqb}
+use Rattle.words.specs.Basics.{pick}
 use Rattle.types.specs.declared.Convention.{Convention}
 use Rattle.types.specs.declared.IntegerKind.{IntegerKind}
 use Rattle.types.specs.declared.FloatFormat.{FloatFormat}
@@ -15,7 +16,7 @@ use Rattle.items.specs.declared.Refusal.{Refusal}
 use Rattle.items.specs.declared.Body.{Body}
 use Rattle.items.specs.declared.IntegerCode.{IntegerCode}
 use Rattle.items.specs.declared.FloatCode.{FloatCode}
-use Rattle.items.specs.Reading.{Reading, got, no, pick, choose, andThen, inBody}
+use Rattle.items.specs.Reading.{Reading, got, no, choose, andThen, inBody}
 
 -- "a two-byte length", big-endian, after the "one-byte tag"
 abbrev pub lengthAt : List ℕ → ℕ → ℕ

@@ -10,12 +10,7 @@ pub data Reading (A : Type 0) : Type 0 where
   got : A → ℕ → ℕ → Reading A
   no : Refusal → ℕ → Reading A
 
--- by a test
-abbrev pub pick : {A : Type 0} → Bool → A → A → A
-pick true a b = a
-pick false a b = b
-
--- the same where a case must wait for the test
+-- a choice by a test where a case must wait for the test
 abbrev pub choose : {A : Type 0} → Bool → (Unit {0} → A) → (Unit {0} → A) → A
 choose true a b = a tt
 choose false a b = b tt

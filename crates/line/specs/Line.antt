@@ -4,11 +4,11 @@ use Prim.Native.Nat.{ℕ, _+_}
 use mathlib.Core.Bool.{Bool}
 use mathlib.Core.List.{List, [], _∷_, _++_}
 use lib.Dec.{ltb}
+use Rattle.words.specs.Basics.{pick}
 use Rattle.types.specs.declared.Convention.{Convention}
 use Rattle.convention.specs.declared.Bank.{Bank}
 use Rattle.convention.specs.declared.Place.{Place}
 use Rattle.convention.specs.declared.Span.{Span}
-use Rattle.convention.specs.Values.{pick}
 use Rattle.convention.specs.Step.{headerOf}
 use Rattle.convention.specs.Places.{registersOf}
 use Rattle.text.specs.Decimals.{decimal}

@@ -3,7 +3,7 @@ use Prim.Native.Nat.{ℕ, _≤_}
 use mathlib.Core.List.{List}
 use lib.Dec.{ltb}
 use lib.ListN.{length}
-use Rattle.convention.specs.Values.{pick}
+use Rattle.words.specs.Basics.{pick}
 use Rattle.convention.specs.Places.{Numbered, ResultNumbered}
 use Rattle.words.specs.Splice.{overlay}
 use Rattle.signature.specs.Read.{maxArguments}

@@ -7,13 +7,14 @@ use native.Mathlib.Omega.{arith}
 use borrow.Author.Tests.{lt-ltb, le-ltb}
 use lib.ListN.{length}
 use lib.Dec.{ltb}
+use Rattle.words.specs.Basics.{pick}
 use Rattle.types.specs.declared.Convention.{Convention}
 use Rattle.types.specs.declared.ValueType.{ValueType}
 use Rattle.types.specs.Sizes.{sizeOf}
 use Rattle.types.specs.Trees.{Trees, none, _▸_, typeOf}
 use Rattle.items.specs.declared.Refusal.{Refusal}
 use Rattle.items.specs.declared.ItemRead.{ItemRead}
-use Rattle.items.specs.Reading.{Reading, got, no, pick}
+use Rattle.items.specs.Reading.{Reading, got, no}
 use Rattle.items.specs.Read.{itemAt}
 use Rattle.items.specs.Answer.{itemAnswer}
 use Rattle.items.proofs.Loop.{item-answered}

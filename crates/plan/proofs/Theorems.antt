@@ -5,6 +5,7 @@ use mathlib.Core.List.{List, []}
 use Prim.Native.Nat.{ℕ, _≤_, _<_}
 use native.Mathlib.Omega.{arith}
 use lib.ListN.{getD, replicate}
+use Rattle.words.specs.Basics.{pick}
 use Rattle.types.specs.declared.Convention.{Convention}
 use Rattle.types.specs.declared.ValueType.{ValueType}
 use Rattle.types.specs.Sizes.{sizeOf}
@@ -17,7 +18,7 @@ use Rattle.signature.specs.Answer.{resultType}
 use Rattle.convention.specs.declared.Cursor.{Cursor}
 use Rattle.convention.specs.declared.Span.{Span}
 use Rattle.convention.specs.declared.ResultPlaces.{ResultPlaces}
-use Rattle.convention.specs.Values.{pick, pointer}
+use Rattle.convention.specs.Values.{pointer}
 use Rattle.convention.specs.Step.{rulesOf, wordOf, spanOf, fresh, startOf, areaOf, hiddenFor, returning, resultOf}
 use Rattle.convention.specs.Places.{Numbered}
 use Rattle.convention.specs.Spots.{Spot, area, copies, Owns, imageSpot}

@@ -74,7 +74,7 @@ fn hidden_in(c: Convention, result: ResultType) -> bool
 {
     match result {
         ResultType::Nothing => false,
-        ResultType::Value(t) => convention::hidden_for(convention::rules_of(c), t),
+        ResultType::Value(t) => placing::hidden_for(convention::rules_of(c), t),
     }
 }
 
@@ -86,7 +86,7 @@ fn result_in(c: Convention, result: ResultType) -> ResultPlaces
         ResultType::Nothing => ResultPlaces::Nothing,
         ResultType::Value(t) => {
             let size = types::size_of(c, t);
-            convention::result_places(c, t, size)
+            placing::result_places(c, t, size)
         }
     }
 }
@@ -109,7 +109,7 @@ pub fn plan_signature(g: SignatureRead) -> Plan
             let rules = convention::rules_of(convention);
             let hidden = hidden_in(convention, returned);
             let result = result_in(convention, returned);
-            let mut c = convention::start(convention, hidden);
+            let mut c = placing::start(convention, hidden);
             let mut plan = blank(outcome, convention, result, count);
             let mut values: usize = 0;
             let mut i: usize = 0;
@@ -117,14 +117,14 @@ pub fn plan_signature(g: SignatureRead) -> Plan
                 let a = g.arguments[i];
                 let t = a.ty;
                 let size = types::size_of(convention, t);
-                let p = convention::step(rules, c, t, size);
+                let p = placing::step(rules, c, t, size);
                 let s = p.span;
                 plan.spans[i] = s;
                 c = p.next;
                 values = values + size;
                 i = i + 1;
             }
-            plan.area = convention::area_of(rules, c);
+            plan.area = placing::area_of(rules, c);
             plan.values = values;
             plan.copies = c.copies;
             plan
@@ -165,7 +165,7 @@ fn measure_arguments(
 {
     let rules = convention::rules_of(convention);
     let hidden = hidden_in(convention, returned);
-    let mut c = convention::start(convention, hidden);
+    let mut c = placing::start(convention, hidden);
     let mut values: usize = 0;
     let mut count: usize = 0;
     let mut next = at;
@@ -181,7 +181,7 @@ fn measure_arguments(
                 items: more,
             } => {
                 let bytes = types::size_of(convention, ty);
-                let p = convention::step(rules, c, ty, bytes);
+                let p = placing::step(rules, c, ty, bytes);
                 c = p.next;
                 values = values + bytes;
                 count = count + 1;
@@ -196,7 +196,7 @@ fn measure_arguments(
     if next < s.len() {
         return no_measure(Refusal::TrailingBytes, next);
     }
-    let area = convention::area_of(rules, c);
+    let area = placing::area_of(rules, c);
     Measured {
         outcome: Outcome::Accepted(earlier + items),
         area,

@@ -3,11 +3,12 @@
 use Prim.Native.Nat.{ℕ}
 use mathlib.Core.Path.{_≡_, refl}
 use mathlib.Core.List.{List, [], _∷_, map}
+use Rattle.words.specs.Basics.{roundUp}
 use Rattle.types.specs.declared.Convention.{Convention}
 use Rattle.types.specs.declared.IntegerKind.{IntegerKind}
 use Rattle.types.specs.declared.FloatFormat.{FloatFormat}
 use Rattle.types.specs.declared.ValueType.{ValueType}
-use Rattle.types.specs.Structs.{roundUp, withField, shapeOf}
+use Rattle.types.specs.Structs.{withField, shapeOf}
 use Rattle.types.specs.Trees.{typeOf, fieldsOf, countOf}
 use Rattle.items.specs.declared.Refusal.{Refusal}
 use Rattle.items.specs.Read.{bodyAt, integerCode, floatCode, integerAt, floatAt, sequence, sizedAt, contentsAt, itemBy, structAt, itemAt}

@@ -5,12 +5,13 @@ use Prim.Native.Nat.{ℕ, _+_, _-_}
 use mathlib.Core.List.{List}
 use lib.ListN.{length, getD}
 use lib.Dec.{ltb}
+use Rattle.words.specs.Basics.{pick}
 use Rattle.types.specs.declared.Convention.{Convention}
 use Rattle.types.specs.Trees.{Tree}
 use Rattle.items.specs.declared.Refusal.{Refusal}
 use Rattle.items.specs.declared.Body.{Body}
 use Rattle.items.specs.declared.ItemRead.{ItemRead}
-use Rattle.items.specs.Reading.{Reading, no, pick}
+use Rattle.items.specs.Reading.{Reading, no}
 use Rattle.items.specs.Read.{bodyAt, itemAt}
 use Rattle.signature.specs.Read.{maxLength, maxDepth}
 use Rattle.reader.specs.declared.Header.{Header}

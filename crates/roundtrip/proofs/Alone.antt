@@ -10,11 +10,11 @@ use native.Mathlib.Omega.{arith}
 use borrow.Author.Tests.{ltb-true, ltb-false}
 use lib.Dec.{ltb}
 use lib.ListN.{length, getD}
+use Rattle.words.specs.Basics.{pick}
 use Rattle.words.specs.Splice.{splice, part}
 use Rattle.words.proofs.Splices.{splice-at-other}
 use Rattle.words.specs.Numbers.{valueOf}
 use Rattle.convention.specs.declared.Rules.{Rules}
-use Rattle.convention.specs.Values.{pick}
 use Rattle.convention.specs.Spots.{Spot, general, floating, area, copies}
 use Rattle.slots.specs.Buffers.{Buffers, Slot, generalAt, floatingAt, put, putAll, bytesAt}
 use Rattle.slots.specs.Forms.{floatValue, ownStart}

@@ -11,6 +11,7 @@ use borrow.Author.Tests.{ltb-true, ltb-false, le-leb}
 use lib.Dec.{ltb}
 use lib.ListN.{length, take, drop}
 use lib.Seq.{take-all, take-add, length-take-le}
+use Rattle.words.specs.Basics.{pick}
 use Rattle.words.specs.Splice.{splice, part}
 use Rattle.words.specs.Numbers.{Bytes, bytesOf, valueOf}
 use Rattle.words.proofs.Splices.{splice-same, splice-other, length-splice, length-part}
@@ -18,7 +19,6 @@ use Rattle.words.proofs.Numbers.{length-bytesOf, value-back}
 use Rattle.types.specs.Sizes.{equivalentOf}
 use Rattle.convention.specs.declared.Cursor.{Cursor}
 use Rattle.convention.specs.declared.Rules.{Rules}
-use Rattle.convention.specs.Values.{pick}
 use Rattle.convention.specs.Spots.{general, floating, area, copies}
 use Rattle.slots.specs.declared.Answer.{Answer}
 use Rattle.slots.specs.Buffers.{Buffers, Slot, put, putAll, bytesAt}

@@ -6,6 +6,7 @@ use Prim.Native.Nat.{ℕ, _+_, _-_, _*_, _/_, _^_, _≤_, _<_}
 use native.Mathlib.Omega.{arith}
 use lib.ListN.{length, take, replicate, length-append, length-replicate}
 use lib.Seq.{take-all, take-append-le, take-at, drop-at}
+use Rattle.words.specs.Basics.{pick}
 use Rattle.words.specs.Splice.{part}
 use Rattle.words.specs.Numbers.{Bytes, bytesOf, valueOf, zeroExtended, signExtended}
 use Rattle.words.proofs.Numbers.{length-bytesOf, value-below, value-back, bytesOf-value, bytesOf-append, bytesOf-zeroExtended, bytesOf-signExtended}
@@ -16,7 +17,6 @@ use Rattle.ieee.proofs.Laws.{widen-below, narrow-widen}
 use Rattle.types.specs.declared.Equivalent.{Equivalent}
 use Rattle.types.specs.declared.ValueType.{ValueType}
 use Rattle.convention.specs.declared.Rules.{Rules}
-use Rattle.convention.specs.Values.{pick}
 use Rattle.slots.specs.declared.Answer.{Answer}
 use Rattle.slots.specs.Forms.{roomOf, isSigned, startsAtHead, extended, homeBytes, ownStart, floatWord, narrowedBytes, floatValueAs}
 use Rattle.slots.specs.Limits.{FloatSized}

@@ -8,6 +8,7 @@ use native.Mathlib.Omega.{arith}
 use borrow.Author.Tests.{ltb-true, ltb-false}
 use lib.Dec.{ltb}
 use lib.ListN.{length, getD, take, drop, length-take}
+use Rattle.words.specs.Basics.{pick}
 use Rattle.types.specs.declared.Convention.{Convention}
 use Rattle.types.specs.declared.ValueType.{ValueType}
 use Rattle.types.specs.Sizes.{sizeOf}
@@ -20,7 +21,6 @@ use Rattle.convention.specs.declared.Rules.{Rules}
 use Rattle.convention.specs.Spots.{Spot, general, floating, area, copies}
 use Rattle.convention.specs.Step.{rulesOf, spanOf, nextOf}
 use Rattle.convention.proofs.Bounds.{Named, named-next, named-start}
-use Rattle.convention.specs.Values.{pick}
 use Rattle.convention.proofs.Between.{From, step-between}
 use Rattle.convention.proofs.Registers.{step-numbered}
 use Rattle.plan.specs.Plan.{spansOf, hiddenIn, startIn, planAnswer, typesOf}

@@ -8,6 +8,7 @@ use native.Mathlib.Omega.{arith}
 use borrow.Author.Tests.{eq-eqb, le-ltb}
 use lib.ListN.{length, take, drop, length-drop, drop-of-length-le}
 use lib.Seq.{length-take-le, take-add, take-all}
+use Rattle.words.specs.Basics.{pick}
 use Rattle.words.specs.Splice.{overlay}
 use Rattle.words.specs.Numbers.{Bytes}
 use Rattle.words.proofs.Splices.{overlay-is}
@@ -22,7 +23,6 @@ use Rattle.signature.specs.Read.{signatureOf}
 use Rattle.signature.specs.Answer.{resultType, signatureAnswer}
 use Rattle.convention.specs.declared.Cursor.{Cursor}
 use Rattle.convention.specs.declared.Rules.{Rules}
-use Rattle.convention.specs.Values.{pick}
 use Rattle.convention.specs.Step.{rulesOf, spanOf, nextOf}
 use Rattle.convention.proofs.Bounds.{Named, named-next, named-start}
 use Rattle.convention.proofs.Between.{step-between}

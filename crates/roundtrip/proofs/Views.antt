@@ -8,6 +8,7 @@ use native.Mathlib.Omega.{arith}
 use borrow.Author.Tests.{lt-ltb, le-ltb, ltb-true, ltb-false, eq-eqb, lt-leb}
 use lib.Dec.{ltb}
 use lib.ListN.{length, getD, take, drop, length-drop}
+use Rattle.words.specs.Basics.{pick}
 use Rattle.words.specs.Splice.{splice, part}
 use Rattle.words.specs.Numbers.{valueOf}
 use Rattle.words.proofs.Splices.{splice-same, splice-other, length-splice, length-part, part-add, part-part}
@@ -23,7 +24,7 @@ use Rattle.convention.specs.declared.Cursor.{Cursor}
 use Rattle.convention.specs.declared.Rules.{Rules}
 use Rattle.convention.specs.declared.ResultPlaces.{ResultPlaces}
 use Rattle.convention.specs.declared.Span.{Span}
-use Rattle.convention.specs.Values.{pick, pointer}
+use Rattle.convention.specs.Values.{pointer}
 use Rattle.convention.specs.Power.{words}
 use Rattle.convention.specs.Step.{ppc64, rulesOf, spanOf, nextOf, fresh, startOf, hiddenFor, returning, resultOf}
 use Rattle.plan.specs.declared.Plan.{Plan}

@@ -6,8 +6,7 @@ use mathlib.Core.Bool.{Bool, true, false, not, _&&_, _||_}
 use mathlib.Core.List.{List, [], _∷_}
 use lib.ListN.{getD, set}
 use lib.Dec.{leb, eqb}
-use Rattle.words.specs.Basics.{pick}
-unfoldable pub use Rattle.words.specs.Basics.{roundUp}
+use Rattle.words.specs.Basics.{pick, roundUp}
 use Rattle.saves.specs.Saves.{Save, load, taken}
 use Rattle.rules.specs.Rules.{inSpan, within, Bank, Linkage, LinkRegister, SaveArea, Rules, Frame, RegisterBank, General, Floating, Link, ConditionField, None, Registers}
 

@@ -2,13 +2,14 @@
 use Prim.Native.Nat.{ℕ, zero, suc}
 use mathlib.Core.Path.{_≡_, refl}
 use mathlib.Core.List.{List, [], _∷_, map}
+use Rattle.words.specs.Basics.{roundUp}
 use Rattle.types.specs.declared.Convention.{Convention}
 use Rattle.types.specs.declared.IntegerKind.{IntegerKind}
 use Rattle.types.specs.declared.FloatFormat.{FloatFormat}
 use Rattle.types.specs.Trees.{Tree, Trees, integer, float, struct, none, _▸_, fieldsOf}
 use Rattle.items.specs.Refusals.{numberOf}
 use Rattle.items.specs.Reading.{Reading, got, no}
-use Rattle.types.specs.Structs.{roundUp, withField, shapeOf}
+use Rattle.types.specs.Structs.{withField, shapeOf}
 use Rattle.items.specs.Read.{bodyAt, integerCode, floatCode, integerAt, floatAt, sequence, sizedAt, contentsAt, itemBy, structAt, itemAt}
 use Rattle.items.specs.Encode.{item, encodeTree}
 use Rattle.signature.specs.Signature.{nothing, Signature}

@@ -4,10 +4,11 @@ use Prim.Native.Nat.{ℕ, _+_}
 use mathlib.Core.List.{List}
 use lib.ListN.{length, getD}
 use lib.Dec.{ltb, eqb}
+use Rattle.words.specs.Basics.{pick}
 use Rattle.types.specs.declared.Convention.{Convention}
 use Rattle.types.specs.Trees.{Trees, none}
 use Rattle.items.specs.declared.Refusal.{Refusal}
-use Rattle.items.specs.Reading.{Reading, got, no, pick, choose, andThen, inBody}
+use Rattle.items.specs.Reading.{Reading, got, no, choose, andThen, inBody}
 use Rattle.items.specs.Read.{bodyAt, sequence, itemAt}
 use Rattle.signature.specs.declared.ConventionCode.{ConventionCode}
 use Rattle.signature.specs.Signature.{Result, nothing, value, Signature, Head}

@@ -5,6 +5,7 @@ use Prim.Native.Nat.{ℕ, _-_, _≤_}
 use native.Mathlib.Omega.{arith}
 use borrow.Author.Tests.{eqb-true}
 use lib.Dec.{leb, eqb}
+use Rattle.words.specs.Basics.{pick}
 use Rattle.types.specs.declared.Convention.{Convention}
 use Rattle.types.specs.declared.IntegerKind.{IntegerKind}
 use Rattle.types.specs.declared.FloatFormat.{FloatFormat}
@@ -14,7 +15,7 @@ use Rattle.types.specs.Sizes.{integerSize, sizeOf, equivalentOf}
 use Rattle.convention.specs.declared.Cursor.{Cursor}
 use Rattle.convention.specs.declared.Rules.{Rules}
 use Rattle.convention.specs.declared.ZClass.{ZClass}
-use Rattle.convention.specs.Values.{pick, share}
+use Rattle.convention.specs.Values.{share}
 use Rattle.convention.specs.Power.{words, fprs, covered, shareOf, powerShare, powerSpan}
 use Rattle.convention.specs.ZSeries.{zClass, zSpanOf, bySize, byEquivalent}
 use Rattle.convention.specs.Step.{ppc64, rulesOf, spanOf}

@@ -6,7 +6,7 @@ use Prim.Native.Nat.{ℕ}
 use native.Mathlib.Omega.{arith}
 use borrow.Author.Tests.{eqb-true}
 use lib.Dec.{eqb}
-use Rattle.convention.specs.Values.{pick}
+use Rattle.words.specs.Basics.{pick}
 use Rattle.slots.specs.declared.Answer.{Answer}
 use Rattle.slots.specs.Refusals.{Test, differ, firstOf, orElse, isRefused}
 

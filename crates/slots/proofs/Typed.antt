@@ -5,13 +5,14 @@ use mathlib.Core.Bool.{Bool, true, false}
 use mathlib.Core.List.{List, [], _∷_, _++_}
 use Prim.Native.Nat.{ℕ, _+_, max}
 use native.Mathlib.Omega.{arith}
+use Rattle.words.specs.Basics.{roundUp}
 use Rattle.types.specs.declared.Convention.{Convention}
 use Rattle.types.specs.declared.FloatFormat.{FloatFormat}
 use Rattle.types.specs.declared.Equivalent.{Equivalent}
 use Rattle.types.specs.declared.ValueType.{ValueType}
 use Rattle.types.specs.declared.Fields.{Fields}
 use Rattle.types.specs.Sizes.{sizeOf, alignOf, equivalentOf, Sized}
-use Rattle.types.specs.Structs.{roundUp, withField, equivalentAfter, shapeOf}
+use Rattle.types.specs.Structs.{withField, equivalentAfter, shapeOf}
 use Rattle.types.specs.Trees.{Tree, Trees, integer, float, struct, none, _▸_, typeOf, fieldsOf}
 use Rattle.types.specs.Limits.{AllSized}
 use Rattle.plan.specs.Plan.{typesOf}

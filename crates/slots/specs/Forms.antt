@@ -6,6 +6,7 @@ use Prim.Native.Nat.{ℕ, _+_, _-_, _*_, _^_}
 use mathlib.Core.Bool.{Bool, true, false}
 use mathlib.Core.List.{List, [], _++_}
 use lib.ListN.{take, replicate}
+use Rattle.words.specs.Basics.{pick}
 use Rattle.words.specs.Numbers.{bytesOf, valueOf, zeroExtended, signExtended}
 use Rattle.ieee.specs.declared.Narrowed.{Narrowed}
 use Rattle.ieee.specs.Widening.{widen}
@@ -16,7 +17,6 @@ use Rattle.types.specs.declared.Equivalent.{Equivalent}
 use Rattle.types.specs.declared.ValueType.{ValueType}
 use Rattle.types.specs.Sizes.{equivalentOf}
 use Rattle.convention.specs.declared.Rules.{Rules}
-use Rattle.convention.specs.Values.{pick}
 use Rattle.convention.specs.Power.{words}
 
 -- the bytes of the words that a value takes: "Sizes in doublewords .. struct size / 8 rounded up"; Z: "8 stack bytes", or a register

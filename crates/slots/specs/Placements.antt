@@ -4,6 +4,7 @@ use Prim.Native.Nat.{ℕ, _+_, _-_, _*_}
 use mathlib.Core.List.{List, [], _∷_, _++_}
 use lib.ListN.{take, drop}
 use lib.Dec.{ltb}
+use Rattle.words.specs.Basics.{pick}
 use Rattle.words.specs.Splice.{part}
 use Rattle.words.specs.Numbers.{bytesOf, valueOf}
 use Rattle.types.specs.declared.Convention.{Convention}
@@ -12,7 +13,6 @@ use Rattle.types.specs.Sizes.{sizeOf}
 use Rattle.convention.specs.declared.Rules.{Rules}
 use Rattle.convention.specs.declared.Span.{Span}
 use Rattle.convention.specs.declared.ResultPlaces.{ResultPlaces}
-use Rattle.convention.specs.Values.{pick}
 use Rattle.convention.specs.Spots.{general, floating, area, copies}
 use Rattle.slots.specs.Buffers.{Buffers, Slot, slot, bytesAt}
 use Rattle.slots.specs.Forms.{homeBytes, floatBytes, floatValue, ownStart}

@@ -4,13 +4,13 @@ use Prim.Native.Nat.{ℕ}
 use mathlib.Core.Bool.{Bool, true, false}
 use mathlib.Core.List.{List, [], _∷_}
 use lib.Dec.{eqb}
+use Rattle.words.specs.Basics.{pick}
 use Rattle.ieee.specs.declared.Narrowed.{Narrowed}
 use Rattle.ieee.specs.Narrowing.{narrow}
 use Rattle.types.specs.declared.Equivalent.{Equivalent}
 use Rattle.items.specs.Refusals as items
 use Rattle.signature.specs.declared.Outcome.{Outcome}
 use Rattle.convention.specs.declared.Rules.{Rules}
-use Rattle.convention.specs.Values.{pick}
 use Rattle.slots.specs.declared.Refusal.{Refusal}
 use Rattle.slots.specs.declared.Answer.{Answer}
 

@@ -1,9 +1,10 @@
 -- The laws of sizes, alignments and layouts: bounds first, then what closing a struct finds. Assumes nothing.
 use mathlib.Core.Path.{_≡_}
-use Prim.Native.Nat.{ℕ, _+_, _-_, _≤_, _<_}
-use native.Mathlib.Nat.{div-mul-le-self, div-add-mod', mod-lt}
+use Prim.Native.Nat.{_+_, _≤_, _<_}
 use native.Mathlib.Omega.{arith}
 use borrow.Author.Tests.{lt-ltb, le-ltb}
+use Rattle.words.specs.Basics.{roundUp}
+use Rattle.words.proofs.Basics.{round-up-least, round-up-most}
 use Rattle.types.specs.declared.Convention.{Convention}
 use Rattle.types.specs.declared.IntegerKind.{IntegerKind}
 use Rattle.types.specs.declared.FloatFormat.{FloatFormat}
@@ -12,17 +13,7 @@ use Rattle.types.specs.declared.Shape.{Shape}
 use Rattle.types.specs.declared.Fields.{Fields}
 use Rattle.types.specs.declared.Closed.{Closed}
 use Rattle.types.specs.Sizes.{pointerSize, integerSize, floatSize, alignOf, Sized}
-use Rattle.types.specs.Structs.{roundUp, noFields, withField, shapeOf, closed}
-
--- rounding up
-
-pub round-up-most : (n a : ℕ) → 0 < a → roundUp n a < n + a
-unfolding roundUp
-round-up-most n a h = omega (arith, div-mul-le-self (n + (a - 1)) a)
-
-pub round-up-least : (n a : ℕ) → 0 < a → n ≤ roundUp n a
-unfolding roundUp
-round-up-least n a h = omega (arith, div-add-mod' (n + (a - 1)) a, mod-lt (n + (a - 1)) h)
+use Rattle.types.specs.Structs.{noFields, withField, shapeOf, closed}
 
 -- a type that is no struct is small
 

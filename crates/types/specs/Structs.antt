@@ -1,8 +1,9 @@
 -- The layout of a struct: its fields one after the other, each at the next multiple of its alignment.
 -- Document 01, "A signature's bytes". Assumes nothing.
-use Prim.Native.Nat.{ℕ, _+_, _-_, _*_, _/_, max}
+use Prim.Native.Nat.{_+_, max}
 use mathlib.Core.Bool.{Bool, true, false}
 use lib.Dec.{ltb}
+use Rattle.words.specs.Basics.{roundUp}
 use Rattle.types.specs.declared.Convention.{Convention}
 use Rattle.types.specs.declared.Equivalent.{Equivalent}
 use Rattle.types.specs.declared.Shape.{Shape}
@@ -10,10 +11,6 @@ use Rattle.types.specs.declared.ValueType.{ValueType}
 use Rattle.types.specs.declared.Fields.{Fields}
 use Rattle.types.specs.declared.Closed.{Closed}
 use Rattle.types.specs.Sizes.{sizeOf, alignOf, equivalentOf}
-
--- n, rounded up to a multiple of a
-unfoldable pub roundUp : ℕ → ℕ → ℕ
-roundUp n a = (n + (a - 1)) / a * a
 
 abbrev pub noFields : Fields
 noFields = record { end = 0; align = 1; empty = true; equivalent = Equivalent.Nothing }

@@ -1,9 +1,9 @@
 // The types that a signature names: integers, floats and structs, with the size and the alignment of each, and the layout
 // of a struct's fields one after the other.
 ghost use mathlib.Core.Path.{_≡_};
-ghost use Prim.Native.Nat.{_+_, _^_, _≤_, _<_, max};
+ghost use Prim.Native.Nat.{_^_, _≤_, _<_};
 ghost use Rattle.types.specs.Sizes.{pointerSize, integerSize, floatSize, sizeOf, alignOf, equivalentOf, Sized};
-ghost use Rattle.types.specs.Structs.{roundUp, noFields, withField, equivalentAfter, closed};
+ghost use Rattle.types.specs.Structs.{noFields, withField, equivalentAfter, closed};
 
 // A calling convention, as a signature's first item names it. The sizes of types are those of its machine.
 pub enum Convention {
@@ -137,19 +137,6 @@ pub enum Closed {
     TooLarge,
 }
 
-fn round_up(n: usize, a: usize) -> usize
-    requires { ⌜ (0 < a) × (a ≤ 16) × (n < 2 ^ 32 + 272) ⌝ }
-    ensures { λ r. ⌜ r ≡ roundUp n a ⌝ }
-{
-    (n + (a - 1)) / a * a
-}
-
-fn larger(a: usize, b: usize) -> usize
-    ensures { λ r. ⌜ r ≡ max a b ⌝ }
-{
-    if a < b { b } else { a }
-}
-
 fn equivalent_after(empty: bool, t: ValueType) -> Equivalent
     ensures { λ r. ⌜ r ≡ equivalentAfter empty t ⌝ }
 {
@@ -182,8 +169,8 @@ impl Fields {
         let empty = self.empty;
         let size = size_of(c, t);
         let a = align_of(c, t, size);
-        let start = round_up(end, a);
-        let most = larger(align, a);
+        let start = words::round_up(end, a);
+        let most = words::larger(align, a);
         let equivalent = equivalent_after(empty, t);
         Fields {
             end: start + size,
@@ -201,7 +188,7 @@ impl Fields {
         let end = self.end;
         let align = self.align;
         let equivalent = self.equivalent;
-        let size = round_up(end, align);
+        let size = words::round_up(end, align);
         if 256 < size {
             return Closed::TooLarge;
         }

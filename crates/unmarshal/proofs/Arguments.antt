@@ -8,6 +8,7 @@ use borrow.Author.Tests.{ltb-true, ltb-false}
 use lib.Dec.{ltb}
 use lib.ListN.{length, length-append}
 use lib.Seq.{length-take-le}
+use Rattle.words.specs.Basics.{pick}
 use Rattle.words.specs.Splice.{part}
 use Rattle.words.specs.Numbers.{valueOf}
 use Rattle.words.proofs.Splices.{length-part}
@@ -17,7 +18,6 @@ use Rattle.ieee.specs.Narrowing.{narrow}
 use Rattle.types.specs.declared.Equivalent.{Equivalent}
 use Rattle.types.specs.Sizes.{equivalentOf}
 use Rattle.convention.specs.declared.Rules.{Rules}
-use Rattle.convention.specs.Values.{pick}
 use Rattle.convention.specs.Spots.{copies}
 use Rattle.slots.specs.declared.Answer.{Answer}
 use Rattle.slots.specs.Buffers.{Buffers, bytesAt}

@@ -1,6 +1,7 @@
 -- Every case of the table holds: each side computes. Assumes nothing.
 use mathlib.Core.Path.{refl}
-use Rattle.types.specs.Structs.{roundUp, withField, shapeOf}
+use Rattle.words.specs.Basics.{roundUp}
+use Rattle.types.specs.Structs.{withField, shapeOf}
 use Rattle.types.specs.Trees.{typeOf}
 use Rattle.items.specs.Read.{bodyAt, integerCode, floatCode, integerAt, floatAt, sequence, sizedAt, contentsAt, itemBy, structAt, itemAt}
 use Rattle.signature.specs.Read.{conventionCode, conventionAt, resultIn, resultAt, argumentsIn, argumentsAt, afterResult, afterConvention, signatureOf}
@@ -16,9 +17,9 @@ use lib.Count.{leadingZeros}
 use Rattle.ieee.specs.Format.{join, split}
 use Rattle.ieee.specs.Widening.{widenFields, widen}
 use Rattle.ieee.specs.Narrowing.{candidateFields, candidate, narrow}
-use Rattle.rules.specs.Frames.{below, roundUp as roundUpFrame, frameSize}
+use Rattle.rules.specs.Frames.{below, frameSize}
 use Rattle.vectors.specs.Vectors.{AllHold, vectors, figure-3-18, figure-3-18-text, table-10, table-10-text, empty-text}
 
 pub vectors-hold : AllHold vectors
-unfolding vectors figure-3-18 figure-3-18-text table-10 table-10-text empty-text roundUp withField shapeOf typeOf bodyAt integerCode floatCode integerAt floatAt sequence sizedAt contentsAt itemBy structAt itemAt conventionCode conventionAt resultIn resultAt argumentsIn argumentsAt afterResult afterConvention signatureOf words fprs shareOf powerShare zClass zSpanOf zNextOf spanOf nextOf fresh startOf areaOf hiddenFor returning resultOf upFrom registersOf spansOf lastOf tableOf planIn typesOf planAnswer digitsOf decimal placesText lineText linesText headText resultText refusalText acceptedText planText listingOf leadingZeros join split widenFields widen candidateFields candidate narrow below roundUpFrame frameSize
+unfolding vectors figure-3-18 figure-3-18-text table-10 table-10-text empty-text roundUp withField shapeOf typeOf bodyAt integerCode floatCode integerAt floatAt sequence sizedAt contentsAt itemBy structAt itemAt conventionCode conventionAt resultIn resultAt argumentsIn argumentsAt afterResult afterConvention signatureOf words fprs shareOf powerShare zClass zSpanOf zNextOf spanOf nextOf fresh startOf areaOf hiddenFor returning resultOf upFrom registersOf spansOf lastOf tableOf planIn typesOf planAnswer digitsOf decimal placesText lineText linesText headText resultText refusalText acceptedText planText listingOf leadingZeros join split widenFields widen candidateFields candidate narrow below frameSize
 vectors-hold = (refl, (refl, (refl, (refl, (refl, (refl, (refl, (refl, (refl, (refl, (refl, (refl, tt))))))))))))

@@ -3,7 +3,7 @@ use borrow.Author.Needs.{needs}
 use Rattle.types.proofs.Fields.with_field.Statement.{statement}
 use native.Mathlib.Omega.{arith}
 use Rattle.types.specs.Structs.{withField}
-use Rattle.types.proofs.Laws.{round-up-most}
+use Rattle.words.proofs.Basics.{round-up-most}
 use Rattle.types.proofs.Fields.with_field.Tie as tie
 
 size-of-requires : tie.Need-size-of-requires

@@ -1,0 +1,22 @@
+-- The hidden address comes first, or nothing does.
+use Rattle.convention.specs.Step.{startOf, placed}
+use borrow.Author.Needs.{needs}
+use Rattle.placing.proofs.start.Statement.{statement}
+use Rattle.placing.proofs.start.Tie as tie
+
+hidden-step-requires : tie.Need-hidden-step-requires
+hidden-step-requires c κs = search needs
+
+returns : tie.Need-returns
+unfolding startOf placed
+returns c = rw (c .before .before .if1 .taken) (rw (c .before .hidden-step .ensures))
+
+fresh-of-requires : tie.Need-fresh-of-requires
+fresh-of-requires c κs = search needs
+
+returns-2 : tie.Need-returns-2
+unfolding startOf
+returns-2 c = rw (c .before .if1 .left) (c .fresh-of .ensures)
+
+pub start-spec : {M : Type 1} → statement M
+start-spec = tie.close (tie.spec hidden-step-requires returns fresh-of-requires returns-2)

@@ -1,0 +1,123 @@
+// The places of arguments and of a result in every convention: the step of its cursor, where the first argument starts, and the size of the area.
+ghost use mathlib.Core.Path.{_≡_};
+ghost use Prim.Native.Nat.{_≤_};
+ghost use Rattle.convention.specs.Values.{pointer};
+ghost use Rattle.convention.specs.Step.{Lawful, Roomy, rulesOf, wordOf, placed, fresh, startOf, areaOf, returning, hiddenFor, resultOf};
+use convention::Cursor;
+use convention::Edition;
+use convention::Placed;
+use convention::PowerRules;
+use convention::Ppc64;
+use convention::ResultPlaces;
+use convention::Rules;
+use convention::Z;
+use types::Convention;
+use types::FloatFormat;
+use types::IntegerKind;
+use types::ValueType;
+
+fn fresh_of(c: Convention) -> Cursor
+    ensures { λ r. ⌜ r ≡ fresh (rulesOf c) ⌝ }
+{
+    match c {
+        Convention::Ppc64 => Ppc64::cursor(),
+        Convention::Z => Z::cursor(),
+    }
+}
+
+fn word_of(r: Rules) -> usize
+    ensures { λ n. ⌜ n ≡ wordOf r ⌝ }
+{
+    match r {
+        Rules::Power(f) => f.word,
+        Rules::Z => Z::WORD,
+    }
+}
+
+// One argument of a type and its size: what belongs to it, and where the next one starts.
+pub fn step(r: Rules, c: Cursor, t: ValueType, size: usize) -> Placed
+    requires { ⌜ Lawful r × Roomy c × (size ≤ 256) ⌝ }
+    ensures { λ p. ⌜ p ≡ placed r c t size ⌝ }
+{
+    match r {
+        Rules::Power(f) => power_step::step(f, c, t, size),
+        Rules::Z => z_step::step(c, t, size),
+    }
+}
+
+// The hidden address of a result, placed as a first argument.
+fn hidden_step(c: Convention) -> Placed
+    ensures { λ p. ⌜ p ≡ placed (rulesOf c) (fresh (rulesOf c)) pointer (wordOf (rulesOf c)) ⌝ }
+{
+    let r = convention::rules_of(c);
+    let k = fresh_of(c);
+    let word = word_of(r);
+    step(r, k, ValueType::Integer(IntegerKind::Pointer), word)
+}
+
+// The cursor of the first argument: a hidden address goes before it.
+pub fn start(c: Convention, hidden: bool) -> Cursor
+    ensures { λ k. ⌜ k ≡ startOf (rulesOf c) hidden ⌝ }
+{
+    if hidden {
+        let p = hidden_step(c);
+        return p.next;
+    }
+    fresh_of(c)
+}
+
+// The bytes of the parameter area, from the cursor past the last argument.
+pub fn area_of(r: Rules, e: Cursor) -> usize
+    requires { ⌜ Lawful r ⌝ }
+    ensures { λ n. ⌜ n ≡ areaOf r e ⌝ }
+{
+    match r {
+        Rules::Power(f) => words::larger(f.word * PowerRules::LEAST_WORDS, e.stack),
+        Rules::Z => e.stack,
+    }
+}
+
+// Whether a result of this type is handed over through memory.
+pub fn hidden_for(r: Rules, t: ValueType) -> bool
+    ensures { λ b. ⌜ b ≡ hiddenFor r t ⌝ }
+{
+    match t {
+        ValueType::Integer(_) => false,
+        ValueType::Float(f) => match r {
+            Rules::Power(_) => false,
+            Rules::Z => match f {
+                FloatFormat::Single => false,
+                FloatFormat::Double => false,
+                FloatFormat::LongDouble => true,
+            },
+        },
+        ValueType::Struct(_) => true,
+    }
+}
+
+fn returning_of(r: Rules) -> Rules
+    ensures { λ q. ⌜ q ≡ returning r ⌝ }
+{
+    match r {
+        Rules::Power(f) => Rules::Power(PowerRules {
+            word: f.word,
+            edition: Edition::Later,
+        }),
+        Rules::Z => Rules::Z,
+    }
+}
+
+pub fn result_places(c: Convention, t: ValueType, size: usize) -> ResultPlaces
+    requires { ⌜ size ≤ 256 ⌝ }
+    ensures { λ q. ⌜ q ≡ resultOf (rulesOf c) t size ⌝ }
+{
+    let r = convention::rules_of(c);
+    if hidden_for(r, t) {
+        let p = hidden_step(c);
+        let address = p.span;
+        return ResultPlaces::Hidden(address);
+    }
+    let p = step(returning_of(r), fresh_of(c), t, size);
+    let value = p.span;
+    ResultPlaces::Registers(value)
+}

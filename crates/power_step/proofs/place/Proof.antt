@@ -1,0 +1,75 @@
+-- The words in memory are the last of the argument's, so that all its parts lie within its home.
+use Prim.Native.Nat.{_-_, min}
+use mathlib.Core.Path.{_≡_}
+use Rattle.convention.proofs.Shares.{words-split}
+use native.Mathlib.Omega.{arith}
+use borrow.Author.Needs.{needs}
+use Rattle.power_step.proofs.place.Statement.{statement}
+use Rattle.power_step.proofs.place.Tie as tie
+
+register-range-requires : tie.Need-register-range-requires
+register-range-requires c κs = search needs
+
+register-range-requires-2 : tie.Need-register-range-requires-2
+register-range-requires-2 c κs = search needs
+
+mul-byte-range : tie.Need-mul-byte-range
+mul-byte-range c = search needs
+
+byte-range-requires : tie.Need-byte-range-requires
+byte-range-requires c κs = search needs
+
+sub-byte-range : tie.Need-sub-byte-range
+sub-byte-range c = search needs
+
+mul-byte-range-2 : tie.Need-mul-byte-range-2
+mul-byte-range-2 c = omega (arith, words-split (c .before .before .before .args .word) (c .before .before .before .args .n) (c .before .before .before .args .s .memory) (omega arith))
+
+add-byte-range : tie.Need-add-byte-range
+add-byte-range c = omega (arith, words-split (c .before .before .before .args .word) (c .before .before .before .args .n) (c .before .before .before .args .s .memory) (omega arith))
+
+mul-byte-range-3 : tie.Need-mul-byte-range-3
+mul-byte-range-3 c = omega (arith, words-split (c .before .before .before .args .word) (c .before .before .before .args .n) (c .before .before .before .args .s .memory) (omega arith))
+
+byte-range-requires-2 : tie.Need-byte-range-requires-2
+byte-range-requires-2 c κs = omega (arith, words-split (c .before .before .before .args .word) (c .before .before .before .args .n) (c .before .before .before .args .s .memory) (omega arith))
+
+byte-range-requires-3 : tie.Need-byte-range-requires-3
+byte-range-requires-3 c κs = search needs
+
+add-t24 : tie.Need-add-t24
+add-t24 c = search needs
+
+add-t25 : tie.Need-add-t25
+add-t25 c = search needs
+
+mul-t26 : tie.Need-mul-t26
+mul-t26 c = search needs
+
+add-t27 : tie.Need-add-t27
+add-t27 c = search needs
+
+returns : tie.Need-returns
+returns c =
+    let k : c .before .before .before .before .before .args .k ≡ min (c .before .before .before .before .before .args .n) (11 - c .before .before .before .before .before .args .c .general) = omega arith in
+    cc
+
+pub place-spec : {M : Type 1} → statement M
+place-spec =
+    tie.close
+    (tie.spec
+    register-range-requires
+    register-range-requires-2
+    mul-byte-range
+    byte-range-requires
+    sub-byte-range
+    mul-byte-range-2
+    add-byte-range
+    mul-byte-range-3
+    byte-range-requires-2
+    byte-range-requires-3
+    add-t24
+    add-t25
+    mul-t26
+    add-t27
+    returns)

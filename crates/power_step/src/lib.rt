@@ -1,0 +1,117 @@
+// One argument on PowerPC: how many of its words have a GPR, an FPR or memory, and where they stand.
+ghost use mathlib.Core.Path.{_≡_};
+ghost use Prim.Native.Nat.{_-_, _*_, _≤_, min};
+ghost use Rattle.convention.specs.declared.Rules.{Rules};
+ghost use Rattle.convention.specs.Power.{words, fprs, shareOf, Shared, powerSpan, powerNext};
+ghost use Rattle.convention.specs.Step.{Roomy, placedAs, placed};
+use convention::Cursor;
+use convention::Edition;
+use convention::Placed;
+use convention::PowerRules;
+use convention::Share;
+use convention::Span;
+use types::FloatFormat;
+use types::ValueType;
+
+// The words of the argument list that a value of `size` bytes takes.
+fn words_of(word: usize, size: usize) -> usize
+    requires { ⌜ (4 ≤ word) × (word ≤ 8) × (size ≤ 256) ⌝ }
+    ensures { λ r. ⌜ (r ≡ words word size) × (word * r ≤ 264) × (r ≤ 264) ⌝ }
+{
+    // The usual width by a shift: a division by a variable is slow.
+    if word == 8 {
+        return (size + 7) / 8;
+    }
+    (size + (word - 1)) / word
+}
+
+// The FPRs that a type asks for.
+fn fprs_of(edition: Edition, t: ValueType) -> usize
+    ensures { λ r. ⌜ (r ≡ fprs edition t) × (r ≤ 2) ⌝ }
+{
+    match t {
+        ValueType::Integer(_) => 0,
+        ValueType::Float(f) => match f {
+            FloatFormat::Single => 1,
+            FloatFormat::Double => 1,
+            FloatFormat::LongDouble => match edition {
+                Edition::Earlier => 0,
+                Edition::Later => 2,
+            },
+        },
+        ValueType::Struct(_) => 0,
+    }
+}
+
+// An argument of n words, k of which have a GPR, that asks for m FPRs where `room` are left.
+fn share_of(m: usize, room: usize, n: usize, k: usize) -> Share
+    requires { ⌜ k ≤ n ⌝ }
+    ensures { λ r. ⌜ r ≡ shareOf m room n k ⌝ }
+{
+    if m == 0 {
+        return Share {
+            general: k,
+            floating: 0,
+            memory: n - k,
+        };
+    }
+    if room < m {
+        return Share {
+            general: 0,
+            floating: 0,
+            memory: n,
+        };
+    }
+    Share {
+        general: 0,
+        floating: m,
+        memory: 0,
+    }
+}
+
+// One argument on PowerPC: n words, k of which have a GPR.
+fn place(word: usize, c: Cursor, n: usize, k: usize, s: Share) -> Placed
+    requires { ⌜ (4 ≤ word) × (word * n ≤ 264) × (n ≤ 264) × (k ≡ min n (11 - c .general)) × Roomy c × Shared s n k ⌝ }
+    ensures { λ r. ⌜ r ≡ placedAs (powerSpan word c n s) (powerNext word c n s) ⌝ }
+{
+    let general = c.general;
+    let floating = c.floating;
+    let stack = c.stack;
+    let copies = c.copies;
+    let held = s.general;
+    let floats = s.floating;
+    let stored = s.memory;
+    Placed {
+        span: Span {
+            general: convention::register_range(general, held),
+            floating: convention::register_range(floating, floats),
+            home: convention::byte_range(stack, word * n),
+            memory: convention::byte_range(stack + word * (n - stored), word * stored),
+            copy: convention::byte_range(copies, 0),
+            indirect: false,
+        },
+        next: Cursor {
+            general: general + k,
+            floating: floating + floats,
+            stack: stack + word * n,
+            copies,
+        },
+    }
+}
+
+pub fn step(f: PowerRules, c: Cursor, t: ValueType, size: usize) -> Placed
+    requires { ⌜ (4 ≤ f .word) × (f .word ≤ 8) × Roomy c × (size ≤ 256) ⌝ }
+    ensures { λ r. ⌜ r ≡ placed (Rules.Power f) c t size ⌝ }
+{
+    let word = f.word;
+    let edition = f.edition;
+    let n = words_of(word, size);
+    let k = words::smaller(n, PowerRules::PAST_GENERAL - c.general);
+    let s = share_of(
+        fprs_of(edition, t),
+        PowerRules::PAST_FLOATING - c.floating,
+        n,
+        k,
+    );
+    place(word, c, n, k, s)
+}
