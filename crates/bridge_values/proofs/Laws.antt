@@ -1,6 +1,6 @@
 -- An answer in the surface's words, and what stands beside it. Assumes nothing.
 use Prim.Native.Nat.{ℕ}
-use mathlib.Core.Path.{_≡_, ap, _∙_}
+use mathlib.Core.Path.{_≡_, ap}
 use Rattle.slots.specs.declared.Answer as slots
 use Rattle.slots.specs.declared.Refusal.{Refusal}
 use Rattle.slots.specs.Refusals.{numberOf}

@@ -24,7 +24,7 @@ use Rattle.plan.specs.Plan.{tableOf, startIn, planIn, typesOf, planAnswe
 use Rattle.plan.specs.Limits.{SmallResult, Plannable}
 use Rattle.plan.proofs.Fold.{length-spans}
 
-abbrev blank : Argument
+abbrev pub blank : Argument
 blank = argument (ValueType.Integer IntegerKind.I8)
 
 -- ---- the table of arguments

@@ -8,12 +8,10 @@ use native.Mathlib.Numerals.{add-one}
 use lib.ListN.{length, getD, set, take, drop, replicate, length-append, drop-of-length-le}
 use lib.Seq.{set-at}
 use Rattle.types.specs.declared.Convention.{Convention}
-use Rattle.types.specs.declared.IntegerKind.{IntegerKind}
 use Rattle.types.specs.declared.ValueType.{ValueType}
 use Rattle.types.specs.Sizes.{sizeOf}
 use Rattle.signature.specs.declared.Argument.{Argument}
 use Rattle.signature.specs.Read.{maxArguments}
-use Rattle.signature.specs.Answer.{argument}
 use Rattle.convention.specs.declared.Cursor.{Cursor}
 use Rattle.convention.specs.declared.Span.{Span}
 use Rattle.convention.specs.declared.Rules.{Rules}
@@ -21,11 +19,9 @@ use Rattle.convention.specs.Step.{Lawful, spanOf, nextOf, startOf}
 use Rattle.plan.specs.declared.Plan.{Plan}
 use Rattle.plan.specs.Plan.{spansOf, lastOf, valuesOf, noSpan, tableOf, typeIn}
 use Rattle.plan.proofs.Fold.{length-spans, Reached, reached-start, reached-more}
+use Rattle.plan.proofs.Answers.{blank}
 
 -- ---- the types of the reader's table
-
-abbrev blank : Argument
-blank = argument (ValueType.Integer IntegerKind.I8)
 
 pub length-types : (n : ℕ) (l : List Argument) → n ≤ length l → length (map typeIn (take n l)) ≡ n
 length-types zero l h = refl

@@ -80,7 +80,7 @@ later-earlier f (s ∷ ss) h = (from-earlier f (s .spot) (h .0), h .1, later-ear
 
 -- ---- the slots of arguments
 
-take-short : (n : ℕ) (l : List ℕ) → length (take n l) ≤ n
+pub take-short : (n : ℕ) (l : List ℕ) → length (take n l) ≤ n
 take-short n l = omega (arith, length-take n l)
 
 pub slots-later : (r : Rules) (base : ℕ) (k : Cursor) (t : ValueType) (n : ℕ) (v : List ℕ) → Named r k

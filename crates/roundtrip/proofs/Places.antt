@@ -7,7 +7,7 @@ use Prim.Native.Nat.{ℕ, zero, suc, _+_, _*_, _≤_, _<_}
 use native.Mathlib.Omega.{arith}
 use borrow.Author.Tests.{ltb-true, ltb-false}
 use lib.Dec.{ltb}
-use lib.ListN.{length, getD, take, drop, length-take}
+use lib.ListN.{length, getD, take, drop}
 use Rattle.words.specs.Basics.{pick}
 use Rattle.types.specs.declared.Convention.{Convention}
 use Rattle.types.specs.declared.ValueType.{ValueType}
@@ -31,7 +31,7 @@ use Rattle.slots.specs.Forms.{floatBytes}
 use Rattle.slots.specs.Arguments.{argumentsIn, argumentsOf, rulesFor, Carried}
 use Rattle.slots.proofs.Answered.{arguments-got, carried}
 use Rattle.roundtrip.specs.Places.{Byte, inImage, inArea, inCopies, CoversFrom, Touches, slotLists}
-use Rattle.roundtrip.proofs.Kept.{Upto, Banked, AllLater, all-later}
+use Rattle.roundtrip.proofs.Kept.{Upto, Banked, AllLater, all-later, take-short}
 
 -- ---- one slot on each side of a cursor
 covers-apart : (k : Cursor) (p : Spot) (m : ℕ) (q : Spot) (n : ℕ) (x : Byte) → Upto k p m → Banked p m → From k q → Banked q n
@@ -101,9 +101,6 @@ touches-some r base (p ∷ ps) v (suc i) x t =
     touches-right (slotsOf r base p (take (p .size) v)) (slotsOfAll r base ps (drop (p .size) v)) x (touches-some r base ps (drop (p .size) v) i x t)
 
 -- ---- the arguments of a plan
-
-take-short : (n : ℕ) (l : List ℕ) → length (take n l) ≤ n
-take-short n l = omega (arith, length-take n l)
 
 copy-before : (r : Rules) (p : Placement) (v : List ℕ) (d : Cursor) → Held r p → length v ≤ p .size → p .span .copy .start + p .span .copy .length ≤ d .copies
     → p .span .copy .start + length (copyBytes p v) ≤ d .copies

@@ -1,7 +1,7 @@
--- Document 01's own formulas, held against the definitions over a convention's numbers, and its worked sizes. Assumes nothing.
+-- Document 01's own formulas, held against the definitions over a convention's numbers. Its worked sizes are in the crate vectors.
+-- Assumes nothing.
 use Prim.Native.Nat.{ℕ, _+_, _-_, _*_, _/_, max}
 use mathlib.Core.Path.{_≡_, refl}
-use mathlib.Core.Bool.{false}
 use mathlib.Core.List.{[], _∷_}
 use native.Mathlib.Omega.{arith}
 use Rattle.words.specs.Basics.{roundUp}
@@ -45,14 +45,6 @@ link-ppc64 o s = refl
 link-z : (o s : ℕ) → linkAt (z .linkage) z o s ≡ s + 120
 unfolding linkAt
 link-z o s = refl
-
--- "frames: g 29, m 30, L 20, P 64: 176. g 14, m 14, L 0, P 0: 400. Z, g 6, m 8, L 1, P 8: 240."
-abbrev request : ℕ → ℕ → ℕ → ℕ → Frame
-request g m l p = record { «first_gpr» = g; «first_fpr» = m; «saves_cr» = false; locals = l; outgoing = p }
-
-pub sizes-worked : (frameSize ppc64 (request 29 30 20 64) ≡ 176) × (frameSize ppc64 (request 14 14 0 0) ≡ 400) × (frameSize z (request 6 8 1 8) ≡ 240)
-unfolding frameSize roundUp below
-sizes-worked = (refl, refl, refl)
 
 -- condition field 0 is CR's top four bits, field 7 its lowest
 pub fields-worked : (withField 0 0 15 ≡ 4026531840) × (withField 4294967295 2 0 ≡ 4279238655) × (withField 4294967295 7 0 ≡ 4294967280)

@@ -1,11 +1,11 @@
 -- Parts of the words of an argument, whose first ones stand in general registers and the others in memory. Assumes nothing.
-use mathlib.Core.Path.{_≡_, refl, sym, ap, ap₂, _∙_}
+use mathlib.Core.Path.{_≡_, sym, ap, ap₂, _∙_}
 use mathlib.Core.List.{List, [], _∷_, _++_, append-nil}
 use Prim.Native.Nat.{ℕ, zero, suc, _+_, _-_, _*_, _≤_, _<_}
 use native.Mathlib.Omega.{arith}
 use native.Mathlib.Nat.{sub-zero}
 use lib.ListN.{length, take, drop, length-drop}
-use lib.Seq.{take-append-le, drop-append-le, take-all, take-take, drop-drop}
+use lib.Seq.{take-append-le, drop-append-le, take-all, take-take}
 use Rattle.words.specs.Splice.{part}
 use Rattle.words.proofs.Splices.{length-part, part-part}
 
