@@ -174,7 +174,7 @@ fn measure_arguments(
         if count == 64 {
             return no_measure(Refusal::TooManyArguments, next);
         }
-        match items::read_item(s, convention, next, end, 8) {
+        match nested_items::read_item(s, convention, next, end, 8) {
             ItemRead::Item {
                 ty,
                 next: after,

@@ -66,7 +66,7 @@ fn body_in(s: &[u8], at: usize, end: usize) -> Body
     if to < at {
         return Body::Refused(Refusal::Truncated);
     }
-    items::read_body(s, 0x00, 0xff, at, to)
+    leaf_items::read_body(s, 0x00, 0xff, at, to)
 }
 
 // The same, with the item's tag.
@@ -119,7 +119,7 @@ fn type_in(s: &[u8], at: usize, end: usize, c: Convention) -> ItemRead
             place: at,
         };
     }
-    items::read_item(s, c, at, to, 8)
+    nested_items::read_item(s, c, at, to, 8)
 }
 
 // The place after an item that was read; a reader stays where it is after a refusal.

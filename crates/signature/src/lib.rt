@@ -110,7 +110,7 @@ fn convention_code(code: u8) -> ConventionCode
 fn read_convention(s: &[u8]) -> ConventionRead
     ensures { λ r. ⌜ r ≡ conventionAnswer (conventionAt (now (s .entry))) ⌝ }
 {
-    match items::read_body(s, 0x01, 0x01, 0, s.len()) {
+    match leaf_items::read_body(s, 0x01, 0x01, 0, s.len()) {
         Body::Refused(reason) => ConventionRead::Refused(reason),
         Body::To(to) => {
             if to != 4 {
@@ -136,7 +136,7 @@ fn read_result_body(s: &[u8], c: Convention, at: usize, end: usize) -> ResultRea
             items: 1,
         };
     }
-    match items::read_item(s, c, at, end, 8) {
+    match nested_items::read_item(s, c, at, end, 8) {
         ItemRead::Refused { reason, place } => ResultRead::Refused { reason, place },
         ItemRead::Item { ty, next, items } => {
             if next < end {
@@ -159,7 +159,7 @@ fn read_result(s: &[u8], c: Convention, at: usize) -> ResultRead
     requires { ⌜ (at ≤ length (now s)) × (length (now s) ≤ 2 ^ 16) ⌝ }
     ensures { λ r. ⌜ r ≡ resultAnswer c (resultAt c (now (s .entry)) at) ⌝ }
 {
-    match items::read_body(s, 0x02, 0x02, at, s.len()) {
+    match leaf_items::read_body(s, 0x02, 0x02, at, s.len()) {
         Body::Refused(reason) => ResultRead::Refused { reason, place: at },
         Body::To(to) => read_result_body(s, c, at + 3, to),
     }
@@ -185,7 +185,7 @@ fn read_arguments(
         if count == 64 {
             return refuse(Refusal::TooManyArguments, next);
         }
-        match items::read_item(s, c, next, end, 8) {
+        match nested_items::read_item(s, c, next, end, 8) {
             ItemRead::Item {
                 ty,
                 next: after,
@@ -225,7 +225,7 @@ fn read_head_after(s: &[u8], c: Convention) -> HeadRead
             next: third,
             items,
         } => {
-            match items::read_body(s, 0x03, 0x03, third, s.len()) {
+            match leaf_items::read_body(s, 0x03, 0x03, third, s.len()) {
                 Body::Refused(reason) => HeadRead::Refused {
                     reason,
                     place: third,

@@ -1,9 +1,6 @@
-// The types that a signature names: integers, floats and structs, with the size and the alignment of each, and the layout
-// of a struct's fields one after the other.
+// The types that a signature names: integers, floats and structs, with the size of each. The code of a struct's layout is in the crate above.
 ghost use mathlib.Core.Path.{_≡_};
-ghost use Prim.Native.Nat.{_^_, _≤_, _<_};
-ghost use Rattle.types.specs.Sizes.{pointerSize, integerSize, floatSize, sizeOf, alignOf, equivalentOf, Sized};
-ghost use Rattle.types.specs.Structs.{noFields, withField, equivalentAfter, closed};
+ghost use Rattle.types.specs.Sizes.{pointerSize, integerSize, floatSize, sizeOf, equivalentOf};
 
 // A calling convention, as a signature's first item names it. The sizes of types are those of its machine.
 pub enum Convention {
@@ -96,18 +93,6 @@ pub fn size_of(c: Convention, t: ValueType) -> usize
     }
 }
 
-// The alignment of a type that has this size: all but structs are aligned by their size, which is looked up once.
-fn align_of(c: Convention, t: ValueType, size: usize) -> usize
-    requires { ⌜ size ≡ sizeOf c t ⌝ }
-    ensures { λ r. ⌜ r ≡ alignOf c t ⌝ }
-{
-    match t {
-        ValueType::Integer(_) => size,
-        ValueType::Float(_) => size,
-        ValueType::Struct(s) => s.align as usize,
-    }
-}
-
 pub fn equivalent_of(t: ValueType) -> Equivalent
     ensures { λ r. ⌜ r ≡ equivalentOf t ⌝ }
 {
@@ -135,67 +120,4 @@ pub struct Fields {
 pub enum Closed {
     Shape(Shape),
     TooLarge,
-}
-
-fn equivalent_after(empty: bool, t: ValueType) -> Equivalent
-    ensures { λ r. ⌜ r ≡ equivalentAfter empty t ⌝ }
-{
-    if empty {
-        equivalent_of(t)
-    } else {
-        Equivalent::Nothing
-    }
-}
-
-impl Fields {
-    pub fn new() -> Fields
-        ensures { λ r. ⌜ r ≡ noFields ⌝ }
-    {
-        Fields {
-            end: 0,
-            align: 1,
-            empty: true,
-            equivalent: Equivalent::Nothing,
-        }
-    }
-
-    // One field more, at the next multiple of its alignment.
-    pub fn with_field(self, c: Convention, t: ValueType) -> Fields
-        requires { ⌜ (self .end < 2 ^ 32) × Sized c t ⌝ }
-        ensures { λ r. ⌜ r ≡ withField c self t ⌝ }
-    {
-        let end = self.end;
-        let align = self.align;
-        let empty = self.empty;
-        let size = size_of(c, t);
-        let a = align_of(c, t, size);
-        let start = words::round_up(end, a);
-        let most = words::larger(align, a);
-        let equivalent = equivalent_after(empty, t);
-        Fields {
-            end: start + size,
-            align: most,
-            empty: false,
-            equivalent,
-        }
-    }
-
-    // The struct of these fields, unless it is over 256 bytes.
-    pub fn close(self) -> Closed
-        requires { ⌜ (self .end < 2 ^ 32) × (0 < self .align) × (self .align ≤ 16) ⌝ }
-        ensures { λ r. ⌜ r ≡ closed self ⌝ }
-    {
-        let end = self.end;
-        let align = self.align;
-        let equivalent = self.equivalent;
-        let size = words::round_up(end, align);
-        if 256 < size {
-            return Closed::TooLarge;
-        }
-        Closed::Shape(Shape {
-            size: size as u16,
-            align: align as u8,
-            equivalent,
-        })
-    }
 }

@@ -1,0 +1,80 @@
+-- The length, then the code, then where a long double stands.
+use borrow.Author.Needs.{needs}
+use Rattle.leaf_items.proofs.read_float.Statement.{statement}
+use mathlib.Core.Path.{sym}
+use mathlib.Core.Bool.{true, false}
+use native.Mathlib.Omega.{arith}
+use borrow.Author.Tests.{lt-ltb, le-ltb}
+use Rattle.types.specs.declared.FloatFormat.{FloatFormat}
+use Rattle.items.specs.declared.FloatCode.{FloatCode}
+use Rattle.types.specs.Trees.{typeOf}
+use Rattle.items.proofs.Laws.{float-length, float-by, long-double-by}
+use Rattle.leaf_items.proofs.read_float.Tie as tie
+
+sub-if1 : tie.Need-sub-if1
+sub-if1 c = search needs
+
+returns : tie.Need-returns
+returns c = sym (float-length _ _ _ _ _ (omega arith))
+
+add-float-code : tie.Need-add-float-code
+add-float-code c = search needs
+
+shared-slice-read-float-code : tie.Need-shared-slice-read-float-code
+shared-slice-read-float-code c = search needs
+
+float-code-requires : tie.Need-float-code-requires
+float-code-requires c κs = search needs
+
+enum-known-f : tie.Need-enum-known-f
+enum-known-f c = search needs
+
+enum-told : tie.Need-enum-told
+enum-told c = search needs
+
+enum-told-2 : tie.Need-enum-told-2
+enum-told-2 c = search needs
+
+enum-told-3 : tie.Need-enum-told-3
+enum-told-3 c = search needs
+
+enum-told-4 : tie.Need-enum-told-4
+enum-told-4 c = search needs
+
+returns-2 : tie.Need-returns-2
+unfolding typeOf
+returns-2 c = sym (float-by _ _ _ _ _ (omega arith) (FloatCode.Format FloatFormat.Single) (cc))
+
+returns-3 : tie.Need-returns-3
+unfolding typeOf
+returns-3 c = sym (float-by _ _ _ _ _ (omega arith) (FloatCode.Format FloatFormat.Double) (cc))
+
+returns-4 : tie.Need-returns-4
+returns-4 c = sym (long-double-by _ _ _ _ _ (omega arith) (cc) true (lt-ltb _ _ (c .if2 .taken)))
+
+returns-5 : tie.Need-returns-5
+unfolding typeOf
+returns-5 c = sym (long-double-by _ _ _ _ _ (omega arith) (cc) false (le-ltb _ _ (c .if2 .left)))
+
+returns-6 : tie.Need-returns-6
+returns-6 c = sym (float-by _ _ _ _ _ (omega arith) FloatCode.Unknown (cc))
+
+pub read-float-spec : {M : Type 1} → statement M
+read-float-spec =
+    tie.close
+    (tie.spec
+    sub-if1
+    returns
+    add-float-code
+    shared-slice-read-float-code
+    float-code-requires
+    enum-known-f
+    enum-told
+    enum-told-2
+    enum-told-3
+    enum-told-4
+    returns-2
+    returns-3
+    returns-4
+    returns-5
+    returns-6)

@@ -1,0 +1,142 @@
+// The header of an item, and the items that have none in them: an integer, a float.
+ghost use mathlib.Core.Path.{_≡_};
+ghost use Prim.Native.Nat.{_+_, _*_, _≤_};
+ghost use lib.Dec.{ltb};
+ghost use lib.ListN.{length};
+ghost use Rattle.items.specs.Read.{bodyAt, integerCode, floatCode, integerAt, floatAt};
+ghost use Rattle.items.specs.Answer.{itemAnswer};
+use items::Body;
+use items::FloatCode;
+use items::IntegerCode;
+use items::ItemRead;
+use items::Refusal;
+use types::Convention;
+use types::FloatFormat;
+use types::IntegerKind;
+use types::ValueType;
+
+fn integer_code(code: u8) -> IntegerCode
+    ensures { λ r. ⌜ r ≡ integerCode code ⌝ }
+{
+    match code {
+        0 => IntegerCode::Kind(IntegerKind::I8),
+        1 => IntegerCode::Kind(IntegerKind::U8),
+        2 => IntegerCode::Kind(IntegerKind::I16),
+        3 => IntegerCode::Kind(IntegerKind::U16),
+        4 => IntegerCode::Kind(IntegerKind::I32),
+        5 => IntegerCode::Kind(IntegerKind::U32),
+        6 => IntegerCode::Kind(IntegerKind::I64),
+        7 => IntegerCode::Kind(IntegerKind::U64),
+        8 => IntegerCode::Kind(IntegerKind::Pointer),
+        _ => IntegerCode::Unknown,
+    }
+}
+
+fn float_code(code: u8) -> FloatCode
+    ensures { λ r. ⌜ r ≡ floatCode code ⌝ }
+{
+    match code {
+        0 => FloatCode::Format(FloatFormat::Single),
+        1 => FloatCode::Format(FloatFormat::Double),
+        2 => FloatCode::Format(FloatFormat::LongDouble),
+        _ => FloatCode::Unknown,
+    }
+}
+
+// A big-endian number of two bytes.
+fn two_bytes(high: u8, low: u8) -> usize
+    ensures { λ r. ⌜ r ≡ high * 256 + low ⌝ }
+{
+    (high as usize) * 256 + (low as usize)
+}
+
+// The header of the item at `at`, which stands within `end` and may have the tags `low` to `high`.
+pub fn read_body(s: &[u8], low: u8, high: u8, at: usize, end: usize) -> Body
+    requires { ⌜ (at ≤ end) × (end ≤ length (now s)) ⌝ }
+    ensures { λ r. ⌜ r ≡ bodyAt (now (s .entry)) low high end at ⌝ }
+{
+    if end - at < 3 {
+        return Body::Refused(Refusal::Truncated);
+    }
+    let tag = s[at];
+    if tag < low {
+        return Body::Refused(Refusal::UnexpectedTag);
+    }
+    if high < tag {
+        return Body::Refused(Refusal::UnexpectedTag);
+    }
+    let length = two_bytes(s[at + 1], s[at + 2]);
+    if end - (at + 3) < length {
+        return Body::Refused(Refusal::Truncated);
+    }
+    Body::To(at + 3 + length)
+}
+
+// The integer item at `at`, whose body ends at `end`.
+pub fn read_integer(s: &[u8], c: Convention, at: usize, end: usize) -> ItemRead
+    requires { ⌜ (at + 3 ≤ end) × (end ≤ length (now s)) ⌝ }
+    ensures { λ r. ⌜ r ≡ itemAnswer c (integerAt (now (s .entry)) at end) ⌝ }
+{
+    if end - at != 4 {
+        return ItemRead::Refused {
+            reason: Refusal::Malformed,
+            place: at,
+        };
+    }
+    match integer_code(s[at + 3]) {
+        IntegerCode::Kind(k) => ItemRead::Item {
+            ty: ValueType::Integer(k),
+            next: end,
+            items: 1,
+        },
+        IntegerCode::Unknown => ItemRead::Refused {
+            reason: Refusal::Malformed,
+            place: at,
+        },
+    }
+}
+
+// The float item at `at`, whose body ends at `end`, with `depth` levels of structs left: fewer than 8 inside a struct.
+pub fn read_float(s: &[u8], c: Convention, at: usize, end: usize, depth: usize) -> ItemRead
+    requires { ⌜ (at + 3 ≤ end) × (end ≤ length (now s)) ⌝ }
+    ensures { λ r. ⌜ r ≡ itemAnswer c (floatAt (now (s .entry)) (ltb depth 8) at end) ⌝ }
+{
+    if end - at != 4 {
+        return ItemRead::Refused {
+            reason: Refusal::Malformed,
+            place: at,
+        };
+    }
+    match float_code(s[at + 3]) {
+        FloatCode::Format(f) => match f {
+            FloatFormat::Single => ItemRead::Item {
+                ty: ValueType::Float(FloatFormat::Single),
+                next: end,
+                items: 1,
+            },
+            FloatFormat::Double => ItemRead::Item {
+                ty: ValueType::Float(FloatFormat::Double),
+                next: end,
+                items: 1,
+            },
+            FloatFormat::LongDouble => {
+                if depth < 8 {
+                    ItemRead::Refused {
+                        reason: Refusal::LongDoubleInStruct,
+                        place: at,
+                    }
+                } else {
+                    ItemRead::Item {
+                        ty: ValueType::Float(FloatFormat::LongDouble),
+                        next: end,
+                        items: 1,
+                    }
+                }
+            }
+        },
+        FloatCode::Unknown => ItemRead::Refused {
+            reason: Refusal::Malformed,
+            place: at,
+        },
+    }
+}

@@ -1,0 +1,91 @@
+// Any type item: the reader of an item and that of a struct, which call each other.
+ghost use mathlib.Core.Path.{_≡_};
+ghost use Prim.Native.Nat.{_+_, _^_, _≤_, _<_};
+ghost use lib.ListN.{length};
+ghost use Rattle.types.specs.Structs.{closed};
+ghost use Rattle.items.specs.Read.{structAt, itemAt};
+ghost use Rattle.items.specs.Answer.{itemAnswer, closedAnswer};
+use items::Body;
+use items::ItemRead;
+use items::Refusal;
+use types::Closed;
+use types::Convention;
+use types::Fields;
+use types::ValueType;
+
+// The struct item at `at`, whose fields are all read and whose body ends at `end`.
+fn closed_item(at: usize, end: usize, items: usize, fields: Fields) -> ItemRead
+    requires { ⌜ (fields .end < 2 ^ 32) × (0 < fields .align) × (fields .align ≤ 16) ⌝ }
+    ensures { λ r. ⌜ r ≡ closedAnswer at end items (closed fields) ⌝ }
+{
+    match layout::close(fields) {
+        Closed::Shape(shape) => ItemRead::Item {
+            ty: ValueType::Struct(shape),
+            next: end,
+            items,
+        },
+        Closed::TooLarge => ItemRead::Refused {
+            reason: Refusal::StructTooLarge,
+            place: at,
+        },
+    }
+}
+
+// The type item at `at` within `end`, with `depth` levels of structs left: 8 outside any struct.
+pub fn read_item(s: &[u8], c: Convention, at: usize, end: usize, depth: usize) -> ItemRead
+    requires { ⌜ (at ≤ end) × (end ≤ length (now s)) × (end ≤ 2 ^ 16) × (depth ≤ 8) ⌝ }
+    ensures { λ r. ⌜ r ≡ itemAnswer c (itemAt c depth (now (s .entry)) end at) ⌝ }
+{
+    match leaf_items::read_body(s, 0x10, 0x12, at, end) {
+        Body::Refused(reason) => ItemRead::Refused { reason, place: at },
+        Body::To(to) => {
+            let tag = s[at];
+            if tag == 0x10 {
+                return leaf_items::read_integer(s, c, at, to);
+            }
+            if tag == 0x11 {
+                return leaf_items::read_float(s, c, at, to, depth);
+            }
+            read_struct(s, c, at, to, depth)
+        }
+    }
+}
+
+// The struct item at `at`, whose body ends at `end`.
+fn read_struct(s: &[u8], c: Convention, at: usize, end: usize, depth: usize) -> ItemRead
+    requires { ⌜ (at + 3 ≤ end) × (end ≤ length (now s)) × (end ≤ 2 ^ 16) × (depth ≤ 8) ⌝ }
+    ensures { λ r. ⌜ r ≡ itemAnswer c (structAt c depth (now (s .entry)) at end) ⌝ }
+{
+    if depth == 0 {
+        return ItemRead::Refused {
+            reason: Refusal::TooDeep,
+            place: at,
+        };
+    }
+    if end - at == 3 {
+        return ItemRead::Refused {
+            reason: Refusal::Malformed,
+            place: at,
+        };
+    }
+    let mut fields = layout::no_fields();
+    let mut next = at + 3;
+    let mut items: usize = 1;
+    while next < end {
+        match read_item(s, c, next, end, depth - 1) {
+            ItemRead::Item {
+                ty,
+                next: after,
+                items: more,
+            } => {
+                fields = layout::with_field(fields, c, ty);
+                next = after;
+                items = items + more;
+            }
+            ItemRead::Refused { reason, place } => {
+                return ItemRead::Refused { reason, place };
+            }
+        }
+    }
+    closed_item(at, end, items, fields)
+}
