@@ -1,7 +1,7 @@
 -- By cases on the type.
 use borrow.Author.Needs.{needs}
-use Rattle.types.proofs.align_of.Statement.{statement}
-use Rattle.types.proofs.align_of.Tie as tie
+use Rattle.layout.proofs.align_of.Statement.{statement}
+use Rattle.layout.proofs.align_of.Tie as tie
 
 enum-told : tie.Need-enum-told
 enum-told c = search needs
