@@ -16,7 +16,7 @@ add-t8 : tie.Need-add-t8
 add-t8 c = search needs
 
 returns : tie.Need-returns
-returns c = let k = c .before .before .before .before .before .before .before .pre .1 .held in cc
+returns c = rw (← c .before .before .before .before .before .before .before .pre .1 .held)
 
 pub next-of-spec : {M : Type 1} → statement M
 next-of-spec = tie.close (tie.spec add-t5 add-t6 mul-t7 add-t8 returns)
