@@ -2,7 +2,7 @@
 ghost use mathlib.Core.Path.{_≡_};
 ghost use Prim.Native.Nat.{_≤_};
 ghost use Rattle.convention.specs.Values.{pointer};
-ghost use Rattle.convention.specs.Step.{Lawful, Roomy, rulesOf, wordOf, placed, fresh, startOf, areaOf, returning, hiddenFor, resultOf};
+ghost use Rattle.convention.specs.Step.{Lawful, Roomy, rulesOf, wordOf, nextOf, placed, fresh, startOf, areaOf, returning, hiddenFor, resultOf};
 use convention::Cursor;
 use convention::Edition;
 use convention::Placed;
@@ -42,6 +42,17 @@ pub fn step(r: Rules, c: Cursor, t: ValueType, size: usize) -> Placed
     match r {
         Rules::Power(f) => power_step::step(f, c, t, size),
         Rules::Z => z_step::step(c, t, size),
+    }
+}
+
+// The next cursor of the step, without the span.
+pub fn advance(r: Rules, c: Cursor, t: ValueType, size: usize) -> Cursor
+    requires { ⌜ Lawful r × Roomy c × (size ≤ 256) ⌝ }
+    ensures { λ k. ⌜ k ≡ nextOf r c t size ⌝ }
+{
+    match r {
+        Rules::Power(f) => power_step::advance(f, c, t, size),
+        Rules::Z => z_step::advance(c, t, size),
     }
 }
 

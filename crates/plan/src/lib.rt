@@ -181,8 +181,7 @@ fn measure_arguments(
                 items: more,
             } => {
                 let bytes = types::size_of(convention, ty);
-                let p = placing::step(rules, c, ty, bytes);
-                c = p.next;
+                c = placing::advance(rules, c, ty, bytes);
                 values = values + bytes;
                 count = count + 1;
                 next = after;

@@ -1,9 +1,10 @@
 // One argument on PowerPC: how many of its words have a GPR, an FPR or memory, and where they stand.
 ghost use mathlib.Core.Path.{_≡_};
-ghost use Prim.Native.Nat.{_-_, _*_, _≤_, min};
+ghost use Prim.Native.Nat.{_*_, _≤_};
 ghost use Rattle.convention.specs.declared.Rules.{Rules};
-ghost use Rattle.convention.specs.Power.{words, fprs, shareOf, Shared, powerSpan, powerNext};
-ghost use Rattle.convention.specs.Step.{Roomy, placedAs, placed};
+ghost use Rattle.convention.specs.Power.{words, fprs, shareOf, powerShare, powerSpan, powerNext};
+ghost use Rattle.convention.specs.Step.{Roomy, placedAs, nextOf, placed};
+ghost use Rattle.power_step.specs.Counted.{Counted};
 use convention::Cursor;
 use convention::Edition;
 use convention::Placed;
@@ -16,7 +17,7 @@ use types::ValueType;
 // The words of the argument list that a value of `size` bytes takes.
 fn words_of(word: usize, size: usize) -> usize
     requires { ⌜ (4 ≤ word) × (word ≤ 8) × (size ≤ 256) ⌝ }
-    ensures { λ r. ⌜ (r ≡ words word size) × (word * r ≤ 264) × (r ≤ 264) ⌝ }
+    ensures { λ r. ⌜ (r ≡ words word size) × (word * r ≤ 264) ⌝ }
 {
     // The usual width by a shift: a division by a variable is slow.
     if word == 8 {
@@ -69,15 +70,59 @@ fn share_of(m: usize, room: usize, n: usize, k: usize) -> Share
     }
 }
 
-// One argument on PowerPC: n words, k of which have a GPR.
-fn place(word: usize, c: Cursor, n: usize, k: usize, s: Share) -> Placed
-    requires { ⌜ (4 ≤ word) × (word * n ≤ 264) × (n ≤ 264) × (k ≡ min n (11 - c .general)) × Roomy c × Shared s n k ⌝ }
-    ensures { λ r. ⌜ r ≡ placedAs (powerSpan word c n s) (powerNext word c n s) ⌝ }
+// What an argument takes: its words, those of them that have a GPR, and its share.
+struct Taken {
+    count: usize,
+    covered: usize,
+    share: Share,
+}
+
+fn taken_of(f: PowerRules, c: Cursor, t: ValueType, size: usize) -> Taken
+    requires { ⌜ (4 ≤ f .word) × (f .word ≤ 8) × Roomy c × (size ≤ 256) ⌝ }
+    ensures { λ a. ⌜ (a .count ≡ words (f .word) size) × (a .share ≡ powerShare f c t size) × Counted (f .word) c (a .count) (a .covered) (a .share) ⌝ }
+{
+    let word = f.word;
+    let edition = f.edition;
+    let n = words_of(word, size);
+    let k = words::smaller(n, PowerRules::PAST_GENERAL - c.general);
+    let s = share_of(
+        fprs_of(edition, t),
+        PowerRules::PAST_FLOATING - c.floating,
+        n,
+        k,
+    );
+    Taken {
+        count: n,
+        covered: k,
+        share: s,
+    }
+}
+
+// Every argument uses up its words and the GPRs that go with them, a float too.
+fn next_of(word: usize, c: Cursor, a: Taken) -> Cursor
+    requires { ⌜ Roomy c × Counted word c (a .count) (a .covered) (a .share) ⌝ }
+    ensures { λ r. ⌜ r ≡ powerNext word c (a .count) (a .share) ⌝ }
+{
+    let s = a.share;
+    Cursor {
+        general: c.general + a.covered,
+        floating: c.floating + s.floating,
+        stack: c.stack + word * a.count,
+        copies: c.copies,
+    }
+}
+
+// The span and the next cursor, from what the argument takes.
+fn place(word: usize, c: Cursor, a: Taken) -> Placed
+    requires { ⌜ Roomy c × Counted word c (a .count) (a .covered) (a .share) ⌝ }
+    ensures { λ r. ⌜ r ≡ placedAs (powerSpan word c (a .count) (a .share)) (powerNext word c (a .count) (a .share)) ⌝ }
 {
     let general = c.general;
     let floating = c.floating;
     let stack = c.stack;
     let copies = c.copies;
+    let n = a.count;
+    let s = a.share;
     let held = s.general;
     let floats = s.floating;
     let stored = s.memory;
@@ -90,12 +135,7 @@ fn place(word: usize, c: Cursor, n: usize, k: usize, s: Share) -> Placed
             copy: convention::byte_range(copies, 0),
             indirect: false,
         },
-        next: Cursor {
-            general: general + k,
-            floating: floating + floats,
-            stack: stack + word * n,
-            copies,
-        },
+        next: next_of(word, c, a),
     }
 }
 
@@ -104,14 +144,14 @@ pub fn step(f: PowerRules, c: Cursor, t: ValueType, size: usize) -> Placed
     ensures { λ r. ⌜ r ≡ placed (Rules.Power f) c t size ⌝ }
 {
     let word = f.word;
-    let edition = f.edition;
-    let n = words_of(word, size);
-    let k = words::smaller(n, PowerRules::PAST_GENERAL - c.general);
-    let s = share_of(
-        fprs_of(edition, t),
-        PowerRules::PAST_FLOATING - c.floating,
-        n,
-        k,
-    );
-    place(word, c, n, k, s)
+    place(word, c, taken_of(f, c, t, size))
+}
+
+// The next cursor of the step, without the span.
+pub fn advance(f: PowerRules, c: Cursor, t: ValueType, size: usize) -> Cursor
+    requires { ⌜ (4 ≤ f .word) × (f .word ≤ 8) × Roomy c × (size ≤ 256) ⌝ }
+    ensures { λ k. ⌜ k ≡ nextOf (Rules.Power f) c t size ⌝ }
+{
+    let word = f.word;
+    next_of(word, c, taken_of(f, c, t, size))
 }

@@ -1,10 +1,10 @@
 // One argument on Z: its class, and the register, the memory or the copy that the class asks for.
 ghost use mathlib.Core.Path.{_≡_};
-ghost use Prim.Native.Nat.{_+_, _-_, _≤_, min};
+ghost use Prim.Native.Nat.{_+_, _-_, _*_, _≤_, min};
 ghost use Rattle.convention.specs.declared.Rules.{Rules};
 ghost use Rattle.convention.specs.ZSeries.{bySize, byEquivalent, zClass, zSpan, zNext, zSpanOf, zNextOf};
-ghost use Rattle.convention.specs.Step.{Roomy, placedAs, placed};
-use convention::ByteRange;
+ghost use Rattle.convention.specs.Values.{bytes};
+ghost use Rattle.convention.specs.Step.{Roomy, placedAs, nextOf, placed};
 use convention::Cursor;
 use convention::Placed;
 use convention::Span;
@@ -66,37 +66,18 @@ fn one_left(next: usize, past: usize) -> usize
     if next < past { 1 } else { 0 }
 }
 
-// One argument on Z in g GPRs, f FPRs or else 8 bytes of memory, with what is copied and where the copies then end.
-fn place(c: Cursor, g: usize, f: usize, copy: ByteRange, indirect: bool, end: usize) -> Placed
-    requires { ⌜ Roomy c × (g + f ≤ 1) ⌝ }
-    ensures { λ r. ⌜ r ≡ placedAs (zSpan c g f copy indirect) (zNext c g f end) ⌝ }
-{
-    let general = c.general;
-    let floating = c.floating;
-    let stack = c.stack;
-    let stored = 8 * (1 - (g + f));
-    let memory = convention::byte_range(stack, stored);
-    Placed {
-        span: Span {
-            general: convention::register_range(general, g),
-            floating: convention::register_range(floating, f),
-            home: memory,
-            memory,
-            copy,
-            indirect,
-        },
-        next: Cursor {
-            general: general + g,
-            floating: floating + 2 * f,
-            stack: stack + stored,
-            copies: end,
-        },
-    }
+// What an argument takes: GPRs, FPRs or, where it has neither, 8 bytes of memory; the bytes of its copy.
+struct Taken {
+    general: usize,
+    floating: usize,
+    copy: usize,
+    length: usize,
+    indirect: bool,
 }
 
-fn by_class(c: Cursor, class: ZClass, size: usize) -> Placed
+fn taken_of(c: Cursor, class: ZClass, size: usize) -> Taken
     requires { ⌜ Roomy c × (size ≤ 256) ⌝ }
-    ensures { λ r. ⌜ r ≡ placedAs (zSpanOf c class size) (zNextOf c class size) ⌝ }
+    ensures { λ a. ⌜ (zSpanOf c class size ≡ zSpan c (a .general) (a .floating) (bytes (a .copy) (a .length)) (a .indirect)) × (zNextOf c class size ≡ zNext c (a .general) (a .floating) (a .copy + a .length)) × (a .general + a .floating ≤ 1) × (a .copy + a .length ≤ 60300) ⌝ }
 {
     let general = c.general;
     let floating = c.floating;
@@ -104,24 +85,79 @@ fn by_class(c: Cursor, class: ZClass, size: usize) -> Placed
     match class {
         ZClass::Float => {
             let f = one_left(floating, Z::PAST_FLOATING);
-            place(c, 0, f, convention::byte_range(copies, 0), false, copies)
+            Taken {
+                general: 0,
+                floating: f,
+                copy: copies,
+                length: 0,
+                indirect: false,
+            }
         }
         ZClass::Simple => {
             let g = one_left(general, Z::PAST_GENERAL);
-            place(c, g, 0, convention::byte_range(copies, 0), false, copies)
+            Taken {
+                general: g,
+                floating: 0,
+                copy: copies,
+                length: 0,
+                indirect: false,
+            }
         }
         ZClass::Reference => {
             let pointer = one_left(general, Z::PAST_GENERAL);
-            let at = (copies + 7) / 8 * 8;
-            place(
-                c,
-                pointer,
-                0,
-                convention::byte_range(at, size),
-                true,
-                at + size,
-            )
+            Taken {
+                general: pointer,
+                floating: 0,
+                copy: (copies + 7) / 8 * 8,
+                length: size,
+                indirect: true,
+            }
         }
+    }
+}
+
+// The bytes of memory of an argument in g GPRs or f FPRs.
+fn stored(g: usize, f: usize) -> usize
+    requires { ⌜ g + f ≤ 1 ⌝ }
+    ensures { λ r. ⌜ r ≡ 8 * (1 - (g + f)) ⌝ }
+{
+    8 * (1 - (g + f))
+}
+
+// Floating registers count by two: only the even ones are used.
+fn next_of(c: Cursor, a: Taken) -> Cursor
+    requires { ⌜ Roomy c × (a .general + a .floating ≤ 1) × (a .copy + a .length ≤ 60300) ⌝ }
+    ensures { λ r. ⌜ r ≡ zNext c (a .general) (a .floating) (a .copy + a .length) ⌝ }
+{
+    Cursor {
+        general: c.general + a.general,
+        floating: c.floating + 2 * a.floating,
+        stack: c.stack + stored(a.general, a.floating),
+        copies: a.copy + a.length,
+    }
+}
+
+// The span and the next cursor, from what the argument takes.
+fn place(c: Cursor, a: Taken) -> Placed
+    requires { ⌜ Roomy c × (a .general + a .floating ≤ 1) × (a .copy + a .length ≤ 60300) ⌝ }
+    ensures { λ r. ⌜ r ≡ placedAs (zSpan c (a .general) (a .floating) (bytes (a .copy) (a .length)) (a .indirect)) (zNext c (a .general) (a .floating) (a .copy + a .length)) ⌝ }
+{
+    let general = c.general;
+    let floating = c.floating;
+    let stack = c.stack;
+    let g = a.general;
+    let f = a.floating;
+    let memory = convention::byte_range(stack, stored(g, f));
+    Placed {
+        span: Span {
+            general: convention::register_range(general, g),
+            floating: convention::register_range(floating, f),
+            home: memory,
+            memory,
+            copy: convention::byte_range(a.copy, a.length),
+            indirect: a.indirect,
+        },
+        next: next_of(c, a),
     }
 }
 
@@ -129,5 +165,13 @@ pub fn step(c: Cursor, t: ValueType, size: usize) -> Placed
     requires { ⌜ Roomy c × (size ≤ 256) ⌝ }
     ensures { λ r. ⌜ r ≡ placed Rules.Z c t size ⌝ }
 {
-    by_class(c, class_of(t, size), size)
+    place(c, taken_of(c, class_of(t, size), size))
+}
+
+// The next cursor of the step, without the span.
+pub fn advance(c: Cursor, t: ValueType, size: usize) -> Cursor
+    requires { ⌜ Roomy c × (size ≤ 256) ⌝ }
+    ensures { λ k. ⌜ k ≡ nextOf Rules.Z c t size ⌝ }
+{
+    next_of(c, taken_of(c, class_of(t, size), size))
 }

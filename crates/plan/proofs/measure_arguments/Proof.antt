@@ -6,7 +6,6 @@ use Prim.Native.Nat.{_-_}
 use mathlib.Core.Path.{_∙_}
 use Rattle.items.proofs.Loop.{item-answered}
 use Rattle.signature.proofs.Loop.{turn-full, turn-no}
-use Rattle.convention.specs.Step.{placed}
 use Rattle.convention.proofs.Bounds.{rules-lawful}
 use Rattle.plan.proofs.Fold.{reached-roomy}
 use Rattle.plan.proofs.Measures.{Measuring, measuring-start, measuring-more, measure-no, measure-trailing, measure-end}
@@ -46,8 +45,8 @@ enum-known-ty c = search needs
 size-of-requires : tie.Need-size-of-requires Inv-loop μ-loop
 size-of-requires c κs = search needs
 
-step-requires : tie.Need-step-requires Inv-loop μ-loop
-step-requires c κs =
+advance-requires : tie.Need-advance-requires Inv-loop μ-loop
+advance-requires c κs =
     let a = item-answered _ _ _ _ _ _ _ _ _ (omega arith) (c .before .before .before .before .read-item .ensures) (c .before .before .ty .given .1) in
     let m = c .before .before .before .before .before .before .before .loop .inv in (
       rw (c .before .before .before .before .before .before .before .before .before .before .rules-of .ensures) (rules-lawful (c .before .before .before .before .before .before .before .before .before .before .before .before .args .convention)),
@@ -57,25 +56,24 @@ step-requires c κs =
 
 add-values : tie.Need-add-values Inv-loop μ-loop
 add-values c =
-    let a = item-answered _ _ _ _ _ _ _ _ _ (omega arith) (c .before .before .before .before .before .before .read-item .ensures) (c .before .before .before .before .ty .given .1) in
-    let m = c .before .before .before .before .before .before .before .before .before .loop .inv in
-    omega (arith, a .sized .small, m .reached .small, m .turn .few, c .before .before .size-of .ensures)
+    let a = item-answered _ _ _ _ _ _ _ _ _ (omega arith) (c .before .before .before .before .before .read-item .ensures) (c .before .before .before .ty .given .1) in
+    let m = c .before .before .before .before .before .before .before .before .loop .inv in
+    omega (arith, a .sized .small, m .reached .small, m .turn .few, c .before .size-of .ensures)
 
 add-count : tie.Need-add-count Inv-loop μ-loop
-add-count c = omega (arith, c .before .before .before .before .before .before .before .before .before .loop .inv .turn .few)
+add-count c = omega (arith, c .before .before .before .before .before .before .before .before .loop .inv .turn .few)
 
 add-items : tie.Need-add-items Inv-loop μ-loop
-add-items c = let a = item-answered _ _ _ _ _ _ _ _ _ (omega arith) (c .before .before .before .before .before .before .read-item .ensures) (c .before .before .before .before .ty .given .1) in omega arith
+add-items c = let a = item-answered _ _ _ _ _ _ _ _ _ (omega arith) (c .before .before .before .before .before .read-item .ensures) (c .before .before .before .ty .given .1) in omega arith
 
 loop-less : tie.Need-loop-less Inv-loop μ-loop
-loop-less c = let a = item-answered _ _ _ _ _ _ _ _ _ (omega arith) (c .before .before .before .before .before .before .read-item .ensures) (c .before .before .before .before .ty .given .1) in omega arith
+loop-less c = let a = item-answered _ _ _ _ _ _ _ _ _ (omega arith) (c .before .before .before .before .before .read-item .ensures) (c .before .before .before .ty .given .1) in omega arith
 
 loop-again : tie.Need-loop-again Inv-loop μ-loop
-unfolding placed
 loop-again c =
-    let rules = c .before .before .before .before .before .before .before .before .before .before .before .before .rules-of .ensures in
-    rw (c .before .step .ensures, c .before .before .size-of .ensures, rules)
-    (measuring-more _ _ _ _ _ _ _ _ _ _ _ (rw rules at (c .before .before .before .before .before .before .before .before .before .loop .inv)) (rules-lawful (c .before .before .before .before .before .before .before .before .before .before .before .before .before .before .args .convention)) (c .before .before .before .before .before .before .before .before .loop-test .taken) (c .before .before .before .before .before .before .before .if1 .left) _ (c .before .before .before .before .before .before .read-item .ensures) _ _ _ (c .before .before .before .before .ty .given .1))
+    let rules = c .before .before .before .before .before .before .before .before .before .before .before .rules-of .ensures in
+    rw (c .advance .ensures, c .before .size-of .ensures, rules)
+    (measuring-more _ _ _ _ _ _ _ _ _ _ _ (rw rules at (c .before .before .before .before .before .before .before .before .loop .inv)) (rules-lawful (c .before .before .before .before .before .before .before .before .before .before .before .before .before .args .convention)) (c .before .before .before .before .before .before .before .loop-test .taken) (c .before .before .before .before .before .before .if1 .left) _ (c .before .before .before .before .before .read-item .ensures) _ _ _ (c .before .before .before .ty .given .1))
 
 enum-known-reason : tie.Need-enum-known-reason Inv-loop μ-loop
 enum-known-reason c = search needs
@@ -97,8 +95,8 @@ returns-3 c =
 area-of-requires : tie.Need-area-of-requires Inv-loop μ-loop
 area-of-requires c κs = rw (c .before .before .before .before .before .rules-of .ensures) (rules-lawful (c .before .before .before .before .before .before .before .args .convention))
 
-add-t25 : tie.Need-add-t25 Inv-loop μ-loop
-add-t25 c = omega arith
+add-t24 : tie.Need-add-t24 Inv-loop μ-loop
+add-t24 c = omega arith
 
 returns-4 : tie.Need-returns-4 Inv-loop μ-loop
 returns-4 c =
@@ -120,7 +118,7 @@ measure-arguments-spec =
     read-item-requires
     enum-known-ty
     size-of-requires
-    step-requires
+    advance-requires
     add-values
     add-count
     add-items
@@ -132,5 +130,5 @@ measure-arguments-spec =
     no-measure-requires-3
     returns-3
     area-of-requires
-    add-t25
+    add-t24
     returns-4)

@@ -1,6 +1,4 @@
 -- The words in memory are the last of the argument's, so that all its parts lie within its home.
-use Prim.Native.Nat.{_-_, min}
-use mathlib.Core.Path.{_≡_}
 use Rattle.convention.proofs.Shares.{words-split}
 use native.Mathlib.Omega.{arith}
 use borrow.Author.Needs.{needs}
@@ -23,36 +21,25 @@ sub-byte-range : tie.Need-sub-byte-range
 sub-byte-range c = search needs
 
 mul-byte-range-2 : tie.Need-mul-byte-range-2
-mul-byte-range-2 c = omega (arith, words-split (c .before .before .before .args .word) (c .before .before .before .args .n) (c .before .before .before .args .s .memory) (omega arith))
+mul-byte-range-2 c = omega (arith, words-split (c .before .before .before .before .args .word) (c .before .before .before .before .args .a .count) (c .before .before .before .before .args .a .share .memory) (omega arith))
 
 add-byte-range : tie.Need-add-byte-range
-add-byte-range c = omega (arith, words-split (c .before .before .before .args .word) (c .before .before .before .args .n) (c .before .before .before .args .s .memory) (omega arith))
+add-byte-range c = omega (arith, words-split (c .before .before .before .before .args .word) (c .before .before .before .before .args .a .count) (c .before .before .before .before .args .a .share .memory) (omega arith))
 
 mul-byte-range-3 : tie.Need-mul-byte-range-3
-mul-byte-range-3 c = omega (arith, words-split (c .before .before .before .args .word) (c .before .before .before .args .n) (c .before .before .before .args .s .memory) (omega arith))
+mul-byte-range-3 c = omega (arith, words-split (c .before .before .before .before .args .word) (c .before .before .before .before .args .a .count) (c .before .before .before .before .args .a .share .memory) (omega arith))
 
 byte-range-requires-2 : tie.Need-byte-range-requires-2
-byte-range-requires-2 c κs = omega (arith, words-split (c .before .before .before .args .word) (c .before .before .before .args .n) (c .before .before .before .args .s .memory) (omega arith))
+byte-range-requires-2 c κs = omega (arith, words-split (c .before .before .before .before .args .word) (c .before .before .before .before .args .a .count) (c .before .before .before .before .args .a .share .memory) (omega arith))
 
 byte-range-requires-3 : tie.Need-byte-range-requires-3
 byte-range-requires-3 c κs = search needs
 
-add-t24 : tie.Need-add-t24
-add-t24 c = search needs
-
-add-t25 : tie.Need-add-t25
-add-t25 c = search needs
-
-mul-t26 : tie.Need-mul-t26
-mul-t26 c = search needs
-
-add-t27 : tie.Need-add-t27
-add-t27 c = search needs
+next-of-requires : tie.Need-next-of-requires
+next-of-requires c κs = search needs
 
 returns : tie.Need-returns
-returns c =
-    let k : c .before .before .before .before .before .args .k ≡ min (c .before .before .before .before .before .args .n) (11 - c .before .before .before .before .before .args .c .general) = omega arith in
-    cc
+returns c = rw (c .next-of .ensures, c .before .byte-range3 .ensures, c .before .before .byte-range2 .ensures, c .before .before .before .byte-range .ensures, c .before .before .before .before .register-range2 .ensures, c .before .before .before .before .before .register-range .ensures)
 
 pub place-spec : {M : Type 1} → statement M
 place-spec =
@@ -68,8 +55,5 @@ place-spec =
     mul-byte-range-3
     byte-range-requires-2
     byte-range-requires-3
-    add-t24
-    add-t25
-    mul-t26
-    add-t27
+    next-of-requires
     returns)

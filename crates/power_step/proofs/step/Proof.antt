@@ -1,49 +1,18 @@
--- Each part is what a callee gives, put together as the definition does.
-use Rattle.convention.proofs.Shares.{share-shared}
+-- The span and the next cursor of what the argument takes.
 use Rattle.convention.specs.Step.{placed, spanOf, nextOf}
-use Rattle.convention.specs.Power.{powerShare}
-use Prim.Native.Nat.{_-_}
-use native.Mathlib.Omega.{arith}
 use borrow.Author.Needs.{needs}
 use Rattle.power_step.proofs.step.Statement.{statement}
 use Rattle.power_step.proofs.step.Tie as tie
 
-words-of-requires : tie.Need-words-of-requires
-words-of-requires c κs = search needs
-
-sub-smaller : tie.Need-sub-smaller
-sub-smaller c = search needs
-
-smaller-requires : tie.Need-smaller-requires
-smaller-requires c κs = search needs
-
-fprs-of-requires : tie.Need-fprs-of-requires
-fprs-of-requires c κs = search needs
-
-sub-share-of : tie.Need-sub-share-of
-sub-share-of c = search needs
-
-share-of-requires : tie.Need-share-of-requires
-share-of-requires c κs = search needs
+taken-of-requires : tie.Need-taken-of-requires
+taken-of-requires c κs = search needs
 
 place-requires : tie.Need-place-requires
-place-requires c κs =
-    let s = share-shared (c .before .before .fprs-of .result) (14 - c .before .before .before .before .before .before .args .c .floating) (c .before .before .before .before .before .words-of .result) (c .before .before .before .smaller .result) (omega arith) in
-    (omega arith, omega arith, omega arith, omega arith, omega arith, rw (c .share-of .ensures) s)
+place-requires c κs = search needs
 
 returns : tie.Need-returns
-unfolding placed spanOf nextOf powerShare
-returns c = simp (c .before .share-of .ensures, c .before .before .before .fprs-of .ensures .0, c .before .before .before .before .smaller .ensures, c .before .before .before .before .before .before .words-of .ensures .0) at (c .place .ensures)
+unfolding placed spanOf nextOf
+returns c = simp (c .before .taken-of .ensures .0, c .before .taken-of .ensures .1) at (c .place .ensures)
 
 pub step-spec : {M : Type 1} → statement M
-step-spec =
-    tie.close
-    (tie.spec
-    words-of-requires
-    sub-smaller
-    smaller-requires
-    fprs-of-requires
-    sub-share-of
-    share-of-requires
-    place-requires
-    returns)
+step-spec = tie.close (tie.spec taken-of-requires place-requires returns)

@@ -2,7 +2,7 @@
 use Rattle.convention.specs.Power.{words}
 use mathlib.Core.Path.{refl}
 use Prim.Native.Nat.{ℕ, _+_, _-_, _/_}
-use native.Mathlib.Nat.{div-mul-le-self, div-le-self, mul-comm}
+use native.Mathlib.Nat.{div-mul-le-self, mul-comm}
 use native.Mathlib.Omega.{arith}
 use borrow.Author.Needs.{needs}
 use Rattle.power_step.proofs.words_of.Statement.{statement}
@@ -13,7 +13,7 @@ add-result c = search needs
 
 returns : tie.Need-returns
 unfolding words
-returns c = rw (c .if1 .taken) (refl, omega arith, omega arith)
+returns c = rw (c .if1 .taken) (refl, omega arith)
 
 sub-result : tie.Need-sub-result
 sub-result c = search needs
@@ -29,7 +29,7 @@ unfolding words
 returns-2 c =
     let w : ℕ = c .before .args .word in
     let n : ℕ = c .before .args .size + (w - 1) in
-    (refl, omega (arith, div-mul-le-self n w, mul-comm (n / w) w), omega (arith, div-le-self n w))
+    (refl, omega (arith, div-mul-le-self n w, mul-comm (n / w) w))
 
 pub words-of-spec : {M : Type 1} → statement M
 words-of-spec =
