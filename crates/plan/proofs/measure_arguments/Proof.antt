@@ -6,7 +6,7 @@ use Prim.Native.Nat.{_-_}
 use mathlib.Core.Path.{_∙_}
 use Rattle.items.proofs.Loop.{item-answered}
 use Rattle.signature.proofs.Loop.{turn-full, turn-no}
-use Rattle.convention.proofs.Bounds.{rules-lawful}
+use Rattle.places.proofs.Bounds.{rules-lawful}
 use Rattle.plan.proofs.Fold.{reached-roomy}
 use Rattle.plan.proofs.Measures.{Measuring, measuring-start, measuring-more, measure-no, measure-trailing, measure-end}
 use Rattle.plan.proofs.measure_arguments.Statement.{statement}
