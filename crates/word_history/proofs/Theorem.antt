@@ -1,7 +1,7 @@
 -- Demand 3 of the exported calls, proved from that of the machine's own calls: reading the words after a call gives the state after the machine's call of what was read
 -- before it, so a list over words holds where its reading does. Assumes nothing.
 use Prim.Native.Nat.{ℕ, zero, suc, _+_, _^_, _<_}
-use mathlib.Core.Path.{_≡_, refl, _∙_}
+use mathlib.Core.Path.{_≡_, refl, ap, _∙_}
 use mathlib.Core.List.{List, [], _∷_}
 use native.Mathlib.Omega.{arith}
 use native.Mathlib.Nat.{mod-lt}
@@ -17,7 +17,7 @@ use Rattle.machine.specs.declared.State.{State}
 use Rattle.machine.specs.declared.Answer.{Answer}
 use Rattle.machine.specs.declared.Answer.the-variants.{Accepted, Refused}
 use Rattle.machine.specs.Answers.{settle}
-use Rattle.machine.specs.Machine.{startAnswer, startOutcome, started, notStarted, enterOutcome, writeRegisterOutcome, writeMemoryOutcome, leaveOutcome}
+use Rattle.machine.specs.Machine.{startAnswer, startOutcome, started, notStarted, enterOutcome, enterMemory, writeRegisterOutcome, writeMemoryOutcome, leaveOutcome}
 use Rattle.word_layout.specs.Words.{registersIn, frameIn, stateIn, stateWords, registerWords, withRegisters}
 use Rattle.word_layout.specs.Calls.{changed, startWords, enterWords, writeRegisterWords, leaveWords}
 use Rattle.word_layout.proofs.Laws.{length-register-words, length-frames-words}
@@ -28,6 +28,24 @@ use Rattle.history.specs.Preserved as states-kept
 use Rattle.history.proofs.Theorem.{calls-hold}
 use Rattle.word_history.specs.Calls.{Call, enter, writeRegister, writeMemory, leave, Lent, wordsAfter, after, answer, fresh}
 use Rattle.word_history.specs.Demand3.{machineIn, callIn, callsIn, Holds, WordsFit, Demand3}
+
+-- ---- a call over words is the machine's call
+
+abbrev machineOf : List ℕ → State → states.Machine
+machineOf l s = record { state = s; memory = l }
+
+reading-after : (c : Call) (m : Lent) → length (m .words) ≡ 230 → machineIn (after c m) ≡ states.after (callIn c) (machineIn m)
+unfolding writeMemoryOutcome
+reading-after (enter q) m h = ap (machineOf (enterMemory (stateIn (m .words)) (m .memory) (frameIn q 0))) (enter-state (m .words) (length (m .memory)) q h)
+reading-after (writeRegister b n v) m h = ap (machineOf (m .memory)) (write-register-state (m .words) (length (m .memory)) b n v h)
+reading-after (writeMemory a bs) m h = refl
+reading-after leave m h = ap (machineOf (m .memory)) (leave-state (m .words) (m .memory) h)
+
+answer-read : (c : Call) (m : Lent) → answer c m ≡ states.answer (callIn c) (machineIn m)
+answer-read (enter q) m = refl
+answer-read (writeRegister b n v) m = refl
+answer-read (writeMemory a bs) m = refl
+answer-read leave m = refl
 
 -- ---- the words keep their number
 
@@ -66,21 +84,6 @@ start-length c rs b n h = go (startAnswer c b n)
     go : (a : Answer) → length (stateWords (settle a (started c b n (registersIn rs 0)) (notStarted c (registersIn rs 0)))) ≡ 230
     go Accepted = simp length-append (omega (arith, length-register-words (started c b n (registersIn rs 0) .registers) (simp length-set g) f, length-frames-words (replicate 32 noFrame)))
     go (Refused x) = simp length-append (omega (arith, length-register-words (registersIn rs 0) g f, length-frames-words (replicate 32 noFrame)))
-
--- ---- a call over words is the machine's call
-
-reading-after : (c : Call) (m : Lent) → length (m .words) ≡ 230 → machineIn (after c m) ≡ states.after (callIn c) (machineIn m)
-unfolding writeMemoryOutcome
-reading-after (enter q) m h = rw (enter-state (m .words) (length (m .memory)) q h)
-reading-after (writeRegister b n v) m h = rw (write-register-state (m .words) (length (m .memory)) b n v h)
-reading-after (writeMemory a bs) m h = refl
-reading-after leave m h = rw (leave-state (m .words) (m .memory) h)
-
-answer-read : (c : Call) (m : Lent) → answer c m ≡ states.answer (callIn c) (machineIn m)
-answer-read (enter q) m = refl
-answer-read (writeRegister b n v) m = refl
-answer-read (writeMemory a bs) m = refl
-answer-read leave m = refl
 
 -- ---- a list of calls
 
