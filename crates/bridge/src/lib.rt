@@ -11,7 +11,7 @@ ghost use lib.ListN.{length};
 ghost use Rattle.listing.specs.Text.{listingOf};
 ghost use Rattle.listing.specs.Writing.{printed};
 ghost use Rattle.signature.specs.Read.{signatureOf};
-ghost use Rattle.bridge.specs.Surface.{readingAnswer, sizesAnswer, narrowingAnswer};
+ghost use Rattle.bridge.specs.Surface.{readingAnswer, sizesAnswer, narrowingAnswer, version};
 
 // `fz_sizes`: the bytes that the values, the parameter area and the copies of a call take.
 #[repr(C)]
@@ -28,6 +28,14 @@ pub struct NarrowingAnswer {
     pub number: u64,
     pub place: u64,
     pub bits: u64,
+}
+
+// The library's version as one number.
+#[no_mangle]
+pub extern "C" fn fz_version() -> u64
+    ensures { λ r. ⌜ r ≡ version ⌝ }
+{
+    100
 }
 
 #[no_mangle]
