@@ -11,11 +11,12 @@
  *   4. fz_read takes them out of there, as the called function finds them; fz_home and fz_view
  *      give it them side by side in memory.
  *
- * share/doc/flakuzhen/call.c plans, fills and reads a call. The machine need not be the one that
- * this program runs on: nothing is executed, and addresses are numbers. The frame machine
- * (fz_start_ppc64 to fz_leave) stands apart from this: it keeps a stack on which functions enter
- * and leave frames. Compilers of today differ from the conventions in a few points:
- * share/doc/flakuzhen/COMPILERS.md says in which, and what to do.
+ * The machine need not be the one that this program runs on: nothing is executed, and addresses are
+ * numbers. The frame machine (fz_start_ppc64 to fz_leave) stands apart from this: it keeps a stack
+ * on which functions enter and leave frames.
+ *
+ * Installed with this header, in share/doc/flakuzhen: call.c plans, fills and reads a call;
+ * COMPILERS.md says in which points compilers of today differ from the conventions, and what to do.
  *
  * Words that come up everywhere:
  *

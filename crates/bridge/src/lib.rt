@@ -1,5 +1,5 @@
-// The surface for C and Rust, which include/flakuzhen.h declares: signatures, plans and floats. Each function calls one of the crates
-// below and lays its answer out in 64-bit words.
+// The surface for C and Rust, which include/flakuzhen.h declares: the version, signatures, plans and floats. Each function of the last three calls
+// one of the crates below and lays its answer out in 64-bit words.
 use answers::Answer;
 use ieee::Narrowed;
 use signature::Outcome;

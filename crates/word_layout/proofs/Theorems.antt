@@ -1,4 +1,5 @@
--- The machine over words is the machine: the words after a call are read as the state that the machine's own definition gives after it. Assumes nothing.
+-- The machine over words is the machine: the words after a call are read as the state that the machine's own definition gives after it; those of a refused start,
+-- which have CR's word as it came, where that word has 32 bits. Assumes nothing.
 use Prim.Native.Nat.{ℕ, zero, suc, _+_, _-_, _*_, _^_, _≤_, _<_}
 use native.Mathlib.Nat.{mod-lt, mod-eq-of-lt}
 use native.Mathlib.Omega.{arith}
@@ -145,7 +146,7 @@ module _ (c : Convention) (rs : List ℕ) (b n : ℕ) (l : length rs ≡ 66) whe
   unfolding startWords startOutcome started withPointer
   start-state e = rw e (state-words-back (started c b n (registersIn rs 0)) (record { gpr = simp length-set (handed .gpr); fpr = handed .fpr; cr = handed .cr }) refl)
 
-  -- a refused start's too, where CR's word has 32 bits; whatever CR's word is, 23 refuses them (no-start of Refused)
+  -- whatever CR's word is, 23 refuses these words (no-start of Refused)
   pub refused-state : getD rs 65 0 < 2 ^ 32 → stateIn (refusedWords c rs) ≡ notStarted c (registersIn rs 0)
   unfolding notStarted registersIn
   refused-state h =
