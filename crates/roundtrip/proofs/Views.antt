@@ -28,6 +28,7 @@ use Rattle.places.specs.Values.{pointer}
 use Rattle.places.specs.Power.{words}
 use Rattle.places.specs.Step.{ppc64, rulesOf, spanOf, nextOf, fresh, startOf, hiddenFor, returning, resultOf}
 use Rattle.plan.specs.declared.Plan.{Plan}
+use Rattle.plan.proofs.Theorems.{hidden-address}
 use Rattle.plan.specs.Plan.{spansOf, resultIn, startIn, planIn, planAnswer, typesOf}
 use Rattle.slots.specs.declared.Answer.{Answer}
 use Rattle.slots.specs.Buffers.{Buffers, buffers, bytesAt}
@@ -45,7 +46,7 @@ use Rattle.home.specs.View.{viewTests, viewAnswer, noArgument, ownBytes, viewOf
 use Rattle.home.proofs.Homed.{homed-all, reading-done}
 use Rattle.home.proofs.Registers.{homed-general, home-passed}
 use Rattle.roundtrip.specs.RoundTrip.{Filled, left}
-use Rattle.roundtrip.specs.Views.{valueLists, homedArea, Viewed}
+use Rattle.roundtrip.specs.Views.{valueLists, homedArea, ViewAfterHome, HiddenStays}
 use Rattle.roundtrip.proofs.Forms.{float-back, own-back, length-home}
 use Rattle.roundtrip.proofs.Arguments.{float-stands, own-value, Put, AllPut, given-same}
 use Rattle.roundtrip.proofs.Theorems.{put-back, values-total, Left, filled-left, filled-answer}
@@ -294,9 +295,7 @@ view-shows : (s area : List ℕ) (i : ℕ) (v : List ℕ) → viewAnswer s (leng
 unfolding viewOf
 view-shows s area i v done e = ap (λ (a : Answer). pick (isDone a) (ownBytes (rulesFor s) (getD (argumentsOf s) i noArgument) area) []) done ∙ e
 
--- THE VIEWS: for all inputs that fill accepts on PPC64, home of what fill left accepts, and each argument's view is accepted and is its value
-pub view-after-home : (s values image area copies : List ℕ) (base hidden : ℕ) → Filled s values image area copies base hidden
-    → signatureAnswer (signatureOf s) .convention ≡ Convention.Ppc64 → Viewed s values (left s values image area copies base hidden)
+pub view-after-home : ViewAfterHome
 unfolding homeAnswer viewAnswer homeArea
 view-after-home s values image area copies base hidden h power =
     let p : Plan = planFor s in
@@ -319,25 +318,20 @@ view-after-home s values image area copies base hidden h power =
 
 -- ---- the hidden address
 
+address-word : (c : Convention) → c ≡ Convention.Ppc64 → 8 ≤ startOf (rulesOf c) true .stack
+unfolding startOf nextOf fresh words
+address-word Convention.Ppc64 q = omega arith
+address-word Convention.Z q = let z : _≡_ {A = ℕ} 0 1 = cc in absurd (omega arith)
+
 hidden-start : (c : Convention) (r : ResultType) (x : Span) → c ≡ Convention.Ppc64 → resultIn c r ≡ ResultPlaces.Hidden x → 8 ≤ startIn c r .stack
-unfolding resultOf startOf nextOf fresh words
-hidden-start Convention.Ppc64 ResultType.Nothing x q e = let z : _≡_ {A = ℕ} 0 1 = cc in absurd (omega arith)
-hidden-start Convention.Ppc64 (ResultType.Value t) x q e = go (hiddenFor ppc64 t) e
-  where
-    go : (b : Bool)
-        → pick b (ResultPlaces.Hidden (spanOf ppc64 (fresh ppc64) pointer 8)) (ResultPlaces.Registers (spanOf (returning ppc64) (fresh ppc64) t (sizeOf Convention.Ppc64 t))) ≡ ResultPlaces.Hidden x
-        → 8 ≤ startOf ppc64 b .stack
-    go true e = omega arith
-    go false e = let z : _≡_ {A = ℕ} 0 1 = cc in absurd (omega arith)
-hidden-start Convention.Z r x q e = let z : _≡_ {A = ℕ} 0 1 = cc in absurd (omega arith)
+hidden-start c r x q e = rw (hidden-address c r x e .1) (address-word c q)
 
 starts-hidden : (y : Reading Signature) (x : Span) → signatureAnswer y .convention ≡ Convention.Ppc64 → planAnswer y .result ≡ ResultPlaces.Hidden x → StartsFrom 8 y
 unfolding planAnswer planIn
 starts-hidden (got g next m) x q e = hidden-start (g .convention) (resultType (g .convention) (g .result)) x q e
 starts-hidden (no reason place) x q e = tt
 
--- "The hidden address's doubleword .. stay": where the result has a hidden address, home leaves the first doubleword, whatever it answers
-pub hidden-stays : (s image area : List ℕ) (x : Span) → planFor s .result ≡ ResultPlaces.Hidden x → part 0 8 (homeArea s (homeAnswer s image (length area)) image area) ≡ part 0 8 area
+pub hidden-stays : HiddenStays
 unfolding homeArea homeAnswer
 hidden-stays s image area x e = go (homeAnswer s image (length area)) refl
   where
