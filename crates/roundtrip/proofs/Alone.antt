@@ -1,7 +1,7 @@
 -- Filling changes only named slots and copies, home only homes, and reading an argument looks at its own slots and copy alone.
 -- Assumes nothing.
 -- ---- filling
-use mathlib.Core.Path.{_≡_, refl, ap, ap₂, _∙_}
+use mathlib.Core.Path.{_≡_, refl, ap, _∙_}
 use mathlib.Core.Logic.{inl, inr}
 use mathlib.Core.Bool.{Bool, true, false}
 use mathlib.Core.List.{List, [], _∷_}
@@ -19,7 +19,6 @@ use Rattle.places.specs.Spots.{Spot, general, floating, area, copies}
 use Rattle.slots.specs.Buffers.{Buffers, Slot, generalAt, floatingAt, put, putAll, bytesAt}
 use Rattle.slots.specs.Forms.{floatValue, ownStart}
 use Rattle.slots.specs.Placements.{Placement, wordsAt, floatAt, addressAt, wordsValue, valueAt}
-use Rattle.slots.specs.declared.Answer.{Answer}
 use Rattle.slots.specs.Arguments.{argumentsOf, rulesFor}
 use Rattle.fill.specs.Fill.{filledSlots, fillBuffers}
 use Rattle.home.specs.Home.{homedBytes, homed, homeArea}

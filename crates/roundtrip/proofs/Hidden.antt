@@ -1,39 +1,33 @@
 -- The hidden address stands in its register after filling. Assumes nothing.
-use mathlib.Core.Path.{_≡_, refl, sym, ap, _∙_, subst}
-use mathlib.Core.Bool.{Bool, true, false}
-use mathlib.Core.List.{List, [], _∷_, _++_}
-use Prim.Native.Nat.{ℕ, _+_, _*_, _≤_, _<_}
+use mathlib.Core.Path.{_≡_, sym, ap, _∙_}
+use mathlib.Core.Bool.{true}
+use mathlib.Core.List.{List}
+use Prim.Native.Nat.{ℕ, _*_, _<_}
 use native.Mathlib.Omega.{arith}
 use lib.ListN.{length}
-use Rattle.words.specs.Basics.{pick}
 use Rattle.words.specs.Splice.{part, splice}
 use Rattle.words.specs.Numbers.{bytesOf}
 use Rattle.words.proofs.Splices.{splice-same}
 use Rattle.words.proofs.Numbers.{length-bytesOf}
 use Rattle.conventions.specs.declared.Convention.{Convention}
-use Rattle.types.specs.declared.ValueType.{ValueType}
-use Rattle.types.specs.Sizes.{sizeOf}
 use Rattle.items.specs.Reading.{Reading, got, no}
 use Rattle.signature.specs.declared.ResultType.{ResultType}
 use Rattle.signature.specs.Signature.{Signature}
 use Rattle.signature.specs.Read.{signatureOf}
 use Rattle.signature.specs.Answer.{signatureAnswer, resultType}
-use Rattle.places.specs.declared.Cursor.{Cursor}
-use Rattle.places.specs.declared.Rules.{Rules}
 use Rattle.places.specs.declared.Span.{Span}
 use Rattle.places.specs.declared.ResultPlaces.{ResultPlaces}
 use Rattle.places.specs.Spots.{general}
 use Rattle.places.specs.Values.{pointer}
 use Rattle.places.specs.ZSeries.{zClass, zSpanOf, zNextOf}
 use Rattle.places.specs.Power.{words, fprs, shareOf, powerShare}
-use Rattle.places.specs.Step.{rulesOf, wordOf, nextOf, spanOf, fresh, startOf, hiddenFor, returning, resultOf}
+use Rattle.places.specs.Step.{rulesOf, wordOf, nextOf, spanOf, fresh, startOf}
 use Rattle.places.proofs.Bounds.{named-start}
 use Rattle.plan.proofs.Theorems.{hidden-address}
-use Rattle.plan.specs.Plan.{spansOf, startIn, hiddenIn, resultIn, planAnswer, planIn, typesOf}
-use Rattle.slots.specs.declared.Answer.{Answer}
+use Rattle.plan.specs.Plan.{startIn, hiddenIn, resultIn, planAnswer, planIn, typesOf}
 use Rattle.slots.specs.Buffers.{Buffers, buffers, Slot, put, putAll, bytesAt}
-use Rattle.slots.specs.Placements.{Placement, placements, slotsOfAll, hiddenSlots}
-use Rattle.slots.specs.Arguments.{argumentsIn, argumentsOf, planFor, rulesFor}
+use Rattle.slots.specs.Placements.{slotsOfAll, hiddenSlots}
+use Rattle.slots.specs.Arguments.{argumentsIn, argumentsOf, rulesFor}
 use Rattle.slots.proofs.Buffers.{putAll-append}
 use Rattle.slots.proofs.Answered.{arguments-got}
 use Rattle.fill.specs.Fill.{filledSlots, fillBuffers}

@@ -1,11 +1,9 @@
 -- An accepted view is not empty. Assumes nothing.
-use mathlib.Core.Path.{_≡_, refl, sym, ap, _∙_, subst}
-use mathlib.Core.Bool.{Bool, true, false}
-use mathlib.Core.List.{List, [], _∷_, _++_}
-use Prim.Native.Nat.{ℕ, zero, suc, _+_, _*_, _≤_, _<_}
+use mathlib.Core.Path.{_≡_, refl, sym, subst}
+use mathlib.Core.List.{List, [], _∷_}
+use Prim.Native.Nat.{ℕ, zero, suc, _<_}
 use native.Mathlib.Omega.{arith}
-use lib.ListN.{length, getD, take, drop}
-use Rattle.words.specs.Basics.{pick}
+use lib.ListN.{getD}
 use Rattle.conventions.specs.declared.Convention.{Convention}
 use Rattle.types.specs.declared.ValueType.{ValueType}
 use Rattle.types.specs.Sizes.{sizeOf}
@@ -16,10 +14,9 @@ use Rattle.signature.specs.Answer.{signatureAnswer, resultType}
 use Rattle.signature.proofs.Theorems.{accepted}
 use Rattle.places.specs.declared.Cursor.{Cursor}
 use Rattle.places.specs.declared.Rules.{Rules}
-use Rattle.places.specs.Step.{rulesOf, nextOf, spanOf}
+use Rattle.places.specs.Step.{rulesOf, nextOf}
 use Rattle.plan.specs.Plan.{spansOf, startIn, planAnswer, typesOf}
-use Rattle.slots.specs.declared.Answer.{Answer}
-use Rattle.slots.specs.Placements.{Placement, placement, placements}
+use Rattle.slots.specs.Placements.{Placement, placements}
 use Rattle.slots.specs.Limits.{All}
 use Rattle.slots.specs.Arguments.{argumentsIn, argumentsOf}
 use Rattle.slots.proofs.Answered.{arguments-got}

@@ -37,7 +37,7 @@ use Rattle.slots.specs.Refusals.{firstOf, orElse, firstOfAll, afterReading}
 use Rattle.slots.specs.Arguments.{argumentsIn, argumentsOf, planFor, rulesFor, Carried}
 use Rattle.slots.proofs.Buffers.{SameLengths, same-then, putAll-lengths, putAll-append}
 use Rattle.slots.proofs.Answered.{carried, arguments-got}
-use Rattle.fill.specs.Fill.{lengths, fillTests, fillAnswer, filledSlots, fillBuffers}
+use Rattle.fill.specs.Fill.{lengths, fillAnswer, filledSlots, fillBuffers}
 use Rattle.fill.proofs.Accepted.{Lent, tests-passed}
 use Rattle.read.specs.declared.Sizes.{Sizes}
 use Rattle.read.specs.Read.{sizes, argumentAnswer, argumentsAnswer, readTests, readAnswer, readValues}
@@ -84,7 +84,7 @@ split-whole n v =
     ap (λ (l : List ℕ). take n v ++ l) (sym (take-all m (drop n v) (omega arith)))
     ∙ sym (take-add n m v) ∙ take-all (n + m) v (omega (arith, length-drop n v))
 
-bytes-drop : (n : ℕ) (v : List ℕ) → Bytes v → Bytes (drop n v)
+pub bytes-drop : (n : ℕ) (v : List ℕ) → Bytes v → Bytes (drop n v)
 bytes-drop n v h = subst Bytes (take-all (length (drop n v)) (drop n v) (omega arith)) (bytes-part n (length (drop n v)) v h)
 
 -- every argument stands once all are put: those after it leave its slots
@@ -149,11 +149,11 @@ read-tests : (have : Sizes) (values area : ℕ) → have .image ≡ 512 → have
 unfolding firstOf readTests
 read-tests have values area i v a = simp (eq-eqb _ _ i, eq-eqb _ _ v, le-ltb _ _ a)
 
-reading-done : (o : Outcome) (x : Answer) → afterReading o x ≡ Answer.Done → (y : Answer) → y ≡ Answer.Done → (x ≡ Answer.Done) × (afterReading o y ≡ Answer.Done)
+pub reading-done : (o : Outcome) (x : Answer) → afterReading o x ≡ Answer.Done → (y : Answer) → y ≡ Answer.Done → (x ≡ Answer.Done) × (afterReading o y ≡ Answer.Done)
 reading-done (Outcome.Accepted n) x e y q = (e, q)
 reading-done (Outcome.Refused reason place) x e y q = let z : _≡_ {A = ℕ} 0 1 = cc in absurd (omega arith)
 
-overlay-whole : (l bs : List ℕ) → length l ≡ length bs → overlay l bs ≡ bs
+pub overlay-whole : (l bs : List ℕ) → length l ≡ length bs → overlay l bs ≡ bs
 overlay-whole l bs e =
     let short : length l ≤ length bs = omega arith in
     let none : drop (length bs) l ≡ [] = drop-of-length-le l short in

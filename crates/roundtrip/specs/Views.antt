@@ -1,5 +1,5 @@
--- Home and views after filling: of all inputs that fill accepts on PPC64, home of what fill left accepts, and then each argument has a view, which is the
--- value that was handed to fill, byte for byte. Document 01, "What stands in a slot": "A view hands back the part of the lent parameter area that is the
+-- Home and views: of all inputs that fill accepts on PPC64, home of what fill left accepts, and then each argument has a view, which is the value that was
+-- handed to fill, byte for byte; of any bytes, each view is the value that read gives. Document 01, "What stands in a slot": "A view hands back the part of the lent parameter area that is the
 -- argument's own bytes". Home changes nothing but homes. proofs/Views.antt, proofs/Alone.antt and proofs/Some.antt prove it. Assumes nothing.
 use Prim.Native.Nat.{ℕ, _<_}
 use mathlib.Core.Path.{_≡_}
@@ -7,6 +7,7 @@ use mathlib.Core.Logic.{_⊎_}
 use mathlib.Core.List.{List, [], _∷_}
 use lib.ListN.{length, getD, take, drop}
 use Rattle.words.specs.Splice.{part}
+use Rattle.words.specs.Numbers.{Bytes}
 use Rattle.conventions.specs.declared.Convention.{Convention}
 use Rattle.signature.specs.Read.{signatureOf}
 use Rattle.signature.specs.Answer.{signatureAnswer}
@@ -17,6 +18,7 @@ use Rattle.slots.specs.declared.Answer.{Answer}
 use Rattle.slots.specs.Buffers.{Buffers}
 use Rattle.slots.specs.Placements.{Placement}
 use Rattle.slots.specs.Arguments.{argumentsOf, planFor, rulesFor}
+use Rattle.read.specs.Read.{sizes, readAnswer, readValues}
 use Rattle.home.specs.Home.{homeAnswer, homedBytes, homeArea}
 use Rattle.home.specs.View.{viewAnswer, viewOf, viewPart}
 use Rattle.roundtrip.specs.Places.{Among}
@@ -41,6 +43,11 @@ pub record Viewed (s values : List ℕ) (b : Buffers) : Type 0 where
 abbrev pub ViewAfterHome : Type 0
 ViewAfterHome = (s values image area copies : List ℕ) (base hidden : ℕ) → Filled s values image area copies base hidden
     → signatureAnswer (signatureOf s) .convention ≡ Convention.Ppc64 → Viewed s values (left s values image area copies base hidden)
+
+-- The same of any bytes, also where no filling left them: where read accepts on PPC64, home accepts, and each view is the value that read gives
+abbrev pub ViewAsRead : Type 0
+ViewAsRead = (s into : List ℕ) (base : ℕ) (b : Buffers) → Bytes (b .image) → readAnswer s (sizes into (b .image) (b .area)) base b ≡ Answer.Done
+    → signatureAnswer (signatureOf s) .convention ≡ Convention.Ppc64 → Viewed s (readValues s base Answer.Done b into) b
 
 -- "an empty part means refused": an accepted view has a byte or more
 abbrev pub ViewSome : Type 0
