@@ -19,7 +19,7 @@ use Rattle.machine.specs.declared.Answer.the-variants.{Accepted, Refused}
 use Rattle.machine.specs.Answers.{settle}
 use Rattle.machine.specs.Machine.{startAnswer, startOutcome, started, notStarted, enterOutcome, enterMemory, writeRegisterOutcome, writeMemoryOutcome, leaveOutcome}
 use Rattle.word_layout.specs.Words.{registersIn, frameIn, stateIn, stateWords, registerWords, withRegisters}
-use Rattle.word_layout.specs.Calls.{changed, startWords, enterWords, writeRegisterWords, leaveWords}
+use Rattle.word_layout.specs.Calls.{changed, refusedWords, startWords, enterWords, writeRegisterWords, leaveWords}
 use Rattle.word_layout.proofs.Laws.{length-register-words, length-frames-words}
 use Rattle.word_layout.proofs.Theorems.{start-state, enter-state, write-register-state, leave-state}
 use Rattle.history.specs.Calls as states
@@ -72,7 +72,7 @@ words-length leave m =
 
 -- a start's are 230
 start-length : (c : Convention) (rs : List ℕ) (b n : ℕ) → length rs ≡ 66 → length (startWords c rs b n) ≡ 230
-unfolding startWords startOutcome started notStarted withPointer registersIn stateWords
+unfolding startWords refusedWords startOutcome started withPointer registersIn stateWords
 start-length c rs b n h = go (startAnswer c b n)
   where
     g : length (part 0 32 rs) ≡ 32
@@ -81,9 +81,9 @@ start-length c rs b n h = go (startAnswer c b n)
     f : length (part (0 + 32) 32 rs) ≡ 32
     f = length-part (0 + 32) 32 rs (omega arith)
 
-    go : (a : Answer) → length (stateWords (settle a (started c b n (registersIn rs 0)) (notStarted c (registersIn rs 0)))) ≡ 230
+    go : (a : Answer) → length (settle a (stateWords (settle a (started c b n (registersIn rs 0)) (notStarted c (registersIn rs 0)))) (refusedWords c rs)) ≡ 230
     go Accepted = simp length-append (omega (arith, length-register-words (started c b n (registersIn rs 0) .registers) (simp length-set g) f, length-frames-words (replicate 32 noFrame)))
-    go (Refused x) = simp length-append (omega (arith, length-register-words (registersIn rs 0) g f, length-frames-words (replicate 32 noFrame)))
+    go (Refused x) = simp length-append (omega arith)
 
 -- ---- a list of calls
 
@@ -120,4 +120,4 @@ registers-fit rs h = record {
 pub words-hold : Demand3
 words-hold c b l rs h e cs w =
     holds-read (rules c) cs [] (fresh c b l rs) (start-length c rs b (length l) (h .count))
-    (rw (start-state c rs b (length l) (h .count)) (calls-hold c b l (registersIn rs 0) (registers-fit rs h) e (callsIn cs) w))
+    (rw (start-state c rs b (length l) (h .count) e) (calls-hold c b l (registersIn rs 0) (registers-fit rs h) e (callsIn cs) w))
