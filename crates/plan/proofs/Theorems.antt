@@ -75,8 +75,8 @@ plan-disjoint n c r ts =
       hidden = λ s i x e a b. hidden-apart c r ts s i x e a (owned n c r ts i x b);
     }
 
-least : (c : Convention) (e : Cursor) → c ≡ Convention.Ppc64 → 64 ≤ areaOf (rulesOf c) e
-least Convention.Ppc64 e h = least-area 8 _ e
+least : (c : Convention) (e : Cursor) → c ≡ Convention.Ppc64 → 64 ≤ areaOf c e
+least Convention.Ppc64 e h = least-area Convention.Ppc64 e
 least Convention.Z e h = let z : _≡_ {A = ℕ} 0 1 = cc in absurd (omega arith)
 
 plan-within : (n : ℕ) (c : Convention) (r : ResultType) (ts : List ValueType) → Within (planIn n c r ts)
@@ -88,7 +88,7 @@ plan-within n c r ts =
     record {
       registers = λ i x o. owned-register c (rulesOf c) k ts i x named (owned n c r ts i x o);
       numbered = λ i. subst Numbered (sym (in-plan n c r ts i)) (span-numbered c (rulesOf c) k ts i named);
-      area = λ i b o. let l : b < e .stack = owned-before c (rulesOf c) k ts i (area b) (owned n c r ts i (area b) o) in omega (arith, area-holds (rulesOf c) e);
+      area = λ i b o. let l : b < e .stack = owned-before c (rulesOf c) k ts i (area b) (owned n c r ts i (area b) o) in omega (arith, area-holds c e);
       copies = λ i b o. owned-before c (rulesOf c) k ts i (copies b) (owned n c r ts i (copies b) o);
       memory-from = λ i. subst Homed (sym (in-plan n c r ts i)) (span-homed c (rulesOf c) k ts i) .from;
       memory-to = λ i. subst Homed (sym (in-plan n c r ts i)) (span-homed c (rulesOf c) k ts i) .to;

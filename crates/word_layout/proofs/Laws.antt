@@ -8,6 +8,7 @@ use lib.ListN.{length, getD, drop, set, length-append, drop-of-length-le}
 use lib.Seq.{drop-cons, take-all}
 use Rattle.words.specs.Splice.{overlay, splice, part}
 use Rattle.words.proofs.Splices.{splice-one, splice-nothing, splice-append, splice-next, splice-head}
+use Rattle.conventions.specs.Numbers.{codeOf}
 use Rattle.rules.specs.declared.Frame.{Frame}
 use Rattle.rules.specs.declared.Registers.{Registers}
 use Rattle.rules.specs.Frames.{noFrame}
@@ -16,7 +17,7 @@ use Rattle.machine.specs.declared.Refusal.{Refusal}
 use Rattle.machine.specs.declared.Answer.the-variants.{Accepted, Refused}
 use Rattle.machine.specs.Machine.{rulesOf, enterOutcome, writeRegisterOutcome, leaveOutcome, left}
 use Rattle.machine.proofs.States.{enter-yes, leave-yes}
-use Rattle.word_layout.specs.Words.{codeOf, frameIn, framesIn, stateIn, registerWords, frameWords, framesWords, stateWords, withRegisters}
+use Rattle.word_layout.specs.Words.{frameIn, framesIn, stateIn, registerWords, frameWords, framesWords, stateWords, withRegisters}
 use Rattle.word_layout.specs.Calls.{changed, enterWords, writeRegisterWords, leaveWords}
 
 -- ---- lengths and shape
