@@ -1,8 +1,8 @@
 -- The constants are the numbers of the definition.
 use Rattle.places.specs.Step.{fresh}
 use mathlib.Core.Path.{refl}
-use Rattle.places.proofs.Z.cursor.Statement.{statement}
-use Rattle.places.proofs.Z.cursor.Tie as tie
+use Rattle.abi.proofs.Z.cursor.Statement.{statement}
+use Rattle.abi.proofs.Z.cursor.Tie as tie
 
 returns : tie.Need-returns
 unfolding fresh
