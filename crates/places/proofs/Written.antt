@@ -252,7 +252,7 @@ z-reference-next c t n e = rw e (z-moved c (roundUp (c .copies) 8 + n) (ltb (c .
 -- "The area is the stack bytes used, possibly 0"
 pub z-area-written : (c : Cursor) → areaOf Convention.Z c ≡ c .stack
 unfolding areaOf
-z-area-written c = refl
+z-area-written c = omega arith
 
 -- ---- the results
 
