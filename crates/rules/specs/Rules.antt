@@ -1,4 +1,4 @@
--- A convention as a value: its numbers, and the two values. Document 01, "Frames"; the published papers are 000 (PPC64) and 001 (Z).
+-- A convention's frames as a value: its numbers, and the two values; those that calls have too come from `conventions`. Document 01, "Frames"; the published papers are 000 (PPC64) and 001 (Z).
 -- Assumes nothing.
 use Prim.Native.Nat.{ℕ, _-_, _^_}
 use mathlib.Core.Bool.{Bool, false, _&&_, _||_}
@@ -6,6 +6,7 @@ use mathlib.Core.List.{List, [], _∷_}
 use lib.Dec.{leb}
 pub use Rattle.conventions.specs.declared.Convention.{Convention}
 pub use Rattle.conventions.specs.declared.Convention.the-variants.{Ppc64, Z}
+use Rattle.conventions.specs.Numbers.{wordBytes, headerBytes, stackAlignment, leastArea}
 pub use Rattle.rules.specs.declared.Span.{Span}
 pub use Rattle.rules.specs.declared.Bank.{Bank}
 pub use Rattle.rules.specs.declared.Linkage.{Linkage}
@@ -32,10 +33,10 @@ within (v ∷ vs) n = inSpan v n || within vs n
 -- "Start .. B + N - 112 (PPC64)"; "Preserved are r2, r13 to r31, f14 to f31"
 abbrev pub ppc64 : Rules
 ppc64 = record {
-  word = 8;
-  header = 48;
-  least = 64;
-  alignment = 16;
+  word = wordBytes Ppc64;
+  header = headerBytes Ppc64;
+  least = leastArea Ppc64;
+  alignment = stackAlignment Ppc64;
   room = 112;
   pointer = 1;
   end = 32;
@@ -49,10 +50,10 @@ ppc64 = record {
 -- outgoing areas start "at 160 on Z"; "B + N - 160 (Z)"; preserved "on Z instead r6 to r13 and f8 to f15. The return address is LR, on Z r14"
 abbrev pub z : Rules
 z = record {
-  word = 8;
-  header = 160;
-  least = 0;
-  alignment = 8;
+  word = wordBytes Z;
+  header = headerBytes Z;
+  least = leastArea Z;
+  alignment = stackAlignment Z;
   room = 160;
   pointer = 15;
   end = 16;
