@@ -99,6 +99,10 @@ module _ {A : Type 0} (s : List ℕ) (e at : ℕ) where
   goes-within b (got a next n) h g = let k = g .1 in (g .0, omega arith)
   goes-within b (no f) h g = let k = g .1 in (g .0, omega arith)
 
+  pub fills-goes : (b : ℕ) (x : Reading A) → b ≤ e → Fills s b at x → Goes s e at x
+  fills-goes b (got a next n) h g = let k = g .1 in (g .0, omega arith)
+  fills-goes b (no f) h g = let k = g .1 in (g .0, omega arith)
+
   -- what follows a reading is a fault of its own, or what comes after it
   pub goes-then : {B : Type 0} (G : Reading A → Type 0) (x : Reading B) (g : B → ℕ → ℕ → Reading A) → Goes s e at x →
       ((f : Fault) → HowFar s at f × (stopOf s f ≤ e) → G (no f)) →

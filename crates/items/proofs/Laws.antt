@@ -1,7 +1,7 @@
 -- The readings' definitions, a law for each way through them: headers, sequences of items, structs, items; then what a
 -- program's answer says of the reading. Assumes nothing.
 use Prim.Native.Nat.{ℕ, zero, suc, _+_, _-_, _≤_, _<_}
-use mathlib.Core.Path.{_≡_, refl, _∙_}
+use mathlib.Core.Path.{_≡_, refl, ap, _∙_}
 use mathlib.Core.Bool.{Bool, true, false}
 use mathlib.Core.List.{List}
 use lib.ListN.{getD}
@@ -50,6 +50,10 @@ module _ (s : List ℕ) (low high e at : ℕ) where
         pub body-to : at + 3 + n ≤ e → bodyAt s low high e at ≡ Body.To (at + 3 + n)
         unfolding bodyAt
         body-to h = simp (le-ltb e (at + 3) room, le-ltb (getD s at 0) low l, le-ltb high (getD s at 0) u, ← length, le-ltb e (at + 3 + n) h)
+
+-- a fault after m headers and n more before them
+pub later-later : (n m : ℕ) (f : Fault) → later (n + m) f ≡ later n (later m f)
+later-later n m f = let same : n + m + f .passed ≡ n + (m + f .passed) = omega arith in ap (fault (f .reason) (f .place)) same
 
 -- a sequence, of which some items are read: what the whole gives is what reading on from here gives
 

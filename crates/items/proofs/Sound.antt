@@ -45,10 +45,11 @@ pub by-then : {A B : Type 0} (P : A → ℕ → ℕ → Type 0) (Q : B → ℕ �
 by-then P Q (got a next n) f p q = q a next n p
 by-then P Q (no r) f p q = tt
 
-pub by-after : {A : Type 0} (P Q : A → ℕ → ℕ → Type 0) (n : ℕ) (x : Reading A) → Got P x →
-    ((a : A) (next m : ℕ) → P a next m → Q a next (n + m)) → Got Q (after n x)
-by-after P Q n (got a next m) p q = q a next m p
-by-after P Q n (no f) p q = tt
+-- the same where n headers came before the first
+pub by-next : {A B : Type 0} (P : A → ℕ → ℕ → Type 0) (Q : B → ℕ → ℕ → Type 0) (n : ℕ) (x : Reading A) (f : A → ℕ → ℕ → Reading B) →
+    Got P x → ((a : A) (next m : ℕ) → P a next m → Got Q (f a next (n + m))) → Got Q (andThen (after n x) f)
+by-next P Q n (got a next m) f p q = q a next m p
+by-next P Q n (no r) f p q = tt
 
 -- a header with an allowed tag, whose body ends at b
 pub record Framed (s : List ℕ) (low high e at b : ℕ) : Type 0 where
@@ -195,10 +196,8 @@ module _ (c : Convention) (d : ℕ) (s : List ℕ) (b start n₀ limit : ℕ) (r
       by-pick (Got (Ended c d s b start n₀ limit)) (ltb next b) _ _ (λ _. tt) (λ l. record { all = a; last = ltb-false next b l; few = omega arith })
   sequence-sound (suc most) next n ts a q =
       by-choose (Got (Ended c d s b start n₀ limit)) (ltb next b) _ _
-      (λ _. by-then (λ t onward m. AllRead c d s b start n₀ (ts ▸ t) onward m) (Ended c d s b start n₀ limit) (after n (reader next)) _
-      (by-after (Read c d s b next) (λ t onward m. AllRead c d s b start n₀ (ts ▸ t) onward m) n (reader next) (sound next)
-      (λ t onward m r. one-read c d s b start n₀ ts next n t onward m a r))
-      (λ t onward m r. sequence-sound most onward m (ts ▸ t) r (omega arith)))
+      (λ _. by-next (Read c d s b next) (Ended c d s b start n₀ limit) n (reader next) _ (sound next)
+      (λ t onward m r. sequence-sound most onward (n + m) (ts ▸ t) (one-read c d s b start n₀ ts next n t onward m a r) (omega arith)))
       (λ l. record { all = a; last = ltb-false next b l; few = omega arith })
 
 left-below : (c : Convention) (d k : ℕ) (ts : Trees) → d ≡ k → AllLeft c d ts → AllLeft c k ts
