@@ -3,7 +3,7 @@
 use answers::Answer;
 ghost use mathlib.Core.Path.{_≡_};
 ghost use lib.ListN.{length};
-ghost use Rattle.rules.specs.declared.Convention.the-variants.{Ppc64, Z};
+ghost use Rattle.conventions.specs.declared.Convention.the-variants.{Ppc64, Z};
 ghost use Rattle.machine.specs.Machine.{startOutcome, startMemory, enterOutcome, enterMemory, writeRegisterOutcome, writeMemoryOutcome, writeMemoryMemory, leaveOutcome};
 ghost use Rattle.word_layout.specs.Words.{registersIn, frameIn, stateIn};
 ghost use Rattle.word_layout.specs.Calls.{startWords, enterWords, writeRegisterWords, leaveWords};

@@ -7,7 +7,7 @@ use native.Mathlib.Omega.{arith}
 use borrow.Author.Tests.{ltb-false, eqb-true}
 use lib.Dec.{eqb, ltb}
 use Rattle.words.specs.Basics.{pick}
-use Rattle.types.specs.declared.Convention.{Convention}
+use Rattle.conventions.specs.declared.Convention.{Convention}
 use Rattle.types.specs.Sizes.{sizeOf}
 use Rattle.items.specs.declared.Fault.{Fault}
 use Rattle.items.specs.Reading.{Reading, got, no}
@@ -18,10 +18,10 @@ use Rattle.signature.specs.declared.SignatureRead.{SignatureRead}
 use Rattle.signature.specs.Signature.{Signature}
 use Rattle.signature.specs.Read.{signatureOf}
 use Rattle.signature.specs.Answer.{resultType, signatureAnswer}
-use Rattle.convention.specs.declared.ResultPlaces.{ResultPlaces}
-use Rattle.convention.specs.Values.{pointer}
-use Rattle.convention.specs.Step.{rulesOf, wordOf, spanOf, fresh, hiddenFor, returning, resultOf}
-use Rattle.convention.specs.ZSeries.{zClass, zSpanOf}
+use Rattle.places.specs.declared.ResultPlaces.{ResultPlaces}
+use Rattle.places.specs.Values.{pointer}
+use Rattle.places.specs.Step.{rulesOf, wordOf, spanOf, fresh, hiddenFor, returning, resultOf}
+use Rattle.places.specs.ZSeries.{zClass, zSpanOf}
 use Rattle.plan.specs.declared.Plan.{Plan}
 use Rattle.plan.specs.Plan.{resultIn, planIn, planAnswer}
 use Rattle.slots.specs.declared.Answer.{Answer}

@@ -8,7 +8,7 @@ use native.Mathlib.Numerals.{add-one}
 use lib.ListN.{length, take, drop}
 use lib.Seq.{drop-drop}
 use Rattle.signature.specs.Answer.{argument}
-use Rattle.convention.specs.declared.Rules.{Rules}
+use Rattle.places.specs.declared.Rules.{Rules}
 use Rattle.slots.specs.Buffers.{Buffers, Slot, putAll}
 use Rattle.slots.specs.Placements.{Placement, slotsOf, slotsOfAll}
 use Rattle.slots.specs.Limits.{All, sizesOf}

@@ -1,5 +1,5 @@
 // Filling: the values of a call's arguments are put where its signature's plan says, unless a buffer is too small or its base unfit.
-use convention::ResultPlaces;
+use places::ResultPlaces;
 use plan::Plan;
 use signature::Outcome;
 use signature::SignatureRead;
@@ -8,7 +8,7 @@ use slots::Refusal;
 ghost use mathlib.Core.Path.{_≡_};
 ghost use mathlib.Core.List.{[]};
 ghost use lib.ListN.{length};
-ghost use Rattle.convention.specs.Step.{rulesOf};
+ghost use Rattle.places.specs.Step.{rulesOf};
 ghost use Rattle.slots.specs.Buffers.{buffers, putAll};
 ghost use Rattle.slots.specs.Placements.{slotsOfAll, hiddenSlots};
 ghost use Rattle.slots.specs.Refusals.{firstOf};
@@ -38,7 +38,7 @@ fn put_arguments(
 {
     let convention = g.convention;
     let count = g.count;
-    let rules = convention::rules_of(convention);
+    let rules = places::rules_of(convention);
     let mut v: usize = 0;
     let mut i: usize = 0;
     while i < count {

@@ -10,7 +10,7 @@ use Rattle.words.specs.Basics.{roundUp}
 use Rattle.words.specs.Splice.{overlay, splice}
 use Rattle.words.specs.Numbers.{bytesOf, valueOf}
 use Rattle.saves.specs.Saves.{store, load, saveRun, loadRun}
-use Rattle.rules.specs.declared.Convention.the-variants.{Ppc64, Z}
+use Rattle.conventions.specs.declared.Convention.the-variants.{Ppc64, Z}
 use Rattle.rules.specs.declared.Frame.{Frame}
 use Rattle.rules.specs.declared.Registers.{Registers}
 use Rattle.rules.specs.Frames.{withPointer, okRequest, below, frameSize, gprAt, savesBy, linkAt, mergeFields, restoredLr, restoredCr, restored, bankOf, writableField, writableRegister, withField, withRegister}

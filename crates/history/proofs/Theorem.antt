@@ -8,8 +8,8 @@ use lib.ListN.{length, getD, set, length-set}
 use lib.Seq.{getD-set-same}
 use Rattle.saves.specs.Saves.{load}
 use Rattle.saves.proofs.Words.{store-length, load-store}
-use Rattle.rules.specs.declared.Convention.{Convention}
-use Rattle.rules.specs.declared.Convention.the-variants.{Ppc64, Z}
+use Rattle.conventions.specs.declared.Convention.{Convention}
+use Rattle.conventions.specs.declared.Convention.the-variants.{Ppc64, Z}
 use Rattle.rules.specs.declared.Rules.{Rules}
 use Rattle.rules.specs.declared.Registers.{Registers}
 use Rattle.rules.specs.Rules.{rules}

@@ -12,9 +12,9 @@ use Rattle.ieee.specs.Narrowing.{narrow, candidate, candidateFields}
 use Rattle.types.specs.declared.FloatFormat.{FloatFormat}
 use Rattle.types.specs.declared.IntegerKind.{IntegerKind}
 use Rattle.types.specs.declared.ValueType.{ValueType}
-use Rattle.convention.specs.Values.{cursor}
-use Rattle.convention.specs.Power.{words, fprs, shareOf, powerShare}
-use Rattle.convention.specs.Step.{ppc64, spanOf}
+use Rattle.places.specs.Values.{cursor}
+use Rattle.places.specs.Power.{words, fprs, shareOf, powerShare}
+use Rattle.places.specs.Step.{ppc64, spanOf}
 use Rattle.slots.specs.Forms.{startsAtHead, extended, homeBytes, floatValue}
 use Rattle.slots.specs.Placements.{Placement, placement}
 use Rattle.home.specs.Home.{homedBytes, homed}

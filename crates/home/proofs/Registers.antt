@@ -15,7 +15,7 @@ use Rattle.words.proofs.Numbers.{value-bytesOf, bytesOf-zeroExtended}
 use Rattle.ieee.specs.declared.Narrowed.{Narrowed}
 use Rattle.ieee.specs.Narrowing.{narrow}
 use Rattle.ieee.proofs.Laws.{widen-narrow}
-use Rattle.types.specs.declared.Convention.{Convention}
+use Rattle.conventions.specs.declared.Convention.{Convention}
 use Rattle.types.specs.declared.FloatFormat.{FloatFormat}
 use Rattle.types.specs.declared.ValueType.{ValueType}
 use Rattle.types.specs.Sizes.{sizeOf, equivalentOf}
@@ -23,10 +23,10 @@ use Rattle.signature.specs.declared.Outcome.{Outcome}
 use Rattle.signature.specs.declared.SignatureRead.{SignatureRead}
 use Rattle.signature.specs.Read.{signatureOf}
 use Rattle.signature.specs.Answer.{signatureAnswer}
-use Rattle.convention.specs.declared.Rules.{Rules}
-use Rattle.convention.specs.declared.Span.{Span}
-use Rattle.convention.specs.Power.{words}
-use Rattle.convention.specs.Step.{ppc64, rulesOf}
+use Rattle.places.specs.declared.Rules.{Rules}
+use Rattle.places.specs.declared.Span.{Span}
+use Rattle.places.specs.Power.{words}
+use Rattle.places.specs.Step.{ppc64, rulesOf}
 use Rattle.plan.specs.declared.Plan.{Plan}
 use Rattle.slots.specs.declared.Answer.{Answer}
 use Rattle.items.specs.declared.Fault.{Fault}

@@ -1,23 +1,23 @@
 // Home: the arguments of a PPC64 call that came in registers, copied into the parameter area; and views of arguments in the area that it leaves, each
 // an argument's own bytes as a part of the caller's slice.
-use convention::Rules;
-use convention::Span;
+use conventions::Convention;
 use ieee::Narrowed;
+use places::Rules;
+use places::Span;
 use plan::Plan;
 use signature::Outcome;
 use signature::SignatureRead;
 use slots::Answer;
 use slots::Refusal;
-use types::Convention;
 use types::Equivalent;
 use types::ValueType;
 ghost use mathlib.Core.Path.{_≡_};
 ghost use Prim.Native.Nat.{_+_, _*_, _≤_, _<_};
 ghost use lib.ListN.{length};
 ghost use Rattle.words.specs.Splice.{overlay};
-ghost use Rattle.types.specs.declared.Convention.{Convention};
+ghost use Rattle.conventions.specs.declared.Convention.{Convention};
 ghost use Rattle.types.specs.Sizes.{sizeOf};
-ghost use Rattle.convention.specs.Step.{ppc64, rulesOf};
+ghost use Rattle.places.specs.Step.{ppc64, rulesOf};
 ghost use Rattle.slots.specs.Placements.{placement};
 ghost use Rattle.slots.specs.Refusals.{firstOf, afterReading};
 ghost use Rattle.slots.specs.Arguments.{argumentsIn};
@@ -60,7 +60,7 @@ fn first_unwidened(image: &[u8], g: SignatureRead, p: Plan) -> Answer
 {
     let convention = g.convention;
     let count = g.count;
-    let rules = convention::rules_of(convention);
+    let rules = places::rules_of(convention);
     let mut i: usize = 0;
     while i < count {
         let a = g.arguments[i];
@@ -220,7 +220,7 @@ pub fn view_part(sig: &[u8], index: usize, have: usize) -> ViewPart
     let s = p.spans[index];
     let place = s.home;
     let n = types::size_of(convention, t);
-    let start = place.start as usize + slots::own_start(convention::rules_of(convention), t, n);
+    let start = place.start as usize + slots::own_start(places::rules_of(convention), t, n);
     ViewPart {
         answer,
         start,

@@ -9,7 +9,7 @@ use lib.Dec.{ltb, eqb}
 use native.Mathlib.Omega.{arith}
 use borrow.Author.Tests.{ltb-false, ltb-true, eqb-true, eqb-false, eq-eqb}
 use Rattle.words.specs.Basics.{pick}
-use Rattle.types.specs.declared.Convention.{Convention}
+use Rattle.conventions.specs.declared.Convention.{Convention}
 use Rattle.types.specs.declared.FloatFormat.{FloatFormat}
 use Rattle.types.specs.Structs.{shapeOf}
 use Rattle.types.specs.Trees.{Tree, Trees, none, _▸_, fieldsOf}

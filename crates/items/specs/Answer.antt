@@ -1,6 +1,6 @@
 -- The program's answer for each reading of a type item. Assumes nothing.
 use Prim.Native.Nat.{ℕ, _-_}
-use Rattle.types.specs.declared.Convention.{Convention}
+use Rattle.conventions.specs.declared.Convention.{Convention}
 use Rattle.types.specs.declared.ValueType.{ValueType}
 use Rattle.types.specs.declared.Closed.{Closed}
 use Rattle.types.specs.Trees.{Tree, typeOf}

@@ -5,8 +5,8 @@ use Prim.Native.Nat.{ℕ, _+_, _<_}
 use native.Mathlib.Numerals.{add-one}
 use lib.ListN.{length, getD, take}
 use lib.Seq.{take-suc}
-use Rattle.convention.specs.declared.Place.{Place}
-use Rattle.convention.specs.Places.{noPlace}
+use Rattle.places.specs.declared.Place.{Place}
+use Rattle.places.specs.Places.{noPlace}
 use Rattle.text.specs.Writing.{Wrote}
 use Rattle.text.proofs.Writing.{wrote-then}
 use Rattle.line.specs.Line.{placeText, placesText}

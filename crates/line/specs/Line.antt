@@ -5,12 +5,12 @@ use mathlib.Core.Bool.{Bool}
 use mathlib.Core.List.{List, [], _∷_, _++_}
 use lib.Dec.{ltb}
 use Rattle.words.specs.Basics.{pick}
-use Rattle.types.specs.declared.Convention.{Convention}
-use Rattle.convention.specs.declared.Bank.{Bank}
-use Rattle.convention.specs.declared.Place.{Place}
-use Rattle.convention.specs.declared.Span.{Span}
-use Rattle.convention.specs.Step.{headerOf}
-use Rattle.convention.specs.Places.{registersOf}
+use Rattle.conventions.specs.declared.Convention.{Convention}
+use Rattle.places.specs.declared.Bank.{Bank}
+use Rattle.places.specs.declared.Place.{Place}
+use Rattle.places.specs.declared.Span.{Span}
+use Rattle.places.specs.Step.{headerOf}
+use Rattle.places.specs.Places.{registersOf}
 use Rattle.text.specs.Decimals.{decimal}
 use Rattle.line.specs.Words.{generalMark, floatingMark, memoryWord, offsetMark, referenceWord, newline}
 

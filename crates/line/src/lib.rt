@@ -1,16 +1,16 @@
 // The line of one argument in a printed plan: its number, its registers, `mem` where some of it is in memory, its offset, and `ref` where
 // it is passed by a pointer to a copy.
-use convention::Bank;
-use convention::Place;
-use convention::Span;
+use conventions::Convention;
+use places::Bank;
+use places::Place;
+use places::Span;
 use text::put_byte;
 use text::put_bytes;
 use text::put_decimal;
 use text::put_labelled;
-use types::Convention;
 ghost use mathlib.Core.List.{_++_};
 ghost use Prim.Native.Nat.{_+_, _^_, _≤_, _<_};
-ghost use Rattle.convention.specs.Places.{registersOf, Numbered};
+ghost use Rattle.places.specs.Places.{registersOf, Numbered};
 ghost use Rattle.text.specs.Decimals.{decimal};
 ghost use Rattle.text.specs.Writing.{Wrote};
 ghost use Rattle.line.specs.Words.{offsetMark};
@@ -49,7 +49,7 @@ pub fn put_registers(text: &mut [u8], at: usize, s: Span) -> usize
     let mut next = at;
     let mut i: usize = 0;
     while i < count {
-        let p = convention::register_of(s, i);
+        let p = places::register_of(s, i);
         next = put_place(text, next, p);
         i = i + 1;
     }
@@ -85,7 +85,7 @@ fn put_offset(text: &mut [u8], at: usize, c: Convention, s: Span) -> usize
         Convention::Ppc64 => put_at(text, at, home.start as usize),
         Convention::Z => {
             if 0 < memory.length {
-                return put_at(text, at, convention::Z::HEADER + home.start as usize);
+                return put_at(text, at, places::Z::HEADER + home.start as usize);
             }
             at
         }

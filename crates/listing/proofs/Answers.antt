@@ -1,16 +1,16 @@
 -- Every plan can be printed. Assumes nothing.
 use mathlib.Core.List.{List}
 use Prim.Native.Nat.{ℕ}
-use Rattle.types.specs.declared.Convention.{Convention}
+use Rattle.conventions.specs.declared.Convention.{Convention}
 use Rattle.types.specs.Sizes.{sizeOf}
 use Rattle.items.specs.Reading.{Reading, got, no}
 use Rattle.signature.specs.declared.ResultType.{ResultType}
 use Rattle.signature.specs.Signature.{Signature}
 use Rattle.signature.specs.Read.{signatureOf}
 use Rattle.signature.specs.Answer.{resultType}
-use Rattle.convention.specs.Step.{rulesOf}
-use Rattle.convention.specs.Places.{ResultNumbered}
-use Rattle.convention.proofs.Registers.{result-numbered}
+use Rattle.places.specs.Step.{rulesOf}
+use Rattle.places.specs.Places.{ResultNumbered}
+use Rattle.places.proofs.Registers.{result-numbered}
 use Rattle.plan.specs.Plan.{resultIn, planIn, planAnswer}
 use Rattle.plan.proofs.Answers.{answer-few, answer-table}
 use Rattle.plan.proofs.Theorems.{within}

@@ -7,8 +7,8 @@ use native.Mathlib.Nat.{add-zero, zero-add}
 use native.Mathlib.Numerals.{add-one}
 use lib.ListN.{length, getD, take}
 use lib.Seq.{take-suc, length-take-le}
-use Rattle.types.specs.declared.Convention.{Convention}
-use Rattle.convention.specs.declared.Span.{Span}
+use Rattle.conventions.specs.declared.Convention.{Convention}
+use Rattle.places.specs.declared.Span.{Span}
 use Rattle.plan.specs.Plan.{noSpan}
 use Rattle.text.specs.Writing.{Wrote}
 use Rattle.text.proofs.Writing.{wrote-then}

@@ -2,14 +2,14 @@
 use Prim.Native.Nat.{ℕ, suc}
 use mathlib.Core.List.{List, [], _∷_, _++_}
 use lib.ListN.{take}
-use Rattle.types.specs.declared.Convention.{Convention}
+use Rattle.conventions.specs.declared.Convention.{Convention}
 use Rattle.items.specs.declared.Fault.{Fault}
 use Rattle.items.specs.Refusals.{numberOf}
 use Rattle.signature.specs.declared.Outcome.{Outcome}
 use Rattle.signature.specs.Read.{signatureOf}
-use Rattle.convention.specs.declared.Span.{Span}
-use Rattle.convention.specs.declared.ResultPlaces.{ResultPlaces}
-use Rattle.convention.specs.Places.{registersOf}
+use Rattle.places.specs.declared.Span.{Span}
+use Rattle.places.specs.declared.ResultPlaces.{ResultPlaces}
+use Rattle.places.specs.Places.{registersOf}
 use Rattle.plan.specs.declared.Plan.{Plan}
 use Rattle.plan.specs.Plan.{planAnswer}
 use Rattle.text.specs.Decimals.{decimal}

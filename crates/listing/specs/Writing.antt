@@ -4,7 +4,7 @@ use mathlib.Core.List.{List}
 use lib.Dec.{ltb}
 use lib.ListN.{length}
 use Rattle.words.specs.Basics.{pick}
-use Rattle.convention.specs.Places.{Numbered, ResultNumbered}
+use Rattle.places.specs.Places.{Numbered, ResultNumbered}
 use Rattle.words.specs.Splice.{overlay}
 use Rattle.signature.specs.Read.{maxArguments}
 use Rattle.plan.specs.declared.Plan.{Plan}

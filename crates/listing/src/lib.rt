@@ -1,19 +1,19 @@
 // The printed plan of a signature. The writer runs twice, the first time to find the length, so that a buffer that is too short stays as
 // it was.
-use convention::ResultPlaces;
+use conventions::Convention;
 use items::Fault;
 use line::put_line;
 use line::put_registers;
+use places::ResultPlaces;
 use plan::Plan;
 use signature::Outcome;
 use text::put_byte;
 use text::put_bytes;
 use text::put_labelled;
-use types::Convention;
 ghost use mathlib.Core.Path.{_≡_};
 ghost use Prim.Native.Nat.{_+_, _^_, _≤_, _<_};
 ghost use lib.ListN.{length};
-ghost use Rattle.convention.specs.Places.{ResultNumbered};
+ghost use Rattle.places.specs.Places.{ResultNumbered};
 ghost use Rattle.text.specs.Writing.{Wrote};
 ghost use Rattle.listing.specs.Text.{nameOf, headText, resultPlacesText, resultText, refusalText, acceptedText, planText, listingOf};
 ghost use Rattle.listing.specs.Writing.{printed, Printable};

@@ -6,8 +6,8 @@ use native.Mathlib.Omega.{arith}
 use lib.ListN.{length}
 use lib.Seq.{getD-set-same}
 use lib.Dec.{leb, eqb}
-use Rattle.rules.specs.declared.Convention.{Convention}
-use Rattle.rules.specs.declared.Convention.the-variants.{Ppc64, Z}
+use Rattle.conventions.specs.declared.Convention.{Convention}
+use Rattle.conventions.specs.declared.Convention.the-variants.{Ppc64, Z}
 use Rattle.rules.specs.declared.Registers.{Registers}
 use Rattle.rules.specs.Rules.{ppc64, z, rules}
 use Rattle.rules.specs.Frames.{withPointer}

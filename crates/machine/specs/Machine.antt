@@ -8,7 +8,7 @@ use lib.ListN.{getD, set, length, replicate}
 use lib.Dec.{leb, ltb, eqb}
 use Rattle.words.specs.Splice.{splice}
 use Rattle.saves.specs.Saves.{store, load, saveAll}
-use Rattle.rules.specs.declared.Convention.{Convention}
+use Rattle.conventions.specs.declared.Convention.{Convention}
 use Rattle.rules.specs.declared.Rules.{Rules}
 use Rattle.rules.specs.declared.Frame.{Frame}
 use Rattle.rules.specs.declared.Registers.{Registers}

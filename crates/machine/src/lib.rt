@@ -2,7 +2,7 @@
 // `write_areas`, `call_checks`, `frame_steps` and `frame` have their code.
 ghost use mathlib.Core.Path.{_≡_};
 ghost use Rattle.machine.specs.Answers.{refusalNumber, answerNumber};
-use rules::Convention;
+use conventions::Convention;
 use rules::Frame;
 use rules::Registers;
 

@@ -7,8 +7,8 @@ ghost use Rattle.word_layout.specs.Words.{registersIn, frameIn, stateIn};
 ghost use Rattle.word_layout.specs.Calls.{startWords, enterWords, writeRegisterWords, leaveWords};
 use abi::Ppc64;
 use abi::Z;
+use conventions::Convention;
 use machine::Answer;
-use rules::Convention;
 
 // The fresh start on PPC64: all the words are written, also where it is refused.
 pub fn start_ppc64(

@@ -11,7 +11,7 @@ use Rattle.words.specs.Numbers.{bytesOf, valueOf}
 use Rattle.words.proofs.Splices.{splice-nothing}
 use Rattle.words.proofs.Numbers.{length-bytesOf}
 use Rattle.types.specs.Sizes.{equivalentOf}
-use Rattle.convention.specs.declared.Rules.{Rules}
+use Rattle.places.specs.declared.Rules.{Rules}
 use Rattle.slots.specs.Buffers.{buffers, generalAt, floatingAt, put, putAll}
 use Rattle.slots.specs.Forms.{startsAtHead, extended, homeBytes, floatWord, floatBytes}
 use Rattle.slots.specs.Placements.{Placement, standing, copyBytes, slotsOf}

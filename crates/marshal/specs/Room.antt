@@ -3,8 +3,8 @@ use Prim.Native.Nat.{ℕ, _+_, _-_, _*_, _%_, _^_, _≤_, _<_}
 use mathlib.Core.Path.{_≡_}
 use mathlib.Core.List.{List, _++_}
 use lib.ListN.{length, replicate}
-use Rattle.convention.specs.declared.Rules.{Rules}
-use Rattle.convention.specs.declared.Span.{Span}
+use Rattle.places.specs.declared.Rules.{Rules}
+use Rattle.places.specs.declared.Span.{Span}
 use Rattle.slots.specs.Placements.{Placement}
 use Rattle.slots.specs.Limits.{Held, Fits}
 

@@ -1,7 +1,7 @@
 // The value of one argument put where its span says: in registers, memory and copy. A slot or a copy is written through the part of its
 // buffer that starts at its offset.
-use convention::Rules;
-use convention::Span;
+use places::Rules;
+use places::Span;
 use types::ValueType;
 ghost use mathlib.Core.Path.{_≡_};
 ghost use mathlib.Core.List.{_++_};

@@ -5,12 +5,12 @@ ghost use lib.ListN.{length};
 ghost use Rattle.types.specs.Structs.{closed};
 ghost use Rattle.items.specs.Read.{structAt, itemAt};
 ghost use Rattle.items.specs.Answer.{itemAnswer, closedAnswer};
+use conventions::Convention;
 use items::Body;
 use items::Fault;
 use items::ItemRead;
 use items::Refusal;
 use types::Closed;
-use types::Convention;
 use types::Fields;
 use types::ValueType;
 

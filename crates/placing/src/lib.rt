@@ -1,17 +1,17 @@
 // The places of arguments and of a result in every convention: the step of its cursor, where the first argument starts, and the size of the area.
 ghost use mathlib.Core.Path.{_≡_};
 ghost use Prim.Native.Nat.{_≤_};
-ghost use Rattle.convention.specs.Values.{pointer};
-ghost use Rattle.convention.specs.Step.{Lawful, Roomy, rulesOf, wordOf, nextOf, placed, fresh, startOf, areaOf, returning, hiddenFor, resultOf};
-use convention::Cursor;
-use convention::Edition;
-use convention::Placed;
-use convention::PowerRules;
-use convention::Ppc64;
-use convention::ResultPlaces;
-use convention::Rules;
-use convention::Z;
-use types::Convention;
+ghost use Rattle.places.specs.Values.{pointer};
+ghost use Rattle.places.specs.Step.{Lawful, Roomy, rulesOf, wordOf, nextOf, placed, fresh, startOf, areaOf, returning, hiddenFor, resultOf};
+use conventions::Convention;
+use places::Cursor;
+use places::Edition;
+use places::Placed;
+use places::PowerRules;
+use places::Ppc64;
+use places::ResultPlaces;
+use places::Rules;
+use places::Z;
 use types::FloatFormat;
 use types::IntegerKind;
 use types::ValueType;
@@ -60,7 +60,7 @@ pub fn advance(r: Rules, c: Cursor, t: ValueType, size: usize) -> Cursor
 fn hidden_step(c: Convention) -> Placed
     ensures { λ p. ⌜ p ≡ placed (rulesOf c) (fresh (rulesOf c)) pointer (wordOf (rulesOf c)) ⌝ }
 {
-    let r = convention::rules_of(c);
+    let r = places::rules_of(c);
     let k = fresh_of(c);
     let word = word_of(r);
     step(r, k, ValueType::Integer(IntegerKind::Pointer), word)
@@ -122,7 +122,7 @@ pub fn result_places(c: Convention, t: ValueType, size: usize) -> ResultPlaces
     requires { ⌜ size ≤ 256 ⌝ }
     ensures { λ q. ⌜ q ≡ resultOf (rulesOf c) t size ⌝ }
 {
-    let r = convention::rules_of(c);
+    let r = places::rules_of(c);
     if hidden_for(r, t) {
         let p = hidden_step(c);
         let address = p.span;

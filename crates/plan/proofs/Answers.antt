@@ -5,7 +5,7 @@ use Prim.Native.Nat.{ℕ, zero, suc, _+_, _-_, _≤_, _<_}
 use native.Mathlib.Omega.{arith}
 use lib.ListN.{length, getD, take, replicate, length-append, List·getD-append}
 use lib.Seq.{take-at, getD-at}
-use Rattle.types.specs.declared.Convention.{Convention}
+use Rattle.conventions.specs.declared.Convention.{Convention}
 use Rattle.types.specs.declared.IntegerKind.{IntegerKind}
 use Rattle.types.specs.declared.ValueType.{ValueType}
 use Rattle.types.specs.Sizes.{sizeOf}
@@ -19,7 +19,7 @@ use Rattle.signature.specs.Read.{maxArguments, signatureOf}
 use Rattle.signature.specs.Answer.{argument, listed, table, resultType, signatureAnswer}
 use Rattle.signature.specs.Exact.{ResultSized}
 use Rattle.signature.proofs.Theorems.{accepted}
-use Rattle.convention.specs.Step.{rulesOf}
+use Rattle.places.specs.Step.{rulesOf}
 use Rattle.plan.specs.Plan.{tableOf, startIn, planIn, typesOf, planAnswer, typeIn, planned}
 use Rattle.plan.specs.Limits.{SmallResult, Plannable}
 use Rattle.plan.proofs.Fold.{length-spans}

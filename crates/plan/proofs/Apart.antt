@@ -7,19 +7,19 @@ use native.Mathlib.Omega.{arith}
 use borrow.Author.Tests.{ltb-true, ltb-false}
 use lib.Dec.{ltb}
 use lib.ListN.{length, getD, replicate}
-use Rattle.types.specs.declared.Convention.{Convention}
+use Rattle.conventions.specs.declared.Convention.{Convention}
 use Rattle.types.specs.declared.ValueType.{ValueType}
 use Rattle.types.specs.Sizes.{sizeOf}
 use Rattle.signature.specs.Read.{maxArguments}
-use Rattle.convention.specs.declared.Cursor.{Cursor}
-use Rattle.convention.specs.declared.Span.{Span}
-use Rattle.convention.specs.declared.Rules.{Rules}
-use Rattle.convention.specs.Step.{nextOf}
-use Rattle.convention.specs.Places.{Numbered}
-use Rattle.convention.specs.Spots.{Spot, general, floating, area, copies, Owns, ArgumentRegister}
-use Rattle.convention.proofs.Bounds.{Named, named-next}
-use Rattle.convention.proofs.Between.{Before, From, before-from, before-later, from-earlier, step-between, step-forward, owns-from, owns-before}
-use Rattle.convention.proofs.Registers.{step-numbered, step-registers}
+use Rattle.places.specs.declared.Cursor.{Cursor}
+use Rattle.places.specs.declared.Span.{Span}
+use Rattle.places.specs.declared.Rules.{Rules}
+use Rattle.places.specs.Step.{nextOf}
+use Rattle.places.specs.Places.{Numbered}
+use Rattle.places.specs.Spots.{Spot, general, floating, area, copies, Owns, ArgumentRegister}
+use Rattle.places.proofs.Bounds.{Named, named-next}
+use Rattle.places.proofs.Between.{Before, From, before-from, before-later, from-earlier, step-between, step-forward, owns-from, owns-before}
+use Rattle.places.proofs.Registers.{step-numbered, step-registers}
 use Rattle.plan.specs.Plan.{spansOf, lastOf, noSpan, tableOf}
 use Rattle.plan.proofs.Fold.{last-forward}
 

@@ -5,14 +5,14 @@ use mathlib.Core.List.{List, [], _∷_, _++_}
 use Prim.Native.Nat.{ℕ, suc, _+_, _*_, _≤_}
 use native.Mathlib.Omega.{arith}
 use lib.ListN.{length}
-use Rattle.types.specs.declared.Convention.{Convention}
+use Rattle.conventions.specs.declared.Convention.{Convention}
 use Rattle.types.specs.declared.ValueType.{ValueType}
 use Rattle.types.specs.Sizes.{sizeOf}
-use Rattle.convention.specs.declared.Cursor.{Cursor}
-use Rattle.convention.specs.declared.Rules.{Rules}
-use Rattle.convention.specs.Step.{Lawful, Roomy, nextOf, startOf}
-use Rattle.convention.proofs.Bounds.{Named, named-start, named-next, named-roomy, near-next, start-bytes}
-use Rattle.convention.proofs.Between.{Forward, forward-same, forward-then, step-forward}
+use Rattle.places.specs.declared.Cursor.{Cursor}
+use Rattle.places.specs.declared.Rules.{Rules}
+use Rattle.places.specs.Step.{Lawful, Roomy, nextOf, startOf}
+use Rattle.places.proofs.Bounds.{Named, named-start, named-next, named-roomy, near-next, start-bytes}
+use Rattle.places.proofs.Between.{Forward, forward-same, forward-then, step-forward}
 use Rattle.signature.specs.Read.{maxArguments}
 use Rattle.plan.specs.Plan.{spansOf, lastOf, valuesOf}
 

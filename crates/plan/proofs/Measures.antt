@@ -8,7 +8,7 @@ use borrow.Author.Tests.{lt-ltb, le-ltb}
 use lib.ListN.{length}
 use lib.Dec.{ltb}
 use Rattle.words.specs.Basics.{pick}
-use Rattle.types.specs.declared.Convention.{Convention}
+use Rattle.conventions.specs.declared.Convention.{Convention}
 use Rattle.types.specs.declared.ValueType.{ValueType}
 use Rattle.types.specs.Sizes.{sizeOf}
 use Rattle.types.specs.Trees.{Trees, none, _▸_, typeOf}
@@ -27,9 +27,9 @@ use Rattle.signature.specs.Read.{argumentsIn, signatureOf, headOf}
 use Rattle.signature.specs.Answer.{resultType, headAnswer}
 use Rattle.signature.proofs.Laws.{thenArguments, signature-then}
 use Rattle.signature.proofs.Loop.{Turn, turn-start, turn-more, turn-last}
-use Rattle.convention.specs.declared.Cursor.{Cursor}
-use Rattle.convention.specs.declared.Rules.{Rules}
-use Rattle.convention.specs.Step.{Lawful, rulesOf, nextOf, startOf, areaOf}
+use Rattle.places.specs.declared.Cursor.{Cursor}
+use Rattle.places.specs.declared.Rules.{Rules}
+use Rattle.places.specs.Step.{Lawful, rulesOf, nextOf, startOf, areaOf}
 use Rattle.plan.specs.declared.Measured.{Measured}
 use Rattle.plan.specs.Plan.{lastOf, valuesOf, typesOf, startIn, planIn, refused, planAnswer, measureOf, planWith}
 use Rattle.plan.proofs.Fold.{last-more, values-more, Reached, reached-start, reached-more}

@@ -6,7 +6,7 @@ use Prim.Native.Nat.{ℕ, _≤_, _<_}
 use native.Mathlib.Omega.{arith}
 use lib.ListN.{getD, replicate}
 use Rattle.words.specs.Basics.{pick}
-use Rattle.types.specs.declared.Convention.{Convention}
+use Rattle.conventions.specs.declared.Convention.{Convention}
 use Rattle.types.specs.declared.ValueType.{ValueType}
 use Rattle.types.specs.Sizes.{sizeOf}
 use Rattle.items.specs.declared.Fault.{Fault}
@@ -15,15 +15,15 @@ use Rattle.signature.specs.declared.ResultType.{ResultType}
 use Rattle.signature.specs.Signature.{Signature}
 use Rattle.signature.specs.Read.{maxArguments}
 use Rattle.signature.specs.Answer.{resultType}
-use Rattle.convention.specs.declared.Cursor.{Cursor}
-use Rattle.convention.specs.declared.Span.{Span}
-use Rattle.convention.specs.declared.ResultPlaces.{ResultPlaces}
-use Rattle.convention.specs.Values.{pointer}
-use Rattle.convention.specs.Step.{rulesOf, wordOf, spanOf, fresh, startOf, areaOf, hiddenFor, returning, resultOf}
-use Rattle.convention.specs.Places.{Numbered}
-use Rattle.convention.specs.Spots.{Spot, area, copies, Owns, imageSpot}
-use Rattle.convention.proofs.Bounds.{named-start, area-holds, least-area}
-use Rattle.convention.proofs.Between.{before-from, owns-before}
+use Rattle.places.specs.declared.Cursor.{Cursor}
+use Rattle.places.specs.declared.Span.{Span}
+use Rattle.places.specs.declared.ResultPlaces.{ResultPlaces}
+use Rattle.places.specs.Values.{pointer}
+use Rattle.places.specs.Step.{rulesOf, wordOf, spanOf, fresh, startOf, areaOf, hiddenFor, returning, resultOf}
+use Rattle.places.specs.Places.{Numbered}
+use Rattle.places.specs.Spots.{Spot, area, copies, Owns, imageSpot}
+use Rattle.places.proofs.Bounds.{named-start, area-holds, least-area}
+use Rattle.places.proofs.Between.{before-from, owns-before}
 use Rattle.plan.specs.Plan.{spansOf, noSpan, hiddenIn, resultIn, startIn, endIn, planIn, refused, typesOf, planAnswer}
 use Rattle.plan.specs.Disjoint.{spanAt, Disjoint, Within}
 use Rattle.plan.proofs.Apart.{in-table, getD-blanks, spanIn, none-owned, owned-from, owned-before, owned-register, owned-apart, span-numbered, span-homed, Homed}

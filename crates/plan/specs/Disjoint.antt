@@ -3,13 +3,13 @@
 use Prim.Native.Nat.{ℕ, _+_, _≤_, _<_}
 use mathlib.Core.Path.{_≡_}
 use lib.ListN.{getD}
-use Rattle.types.specs.declared.Convention.{Convention}
+use Rattle.conventions.specs.declared.Convention.{Convention}
 use Rattle.signature.specs.declared.Outcome.{Outcome}
-use Rattle.convention.specs.declared.Span.{Span}
-use Rattle.convention.specs.declared.ResultPlaces.{ResultPlaces}
-use Rattle.convention.specs.Step.{rulesOf}
-use Rattle.convention.specs.Places.{Numbered}
-use Rattle.convention.specs.Spots.{Spot, area, copies, Owns, imageSpot, ArgumentRegister}
+use Rattle.places.specs.declared.Span.{Span}
+use Rattle.places.specs.declared.ResultPlaces.{ResultPlaces}
+use Rattle.places.specs.Step.{rulesOf}
+use Rattle.places.specs.Places.{Numbered}
+use Rattle.places.specs.Spots.{Spot, area, copies, Owns, imageSpot, ArgumentRegister}
 use Rattle.plan.specs.declared.Plan.{Plan}
 use Rattle.plan.specs.Plan.{noSpan}
 

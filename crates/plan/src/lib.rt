@@ -1,17 +1,17 @@
 // The plan of a signature: for each argument its registers, memory and copy; the sizes of the parameter area, the values and
 // the copies; the places of the result.
-use convention::ByteRange;
-use convention::RegisterRange;
-use convention::ResultPlaces;
-use convention::Span;
+use conventions::Convention;
 use items::Fault;
 use items::ItemRead;
 use items::Refusal;
+use places::ByteRange;
+use places::RegisterRange;
+use places::ResultPlaces;
+use places::Span;
 use signature::HeadRead;
 use signature::Outcome;
 use signature::ResultType;
 use signature::SignatureRead;
-use types::Convention;
 ghost use mathlib.Core.Path.{_≡_};
 ghost use Prim.Native.Nat.{_^_, _≤_};
 ghost use lib.ListN.{length};
@@ -75,7 +75,7 @@ fn hidden_in(c: Convention, result: ResultType) -> bool
 {
     match result {
         ResultType::Nothing => false,
-        ResultType::Value(t) => placing::hidden_for(convention::rules_of(c), t),
+        ResultType::Value(t) => placing::hidden_for(places::rules_of(c), t),
     }
 }
 
@@ -104,7 +104,7 @@ pub fn plan_signature(g: SignatureRead) -> Plan
             let convention = g.convention;
             let returned = g.result;
             let count = g.count;
-            let rules = convention::rules_of(convention);
+            let rules = places::rules_of(convention);
             let hidden = hidden_in(convention, returned);
             let result = result_in(convention, returned);
             let mut c = placing::start(convention, hidden);
@@ -161,7 +161,7 @@ fn measure_arguments(
     requires { ⌜ (at ≤ end) × (end ≤ length (now s)) × (end ≤ 2 ^ 16) × (earlier ≤ 2 ^ 16) ⌝ }
     ensures { λ m. ⌜ m ≡ measureOf (planWith convention returned earlier (length (now (s .entry))) (argumentsIn convention (now (s .entry)) at end)) ⌝ }
 {
-    let rules = convention::rules_of(convention);
+    let rules = places::rules_of(convention);
     let hidden = hidden_in(convention, returned);
     let mut c = placing::start(convention, hidden);
     let mut values: usize = 0;

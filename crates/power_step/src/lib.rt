@@ -1,16 +1,16 @@
 // One argument on PowerPC: how many of its words have a GPR, an FPR or memory, and where they stand.
 ghost use mathlib.Core.Path.{_≡_};
 ghost use Prim.Native.Nat.{_*_, _≤_};
-ghost use Rattle.convention.specs.declared.Rules.{Rules};
-ghost use Rattle.convention.specs.Power.{words, fprs, shareOf, powerShare, powerSpan, powerNext};
-ghost use Rattle.convention.specs.Step.{Roomy, placedAs, nextOf, placed};
+ghost use Rattle.places.specs.declared.Rules.{Rules};
+ghost use Rattle.places.specs.Power.{words, fprs, shareOf, powerShare, powerSpan, powerNext};
+ghost use Rattle.places.specs.Step.{Roomy, placedAs, nextOf, placed};
 ghost use Rattle.power_step.specs.Counted.{Counted};
-use convention::Cursor;
-use convention::Edition;
-use convention::Placed;
-use convention::PowerRules;
-use convention::Share;
-use convention::Span;
+use places::Cursor;
+use places::Edition;
+use places::Placed;
+use places::PowerRules;
+use places::Share;
+use places::Span;
 use types::FloatFormat;
 use types::ValueType;
 
@@ -128,11 +128,11 @@ fn place(word: usize, c: Cursor, a: Taken) -> Placed
     let stored = s.memory;
     Placed {
         span: Span {
-            general: convention::register_range(general, held),
-            floating: convention::register_range(floating, floats),
-            home: convention::byte_range(stack, word * n),
-            memory: convention::byte_range(stack + word * (n - stored), word * stored),
-            copy: convention::byte_range(copies, 0),
+            general: places::register_range(general, held),
+            floating: places::register_range(floating, floats),
+            home: places::byte_range(stack, word * n),
+            memory: places::byte_range(stack + word * (n - stored), word * stored),
+            copy: places::byte_range(copies, 0),
             indirect: false,
         },
         next: next_of(word, c, a),

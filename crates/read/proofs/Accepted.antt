@@ -10,7 +10,7 @@ use Rattle.signature.specs.declared.Outcome.{Outcome}
 use Rattle.signature.specs.declared.SignatureRead.{SignatureRead}
 use Rattle.signature.specs.Read.{signatureOf}
 use Rattle.signature.specs.Answer.{signatureAnswer}
-use Rattle.convention.specs.Step.{rulesOf}
+use Rattle.places.specs.Step.{rulesOf}
 use Rattle.plan.specs.declared.Plan.{Plan}
 use Rattle.slots.specs.declared.Answer.{Answer}
 use Rattle.items.specs.declared.Fault.{Fault}

@@ -1,7 +1,7 @@
 // Reading: the values of a call's arguments out of its registers, memory and copies. A first pass over the arguments finds the first
 // that can't be read, and only then are the values taken, so that a refused reading leaves the value buffer as it was.
-use convention::Rules;
-use convention::Span;
+use places::Rules;
+use places::Span;
 use plan::Plan;
 use signature::Outcome;
 use signature::SignatureRead;
@@ -10,7 +10,7 @@ use slots::Refusal;
 use types::ValueType;
 ghost use mathlib.Core.Path.{_≡_};
 ghost use lib.ListN.{length};
-ghost use Rattle.convention.specs.Step.{rulesOf};
+ghost use Rattle.places.specs.Step.{rulesOf};
 ghost use Rattle.slots.specs.Buffers.{buffers};
 ghost use Rattle.slots.specs.Placements.{placement};
 ghost use Rattle.slots.specs.Refusals.{firstOf};
@@ -88,7 +88,7 @@ pub fn first_refusal(
 {
     let convention = g.convention;
     let count = g.count;
-    let rules = convention::rules_of(convention);
+    let rules = places::rules_of(convention);
     let mut i: usize = 0;
     while i < count {
         let a = g.arguments[i];

@@ -9,7 +9,7 @@ use lib.Dec.{ltb, eqb}
 use native.Mathlib.Omega.{arith}
 use borrow.Author.Tests.{le-ltb, eq-eqb, ne-eqb, ltb-false, eqb-true}
 use Rattle.words.specs.Basics.{pick}
-use Rattle.types.specs.declared.Convention.{Convention}
+use Rattle.conventions.specs.declared.Convention.{Convention}
 use Rattle.types.specs.Trees.{Tree, Trees, none, _▸_, typeOf, countOf}
 use Rattle.items.specs.declared.Refusal.{Refusal}
 use Rattle.items.specs.declared.Fault.{Fault}

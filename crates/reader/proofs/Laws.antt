@@ -7,7 +7,7 @@ use lib.Dec.{ltb}
 use native.Mathlib.Numerals.{sub-one}
 use native.Mathlib.Omega.{arith}
 use borrow.Author.Tests.{lt-ltb, le-ltb, ltb-false}
-use Rattle.types.specs.declared.Convention.{Convention}
+use Rattle.conventions.specs.declared.Convention.{Convention}
 use Rattle.types.specs.declared.ValueType.{ValueType}
 use Rattle.types.specs.Trees.{Tree, typeOf}
 use Rattle.items.specs.declared.Refusal.{Refusal}

@@ -1,12 +1,12 @@
 // A reader that keeps a signature's bytes and its place in them together, to step through items one by one; and above it a
 // function over plain bytes, for every other caller. Functions over bytes and numbers do the work: the reader's own only take
 // it apart and put it together.
+use conventions::Convention;
 use items::Body;
 use items::Fault;
 use items::ItemRead;
 use items::Refusal;
 use signature::Outcome;
-use types::Convention;
 use types::ValueType;
 ghost use mathlib.Core.Path.{_≡_};
 ghost use Rattle.items.specs.Answer.{itemAnswer};

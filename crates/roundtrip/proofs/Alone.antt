@@ -14,8 +14,8 @@ use Rattle.words.specs.Basics.{pick}
 use Rattle.words.specs.Splice.{splice, part}
 use Rattle.words.proofs.Splices.{splice-at-other}
 use Rattle.words.specs.Numbers.{valueOf}
-use Rattle.convention.specs.declared.Rules.{Rules}
-use Rattle.convention.specs.Spots.{Spot, general, floating, area, copies}
+use Rattle.places.specs.declared.Rules.{Rules}
+use Rattle.places.specs.Spots.{Spot, general, floating, area, copies}
 use Rattle.slots.specs.Buffers.{Buffers, Slot, generalAt, floatingAt, put, putAll, bytesAt}
 use Rattle.slots.specs.Forms.{floatValue, ownStart}
 use Rattle.slots.specs.Placements.{Placement, wordsAt, floatAt, addressAt, wordsValue, valueAt}

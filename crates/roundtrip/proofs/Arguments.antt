@@ -17,9 +17,9 @@ use Rattle.words.specs.Numbers.{Bytes, bytesOf, valueOf}
 use Rattle.words.proofs.Splices.{splice-same, splice-other, length-splice, length-part}
 use Rattle.words.proofs.Numbers.{length-bytesOf, value-back}
 use Rattle.types.specs.Sizes.{equivalentOf}
-use Rattle.convention.specs.declared.Cursor.{Cursor}
-use Rattle.convention.specs.declared.Rules.{Rules}
-use Rattle.convention.specs.Spots.{general, floating, area, copies}
+use Rattle.places.specs.declared.Cursor.{Cursor}
+use Rattle.places.specs.declared.Rules.{Rules}
+use Rattle.places.specs.Spots.{general, floating, area, copies}
 use Rattle.slots.specs.declared.Answer.{Answer}
 use Rattle.slots.specs.Buffers.{Buffers, Slot, put, putAll, bytesAt}
 use Rattle.slots.specs.Forms.{roomOf, homeBytes, ownStart, floatWord, floatBytes, floatValueAs, floatValue}

@@ -16,7 +16,7 @@ use Rattle.ieee.specs.Narrowing.{narrow}
 use Rattle.ieee.proofs.Laws.{widen-below, narrow-widen}
 use Rattle.types.specs.declared.Equivalent.{Equivalent}
 use Rattle.types.specs.declared.ValueType.{ValueType}
-use Rattle.convention.specs.declared.Rules.{Rules}
+use Rattle.places.specs.declared.Rules.{Rules}
 use Rattle.slots.specs.declared.Answer.{Answer}
 use Rattle.slots.specs.Forms.{roomOf, isSigned, startsAtHead, extended, homeBytes, ownStart, floatWord, narrowedBytes, floatValueAs}
 use Rattle.slots.specs.Limits.{FloatSized}

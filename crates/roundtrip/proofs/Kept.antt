@@ -7,16 +7,16 @@ use Prim.Native.Nat.{ℕ, _+_, _*_, _≤_}
 use native.Mathlib.Omega.{arith}
 use lib.ListN.{length, take, drop, length-take}
 use Rattle.words.proofs.Splices.{splice-other}
-use Rattle.types.specs.declared.Convention.{Convention}
+use Rattle.conventions.specs.declared.Convention.{Convention}
 use Rattle.types.specs.declared.ValueType.{ValueType}
 use Rattle.types.specs.Sizes.{sizeOf}
-use Rattle.convention.specs.declared.Cursor.{Cursor}
-use Rattle.convention.specs.declared.Rules.{Rules}
-use Rattle.convention.specs.Spots.{Spot, general, floating, area, copies}
-use Rattle.convention.specs.Step.{spanOf, nextOf}
-use Rattle.convention.proofs.Bounds.{Named, named-next}
-use Rattle.convention.proofs.Between.{From, Forward, from-earlier, step-between, step-forward}
-use Rattle.convention.proofs.Registers.{step-numbered}
+use Rattle.places.specs.declared.Cursor.{Cursor}
+use Rattle.places.specs.declared.Rules.{Rules}
+use Rattle.places.specs.Spots.{Spot, general, floating, area, copies}
+use Rattle.places.specs.Step.{spanOf, nextOf}
+use Rattle.places.proofs.Bounds.{Named, named-next}
+use Rattle.places.proofs.Between.{From, Forward, from-earlier, step-between, step-forward}
+use Rattle.places.proofs.Registers.{step-numbered}
 use Rattle.plan.specs.Plan.{spansOf}
 use Rattle.slots.specs.Buffers.{Buffers, Slot, put, putAll, bytesAt}
 use Rattle.slots.specs.Forms.{floatBytes}

@@ -9,7 +9,7 @@ use borrow.Author.Tests.{ltb-true, ltb-false}
 use lib.Dec.{ltb}
 use lib.ListN.{length, getD, take, drop}
 use Rattle.words.specs.Basics.{pick}
-use Rattle.types.specs.declared.Convention.{Convention}
+use Rattle.conventions.specs.declared.Convention.{Convention}
 use Rattle.types.specs.declared.ValueType.{ValueType}
 use Rattle.types.specs.Sizes.{sizeOf}
 use Rattle.items.specs.declared.Fault.{Fault}
@@ -17,13 +17,13 @@ use Rattle.items.specs.Reading.{Reading, got, no}
 use Rattle.signature.specs.Signature.{Signature}
 use Rattle.signature.specs.Read.{signatureOf}
 use Rattle.signature.specs.Answer.{resultType, signatureAnswer}
-use Rattle.convention.specs.declared.Cursor.{Cursor}
-use Rattle.convention.specs.declared.Rules.{Rules}
-use Rattle.convention.specs.Spots.{Spot, general, floating, area, copies}
-use Rattle.convention.specs.Step.{rulesOf, spanOf, nextOf}
-use Rattle.convention.proofs.Bounds.{Named, named-next, named-start}
-use Rattle.convention.proofs.Between.{From, step-between}
-use Rattle.convention.proofs.Registers.{step-numbered}
+use Rattle.places.specs.declared.Cursor.{Cursor}
+use Rattle.places.specs.declared.Rules.{Rules}
+use Rattle.places.specs.Spots.{Spot, general, floating, area, copies}
+use Rattle.places.specs.Step.{rulesOf, spanOf, nextOf}
+use Rattle.places.proofs.Bounds.{Named, named-next, named-start}
+use Rattle.places.proofs.Between.{From, step-between}
+use Rattle.places.proofs.Registers.{step-numbered}
 use Rattle.plan.specs.Plan.{spansOf, hiddenIn, startIn, planAnswer, typesOf}
 use Rattle.slots.specs.Buffers.{Slot}
 use Rattle.slots.specs.Placements.{Placement, placement, placements, standing, copyBytes, slotsOf, slotsOfAll}

@@ -13,7 +13,7 @@ use Rattle.words.specs.Splice.{overlay}
 use Rattle.words.specs.Numbers.{Bytes}
 use Rattle.words.proofs.Splices.{overlay-is}
 use Rattle.words.proofs.Numbers.{bytes-part}
-use Rattle.types.specs.declared.Convention.{Convention}
+use Rattle.conventions.specs.declared.Convention.{Convention}
 use Rattle.types.specs.declared.ValueType.{ValueType}
 use Rattle.types.specs.Sizes.{sizeOf}
 use Rattle.items.specs.declared.Fault.{Fault}
@@ -22,12 +22,12 @@ use Rattle.signature.specs.declared.Outcome.{Outcome}
 use Rattle.signature.specs.Signature.{Signature}
 use Rattle.signature.specs.Read.{signatureOf}
 use Rattle.signature.specs.Answer.{resultType, signatureAnswer}
-use Rattle.convention.specs.declared.Cursor.{Cursor}
-use Rattle.convention.specs.declared.Rules.{Rules}
-use Rattle.convention.specs.Step.{rulesOf, spanOf, nextOf}
-use Rattle.convention.proofs.Bounds.{Named, named-next, named-start}
-use Rattle.convention.proofs.Between.{step-between}
-use Rattle.convention.proofs.Registers.{step-numbered}
+use Rattle.places.specs.declared.Cursor.{Cursor}
+use Rattle.places.specs.declared.Rules.{Rules}
+use Rattle.places.specs.Step.{rulesOf, spanOf, nextOf}
+use Rattle.places.proofs.Bounds.{Named, named-next, named-start}
+use Rattle.places.proofs.Between.{step-between}
+use Rattle.places.proofs.Registers.{step-numbered}
 use Rattle.plan.specs.declared.Plan.{Plan}
 use Rattle.plan.specs.Plan.{spansOf, hiddenIn, startIn, planAnswer, typesOf}
 use Rattle.slots.specs.declared.Answer.{Answer}

@@ -12,7 +12,7 @@ use Rattle.words.specs.Basics.{pick}
 use Rattle.words.specs.Splice.{splice, part}
 use Rattle.words.specs.Numbers.{valueOf}
 use Rattle.words.proofs.Splices.{splice-same, splice-other, length-splice, length-part, part-add, part-part}
-use Rattle.types.specs.declared.Convention.{Convention}
+use Rattle.conventions.specs.declared.Convention.{Convention}
 use Rattle.types.specs.declared.ValueType.{ValueType}
 use Rattle.types.specs.Sizes.{sizeOf, equivalentOf}
 use Rattle.items.specs.declared.Fault.{Fault}
@@ -21,13 +21,13 @@ use Rattle.signature.specs.declared.ResultType.{ResultType}
 use Rattle.signature.specs.Signature.{Signature}
 use Rattle.signature.specs.Read.{signatureOf}
 use Rattle.signature.specs.Answer.{resultType, signatureAnswer}
-use Rattle.convention.specs.declared.Cursor.{Cursor}
-use Rattle.convention.specs.declared.Rules.{Rules}
-use Rattle.convention.specs.declared.ResultPlaces.{ResultPlaces}
-use Rattle.convention.specs.declared.Span.{Span}
-use Rattle.convention.specs.Values.{pointer}
-use Rattle.convention.specs.Power.{words}
-use Rattle.convention.specs.Step.{ppc64, rulesOf, spanOf, nextOf, fresh, startOf, hiddenFor, returning, resultOf}
+use Rattle.places.specs.declared.Cursor.{Cursor}
+use Rattle.places.specs.declared.Rules.{Rules}
+use Rattle.places.specs.declared.ResultPlaces.{ResultPlaces}
+use Rattle.places.specs.declared.Span.{Span}
+use Rattle.places.specs.Values.{pointer}
+use Rattle.places.specs.Power.{words}
+use Rattle.places.specs.Step.{ppc64, rulesOf, spanOf, nextOf, fresh, startOf, hiddenFor, returning, resultOf}
 use Rattle.plan.specs.declared.Plan.{Plan}
 use Rattle.plan.specs.Plan.{spansOf, resultIn, startIn, planIn, planAnswer, typesOf}
 use Rattle.slots.specs.declared.Answer.{Answer}

@@ -4,8 +4,8 @@ use Prim.Native.Nat.{ℕ, _+_, _≤_, _<_}
 use mathlib.Core.Logic.{_⊎_}
 use mathlib.Core.List.{List, [], _∷_}
 use lib.ListN.{length, take, drop}
-use Rattle.convention.specs.declared.Rules.{Rules}
-use Rattle.convention.specs.Spots.{Spot, general, floating, area, copies}
+use Rattle.places.specs.declared.Rules.{Rules}
+use Rattle.places.specs.Spots.{Spot, general, floating, area, copies}
 use Rattle.slots.specs.Buffers.{Slot, generalAt, floatingAt}
 use Rattle.slots.specs.Placements.{Placement, slotsOf}
 

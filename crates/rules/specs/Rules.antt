@@ -4,8 +4,8 @@ use Prim.Native.Nat.{ℕ, _-_, _^_}
 use mathlib.Core.Bool.{Bool, false, _&&_, _||_}
 use mathlib.Core.List.{List, [], _∷_}
 use lib.Dec.{leb}
-pub use Rattle.rules.specs.declared.Convention.{Convention}
-pub use Rattle.rules.specs.declared.Convention.the-variants.{Ppc64, Z}
+pub use Rattle.conventions.specs.declared.Convention.{Convention}
+pub use Rattle.conventions.specs.declared.Convention.the-variants.{Ppc64, Z}
 pub use Rattle.rules.specs.declared.Span.{Span}
 pub use Rattle.rules.specs.declared.Bank.{Bank}
 pub use Rattle.rules.specs.declared.Linkage.{Linkage}

@@ -8,11 +8,6 @@ ghost use Rattle.rules.specs.Rules.{inSpan};
 ghost use Rattle.rules.specs.Frames.{startFrame, withPointer, okRequest, hasCondition, outgoingLength, below, frameSize};
 ghost use Rattle.rules.specs.Lawful.{Lawful};
 
-pub enum Convention {
-    Ppc64,
-    Z,
-}
-
 // The registers `first` to `last`.
 pub struct Span {
     pub first: usize,

@@ -7,7 +7,7 @@ use lib.Dec.{ltb, eqb}
 use native.Mathlib.Omega.{arith}
 use borrow.Author.Tests.{ltb-false, eqb-true}
 use Rattle.words.specs.Numbers.{Bytes}
-use Rattle.types.specs.declared.Convention.{Convention}
+use Rattle.conventions.specs.declared.Convention.{Convention}
 use Rattle.types.specs.Trees.{Tree, Trees, none, countOf}
 use Rattle.types.specs.Limits as limits
 use Rattle.items.specs.Reading.{Reading, got, no}

@@ -7,7 +7,7 @@ use lib.ListN.{length}
 use native.Mathlib.Omega.{arith}
 use Rattle.words.specs.Numbers.{Bytes}
 use Rattle.words.proofs.Numbers.{bytes-append}
-use Rattle.types.specs.declared.Convention.{Convention}
+use Rattle.conventions.specs.declared.Convention.{Convention}
 use Rattle.types.proofs.Sized.{within-sized, all-within-sized}
 use Rattle.items.specs.declared.Fault.{Fault}
 use Rattle.items.specs.Reading.{got, no}

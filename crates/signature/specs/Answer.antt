@@ -4,7 +4,7 @@ use mathlib.Core.List.{List, [], _∷_, _++_}
 use lib.ListN.{replicate}
 use lib.Dec.{ltb}
 use Rattle.words.specs.Basics.{pick}
-use Rattle.types.specs.declared.Convention.{Convention}
+use Rattle.conventions.specs.declared.Convention.{Convention}
 use Rattle.types.specs.declared.IntegerKind.{IntegerKind}
 use Rattle.types.specs.declared.ValueType.{ValueType}
 use Rattle.types.specs.Trees.{Trees, none, _▸_, typeOf, countOf}

@@ -3,7 +3,7 @@
 use Prim.Native.Nat.{ℕ, _+_, _≤_}
 use mathlib.Core.List.{List, [], _∷_, _++_}
 use lib.ListN.{length}
-use Rattle.types.specs.declared.Convention.{Convention}
+use Rattle.conventions.specs.declared.Convention.{Convention}
 use Rattle.types.specs.Trees.{countOf}
 use Rattle.types.specs.Limits as types
 use Rattle.items.specs.Encode.{item, encodeTree, encodeTrees, itemsOf, itemsIn}

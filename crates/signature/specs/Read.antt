@@ -5,7 +5,7 @@ use mathlib.Core.List.{List}
 use lib.ListN.{length, getD}
 use lib.Dec.{ltb, eqb}
 use Rattle.words.specs.Basics.{pick}
-use Rattle.types.specs.declared.Convention.{Convention}
+use Rattle.conventions.specs.declared.Convention.{Convention}
 use Rattle.types.specs.Trees.{Trees, none}
 use Rattle.items.specs.declared.Refusal.{Refusal}
 use Rattle.items.specs.declared.Body.{Body}

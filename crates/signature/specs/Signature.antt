@@ -1,6 +1,6 @@
 -- A signature: a calling convention, a result's type or none, and the arguments' types in order. Assumes nothing.
 use Prim.Native.Nat.{ℕ}
-use Rattle.types.specs.declared.Convention.{Convention}
+use Rattle.conventions.specs.declared.Convention.{Convention}
 use Rattle.types.specs.Trees.{Tree, Trees}
 
 pub data Result : Type 0 where

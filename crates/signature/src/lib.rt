@@ -1,9 +1,9 @@
 // Reads a whole signature: the convention, the result's type and the types of 0 to 64 arguments.
+use conventions::Convention;
 use items::Body;
 use items::Fault;
 use items::ItemRead;
 use items::Refusal;
-use types::Convention;
 use types::IntegerKind;
 use types::ValueType;
 ghost use mathlib.Core.Path.{_≡_};

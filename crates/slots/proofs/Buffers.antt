@@ -5,7 +5,7 @@ use mathlib.Core.List.{List, [], _∷_, _++_}
 use Prim.Native.Nat.{ℕ}
 use lib.ListN.{length}
 use Rattle.words.proofs.Splices.{length-splice}
-use Rattle.convention.specs.Spots.{Spot, general, floating, area, copies}
+use Rattle.places.specs.Spots.{Spot, general, floating, area, copies}
 use Rattle.slots.specs.Buffers.{Buffers, Slot, put, putAll}
 
 -- b has buffers of the lengths of a

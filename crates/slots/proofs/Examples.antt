@@ -6,9 +6,9 @@ use Rattle.types.specs.declared.IntegerKind.{IntegerKind}
 use Rattle.types.specs.declared.FloatFormat.{FloatFormat}
 use Rattle.types.specs.declared.Equivalent.{Equivalent}
 use Rattle.types.specs.declared.ValueType.{ValueType}
-use Rattle.convention.specs.declared.Rules.{Rules}
-use Rattle.convention.specs.Power.{words}
-use Rattle.convention.specs.Step.{ppc64}
+use Rattle.places.specs.declared.Rules.{Rules}
+use Rattle.places.specs.Power.{words}
+use Rattle.places.specs.Step.{ppc64}
 use Rattle.slots.specs.Forms.{startsAtHead, extended, homeBytes, floatBytes}
 
 -- a struct of three bytes

@@ -6,19 +6,19 @@ use native.Mathlib.Omega.{arith}
 use borrow.Author.Tests.{eqb-true}
 use lib.Dec.{leb, eqb}
 use Rattle.words.specs.Basics.{pick}
-use Rattle.types.specs.declared.Convention.{Convention}
+use Rattle.conventions.specs.declared.Convention.{Convention}
 use Rattle.types.specs.declared.IntegerKind.{IntegerKind}
 use Rattle.types.specs.declared.FloatFormat.{FloatFormat}
 use Rattle.types.specs.declared.Equivalent.{Equivalent}
 use Rattle.types.specs.declared.ValueType.{ValueType}
 use Rattle.types.specs.Sizes.{integerSize, sizeOf, equivalentOf}
-use Rattle.convention.specs.declared.Cursor.{Cursor}
-use Rattle.convention.specs.declared.Rules.{Rules}
-use Rattle.convention.specs.declared.ZClass.{ZClass}
-use Rattle.convention.specs.Values.{share}
-use Rattle.convention.specs.Power.{words, fprs, covered, shareOf, powerShare, powerSpan}
-use Rattle.convention.specs.ZSeries.{zClass, zSpanOf, bySize, byEquivalent}
-use Rattle.convention.specs.Step.{ppc64, rulesOf, spanOf}
+use Rattle.places.specs.declared.Cursor.{Cursor}
+use Rattle.places.specs.declared.Rules.{Rules}
+use Rattle.places.specs.declared.ZClass.{ZClass}
+use Rattle.places.specs.Values.{share}
+use Rattle.places.specs.Power.{words, fprs, covered, shareOf, powerShare, powerSpan}
+use Rattle.places.specs.ZSeries.{zClass, zSpanOf, bySize, byEquivalent}
+use Rattle.places.specs.Step.{ppc64, rulesOf, spanOf}
 use Rattle.slots.specs.Forms.{startsAtHead}
 use Rattle.slots.specs.Placements.{placement}
 use Rattle.slots.specs.Limits.{FloatSized, Held}

@@ -4,7 +4,7 @@ use mathlib.Core.Bool.{Bool, true, false}
 use Prim.Native.Nat.{ℕ, _+_, _*_, _≤_}
 use native.Mathlib.Omega.{arith}
 use Rattle.types.specs.declared.Equivalent.{Equivalent}
-use Rattle.convention.specs.declared.Rules.{Rules}
+use Rattle.places.specs.declared.Rules.{Rules}
 use Rattle.slots.specs.Forms.{startsAtHead}
 use Rattle.slots.specs.Placements.{Placement}
 use Rattle.slots.specs.Limits.{FloatSized, Held}

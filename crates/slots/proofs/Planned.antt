@@ -4,16 +4,16 @@ use mathlib.Core.Path.{_≡_, refl, ap}
 use mathlib.Core.List.{List, [], _∷_, _++_}
 use Prim.Native.Nat.{ℕ, _+_, _≤_}
 use native.Mathlib.Omega.{arith}
-use Rattle.types.specs.declared.Convention.{Convention}
+use Rattle.conventions.specs.declared.Convention.{Convention}
 use Rattle.types.specs.declared.ValueType.{ValueType}
 use Rattle.types.specs.Sizes.{sizeOf}
-use Rattle.convention.specs.declared.Cursor.{Cursor}
-use Rattle.convention.specs.declared.Rules.{Rules}
-use Rattle.convention.specs.declared.Span.{Span}
-use Rattle.convention.specs.Step.{rulesOf, spanOf, nextOf}
-use Rattle.convention.proofs.Bounds.{Named, named-next}
-use Rattle.convention.proofs.Between.{step-between}
-use Rattle.convention.proofs.Registers.{step-numbered}
+use Rattle.places.specs.declared.Cursor.{Cursor}
+use Rattle.places.specs.declared.Rules.{Rules}
+use Rattle.places.specs.declared.Span.{Span}
+use Rattle.places.specs.Step.{rulesOf, spanOf, nextOf}
+use Rattle.places.proofs.Bounds.{Named, named-next}
+use Rattle.places.proofs.Between.{step-between}
+use Rattle.places.proofs.Registers.{step-numbered}
 use Rattle.plan.specs.Plan.{spansOf, lastOf, valuesOf}
 use Rattle.plan.proofs.Fold.{last-forward}
 use Rattle.slots.specs.Placements.{Placement, placement, placements}

@@ -6,8 +6,8 @@ use lib.ListN.{length}
 use Rattle.signature.specs.declared.SignatureRead.{SignatureRead}
 use Rattle.signature.specs.Read.{signatureOf}
 use Rattle.signature.specs.Answer.{signatureAnswer}
-use Rattle.convention.specs.declared.Rules.{Rules}
-use Rattle.convention.specs.Step.{rulesOf}
+use Rattle.places.specs.declared.Rules.{Rules}
+use Rattle.places.specs.Step.{rulesOf}
 use Rattle.plan.specs.declared.Plan.{Plan}
 use Rattle.plan.specs.Plan.{planAnswer, typesIn}
 use Rattle.slots.specs.Placements.{Placement, placements}

@@ -6,7 +6,7 @@ use mathlib.Core.Path.{_≡_}
 use mathlib.Core.List.{List, [], _∷_}
 use lib.ListN.{length}
 use Rattle.words.specs.Splice.{splice, part}
-use Rattle.convention.specs.Spots.{Spot, general, floating, area, copies}
+use Rattle.places.specs.Spots.{Spot, general, floating, area, copies}
 
 -- the register image, the parameter area and the copy buffer
 pub record Buffers : Type 0 where

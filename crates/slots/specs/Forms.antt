@@ -16,8 +16,8 @@ use Rattle.types.specs.declared.FloatFormat.{FloatFormat}
 use Rattle.types.specs.declared.Equivalent.{Equivalent}
 use Rattle.types.specs.declared.ValueType.{ValueType}
 use Rattle.types.specs.Sizes.{equivalentOf}
-use Rattle.convention.specs.declared.Rules.{Rules}
-use Rattle.convention.specs.Power.{words}
+use Rattle.places.specs.declared.Rules.{Rules}
+use Rattle.places.specs.Power.{words}
 
 -- the bytes of the words that a value takes: "Sizes in doublewords .. struct size / 8 rounded up"; Z: "8 stack bytes", or a register
 abbrev pub roomOf : Rules → ℕ → ℕ

@@ -7,13 +7,13 @@ use lib.Dec.{ltb}
 use Rattle.words.specs.Basics.{pick}
 use Rattle.words.specs.Splice.{part}
 use Rattle.words.specs.Numbers.{bytesOf, valueOf}
-use Rattle.types.specs.declared.Convention.{Convention}
+use Rattle.conventions.specs.declared.Convention.{Convention}
 use Rattle.types.specs.declared.ValueType.{ValueType}
 use Rattle.types.specs.Sizes.{sizeOf}
-use Rattle.convention.specs.declared.Rules.{Rules}
-use Rattle.convention.specs.declared.Span.{Span}
-use Rattle.convention.specs.declared.ResultPlaces.{ResultPlaces}
-use Rattle.convention.specs.Spots.{general, floating, area, copies}
+use Rattle.places.specs.declared.Rules.{Rules}
+use Rattle.places.specs.declared.Span.{Span}
+use Rattle.places.specs.declared.ResultPlaces.{ResultPlaces}
+use Rattle.places.specs.Spots.{general, floating, area, copies}
 use Rattle.slots.specs.Buffers.{Buffers, Slot, slot, bytesAt}
 use Rattle.slots.specs.Forms.{homeBytes, floatBytes, floatValue, ownStart}
 

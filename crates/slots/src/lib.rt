@@ -1,8 +1,8 @@
 // What stands in the slots of one argument: the 64 bits of a value in a general register, in memory or in an FPR, and the refusals
 // of filling, reading, home and view.
-use convention::Rules;
 use ieee::Narrowed;
 use items::Fault;
+use places::Rules;
 use types::Equivalent;
 use types::FloatFormat;
 use types::IntegerKind;

@@ -6,8 +6,8 @@ ghost use Rattle.words.specs.Splice.{splice, part};
 ghost use Rattle.rules.specs.Frames.{flag};
 ghost use Rattle.word_layout.specs.Words.{codeOf, conventionOf, depthIn, registersIn, frameIn, framesIn, stateIn, registerWords, framesWords, stateWords, withRegisters, withFrame};
 ghost use Rattle.word_layout.specs.Calls.{changed};
+use conventions::Convention;
 use machine::State;
-use rules::Convention;
 use rules::Frame;
 use rules::Registers;
 

@@ -1,7 +1,7 @@
 -- Every type within the limits has a size of 1 to 256 bytes and an alignment of 1 to 16. Assumes nothing.
 use Prim.Native.Nat.{_<_}
 use mathlib.Core.Bool.{Bool, true, false}
-use Rattle.types.specs.declared.Convention.{Convention}
+use Rattle.conventions.specs.declared.Convention.{Convention}
 use Rattle.types.specs.Sizes.{Sized}
 use Rattle.types.specs.Trees.{Tree, Trees, integer, float, struct, none, _▸_, typeOf, fieldsOf}
 use Rattle.types.specs.Limits.{Some, Fits, AllFit, Within, AllWithin, AllSized}

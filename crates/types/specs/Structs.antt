@@ -4,7 +4,7 @@ use Prim.Native.Nat.{_+_, max}
 use mathlib.Core.Bool.{Bool, true, false}
 use lib.Dec.{ltb}
 use Rattle.words.specs.Basics.{roundUp}
-use Rattle.types.specs.declared.Convention.{Convention}
+use Rattle.conventions.specs.declared.Convention.{Convention}
 use Rattle.types.specs.declared.Equivalent.{Equivalent}
 use Rattle.types.specs.declared.Shape.{Shape}
 use Rattle.types.specs.declared.ValueType.{ValueType}

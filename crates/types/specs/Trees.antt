@@ -1,7 +1,7 @@
 -- A type whole, as a signature's bytes describe it: a struct with its fields in order. What a program keeps of it, its
 -- `ValueType`, is computed here from the tree. Assumes nothing.
 use Prim.Native.Nat.{ℕ, _+_}
-use Rattle.types.specs.declared.Convention.{Convention}
+use Rattle.conventions.specs.declared.Convention.{Convention}
 use Rattle.types.specs.declared.IntegerKind.{IntegerKind}
 use Rattle.types.specs.declared.FloatFormat.{FloatFormat}
 use Rattle.types.specs.declared.ValueType.{ValueType}

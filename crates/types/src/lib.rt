@@ -1,12 +1,7 @@
 // The types that a signature names: integers, floats and structs, with the size of each. The code of a struct's layout is in the crate above.
+use conventions::Convention;
 ghost use mathlib.Core.Path.{_≡_};
 ghost use Rattle.types.specs.Sizes.{pointerSize, integerSize, floatSize, sizeOf, equivalentOf};
-
-// A calling convention, as a signature's first item names it. The sizes of types are those of its machine.
-pub enum Convention {
-    Ppc64,
-    Z,
-}
 
 // An integer type or a pointer. Document 01 calls these whole numbers.
 pub enum IntegerKind {

@@ -7,7 +7,7 @@ use native.Mathlib.Numerals.{add-one}
 use lib.ListN.{length, drop}
 use Rattle.words.specs.Splice.{overlay, splice}
 use Rattle.words.proofs.Splices.{length-splice, splice-head, splice-nothing, splice-append}
-use Rattle.convention.specs.declared.Rules.{Rules}
+use Rattle.places.specs.declared.Rules.{Rules}
 use Rattle.slots.specs.Buffers.{Buffers}
 use Rattle.slots.specs.Placements.{Placement, valueAt, valuesAt}
 use Rattle.slots.specs.Limits.{All, sizesOf}

@@ -9,9 +9,9 @@ use Rattle.words.specs.Numbers.{valueOf}
 use Rattle.types.specs.declared.Equivalent.{Equivalent}
 use Rattle.types.specs.Sizes.{equivalentOf}
 use Rattle.signature.specs.declared.SignatureRead.{SignatureRead}
-use Rattle.convention.specs.declared.Rules.{Rules}
-use Rattle.convention.specs.declared.Span.{Span}
-use Rattle.convention.specs.Step.{rulesOf}
+use Rattle.places.specs.declared.Rules.{Rules}
+use Rattle.places.specs.declared.Span.{Span}
+use Rattle.places.specs.Step.{rulesOf}
 use Rattle.plan.specs.declared.Plan.{Plan}
 use Rattle.slots.specs.declared.Answer.{Answer}
 use Rattle.slots.specs.Buffers.{Buffers}

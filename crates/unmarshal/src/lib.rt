@@ -1,7 +1,7 @@
 // The values of arguments taken out of their registers, memory and copies. An argument is taken only where nothing refuses its reading.
-use convention::Rules;
-use convention::Span;
 use ieee::Narrowed;
+use places::Rules;
+use places::Span;
 use plan::Plan;
 use signature::SignatureRead;
 use types::Equivalent;
@@ -12,7 +12,7 @@ ghost use Prim.Native.Nat.{_+_, _*_, _≤_};
 ghost use lib.ListN.{length};
 ghost use Rattle.words.specs.Splice.{overlay, part};
 ghost use Rattle.ieee.specs.Narrowing.{narrow as narrowOf};
-ghost use Rattle.convention.specs.Step.{rulesOf};
+ghost use Rattle.places.specs.Step.{rulesOf};
 ghost use Rattle.slots.specs.Buffers.{buffers};
 ghost use Rattle.slots.specs.Forms.{narrowedBytes, floatValueAs};
 ghost use Rattle.slots.specs.Placements.{placement, wordsAt, addressAt, valueAt, valuesAt};
@@ -145,7 +145,7 @@ pub fn take_arguments(
 {
     let convention = g.convention;
     let count = g.count;
-    let rules = convention::rules_of(convention);
+    let rules = places::rules_of(convention);
     let mut v: usize = 0;
     let mut i: usize = 0;
     while i < count {

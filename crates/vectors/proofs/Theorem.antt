@@ -5,10 +5,10 @@ use Rattle.types.specs.Structs.{withField, shapeOf}
 use Rattle.types.specs.Trees.{typeOf}
 use Rattle.items.specs.Read.{bodyAt, integerCode, floatCode, integerAt, floatAt, sequence, sizedAt, contentsAt, itemBy, structAt, itemAt}
 use Rattle.signature.specs.Read.{conventionCode, conventionAt, resultIn, resultAt, argumentsIn, argumentsAt, afterResult, afterConvention, signatureOf}
-use Rattle.convention.specs.Power.{words, fprs, shareOf, powerShare}
-use Rattle.convention.specs.ZSeries.{zClass, zSpanOf, zNextOf}
-use Rattle.convention.specs.Step.{spanOf, nextOf, fresh, startOf, areaOf, hiddenFor, returning, resultOf}
-use Rattle.convention.specs.Places.{upFrom, registersOf}
+use Rattle.places.specs.Power.{words, fprs, shareOf, powerShare}
+use Rattle.places.specs.ZSeries.{zClass, zSpanOf, zNextOf}
+use Rattle.places.specs.Step.{spanOf, nextOf, fresh, startOf, areaOf, hiddenFor, returning, resultOf}
+use Rattle.places.specs.Places.{upFrom, registersOf}
 use Rattle.plan.specs.Plan.{spansOf, lastOf, tableOf, planIn, typesOf, planAnswer}
 use Rattle.text.specs.Decimals.{digitsOf, decimal}
 use Rattle.line.specs.Line.{placesText, lineText}

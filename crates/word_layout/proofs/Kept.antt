@@ -13,8 +13,8 @@ use lib.Seq.{set-getD, getD-set-same, getD-set-other}
 use borrow.Author.Tests.{leb-true}
 use Rattle.words.specs.Splice.{overlay, splice, part, Apart}
 use Rattle.words.proofs.Splices.{length-part, splice-one, splice-other}
-use Rattle.rules.specs.declared.Convention.{Convention}
-use Rattle.rules.specs.declared.Convention.the-variants.{Ppc64, Z}
+use Rattle.conventions.specs.declared.Convention.{Convention}
+use Rattle.conventions.specs.declared.Convention.the-variants.{Ppc64, Z}
 use Rattle.rules.specs.declared.Rules.{Rules}
 use Rattle.rules.specs.declared.RegisterBank.{RegisterBank}
 use Rattle.rules.specs.declared.RegisterBank.the-variants.{General, Floating, Link, ConditionField, None}

@@ -5,8 +5,8 @@ use mathlib.Core.Bool.{false}
 use mathlib.Core.List.{List, _++_}
 use lib.ListN.{getD}
 use borrow.Author.Tests.{lt-leb}
-use Rattle.rules.specs.declared.Convention.{Convention}
-use Rattle.rules.specs.declared.Convention.the-variants.{Ppc64, Z}
+use Rattle.conventions.specs.declared.Convention.{Convention}
+use Rattle.conventions.specs.declared.Convention.the-variants.{Ppc64, Z}
 use Rattle.rules.specs.declared.Rules.{Rules}
 use Rattle.rules.specs.Rules.{rules}
 use Rattle.rules.specs.Frames.{okRequest}

@@ -12,8 +12,8 @@ use borrow.Author.Tests.{le-leb}
 use Rattle.words.specs.Splice.{splice}
 use Rattle.words.proofs.Splices.{length-part, splice-at-other}
 use Rattle.saves.proofs.Taking.{taken-length}
-use Rattle.rules.specs.declared.Convention.{Convention}
-use Rattle.rules.specs.declared.Convention.the-variants.{Ppc64, Z}
+use Rattle.conventions.specs.declared.Convention.{Convention}
+use Rattle.conventions.specs.declared.Convention.the-variants.{Ppc64, Z}
 use Rattle.rules.specs.declared.Frame.{Frame}
 use Rattle.rules.specs.declared.Rules.{Rules}
 use Rattle.rules.specs.declared.Registers.{Registers}

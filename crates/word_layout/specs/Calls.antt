@@ -4,7 +4,7 @@
 -- Records that are not entered are neither looked at nor changed, whatever their words are. Assumes nothing.
 use Prim.Native.Nat.{ℕ}
 use mathlib.Core.List.{List}
-use Rattle.rules.specs.declared.Convention.{Convention}
+use Rattle.conventions.specs.declared.Convention.{Convention}
 use Rattle.machine.specs.Answers.{settle}
 use Rattle.machine.specs.declared.State.{State}
 use Rattle.machine.specs.Machine.{frameAt, startOutcome, enterOutcome, writeRegisterOutcome, leaveOutcome}

@@ -8,10 +8,10 @@ use mathlib.Core.List.{List, [], _∷_, _++_}
 use lib.ListN.{getD, set}
 use lib.Dec.{leb, eqb}
 use Rattle.words.specs.Splice.{splice, part}
-use Rattle.rules.specs.declared.Convention.{Convention}
+use Rattle.conventions.specs.declared.Convention.{Convention}
 use Rattle.rules.specs.declared.Frame.{Frame}
 use Rattle.rules.specs.declared.Registers.{Registers}
-use Rattle.rules.specs.declared.Convention.the-variants.{Ppc64, Z}
+use Rattle.conventions.specs.declared.Convention.the-variants.{Ppc64, Z}
 use Rattle.words.specs.Basics.{pick}
 use Rattle.rules.specs.Frames.{firstGpr, firstFpr, savesCr, noFrame, flag}
 use Rattle.machine.specs.declared.State.{State}

@@ -1,15 +1,15 @@
 // One argument on Z: its class, and the register, the memory or the copy that the class asks for.
 ghost use mathlib.Core.Path.{_≡_};
 ghost use Prim.Native.Nat.{_+_, _-_, _*_, _≤_, min};
-ghost use Rattle.convention.specs.declared.Rules.{Rules};
-ghost use Rattle.convention.specs.ZSeries.{bySize, byEquivalent, zClass, zSpan, zNext, zSpanOf, zNextOf};
-ghost use Rattle.convention.specs.Values.{bytes};
-ghost use Rattle.convention.specs.Step.{Roomy, placedAs, nextOf, placed};
-use convention::Cursor;
-use convention::Placed;
-use convention::Span;
-use convention::Z;
-use convention::ZClass;
+ghost use Rattle.places.specs.declared.Rules.{Rules};
+ghost use Rattle.places.specs.ZSeries.{bySize, byEquivalent, zClass, zSpan, zNext, zSpanOf, zNextOf};
+ghost use Rattle.places.specs.Values.{bytes};
+ghost use Rattle.places.specs.Step.{Roomy, placedAs, nextOf, placed};
+use places::Cursor;
+use places::Placed;
+use places::Span;
+use places::Z;
+use places::ZClass;
 use types::Equivalent;
 use types::FloatFormat;
 use types::ValueType;
@@ -147,14 +147,14 @@ fn place(c: Cursor, a: Taken) -> Placed
     let stack = c.stack;
     let g = a.general;
     let f = a.floating;
-    let memory = convention::byte_range(stack, stored(g, f));
+    let memory = places::byte_range(stack, stored(g, f));
     Placed {
         span: Span {
-            general: convention::register_range(general, g),
-            floating: convention::register_range(floating, f),
+            general: places::register_range(general, g),
+            floating: places::register_range(floating, f),
             home: memory,
             memory,
-            copy: convention::byte_range(a.copy, a.length),
+            copy: places::byte_range(a.copy, a.length),
             indirect: a.indirect,
         },
         next: next_of(c, a),

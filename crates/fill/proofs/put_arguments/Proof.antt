@@ -8,7 +8,7 @@ use native.Mathlib.Nat.{add-sub-cancel-left}
 use lib.ListN.{length, drop, take, length-drop}
 use lib.Seq.{length-take-le}
 use Rattle.signature.specs.Answer.{argument}
-use Rattle.convention.specs.Step.{rulesOf}
+use Rattle.places.specs.Step.{rulesOf}
 use Rattle.slots.specs.Buffers.{buffers}
 use Rattle.slots.specs.Placements.{Placement}
 use Rattle.slots.specs.Arguments.{argumentsIn}

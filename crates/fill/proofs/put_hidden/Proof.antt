@@ -7,7 +7,7 @@ use lib.ListN.{length}
 use borrow.Rule.Slice.PartMut.{putMid}
 use Rattle.words.specs.Numbers.{bytesOf}
 use Rattle.words.proofs.Splices.{lent-tail}
-use Rattle.convention.specs.declared.ResultPlaces.{ResultPlaces}
+use Rattle.places.specs.declared.ResultPlaces.{ResultPlaces}
 use Rattle.slots.specs.Buffers.{buffers, put, putAll}
 use Rattle.slots.specs.Placements.{hiddenSlots}
 use Rattle.fill.specs.Fill.{HiddenFits}

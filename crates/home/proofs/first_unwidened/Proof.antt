@@ -5,7 +5,7 @@ use mathlib.Core.List.{_∷_}
 use Prim.Native.Nat.{suc, _-_}
 use native.Mathlib.Omega.{arith}
 use lib.ListN.{length, drop}
-use Rattle.convention.specs.Step.{rulesOf}
+use Rattle.places.specs.Step.{rulesOf}
 use Rattle.slots.specs.Placements.{Placement}
 use Rattle.slots.specs.Arguments.{argumentsIn}
 use Rattle.slots.proofs.Turns.{argumentAt, next-argument, no-argument, Checking, checking-start, checking-ready, checking-refused, checking-more, checking-end}

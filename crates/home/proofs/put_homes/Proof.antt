@@ -8,9 +8,9 @@ use lib.ListN.{length, drop}
 use borrow.Rule.Slice.PartMut.{putMid}
 use Rattle.words.specs.Splice.{splice, part}
 use Rattle.words.proofs.Splices.{lent-tail, length-part}
-use Rattle.types.specs.declared.Convention.{Convention}
+use Rattle.conventions.specs.declared.Convention.{Convention}
 use Rattle.types.specs.Sizes.{sizeOf}
-use Rattle.convention.specs.Step.{ppc64, rulesOf}
+use Rattle.places.specs.Step.{ppc64, rulesOf}
 use Rattle.slots.specs.Placements.{Placement, placement}
 use Rattle.slots.specs.Arguments.{argumentsIn}
 use Rattle.slots.proofs.Turns.{argumentAt, next-argument, no-argument}

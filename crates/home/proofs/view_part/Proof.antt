@@ -1,7 +1,7 @@
 -- Where nothing is refused, the argument's own bytes lie in its home, and this in the area (`Hand`).
 use mathlib.Core.Path.{_≡_, sym, _∙_}
 use native.Mathlib.Omega.{arith}
-use Rattle.convention.specs.Step.{rulesOf}
+use Rattle.places.specs.Step.{rulesOf}
 use Rattle.plan.proofs.Answers.{answer-plannable}
 use Rattle.slots.specs.Forms.{ownStart}
 use Rattle.slots.proofs.Answered.{plan-same}

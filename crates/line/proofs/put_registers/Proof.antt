@@ -3,8 +3,8 @@ use Rattle.line.proofs.Places.{wrote-place}
 use Rattle.text.proofs.Writing.{wrote-length, wrote-nothing}
 use Rattle.text.specs.Writing.{Wrote}
 use Rattle.line.specs.Line.{placesText}
-use Rattle.convention.proofs.Registers.{length-registers}
-use Rattle.convention.specs.Places.{registersOf}
+use Rattle.places.proofs.Registers.{length-registers}
+use Rattle.places.specs.Places.{registersOf}
 use lib.Seq.{take-all}
 use lib.ListN.{take}
 use borrow.Author.Needs.{needs}

@@ -1,5 +1,5 @@
 -- By cases on the family; a word has at most 8 bytes.
-use Rattle.convention.specs.Step.{areaOf, Lawful}
+use Rattle.places.specs.Step.{areaOf, Lawful}
 use native.Mathlib.Omega.{arith}
 use mathlib.Core.Path.{subst}
 use borrow.Author.Needs.{needs}

@@ -1,5 +1,5 @@
 -- By cases on the type and, for a float, on the family and the format.
-use Rattle.convention.specs.Step.{hiddenFor}
+use Rattle.places.specs.Step.{hiddenFor}
 use borrow.Author.Needs.{needs}
 use Rattle.placing.proofs.hidden_for.Statement.{statement}
 use Rattle.placing.proofs.hidden_for.Tie as tie

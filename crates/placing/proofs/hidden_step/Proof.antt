@@ -1,6 +1,6 @@
 -- The first cursor has room, and a word is small.
-use Rattle.convention.proofs.Bounds.{rules-lawful, fresh-roomy, word-most}
-use Rattle.convention.specs.Step.{rulesOf}
+use Rattle.places.proofs.Bounds.{rules-lawful, fresh-roomy, word-most}
+use Rattle.places.specs.Step.{rulesOf}
 use native.Mathlib.Omega.{arith}
 use borrow.Author.Needs.{needs}
 use Rattle.placing.proofs.hidden_step.Statement.{statement}

@@ -1,6 +1,6 @@
 -- A hidden result is its address's place; another is placed as a first argument.
-use Rattle.convention.proofs.Bounds.{rules-lawful, returning-lawful, fresh-roomy}
-use Rattle.convention.specs.Step.{resultOf, placed}
+use Rattle.places.proofs.Bounds.{rules-lawful, returning-lawful, fresh-roomy}
+use Rattle.places.specs.Step.{resultOf, placed}
 use mathlib.Core.Path.{sym, _∙_}
 use borrow.Author.Needs.{needs}
 use Rattle.placing.proofs.result_places.Statement.{statement}

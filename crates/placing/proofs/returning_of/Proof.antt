@@ -1,5 +1,5 @@
 -- By cases on the family.
-use Rattle.convention.specs.Step.{returning}
+use Rattle.places.specs.Step.{returning}
 use borrow.Author.Needs.{needs}
 use Rattle.placing.proofs.returning_of.Statement.{statement}
 use Rattle.placing.proofs.returning_of.Tie as tie

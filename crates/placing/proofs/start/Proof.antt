@@ -1,5 +1,5 @@
 -- The hidden address comes first, or nothing does.
-use Rattle.convention.specs.Step.{startOf, placed}
+use Rattle.places.specs.Step.{startOf, placed}
 use borrow.Author.Needs.{needs}
 use Rattle.placing.proofs.start.Statement.{statement}
 use Rattle.placing.proofs.start.Tie as tie

@@ -8,7 +8,7 @@ use Rattle.items.specs.declared.Fault.{Fault}
 use Rattle.items.proofs.Laws.{later-later}
 use Rattle.items.proofs.Loop.{item-answered, fault-answered}
 use Rattle.signature.proofs.Loop.{turn-full, turn-no}
-use Rattle.convention.proofs.Bounds.{rules-lawful}
+use Rattle.places.proofs.Bounds.{rules-lawful}
 use Rattle.plan.specs.Plan.{refused, measureOf}
 use Rattle.plan.proofs.Fold.{reached-roomy}
 use Rattle.plan.proofs.Measures.{Measuring, measuring-start, measuring-more, measure-no, measure-trailing, measure-end}

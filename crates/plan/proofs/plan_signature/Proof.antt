@@ -3,8 +3,8 @@ use Rattle.plan.proofs.Turns.{Going, Kept, length-types, types-drop, go
 use Rattle.plan.specs.Plan.{planned, planIn, typesIn}
 use Rattle.plan.specs.declared.Plan.{Plan}
 use Rattle.plan.proofs.Fold.{reached-roomy}
-use Rattle.convention.proofs.Bounds.{rules-lawful}
-use Rattle.convention.specs.Step.{placed}
+use Rattle.places.proofs.Bounds.{rules-lawful}
+use Rattle.places.specs.Step.{placed}
 use borrow.Author.Needs.{needs}
 use native.Mathlib.Omega.{arith}
 use Prim.Native.Nat.{_-_}

@@ -1,5 +1,5 @@
 -- The next cursor of what the argument takes.
-use Rattle.convention.specs.Step.{nextOf}
+use Rattle.places.specs.Step.{nextOf}
 use borrow.Author.Needs.{needs}
 use Rattle.power_step.proofs.advance.Statement.{statement}
 use Rattle.power_step.proofs.advance.Tie as tie

@@ -1,5 +1,5 @@
 -- By cases on the type and, for a long double, on the edition.
-use Rattle.convention.specs.Power.{fprs}
+use Rattle.places.specs.Power.{fprs}
 use native.Mathlib.Omega.{arith}
 use borrow.Author.Needs.{needs}
 use Rattle.power_step.proofs.fprs_of.Statement.{statement}

@@ -1,5 +1,5 @@
 -- The words in memory are the last of the argument's, so that all its parts lie within its home.
-use Rattle.convention.proofs.Shares.{words-split}
+use Rattle.places.proofs.Shares.{words-split}
 use native.Mathlib.Omega.{arith}
 use borrow.Author.Needs.{needs}
 use Rattle.power_step.proofs.place.Statement.{statement}

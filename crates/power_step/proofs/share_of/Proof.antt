@@ -1,5 +1,5 @@
 -- Each way of the code is one of the definition.
-use Rattle.convention.proofs.Shares.{share-words, share-memory, share-float}
+use Rattle.places.proofs.Shares.{share-words, share-memory, share-float}
 use native.Mathlib.Omega.{arith}
 use borrow.Author.Needs.{needs}
 use Rattle.power_step.proofs.share_of.Statement.{statement}

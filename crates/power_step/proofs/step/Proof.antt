@@ -1,5 +1,5 @@
 -- The span and the next cursor of what the argument takes.
-use Rattle.convention.specs.Step.{placed, spanOf, nextOf}
+use Rattle.places.specs.Step.{placed, spanOf, nextOf}
 use borrow.Author.Needs.{needs}
 use Rattle.power_step.proofs.step.Statement.{statement}
 use Rattle.power_step.proofs.step.Tie as tie

@@ -1,6 +1,6 @@
 -- Each part is what a callee gives, put together as the definition does.
-use Rattle.convention.proofs.Shares.{share-shared}
-use Rattle.convention.specs.Power.{powerShare}
+use Rattle.places.proofs.Shares.{share-shared}
+use Rattle.places.specs.Power.{powerShare}
 use Prim.Native.Nat.{_-_}
 use native.Mathlib.Omega.{arith}
 use borrow.Author.Needs.{needs}

@@ -1,5 +1,5 @@
 -- A quotient times its divisor is at most the dividend.
-use Rattle.convention.specs.Power.{words}
+use Rattle.places.specs.Power.{words}
 use mathlib.Core.Path.{refl}
 use Prim.Native.Nat.{ℕ, _+_, _-_, _/_}
 use native.Mathlib.Nat.{div-mul-le-self, mul-comm}

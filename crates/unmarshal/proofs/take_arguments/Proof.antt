@@ -8,7 +8,7 @@ use lib.ListN.{length, drop}
 use borrow.Rule.Slice.PartMut.{putMid}
 use Rattle.words.specs.Splice.{splice}
 use Rattle.words.proofs.Splices.{lent-tail}
-use Rattle.convention.specs.Step.{rulesOf}
+use Rattle.places.specs.Step.{rulesOf}
 use Rattle.slots.specs.Buffers.{Buffers, buffers}
 use Rattle.slots.specs.Placements.{Placement, placement, valueAt}
 use Rattle.slots.specs.Arguments.{argumentsIn}

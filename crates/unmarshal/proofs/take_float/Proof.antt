@@ -6,7 +6,7 @@ use lib.ListN.{length, drop}
 use lib.Seq.{take-take}
 use Rattle.words.specs.Splice.{overlay, part}
 use Rattle.types.specs.declared.Equivalent.{Equivalent}
-use Rattle.convention.specs.declared.Rules.{Rules}
+use Rattle.places.specs.declared.Rules.{Rules}
 use Rattle.slots.specs.Forms.{floatValueAs, narrowedBytes}
 use Rattle.ieee.specs.Narrowing.{narrow}
 use Rattle.unmarshal.specs.Readable.{FloatRoom}

@@ -1,5 +1,5 @@
 -- The next cursor of what the class takes.
-use Rattle.convention.specs.Step.{nextOf}
+use Rattle.places.specs.Step.{nextOf}
 use mathlib.Core.Path.{sym, _∙_}
 use borrow.Author.Needs.{needs}
 use Rattle.z_step.proofs.advance.Statement.{statement}

@@ -1,5 +1,5 @@
 -- By cases on the type.
-use Rattle.convention.specs.ZSeries.{zClass}
+use Rattle.places.specs.ZSeries.{zClass}
 use borrow.Author.Needs.{needs}
 use Rattle.z_step.proofs.class_of.Statement.{statement}
 use Rattle.z_step.proofs.class_of.Tie as tie

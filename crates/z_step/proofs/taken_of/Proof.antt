@@ -1,6 +1,6 @@
 -- By cases on the class.
 use Rattle.words.specs.Basics.{roundUp}
-use Rattle.convention.specs.ZSeries.{zSpanOf, zNextOf}
+use Rattle.places.specs.ZSeries.{zSpanOf, zNextOf}
 use native.Mathlib.Nat.{add-zero}
 use native.Mathlib.Omega.{arith}
 use borrow.Author.Needs.{needs}

@@ -48,13 +48,13 @@ use denote.Triple.Spec.{Meets, tripleOf}
 use denote.Triple.Table.{entered, cited}
 use denote.Triple.Walked.{says, Stays, stay-ref, stay-none, walkOf, goes-none, goes-ref, Walks, ends-at, walked, walk-meets}
 use denote.Exit.{yes}
-use Rattle.types.specs.declared.Convention.{Convention}
+use Rattle.conventions.specs.declared.Convention.{Convention}
 use Rattle.items.specs.declared.ItemRead.{ItemRead}
 use Rattle.items.specs.Answer.{itemAnswer}
 use Rattle.reader.specs.Step.{typeIn, placeAfter}
 use Rattle.reader.specs.declared.Reader.{Reader}
-use Rattle.types.proofs.Convention as Cv
-use Rattle.types.proofs.Convention.Laws as Cv′
+use Rattle.conventions.proofs.Convention as Cv
+use Rattle.conventions.proofs.Convention.Laws as Cv′
 use Rattle.items.proofs.ItemRead as S
 use Rattle.items.proofs.ItemRead.Laws as S′
 use Rattle.reader.proofs.Reader as T

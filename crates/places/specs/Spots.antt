@@ -4,10 +4,10 @@ use Prim.Native.Nat.{ℕ, _+_, _-_, _/_, _%_, _≤_, _<_}
 use mathlib.Core.Path.{_≡_}
 use mathlib.Core.Bool.{Bool, true, false}
 use lib.Dec.{ltb}
-use Rattle.convention.specs.declared.RegisterRange.{RegisterRange}
-use Rattle.convention.specs.declared.ByteRange.{ByteRange}
-use Rattle.convention.specs.declared.Span.{Span}
-use Rattle.convention.specs.declared.Rules.{Rules}
+use Rattle.places.specs.declared.RegisterRange.{RegisterRange}
+use Rattle.places.specs.declared.ByteRange.{ByteRange}
+use Rattle.places.specs.declared.Span.{Span}
+use Rattle.places.specs.declared.Rules.{Rules}
 
 -- a register, a byte of the parameter area or a byte of the copies
 pub data Spot : Type 0 where

@@ -9,9 +9,9 @@ use lib.Dec.{leb}
 use Rattle.words.specs.Basics.{pick}
 use Rattle.types.specs.declared.FloatFormat.{FloatFormat}
 use Rattle.types.specs.declared.ValueType.{ValueType}
-use Rattle.convention.specs.declared.Edition.{Edition}
-use Rattle.convention.specs.Values.{share}
-use Rattle.convention.specs.Power.{fprs, shareOf, Shared}
+use Rattle.places.specs.declared.Edition.{Edition}
+use Rattle.places.specs.Values.{share}
+use Rattle.places.specs.Power.{fprs, shareOf, Shared}
 
 pub share-words : (m room n k : ℕ) → m ≡ 0 → share k 0 (n - k) ≡ shareOf m room n k
 unfolding shareOf

@@ -1,10 +1,10 @@
 -- The index is below the count of floating registers or past it.
-use Rattle.convention.proofs.Registers.{register-floating, register-general}
+use Rattle.places.proofs.Registers.{register-floating, register-general}
 use native.Mathlib.Omega.{arith}
 use mathlib.Core.Path.{sym}
 use borrow.Author.Needs.{needs}
-use Rattle.convention.proofs.register_of.Statement.{statement}
-use Rattle.convention.proofs.register_of.Tie as tie
+use Rattle.places.proofs.register_of.Statement.{statement}
+use Rattle.places.proofs.register_of.Tie as tie
 
 cast-floats : tie.Need-cast-floats
 cast-floats c = search needs

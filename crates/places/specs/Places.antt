@@ -2,11 +2,11 @@
 -- general register, a floating register or memory, and a register place names its bank and number". Assumes nothing.
 use Prim.Native.Nat.{ℕ, zero, suc, _+_, _/_, _≤_}
 use mathlib.Core.List.{List, [], _∷_, _++_, map}
-use Rattle.convention.specs.declared.Bank.{Bank}
-use Rattle.convention.specs.declared.Place.{Place}
-use Rattle.convention.specs.declared.RegisterRange.{RegisterRange}
-use Rattle.convention.specs.declared.Span.{Span}
-use Rattle.convention.specs.declared.ResultPlaces.{ResultPlaces}
+use Rattle.places.specs.declared.Bank.{Bank}
+use Rattle.places.specs.declared.Place.{Place}
+use Rattle.places.specs.declared.RegisterRange.{RegisterRange}
+use Rattle.places.specs.declared.Span.{Span}
+use Rattle.places.specs.declared.ResultPlaces.{ResultPlaces}
 
 -- n numbers from `first` on, each `by` more than the one before
 unfoldable pub upFrom : ℕ → ℕ → ℕ → List ℕ

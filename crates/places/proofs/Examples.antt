@@ -2,20 +2,20 @@
 use mathlib.Core.Path.{_≡_, refl}
 use mathlib.Core.List.{List, [], _∷_, map}
 use Prim.Native.Nat.{ℕ}
-use Rattle.types.specs.declared.Convention.{Convention}
+use Rattle.conventions.specs.declared.Convention.{Convention}
 use Rattle.types.specs.declared.Equivalent.{Equivalent}
 use Rattle.types.specs.declared.FloatFormat.{FloatFormat}
 use Rattle.types.specs.declared.IntegerKind.{IntegerKind}
 use Rattle.types.specs.declared.ValueType.{ValueType}
 use Rattle.types.specs.Sizes.{sizeOf}
-use Rattle.convention.specs.declared.Bank.{Bank}
-use Rattle.convention.specs.declared.Place.{Place}
-use Rattle.convention.specs.declared.ResultPlaces.{ResultPlaces}
-use Rattle.convention.specs.declared.ZClass.{ZClass}
-use Rattle.convention.specs.Power.{words, fprs, shareOf, powerShare}
-use Rattle.convention.specs.ZSeries.{zClass, zSpanOf}
-use Rattle.convention.specs.Step.{rulesOf, spanOf, fresh, returning, hiddenFor, resultOf}
-use Rattle.convention.specs.Places.{upFrom, register, registersOf, memoryOf, placesOf}
+use Rattle.places.specs.declared.Bank.{Bank}
+use Rattle.places.specs.declared.Place.{Place}
+use Rattle.places.specs.declared.ResultPlaces.{ResultPlaces}
+use Rattle.places.specs.declared.ZClass.{ZClass}
+use Rattle.places.specs.Power.{words, fprs, shareOf, powerShare}
+use Rattle.places.specs.ZSeries.{zClass, zSpanOf}
+use Rattle.places.specs.Step.{rulesOf, spanOf, fresh, returning, hiddenFor, resultOf}
+use Rattle.places.specs.Places.{upFrom, register, registersOf, memoryOf, placesOf}
 
 abbrev int : ValueType
 int = ValueType.Integer IntegerKind.I32

@@ -10,18 +10,18 @@ use borrow.Author.Tests.{ltb-true, ltb-false}
 use lib.Dec.{ltb, leb}
 use Rattle.words.specs.Basics.{pick, roundUp}
 use Rattle.types.specs.declared.ValueType.{ValueType}
-use Rattle.convention.specs.declared.Bank.{Bank}
-use Rattle.convention.specs.declared.Place.{Place}
-use Rattle.convention.specs.declared.Cursor.{Cursor}
-use Rattle.convention.specs.declared.Share.{Share}
-use Rattle.convention.specs.declared.PowerRules.{PowerRules}
-use Rattle.convention.specs.declared.Rules.{Rules}
-use Rattle.convention.specs.declared.ZClass.{ZClass}
-use Rattle.convention.specs.Values.{cursor, registers, bytes, share}
-use Rattle.convention.specs.Power.{words, fprs, shareOf, powerShare}
-use Rattle.convention.specs.ZSeries.{zClass, zSpanOf, zNextOf}
-use Rattle.convention.specs.Step.{spanOf, nextOf, fresh, startOf, areaOf}
-use Rattle.convention.specs.Places.{upFrom, register, registersOf, memoryOf, placesOf}
+use Rattle.places.specs.declared.Bank.{Bank}
+use Rattle.places.specs.declared.Place.{Place}
+use Rattle.places.specs.declared.Cursor.{Cursor}
+use Rattle.places.specs.declared.Share.{Share}
+use Rattle.places.specs.declared.PowerRules.{PowerRules}
+use Rattle.places.specs.declared.Rules.{Rules}
+use Rattle.places.specs.declared.ZClass.{ZClass}
+use Rattle.places.specs.Values.{cursor, registers, bytes, share}
+use Rattle.places.specs.Power.{words, fprs, shareOf, powerShare}
+use Rattle.places.specs.ZSeries.{zClass, zSpanOf, zNextOf}
+use Rattle.places.specs.Step.{spanOf, nextOf, fresh, startOf, areaOf}
+use Rattle.places.specs.Places.{upFrom, register, registersOf, memoryOf, placesOf}
 
 -- ---- PowerPC: the count of words
 

@@ -4,18 +4,18 @@
 use Prim.Native.Nat.{ℕ, _*_, _≤_, max}
 use mathlib.Core.Bool.{Bool, true, false}
 use Rattle.words.specs.Basics.{pick}
-use Rattle.types.specs.declared.Convention.{Convention}
+use Rattle.conventions.specs.declared.Convention.{Convention}
 use Rattle.types.specs.declared.FloatFormat.{FloatFormat}
 use Rattle.types.specs.declared.ValueType.{ValueType}
-use Rattle.convention.specs.declared.Edition.{Edition}
-use Rattle.convention.specs.declared.Rules.{Rules}
-use Rattle.convention.specs.declared.Cursor.{Cursor}
-use Rattle.convention.specs.declared.Span.{Span}
-use Rattle.convention.specs.declared.Placed.{Placed}
-use Rattle.convention.specs.declared.ResultPlaces.{ResultPlaces}
-use Rattle.convention.specs.Values.{cursor, pointer}
-use Rattle.convention.specs.Power.{words, powerShare, powerSpan, powerNext}
-use Rattle.convention.specs.ZSeries.{zClass, zSpanOf, zNextOf}
+use Rattle.places.specs.declared.Edition.{Edition}
+use Rattle.places.specs.declared.Rules.{Rules}
+use Rattle.places.specs.declared.Cursor.{Cursor}
+use Rattle.places.specs.declared.Span.{Span}
+use Rattle.places.specs.declared.Placed.{Placed}
+use Rattle.places.specs.declared.ResultPlaces.{ResultPlaces}
+use Rattle.places.specs.Values.{cursor, pointer}
+use Rattle.places.specs.Power.{words, powerShare, powerSpan, powerNext}
+use Rattle.places.specs.ZSeries.{zClass, zSpanOf, zNextOf}
 
 -- ---- the conventions
 

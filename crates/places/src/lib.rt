@@ -1,13 +1,13 @@
 // Where a calling convention puts arguments and results: the types of cursors, spans and places. The code of the steps is in the crates above.
 // A convention is a value, `Rules`; every convention has a type of its own with its constants and its starting cursor.
-use types::Convention;
+use conventions::Convention;
 ghost use mathlib.Core.Path.{_≡_};
 ghost use Prim.Native.Nat.{_<_};
 ghost use lib.ListN.{getD};
-ghost use Rattle.convention.specs.declared.Rules.{Rules};
-ghost use Rattle.convention.specs.Values.{registers, bytes};
-ghost use Rattle.convention.specs.Step.{ppc64, rulesOf, headerOf, alignmentOf, fresh};
-ghost use Rattle.convention.specs.Places.{registersOf, registerCount, Numbered, noPlace};
+ghost use Rattle.places.specs.declared.Rules.{Rules};
+ghost use Rattle.places.specs.Values.{registers, bytes};
+ghost use Rattle.places.specs.Step.{ppc64, rulesOf, headerOf, alignmentOf, fresh};
+ghost use Rattle.places.specs.Places.{registersOf, registerCount, Numbered, noPlace};
 
 // The edition of the PowerPC supplement. In the later one a long double takes two FPRs.
 pub enum Edition {

@@ -5,18 +5,18 @@ use Prim.Native.Nat.{ℕ, _+_, _-_, _*_, _/_, _%_, _≤_, _<_}
 use native.Mathlib.Omega.{arith}
 use native.Mathlib.Nat.{div-mul-le-self, mul-comm}
 use Rattle.words.specs.Basics.{roundUp}
-use Rattle.types.specs.declared.Convention.{Convention}
+use Rattle.conventions.specs.declared.Convention.{Convention}
 use Rattle.types.specs.declared.ValueType.{ValueType}
 use Rattle.types.specs.Sizes.{pointerSize}
-use Rattle.convention.specs.declared.Edition.{Edition}
-use Rattle.convention.specs.declared.Cursor.{Cursor}
-use Rattle.convention.specs.declared.Rules.{Rules}
-use Rattle.convention.specs.declared.ZClass.{ZClass}
-use Rattle.convention.specs.Values.{pointer}
-use Rattle.convention.specs.Power.{words, fprs, covered, powerShare}
-use Rattle.convention.specs.ZSeries.{zClass, zNextOf}
-use Rattle.convention.specs.Step.{Lawful, Roomy, rulesOf, wordOf, nextOf, fresh, startOf, areaOf, returning}
-use Rattle.convention.proofs.Shares.{share-room}
+use Rattle.places.specs.declared.Edition.{Edition}
+use Rattle.places.specs.declared.Cursor.{Cursor}
+use Rattle.places.specs.declared.Rules.{Rules}
+use Rattle.places.specs.declared.ZClass.{ZClass}
+use Rattle.places.specs.Values.{pointer}
+use Rattle.places.specs.Power.{words, fprs, covered, powerShare}
+use Rattle.places.specs.ZSeries.{zClass, zNextOf}
+use Rattle.places.specs.Step.{Lawful, Roomy, rulesOf, wordOf, nextOf, fresh, startOf, areaOf, returning}
+use Rattle.places.proofs.Shares.{share-room}
 
 -- ---- the conventions
 

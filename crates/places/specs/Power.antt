@@ -8,12 +8,12 @@ use lib.Dec.{leb}
 use Rattle.words.specs.Basics.{pick}
 use Rattle.types.specs.declared.FloatFormat.{FloatFormat}
 use Rattle.types.specs.declared.ValueType.{ValueType}
-use Rattle.convention.specs.declared.Edition.{Edition}
-use Rattle.convention.specs.declared.PowerRules.{PowerRules}
-use Rattle.convention.specs.declared.Cursor.{Cursor}
-use Rattle.convention.specs.declared.Span.{Span}
-use Rattle.convention.specs.declared.Share.{Share}
-use Rattle.convention.specs.Values.{cursor, registers, bytes, share}
+use Rattle.places.specs.declared.Edition.{Edition}
+use Rattle.places.specs.declared.PowerRules.{PowerRules}
+use Rattle.places.specs.declared.Cursor.{Cursor}
+use Rattle.places.specs.declared.Span.{Span}
+use Rattle.places.specs.declared.Share.{Share}
+use Rattle.places.specs.Values.{cursor, registers, bytes, share}
 
 -- "Sizes in doublewords: whole, single, double 1; long double 2; struct size / 8 rounded up": of n bytes, in words of w bytes
 unfoldable pub words : ℕ → ℕ → ℕ

@@ -9,20 +9,20 @@ use lib.ListN.{length, getD, length-append, List·getD-append}
 use lib.Seq.{getD-append-add}
 use Rattle.words.specs.Basics.{pick}
 use Rattle.types.specs.declared.ValueType.{ValueType}
-use Rattle.convention.specs.declared.Bank.{Bank}
-use Rattle.convention.specs.declared.Place.{Place}
-use Rattle.convention.specs.declared.Cursor.{Cursor}
-use Rattle.convention.specs.declared.Span.{Span}
-use Rattle.convention.specs.declared.Rules.{Rules}
-use Rattle.convention.specs.declared.ResultPlaces.{ResultPlaces}
-use Rattle.convention.specs.declared.ZClass.{ZClass}
-use Rattle.convention.specs.ZSeries.{zClass, zSpanOf}
-use Rattle.convention.specs.Values.{pointer}
-use Rattle.convention.specs.Step.{wordOf, spanOf, nextOf, fresh, hiddenFor, returning, resultOf}
-use Rattle.convention.specs.Spots.{Spot, general, floating, area, copies, Owns, ArgumentRegister}
-use Rattle.convention.specs.Places.{upFrom, register, registersIn, registersOf, registerCount, Numbered, ResultNumbered, noPlace}
-use Rattle.convention.proofs.Between.{step-between}
-use Rattle.convention.proofs.Bounds.{Named, named-fresh, named-next}
+use Rattle.places.specs.declared.Bank.{Bank}
+use Rattle.places.specs.declared.Place.{Place}
+use Rattle.places.specs.declared.Cursor.{Cursor}
+use Rattle.places.specs.declared.Span.{Span}
+use Rattle.places.specs.declared.Rules.{Rules}
+use Rattle.places.specs.declared.ResultPlaces.{ResultPlaces}
+use Rattle.places.specs.declared.ZClass.{ZClass}
+use Rattle.places.specs.ZSeries.{zClass, zSpanOf}
+use Rattle.places.specs.Values.{pointer}
+use Rattle.places.specs.Step.{wordOf, spanOf, nextOf, fresh, hiddenFor, returning, resultOf}
+use Rattle.places.specs.Spots.{Spot, general, floating, area, copies, Owns, ArgumentRegister}
+use Rattle.places.specs.Places.{upFrom, register, registersIn, registersOf, registerCount, Numbered, ResultNumbered, noPlace}
+use Rattle.places.proofs.Between.{step-between}
+use Rattle.places.proofs.Bounds.{Named, named-fresh, named-next}
 
 -- ---- length
 

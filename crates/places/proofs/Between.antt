@@ -4,16 +4,16 @@ use Prim.Native.Nat.{ℕ, _+_, _-_, _≤_, _<_}
 use native.Mathlib.Omega.{arith}
 use Rattle.words.specs.Basics.{roundUp}
 use Rattle.types.specs.declared.ValueType.{ValueType}
-use Rattle.convention.specs.declared.Cursor.{Cursor}
-use Rattle.convention.specs.declared.Span.{Span}
-use Rattle.convention.specs.declared.Share.{Share}
-use Rattle.convention.specs.declared.Rules.{Rules}
-use Rattle.convention.specs.declared.ZClass.{ZClass}
-use Rattle.convention.specs.Power.{words, covered, powerShare, powerSpan, powerNext, Shared}
-use Rattle.convention.specs.ZSeries.{zClass, zSpanOf, zNextOf}
-use Rattle.convention.specs.Step.{spanOf, nextOf}
-use Rattle.convention.specs.Spots.{Spot, general, floating, area, copies, Owns}
-use Rattle.convention.proofs.Shares.{share-shared, fprs-most, words-split}
+use Rattle.places.specs.declared.Cursor.{Cursor}
+use Rattle.places.specs.declared.Span.{Span}
+use Rattle.places.specs.declared.Share.{Share}
+use Rattle.places.specs.declared.Rules.{Rules}
+use Rattle.places.specs.declared.ZClass.{ZClass}
+use Rattle.places.specs.Power.{words, covered, powerShare, powerSpan, powerNext, Shared}
+use Rattle.places.specs.ZSeries.{zClass, zSpanOf, zNextOf}
+use Rattle.places.specs.Step.{spanOf, nextOf}
+use Rattle.places.specs.Spots.{Spot, general, floating, area, copies, Owns}
+use Rattle.places.proofs.Shares.{share-shared, fprs-most, words-split}
 
 -- each run starts at or after the cursor's counter and ends at or before the next one's; what is in memory lies in the home
 pub record Between (c : Cursor) (s : Span) (d : Cursor) : Type 0 where

@@ -2,10 +2,10 @@
 use Prim.Native.Nat.{ℕ}
 use Rattle.types.specs.declared.IntegerKind.{IntegerKind}
 use Rattle.types.specs.declared.ValueType.{ValueType}
-use Rattle.convention.specs.declared.Cursor.{Cursor}
-use Rattle.convention.specs.declared.RegisterRange.{RegisterRange}
-use Rattle.convention.specs.declared.ByteRange.{ByteRange}
-use Rattle.convention.specs.declared.Share.{Share}
+use Rattle.places.specs.declared.Cursor.{Cursor}
+use Rattle.places.specs.declared.RegisterRange.{RegisterRange}
+use Rattle.places.specs.declared.ByteRange.{ByteRange}
+use Rattle.places.specs.declared.Share.{Share}
 
 abbrev pub cursor : ℕ → ℕ → ℕ → ℕ → Cursor
 cursor g f s c = record { general = g; floating = f; stack = s; copies = c }
