@@ -5,4 +5,5 @@ pub mod Has
 pub mod Trees
 pub mod Complete
 pub mod Sound
+pub mod HowFar
 pub mod Loop

@@ -4,3 +4,4 @@ pub mod Reading
 pub mod Read
 pub mod Answer
 pub mod Encode
+pub mod HowFar

@@ -28,7 +28,7 @@ example-read = refl
 -- the answer in document 01's numbers: a refusal's number and place, or 0 and the count of items
 answer : Reading Signature → ℕ × ℕ
 answer (got g next n) = (0, n)
-answer (no r place) = (numberOf r, place)
+answer (no f) = (numberOf (f .reason), f .place)
 
 nested : ℕ → Tree
 nested zero = integer IntegerKind.I8

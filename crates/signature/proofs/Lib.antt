@@ -5,3 +5,4 @@ pub mod Sound
 pub mod Complete
 pub mod Theorems
 pub mod Examples
+pub mod HowFar

@@ -8,7 +8,9 @@ use Rattle.conventions.specs.declared.Convention.{Convention}
 use Rattle.types.specs.Sizes.{Sized}
 use Rattle.types.specs.Trees.{typeOf}
 use Rattle.types.specs.Limits.{AllSized}
+use Rattle.items.specs.declared.Fault.{Fault}
 use Rattle.items.specs.Reading.{got}
+use Rattle.items.specs.HowFar.{HowFar}
 use Rattle.signature.specs.Signature.{Result, nothing, value, Signature}
 use Rattle.signature.specs.Read.{signatureOf}
 use Rattle.signature.specs.Encode.{encode, signatureItems, Within}
@@ -36,3 +38,9 @@ pub record Accepted (s : List ℕ) (g : Signature) (n : ℕ) : Type 0 where
   pub third : 3 * n ≤ length s
   pub result : ResultSized (g .convention) (g .result)
   pub arguments : AllSized (g .convention) (g .arguments)
+
+-- of a refused one: the headers that had passed are "no more than the input length divided by 3", and lead from the first byte to
+-- where the reading stopped
+pub record Stopped (s : List ℕ) (f : Fault) : Type 0 where
+  pub third : 3 * f .passed ≤ length s
+  pub far : HowFar s 0 f
