@@ -38,7 +38,8 @@
  *    writes lent bytes meanwhile.
  *  - An answer's `number` is 0 for yes; else it says why not (enum fz_refusal), and `place` says
  *    where: the offset in the signature of the faulty item's header or of the first byte too many.
- *    A refusal that concerns no place has place 0. In a refused answer all else is 0.
+ *    A refusal that concerns no place has place 0. For a refused signature (1 to 9) `items` says
+ *    how much of it was good; in a refused answer all else is 0.
  *
  * Later versions add functions, and words at the end of structs that are lent by pointer. No word
  * of a struct ever moves.
@@ -98,7 +99,11 @@ enum fz_refusal {
 typedef struct {
     uint64_t number; /* 0, or one of enum fz_refusal */
     uint64_t place;
-    uint64_t items;
+    uint64_t items;  /* fz_read_signature's yes: the count of items. Refusals 1 to 9 of any function:
+                        the headers that had passed room, tag and length when the reading stopped,
+                        nested ones and those around them alike. The faulty item's own is left out,
+                        but not the fields of a struct that is too large (8); bytes too many (4, 7,
+                        9) are no item; 1 has 0. In all other answers 0 */
 } fz_answer;
 
 typedef struct {
@@ -108,7 +113,8 @@ typedef struct {
 } fz_narrowed;
 
 /* Reads the signature of sig_length bytes at sig. `items` is its count of items: the three and all
- * that are nested in them, 5 in the example above. */
+ * that are nested in them, 5 in the example above. Without its last byte the example is refused with
+ * FZ_TRUNCATED at place 7, where the third item is, and `items` is 2. */
 fz_answer fz_read_signature(const uint8_t *sig, size_t sig_length);
 
 /* The bits of the double that has the value of the single whose bits are the low 32 of `bits`; the
@@ -141,7 +147,7 @@ fz_narrowed fz_narrow(uint64_t bits);
  * the list's first doubleword, and in r2 on Z. */
 
 typedef struct {
-    fz_answer answer; /* its items are 0 */
+    fz_answer answer; /* its items are 0 where it is yes */
     uint64_t values;  /* bytes of all arguments, in order and without gaps between them */
     uint64_t area;    /* bytes of the parameter area: on PPC64 64 or more; on Z what lies on the
                          stack, possibly 0 */
@@ -176,7 +182,8 @@ fz_sizes fz_measure(const uint8_t *sig, size_t sig_length);
  *   6 mem @160 ref
  *   result none
  *
- * A refused signature's listing is the line 'refused NUMBER at PLACE'. */
+ * A refused signature's listing is one line of the answer's words, 'refused NUMBER at PLACE after
+ * ITEMS': 'refused 2 at 0 after 0' for a signature of no bytes. */
 uint64_t fz_listing(const uint8_t *sig, size_t sig_length, char *text, size_t text_length);
 
 /* ---- The frame machine: functions that enter and leave frames on a stack ----
@@ -335,7 +342,7 @@ fz_answer fz_leave(fz_machine *machine, const uint8_t *memory, size_t memory_len
  *   by reference    the value in the copies, its address in the register or the 8 bytes
  *
  * What a call changes must not overlap anything else that it is lent. A refused call changes
- * nothing. `place` is 0 unless the signature is refused, and `items` always. */
+ * nothing. `place` and `items` are 0 unless the signature is refused. */
 
 /* Why a call is refused whose signature is accepted. */
 enum fz_marshal_refusal {
