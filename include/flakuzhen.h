@@ -38,8 +38,8 @@
  *    writes lent bytes meanwhile.
  *  - An answer's `number` is 0 for yes; else it says why not (enum fz_refusal), and `place` says
  *    where: the offset in the signature of the faulty item's header or of the first byte too many.
- *    A refusal that concerns no place has place 0. For a refused signature (1 to 9) `items` says
- *    how much of it was good; in a refused answer all else is 0.
+ *    A refusal that concerns no place has place 0. Where the signature is refused, `items` says how
+ *    much of it was good (fz_read_signature). In a refused answer all else is 0.
  *
  * Later versions add functions, and words at the end of structs that are lent by pointer. No word
  * of a struct ever moves.
@@ -99,11 +99,7 @@ enum fz_refusal {
 typedef struct {
     uint64_t number; /* 0, or one of enum fz_refusal */
     uint64_t place;
-    uint64_t items;  /* fz_read_signature's yes: the count of items. Refusals 1 to 9 of any function:
-                        the headers that had passed room, tag and length when the reading stopped,
-                        nested ones and those around them alike. The faulty item's own is left out,
-                        but not the fields of a struct that is too large (8); bytes too many (4, 7,
-                        9) are no item; 1 has 0. In all other answers 0 */
+    uint64_t items;
 } fz_answer;
 
 typedef struct {
@@ -113,8 +109,10 @@ typedef struct {
 } fz_narrowed;
 
 /* Reads the signature of sig_length bytes at sig. `items` is its count of items: the three and all
- * that are nested in them, 5 in the example above. Without its last byte the example is refused with
- * FZ_TRUNCATED at place 7, where the third item is, and `items` is 2. */
+ * that are nested in them, 5 in the example above. Of a refused signature it is the count of the
+ * headers that had passed header room, tag and length room when reading stopped, those around the
+ * place and nested ones alike: without the faulty item's own, and for FZ_STRUCT_TOO_LARGE with those
+ * in the struct; 0 for FZ_TOO_LONG. It is never more than a third of sig_length. */
 fz_answer fz_read_signature(const uint8_t *sig, size_t sig_length);
 
 /* The bits of the double that has the value of the single whose bits are the low 32 of `bits`; the
@@ -147,7 +145,7 @@ fz_narrowed fz_narrow(uint64_t bits);
  * the list's first doubleword, and in r2 on Z. */
 
 typedef struct {
-    fz_answer answer; /* its items are 0 where it is yes */
+    fz_answer answer; /* its items are 0, unless the signature is refused */
     uint64_t values;  /* bytes of all arguments, in order and without gaps between them */
     uint64_t area;    /* bytes of the parameter area: on PPC64 64 or more; on Z what lies on the
                          stack, possibly 0 */
@@ -182,8 +180,7 @@ fz_sizes fz_measure(const uint8_t *sig, size_t sig_length);
  *   6 mem @160 ref
  *   result none
  *
- * A refused signature's listing is one line of the answer's words, 'refused NUMBER at PLACE after
- * ITEMS': 'refused 2 at 0 after 0' for a signature of no bytes. */
+ * A refused signature's listing is the line 'refused NUMBER at PLACE after ITEMS'. */
 uint64_t fz_listing(const uint8_t *sig, size_t sig_length, char *text, size_t text_length);
 
 /* ---- The frame machine: functions that enter and leave frames on a stack ----
