@@ -29,6 +29,8 @@ impl Ppc64 {
 
     pub const START_ROOM: usize = 112;
 
+    pub const FLOOR: usize = 288;
+
     pub const STACK_POINTER: usize = 1;
 
     pub const CR_SLOT: usize = 8;
@@ -63,6 +65,7 @@ impl Ppc64 {
             least: Self::LEAST_OUTGOING,
             alignment: Self::ALIGNMENT,
             room: Self::START_ROOM,
+            floor: Self::FLOOR,
             pointer: Self::STACK_POINTER,
             end: 32,
             limit: 18446744073709551615,
@@ -111,6 +114,8 @@ impl Z {
 
     pub const START_ROOM: usize = 160;
 
+    pub const FLOOR: usize = 0;
+
     pub const STACK_POINTER: usize = 15;
 
     pub const RETURN_REGISTER: usize = 14;
@@ -134,6 +139,7 @@ impl Z {
             least: Self::LEAST_OUTGOING,
             alignment: Self::ALIGNMENT,
             room: Self::START_ROOM,
+            floor: Self::FLOOR,
             pointer: Self::STACK_POINTER,
             end: 16,
             limit: 18446744073709551615,

@@ -1,4 +1,4 @@
--- A convention as a value: its numbers, and the two values. Document 01, "Frames"; the published papers are 000 (PPC64) and 001 (Z).
+-- A convention as a value: its numbers, and the two values. Document 01, "Frames"; document 02, No. 8; the published papers are 000 (PPC64) and 001 (Z).
 -- Assumes nothing.
 use Prim.Native.Nat.{ℕ, _-_, _^_}
 use mathlib.Core.Bool.{Bool, false, _&&_, _||_}
@@ -29,7 +29,7 @@ within (v ∷ vs) n = inSpan v n || within vs n
 
 -- "PPC64 request: saves r(g) to r31, g 14 to 32; f(m) to f31, m 14 to 32"; "CR in the 4 bytes at S + 8 if saved, LR at S + 16";
 -- "Permitted writes: PPC64 r0, r3 to r12, saved GPRs, f0 to f13, saved FPRs"; "Outgoing areas start at 48, at least 64 long, on PPC64";
--- "Start .. B + N - 112 (PPC64)"; "Preserved are r2, r13 to r31, f14 to f31"
+-- "Start .. B + N - 112 (PPC64)"; "Preserved are r2, r13 to r31, f14 to f31"; 02, No. 8: "288 free bytes under the new stack pointer on PPC64"
 abbrev pub ppc64 : Rules
 ppc64 = record {
   word = 8;
@@ -37,6 +37,7 @@ ppc64 = record {
   least = 64;
   alignment = 16;
   room = 112;
+  floor = 288;
   pointer = 1;
   end = 32;
   limit = 2 ^ 64 - 1;
@@ -46,7 +47,8 @@ ppc64 = record {
 }
 
 -- "Z request: r(g) to r15, g 6 to 14, at S + 8n (the published save area); f(m) to f15, m 8 to 16"; "Z r0 to r5, r14, saved r6 to r13, f0 to f7, saved f8 to f15";
--- outgoing areas start "at 160 on Z"; "B + N - 160 (Z)"; preserved "on Z instead r6 to r13 and f8 to f15. The return address is LR, on Z r14"
+-- outgoing areas start "at 160 on Z"; "B + N - 160 (Z)"; preserved "on Z instead r6 to r13 and f8 to f15. The return address is LR, on Z r14";
+-- 02, No. 8: "Z is as before"
 abbrev pub z : Rules
 z = record {
   word = 8;
@@ -54,6 +56,7 @@ z = record {
   least = 0;
   alignment = 8;
   room = 160;
+  floor = 0;
   pointer = 15;
   end = 16;
   limit = 2 ^ 64 - 1;
