@@ -1,5 +1,5 @@
--- Document 02, No. 8: "Interrupt code on the PowerPC machines trusts the room under the stack pointer." `KeepsFloor` is the claim for every list of calls from every
--- accepted start; `floor-kept` in proofs/Floor.antt proves it. Assumes nothing.
+-- Document 02, No. 8: "Interrupt code on the PowerPC machines trusts the room under the stack pointer." `KeepsFloorOfStates` is the claim for every list of the
+-- machine's own calls from every accepted start; `floor-kept` in proofs/Floor.antt proves it. The crate word_history has the claim of the calls that C makes. Assumes nothing.
 use Prim.Native.Nat.{ℕ, _+_, _≤_, _<_}
 use mathlib.Core.Path.{_≡_}
 use mathlib.Core.List.{List, [], _∷_}
@@ -9,7 +9,7 @@ use Rattle.rules.specs.declared.Rules.{Rules}
 use Rattle.rules.specs.declared.Registers.{Registers}
 use Rattle.rules.specs.Rules.{rules}
 use Rattle.machine.specs.declared.Answer.the-variants.{Accepted}
-use Rattle.machine.specs.Machine.{stackPointer, offset, startAnswer}
+use Rattle.machine.specs.Machine.{stackPointer, offset, startOutcome}
 use Rattle.history.specs.Calls.{Call, Machine, after, fresh}
 use Rattle.history.specs.Preserved.{RegistersFit, CallsFit}
 
@@ -27,6 +27,7 @@ abbrev pub FloorHolds : Rules → List Call → Machine → Type 0
 FloorHolds k [] m = FloorInside k m
 FloorHolds k (c ∷ cs) m = FloorInside k m × Untouched k m (after c m) × FloorHolds k cs (after c m)
 
-abbrev pub KeepsFloor : Type 0
-KeepsFloor = (c : Convention) (b : ℕ) (l : List ℕ) (r : Registers) → RegistersFit r → startAnswer c b (length l) ≡ Accepted
-    → (cs : List Call) → CallsFit cs → FloorHolds (rules c) cs (fresh c b l r)
+-- `RegistersFit` and `CallsFit` restrict nothing: the types of the program's numbers are so.
+abbrev pub KeepsFloorOfStates : Type 0
+KeepsFloorOfStates = (c : Convention) (b : ℕ) (l : List ℕ) (r : Registers) → RegistersFit r → startOutcome c b (length l) r .answer ≡ Accepted → (cs : List Call) → CallsFit cs
+    → FloorHolds (rules c) cs (fresh c b l r)
