@@ -205,6 +205,9 @@ uint64_t fz_listing(const uint8_t *sig, size_t sig_length, char *text, size_t te
  * are lent anew to every call and belong together: the memory has the length that it had at the
  * start. What is lent to one call must not overlap. Numbers in memory are big-endian.
  *
+ * On PPC64 the 288 bytes under the stack pointer are the floor: interrupt code trusts them to be
+ * free. They always lie in the memory, and no call writes there. Z has no floor.
+ *
  * Only the answer's number counts here: place and items are 0. A refused call leaves the state and
  * the memory as they were. State and memory may be changed or made up between the calls: every call
  * tests the state first, and a leave restores what stands in the memory that it is lent.
@@ -215,11 +218,13 @@ uint64_t fz_listing(const uint8_t *sig, size_t sig_length, char *text, size_t te
  * answer. */
 enum fz_machine_refusal {
     FZ_BAD_MEMORY = 16,      /* at the start: a memory_length that is no multiple of 16, under 256
-                                or over 65,536; a base that is no multiple of 16; base plus length
-                                over 2^64 - 1. Later: not the length of the start */
+                                (on PPC64 under 400, which the floor needs) or over 65,536; a base
+                                that is no multiple of 16; base plus length over 2^64 - 1. Later:
+                                not the length of the start */
     FZ_BAD_REQUEST = 17,     /* a frame request out of the ranges at fz_frame */
     FZ_TOO_MANY_FRAMES = 18, /* already 32 frames */
-    FZ_NO_ROOM = 19,         /* the new stack pointer would be below the memory's base */
+    FZ_NO_ROOM = 19,         /* the new stack pointer would be below the memory's base, or have
+                                less than the floor above it */
     FZ_NOT_PERMITTED = 20,   /* a write that the function may not do */
     FZ_BROKEN_CHAIN = 21,    /* the doubleword at the stack pointer, on Z the one where r15 was
                                 saved, is not the caller's stack pointer */
@@ -227,7 +232,8 @@ enum fz_machine_refusal {
     FZ_BAD_STATE = 23        /* a state that no calls lead to: a convention that is none, a depth
                                 over 32, the record of an entered frame that is out of range, a base
                                 or size that a start refuses, a cr over 32 bits, a stack pointer
-                                below the base or not the start's less the sizes of all frames */
+                                below the base, with less than the floor above it, or not the
+                                start's less the sizes of all frames */
 };
 
 /* 66 words. On Z, r16 up, f16 up, LR and CR are carried along and never change. */

@@ -40,6 +40,8 @@ impl Ppc64 {
     // The bytes from the start's stack pointer to the end of the memory.
     pub const START_ROOM: usize = 112;
 
+    pub const FLOOR: usize = 288;
+
     pub const STACK_POINTER: usize = 1;
     // Where CR and LR are saved in the caller's header.
     pub const CR_SLOT: usize = 8;
@@ -95,6 +97,7 @@ impl Ppc64 {
             least: Self::WORD * Self::LEAST_WORDS,
             alignment: Self::ALIGNMENT,
             room: Self::START_ROOM,
+            floor: Self::FLOOR,
             pointer: Self::STACK_POINTER,
             end: 32,
             limit: 18446744073709551615,
@@ -151,6 +154,8 @@ impl Z {
 
     pub const START_ROOM: usize = 160;
 
+    pub const FLOOR: usize = 0;
+
     pub const STACK_POINTER: usize = 15;
 
     pub const RETURN_REGISTER: usize = 14;
@@ -191,6 +196,7 @@ impl Z {
             least: Self::WORD * Self::LEAST_WORDS,
             alignment: Self::ALIGNMENT,
             room: Self::START_ROOM,
+            floor: Self::FLOOR,
             pointer: Self::STACK_POINTER,
             end: 16,
             limit: 18446744073709551615,

@@ -24,7 +24,7 @@ pub fn judge_enter(k: Rules, s: State, n: usize, f: Frame) -> Answer
             }
             let p = state_checks::stack_pointer(k, s);
             let z = rules::frame_size(k, f);
-            if p - s.base < z as u64 {
+            if p - s.base < (z + k.floor) as u64 {
                 return Answer::Refused(Refusal::NoRoom);
             }
             Answer::Accepted

@@ -42,7 +42,7 @@ module _ (k : Rules) (law : Lawful k) (m : Machine) (f : Frame) (b : Base k m) (
   abbrev s : State
   s = m .state
 
-  new-pointer : getD (set (s .registers .gpr) (k .pointer) (stackPointer k s - frameSize k f)) (k .pointer) 0 ≡ stackPointer k s - frameSize k f
+  pub new-pointer : getD (set (s .registers .gpr) (k .pointer) (stackPointer k s - frameSize k f)) (k .pointer) 0 ≡ stackPointer k s - frameSize k f
   new-pointer = getD-set-same (s .registers .gpr) (k .pointer) (stackPointer k s - frameSize k f) 0 (omega (arith, b .fit .gprs, law .pointer))
 
   pointer-fits : stackPointer k s < 2 ^ (8 * k .word)
@@ -62,7 +62,7 @@ module _ (k : Rules) (law : Lawful k) (m : Machine) (f : Frame) (b : Base k m) (
   unfolding sizes
   sizes-entered = rw (add-one, new-frame, sizes-agree k (s .depth) (set (s .frames) (s .depth) f) (s .frames) old-frame)
 
-  fits-below : frameSize k f ≤ offset k s
+  pub fits-below : frameSize k f ≤ offset k s
   fits-below = omega (arith, y .room)
 
   abbrev m′ : Machine

@@ -1,4 +1,4 @@
--- A list of calls of each convention worked on numbers, so that the theorem is seen to speak of something: a start on 512 bytes, a frame entered, refused and accepted
+-- A list of calls of each convention worked on numbers, so that the theorem is seen to speak of something: a start on 640 bytes (Z: 512), a frame entered, refused and accepted
 -- writes, and leaves.
 -- Assumes nothing.
 use Prim.Native.Nat.{ℕ, _+_, _-_}
@@ -41,14 +41,14 @@ calls =
     ∷ writeRegister 0 28 5
     ∷ writeRegister 2 0 6
     ∷ writeRegister 3 2 15
-    ∷ writeMemory (4096 + 512 - 112 - 176 + 48) (1 ∷ 2 ∷ [])
-    ∷ writeMemory (4096 + 512 - 112 - 176) (1 ∷ 2 ∷ [])
+    ∷ writeMemory (4096 + 640 - 112 - 176 + 48) (1 ∷ 2 ∷ [])
+    ∷ writeMemory (4096 + 640 - 112 - 176) (1 ∷ 2 ∷ [])
     ∷ leave
     ∷ leave
     ∷ []
 
 abbrev start : Machine
-start = fresh Ppc64 4096 (replicate 512 1) registers
+start = fresh Ppc64 4096 (replicate 640 1) registers
 
 -- the same on Z: all that a request may save, with one byte of locals and 8 of outgoing area
 abbrev request-z : Frame
@@ -73,7 +73,7 @@ start-z = fresh Z 4096 (replicate 512 1) registers
 -- The answers on PPC64: 22 where nothing is entered, 20 where r28 is not saved and where the back chain is in no area. On Z: 17 where CR is asked for, 20 for the stack
 -- pointer, LR and CR. After the calls the saved registers, LR and condition field 2 are back.
 pub worked : (numbers calls start ≡ 22 ∷ 0 ∷ 0 ∷ 20 ∷ 0 ∷ 0 ∷ 0 ∷ 20 ∷ 0 ∷ 22 ∷ [])
-    × (run calls start .state .registers ≡ record { gpr = 7 ∷ (4096 + 512 - 112) ∷ replicate 30 7; fpr = replicate 32 9; lr = 11; cr = 0 })
+    × (run calls start .state .registers ≡ record { gpr = 7 ∷ (4096 + 640 - 112) ∷ replicate 30 7; fpr = replicate 32 9; lr = 11; cr = 0 })
     × (numbers calls-z start-z ≡ 17 ∷ 0 ∷ 0 ∷ 0 ∷ 20 ∷ 0 ∷ 20 ∷ 20 ∷ 0 ∷ [])
     × (run calls-z start-z .state .registers ≡ record { gpr = replicate 15 7 ++ (4096 + 512 - 160) ∷ replicate 16 7; fpr = replicate 32 9; lr = 11; cr = 0 })
 unfolding overlay splice bytesOf valueOf store load saveRun loadRun withPointer okRequest below roundUp frameSize gprAt savesBy linkAt mergeFields restoredLr restoredCr restored bankOf writableField writableRegister withField withRegister judge topFrame callerFrame okFrames sizes okMemory okState startAnswer started startedMemory enterAnswer entered enteredMemory writableBytes writableAddress writeRegisterAnswer writeMemoryAnswer writtenRegister writtenMemory leaveAnswer left startOutcome startMemory enterOutcome enterMemory writeRegisterOutcome writeMemoryOutcome writeMemoryMemory leaveOutcome

@@ -3,4 +3,5 @@ pub mod Entering
 pub mod Writing
 pub mod Leaving
 pub mod Theorem
+pub mod Floor
 pub mod Examples

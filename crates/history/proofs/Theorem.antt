@@ -32,14 +32,14 @@ use Rattle.history.proofs.Leaving.{leave-refused, leave-accepted, leave
 -- ---- one call
 
 -- a value to write fits a general register
-abbrev Fits : Rules → Call → Type 0
+abbrev pub Fits : Rules → Call → Type 0
 Fits k (enter f) = Unit {0}
 Fits k (writeRegister b n v) = (v < 2 ^ (8 * k .word)) × (v < 2 ^ 64)
 Fits k (writeMemory a bs) = Unit {0}
 Fits k leave = Unit {0}
 
 module _ (k : Rules) (law : Lawful k) where
-  step : (c : Call) → Fits k c → (os : List OpenEnter) (m : Machine) → Invariant k os m → (a : Answer) → answer c m ≡ a
+  pub step : (c : Call) → Fits k c → (os : List OpenEnter) (m : Machine) → Invariant k os m → (a : Answer) → answer c m ≡ a
       → CallHolds k c a os (after c m) × Invariant k (openAfter c a m os) (after c m)
   unfolding enterOutcome enterMemory writeRegisterOutcome writeMemoryOutcome writeMemoryMemory leaveOutcome
   step (enter f) w os m i Accepted e =
@@ -58,7 +58,7 @@ module _ (k : Rules) (law : Lawful k) where
 
   -- ---- a list of calls
 
-  abbrev AllFit : List Call → Type 0
+  abbrev pub AllFit : List Call → Type 0
   AllFit [] = Unit {0}
   AllFit (c ∷ cs) = Fits k c × AllFit cs
 
@@ -75,7 +75,7 @@ word-64 : (c : Convention) → 2 ^ (8 * rules c .word) ≡ 2 ^ 64
 word-64 Ppc64 = refl
 word-64 Z = refl
 
-all-fit : (c : Convention) (cs : List Call) → CallsFit cs → AllFit (rules c) (lawful c) cs
+pub all-fit : (c : Convention) (cs : List Call) → CallsFit cs → AllFit (rules c) (lawful c) cs
 all-fit c [] w = tt
 all-fit c (enter f ∷ cs) w = (tt, all-fit c cs (w .1))
 all-fit c (writeRegister b n v ∷ cs) w = ((rw (word-64 c) (w .0), w .0), all-fit c cs (w .1))
@@ -96,7 +96,7 @@ module _ (c : Convention) (b : ℕ) (l : List ℕ) (r : Registers) (fit : Regist
   unfolding startAnswer
   okay = holds-yes _ _ e .0
 
-  bounds : (256 ≤ n) × (n ≤ 65536) × (b + n ≤ k .limit)
+  bounds : (256 ≤ n) × (n ≤ 65536) × (b + n ≤ k .limit) × (k .room + k .floor ≤ n)
   bounds = memory-yes k b n okay
 
   pointer : getD (set (r .gpr) (k .pointer) (b + n - k .room)) (k .pointer) 0 ≡ b + n - k .room
@@ -131,7 +131,7 @@ module _ (c : Convention) (b : ℕ) (l : List ℕ) (r : Registers) (fit : Regist
       let at : getD (set (r .gpr) (k .pointer) (b + n - k .room)) (k .pointer) 0 - b ≡ n - k .room = omega (arith, pointer, bounds, law .room) in
       rw at (load-store l (n - k .room) (k .word) 0 (omega (arith, law .limit)) (omega (arith, bounds, law .head, law .room, law .chain)))
 
-  start-invariant : Invariant k [] (fresh c b l r)
+  pub start-invariant : Invariant k [] (fresh c b l r)
   unfolding startOutcome startMemory started withPointer
   start-invariant = rw e (base, refl, zero-word)
 

@@ -1,2 +1,3 @@
 pub mod Calls
 pub mod Preserved
+pub mod Floor

@@ -17,14 +17,15 @@ use Rattle.machine.specs.Premises.{Sound, CanEnter, CanLeave}
 use Rattle.machine.proofs.Judging.{holds-yes, judge-both}
 
 -- what refusal 16 says of the memory
-pub memory-yes : (k : Rules) (b n : ℕ) → okMemory k b n ≡ true → (256 ≤ n) × (n ≤ 65536) × (b + n ≤ k .limit)
+pub memory-yes : (k : Rules) (b n : ℕ) → okMemory k b n ≡ true → (256 ≤ n) × (n ≤ 65536) × (b + n ≤ k .limit) × (k .room + k .floor ≤ n)
 unfolding okMemory
 memory-yes k b n e =
     let p = and-yes (eqb (n % 16) 0) _ e in
     let q = and-yes (leb 256 n) _ (p .1) in
     let r = and-yes (leb n 65536) _ (q .1) in
     let s = and-yes (eqb (b % 16) 0) _ (r .1) in
-    (leb-true 256 n (q .0), leb-true n 65536 (r .0), leb-true (b + n) (k .limit) (s .1))
+    let t = and-yes (leb (b + n) (k .limit)) _ (s .1) in
+    (leb-true 256 n (q .0), leb-true n 65536 (r .0), leb-true (b + n) (k .limit) (t .0), leb-true (k .room + k .floor) n (t .1))
 
 pub state-yes : (k : Rules) (s : State) (n : ℕ) → judge (stateTests k s n) ≡ Accepted → Sound k s n
 unfolding okState
@@ -34,12 +35,12 @@ state-yes k s n e =
     let a = and-yes (leb (s .depth) 32) _ (t .0) in
     let b = and-yes (okFrames k (s .frames) (s .depth)) _ (a .1) in
     let c = and-yes (okMemory k (s .base) (s .size)) _ (b .1) in
-    let d = and-yes (leb (s .base) (stackPointer k s)) _ (c .1) in
+    let d = and-yes (leb (s .base + k .floor) (stackPointer k s)) _ (c .1) in
     record {
       shallow = leb-true (s .depth) 32 (a .0);
       requests = b .0;
       memory = c .0;
-      over = leb-true (s .base) (stackPointer k s) (d .0);
+      over = leb-true (s .base + k .floor) (stackPointer k s) (d .0);
       sum = eqb-true _ _ (d .1);
       length = eqb-true n (s .size) (u .0);
     }
@@ -51,7 +52,7 @@ state-accepted k s n y =
       le-leb (s .depth) 32 (y .shallow),
       y .requests,
       y .memory,
-      le-leb (s .base) (stackPointer k s) (y .over),
+      le-leb (s .base + k .floor) (stackPointer k s) (y .over),
       eq-eqb (stackPointer k s + sizes k (s .frames) (s .depth) + k .room) (s .base + s .size) (y .sum),
       eq-eqb n (s .size) (y .length),
     )
@@ -64,7 +65,7 @@ enter-yes k s n f e =
     let b = holds-yes _ _ (a .1) in
     let c = holds-yes _ _ (b .1) in (
       state-yes k s n (t .0),
-      record { request = a .0; shallow = ltb-true (s .depth) 32 (b .0); room = leb-true (s .base + frameSize k f) (stackPointer k s) (c .0) },
+      record { request = a .0; shallow = ltb-true (s .depth) 32 (b .0); room = leb-true (s .base + frameSize k f + k .floor) (stackPointer k s) (c .0) },
     )
 
 pub write-register-yes : (k : Rules) (s : State) (n b i v : ℕ) → writeRegisterAnswer k s n b i v ≡ Accepted → Sound k s n × (writableRegister k (top k s) (bankOf b) i v ≡ true)

@@ -1,4 +1,5 @@
--- The frame machine: what each call answers, and the state and the memory after it, for every state, request and memory. Document 01, "Frames" and refusals 16 to 23.
+-- The frame machine: what each call answers, and the state and the memory after it, for every state, request and memory. Document 01, "Frames" and refusals 16 to 23;
+-- document 02, No. 8.
 -- Addresses are integers without wrap. Definitions are over the rules k of a convention; those that the contracts cite take them from the state.
 -- Assumes nothing.
 use Prim.Native.Nat.{ℕ, zero, suc, _+_, _-_, _%_}
@@ -60,15 +61,17 @@ unfoldable pub sizes : Rules → List Frame → ℕ → ℕ
 sizes k fs zero = 0
 sizes k fs (suc d) = sizes k fs d + frameSize k (frameAt fs d)
 
--- refusal 16: "machine memory N not a multiple of 16, under 256, over 65,536, base B not a multiple of 16, B + N over 2^64 - 1"
+-- refusal 16: "machine memory N not a multiple of 16, under 256, over 65,536, base B not a multiple of 16, B + N over 2^64 - 1"; 02, No. 8: "Start gives 16 unless the
+-- start pointer has that room", which is the floor
 unfoldable pub okMemory : Rules → ℕ → ℕ → Bool
-okMemory k b n = eqb (n % 16) 0 && (leb 256 n && (leb n 65536 && (eqb (b % 16) 0 && leb (b + n) (k .limit))))
+okMemory k b n = eqb (n % 16) 0 && (leb 256 n && (leb n 65536 && (eqb (b % 16) 0 && (leb (b + n) (k .limit) && leb (k .room + k .floor) n))))
 
--- refusal 23: "depth over 32, an entered frame's record that 17 would refuse, B or N as in 16, or stack pointer below B or not the start's less the sum of frame sizes"
+-- refusal 23: "depth over 32, an entered frame's record that 17 would refuse, B or N as in 16, or stack pointer below B or not the start's less the sum of frame sizes";
+-- 02, No. 8: "In 23, less room than this counts as below B"
 unfoldable pub okState : Rules → State → Bool
 okState k s =
     leb (s .depth) 32 && (okFrames k (s .frames) (s .depth) && (okMemory k (s .base) (s .size)
-    && (leb (s .base) (stackPointer k s) && eqb (stackPointer k s + sizes k (s .frames) (s .depth) + k .room) (s .base + s .size))))
+    && (leb (s .base + k .floor) (stackPointer k s) && eqb (stackPointer k s + sizes k (s .frames) (s .depth) + k .room) (s .base + s .size))))
 
 -- what every call but start tests first, with n bytes of memory lent: "otherwise 23, 16"
 abbrev pub stateTests : Rules → State → ℕ → List Test
@@ -101,10 +104,10 @@ notStarted c r = record { convention = c; base = 0; size = 0; depth = 0; registe
 
 -- ---- enter
 
--- "enter 17, 18, 19"
+-- "enter 17, 18, 19", and 19 is "new stack pointer below B"; 02, No. 8: "Enter now also needs 288 free bytes under the new stack pointer on PPC64 .., else 19"
 abbrev pub enterTests : Rules → State → Frame → List Test
 enterTests k s f =
-    require (okRequest k f) BadRequest ∷ require (ltb (s .depth) 32) TooManyFrames ∷ require (leb (s .base + frameSize k f) (stackPointer k s)) NoRoom ∷ []
+    require (okRequest k f) BadRequest ∷ require (ltb (s .depth) 32) TooManyFrames ∷ require (leb (s .base + frameSize k f + k .floor) (stackPointer k s)) NoRoom ∷ []
 
 -- what an enter answers, with n bytes of memory lent
 unfoldable pub enterAnswer : Rules → State → ℕ → Frame → Answer

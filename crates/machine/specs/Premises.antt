@@ -12,7 +12,7 @@ pub record Sound (k : Rules) (s : State) (n : ℕ) : Type 0 where
   pub shallow : s .depth ≤ 32
   pub requests : okFrames k (s .frames) (s .depth) ≡ true
   pub memory : okMemory k (s .base) (s .size) ≡ true
-  pub over : s .base ≤ stackPointer k s
+  pub over : s .base + k .floor ≤ stackPointer k s
   pub sum : stackPointer k s + sizes k (s .frames) (s .depth) + k .room ≡ s .base + s .size
   pub length : n ≡ s .size
 
@@ -20,7 +20,7 @@ pub record Sound (k : Rules) (s : State) (n : ℕ) : Type 0 where
 pub record CanEnter (k : Rules) (s : State) (f : Frame) : Type 0 where
   pub request : okRequest k f ≡ true
   pub shallow : s .depth < 32
-  pub room : s .base + frameSize k f ≤ stackPointer k s
+  pub room : s .base + frameSize k f + k .floor ≤ stackPointer k s
 
 -- refusals 23, 16 and 22: the frame entered last fits below the caller's pointer, whose header is in the memory
 pub record CanLeave (k : Rules) (s : State) (n : ℕ) : Type 0 where

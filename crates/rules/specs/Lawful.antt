@@ -42,6 +42,7 @@ pub record Lawful (k : Rules) : Type 0 where
   pub chain : k .word ≤ k .header
   pub head : k .header + k .least ≤ k .room
   pub room : k .room ≤ 256
+  pub floor : k .floor ≤ 512
   pub least : k .least ≤ 256
   pub some : 0 < k .alignment
   pub alignment : k .alignment ≤ 16

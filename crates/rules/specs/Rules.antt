@@ -1,4 +1,5 @@
--- A convention's frames as a value: its numbers, and the two values; those that calls have too come from `conventions`. Document 01, "Frames"; the published papers are 000 (PPC64) and 001 (Z).
+-- A convention's frames as a value: its numbers, and the two values; those that calls have too come from `conventions`. Document 01, "Frames"; document 02, No. 8; the
+-- published papers are 000 (PPC64) and 001 (Z).
 -- Assumes nothing.
 use Prim.Native.Nat.{ℕ, _-_, _^_}
 use mathlib.Core.Bool.{Bool, false, _&&_, _||_}
@@ -30,7 +31,7 @@ within (v ∷ vs) n = inSpan v n || within vs n
 
 -- "PPC64 request: saves r(g) to r31, g 14 to 32; f(m) to f31, m 14 to 32"; "CR in the 4 bytes at S + 8 if saved, LR at S + 16";
 -- "Permitted writes: PPC64 r0, r3 to r12, saved GPRs, f0 to f13, saved FPRs"; "Outgoing areas start at 48, at least 64 long, on PPC64";
--- "Start .. B + N - 112 (PPC64)"; "Preserved are r2, r13 to r31, f14 to f31"
+-- "Start .. B + N - 112 (PPC64)"; "Preserved are r2, r13 to r31, f14 to f31"; 02, No. 8: "288 free bytes under the new stack pointer on PPC64"
 abbrev pub ppc64 : Rules
 ppc64 = record {
   word = wordBytes Ppc64;
@@ -38,6 +39,7 @@ ppc64 = record {
   least = leastArea Ppc64;
   alignment = stackAlignment Ppc64;
   room = 112;
+  floor = 288;
   pointer = 1;
   end = 32;
   limit = 2 ^ 64 - 1;
@@ -47,7 +49,8 @@ ppc64 = record {
 }
 
 -- "Z request: r(g) to r15, g 6 to 14, at S + 8n (the published save area); f(m) to f15, m 8 to 16"; "Z r0 to r5, r14, saved r6 to r13, f0 to f7, saved f8 to f15";
--- outgoing areas start "at 160 on Z"; "B + N - 160 (Z)"; preserved "on Z instead r6 to r13 and f8 to f15. The return address is LR, on Z r14"
+-- outgoing areas start "at 160 on Z"; "B + N - 160 (Z)"; preserved "on Z instead r6 to r13 and f8 to f15. The return address is LR, on Z r14";
+-- 02, No. 8: "Z is as before"
 abbrev pub z : Rules
 z = record {
   word = wordBytes Z;
@@ -55,6 +58,7 @@ z = record {
   least = leastArea Z;
   alignment = stackAlignment Z;
   room = 160;
+  floor = 0;
   pointer = 15;
   end = 16;
   limit = 2 ^ 64 - 1;

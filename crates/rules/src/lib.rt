@@ -42,6 +42,8 @@ pub struct Rules {
     pub alignment: usize,
     // Bytes from the start's stack pointer to the end of the memory.
     pub room: usize,
+    // The floor: bytes under the stack pointer that interrupt code trusts to be free.
+    pub floor: usize,
     // The number of the stack pointer's register.
     pub pointer: usize,
     // Saved registers end before this one.

@@ -28,7 +28,10 @@ pub fn memory_ok(k: Rules, base: u64, n: usize) -> bool
     if base % 16 != 0 {
         return false;
     }
-    base <= k.limit - n as u64
+    if k.limit - (n as u64) < base {
+        return false;
+    }
+    k.room + k.floor <= n
 }
 
 fn frames_ok(k: Rules, fs: [Frame; 32], depth: usize) -> bool
@@ -88,7 +91,7 @@ fn state_ok(k: Rules, s: State) -> bool
         return false;
     }
     let p = stack_pointer(k, s);
-    if p < b {
+    if p < b + k.floor as u64 {
         return false;
     }
     let used = (sizes_of(k, fs, d) + k.room) as u64;

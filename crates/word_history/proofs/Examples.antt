@@ -1,4 +1,4 @@
--- A list of exported calls of each convention worked on numbers, so that the theorem is seen to speak of something: a start on 512 bytes, a frame entered, a saved register
+-- A list of exported calls of each convention worked on numbers, so that the theorem is seen to speak of something: a start on 640 bytes, a frame entered, a saved register
 -- written, and leaves.
 -- Assumes nothing.
 use Prim.Native.Nat.{ℕ}
@@ -30,7 +30,7 @@ run [] m = m
 run (c ∷ cs) m = run cs (after c m)
 
 abbrev start : Convention → Lent
-start c = fresh c 4096 (replicate 512 1) (replicate 66 7)
+start c = fresh c 4096 (replicate 640 1) (replicate 66 7)
 
 -- with the words of a request and a general register that it saves
 abbrev calls : List ℕ → ℕ → List Call
@@ -43,8 +43,8 @@ abbrev calls-z : List Call
 calls-z = calls (6 ∷ 8 ∷ 0 ∷ 1 ∷ 8 ∷ []) 6
 
 -- Both starts are accepted. A leave is refused by 22 where nothing is entered. After the calls all the words are as the start left them.
-pub worked : (startOutcome Ppc64 4096 512 (registersIn (replicate 66 7) 0) .answer ≡ Accepted)
-    × (startOutcome Z 4096 512 (registersIn (replicate 66 7) 0) .answer ≡ Accepted)
+pub worked : (startOutcome Ppc64 4096 640 (registersIn (replicate 66 7) 0) .answer ≡ Accepted)
+    × (startOutcome Z 4096 640 (registersIn (replicate 66 7) 0) .answer ≡ Accepted)
     × (numbers calls-ppc64 (start Ppc64) ≡ 22 ∷ 0 ∷ 0 ∷ 0 ∷ 22 ∷ [])
     × (numbers calls-z (start Z) ≡ 22 ∷ 0 ∷ 0 ∷ 0 ∷ 22 ∷ [])
     × (run calls-ppc64 (start Ppc64) .words ≡ start Ppc64 .words)

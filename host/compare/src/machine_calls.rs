@@ -3,7 +3,7 @@
 
 use crate::machines::{random_bytes, random_registers, stack_pointer, Call};
 use crate::random::Random;
-use reference::machine::{frame_size, pointer_register, save_slots, Machine, Request};
+use reference::machine::{floor, frame_size, pointer_register, save_slots, Machine, Request};
 use reference::Convention;
 
 /// What the calls of a list are mostly.
@@ -19,14 +19,23 @@ pub enum Style {
 
 pub const STYLES: [Style; 3] = [Style::Climb, Style::Mixed, Style::Writes];
 
+/// The smallest memory that a start takes: 256 bytes, on PPC64 112 and the floor's 288.
+pub fn least_memory(convention: Convention) -> usize {
+    match convention {
+        Convention::Ppc64 => 400,
+        Convention::Z => 256,
+    }
+}
+
 /// A memory's length that a start takes: mostly a few frames', at times the smallest and the
 /// largest.
-pub fn memory_length(random: &mut Random) -> usize {
+pub fn memory_length(random: &mut Random, convention: Convention) -> usize {
+    let least = least_memory(convention) / 16;
     let steps = match random.below(24) {
-        0 | 1 => 16,
-        2..=5 => 16 + random.below(64),
+        0 | 1 => least,
+        2..=5 => least + random.below(64),
         6 => 4096,
-        7 => 16 + random.below(4081),
+        7 => least + random.below(4097 - least),
         8..=15 => 256 + random.below(256),
         _ => 64 + random.below(192),
     };
@@ -59,8 +68,15 @@ pub fn start(random: &mut Random, convention: Convention, length: usize) -> Call
 pub fn refused_start(random: &mut Random, convention: Convention, length: usize) -> (Call, usize) {
     let mut lent = length;
     let mut base = base(random, length);
-    match random.below(6) {
-        0 => lent = random.pick(&[0, 16, 239, 240, 248, 255]).min(length - 1),
+    let least = least_memory(convention);
+    match random.below(7) {
+        0 => {
+            lent = random
+                .pick(&[0, 16, 239, 240, 248, 255, least - 1])
+                .min(length - 1)
+        }
+        // one step too short: on PPC64 this lacks the floor alone
+        6 => lent = least - 16,
         1 => lent += 1 + random.below(15),
         2 => base += 1 + random.number() % 15,
         // base and length are 2^64, or more
@@ -198,6 +214,11 @@ pub fn broken_request(random: &mut Random, convention: Convention, request: Requ
     broken
 }
 
+/// The bytes that frames may still take, in a state that can be.
+pub fn room(machine: &Machine, convention: Convention) -> u64 {
+    stack_pointer(machine) - machine.base - floor(convention)
+}
+
 /// A call for this state, whether or not it can be.
 pub fn call(random: &mut Random, machine: &Machine, style: Style) -> Call {
     // enters, register writes, memory writes, leaves
@@ -207,8 +228,7 @@ pub fn call(random: &mut Random, machine: &Machine, style: Style) -> Call {
         Style::Writes => [2, 16, 32, 2],
     };
     if let Some(convention) = machine.possible() {
-        let room = stack_pointer(machine) - machine.base;
-        if room < frame_size(convention, &smallest_request(convention)) {
+        if room(machine, convention) < frame_size(convention, &smallest_request(convention)) {
             // now and then it is told that the stack is full
             weights[0] = 1;
             weights[3] *= 2;
@@ -237,7 +257,7 @@ fn enter(random: &mut Random, machine: &Machine, style: Style) -> Call {
         let convention = random.pick(&[Convention::Ppc64, Convention::Z]);
         return Call::Enter(request(random, convention));
     };
-    let room = stack_pointer(machine) - machine.base;
+    let room = room(machine, convention);
     let small = match style {
         Style::Climb => true,
         Style::Mixed => random.once_in(2),

@@ -6,8 +6,8 @@ use crate::machines::{convention_of, random_bytes, stack_pointer, told, Call, Pa
 use crate::random::Random;
 use crate::Difference;
 use reference::machine::{
-    frame_size, pointer_register, request_allowed, save_slots, Area, AreaKind, Machine, Registers,
-    Request, Saved,
+    floor, frame_size, lowest_pointer, pointer_register, request_allowed, save_slots, Area,
+    AreaKind, Machine, Registers, Request, Saved,
 };
 use reference::Convention;
 use std::fmt;
@@ -44,10 +44,13 @@ pub struct Reach {
     /// The most frames, and how often there were 32.
     pub deepest: u64,
     pub full: u64,
-    /// Enters that took the last free byte, and refused ones that would fit with one byte of locals
-    /// less.
+    /// Enters that left no byte but the floor's, and refused ones that would fit with one byte of
+    /// locals less.
     pub last_free_byte: u64,
     pub one_byte_too_many: u64,
+    /// What was refused for the floor alone: starts, enters, and calls of states. Each would have
+    /// been accepted, or its state would, if the stack pointer might go down to the base.
+    pub floors: [u64; 3],
     /// Leaves after which the caller was seen to find all that a call must preserve.
     pub preserving: u64,
     /// Accepted leaves that restored bytes by chance.
@@ -89,9 +92,11 @@ impl fmt::Display for Reach {
         for (number, count) in self.refusals.iter().enumerate().skip(16) {
             write!(to, " {number}: {count}")?;
         }
+        let [starts, enters, states] = self.floors;
         write!(
             to,
-            "; {} stack full for one byte; deepest {}, {} times 32",
+            "; {} stack full for one byte; for the floor alone {starts} starts, {enters} enters, \
+             {states} calls of states; deepest {}, {} times 32",
             self.one_byte_too_many, self.deepest, self.full
         )
     }
@@ -114,7 +119,7 @@ impl Counted<'_> {
         self.reach.calls += 1;
         match number {
             0 => self.count_accepted(call, &before),
-            _ => self.count_refused(call, &before, number),
+            _ => self.count_refused(call, &before, lent, number),
         }
         Ok(number)
     }
@@ -128,7 +133,9 @@ impl Counted<'_> {
                 reach.enters += 1;
                 reach.deepest = reach.deepest.max(after.depth);
                 reach.full += u64::from(after.depth == 32);
-                reach.last_free_byte += u64::from(stack_pointer(after) == after.base);
+                let free = stack_pointer(after) - after.base;
+                let convention = convention_of(after.convention).expect("it is accepted");
+                reach.last_free_byte += u64::from(free == floor(convention));
             }
             Call::WriteRegister { bank, number, .. } => {
                 reach.register_writes[*bank as usize] += 1;
@@ -161,19 +168,37 @@ impl Counted<'_> {
         }
     }
 
-    fn count_refused(&mut self, call: &Call, before: &Machine, number: u64) {
+    fn count_refused(&mut self, call: &Call, before: &Machine, lent: usize, number: u64) {
         let reach = &mut self.reach;
         reach.refusals[number as usize] += 1;
         match (number, call) {
-            (19, Call::Enter(request)) if request.locals > 0 => {
-                let smaller = Request {
-                    locals: request.locals - 1,
-                    ..*request
-                };
-                let convention = before.possible().expect("23 is tested before 19");
-                let room = stack_pointer(before) - before.base;
-                reach.one_byte_too_many += u64::from(frame_size(convention, &smaller) <= room);
+            (
+                16,
+                Call::Start {
+                    convention, base, ..
+                },
+            ) => {
+                let least = calls::least_memory(*convention);
+                let else_allowed = lent % 16 == 0
+                    && (256..least).contains(&lent)
+                    && base % 16 == 0
+                    && *base <= u64::MAX - lent as u64;
+                reach.floors[0] += u64::from(else_allowed);
             }
+            (19, Call::Enter(request)) => {
+                let convention = before.possible().expect("23 is tested before 19");
+                let room = calls::room(before, convention);
+                if request.locals > 0 {
+                    let smaller = Request {
+                        locals: request.locals - 1,
+                        ..*request
+                    };
+                    reach.one_byte_too_many += u64::from(frame_size(convention, &smaller) <= room);
+                }
+                let to_the_base = room + floor(convention);
+                reach.floors[1] += u64::from(frame_size(convention, request) <= to_the_base);
+            }
+            (23, _) => reach.floors[2] += u64::from(lacks_the_floor_alone(before)),
             (20, Call::WriteMemory { address, bytes }) if (2..=256).contains(&bytes.len()) => {
                 let start = u128::from(*address);
                 let end = start + bytes.len() as u128;
@@ -186,6 +211,22 @@ impl Counted<'_> {
             _ => {}
         }
     }
+}
+
+/// Whether a state cannot be that could, if the stack pointer might go down to the base: with as
+/// much more memory under it, it can.
+fn lacks_the_floor_alone(machine: &Machine) -> bool {
+    let Some(convention) = convention_of(machine.convention) else {
+        return false;
+    };
+    let floor = floor(convention);
+    let mut roomier = machine.clone();
+    roomier.base = machine.base.wrapping_sub(floor);
+    roomier.size = machine.size.wrapping_add(floor);
+    floor > 0
+        && (256..=65_536 - floor).contains(&machine.size)
+        && stack_pointer(machine) >= machine.base
+        && roomier.possible().is_some()
 }
 
 fn areas(machine: &Machine) -> Vec<Area> {
@@ -278,7 +319,7 @@ fn run_list(
     convention: Convention,
     reach: &mut Reach,
 ) -> Result<(), Difference> {
-    let length = calls::memory_length(random);
+    let length = calls::memory_length(random, convention);
     let pair = Pair::new(random, length);
     let mut machine = Counted { pair, reach };
     let count = match random.below(4) {
@@ -390,8 +431,8 @@ fn run_undisturbed(
 
 /// Whether a frame can be had, be there 32 already or not.
 fn fits(machine: &Machine, convention: Convention, request: &Request) -> bool {
-    let room = stack_pointer(machine) - machine.base;
-    request_allowed(convention, request) && frame_size(convention, request) <= room
+    request_allowed(convention, request)
+        && frame_size(convention, request) <= calls::room(machine, convention)
 }
 
 /// A length that is not the memory's, which is this one, and no longer than its guard lets it be.
@@ -468,7 +509,7 @@ pub fn change(random: &mut Random, state: &mut Machine) {
     let step = random.pick(&[1, 8, 16, 112, 160, 4096]);
     let signed = random.pick(&[step, 0u64.wrapping_sub(step)]);
     let entered = state.depth.clamp(1, 32) as usize;
-    match random.below(12) {
+    match random.below(13) {
         0 => state.convention = random.pick(&[0, 1, 2, 3, 257, u64::MAX]),
         1 => state.base = state.base.wrapping_add(signed),
         2 => {
@@ -476,7 +517,7 @@ pub fn change(random: &mut Random, state: &mut Machine) {
             state.base = random.pick(&[0, u64::MAX - 15, highest, highest.wrapping_add(16)]);
         }
         3 => state.size = state.size.wrapping_add(signed),
-        4 => state.size = random.pick(&[0, 240, 256, 65_536, 65_552, u64::MAX - 15]),
+        4 => state.size = random.pick(&[0, 240, 256, 384, 400, 65_536, 65_552, u64::MAX - 15]),
         5 => {
             let deeper = state.depth.wrapping_add(1);
             state.depth = random.pick(&[state.depth.wrapping_sub(1), deeper, 33, 0]);
@@ -502,6 +543,14 @@ pub fn change(random: &mut Random, state: &mut Machine) {
                 };
             }
         }
+        // a memory that begins further up, with the floor, one step less, or nothing under the
+        // stack pointer
+        11 => {
+            let under = random.pick(&[288, 272, 0]);
+            let cut = pointer.wrapping_sub(under).wrapping_sub(state.base);
+            state.base = state.base.wrapping_add(cut);
+            state.size = state.size.wrapping_sub(cut);
+        }
         // the whole machine at another address
         _ => {
             let moved = calls::base(random, (state.size % 65_537) as usize);
@@ -525,7 +574,7 @@ pub fn run_nonsense(seed: u64, states: u64) -> Result<Reach, Difference> {
 
 fn run_state(random: &mut Random, reach: &mut Reach) -> Result<(), Difference> {
     let convention = random.pick(&[Convention::Ppc64, Convention::Z]);
-    let length = calls::memory_length(random);
+    let length = calls::memory_length(random, convention);
     let mut pair = Pair::new(random, length);
     // one state in sixteen stays as it is, all by chance
     if !random.once_in(16) {
@@ -575,7 +624,11 @@ pub fn make_up(random: &mut Random, convention: Convention, length: usize, state
         Convention::Ppc64 => 112,
         Convention::Z => 160,
     };
-    let lowest = state.base;
+    // at times frames that leave no floor stay
+    let lowest = match random.once_in(3) {
+        true => state.base,
+        false => lowest_pointer(convention, state.base) as u64,
+    };
     let small = !random.once_in(4);
     for frame in &mut state.frames[..state.depth as usize] {
         *frame = match small {

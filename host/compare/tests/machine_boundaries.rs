@@ -64,23 +64,33 @@ fn all_saved(convention: Convention) -> Request {
     }
 }
 
+/// The smallest memory: on PPC64 the start's 112 bytes and the floor's 288.
+fn least_memory(convention: Convention) -> usize {
+    match convention {
+        Ppc64 => 400,
+        Z => 256,
+    }
+}
+
 #[test]
 fn starts_of_every_length_and_base() {
     let mut pair = Pair::new(&mut Random::new(3), 65_600);
     for convention in BOTH {
+        let least = least_memory(convention);
         for length in (0..=520).chain(65_500..=65_600) {
-            let allowed = length % 16 == 0 && (256..=65_536).contains(&length);
+            let allowed = length % 16 == 0 && (least..=65_536).contains(&length);
             let number = if allowed { 0 } else { 16 };
             answers_lending(&mut pair, &start(convention, BASE), length, number);
         }
         for low in 0..=64 {
             let number = if low % 16 == 0 { 0 } else { 16 };
-            answers_lending(&mut pair, &start(convention, low), 256, number);
-            let high = u64::MAX - 300 + low;
-            // 2^64 - 1 - 256 is no multiple of 16: the highest base is 15 lower
-            let allowed = high % 16 == 0 && high <= u64::MAX - 256;
+            answers_lending(&mut pair, &start(convention, low), least, number);
+            let highest = u64::MAX - least as u64;
+            let high = highest - 44 + low;
+            // 2^64 - 1 less the length is no multiple of 16: the highest base is 15 lower
+            let allowed = high % 16 == 0 && high <= highest;
             let number = if allowed { 0 } else { 16 };
-            answers_lending(&mut pair, &start(convention, high), 256, number);
+            answers_lending(&mut pair, &start(convention, high), least, number);
         }
     }
 }
@@ -254,9 +264,10 @@ fn frames_down_to_the_last_free_byte() {
                 };
                 let mut pair = Pair::new(&mut Random::new(4), 1024);
                 answers(&mut pair, &start(convention, base), 0);
-                let room = match convention {
-                    Ppc64 => 1024 - 112,
-                    Z => 1024 - 160,
+                // under the start, and above the floor
+                let (room, floor) = match convention {
+                    Ppc64 => (1024 - 112 - 288, 288),
+                    Z => (1024 - 160, 0),
                 };
                 let mut full = frame;
                 while stated_size(convention, &machine_calls::next(full)) <= Some(room) {
@@ -264,10 +275,58 @@ fn frames_down_to_the_last_free_byte() {
                 }
                 answers(&mut pair, &Call::Enter(machine_calls::next(full)), 19);
                 answers(&mut pair, &Call::Enter(full), 0);
-                assert_eq!(stack_pointer(pair.state()), base);
+                assert_eq!(stack_pointer(pair.state()), base + floor);
                 answers(&mut pair, &Call::Enter(smallest(convention)), 19);
                 answers(&mut pair, &Call::Leave, 0);
             }
+        }
+    }
+}
+
+/// 02, No. 8: a start, an enter and a state with 288 bytes under the stack pointer, and with 272,
+/// which is one step less. On Z the same is no matter.
+#[test]
+fn the_floor_and_one_step_less() {
+    for convention in BOTH {
+        for (under, enough) in [(288, true), (272, convention == Z), (0, convention == Z)] {
+            let (below_end, pointer) = match convention {
+                Ppc64 => (112, 1),
+                Z => (160, 15),
+            };
+            // a start
+            let length = below_end + under;
+            let mut pair = Pair::new(&mut Random::new(3), length);
+            let allowed = enough && length >= 256;
+            answers(
+                &mut pair,
+                &start(convention, BASE),
+                if allowed { 0 } else { 16 },
+            );
+            // an enter
+            let frame = smallest(convention);
+            let size = stated_size(convention, &frame).expect("it is allowed") as usize;
+            let mut pair = started(convention, below_end + 512);
+            let larger = Request {
+                locals: 512 - (size + under) as u64,
+                ..frame
+            };
+            answers(&mut pair, &Call::Enter(larger), if enough { 0 } else { 19 });
+            // a state, of which each part is as it must be
+            let mut pair = started(convention, below_end + 512);
+            let mut fault = None;
+            pair.change_state(|state| {
+                state.depth = 1;
+                state.frames[0] = larger;
+                state.registers.gpr[pointer] = BASE + under as u64;
+                fault = state.possible();
+            });
+            assert_eq!(fault.is_some(), enough);
+            let call = Call::WriteRegister {
+                bank: 0,
+                number: 0,
+                value: 1,
+            };
+            answers(&mut pair, &call, if enough { 0 } else { 23 });
         }
     }
 }
@@ -438,15 +497,16 @@ fn memory_writes_at_every_address() {
 #[test]
 fn the_start_writes_its_own_outgoing_area() {
     for convention in BOTH {
-        let mut pair = started(convention, 256);
-        for offset in 0..300 {
+        let size = least_memory(convention) as u64;
+        let mut pair = started(convention, size as usize);
+        for offset in 0..size + 44 {
             for length in [1, 63, 64, 65] {
                 let call = Call::WriteMemory {
                     address: BASE + offset,
                     bytes: vec![offset as u8; length as usize],
                 };
                 // 64 bytes on PPC64, which are the memory's last; none on Z
-                let inside = convention == Ppc64 && offset >= 192 && offset + length <= 256;
+                let inside = convention == Ppc64 && offset >= size - 64 && offset + length <= size;
                 answers(&mut pair, &call, if inside { 0 } else { 20 });
             }
         }
@@ -512,8 +572,8 @@ fn a_leave_with_every_byte_of_the_memory_changed() {
 #[test]
 fn a_leave_with_no_frame_looks_at_no_memory() {
     for convention in BOTH {
-        let mut pair = started(convention, 256);
-        pair.change_memory(0, &[0xff; 256]);
+        let mut pair = started(convention, 400);
+        pair.change_memory(0, &[0xff; 400]);
         answers(&mut pair, &Call::Leave, 22);
     }
 }
@@ -608,11 +668,15 @@ fn states_that_cannot_be() {
 }
 
 #[test]
-fn stack_pointers_below_the_memory() {
+fn stack_pointers_below_the_floor() {
     for convention in BOTH {
         for base in [0, 16, 4096, BASE] {
             let mut pair = Pair::new(&mut Random::new(8), 1024);
             answers(&mut pair, &start(convention, base), 0);
+            let floor = match convention {
+                Ppc64 => 288,
+                Z => 0,
+            };
             let mut below = false;
             // each frame is one that could be, but not all of them in this memory
             for depth in 1..=32 {
@@ -625,7 +689,7 @@ fn stack_pointers_below_the_memory() {
                         Ppc64 => &mut state.registers.gpr[1],
                         Z => &mut state.registers.gpr[15],
                     };
-                    below |= *pointer - base < size;
+                    below |= *pointer - base < size + floor;
                     // below address 0 it is a number near 2^64
                     *pointer = pointer.wrapping_sub(size);
                 });

@@ -83,6 +83,14 @@ fn lists_of_calls_on_ppc64() {
             ("writes of fields of CR", reach.register_writes[3]),
         ],
     );
+    at_least(
+        500,
+        &[
+            ("starts without the floor", reach.floors[0]),
+            ("states without the floor", reach.floors[2]),
+        ],
+    );
+    at_least(10_000, &[("enters without the floor", reach.floors[1])]);
 }
 
 #[test]
@@ -90,6 +98,7 @@ fn lists_of_calls_on_z() {
     let reach = compare_lists(Convention::Z);
     // there are none
     assert_eq!(reach.register_writes[2..], [0, 0]);
+    assert_eq!(reach.floors, [0; 3]);
 }
 
 #[test]
@@ -109,6 +118,7 @@ fn states_and_memories_that_were_made_up() {
         1_000,
         &[
             ("memories of another length", reach.refusals[16]),
+            ("calls of states without the floor", reach.floors[2]),
             ("broken chains", reach.refusals[21]),
             ("enters", reach.enters),
         ],

@@ -33,7 +33,7 @@ replay    makes calls of the frame machine, on registers and memory of zeros, an
           each answer with the number of its line: 'accepted' or 'refused NUMBER at PLACE',
           and the stack pointer where the call moves it
 --picture draws the stack too, from the highest address down, after each call that changes
-          the drawing: frames, headers, save slots and areas with their addresses and bytes
+          the drawing: frames, headers, save slots, areas and floor, with addresses and bytes
 FILE      has one call to a line, and '#' comments; '-' is standard input:
             start ppc64 SIZE BASE       or 'start z SIZE BASE': of the memory, in bytes
             enter g=29 m=30 cr=1 locals=20 out=64

@@ -2,9 +2,10 @@
 //!
 //! How a frame is laid out is said nowhere here: the library is asked. A word that a leave restores
 //! a register from is that register's save slot; words that may be written are an area; what is
-//! neither is header. So the picture cannot show another layout than the one that is proved.
+//! neither is header; the floor under the last frame is as long as the least room that an enter
+//! leaves. So the picture cannot show another layout than the one that is proved.
 
-use flakuzhen::machine::{Machine, Registers};
+use flakuzhen::machine::{Convention, Frame, Machine, Registers};
 use std::ops::Range;
 
 /// Bytes that are asked for at a time: CR's save slot is the smallest of all parts.
@@ -45,7 +46,46 @@ pub fn draw(machine: &Machine) -> String {
         }
         end = start;
     }
+    let floor = floor(machine);
+    if floor > 0 {
+        let address = machine.stack_pointer() - floor;
+        text.push_str(&format!("  floor, {floor} bytes at {address:#x}\n"));
+    }
     text
+}
+
+/// The bytes that stay free under every stack pointer: in a machine of its own, at address 0, the
+/// stack pointer of the largest frame that fits.
+fn floor(machine: &Machine) -> u64 {
+    let convention = match machine.state().convention {
+        1 => Convention::Ppc64,
+        _ => Convention::Z,
+    };
+    let memory = vec![0; 1024];
+    let Ok(start) = Machine::start(convention, &Registers::default(), 0, memory) else {
+        return 0;
+    };
+    let entered = |request: &Frame| {
+        let mut machine = start.clone();
+        machine.enter(request).ok().map(|()| machine)
+    };
+    // which first registers may be asked for goes by the convention
+    let first_registers = (0..=32).flat_map(|g| (0..=32).map(move |m| (g, m)));
+    let request = |(first_gpr, first_fpr), locals| Frame {
+        first_gpr,
+        first_fpr,
+        locals,
+        ..Frame::default()
+    };
+    let allowed = first_registers
+        .rev()
+        .find(|&registers| entered(&request(registers, 0)).is_some());
+    let fullest = allowed.and_then(|registers| {
+        (0..1024)
+            .rev()
+            .find_map(|locals| entered(&request(registers, locals)))
+    });
+    fullest.map_or(0, |machine| machine.stack_pointer())
 }
 
 /// The machine as it is for the function that was entered last, then for its caller, and so on to

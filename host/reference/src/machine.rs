@@ -1,5 +1,5 @@
-//! The frame machine: document 01, "Frames" and refusals 16 to 23 of "When the bridge says no". The
-//! state has the words of the C surface, so that any state at all can be handed in, also one that
+//! The frame machine: document 01, "Frames" and refusals 16 to 23 of "When the bridge says no", with
+//! what document 02 changes: No. 8, the floor under the stack pointer. The state has the words of the C surface, so that any state at all can be handed in, also one that
 //! no calls lead to. Every function tests first and changes afterwards, so that a refused call
 //! changes nothing. Addresses are computed in 128 bits, where no sum of theirs can wrap.
 
@@ -89,7 +89,7 @@ pub fn start(
         frames: [Request::default(); 32],
     };
     let size = memory.len() as u64;
-    if !memory_allowed(base, size) {
+    if !memory_allowed(convention, base, size) {
         return (machine, refuse(16));
     }
     machine.registers.cr &= 0xffff_ffff;
@@ -111,11 +111,12 @@ impl Machine {
             return refuse(18);
         }
         let caller = self.pointer(convention);
-        let needed = u128::from(self.base) + u128::from(frame_size(convention, request));
-        if caller < needed {
+        let size = u128::from(frame_size(convention, request));
+        // 02, No. 8: the floor must be free under the new stack pointer
+        if caller < lowest_pointer(convention, self.base) + size {
             return refuse(19);
         }
-        let pointer = caller - u128::from(frame_size(convention, request));
+        let pointer = caller - size;
 
         for (saved, at) in save_slots(convention, request, caller) {
             match saved {
@@ -237,7 +238,7 @@ impl Machine {
         };
         if self.registers.cr > 0xffff_ffff
             || self.depth > MOST_FRAMES
-            || !memory_allowed(self.base, self.size)
+            || !memory_allowed(convention, self.base, self.size)
         {
             return None;
         }
@@ -252,7 +253,8 @@ impl Machine {
             .iter()
             .map(|frame| u128::from(frame_size(convention, frame)));
         let pointer = self.pointer(convention);
-        if pointer < u128::from(self.base)
+        // 02, No. 8: "less room than this counts as below B"
+        if pointer < lowest_pointer(convention, self.base)
             || pointer + sizes.sum::<u128>() != first_pointer(convention, self.base, self.size)
         {
             return None;
@@ -312,12 +314,27 @@ impl Machine {
     }
 }
 
-/// Whether refusal 16 has nothing against this base and size.
-fn memory_allowed(base: u64, size: u64) -> bool {
+/// Whether refusal 16 has nothing against this base and size. 02, No. 8: "Start gives 16 unless the
+/// start pointer has that room."
+fn memory_allowed(convention: Convention, base: u64, size: u64) -> bool {
     size % 16 == 0
         && (256..=65_536).contains(&size)
         && base % 16 == 0
         && u128::from(base) + u128::from(size) <= u128::from(u64::MAX)
+        && lowest_pointer(convention, base) <= first_pointer(convention, base, size)
+}
+
+/// The free bytes that interrupt code trusts to be under the stack pointer: 02, No. 8.
+pub fn floor(convention: Convention) -> u64 {
+    match convention {
+        Convention::Ppc64 => 288,
+        Convention::Z => 0,
+    }
+}
+
+/// The lowest stack pointer that has the floor under it in a memory at this base.
+pub fn lowest_pointer(convention: Convention, base: u64) -> u128 {
+    u128::from(base) + u128::from(floor(convention))
 }
 
 /// Whether refusal 17 has nothing against this request.
@@ -421,7 +438,7 @@ pub fn pointer_register(convention: Convention) -> usize {
     }
 }
 
-/// The stack pointer that a start sets, for a memory that is allowed.
+/// The stack pointer that a start sets, for a memory of 256 bytes or more.
 fn first_pointer(convention: Convention, base: u64, size: u64) -> u128 {
     let end = u128::from(base) + u128::from(size);
     match convention {
@@ -554,17 +571,19 @@ mod tests {
 
     #[test]
     fn start_sets_the_stack_pointer_and_writes_eight_zeros_there() {
-        for (convention, below_end, pointer) in
-            [(Convention::Ppc64, 112, 1), (Convention::Z, 160, 15)]
-        {
-            let (machine, memory) = started(convention, 256);
+        for (convention, length, below_end, pointer) in [
+            (Convention::Ppc64, 400, 112, 1),
+            (Convention::Z, 256, 160, 15),
+        ] {
+            let (machine, memory) = started(convention, length);
+            let size = length as u64;
             let mut expected_registers = registers();
-            expected_registers.gpr[pointer] = BASE + 256 - below_end as u64;
+            expected_registers.gpr[pointer] = BASE + size - below_end as u64;
             assert_eq!(machine.registers, expected_registers);
-            assert_eq!((machine.base, machine.size, machine.depth), (BASE, 256, 0));
+            assert_eq!((machine.base, machine.size, machine.depth), (BASE, size, 0));
             assert_eq!(machine.frames, [Request::default(); 32]);
-            let mut expected = pattern(256);
-            expected[256 - below_end..][..8].fill(0);
+            let mut expected = pattern(length);
+            expected[length - below_end..][..8].fill(0);
             assert_eq!(memory, expected);
         }
     }
@@ -609,11 +628,27 @@ mod tests {
         let (machine, answer) = start(
             Convention::Ppc64,
             &registers(),
-            u64::MAX - 15 - 256,
-            &mut memory[..256],
+            u64::MAX - 15 - 400,
+            &mut memory[..400],
         );
         assert_eq!(answer, Ok(()));
         assert_eq!(machine.possible(), Some(Convention::Ppc64));
+    }
+
+    #[test]
+    fn a_start_on_ppc64_needs_the_floor_under_its_pointer() {
+        // 400 - 112 is 288; the next smaller length leaves 272
+        for base in [0, BASE, u64::MAX - 15 - 400] {
+            for (length, yes) in [(256, false), (384, false), (399, false), (400, true)] {
+                let mut memory = pattern(length);
+                let (_, answer) = start(Convention::Ppc64, &registers(), base, &mut memory);
+                assert_eq!(answer.is_ok(), yes);
+                assert_eq!(memory == pattern(length), !yes);
+                if !yes {
+                    refused(answer, 16);
+                }
+            }
+        }
     }
 
     #[test]
@@ -796,14 +831,14 @@ mod tests {
 
     #[test]
     fn refusal_19_is_a_stack_pointer_below_the_memory() {
-        // 256 - 112 leaves 144: the smallest frame and two steps more
-        let (mut machine, mut memory) = started(Convention::Ppc64, 256);
+        // 544 - 112 leaves 432: the floor, the smallest frame and two steps more
+        let (mut machine, mut memory) = started(Convention::Ppc64, 544);
         refused(machine.enter(&request(32, 32, 0, 33, 0), &mut memory), 19);
         assert_eq!(
             machine.enter(&request(32, 32, 0, 32, 0), &mut memory),
             Ok(())
         );
-        assert_eq!(machine.registers.gpr[1], BASE);
+        assert_eq!(machine.registers.gpr[1], BASE + 288);
         // 336 - 160 leaves 176
         let (mut machine, mut memory) = started(Convention::Z, 336);
         refused(machine.enter(&request(14, 16, 0, 17, 0), &mut memory), 19);
@@ -1059,6 +1094,23 @@ mod tests {
         let mut machine = possible.clone();
         machine.frames[1] = request(1, 2, 3, 4, 5);
         assert_eq!(machine.leave(&memory), Ok(()));
+    }
+
+    #[test]
+    fn refusal_23_is_a_stack_pointer_without_the_floor() {
+        // the smallest frame under a pointer that has room for it and 272 bytes, then for 288
+        for (length, answer) in [(496, None), (512, Some(Convention::Ppc64))] {
+            let (mut machine, _) = started(Convention::Ppc64, length);
+            machine.depth = 1;
+            machine.frames[0] = request(32, 32, 0, 0, 0);
+            machine.registers.gpr[1] -= 112;
+            assert_eq!(machine.possible(), answer);
+        }
+        // a memory that no start takes
+        let (mut machine, _) = started(Convention::Ppc64, 400);
+        machine.size = 384;
+        machine.registers.gpr[1] -= 16;
+        assert_eq!(machine.possible(), None);
     }
 
     #[test]

@@ -2,6 +2,7 @@
 use Rattle.machine.proofs.States.{state-yes}
 use Rattle.machine.proofs.Judging.{judge-next, judge-stops}
 use Rattle.rules.specs.Frames.{frameSize}
+use Rattle.rules.proofs.Places.{size-small}
 use Rattle.machine.specs.declared.Answer.the-variants.{Accepted}
 use Rattle.machine.specs.Answers.{judge}
 use Rattle.machine.specs.Machine.{stackPointer, stateTests, enterTests, enterAnswer}
@@ -70,22 +71,35 @@ sub-if3 c =
     let acc : judge (stateTests (z .args .k) (z .args .s) (z .args .n)) ≡ Accepted = sym (judge-state .ensures) ∙ enum-told .given .1 in
     omega (arith, stack-pointer .ensures, state-yes (z .args .k) (z .args .s) (z .args .n) acc .over)
 
-returns-3 : tie.Need-returns-3
-unfolding enterAnswer judge
-returns-3 c =
+add-if3 : tie.Need-add-if3
+add-if3 c =
     let z = c .before .before .before .before .before .before .before .before .before .before .before in
-    let k = z .args .k in
-    let s = z .args .s in
-    let f = z .args .f in
-    let judge-state = c .before .before .before .before .before .before .before .before .before .before .judge-state in
-    let enum-told = c .before .before .before .before .before .before .before .before .enum-told in
-    let stack-pointer = c .before .before .before .stack-pointer in
     let frame-size = c .before .before .frame-size in
     let request-ok = c .before .before .before .before .before .before .before .request-ok in
     let if1 = c .before .before .before .before .before .before .if1 in
+    omega (
+      arith,
+      frame-size .ensures,
+      size-small (z .args .k) (z .pre) (z .args .f) (sym (request-ok .ensures) ∙ not-false (request-ok .result) (if1 .left)),
+      z .pre .floor,
+    )
+
+returns-3 : tie.Need-returns-3
+unfolding enterAnswer judge
+returns-3 c =
+    let z = c .before .before .before .before .before .before .before .before .before .before .before .before in
+    let k = z .args .k in
+    let s = z .args .s in
+    let f = z .args .f in
+    let judge-state = c .before .before .before .before .before .before .before .before .before .before .before .judge-state in
+    let enum-told = c .before .before .before .before .before .before .before .before .before .enum-told in
+    let stack-pointer = c .before .before .before .before .stack-pointer in
+    let frame-size = c .before .before .before .frame-size in
+    let request-ok = c .before .before .before .before .before .before .before .before .request-ok in
+    let if1 = c .before .before .before .before .before .before .before .if1 in
     let acc : judge (stateTests k s (z .args .n)) ≡ Accepted = sym (judge-state .ensures) ∙ enum-told .given .1 in
-    let no : leb (s .base + frameSize k f) (stackPointer k s) ≡ false
-    = lt-leb (s .base + frameSize k f) (stackPointer k s) (omega (arith, stack-pointer .ensures, frame-size .ensures, state-yes k s (z .args .n) acc .over)) in
+    let no : leb (s .base + frameSize k f + k .floor) (stackPointer k s) ≡ false
+    = lt-leb (s .base + frameSize k f + k .floor) (stackPointer k s) (omega (arith, stack-pointer .ensures, frame-size .ensures, state-yes k s (z .args .n) acc .over)) in
     sym (judge-next (stateTests k s (z .args .n)) (enterTests k s f) acc ∙ rw (
       sym (request-ok .ensures) ∙ not-false (request-ok .result) (if1 .left),
       lt-ltb (s .depth) 32 (omega arith),
@@ -102,19 +116,19 @@ returns-4 c =
 returns-5 : tie.Need-returns-5
 unfolding enterAnswer judge
 returns-5 c =
-    let z = c .before .before .before .before .before .before .before .before .before .before .before in
+    let z = c .before .before .before .before .before .before .before .before .before .before .before .before in
     let k = z .args .k in
     let s = z .args .s in
     let f = z .args .f in
-    let judge-state = c .before .before .before .before .before .before .before .before .before .before .judge-state in
-    let enum-told = c .before .before .before .before .before .before .before .before .enum-told in
-    let stack-pointer = c .before .before .before .stack-pointer in
-    let frame-size = c .before .before .frame-size in
-    let request-ok = c .before .before .before .before .before .before .before .request-ok in
-    let if1 = c .before .before .before .before .before .before .if1 in
+    let judge-state = c .before .before .before .before .before .before .before .before .before .before .before .judge-state in
+    let enum-told = c .before .before .before .before .before .before .before .before .before .enum-told in
+    let stack-pointer = c .before .before .before .before .stack-pointer in
+    let frame-size = c .before .before .before .frame-size in
+    let request-ok = c .before .before .before .before .before .before .before .before .request-ok in
+    let if1 = c .before .before .before .before .before .before .before .if1 in
     let acc : judge (stateTests k s (z .args .n)) ≡ Accepted = sym (judge-state .ensures) ∙ enum-told .given .1 in
-    let yes : leb (s .base + frameSize k f) (stackPointer k s) ≡ true
-    = le-leb (s .base + frameSize k f) (stackPointer k s) (omega (arith, stack-pointer .ensures, frame-size .ensures, state-yes k s (z .args .n) acc .over)) in
+    let yes : leb (s .base + frameSize k f + k .floor) (stackPointer k s) ≡ true
+    = le-leb (s .base + frameSize k f + k .floor) (stackPointer k s) (omega (arith, stack-pointer .ensures, frame-size .ensures, state-yes k s (z .args .n) acc .over)) in
     sym (judge-next (stateTests k s (z .args .n)) (enterTests k s f) acc ∙ rw (
       sym (request-ok .ensures) ∙ not-false (request-ok .result) (if1 .left),
       lt-ltb (s .depth) 32 (omega arith),
@@ -134,6 +148,7 @@ judge-enter-spec =
     stack-pointer-requires
     frame-size-requires
     sub-if3
+    add-if3
     returns-3
     returns-4
     returns-5)

@@ -1,8 +1,7 @@
--- The definition's tests in their order; the last compares the difference, which cannot wrap. Assumes nothing.
-use Rattle.machine.proofs.Coding.{leb-sub}
+-- The definition's tests in their order; the address is compared with a difference, which cannot wrap. Assumes nothing.
 use Rattle.machine.specs.Machine.{okMemory}
 use borrow.Author.Tests.{lt-leb, le-leb, eq-eqb, ne-eqb}
-use Prim.Native.Nat.{_%_}
+use Prim.Native.Nat.{_+_, _%_}
 use native.Mathlib.Omega.{arith}
 use borrow.Author.Needs.{needs}
 use Rattle.state_checks.proofs.memory_ok.Statement.{statement}
@@ -37,19 +36,35 @@ returns-4 c =
       ne-eqb (z .args .base % 16) 0 (λ e. omega arith),
     )
 
-sub-result : tie.Need-sub-result
-sub-result c = search needs
+sub-if5 : tie.Need-sub-if5
+sub-if5 c = search needs
 
 returns-5 : tie.Need-returns-5
 unfolding okMemory
 returns-5 c =
-    let z = c .before .before .before .before .before in
+    let z = c .before .before .before .before .before .before in
     rw (
       eq-eqb (z .args .n % 16) 0 (omega arith),
       le-leb 256 (z .args .n) (omega arith),
       le-leb (z .args .n) 65536 (omega arith),
       eq-eqb (z .args .base % 16) 0 (omega arith),
-    ) (leb-sub (z .args .base) (z .args .n) (z .args .k .limit) (omega (arith, z .pre .memory)))
+      lt-leb (z .args .base + z .args .n) (z .args .k .limit) (omega (arith, z .pre .memory)),
+    )
+
+add-result : tie.Need-add-result
+add-result c = search needs
+
+returns-6 : tie.Need-returns-6
+unfolding okMemory
+returns-6 c =
+    let z = c .before .before .before .before .before .before .before in
+    rw (
+      eq-eqb (z .args .n % 16) 0 (omega arith),
+      le-leb 256 (z .args .n) (omega arith),
+      le-leb (z .args .n) 65536 (omega arith),
+      eq-eqb (z .args .base % 16) 0 (omega arith),
+      le-leb (z .args .base + z .args .n) (z .args .k .limit) (omega (arith, z .pre .memory)),
+    )
 
 pub memory-ok-spec : {M : Type 1} → statement M
-memory-ok-spec = tie.close (tie.spec returns returns-2 returns-3 returns-4 sub-result returns-5)
+memory-ok-spec = tie.close (tie.spec returns returns-2 returns-3 returns-4 sub-if5 returns-5 add-result returns-6)

@@ -1,6 +1,7 @@
 -- The definition's tests in their order; the last compares with a difference, which cannot wrap. Assumes nothing.
 use Rattle.machine.proofs.States.{memory-yes}
 use Rattle.machine.proofs.Coding.{eqb-sub}
+use Rattle.rules.proofs.Places.{limit-64}
 use Rattle.machine.specs.Machine.{okState, stackPointer, sizes}
 use lib.Dec.{eqb}
 use mathlib.Core.Bool.{false}
@@ -47,6 +48,17 @@ returns-3 c =
 stack-pointer-requires : tie.Need-stack-pointer-requires
 stack-pointer-requires c κs = search needs
 
+add-if4 : tie.Need-add-if4
+add-if4 c =
+    let z = c .before .before .before .before .before .before .before in
+    let memory-ok = c .before .before .memory-ok in
+    let if3 = c .before .if3 in
+    omega (
+      arith,
+      memory-yes (z .args .k) (z .args .s .base) (z .args .s .size) (sym (memory-ok .ensures) ∙ not-false (memory-ok .result) (if3 .left)),
+      limit-64 (z .args .k) (z .pre),
+    )
+
 returns-4 : tie.Need-returns-4
 unfolding okState
 returns-4 c =
@@ -61,7 +73,7 @@ returns-4 c =
       le-leb (s .depth) 32 (omega (arith, if1 .left)),
       sym (frames-ok .ensures) ∙ not-false (frames-ok .result) (if2 .left),
       sym (memory-ok .ensures) ∙ not-false (memory-ok .result) (if3 .left),
-      lt-leb (s .base) (stackPointer (z .args .k) s) (omega (arith, c .before .stack-pointer .ensures)),
+      lt-leb (s .base + z .args .k .floor) (stackPointer (z .args .k) s) (omega (arith, c .before .stack-pointer .ensures)),
     )
 
 sizes-of-requires : tie.Need-sizes-of-requires
@@ -79,7 +91,11 @@ add-end c =
     let z = c .before .before .before .before .before .before .before .before .before .before in
     let memory-ok = c .before .before .before .before .before .memory-ok in
     let if3 = c .before .before .before .before .if3 in
-    omega (arith, memory-yes (z .args .k) (z .args .s .base) (z .args .s .size) (sym (memory-ok .ensures) ∙ not-false (memory-ok .result) (if3 .left)))
+    omega (
+      arith,
+      memory-yes (z .args .k) (z .args .s .base) (z .args .s .size) (sym (memory-ok .ensures) ∙ not-false (memory-ok .result) (if3 .left)),
+      limit-64 (z .args .k) (z .pre),
+    )
 
 returns-5 : tie.Need-returns-5
 unfolding okState
@@ -101,7 +117,7 @@ returns-5 c =
       le-leb (s .depth) 32 (omega (arith, if1 .left)),
       sym (frames-ok .ensures) ∙ not-false (frames-ok .result) (if2 .left),
       sym (memory-ok .ensures) ∙ not-false (memory-ok .result) (if3 .left),
-      le-leb (s .base) (stackPointer k s) (omega (arith, stack-pointer .ensures, if4 .left)),
+      le-leb (s .base + k .floor) (stackPointer k s) (omega (arith, stack-pointer .ensures, if4 .left)),
       no,
     )
 
@@ -126,7 +142,7 @@ returns-6 c =
       le-leb (s .depth) 32 (omega (arith, if1 .left)),
       sym (frames-ok .ensures) ∙ not-false (frames-ok .result) (if2 .left),
       sym (memory-ok .ensures) ∙ not-false (memory-ok .result) (if3 .left),
-      le-leb (s .base) (stackPointer k s) (omega (arith, stack-pointer .ensures, if4 .left)),
+      le-leb (s .base + k .floor) (stackPointer k s) (omega (arith, stack-pointer .ensures, if4 .left)),
     )
     (eqb-sub (stackPointer k s) (sizes k (s .frames) (s .depth) + k .room) (s .base + s .size) (omega (arith, sizes-of .ensures .0, c .if5 .left)) ∙ rw sum)
 
@@ -140,6 +156,7 @@ state-ok-spec =
     memory-ok-requires
     returns-3
     stack-pointer-requires
+    add-if4
     returns-4
     sizes-of-requires
     add-used

@@ -152,7 +152,7 @@ fn state_bytes(of: &Machine) -> Vec<u8> {
 
 /// A list of calls from a start on, at times with one that is refused before it.
 fn list(random: &mut Random, convention: Convention, cases: &mut Vec<Case>) {
-    let length = calls::memory_length(random);
+    let length = calls::memory_length(random, convention);
     let state = random_state(random);
     let mut machine = Recorded::new(state, random_bytes(random, length + GUARD), cases);
     let style = random.pick(&STYLES);
@@ -208,7 +208,7 @@ fn call_foreign_state(random: &mut Random, machine: &mut Recorded, style: Style)
 
 /// Calls of a state that was made up, on a memory that knows nothing of it.
 fn nonsense(random: &mut Random, convention: Convention, cases: &mut Vec<Case>) {
-    let length = calls::memory_length(random);
+    let length = calls::memory_length(random, convention);
     let mut state = random_state(random);
     if !random.once_in(16) {
         make_up(random, convention, length, &mut state);
