@@ -12,7 +12,7 @@ use machine::Answer;
 
 // The fresh start on PPC64: all the words are written, also where it is refused.
 pub fn start_ppc64(
-    words: &mut [u64; 230],
+    words: &mut [u64; 262],
     registers: &[u64; 66],
     base: u64,
     memory: &mut [u8],
@@ -29,7 +29,7 @@ pub fn start_ppc64(
 
 // The fresh start on Z.
 pub fn start_z(
-    words: &mut [u64; 230],
+    words: &mut [u64; 262],
     registers: &[u64; 66],
     base: u64,
     memory: &mut [u8],
@@ -45,7 +45,7 @@ pub fn start_z(
 }
 
 // Enters a frame.
-pub fn enter(words: &mut [u64; 230], request: &[u64; 5], memory: &mut [u8]) -> Answer
+pub fn enter(words: &mut [u64; 262], request: &[u64; 6], memory: &mut [u8]) -> Answer
     ensures { λ r. ⌜ r ≡ enterOutcome (stateIn (now (words .entry))) (length (now (memory .entry))) (frameIn (now (request .entry)) 0) .answer ⌝ }
     ensures { λ _. ⌜ now (words .exit) ≡ enterWords (now (words .entry)) (length (now (memory .entry))) (now (request .entry)) ⌝ }
     ensures { λ _. ⌜ now (memory .exit) ≡ enterMemory (stateIn (now (words .entry))) (now (memory .entry)) (frameIn (now (request .entry)) 0) ⌝ }
@@ -66,7 +66,7 @@ pub fn enter(words: &mut [u64; 230], request: &[u64; 5], memory: &mut [u8]) -> A
 
 // Writes a value to a register: bank 0 general, 1 floating, 2 LR, 3 a field of CR.
 pub fn write_register(
-    words: &mut [u64; 230],
+    words: &mut [u64; 262],
     bank: u64,
     number: u64,
     value: u64,
@@ -90,7 +90,7 @@ pub fn write_register(
 }
 
 // Writes bytes to the memory at an address.
-pub fn write_memory(words: &[u64; 230], address: u64, bytes: &[u8], memory: &mut [u8]) -> Answer
+pub fn write_memory(words: &[u64; 262], address: u64, bytes: &[u8], memory: &mut [u8]) -> Answer
     ensures { λ r. ⌜ r ≡ writeMemoryOutcome (stateIn (now (words .entry))) (length (now (memory .entry))) address (length (now (bytes .entry))) .answer ⌝ }
     ensures { λ _. ⌜ now (memory .exit) ≡ writeMemoryMemory (stateIn (now (words .entry))) (now (memory .entry)) address (now (bytes .entry)) ⌝ }
 {
@@ -100,7 +100,7 @@ pub fn write_memory(words: &[u64; 230], address: u64, bytes: &[u8], memory: &mut
 }
 
 // Leaves the frame entered last.
-pub fn leave(words: &mut [u64; 230], memory: &[u8]) -> Answer
+pub fn leave(words: &mut [u64; 262], memory: &[u8]) -> Answer
     ensures { λ r. ⌜ r ≡ leaveOutcome (stateIn (now (words .entry))) (now (memory .entry)) .answer ⌝ }
     ensures { λ _. ⌜ now (words .exit) ≡ leaveWords (now (words .entry)) (now (memory .entry)) ⌝ }
 {

@@ -1,9 +1,9 @@
 -- A list of calls as numbers, for a replay: six numbers to a call, and the bytes of memory writes beside them. The encoding is ours. Assumes nothing.
-use Prim.Native.Nat.{ℕ, zero, suc, _+_, _/_, min}
+use Prim.Native.Nat.{ℕ, zero, suc, _+_, _/_, _%_, min}
 use mathlib.Core.Bool.{not}
 use mathlib.Core.List.{List, [], _∷_}
 use lib.ListN.{getD, length}
-use lib.Dec.{leb, eqb}
+use lib.Dec.{leb, ltb, eqb}
 use Rattle.words.specs.Splice.{part}
 use Rattle.words.specs.Basics.{pick}
 use Rattle.rules.specs.declared.Frame.{Frame}
@@ -13,9 +13,9 @@ use Rattle.history.specs.Calls.{Call, enter, writeRegister, writeMemory, leave}
 unfoldable pub bytesAt : List ℕ → ℕ → ℕ → List ℕ
 bytesAt bs o n = pick (leb (o + n) (length bs)) (part o n bs) []
 
--- a request from five numbers: a number but 0 saves CR
+-- a request from five numbers: of s the last bit saves CR, and a number over 1 asks for a leaf
 abbrev pub requestOf : ℕ → ℕ → ℕ → ℕ → ℕ → Frame
-requestOf g m s l p = record { «first_gpr» = g; «first_fpr» = m; «saves_cr» = not (eqb s 0); locals = l; outgoing = p }
+requestOf g m s l p = record { «first_gpr» = g; «first_fpr» = m; «saves_cr» = not (eqb (s % 2) 0); locals = l; outgoing = p; leaf = ltb 1 s }
 
 -- the call of six numbers: 0 leave; 1 enter with the numbers of a request; 2 write of a bank, a number and a value; any other a write of memory at an address,
 -- with the offset and the count of its bytes in bs

@@ -57,9 +57,10 @@ fn replay_call(s: State, memory: &mut [u8], calls: &[u64], bytes: &[u8], at: usi
         let f = Frame {
             first_gpr: a as usize,
             first_fpr: b as usize,
-            saves_cr: c != 0,
+            saves_cr: c % 2 != 0,
             locals: d as usize,
             outgoing: e as usize,
+            leaf: 1 < c,
         };
         return frame::enter(s, memory, f);
     }

@@ -1,4 +1,4 @@
--- A convention as a value: its numbers, and the two values. Document 01, "Frames"; document 02, No. 8; the published papers are 000 (PPC64) and 001 (Z).
+-- A convention as a value: its numbers, and the two values. Document 01, "Frames"; document 02, No. 8 and No. 9; the published papers are 000 (PPC64) and 001 (Z).
 -- Assumes nothing.
 use Prim.Native.Nat.{ℕ, _-_, _^_}
 use mathlib.Core.Bool.{Bool, false, _&&_, _||_}

@@ -20,7 +20,9 @@ use Rattle.rules.specs.declared.Registers.{Registers}
 use Rattle.rules.specs.declared.RegisterBank.{RegisterBank}
 use Rattle.rules.specs.declared.RegisterBank.the-variants.{General, Floating, Link, ConditionField, None}
 use Rattle.rules.specs.Lawful.{Named}
-use Rattle.rules.specs.Frames.{noFrame, withPointer, frameSize, gprSave, fprSave, restored, bankOf, withRegister}
+use Rattle.rules.specs.Rules.{rules}
+use Rattle.rules.proofs.Halves.{lowered-length}
+use Rattle.rules.specs.Frames.{noFrame, withPointer, cleared, frameSize, gprSave, fprSave, restored, bankOf, withRegister}
 use Rattle.rules.proofs.Conventions.{lawful}
 use Rattle.rules.proofs.Writing.{field-fit, writable-named}
 use Rattle.rules.proofs.Restoring.{cr-fit}
@@ -66,7 +68,7 @@ registers-read ws at h = record {
   cr = mod-lt (getD ws (at + 65) 0) (omega arith);
 }
 
-state-read : (ws : List ℕ) → length ws ≡ 230 → Read (stateIn ws .registers)
+state-read : (ws : List ℕ) → length ws ≡ 262 → Read (stateIn ws .registers)
 unfolding stateIn
 state-read ws n = registers-read ws 4 (omega arith)
 
@@ -76,17 +78,17 @@ frames-32 ws = length-frames 32 ws 0
 
 -- ---- all the words of a state
 
-frames-read : (fs : List Frame) (ws : List ℕ) (i : ℕ) → drop (70 + 5 * i) ws ≡ framesWords fs → framesIn (length fs) ws i ≡ fs
+frames-read : (fs : List Frame) (ws : List ℕ) (i : ℕ) → drop (70 + 6 * i) ws ≡ framesWords fs → framesIn (length fs) ws i ≡ fs
 unfolding framesIn framesWords frameIn frameWords
 frames-read [] ws i e = refl
 frames-read (f ∷ fs) ws i e =
-    let at = 70 + 5 * i in
+    let at = 70 + 6 * i in
     let at-0 : at + 0 ≡ at = omega arith in
     let here : (j : ℕ) → getD ws (at + j) 0 ≡ getD (framesWords (f ∷ fs)) j 0 = λ j. sym (getD-drop at ws j 0) ∙ ap (λ (t : List ℕ). getD t j 0) e in
     let w0 = rw at-0 at (here 0) in
-    let head : frameIn ws at ≡ f = rw (w0, here 1, here 2, here 3, here 4) (flag-back (f .«saves_cr») (f .«first_gpr») (f .«first_fpr») (f .locals) (f .outgoing)) in
-    let next : 70 + 5 * (i + 1) ≡ at + 5 = omega arith in
-    let rest : drop (70 + 5 * (i + 1)) ws ≡ framesWords fs = rw next (sym (drop-drop 5 at ws) ∙ ap (λ (t : List ℕ). drop 5 t) e) in
+    let head : frameIn ws at ≡ f = rw (w0, here 1, here 2, here 3, here 4, here 5) (flag-back (f .«saves_cr») (f .leaf) (f .«first_gpr») (f .«first_fpr») (f .locals) (f .outgoing)) in
+    let next : 70 + 6 * (i + 1) ≡ at + 6 = omega arith in
+    let rest : drop (70 + 6 * (i + 1)) ws ≡ framesWords fs = rw next (sym (drop-drop 6 at ws) ∙ ap (λ (t : List ℕ). drop 6 t) e) in
     rw (head, frames-read fs ws (i + 1) rest)
 
 code-back : (c : Convention) → conventionOf (codeOf c) ≡ c
@@ -103,15 +105,15 @@ module _ (s : State) (y : Read (s .registers)) (f : length (s .frames) ≡ 32) w
   words-66 = length-register-words (s .registers) (y .gpr) (y .fpr)
 
   blank : List ℕ
-  blank = set (set (set (set (replicate 230 0) 0 (codeOf (s .convention))) 1 (s .base)) 2 (s .size)) 3 (s .depth)
+  blank = set (set (set (set (replicate 262 0) 0 (codeOf (s .convention))) 1 (s .base)) 2 (s .size)) 3 (s .depth)
 
-  blank-length : length blank ≡ 230
+  blank-length : length blank ≡ 262
   unfolding blank
   blank-length = simp length-set
 
   spliced : splice (splice blank 4 (registerWords (s .registers))) 70 (framesWords (s .frames)) ≡ stateWords s
   unfolding blank
-  spliced = state-put (replicate 230 0) s refl words-66 f
+  spliced = state-put (replicate 262 0) s refl words-66 f
 
   registers-there : registersIn (stateWords s) 4 ≡ s .registers
   registers-there =
@@ -138,19 +140,19 @@ module _ (s : State) (y : Read (s .registers)) (f : length (s .frames) ≡ 32) w
 -- ---- start
 
 pub start-state : (c : Convention) (rs : List ℕ) (b n : ℕ) → length rs ≡ 66 → stateIn (startWords c rs b n) ≡ startOutcome c b n (registersIn rs 0) .state
-unfolding startWords startOutcome started notStarted withPointer
+unfolding startWords startOutcome started notStarted withPointer cleared
 start-state c rs b n l = go (startAnswer c b n)
   where
     y : Read (registersIn rs 0)
     y = registers-read rs 0 (omega arith)
 
     go : (a : Answer) → stateIn (stateWords (settle a (started c b n (registersIn rs 0)) (notStarted c (registersIn rs 0)))) ≡ settle a (started c b n (registersIn rs 0)) (notStarted c (registersIn rs 0))
-    go Accepted = state-words-back (started c b n (registersIn rs 0)) (record { gpr = simp length-set (y .gpr); fpr = y .fpr; cr = y .cr }) refl
+    go Accepted = state-words-back (started c b n (registersIn rs 0)) (record { gpr = simp length-set (lowered-length (rules c .limit) (registersIn rs 0 .gpr) 32 ∙ y .gpr); fpr = y .fpr; cr = y .cr }) refl
     go (Refused x) = state-words-back (notStarted c (registersIn rs 0)) y refl
 
 -- ---- enter
 
-module _ (ws : List ℕ) (n : ℕ) (qs : List ℕ) (l : length ws ≡ 230) where
+module _ (ws : List ℕ) (n : ℕ) (qs : List ℕ) (l : length ws ≡ 262) where
   entered-back : enterAnswer (rulesOf (stateIn ws)) (stateIn ws) n (frameIn qs 0) ≡ Accepted
       → stateIn (changed ws (entered (rulesOf (stateIn ws)) (stateIn ws) (frameIn qs 0)) (stateIn ws .depth)) ≡ entered (rulesOf (stateIn ws)) (stateIn ws) (frameIn qs 0)
   unfolding entered withPointer enterAnswer
@@ -180,7 +182,7 @@ with-register-read r Link i v h y = record { gpr = y .gpr; fpr = y .fpr; cr = y 
 with-register-read r ConditionField i v h y = record { gpr = y .gpr; fpr = y .fpr; cr = field-fit i (r .cr) v (h .1) (y .cr) (h .0) }
 with-register-read r None i v h y = y
 
-module _ (ws : List ℕ) (n b i v : ℕ) (l : length ws ≡ 230) where
+module _ (ws : List ℕ) (n b i v : ℕ) (l : length ws ≡ 262) where
   written-back : writeRegisterAnswer (rulesOf (stateIn ws)) (stateIn ws) n b i v ≡ Accepted
       → stateIn (withRegisters ws (writtenRegister (stateIn ws) b i v .registers)) ≡ writtenRegister (stateIn ws) b i v
   unfolding writtenRegister writeRegisterAnswer
@@ -209,7 +211,7 @@ restored-read k f s m p r y = record {
   cr = cr-fit k f s r m (k .linkage) (r .cr) (y .cr);
 }
 
-module _ (ws m : List ℕ) (l : length ws ≡ 230) where
+module _ (ws m : List ℕ) (l : length ws ≡ 262) where
   left-back : leaveAnswer (rulesOf (stateIn ws)) (stateIn ws) m ≡ Accepted
       → stateIn (changed ws (left (rulesOf (stateIn ws)) (stateIn ws) m) (left (rulesOf (stateIn ws)) (stateIn ws) m .depth)) ≡ left (rulesOf (stateIn ws)) (stateIn ws) m
   unfolding left leaveAnswer

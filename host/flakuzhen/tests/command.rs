@@ -302,7 +302,7 @@ fn replays_the_examples() {
         prints(&run(&["replay", "-"], &text), 1, &stored(&list, "out"));
         replayed += 1;
     }
-    assert_eq!(replayed, 3);
+    assert_eq!(replayed, 4);
 }
 
 #[test]
