@@ -216,7 +216,7 @@ enum fz_machine_refusal {
     FZ_BROKEN_CHAIN = 21,    /* the doubleword at the stack pointer, on Z the one where r15 was
                                 saved, is not the caller's stack pointer; never of a leaf */
     FZ_NOTHING_ENTERED = 22, /* a leave with no frame entered */
-    FZ_BAD_STATE = 23        /* a state that no calls lead to: a convention that is none, a depth
+    FZ_BAD_STATE = 23,       /* a state that no calls lead to: a convention that is none, a depth
                                 over 32, the record of an entered frame that is out of range, a base
                                 or size that a start refuses, a cr over 32 bits, a stack pointer
                                 below the base, with less than the floor above it, or not the

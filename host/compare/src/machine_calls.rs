@@ -260,8 +260,9 @@ pub fn call(random: &mut Random, machine: &Machine, style: Style) -> Call {
         Style::Writes => [2, 16, 32, 2],
     };
     if let Some(convention) = machine.possible() {
-        if room(machine, convention) < frame_size(convention, &smallest_request(convention))
-            || in_leaf(machine)
+        if in_leaf(machine) {
+            weights[0] = 1 + weights[0] / 4;
+        } else if room(machine, convention) < frame_size(convention, &smallest_request(convention))
         {
             // now and then it is told that the stack is full
             weights[0] = 1;

@@ -588,10 +588,10 @@ pub fn change(random: &mut Random, state: &mut Machine) {
         // a leaf anywhere, with the stack pointer that follows
         12 => {
             let at = random.below(entered);
-            let before = frame_size(convention, &state.frames[at]);
-            state.frames[at] = calls::leaf(state.frames[at]);
-            if request_allowed(convention, &state.frames[at]) {
-                *pointer = pointer.wrapping_add(before);
+            let frame = state.frames[at];
+            state.frames[at] = calls::leaf(frame);
+            if request_allowed(convention, &frame) {
+                *pointer = pointer.wrapping_add(frame_size(convention, &frame));
             }
         }
         // the whole machine at another address
@@ -679,7 +679,7 @@ pub fn make_up(random: &mut Random, convention: Convention, length: usize, state
             false => calls::request(random, convention),
         };
         // now and then below others, where it may not be
-        if random.once_in(64) {
+        if random.once_in(256) {
             *frame = calls::leaf(*frame);
         }
         pointer = pointer.wrapping_sub(frame_size(convention, frame));
@@ -693,7 +693,7 @@ pub fn make_up(random: &mut Random, convention: Convention, length: usize, state
         }
     }
     // mostly where it may be
-    if state.depth > 0 && random.once_in(6) {
+    if state.depth > 0 && random.once_in(3) {
         let top = &mut state.frames[state.depth as usize - 1];
         pointer = pointer.wrapping_add(frame_size(convention, top));
         *top = calls::leaf(*top);
