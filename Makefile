@@ -1,8 +1,9 @@
 # make run    prove what the command needs, build it and list the call of figure 3-18
 # make test   the whole gate: every proof, every must-fail edit, every comparison
-# make lib    build/libflakuzhen.a and build/libflakuzhen.so, from proved code alone
+# make lib    build/libflakuzhen.a and build/libflakuzhen.so with its links, from proved code alone
 # make examples  the same call planned, filled and read by a program in C and one in Rust
-# make install  the command, the libraries, the header and the manual page, under PREFIX=/usr/local
+# make install  the command, the libraries, the header and the manual page, under PREFIX=/usr/local;
+#             make uninstall removes them
 # make soak   the comparisons on fresh seeds; SECONDS=n says for how long
 # make bench  the time of planning, filling and reading beside the second program's
 # make lint   what the gate does not ask: layout and clippy of the Rust code
@@ -26,15 +27,27 @@ PROVED_FROM := crates.txt $(shell find crates -print 2>/dev/null)
 BRIDGES := bridge bridge_values bridge_frames
 ARCHIVE := build/libflakuzhen.a
 SHARED := build/libflakuzhen.so
-# makes a rule's shared library of its archive, which comes first
-SHARED_WORDS = -shared -o $@ -Wl,-soname,libflakuzhen.so \
+# a version's first number is the soname's
+VERSION := $(shell sed -n 's/^version = "\(.*\)"$$/\1/p' host/Cargo.toml)
+SONAME := libflakuzhen.so.$(firstword $(subst ., ,$(VERSION)))
+# the links of the shared library libflakuzhen.so.VERSION in a folder: for programs that run, and for
+# the linker
+LINK_SHARED = ln -sf libflakuzhen.so.$(VERSION) $(1)/$(SONAME) && \
+    ln -sf $(SONAME) $(1)/libflakuzhen.so
+# makes a rule's shared library, by a compiler, of its archive, which comes first; the rule is named
+# after the link
+define MAKE_SHARED
+rm -f $@ $@.*
+$(1) -shared -o $@.$(VERSION) -Wl,-soname,$(SONAME) \
     -Wl,--version-script,include/flakuzhen.map -Wl,--no-undefined \
     -Wl,--whole-archive $< -Wl,--no-whole-archive
+$(call LINK_SHARED,$(@D))
+endef
 EXAMPLE := examples/signatures/ppc64-figure-3-18.hex
 # no network and no other versions than Cargo.lock's
 CARGO_WORDS := --release --offline --locked
 
-.PHONY: run test lib examples install soak sanitize bench lint clean
+.PHONY: run test lib examples install uninstall soak sanitize bench lint clean
 .DELETE_ON_ERROR:
 
 ifndef TARGET
@@ -50,6 +63,7 @@ test:
 # rt writes a bridge's archive, which has one object, only where the bridge and all below it are proved,
 # and fails else; the library has the objects of all bridges
 $(ARCHIVE): $(PROVED_FROM)
+	@scripts/check-toolchain
 	@rm -rf $@ build/objects
 	@mkdir -p build/objects
 	set -e; for bridge in $(BRIDGES); do \
@@ -58,8 +72,8 @@ $(ARCHIVE): $(PROVED_FROM)
 	done
 	ar rcsD $@ $(BRIDGES:%=build/objects/%.o)
 
-$(SHARED): $(ARCHIVE) include/flakuzhen.map
-	$(CC) $(SHARED_WORDS)
+$(SHARED): $(ARCHIVE) include/flakuzhen.map host/Cargo.toml
+	$(call MAKE_SHARED,$(CC))
 
 examples: $(ARCHIVE)
 	$(CC) -Iinclude -o build/call examples/c/call.c $(ARCHIVE)
@@ -68,18 +82,27 @@ examples: $(ARCHIVE)
 
 # DESTDIR is put before PREFIX where files are copied, and nowhere else
 INSTALLED = $(DESTDIR)$(PREFIX)
-VERSION := $(shell sed -n 's/^version = "\(.*\)"$$/\1/p' host/Cargo.toml)
+DOC := share/doc/flakuzhen
 
 install: $(ARCHIVE) $(SHARED)
 	cd host && cargo build $(CARGO_WORDS) --quiet -p flakuzhen
-	install -d $(addprefix $(INSTALLED)/,bin include lib/pkgconfig share/man/man1)
+	install -d $(addprefix $(INSTALLED)/,bin include lib/pkgconfig share/man/man1 $(DOC))
 	install -m 755 host/target/release/flakuzhen $(INSTALLED)/bin
 	install -m 644 include/flakuzhen.h $(INSTALLED)/include
 	install -m 644 $(ARCHIVE) $(INSTALLED)/lib
-	install -m 755 $(SHARED) $(INSTALLED)/lib
+	install -m 755 $(SHARED).$(VERSION) $(INSTALLED)/lib
+	$(call LINK_SHARED,$(INSTALLED)/lib)
 	sed -e 's|@PREFIX@|$(PREFIX)|' -e 's|@VERSION@|$(VERSION)|' include/flakuzhen.pc.in \
 	    > $(INSTALLED)/lib/pkgconfig/flakuzhen.pc
 	install -m 644 docs/flakuzhen.1 $(INSTALLED)/share/man/man1
+	install -m 644 docs/COMPILERS.md examples/c/call.c $(INSTALLED)/$(DOC)
+
+# what install puts in place; folders stay, but for the one that is ours alone
+uninstall:
+	rm -f $(addprefix $(INSTALLED)/,bin/flakuzhen include/flakuzhen.h \
+	    $(addprefix lib/,libflakuzhen.a libflakuzhen.so $(SONAME) libflakuzhen.so.$(VERSION)) \
+	    lib/pkgconfig/flakuzhen.pc share/man/man1/flakuzhen.1 $(DOC)/COMPILERS.md $(DOC)/call.c)
+	[ ! -d $(INSTALLED)/$(DOC) ] || rmdir $(INSTALLED)/$(DOC)
 
 soak: $(ARCHIVE)
 	cd host && cargo run $(CARGO_WORDS) --quiet -p compare --bin soak -- $(SECONDS)

@@ -11,11 +11,12 @@
  *   4. fz_read takes them out of there, as the called function finds them; fz_home and fz_view
  *      give it them side by side in memory.
  *
- * examples/c/call.c plans, fills and reads a call. The machine need not be the one that this
- * program runs on: nothing is executed, and addresses are numbers. The frame machine
- * (fz_start_ppc64 to fz_leave) stands apart from this: it keeps a stack on which functions enter
- * and leave frames. Compilers of today differ from the conventions in a few points:
- * docs/COMPILERS.md says in which, and what to do.
+ * The machine need not be the one that this program runs on: nothing is executed, and addresses are
+ * numbers. The frame machine (fz_start_ppc64 to fz_leave) stands apart from this: it keeps a stack
+ * on which functions enter and leave frames.
+ *
+ * Installed with this header, in share/doc/flakuzhen: call.c plans, fills and reads a call;
+ * COMPILERS.md says in which points compilers of today differ from the conventions, and what to do.
  *
  * Words that come up everywhere:
  *
@@ -40,8 +41,11 @@
  *    where: the offset in the signature of the faulty item's header or of the first byte too many.
  *    A refusal that concerns no place has place 0. In a refused answer all else is 0.
  *
- * Later versions add functions, and words at the end of structs that are lent by pointer. No word
- * of a struct ever moves.
+ * Versions: FZ_VERSION is this header's, fz_version the library's. A version's first number is that
+ * of the shared library's name, libflakuzhen.so.1, and of its functions' symbol versions. It changes
+ * with the first release in which a struct has another layout or a function another meaning, so
+ * that a program compiled for one meaning is never run with another. The second changes where
+ * functions are added, the third otherwise.
  */
 #ifndef FLAKUZHEN_H
 #define FLAKUZHEN_H
@@ -52,6 +56,12 @@
 #ifdef __cplusplus
 extern "C" {
 #endif
+
+/* 10,000 times the version's first number, 100 times the second, and the third: 1.0.0. */
+#define FZ_VERSION 10000
+
+/* The FZ_VERSION of the library that this program runs with. */
+uint64_t fz_version(void);
 
 /* A signature says which values a function takes and gives. It is a string of items. An item is a
  * tag (one byte), the length of its body (two bytes, the higher one first) and its body. The
@@ -152,10 +162,10 @@ typedef struct {
 /* Plans the call of a function with this signature and gives the sizes of its buffers. */
 fz_sizes fz_measure(const uint8_t *sig, size_t sig_length);
 
-/* Prints the plan to the text_length bytes at text and gives the listing's length. As with
- * snprintf, a text_length below that length is no error; but then nothing at all is written, and a
- * terminating zero never is. Bytes past the listing stay as they are. The text must not overlap the
- * signature. Every line ends with a newline:
+/* Prints the plan to the text_length bytes at text and gives the listing's length. A call is never
+ * refused: where text_length is below that length, nothing is written, not even a part of the
+ * listing. No terminating zero is written, nor counted. Bytes past the listing stay as they are. The
+ * text must not overlap the signature. Every line ends with a newline:
  *
  *   PPC64 args 3 area 80           the convention, the count of arguments, the area's bytes
  *   0 r3 r4 r5 r6 r7 r8 r9 @0      an argument, counted from 0: its registers in order, its offset
@@ -277,8 +287,8 @@ typedef struct {
 /* Starts a machine for a convention, whatever *machine held. The registers are those handed in (of
  * cr the low 32 bits), but for the stack pointer: it is 112 bytes below the memory's end on PPC64,
  * 160 on Z, and eight zeros are written there. A refused start leaves the memory as it was, and in
- * *machine the convention, the registers as handed in and all else 0: a state that every other call
- * refuses with 23. */
+ * *machine the convention, the registers as handed in (of cr all 64 bits) and all else 0: a state
+ * that every other call refuses with 23. */
 fz_answer fz_start_ppc64(fz_machine *machine, const fz_registers *registers, uint64_t base,
                          uint8_t *memory, size_t memory_length);
 fz_answer fz_start_z(fz_machine *machine, const fz_registers *registers, uint64_t base,
@@ -308,8 +318,8 @@ fz_answer fz_write_register(fz_machine *machine, uint64_t bank, uint64_t number,
 /* Writes 1 to 256 bytes at an address. They must lie wholly in one of three areas: the locals or
  * the outgoing area of the frame that was entered last, or the outgoing area of its caller. The
  * start has an outgoing area of 64 bytes on PPC64, of none on Z, and no locals. A leaf has the bytes
- * of the floor below its saves, and its caller's outgoing area. The state stays as it is. */
-fz_answer fz_write_memory(fz_machine *machine, uint64_t address, const uint8_t *bytes,
+ * of the floor below its saves, and its caller's outgoing area. */
+fz_answer fz_write_memory(const fz_machine *machine, uint64_t address, const uint8_t *bytes,
                           size_t bytes_length, uint8_t *memory, size_t memory_length);
 
 /* Leaves the frame that was entered last: restores from the memory what its enter saved (of CR only

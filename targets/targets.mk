@@ -23,8 +23,8 @@ $(CHOSEN:%=build/%/libflakuzhen.a) &: $(ARCHIVE) scripts/target-lib scripts/targ
 	scripts/target-lib "$(BRIDGES)" $(CHOSEN)
 
 $(TARGETS:%=build/%/libflakuzhen.so): build/%/libflakuzhen.so: build/%/libflakuzhen.a \
-    include/flakuzhen.map
-	$*-linux-gnu-gcc $(SHARED_WORDS)
+    include/flakuzhen.map host/Cargo.toml
+	$(call MAKE_SHARED,$*-linux-gnu-gcc)
 
 # ---- programs, with the archive and with the shared library ----
 

@@ -1,6 +1,6 @@
 -- The words of the exported functions' answers. Document 01, "When the bridge says no": "A refusal is a number and a place
 -- (offset of the faulty item's header; 0 for refusals 1 and 10 to 24). .. counts are 0." Assumes nothing.
-use Prim.Native.Nat.{ℕ}
+use Prim.Native.Nat.{ℕ, _+_, _*_}
 use Rattle.ieee.specs.declared.Narrowed.{Narrowed}
 use Rattle.items.specs.declared.Refusal.{Refusal}
 use Rattle.items.specs.Refusals.{numberOf}
@@ -33,3 +33,10 @@ sizesAnswer (no r place) = record { answer = refusedAnswer r place; values = 0; 
 unfoldable pub narrowingAnswer : Narrowed → NarrowingAnswer
 narrowingAnswer (Narrowed.Single x) = record { number = 0; place = 0; bits = x }
 narrowingAnswer Narrowed.NotWidened = record { number = 14; place = 0; bits = 0 }
+
+-- a version as one number, from its major number, its minor one and its patch, and this library's; the form is ours
+abbrev pub versionNumber : ℕ → ℕ → ℕ → ℕ
+versionNumber major minor patch = 10000 * major + 100 * minor + patch
+
+abbrev pub version : ℕ
+version = versionNumber 1 0 0

@@ -1,5 +1,5 @@
-// The surface for C and Rust, which include/flakuzhen.h declares: signatures, plans and floats. Each function calls one of the crates
-// below and lays its answer out in 64-bit words.
+// The surface for C and Rust, which include/flakuzhen.h declares: the version, signatures, plans and floats. Each function of the last three calls
+// one of the crates below and lays its answer out in 64-bit words.
 use answers::Answer;
 use ieee::Narrowed;
 use signature::Outcome;
@@ -11,7 +11,7 @@ ghost use lib.ListN.{length};
 ghost use Rattle.listing.specs.Text.{listingOf};
 ghost use Rattle.listing.specs.Writing.{printed};
 ghost use Rattle.signature.specs.Read.{signatureOf};
-ghost use Rattle.bridge.specs.Surface.{readingAnswer, sizesAnswer, narrowingAnswer};
+ghost use Rattle.bridge.specs.Surface.{readingAnswer, sizesAnswer, narrowingAnswer, version};
 
 // `fz_sizes`: the bytes that the values, the parameter area and the copies of a call take.
 #[repr(C)]
@@ -28,6 +28,14 @@ pub struct NarrowingAnswer {
     pub number: u64,
     pub place: u64,
     pub bits: u64,
+}
+
+// The library's version as one number.
+#[no_mangle]
+pub extern "C" fn fz_version() -> u64
+    ensures { λ r. ⌜ r ≡ version ⌝ }
+{
+    10000
 }
 
 #[no_mangle]

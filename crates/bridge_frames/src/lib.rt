@@ -19,7 +19,7 @@ fn answer_of(a: machine::Answer) -> Answer
     }
 }
 
-// Of `registers`' CR the low 32 bits count.
+// Of `registers`' CR an accepted start takes the low 32 bits.
 #[no_mangle]
 pub extern "C" fn fz_start_ppc64(
     machine: &mut [u64; 262],

@@ -1,7 +1,7 @@
 -- A list of calls of each convention worked on numbers, so that the theorem is seen to speak of something: a start on 640 bytes (Z: 512), a frame entered, refused and accepted
 -- writes, and leaves.
 -- Assumes nothing.
-use Prim.Native.Nat.{_+_, _-_}
+use Prim.Native.Nat.{ℕ, _+_, _-_}
 use mathlib.Core.Path.{_≡_, refl}
 use mathlib.Core.Bool.{true, false}
 use mathlib.Core.List.{List, [], _∷_, _++_}
@@ -14,9 +14,18 @@ use Rattle.conventions.specs.declared.Convention.the-variants.{Ppc64, Z}
 use Rattle.rules.specs.declared.Frame.{Frame}
 use Rattle.rules.specs.declared.Registers.{Registers}
 use Rattle.rules.specs.Frames.{withPointer, allWithin, lowered, okRegisters, cleared, okLeaf, okRequest, below, fullSize, frameSize, chainWidth, gprAt, savesBy, linkAt, mergeFields, restoredLr, restoredCr, restored, bankOf, writableField, writableRegister, withField, withRegister}
-use Rattle.machine.specs.Answers.{judge}
+use Rattle.machine.specs.Answers.{answerNumber, judge}
 use Rattle.machine.specs.Machine.{topFrame, callerFrame, okFrames, sizes, okMemory, okState, startAnswer, started, startedMemory, enterAnswer, entered, enteredMemory, writableBytes, writableAddress, writeRegisterAnswer, writeMemoryAnswer, writtenRegister, writtenMemory, leaveAnswer, left, startOutcome, startMemory, enterOutcome, enterMemory, writeRegisterOutcome, writeMemoryOutcome, writeMemoryMemory, leaveOutcome}
-use Rattle.history.specs.Calls.{Call, enter, writeRegister, writeMemory, leave, Machine, fresh, answersTo, numbers, run}
+use Rattle.history.specs.Calls.{Call, enter, writeRegister, writeMemory, leave, Machine, answer, after, fresh}
+
+-- the numbers of the answers to a list of calls, and the machine after them
+abbrev numbers : List Call → Machine → List ℕ
+numbers [] m = []
+numbers (c ∷ cs) m = answerNumber (answer c m) ∷ numbers cs (after c m)
+
+abbrev run : List Call → Machine → Machine
+run [] m = m
+run (c ∷ cs) m = run cs (after c m)
 
 abbrev registers : Registers
 registers = record { gpr = replicate 32 7; fpr = replicate 32 9; lr = 11; cr = 0 }
@@ -83,11 +92,11 @@ calls-leaf =
 -- The answers on PPC64: 22 where nothing is entered, 20 where r28 is not saved and where the back chain is in no area. On Z: 17 where CR is asked for, 20 for the stack
 -- pointer, LR and CR. After the calls the saved registers, LR and condition field 2 are back.
 -- With a leaf: 28 above it, 20 for LR, below the floor and in its saves.
-pub worked : (numbers (answersTo calls start) ≡ 22 ∷ 0 ∷ 0 ∷ 20 ∷ 0 ∷ 0 ∷ 0 ∷ 20 ∷ 0 ∷ 22 ∷ [])
+pub worked : (numbers calls start ≡ 22 ∷ 0 ∷ 0 ∷ 20 ∷ 0 ∷ 0 ∷ 0 ∷ 20 ∷ 0 ∷ 22 ∷ [])
     × (run calls start .state .registers ≡ record { gpr = 7 ∷ (4096 + 640 - 112) ∷ replicate 30 7; fpr = replicate 32 9; lr = 11; cr = 0 })
-    × (numbers (answersTo calls-z start-z) ≡ 17 ∷ 0 ∷ 0 ∷ 0 ∷ 20 ∷ 0 ∷ 20 ∷ 20 ∷ 0 ∷ [])
+    × (numbers calls-z start-z ≡ 17 ∷ 0 ∷ 0 ∷ 0 ∷ 20 ∷ 0 ∷ 20 ∷ 20 ∷ 0 ∷ [])
     × (run calls-z start-z .state .registers ≡ record { gpr = replicate 15 7 ++ (4096 + 512 - 160) ∷ replicate 16 7; fpr = replicate 32 9; lr = 11; cr = 0 })
-    × (numbers (answersTo calls-leaf start) ≡ 0 ∷ 0 ∷ 28 ∷ 0 ∷ 20 ∷ 0 ∷ 20 ∷ 20 ∷ 0 ∷ 0 ∷ 0 ∷ [])
+    × (numbers calls-leaf start ≡ 0 ∷ 0 ∷ 28 ∷ 0 ∷ 20 ∷ 0 ∷ 20 ∷ 20 ∷ 0 ∷ 0 ∷ 0 ∷ [])
     × (run calls-leaf start .state .registers ≡ record { gpr = 7 ∷ (4096 + 640 - 112) ∷ replicate 30 7; fpr = replicate 32 9; lr = 11; cr = 0 })
 unfolding overlay splice bytesOf valueOf store load saveRun loadRun withPointer allWithin lowered okRegisters cleared okLeaf okRequest below roundUp fullSize frameSize chainWidth gprAt savesBy linkAt mergeFields restoredLr restoredCr restored bankOf writableField writableRegister withField withRegister judge topFrame callerFrame okFrames sizes okMemory okState startAnswer started startedMemory enterAnswer entered enteredMemory writableBytes writableAddress writeRegisterAnswer writeMemoryAnswer writtenRegister writtenMemory leaveAnswer left startOutcome startMemory enterOutcome enterMemory writeRegisterOutcome writeMemoryOutcome writeMemoryMemory leaveOutcome
 worked = (refl, refl, refl, refl, refl, refl)

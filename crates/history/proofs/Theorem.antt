@@ -24,7 +24,7 @@ use Rattle.machine.specs.Machine.{okMemory, okFrames, sizes, startAnswer, start
 use Rattle.machine.proofs.Judging.{never, holds-yes}
 use Rattle.machine.proofs.States.{memory-yes}
 use Rattle.history.specs.Calls.{Call, enter, writeRegister, writeMemory, leave, Machine, answer, after, fresh}
-use Rattle.history.specs.Preserved.{OpenEnter, openAfter, CallHolds, Holds, RegistersFit, CallFits, CallsFit}
+use Rattle.history.specs.Preserved.{OpenEnter, openAfter, CallHolds, Holds, RegistersFit, CallFits, CallsFit, Demand3OfStates}
 use Rattle.history.proofs.Invariant.{Fit, fit-small, Base, Invariant, base-of}
 use Rattle.history.proofs.Entering.{enter-keeps}
 use Rattle.history.proofs.Writing.{write-register-keeps, write-memory-keeps}
@@ -137,7 +137,7 @@ module _ (c : Convention) (b : ℕ) (l : List ℕ) (r : Registers) (fit : Regist
   unfolding startOutcome startMemory started withPointer cleared
   start-invariant = rw e (base, refl, zero-word)
 
--- DEMAND 3. "The start may be handed any registers, base and memory": for each accepted start, with registers that are values of their types, every list of calls holds.
-pub calls-hold : (c : Convention) (b : ℕ) (l : List ℕ) (r : Registers) → RegistersFit r → startAnswer c b (length l) ≡ Accepted
-    → (cs : List Call) → CallsFit cs → Holds (rules c) cs [] (fresh c b l r)
+-- DEMAND 3 of the machine's own calls
+pub calls-hold : Demand3OfStates
+unfolding startOutcome
 calls-hold c b l r fit e cs w = holds (rules c) (lawful c) cs w [] (fresh c b l r) (start-invariant c b l r fit e)

@@ -1,7 +1,7 @@
 -- Lists of calls of the frame machine, each getting state and memory as the one before left them. A call's answer and what stands after it are
 -- those that the contracts of `frame::enter`, `frame::write_register`, `frame::write_memory` and `frame::leave` give. Assumes nothing.
 use Prim.Native.Nat.{ℕ}
-use mathlib.Core.List.{List, [], _∷_}
+use mathlib.Core.List.{List}
 use lib.ListN.{length}
 use Rattle.conventions.specs.declared.Convention.{Convention}
 use Rattle.rules.specs.declared.Frame.{Frame}
@@ -9,7 +9,6 @@ use Rattle.rules.specs.declared.Registers.{Registers}
 use Rattle.machine.specs.declared.State.{State}
 use Rattle.machine.specs.declared.Outcome.{Outcome}
 use Rattle.machine.specs.declared.Answer.{Answer}
-use Rattle.machine.specs.Answers.{answerNumber}
 use Rattle.machine.specs.Machine.{startOutcome, startMemory, enterOutcome, enterMemory, writeRegisterOutcome, writeMemoryOutcome, writeMemoryMemory, leaveOutcome}
 
 -- any enter, write or leave: of a request; of a bank, a number and a value; of an address and bytes
@@ -46,16 +45,3 @@ after c m = record { state = outcome c m .state; memory = memoryAfter c m }
 -- the fresh start of a convention, from a base, a memory and registers
 abbrev pub fresh : Convention → ℕ → List ℕ → Registers → Machine
 fresh c b l r = record { state = startOutcome c b (length l) r .state; memory = startMemory c b l }
-
--- the answers of a list of calls, their numbers, and the machine after them
-abbrev pub answersTo : List Call → Machine → List Answer
-answersTo [] m = []
-answersTo (c ∷ cs) m = answer c m ∷ answersTo cs (after c m)
-
-abbrev pub numbers : List Answer → List ℕ
-numbers [] = []
-numbers (a ∷ rest) = answerNumber a ∷ numbers rest
-
-abbrev pub run : List Call → Machine → Machine
-run [] m = m
-run (c ∷ cs) m = run cs (after c m)

@@ -1,5 +1,5 @@
--- Demand 3: "a single claim about the whole list of calls". Document 01, "Frames"; `Holds` is the claim, and `calls-hold` in proofs/Theorem.antt proves it
--- for every list of calls from every accepted start. Assumes nothing.
+-- Demand 3 of the machine's own calls: "a single claim about the whole list of calls". Document 01, "Frames"; `Demand3OfStates` is the claim with all that it asks for,
+-- of which `calls-hold` in proofs/Theorem.antt is a value. The crate word_history has the claim of the calls that C makes. Assumes nothing.
 use Prim.Native.Nat.{ℕ, _+_, _≤_, _<_, _^_}
 use mathlib.Core.Path.{_≡_}
 use mathlib.Core.Logic.{_⊎_}
@@ -7,15 +7,16 @@ use mathlib.Core.Bool.{true}
 use mathlib.Core.List.{List, [], _∷_}
 use lib.ListN.{getD, length}
 use Rattle.saves.specs.Saves.{Outside}
+use Rattle.conventions.specs.declared.Convention.{Convention}
 use Rattle.rules.specs.declared.Rules.{Rules}
 use Rattle.rules.specs.declared.Frame.{Frame}
 use Rattle.rules.specs.declared.Registers.{Registers}
-use Rattle.rules.specs.Rules.{within}
+use Rattle.rules.specs.Rules.{within, rules}
 use Rattle.rules.specs.Frames.{startFrame, outgoingLength, saves, returnAddress, preservedCondition}
 use Rattle.machine.specs.declared.Answer.{Answer}
 use Rattle.machine.specs.declared.Answer.the-variants.{Accepted, Refused}
-use Rattle.machine.specs.Machine.{stackPointer, offset}
-use Rattle.history.specs.Calls.{Call, enter, writeRegister, writeMemory, leave, Machine, answer, after}
+use Rattle.machine.specs.Machine.{stackPointer, offset, startOutcome}
+use Rattle.history.specs.Calls.{Call, enter, writeRegister, writeMemory, leave, Machine, answer, after, fresh}
 
 -- ---- which enters are open: "told from the calls and their answers, not from the state's records"
 
@@ -43,7 +44,7 @@ abbrev pub callerOf : Rules → List OpenEnter → Frame
 callerOf k [] = startFrame k
 callerOf k (o ∷ os) = o .request
 
--- ---- the claim
+-- ---- what is kept
 
 -- After an accepted leave to the machine m, whose matching enter is o, with the enters os still open.
 pub record Preserved (k : Rules) (o : OpenEnter) (os : List OpenEnter) (m : Machine) : Type 0 where
@@ -79,7 +80,7 @@ Holds k (c ∷ cs) os m = CallHolds k c (answer c m) os (after c m) × Holds k c
 
 -- ---- numbers are values of their types
 
--- 32 general and 32 floating registers and LR of 64 bits, CR of 32
+-- What a state's registers are in the program: two arrays of 32 numbers of 64 bits, LR of 64 and CR of 32.
 pub record RegistersFit (r : Registers) : Type 0 where
   pub gprs : length (r .gpr) ≡ 32
   pub fprs : length (r .fpr) ≡ 32
@@ -88,7 +89,7 @@ pub record RegistersFit (r : Registers) : Type 0 where
   pub lr : r .lr < 2 ^ 64
   pub cr : r .cr < 2 ^ 32
 
--- a value to write is one of 64 bits
+-- a value to write to a register is a number of 64 bits; nothing is asked of the other calls
 abbrev pub CallFits : Call → Type 0
 CallFits (enter f) = Unit {0}
 CallFits (writeRegister b n v) = v < 2 ^ 64
@@ -98,3 +99,11 @@ CallFits leave = Unit {0}
 abbrev pub CallsFit : List Call → Type 0
 CallsFit [] = Unit {0}
 CallsFit (c ∷ cs) = CallFits c × CallsFit cs
+
+-- ---- the claim
+
+-- "The start may be handed any registers, base and memory. No enter is open at the start." In each convention, from each accepted start, every list of calls holds.
+-- `RegistersFit` and `CallsFit` restrict nothing: the types of the program's numbers are so.
+abbrev pub Demand3OfStates : Type 0
+Demand3OfStates = (c : Convention) (b : ℕ) (l : List ℕ) (r : Registers) → RegistersFit r → startOutcome c b (length l) r .answer ≡ Accepted → (cs : List Call) → CallsFit cs
+    → Holds (rules c) cs [] (fresh c b l r)

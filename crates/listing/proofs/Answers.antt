@@ -29,6 +29,6 @@ pub answer-printable : (s : List ℕ) → Printable (planAnswer (signatureOf s))
 answer-printable s = record {
   few = answer-few s;
   room = answer-table (signatureOf s);
-  spans = within (signatureOf s) .numbered;
+  spans = λ i. within (signatureOf s) .arguments i .numbered;
   result = result-in (signatureOf s);
 }

@@ -10,7 +10,8 @@ use Rattle.signature.specs.Read.{maxArguments}
 use Rattle.plan.specs.declared.Plan.{Plan}
 use Rattle.plan.specs.Disjoint.{spanAt}
 
--- "as with snprintf: a buffer that is too short is left as it was"
+-- A listing "goes to a lent buffer and its length is returned. A buffer that is too short is left as it was" (docs/DECISIONS.md, 5): not a part of the text is
+-- written, and no zero after it.
 abbrev pub printed : List ℕ → List ℕ → List ℕ
 printed buffer t = pick (ltb (length buffer) (length t)) buffer (overlay buffer t)
 

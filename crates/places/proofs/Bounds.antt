@@ -8,7 +8,6 @@ use Rattle.words.specs.Basics.{roundUp}
 use Rattle.conventions.specs.declared.Convention.{Convention}
 use Rattle.types.specs.declared.ValueType.{ValueType}
 use Rattle.types.specs.Sizes.{pointerSize}
-use Rattle.places.specs.declared.Edition.{Edition}
 use Rattle.places.specs.declared.Cursor.{Cursor}
 use Rattle.places.specs.declared.Rules.{Rules}
 use Rattle.places.specs.declared.ZClass.{ZClass}
@@ -112,10 +111,11 @@ named-roomy Rules.Z c h s k = omega arith
 pub fresh-roomy : (r : Rules) → Roomy (fresh r)
 fresh-roomy r = named-roomy r (fresh r) (named-fresh r) (omega (arith, fresh-bytes r)) (omega (arith, fresh-bytes r))
 
--- "The area is 8 times the larger of 8 and the final w": never less than 8 words
-pub least-area : (w : ℕ) (e : Edition) (c : Cursor) → 8 * w ≤ areaOf (Rules.Power (record { word = w; edition = e })) c
-unfolding areaOf
-least-area w e c = omega arith
+-- "The area is 8 times the larger of 8 and the final w": never less than that of no arguments
+pub least-area : (r : Rules) (e : Cursor) → areaOf r (fresh r) ≤ areaOf r e
+unfolding areaOf fresh
+least-area (Rules.Power f) e = omega arith
+least-area Rules.Z e = omega arith
 
 -- all bytes before the last cursor lie in the area
 pub area-holds : (r : Rules) (e : Cursor) → e .stack ≤ areaOf r e

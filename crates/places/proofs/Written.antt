@@ -9,7 +9,11 @@ use native.Mathlib.Nat.{mul-add, mul-suc, mul-zero, mul-div-cancel-left, add-zer
 use borrow.Author.Tests.{ltb-true, ltb-false}
 use lib.Dec.{ltb, leb}
 use Rattle.words.specs.Basics.{pick, roundUp}
+use Rattle.conventions.specs.declared.Convention.{Convention}
+use Rattle.types.specs.declared.FloatFormat.{FloatFormat}
+use Rattle.types.specs.declared.IntegerKind.{IntegerKind}
 use Rattle.types.specs.declared.ValueType.{ValueType}
+use Rattle.types.specs.Sizes.{sizeOf}
 use Rattle.places.specs.declared.Bank.{Bank}
 use Rattle.places.specs.declared.Place.{Place}
 use Rattle.places.specs.declared.Cursor.{Cursor}
@@ -20,8 +24,9 @@ use Rattle.places.specs.declared.ZClass.{ZClass}
 use Rattle.places.specs.Values.{cursor, registers, bytes, share}
 use Rattle.places.specs.Power.{words, fprs, shareOf, powerShare}
 use Rattle.places.specs.ZSeries.{zClass, zSpanOf, zNextOf}
-use Rattle.places.specs.Step.{spanOf, nextOf, fresh, startOf, areaOf}
+use Rattle.places.specs.Step.{rulesOf, spanOf, nextOf, fresh, startOf, areaOf, hiddenFor, returning, resultOf}
 use Rattle.places.specs.Places.{upFrom, register, registersOf, memoryOf, placesOf}
+use Rattle.places.specs.Results.{returned, returnedBy}
 
 -- ---- PowerPC: the count of words
 
@@ -211,3 +216,63 @@ z-general-written c t n h = go (zClass t n) h
 pub z-copy-written : (c : Cursor) (t : ValueType) (n : ℕ) → zClass t n ≡ ZClass.Reference → spanOf Rules.Z c t n .copy ≡ bytes (roundUp (c .copies) 8) n
 unfolding spanOf zSpanOf
 z-copy-written c t n e = rw e
+
+-- how the counters move: fr by 2 up to f6, then the stack by 8
+pub z-float-next : (c : Cursor) (t : ValueType) (n : ℕ) → zClass t n ≡ ZClass.Float
+    → nextOf Rules.Z c t n ≡ pick (ltb (c .floating) 8) (cursor (c .general) (c .floating + 2) (c .stack) (c .copies)) (cursor (c .general) (c .floating) (c .stack + 8) (c .copies))
+unfolding nextOf zNextOf
+z-float-next c t n e = rw e (go (ltb (c .floating) 8) refl)
+  where
+    go : (b : Bool) → ltb (c .floating) 8 ≡ b
+        → cursor (c .general + 0) (c .floating + 2 * min 1 (8 - c .floating)) (c .stack + 8 * (1 - (0 + min 1 (8 - c .floating)))) (c .copies)
+        ≡ pick b (cursor (c .general) (c .floating + 2) (c .stack) (c .copies)) (cursor (c .general) (c .floating) (c .stack + 8) (c .copies))
+    go true q = let m : min 1 (8 - c .floating) ≡ 1 = omega (arith, ltb-true (c .floating) 8 q) in rw (m, add-zero (c .general), add-zero (c .stack))
+    go false q = let m : min 1 (8 - c .floating) ≡ 0 = omega (arith, ltb-false (c .floating) 8 q) in rw (m, add-zero (c .general), add-zero (c .floating))
+
+-- gr by 1 up to r6, then the stack by 8, where the copies then end at e
+z-moved : (c : Cursor) (e : ℕ) (b : Bool) → ltb (c .general) 7 ≡ b
+    → cursor (c .general + min 1 (7 - c .general)) (c .floating + 2 * 0) (c .stack + 8 * (1 - (min 1 (7 - c .general) + 0))) e
+    ≡ pick b (cursor (c .general + 1) (c .floating) (c .stack) e) (cursor (c .general) (c .floating) (c .stack + 8) e)
+z-moved c e true q = let m : min 1 (7 - c .general) ≡ 1 = omega (arith, ltb-true (c .general) 7 q) in rw (m, add-zero (c .floating), add-zero (c .stack))
+z-moved c e false q = let m : min 1 (7 - c .general) ≡ 0 = omega (arith, ltb-false (c .general) 7 q) in rw (m, add-zero (c .floating), add-zero (c .general))
+
+pub z-simple-next : (c : Cursor) (t : ValueType) (n : ℕ) → zClass t n ≡ ZClass.Simple
+    → nextOf Rules.Z c t n ≡ pick (ltb (c .general) 7) (cursor (c .general + 1) (c .floating) (c .stack) (c .copies)) (cursor (c .general) (c .floating) (c .stack + 8) (c .copies))
+unfolding nextOf zNextOf
+z-simple-next c t n e = rw e (z-moved c (c .copies) (ltb (c .general) 7) refl)
+
+-- a pointer moves them as a value does, and the copies end after the new one
+pub z-reference-next : (c : Cursor) (t : ValueType) (n : ℕ) → zClass t n ≡ ZClass.Reference
+    → nextOf Rules.Z c t n
+    ≡ pick (ltb (c .general) 7) (cursor (c .general + 1) (c .floating) (c .stack) (roundUp (c .copies) 8 + n)) (cursor (c .general) (c .floating) (c .stack + 8) (roundUp (c .copies) 8 + n))
+unfolding nextOf zNextOf
+z-reference-next c t n e = rw e (z-moved c (roundUp (c .copies) 8 + n) (ltb (c .general) 7) refl)
+
+-- "The area is the stack bytes used, possibly 0"
+pub z-area-written : (c : Cursor) → areaOf Rules.Z c ≡ c .stack
+unfolding areaOf
+z-area-written c = refl
+
+-- ---- the results
+
+-- every type, in every convention
+pub result-written : (c : Convention) (t : ValueType) → returned (resultOf (rulesOf c) t (sizeOf c t)) ≡ returnedBy c t
+unfolding resultOf hiddenFor returning spanOf fresh words fprs shareOf powerShare zClass zSpanOf placesOf registersOf memoryOf upFrom
+result-written Convention.Ppc64 (ValueType.Integer IntegerKind.I8) = refl
+result-written Convention.Ppc64 (ValueType.Integer IntegerKind.U8) = refl
+result-written Convention.Ppc64 (ValueType.Integer IntegerKind.I16) = refl
+result-written Convention.Ppc64 (ValueType.Integer IntegerKind.U16) = refl
+result-written Convention.Ppc64 (ValueType.Integer IntegerKind.I32) = refl
+result-written Convention.Ppc64 (ValueType.Integer IntegerKind.U32) = refl
+result-written Convention.Ppc64 (ValueType.Integer IntegerKind.I64) = refl
+result-written Convention.Ppc64 (ValueType.Integer IntegerKind.U64) = refl
+result-written Convention.Ppc64 (ValueType.Integer IntegerKind.Pointer) = refl
+result-written Convention.Ppc64 (ValueType.Float FloatFormat.Single) = refl
+result-written Convention.Ppc64 (ValueType.Float FloatFormat.Double) = refl
+result-written Convention.Ppc64 (ValueType.Float FloatFormat.LongDouble) = refl
+result-written Convention.Ppc64 (ValueType.Struct s) = refl
+result-written Convention.Z (ValueType.Integer k) = refl
+result-written Convention.Z (ValueType.Float FloatFormat.Single) = refl
+result-written Convention.Z (ValueType.Float FloatFormat.Double) = refl
+result-written Convention.Z (ValueType.Float FloatFormat.LongDouble) = refl
+result-written Convention.Z (ValueType.Struct s) = refl

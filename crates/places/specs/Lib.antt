@@ -4,4 +4,5 @@ pub mod Power
 pub mod ZSeries
 pub mod Step
 pub mod Places
+pub mod Results
 pub mod Spots

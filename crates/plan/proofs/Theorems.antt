@@ -1,8 +1,8 @@
 -- Every plan keeps its arguments apart and within bounds (specs/Disjoint.antt states it). Assumes nothing.
-use mathlib.Core.Path.{_≡_, sym, subst}
+use mathlib.Core.Path.{_≡_, refl, sym, subst}
 use mathlib.Core.Bool.{Bool, true, false}
 use mathlib.Core.List.{List, []}
-use Prim.Native.Nat.{ℕ, _≤_, _<_}
+use Prim.Native.Nat.{ℕ, _<_}
 use native.Mathlib.Omega.{arith}
 use lib.ListN.{getD, replicate}
 use Rattle.words.specs.Basics.{pick}
@@ -10,22 +10,23 @@ use Rattle.conventions.specs.declared.Convention.{Convention}
 use Rattle.types.specs.declared.ValueType.{ValueType}
 use Rattle.types.specs.Sizes.{sizeOf}
 use Rattle.items.specs.declared.Refusal.{Refusal}
-use Rattle.items.specs.Reading.{Reading, got, no}
+use Rattle.items.specs.Reading.{got, no}
 use Rattle.signature.specs.declared.ResultType.{ResultType}
-use Rattle.signature.specs.Signature.{Signature}
 use Rattle.signature.specs.Read.{maxArguments}
 use Rattle.signature.specs.Answer.{resultType}
 use Rattle.places.specs.declared.Cursor.{Cursor}
 use Rattle.places.specs.declared.Span.{Span}
 use Rattle.places.specs.declared.ResultPlaces.{ResultPlaces}
 use Rattle.places.specs.Values.{pointer}
-use Rattle.places.specs.Step.{rulesOf, wordOf, spanOf, fresh, startOf, areaOf, hiddenFor, returning, resultOf}
+use Rattle.places.specs.Step.{rulesOf, wordOf, spanOf, fresh, startOf, hiddenFor, returning, resultOf}
 use Rattle.places.specs.Places.{Numbered}
 use Rattle.places.specs.Spots.{Spot, area, copies, Owns, imageSpot}
-use Rattle.places.proofs.Bounds.{named-start, area-holds, least-area}
-use Rattle.places.proofs.Between.{before-from, owns-before}
+use Rattle.places.proofs.Bounds.{named-fresh, named-start, area-holds, least-area}
+use Rattle.places.proofs.Between.{Before, before-from, before-later, step-between, owns-before}
+use Rattle.places.proofs.Registers.{step-numbered, step-registers}
 use Rattle.plan.specs.Plan.{spansOf, noSpan, hiddenIn, resultIn, startIn, endIn, planIn, refused, typesOf, planAnswer}
-use Rattle.plan.specs.Disjoint.{spanAt, Disjoint, Within}
+use Rattle.plan.specs.Disjoint.{spanAt, Disjoint, PlansDisjoint, SpanWithin, Within, PlansWithin}
+use Rattle.plan.proofs.Fold.{last-forward}
 use Rattle.plan.proofs.Apart.{in-table, getD-blanks, spanIn, none-owned, owned-from, owned-before, owned-register, owned-apart, span-numbered, span-homed, Homed}
 
 -- ---- an accepted signature
@@ -48,11 +49,12 @@ hidden-from c ts i x a b =
     (owns-before (rulesOf c) (fresh (rulesOf c)) pointer (wordOf (rulesOf c)) x a)
     (owned-from c (rulesOf c) (startOf (rulesOf c) true) ts i x b)
 
-hidden-apart : (c : Convention) (r : ResultType) (ts : List ValueType) (s : Span) (i : ℕ) (x : Spot)
-    → resultIn c r ≡ ResultPlaces.Hidden s → Owns s x → Owns (spanIn c (rulesOf c) (startIn c r) ts i) x → ⊥
+-- a hidden address is placed as a first argument that is a pointer, and the arguments start after it
+pub hidden-address : (c : Convention) (r : ResultType) (s : Span) → resultIn c r ≡ ResultPlaces.Hidden s
+    → (s ≡ spanOf (rulesOf c) (fresh (rulesOf c)) pointer (wordOf (rulesOf c))) × (startIn c r ≡ startOf (rulesOf c) true)
 unfolding resultOf
-hidden-apart c ResultType.Nothing ts s i x e a b = let z : _≡_ {A = ℕ} 0 1 = cc in omega arith
-hidden-apart c (ResultType.Value t) ts s i x e a b = go (hiddenFor (rulesOf c) t) e b
+hidden-address c ResultType.Nothing s e = let z : _≡_ {A = ℕ} 0 1 = cc in absurd (omega arith)
+hidden-address c (ResultType.Value t) s e = go (hiddenFor (rulesOf c) t) e
   where
     address : Span
     address = spanOf (rulesOf c) (fresh (rulesOf c)) pointer (wordOf (rulesOf c))
@@ -61,9 +63,15 @@ hidden-apart c (ResultType.Value t) ts s i x e a b = go (hiddenFor (rulesOf c) t
     held = spanOf (returning (rulesOf c)) (fresh (rulesOf c)) t (sizeOf c t)
 
     go : (h : Bool) → pick h (ResultPlaces.Hidden address) (ResultPlaces.Registers held) ≡ ResultPlaces.Hidden s
-        → Owns (spanIn c (rulesOf c) (startOf (rulesOf c) h) ts i) x → ⊥
-    go true q o = let same : s ≡ address = cc in hidden-from c ts i x (subst (λ (y : Span). Owns y x) same a) o
-    go false q o = let z : _≡_ {A = ℕ} 0 1 = cc in omega arith
+        → (s ≡ address) × (startOf (rulesOf c) h ≡ startOf (rulesOf c) true)
+    go true q = let same : s ≡ address = cc in (same, refl)
+    go false q = let z : _≡_ {A = ℕ} 0 1 = cc in absurd (omega arith)
+
+hidden-apart : (c : Convention) (r : ResultType) (ts : List ValueType) (s : Span) (i : ℕ) (x : Spot)
+    → resultIn c r ≡ ResultPlaces.Hidden s → Owns s x → Owns (spanIn c (rulesOf c) (startIn c r) ts i) x → ⊥
+hidden-apart c r ts s i x e a b =
+    let h = hidden-address c r s e in
+    hidden-from c ts i x (subst (λ (y : Span). Owns y x) (h .0) a) (subst (λ (k : Cursor). Owns (spanIn c (rulesOf c) k ts i) x) (h .1) b)
 
 plan-disjoint : (n : ℕ) (c : Convention) (r : ResultType) (ts : List ValueType) → Disjoint (planIn n c r ts)
 unfolding planIn
@@ -75,25 +83,51 @@ plan-disjoint n c r ts =
       hidden = λ s i x e a b. hidden-apart c r ts s i x e a (owned n c r ts i x b);
     }
 
-least : (c : Convention) (e : Cursor) → c ≡ Convention.Ppc64 → 64 ≤ areaOf (rulesOf c) e
-least Convention.Ppc64 e h = least-area 8 _ e
-least Convention.Z e h = let z : _≡_ {A = ℕ} 0 1 = cc in absurd (omega arith)
+module _ (n : ℕ) (c : Convention) (r : ResultType) (ts : List ValueType) where
+  argument-within : (i : ℕ) → SpanWithin (planIn n c r ts) (spanAt (planIn n c r ts) i)
+  unfolding planIn
+  argument-within i =
+      let k : Cursor = startIn c r in
+      let e : Cursor = endIn c r ts in
+      let named = named-start (rulesOf c) (hiddenIn c r) in
+      let homed : Homed (spanAt (planIn n c r ts) i) = subst Homed (sym (in-plan n c r ts i)) (span-homed c (rulesOf c) k ts i) in
+      record {
+        registers = λ x o. owned-register c (rulesOf c) k ts i x named (owned n c r ts i x o);
+        numbered = subst Numbered (sym (in-plan n c r ts i)) (span-numbered c (rulesOf c) k ts i named);
+        area = λ b o. let l : b < e .stack = owned-before c (rulesOf c) k ts i (area b) (owned n c r ts i (area b) o) in omega (arith, area-holds (rulesOf c) e);
+        copies = λ b o. owned-before c (rulesOf c) k ts i (copies b) (owned n c r ts i (copies b) o);
+        memory-from = homed .from;
+        memory-to = homed .to;
+      }
 
-plan-within : (n : ℕ) (c : Convention) (r : ResultType) (ts : List ValueType) → Within (planIn n c r ts)
-unfolding planIn
-plan-within n c r ts =
-    let k : Cursor = startIn c r in
-    let e : Cursor = endIn c r ts in
-    let named = named-start (rulesOf c) (hiddenIn c r) in
-    record {
-      registers = λ i x o. owned-register c (rulesOf c) k ts i x named (owned n c r ts i x o);
-      numbered = λ i. subst Numbered (sym (in-plan n c r ts i)) (span-numbered c (rulesOf c) k ts i named);
-      area = λ i b o. let l : b < e .stack = owned-before c (rulesOf c) k ts i (area b) (owned n c r ts i (area b) o) in omega (arith, area-holds (rulesOf c) e);
-      copies = λ i b o. owned-before c (rulesOf c) k ts i (copies b) (owned n c r ts i (copies b) o);
-      memory-from = λ i. subst Homed (sym (in-plan n c r ts i)) (span-homed c (rulesOf c) k ts i) .from;
-      memory-to = λ i. subst Homed (sym (in-plan n c r ts i)) (span-homed c (rulesOf c) k ts i) .to;
-      least = λ m a q. least c e q;
-    }
+  -- what is before the first argument is before the end
+  address-before : (x : Spot) → startIn c r ≡ startOf (rulesOf c) true → Owns (spanOf (rulesOf c) (fresh (rulesOf c)) pointer (wordOf (rulesOf c))) x → Before (endIn c r ts) x
+  unfolding startOf
+  address-before x e o =
+      before-later (last-forward c (rulesOf c) (startIn c r) ts) x
+      (subst (λ (k : Cursor). Before k x) (sym e) (owns-before (rulesOf c) (fresh (rulesOf c)) pointer (wordOf (rulesOf c)) x o))
+
+  address-within : startIn c r ≡ startOf (rulesOf c) true → SpanWithin (planIn n c r ts) (spanOf (rulesOf c) (fresh (rulesOf c)) pointer (wordOf (rulesOf c)))
+  unfolding planIn
+  address-within q =
+      let e : Cursor = endIn c r ts in
+      let between = step-between (rulesOf c) (fresh (rulesOf c)) pointer (wordOf (rulesOf c)) in
+      record {
+        registers = λ x o. step-registers (rulesOf c) (fresh (rulesOf c)) pointer (wordOf (rulesOf c)) x (named-fresh (rulesOf c)) o;
+        numbered = step-numbered (rulesOf c) (fresh (rulesOf c)) pointer (wordOf (rulesOf c)) (named-fresh (rulesOf c));
+        area = λ b o. let l : b < e .stack = address-before (area b) q o in omega (arith, area-holds (rulesOf c) e);
+        copies = λ b o. address-before (copies b) q o;
+        memory-from = between .memory-from;
+        memory-to = between .memory-to;
+      }
+
+  plan-within : Within (planIn n c r ts)
+  unfolding planIn
+  plan-within = record {
+    arguments = argument-within;
+    hidden = λ s e. let h = hidden-address c r s e in subst (SpanWithin (planIn n c r ts)) (sym (h .0)) (address-within (h .1));
+    least = λ m a. least-area (rulesOf c) (endIn c r ts);
+  }
 
 -- ---- a refused one
 
@@ -115,23 +149,26 @@ refused-within reason place =
     let numbered : Numbered noSpan = omega arith in
     let homed : Homed noSpan = record { from = omega arith; to = omega arith } in
     record {
-      registers = λ i x o. absurd (none i x o);
-      numbered = λ i. subst Numbered (sym (none-at i)) numbered;
-      area = λ i b o. absurd (none i (area b) o);
-      copies = λ i b o. absurd (none i (copies b) o);
-      memory-from = λ i. subst Homed (sym (none-at i)) homed .from;
-      memory-to = λ i. subst Homed (sym (none-at i)) homed .to;
-      least = λ m a q. let z : _≡_ {A = ℕ} 0 1 = cc in absurd (omega arith);
+      arguments = λ i. record {
+        registers = λ x o. absurd (none i x o);
+        numbered = subst Numbered (sym (none-at i)) numbered;
+        area = λ b o. absurd (none i (area b) o);
+        copies = λ b o. absurd (none i (copies b) o);
+        memory-from = subst Homed (sym (none-at i)) homed .from;
+        memory-to = subst Homed (sym (none-at i)) homed .to;
+      };
+      hidden = λ s e. let z : _≡_ {A = ℕ} 0 1 = cc in absurd (omega arith);
+      least = λ m a. let z : _≡_ {A = ℕ} 0 1 = cc in absurd (omega arith);
     }
 
 -- ---- every answer of the planner
 
-pub disjoint : (x : Reading Signature) → Disjoint (planAnswer x)
+pub disjoint : PlansDisjoint
 unfolding planAnswer
 disjoint (got g next n) = plan-disjoint n (g .convention) (resultType (g .convention) (g .result)) (typesOf (g .convention) (g .arguments))
 disjoint (no reason place) = refused-disjoint reason place
 
-pub within : (x : Reading Signature) → Within (planAnswer x)
+pub within : PlansWithin
 unfolding planAnswer
 within (got g next n) = plan-within n (g .convention) (resultType (g .convention) (g .result)) (typesOf (g .convention) (g .arguments))
 within (no reason place) = refused-within reason place

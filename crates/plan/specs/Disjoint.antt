@@ -1,17 +1,18 @@
--- What is proved of every plan, whatever bytes it was asked of: each argument's places are its own, and all lie within the
--- registers, the parameter area and the copies. proofs/Theorems.antt proves it. Assumes nothing.
+-- What is proved of every plan, whatever bytes it was asked of: each argument's places are its own, and all, the hidden address's
+-- too, lie within the registers, the parameter area and the copies. proofs/Theorems.antt proves it. Assumes nothing.
 use Prim.Native.Nat.{ℕ, _+_, _≤_, _<_}
 use mathlib.Core.Path.{_≡_}
 use lib.ListN.{getD}
-use Rattle.conventions.specs.declared.Convention.{Convention}
+use Rattle.items.specs.Reading.{Reading}
 use Rattle.signature.specs.declared.Outcome.{Outcome}
+use Rattle.signature.specs.Signature.{Signature}
 use Rattle.places.specs.declared.Span.{Span}
 use Rattle.places.specs.declared.ResultPlaces.{ResultPlaces}
-use Rattle.places.specs.Step.{rulesOf}
+use Rattle.places.specs.Step.{rulesOf, fresh, areaOf}
 use Rattle.places.specs.Places.{Numbered}
 use Rattle.places.specs.Spots.{Spot, area, copies, Owns, imageSpot, ArgumentRegister}
 use Rattle.plan.specs.declared.Plan.{Plan}
-use Rattle.plan.specs.Plan.{noSpan}
+use Rattle.plan.specs.Plan.{noSpan, planAnswer}
 
 -- the span of argument i
 abbrev pub spanAt : Plan → ℕ → Span
@@ -23,14 +24,25 @@ pub record Disjoint (p : Plan) : Type 0 where
   pub image : (i j b : ℕ) → (i ≡ j → ⊥) → Owns (spanAt p i) (imageSpot b) → Owns (spanAt p j) (imageSpot b) → ⊥
   pub hidden : (s : Span) (i : ℕ) (x : Spot) → p .result ≡ ResultPlaces.Hidden s → Owns s x → Owns (spanAt p i) x → ⊥
 
--- each argument has registers that its convention names, of the image's 32 in each bank; its home and its copy lie within the
--- area and the copies, and what is in memory within its home
+abbrev pub PlansDisjoint : Type 0
+PlansDisjoint = (x : Reading Signature) → Disjoint (planAnswer x)
+
+-- a span has registers that the convention names for arguments, of the image's 32 in each bank; its home and its copy lie within
+-- the area and the copies, and what is in memory within its home
+pub record SpanWithin (p : Plan) (s : Span) : Type 0 where
+  pub registers : (x : Spot) → Owns s x → ArgumentRegister (rulesOf (p .convention)) x
+  pub numbered : Numbered s
+  pub area : (n : ℕ) → Owns s (area n) → n < p .area
+  pub copies : (n : ℕ) → Owns s (copies n) → n < p .copies
+  pub memory-from : s .home .start ≤ s .memory .start
+  pub memory-to : s .memory .start + s .memory .length ≤ s .home .start + s .home .length
+
+-- so do the span of each argument, and that of a hidden address
 pub record Within (p : Plan) : Type 0 where
-  pub registers : (i : ℕ) (x : Spot) → Owns (spanAt p i) x → ArgumentRegister (rulesOf (p .convention)) x
-  pub numbered : (i : ℕ) → Numbered (spanAt p i)
-  pub area : (i n : ℕ) → Owns (spanAt p i) (area n) → n < p .area
-  pub copies : (i n : ℕ) → Owns (spanAt p i) (copies n) → n < p .copies
-  pub memory-from : (i : ℕ) → spanAt p i .home .start ≤ spanAt p i .memory .start
-  pub memory-to : (i : ℕ) → spanAt p i .memory .start + spanAt p i .memory .length ≤ spanAt p i .home .start + spanAt p i .home .length
-  -- "8 times the larger of 8 and the final w"
-  pub least : (n : ℕ) → p .outcome ≡ Outcome.Accepted n → p .convention ≡ Convention.Ppc64 → 64 ≤ p .area
+  pub arguments : (i : ℕ) → SpanWithin p (spanAt p i)
+  pub hidden : (s : Span) → p .result ≡ ResultPlaces.Hidden s → SpanWithin p s
+  -- "8 times the larger of 8 and the final w": the area is never less than that of no arguments
+  pub least : (n : ℕ) → p .outcome ≡ Outcome.Accepted n → areaOf (rulesOf (p .convention)) (fresh (rulesOf (p .convention))) ≤ p .area
+
+abbrev pub PlansWithin : Type 0
+PlansWithin = (x : Reading Signature) → Within (planAnswer x)

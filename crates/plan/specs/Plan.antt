@@ -1,5 +1,5 @@
 -- The plan of a whole signature: a convention's step folded over the arguments from left to right. Document 01, "Places on
--- PPC64" and "Places on Z"; the step is the crate convention's. Assumes nothing.
+-- PPC64" and "Places on Z"; the step is the crate places'. Assumes nothing.
 use Prim.Native.Nat.{ℕ, _+_, _-_}
 use mathlib.Core.Bool.{Bool, false}
 use mathlib.Core.List.{List, [], _∷_, _++_, map}

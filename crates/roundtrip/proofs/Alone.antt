@@ -1,7 +1,7 @@
 -- Filling changes only named slots and copies, home only homes, and reading an argument looks at its own slots and copy alone.
 -- Assumes nothing.
 -- ---- filling
-use mathlib.Core.Path.{_≡_, refl, ap, ap₂, _∙_}
+use mathlib.Core.Path.{_≡_, refl, ap, _∙_}
 use mathlib.Core.Logic.{inl, inr}
 use mathlib.Core.Bool.{Bool, true, false}
 use mathlib.Core.List.{List, [], _∷_}
@@ -19,18 +19,11 @@ use Rattle.places.specs.Spots.{Spot, general, floating, area, copies}
 use Rattle.slots.specs.Buffers.{Buffers, Slot, generalAt, floatingAt, put, putAll, bytesAt}
 use Rattle.slots.specs.Forms.{floatValue, ownStart}
 use Rattle.slots.specs.Placements.{Placement, wordsAt, floatAt, addressAt, wordsValue, valueAt}
-use Rattle.slots.specs.declared.Answer.{Answer}
 use Rattle.slots.specs.Arguments.{argumentsOf, rulesFor}
 use Rattle.fill.specs.Fill.{filledSlots, fillBuffers}
 use Rattle.home.specs.Home.{homedBytes, homed, homeArea}
-use Rattle.roundtrip.specs.Places.{Byte, inImage, inArea, inCopies, Among, CoversFrom, Touches}
-use Rattle.roundtrip.specs.Views.{HomeTouches}
-
--- a byte of the buffers, 0 where there is none
-abbrev pub byteAt : Byte → Buffers → ℕ
-byteAt (inImage i) b = getD (b .image) i 0
-byteAt (inArea i) b = getD (b .area) i 0
-byteAt (inCopies i) b = getD (b .copies) i 0
+use Rattle.roundtrip.specs.Places.{Byte, inImage, inArea, inCopies, byteAt, Among, CoversFrom, Touches, FillOnly, ReadOwn}
+use Rattle.roundtrip.specs.Views.{HomeTouches, HomeOnly}
 
 splice-kept : (l : List ℕ) (n : ℕ) (bs : List ℕ) (i : ℕ) → (Among n (length bs) i → ⊥) → getD (splice l n bs) i 0 ≡ getD l i 0
 splice-kept l n bs i h = go (ltb i n) refl
@@ -64,9 +57,7 @@ all-kept [] b x h = refl
 all-kept (s ∷ ss) b x h =
     all-kept ss (put (s .spot) (s .bytes) b) x (λ t. h (inr t)) ∙ put-kept (s .spot) (s .bytes) b x (λ t. h (inl t))
 
--- "Filling changes only named slots and copies"
-pub fill-only : (s values : List ℕ) (base hidden : ℕ) (b : Buffers) (x : Byte) → (Touches (filledSlots s values base hidden) x → ⊥)
-    → byteAt x (fillBuffers s values base hidden Answer.Done b) ≡ byteAt x b
+pub fill-only : FillOnly
 unfolding fillBuffers
 fill-only s values base hidden b x h = all-kept (filledSlots s values base hidden) b x h
 
@@ -78,24 +69,26 @@ homed-only r [] image l i h = refl
 homed-only r (p ∷ ps) image l i h =
     homed-only r ps image (splice l (p .span .home .start) (homedBytes r p image)) i (λ t. h (inr t)) ∙ splice-kept l (p .span .home .start) (homedBytes r p image) i (λ t. h (inl t))
 
--- home changes only the homes of register doublewords: "all else stay"
-pub home-only : (s image l : List ℕ) (i : ℕ) → (HomeTouches (rulesFor s) (argumentsOf s) image i → ⊥) → getD (homeArea s Answer.Done image l) i 0 ≡ getD l i 0
+pub home-only : HomeOnly
 unfolding homeArea
 home-only s image l i h = homed-only (rulesFor s) (argumentsOf s) image l i h
 
 -- ---- reading
 
--- two sets of buffers that agree on an argument's own slots, and on its copy
-pub record Agree (base : ℕ) (p : Placement) (b c : Buffers) : Type 0 where
-  pub float : floatAt (p .span) b ≡ floatAt (p .span) c
-  pub words : wordsAt (p .span) b ≡ wordsAt (p .span) c
-  pub copy : bytesAt (copies (addressAt (p .span) b - base)) (p .size) b ≡ bytesAt (copies (addressAt (p .span) b - base)) (p .size) c
-
--- "reading follows the same rules": the value depends on these bytes alone
-pub read-own : (r : Rules) (base : ℕ) (p : Placement) (b c : Buffers) → Agree base p b c → valueAt r base p b ≡ valueAt r base p c
+pub read-own : ReadOwn
 unfolding valueAt wordsValue
-read-own r base p b c h =
-    let copied : bytesAt (copies (addressAt (p .span) b - base)) (p .size) b ≡ bytesAt (copies (addressAt (p .span) c - base)) (p .size) c =
-    h .copy ∙ ap (λ (l : List ℕ). bytesAt (copies (valueOf l - base)) (p .size) c) (h .words) in
-    ap₂ (pick (ltb 0 (p .span .floating .count))) (ap (floatValue r (p .ty)) (h .float))
-    (ap₂ (pick (p .span .indirect)) copied (ap (part (ownStart r (p .ty) (p .size)) (p .size)) (h .words)))
+read-own r base p b c h = go (ltb 0 (p .span .floating .count)) refl
+  where
+    inWords : (i : Bool) → p .span .indirect ≡ i
+        → pick i (bytesAt (copies (addressAt (p .span) b - base)) (p .size) b) (part (ownStart r (p .ty) (p .size)) (p .size) (wordsAt (p .span) b))
+        ≡ pick i (bytesAt (copies (addressAt (p .span) c - base)) (p .size) c) (part (ownStart r (p .ty) (p .size)) (p .size) (wordsAt (p .span) c))
+    inWords true q = h .copy q ∙ ap (λ (l : List ℕ). bytesAt (copies (valueOf l - base)) (p .size) c) (h .words)
+    inWords false q = ap (part (ownStart r (p .ty) (p .size)) (p .size)) (h .words)
+
+    go : (f : Bool) → ltb 0 (p .span .floating .count) ≡ f
+        → pick f (floatValue r (p .ty) (floatAt (p .span) b))
+        (pick (p .span .indirect) (bytesAt (copies (addressAt (p .span) b - base)) (p .size) b) (part (ownStart r (p .ty) (p .size)) (p .size) (wordsAt (p .span) b)))
+        ≡ pick f (floatValue r (p .ty) (floatAt (p .span) c))
+        (pick (p .span .indirect) (bytesAt (copies (addressAt (p .span) c - base)) (p .size) c) (part (ownStart r (p .ty) (p .size)) (p .size) (wordsAt (p .span) c)))
+    go true q = ap (floatValue r (p .ty)) (h .float (ltb-true 0 (p .span .floating .count) q))
+    go false q = inWords (p .span .indirect) refl

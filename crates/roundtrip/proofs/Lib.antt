@@ -6,3 +6,5 @@ pub mod Theorems
 pub mod Places
 pub mod Alone
 pub mod Views
+pub mod Hidden
+pub mod Some

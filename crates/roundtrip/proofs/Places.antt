@@ -30,7 +30,7 @@ use Rattle.slots.specs.Limits.{Held, All}
 use Rattle.slots.specs.Forms.{floatBytes}
 use Rattle.slots.specs.Arguments.{argumentsIn, argumentsOf, rulesFor, Carried}
 use Rattle.slots.proofs.Answered.{arguments-got, carried}
-use Rattle.roundtrip.specs.Places.{Byte, inImage, inArea, inCopies, CoversFrom, Touches, slotLists}
+use Rattle.roundtrip.specs.Places.{Byte, inImage, inArea, inCopies, CoversFrom, Touches, slotLists, SlotsApart}
 use Rattle.roundtrip.proofs.Kept.{Upto, Banked, AllLater, all-later, take-short}
 
 -- ---- one slot on each side of a cursor
@@ -165,9 +165,7 @@ sorted s base v i j x l = go (signatureOf s) (carried s)
         (subst (λ (ps : List Placement). Touches (getD (slotLists (rulesOf c) base ps v) j []) x) same b)
     go (no reason place) h a b = none-touched base v reason place i x a
 
--- THE PLACES: distinct arguments never share a byte of a register, slot or copy, whatever the signature and the values
-pub slots-apart : (s : List ℕ) (base : ℕ) (v : List ℕ) (i j : ℕ) (x : Byte) → (i ≡ j → ⊥)
-    → Touches (getD (slotLists (rulesFor s) base (argumentsOf s) v) i []) x → Touches (getD (slotLists (rulesFor s) base (argumentsOf s) v) j []) x → ⊥
+pub slots-apart : SlotsApart
 slots-apart s base v i j x h a b = go (ltb i j) refl
   where
     go : (t : Bool) → ltb i j ≡ t → ⊥

@@ -37,11 +37,11 @@ use Rattle.slots.specs.Refusals.{firstOf, orElse, firstOfAll, afterReading}
 use Rattle.slots.specs.Arguments.{argumentsIn, argumentsOf, planFor, rulesFor, Carried}
 use Rattle.slots.proofs.Buffers.{SameLengths, same-then, putAll-lengths, putAll-append}
 use Rattle.slots.proofs.Answered.{carried, arguments-got}
-use Rattle.fill.specs.Fill.{lengths, fillTests, fillAnswer, filledSlots, fillBuffers}
+use Rattle.fill.specs.Fill.{lengths, fillAnswer, filledSlots, fillBuffers}
 use Rattle.fill.proofs.Accepted.{Lent, tests-passed}
 use Rattle.read.specs.declared.Sizes.{Sizes}
 use Rattle.read.specs.Read.{sizes, argumentAnswer, argumentsAnswer, readTests, readAnswer, readValues}
-use Rattle.roundtrip.specs.RoundTrip.{Filled, left, ReadBack}
+use Rattle.roundtrip.specs.RoundTrip.{Filled, left, ReadAfterFill}
 use Rattle.roundtrip.proofs.Kept.{all-later}
 use Rattle.roundtrip.proofs.Arguments.{Stands, Given, stands-put, stands-done, stands-value, Behind, stands-kept, AllPut, given-same}
 
@@ -84,7 +84,7 @@ split-whole n v =
     ap (λ (l : List ℕ). take n v ++ l) (sym (take-all m (drop n v) (omega arith)))
     ∙ sym (take-add n m v) ∙ take-all (n + m) v (omega (arith, length-drop n v))
 
-bytes-drop : (n : ℕ) (v : List ℕ) → Bytes v → Bytes (drop n v)
+pub bytes-drop : (n : ℕ) (v : List ℕ) → Bytes v → Bytes (drop n v)
 bytes-drop n v h = subst Bytes (take-all (length (drop n v)) (drop n v) (omega arith)) (bytes-part n (length (drop n v)) v h)
 
 -- every argument stands once all are put: those after it leave its slots
@@ -149,11 +149,11 @@ read-tests : (have : Sizes) (values area : ℕ) → have .image ≡ 512 → have
 unfolding firstOf readTests
 read-tests have values area i v a = simp (eq-eqb _ _ i, eq-eqb _ _ v, le-ltb _ _ a)
 
-reading-done : (o : Outcome) (x : Answer) → afterReading o x ≡ Answer.Done → (y : Answer) → y ≡ Answer.Done → (x ≡ Answer.Done) × (afterReading o y ≡ Answer.Done)
+pub reading-done : (o : Outcome) (x : Answer) → afterReading o x ≡ Answer.Done → (y : Answer) → y ≡ Answer.Done → (x ≡ Answer.Done) × (afterReading o y ≡ Answer.Done)
 reading-done (Outcome.Accepted n) x e y q = (e, q)
 reading-done (Outcome.Refused reason place) x e y q = let z : _≡_ {A = ℕ} 0 1 = cc in absurd (omega arith)
 
-overlay-whole : (l bs : List ℕ) → length l ≡ length bs → overlay l bs ≡ bs
+pub overlay-whole : (l bs : List ℕ) → length l ≡ length bs → overlay l bs ≡ bs
 overlay-whole l bs e =
     let short : length l ≤ length bs = omega arith in
     let none : drop (length bs) l ≡ [] = drop-of-length-le l short in
@@ -201,8 +201,14 @@ pub record Left (s values : List ℕ) (base : ℕ) (b : Buffers) : Type 0 where
   pub total : length values ≡ planFor s .values
   pub area : planFor s .area ≤ length (b .area)
 
+-- the lent buffers have the lengths that the plan asks for
+pub filled-lent : (s values image area copies : List ℕ) (base hidden : ℕ) → Filled s values image area copies base hidden → Lent (lengths values image area copies) (planFor s) base
+unfolding fillAnswer
+filled-lent s values image area copies base hidden h =
+    tests-passed (lengths values image area copies) (planFor s) base (h .low) (reading-done (planFor s .outcome) _ (h .accepted) Answer.Done refl .0)
+
 pub filled-left : (s values image area copies : List ℕ) (base hidden : ℕ) → Filled s values image area copies base hidden → Left s values base (left s values image area copies base hidden)
-unfolding fillAnswer fillBuffers filledSlots
+unfolding fillBuffers filledSlots
 filled-left s values image area copies base hidden h =
     let p : Plan = planFor s in
     let b : Buffers = buffers image area copies in
@@ -211,9 +217,7 @@ filled-left s values image area copies base hidden h =
     let b0 : Buffers = putAll hs b in
     let l0 : SameLengths b b0 = putAll-lengths hs b in
     let l : SameLengths b (putAll (hs ++ ss) b) = putAll-lengths (hs ++ ss) b in
-    let tests : firstOf (fillTests (lengths values image area copies) (p .values) (p .area) (p .copies) base) ≡ Answer.Done =
-    reading-done (p .outcome) _ (h .accepted) Answer.Done refl .0 in
-    let lent : Lent (lengths values image area copies) p base = tests-passed (lengths values image area copies) p base (h .low) tests in
+    let lent : Lent (lengths values image area copies) p base = filled-lent s values image area copies base hidden h in
     let put = plan-put s base values b0 (h .bytes) (lent .values) (l0 .image ∙ lent .image) (omega (arith, lent .area, l0 .area)) (omega (arith, lent .copies, l0 .copies)) (lent .low) in
     record {
       all = rw (putAll-append hs ss b) put;
@@ -232,10 +236,7 @@ pub values-total : (s : List ℕ) → sizesOf (argumentsOf s) ≡ planFor s .val
 unfolding argumentsOf
 values-total s = carried s .total
 
--- THE ROUND TRIP: for all inputs that fill accepts, read with the same signature and copy base on what fill left accepts, and gives the
--- values back, all of them
-pub read-after-fill : (s values image area copies into : List ℕ) (base hidden : ℕ) → Filled s values image area copies base hidden → length into ≡ length values
-    → ReadBack s values base (left s values image area copies base hidden) into
+pub read-after-fill : ReadAfterFill
 unfolding readAnswer readValues
 read-after-fill s values image area copies into base hidden h size =
     let p : Plan = planFor s in

@@ -7,12 +7,17 @@ use Prim.Native.Nat.{ℕ, zero, suc, _+_, _-_, _*_, _≤_, _<_}
 use native.Mathlib.Omega.{arith}
 use borrow.Author.Tests.{lt-ltb, le-ltb, ltb-true, ltb-false, eq-eqb, lt-leb}
 use lib.Dec.{ltb}
-use lib.ListN.{length, getD, take, drop, length-drop}
+use lib.ListN.{length, getD, take, drop, length-drop, length-append}
+use lib.Seq.{take-at, drop-at}
 use Rattle.words.specs.Basics.{pick}
 use Rattle.words.specs.Splice.{splice, part}
-use Rattle.words.specs.Numbers.{valueOf}
+use Rattle.words.specs.Numbers.{Bytes, valueOf}
 use Rattle.words.proofs.Splices.{splice-same, splice-other, length-splice, length-part, part-add, part-part}
+use Rattle.words.proofs.Numbers.{bytes-bytesOf, bytes-part}
+use Rattle.ieee.specs.declared.Narrowed.{Narrowed}
+use Rattle.ieee.specs.Narrowing.{narrow}
 use Rattle.conventions.specs.declared.Convention.{Convention}
+use Rattle.types.specs.declared.Equivalent.{Equivalent}
 use Rattle.types.specs.declared.ValueType.{ValueType}
 use Rattle.types.specs.Sizes.{sizeOf, equivalentOf}
 use Rattle.items.specs.Reading.{Reading, got, no}
@@ -24,54 +29,72 @@ use Rattle.places.specs.declared.Cursor.{Cursor}
 use Rattle.places.specs.declared.Rules.{Rules}
 use Rattle.places.specs.declared.ResultPlaces.{ResultPlaces}
 use Rattle.places.specs.declared.Span.{Span}
-use Rattle.places.specs.Values.{pointer}
 use Rattle.places.specs.Power.{words}
-use Rattle.places.specs.Step.{ppc64, rulesOf, spanOf, nextOf, fresh, startOf, hiddenFor, returning, resultOf}
+use Rattle.places.specs.Step.{ppc64, rulesOf, spanOf, nextOf, fresh, startOf}
 use Rattle.plan.specs.declared.Plan.{Plan}
+use Rattle.plan.proofs.Theorems.{hidden-address}
 use Rattle.plan.specs.Plan.{spansOf, resultIn, startIn, planIn, planAnswer, typesOf}
 use Rattle.slots.specs.declared.Answer.{Answer}
 use Rattle.slots.specs.Buffers.{Buffers, buffers, bytesAt}
-use Rattle.slots.specs.Forms.{roomOf, startsAtHead, homeBytes, ownStart, floatValueAs, floatValue}
-use Rattle.slots.specs.Placements.{Placement, placements, wordsAt}
-use Rattle.slots.specs.Limits.{All}
-use Rattle.slots.specs.Refusals.{firstOf, orElse, firstOfAll, floatAnswer, isDone}
+use Rattle.slots.specs.Forms.{roomOf, startsAtHead, homeBytes, ownStart, narrowedBytes, floatValueAs, floatValue}
+use Rattle.slots.specs.Placements.{Placement, placements, wordsAt, floatAt, wordsValue, valueAt, valuesAt}
+use Rattle.slots.specs.Limits.{Held, All, sizesOf}
+use Rattle.slots.specs.Refusals.{firstOf, orElse, firstOfAll, floatAnswer, afterReading, isDone}
 use Rattle.slots.specs.Arguments.{argumentsIn, argumentsOf, planFor, rulesFor, Carried}
 use Rattle.slots.proofs.Answered.{carried, arguments-got}
 use Rattle.slots.proofs.Refusals.{or-done}
 use Rattle.slots.proofs.Turns.{next-argument}
-use Rattle.read.specs.Read.{wordsAnswer, argumentAnswer, argumentsAnswer}
+use Rattle.unmarshal.specs.Readable.{Readable}
+use Rattle.unmarshal.proofs.Arguments.{value-length}
+use Rattle.read.specs.declared.Sizes.{Sizes}
+use Rattle.read.specs.Read.{sizes, wordsAnswer, argumentAnswer, argumentsAnswer, readTests, readAnswer, readValues}
+use Rattle.read.proofs.Arguments.{all-readable}
+use Rattle.read.proofs.Accepted.{tests-passed, all-ready}
 use Rattle.home.specs.Home.{registerAnswer, registersAnswer, homeTests, homeAnswer, homedBytes, homed, homeArea, Homed}
 use Rattle.home.specs.View.{viewTests, viewAnswer, noArgument, ownBytes, viewOf}
 use Rattle.home.proofs.Homed.{homed-all, reading-done}
 use Rattle.home.proofs.Registers.{homed-general, home-passed}
-use Rattle.roundtrip.specs.RoundTrip.{Filled, left}
-use Rattle.roundtrip.specs.Views.{valueLists, homedArea, Viewed}
-use Rattle.roundtrip.proofs.Forms.{float-back, own-back, length-home}
-use Rattle.roundtrip.proofs.Arguments.{float-stands, own-value, Put, AllPut, given-same}
-use Rattle.roundtrip.proofs.Theorems.{put-back, values-total, Left, filled-left, filled-answer}
+use Rattle.roundtrip.specs.RoundTrip.{left}
+use Rattle.roundtrip.specs.Places.{Agree}
+use Rattle.roundtrip.specs.Views.{valueLists, homedArea, Viewed, ViewAfterHome, ViewAsRead, HiddenStays}
+use Rattle.roundtrip.proofs.Alone.{read-own}
+use Rattle.roundtrip.proofs.Forms.{own-back, length-home}
+use Rattle.roundtrip.proofs.Theorems.{reading-done as answer-passed, bytes-drop, put-back, overlay-whole, values-total, Left, filled-left, filled-answer}
 
 -- ---- one argument
 
-module _ (base : ℕ) (p : Placement) (v : List ℕ) (b : Buffers) (a : ℕ) (h : Put ppc64 base p v b) (m : Homed a p) where
+-- an argument of PPC64 that is read as v; a value in an FPR is made of bytes
+record Shows (base : ℕ) (p : Placement) (v : List ℕ) (b : Buffers) : Type 0 where
+  held : Held ppc64 p
+  registers : p .span .general .first + p .span .general .count ≤ 32
+  image : length (b .image) ≡ 512
+  size : length v ≡ p .size
+  bytes : 0 < p .span .floating .count → Bytes v
+  value : valueAt ppc64 base p b ≡ v
+
+module _ (base : ℕ) (p : Placement) (v : List ℕ) (b : Buffers) (a : ℕ) (h : Shows base p v b) (m : Homed a p) where
+  float-value : 0 < p .span .floating .count → floatValue ppc64 (p .ty) (floatAt (p .span) b) ≡ v
+  unfolding valueAt
+  float-value some = rw (lt-ltb 0 (p .span .floating .count) some) at (h .value)
+
+  words-value : p .span .floating .count ≤ 0 → part (ownStart ppc64 (p .ty) (p .size)) (p .size) (wordsAt (p .span) b) ≡ v
+  unfolding valueAt wordsValue wordsAt
+  words-value none = rw (le-ltb 0 (p .span .floating .count) none, m .direct) at (h .value)
+
   -- a float's home holds the value in its memory form
   float-homed : 0 < p .span .floating .count → homedBytes ppc64 p (b .image) ≡ homeBytes ppc64 (p .ty) (p .size) v
-  unfolding homedBytes floatValue bytesAt
-  float-homed some =
-      let one : p .span .floating .count ≡ 1 = omega (arith, h .given .held .floats) in
-      let bits = float-stands ppc64 base p v b (h .given) b (h .stands) refl some in
-      simp (lt-ltb 0 (p .span .floating .count) some)
-      (ap (homeBytes ppc64 (p .ty) (p .size))
-      (ap (floatValueAs ppc64 (equivalentOf (p .ty))) bits ∙ float-back ppc64 (equivalentOf (p .ty)) v (rw (h .given .size) (h .given .held .float one)) (h .given .bytes) .1))
+  unfolding homedBytes bytesAt
+  float-homed some = simp (lt-ltb 0 (p .span .floating .count) some) (ap (homeBytes ppc64 (p .ty) (p .size)) (float-value some))
 
   float-length : length (homeBytes ppc64 (p .ty) (p .size) v) ≡ roomOf ppc64 (p .size)
   float-length =
-      ap (λ (n : ℕ). length (homeBytes ppc64 (p .ty) n v)) (sym (h .given .size))
-      ∙ length-home ppc64 (p .ty) v (λ e. rw (h .given .size) (m .least))
-      ∙ ap (roomOf ppc64) (h .given .size)
+      ap (λ (n : ℕ). length (homeBytes ppc64 (p .ty) n v)) (sym (h .size))
+      ∙ length-home ppc64 (p .ty) v (λ e. rw (h .size) (m .least))
+      ∙ ap (roomOf ppc64) (h .size)
 
   registers-length : length (part (8 * p .span .general .first) (8 * p .span .general .count) (b .image)) ≡ 8 * p .span .general .count
   registers-length =
-      length-part (8 * p .span .general .first) (8 * p .span .general .count) (b .image) (omega (arith, h .given .fits .general, h .given .image))
+      length-part (8 * p .span .general .first) (8 * p .span .general .count) (b .image) (omega (arith, h .registers, h .image))
 
   -- home writes no further than the argument's home
   homed-length : length (homedBytes ppc64 p (b .image)) ≤ roomOf ppc64 (p .size)
@@ -82,7 +105,7 @@ module _ (base : ℕ) (p : Placement) (v : List ℕ) (b : Buffers) (a : ℕ) (h 
       go false q =
           let none : p .span .floating .count ≤ 0 = ltb-false 0 (p .span .floating .count) q in
           let no : p .span .floating .count ≡ 0 = omega arith in
-          rw (homed-general p (b .image) none) (omega (arith, registers-length, h .given .held .words no))
+          rw (homed-general p (b .image) none) (omega (arith, registers-length, h .held .words no))
 
   own-within : ownStart ppc64 (p .ty) (p .size) + p .size ≤ roomOf ppc64 (p .size)
   unfolding ownStart
@@ -105,8 +128,8 @@ module _ (base : ℕ) (p : Placement) (v : List ℕ) (b : Buffers) (a : ℕ) (h 
         ∙ ap (λ (n : ℕ). part start n (splice (b .area) start hs)) (sym float-length)
         ∙ splice-same (b .area) start hs (omega (arith, float-length, m .within)) in
         ap (part (ownStart ppc64 (p .ty) (p .size)) (p .size)) whole
-        ∙ ap (λ (n : ℕ). part (ownStart ppc64 (p .ty) n) n (homeBytes ppc64 (p .ty) n v)) (sym (h .given .size))
-        ∙ own-back ppc64 (p .ty) v (h .given .bytes) (λ e. rw (h .given .size) (h .given .held .small e (m .direct) .1, h .given .held .end e))
+        ∙ ap (λ (n : ℕ). part (ownStart ppc64 (p .ty) n) n (homeBytes ppc64 (p .ty) n v)) (sym (h .size))
+        ∙ own-back ppc64 (p .ty) v (h .bytes some) (λ e. rw (h .size) (h .held .small e (m .direct) .1, h .held .end e))
 
     words-own : p .span .floating .count ≤ 0 → part (ownStart ppc64 (p .ty) (p .size)) (p .size) (part (p .span .home .start) (roomOf ppc64 (p .size)) l) ≡ v
     unfolding wordsAt bytesAt
@@ -116,7 +139,7 @@ module _ (base : ℕ) (p : Placement) (v : List ℕ) (b : Buffers) (a : ℕ) (h 
         let n : ℕ = p .span .memory .length in
         let ws : List ℕ = part (8 * p .span .general .first) k (b .image) in
         let no : p .span .floating .count ≡ 0 = omega arith in
-        let all : k + n ≡ roomOf ppc64 (p .size) = h .given .held .words no in
+        let all : k + n ≡ roomOf ppc64 (p .size) = h .held .words no in
         let after : p .span .memory .start ≡ start + k = m .follows no in
         let put : List ℕ = splice (b .area) start ws in
         let first : part start k put ≡ ws = ap (λ (z : ℕ). part start z put) (sym registers-length) ∙ splice-same (b .area) start ws (omega (arith, registers-length, m .within)) in
@@ -128,9 +151,9 @@ module _ (base : ℕ) (p : Placement) (v : List ℕ) (b : Buffers) (a : ℕ) (h 
         ∙ ap (λ (z : ℕ). part start z put) (sym all)
         ∙ part-add start k n put
         ∙ ap₂ (λ (x y : List ℕ). x ++ y) first second in
-        ap (part (ownStart ppc64 (p .ty) (p .size)) (p .size)) whole ∙ own-value ppc64 base p v b (h .given) b (h .stands) refl none (m .direct)
+        ap (part (ownStart ppc64 (p .ty) (p .size)) (p .size)) whole ∙ words-value none
 
-    pub home-own : ownBytes ppc64 p l ≡ v
+    home-own : ownBytes ppc64 p l ≡ v
     home-own =
         sym (part-part (p .span .home .start) (roomOf ppc64 (p .size)) (ownStart ppc64 (p .ty) (p .size)) (p .size) l own-within) ∙ go (ltb 0 (p .span .floating .count)) refl
       where
@@ -140,7 +163,7 @@ module _ (base : ℕ) (p : Placement) (v : List ℕ) (b : Buffers) (a : ℕ) (h 
         go false q = words-own (ltb-false 0 (p .span .floating .count) q)
 
   -- ---- writes below its home leave it
-  abbrev pub over : ℕ → List ℕ → Buffers
+  abbrev over : ℕ → List ℕ → Buffers
   over n bs = buffers (b .image) (splice (b .area) n bs) (b .copies)
 
   memory-kept : (n : ℕ) (bs : List ℕ) → n + length bs ≤ p .span .home .start
@@ -151,26 +174,37 @@ module _ (base : ℕ) (p : Placement) (v : List ℕ) (b : Buffers) (a : ℕ) (h 
           → part (p .span .memory .start) (p .span .memory .length) (splice (b .area) n bs) ≡ part (p .span .memory .start) (p .span .memory .length) (b .area)
       go true q =
           let some : 0 < p .span .floating .count = ltb-true 0 (p .span .floating .count) q in
-          let one : p .span .floating .count ≡ 1 = omega (arith, h .given .held .floats) in
-          rw (h .given .held .alone one .1)
+          let one : p .span .floating .count ≡ 1 = omega (arith, h .held .floats) in
+          rw (h .held .alone one .1)
       go false q =
           let none : p .span .floating .count ≤ 0 = ltb-false 0 (p .span .floating .count) q in
           let no : p .span .floating .count ≡ 0 = omega arith in
           splice-other (b .area) n bs (p .span .memory .start) (p .span .memory .length) (inr (omega (arith, m .follows no)))
 
-  pub put-over : (n : ℕ) (bs : List ℕ) → n + length bs ≤ p .span .home .start → Put ppc64 base p v (over n bs)
-  unfolding bytesAt
-  put-over n bs l = record {
-    given = given-same ppc64 base p v b (over n bs) (record { image = refl; area = length-splice (b .area) n bs; copies = refl }) (h .given);
-    stands = record {
-      floats = h .stands .floats;
-      registers = h .stands .registers;
-      memory = memory-kept n bs l ∙ h .stands .memory;
-      copy = h .stands .copy;
-    };
+  agree-over : (n : ℕ) (bs : List ℕ) → n + length bs ≤ p .span .home .start → Agree base p (over n bs) b
+  unfolding wordsAt bytesAt
+  agree-over n bs l = record {
+    float = λ some. refl;
+    words = ap (λ (x : List ℕ). part (8 * p .span .general .first) (8 * p .span .general .count) (b .image) ++ x) (memory-kept n bs l);
+    copy = λ q. let z : _≡_ {A = ℕ} 0 1 = cc (m .direct, q) in absurd (omega arith);
+  }
+
+  shows-over : (n : ℕ) (bs : List ℕ) → n + length bs ≤ p .span .home .start → Shows base p v (over n bs)
+  shows-over n bs l = record {
+    held = h .held;
+    registers = h .registers;
+    image = h .image;
+    size = h .size;
+    bytes = h .bytes;
+    value = read-own ppc64 base p (over n bs) b (agree-over n bs l) ∙ h .value;
   }
 
 -- ---- several, whose homes follow each other
+
+-- each of several is read as the next part of v
+unfoldable AllShow : ℕ → List Placement → List ℕ → Buffers → Type 0
+AllShow base [] v b = Unit {0}
+AllShow base (p ∷ ps) v b = Shows base p (take (p .size) v) b × AllShow base ps (drop (p .size) v) b
 
 unfoldable HomesFrom : ℕ → List Placement → Type 0
 HomesFrom n [] = Unit {0}
@@ -194,18 +228,18 @@ homed-kept (p ∷ ps) n q m image l h k =
     homed-kept ps (p .span .home .start + roomOf ppc64 (p .size)) q m image (splice l (p .span .home .start) (homedBytes ppc64 p image)) (h .1) (omega (arith, h .0))
     ∙ splice-other l (p .span .home .start) (homedBytes ppc64 p image) q m (inl (omega (arith, h .0)))
 
-all-over : (base : ℕ) (ps : List Placement) (v : List ℕ) (b : Buffers) (a m n : ℕ) (bs : List ℕ) → AllPut ppc64 base ps v b → All (Homed a) ps → HomesFrom m ps → n + length bs ≤ m
-    → AllPut ppc64 base ps v (buffers (b .image) (splice (b .area) n bs) (b .copies))
-unfolding AllPut All HomesFrom
+all-over : (base : ℕ) (ps : List Placement) (v : List ℕ) (b : Buffers) (a m n : ℕ) (bs : List ℕ) → AllShow base ps v b → All (Homed a) ps → HomesFrom m ps → n + length bs ≤ m
+    → AllShow base ps v (buffers (b .image) (splice (b .area) n bs) (b .copies))
+unfolding AllShow All HomesFrom
 all-over base [] v b a m n bs h homes from l = tt
 all-over base (p ∷ ps) v b a m n bs h homes from l = (
-  put-over base p (take (p .size) v) b a (h .0) (homes .0) n bs (omega (arith, from .0)),
+  shows-over base p (take (p .size) v) b a (h .0) (homes .0) n bs (omega (arith, from .0)),
   all-over base ps (drop (p .size) v) b a (p .span .home .start + roomOf ppc64 (p .size)) n bs (h .1) (homes .1) (from .1) (omega (arith, from .0)),
 )
 
-views : (base : ℕ) (ps : List Placement) (v : List ℕ) (b : Buffers) (a m : ℕ) → AllPut ppc64 base ps v b → All (Homed a) ps → HomesFrom m ps → a ≤ length (b .area)
+views : (base : ℕ) (ps : List Placement) (v : List ℕ) (b : Buffers) (a m : ℕ) → AllShow base ps v b → All (Homed a) ps → HomesFrom m ps → a ≤ length (b .area)
     → (i : ℕ) → i < length ps → ownBytes ppc64 (getD ps i noArgument) (homed ppc64 ps (b .image) (b .area)) ≡ getD (valueLists ps v) i []
-unfolding AllPut All HomesFrom homed valueLists
+unfolding AllShow All HomesFrom homed valueLists
 views base [] v b a m h homes from room i l = absurd (omega arith)
 views base (p ∷ ps) v b a m h homes from room zero l =
     let l1 : List ℕ = splice (b .area) (p .span .home .start) (homedBytes ppc64 p (b .image)) in
@@ -294,50 +328,131 @@ view-shows : (s area : List ℕ) (i : ℕ) (v : List ℕ) → viewAnswer s (leng
 unfolding viewOf
 view-shows s area i v done e = ap (λ (a : Answer). pick (isDone a) (ownBytes (rulesFor s) (getD (argumentsOf s) i noArgument) area) []) done ∙ e
 
--- THE VIEWS: for all inputs that fill accepts on PPC64, home of what fill left accepts, and each argument's view is accepted and is its value
-pub view-after-home : (s values image area copies : List ℕ) (base hidden : ℕ) → Filled s values image area copies base hidden
-    → signatureAnswer (signatureOf s) .convention ≡ Convention.Ppc64 → Viewed s values (left s values image area copies base hidden)
+-- the bytes of a value in an FPR
+abbrev FloatBytes : ℕ → Buffers → Placement → Type 0
+FloatBytes base b p = 0 < p .span .floating .count → Bytes (valueAt ppc64 base p b)
+
+-- what can be read is read as the parts of its values
+all-show : (base : ℕ) (ps : List Placement) (b : Buffers) → All (λ (p : Placement). Readable ppc64 base p b) ps → All (FloatBytes base b) ps
+    → AllShow base ps (valuesAt ppc64 base ps b) b
+unfolding All AllShow valuesAt
+all-show base [] b h bytes = tt
+all-show base (p ∷ ps) b h bytes =
+    let x : List ℕ = valueAt ppc64 base p b in
+    let rest : List ℕ = valuesAt ppc64 base ps b in
+    let size : length x ≡ p .size = value-length ppc64 base p b (h .0) in
+    let r : Readable ppc64 base p b = h .0 in
+    let shows : Shows base p x b = record { held = r .ready .held; registers = r .ready .general; image = r .ready .registers; size = size; bytes = bytes .0; value = refl } in (
+      subst (λ (v : List ℕ). Shows base p v b) (sym (take-at x rest (p .size) size)) shows,
+      subst (λ (v : List ℕ). AllShow base ps v b) (sym (drop-at x rest (p .size) size)) (all-show base ps b (h .1) (bytes .1)),
+    )
+
+bytes-each : (base : ℕ) (ps : List Placement) (b : Buffers) → All (λ (p : Placement). Readable ppc64 base p b) ps → Bytes (valuesAt ppc64 base ps b) → All (FloatBytes base b) ps
+unfolding All valuesAt
+bytes-each base [] b h bytes = tt
+bytes-each base (p ∷ ps) b h bytes =
+    let x : List ℕ = valueAt ppc64 base p b in
+    let rest : List ℕ = valuesAt ppc64 base ps b in
+    let size : length x ≡ p .size = value-length ppc64 base p b (h .0) in (
+      λ some. subst Bytes (take-at x rest (p .size) size) (bytes-part 0 (p .size) (x ++ rest) bytes),
+      bytes-each base ps b (h .1) (subst Bytes (drop-at x rest (p .size) size) (bytes-drop (p .size) (x ++ rest) bytes)),
+    )
+
+narrowed-bytes : (n : Narrowed) → Bytes (narrowedBytes n)
+narrowed-bytes (Narrowed.Single x) = bytes-bytesOf 4 x
+narrowed-bytes Narrowed.NotWidened = λ i. omega arith
+
+float-bytes : (e : Equivalent) (bs : List ℕ) → Bytes bs → Bytes (floatValueAs ppc64 e bs)
+float-bytes Equivalent.Single bs h = narrowed-bytes (narrow (valueOf bs))
+float-bytes Equivalent.Double bs h = h
+float-bytes Equivalent.Nothing bs h = h
+
+image-bytes : (base : ℕ) (ps : List Placement) (b : Buffers) → Bytes (b .image) → All (FloatBytes base b) ps
+unfolding All valueAt floatValue bytesAt
+image-bytes base [] b h = tt
+image-bytes base (p ∷ ps) b h = (
+  λ some. rw (lt-ltb 0 (p .span .floating .count) some) (float-bytes (equivalentOf (p .ty)) _ (bytes-part (256 + 8 * p .span .floating .first) 8 (b .image) h)),
+  image-bytes base ps b h,
+)
+
+length-values : (r : Rules) (base : ℕ) (ps : List Placement) (b : Buffers) → All (λ (p : Placement). Readable r base p b) ps → length (valuesAt r base ps b) ≡ sizesOf ps
+unfolding All valuesAt sizesOf
+length-values r base [] b h = refl
+length-values r base (p ∷ ps) b h =
+    length-append (valueAt r base p b) (valuesAt r base ps b) ∙ rw (value-length r base p b (h .0), length-values r base ps b (h .1))
+
+-- every argument of a reading that nothing refuses can be read
+arguments-readable : (s : List ℕ) (base : ℕ) (b : Buffers) → length (b .image) ≡ 512 → planFor s .area ≤ length (b .area)
+    → argumentsAnswer (rulesFor s) base (argumentsOf s) b ≡ Answer.Done → All (λ (p : Placement). Readable (rulesFor s) base p b) (argumentsOf s)
+unfolding argumentsOf
+arguments-readable s base b image area done =
+    let ready = all-ready (signatureAnswer (signatureOf s)) (planFor s) (length (b .image)) (length (b .area)) (carried s) image area in
+    all-readable (rulesFor s) base b (argumentsOf s) (ready .each) done
+
+-- what can be read can be homed, and then each view is the value read
+viewed : (s : List ℕ) (base : ℕ) (b : Buffers) → signatureAnswer (signatureOf s) .convention ≡ Convention.Ppc64
+    → ((y : Answer) → y ≡ Answer.Done → afterReading (planFor s .outcome) y ≡ Answer.Done) → length (b .image) ≡ 512 → planFor s .area ≤ length (b .area)
+    → argumentsAnswer (rulesFor s) base (argumentsOf s) b ≡ Answer.Done
+    → (All (λ (p : Placement). Readable ppc64 base p b) (argumentsOf s) → All (FloatBytes base b) (argumentsOf s))
+    → Viewed s (valuesAt (rulesFor s) base (argumentsOf s) b) b
 unfolding homeAnswer viewAnswer homeArea
-view-after-home s values image area copies base hidden h power =
+viewed s base b power answer image area done bytes =
     let p : Plan = planFor s in
-    let b : Buffers = left s values image area copies base hidden in
-    let l : Left s values base b = filled-left s values image area copies base hidden h in
     let rules : rulesFor s ≡ ppc64 = ap rulesOf power in
-    let back = put-back (rulesFor s) base (argumentsOf s) values b (l .all) (l .total ∙ sym (values-total s)) in
-    let tests = home-tests (signatureAnswer (signatureOf s) .convention) (length (b .image)) (length (b .area)) (p .area) power (l .image) (l .area) in
+    let readable : All (λ (q : Placement). Readable ppc64 base q b) (argumentsOf s) =
+    subst (λ (r : Rules). All (λ (q : Placement). Readable r base q b) (argumentsOf s)) rules (arguments-readable s base b image area done) in
+    let tests = home-tests (signatureAnswer (signatureOf s) .convention) (length (b .image)) (length (b .area)) (p .area) power image area in
     let size : length (homedArea s b) ≡ length (b .area) = length-homed (rulesFor s) (argumentsOf s) (b .image) (b .area) in
     let answered : (i : ℕ) → i < signatureAnswer (signatureOf s) .count → viewAnswer s (length (homedArea s b)) i ≡ Answer.Done =
-    λ i k. filled-answer s values image area copies base hidden h _ (view-tests (signatureAnswer (signatureOf s) .convention) (signatureAnswer (signatureOf s) .count) i (length (homedArea s b)) (p .area) power k (omega (arith, l .area, size))) in
+    λ i k. answer _ (view-tests (signatureAnswer (signatureOf s) .convention) (signatureAnswer (signatureOf s) .count) i (length (homedArea s b)) (p .area) power k (omega (arith, area, size))) in
     record {
-      homed = filled-answer s values image area copies base hidden h _ (ap₂ orElse tests (registers-done (rulesFor s) base (argumentsOf s) b (back .0)));
+      homed = answer _ (ap₂ orElse tests (registers-done (rulesFor s) base (argumentsOf s) b done));
       accepted = answered;
       same = λ i k.
           view-shows s (homedArea s b) i _ (answered i k)
-          (subst (λ (r : Rules). ownBytes r (getD (argumentsOf s) i noArgument) (homed r (argumentsOf s) (b .image) (b .area)) ≡ getD (valueLists (argumentsOf s) values) i []) (sym rules)
-          (views base (argumentsOf s) values b (p .area) 0 (subst (λ (r : Rules). AllPut r base (argumentsOf s) values b) rules (l .all)) (homed-all s power) (homes-follow s 0 power (starts-any (signatureOf s))) (l .area) i (counted s i k)));
+          (subst (λ (r : Rules). ownBytes r (getD (argumentsOf s) i noArgument) (homed r (argumentsOf s) (b .image) (b .area)) ≡ getD (valueLists (argumentsOf s) (valuesAt r base (argumentsOf s) b)) i []) (sym rules)
+          (views base (argumentsOf s) (valuesAt ppc64 base (argumentsOf s) b) b (p .area) 0 (all-show base (argumentsOf s) b readable (bytes readable)) (homed-all s power) (homes-follow s 0 power (starts-any (signatureOf s))) area i (counted s i k)));
     }
+
+pub view-as-read : ViewAsRead
+unfolding readAnswer readValues
+view-as-read s into base b bytes accepted power =
+    let p : Plan = planFor s in
+    let have : Sizes = sizes into (b .image) (b .area) in
+    let passed = answer-passed (p .outcome) _ accepted Answer.Done refl .0 in
+    let both = or-done (firstOf (readTests have (p .values) (p .area))) (argumentsAnswer (rulesFor s) base (argumentsOf s) b) passed in
+    let lent = tests-passed have p (both .0) in
+    let back : Viewed s (valuesAt (rulesFor s) base (argumentsOf s) b) b =
+    viewed s base b power (λ y q. answer-passed (p .outcome) _ accepted y q .1) (lent .image) (lent .area) (both .1) (λ readable. image-bytes base (argumentsOf s) b bytes) in
+    let total = length-values (rulesFor s) base (argumentsOf s) b (arguments-readable s base b (lent .image) (lent .area) (both .1)) in
+    subst (λ (v : List ℕ). Viewed s v b) (sym (overlay-whole into _ (lent .values ∙ sym (values-total s) ∙ sym total))) back
+
+pub view-after-home : ViewAfterHome
+view-after-home s values image area copies base hidden h power =
+    let b : Buffers = left s values image area copies base hidden in
+    let l : Left s values base b = filled-left s values image area copies base hidden h in
+    let back = put-back (rulesFor s) base (argumentsOf s) values b (l .all) (l .total ∙ sym (values-total s)) in
+    let same : valuesAt ppc64 base (argumentsOf s) b ≡ values = subst (λ (r : Rules). valuesAt r base (argumentsOf s) b ≡ values) (ap rulesOf power) (back .1) in
+    subst (λ (v : List ℕ). Viewed s v b) (back .1)
+    (viewed s base b power (filled-answer s values image area copies base hidden h) (l .image) (l .area) (back .0)
+    (λ readable. bytes-each base (argumentsOf s) b readable (subst Bytes (sym same) (h .bytes))))
 
 -- ---- the hidden address
 
+address-word : (c : Convention) → c ≡ Convention.Ppc64 → 8 ≤ startOf (rulesOf c) true .stack
+unfolding startOf nextOf fresh words
+address-word Convention.Ppc64 q = omega arith
+address-word Convention.Z q = let z : _≡_ {A = ℕ} 0 1 = cc in absurd (omega arith)
+
 hidden-start : (c : Convention) (r : ResultType) (x : Span) → c ≡ Convention.Ppc64 → resultIn c r ≡ ResultPlaces.Hidden x → 8 ≤ startIn c r .stack
-unfolding resultOf startOf nextOf fresh words
-hidden-start Convention.Ppc64 ResultType.Nothing x q e = let z : _≡_ {A = ℕ} 0 1 = cc in absurd (omega arith)
-hidden-start Convention.Ppc64 (ResultType.Value t) x q e = go (hiddenFor ppc64 t) e
-  where
-    go : (b : Bool)
-        → pick b (ResultPlaces.Hidden (spanOf ppc64 (fresh ppc64) pointer 8)) (ResultPlaces.Registers (spanOf (returning ppc64) (fresh ppc64) t (sizeOf Convention.Ppc64 t))) ≡ ResultPlaces.Hidden x
-        → 8 ≤ startOf ppc64 b .stack
-    go true e = omega arith
-    go false e = let z : _≡_ {A = ℕ} 0 1 = cc in absurd (omega arith)
-hidden-start Convention.Z r x q e = let z : _≡_ {A = ℕ} 0 1 = cc in absurd (omega arith)
+hidden-start c r x q e = rw (hidden-address c r x e .1) (address-word c q)
 
 starts-hidden : (y : Reading Signature) (x : Span) → signatureAnswer y .convention ≡ Convention.Ppc64 → planAnswer y .result ≡ ResultPlaces.Hidden x → StartsFrom 8 y
 unfolding planAnswer planIn
 starts-hidden (got g next m) x q e = hidden-start (g .convention) (resultType (g .convention) (g .result)) x q e
 starts-hidden (no reason place) x q e = tt
 
--- "The hidden address's doubleword .. stay": where the result has a hidden address, home leaves the first doubleword, whatever it answers
-pub hidden-stays : (s image area : List ℕ) (x : Span) → planFor s .result ≡ ResultPlaces.Hidden x → part 0 8 (homeArea s (homeAnswer s image (length area)) image area) ≡ part 0 8 area
+pub hidden-stays : HiddenStays
 unfolding homeArea homeAnswer
 hidden-stays s image area x e = go (homeAnswer s image (length area)) refl
   where

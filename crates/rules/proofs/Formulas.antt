@@ -1,13 +1,14 @@
 -- Document 01's own formulas, held against the definitions over a convention's numbers. Its worked sizes are in the crate vectors.
 -- Assumes nothing.
-use Prim.Native.Nat.{ℕ, _+_, _-_, _*_, _/_, max}
+use Prim.Native.Nat.{ℕ, _+_, _-_, _*_, _/_, _%_, max}
 use mathlib.Core.Path.{_≡_, refl}
 use mathlib.Core.Bool.{not}
 use mathlib.Core.List.{[], _∷_}
 use native.Mathlib.Omega.{arith}
+use lib.ListN.{getD}
 use Rattle.words.specs.Basics.{roundUp}
 use Rattle.rules.specs.Rules.{ppc64, z, Frame, Registers}
-use Rattle.rules.specs.Frames.{firstGpr, firstFpr, savesCr, below, fullSize, gprAt, savesBy, saves, linkAt, wordSave, flag, withField}
+use Rattle.rules.specs.Frames.{firstGpr, firstFpr, savesCr, below, fullSize, gprAt, savesBy, saves, linkAt, wordSave, flag, returnAddress, preservedCondition, unitOf, withField}
 
 module _ (f : Frame) (s : ℕ) where
   -- "48 + max(64, P) + L + 8(32 - g) + 8(32 - m), rounded up to 16"
@@ -46,6 +47,23 @@ link-ppc64 o s = refl
 link-z : (o s : ℕ) → linkAt (z .linkage) z o s ≡ s + 120
 unfolding linkAt
 link-z o s = refl
+
+-- "The return address is LR, on Z r14."
+return-ppc64 : (r : Registers) → returnAddress (ppc64 .linkage) r ≡ r .lr
+return-ppc64 r = refl
+
+return-z : (r : Registers) → returnAddress (z .linkage) r ≡ getD (r .gpr) 14 0
+return-z r = refl
+
+-- "Preserved are .. CR fields 2 to 4"; on Z none
+abbrev fieldOf : ℕ → ℕ → ℕ
+fieldOf c n = c / unitOf n % 16
+
+condition-ppc64 : (c : ℕ) → preservedCondition (ppc64 .linkage) c ≡ fieldOf c 2 * 256 + fieldOf c 3 * 16 + fieldOf c 4
+condition-ppc64 c = omega arith
+
+condition-z : (c : ℕ) → preservedCondition (z .linkage) c ≡ 0
+condition-z c = refl
 
 -- condition field 0 is CR's top four bits, field 7 its lowest
 pub fields-worked : (withField 0 0 15 ≡ 4026531840) × (withField 4294967295 2 0 ≡ 4279238655) × (withField 4294967295 7 0 ≡ 4294967280)

@@ -1,23 +1,26 @@
 -- The laws of words read and written: what is copied word by word is a splice; a state's words, put one after the other, are all of them. Assumes nothing.
-use Prim.Native.Nat.{ℕ, zero, suc, _+_, _-_, _*_, _≤_, _<_}
+use Prim.Native.Nat.{ℕ, zero, suc, _+_, _-_, _*_, _%_, _^_, _≤_, _<_}
 use native.Mathlib.Numerals.{add-one}
 use native.Mathlib.Omega.{arith}
 use mathlib.Core.Path.{_≡_, refl, sym, ap, _∙_}
 use mathlib.Core.List.{List, [], _∷_, _++_}
-use lib.ListN.{length, getD, drop, set, length-append, drop-of-length-le}
-use lib.Seq.{drop-cons, take-all}
+use lib.ListN.{length, getD, drop, set, replicate, length-append, take-append-drop, drop-of-length-le}
+use lib.Seq.{drop-cons, drop-drop, take-all, set-append-left}
 use Rattle.words.specs.Splice.{overlay, splice, part}
-use Rattle.words.proofs.Splices.{splice-one, splice-nothing, splice-append, splice-next, splice-head}
+use Rattle.words.proofs.Splices.{length-part, splice-one, splice-nothing, splice-append, splice-next, splice-head}
+use Rattle.conventions.specs.declared.Convention.{Convention}
 use Rattle.rules.specs.declared.Frame.{Frame}
 use Rattle.rules.specs.declared.Registers.{Registers}
 use Rattle.rules.specs.Frames.{noFrame}
 use Rattle.machine.specs.declared.State.{State}
 use Rattle.machine.specs.declared.Refusal.{Refusal}
+use Rattle.machine.specs.declared.Answer.{Answer}
 use Rattle.machine.specs.declared.Answer.the-variants.{Accepted, Refused}
-use Rattle.machine.specs.Machine.{rulesOf, enterOutcome, writeRegisterOutcome, leaveOutcome, left}
+use Rattle.machine.specs.Answers.{settle}
+use Rattle.machine.specs.Machine.{rulesOf, startAnswer, started, notStarted, startOutcome, enterOutcome, writeRegisterOutcome, leaveOutcome, left}
 use Rattle.machine.proofs.States.{enter-yes, leave-yes}
-use Rattle.word_layout.specs.Words.{codeOf, frameIn, framesIn, stateIn, registerWords, frameWords, framesWords, stateWords, withRegisters}
-use Rattle.word_layout.specs.Calls.{changed, enterWords, writeRegisterWords, leaveWords}
+use Rattle.word_layout.specs.Words.{codeOf, registersIn, frameIn, framesIn, stateIn, registerWords, frameWords, framesWords, stateWords, withRegisters}
+use Rattle.word_layout.specs.Calls.{changed, refusedWords, startWords, enterWords, writeRegisterWords, leaveWords}
 
 -- ---- lengths and shape
 
@@ -134,6 +137,55 @@ module _ (l : List ℕ) (s : State) (n : length l ≡ 262) (r : length (register
       = sym (splice-next l 0 (codeOf (s .convention)) (s .base ∷ s .size ∷ s .depth ∷ rest)) ∙ sym (splice-next l0 1 (s .base) (s .size ∷ s .depth ∷ rest)) ∙ sym (splice-next l1 2 (s .size) (s .depth ∷ rest)) ∙ sym (splice-next l2 3 (s .depth) rest) in
       let b : splice l3 4 rest ≡ splice (splice l3 4 (registerWords (s .registers))) (4 + length (registerWords (s .registers))) (framesWords (s .frames)) = splice-append l3 4 (registerWords (s .registers)) (framesWords (s .frames)) in
       sym (rw r at b) ∙ sym a ∙ splice-all l (stateWords s) (whole ∙ sym n)
+
+-- ---- a start
+
+set-behind : (xs ys : List ℕ) (n i v : ℕ) → length xs ≡ n → set (xs ++ ys) (n + i) v ≡ xs ++ set ys i v
+set-behind [] ys n i v h = let e : n + i ≡ i = omega arith in rw e
+set-behind (x ∷ xs) ys zero i v h = absurd (omega arith)
+set-behind (x ∷ xs) ys (suc n) i v h = let e : suc n + i ≡ suc (n + i) = omega arith in rw e (ap (λ (t : List ℕ). x ∷ t) (set-behind xs ys n i v (omega arith)))
+
+module _ (rs : List ℕ) (l : length rs ≡ 66) where
+  cut : part 0 32 rs ++ (part 32 32 rs ++ getD rs 64 0 ∷ getD rs 65 0 ∷ []) ≡ rs
+  cut =
+      let last : drop 64 rs ≡ getD rs 64 0 ∷ getD rs 65 0 ∷ []
+      = drop-cons rs 64 0 (omega arith) ∙ ap (λ (t : List ℕ). getD rs 64 0 ∷ t) (drop-cons rs 65 0 (omega arith) ∙ ap (λ (t : List ℕ). getD rs 65 0 ∷ t) (drop-of-length-le rs {i = 66} (omega arith))) in
+      let behind : part 32 32 rs ++ drop 64 rs ≡ drop 32 rs = ap (λ (t : List ℕ). part 32 32 rs ++ t) (sym (drop-drop 32 32 rs)) ∙ take-append-drop 32 (drop 32 rs) in
+      ap (λ (t : List ℕ). part 0 32 rs ++ t) (ap (λ (t : List ℕ). part 32 32 rs ++ t) (sym last) ∙ behind) ∙ take-append-drop 32 rs
+
+  -- the registers read, with CR's word as it came, are the words handed in
+  handed-back : set (registerWords (registersIn rs 0)) 65 (getD rs 65 0) ≡ rs
+  unfolding registerWords registersIn
+  handed-back =
+      let cr = getD rs 65 0 % 2 ^ 32 in
+      set-behind (part 0 32 rs) (part 32 32 rs ++ getD rs 64 0 ∷ cr ∷ []) 32 33 (getD rs 65 0) (length-part 0 32 rs (omega arith))
+      ∙ ap (λ (t : List ℕ). part 0 32 rs ++ t) (set-behind (part 32 32 rs) (getD rs 64 0 ∷ cr ∷ []) 32 1 (getD rs 65 0) (length-part 32 32 rs (omega arith)))
+      ∙ cut
+
+  handed-length : length (registerWords (registersIn rs 0)) ≡ 66
+  unfolding registersIn
+  handed-length = length-register-words (registersIn rs 0) (length-part 0 32 rs (omega arith)) (length-part 32 32 rs (omega arith))
+
+  pub refused-back : (c : Convention) → set (stateWords (notStarted c (registersIn rs 0))) 69 (getD rs 65 0) ≡ refusedWords c rs
+  unfolding stateWords notStarted refusedWords framesWords frameWords
+  refused-back c =
+      let zeros : List ℕ = replicate 192 0 in
+      ap (λ (t : List ℕ). codeOf c ∷ 0 ∷ 0 ∷ 0 ∷ t) (set-append-left (registerWords (registersIn rs 0)) zeros 65 (getD rs 65 0) (omega (arith, handed-length)) ∙ ap (λ (t : List ℕ). t ++ zeros) handed-back)
+
+  -- a start's words are its state's, where it is refused with CR's word as it came
+  pub start-words : (c : Convention) (b n : ℕ)
+      → settle (startOutcome c b n (registersIn rs 0) .answer) (stateWords (startOutcome c b n (registersIn rs 0) .state)) (set (stateWords (startOutcome c b n (registersIn rs 0) .state)) 69 (getD rs 65 0))
+      ≡ startWords c rs b n
+  unfolding startWords startOutcome
+  start-words c b n = go (startAnswer c b n)
+    where
+      r : Registers
+      r = registersIn rs 0
+
+      go : (a : Answer) → settle a (stateWords (settle a (started c b n r) (notStarted c r))) (set (stateWords (settle a (started c b n r) (notStarted c r))) 69 (getD rs 65 0))
+          ≡ settle a (stateWords (settle a (started c b n r) (notStarted c r))) (refusedWords c rs)
+      go Accepted = refl
+      go (Refused x) = refused-back c
 
 -- ---- the words after a call
 

@@ -1,4 +1,5 @@
--- What the reading turns into refusals: words that are no machine's give 23 before any other test, and a request with a flag that is neither 0 nor 1 gives 17. Assumes nothing.
+-- What the reading turns into refusals: words that are no machine's, and those of a refused start, give 23 before any other test; a request with a flag that is neither
+-- 0 nor 1 gives 17. Assumes nothing.
 use Prim.Native.Nat.{ℕ, _+_, _<_}
 use mathlib.Core.Path.{_≡_, refl}
 use mathlib.Core.Bool.{Bool, true, false, _&&_}
@@ -14,8 +15,9 @@ use Rattle.rules.specs.Frames.{noFrame, okRegisters, okRequest}
 use Rattle.machine.specs.declared.Refusal.the-variants.{BadState}
 use Rattle.machine.specs.declared.Answer.the-variants.{Refused}
 use Rattle.machine.specs.Answers.{Test, judge}
-use Rattle.machine.specs.Machine.{okState, stateTests}
+use Rattle.machine.specs.Machine.{okFrames, okMemory, okState, stateTests}
 use Rattle.word_layout.specs.Words.{isMachine, depthIn, registersIn, frameIn, stateIn}
+use Rattle.word_layout.specs.Calls.{refusedWords}
 
 and-no : (b : Bool) → (b && false) ≡ false
 and-no true = refl
@@ -29,6 +31,13 @@ no-state k ws h = rw h (and-no (okRegisters k (registersIn ws 4)))
 pub no-machine : (k : Rules) (ws : List ℕ) (n : ℕ) (ts : List Test) → isMachine ws ≡ false → judge (stateTests k (stateIn ws) n ++ ts) ≡ Refused BadState
 unfolding judge
 no-machine k ws n ts h = rw (no-state k ws h)
+
+-- whatever the words rs handed in
+pub no-start : (c : Convention) (rs : List ℕ) (k : Rules) (n : ℕ) (ts : List Test) → judge (stateTests k (stateIn (refusedWords c rs)) n ++ ts) ≡ Refused BadState
+unfolding judge okState okMemory stateIn refusedWords
+no-start c rs k n ts =
+    let s = stateIn (refusedWords c rs) in
+    rw (and-no (okFrames k (s .frames) (s .depth)), and-no (leb (s .depth) 32), and-no (okRegisters k (s .registers)))
 
 -- the record that is read where a flag is none asks for r0, which no convention saves
 no-frame : (c : Convention) → okRequest (rules c) noFrame ≡ false

@@ -1,13 +1,14 @@
--- The machine over words is the machine: the words after a call are read as the state that the machine's own definition gives after it. Assumes nothing.
+-- The machine over words is the machine: the words after a call are read as the state that the machine's own definition gives after it; those of a refused start,
+-- which have CR's word as it came, where that word has 32 bits. Assumes nothing.
 use Prim.Native.Nat.{ℕ, zero, suc, _+_, _-_, _*_, _^_, _≤_, _<_}
-use native.Mathlib.Nat.{mod-lt}
+use native.Mathlib.Nat.{mod-lt, mod-eq-of-lt}
 use native.Mathlib.Omega.{arith}
 use mathlib.Core.Path.{_≡_, refl, sym, ap, _∙_}
 use mathlib.Core.Logic.{inl}
 use mathlib.Core.Bool.{Bool, true, false}
 use mathlib.Core.List.{List, [], _∷_, _++_}
 use lib.ListN.{length, getD, set, drop, replicate, length-set}
-use lib.Seq.{getD-set-same, getD-drop, drop-drop, drop-at}
+use lib.Seq.{getD-set-same, getD-drop, drop-drop, drop-at, set-getD}
 use borrow.Author.Tests.{le-leb}
 use Rattle.words.specs.Splice.{splice}
 use Rattle.words.proofs.Splices.{length-part, splice-at-other}
@@ -35,9 +36,9 @@ use Rattle.machine.specs.Machine.{rulesOf, stackPointer, offset, top, stateTest
 use Rattle.machine.proofs.Judging.{never}
 use Rattle.machine.proofs.States.{enter-yes, write-register-yes, leave-yes}
 use Rattle.word_layout.specs.Words.{codeOf, conventionOf, isMachine, depthIn, registersIn, frameIn, framesIn, stateIn, registerWords, frameWords, framesWords, stateWords, withRegisters}
-use Rattle.word_layout.specs.Calls.{changed, startWords, enterWords, writeRegisterWords, leaveWords}
+use Rattle.word_layout.specs.Calls.{changed, refusedWords, startWords, enterWords, writeRegisterWords, leaveWords}
 use Rattle.word_layout.proofs.Refused.{no-machine}
-use Rattle.word_layout.proofs.Laws.{length-register-words, state-put}
+use Rattle.word_layout.proofs.Laws.{length-register-words, state-put, refused-back}
 use Rattle.word_layout.proofs.ReadBack.{flag-back, cr-word, registers-same, registers-other, registers-back, changed-back}
 
 -- ---- what is read
@@ -139,16 +140,22 @@ module _ (s : State) (y : Read (s .registers)) (f : length (s .frames) ≡ 32) w
 
 -- ---- start
 
-pub start-state : (c : Convention) (rs : List ℕ) (b n : ℕ) → length rs ≡ 66 → stateIn (startWords c rs b n) ≡ startOutcome c b n (registersIn rs 0) .state
-unfolding startWords startOutcome started notStarted withPointer cleared
-start-state c rs b n l = go (startAnswer c b n)
-  where
-    y : Read (registersIn rs 0)
-    y = registers-read rs 0 (omega arith)
+module _ (c : Convention) (rs : List ℕ) (b n : ℕ) (l : length rs ≡ 66) where
+  handed : Read (registersIn rs 0)
+  handed = registers-read rs 0 (omega arith)
 
-    go : (a : Answer) → stateIn (stateWords (settle a (started c b n (registersIn rs 0)) (notStarted c (registersIn rs 0)))) ≡ settle a (started c b n (registersIn rs 0)) (notStarted c (registersIn rs 0))
-    go Accepted = state-words-back (started c b n (registersIn rs 0)) (record { gpr = simp length-set (lowered-length (rules c .limit) (registersIn rs 0 .gpr) 32 ∙ y .gpr); fpr = y .fpr; cr = y .cr }) refl
-    go (Refused x) = state-words-back (notStarted c (registersIn rs 0)) y refl
+  pub start-state : startOutcome c b n (registersIn rs 0) .answer ≡ Accepted → stateIn (startWords c rs b n) ≡ startOutcome c b n (registersIn rs 0) .state
+  unfolding startWords startOutcome started withPointer cleared
+  start-state e = rw e (state-words-back (started c b n (registersIn rs 0)) (record { gpr = simp length-set (lowered-length (rules c .limit) (registersIn rs 0 .gpr) 32 ∙ handed .gpr); fpr = handed .fpr; cr = handed .cr }) refl)
+
+  -- whatever CR's word is, 23 refuses these words (no-start of Refused)
+  pub refused-state : getD rs 65 0 < 2 ^ 32 → stateIn (refusedWords c rs) ≡ notStarted c (registersIn rs 0)
+  unfolding notStarted registersIn
+  refused-state h =
+      let s = notStarted c (registersIn rs 0) in
+      let cr : getD (stateWords s) 69 0 ≡ getD rs 65 0 = cr-there s handed refl ∙ mod-eq-of-lt h in
+      let same : refusedWords c rs ≡ stateWords s = sym (refused-back rs l c) ∙ ap (λ (v : ℕ). set (stateWords s) 69 v) (sym cr) ∙ set-getD (stateWords s) 69 0 in
+      rw same (state-words-back s handed refl)
 
 -- ---- enter
 

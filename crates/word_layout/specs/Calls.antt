@@ -3,20 +3,27 @@
 -- the stack pointer, what it restores, the record and the depth"; "Every refusal leaves all buffers and the state untouched" ("When the bridge says no").
 -- Records that are not entered are neither looked at nor changed, whatever their words are. Assumes nothing.
 use Prim.Native.Nat.{ℕ}
-use mathlib.Core.List.{List}
+use mathlib.Core.List.{List, _∷_, _++_}
+use lib.ListN.{replicate}
 use Rattle.conventions.specs.declared.Convention.{Convention}
 use Rattle.machine.specs.Answers.{settle}
 use Rattle.machine.specs.declared.State.{State}
 use Rattle.machine.specs.Machine.{frameAt, startOutcome, enterOutcome, writeRegisterOutcome, leaveOutcome}
-use Rattle.word_layout.specs.Words.{registersIn, frameIn, stateIn, stateWords, withDepth, withRegisters, withFrame}
+use Rattle.word_layout.specs.Words.{codeOf, registersIn, frameIn, stateIn, stateWords, withDepth, withRegisters, withFrame}
 
 -- ws with the depth, the registers and the record i of the state s
 unfoldable pub changed : List ℕ → State → ℕ → List ℕ
 changed ws s i = withFrame (withRegisters (withDepth ws (s .depth)) (s .registers)) i (frameAt (s .frames) i)
 
+-- "a refused start hands the registers back as they came, all else 0": all 64 bits of each word rs, CR's too; the convention stays
+unfoldable pub refusedWords : Convention → List ℕ → List ℕ
+refusedWords c rs = codeOf c ∷ 0 ∷ 0 ∷ 0 ∷ (rs ++ replicate 192 0)
+
 -- start writes all the words, also where it is refused; rs are the registers handed in, n the length of the memory
 unfoldable pub startWords : Convention → List ℕ → ℕ → ℕ → List ℕ
-startWords c rs b n = stateWords (startOutcome c b n (registersIn rs 0) .state)
+startWords c rs b n =
+    let o = startOutcome c b n (registersIn rs 0) in
+    settle (o .answer) (stateWords (o .state)) (refusedWords c rs)
 
 -- the record of an enter is that at the depth before it; qs are the words of the request
 unfoldable pub enterWords : List ℕ → ℕ → List ℕ → List ℕ

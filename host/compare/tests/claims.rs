@@ -1,5 +1,6 @@
 //! `docs/CLAIMS.md` beside the repository: the files, names and must-fail edits that it names are
-//! there. Whether a statement says what the page says is for a reader.
+//! there, and what it quotes stands word for word in its file. Whether a statement says what the
+//! page says is for a reader.
 
 use std::collections::BTreeSet;
 use std::fs;
@@ -31,13 +32,47 @@ fn names(text: &str) -> BTreeSet<&str> {
         .collect()
 }
 
-/// The paths below `crates/`.
-fn paths(text: &str) -> BTreeSet<&str> {
+/// The paths below `crates/`, as the text names them from its start to its end.
+fn paths(text: &str) -> impl Iterator<Item = &str> {
     let words = text.split([' ', ',', ';', ')', '(', '`', '\n']);
     words
         .filter(|word| word.starts_with("crates/"))
         .map(|word| word.trim_end_matches(['.', ':']))
+}
+
+/// The quotations, which are the blocks between lines of three backquotes: each with the file that
+/// the text before it names last.
+fn quotations(page: &str) -> Vec<(Option<&str>, &str)> {
+    let parts: Vec<&str> = page.split("\n```").collect();
+    let pairs = parts.chunks_exact(2);
+    pairs
+        .map(|pair| {
+            // the rest of the opening line may name a language
+            let (_, quoted) = pair[1].split_once('\n').unwrap_or(("", ""));
+            (paths(pair[0]).last(), quoted)
+        })
         .collect()
+}
+
+/// What the page quotes otherwise than the file has it. A quotation may leave out lines where it
+/// has an empty one; what is left of it stands in the file line by line.
+fn misquoted(page: &str) -> Vec<String> {
+    let mut faults = Vec::new();
+    for (file, quoted) in quotations(page) {
+        let Some(file) = file else {
+            faults.push(format!("a quotation of no file: {quoted}"));
+            continue;
+        };
+        let text = fs::read_to_string(root().join(file)).unwrap_or_default();
+        let text = format!("\n{text}\n");
+        for lines in quoted.split("\n\n") {
+            let lines = lines.trim_matches('\n');
+            if lines.is_empty() || !text.contains(&format!("\n{lines}\n")) {
+                faults.push(format!("not in {file}: {lines}"));
+            }
+        }
+    }
+    faults
 }
 
 /// The edits in the third column of the table of wrong programs.
@@ -84,7 +119,7 @@ fn faults(page: &str) -> Vec<String> {
         .join("\n");
     let crates = fs::read_to_string(root.join("crates.txt")).expect("crates.txt");
     let mut faults = Vec::new();
-    for path in paths(page) {
+    for path in paths(page).collect::<BTreeSet<_>>() {
         if !root.join(path).exists() {
             faults.push(format!("no file {path}"));
         }
@@ -131,4 +166,42 @@ fn what_is_not_there_is_found() {
         "nothing is called fillAnswering",
     ];
     assert_eq!(faults(&page), expected);
+}
+
+#[test]
+fn quotations_are_word_for_word() {
+    let page = page();
+    assert!(!quotations(&page).is_empty(), "nothing is quoted");
+    let faults = misquoted(&page);
+    assert!(faults.is_empty(), "{}", faults.join("\n"));
+}
+
+#[test]
+fn misquotations_are_found() {
+    let file = "crates/history/specs/Preserved.antt";
+    let quote = |file: &str, lines: &str| format!("In {file}:\n\n```\n{lines}\n```\n\nAnd on.\n");
+    let closing = "closeLatest [] = []\ncloseLatest (o ∷ os) = os";
+    let opening = "openAfter leave Accepted m os = closeLatest os";
+
+    let faithful = quote(file, &format!("{closing}\n\n{opening}"));
+    assert!(misquoted(&faithful).is_empty());
+    let named_last = quote(&format!("crates/none/none.antt and {file}"), closing);
+    assert!(misquoted(&named_last).is_empty());
+
+    // another text, lines left out without an empty one, nothing, and another file
+    let other = "closeLatest (o ∷ os) = o";
+    let joined = format!("closeLatest [] = []\n{opening}");
+    let wrong = [
+        (file, other),
+        (file, &joined),
+        (file, ""),
+        ("crates/history/specs/Calls.antt", closing),
+        ("crates/none/none.antt", closing),
+    ];
+    for (file, lines) in wrong {
+        let expected = format!("not in {file}: {lines}");
+        assert_eq!(misquoted(&quote(file, lines)), [expected]);
+    }
+    let nameless = format!("a quotation of no file: {closing}");
+    assert_eq!(misquoted(&quote("no file", closing)), [nameless]);
 }

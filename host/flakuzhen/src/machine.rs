@@ -110,8 +110,7 @@ impl Machine {
 
     /// Writes 1 to 256 bytes of memory, if the frame that was entered last may.
     pub fn write_memory(&mut self, address: u64, bytes: &[u8]) -> Result<(), Refusal> {
-        let answer =
-            surface::machine::write_memory(&mut self.state, address, bytes, &mut self.memory);
+        let answer = surface::machine::write_memory(&self.state, address, bytes, &mut self.memory);
         accepted(answer.number, answer.place, ())
     }
 

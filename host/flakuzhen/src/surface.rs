@@ -26,9 +26,16 @@ pub struct Narrowed {
 }
 
 extern "C" {
+    fn fz_version() -> u64;
     fn fz_read_signature(sig: *const u8, sig_length: usize) -> Answer;
     fn fz_widen(bits: u64) -> u64;
     fn fz_narrow(bits: u64) -> Narrowed;
+}
+
+/// `fz_version`
+pub fn version() -> u64 {
+    // SAFETY: the function takes nothing and touches no memory of the caller.
+    unsafe { fz_version() }
 }
 
 /// `fz_read_signature`

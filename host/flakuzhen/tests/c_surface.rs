@@ -125,11 +125,8 @@ fn the_example_under_sanitizers() {
     run_the_example("sanitized", &words, "libflakuzhen.so");
 }
 
-/// Installs everything in a folder of its own, and uses it from there.
-#[test]
-fn installed() {
-    let prefix = temporary("installed");
-    let _ = std::fs::remove_dir_all(&prefix);
+/// Runs `make` for what is installed in this folder, below the prefix.
+fn make_installed(goal: &str, folder: &Path) {
     run(Command::new("make")
         .current_dir(root())
         // what the tests were started with is not for the command
@@ -137,8 +134,37 @@ fn installed() {
         .env_remove("RUSTFLAGS")
         // the libraries are those that all tests here use: nothing is proved again
         .args(["-o", "build/libflakuzhen.a", "-o", "build/libflakuzhen.so"])
-        .arg("install")
-        .arg(format!("PREFIX={}", prefix.display())));
+        .arg(goal)
+        .arg(format!("DESTDIR={}", folder.display()))
+        .arg("PREFIX=/prefix"));
+}
+
+/// The files and links below a folder.
+fn files_below(folder: &Path) -> Vec<PathBuf> {
+    let mut files = Vec::new();
+    for entry in std::fs::read_dir(folder).expect("a folder") {
+        let entry = entry.expect("what the folder has");
+        match entry.file_type().expect("its kind").is_dir() {
+            true => files.extend(files_below(&entry.path())),
+            false => files.push(entry.path()),
+        }
+    }
+    files
+}
+
+/// Installs everything in an empty folder, uses it from there, and removes it.
+#[test]
+fn installed() {
+    let folder = temporary("installed");
+    let _ = std::fs::remove_dir_all(&folder);
+    make_installed("install", &folder);
+    use_installed(&folder);
+    make_installed("uninstall", &folder);
+    assert_eq!(files_below(&folder), Vec::<PathBuf>::new());
+}
+
+fn use_installed(folder: &Path) {
+    let prefix = folder.join("prefix");
     let signature = root().join("examples/signatures/ppc64-figure-3-18.hex");
     let listing = std::fs::read(signature.with_extension("listing")).expect("its listing");
     let output = run(Command::new(prefix.join("bin/flakuzhen"))
@@ -147,24 +173,69 @@ fn installed() {
     assert_eq!(output.stdout, listing);
     assert!(prefix.join("share/man/man1/flakuzhen.1").is_file());
     assert!(prefix.join("lib/libflakuzhen.a").is_file());
+    // what the header names
+    for name in ["call.c", "COMPILERS.md"] {
+        assert!(prefix.join("share/doc/flakuzhen").join(name).is_file());
+    }
 
     let mut words = Command::new("pkg-config");
     words.args(["--cflags", "--libs", "flakuzhen"]);
     words.env("PKG_CONFIG_PATH", prefix.join("lib/pkgconfig"));
+    words.env("PKG_CONFIG_SYSROOT_DIR", folder);
     if words.output().is_err() {
         println!("pkg-config is not installed: its file was not tried");
         return;
     }
     let words = String::from_utf8(run(&mut words).stdout).expect("words of a compiler");
+    let compile = |source: &str, program: &Path| {
+        run(Command::new(C[0])
+            .args(&C[1..])
+            .args(WARNINGS)
+            .arg("-o")
+            .arg(program)
+            .arg(root().join(source))
+            .args(words.split_whitespace()));
+    };
     let program = temporary("call-installed");
-    run(Command::new(C[0])
-        .args(&C[1..])
-        .args(WARNINGS)
-        .arg("-o")
-        .arg(&program)
-        .arg(root().join(EXAMPLE))
-        .args(words.split_whitespace()));
+    compile(EXAMPLE, &program);
     prints_what_is_stored(&run_with_library(&program, prefix.join("lib")));
+    // this one holds the library's version to the header's
+    let program = temporary("surface-installed");
+    compile("host/flakuzhen/tests/surface.c", &program);
+    run_with_library(&program, prefix.join("lib"));
+}
+
+/// The version, whose one place is the workspace's Cargo.toml.
+const VERSION: [&str; 3] = [
+    env!("CARGO_PKG_VERSION_MAJOR"),
+    env!("CARGO_PKG_VERSION_MINOR"),
+    env!("CARGO_PKG_VERSION_PATCH"),
+];
+
+#[test]
+fn the_library_has_the_version_of_the_package() {
+    let [major, minor, patch] = VERSION.map(|number| number.parse::<u64>().expect("a number"));
+    assert!(minor < 100 && patch < 100);
+    assert_eq!(
+        flakuzhen::surface::version(),
+        10_000 * major + 100 * minor + patch
+    );
+}
+
+#[test]
+fn the_shared_library_is_named_by_the_first_number_of_the_version() {
+    let shared = root().join("build/libflakuzhen.so");
+    let output = run(Command::new("readelf").arg("-d").arg(&shared));
+    let soname = format!("libflakuzhen.so.{}", VERSION[0]);
+    let said = String::from_utf8_lossy(&output.stdout);
+    let mut names = said.lines().filter(|line| line.contains("(SONAME)"));
+    let name = names.next().expect("a soname");
+    assert!(name.ends_with(&format!("[{soname}]")), "{name}");
+    // both links lead to the one file
+    let file = root().join(format!("build/libflakuzhen.so.{}", VERSION.join(".")));
+    for link in [shared, root().join("build").join(soname)] {
+        assert_eq!(link.canonicalize().expect("what it leads to"), file);
+    }
 }
 
 /// The functions that the header declares: each name that begins a parameter list, outside of
@@ -192,10 +263,17 @@ fn the_shared_library_shows_what_the_header_declares_and_nothing_else() {
     let output = run(Command::new("nm")
         .args(["-D", "--defined-only"])
         .arg(shared));
+    // the symbol version is shown too, as a number of its own
+    let version = format!("FLAKUZHEN_{}", VERSION[0]);
     let shown: BTreeSet<String> = String::from_utf8_lossy(&output.stdout)
         .lines()
         .filter_map(|line| line.split_whitespace().last())
         .map(str::to_string)
         .collect();
-    assert_eq!(shown, declared());
+    let mut expected: BTreeSet<String> = declared()
+        .iter()
+        .map(|name| format!("{name}@@{version}"))
+        .collect();
+    expected.insert(version);
+    assert_eq!(shown, expected);
 }

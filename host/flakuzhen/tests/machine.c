@@ -46,6 +46,7 @@ static void check_ppc64(void)
     static const fz_frame large = {32, 32, 0, 1024, 0, 0};
     static const uint8_t bytes[4] = {1, 2, 3, 4};
     uint64_t s = BASE + LENGTH - 112;
+    const fz_machine *written = &machine;
     fz_machine before;
 
     hand_in_registers();
@@ -74,10 +75,10 @@ static void check_ppc64(void)
     CHECK(machine.registers.gpr[29] == 7 && machine.registers.fpr[30] == 8);
     CHECK(machine.registers.lr == 9 && machine.registers.cr == UINT64_C(0x12f45670));
 
-    CHECK(answers(fz_write_memory(&machine, s - 176 + 48, bytes, 4, memory, LENGTH), FZ_ACCEPTED));
+    CHECK(answers(fz_write_memory(written, s - 176 + 48, bytes, 4, memory, LENGTH), FZ_ACCEPTED));
     CHECK(doubleword(s - 176 + 48) == UINT64_C(0x01020304eeeeeeee));
-    CHECK(answers(fz_write_memory(&machine, s, bytes, 4, memory, LENGTH), FZ_NOT_PERMITTED));
-    CHECK(answers(fz_write_memory(&machine, s + 48, bytes, 0, memory, LENGTH), FZ_NOT_PERMITTED));
+    CHECK(answers(fz_write_memory(written, s, bytes, 4, memory, LENGTH), FZ_NOT_PERMITTED));
+    CHECK(answers(fz_write_memory(written, s + 48, bytes, 0, memory, LENGTH), FZ_NOT_PERMITTED));
 
     CHECK(answers(fz_leave(&machine, memory, LENGTH - 16), FZ_BAD_MEMORY));
     memory[s - 176 - BASE] ^= 1;
@@ -133,11 +134,14 @@ static void check_z(void)
     int i;
 
     hand_in_registers();
+    /* a refused start hands back all 64 bits, an accepted one takes 32 */
+    registers.cr |= UINT64_C(9) << 32;
     CHECK(answers(fz_start_z(&machine, &registers, BASE + 8, memory, LENGTH), FZ_BAD_MEMORY));
     CHECK(machine.convention == 2 && machine.base == 0 && machine.size == 0);
     CHECK(memcmp(&machine.registers, &registers, sizeof registers) == 0);
     CHECK(answers(fz_enter(&machine, &request, memory, LENGTH), FZ_BAD_STATE));
     CHECK(answers(fz_start_z(&machine, &registers, BASE, memory, LENGTH), FZ_ACCEPTED));
+    CHECK(machine.registers.cr == UINT64_C(0x12345678));
     before = machine;
     CHECK(answers(fz_enter(&machine, &leaf, memory, LENGTH), FZ_BAD_REQUEST));
     CHECK(answers(fz_enter(&machine, &request, memory, LENGTH), FZ_ACCEPTED));

@@ -3,6 +3,11 @@
 #include "flakuzhen.h"
 #include <string.h>
 
+static void check_version(void)
+{
+    CHECK(fz_version() == FZ_VERSION);
+}
+
 static void check_reading(void)
 {
     static const uint8_t sig[18] = {0x01, 0x00, 0x01, 0x01, 0x02, 0x00, 0x00, 0x03, 0x00,
@@ -72,6 +77,7 @@ static void check_listing(void)
 
 int main(void)
 {
+    check_version();
     check_reading();
     check_float_bits();
     check_measuring();

@@ -74,7 +74,7 @@ pub struct Area {
 }
 
 /// Starts a machine on this memory. A refused start gives a machine all the same: "registers as
-/// handed in, base, size, depth and records 0". Of CR, the low 32 bits are what is handed in.
+/// handed in, base, size, depth and records 0". Of CR an accepted start takes the low 32 bits.
 pub fn start(
     convention: Convention,
     registers: &Registers,
@@ -92,11 +92,11 @@ pub fn start(
         registers: *registers,
         frames: [Request::default(); 32],
     };
-    machine.registers.cr &= 0xffff_ffff;
     let size = memory.len() as u64;
     if !memory_allowed(convention, base, size) {
         return (machine, refuse(16));
     }
+    machine.registers.cr &= 0xffff_ffff;
     machine.base = base;
     machine.size = size;
     let pointer = first_pointer(convention, base, size) as u64;
@@ -665,12 +665,15 @@ mod tests {
             (u64::MAX - 255, 256),
             (u64::MAX - 15, 256),
         ];
+        // all 64 bits of CR's word come back
+        let mut handed = registers();
+        handed.cr = 0x9_8765_4321;
         for (base, length) in cases {
             let mut memory = pattern(length);
-            let (machine, answer) = start(Convention::Z, &registers(), base, &mut memory);
+            let (machine, answer) = start(Convention::Z, &handed, base, &mut memory);
             refused(answer, 16);
             assert_eq!(memory, pattern(length));
-            assert_eq!((machine.convention, machine.registers), (2, registers()));
+            assert_eq!((machine.convention, machine.registers), (2, handed));
             assert_eq!((machine.base, machine.size, machine.depth), (0, 0, 0));
             // what is left can do nothing
             refused(machine.clone().leave(&memory), 23);

@@ -66,7 +66,7 @@ extern "C" {
         memory_length: usize,
     ) -> Answer;
     fn fz_write_memory(
-        machine: *mut Machine,
+        machine: *const Machine,
         address: u64,
         bytes: *const u8,
         bytes_length: usize,
@@ -118,12 +118,7 @@ pub fn write_register(
 }
 
 /// `fz_write_memory`
-pub fn write_memory(
-    machine: &mut Machine,
-    address: u64,
-    bytes: &[u8],
-    memory: &mut [u8],
-) -> Answer {
+pub fn write_memory(machine: &Machine, address: u64, bytes: &[u8], memory: &mut [u8]) -> Answer {
     unsafe {
         fz_write_memory(
             machine,

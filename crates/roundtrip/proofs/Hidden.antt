@@ -1,0 +1,78 @@
+-- The hidden address stands in its register after filling. Assumes nothing.
+use mathlib.Core.Path.{_≡_, sym, ap, _∙_}
+use mathlib.Core.Bool.{true}
+use mathlib.Core.List.{List}
+use Prim.Native.Nat.{ℕ, _*_, _<_}
+use native.Mathlib.Omega.{arith}
+use lib.ListN.{length}
+use Rattle.words.specs.Splice.{part, splice}
+use Rattle.words.specs.Numbers.{bytesOf}
+use Rattle.words.proofs.Splices.{splice-same}
+use Rattle.words.proofs.Numbers.{length-bytesOf}
+use Rattle.conventions.specs.declared.Convention.{Convention}
+use Rattle.items.specs.Reading.{Reading, got, no}
+use Rattle.signature.specs.declared.ResultType.{ResultType}
+use Rattle.signature.specs.Signature.{Signature}
+use Rattle.signature.specs.Read.{signatureOf}
+use Rattle.signature.specs.Answer.{signatureAnswer, resultType}
+use Rattle.places.specs.declared.Span.{Span}
+use Rattle.places.specs.declared.ResultPlaces.{ResultPlaces}
+use Rattle.places.specs.Spots.{general}
+use Rattle.places.specs.Values.{pointer}
+use Rattle.places.specs.ZSeries.{zClass, zSpanOf, zNextOf}
+use Rattle.places.specs.Power.{words, fprs, shareOf, powerShare}
+use Rattle.places.specs.Step.{rulesOf, wordOf, nextOf, spanOf, fresh, startOf}
+use Rattle.places.proofs.Bounds.{named-start}
+use Rattle.plan.proofs.Theorems.{hidden-address}
+use Rattle.plan.specs.Plan.{startIn, hiddenIn, resultIn, planAnswer, planIn, typesOf}
+use Rattle.slots.specs.Buffers.{Buffers, buffers, Slot, put, putAll, bytesAt}
+use Rattle.slots.specs.Placements.{slotsOfAll, hiddenSlots}
+use Rattle.slots.specs.Arguments.{argumentsIn, argumentsOf, rulesFor}
+use Rattle.slots.proofs.Buffers.{putAll-append}
+use Rattle.slots.proofs.Answered.{arguments-got}
+use Rattle.fill.specs.Fill.{filledSlots, fillBuffers}
+use Rattle.roundtrip.specs.RoundTrip.{HiddenStands}
+use Rattle.roundtrip.proofs.Kept.{kept-all, all-later}
+use Rattle.roundtrip.proofs.Theorems.{filled-lent}
+
+address-first : (c : Convention)
+    → (spanOf (rulesOf c) (fresh (rulesOf c)) pointer (wordOf (rulesOf c)) .general .first < startOf (rulesOf c) true .general)
+    × (spanOf (rulesOf c) (fresh (rulesOf c)) pointer (wordOf (rulesOf c)) .general .first < 32)
+unfolding startOf nextOf spanOf fresh words fprs shareOf powerShare zClass zSpanOf zNextOf
+address-first Convention.Ppc64 = (omega arith, omega arith)
+address-first Convention.Z = (omega arith, omega arith)
+
+-- its register comes before those of the arguments
+first-is : (c : Convention) (r : ResultType) (x : Span) → resultIn c r ≡ ResultPlaces.Hidden x → (x .general .first < startIn c r .general) × (x .general .first < 32)
+first-is c r x e = let h = hidden-address c r x e in rw (h .0, h .1) (address-first c)
+
+hidden-kept : (y : Reading Signature) (base : ℕ) (v : List ℕ) (x : Span) (b : Buffers) → planAnswer y .result ≡ ResultPlaces.Hidden x
+    → bytesAt (general (x .general .first)) 8 (putAll (slotsOfAll (rulesOf (signatureAnswer y .convention)) base (argumentsIn (signatureAnswer y) (planAnswer y)) v) b)
+    ≡ bytesAt (general (x .general .first)) 8 b
+unfolding planAnswer planIn
+hidden-kept (got g next n) base v x b e =
+    let c : Convention = g .convention in
+    let r : ResultType = resultType c (g .result) in
+    let f = first-is c r x e in
+    rw (arguments-got g next n)
+    (kept-all (startIn c r) (general (x .general .first)) 8 _ b (omega (arith, f .0)) (omega (arith, f .1))
+    (all-later c (rulesOf c) base (startIn c r) (typesOf c (g .arguments)) v (named-start (rulesOf c) (hiddenIn c r))))
+hidden-kept (no reason place) base v x b e = let z : _≡_ {A = ℕ} 0 1 = cc in absurd (omega arith)
+
+register-below : (y : Reading Signature) (x : Span) → planAnswer y .result ≡ ResultPlaces.Hidden x → x .general .first < 32
+unfolding planAnswer planIn
+register-below (got g next n) x e = first-is (g .convention) (resultType (g .convention) (g .result)) x e .1
+register-below (no reason place) x e = let z : _≡_ {A = ℕ} 0 1 = cc in absurd (omega arith)
+
+pub hidden-stands : HiddenStands
+unfolding fillBuffers filledSlots argumentsOf putAll put bytesAt planAnswer
+hidden-stands s values image area copies base hidden x h e =
+    let b : Buffers = buffers image area copies in
+    let ss : List Slot = slotsOfAll (rulesFor s) base (argumentsOf s) values in
+    let size : length image ≡ 512 = filled-lent s values image area copies base hidden h .image in
+    let below = register-below (signatureOf s) x e in
+    rw e
+    (ap (λ (y : Buffers). bytesAt (general (x .general .first)) 8 y) (putAll-append (hiddenSlots (ResultPlaces.Hidden x) hidden) ss b)
+    ∙ hidden-kept (signatureOf s) base values x (putAll (hiddenSlots (ResultPlaces.Hidden x) hidden) b) e
+    ∙ ap (λ (m : ℕ). part (8 * x .general .first) m (splice image (8 * x .general .first) (bytesOf 8 hidden))) (sym (length-bytesOf 8 hidden))
+    ∙ splice-same image (8 * x .general .first) (bytesOf 8 hidden) (omega (arith, length-bytesOf 8 hidden, size)))

@@ -1,0 +1,58 @@
+-- An accepted view is not empty. Assumes nothing.
+use mathlib.Core.Path.{_≡_, refl, sym, subst}
+use mathlib.Core.List.{List, [], _∷_}
+use Prim.Native.Nat.{ℕ, zero, suc, _<_}
+use native.Mathlib.Omega.{arith}
+use lib.ListN.{getD}
+use Rattle.conventions.specs.declared.Convention.{Convention}
+use Rattle.types.specs.declared.ValueType.{ValueType}
+use Rattle.types.specs.Sizes.{sizeOf}
+use Rattle.items.specs.Reading.{Reading, got, no}
+use Rattle.signature.specs.Signature.{Signature}
+use Rattle.signature.specs.Read.{signatureOf}
+use Rattle.signature.specs.Answer.{signatureAnswer, resultType}
+use Rattle.signature.proofs.Theorems.{accepted}
+use Rattle.places.specs.declared.Cursor.{Cursor}
+use Rattle.places.specs.declared.Rules.{Rules}
+use Rattle.places.specs.Step.{rulesOf, nextOf}
+use Rattle.plan.specs.Plan.{spansOf, startIn, planAnswer, typesOf}
+use Rattle.slots.specs.Placements.{Placement, placements}
+use Rattle.slots.specs.Limits.{All}
+use Rattle.slots.specs.Arguments.{argumentsIn, argumentsOf}
+use Rattle.slots.proofs.Answered.{arguments-got}
+use Rattle.slots.proofs.Typed.{AllTyped, all-typed}
+use Rattle.home.specs.View.{viewPart, noArgument}
+use Rattle.roundtrip.specs.Views.{ViewSome}
+
+abbrev Some : Placement → Type 0
+Some p = 0 < p .size
+
+all-some : (c : Convention) (r : Rules) (k : Cursor) (ts : List ValueType) → AllTyped c ts → All Some (placements c ts (spansOf c r k ts))
+unfolding placements spansOf All AllTyped
+all-some c r k [] h = tt
+all-some c r k (t ∷ ts) h = (h .0 .sized .some, all-some c r (nextOf r k t (sizeOf c t)) ts (h .1))
+
+none-some : All Some []
+unfolding All
+none-some = tt
+
+arguments-some : (s : List ℕ) → All Some (argumentsOf s)
+unfolding argumentsOf argumentsIn placements
+arguments-some s = go (signatureOf s) refl
+  where
+    go : (x : Reading Signature) → signatureOf s ≡ x → All Some (argumentsIn (signatureAnswer x) (planAnswer x))
+    go (got g next n) e =
+        subst (All Some) (sym (arguments-got g next n))
+        (all-some (g .convention) (rulesOf (g .convention)) (startIn (g .convention) (resultType (g .convention) (g .result))) (typesOf (g .convention) (g .arguments))
+        (all-typed (g .convention) (g .arguments) (accepted s g next n e .arguments)))
+    go (no reason place) e = none-some
+
+at-some : (ps : List Placement) (i : ℕ) → All Some ps → 0 < getD ps i noArgument .size
+unfolding All
+at-some [] i h = omega arith
+at-some (p ∷ ps) zero h = h .0
+at-some (p ∷ ps) (suc i) h = at-some ps i (h .1)
+
+pub view-some : ViewSome
+unfolding viewPart
+view-some s have index e = rw e (at-some (argumentsOf s) index (arguments-some s))

@@ -1,0 +1,57 @@
+-- A list of exported calls of each convention worked on numbers, so that the theorem is seen to speak of something: a start on 640 bytes, a frame entered, a saved register
+-- written, and leaves.
+-- Assumes nothing.
+use Prim.Native.Nat.{ℕ}
+use mathlib.Core.Path.{_≡_, refl}
+use mathlib.Core.List.{List, [], _∷_}
+use lib.ListN.{replicate}
+use Rattle.words.specs.Basics.{roundUp}
+use Rattle.words.specs.Splice.{overlay, splice}
+use Rattle.words.specs.Numbers.{bytesOf, valueOf}
+use Rattle.saves.specs.Saves.{store, load, saveRun, loadRun}
+use Rattle.conventions.specs.declared.Convention.{Convention}
+use Rattle.conventions.specs.declared.Convention.the-variants.{Ppc64, Z}
+use Rattle.rules.specs.Frames.{withPointer, allWithin, lowered, okRegisters, cleared, okLeaf, okRequest, below, fullSize, frameSize, chainWidth, gprAt, savesBy, linkAt, mergeFields, restoredLr, restoredCr, restored, bankOf, writableRegister, withRegister}
+use Rattle.machine.specs.declared.Answer.the-variants.{Accepted}
+use Rattle.machine.specs.Answers.{answerNumber, judge}
+use Rattle.machine.specs.Machine.{topFrame, okFrames, sizes, okMemory, okState, startAnswer, started, startedMemory, enterAnswer, entered, enteredMemory, writeRegisterAnswer, writtenRegister, leaveAnswer, left, startOutcome, startMemory, enterOutcome, enterMemory, writeRegisterOutcome, leaveOutcome}
+use Rattle.word_layout.specs.Words.{isMachine, depthIn, registersIn, frameIn, framesIn, stateIn, registerWords, frameWords, framesWords, stateWords}
+use Rattle.word_layout.specs.Calls.{changed, startWords, enterWords, writeRegisterWords, leaveWords}
+use Rattle.word_history.specs.Calls.{Call, enter, writeRegister, leave, Lent, answer, after, fresh}
+
+-- the numbers of the answers to a list of calls, and what is lent after them
+abbrev numbers : List Call → Lent → List ℕ
+numbers [] m = []
+numbers (c ∷ cs) m = answerNumber (answer c m) ∷ numbers cs (after c m)
+
+abbrev run : List Call → Lent → Lent
+run [] m = m
+run (c ∷ cs) m = run cs (after c m)
+
+abbrev start : Convention → Lent
+start c = fresh c 4096 (replicate 640 1) (replicate 66 7)
+
+-- with the words of a request and a general register that it saves
+abbrev calls : List ℕ → ℕ → List Call
+calls q n = leave ∷ enter q ∷ writeRegister 0 n 5 ∷ leave ∷ leave ∷ []
+
+abbrev calls-ppc64 : List Call
+calls-ppc64 = calls (29 ∷ 30 ∷ 1 ∷ 20 ∷ 64 ∷ 0 ∷ []) 30
+
+abbrev calls-z : List Call
+calls-z = calls (6 ∷ 8 ∷ 0 ∷ 1 ∷ 8 ∷ 0 ∷ []) 6
+
+abbrev calls-leaf : List Call
+calls-leaf = calls (29 ∷ 30 ∷ 1 ∷ 0 ∷ 0 ∷ 1 ∷ []) 30
+
+-- Both starts are accepted. A leave is refused by 22 where nothing is entered. After the calls all the words are as the start left them.
+pub worked : (startOutcome Ppc64 4096 640 (registersIn (replicate 66 7) 0) .answer ≡ Accepted)
+    × (startOutcome Z 4096 640 (registersIn (replicate 66 7) 0) .answer ≡ Accepted)
+    × (numbers calls-ppc64 (start Ppc64) ≡ 22 ∷ 0 ∷ 0 ∷ 0 ∷ 22 ∷ [])
+    × (numbers calls-z (start Z) ≡ 22 ∷ 0 ∷ 0 ∷ 0 ∷ 22 ∷ [])
+    × (run calls-ppc64 (start Ppc64) .words ≡ start Ppc64 .words)
+    × (run calls-z (start Z) .words ≡ start Z .words)
+    × (numbers calls-leaf (start Ppc64) ≡ 22 ∷ 0 ∷ 0 ∷ 0 ∷ 22 ∷ [])
+    × (run calls-leaf (start Ppc64) .words ≡ start Ppc64 .words)
+unfolding overlay splice bytesOf valueOf store load saveRun loadRun withPointer allWithin lowered okRegisters cleared okLeaf okRequest below roundUp fullSize frameSize chainWidth gprAt savesBy linkAt mergeFields restoredLr restoredCr restored bankOf writableRegister withRegister judge topFrame okFrames sizes okMemory okState startAnswer started startedMemory enterAnswer entered enteredMemory writeRegisterAnswer writtenRegister leaveAnswer left startOutcome startMemory enterOutcome enterMemory writeRegisterOutcome leaveOutcome isMachine depthIn registersIn frameIn framesIn stateIn registerWords frameWords framesWords stateWords changed startWords enterWords writeRegisterWords leaveWords
+worked = (refl, refl, refl, refl, refl, refl, refl, refl)
