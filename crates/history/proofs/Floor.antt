@@ -25,14 +25,14 @@ use Rattle.rules.proofs.Conventions.{lawful}
 use Rattle.rules.proofs.Places.{leaf-size, size-parts, below-reach, ascending}
 use Rattle.machine.specs.declared.Answer.{Answer}
 use Rattle.machine.specs.declared.Answer.the-variants.{Accepted, Refused}
-use Rattle.machine.specs.Machine.{stackPointer, offset, top, caller, stateTests, outgoingFrom, writableAddress, writeMemoryAnswer, writtenMemory, entered, enteredMemory, enterOutcome, enterMemory, writeRegisterOutcome, writeMemoryOutcome, writeMemoryMemory, leaveOutcome}
+use Rattle.machine.specs.Machine.{stackPointer, offset, top, caller, stateTests, outgoingFrom, writableAddress, writeMemoryAnswer, writtenMemory, entered, enteredMemory, startOutcome, enterOutcome, enterMemory, writeRegisterOutcome, writeMemoryOutcome, writeMemoryMemory, leaveOutcome}
 use Rattle.machine.specs.Premises.{CanEnter}
 use Rattle.machine.proofs.Judging.{holds-yes, judge-both}
 use Rattle.machine.proofs.States.{enter-yes}
 use Rattle.machine.proofs.Areas.{solid-outgoing, outgoing-le, areas}
 use Rattle.history.specs.Calls.{Call, enter, writeRegister, writeMemory, leave, Machine, answer, after}
 use Rattle.history.specs.Preserved.{OpenEnter, openAfter, CallsFit}
-use Rattle.history.specs.Floor.{FloorInside, Untouched, FloorHolds, KeepsFloor}
+use Rattle.history.specs.Floor.{FloorInside, Untouched, FloorHolds, KeepsFloorOfStates}
 use Rattle.history.proofs.Invariant.{Base, Invariant, base-of}
 use Rattle.history.proofs.Entering.{new-pointer}
 use Rattle.history.proofs.Theorem.{step, start-invariant}
@@ -105,5 +105,6 @@ module _ (k : Rules) (law : Lawful k) where
     floor-holds cs (w .1) (openAfter c (answer c m) m os) (after c m) (step k law c (w .0) os m i (answer c m) refl .1),
   )
 
-pub floor-kept : KeepsFloor
+pub floor-kept : KeepsFloorOfStates
+unfolding startOutcome
 floor-kept c b l r fit e cs w = floor-holds (rules c) (lawful c) cs w [] _ (start-invariant c b l r fit e)

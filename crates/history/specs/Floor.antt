@@ -1,5 +1,6 @@
 -- Document 02, No. 8: "Interrupt code on the PowerPC machines trusts the room under the stack pointer"; No. 9: "The leaf may write the bytes of the floor area of No. 8
--- that aren't its saves". `KeepsFloor` is the claim for every list of calls from every accepted start; `floor-kept` in proofs/Floor.antt proves it. Assumes nothing.
+-- that aren't its saves". `KeepsFloorOfStates` is the claim for every list of the machine's own calls from every accepted start; `floor-kept` in proofs/Floor.antt proves it.
+-- The crate word_history has the claim of the calls that C makes. Assumes nothing.
 use Prim.Native.Nat.{ℕ, _+_, _≤_, _<_}
 use mathlib.Core.Path.{_≡_}
 use mathlib.Core.Logic.{_⊎_}
@@ -12,7 +13,7 @@ use Rattle.rules.specs.declared.Registers.{Registers}
 use Rattle.rules.specs.Rules.{rules}
 use Rattle.rules.specs.Frames.{below}
 use Rattle.machine.specs.declared.Answer.the-variants.{Accepted}
-use Rattle.machine.specs.Machine.{stackPointer, offset, top, startAnswer}
+use Rattle.machine.specs.Machine.{stackPointer, offset, top, startOutcome}
 use Rattle.history.specs.Calls.{Call, enter, writeRegister, writeMemory, leave, Machine, after, fresh}
 use Rattle.history.specs.Preserved.{RegistersFit, CallsFit}
 
@@ -38,6 +39,7 @@ abbrev pub FloorHolds : Rules → List Call → Machine → Type 0
 FloorHolds k [] m = FloorInside k m
 FloorHolds k (c ∷ cs) m = FloorInside k m × Untouched k c m (after c m) × FloorHolds k cs (after c m)
 
-abbrev pub KeepsFloor : Type 0
-KeepsFloor = (c : Convention) (b : ℕ) (l : List ℕ) (r : Registers) → RegistersFit r → startAnswer c b (length l) ≡ Accepted
-    → (cs : List Call) → CallsFit cs → FloorHolds (rules c) cs (fresh c b l r)
+-- `RegistersFit` and `CallsFit` restrict nothing: the types of the program's numbers are so.
+abbrev pub KeepsFloorOfStates : Type 0
+KeepsFloorOfStates = (c : Convention) (b : ℕ) (l : List ℕ) (r : Registers) → RegistersFit r → startOutcome c b (length l) r .answer ≡ Accepted → (cs : List Call) → CallsFit cs
+    → FloorHolds (rules c) cs (fresh c b l r)

@@ -35,7 +35,7 @@ use Rattle.word_history.specs.Demand3.{machineIn, callIn, callsIn, Holds
 abbrev machineOf : List ℕ → State → states.Machine
 machineOf l s = record { state = s; memory = l }
 
-reading-after : (c : Call) (m : Lent) → length (m .words) ≡ 262 → machineIn (after c m) ≡ states.after (callIn c) (machineIn m)
+pub reading-after : (c : Call) (m : Lent) → length (m .words) ≡ 262 → machineIn (after c m) ≡ states.after (callIn c) (machineIn m)
 unfolding writeMemoryOutcome
 reading-after (enter q) m h = ap (machineOf (enterMemory (stateIn (m .words)) (m .memory) (frameIn q 0))) (enter-state (m .words) (length (m .memory)) q h)
 reading-after (writeRegister b n v) m h = ap (machineOf (m .memory)) (write-register-state (m .words) (length (m .memory)) b n v h)
@@ -58,7 +58,7 @@ settle-length : (a : Answer) (x y : List ℕ) → length x ≡ length y → leng
 settle-length Accepted x y h = h
 settle-length (Refused r) x y h = refl
 
-words-length : (c : Call) (m : Lent) → length (wordsAfter c m) ≡ length (m .words)
+pub words-length : (c : Call) (m : Lent) → length (wordsAfter c m) ≡ length (m .words)
 unfolding enterWords writeRegisterWords leaveWords
 words-length (enter q) m =
     let o = enterOutcome (stateIn (m .words)) (length (m .memory)) (frameIn q 0) in
@@ -72,7 +72,7 @@ words-length leave m =
     settle-length (o .answer) (changed (m .words) (o .state) (o .state .depth)) (m .words) (changed-length (m .words) (o .state) (o .state .depth))
 
 -- a start's are 262
-start-length : (c : Convention) (rs : List ℕ) (b n : ℕ) → length rs ≡ 66 → length (startWords c rs b n) ≡ 262
+pub start-length : (c : Convention) (rs : List ℕ) (b n : ℕ) → length rs ≡ 66 → length (startWords c rs b n) ≡ 262
 unfolding startWords refusedWords startOutcome started withPointer cleared registersIn stateWords
 start-length c rs b n h = go (startAnswer c b n)
   where
@@ -106,7 +106,7 @@ fit-take (suc n) [] b z h i = z
 fit-take (suc n) (x ∷ l) b z h zero = h 0
 fit-take (suc n) (x ∷ l) b z h (suc i) = fit-take n l b z (λ j. h (suc j)) i
 
-registers-fit : (rs : List ℕ) → WordsFit 66 rs → RegistersFit (registersIn rs 0)
+pub registers-fit : (rs : List ℕ) → WordsFit 66 rs → RegistersFit (registersIn rs 0)
 unfolding registersIn
 registers-fit rs h = record {
   gprs = length-part 0 32 rs (omega (arith, h .count));

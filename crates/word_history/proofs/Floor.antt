@@ -1,0 +1,30 @@
+-- The floor under lists of the exported calls, from that under lists of the machine's own calls: a list over words keeps it where its reading does. Assumes nothing.
+use Prim.Native.Nat.{ℕ}
+use mathlib.Core.Path.{_≡_, sym, _∙_, subst}
+use mathlib.Core.List.{List, [], _∷_}
+use lib.ListN.{length}
+use Rattle.rules.specs.declared.Rules.{Rules}
+use Rattle.rules.specs.Rules.{rules}
+use Rattle.word_layout.specs.Words.{registersIn}
+use Rattle.word_layout.proofs.Theorems.{start-state}
+use Rattle.history.specs.Calls as states
+use Rattle.history.specs.Floor as states-floor
+use Rattle.history.proofs.Floor.{floor-kept}
+use Rattle.word_history.specs.Calls.{Call, Lent, after, fresh}
+use Rattle.word_history.specs.Demand3.{machineIn, callIn, callsIn}
+use Rattle.word_history.specs.Floor.{FloorHolds, KeepsFloor}
+use Rattle.word_history.proofs.Theorem.{reading-after, words-length, start-length, registers-fit}
+
+floor-read : (k : Rules) (cs : List Call) (m : Lent) → length (m .words) ≡ 262 → states-floor.FloorHolds k (callsIn cs) (machineIn m) → FloorHolds k cs m
+floor-read k [] m h p = p
+floor-read k (c ∷ cs) m h p =
+    let e = reading-after c m h in (
+      p .0,
+      subst (λ (n : states.Machine). states-floor.Untouched k (callIn c) (machineIn m) n) (sym e) (p .1),
+      floor-read k cs (after c m) (words-length c m ∙ h) (subst (λ (n : states.Machine). states-floor.FloorHolds k (callsIn cs) n) (sym e) (p .2)),
+    )
+
+pub words-floor : KeepsFloor
+words-floor c b l rs h e cs w =
+    floor-read (rules c) cs (fresh c b l rs) (start-length c rs b (length l) (h .count))
+    (rw (start-state c rs b (length l) (h .count) e) (floor-kept c b l (registersIn rs 0) (registers-fit rs h) e (callsIn cs) w))
