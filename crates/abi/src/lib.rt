@@ -1,8 +1,11 @@
-// The conventions as types: each with its constants, its rules and its fresh start.
+// Each convention as one type: its constants, its rules for calls and for frames, its starting cursor and its fresh machine. The functions below the
+// types go from a `Convention` to what its type says.
 ghost use mathlib.Core.Path.{_≡_};
 ghost use Prim.Native.Nat.{_+_, _%_};
 ghost use lib.ListN.{length};
-ghost use Rattle.rules.specs.Rules.{ppc64, z, rules};
+ghost use Rattle.conventions.specs.Numbers.{leastArea};
+ghost use Rattle.places.specs.Step.{rulesOf, fresh};
+ghost use Rattle.rules.specs.Rules.{rules};
 ghost use Rattle.rules.specs.Frames.{lowered, cleared};
 ghost use Rattle.machine.specs.Machine.{startOutcome, startMemory};
 use conventions::Convention;
@@ -10,6 +13,9 @@ use machine::Answer;
 use machine::Outcome;
 use machine::Refusal;
 use machine::State;
+use places::Cursor;
+use places::Edition;
+use places::PowerRules;
 use rules::Bank;
 use rules::Frame;
 use rules::Linkage;
@@ -21,26 +27,52 @@ use rules::Span;
 pub struct Ppc64 {}
 
 impl Ppc64 {
-    pub const WORD: usize = 8;
-
+    // The bytes of a word: of a pointer, a general register, a back chain and a place of the argument list.
+    pub const WORD: usize = Convention::PPC64_WORD;
+    // The bytes of a frame's header, below the parameter area.
     pub const HEADER: usize = 48;
-
-    pub const LEAST_OUTGOING: usize = 64;
-
+    // What the stack pointer is a multiple of.
     pub const ALIGNMENT: usize = 16;
+    // The words of the least parameter area.
+    pub const LEAST_WORDS: usize = 8;
+    // The first argument registers.
+    pub const FIRST_GENERAL: usize = 3;
 
+    pub const FIRST_FLOATING: usize = 1;
+    // The bytes from the start's stack pointer to the end of the memory.
     pub const START_ROOM: usize = 112;
 
     pub const FLOOR: usize = 288;
 
     pub const STACK_POINTER: usize = 1;
-
+    // Where CR and LR are saved in the caller's header.
     pub const CR_SLOT: usize = 8;
 
     pub const LR_SLOT: usize = 16;
 
-    pub fn rules() -> Rules
-        ensures { λ r. ⌜ r ≡ ppc64 ⌝ }
+    pub fn call_rules() -> places::Rules
+        ensures { λ r. ⌜ r ≡ rulesOf Convention.Ppc64 ⌝ }
+    {
+        places::Rules::Power(PowerRules {
+            word: Self::WORD,
+            edition: Edition::Earlier,
+        })
+    }
+
+    // Where the first argument starts.
+    pub fn cursor() -> Cursor
+        ensures { λ r. ⌜ r ≡ fresh (rulesOf Convention.Ppc64) ⌝ }
+    {
+        Cursor {
+            general: Self::FIRST_GENERAL,
+            floating: Self::FIRST_FLOATING,
+            stack: 0,
+            copies: 0,
+        }
+    }
+
+    pub fn frame_rules() -> Rules
+        ensures { λ r. ⌜ r ≡ rules Convention.Ppc64 ⌝ }
     {
         let volatile = [Span { first: 0, last: 0 }, Span { first: 3, last: 12 }];
         let preserved = [
@@ -64,7 +96,7 @@ impl Ppc64 {
         Rules {
             word: Self::WORD,
             header: Self::HEADER,
-            least: Self::LEAST_OUTGOING,
+            least: Self::WORD * Self::LEAST_WORDS,
             alignment: Self::ALIGNMENT,
             room: Self::START_ROOM,
             floor: Self::FLOOR,
@@ -93,7 +125,7 @@ impl Ppc64 {
         }
     }
 
-    // The fresh start.
+    // The fresh machine.
     pub fn start(memory: &mut [u8], base: u64, registers: Registers) -> Outcome
         ensures { λ r. ⌜ r ≡ startOutcome Convention.Ppc64 base (length (now (memory .entry))) registers ⌝ }
         ensures { λ _. ⌜ now (memory .exit) ≡ startMemory Convention.Ppc64 base (now (memory .entry)) ⌝ }
@@ -106,13 +138,21 @@ impl Ppc64 {
 pub struct Z {}
 
 impl Z {
-    pub const WORD: usize = 8;
+    pub const WORD: usize = Convention::Z_WORD;
 
     pub const HEADER: usize = 160;
 
-    pub const LEAST_OUTGOING: usize = 0;
-
     pub const ALIGNMENT: usize = 8;
+
+    pub const LEAST_WORDS: usize = 0;
+
+    pub const FIRST_GENERAL: usize = 2;
+
+    pub const FIRST_FLOATING: usize = 0;
+    // The numbers after the last argument registers, r6 and f6; of the floating ones only those with even numbers are used.
+    pub const PAST_GENERAL: usize = 7;
+
+    pub const PAST_FLOATING: usize = 8;
 
     pub const START_ROOM: usize = 160;
 
@@ -122,8 +162,25 @@ impl Z {
 
     pub const RETURN_REGISTER: usize = 14;
 
-    pub fn rules() -> Rules
-        ensures { λ r. ⌜ r ≡ z ⌝ }
+    pub fn call_rules() -> places::Rules
+        ensures { λ r. ⌜ r ≡ rulesOf Convention.Z ⌝ }
+    {
+        places::Rules::Z
+    }
+
+    pub fn cursor() -> Cursor
+        ensures { λ r. ⌜ r ≡ fresh (rulesOf Convention.Z) ⌝ }
+    {
+        Cursor {
+            general: Self::FIRST_GENERAL,
+            floating: Self::FIRST_FLOATING,
+            stack: 0,
+            copies: 0,
+        }
+    }
+
+    pub fn frame_rules() -> Rules
+        ensures { λ r. ⌜ r ≡ rules Convention.Z ⌝ }
     {
         let volatile = [
             Span { first: 0, last: 5 },
@@ -138,7 +195,7 @@ impl Z {
         Rules {
             word: Self::WORD,
             header: Self::HEADER,
-            least: Self::LEAST_OUTGOING,
+            least: Self::WORD * Self::LEAST_WORDS,
             alignment: Self::ALIGNMENT,
             room: Self::START_ROOM,
             floor: Self::FLOOR,
@@ -161,7 +218,6 @@ impl Z {
         }
     }
 
-    // The fresh start.
     pub fn start(memory: &mut [u8], base: u64, registers: Registers) -> Outcome
         ensures { λ r. ⌜ r ≡ startOutcome Convention.Z base (length (now (memory .entry))) registers ⌝ }
         ensures { λ _. ⌜ now (memory .exit) ≡ startMemory Convention.Z base (now (memory .entry)) ⌝ }
@@ -170,13 +226,45 @@ impl Z {
     }
 }
 
-// A convention's rules: the one place that tells the conventions apart.
-pub fn rules_of(c: Convention) -> Rules
+// ---- by the convention's name
+
+// The rules of its calls.
+pub fn call_rules_of(c: Convention) -> places::Rules
+    ensures { λ r. ⌜ r ≡ rulesOf c ⌝ }
+{
+    match c {
+        Convention::Ppc64 => Ppc64::call_rules(),
+        Convention::Z => Z::call_rules(),
+    }
+}
+
+// Where its first argument starts.
+pub fn cursor_of(c: Convention) -> Cursor
+    ensures { λ r. ⌜ r ≡ fresh (rulesOf c) ⌝ }
+{
+    match c {
+        Convention::Ppc64 => Ppc64::cursor(),
+        Convention::Z => Z::cursor(),
+    }
+}
+
+// The bytes of its least parameter area.
+pub fn least_area_of(c: Convention) -> usize
+    ensures { λ r. ⌜ r ≡ leastArea c ⌝ }
+{
+    match c {
+        Convention::Ppc64 => Ppc64::WORD * Ppc64::LEAST_WORDS,
+        Convention::Z => Z::WORD * Z::LEAST_WORDS,
+    }
+}
+
+// The rules of its frames.
+pub fn frame_rules_of(c: Convention) -> Rules
     ensures { λ r. ⌜ r ≡ rules c ⌝ }
 {
     match c {
-        Convention::Ppc64 => Ppc64::rules(),
-        Convention::Z => Z::rules(),
+        Convention::Ppc64 => Ppc64::frame_rules(),
+        Convention::Z => Z::frame_rules(),
     }
 }
 
@@ -219,11 +307,13 @@ fn clear(k: Rules, r: Registers) -> Registers
     }
 }
 
+// A machine on this memory with these registers: the stack pointer set, a zero word at it. A refused start hands back the convention and the registers
+// as they came, with base, size, depth and records 0, and leaves the memory.
 fn start(c: Convention, memory: &mut [u8], base: u64, registers: Registers) -> Outcome
     ensures { λ r. ⌜ r ≡ startOutcome c base (length (now (memory .entry))) registers ⌝ }
     ensures { λ _. ⌜ now (memory .exit) ≡ startMemory c base (now (memory .entry)) ⌝ }
 {
-    let k = rules_of(c);
+    let k = frame_rules_of(c);
     let n = memory.len();
     let none = Frame {
         first_gpr: 0,

@@ -1,5 +1,5 @@
 // The frame machine for C and Rust: `fz_machine` is 262 words, `fz_registers` 66 and `fz_frame` 6, in the layout of the crate word_layout.
-// A refused call leaves the machine's words and the memory as they were; a refused start leaves the registers as handed in and all else 0.
+// A refused call leaves the machine's words and the memory as they were; a refused start leaves the convention, the registers as handed in and all else 0.
 use answers::Answer;
 ghost use mathlib.Core.Path.{_≡_};
 ghost use lib.ListN.{length};

@@ -38,7 +38,7 @@ fn put_arguments(
 {
     let convention = g.convention;
     let count = g.count;
-    let rules = places::rules_of(convention);
+    let rules = abi::call_rules_of(convention);
     let mut v: usize = 0;
     let mut i: usize = 0;
     while i < count {

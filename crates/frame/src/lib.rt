@@ -13,7 +13,7 @@ pub fn enter(s: State, memory: &mut [u8], f: Frame) -> Outcome
     ensures { λ _. ⌜ now (memory .exit) ≡ enterMemory s (now (memory .entry)) f ⌝ }
 {
     let c = s.convention;
-    let k = abi::rules_of(c);
+    let k = abi::frame_rules_of(c);
     let n = memory.len();
     let a = call_checks::judge_enter(k, s, n, f);
     match a {
@@ -37,7 +37,7 @@ pub fn write_register(s: State, memory: &[u8], bank: u64, number: u64, value: u6
     ensures { λ r. ⌜ r ≡ writeRegisterOutcome s (length (now (memory .entry))) bank number value ⌝ }
 {
     let c = s.convention;
-    let k = abi::rules_of(c);
+    let k = abi::frame_rules_of(c);
     let n = memory.len();
     let a = call_checks::judge_write_register(k, s, n, bank, number, value);
     match a {
@@ -65,7 +65,7 @@ pub fn write_memory(s: State, memory: &mut [u8], address: u64, bytes: &[u8]) -> 
     ensures { λ _. ⌜ now (memory .exit) ≡ writeMemoryMemory s (now (memory .entry)) address (now (bytes .entry)) ⌝ }
 {
     let c = s.convention;
-    let k = abi::rules_of(c);
+    let k = abi::frame_rules_of(c);
     let a = call_checks::judge_write_memory(k, s, memory.len(), address, bytes.len());
     match a {
         Answer::Refused(r) => Outcome {
@@ -89,7 +89,7 @@ pub fn leave(s: State, memory: &[u8]) -> Outcome
     ensures { λ r. ⌜ r ≡ leaveOutcome s (now (memory .entry)) ⌝ }
 {
     let c = s.convention;
-    let k = abi::rules_of(c);
+    let k = abi::frame_rules_of(c);
     let a = call_checks::judge_leave(k, s, memory);
     match a {
         Answer::Refused(r) => Outcome {

@@ -84,7 +84,7 @@ all-homed k (t ∷ ts) a h =
 plan-homed : (n : ℕ) (c : Convention) (r : ResultType) (ts : List ValueType) → c ≡ Convention.Ppc64
     → All (Homed (planIn n c r ts .area)) (placements c ts (spansOf c (rulesOf c) (startIn c r) ts))
 unfolding planIn
-plan-homed n Convention.Ppc64 r ts e = all-homed (startIn Convention.Ppc64 r) ts _ (area-holds ppc64 (endIn Convention.Ppc64 r ts))
+plan-homed n Convention.Ppc64 r ts e = all-homed (startIn Convention.Ppc64 r) ts _ (area-holds Convention.Ppc64 (endIn Convention.Ppc64 r ts))
 plan-homed n Convention.Z r ts e = let z : _≡_ {A = ℕ} 0 1 = cc in absurd (omega arith)
 
 refused-homed : (reason : _) (place : ℕ) → All (Homed (planAnswer (no reason place) .area)) (argumentsIn (signatureAnswer (no reason place)) (planAnswer (no reason place)))

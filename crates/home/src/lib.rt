@@ -60,7 +60,7 @@ fn first_unwidened(image: &[u8], g: SignatureRead, p: Plan) -> Answer
 {
     let convention = g.convention;
     let count = g.count;
-    let rules = places::rules_of(convention);
+    let rules = abi::call_rules_of(convention);
     let mut i: usize = 0;
     while i < count {
         let a = g.arguments[i];
@@ -244,7 +244,7 @@ pub fn view_part(sig: &[u8], index: usize, have: usize) -> ViewPart
     let s = p.spans[index];
     let place = s.home;
     let n = types::size_of(convention, t);
-    let start = place.start as usize + slots::own_start(places::rules_of(convention), t, n);
+    let start = place.start as usize + slots::own_start(abi::call_rules_of(convention), t, n);
     ViewPart {
         answer,
         start,

@@ -1,9 +1,8 @@
--- Laws that belong to no one function. `Theorems`, `Laws` and `Examples` are for readers and for the crates above; the
--- others lead to them.
+-- Laws that belong to no one function. `Theorems` and `Laws` are for readers and for the crates above; the others lead to
+-- them.
 mod Fields
 mod Classes
 mod Magnitudes
 mod Values
 pub mod Laws
 pub mod Theorems
-pub mod Examples

@@ -1,5 +1,5 @@
 -- Narrowing: the single whose widening 64 bits are, or none. Document 01's refusal 14 is "a single's PPC64 FPR that is no
--- widened single"; its worked values 3FF0000010000000 and 3690000000000000 are none (proofs/Examples.antt).
+-- widened single". Its worked values are in the crate vectors' table.
 -- `NarrowExactly` says what narrowing is without the formula of its candidate; proofs/Theorems.antt has it of all 64 bits.
 -- Assumes nothing.
 use Prim.Native.Nat.{ℕ, _+_, _-_, _/_, _^_, _<_, min}

@@ -1,8 +1,7 @@
 -- Widening a datum of one format to a wider format. Document 01, "What stands in a slot": "A PPC64 single is widened bit
 -- for bit in an FPR, never quieted". A zero, a subnormal and a normal number keep their value, an infinity stays one, and
 -- a NaN keeps its sign and every bit of its fraction: a signalling NaN stays signalling.
--- Document 01's worked values, 3F800000, 00000001, 007FFFFF and 7F800001, widen to 3FF0000000000000, 36A0000000000000,
--- 380FFFFFC0000000 and 7FF0000020000000 (proofs/Examples.antt).
+-- Document 01's worked values are in the crate vectors' table.
 -- `WidenExactly` says what widening keeps without the formulas of `widenAs`; proofs/Theorems.antt has it of every single.
 -- Assumes nothing.
 use mathlib.Core.Path.{_≡_}

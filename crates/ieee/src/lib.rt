@@ -1,7 +1,7 @@
 // A single's 32 bits as the 64 bits of the double that it widens to, and back where there is such a single. The work is on
 // the bits as integers and never on floats, so no NaN is quieted.
 ghost use mathlib.Core.Path.{_≡_};
-ghost use Prim.Native.Nat.{_^_, _<_};
+ghost use Prim.Native.Nat.{_/_, _%_, _^_, _<_};
 ghost use Rattle.ieee.specs.Widening.{widen as widenOf, magnitude as magnitudeOf};
 ghost use Rattle.ieee.specs.Narrowing.{narrow as narrowOf, candidate as candidateOf, candidateMagnitude};
 
@@ -27,31 +27,24 @@ const LONGER: u64 = 0x2000_0000;
 // A double's bias is larger by this: 1023 less 127.
 const REBIAS: u64 = 896;
 
-// A subnormal single's fraction as a double without its sign. Its leading one is shifted to the place of the hidden bit,
-// and there it counts one in the exponent field: the field is one more than is multiplied by the unit here.
-fn widen_subnormal(fraction: u64) -> u64
-    requires { ⌜ (0 < fraction) × (fraction < 2 ^ 23) ⌝ }
-    ensures { λ r. ⌜ r ≡ magnitudeOf 0 fraction ⌝ }
+// The single m without its sign as a double without its sign, class after class: zero, subnormal numbers, normal numbers,
+// infinity and NaNs. A subnormal's leading one is shifted to the place of the hidden bit, and there it counts one in the
+// exponent field: the field is one more than is multiplied by the unit here.
+fn widen_magnitude(m: u64) -> u64
+    requires { ⌜ m < 2 ^ 31 ⌝ }
+    ensures { λ r. ⌜ r ≡ magnitudeOf (m / 2 ^ 23) (m % 2 ^ 23) ⌝ }
 {
-    let shift = (u32::leading_zeros(fraction as u32) - 8) as u64;
-    (REBIAS - shift) * DOUBLE_UNIT + (fraction << shift) * LONGER
-}
-
-// A single without its sign, given by its fields, as a double without its sign.
-fn widen_magnitude(exponent: u64, fraction: u64) -> u64
-    requires { ⌜ (exponent < 2 ^ 8) × (fraction < 2 ^ 23) ⌝ }
-    ensures { λ r. ⌜ r ≡ magnitudeOf exponent fraction ⌝ }
-{
-    if exponent == 0 {
-        if fraction == 0 {
-            return 0;
-        }
-        return widen_subnormal(fraction);
+    if m == 0 {
+        return 0;
     }
-    if exponent == 255 {
-        return DOUBLE_INFINITY + fraction * LONGER;
+    if m < SINGLE_UNIT {
+        let shift = (u32::leading_zeros(m as u32) - 8) as u64;
+        return (REBIAS - shift) * DOUBLE_UNIT + (m << shift) * LONGER;
     }
-    (exponent + REBIAS) * DOUBLE_UNIT + fraction * LONGER
+    if m < SINGLE_INFINITY {
+        return REBIAS * DOUBLE_UNIT + m * LONGER;
+    }
+    DOUBLE_INFINITY + (m - SINGLE_INFINITY) * LONGER
 }
 
 // The double that the single x widens to.
@@ -59,10 +52,7 @@ pub fn widen(x: u32) -> u64
     ensures { λ r. ⌜ r ≡ widenOf x ⌝ }
 {
     let bits = x as u64;
-    let sign = bits / SINGLE_SIGN;
-    let exponent = bits / SINGLE_UNIT % 256;
-    let fraction = bits % SINGLE_UNIT;
-    sign * DOUBLE_SIGN + widen_magnitude(exponent, fraction)
+    bits / SINGLE_SIGN * DOUBLE_SIGN + widen_magnitude(bits % SINGLE_SIGN)
 }
 
 // What narrowing finds: the single that widens to the 64 bits, or that there is none.

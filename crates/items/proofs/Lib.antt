@@ -6,3 +6,5 @@ pub mod Trees
 pub mod Complete
 pub mod Sound
 pub mod Loop
+pub mod Seven
+pub mod Numbers

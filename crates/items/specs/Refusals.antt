@@ -1,6 +1,9 @@
 -- Document 01's numbers for the refusals of a signature, "When the bridge says no". Assumes nothing.
 use Prim.Native.Nat.{ℕ}
 use Rattle.items.specs.declared.Refusal.{Refusal}
+use Rattle.items.specs.declared.Body.{Body}
+use Rattle.items.specs.declared.ItemRead.{ItemRead}
+use Rattle.items.specs.Reading.{Reading, got, no}
 
 abbrev pub numberOf : Refusal → ℕ
 -- "signature over 4,096 bytes"
@@ -21,3 +24,17 @@ numberOf Refusal.TooManyArguments = 7
 numberOf Refusal.StructTooLarge = 8
 -- "bytes after the third item"
 numberOf Refusal.TrailingBytes = 9
+
+-- ---- the number of each answer: 0 where nothing is refused
+
+abbrev pub readingNumber : {A : Type 0} → Reading A → ℕ
+readingNumber (got x next n) = 0
+readingNumber (no r place) = numberOf r
+
+abbrev pub bodyNumber : Body → ℕ
+bodyNumber (Body.To b) = 0
+bodyNumber (Body.Refused r) = numberOf r
+
+abbrev pub itemNumber : ItemRead → ℕ
+itemNumber (ItemRead.Item t next n) = 0
+itemNumber (ItemRead.Refused r place) = numberOf r

@@ -1,15 +1,15 @@
 -- The line of one argument in a printed plan. Document 01, "Sums to check against"; where the places' order matters, as in the specs of
--- convention. Assumes nothing.
+-- places. Assumes nothing.
 use Prim.Native.Nat.{ℕ, _+_}
 use mathlib.Core.Bool.{Bool}
 use mathlib.Core.List.{List, [], _∷_, _++_}
 use lib.Dec.{ltb}
 use Rattle.words.specs.Basics.{pick}
 use Rattle.conventions.specs.declared.Convention.{Convention}
+use Rattle.conventions.specs.Numbers.{headerBytes}
 use Rattle.places.specs.declared.Bank.{Bank}
 use Rattle.places.specs.declared.Place.{Place}
 use Rattle.places.specs.declared.Span.{Span}
-use Rattle.places.specs.Step.{headerOf}
 use Rattle.places.specs.Places.{registersOf}
 use Rattle.text.specs.Decimals.{decimal}
 use Rattle.line.specs.Words.{generalMark, floatingMark, memoryWord, offsetMark, referenceWord, newline}
@@ -39,7 +39,7 @@ memoryText s = pick (stored s) (placeText (Place.Memory (s .memory .start))) []
 -- (from 160)"
 abbrev pub offsetText : Convention → Span → List ℕ
 offsetText Convention.Ppc64 s = offsetMark ++ decimal (s .home .start)
-offsetText Convention.Z s = pick (stored s) (offsetMark ++ decimal (headerOf Convention.Z + s .home .start)) []
+offsetText Convention.Z s = pick (stored s) (offsetMark ++ decimal (headerBytes Convention.Z + s .home .start)) []
 
 -- "` ref` at the line's end for an argument passed by pointer to a copy"
 abbrev pub referenceText : Bool → List ℕ

@@ -85,7 +85,7 @@ fn put_offset(text: &mut [u8], at: usize, c: Convention, s: Span) -> usize
         Convention::Ppc64 => put_at(text, at, home.start as usize),
         Convention::Z => {
             if 0 < memory.length {
-                return put_at(text, at, places::Z::HEADER + home.start as usize);
+                return put_at(text, at, abi::Z::HEADER + home.start as usize);
             }
             at
         }

@@ -99,7 +99,7 @@ started c b n r = record {
 unfoldable pub startedMemory : Rules → List ℕ → List ℕ
 startedMemory k l = store l (length l - k .room) (k .word) 0
 
--- "a refused start hands the registers back as they came, all else 0"; the convention stays
+-- "a refused start hands the registers back as they came, all else 0": base, size, depth and records are 0; the convention is the one asked for
 unfoldable pub notStarted : Convention → Registers → State
 notStarted c r = record { convention = c; base = 0; size = 0; depth = 0; registers = r; frames = replicate 32 noFrame }
 

@@ -6,8 +6,8 @@ use native.Mathlib.Omega.{arith}
 use native.Mathlib.Nat.{div-mul-le-self, mul-comm}
 use Rattle.words.specs.Basics.{roundUp}
 use Rattle.conventions.specs.declared.Convention.{Convention}
+use Rattle.conventions.specs.Numbers.{wordBytes, leastArea}
 use Rattle.types.specs.declared.ValueType.{ValueType}
-use Rattle.types.specs.Sizes.{pointerSize}
 use Rattle.places.specs.declared.Cursor.{Cursor}
 use Rattle.places.specs.declared.Rules.{Rules}
 use Rattle.places.specs.declared.ZClass.{ZClass}
@@ -24,7 +24,7 @@ rules-lawful Convention.Ppc64 = omega arith
 rules-lawful Convention.Z = tt
 
 -- a pointer is a word
-pub rules-word : (c : Convention) → wordOf (rulesOf c) ≡ pointerSize c
+pub rules-word : (c : Convention) → wordOf (rulesOf c) ≡ wordBytes c
 rules-word Convention.Ppc64 = refl
 rules-word Convention.Z = refl
 
@@ -111,14 +111,12 @@ named-roomy Rules.Z c h s k = omega arith
 pub fresh-roomy : (r : Rules) → Roomy (fresh r)
 fresh-roomy r = named-roomy r (fresh r) (named-fresh r) (omega (arith, fresh-bytes r)) (omega (arith, fresh-bytes r))
 
--- "The area is 8 times the larger of 8 and the final w": never less than that of no arguments
-pub least-area : (r : Rules) (e : Cursor) → areaOf r (fresh r) ≤ areaOf r e
-unfolding areaOf fresh
-least-area (Rules.Power f) e = omega arith
-least-area Rules.Z e = omega arith
+-- "The area is 8 times the larger of 8 and the final w": never less than the least area
+pub least-area : (c : Convention) (e : Cursor) → leastArea c ≤ areaOf c e
+unfolding areaOf
+least-area c e = omega arith
 
 -- all bytes before the last cursor lie in the area
-pub area-holds : (r : Rules) (e : Cursor) → e .stack ≤ areaOf r e
+pub area-holds : (c : Convention) (e : Cursor) → e .stack ≤ areaOf c e
 unfolding areaOf
-area-holds (Rules.Power f) e = omega arith
-area-holds Rules.Z e = omega arith
+area-holds c e = omega arith

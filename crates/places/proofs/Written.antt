@@ -10,6 +10,7 @@ use borrow.Author.Tests.{ltb-true, ltb-false}
 use lib.Dec.{ltb, leb}
 use Rattle.words.specs.Basics.{pick, roundUp}
 use Rattle.conventions.specs.declared.Convention.{Convention}
+use Rattle.conventions.specs.Numbers.{wordBytes, leastWords}
 use Rattle.types.specs.declared.FloatFormat.{FloatFormat}
 use Rattle.types.specs.declared.IntegerKind.{IntegerKind}
 use Rattle.types.specs.declared.ValueType.{ValueType}
@@ -66,21 +67,21 @@ next-counted f w m k t n =
     let g : 3 + min w 8 + min len (8 - w) ≡ 3 + min (w + len) 8 = omega arith in
     rw (same-covered len w, g, mul-add (f .word) w len)
 
--- "The area is 8 times the larger of 8 and the final w"
-pub area-written : (f : PowerRules) (w m k : ℕ) → areaOf (Rules.Power f) (counted (f .word) w m k) ≡ f .word * max 8 w
+-- "The area is 8 times the larger of 8 and the final w": so many words, in every convention
+pub area-written : (c : Convention) (w m k : ℕ) → areaOf c (counted (wordBytes c) w m k) ≡ wordBytes c * max (leastWords c) w
 unfolding areaOf
-area-written f w m k = go (ltb w 8) refl
+area-written c w m k = go (ltb w (leastWords c)) refl
   where
-    go : (b : Bool) → ltb w 8 ≡ b → max (f .word * 8) (f .word * w) ≡ f .word * max 8 w
+    go : (b : Bool) → ltb w (leastWords c) ≡ b → max (wordBytes c * leastWords c) (wordBytes c * w) ≡ wordBytes c * max (leastWords c) w
     go true q =
-        let h : w < 8 = ltb-true w 8 q in
-        let le : w ≤ 8 = omega arith in
-        let e : max 8 w ≡ 8 = omega arith in
-        rw e (omega (arith, mul-le-mul-left (f .word) le))
+        let h : w < leastWords c = ltb-true w (leastWords c) q in
+        let le : w ≤ leastWords c = omega arith in
+        let e : max (leastWords c) w ≡ leastWords c = omega arith in
+        rw e (omega (arith, mul-le-mul-left (wordBytes c) le))
     go false q =
-        let h : 8 ≤ w = ltb-false w 8 q in
-        let e : max 8 w ≡ w = omega arith in
-        rw e (omega (arith, mul-le-mul-left (f .word) h))
+        let h : leastWords c ≤ w = ltb-false w (leastWords c) q in
+        let e : max (leastWords c) w ≡ w = omega arith in
+        rw e (omega (arith, mul-le-mul-left (wordBytes c) h))
 
 -- ---- PowerPC: integers, structs and long doubles
 
@@ -249,9 +250,9 @@ unfolding nextOf zNextOf
 z-reference-next c t n e = rw e (z-moved c (roundUp (c .copies) 8 + n) (ltb (c .general) 7) refl)
 
 -- "The area is the stack bytes used, possibly 0"
-pub z-area-written : (c : Cursor) → areaOf Rules.Z c ≡ c .stack
+pub z-area-written : (c : Cursor) → areaOf Convention.Z c ≡ c .stack
 unfolding areaOf
-z-area-written c = refl
+z-area-written c = omega arith
 
 -- ---- the results
 

@@ -1,10 +1,11 @@
 -- One argument in every convention: its span and the next cursor; the first cursor, the area, and the place of a result.
 -- Document 01, "Places on PPC64" and "Places on Z". A convention is a value of `Rules`. All laws hold at every cursor.
 -- Assumes nothing.
-use Prim.Native.Nat.{ℕ, _*_, _≤_, max}
+use Prim.Native.Nat.{ℕ, _≤_, max}
 use mathlib.Core.Bool.{Bool, true, false}
 use Rattle.words.specs.Basics.{pick}
 use Rattle.conventions.specs.declared.Convention.{Convention}
+use Rattle.conventions.specs.Numbers.{wordBytes, leastArea}
 use Rattle.types.specs.declared.FloatFormat.{FloatFormat}
 use Rattle.types.specs.declared.ValueType.{ValueType}
 use Rattle.places.specs.declared.Edition.{Edition}
@@ -23,27 +24,16 @@ abbrev pub power : ℕ → Edition → Rules
 power w e = Rules.Power (record { word = w; edition = e })
 
 abbrev pub ppc64 : Rules
-ppc64 = power 8 Edition.Earlier
+ppc64 = power (wordBytes Convention.Ppc64) Edition.Earlier
 
 abbrev pub rulesOf : Convention → Rules
 rulesOf Convention.Ppc64 = ppc64
 rulesOf Convention.Z = Rules.Z
 
--- the bytes of a frame's header, below the parameter area: 000, 3.2.2, "for a total of 48 bytes"; 001, "160 bytes above the
--- initial stack pointer"
-abbrev pub headerOf : Convention → ℕ
-headerOf Convention.Ppc64 = 48
-headerOf Convention.Z = 160
-
--- what a stack pointer is a multiple of; document 01, "Frames": "rounded up to 16", "rounded up to 8"
-abbrev pub alignmentOf : Convention → ℕ
-alignmentOf Convention.Ppc64 = 16
-alignmentOf Convention.Z = 8
-
 -- the bytes of a word of the argument list, and of a pointer
 abbrev pub wordOf : Rules → ℕ
 wordOf (Rules.Power f) = f .word
-wordOf Rules.Z = 8
+wordOf Rules.Z = wordBytes Convention.Z
 
 -- what the laws ask of a convention
 abbrev pub Lawful : Rules → Type 0
@@ -82,9 +72,8 @@ unfoldable pub startOf : Rules → Bool → Cursor
 startOf r hidden = pick hidden (nextOf r (fresh r) pointer (wordOf r)) (fresh r)
 
 -- from the last cursor: "The area is 8 times the larger of 8 and the final w"; Z: "The area is the stack bytes used, possibly 0"
-unfoldable pub areaOf : Rules → Cursor → ℕ
-areaOf (Rules.Power f) e = max (f .word * 8) (e .stack)
-areaOf Rules.Z e = e .stack
+unfoldable pub areaOf : Convention → Cursor → ℕ
+areaOf c e = max (leastArea c) (e .stack)
 
 -- ---- the result
 

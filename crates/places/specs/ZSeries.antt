@@ -4,6 +4,8 @@ use Prim.Native.Nat.{ℕ, _+_, _-_, _*_, min}
 use mathlib.Core.Bool.{Bool, true, false}
 use lib.Dec.{eqb}
 use Rattle.words.specs.Basics.{pick, roundUp}
+use Rattle.conventions.specs.declared.Convention.{Convention}
+use Rattle.conventions.specs.Numbers.{wordBytes}
 use Rattle.types.specs.declared.Equivalent.{Equivalent}
 use Rattle.types.specs.declared.FloatFormat.{FloatFormat}
 use Rattle.types.specs.declared.ValueType.{ValueType}
@@ -41,20 +43,24 @@ zGeneral c = min 1 (7 - c .general)
 abbrev pub zFloating : Cursor → ℕ
 zFloating c = min 1 (8 - c .floating)
 
+-- the bytes of a place in memory
+abbrev pub zWord : ℕ
+zWord = wordBytes Convention.Z
+
 -- in g GPRs and f FPRs, one or none of both, "then 8 stack bytes"
 abbrev pub zSpan : Cursor → ℕ → ℕ → ByteRange → Bool → Span
 zSpan c g f copy indirect = record {
   general = registers (c .general) g;
   floating = registers (c .floating) f;
-  home = bytes (c .stack) (8 * (1 - (g + f)));
-  memory = bytes (c .stack) (8 * (1 - (g + f)));
+  home = bytes (c .stack) (zWord * (1 - (g + f)));
+  memory = bytes (c .stack) (zWord * (1 - (g + f)));
   copy = copy;
   indirect = indirect;
 }
 
 -- the copies end at e
 abbrev pub zNext : Cursor → ℕ → ℕ → ℕ → Cursor
-zNext c g f e = cursor (c .general + g) (c .floating + 2 * f) (c .stack + 8 * (1 - (g + f))) e
+zNext c g f e = cursor (c .general + g) (c .floating + 2 * f) (c .stack + zWord * (1 - (g + f))) e
 
 -- "by pointer to a copy, at the next multiple of 8 in the copy buffer"
 unfoldable pub zSpanOf : Cursor → ZClass → ℕ → Span

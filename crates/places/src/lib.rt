@@ -1,12 +1,9 @@
 // Where a calling convention puts arguments and results: the types of cursors, spans and places. The code of the steps is in the crates above.
-// A convention is a value, `Rules`; every convention has a type of its own with its constants and its starting cursor.
-use conventions::Convention;
+// A convention is a value, `Rules`; its type, with its constants and its starting cursor, is in `abi`.
 ghost use mathlib.Core.Path.{_≡_};
 ghost use Prim.Native.Nat.{_<_};
 ghost use lib.ListN.{getD};
-ghost use Rattle.places.specs.declared.Rules.{Rules};
 ghost use Rattle.places.specs.Values.{registers, bytes};
-ghost use Rattle.places.specs.Step.{ppc64, rulesOf, headerOf, alignmentOf, fresh};
 ghost use Rattle.places.specs.Places.{registersOf, registerCount, Numbered, noPlace};
 
 // The edition of the PowerPC supplement. In the later one a long double takes two FPRs.
@@ -96,114 +93,12 @@ pub enum ZClass {
     Reference,
 }
 
-// 64-bit PowerPC.
-pub struct Ppc64;
-
-impl Ppc64 {
-    // The bytes of a frame's header, below the parameter area.
-    pub const HEADER: usize = 48;
-    // What the stack pointer is a multiple of.
-    pub const ALIGNMENT: usize = 16;
-
-    pub const WORD: usize = 8;
-    // The first argument registers.
-    pub const FIRST_GENERAL: usize = 3;
-
-    pub const FIRST_FLOATING: usize = 1;
-
-    pub fn rules() -> Rules
-        ensures { λ r. ⌜ r ≡ ppc64 ⌝ }
-    {
-        Rules::Power(PowerRules {
-            word: Ppc64::WORD,
-            edition: Edition::Earlier,
-        })
-    }
-
-    // Where the first argument starts.
-    pub fn cursor() -> Cursor
-        ensures { λ r. ⌜ r ≡ fresh ppc64 ⌝ }
-    {
-        Cursor {
-            general: Ppc64::FIRST_GENERAL,
-            floating: Ppc64::FIRST_FLOATING,
-            stack: 0,
-            copies: 0,
-        }
-    }
-}
-
 // What all PowerPC conventions share.
 impl PowerRules {
     // The numbers after the last argument registers, r10 and f13.
     pub const PAST_GENERAL: usize = 11;
 
     pub const PAST_FLOATING: usize = 14;
-    // The words of the smallest parameter area.
-    pub const LEAST_WORDS: usize = 8;
-}
-
-// 64-bit zSeries.
-pub struct Z;
-
-impl Z {
-    pub const HEADER: usize = 160;
-
-    pub const ALIGNMENT: usize = 8;
-
-    pub const WORD: usize = 8;
-
-    pub const FIRST_GENERAL: usize = 2;
-
-    pub const FIRST_FLOATING: usize = 0;
-    // The numbers after the last argument registers, r6 and f6; of the floating ones only those with even numbers are used.
-    pub const PAST_GENERAL: usize = 7;
-
-    pub const PAST_FLOATING: usize = 8;
-
-    pub fn rules() -> Rules
-        ensures { λ r. ⌜ r ≡ Rules.Z ⌝ }
-    {
-        Rules::Z
-    }
-
-    pub fn cursor() -> Cursor
-        ensures { λ r. ⌜ r ≡ fresh Rules.Z ⌝ }
-    {
-        Cursor {
-            general: Z::FIRST_GENERAL,
-            floating: Z::FIRST_FLOATING,
-            stack: 0,
-            copies: 0,
-        }
-    }
-}
-
-pub fn rules_of(c: Convention) -> Rules
-    ensures { λ r. ⌜ r ≡ rulesOf c ⌝ }
-{
-    match c {
-        Convention::Ppc64 => Ppc64::rules(),
-        Convention::Z => Z::rules(),
-    }
-}
-
-pub fn header_of(c: Convention) -> usize
-    ensures { λ r. ⌜ r ≡ headerOf c ⌝ }
-{
-    match c {
-        Convention::Ppc64 => Ppc64::HEADER,
-        Convention::Z => Z::HEADER,
-    }
-}
-
-pub fn alignment_of(c: Convention) -> usize
-    ensures { λ r. ⌜ r ≡ alignmentOf c ⌝ }
-{
-    match c {
-        Convention::Ppc64 => Ppc64::ALIGNMENT,
-        Convention::Z => Z::ALIGNMENT,
-    }
 }
 
 pub fn register_range(first: usize, count: usize) -> RegisterRange

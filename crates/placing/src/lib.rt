@@ -3,27 +3,17 @@ ghost use mathlib.Core.Path.{_≡_};
 ghost use Prim.Native.Nat.{_≤_};
 ghost use Rattle.places.specs.Values.{pointer};
 ghost use Rattle.places.specs.Step.{Lawful, Roomy, rulesOf, wordOf, nextOf, placed, fresh, startOf, areaOf, returning, hiddenFor, resultOf};
+use abi::Z;
 use conventions::Convention;
 use places::Cursor;
 use places::Edition;
 use places::Placed;
 use places::PowerRules;
-use places::Ppc64;
 use places::ResultPlaces;
 use places::Rules;
-use places::Z;
 use types::FloatFormat;
 use types::IntegerKind;
 use types::ValueType;
-
-fn fresh_of(c: Convention) -> Cursor
-    ensures { λ r. ⌜ r ≡ fresh (rulesOf c) ⌝ }
-{
-    match c {
-        Convention::Ppc64 => Ppc64::cursor(),
-        Convention::Z => Z::cursor(),
-    }
-}
 
 fn word_of(r: Rules) -> usize
     ensures { λ n. ⌜ n ≡ wordOf r ⌝ }
@@ -60,8 +50,8 @@ pub fn advance(r: Rules, c: Cursor, t: ValueType, size: usize) -> Cursor
 fn hidden_step(c: Convention) -> Placed
     ensures { λ p. ⌜ p ≡ placed (rulesOf c) (fresh (rulesOf c)) pointer (wordOf (rulesOf c)) ⌝ }
 {
-    let r = places::rules_of(c);
-    let k = fresh_of(c);
+    let r = abi::call_rules_of(c);
+    let k = abi::cursor_of(c);
     let word = word_of(r);
     step(r, k, ValueType::Integer(IntegerKind::Pointer), word)
 }
@@ -74,18 +64,14 @@ pub fn start(c: Convention, hidden: bool) -> Cursor
         let p = hidden_step(c);
         return p.next;
     }
-    fresh_of(c)
+    abi::cursor_of(c)
 }
 
 // The bytes of the parameter area, from the cursor past the last argument.
-pub fn area_of(r: Rules, e: Cursor) -> usize
-    requires { ⌜ Lawful r ⌝ }
-    ensures { λ n. ⌜ n ≡ areaOf r e ⌝ }
+pub fn area_of(c: Convention, e: Cursor) -> usize
+    ensures { λ n. ⌜ n ≡ areaOf c e ⌝ }
 {
-    match r {
-        Rules::Power(f) => words::larger(f.word * PowerRules::LEAST_WORDS, e.stack),
-        Rules::Z => e.stack,
-    }
+    words::larger(abi::least_area_of(c), e.stack)
 }
 
 // Whether a result of this type is handed over through memory.
@@ -122,13 +108,13 @@ pub fn result_places(c: Convention, t: ValueType, size: usize) -> ResultPlaces
     requires { ⌜ size ≤ 256 ⌝ }
     ensures { λ q. ⌜ q ≡ resultOf (rulesOf c) t size ⌝ }
 {
-    let r = places::rules_of(c);
+    let r = abi::call_rules_of(c);
     if hidden_for(r, t) {
         let p = hidden_step(c);
         let address = p.span;
         return ResultPlaces::Hidden(address);
     }
-    let p = step(returning_of(r), fresh_of(c), t, size);
+    let p = step(returning_of(r), abi::cursor_of(c), t, size);
     let value = p.span;
     ResultPlaces::Registers(value)
 }

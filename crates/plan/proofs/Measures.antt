@@ -81,7 +81,7 @@ module _ (c : Convention) (s : List ℕ) (at e : ℕ) (result : ResultType) (ear
     measure-trailing h = rw (turn-last c s at e (m .ts) count next n (m .turn) last, lt-ltb next (length s) h)
 
     pub measure-end : length s ≤ next →
-        _≡_ {A = Measured} (record { outcome = Outcome.Accepted (earlier + n); area = areaOf (rulesOf c) k; values = v; copies = k .copies })
+        _≡_ {A = Measured} (record { outcome = Outcome.Accepted (earlier + n); area = areaOf c k; values = v; copies = k .copies })
         (measureOf (planWith c result earlier (length s) (argumentsIn c s at e)))
     unfolding planIn
     measure-end h = rw (turn-last c s at e (m .ts) count next n (m .turn) last, le-ltb next (length s) h) (cc (m .last, m .total))

@@ -94,7 +94,7 @@ module _ (n : ℕ) (c : Convention) (r : ResultType) (ts : List ValueType) where
       record {
         registers = λ x o. owned-register c (rulesOf c) k ts i x named (owned n c r ts i x o);
         numbered = subst Numbered (sym (in-plan n c r ts i)) (span-numbered c (rulesOf c) k ts i named);
-        area = λ b o. let l : b < e .stack = owned-before c (rulesOf c) k ts i (area b) (owned n c r ts i (area b) o) in omega (arith, area-holds (rulesOf c) e);
+        area = λ b o. let l : b < e .stack = owned-before c (rulesOf c) k ts i (area b) (owned n c r ts i (area b) o) in omega (arith, area-holds c e);
         copies = λ b o. owned-before c (rulesOf c) k ts i (copies b) (owned n c r ts i (copies b) o);
         memory-from = homed .from;
         memory-to = homed .to;
@@ -115,7 +115,7 @@ module _ (n : ℕ) (c : Convention) (r : ResultType) (ts : List ValueType) where
       record {
         registers = λ x o. step-registers (rulesOf c) (fresh (rulesOf c)) pointer (wordOf (rulesOf c)) x (named-fresh (rulesOf c)) o;
         numbered = step-numbered (rulesOf c) (fresh (rulesOf c)) pointer (wordOf (rulesOf c)) (named-fresh (rulesOf c));
-        area = λ b o. let l : b < e .stack = address-before (area b) q o in omega (arith, area-holds (rulesOf c) e);
+        area = λ b o. let l : b < e .stack = address-before (area b) q o in omega (arith, area-holds c e);
         copies = λ b o. address-before (copies b) q o;
         memory-from = between .memory-from;
         memory-to = between .memory-to;
@@ -126,7 +126,7 @@ module _ (n : ℕ) (c : Convention) (r : ResultType) (ts : List ValueType) where
   plan-within = record {
     arguments = argument-within;
     hidden = λ s e. let h = hidden-address c r s e in subst (SpanWithin (planIn n c r ts)) (sym (h .0)) (address-within (h .1));
-    least = λ m a. least-area (rulesOf c) (endIn c r ts);
+    least = λ m a. least-area c (endIn c r ts);
   }
 
 -- ---- a refused one

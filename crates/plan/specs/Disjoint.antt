@@ -3,12 +3,13 @@
 use Prim.Native.Nat.{ℕ, _+_, _≤_, _<_}
 use mathlib.Core.Path.{_≡_}
 use lib.ListN.{getD}
+use Rattle.conventions.specs.Numbers.{leastArea}
 use Rattle.items.specs.Reading.{Reading}
 use Rattle.signature.specs.declared.Outcome.{Outcome}
 use Rattle.signature.specs.Signature.{Signature}
 use Rattle.places.specs.declared.Span.{Span}
 use Rattle.places.specs.declared.ResultPlaces.{ResultPlaces}
-use Rattle.places.specs.Step.{rulesOf, fresh, areaOf}
+use Rattle.places.specs.Step.{rulesOf}
 use Rattle.places.specs.Places.{Numbered}
 use Rattle.places.specs.Spots.{Spot, area, copies, Owns, imageSpot, ArgumentRegister}
 use Rattle.plan.specs.declared.Plan.{Plan}
@@ -41,8 +42,8 @@ pub record SpanWithin (p : Plan) (s : Span) : Type 0 where
 pub record Within (p : Plan) : Type 0 where
   pub arguments : (i : ℕ) → SpanWithin p (spanAt p i)
   pub hidden : (s : Span) → p .result ≡ ResultPlaces.Hidden s → SpanWithin p s
-  -- "8 times the larger of 8 and the final w": the area is never less than that of no arguments
-  pub least : (n : ℕ) → p .outcome ≡ Outcome.Accepted n → areaOf (rulesOf (p .convention)) (fresh (rulesOf (p .convention))) ≤ p .area
+  -- "8 times the larger of 8 and the final w": the area is never less than the convention's least
+  pub least : (n : ℕ) → p .outcome ≡ Outcome.Accepted n → leastArea (p .convention) ≤ p .area
 
 abbrev pub PlansWithin : Type 0
 PlansWithin = (x : Reading Signature) → Within (planAnswer x)

@@ -74,7 +74,7 @@ fn hidden_in(c: Convention, result: ResultType) -> bool
 {
     match result {
         ResultType::Nothing => false,
-        ResultType::Value(t) => placing::hidden_for(places::rules_of(c), t),
+        ResultType::Value(t) => placing::hidden_for(abi::call_rules_of(c), t),
     }
 }
 
@@ -106,7 +106,7 @@ pub fn plan_signature(g: SignatureRead) -> Plan
             let convention = g.convention;
             let returned = g.result;
             let count = g.count;
-            let rules = places::rules_of(convention);
+            let rules = abi::call_rules_of(convention);
             let hidden = hidden_in(convention, returned);
             let result = result_in(convention, returned);
             let mut c = placing::start(convention, hidden);
@@ -124,7 +124,7 @@ pub fn plan_signature(g: SignatureRead) -> Plan
                 values = values + size;
                 i = i + 1;
             }
-            plan.area = placing::area_of(rules, c);
+            plan.area = placing::area_of(convention, c);
             plan.values = values;
             plan.copies = c.copies;
             plan
@@ -163,7 +163,7 @@ fn measure_arguments(
     requires { ⌜ (at ≤ end) × (end ≤ length (now s)) × (end ≤ 2 ^ 16) × (earlier ≤ 2 ^ 16) ⌝ }
     ensures { λ m. ⌜ m ≡ measureOf (planWith convention returned earlier (length (now (s .entry))) (argumentsIn convention (now (s .entry)) at end)) ⌝ }
 {
-    let rules = places::rules_of(convention);
+    let rules = abi::call_rules_of(convention);
     let hidden = hidden_in(convention, returned);
     let mut c = placing::start(convention, hidden);
     let mut values: usize = 0;
@@ -195,7 +195,7 @@ fn measure_arguments(
     if next < s.len() {
         return no_measure(Refusal::TrailingBytes, next);
     }
-    let area = placing::area_of(rules, c);
+    let area = placing::area_of(convention, c);
     Measured {
         outcome: Outcome::Accepted(earlier + items),
         area,

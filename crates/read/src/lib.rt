@@ -91,7 +91,7 @@ pub fn first_refusal(
 {
     let convention = g.convention;
     let count = g.count;
-    let rules = places::rules_of(convention);
+    let rules = abi::call_rules_of(convention);
     let mut i: usize = 0;
     while i < count {
         let a = g.arguments[i];

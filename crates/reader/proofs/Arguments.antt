@@ -18,11 +18,12 @@ use Rattle.items.specs.Read.{lengthAt, bodyAt, sequence, itemAt}
 use Rattle.items.specs.Encode.{encodeTree, encodeTrees}
 use Rattle.items.proofs.Laws.{body-to}
 use Rattle.items.proofs.Sound.{by-pick, by-choose, by-then, Got, body-framed, Ended, none-read, sequence-sound, item-sound, item-read}
-use Rattle.signature.specs.declared.ConventionCode.{ConventionCode}
+use Rattle.conventions.specs.declared.ConventionCode.{ConventionCode}
+use Rattle.conventions.specs.Numbers.{conventionCode}
 use Rattle.signature.specs.declared.Outcome.{Outcome}
 use Rattle.signature.specs.declared.SignatureRead.{SignatureRead}
 use Rattle.signature.specs.Signature.{Result, Signature}
-use Rattle.signature.specs.Read.{conventionCode, conventionBy, conventionAt, resultIn, resultAt, argumentsIn, argumentsAt, afterResult, afterConvention, signatureOf}
+use Rattle.signature.specs.Read.{conventionBy, conventionAt, resultIn, resultAt, argumentsIn, argumentsAt, afterResult, afterConvention, signatureOf}
 use Rattle.signature.specs.Encode.{encodeResult}
 use Rattle.signature.specs.Answer.{signatureAnswer}
 use Rattle.signature.proofs.Sound.{convention-read, result-read}

@@ -5,6 +5,7 @@ use mathlib.Core.Path.{_≡_, refl}
 use mathlib.Core.List.{List, [], _∷_, map}
 use Rattle.words.specs.Basics.{roundUp}
 use Rattle.conventions.specs.declared.Convention.{Convention}
+use Rattle.conventions.specs.Numbers.{conventionCode}
 use Rattle.types.specs.declared.IntegerKind.{IntegerKind}
 use Rattle.types.specs.declared.FloatFormat.{FloatFormat}
 use Rattle.types.specs.declared.ValueType.{ValueType}
@@ -14,7 +15,7 @@ use Rattle.items.specs.declared.Refusal.{Refusal}
 use Rattle.items.specs.Read.{bodyAt, integerCode, floatCode, integerAt, floatAt, sequence, sizedAt, contentsAt, itemBy, structAt, itemAt}
 use Rattle.items.specs.Encode.{item, encodeTree, encodeTrees}
 use Rattle.signature.specs.Encode.{encodeResult}
-use Rattle.signature.specs.Read.{conventionCode, conventionAt, resultIn, resultAt, argumentsIn, argumentsAt, afterResult, afterConvention, signatureOf}
+use Rattle.signature.specs.Read.{conventionAt, resultIn, resultAt, argumentsIn, argumentsAt, afterResult, afterConvention, signatureOf}
 use Rattle.reader.specs.declared.Header.{Header}
 use Rattle.reader.specs.declared.ArgumentRead.{ArgumentRead}
 use Rattle.reader.specs.Step.{endIn, bodyIn, headerIn, bodyStart, bodyEnd, typeIn}

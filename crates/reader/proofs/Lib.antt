@@ -1,4 +1,5 @@
 -- Laws that belong to no one function.
 pub mod Laws
 pub mod Arguments
+pub mod Numbers
 pub mod Examples

@@ -2,3 +2,4 @@
 pub mod Step
 pub mod Reader
 pub mod Argument
+pub mod Numbers

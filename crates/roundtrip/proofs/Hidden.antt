@@ -1,4 +1,5 @@
--- The hidden address stands in its register after filling. Assumes nothing.
+-- The hidden address stands in its register after filling (specs/RoundTrip.antt states it): it is put first, and the arguments' slots lie
+-- after it. Assumes nothing.
 use mathlib.Core.Path.{_≡_, sym, ap, _∙_}
 use mathlib.Core.Bool.{true}
 use mathlib.Core.List.{List}
@@ -35,6 +36,7 @@ use Rattle.roundtrip.specs.RoundTrip.{HiddenStands}
 use Rattle.roundtrip.proofs.Kept.{kept-all, all-later}
 use Rattle.roundtrip.proofs.Theorems.{filled-lent}
 
+-- the first argument register, which is of the image's 32
 address-first : (c : Convention)
     → (spanOf (rulesOf c) (fresh (rulesOf c)) pointer (wordOf (rulesOf c)) .general .first < startOf (rulesOf c) true .general)
     × (spanOf (rulesOf c) (fresh (rulesOf c)) pointer (wordOf (rulesOf c)) .general .first < 32)
@@ -42,10 +44,11 @@ unfolding startOf nextOf spanOf fresh words fprs shareOf powerShare zClass zSpan
 address-first Convention.Ppc64 = (omega arith, omega arith)
 address-first Convention.Z = (omega arith, omega arith)
 
--- its register comes before those of the arguments
-first-is : (c : Convention) (r : ResultType) (x : Span) → resultIn c r ≡ ResultPlaces.Hidden x → (x .general .first < startIn c r .general) × (x .general .first < 32)
-first-is c r x e = let h = hidden-address c r x e in rw (h .0, h .1) (address-first c)
+-- a hidden address has it, and the arguments have those after it
+register-first : (c : Convention) (r : ResultType) (x : Span) → resultIn c r ≡ ResultPlaces.Hidden x → (x .general .first < startIn c r .general) × (x .general .first < 32)
+register-first c r x e = let h = hidden-address c r x e in rw (h .0, h .1) (address-first c)
 
+-- the arguments' slots leave it
 hidden-kept : (y : Reading Signature) (base : ℕ) (v : List ℕ) (x : Span) (b : Buffers) → planAnswer y .result ≡ ResultPlaces.Hidden x
     → bytesAt (general (x .general .first)) 8 (putAll (slotsOfAll (rulesOf (signatureAnswer y .convention)) base (argumentsIn (signatureAnswer y) (planAnswer y)) v) b)
     ≡ bytesAt (general (x .general .first)) 8 b
@@ -53,7 +56,7 @@ unfolding planAnswer planIn
 hidden-kept (got g next n) base v x b e =
     let c : Convention = g .convention in
     let r : ResultType = resultType c (g .result) in
-    let f = first-is c r x e in
+    let f = register-first c r x e in
     rw (arguments-got g next n)
     (kept-all (startIn c r) (general (x .general .first)) 8 _ b (omega (arith, f .0)) (omega (arith, f .1))
     (all-later c (rulesOf c) base (startIn c r) (typesOf c (g .arguments)) v (named-start (rulesOf c) (hiddenIn c r))))
@@ -61,7 +64,7 @@ hidden-kept (no reason place) base v x b e = let z : _≡_ {A = ℕ} 0 1 = cc in
 
 register-below : (y : Reading Signature) (x : Span) → planAnswer y .result ≡ ResultPlaces.Hidden x → x .general .first < 32
 unfolding planAnswer planIn
-register-below (got g next n) x e = first-is (g .convention) (resultType (g .convention) (g .result)) x e .1
+register-below (got g next n) x e = register-first (g .convention) (resultType (g .convention) (g .result)) x e .1
 register-below (no reason place) x e = let z : _≡_ {A = ℕ} 0 1 = cc in absurd (omega arith)
 
 pub hidden-stands : HiddenStands

@@ -1,6 +1,7 @@
--- Home and views: of all inputs that fill accepts on PPC64, home of what fill left accepts, and then each argument has a view, which is the value that was
--- handed to fill, byte for byte; of any bytes, each view is the value that read gives. Document 01, "What stands in a slot": "A view hands back the part of the lent parameter area that is the
--- argument's own bytes". Home changes nothing but homes. proofs/Views.antt, proofs/Alone.antt and proofs/Some.antt prove it. Assumes nothing.
+-- Home and views: of all inputs that fill accepts on PPC64, home of what fill left accepts, and then each argument has a view, which is the
+-- value that was handed to fill, byte for byte; of any bytes, each view is the value that read gives. Document 01, "What stands in a
+-- slot": "A view hands back the part of the lent parameter area that is the argument's own bytes". Home changes nothing but homes.
+-- proofs/Views.antt, proofs/Alone.antt and proofs/Some.antt prove it. Assumes nothing.
 use Prim.Native.Nat.{ℕ, _<_}
 use mathlib.Core.Path.{_≡_}
 use mathlib.Core.Logic.{_⊎_}
@@ -39,7 +40,7 @@ pub record Viewed (s values : List ℕ) (b : Buffers) : Type 0 where
   pub accepted : (i : ℕ) → i < signatureAnswer (signatureOf s) .count → viewAnswer s (length (homedArea s b)) i ≡ Answer.Done
   pub same : (i : ℕ) → i < signatureAnswer (signatureOf s) .count → viewOf s (homedArea s b) i ≡ getD (valueLists (argumentsOf s) values) i []
 
--- THE VIEWS
+-- THE VIEWS: for all inputs that fill accepts on PPC64, home of what fill left accepts, and each argument's view is accepted and is its value
 abbrev pub ViewAfterHome : Type 0
 ViewAfterHome = (s values image area copies : List ℕ) (base hidden : ℕ) → Filled s values image area copies base hidden
     → signatureAnswer (signatureOf s) .convention ≡ Convention.Ppc64 → Viewed s values (left s values image area copies base hidden)

@@ -1,1 +1,1 @@
-// Reading after filling: theorems alone, about the definitions that the contracts of `fill` and `read` cite.
+// Reading, home and views: theorems alone, about the definitions that the contracts of `fill`, `read` and `home` cite.

@@ -1,4 +1,5 @@
--- A convention as a value: its numbers, and the two values. Document 01, "Frames"; document 02, No. 8 and No. 9; the published papers are 000 (PPC64) and 001 (Z).
+-- A convention's frames as a value: its numbers, and the two values; those that calls have too come from `conventions`. Document 01, "Frames"; document 02, No. 8 and No. 9; the
+-- published papers are 000 (PPC64) and 001 (Z).
 -- Assumes nothing.
 use Prim.Native.Nat.{ℕ, _-_, _^_}
 use mathlib.Core.Bool.{Bool, false, _&&_, _||_}
@@ -6,6 +7,7 @@ use mathlib.Core.List.{List, [], _∷_}
 use lib.Dec.{leb}
 pub use Rattle.conventions.specs.declared.Convention.{Convention}
 pub use Rattle.conventions.specs.declared.Convention.the-variants.{Ppc64, Z}
+use Rattle.conventions.specs.Numbers.{wordBytes, headerBytes, stackAlignment, leastArea}
 pub use Rattle.rules.specs.declared.Span.{Span}
 pub use Rattle.rules.specs.declared.Bank.{Bank}
 pub use Rattle.rules.specs.declared.Linkage.{Linkage}
@@ -32,10 +34,10 @@ within (v ∷ vs) n = inSpan v n || within vs n
 -- "Start .. B + N - 112 (PPC64)"; "Preserved are r2, r13 to r31, f14 to f31"; 02, No. 8: "288 free bytes under the new stack pointer on PPC64"
 abbrev pub ppc64 : Rules
 ppc64 = record {
-  word = 8;
-  header = 48;
-  least = 64;
-  alignment = 16;
+  word = wordBytes Ppc64;
+  header = headerBytes Ppc64;
+  least = leastArea Ppc64;
+  alignment = stackAlignment Ppc64;
   room = 112;
   floor = 288;
   pointer = 1;
@@ -51,10 +53,10 @@ ppc64 = record {
 -- 02, No. 8: "Z is as before"
 abbrev pub z : Rules
 z = record {
-  word = 8;
-  header = 160;
-  least = 0;
-  alignment = 8;
+  word = wordBytes Z;
+  header = headerBytes Z;
+  least = leastArea Z;
+  alignment = stackAlignment Z;
   room = 160;
   floor = 0;
   pointer = 15;

@@ -16,24 +16,21 @@ use Rattle.items.proofs.Levels.{within-left, all-within-left}
 use Rattle.items.proofs.Has.{Has, has-move, has-left, has-right, has-all, item-body, item-byte, length-item}
 use Rattle.items.proofs.Trees.{tree-long}
 use Rattle.items.proofs.Complete.{header-reads, tree-reads, trees-read}
-use Rattle.signature.specs.declared.ConventionCode.{ConventionCode}
+use Rattle.conventions.specs.declared.ConventionCode.{ConventionCode}
+use Rattle.conventions.specs.Numbers.{conventionCode, codeOf}
+use Rattle.conventions.proofs.Laws.{code-back}
 use Rattle.signature.specs.Signature.{Result, nothing, value, Signature}
-use Rattle.signature.specs.Read.{maxDepth, maxArguments, conventionCode, conventionAt, resultIn, resultAt, argumentsIn, argumentsAt, afterResult, afterConvention, signatureOf}
-use Rattle.signature.specs.Encode.{conventionNumber, encodeResult, encode, resultItems, signatureItems, ResultWithin, Within}
+use Rattle.signature.specs.Read.{maxDepth, maxArguments, conventionAt, resultIn, resultAt, argumentsIn, argumentsAt, afterResult, afterConvention, signatureOf}
+use Rattle.signature.specs.Encode.{encodeResult, encode, resultItems, signatureItems, ResultWithin, Within}
 use Rattle.signature.proofs.Laws.{convention-by, result-none, result-to, arguments-to}
 use Rattle.signature.proofs.Sound.{length-encode}
 
-convention-code : (c : Convention) → ConventionCode.Known c ≡ conventionCode (conventionNumber c)
-unfolding conventionCode
-convention-code Convention.Ppc64 = refl
-convention-code Convention.Z = refl
-
 module _ (s : List ℕ) where
-  convention-reads : (c : Convention) → Has s 0 (item 0x01 (conventionNumber c ∷ [])) → 4 ≤ length s → conventionAt s ≡ got c 4 1
+  convention-reads : (c : Convention) → Has s 0 (item 0x01 (codeOf c ∷ [])) → 4 ≤ length s → conventionAt s ≡ got c 4 1
   convention-reads c h room =
-      let to = header-reads c s 0x01 0x01 0x01 (conventionNumber c ∷ []) (length s) 0 4 (omega arith) (omega arith) h refl room in
+      let to = header-reads c s 0x01 0x01 0x01 (codeOf c ∷ []) (length s) 0 4 (omega arith) (omega arith) h refl room in
       convention-by s 4 to refl (ConventionCode.Known c)
-      (convention-code c ∙ ap conventionCode (sym (item-byte s 0x01 (conventionNumber c) 0 h)))
+      (sym (code-back c) ∙ ap conventionCode (sym (item-byte s 0x01 (codeOf c) 0 h)))
 
   module _ (c : Convention) where
     value-reads : (t : Tree) (at b : ℕ) → limits.Within c t → Has s at (encodeTree t) → b ≡ at + length (encodeTree t) → resultIn c s at b ≡ got (value t) b (itemsOf t + 1)
@@ -79,11 +76,11 @@ unfolding encode signatureItems
 encode-reads g w =
     let c = g .convention in
     let s = encode g in
-    let one = item 0x01 (conventionNumber c ∷ []) in
+    let one = item 0x01 (codeOf c ∷ []) in
     let two = item 0x02 (encodeResult (g .result)) in
     let three = item 0x03 (encodeTrees (g .arguments)) in
     let size = length-encode g in
-    let size₁ : length one ≡ 4 = length-item 0x01 (conventionNumber c ∷ []) in
+    let size₁ : length one ≡ 4 = length-item 0x01 (codeOf c ∷ []) in
     let size₂ = length-item 0x02 (encodeResult (g .result)) in
     let all : Has s 0 (one ++ (two ++ three)) = has-all s in
     let second : Has s 4 (two ++ three) = has-move s (two ++ three) (0 + length one) 4 (omega arith) (has-right s one (two ++ three) 0 all) in

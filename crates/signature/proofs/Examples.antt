@@ -4,6 +4,7 @@ use mathlib.Core.Path.{_≡_, refl}
 use mathlib.Core.List.{List, [], _∷_, map}
 use Rattle.words.specs.Basics.{roundUp}
 use Rattle.conventions.specs.declared.Convention.{Convention}
+use Rattle.conventions.specs.Numbers.{conventionCode}
 use Rattle.types.specs.declared.IntegerKind.{IntegerKind}
 use Rattle.types.specs.declared.FloatFormat.{FloatFormat}
 use Rattle.types.specs.Trees.{Tree, Trees, integer, float, struct, none, _▸_, fieldsOf}
@@ -13,7 +14,7 @@ use Rattle.types.specs.Structs.{withField, shapeOf}
 use Rattle.items.specs.Read.{bodyAt, integerCode, floatCode, integerAt, floatAt, sequence, sizedAt, contentsAt, itemBy, structAt, itemAt}
 use Rattle.items.specs.Encode.{item, encodeTree}
 use Rattle.signature.specs.Signature.{nothing, Signature}
-use Rattle.signature.specs.Read.{conventionCode, conventionAt, resultIn, resultAt, argumentsIn, argumentsAt, afterResult, afterConvention, signatureOf}
+use Rattle.signature.specs.Read.{conventionAt, resultIn, resultAt, argumentsIn, argumentsAt, afterResult, afterConvention, signatureOf}
 use Rattle.signature.specs.Encode.{encodeResult, encode}
 
 -- "PPC64, no result, arguments i32 and double: `01 0001 01 02 0000 03 0008 10 0001 04 11 0001 01` (18 bytes, 5 items)"

@@ -20,13 +20,14 @@ use Rattle.items.specs.Read.{bodyAt, itemAt}
 use Rattle.items.specs.Answer.{itemAnswer}
 use Rattle.items.proofs.Laws.{item-got, item-no}
 use Rattle.items.proofs.Sound.{by-pick}
-use Rattle.signature.specs.declared.ConventionCode.{ConventionCode}
+use Rattle.conventions.specs.declared.ConventionCode.{ConventionCode}
+use Rattle.conventions.specs.Numbers.{conventionCode}
 use Rattle.signature.specs.declared.ConventionRead.{ConventionRead}
 use Rattle.signature.specs.declared.ResultType.{ResultType}
 use Rattle.signature.specs.declared.ResultRead.{ResultRead}
 use Rattle.signature.specs.declared.HeadRead.{HeadRead}
 use Rattle.signature.specs.Signature.{Result, nothing, Signature, Head}
-use Rattle.signature.specs.Read.{maxDepth, conventionCode, conventionBy, conventionAt, resultIn, resultAt, argumentsIn, argumentsAt, afterResult, afterConvention, signatureOf, headAfter, headOf}
+use Rattle.signature.specs.Read.{maxDepth, conventionBy, conventionAt, resultIn, resultAt, argumentsIn, argumentsAt, afterResult, afterConvention, signatureOf, headAfter, headOf}
 use Rattle.signature.specs.Answer.{conventionAnswer, resultType, resultAnswer, headAnswer, refused, accepted, withArguments, signatureAnswer}
 
 -- the convention

@@ -4,4 +4,5 @@ pub mod Loop
 pub mod Sound
 pub mod Complete
 pub mod Theorems
+pub mod Numbers
 pub mod Examples

@@ -17,15 +17,17 @@ use Rattle.items.proofs.Levels.{left-within, all-left-within}
 use Rattle.items.proofs.Has.{Has, has-move, has-append, has-item, has-same, length-item}
 use Rattle.items.proofs.Trees.{tree-third, trees-third}
 use Rattle.items.proofs.Sound.{by-pick, by-choose, by-then, by-body, Got, Framed, Read, Ended, none-read, sequence-sound, item-sound}
-use Rattle.signature.specs.declared.ConventionCode.{ConventionCode}
+use Rattle.conventions.specs.declared.ConventionCode.{ConventionCode}
+use Rattle.conventions.specs.Numbers.{conventionCode, codeOf}
+use Rattle.conventions.proofs.Laws.{CodeIs, code-is}
 use Rattle.signature.specs.declared.ResultType.{ResultType}
 use Rattle.signature.specs.declared.ResultRead.{ResultRead}
 use Rattle.signature.specs.declared.HeadRead.{HeadRead}
 use Rattle.signature.specs.Answer.{resultAnswer, headAnswer}
 use Rattle.signature.specs.Signature.{Result, nothing, value, Signature, Head}
-use Rattle.signature.specs.Read.{maxDepth, maxArguments, conventionCode, conventionBy, conventionAt, resultIn, resultAt, argumentsIn, argumentsAt, afterResult, afterConvention, signatureOf, headAfter, headOf}
+use Rattle.signature.specs.Read.{maxDepth, maxArguments, conventionBy, conventionAt, resultIn, resultAt, argumentsIn, argumentsAt, afterResult, afterConvention, signatureOf, headAfter, headOf}
 use Rattle.signature.proofs.Laws.{result-got, head-got}
-use Rattle.signature.specs.Encode.{conventionNumber, encodeResult, encode, resultItems, signatureItems, ResultWithin, Within}
+use Rattle.signature.specs.Encode.{encodeResult, encode, resultItems, signatureItems, ResultWithin, Within}
 
 -- an item of the signature that ends the item's framing
 pub framed-item : (s : List ℕ) (tag at b : ℕ) (body : List ℕ) → Framed s tag tag (length s) at b → b ≡ at + 3 + length body → Bytes s →
@@ -35,18 +37,10 @@ framed-item s tag at b body f q bytes h = has-item s bytes tag body at (omega ar
 -- the convention
 
 pub record ConventionSound (s : List ℕ) (c : Convention) (next n : ℕ) : Type 0 where
-  pub here : Bytes s → Has s 0 (item 0x01 (conventionNumber c ∷ []))
+  pub here : Bytes s → Has s 0 (item 0x01 (codeOf c ∷ []))
   pub ends : next ≡ 4
   pub inside : next ≤ length s
   pub count : n ≡ 1
-
-abbrev CodeIs : ℕ → ConventionCode → Type 0
-CodeIs x (ConventionCode.Known c) = x ≡ conventionNumber c
-CodeIs x ConventionCode.Unknown = Unit {0}
-
-code-is : (x : ℕ) → CodeIs x (conventionCode x)
-unfolding conventionCode
-code-is x = by-pick (CodeIs x) (eqb x 1) _ _ (eqb-true x 1) (λ _. by-pick (CodeIs x) (eqb x 2) _ _ (eqb-true x 2) (λ _. tt))
 
 pub convention-sound : (s : List ℕ) → Got (ConventionSound s) (conventionAt s)
 unfolding conventionAt Has
@@ -56,7 +50,7 @@ convention-sound s = by-body (ConventionSound s) s 0x01 0x01 (length s) 0 _ (λ 
     code : (b : ℕ) → Framed s 0x01 0x01 (length s) 0 b → b ≡ 4 → (x : ConventionCode) → CodeIs (getD s 3 0) x → Got (ConventionSound s) (conventionBy x)
     code b framed q (ConventionCode.Known c) v =
         let inside = framed .inside in
-        record { here = λ bytes. framed-item s 0x01 0 b (conventionNumber c ∷ []) framed q bytes (v, tt); ends = refl; inside = omega arith; count = refl }
+        record { here = λ bytes. framed-item s 0x01 0 b (codeOf c ∷ []) framed q bytes (v, tt); ends = refl; inside = omega arith; count = refl }
     code b framed q ConventionCode.Unknown v = tt
 
 -- the result
@@ -145,24 +139,24 @@ arguments-sound c s at = by-body (ArgumentsSound c s at) s 0x03 0x03 (length s) 
 pub length-encode : (g : Signature) → length (encode g) ≡ 10 + length (encodeResult (g .result)) + length (encodeTrees (g .arguments))
 unfolding encode
 length-encode g =
-    let one = item 0x01 (conventionNumber (g .convention) ∷ []) in
+    let one = item 0x01 (codeOf (g .convention) ∷ []) in
     let two = item 0x02 (encodeResult (g .result)) in
     let three = item 0x03 (encodeTrees (g .arguments)) in
-    let size₁ : length one ≡ 4 = length-item 0x01 (conventionNumber (g .convention) ∷ []) in
+    let size₁ : length one ≡ 4 = length-item 0x01 (codeOf (g .convention) ∷ []) in
     let size₂ = length-item 0x02 (encodeResult (g .result)) in
     let size₃ = length-item 0x03 (encodeTrees (g .arguments)) in
     let sum = length-append one (two ++ three) in
     let sum′ = length-append two three in
     omega arith
 
-has-encode : (s : List ℕ) (g : Signature) (at : ℕ) → Has s 0 (item 0x01 (conventionNumber (g .convention) ∷ [])) → Has s 4 (item 0x02 (encodeResult (g .result))) →
+has-encode : (s : List ℕ) (g : Signature) (at : ℕ) → Has s 0 (item 0x01 (codeOf (g .convention) ∷ [])) → Has s 4 (item 0x02 (encodeResult (g .result))) →
     at ≡ 7 + length (encodeResult (g .result)) → Has s at (item 0x03 (encodeTrees (g .arguments))) → Has s 0 (encode g)
 unfolding encode
 has-encode s g at first second q third =
-    let one = item 0x01 (conventionNumber (g .convention) ∷ []) in
+    let one = item 0x01 (codeOf (g .convention) ∷ []) in
     let two = item 0x02 (encodeResult (g .result)) in
     let three = item 0x03 (encodeTrees (g .arguments)) in
-    let size₁ : length one ≡ 4 = length-item 0x01 (conventionNumber (g .convention) ∷ []) in
+    let size₁ : length one ≡ 4 = length-item 0x01 (codeOf (g .convention) ∷ []) in
     let size₂ = length-item 0x02 (encodeResult (g .result)) in
     has-append s one (two ++ three) 0 first (has-move s (two ++ three) 4 (0 + length one) (omega arith)
     (has-append s two three 4 second (has-move s three at (4 + length two) (omega arith) third)))

@@ -8,6 +8,8 @@ use native.Mathlib.Omega.{arith}
 use Rattle.words.specs.Numbers.{Bytes}
 use Rattle.words.proofs.Numbers.{bytes-append}
 use Rattle.conventions.specs.declared.Convention.{Convention}
+use Rattle.conventions.specs.Numbers.{codeOf}
+use Rattle.conventions.proofs.Laws.{code-byte}
 use Rattle.types.proofs.Sized.{within-sized, all-within-sized}
 use Rattle.items.specs.declared.Refusal.{Refusal}
 use Rattle.items.specs.Reading.{got, no}
@@ -15,7 +17,7 @@ use Rattle.items.specs.Encode.{item, encodeTrees}
 use Rattle.items.proofs.Trees.{bytes-none, bytes-cons, bytes-item, tree-bytes, trees-bytes}
 use Rattle.signature.specs.Signature.{Result, nothing, value, Signature}
 use Rattle.signature.specs.Read.{signatureOf}
-use Rattle.signature.specs.Encode.{conventionNumber, encodeResult, encode, signatureItems, ResultWithin, Within}
+use Rattle.signature.specs.Encode.{encodeResult, encode, signatureItems, ResultWithin, Within}
 use Rattle.signature.specs.Exact.{ReadsExactly, ResultSized, Accepted}
 use Rattle.signature.proofs.Sound.{signature-read, length-encode, encode-third}
 use Rattle.signature.proofs.Complete.{encode-reads}
@@ -68,18 +70,14 @@ unfolding encodeResult
 result-bytes nothing l = bytes-none
 result-bytes (value t) l = tree-bytes t l
 
-convention-byte : (c : Convention) → conventionNumber c < 256
-convention-byte Convention.Ppc64 = omega arith
-convention-byte Convention.Z = omega arith
-
 pub encode-bytes : (g : Signature) → Within g → Bytes (encode g)
 unfolding encode
 encode-bytes g w =
     let size = length-encode g in
     let short = w .short in
-    let c = conventionNumber (g .convention) in
+    let c = codeOf (g .convention) in
     bytes-append (item 0x01 (c ∷ [])) (item 0x02 (encodeResult (g .result)) ++ item 0x03 (encodeTrees (g .arguments)))
-    (bytes-item 0x01 (c ∷ []) (omega arith) (omega arith) (bytes-cons c [] (convention-byte (g .convention)) bytes-none))
+    (bytes-item 0x01 (c ∷ []) (omega arith) (omega arith) (bytes-cons c [] (code-byte (g .convention)) bytes-none))
     (bytes-append (item 0x02 (encodeResult (g .result))) (item 0x03 (encodeTrees (g .arguments)))
     (bytes-item 0x02 (encodeResult (g .result)) (omega arith) (omega arith) (result-bytes (g .result) (omega arith)))
     (bytes-item 0x03 (encodeTrees (g .arguments)) (omega arith) (omega arith) (trees-bytes (g .arguments) (omega arith))))

@@ -4,14 +4,11 @@ use Prim.Native.Nat.{ℕ, _+_, _≤_}
 use mathlib.Core.List.{List, [], _∷_, _++_}
 use lib.ListN.{length}
 use Rattle.conventions.specs.declared.Convention.{Convention}
+use Rattle.conventions.specs.Numbers.{codeOf}
 use Rattle.types.specs.Trees.{countOf}
 use Rattle.types.specs.Limits as types
 use Rattle.items.specs.Encode.{item, encodeTree, encodeTrees, itemsOf, itemsIn}
 use Rattle.signature.specs.Signature.{Result, nothing, value, Signature}
-
-abbrev pub conventionNumber : Convention → ℕ
-conventionNumber Convention.Ppc64 = 1
-conventionNumber Convention.Z = 2
 
 unfoldable pub encodeResult : Result → List ℕ
 encodeResult nothing = []
@@ -20,7 +17,7 @@ encodeResult (value t) = encodeTree t
 -- "A signature is three items in this order, and nothing after"
 unfoldable pub encode : Signature → List ℕ
 encode g =
-    item 0x01 (conventionNumber (g .convention) ∷ []) ++ (item 0x02 (encodeResult (g .result)) ++ item 0x03 (encodeTrees (g .arguments)))
+    item 0x01 (codeOf (g .convention) ∷ []) ++ (item 0x02 (encodeResult (g .result)) ++ item 0x03 (encodeTrees (g .arguments)))
 
 unfoldable pub resultItems : Result → ℕ
 resultItems nothing = 0

@@ -2,5 +2,6 @@
 pub mod Signature
 pub mod Read
 pub mod Answer
+pub mod Numbers
 pub mod Encode
 pub mod Exact

@@ -10,7 +10,8 @@ use Rattle.types.specs.Trees.{Trees, none}
 use Rattle.items.specs.declared.Refusal.{Refusal}
 use Rattle.items.specs.Reading.{Reading, got, no, choose, andThen, inBody}
 use Rattle.items.specs.Read.{bodyAt, sequence, itemAt}
-use Rattle.signature.specs.declared.ConventionCode.{ConventionCode}
+use Rattle.conventions.specs.declared.ConventionCode.{ConventionCode}
+use Rattle.conventions.specs.Numbers.{conventionCode}
 use Rattle.signature.specs.Signature.{Result, nothing, value, Signature, Head}
 
 -- 1: "signature over 4,096 bytes"
@@ -25,10 +26,7 @@ maxArguments = 64
 abbrev pub maxDepth : ℕ
 maxDepth = 8
 
--- "code 1 PPC64, 2 Z"
-unfoldable pub conventionCode : ℕ → ConventionCode
-conventionCode x = pick (eqb x 1) (ConventionCode.Known Convention.Ppc64) (pick (eqb x 2) (ConventionCode.Known Convention.Z) ConventionCode.Unknown)
-
+-- an unknown code is malformed
 abbrev pub conventionBy : ConventionCode → Reading Convention
 conventionBy (ConventionCode.Known c) = got c 4 1
 conventionBy ConventionCode.Unknown = no Refusal.Malformed 0

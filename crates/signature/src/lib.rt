@@ -1,5 +1,6 @@
 // Reads a whole signature: the convention, the result's type and the types of 0 to 64 arguments.
 use conventions::Convention;
+use conventions::ConventionCode;
 use items::Body;
 use items::ItemRead;
 use items::Refusal;
@@ -8,7 +9,7 @@ use types::ValueType;
 ghost use mathlib.Core.Path.{_≡_};
 ghost use Prim.Native.Nat.{_+_, _^_, _≤_, _<_};
 ghost use lib.ListN.{length};
-ghost use Rattle.signature.specs.Read.{conventionCode, conventionAt, resultIn, resultAt, argumentsIn, headAfter, headOf, signatureOf};
+ghost use Rattle.signature.specs.Read.{conventionAt, resultIn, resultAt, argumentsIn, headAfter, headOf, signatureOf};
 ghost use Rattle.signature.specs.Answer.{noArguments, refused, conventionAnswer, resultAnswer, headAnswer, withArguments, signatureAnswer};
 
 pub enum ResultType {
@@ -33,11 +34,6 @@ pub struct SignatureRead {
     pub result: ResultType,
     pub count: usize,
     pub arguments: [Argument; 64],
-}
-
-pub enum ConventionCode {
-    Known(Convention),
-    Unknown,
 }
 
 // The first item.
@@ -96,16 +92,6 @@ fn refuse(reason: Refusal, place: usize) -> SignatureRead
     }
 }
 
-fn convention_code(code: u8) -> ConventionCode
-    ensures { λ r. ⌜ r ≡ conventionCode code ⌝ }
-{
-    match code {
-        1 => ConventionCode::Known(Convention::Ppc64),
-        2 => ConventionCode::Known(Convention::Z),
-        _ => ConventionCode::Unknown,
-    }
-}
-
 // The first item, at 0.
 fn read_convention(s: &[u8]) -> ConventionRead
     ensures { λ r. ⌜ r ≡ conventionAnswer (conventionAt (now (s .entry))) ⌝ }
@@ -116,7 +102,7 @@ fn read_convention(s: &[u8]) -> ConventionRead
             if to != 4 {
                 return ConventionRead::Refused(Refusal::Malformed);
             }
-            match convention_code(s[3]) {
+            match conventions::convention_code(s[3] as u64) {
                 ConventionCode::Known(c) => ConventionRead::Known(c),
                 ConventionCode::Unknown => ConventionRead::Refused(Refusal::Malformed),
             }

@@ -59,7 +59,7 @@ planned-fit : (n : ℕ) (c : Convention) (r : ResultType) (ts : List ValueType)
     → All (Fits (planIn n c r ts .area) (planIn n c r ts .copies)) (placements c ts (spansOf c (rulesOf c) (startIn c r) ts))
 unfolding planIn
 planned-fit n c r ts =
-    all-fit c (rulesOf c) (startIn c r) ts _ _ (named-start (rulesOf c) (hiddenIn c r)) (area-holds (rulesOf c) (endIn c r ts)) (omega arith)
+    all-fit c (rulesOf c) (startIn c r) ts _ _ (named-start (rulesOf c) (hiddenIn c r)) (area-holds c (endIn c r ts)) (omega arith)
 
 planned-values : (n : ℕ) (c : Convention) (r : ResultType) (ts : List ValueType) → valuesOf c ts ≡ planIn n c r ts .values
 unfolding planIn

@@ -7,6 +7,7 @@ use borrow.Author.Tests.{eqb-true}
 use lib.Dec.{leb, eqb}
 use Rattle.words.specs.Basics.{pick}
 use Rattle.conventions.specs.declared.Convention.{Convention}
+use Rattle.conventions.proofs.Laws.{word-bounds}
 use Rattle.types.specs.declared.IntegerKind.{IntegerKind}
 use Rattle.types.specs.declared.FloatFormat.{FloatFormat}
 use Rattle.types.specs.declared.Equivalent.{Equivalent}
@@ -39,8 +40,7 @@ integer-small c IntegerKind.I32 = omega arith
 integer-small c IntegerKind.U32 = omega arith
 integer-small c IntegerKind.I64 = omega arith
 integer-small c IntegerKind.U64 = omega arith
-integer-small Convention.Ppc64 IntegerKind.Pointer = omega arith
-integer-small Convention.Z IntegerKind.Pointer = omega arith
+integer-small c IntegerKind.Pointer = word-bounds c .1
 
 -- ---- PPC64
 

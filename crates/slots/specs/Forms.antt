@@ -18,11 +18,12 @@ use Rattle.types.specs.declared.ValueType.{ValueType}
 use Rattle.types.specs.Sizes.{equivalentOf}
 use Rattle.places.specs.declared.Rules.{Rules}
 use Rattle.places.specs.Power.{words}
+use Rattle.places.specs.Step.{wordOf}
 
 -- the bytes of the words that a value takes: "Sizes in doublewords .. struct size / 8 rounded up"; Z: "8 stack bytes", or a register
 abbrev pub roomOf : Rules → ℕ → ℕ
 roomOf (Rules.Power f) n = f .word * words (f .word) n
-roomOf Rules.Z n = 8
+roomOf Rules.Z n = wordOf Rules.Z
 
 -- the integers in two's complement, those of the codes "i8 .. i16 .. i32 .. i64"
 abbrev pub signedKind : IntegerKind → Bool

@@ -32,6 +32,11 @@ numberOf Refusal.ImageSize = 15
 -- "home or view asked of Z, or a view of an argument that isn't there"
 numberOf Refusal.NoView = 24
 
+-- the number of an answer: 0 where nothing is refused
+abbrev pub answerNumber : Answer → ℕ
+answerNumber Answer.Done = 0
+answerNumber (Answer.Refused reason place) = numberOf reason
+
 -- "not exactly", "not 512 bytes": two numbers are not the same
 abbrev pub differ : ℕ → ℕ → Bool
 differ m n = pick (eqb m n) false true

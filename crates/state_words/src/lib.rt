@@ -4,9 +4,10 @@ ghost use Prim.Native.Nat.{_+_, _≤_, _<_};
 ghost use lib.ListN.{length};
 ghost use Rattle.words.specs.Splice.{splice, part};
 ghost use Rattle.rules.specs.Frames.{flag};
-ghost use Rattle.word_layout.specs.Words.{codeOf, conventionOf, depthIn, registersIn, frameIn, framesIn, stateIn, registerWords, framesWords, stateWords, withRegisters, withFrame};
+ghost use Rattle.word_layout.specs.Words.{conventionOf, isKnown, depthIn, registersIn, frameIn, framesIn, stateIn, registerWords, framesWords, stateWords, withRegisters, withFrame};
 ghost use Rattle.word_layout.specs.Calls.{changed};
 use conventions::Convention;
+use conventions::ConventionCode;
 use machine::State;
 use rules::Frame;
 use rules::Registers;
@@ -102,14 +103,23 @@ fn frames_in(words: &[u64]) -> [Frame; 32]
     fs
 }
 
-// The convention of a code; a code that is none is not accepted by `depth_in`.
-fn convention_of(code: u64) -> Convention
+// A code's convention; a code that is none is not accepted by `depth_in`.
+fn convention_of(code: ConventionCode) -> Convention
     ensures { λ r. ⌜ r ≡ conventionOf code ⌝ }
 {
-    if code == 1 {
-        return Convention::Ppc64;
+    match code {
+        ConventionCode::Known(c) => c,
+        ConventionCode::Unknown => Convention::Z,
     }
-    Convention::Z
+}
+
+fn is_known(code: ConventionCode) -> bool
+    ensures { λ r. ⌜ r ≡ isKnown code ⌝ }
+{
+    match code {
+        ConventionCode::Known(_) => true,
+        ConventionCode::Unknown => false,
+    }
 }
 
 // The depth; one over 32, which every call refuses, where the convention's code or CR cannot be.
@@ -117,11 +127,8 @@ fn depth_in(words: &[u64]) -> usize
     requires { ⌜ length (now words) ≡ 262 ⌝ }
     ensures { λ r. ⌜ r ≡ depthIn (now (words .entry)) ⌝ }
 {
-    let code = words[0];
-    if code < 1 {
-        return 33;
-    }
-    if 2 < code {
+    let code = conventions::convention_code(words[0]);
+    if !is_known(code) {
         return 33;
     }
     if 4294967295 < words[69] {
@@ -135,7 +142,7 @@ pub fn state_in(words: &[u64]) -> State
     requires { ⌜ length (now words) ≡ 262 ⌝ }
     ensures { λ r. ⌜ r ≡ stateIn (now (words .entry)) ⌝ }
 {
-    let convention = convention_of(words[0]);
+    let convention = convention_of(conventions::convention_code(words[0]));
     let depth = depth_in(words);
     let registers = registers_in(words, 4);
     let frames = frames_in(words);
@@ -205,16 +212,6 @@ fn put_frames(words: &mut [u64], fs: [Frame; 32])
     }
 }
 
-// The code of a convention.
-fn code_of(c: Convention) -> u64
-    ensures { λ r. ⌜ r ≡ codeOf c ⌝ }
-{
-    match c {
-        Convention::Ppc64 => 1,
-        Convention::Z => 2,
-    }
-}
-
 // All 262 words of a state.
 pub fn put_state(words: &mut [u64], s: State)
     requires { ⌜ length (now words) ≡ 262 ⌝ }
@@ -223,7 +220,7 @@ pub fn put_state(words: &mut [u64], s: State)
     let c = s.convention;
     let registers = s.registers;
     let frames = s.frames;
-    words[0] = code_of(c);
+    words[0] = conventions::code_of(c);
     words[1] = s.base;
     words[2] = s.size as u64;
     words[3] = s.depth as u64;

@@ -6,20 +6,17 @@ use borrow.Author.Tests.{lt-ltb, le-ltb}
 use Rattle.words.specs.Basics.{roundUp}
 use Rattle.words.proofs.Basics.{round-up-least, round-up-most}
 use Rattle.conventions.specs.declared.Convention.{Convention}
+use Rattle.conventions.proofs.Laws.{word-bounds}
 use Rattle.types.specs.declared.IntegerKind.{IntegerKind}
 use Rattle.types.specs.declared.FloatFormat.{FloatFormat}
 use Rattle.types.specs.declared.ValueType.{ValueType}
 use Rattle.types.specs.declared.Shape.{Shape}
 use Rattle.types.specs.declared.Fields.{Fields}
 use Rattle.types.specs.declared.Closed.{Closed}
-use Rattle.types.specs.Sizes.{pointerSize, integerSize, floatSize, alignOf, Sized}
+use Rattle.types.specs.Sizes.{integerSize, floatSize, alignOf, Sized}
 use Rattle.types.specs.Structs.{noFields, withField, shapeOf, closed}
 
 -- a type that is no struct is small
-
-pointer-sized : (c : Convention) → (0 < pointerSize c) × (pointerSize c ≤ 16)
-pointer-sized Convention.Ppc64 = omega arith
-pointer-sized Convention.Z = omega arith
 
 integer-most : (c : Convention) (k : IntegerKind) → (0 < integerSize c k) × (integerSize c k ≤ 16)
 integer-most c IntegerKind.I8 = omega arith
@@ -30,7 +27,7 @@ integer-most c IntegerKind.I32 = omega arith
 integer-most c IntegerKind.U32 = omega arith
 integer-most c IntegerKind.I64 = omega arith
 integer-most c IntegerKind.U64 = omega arith
-integer-most c IntegerKind.Pointer = pointer-sized c
+integer-most c IntegerKind.Pointer = omega (arith, word-bounds c)
 
 float-most : (f : FloatFormat) → (0 < floatSize f) × (floatSize f ≤ 16)
 float-most FloatFormat.Single = omega arith

@@ -2,17 +2,13 @@
 -- Document 01, "A signature's bytes". Assumes nothing.
 use Prim.Native.Nat.{ℕ, _≤_, _<_}
 use Rattle.conventions.specs.declared.Convention.{Convention}
+use Rattle.conventions.specs.Numbers.{wordBytes}
 use Rattle.types.specs.declared.IntegerKind.{IntegerKind}
 use Rattle.types.specs.declared.FloatFormat.{FloatFormat}
 use Rattle.types.specs.declared.Equivalent.{Equivalent}
 use Rattle.types.specs.declared.ValueType.{ValueType}
 
--- "pointer (8 bytes)", on both machines
-abbrev pub pointerSize : Convention → ℕ
-pointerSize Convention.Ppc64 = 8
-pointerSize Convention.Z = 8
-
--- "whole number .. i8, u8, i16, u16, i32, u32, i64, u64, pointer": in bytes
+-- "whole number .. i8, u8, i16, u16, i32, u32, i64, u64, pointer": in bytes; a pointer is a word
 abbrev pub integerSize : Convention → IntegerKind → ℕ
 integerSize c IntegerKind.I8 = 1
 integerSize c IntegerKind.U8 = 1
@@ -22,7 +18,7 @@ integerSize c IntegerKind.I32 = 4
 integerSize c IntegerKind.U32 = 4
 integerSize c IntegerKind.I64 = 8
 integerSize c IntegerKind.U64 = 8
-integerSize c IntegerKind.Pointer = pointerSize c
+integerSize c IntegerKind.Pointer = wordBytes c
 
 -- "float .. single, double, long double (16 bytes)"
 abbrev pub floatSize : FloatFormat → ℕ

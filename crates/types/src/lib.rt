@@ -1,7 +1,7 @@
 // The types that a signature names: integers, floats and structs, with the size of each. The code of a struct's layout is in the crate above.
 use conventions::Convention;
 ghost use mathlib.Core.Path.{_≡_};
-ghost use Rattle.types.specs.Sizes.{pointerSize, integerSize, floatSize, sizeOf, equivalentOf};
+ghost use Rattle.types.specs.Sizes.{integerSize, floatSize, sizeOf, equivalentOf};
 
 // An integer type or a pointer. Document 01 calls these whole numbers.
 pub enum IntegerKind {
@@ -43,15 +43,6 @@ pub enum ValueType {
     Struct(Shape),
 }
 
-pub fn pointer_size(c: Convention) -> usize
-    ensures { λ r. ⌜ r ≡ pointerSize c ⌝ }
-{
-    match c {
-        Convention::Ppc64 => 8,
-        Convention::Z => 8,
-    }
-}
-
 pub fn integer_size(c: Convention, k: IntegerKind) -> usize
     ensures { λ r. ⌜ r ≡ integerSize c k ⌝ }
 {
@@ -64,7 +55,7 @@ pub fn integer_size(c: Convention, k: IntegerKind) -> usize
         IntegerKind::U32 => 4,
         IntegerKind::I64 => 8,
         IntegerKind::U64 => 8,
-        IntegerKind::Pointer => pointer_size(c),
+        IntegerKind::Pointer => conventions::word_bytes(c),
     }
 }
 

@@ -145,7 +145,7 @@ pub fn take_arguments(
 {
     let convention = g.convention;
     let count = g.count;
-    let rules = places::rules_of(convention);
+    let rules = abi::call_rules_of(convention);
     let mut v: usize = 0;
     let mut i: usize = 0;
     while i < count {

@@ -1,10 +1,11 @@
 -- Every case of the table holds: each side computes. Assumes nothing.
 use mathlib.Core.Path.{refl}
+use Rattle.conventions.specs.Numbers.{conventionCode}
 use Rattle.words.specs.Basics.{roundUp}
 use Rattle.types.specs.Structs.{withField, shapeOf}
 use Rattle.types.specs.Trees.{typeOf}
 use Rattle.items.specs.Read.{bodyAt, integerCode, floatCode, integerAt, floatAt, sequence, sizedAt, contentsAt, itemBy, structAt, itemAt}
-use Rattle.signature.specs.Read.{conventionCode, conventionAt, resultIn, resultAt, argumentsIn, argumentsAt, afterResult, afterConvention, signatureOf}
+use Rattle.signature.specs.Read.{conventionAt, resultIn, resultAt, argumentsIn, argumentsAt, afterResult, afterConvention, signatureOf}
 use Rattle.places.specs.Power.{words, fprs, shareOf, powerShare}
 use Rattle.places.specs.ZSeries.{zClass, zSpanOf, zNextOf}
 use Rattle.places.specs.Step.{spanOf, nextOf, fresh, startOf, areaOf, hiddenFor, returning, resultOf}

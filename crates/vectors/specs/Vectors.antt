@@ -1,11 +1,14 @@
--- The cases that document 01 wants proved ("Sums to check against", the lines marked P), in one table. Assumes nothing.
+-- The cases that document 01 wants proved ("Sums to check against", the lines marked P), in one table, which is the one place of them.
+-- Assumes nothing.
 use Prim.Native.Nat.{ℕ}
 use mathlib.Core.Path.{_≡_}
 use mathlib.Core.Bool.{false}
 use mathlib.Core.List.{List, [], _∷_}
-use Rattle.ieee.specs.declared.Narrowed.{Narrowed}
 use Rattle.ieee.specs.Widening.{widen}
-use Rattle.ieee.specs.Narrowing.{narrow}
+use Rattle.conventions.specs.declared.Convention.{Convention}
+use Rattle.types.specs.declared.Equivalent.{Equivalent}
+use Rattle.places.specs.Step.{rulesOf}
+use Rattle.slots.specs.Refusals.{answerNumber, floatAnswer}
 use Rattle.listing.specs.Text.{listingOf}
 use Rattle.rules.specs.declared.Rules.{Rules}
 use Rattle.rules.specs.declared.Frame.{Frame}
@@ -17,8 +20,8 @@ pub data Vector : Type 0 where
   printed : List ℕ → List ℕ → Vector
   -- a single's bits, and those of the double that it widens to
   widened : ℕ → ℕ → Vector
-  -- the bits of a double that is no widened single: refusal 14
-  notWidened : ℕ → Vector
+  -- the bits of a single's PPC64 FPR, and the refusal that they give
+  refused : ℕ → ℕ → Vector
   -- a convention's rules, a frame request's g, m, L and P, and the frame's size
   sized : Rules → ℕ → ℕ → ℕ → ℕ → ℕ → Vector
 
@@ -28,7 +31,7 @@ request g m l p = record { «first_gpr» = g; «first_fpr» = m; «saves_cr» = 
 abbrev pub Holds : Vector → Type 0
 Holds (printed s t) = listingOf s ≡ t
 Holds (widened x d) = widen x ≡ d
-Holds (notWidened d) = narrow d ≡ Narrowed.NotWidened
+Holds (refused d n) = answerNumber (floatAnswer (rulesOf Convention.Ppc64) Equivalent.Single d) ≡ n
 Holds (sized k g m l p n) = frameSize k (request g m l p) ≡ n
 
 abbrev pub AllHold : List Vector → Type 0
@@ -164,8 +167,8 @@ vectors =
     ∷ widened 0x007f_ffff 0x380f_ffff_c000_0000
     ∷ widened 0x7f80_0001 0x7ff0_0000_2000_0000
     -- "3FF0000010000000 and 3690000000000000 give 14"
-    ∷ notWidened 0x3ff0_0000_1000_0000
-    ∷ notWidened 0x3690_0000_0000_0000
+    ∷ refused 0x3ff0_0000_1000_0000 14
+    ∷ refused 0x3690_0000_0000_0000 14
     -- "g 29, m 30, L 20, P 64: 176. g 14, m 14, L 0, P 0: 400. Z, g 6, m 8, L 1, P 8: 240"
     ∷ sized ppc64 29 30 20 64 176
     ∷ sized ppc64 14 14 0 0 400

@@ -10,6 +10,7 @@ use Rattle.words.specs.Splice.{overlay, splice}
 use Rattle.words.specs.Numbers.{bytesOf, valueOf}
 use Rattle.saves.specs.Saves.{store, load, saveRun, loadRun}
 use Rattle.conventions.specs.declared.Convention.{Convention}
+use Rattle.conventions.specs.Numbers.{conventionCode}
 use Rattle.conventions.specs.declared.Convention.the-variants.{Ppc64, Z}
 use Rattle.rules.specs.Frames.{withPointer, allWithin, lowered, okRegisters, cleared, okLeaf, okRequest, below, fullSize, frameSize, chainWidth, gprAt, savesBy, linkAt, mergeFields, restoredLr, restoredCr, restored, bankOf, writableRegister, withRegister}
 use Rattle.machine.specs.declared.Answer.the-variants.{Accepted}
@@ -53,5 +54,5 @@ pub worked : (startOutcome Ppc64 4096 640 (registersIn (replicate 66 7) 0) .answ
     × (run calls-z (start Z) .words ≡ start Z .words)
     × (numbers calls-leaf (start Ppc64) ≡ 22 ∷ 0 ∷ 0 ∷ 0 ∷ 22 ∷ [])
     × (run calls-leaf (start Ppc64) .words ≡ start Ppc64 .words)
-unfolding overlay splice bytesOf valueOf store load saveRun loadRun withPointer allWithin lowered okRegisters cleared okLeaf okRequest below roundUp fullSize frameSize chainWidth gprAt savesBy linkAt mergeFields restoredLr restoredCr restored bankOf writableRegister withRegister judge topFrame okFrames sizes okMemory okState startAnswer started startedMemory enterAnswer entered enteredMemory writeRegisterAnswer writtenRegister leaveAnswer left startOutcome startMemory enterOutcome enterMemory writeRegisterOutcome leaveOutcome isMachine depthIn registersIn frameIn framesIn stateIn registerWords frameWords framesWords stateWords changed startWords enterWords writeRegisterWords leaveWords
+unfolding conventionCode overlay splice bytesOf valueOf store load saveRun loadRun withPointer allWithin lowered okRegisters cleared okLeaf okRequest below roundUp fullSize frameSize chainWidth gprAt savesBy linkAt mergeFields restoredLr restoredCr restored bankOf writableRegister withRegister judge topFrame okFrames sizes okMemory okState startAnswer started startedMemory enterAnswer entered enteredMemory writeRegisterAnswer writtenRegister leaveAnswer left startOutcome startMemory enterOutcome enterMemory writeRegisterOutcome leaveOutcome isMachine depthIn registersIn frameIn framesIn stateIn registerWords frameWords framesWords stateWords changed startWords enterWords writeRegisterWords leaveWords
 worked = (refl, refl, refl, refl, refl, refl, refl, refl)

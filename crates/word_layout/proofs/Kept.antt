@@ -14,7 +14,7 @@ use borrow.Author.Tests.{leb-true}
 use Rattle.words.specs.Splice.{overlay, splice, part, Apart}
 use Rattle.words.proofs.Splices.{length-part, splice-one, splice-other}
 use Rattle.conventions.specs.declared.Convention.{Convention}
-use Rattle.conventions.specs.declared.Convention.the-variants.{Ppc64, Z}
+use Rattle.conventions.specs.Numbers.{conventionCode}
 use Rattle.rules.specs.declared.Rules.{Rules}
 use Rattle.rules.specs.declared.RegisterBank.{RegisterBank}
 use Rattle.rules.specs.declared.RegisterBank.the-variants.{General, Floating, Link, ConditionField, None}
@@ -27,7 +27,7 @@ use Rattle.rules.proofs.Writing.{writable-named}
 use Rattle.machine.specs.declared.Answer.the-variants.{Accepted}
 use Rattle.machine.specs.Machine.{rulesOf, stackPointer, offset, top, enterAnswer, entered, enterOutcome, writeRegisterAnswer, writtenRegister, writeRegisterOutcome, leaveAnswer, left, leaveOutcome}
 use Rattle.machine.proofs.States.{enter-yes, write-register-yes, leave-yes}
-use Rattle.word_layout.specs.Words.{isMachine, registersIn, frameIn, stateIn, withRegisters, withFrame}
+use Rattle.word_layout.specs.Words.{isKnown, isMachine, registersIn, frameIn, stateIn, withRegisters, withFrame}
 use Rattle.word_layout.specs.Calls.{changed, enterWords, writeRegisterWords, leaveWords}
 use Rattle.word_layout.proofs.Laws.{registers-put}
 use Rattle.word_layout.proofs.ReadBack.{registers-other, depth-machine}
@@ -77,9 +77,8 @@ module _ (ws : List ℕ) (n : length ws ≡ 262) (m : isMachine ws ≡ true) whe
   cr-kept : getD ws 69 0 % 2 ^ 32 ≡ getD ws 69 0
   unfolding isMachine
   cr-kept =
-      let a = and-yes (leb 1 (getD ws 0 0)) _ m in
-      let b = and-yes (leb (getD ws 0 0) 2) _ (a .1) in
-      let small = leb-true (getD ws 69 0) (2 ^ 32 - 1) (b .1) in
+      let a = and-yes (isKnown (conventionCode (getD ws 0 0))) _ m in
+      let small = leb-true (getD ws 69 0) (2 ^ 32 - 1) (a .1) in
       mod-eq-of-lt (omega arith)
 
   general : length (part 4 32 ws) ≡ 32
@@ -116,8 +115,7 @@ module _ (ws : List ℕ) (n : length ws ≡ 262) (m : isMachine ws ≡ true) whe
 -- ---- enter
 
 pointer-small : (c : Convention) → rules c .pointer < 32
-pointer-small Ppc64 = omega arith
-pointer-small Z = omega arith
+pointer-small c = lawful c .pointer
 
 module _ (ws : List ℕ) (n : ℕ) (qs : List ℕ) (l : length ws ≡ 262) where
   -- the depth, the stack pointer's word and the record

@@ -9,6 +9,7 @@ use lib.Seq.{drop-cons, drop-drop, take-all, set-append-left}
 use Rattle.words.specs.Splice.{overlay, splice, part}
 use Rattle.words.proofs.Splices.{length-part, splice-one, splice-nothing, splice-append, splice-next, splice-head}
 use Rattle.conventions.specs.declared.Convention.{Convention}
+use Rattle.conventions.specs.Numbers.{codeOf}
 use Rattle.rules.specs.declared.Frame.{Frame}
 use Rattle.rules.specs.declared.Registers.{Registers}
 use Rattle.rules.specs.Frames.{noFrame}
@@ -19,7 +20,7 @@ use Rattle.machine.specs.declared.Answer.the-variants.{Accepted, Refused}
 use Rattle.machine.specs.Answers.{settle}
 use Rattle.machine.specs.Machine.{rulesOf, startAnswer, started, notStarted, startOutcome, enterOutcome, writeRegisterOutcome, leaveOutcome, left}
 use Rattle.machine.proofs.States.{enter-yes, leave-yes}
-use Rattle.word_layout.specs.Words.{codeOf, registersIn, frameIn, framesIn, stateIn, registerWords, frameWords, framesWords, stateWords, withRegisters}
+use Rattle.word_layout.specs.Words.{registersIn, frameIn, framesIn, stateIn, registerWords, frameWords, framesWords, stateWords, withRegisters}
 use Rattle.word_layout.specs.Calls.{changed, refusedWords, startWords, enterWords, writeRegisterWords, leaveWords}
 
 -- ---- lengths and shape

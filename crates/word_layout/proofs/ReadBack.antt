@@ -19,7 +19,8 @@ use Rattle.rules.specs.Frames.{noFrame, flag}
 use Rattle.rules.proofs.Facts.{and-yes}
 use Rattle.machine.specs.declared.State.{State}
 use Rattle.machine.specs.Machine.{frameAt}
-use Rattle.word_layout.specs.Words.{isMachine, depthIn, registersIn, frameIn, framesIn, stateIn, registerWords, frameWords, withRegisters, withFrame}
+use Rattle.conventions.specs.Numbers.{conventionCode}
+use Rattle.word_layout.specs.Words.{isKnown, isMachine, depthIn, registersIn, frameIn, framesIn, stateIn, registerWords, frameWords, withRegisters, withFrame}
 use Rattle.word_layout.specs.Calls.{changed}
 use Rattle.word_layout.proofs.Laws.{registers-put, length-register-words}
 
@@ -161,9 +162,8 @@ module _ (ws : List ℕ) (n : length ws ≡ 262) (m : isMachine ws ≡ true) whe
     registers-machine : isMachine (withRegisters ws r) ≡ true
     unfolding isMachine
     registers-machine =
-        let a = and-yes (leb 1 (getD ws 0 0)) _ m in
-        let b = and-yes (leb (getD ws 0 0) 2) _ (a .1) in
-        rw (splice-at-other ws 4 (registerWords r) 0 0 (inl (omega arith)), cr-word ws r (omega arith) g f c, a .0, b .0) (le-leb (r .cr) (2 ^ 32 - 1) (omega arith))
+        let a = and-yes (isKnown (conventionCode (getD ws 0 0))) _ m in
+        rw (splice-at-other ws 4 (registerWords r) 0 0 (inl (omega arith)), cr-word ws r (omega arith) g f c, a .0) (le-leb (r .cr) (2 ^ 32 - 1) (omega arith))
 
     pub registers-back : stateIn (withRegisters ws r) ≡ record { convention = stateIn ws .convention; base = stateIn ws .base; size = stateIn ws .size; depth = stateIn ws .depth; registers = r; frames = stateIn ws .frames }
     unfolding stateIn depthIn

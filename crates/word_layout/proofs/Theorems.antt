@@ -14,7 +14,8 @@ use Rattle.words.specs.Splice.{splice}
 use Rattle.words.proofs.Splices.{length-part, splice-at-other}
 use Rattle.saves.proofs.Taking.{taken-length}
 use Rattle.conventions.specs.declared.Convention.{Convention}
-use Rattle.conventions.specs.declared.Convention.the-variants.{Ppc64, Z}
+use Rattle.conventions.specs.Numbers.{codeOf}
+use Rattle.conventions.proofs.Laws.{code-back}
 use Rattle.rules.specs.declared.Frame.{Frame}
 use Rattle.rules.specs.declared.Rules.{Rules}
 use Rattle.rules.specs.declared.Registers.{Registers}
@@ -35,7 +36,7 @@ use Rattle.machine.specs.Answers.{Test, judge, settle}
 use Rattle.machine.specs.Machine.{rulesOf, stackPointer, offset, top, stateTests, startAnswer, started, notStarted, startOutcome, enterAnswer, entered, writeRegisterAnswer, writtenRegister, leaveAnswer, left, enterOutcome, writeRegisterOutcome, leaveOutcome}
 use Rattle.machine.proofs.Judging.{never}
 use Rattle.machine.proofs.States.{enter-yes, write-register-yes, leave-yes}
-use Rattle.word_layout.specs.Words.{codeOf, conventionOf, isMachine, depthIn, registersIn, frameIn, framesIn, stateIn, registerWords, frameWords, framesWords, stateWords, withRegisters}
+use Rattle.word_layout.specs.Words.{isMachine, depthIn, registersIn, frameIn, framesIn, stateIn, registerWords, frameWords, framesWords, stateWords, withRegisters}
 use Rattle.word_layout.specs.Calls.{changed, refusedWords, startWords, enterWords, writeRegisterWords, leaveWords}
 use Rattle.word_layout.proofs.Refused.{no-machine}
 use Rattle.word_layout.proofs.Laws.{length-register-words, state-put, refused-back}
@@ -92,14 +93,9 @@ frames-read (f ∷ fs) ws i e =
     let rest : drop (70 + 6 * (i + 1)) ws ≡ framesWords fs = rw next (sym (drop-drop 6 at ws) ∙ ap (λ (t : List ℕ). drop 6 t) e) in
     rw (head, frames-read fs ws (i + 1) rest)
 
-code-back : (c : Convention) → conventionOf (codeOf c) ≡ c
-code-back Ppc64 = refl
-code-back Z = refl
-
 code-machine : (c : Convention) (ws : List ℕ) → getD ws 0 0 ≡ codeOf c → getD ws 69 0 < 2 ^ 32 → isMachine ws ≡ true
 unfolding isMachine
-code-machine Ppc64 ws e h = rw (e, le-leb (getD ws 69 0) (2 ^ 32 - 1) (omega arith))
-code-machine Z ws e h = rw (e, le-leb (getD ws 69 0) (2 ^ 32 - 1) (omega arith))
+code-machine c ws e h = rw (e, code-back c, le-leb (getD ws 69 0) (2 ^ 32 - 1) (omega arith))
 
 module _ (s : State) (y : Read (s .registers)) (f : length (s .frames) ≡ 32) where
   words-66 : length (registerWords (s .registers)) ≡ 66

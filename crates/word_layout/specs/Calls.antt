@@ -6,10 +6,11 @@ use Prim.Native.Nat.{ℕ}
 use mathlib.Core.List.{List, _∷_, _++_}
 use lib.ListN.{replicate}
 use Rattle.conventions.specs.declared.Convention.{Convention}
+use Rattle.conventions.specs.Numbers.{codeOf}
 use Rattle.machine.specs.Answers.{settle}
 use Rattle.machine.specs.declared.State.{State}
 use Rattle.machine.specs.Machine.{frameAt, startOutcome, enterOutcome, writeRegisterOutcome, leaveOutcome}
-use Rattle.word_layout.specs.Words.{codeOf, registersIn, frameIn, stateIn, stateWords, withDepth, withRegisters, withFrame}
+use Rattle.word_layout.specs.Words.{registersIn, frameIn, stateIn, stateWords, withDepth, withRegisters, withFrame}
 
 -- ws with the depth, the registers and the record i of the state s
 unfoldable pub changed : List ℕ → State → ℕ → List ℕ

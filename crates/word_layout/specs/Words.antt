@@ -4,32 +4,34 @@
 -- document 02's, No. 9.
 -- Assumes nothing.
 use Prim.Native.Nat.{ℕ, zero, suc, _+_, _-_, _*_, _%_, _^_}
-use mathlib.Core.Bool.{Bool, _&&_}
+use mathlib.Core.Bool.{Bool, true, false, _&&_}
 use mathlib.Core.List.{List, [], _∷_, _++_}
 use lib.ListN.{getD, set}
 use lib.Dec.{leb, eqb}
 use Rattle.words.specs.Splice.{splice, part}
 use Rattle.conventions.specs.declared.Convention.{Convention}
+use Rattle.conventions.specs.declared.ConventionCode.{ConventionCode}
+use Rattle.conventions.specs.Numbers.{codeOf, conventionCode}
 use Rattle.rules.specs.declared.Frame.{Frame}
 use Rattle.rules.specs.declared.Registers.{Registers}
-use Rattle.conventions.specs.declared.Convention.the-variants.{Ppc64, Z}
 use Rattle.words.specs.Basics.{pick}
 use Rattle.rules.specs.Frames.{firstGpr, firstFpr, savesCr, noFrame, flag}
 use Rattle.machine.specs.declared.State.{State}
 
 -- ---- reading
 
--- "code 1 PPC64, 2 Z" ("A signature's bytes"), and the convention of a code
-abbrev pub codeOf : Convention → ℕ
-codeOf Ppc64 = 1
-codeOf Z = 2
+-- a code's convention; where it is no convention's code some one stands there, and `isMachine` says no
+abbrev pub conventionOf : ConventionCode → Convention
+conventionOf (ConventionCode.Known c) = c
+conventionOf ConventionCode.Unknown = Convention.Z
 
-abbrev pub conventionOf : ℕ → Convention
-conventionOf n = pick (eqb n 1) Ppc64 Z
+abbrev pub isKnown : ConventionCode → Bool
+isKnown (ConventionCode.Known c) = true
+isKnown ConventionCode.Unknown = false
 
 -- Are the words a machine's? Not where word 0 is no convention's code, or word 69 no 32-bit word ("CR is one 32-bit word").
 unfoldable pub isMachine : List ℕ → Bool
-isMachine ws = leb 1 (getD ws 0 0) && (leb (getD ws 0 0) 2 && leb (getD ws 69 0) (2 ^ 32 - 1))
+isMachine ws = isKnown (conventionCode (getD ws 0 0)) && leb (getD ws 69 0) (2 ^ 32 - 1)
 
 -- the depth; words that are no machine's are read as one of depth 33, which is refused by 23 ("depth over 32") before anything else
 unfoldable pub depthIn : List ℕ → ℕ
@@ -67,7 +69,7 @@ framesIn (suc n) ws i = frameIn ws (70 + 6 * i) ∷ framesIn n ws (i + 1)
 -- the state that 262 words are read as
 unfoldable pub stateIn : List ℕ → State
 stateIn ws = record {
-  convention = conventionOf (getD ws 0 0);
+  convention = conventionOf (conventionCode (getD ws 0 0));
   base = getD ws 1 0;
   size = getD ws 2 0;
   depth = depthIn ws;

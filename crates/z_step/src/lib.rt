@@ -2,13 +2,13 @@
 ghost use mathlib.Core.Path.{_≡_};
 ghost use Prim.Native.Nat.{_+_, _-_, _*_, _≤_, min};
 ghost use Rattle.places.specs.declared.Rules.{Rules};
-ghost use Rattle.places.specs.ZSeries.{bySize, byEquivalent, zClass, zSpan, zNext, zSpanOf, zNextOf};
+ghost use Rattle.places.specs.ZSeries.{bySize, byEquivalent, zClass, zWord, zSpan, zNext, zSpanOf, zNextOf};
 ghost use Rattle.places.specs.Values.{bytes};
 ghost use Rattle.places.specs.Step.{Roomy, placedAs, nextOf, placed};
+use abi::Z;
 use places::Cursor;
 use places::Placed;
 use places::Span;
-use places::Z;
 use places::ZClass;
 use types::Equivalent;
 use types::FloatFormat;
@@ -66,7 +66,7 @@ fn one_left(next: usize, past: usize) -> usize
     if next < past { 1 } else { 0 }
 }
 
-// What an argument takes: GPRs, FPRs or, where it has neither, 8 bytes of memory; the bytes of its copy.
+// What an argument takes: GPRs, FPRs or, where it has neither, a word of memory; the bytes of its copy.
 struct Taken {
     general: usize,
     floating: usize,
@@ -119,9 +119,9 @@ fn taken_of(c: Cursor, class: ZClass, size: usize) -> Taken
 // The bytes of memory of an argument in g GPRs or f FPRs.
 fn stored(g: usize, f: usize) -> usize
     requires { ⌜ g + f ≤ 1 ⌝ }
-    ensures { λ r. ⌜ r ≡ 8 * (1 - (g + f)) ⌝ }
+    ensures { λ r. ⌜ r ≡ zWord * (1 - (g + f)) ⌝ }
 {
-    8 * (1 - (g + f))
+    Z::WORD * (1 - (g + f))
 }
 
 // Floating registers count by two: only the even ones are used.

@@ -19,32 +19,32 @@ use borrow.Author.Needs.{needs}
 use Rattle.abi.proofs.start.Statement.{statement}
 use Rattle.abi.proofs.start.Tie as tie
 
-rules-of-requires : tie.Need-rules-of-requires
-rules-of-requires c κs = search needs
+frame-rules-of-requires : tie.Need-frame-rules-of-requires
+frame-rules-of-requires c κs = search needs
 
 memory-ok-requires : tie.Need-memory-ok-requires
 memory-ok-requires c κs =
     let z = c .before .before in
-    rw (c .rules-of .ensures) (lawful (z .args .c))
+    rw (c .frame-rules-of .ensures) (lawful (z .args .c))
 
 returns : tie.Need-returns
 unfolding notStarted
 returns c =
     let z = c .before .before .before .before in
     let l = now (z .args .memory) in
-    let rules-of = c .before .before .rules-of in
+    let frame-rules-of = c .before .before .frame-rules-of in
     let no : okMemory (rules (z .args .c)) (z .args .base) (length l) ≡ false
-    = sym (rw (rules-of .ensures) at (c .before .memory-ok .ensures)) ∙ not-true (c .before .memory-ok .result) (c .if1 .taken) in
+    = sym (rw (frame-rules-of .ensures) at (c .before .memory-ok .ensures)) ∙ not-true (c .before .memory-ok .result) (c .if1 .taken) in
     let e = start-refused (z .args .c) (z .args .base) l (z .args .registers) BadMemory (refused-start (z .args .c) (z .args .base) (length l) no) in
     (sym (e .0), sym (e .1))
 
 sub-at : tie.Need-sub-at
 sub-at c =
     let z = c .before .before .before .before .before in
-    let rules-of = c .before .before .before .rules-of in
+    let frame-rules-of = c .before .before .before .frame-rules-of in
     let memory-ok = c .before .before .memory-ok in
-    let law : Lawful (rules-of .result) = rw (rules-of .ensures) (lawful (z .args .c)) in
-    let yes = memory-yes (rules-of .result) (z .args .base) (length (now (z .args .memory))) (sym (memory-ok .ensures) ∙ not-false (memory-ok .result) (c .before .if1 .left)) in
+    let law : Lawful (frame-rules-of .result) = rw (frame-rules-of .ensures) (lawful (z .args .c)) in
+    let yes = memory-yes (frame-rules-of .result) (z .args .base) (length (now (z .args .memory))) (sym (memory-ok .ensures) ∙ not-false (memory-ok .result) (c .before .if1 .left)) in
     omega (arith, law .room, yes)
 
 clear-requires : tie.Need-clear-requires
@@ -53,26 +53,26 @@ clear-requires c κs = search needs
 add-with-pointer : tie.Need-add-with-pointer
 add-with-pointer c =
     let z = c .before .before .before .before .before .before in
-    let rules-of = c .before .before .before .before .rules-of in
+    let frame-rules-of = c .before .before .before .before .frame-rules-of in
     let memory-ok = c .before .before .before .memory-ok in
-    let law : Lawful (rules-of .result) = rw (rules-of .ensures) (lawful (z .args .c)) in
-    let yes = memory-yes (rules-of .result) (z .args .base) (length (now (z .args .memory))) (sym (memory-ok .ensures) ∙ not-false (memory-ok .result) (c .before .before .if1 .left)) in
-    omega (arith, law .room, yes, limit-64 (rules-of .result) law)
+    let law : Lawful (frame-rules-of .result) = rw (frame-rules-of .ensures) (lawful (z .args .c)) in
+    let yes = memory-yes (frame-rules-of .result) (z .args .base) (length (now (z .args .memory))) (sym (memory-ok .ensures) ∙ not-false (memory-ok .result) (c .before .before .if1 .left)) in
+    omega (arith, law .room, yes, limit-64 (frame-rules-of .result) law)
 
 with-pointer-requires : tie.Need-with-pointer-requires
 with-pointer-requires c κs =
     let z = c .before .before .before .before .before .before in
-    let rules-of = c .before .before .before .before .rules-of in
-    let law : Lawful (rules-of .result) = rw (rules-of .ensures) (lawful (z .args .c)) in law .pointer
+    let frame-rules-of = c .before .before .before .before .frame-rules-of in
+    let law : Lawful (frame-rules-of .result) = rw (frame-rules-of .ensures) (lawful (z .args .c)) in law .pointer
 
 store-requires : tie.Need-store-requires
 store-requires c κs =
     let z = c .before .before .before .before .before .before .before .before in
-    let rules-of = c .before .before .before .before .before .before .rules-of in
+    let frame-rules-of = c .before .before .before .before .before .before .frame-rules-of in
     let memory-ok = c .before .before .before .before .before .memory-ok in
     let if1 = c .before .before .before .before .if1 in
-    let law : Lawful (rules-of .result) = rw (rules-of .ensures) (lawful (z .args .c)) in
-    let yes = memory-yes (rules-of .result) (z .args .base) (length (now (z .args .memory))) (sym (memory-ok .ensures) ∙ not-false (memory-ok .result) (if1 .left)) in
+    let law : Lawful (frame-rules-of .result) = rw (frame-rules-of .ensures) (lawful (z .args .c)) in
+    let yes = memory-yes (frame-rules-of .result) (z .args .base) (length (now (z .args .memory))) (sym (memory-ok .ensures) ∙ not-false (memory-ok .result) (if1 .left)) in
     omega (arith, law .room, law .head, law .chain, yes)
 
 same-length : tie.Need-same-length
@@ -83,25 +83,25 @@ unfolding started startedMemory store
 returns-2 c =
     let z = c .before .before .before .before .before .before .before .before .before .before .before in
     let l = now (z .args .memory) in
-    let rules-of = c .before .before .before .before .before .before .before .before .before .rules-of in
+    let frame-rules-of = c .before .before .before .before .before .before .before .before .before .frame-rules-of in
     let memory-ok = c .before .before .before .before .before .before .before .before .memory-ok in
     let if1 = c .before .before .before .before .before .before .before .if1 in
     let with-pointer = c .before .before .before .before .with-pointer in
     let store = c .before .before .store in
-    let law : Lawful (rules-of .result) = rw (rules-of .ensures) (lawful (z .args .c)) in
-    let yes = memory-yes (rules-of .result) (z .args .base) (length l) (sym (memory-ok .ensures) ∙ not-false (memory-ok .result) (if1 .left)) in
+    let law : Lawful (frame-rules-of .result) = rw (frame-rules-of .ensures) (lawful (z .args .c)) in
+    let yes = memory-yes (frame-rules-of .result) (z .args .base) (length l) (sym (memory-ok .ensures) ∙ not-false (memory-ok .result) (if1 .left)) in
     let ok : okMemory (rules (z .args .c)) (z .args .base) (length l) ≡ true
-    = sym (rw (rules-of .ensures) at (memory-ok .ensures)) ∙ not-false (memory-ok .result) (if1 .left) in
+    = sym (rw (frame-rules-of .ensures) at (memory-ok .ensures)) ∙ not-false (memory-ok .result) (if1 .left) in
     let e = start-accepted (z .args .c) (z .args .base) l (z .args .registers) (accepted-start (z .args .c) (z .args .base) (length l) ok) in
-    let at : z .args .base + (length l - rules-of .result .room) ≡ z .args .base + length l - rules-of .result .room
+    let at : z .args .base + (length l - frame-rules-of .result .room) ≡ z .args .base + length l - frame-rules-of .result .room
     = omega (arith, law .room, yes) in
-    (rw (with-pointer .ensures, c .before .before .before .before .before .clear .ensures, at, rules-of .ensures) (sym (e .0)), rw (store .ensures, rules-of .ensures) (sym (e .1)))
+    (rw (with-pointer .ensures, c .before .before .before .before .before .clear .ensures, at, frame-rules-of .ensures) (sym (e .0)), rw (store .ensures, frame-rules-of .ensures) (sym (e .1)))
 
 pub start-spec : {M : Type 1} → statement M
 start-spec =
     tie.close
     (tie.spec
-    rules-of-requires
+    frame-rules-of-requires
     memory-ok-requires
     returns
     sub-at

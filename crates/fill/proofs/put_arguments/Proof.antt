@@ -37,8 +37,8 @@ known : (c : tie.After-size-of Inv-loop μ-loop)
     (hand c) (c .before .before .before .before .loop .v) (length (c .before .before .before .before .before .before .before .before .before .before .args .values .now))
 known c = at-hand _ _ _ _ _ _ _ _ _ _ (next c) (c .before .before .before .before .loop .inv)
 
-rules-of-requires : tie.Need-rules-of-requires Inv-loop μ-loop
-rules-of-requires c κs = search needs
+call-rules-of-requires : tie.Need-call-rules-of-requires Inv-loop μ-loop
+call-rules-of-requires c κs = search needs
 
 loop-holds : tie.Need-loop-holds Inv-loop μ-loop
 loop-holds c =
@@ -83,7 +83,7 @@ put-argument-requires c κs =
     let n : ℕ = sized .size-of .result in
     let m : v + n - v ≡ n = add-sub-cancel-left v n in
     let l : length (take n (drop v values)) ≡ n = length-take-le n (drop v values) (omega (arith, k .within, sized .size-of .ensures, length-drop v values)) in
-    rw (m, l, sized .size-of .ensures, sized .before .before .before .before .before .rules-of .ensures, same .image, same .area, same .copies) (k .ready)
+    rw (m, l, sized .size-of .ensures, sized .before .before .before .before .before .call-rules-of .ensures, same .image, same .area, same .copies) (k .ready)
 
 add-i : tie.Need-add-i Inv-loop μ-loop
 add-i c = omega (arith, c .before .before .before .before .before .before .before .before .before .before .before .before .before .before .before .before .before .before .before .before .before .pre .few, c .before .before .before .before .before .before .before .before .before .before .before .before .before .before .loop-test .taken)
@@ -101,7 +101,7 @@ loop-again c =
     let n : ℕ = sized .size-of .result in
     let m : v + n - v ≡ n = add-sub-cancel-left v n in
     let l : length (take n (drop v values)) ≡ n = length-take-le n (drop v values) (omega (arith, k .within, sized .size-of .ensures, length-drop v values)) in
-    rw (after .put-argument .ensures, m, l, sized .size-of .ensures, sized .before .before .before .before .before .rules-of .ensures)
+    rw (after .put-argument .ensures, m, l, sized .size-of .ensures, sized .before .before .before .before .before .call-rules-of .ensures)
     (going-more _ _ _ _ _ _ _ _ _ (hand sized) (next sized) (sized .before .before .before .before .loop .inv))
 
 same-length : tie.Need-same-length Inv-loop μ-loop
@@ -124,7 +124,7 @@ put-arguments-spec =
     (tie.spec
     Inv-loop
     μ-loop
-    rules-of-requires
+    call-rules-of-requires
     loop-holds
     mul-a
     element-copy-out-a

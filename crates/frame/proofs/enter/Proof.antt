@@ -10,13 +10,13 @@ use borrow.Author.Needs.{needs}
 use Rattle.frame.proofs.enter.Statement.{statement}
 use Rattle.frame.proofs.enter.Tie as tie
 
-rules-of-requires : tie.Need-rules-of-requires
-rules-of-requires c κs = search needs
+frame-rules-of-requires : tie.Need-frame-rules-of-requires
+frame-rules-of-requires c κs = search needs
 
 judge-enter-requires : tie.Need-judge-enter-requires
 judge-enter-requires c κs =
     let z = c .before .before in
-    rw (c .rules-of .ensures) (lawful (z .args .s .convention))
+    rw (c .frame-rules-of .ensures) (lawful (z .args .s .convention))
 
 enum-known-a : tie.Need-enum-known-a
 enum-known-a c = search needs
@@ -27,27 +27,27 @@ enum-told c = search needs
 push-requires : tie.Need-push-requires
 push-requires c κs =
     let z = c .before .before .before .before .before in
-    let rules-of = c .before .before .before .rules-of in
+    let frame-rules-of = c .before .before .before .frame-rules-of in
     let judge-enter = c .before .before .judge-enter in
-    let law : Lawful (rules-of .result) = rw (rules-of .ensures) (lawful (z .args .s .convention)) in
-    (law, enter-yes (rules-of .result) (z .args .s) (length (now (z .args .memory))) (z .args .f) (sym (judge-enter .ensures) ∙ c .enum-told .given .1) .1)
+    let law : Lawful (frame-rules-of .result) = rw (frame-rules-of .ensures) (lawful (z .args .s .convention)) in
+    (law, enter-yes (frame-rules-of .result) (z .args .s) (length (now (z .args .memory))) (z .args .f) (sym (judge-enter .ensures) ∙ c .enum-told .given .1) .1)
 
 save-frame-requires : tie.Need-save-frame-requires
 save-frame-requires c κs =
     let z = c .before .before .before .before .before .before .before in
-    let rules-of = c .before .before .before .before .before .rules-of in
+    let frame-rules-of = c .before .before .before .before .before .frame-rules-of in
     let judge-enter = c .before .before .before .before .judge-enter in
     let enum-told = c .before .before .enum-told in
-    let law : Lawful (rules-of .result) = rw (rules-of .ensures) (lawful (z .args .s .convention)) in
-    let y = enter-yes (rules-of .result) (z .args .s) (length (now (z .args .memory))) (z .args .f) (sym (judge-enter .ensures) ∙ enum-told .given .1) in
+    let law : Lawful (frame-rules-of .result) = rw (frame-rules-of .ensures) (lawful (z .args .s .convention)) in
+    let y = enter-yes (frame-rules-of .result) (z .args .s) (length (now (z .args .memory))) (z .args .f) (sym (judge-enter .ensures) ∙ enum-told .given .1) in
     (law, y .0, y .1)
 
 returns : tie.Need-returns
 returns c =
     let z = c .before .before .before .before .before .before in
-    let rules-of = c .before .before .before .before .rules-of in
+    let frame-rules-of = c .before .before .before .before .frame-rules-of in
     let judge-enter = c .before .before .before .judge-enter in
-    let e = enter-refused (z .args .s) (now (z .args .memory)) (z .args .f) _ (rw (rules-of .ensures) at (sym (judge-enter .ensures) ∙ c .before .a .given .1)) in
+    let e = enter-refused (z .args .s) (now (z .args .memory)) (z .args .f) _ (rw (frame-rules-of .ensures) at (sym (judge-enter .ensures) ∙ c .before .a .given .1)) in
     (sym (e .0), sym (e .1))
 
 same-length : tie.Need-same-length
@@ -56,19 +56,19 @@ same-length c = search needs
 returns-2 : tie.Need-returns-2
 returns-2 c =
     let z = c .before .before .before .before .before .before .before .before .before .before in
-    let rules-of = c .before .before .before .before .before .before .before .before .rules-of in
+    let frame-rules-of = c .before .before .before .before .before .before .before .before .frame-rules-of in
     let judge-enter = c .before .before .before .before .before .before .before .judge-enter in
     let enum-told = c .before .before .before .before .before .enum-told in
     let push = c .before .before .before .before .push in
     let save-frame = c .before .before .save-frame in
-    let e = enter-accepted (z .args .s) (now (z .args .memory)) (z .args .f) (rw (rules-of .ensures) at (sym (judge-enter .ensures) ∙ enum-told .given .1)) in
-    (rw (push .ensures, rules-of .ensures) (sym (e .0)), rw (save-frame .ensures, rules-of .ensures) (sym (e .1)))
+    let e = enter-accepted (z .args .s) (now (z .args .memory)) (z .args .f) (rw (frame-rules-of .ensures) at (sym (judge-enter .ensures) ∙ enum-told .given .1)) in
+    (rw (push .ensures, frame-rules-of .ensures) (sym (e .0)), rw (save-frame .ensures, frame-rules-of .ensures) (sym (e .1)))
 
 pub enter-spec : {M : Type 1} → statement M
 enter-spec =
     tie.close
     (tie.spec
-    rules-of-requires
+    frame-rules-of-requires
     judge-enter-requires
     enum-known-a
     enum-told

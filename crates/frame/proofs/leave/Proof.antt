@@ -9,13 +9,13 @@ use borrow.Author.Needs.{needs}
 use Rattle.frame.proofs.leave.Statement.{statement}
 use Rattle.frame.proofs.leave.Tie as tie
 
-rules-of-requires : tie.Need-rules-of-requires
-rules-of-requires c κs = search needs
+frame-rules-of-requires : tie.Need-frame-rules-of-requires
+frame-rules-of-requires c κs = search needs
 
 judge-leave-requires : tie.Need-judge-leave-requires
 judge-leave-requires c κs =
     let z = c .before .before in
-    rw (c .rules-of .ensures) (lawful (z .args .s .convention))
+    rw (c .frame-rules-of .ensures) (lawful (z .args .s .convention))
 
 enum-known-a : tie.Need-enum-known-a
 enum-known-a c = search needs
@@ -26,30 +26,30 @@ enum-told c = search needs
 pop-requires : tie.Need-pop-requires
 pop-requires c κs =
     let z = c .before .before .before .before .before in
-    let rules-of = c .before .before .before .rules-of in
+    let frame-rules-of = c .before .before .before .frame-rules-of in
     let judge-leave = c .before .before .judge-leave in
-    let law : Lawful (rules-of .result) = rw (rules-of .ensures) (lawful (z .args .s .convention)) in
-    (law, leave-yes (rules-of .result) (z .args .s) (now (z .args .memory)) (sym (judge-leave .ensures) ∙ c .enum-told .given .1))
+    let law : Lawful (frame-rules-of .result) = rw (frame-rules-of .ensures) (lawful (z .args .s .convention)) in
+    (law, leave-yes (frame-rules-of .result) (z .args .s) (now (z .args .memory)) (sym (judge-leave .ensures) ∙ c .enum-told .given .1))
 
 returns : tie.Need-returns
 returns c =
     let z = c .before .before .before .before .before .before in
-    let rules-of = c .before .before .before .before .rules-of in
+    let frame-rules-of = c .before .before .before .before .frame-rules-of in
     let judge-leave = c .before .before .before .judge-leave in
-    sym (leave-refused (z .args .s) (now (z .args .memory)) _ (rw (rules-of .ensures) at (sym (judge-leave .ensures) ∙ c .before .a .given .1)))
+    sym (leave-refused (z .args .s) (now (z .args .memory)) _ (rw (frame-rules-of .ensures) at (sym (judge-leave .ensures) ∙ c .before .a .given .1)))
 
 returns-2 : tie.Need-returns-2
 returns-2 c =
     let z = c .before .before .before .before .before .before in
-    let rules-of = c .before .before .before .before .rules-of in
+    let frame-rules-of = c .before .before .before .before .frame-rules-of in
     let judge-leave = c .before .before .before .judge-leave in
-    rw (c .pop .ensures, rules-of .ensures) (sym (leave-accepted (z .args .s) (now (z .args .memory)) (rw (rules-of .ensures) at (sym (judge-leave .ensures) ∙ c .before .enum-told .given .1))))
+    rw (c .pop .ensures, frame-rules-of .ensures) (sym (leave-accepted (z .args .s) (now (z .args .memory)) (rw (frame-rules-of .ensures) at (sym (judge-leave .ensures) ∙ c .before .enum-told .given .1))))
 
 pub leave-spec : {M : Type 1} → statement M
 leave-spec =
     tie.close
     (tie.spec
-    rules-of-requires
+    frame-rules-of-requires
     judge-leave-requires
     enum-known-a
     enum-told

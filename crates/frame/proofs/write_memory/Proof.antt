@@ -15,13 +15,13 @@ use borrow.Author.Needs.{needs}
 use Rattle.frame.proofs.write_memory.Statement.{statement}
 use Rattle.frame.proofs.write_memory.Tie as tie
 
-rules-of-requires : tie.Need-rules-of-requires
-rules-of-requires c κs = search needs
+frame-rules-of-requires : tie.Need-frame-rules-of-requires
+frame-rules-of-requires c κs = search needs
 
 judge-write-memory-requires : tie.Need-judge-write-memory-requires
 judge-write-memory-requires c κs =
     let z = c .before .before .before in
-    rw (c .rules-of .ensures) (lawful (z .args .s .convention))
+    rw (c .frame-rules-of .ensures) (lawful (z .args .s .convention))
 
 enum-known-a : tie.Need-enum-known-a
 enum-known-a c = search needs
@@ -34,11 +34,11 @@ sub-at c =
     let z = c .before .before .before .before .before .before in
     let l = now (z .args .memory) in
     let s = z .args .s in
-    let rules-of = c .before .before .before .rules-of in
+    let frame-rules-of = c .before .before .before .frame-rules-of in
     let judge-write-memory = c .before .before .judge-write-memory in
-    let law : Lawful (rules-of .result) = rw (rules-of .ensures) (lawful (s .convention)) in
-    let y = write-memory-yes (rules-of .result) s (length l) (z .args .address) (length (now (z .args .bytes))) (sym (judge-write-memory .ensures) ∙ c .enum-told .given .1) in
-    let at = address-yes (rules-of .result) law s (length l) (y .0) (z .args .address) (length (now (z .args .bytes))) (y .1) in
+    let law : Lawful (frame-rules-of .result) = rw (frame-rules-of .ensures) (lawful (s .convention)) in
+    let y = write-memory-yes (frame-rules-of .result) s (length l) (z .args .address) (length (now (z .args .bytes))) (sym (judge-write-memory .ensures) ∙ c .enum-told .given .1) in
+    let at = address-yes (frame-rules-of .result) law s (length l) (y .0) (z .args .address) (length (now (z .args .bytes))) (y .1) in
     at .0
 
 sub-put : tie.Need-sub-put
@@ -46,11 +46,11 @@ sub-put c =
     let z = c .before .before .before .before .before .before in
     let l = now (z .args .memory) in
     let s = z .args .s in
-    let rules-of = c .before .before .before .rules-of in
+    let frame-rules-of = c .before .before .before .frame-rules-of in
     let judge-write-memory = c .before .before .judge-write-memory in
-    let law : Lawful (rules-of .result) = rw (rules-of .ensures) (lawful (s .convention)) in
-    let y = write-memory-yes (rules-of .result) s (length l) (z .args .address) (length (now (z .args .bytes))) (sym (judge-write-memory .ensures) ∙ c .enum-told .given .1) in
-    let at = address-yes (rules-of .result) law s (length l) (y .0) (z .args .address) (length (now (z .args .bytes))) (y .1) in
+    let law : Lawful (frame-rules-of .result) = rw (frame-rules-of .ensures) (lawful (s .convention)) in
+    let y = write-memory-yes (frame-rules-of .result) s (length l) (z .args .address) (length (now (z .args .bytes))) (sym (judge-write-memory .ensures) ∙ c .enum-told .given .1) in
+    let at = address-yes (frame-rules-of .result) law s (length l) (y .0) (z .args .address) (length (now (z .args .bytes))) (y .1) in
     omega arith
 
 part-put-start : tie.Need-part-put-start
@@ -58,11 +58,11 @@ part-put-start c =
     let z = c .before .before .before .before .before .before in
     let l = now (z .args .memory) in
     let s = z .args .s in
-    let rules-of = c .before .before .before .rules-of in
+    let frame-rules-of = c .before .before .before .frame-rules-of in
     let judge-write-memory = c .before .before .judge-write-memory in
-    let law : Lawful (rules-of .result) = rw (rules-of .ensures) (lawful (s .convention)) in
-    let y = write-memory-yes (rules-of .result) s (length l) (z .args .address) (length (now (z .args .bytes))) (sym (judge-write-memory .ensures) ∙ c .enum-told .given .1) in
-    let at = address-yes (rules-of .result) law s (length l) (y .0) (z .args .address) (length (now (z .args .bytes))) (y .1) in
+    let law : Lawful (frame-rules-of .result) = rw (frame-rules-of .ensures) (lawful (s .convention)) in
+    let y = write-memory-yes (frame-rules-of .result) s (length l) (z .args .address) (length (now (z .args .bytes))) (sym (judge-write-memory .ensures) ∙ c .enum-told .given .1) in
+    let at = address-yes (frame-rules-of .result) law s (length l) (y .0) (z .args .address) (length (now (z .args .bytes))) (y .1) in
     let h : z .args .address - s .base ≤ length l = omega arith in
     search needs
 
@@ -74,19 +74,19 @@ put-requires c κs =
     let z = c .before .before .before .before .before .before .before in
     let l = now (z .args .memory) in
     let s = z .args .s in
-    let rules-of = c .before .before .before .before .rules-of in
+    let frame-rules-of = c .before .before .before .before .frame-rules-of in
     let judge-write-memory = c .before .before .before .judge-write-memory in
-    let law : Lawful (rules-of .result) = rw (rules-of .ensures) (lawful (s .convention)) in
-    let y = write-memory-yes (rules-of .result) s (length l) (z .args .address) (length (now (z .args .bytes))) (sym (judge-write-memory .ensures) ∙ c .before .enum-told .given .1) in
-    let at = address-yes (rules-of .result) law s (length l) (y .0) (z .args .address) (length (now (z .args .bytes))) (y .1) in
+    let law : Lawful (frame-rules-of .result) = rw (frame-rules-of .ensures) (lawful (s .convention)) in
+    let y = write-memory-yes (frame-rules-of .result) s (length l) (z .args .address) (length (now (z .args .bytes))) (sym (judge-write-memory .ensures) ∙ c .before .enum-told .given .1) in
+    let at = address-yes (frame-rules-of .result) law s (length l) (y .0) (z .args .address) (length (now (z .args .bytes))) (y .1) in
     simp (length-take, length-drop) (omega arith)
 
 returns : tie.Need-returns
 returns c =
     let z = c .before .before .before .before .before .before .before in
-    let rules-of = c .before .before .before .before .rules-of in
+    let frame-rules-of = c .before .before .before .before .frame-rules-of in
     let judge-write-memory = c .before .before .before .judge-write-memory in
-    let e = write-memory-refused (z .args .s) (now (z .args .memory)) (z .args .address) (now (z .args .bytes)) _ (rw (rules-of .ensures) at (sym (judge-write-memory .ensures) ∙ c .before .a .given .1)) in
+    let e = write-memory-refused (z .args .s) (now (z .args .memory)) (z .args .address) (now (z .args .bytes)) _ (rw (frame-rules-of .ensures) at (sym (judge-write-memory .ensures) ∙ c .before .a .given .1)) in
     (sym (e .0), sym (e .1))
 
 same-length : tie.Need-same-length
@@ -97,18 +97,18 @@ unfolding writtenMemory
 returns-2 c =
     let z = c .before .before .before .before .before .before .before .before .before .before in
     let l = now (z .args .memory) in
-    let rules-of = c .before .before .before .before .before .before .before .rules-of in
+    let frame-rules-of = c .before .before .before .before .before .before .before .frame-rules-of in
     let judge-write-memory = c .before .before .before .before .before .before .judge-write-memory in
     let enum-told = c .before .before .before .before .enum-told in
     let put = c .before .before .put in
-    let e = write-memory-accepted (z .args .s) l (z .args .address) (now (z .args .bytes)) (rw (rules-of .ensures) at (sym (judge-write-memory .ensures) ∙ enum-told .given .1)) in
+    let e = write-memory-accepted (z .args .s) l (z .args .address) (now (z .args .bytes)) (rw (frame-rules-of .ensures) at (sym (judge-write-memory .ensures) ∙ enum-told .given .1)) in
     (sym (e .0), rw (put .ensures) (lent-tail l (z .args .address - z .args .s .base) (now (z .args .bytes))) ∙ sym (e .1))
 
 pub write-memory-spec : {M : Type 1} → statement M
 write-memory-spec =
     tie.close
     (tie.spec
-    rules-of-requires
+    frame-rules-of-requires
     judge-write-memory-requires
     enum-known-a
     enum-told

@@ -28,10 +28,10 @@ next : (c : tie.After-s Inv-loop μ-loop) → drop (c .before .before .before .l
 next c = next-argument (c .before .before .before .before .before .before .args .t2) (c .before .before .before .before .before .before .args .t3) (c .before .before .before .loop .i) (c .before .before .loop-test .taken) (c .before .before .before .before .before .before .pre .types) (c .before .before .before .before .before .before .pre .spans)
 
 asked : (c : tie.After-register-answer Inv-loop μ-loop) → c .register-answer .result ≡ registerAnswer (rulesOf (c .before .before .before .before .before .before .before .args .t2 .convention)) (hand (c .before) .ty) (hand (c .before) .span) (c .before .before .before .before .before .before .before .args .image .now)
-asked c = c .register-answer .ensures ∙ rw (c .before .before .before .before .before .rules-of .ensures)
+asked c = c .register-answer .ensures ∙ rw (c .before .before .before .before .before .call-rules-of .ensures)
 
-rules-of-requires : tie.Need-rules-of-requires Inv-loop μ-loop
-rules-of-requires c κs = search needs
+call-rules-of-requires : tie.Need-call-rules-of-requires Inv-loop μ-loop
+call-rules-of-requires c κs = search needs
 
 loop-holds : tie.Need-loop-holds Inv-loop μ-loop
 loop-holds c = checking-start _ _ _ (c .before .before .pre .each)
@@ -79,7 +79,7 @@ first-unwidened-spec =
     (tie.spec
     Inv-loop
     μ-loop
-    rules-of-requires
+    call-rules-of-requires
     loop-holds
     mul-a
     element-copy-out-a

@@ -19,7 +19,7 @@ viewed c =
 
 -- where the value's own bytes start
 own : (c : tie.After-own-start) → c .own-start .result ≡ ownStart (rulesOf (c .before .before .before .before .before .before .before .before .before .before .before .read-signature .result .convention)) (argumentAt (c .before .before .before .before .before .before .before .before .before .before .before .read-signature .result) (c .before .before .before .before .before .before .before .before .before .before .plan-signature .result) (c .before .before .before .before .before .before .before .before .before .before .before .before .before .args .index) .ty) (argumentAt (c .before .before .before .before .before .before .before .before .before .before .before .read-signature .result) (c .before .before .before .before .before .before .before .before .before .before .plan-signature .result) (c .before .before .before .before .before .before .before .before .before .before .before .before .before .args .index) .size)
-own c = c .own-start .ensures ∙ rw (c .before .rules-of .ensures, c .before .before .before .size-of .ensures)
+own c = c .own-start .ensures ∙ rw (c .before .call-rules-of .ensures, c .before .before .before .size-of .ensures)
 
 read-signature-requires : tie.Need-read-signature-requires
 read-signature-requires c κs = search needs
@@ -57,13 +57,13 @@ size-of-requires c κs = search needs
 cast-start : tie.Need-cast-start
 cast-start c = search needs
 
-rules-of-requires : tie.Need-rules-of-requires
-rules-of-requires c κs = search needs
+call-rules-of-requires : tie.Need-call-rules-of-requires
+call-rules-of-requires c κs = search needs
 
 own-start-requires : tie.Need-own-start-requires
 own-start-requires c κs =
     let h = viewed (c .before .before .before .before .before .before) in
-    rw (c .rules-of .ensures, c .before .before .size-of .ensures) (λ e. (h .held .small e (h .homed .direct) .1, h .held .end e))
+    rw (c .call-rules-of .ensures, c .before .before .size-of .ensures) (λ e. (h .held .small e (h .homed .direct) .1, h .held .end e))
 
 add-start : tie.Need-add-start
 add-start c =
@@ -95,7 +95,7 @@ view-part-spec =
     element-copy-out-s
     size-of-requires
     cast-start
-    rules-of-requires
+    call-rules-of-requires
     own-start-requires
     add-start
     returns-2)

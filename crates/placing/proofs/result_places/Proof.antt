@@ -6,8 +6,8 @@ use borrow.Author.Needs.{needs}
 use Rattle.placing.proofs.result_places.Statement.{statement}
 use Rattle.placing.proofs.result_places.Tie as tie
 
-rules-of-requires : tie.Need-rules-of-requires
-rules-of-requires c κs = search needs
+call-rules-of-requires : tie.Need-call-rules-of-requires
+call-rules-of-requires c κs = search needs
 
 hidden-for-requires : tie.Need-hidden-for-requires
 hidden-for-requires c κs = search needs
@@ -18,37 +18,37 @@ hidden-step-requires c κs = search needs
 returns : tie.Need-returns
 unfolding resultOf placed
 returns c =
-    let r = c .before .before .before .before .rules-of .ensures in
+    let r = c .before .before .before .before .call-rules-of .ensures in
     let h = sym (c .before .before .before .hidden-for .ensures) ∙ c .before .before .if1 .taken in
     simp (rw r at h, c .before .hidden-step .ensures)
 
 returning-of-requires : tie.Need-returning-of-requires
 returning-of-requires c κs = search needs
 
-fresh-of-requires : tie.Need-fresh-of-requires
-fresh-of-requires c κs = search needs
+cursor-of-requires : tie.Need-cursor-of-requires
+cursor-of-requires c κs = search needs
 
 step-requires : tie.Need-step-requires
 step-requires c κs =
     let l = rules-lawful (c .before .before .before .before .before .args .c) in
-    (rw (c .before .returning-of .ensures, c .before .before .before .before .rules-of .ensures) (returning-lawful _ l), rw (c .fresh-of .ensures) (fresh-roomy _), c .before .before .before .before .before .pre)
+    (rw (c .before .returning-of .ensures, c .before .before .before .before .call-rules-of .ensures) (returning-lawful _ l), rw (c .cursor-of .ensures) (fresh-roomy _), c .before .before .before .before .before .pre)
 
 returns-2 : tie.Need-returns-2
 unfolding resultOf placed
 returns-2 c =
-    let r = c .before .before .before .before .before .before .rules-of .ensures in
+    let r = c .before .before .before .before .before .before .call-rules-of .ensures in
     let h = sym (c .before .before .before .before .before .hidden-for .ensures) ∙ c .before .before .before .before .if1 .left in
-    simp (rw r at h, c .before .step .ensures, c .before .before .fresh-of .ensures, c .before .before .before .returning-of .ensures, r)
+    simp (rw r at h, c .before .step .ensures, c .before .before .cursor-of .ensures, c .before .before .before .returning-of .ensures, r)
 
 pub result-places-spec : {M : Type 1} → statement M
 result-places-spec =
     tie.close
     (tie.spec
-    rules-of-requires
+    call-rules-of-requires
     hidden-for-requires
     hidden-step-requires
     returns
     returning-of-requires
-    fresh-of-requires
+    cursor-of-requires
     step-requires
     returns-2)

@@ -11,12 +11,12 @@ returns : tie.Need-returns
 unfolding startOf placed
 returns c = rw (c .before .before .if1 .taken) (rw (c .before .hidden-step .ensures))
 
-fresh-of-requires : tie.Need-fresh-of-requires
-fresh-of-requires c κs = search needs
+cursor-of-requires : tie.Need-cursor-of-requires
+cursor-of-requires c κs = search needs
 
 returns-2 : tie.Need-returns-2
 unfolding startOf
-returns-2 c = rw (c .before .if1 .left) (c .fresh-of .ensures)
+returns-2 c = rw (c .before .if1 .left) (c .cursor-of .ensures)
 
 pub start-spec : {M : Type 1} → statement M
-start-spec = tie.close (tie.spec hidden-step-requires returns fresh-of-requires returns-2)
+start-spec = tie.close (tie.spec hidden-step-requires returns cursor-of-requires returns-2)

@@ -18,8 +18,8 @@ Inv-loop s convention at end earlier rules hidden c₀ values₀ count₀ next�
 abbrev μ-loop : tie.MeasureT-loop
 μ-loop s convention at end earlier rules hidden c₀ values₀ count₀ next₀ items₀ c values count next items = end - next
 
-rules-of-requires : tie.Need-rules-of-requires Inv-loop μ-loop
-rules-of-requires c κs = search needs
+call-rules-of-requires : tie.Need-call-rules-of-requires Inv-loop μ-loop
+call-rules-of-requires c κs = search needs
 
 hidden-in-requires : tie.Need-hidden-in-requires Inv-loop μ-loop
 hidden-in-requires c κs = search needs
@@ -28,7 +28,7 @@ start-requires : tie.Need-start-requires Inv-loop μ-loop
 start-requires c κs = search needs
 
 loop-holds : tie.Need-loop-holds Inv-loop μ-loop
-loop-holds c = rw (c .start .ensures, c .before .before .rules-of .ensures) (measuring-start _ _ _ _ _ _ (rules-lawful (c .before .before .before .before .args .convention)) (omega arith))
+loop-holds c = rw (c .start .ensures, c .before .before .call-rules-of .ensures) (measuring-start _ _ _ _ _ _ (rules-lawful (c .before .before .before .before .args .convention)) (omega arith))
 
 no-measure-requires : tie.Need-no-measure-requires Inv-loop μ-loop
 no-measure-requires c κs = search needs
@@ -49,7 +49,7 @@ advance-requires : tie.Need-advance-requires Inv-loop μ-loop
 advance-requires c κs =
     let a = item-answered _ _ _ _ _ _ _ _ _ (omega arith) (c .before .before .before .before .read-item .ensures) (c .before .before .ty .given .1) in
     let m = c .before .before .before .before .before .before .before .loop .inv in (
-      rw (c .before .before .before .before .before .before .before .before .before .before .rules-of .ensures) (rules-lawful (c .before .before .before .before .before .before .before .before .before .before .before .before .args .convention)),
+      rw (c .before .before .before .before .before .before .before .before .before .before .call-rules-of .ensures) (rules-lawful (c .before .before .before .before .before .before .before .before .before .before .before .before .args .convention)),
       reached-roomy _ _ _ _ (omega (arith, m .turn .few)) (m .reached),
       rw (c .size-of .ensures) (a .sized .small),
     )
@@ -71,7 +71,7 @@ loop-less c = let a = item-answered _ _ _ _ _ _ _ _ _ (omega arith) (c .before .
 
 loop-again : tie.Need-loop-again Inv-loop μ-loop
 loop-again c =
-    let rules = c .before .before .before .before .before .before .before .before .before .before .before .rules-of .ensures in
+    let rules = c .before .before .before .before .before .before .before .before .before .before .before .call-rules-of .ensures in
     rw (c .advance .ensures, c .before .size-of .ensures, rules)
     (measuring-more _ _ _ _ _ _ _ _ _ _ _ (rw rules at (c .before .before .before .before .before .before .before .before .loop .inv)) (rules-lawful (c .before .before .before .before .before .before .before .before .before .before .before .before .before .args .convention)) (c .before .before .before .before .before .before .before .loop-test .taken) (c .before .before .before .before .before .before .if1 .left) _ (c .before .before .before .before .before .read-item .ensures) _ _ _ (c .before .before .before .ty .given .1))
 
@@ -89,19 +89,19 @@ no-measure-requires-3 c κs = search needs
 
 returns-3 : tie.Need-returns-3 Inv-loop μ-loop
 returns-3 c =
-    let m = rw (c .before .before .before .before .before .before .rules-of .ensures, c .before .before .before .before .start .ensures, c .before .before .before .before .before .hidden-in .ensures) at (c .before .before .before .loop .inv) in
+    let m = rw (c .before .before .before .before .before .before .call-rules-of .ensures, c .before .before .before .before .start .ensures, c .before .before .before .before .before .hidden-in .ensures) at (c .before .before .before .loop .inv) in
     c .no-measure3 .ensures ∙ measure-trailing _ _ _ _ _ _ _ _ _ _ _ m (c .before .before .loop-test .left) (c .before .if2 .taken)
 
 area-of-requires : tie.Need-area-of-requires Inv-loop μ-loop
-area-of-requires c κs = rw (c .before .before .before .before .before .rules-of .ensures) (rules-lawful (c .before .before .before .before .before .before .before .args .convention))
+area-of-requires c κs = search needs
 
 add-t24 : tie.Need-add-t24 Inv-loop μ-loop
 add-t24 c = omega arith
 
 returns-4 : tie.Need-returns-4 Inv-loop μ-loop
 returns-4 c =
-    let m = rw (c .before .before .before .before .before .before .rules-of .ensures, c .before .before .before .before .start .ensures, c .before .before .before .before .before .hidden-in .ensures) at (c .before .before .before .loop .inv) in
-    rw (c .area-of .ensures, c .before .before .before .before .before .before .rules-of .ensures) (measure-end _ _ _ _ _ _ _ _ _ _ _ m (c .before .before .loop-test .left) (c .before .if2 .left))
+    let m = rw (c .before .before .before .before .before .before .call-rules-of .ensures, c .before .before .before .before .start .ensures, c .before .before .before .before .before .hidden-in .ensures) at (c .before .before .before .loop .inv) in
+    rw (c .area-of .ensures) (measure-end _ _ _ _ _ _ _ _ _ _ _ m (c .before .before .loop-test .left) (c .before .if2 .left))
 
 pub measure-arguments-spec : {M : Type 1} → statement M
 measure-arguments-spec =
@@ -109,7 +109,7 @@ measure-arguments-spec =
     (tie.spec
     Inv-loop
     μ-loop
-    rules-of-requires
+    call-rules-of-requires
     hidden-in-requires
     start-requires
     loop-holds

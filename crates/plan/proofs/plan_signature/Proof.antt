@@ -27,8 +27,8 @@ blank-requires c κs = search needs
 enum-told-2 : tie.Need-enum-told-2 Inv-loop μ-loop
 enum-told-2 c = search needs
 
-rules-of-requires : tie.Need-rules-of-requires Inv-loop μ-loop
-rules-of-requires c κs = search needs
+call-rules-of-requires : tie.Need-call-rules-of-requires Inv-loop μ-loop
+call-rules-of-requires c κs = search needs
 
 hidden-in-requires : tie.Need-hidden-in-requires Inv-loop μ-loop
 hidden-in-requires c κs = search needs
@@ -44,7 +44,7 @@ blank-requires-2 c κs = search needs
 
 loop-holds : tie.Need-loop-holds Inv-loop μ-loop
 loop-holds c = (
-  rw (ap (λ (p : Plan). p .spans) (c .blank2 .ensures), c .before .start .ensures, c .before .before .before .before .rules-of .ensures) (going-start _ _ _ _ (rules-lawful (c .before .before .before .before .before .before .before .args .t1 .convention))),
+  rw (ap (λ (p : Plan). p .spans) (c .blank2 .ensures), c .before .start .ensures, c .before .before .before .before .call-rules-of .ensures) (going-start _ _ _ _ (rules-lawful (c .before .before .before .before .before .before .before .args .t1 .convention))),
   record { outcome = refl; convention = refl; result = refl; count = refl },
 )
 
@@ -63,7 +63,7 @@ step-requires c κs =
     let start = turn .before .before .before .before .before .before .before .before in
     let pre = start .pre in
     let g = turn .loop .inv .0 in
-    let rules = turn .before .before .before .before .before .rules-of in
+    let rules = turn .before .before .before .before .before .call-rules-of in
     let many = length-types (start .args .t1 .count) (start .args .t1 .arguments) (pre .room) in (
       rw (rules .ensures) (rules-lawful (start .args .t1 .convention)),
       reached-roomy _ _ _ _ (omega (arith, g .within, pre .few)) (g .reached),
@@ -99,7 +99,7 @@ loop-again c =
     let pre = start .pre in
     let i = turn .loop .i in
     let kept = turn .loop .inv .1 in
-    let rules = turn .before .before .before .before .before .rules-of .ensures in
+    let rules = turn .before .before .before .before .before .call-rules-of .ensures in
     let n = start .args .t1 .count in
     let l = start .args .t1 .arguments in
     let many = length-types n l (pre .room) in (
@@ -110,7 +110,7 @@ loop-again c =
     )
 
 area-of-requires : tie.Need-area-of-requires Inv-loop μ-loop
-area-of-requires c κs = rw (c .before .before .before .before .before .before .rules-of .ensures) (rules-lawful (c .before .before .before .before .before .before .before .before .before .args .t1 .convention))
+area-of-requires c κs = search needs
 
 returns : tie.Need-returns Inv-loop μ-loop
 unfolding planned
@@ -127,7 +127,7 @@ returns-2 c =
     let convention = kept .convention ∙ ap (λ (p : Plan). p .convention) blank in
     let result = kept .result ∙ ap (λ (p : Plan). p .result) blank ∙ c .before .before .before .before .before .result-in .ensures in
     let count = kept .count ∙ ap (λ (p : Plan). p .count) blank in
-    let rules = c .before .before .before .before .before .before .before .rules-of .ensures in
+    let rules = c .before .before .before .before .before .before .before .call-rules-of .ensures in
     let hidden = c .before .before .before .before .before .before .hidden-in .ensures in
     let first = c .before .before .before .before .start .ensures in
     let area = c .area-of .ensures in
@@ -142,7 +142,7 @@ plan-signature-spec =
     enum-told
     blank-requires
     enum-told-2
-    rules-of-requires
+    call-rules-of-requires
     hidden-in-requires
     result-in-requires
     start-requires

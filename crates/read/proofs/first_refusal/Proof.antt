@@ -30,10 +30,10 @@ next : (c : tie.After-size-of Inv-loop μ-loop) → drop (c .before .before .bef
 next c = next-argument (c .before .before .before .before .before .before .before .before .before .args .t4) (c .before .before .before .before .before .before .before .before .before .args .t5) (c .before .before .before .before .loop .i) (c .before .before .before .loop-test .taken) (c .before .before .before .before .before .before .before .before .before .pre .types) (c .before .before .before .before .before .before .before .before .before .pre .spans)
 
 asked : (c : tie.After-argument-answer Inv-loop μ-loop) → c .argument-answer .result ≡ argumentAnswer (rulesOf (c .before .before .before .before .before .before .before .before .before .before .args .t4 .convention)) (c .before .before .before .before .before .before .before .before .before .before .args .base) (hand (c .before)) (buffers (c .before .before .before .before .before .before .before .before .before .before .args .image .now) (c .before .before .before .before .before .before .before .before .before .before .args .area .now) (c .before .before .before .before .before .before .before .before .before .before .args .copies .now))
-asked c = c .argument-answer .ensures ∙ rw (c .before .size-of .ensures, c .before .before .before .before .before .before .rules-of .ensures)
+asked c = c .argument-answer .ensures ∙ rw (c .before .size-of .ensures, c .before .before .before .before .before .before .call-rules-of .ensures)
 
-rules-of-requires : tie.Need-rules-of-requires Inv-loop μ-loop
-rules-of-requires c κs = search needs
+call-rules-of-requires : tie.Need-call-rules-of-requires Inv-loop μ-loop
+call-rules-of-requires c κs = search needs
 
 loop-holds : tie.Need-loop-holds Inv-loop μ-loop
 loop-holds c = checking-start _ _ _ (c .before .before .before .before .pre .each)
@@ -54,7 +54,7 @@ size-of-requires : tie.Need-size-of-requires Inv-loop μ-loop
 size-of-requires c κs = search needs
 
 argument-answer-requires : tie.Need-argument-answer-requires Inv-loop μ-loop
-argument-answer-requires c κs = rw (c .size-of .ensures, c .before .before .before .before .before .rules-of .ensures) (checking-ready _ _ _ _ (hand c) (next c) (c .before .before .before .before .loop .inv))
+argument-answer-requires c κs = rw (c .size-of .ensures, c .before .before .before .before .before .call-rules-of .ensures) (checking-ready _ _ _ _ (hand c) (next c) (c .before .before .before .before .loop .inv))
 
 is-refused-requires : tie.Need-is-refused-requires Inv-loop μ-loop
 is-refused-requires c κs = search needs
@@ -86,7 +86,7 @@ first-refusal-spec =
     (tie.spec
     Inv-loop
     μ-loop
-    rules-of-requires
+    call-rules-of-requires
     loop-holds
     mul-a
     element-copy-out-a

@@ -5,7 +5,7 @@ use mathlib.Core.Path.{sym, ap, _∙_}
 use native.Mathlib.Omega.{arith}
 use Rattle.items.proofs.Sound.{body-framed}
 use Rattle.signature.specs.Answer.{conventionAnswer}
-use Rattle.signature.specs.declared.ConventionCode.{ConventionCode}
+use Rattle.conventions.specs.declared.ConventionCode.{ConventionCode}
 use Rattle.signature.proofs.Laws.{convention-no, convention-length, convention-by}
 use Rattle.signature.proofs.read_convention.Tie as tie
 
@@ -23,6 +23,9 @@ returns c = sym (ap conventionAnswer (convention-length _ _ (sym (c .before .bef
 
 shared-slice-read-convention-code : tie.Need-shared-slice-read-convention-code
 shared-slice-read-convention-code c = let f = body-framed _ _ _ _ _ _ (sym (c .before .before .before .before .before .read-body .ensures) ∙ c .before .before .before .to .given .1) in omega arith
+
+cast-convention-code : tie.Need-cast-convention-code
+cast-convention-code c = omega (arith, c .shared-slice-known2 .given 3)
 
 convention-code-requires : tie.Need-convention-code-requires
 convention-code-requires c κs = search needs
@@ -51,6 +54,7 @@ read-convention-spec =
     enum-known-to
     returns
     shared-slice-read-convention-code
+    cast-convention-code
     convention-code-requires
     enum-known-c
     enum-told

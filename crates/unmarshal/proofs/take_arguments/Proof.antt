@@ -36,8 +36,8 @@ next c = next-argument (c .before .before .before .before .before .before .befor
 within : (c : tie.After-size-of Inv-loop μ-loop) → c .before .before .before .before .loop .v + hand c .size ≤ length (c .before .before .before .before .loop .values)
 within c = taking-within _ _ _ _ _ _ _ _ (hand c) (next c) (c .before .before .before .before .loop .inv)
 
-rules-of-requires : tie.Need-rules-of-requires Inv-loop μ-loop
-rules-of-requires c κs = search needs
+call-rules-of-requires : tie.Need-call-rules-of-requires Inv-loop μ-loop
+call-rules-of-requires c κs = search needs
 
 loop-holds : tie.Need-loop-holds Inv-loop μ-loop
 loop-holds c = taking-start _ _ _ _ _ (c .before .before .before .before .before .pre .each) (c .before .before .before .before .before .pre .total)
@@ -69,7 +69,7 @@ part-take-argument-end c = search needs
 take-argument-requires : tie.Need-take-argument-requires Inv-loop μ-loop
 take-argument-requires c κs =
     let sized = c .before in
-    (rw (sized .size-of .ensures, sized .before .before .before .before .before .rules-of .ensures) (taking-readable _ _ _ _ _ _ _ _ (hand sized) (next sized) (sized .before .before .before .before .loop .inv)), omega (arith, within sized, sized .size-of .ensures))
+    (rw (sized .size-of .ensures, sized .before .before .before .before .before .call-rules-of .ensures) (taking-readable _ _ _ _ _ _ _ _ (hand sized) (next sized) (sized .before .before .before .before .loop .inv)), omega (arith, within sized, sized .size-of .ensures))
 
 add-v : tie.Need-add-v Inv-loop μ-loop
 add-v c = omega (arith, within (c .before .before .before .before), c .before .before .before .before .size-of .ensures)
@@ -89,9 +89,9 @@ loop-again c =
     let t = hand sized .ty in
     let s = hand sized .span in
     let n : ℕ = sized .size-of .result in
-    let x : List ℕ = valueAt (sized .before .before .before .before .before .rules-of .result) (sized .before .before .before .before .before .before .before .before .before .before .args .base) (placement t n s) b in
+    let x : List ℕ = valueAt (sized .before .before .before .before .before .call-rules-of .result) (sized .before .before .before .before .before .before .before .before .before .before .args .base) (placement t n s) b in
     let e : putMid v (length l - v) l (c .before .before .take-argument .last .0) ≡ splice l v x = ap (putMid v (length l - v) l) (c .before .before .take-argument .ensures) ∙ lent-tail l v x in
-    rw (e, sized .size-of .ensures, sized .before .before .before .before .before .rules-of .ensures) (taking-more _ _ _ _ _ _ _ _ (hand sized) (next sized) (sized .before .before .before .before .loop .inv))
+    rw (e, sized .size-of .ensures, sized .before .before .before .before .before .call-rules-of .ensures) (taking-more _ _ _ _ _ _ _ _ (hand sized) (next sized) (sized .before .before .before .before .loop .inv))
 
 same-length : tie.Need-same-length Inv-loop μ-loop
 same-length c = c .before .loop .inv .same
@@ -105,7 +105,7 @@ take-arguments-spec =
     (tie.spec
     Inv-loop
     μ-loop
-    rules-of-requires
+    call-rules-of-requires
     loop-holds
     mul-a
     element-copy-out-a

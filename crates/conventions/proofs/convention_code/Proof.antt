@@ -1,0 +1,20 @@
+-- The definition's own tests, in their order. Assumes nothing.
+use borrow.Author.Tests.{eq-eqb, ne-eqb}
+use Rattle.conventions.specs.Numbers.{conventionCode}
+use Rattle.conventions.proofs.convention_code.Statement.{statement}
+use Rattle.conventions.proofs.convention_code.Tie as tie
+
+returns : tie.Need-returns
+unfolding conventionCode
+returns c = rw (eq-eqb _ _ (c .if1 .taken))
+
+returns-2 : tie.Need-returns-2
+unfolding conventionCode
+returns-2 c = rw (ne-eqb _ _ (c .before .if1 .left), eq-eqb _ _ (c .if2 .taken))
+
+returns-3 : tie.Need-returns-3
+unfolding conventionCode
+returns-3 c = rw (ne-eqb _ _ (c .before .if1 .left), ne-eqb _ _ (c .if2 .left))
+
+pub convention-code-spec : {M : Type 1} → statement M
+convention-code-spec = tie.close (tie.spec returns returns-2 returns-3)

@@ -1,0 +1,2 @@
+-- What the conventions' numbers are. Assumes nothing.
+pub mod Numbers

@@ -1,0 +1,44 @@
+-- The numbers of each convention that calls and frames share, each once. The published papers are 000 (PPC64) and 001 (Z).
+-- Assumes nothing.
+use Prim.Native.Nat.{ℕ, _*_}
+use lib.Dec.{eqb}
+use Rattle.words.specs.Basics.{pick}
+use Rattle.conventions.specs.declared.Convention.{Convention}
+use Rattle.conventions.specs.declared.ConventionCode.{ConventionCode}
+
+-- the bytes of a word: of a pointer ("pointer (8 bytes)"), of a general register and of a back chain ("r(n) at S - 8(32 - m) - 8(32 - n)",
+-- "at S + 8n"), of a place in the argument list ("Sizes in doublewords", "then 8 stack bytes")
+abbrev pub wordBytes : Convention → ℕ
+wordBytes Convention.Ppc64 = 8
+wordBytes Convention.Z = 8
+
+-- the bytes of a frame's header, below the outgoing or parameter area: "Outgoing areas start at 48, at least 64 long, on PPC64, at 160 on Z";
+-- 000, 3.2.2, "for a total of 48 bytes"; 001, "160 bytes above the initial stack pointer"
+abbrev pub headerBytes : Convention → ℕ
+headerBytes Convention.Ppc64 = 48
+headerBytes Convention.Z = 160
+
+-- what a stack pointer is a multiple of: "rounded up to 16", "rounded up to 8"
+abbrev pub stackAlignment : Convention → ℕ
+stackAlignment Convention.Ppc64 = 16
+stackAlignment Convention.Z = 8
+
+-- the words of the least area: "8 times the larger of 8 and the final w", "at least 64 long"; Z: "the stack bytes used, possibly 0"
+abbrev pub leastWords : Convention → ℕ
+leastWords Convention.Ppc64 = 8
+leastWords Convention.Z = 0
+
+-- the same in bytes
+abbrev pub leastArea : Convention → ℕ
+leastArea c = wordBytes c * leastWords c
+
+-- "code 1 PPC64, 2 Z"
+abbrev pub codeOf : Convention → ℕ
+codeOf Convention.Ppc64 = 1
+codeOf Convention.Z = 2
+
+-- the convention of a code
+unfoldable pub conventionCode : ℕ → ConventionCode
+conventionCode x =
+    pick (eqb x (codeOf Convention.Ppc64)) (ConventionCode.Known Convention.Ppc64)
+    (pick (eqb x (codeOf Convention.Z)) (ConventionCode.Known Convention.Z) ConventionCode.Unknown)

@@ -1,0 +1,111 @@
+-- No type item and no struct's body gives refusal 7 (specs/Seven.antt states it): each item of a body moves on, so that the body's end is
+-- met before its length in items. Assumes nothing.
+use Prim.Native.Nat.{ℕ, zero, suc, _+_, _-_, _≤_, _<_}
+use mathlib.Core.Bool.{Bool}
+use mathlib.Core.List.{List}
+use lib.ListN.{getD}
+use lib.Dec.{ltb, eqb}
+use native.Mathlib.Omega.{arith}
+use borrow.Author.Tests.{ltb-true}
+use Rattle.conventions.specs.declared.Convention.{Convention}
+use Rattle.types.specs.declared.FloatFormat.{FloatFormat}
+use Rattle.types.specs.Structs.{shapeOf, tooLarge}
+use Rattle.types.specs.Trees.{Tree, Trees, none, _▸_, fieldsOf}
+use Rattle.items.specs.declared.IntegerCode.{IntegerCode}
+use Rattle.items.specs.declared.FloatCode.{FloatCode}
+use Rattle.items.specs.declared.Body.{Body}
+use Rattle.items.specs.Reading.{Reading, got, no, andThen, inBody}
+use Rattle.items.specs.Refusals.{numberOf, bodyNumber}
+use Rattle.items.specs.Read.{lengthAt, bodyAt, integerCode, floatCode, integerBy, integerAt, floatBy, floatAt, sequence, sizedAt, contentsAt, byTag, itemBy, structAt, itemAt}
+use Rattle.items.specs.Seven.{Other, NotSeven, ItemsNotSeven, StructsNotSeven}
+use Rattle.items.proofs.Sound.{Got, Read, by-pick, by-choose, item-sound}
+use Rattle.items.proofs.Trees.{tree-long}
+
+-- ---- the parts of an item
+
+abbrev BodyNotSeven : Body → Type 0
+BodyNotSeven x = Other (bodyNumber x)
+
+body-not-seven : (s : List ℕ) (low high e at : ℕ) → BodyNotSeven (bodyAt s low high e at)
+unfolding bodyAt
+body-not-seven s low high e at =
+    by-pick BodyNotSeven (ltb e (at + 3)) _ _ (λ _ q. omega arith)
+    (λ _. by-pick BodyNotSeven (ltb (getD s at 0) low) _ _ (λ _ q. omega arith)
+    (λ _. by-pick BodyNotSeven (ltb high (getD s at 0)) _ _ (λ _ q. omega arith)
+    (λ _. by-pick BodyNotSeven (ltb e (at + 3 + lengthAt s at)) _ _ (λ _ q. omega arith) (λ _ q. omega arith))))
+
+integer-not-seven : (s : List ℕ) (at b : ℕ) → NotSeven (integerAt s at b)
+unfolding integerAt
+integer-not-seven s at b = by-pick NotSeven (eqb b (at + 4)) _ _ (λ _. go (integerCode (getD s (at + 3) 0))) (λ _ q. omega arith)
+  where
+    go : (x : IntegerCode) → NotSeven (integerBy x at b)
+    go (IntegerCode.Kind k) = λ q. omega arith
+    go IntegerCode.Unknown = λ q. omega arith
+
+float-not-seven : (s : List ℕ) (inside : Bool) (at b : ℕ) → NotSeven (floatAt s inside at b)
+unfolding floatAt
+float-not-seven s inside at b = by-pick NotSeven (eqb b (at + 4)) _ _ (λ _. go (floatCode (getD s (at + 3) 0))) (λ _ q. omega arith)
+  where
+    go : (x : FloatCode) → NotSeven (floatBy x inside at b)
+    go (FloatCode.Format FloatFormat.Single) = λ q. omega arith
+    go (FloatCode.Format FloatFormat.Double) = λ q. omega arith
+    go (FloatCode.Format FloatFormat.LongDouble) = by-pick NotSeven inside _ _ (λ _ q. omega arith) (λ _ q. omega arith)
+    go FloatCode.Unknown = λ q. omega arith
+
+-- ---- a sequence whose limit is not less than its bytes
+
+-- an item at `at` that moves on, or that 7 does not refuse
+abbrev Moves : ℕ → Reading Tree → Type 0
+Moves at (got t next n) = at < next
+Moves at (no r place) = Other (numberOf r)
+
+then-not-seven : (at : ℕ) (x : Reading Tree) (f : Tree → ℕ → ℕ → Reading Trees) → Moves at x → ((t : Tree) (after m : ℕ) → at < after → NotSeven (f t after m)) → NotSeven (andThen x f)
+then-not-seven at (got t after m) f on h = h t after m on
+then-not-seven at (no r place) f other h = other
+
+module _ (item : ℕ → Reading Tree) (b : ℕ) (moves : (k : ℕ) → Moves k (item k)) where
+  sequence-not-seven : (most next n : ℕ) (ts : Trees) → b ≤ next + most → NotSeven (sequence item b most next n ts)
+  unfolding sequence
+  sequence-not-seven zero next n ts room = by-pick NotSeven (ltb next b) _ _ (λ q _. omega (arith, ltb-true next b q)) (λ _ q. omega arith)
+  sequence-not-seven (suc most) next n ts room =
+      by-choose NotSeven (ltb next b) _ _ (λ _. then-not-seven next (item next) _ (moves next) (λ t after m on. sequence-not-seven most after (n + m) (ts ▸ t) (omega arith))) (λ _ q. omega arith)
+
+  contents-not-seven : (c : Convention) (at : ℕ) → NotSeven (contentsAt c item at b)
+  unfolding contentsAt sizedAt
+  contents-not-seven c at =
+      by-choose NotSeven (eqb b (at + 3)) _ _ (λ _ q. omega arith)
+      (λ _. go (sequence item b (b - (at + 3)) (at + 3) 1 none) (sequence-not-seven (b - (at + 3)) (at + 3) 1 none (omega arith)))
+    where
+      go : (x : Reading Trees) → NotSeven x → NotSeven (andThen x (λ ts next n. sizedAt c at b n ts))
+      go (got ts next n) h = by-pick NotSeven (tooLarge (shapeOf (fieldsOf c ts))) _ _ (λ _ q. omega arith) (λ _ q. omega arith)
+      go (no r place) h = h
+
+-- ---- items in items
+
+item-by-not-seven : (structure : ℕ → ℕ → Reading Tree) (inside : Bool) (s : List ℕ) (e at : ℕ) → ((b : ℕ) → NotSeven (structure at b))
+    → NotSeven (itemBy structure inside s e at)
+unfolding itemBy
+item-by-not-seven structure inside s e at h = go (bodyAt s 0x10 0x12 e at) (body-not-seven s 0x10 0x12 e at)
+  where
+    go : (x : Body) → BodyNotSeven x → NotSeven (inBody x at (λ b. byTag (getD s at 0) (integerAt s at b) (floatAt s inside at b) (λ _. structure at b)))
+    go (Body.To b) k =
+        by-choose NotSeven (eqb (getD s at 0) 0x10) _ _ (λ _. integer-not-seven s at b)
+        (λ _. by-choose NotSeven (eqb (getD s at 0) 0x11) _ _ (λ _. float-not-seven s inside at b) (λ _. h b))
+    go (Body.Refused r) k = k
+
+-- what an item was read from has its header's length at least
+moves : (c : Convention) (d : ℕ) (s : List ℕ) (e at : ℕ) (x : Reading Tree) → NotSeven x → Got (Read c d s e at) x → Moves at x
+moves c d s e at (got t next n) h r = omega (arith, r .ends, tree-long t)
+moves c d s e at (no q place) h r = h
+
+pub structs-not-seven : StructsNotSeven
+unfolding structAt itemAt
+structs-not-seven c zero s at b = λ q. omega arith
+structs-not-seven c (suc d) s at b =
+    contents-not-seven (itemAt c d s b) b
+    (λ k. moves c d s b k (itemAt c d s b k) (item-by-not-seven (structAt c d s) (ltb d 8) s b k (λ b′. structs-not-seven c d s k b′)) (item-sound c d s b k))
+    c at
+
+pub items-not-seven : ItemsNotSeven
+unfolding itemAt
+items-not-seven c d s e at = item-by-not-seven (structAt c d s) (ltb d 8) s e at (λ b. structs-not-seven c d s at b)

@@ -1,0 +1,24 @@
+-- Each answer has the number of its reading. Assumes nothing.
+use mathlib.Core.Path.{_≡_, refl}
+use Rattle.conventions.specs.declared.Convention.{Convention}
+use Rattle.items.specs.Reading.{Reading, got, no}
+use Rattle.items.specs.Refusals.{readingNumber}
+use Rattle.signature.specs.Signature.{Result, Signature, Head}
+use Rattle.signature.specs.Answer.{conventionAnswer, resultAnswer, headAnswer, signatureAnswer}
+use Rattle.signature.specs.Numbers.{outcomeNumber, conventionReadNumber, resultReadNumber, headReadNumber}
+
+pub outcome-number : (x : Reading Signature) → outcomeNumber (signatureAnswer x .outcome) ≡ readingNumber x
+outcome-number (got g next n) = refl
+outcome-number (no r place) = refl
+
+pub convention-number : (x : Reading Convention) → conventionReadNumber (conventionAnswer x) ≡ readingNumber x
+convention-number (got c next n) = refl
+convention-number (no r place) = refl
+
+pub result-number : (c : Convention) (x : Reading Result) → resultReadNumber (resultAnswer c x) ≡ readingNumber x
+result-number c (got r next n) = refl
+result-number c (no r place) = refl
+
+pub head-number : (x : Reading Head) → headReadNumber (headAnswer x) ≡ readingNumber x
+head-number (got h next n) = refl
+head-number (no r place) = refl

@@ -1,0 +1,23 @@
+-- Document 01's number of each answer on a signature and its items: 0 where nothing is refused. Assumes nothing.
+use Prim.Native.Nat.{ℕ}
+use Rattle.items.specs.Refusals.{numberOf}
+use Rattle.signature.specs.declared.Outcome.{Outcome}
+use Rattle.signature.specs.declared.ConventionRead.{ConventionRead}
+use Rattle.signature.specs.declared.ResultRead.{ResultRead}
+use Rattle.signature.specs.declared.HeadRead.{HeadRead}
+
+abbrev pub outcomeNumber : Outcome → ℕ
+outcomeNumber (Outcome.Accepted n) = 0
+outcomeNumber (Outcome.Refused r place) = numberOf r
+
+abbrev pub conventionReadNumber : ConventionRead → ℕ
+conventionReadNumber (ConventionRead.Known c) = 0
+conventionReadNumber (ConventionRead.Refused r) = numberOf r
+
+abbrev pub resultReadNumber : ResultRead → ℕ
+resultReadNumber (ResultRead.Result t next n) = 0
+resultReadNumber (ResultRead.Refused r place) = numberOf r
+
+abbrev pub headReadNumber : HeadRead → ℕ
+headReadNumber (HeadRead.Head c t at e n) = 0
+headReadNumber (HeadRead.Refused r place) = numberOf r
