@@ -39,7 +39,8 @@
  *    writes lent bytes meanwhile.
  *  - An answer's `number` is 0 for yes; else it says why not (enum fz_refusal), and `place` says
  *    where: the offset in the signature of the faulty item's header or of the first byte too many.
- *    A refusal that concerns no place has place 0. In a refused answer all else is 0.
+ *    A refusal that concerns no place has place 0. Where the signature is refused, `items` says how
+ *    much of it was good (fz_read_signature). In a refused answer all else is 0.
  *
  * Versions: FZ_VERSION is this header's, fz_version the library's. A version's first number is that
  * of the shared library's name, libflakuzhen.so.1, and of its functions' symbol versions. It changes
@@ -118,7 +119,10 @@ typedef struct {
 } fz_narrowed;
 
 /* Reads the signature of sig_length bytes at sig. `items` is its count of items: the three and all
- * that are nested in them, 5 in the example above. */
+ * that are nested in them, 5 in the example above. Of a refused signature it is the count of the
+ * headers that had passed header room, tag and length room when reading stopped, those around the
+ * place and nested ones alike: without the faulty item's own, and for FZ_STRUCT_TOO_LARGE with those
+ * in the struct; 0 for FZ_TOO_LONG. It is never more than a third of sig_length. */
 fz_answer fz_read_signature(const uint8_t *sig, size_t sig_length);
 
 /* The bits of the double that has the value of the single whose bits are the low 32 of `bits`; the
@@ -151,7 +155,7 @@ fz_narrowed fz_narrow(uint64_t bits);
  * the list's first doubleword, and in r2 on Z. */
 
 typedef struct {
-    fz_answer answer; /* its items are 0 */
+    fz_answer answer; /* its items are 0, unless the signature is refused */
     uint64_t values;  /* bytes of all arguments, in order and without gaps between them */
     uint64_t area;    /* bytes of the parameter area: on PPC64 64 or more; on Z what lies on the
                          stack, possibly 0 */
@@ -186,7 +190,7 @@ fz_sizes fz_measure(const uint8_t *sig, size_t sig_length);
  *   6 mem @160 ref
  *   result none
  *
- * A refused signature's listing is the line 'refused NUMBER at PLACE'. */
+ * A refused signature's listing is the line 'refused NUMBER at PLACE after ITEMS'. */
 uint64_t fz_listing(const uint8_t *sig, size_t sig_length, char *text, size_t text_length);
 
 /* ---- The frame machine: functions that enter and leave frames on a stack ----
@@ -359,7 +363,7 @@ fz_answer fz_leave(fz_machine *machine, const uint8_t *memory, size_t memory_len
  *   by reference    the value in the copies, its address in the register or the 8 bytes
  *
  * What a call changes must not overlap anything else that it is lent. A refused call changes
- * nothing. `place` is 0 unless the signature is refused, and `items` always. */
+ * nothing. `place` and `items` are 0 unless the signature is refused. */
 
 /* Why a call is refused whose signature is accepted. */
 enum fz_marshal_refusal {

@@ -16,7 +16,8 @@ static const char usage[] =
     "\n"
     "list      prints where each argument of each signature goes, and its result\n"
     "read      prints a line for each signature with its count of items, 'items N'\n"
-    "          Either prints 'refused NUMBER at PLACE' for a signature that is refused.\n"
+    "          Either prints 'refused NUMBER at PLACE after ITEMS' for a signature that is\n"
+    "          refused: ITEMS is the count of headers that were good until there.\n"
     "--hex     the input is hexadecimal text with '#' comments, not the bytes themselves\n"
     "FILE      holds one signature; '-', or no FILE at all, is standard input\n"
     "\n"
@@ -101,8 +102,8 @@ static fz_answer read_items(const bytes *signature, bytes *out)
     if (answer.number == FZ_ACCEPTED)
         add(out, "items %llu\n", (unsigned long long)answer.items);
     else
-        add(out, "refused %llu at %llu\n", (unsigned long long)answer.number,
-            (unsigned long long)answer.place);
+        add(out, "refused %llu at %llu after %llu\n", (unsigned long long)answer.number,
+            (unsigned long long)answer.place, (unsigned long long)answer.items);
     return answer;
 }
 

@@ -50,11 +50,7 @@ pub extern "C" fn fz_read_signature(sig: &[u8]) -> Answer
             place: 0,
             items: items as u64,
         },
-        Outcome::Refused { reason, place } => Answer {
-            number: items::number_of(reason),
-            place: place as u64,
-            items: 0,
-        },
+        Outcome::Refused(fault) => faults::fault_answer(fault),
     }
 }
 
@@ -78,12 +74,8 @@ pub extern "C" fn fz_measure(sig: &[u8]) -> Sizes
             area,
             copies,
         },
-        Outcome::Refused { reason, place } => Sizes {
-            answer: Answer {
-                number: items::number_of(reason),
-                place: place as u64,
-                items: 0,
-            },
+        Outcome::Refused(fault) => Sizes {
+            answer: faults::fault_answer(fault),
             values: 0,
             area: 0,
             copies: 0,

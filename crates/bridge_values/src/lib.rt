@@ -27,9 +27,10 @@ fn answer_of(a: slots::Answer) -> Answer
             place: 0,
             items: 0,
         },
-        slots::Answer::Refused { reason, place } => Answer {
+        slots::Answer::Unread(fault) => faults::fault_answer(fault),
+        slots::Answer::Refused(reason) => Answer {
             number: slots::number_of(reason),
-            place: place as u64,
+            place: 0,
             items: 0,
         },
     }

@@ -9,6 +9,7 @@ use lib.Dec.{eqb, ltb}
 use Rattle.words.specs.Basics.{pick}
 use Rattle.conventions.specs.declared.Convention.{Convention}
 use Rattle.types.specs.Sizes.{sizeOf}
+use Rattle.items.specs.declared.Fault.{Fault}
 use Rattle.items.specs.Reading.{Reading, got, no}
 use lib.ListN.{length}
 use Rattle.signature.specs.declared.Outcome.{Outcome}
@@ -126,15 +127,15 @@ result-fits c (ResultType.Value t) = go (hiddenFor (rulesOf c) t)
 pub hidden-fits : (x : Reading Signature) (i : ℕ) → i ≡ 512 → HiddenFits (planAnswer x .result) i
 unfolding planAnswer planIn
 hidden-fits (got g next n) i e = rw e (result-fits (g .convention) (resultType (g .convention) (g .result)))
-hidden-fits (no reason place) i e = tt
+hidden-fits (no f) i e = tt
 
 -- ---- the answer and the buffers
 
 module _ (s : List ℕ) where
-  pub answer-refused : (have : Lengths) (base : ℕ) (reason : _) (place : ℕ) → planFor s .outcome ≡ Outcome.Refused reason place
-      → Answer.Refused (Refusal.Signature reason) place ≡ fillAnswer s have base
+  pub answer-refused : (have : Lengths) (base : ℕ) (f : Fault) → planFor s .outcome ≡ Outcome.Refused f
+      → Answer.Unread f ≡ fillAnswer s have base
   unfolding fillAnswer
-  answer-refused have base reason place e = rw e
+  answer-refused have base f e = rw e
 
   pub answer-tested : (have : Lengths) (base n : ℕ) (p : Plan) (a : Answer) → p ≡ planFor s → planFor s .outcome ≡ Outcome.Accepted n
       → a ≡ firstOf (fillTests have (p .values) (p .area) (p .copies) base) → a ≡ fillAnswer s have base
@@ -156,7 +157,8 @@ hidden-length q address image i e = ap (λ (b : Buffers). length (b .image)) e �
 pub buffers-kept : (s values : List ℕ) (base hidden : ℕ) (a : Answer) (b : Buffers) → isRefused a ≡ true → b ≡ fillBuffers s values base hidden a b
 unfolding fillBuffers
 buffers-kept s values base hidden Answer.Done b e = let z : _≡_ {A = ℕ} 0 1 = cc in absurd (omega arith)
-buffers-kept s values base hidden (Answer.Refused reason place) b e = refl
+buffers-kept s values base hidden (Answer.Unread f) b e = refl
+buffers-kept s values base hidden (Answer.Refused reason) b e = refl
 
 pub buffers-done : (s values image area copies i : List ℕ) (base hidden : ℕ) (g : SignatureRead) (p : Plan) (b : Buffers)
     → g ≡ signatureAnswer (signatureOf s) → p ≡ planFor s

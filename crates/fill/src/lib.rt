@@ -89,28 +89,16 @@ fn tested(have: Lengths, values: usize, area: usize, copies: usize, base: u64) -
     ensures { λ a. ⌜ a ≡ firstOf (fillTests have values area copies base) ⌝ }
 {
     if have.image != 512 {
-        return Answer::Refused {
-            reason: Refusal::ImageSize,
-            place: 0,
-        };
+        return Answer::Refused(Refusal::ImageSize);
     }
     if have.values != values {
-        return Answer::Refused {
-            reason: Refusal::ValuesSize,
-            place: 0,
-        };
+        return Answer::Refused(Refusal::ValuesSize);
     }
     if have.area < area {
-        return Answer::Refused {
-            reason: Refusal::AreaTooShort,
-            place: 0,
-        };
+        return Answer::Refused(Refusal::AreaTooShort);
     }
     if bad_copies(copies, have.copies, base) {
-        return Answer::Refused {
-            reason: Refusal::BadCopies,
-            place: 0,
-        };
+        return Answer::Refused(Refusal::BadCopies);
     }
     Answer::Done
 }
@@ -133,10 +121,7 @@ pub fn fill(
     let p = plan::plan_signature(g);
     let outcome = p.outcome;
     match outcome {
-        Outcome::Refused { reason, place } => Answer::Refused {
-            reason: Refusal::Signature(reason),
-            place,
-        },
+        Outcome::Refused(fault) => Answer::Unread(fault),
         Outcome::Accepted(_) => {
             let have = Lengths {
                 values: values.len(),

@@ -13,6 +13,7 @@ use Rattle.conventions.specs.declared.Convention.{Convention}
 use Rattle.types.specs.declared.FloatFormat.{FloatFormat}
 use Rattle.types.specs.declared.ValueType.{ValueType}
 use Rattle.types.specs.Sizes.{sizeOf}
+use Rattle.items.specs.declared.Fault.{Fault}
 use Rattle.items.specs.Reading.{Reading, got, no}
 use Rattle.signature.specs.declared.Outcome.{Outcome}
 use Rattle.signature.specs.declared.ResultType.{ResultType}
@@ -87,9 +88,9 @@ unfolding planIn
 plan-homed n Convention.Ppc64 r ts e = all-homed (startIn Convention.Ppc64 r) ts _ (area-holds Convention.Ppc64 (endIn Convention.Ppc64 r ts))
 plan-homed n Convention.Z r ts e = let z : _≡_ {A = ℕ} 0 1 = cc in absurd (omega arith)
 
-refused-homed : (reason : _) (place : ℕ) → All (Homed (planAnswer (no reason place) .area)) (argumentsIn (signatureAnswer (no reason place)) (planAnswer (no reason place)))
+refused-homed : (f : Fault) → All (Homed (planAnswer (no f) .area)) (argumentsIn (signatureAnswer (no f)) (planAnswer (no f)))
 unfolding argumentsIn placements All
-refused-homed reason place = tt
+refused-homed f = tt
 
 pub homed-all : (s : List ℕ) → signatureAnswer (signatureOf s) .convention ≡ Convention.Ppc64 → All (Homed (planFor s .area)) (argumentsOf s)
 unfolding argumentsOf planAnswer
@@ -99,7 +100,7 @@ homed-all s e = go (signatureOf s) e
     go (got g next n) q =
         subst (All (Homed (planAnswer (got g next n) .area))) (sym (arguments-got g next n))
         (plan-homed n (g .convention) (resultType (g .convention) (g .result)) (typesOf (g .convention) (g .arguments)) q)
-    go (no reason place) q = refused-homed reason place
+    go (no f) q = refused-homed f
 
 -- ---- one of them
 
@@ -130,7 +131,7 @@ own-homed r p a e h m = rw e (go (startsAtHead ppc64 (p .ty)))
 
 pub reading-done : (o : Outcome) (x : Answer) → afterReading o x ≡ Answer.Done → x ≡ Answer.Done
 reading-done (Outcome.Accepted n) x e = e
-reading-done (Outcome.Refused reason place) x e = let z : _≡_ {A = ℕ} 0 1 = cc in absurd (omega arith)
+reading-done (Outcome.Refused f) x e = let z : _≡_ {A = ℕ} 0 1 = cc in absurd (omega arith)
 
 pub record Viewed (c : Convention) (count index have area : ℕ) : Type 0 where
   pub convention : c ≡ Convention.Ppc64
@@ -184,7 +185,8 @@ hand s have index g p a read plan e d =
 
 refused-part : (a : Answer) (r : Rules) (p : Placement) → isRefused a ≡ true → _≡_ {A = ViewPart} (record { answer = a; start = 0; length = 0 }) (ownPart a r p)
 refused-part Answer.Done r p q = let z : _≡_ {A = ℕ} 0 1 = cc in absurd (omega arith)
-refused-part (Answer.Refused reason place) r p q = refl
+refused-part (Answer.Unread f) r p q = refl
+refused-part (Answer.Refused reason) r p q = refl
 
 pub part-refused : (s : List ℕ) (have index : ℕ) (a : Answer) → a ≡ viewAnswer s have index → isRefused a ≡ true
     → _≡_ {A = ViewPart} (record { answer = a; start = 0; length = 0 }) (viewPart s have index)
@@ -220,7 +222,8 @@ part-within s have index = go (viewAnswer s have index) refl
     go Answer.Done e =
         let h = hand s have index (signatureAnswer (signatureOf s)) (planFor s) Answer.Done refl refl (e ∙ viewAnswer-is s have index) refl in
         rw (h .at) (omega (arith, own-homed (rulesFor s) _ _ (h .rules) (h .held) (h .homed), h .room))
-    go (Answer.Refused reason place) e = omega arith
+    go (Answer.Unread f) e = omega arith
+    go (Answer.Refused reason) e = omega arith
 
 -- and is the view
 pub part-view : (s area : List ℕ) (index : ℕ) (v : ViewPart) → v ≡ viewPart s (length area) index
@@ -234,4 +237,5 @@ part-view s area index v e =
     go : (a : Answer) → take (ownPart a (rulesFor s) (getD (argumentsOf s) index noArgument) .length) (drop (ownPart a (rulesFor s) (getD (argumentsOf s) index noArgument) .start) area)
         ≡ pick (isDone a) (ownBytes (rulesFor s) (getD (argumentsOf s) index noArgument) area) []
     go Answer.Done = refl
-    go (Answer.Refused reason place) = refl
+    go (Answer.Unread f) = refl
+    go (Answer.Refused reason) = refl

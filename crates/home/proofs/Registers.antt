@@ -29,7 +29,7 @@ use Rattle.places.specs.Power.{words}
 use Rattle.places.specs.Step.{ppc64, rulesOf}
 use Rattle.plan.specs.declared.Plan.{Plan}
 use Rattle.slots.specs.declared.Answer.{Answer}
-use Rattle.slots.specs.declared.Refusal.{Refusal}
+use Rattle.items.specs.declared.Fault.{Fault}
 use Rattle.slots.specs.Forms.{startsAtHead, extended, homeBytes, narrowedBytes, floatValue}
 use Rattle.slots.specs.Placements.{Placement, placement}
 use Rattle.slots.specs.Limits.{FloatSized, Held, Fits, All}
@@ -167,10 +167,10 @@ all-registered s g p i read plan power image =
 -- ---- the answer and the area
 
 module _ (s image : List ℕ) (have : ℕ) where
-  pub home-refused : (reason : _) (place : ℕ) → planFor s .outcome ≡ Outcome.Refused reason place
-      → Answer.Refused (Refusal.Signature reason) place ≡ homeAnswer s image have
+  pub home-refused : (f : Fault) → planFor s .outcome ≡ Outcome.Refused f
+      → Answer.Unread f ≡ homeAnswer s image have
   unfolding homeAnswer
-  home-refused reason place e = rw e
+  home-refused f e = rw e
 
   module _ (g : SignatureRead) (p : Plan) (n : ℕ) (read : g ≡ signatureAnswer (signatureOf s)) (plan : p ≡ planFor s) (e : planFor s .outcome ≡ Outcome.Accepted n) where
     -- of the lengths l and the registers a
@@ -192,7 +192,8 @@ module _ (s image : List ℕ) (have : ℕ) where
 pub area-kept : (s : List ℕ) (a : Answer) (image area : List ℕ) → isRefused a ≡ true → area ≡ homeArea s a image area
 unfolding homeArea
 area-kept s Answer.Done image area e = let z : _≡_ {A = ℕ} 0 1 = cc in absurd (omega arith)
-area-kept s (Answer.Refused reason place) image area e = refl
+area-kept s (Answer.Unread f) image area e = refl
+area-kept s (Answer.Refused reason) image area e = refl
 
 pub area-homed : (s image area last : List ℕ) (g : SignatureRead) (p : Plan) → g ≡ signatureAnswer (signatureOf s) → p ≡ planFor s
     → last ≡ homed (rulesOf (g .convention)) (argumentsIn g p) image area → last ≡ homeArea s Answer.Done image area

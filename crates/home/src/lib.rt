@@ -129,22 +129,13 @@ fn home_tested(c: Convention, image: usize, lent: usize, area: usize) -> Answer
     ensures { λ a. ⌜ a ≡ firstOf (homeTests c image lent area) ⌝ }
 {
     if is_homeless(c) {
-        return Answer::Refused {
-            reason: Refusal::NoView,
-            place: 0,
-        };
+        return Answer::Refused(Refusal::NoView);
     }
     if image != 512 {
-        return Answer::Refused {
-            reason: Refusal::ImageSize,
-            place: 0,
-        };
+        return Answer::Refused(Refusal::ImageSize);
     }
     if lent < area {
-        return Answer::Refused {
-            reason: Refusal::AreaTooShort,
-            place: 0,
-        };
+        return Answer::Refused(Refusal::AreaTooShort);
     }
     Answer::Done
 }
@@ -159,10 +150,7 @@ pub fn home(sig: &[u8], image: &[u8], area: &mut [u8]) -> Answer
     let p = plan::plan_signature(g);
     let outcome = p.outcome;
     match outcome {
-        Outcome::Refused { reason, place } => Answer::Refused {
-            reason: Refusal::Signature(reason),
-            place,
-        },
+        Outcome::Refused(fault) => Answer::Unread(fault),
         Outcome::Accepted(_) => {
             let convention = g.convention;
             let lengths = home_tested(convention, image.len(), area.len(), p.area);
@@ -184,22 +172,13 @@ fn view_tested(c: Convention, count: usize, index: usize, have: usize, area: usi
     ensures { λ a. ⌜ a ≡ firstOf (viewTests c count index have area) ⌝ }
 {
     if is_homeless(c) {
-        return Answer::Refused {
-            reason: Refusal::NoView,
-            place: 0,
-        };
+        return Answer::Refused(Refusal::NoView);
     }
     if count <= index {
-        return Answer::Refused {
-            reason: Refusal::NoView,
-            place: 0,
-        };
+        return Answer::Refused(Refusal::NoView);
     }
     if have < area {
-        return Answer::Refused {
-            reason: Refusal::AreaTooShort,
-            place: 0,
-        };
+        return Answer::Refused(Refusal::AreaTooShort);
     }
     Answer::Done
 }
@@ -215,10 +194,7 @@ fn view_answer(
     ensures { λ a. ⌜ a ≡ afterReading outcome (firstOf (viewTests c count index have area)) ⌝ }
 {
     match outcome {
-        Outcome::Refused { reason, place } => Answer::Refused {
-            reason: Refusal::Signature(reason),
-            place,
-        },
+        Outcome::Refused(fault) => Answer::Unread(fault),
         Outcome::Accepted(_) => view_tested(c, count, index, have, area),
     }
 }

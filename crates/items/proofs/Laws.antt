@@ -1,7 +1,7 @@
 -- The readings' definitions, a law for each way through them: headers, sequences of items, structs, items; then what a
 -- program's answer says of the reading. Assumes nothing.
 use Prim.Native.Nat.{ℕ, zero, suc, _+_, _-_, _≤_, _<_}
-use mathlib.Core.Path.{_≡_, refl, _∙_}
+use mathlib.Core.Path.{_≡_, refl, ap, _∙_}
 use mathlib.Core.Bool.{Bool, true, false}
 use mathlib.Core.List.{List}
 use lib.ListN.{getD}
@@ -16,11 +16,12 @@ use Rattle.types.specs.declared.ValueType.{ValueType}
 use Rattle.types.specs.Structs.{shapeOf, unlessTooLarge, closed}
 use Rattle.types.specs.Trees.{Tree, Trees, struct, none, _▸_, typeOf, fieldsOf}
 use Rattle.items.specs.declared.Refusal.{Refusal}
+use Rattle.items.specs.declared.Fault.{Fault}
 use Rattle.items.specs.declared.Body.{Body}
 use Rattle.items.specs.declared.IntegerCode.{IntegerCode}
 use Rattle.items.specs.declared.FloatCode.{FloatCode}
 use Rattle.items.specs.declared.ItemRead.{ItemRead}
-use Rattle.items.specs.Reading.{Reading, got, no}
+use Rattle.items.specs.Reading.{Reading, fault, got, no, later}
 use Rattle.items.specs.Read.{lengthAt, bodyAt, integerCode, floatCode, integerBy, integerAt, floatBy, floatAt, sequence, sizedAt, contentsAt, itemBy, structAt, itemAt}
 use Rattle.items.specs.Answer.{itemAnswer, closedAnswer}
 
@@ -50,6 +51,10 @@ module _ (s : List ℕ) (low high e at : ℕ) where
         unfolding bodyAt
         body-to h = simp (le-ltb e (at + 3) room, le-ltb (getD s at 0) low l, le-ltb high (getD s at 0) u, ← length, le-ltb e (at + 3 + n) h)
 
+-- a fault after m headers and n more before them
+pub later-later : (n m : ℕ) (f : Fault) → later (n + m) f ≡ later n (later m f)
+later-later n m f = let same : n + m + f .passed ≡ n + (m + f .passed) = omega arith in ap (fault (f .reason) (f .place)) same
+
 -- a sequence, of which some items are read: what the whole gives is what reading on from here gives
 
 module _ (item : ℕ → Reading Tree) (e : ℕ) (whole : Reading Trees) where
@@ -63,7 +68,7 @@ module _ (item : ℕ → Reading Tree) (e : ℕ) (whole : Reading Trees) where
         go (suc k) = rw (le-ltb next e h)
 
     module _ (h : next < e) where
-      pub sequence-full : left ≡ 0 → whole ≡ no Refusal.TooManyArguments next
+      pub sequence-full : left ≡ 0 → whole ≡ no (fault Refusal.TooManyArguments next n)
       unfolding sequence
       sequence-full q = rest ∙ rw (q, lt-ltb next e h)
 
@@ -75,18 +80,18 @@ module _ (item : ℕ → Reading Tree) (e : ℕ) (whole : Reading Trees) where
           go zero z = absurd (omega arith)
           go (suc k) z = rw (sub-one, lt-ltb next e h, q)
 
-      pub sequence-no : 0 < left → (r : Refusal) (place : ℕ) → item next ≡ no r place → whole ≡ no r place
+      pub sequence-no : 0 < left → (f : Fault) → item next ≡ no f → whole ≡ no (later n f)
       unfolding sequence
-      sequence-no some r place q = rest ∙ go left some
+      sequence-no some f q = rest ∙ go left some
         where
-          go : (k : ℕ) → 0 < k → sequence item e k next n ts ≡ no r place
+          go : (k : ℕ) → 0 < k → sequence item e k next n ts ≡ no (later n f)
           go zero z = absurd (omega arith)
           go (suc k) z = rw (lt-ltb next e h, q)
 
 -- a struct
 
 module _ (c : Convention) (d : ℕ) (s : List ℕ) (at b : ℕ) where
-  pub struct-deep : d ≡ 0 → structAt c d s at b ≡ no Refusal.TooDeep at
+  pub struct-deep : d ≡ 0 → structAt c d s at b ≡ no (fault Refusal.TooDeep at 0)
   unfolding structAt
   struct-deep q = rw q
 
@@ -103,14 +108,14 @@ module _ (c : Convention) (d : ℕ) (s : List ℕ) (at b : ℕ) where
         go zero z = absurd (omega arith)
         go (suc k) z = rw sub-one
 
-    pub struct-empty : b ≡ at + 3 → structAt c d s at b ≡ no Refusal.Malformed at
+    pub struct-empty : b ≡ at + 3 → structAt c d s at b ≡ no (fault Refusal.Malformed at 0)
     unfolding contentsAt
     struct-empty q = below ∙ rw (eq-eqb b (at + 3) q)
 
     module _ (more : at + 3 < b) where
-      pub struct-refused : (r : Refusal) (place : ℕ) → contents ≡ no r place → structAt c d s at b ≡ no r place
+      pub struct-refused : (f : Fault) → contents ≡ no f → structAt c d s at b ≡ no f
       unfolding contentsAt
-      struct-refused r place q = below ∙ rw (ne-eqb b (at + 3) (omega arith), q)
+      struct-refused f q = below ∙ rw (ne-eqb b (at + 3) (omega arith), q)
 
       pub struct-read : (ts : Trees) (next n : ℕ) → contents ≡ got ts next n → structAt c d s at b ≡ sizedAt c at b n ts
       unfolding contentsAt
@@ -119,7 +124,7 @@ module _ (c : Convention) (d : ℕ) (s : List ℕ) (at b : ℕ) where
 -- an item
 
 module _ (c : Convention) (d : ℕ) (s : List ℕ) (e at : ℕ) where
-  pub item-refused : (r : Refusal) → bodyAt s 0x10 0x12 e at ≡ Body.Refused r → itemAt c d s e at ≡ no r at
+  pub item-refused : (r : Refusal) → bodyAt s 0x10 0x12 e at ≡ Body.Refused r → itemAt c d s e at ≡ no (fault r at 0)
   unfolding itemAt itemBy
   item-refused r q = rw q
 
@@ -139,7 +144,7 @@ module _ (c : Convention) (d : ℕ) (s : List ℕ) (e at : ℕ) where
 -- the bodies of one byte, by their code
 
 module _ (c : Convention) (s : List ℕ) (at b : ℕ) where
-  pub integer-length : (b ≡ at + 4 → ⊥) → itemAnswer c (integerAt s at b) ≡ ItemRead.Refused Refusal.Malformed at
+  pub integer-length : (b ≡ at + 4 → ⊥) → itemAnswer c (integerAt s at b) ≡ ItemRead.Refused (fault Refusal.Malformed at 0)
   unfolding integerAt
   integer-length h = rw (ne-eqb b (at + 4) h)
 
@@ -148,7 +153,7 @@ module _ (c : Convention) (s : List ℕ) (at b : ℕ) where
   integer-by h x q = rw (eq-eqb b (at + 4) h, ← q)
 
   module _ (inside : Bool) where
-    pub float-length : (b ≡ at + 4 → ⊥) → itemAnswer c (floatAt s inside at b) ≡ ItemRead.Refused Refusal.Malformed at
+    pub float-length : (b ≡ at + 4 → ⊥) → itemAnswer c (floatAt s inside at b) ≡ ItemRead.Refused (fault Refusal.Malformed at 0)
     unfolding floatAt
     float-length h = rw (ne-eqb b (at + 4) h)
 
@@ -166,17 +171,17 @@ module _ (c : Convention) where
   pub item-got : (x : Reading Tree) (t : ValueType) (next n : ℕ) → ItemRead.Item t next n ≡ itemAnswer c x →
       (tree : Tree) × (x ≡ got tree next n) × (t ≡ typeOf c tree)
   item-got (got tree a m) t next n q = (tree, cc, cc)
-  item-got (no r p) t next n q = let z : _≡_ {A = ℕ} 0 1 = cc in absurd (omega arith)
+  item-got (no f) t next n q = let z : _≡_ {A = ℕ} 0 1 = cc in absurd (omega arith)
 
-  pub item-no : (x : Reading Tree) (r : Refusal) (place : ℕ) → ItemRead.Refused r place ≡ itemAnswer c x → x ≡ no r place
-  item-no (got tree a m) r place q = let z : _≡_ {A = ℕ} 0 1 = cc in absurd (omega arith)
-  item-no (no x p) r place q = cc
+  pub item-no : (x : Reading Tree) (f : Fault) → ItemRead.Refused f ≡ itemAnswer c x → x ≡ no f
+  item-no (got tree a m) f q = let z : _≡_ {A = ℕ} 0 1 = cc in absurd (omega arith)
+  item-no (no g) f q = cc
 
   pub sized-answer : (at b n : ℕ) (ts : Trees) → itemAnswer c (sizedAt c at b n ts) ≡ closedAnswer at b n (closed (fieldsOf c ts))
   unfolding sizedAt closed typeOf
   sized-answer at b n ts = go (ltb 256 (shapeOf (fieldsOf c ts) .size))
     where
       go : (large : Bool) →
-          itemAnswer c (pick large (no Refusal.StructTooLarge at) (got (struct ts) b n)) ≡ closedAnswer at b n (unlessTooLarge large (shapeOf (fieldsOf c ts)))
+          itemAnswer c (pick large (no (fault Refusal.StructTooLarge at (n - 1))) (got (struct ts) b n)) ≡ closedAnswer at b n (unlessTooLarge large (shapeOf (fieldsOf c ts)))
       go true = refl
       go false = refl

@@ -5,6 +5,7 @@ pub mod Has
 pub mod Trees
 pub mod Complete
 pub mod Sound
+pub mod HowFar
 pub mod Loop
 pub mod Seven
 pub mod Numbers

@@ -10,12 +10,14 @@ use Rattle.types.specs.Sizes.{Sized}
 use Rattle.types.specs.Structs.{noFields, withField, closed}
 use Rattle.types.specs.Trees.{Trees, none, _▸_, fieldsOf}
 use Rattle.types.proofs.Laws.{Aligned, none-aligned, more-aligned, more-end}
-use Rattle.items.specs.declared.Refusal.{Refusal}
+use Rattle.items.specs.declared.Fault.{Fault}
 use Rattle.items.specs.declared.ItemRead.{ItemRead}
+use Rattle.items.specs.Reading.{later}
 use Rattle.items.specs.Read.{sequence, structAt, itemAt}
 use Rattle.items.specs.Answer.{itemAnswer, closedAnswer}
 use Rattle.items.proofs.Laws.{contents, sequence-done, sequence-more, sequence-no, struct-refused, struct-read, item-got, item-no, sized-answer}
 use Rattle.items.proofs.Sound.{item-taken}
+use Rattle.items.proofs.HowFar.{fault-third}
 
 -- what an answer says of an item within the end e; the tree is gone, its type is there
 pub record Answered (c : Convention) (e at : ℕ) (t : ValueType) (next n : ℕ) : Type 0 where
@@ -31,6 +33,11 @@ item-answered c d s e at r t next n h found q =
     let k = item-taken c d s e at tree next n h is in
     record { on = k .on; inside = k .inside; third = k .third; sized = rw same (k .sized) }
 
+-- and of a refused one: three bytes or more for each header that had passed
+pub fault-answered : (c : Convention) (d : ℕ) (s : List ℕ) (e at : ℕ) (r : ItemRead) (f : Fault) → at ≤ e →
+    r ≡ itemAnswer c (itemAt c d s e at) → r ≡ ItemRead.Refused f → at + 3 * f .passed ≤ e
+fault-answered c d s e at r f h found q = fault-third c d s e at f h (item-no c (itemAt c d s e at) f (sym q ∙ found))
+
 -- the fields so far, and that reading on from here gives what the struct's contents are
 pub record Turn (c : Convention) (d : ℕ) (s : List ℕ) (at b : ℕ) (fields : Fields) (next n : ℕ) : Type 0 where
   pub ts : Trees
@@ -39,6 +46,7 @@ pub record Turn (c : Convention) (d : ℕ) (s : List ℕ) (at b : ℕ) (fields :
   pub layout : fields ≡ fieldsOf c ts
   pub rest : contents c d s at b ≡ sequence (itemAt c (d - 1) s b) b left next n ts
   pub within : next ≤ b
+  pub own : 0 < n
   pub third : at + 3 * n ≤ next
   pub aligned : Aligned fields
   pub end : fields .end ≤ 272 * next
@@ -56,6 +64,7 @@ module _ (c : Convention) (d : ℕ) (s : List ℕ) (at b : ℕ) where
     layout = q;
     rest = refl;
     within = omega arith;
+    own = omega arith;
     third = omega arith;
     aligned = rw q none-aligned;
     end = rw q (omega arith);
@@ -77,17 +86,18 @@ module _ (c : Convention) (d : ℕ) (s : List ℕ) (at b : ℕ) where
           layout = is ∙ same-field c (turn .layout) same;
           rest = sequence-more (itemAt c (d - 1) s b) b (contents c d s at b) (turn .left) next n (turn .ts) (turn .rest) h (omega arith) tree after m read;
           within = a .inside;
+          own = omega arith;
           third = omega arith;
           aligned = rw is (more-aligned c l t (a .sized) (turn .aligned));
           end = rw is (omega arith);
         }
 
-    pub turn-no : 0 < d → at + 3 < b → (x : Refusal) (place : ℕ) → r ≡ ItemRead.Refused x place →
-        ItemRead.Refused x place ≡ itemAnswer c (structAt c d s at b)
-    turn-no some more x place q =
-        let read = item-no c (itemAt c (d - 1) s b next) x place (sym q ∙ found) in
-        sym (ap (itemAnswer c) (struct-refused c d s at b some more x place
-        (sequence-no (itemAt c (d - 1) s b) b (contents c d s at b) (turn .left) next n (turn .ts) (turn .rest) h (omega arith) x place read)))
+    pub turn-no : 0 < d → at + 3 < b → (f : Fault) → r ≡ ItemRead.Refused f →
+        ItemRead.Refused (later n f) ≡ itemAnswer c (structAt c d s at b)
+    turn-no some more f q =
+        let read = item-no c (itemAt c (d - 1) s b next) f (sym q ∙ found) in
+        sym (ap (itemAnswer c) (struct-refused c d s at b some more (later n f)
+        (sequence-no (itemAt c (d - 1) s b) b (contents c d s at b) (turn .left) next n (turn .ts) (turn .rest) h (omega arith) f read)))
 
   pub turn-end : (l : Fields) (next n : ℕ) → Turn c d s at b l next n → b ≤ next → 0 < d → at + 3 < b →
       closedAnswer at b n (closed l) ≡ itemAnswer c (structAt c d s at b)

@@ -8,4 +8,4 @@ use Rattle.items.specs.Answer.{itemAnswer}
 
 pub item-number : (c : Convention) (x : Reading Tree) → itemNumber (itemAnswer c x) ≡ readingNumber x
 item-number c (got t next n) = refl
-item-number c (no r place) = refl
+item-number c (no f) = refl

@@ -14,7 +14,7 @@ use Rattle.types.specs.Trees.{Tree, Trees, none, _▸_, fieldsOf}
 use Rattle.items.specs.declared.IntegerCode.{IntegerCode}
 use Rattle.items.specs.declared.FloatCode.{FloatCode}
 use Rattle.items.specs.declared.Body.{Body}
-use Rattle.items.specs.Reading.{Reading, got, no, andThen, inBody}
+use Rattle.items.specs.Reading.{Reading, got, no, after, andThen, inBody}
 use Rattle.items.specs.Refusals.{numberOf, bodyNumber}
 use Rattle.items.specs.Read.{lengthAt, bodyAt, integerCode, floatCode, integerBy, integerAt, floatBy, floatAt, sequence, sizedAt, contentsAt, byTag, itemBy, structAt, itemAt}
 use Rattle.items.specs.Seven.{Other, NotSeven, ItemsNotSeven, StructsNotSeven}
@@ -57,18 +57,22 @@ float-not-seven s inside at b = by-pick NotSeven (eqb b (at + 4)) _ _ (λ _. go 
 -- an item at `at` that moves on, or that 7 does not refuse
 abbrev Moves : ℕ → Reading Tree → Type 0
 Moves at (got t next n) = at < next
-Moves at (no r place) = Other (numberOf r)
+Moves at (no f) = Other (numberOf (f .reason))
 
-then-not-seven : (at : ℕ) (x : Reading Tree) (f : Tree → ℕ → ℕ → Reading Trees) → Moves at x → ((t : Tree) (after m : ℕ) → at < after → NotSeven (f t after m)) → NotSeven (andThen x f)
-then-not-seven at (got t after m) f on h = h t after m on
-then-not-seven at (no r place) f other h = other
+moves-after : (at n : ℕ) (x : Reading Tree) → Moves at x → Moves at (after n x)
+moves-after at n (got t next m) h = h
+moves-after at n (no f) h = h
+
+then-not-seven : (at : ℕ) (x : Reading Tree) (g : Tree → ℕ → ℕ → Reading Trees) → Moves at x → ((t : Tree) (onward m : ℕ) → at < onward → NotSeven (g t onward m)) → NotSeven (andThen x g)
+then-not-seven at (got t onward m) g on h = h t onward m on
+then-not-seven at (no f) g other h = other
 
 module _ (item : ℕ → Reading Tree) (b : ℕ) (moves : (k : ℕ) → Moves k (item k)) where
   sequence-not-seven : (most next n : ℕ) (ts : Trees) → b ≤ next + most → NotSeven (sequence item b most next n ts)
   unfolding sequence
   sequence-not-seven zero next n ts room = by-pick NotSeven (ltb next b) _ _ (λ q _. omega (arith, ltb-true next b q)) (λ _ q. omega arith)
   sequence-not-seven (suc most) next n ts room =
-      by-choose NotSeven (ltb next b) _ _ (λ _. then-not-seven next (item next) _ (moves next) (λ t after m on. sequence-not-seven most after (n + m) (ts ▸ t) (omega arith))) (λ _ q. omega arith)
+      by-choose NotSeven (ltb next b) _ _ (λ _. then-not-seven next (after n (item next)) _ (moves-after next n (item next) (moves next)) (λ t onward m on. sequence-not-seven most onward m (ts ▸ t) (omega arith))) (λ _ q. omega arith)
 
   contents-not-seven : (c : Convention) (at : ℕ) → NotSeven (contentsAt c item at b)
   unfolding contentsAt sizedAt
@@ -78,7 +82,7 @@ module _ (item : ℕ → Reading Tree) (b : ℕ) (moves : (k : ℕ) → Moves k 
     where
       go : (x : Reading Trees) → NotSeven x → NotSeven (andThen x (λ ts next n. sizedAt c at b n ts))
       go (got ts next n) h = by-pick NotSeven (tooLarge (shapeOf (fieldsOf c ts))) _ _ (λ _ q. omega arith) (λ _ q. omega arith)
-      go (no r place) h = h
+      go (no f) h = h
 
 -- ---- items in items
 
@@ -96,7 +100,7 @@ item-by-not-seven structure inside s e at h = go (bodyAt s 0x10 0x12 e at) (body
 -- what an item was read from has its header's length at least
 moves : (c : Convention) (d : ℕ) (s : List ℕ) (e at : ℕ) (x : Reading Tree) → NotSeven x → Got (Read c d s e at) x → Moves at x
 moves c d s e at (got t next n) h r = omega (arith, r .ends, tree-long t)
-moves c d s e at (no q place) h r = h
+moves c d s e at (no f) h r = h
 
 pub structs-not-seven : StructsNotSeven
 unfolding structAt itemAt

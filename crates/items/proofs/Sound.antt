@@ -18,7 +18,7 @@ use Rattle.types.specs.Trees.{Tree, Trees, float, none, _▸_, typeOf, fieldsOf
 use Rattle.items.specs.declared.IntegerCode.{IntegerCode}
 use Rattle.items.specs.declared.FloatCode.{FloatCode}
 use Rattle.items.specs.declared.Body.{Body}
-use Rattle.items.specs.Reading.{Reading, got, no, choose, andThen, inBody}
+use Rattle.items.specs.Reading.{Reading, got, no, after, choose, andThen, inBody}
 use Rattle.items.specs.Read.{lengthAt, bodyAt, integerCode, floatCode, integerBy, integerAt, floatBy, floatAt, sequence, sizedAt, contentsAt, itemBy, structAt, itemAt}
 use Rattle.items.specs.Encode.{integerNumber, floatNumber, item, encodeTree, encodeTrees, itemsOf, itemsIn}
 use Rattle.items.proofs.Levels.{FloatLeft, Left, AllLeft, left-sized}
@@ -38,12 +38,18 @@ by-choose G false x y f g = g refl
 -- of a reading: what holds of what it got
 abbrev pub Got : {A : Type 0} → (A → ℕ → ℕ → Type 0) → Reading A → Type 0
 Got P (got x next n) = P x next n
-Got P (no r place) = Unit {0}
+Got P (no f) = Unit {0}
 
 pub by-then : {A B : Type 0} (P : A → ℕ → ℕ → Type 0) (Q : B → ℕ → ℕ → Type 0) (x : Reading A) (f : A → ℕ → ℕ → Reading B) →
     Got P x → ((a : A) (next n : ℕ) → P a next n → Got Q (f a next n)) → Got Q (andThen x f)
 by-then P Q (got a next n) f p q = q a next n p
-by-then P Q (no r place) f p q = tt
+by-then P Q (no r) f p q = tt
+
+-- the same where n headers came before the first
+pub by-next : {A B : Type 0} (P : A → ℕ → ℕ → Type 0) (Q : B → ℕ → ℕ → Type 0) (n : ℕ) (x : Reading A) (f : A → ℕ → ℕ → Reading B) →
+    Got P x → ((a : A) (next m : ℕ) → P a next m → Got Q (f a next (n + m))) → Got Q (andThen (after n x) f)
+by-next P Q n (got a next m) f p q = q a next m p
+by-next P Q n (no r) f p q = tt
 
 -- a header with an allowed tag, whose body ends at b
 pub record Framed (s : List ℕ) (low high e at b : ℕ) : Type 0 where
@@ -52,7 +58,7 @@ pub record Framed (s : List ℕ) (low high e at b : ℕ) : Type 0 where
   pub ends : b ≡ at + 3 + lengthAt s at
   pub inside : b ≤ e
 
-abbrev BodyIs : List ℕ → ℕ → ℕ → ℕ → ℕ → Body → Type 0
+abbrev pub BodyIs : List ℕ → ℕ → ℕ → ℕ → ℕ → Body → Type 0
 BodyIs s low high e at (Body.To b) = Framed s low high e at b
 BodyIs s low high e at (Body.Refused r) = Unit {0}
 
@@ -190,8 +196,8 @@ module _ (c : Convention) (d : ℕ) (s : List ℕ) (b start n₀ limit : ℕ) (r
       by-pick (Got (Ended c d s b start n₀ limit)) (ltb next b) _ _ (λ _. tt) (λ l. record { all = a; last = ltb-false next b l; few = omega arith })
   sequence-sound (suc most) next n ts a q =
       by-choose (Got (Ended c d s b start n₀ limit)) (ltb next b) _ _
-      (λ _. by-then (Read c d s b next) (Ended c d s b start n₀ limit) (reader next) _ (sound next)
-      (λ t after m r. sequence-sound most after (n + m) (ts ▸ t) (one-read c d s b start n₀ ts next n t after m a r) (omega arith)))
+      (λ _. by-next (Read c d s b next) (Ended c d s b start n₀ limit) n (reader next) _ (sound next)
+      (λ t onward m r. sequence-sound most onward (n + m) (ts ▸ t) (one-read c d s b start n₀ ts next n t onward m a r) (omega arith)))
       (λ l. record { all = a; last = ltb-false next b l; few = omega arith })
 
 left-below : (c : Convention) (d k : ℕ) (ts : Trees) → d ≡ k → AllLeft c d ts → AllLeft c k ts

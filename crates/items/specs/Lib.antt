@@ -5,3 +5,4 @@ pub mod Read
 pub mod Answer
 pub mod Encode
 pub mod Seven
+pub mod HowFar

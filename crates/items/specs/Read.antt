@@ -16,7 +16,7 @@ use Rattle.items.specs.declared.Refusal.{Refusal}
 use Rattle.items.specs.declared.Body.{Body}
 use Rattle.items.specs.declared.IntegerCode.{IntegerCode}
 use Rattle.items.specs.declared.FloatCode.{FloatCode}
-use Rattle.items.specs.Reading.{Reading, got, no, choose, andThen, inBody}
+use Rattle.items.specs.Reading.{Reading, fault, got, no, after, choose, andThen, inBody}
 
 -- "a two-byte length", big-endian, after the "one-byte tag"
 abbrev pub lengthAt : List ℕ → ℕ → ℕ
@@ -53,38 +53,39 @@ floatCode x =
 
 abbrev pub integerBy : IntegerCode → ℕ → ℕ → Reading Tree
 integerBy (IntegerCode.Kind k) at b = got (integer k) b 1
-integerBy IntegerCode.Unknown at b = no Refusal.Malformed at
+integerBy IntegerCode.Unknown at b = no (fault Refusal.Malformed at 0)
 
 -- "0x10 whole number, length 1"
 unfoldable pub integerAt : List ℕ → ℕ → ℕ → Reading Tree
-integerAt s at b = pick (eqb b (at + 4)) (integerBy (integerCode (getD s (at + 3) 0)) at b) (no Refusal.Malformed at)
+integerAt s at b = pick (eqb b (at + 4)) (integerBy (integerCode (getD s (at + 3) 0)) at b) (no (fault Refusal.Malformed at 0))
 
 -- 5: "long double inside a struct"
 abbrev pub floatBy : FloatCode → Bool → ℕ → ℕ → Reading Tree
 floatBy (FloatCode.Format FloatFormat.Single) inside at b = got (float FloatFormat.Single) b 1
 floatBy (FloatCode.Format FloatFormat.Double) inside at b = got (float FloatFormat.Double) b 1
-floatBy (FloatCode.Format FloatFormat.LongDouble) inside at b = pick inside (no Refusal.LongDoubleInStruct at) (got (float FloatFormat.LongDouble) b 1)
-floatBy FloatCode.Unknown inside at b = no Refusal.Malformed at
+floatBy (FloatCode.Format FloatFormat.LongDouble) inside at b = pick inside (no (fault Refusal.LongDoubleInStruct at 0)) (got (float FloatFormat.LongDouble) b 1)
+floatBy FloatCode.Unknown inside at b = no (fault Refusal.Malformed at 0)
 
 -- "0x11 float, length 1"
 unfoldable pub floatAt : List ℕ → Bool → ℕ → ℕ → Reading Tree
-floatAt s inside at b = pick (eqb b (at + 4)) (floatBy (floatCode (getD s (at + 3) 0)) inside at b) (no Refusal.Malformed at)
+floatAt s inside at b = pick (eqb b (at + 4)) (floatBy (floatCode (getD s (at + 3) 0)) inside at b) (no (fault Refusal.Malformed at 0))
 
--- Type items one after the other up to the end e, at most `most` of them, after the types ts, which took n items. Only
--- arguments are limited: a struct's `most` is its body's length, and no item is shorter than its header.
+-- Type items one after the other up to the end e, at most `most` of them, after the types ts; n headers came before, those of
+-- the types and the enclosing one. Only arguments are limited: a struct's `most` is its body's length, and no item is shorter
+-- than its header. "bytes left over (4, 7, 9) are no item": all n count.
 unfoldable pub sequence : (ℕ → Reading Tree) → ℕ → ℕ → ℕ → ℕ → Trees → Reading Trees
-sequence item e zero next n ts = pick (ltb next e) (no Refusal.TooManyArguments next) (got ts next n)
+sequence item e zero next n ts = pick (ltb next e) (no (fault Refusal.TooManyArguments next n)) (got ts next n)
 sequence item e (suc most) next n ts =
-    choose (ltb next e) (λ _. andThen (item next) (λ t after m. sequence item e most after (n + m) (ts ▸ t))) (λ _. got ts next n)
+    choose (ltb next e) (λ _. andThen (after n (item next)) (λ t onward m. sequence item e most onward m (ts ▸ t))) (λ _. got ts next n)
 
--- "size (8)": a struct of the types ts, whose body ends at b
+-- "size (8)": a struct of the types ts, whose body ends at b; of its n headers "the refused item's own header isn't counted"
 unfoldable pub sizedAt : Convention → ℕ → ℕ → ℕ → Trees → Reading Tree
-sizedAt c at b n ts = pick (tooLarge (shapeOf (fieldsOf c ts))) (no Refusal.StructTooLarge at) (got (struct ts) b n)
+sizedAt c at b n ts = pick (tooLarge (shapeOf (fieldsOf c ts))) (no (fault Refusal.StructTooLarge at (n - 1))) (got (struct ts) b n)
 
 -- "0x12 struct: one or more type items"; n counts its own header first
 unfoldable pub contentsAt : Convention → (ℕ → Reading Tree) → ℕ → ℕ → Reading Tree
 contentsAt c item at b =
-    choose (eqb b (at + 3)) (λ _. no Refusal.Malformed at)
+    choose (eqb b (at + 3)) (λ _. no (fault Refusal.Malformed at 0))
     (λ _. andThen (sequence item b (b - (at + 3)) (at + 3) 1 none) (λ ts next n. sizedAt c at b n ts))
 
 -- by the tag, 0x10, 0x11 or 0x12
@@ -99,7 +100,7 @@ itemBy structure inside s e at =
 -- "Reading a struct and reading a field call each other, and the depth left falls": d levels of structs are left, 8 outside
 -- any struct. 6: "struct depth over 8"
 unfoldable pub structAt : Convention → ℕ → List ℕ → ℕ → ℕ → Reading Tree
-structAt c zero s at b = no Refusal.TooDeep at
+structAt c zero s at b = no (fault Refusal.TooDeep at 0)
 structAt c (suc d) s at b = contentsAt c (λ k. itemBy (structAt c d s) (ltb d 8) s b k) at b
 
 unfoldable pub itemAt : Convention → ℕ → List ℕ → ℕ → ℕ → Reading Tree

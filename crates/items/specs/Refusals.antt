@@ -29,7 +29,7 @@ numberOf Refusal.TrailingBytes = 9
 
 abbrev pub readingNumber : {A : Type 0} → Reading A → ℕ
 readingNumber (got x next n) = 0
-readingNumber (no r place) = numberOf r
+readingNumber (no f) = numberOf (f .reason)
 
 abbrev pub bodyNumber : Body → ℕ
 bodyNumber (Body.To b) = 0
@@ -37,4 +37,4 @@ bodyNumber (Body.Refused r) = numberOf r
 
 abbrev pub itemNumber : ItemRead → ℕ
 itemNumber (ItemRead.Item t next n) = 0
-itemNumber (ItemRead.Refused r place) = numberOf r
+itemNumber (ItemRead.Refused f) = numberOf (f .reason)

@@ -3,7 +3,9 @@ use types::FloatFormat;
 use types::IntegerKind;
 use types::ValueType;
 ghost use mathlib.Core.Path.{_≡_};
+ghost use Prim.Native.Nat.{_+_, _^_, _<_};
 ghost use Rattle.items.specs.Refusals.{numberOf};
+ghost use Rattle.items.specs.Reading.{later};
 
 // Why a signature is refused; `number_of` gives document 01's number.
 pub enum Refusal {
@@ -34,24 +36,40 @@ pub fn number_of(r: Refusal) -> u64
     }
 }
 
+// A refused reading: why and where, and how many headers had passed header room, tag and length room when it stopped.
+pub struct Fault {
+    pub reason: Refusal,
+    pub place: usize,
+    pub passed: usize,
+}
+
+// The same fault where `earlier` headers more had passed before.
+pub fn later_by(earlier: usize, f: Fault) -> Fault
+    requires { ⌜ earlier + f .passed < 2 ^ 32 ⌝ }
+    ensures { λ r. ⌜ r ≡ later earlier f ⌝ }
+{
+    let reason = f.reason;
+    Fault {
+        reason,
+        place: f.place,
+        passed: earlier + f.passed,
+    }
+}
+
 // An item's header: where its body ends, or why it is refused.
 pub enum Body {
     To(usize),
     Refused(Refusal),
 }
 
-// A type item: its type, where the next item starts and how many items it is with those in it; or why and where it is
-// refused.
+// A type item: its type, where the next item starts and how many items it is with those in it; or its fault.
 pub enum ItemRead {
     Item {
         ty: ValueType,
         next: usize,
         items: usize,
     },
-    Refused {
-        reason: Refusal,
-        place: usize,
-    },
+    Refused(Fault),
 }
 
 pub enum IntegerCode {

@@ -4,9 +4,11 @@ ghost use Prim.Native.Nat.{_+_, _*_, _≤_};
 ghost use lib.Dec.{ltb};
 ghost use lib.ListN.{length};
 ghost use Rattle.items.specs.Read.{bodyAt, integerCode, floatCode, integerAt, floatAt};
+ghost use Rattle.items.specs.Reading.{fault};
 ghost use Rattle.items.specs.Answer.{itemAnswer};
 use conventions::Convention;
 use items::Body;
+use items::Fault;
 use items::FloatCode;
 use items::IntegerCode;
 use items::ItemRead;
@@ -72,16 +74,24 @@ pub fn read_body(s: &[u8], low: u8, high: u8, at: usize, end: usize) -> Body
     Body::To(at + 3 + length)
 }
 
+// A fault of the item at `at` itself, whose own header is not counted.
+pub fn refused_here(reason: Refusal, at: usize) -> ItemRead
+    ensures { λ r. ⌜ r ≡ ItemRead.Refused (fault reason at 0) ⌝ }
+{
+    ItemRead::Refused(Fault {
+        reason,
+        place: at,
+        passed: 0,
+    })
+}
+
 // The integer item at `at`, whose body ends at `end`.
 pub fn read_integer(s: &[u8], c: Convention, at: usize, end: usize) -> ItemRead
     requires { ⌜ (at + 3 ≤ end) × (end ≤ length (now s)) ⌝ }
     ensures { λ r. ⌜ r ≡ itemAnswer c (integerAt (now (s .entry)) at end) ⌝ }
 {
     if end - at != 4 {
-        return ItemRead::Refused {
-            reason: Refusal::Malformed,
-            place: at,
-        };
+        return refused_here(Refusal::Malformed, at);
     }
     match integer_code(s[at + 3]) {
         IntegerCode::Kind(k) => ItemRead::Item {
@@ -89,10 +99,7 @@ pub fn read_integer(s: &[u8], c: Convention, at: usize, end: usize) -> ItemRead
             next: end,
             items: 1,
         },
-        IntegerCode::Unknown => ItemRead::Refused {
-            reason: Refusal::Malformed,
-            place: at,
-        },
+        IntegerCode::Unknown => refused_here(Refusal::Malformed, at),
     }
 }
 
@@ -102,10 +109,7 @@ pub fn read_float(s: &[u8], c: Convention, at: usize, end: usize, depth: usize) 
     ensures { λ r. ⌜ r ≡ itemAnswer c (floatAt (now (s .entry)) (ltb depth 8) at end) ⌝ }
 {
     if end - at != 4 {
-        return ItemRead::Refused {
-            reason: Refusal::Malformed,
-            place: at,
-        };
+        return refused_here(Refusal::Malformed, at);
     }
     match float_code(s[at + 3]) {
         FloatCode::Format(f) => match f {
@@ -121,10 +125,7 @@ pub fn read_float(s: &[u8], c: Convention, at: usize, end: usize, depth: usize) 
             },
             FloatFormat::LongDouble => {
                 if depth < 8 {
-                    ItemRead::Refused {
-                        reason: Refusal::LongDoubleInStruct,
-                        place: at,
-                    }
+                    refused_here(Refusal::LongDoubleInStruct, at)
                 } else {
                     ItemRead::Item {
                         ty: ValueType::Float(FloatFormat::LongDouble),
@@ -134,9 +135,6 @@ pub fn read_float(s: &[u8], c: Convention, at: usize, end: usize, depth: usize) 
                 }
             }
         },
-        FloatCode::Unknown => ItemRead::Refused {
-            reason: Refusal::Malformed,
-            place: at,
-        },
+        FloatCode::Unknown => refused_here(Refusal::Malformed, at),
     }
 }

@@ -23,7 +23,7 @@ result-of c (ResultType.Value t) = result-numbered (rulesOf c) t (sizeOf c t)
 result-in : (x : Reading Signature) → ResultNumbered (planAnswer x .result)
 unfolding planAnswer planIn
 result-in (got g next n) = result-of (g .convention) (resultType (g .convention) (g .result))
-result-in (no r place) = tt
+result-in (no f) = tt
 
 pub answer-printable : (s : List ℕ) → Printable (planAnswer (signatureOf s))
 answer-printable s = record {

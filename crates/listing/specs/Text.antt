@@ -3,7 +3,7 @@ use Prim.Native.Nat.{ℕ, suc}
 use mathlib.Core.List.{List, [], _∷_, _++_}
 use lib.ListN.{take}
 use Rattle.conventions.specs.declared.Convention.{Convention}
-use Rattle.items.specs.declared.Refusal.{Refusal}
+use Rattle.items.specs.declared.Fault.{Fault}
 use Rattle.items.specs.Refusals.{numberOf}
 use Rattle.signature.specs.declared.Outcome.{Outcome}
 use Rattle.signature.specs.Read.{signatureOf}
@@ -15,7 +15,7 @@ use Rattle.plan.specs.Plan.{planAnswer}
 use Rattle.text.specs.Decimals.{decimal}
 use Rattle.line.specs.Words.{newline}
 use Rattle.line.specs.Line.{placesText, lineText}
-use Rattle.listing.specs.Words.{ppc64Name, zName, argsWord, areaWord, resultWord, noneWord, hiddenWord, refusedWord, atWord}
+use Rattle.listing.specs.Words.{ppc64Name, zName, argsWord, areaWord, resultWord, noneWord, hiddenWord, refusedWord, atWord, afterWord}
 
 abbrev pub nameOf : Convention → List ℕ
 nameOf Convention.Ppc64 = ppc64Name
@@ -38,9 +38,10 @@ resultPlacesText (ResultPlaces.Hidden s) = hiddenWord ++ placesText (registersOf
 unfoldable pub resultText : ResultPlaces → List ℕ
 resultText r = resultWord ++ (resultPlacesText r ++ newline)
 
--- "A refusal prints `refused 2 at 0`"
-unfoldable pub refusalText : Refusal → ℕ → List ℕ
-refusalText r place = refusedWord ++ (decimal (numberOf r) ++ (atWord ++ (decimal place ++ newline)))
+-- "the printed line becomes `refused 2 at 0 after 0`"
+unfoldable pub refusalText : Fault → List ℕ
+refusalText f =
+    refusedWord ++ (decimal (numberOf (f .reason)) ++ (atWord ++ (decimal (f .place) ++ (afterWord ++ (decimal (f .passed) ++ newline)))))
 
 unfoldable pub acceptedText : Plan → List ℕ
 acceptedText p =
@@ -49,7 +50,7 @@ acceptedText p =
 
 abbrev pub planTextBy : Outcome → Plan → List ℕ
 planTextBy (Outcome.Accepted n) p = acceptedText p
-planTextBy (Outcome.Refused r place) p = refusalText r place
+planTextBy (Outcome.Refused f) p = refusalText f
 
 unfoldable pub planText : Plan → List ℕ
 planText p = planTextBy (p .outcome) p

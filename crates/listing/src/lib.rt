@@ -1,7 +1,7 @@
 // The printed plan of a signature. The writer runs twice, the first time to find the length, so that a buffer that is too short stays as
 // it was.
 use conventions::Convention;
-use items::Refusal;
+use items::Fault;
 use line::put_line;
 use line::put_registers;
 use places::ResultPlaces;
@@ -63,13 +63,15 @@ fn put_result(text: &mut [u8], at: usize, r: ResultPlaces) -> usize
     put_byte(text, b, 10)
 }
 
-fn put_refusal(text: &mut [u8], reason: Refusal, place: usize) -> usize
-    ensures { λ r. ⌜ Wrote (now (text .entry)) (now (text .exit)) 0 r (refusalText reason place) ⌝ }
+fn put_refusal(text: &mut [u8], fault: Fault) -> usize
+    ensures { λ r. ⌜ Wrote (now (text .entry)) (now (text .exit)) 0 r (refusalText fault) ⌝ }
 {
+    let reason = fault.reason;
     let number = items::number_of(reason) as usize;
     let a = put_labelled(text, 0, b"refused ", number);
-    let b = put_labelled(text, a, b" at ", place);
-    put_byte(text, b, 10)
+    let b = put_labelled(text, a, b" at ", fault.place);
+    let d = put_labelled(text, b, b" after ", fault.passed);
+    put_byte(text, d, 10)
 }
 
 // The lines of an accepted plan.
@@ -97,7 +99,7 @@ fn put_plan(text: &mut [u8], p: Plan) -> usize
     let outcome = p.outcome;
     match outcome {
         Outcome::Accepted(_) => put_lines(text, p),
-        Outcome::Refused { reason, place } => put_refusal(text, reason, place),
+        Outcome::Refused(fault) => put_refusal(text, fault),
     }
 }
 

@@ -7,15 +7,16 @@ ghost use Rattle.items.specs.Read.{structAt, itemAt};
 ghost use Rattle.items.specs.Answer.{itemAnswer, closedAnswer};
 use conventions::Convention;
 use items::Body;
+use items::Fault;
 use items::ItemRead;
 use items::Refusal;
 use types::Closed;
 use types::Fields;
 use types::ValueType;
 
-// The struct item at `at`, whose fields are all read and whose body ends at `end`.
+// The struct item at `at`, whose fields are all read and whose body ends at `end`; of its items the first is its own header.
 fn closed_item(at: usize, end: usize, items: usize, fields: Fields) -> ItemRead
-    requires { ⌜ (fields .end < 2 ^ 32) × (0 < fields .align) × (fields .align ≤ 16) ⌝ }
+    requires { ⌜ (0 < items) × (fields .end < 2 ^ 32) × (0 < fields .align) × (fields .align ≤ 16) ⌝ }
     ensures { λ r. ⌜ r ≡ closedAnswer at end items (closed fields) ⌝ }
 {
     match layout::close(fields) {
@@ -24,10 +25,11 @@ fn closed_item(at: usize, end: usize, items: usize, fields: Fields) -> ItemRead
             next: end,
             items,
         },
-        Closed::TooLarge => ItemRead::Refused {
+        Closed::TooLarge => ItemRead::Refused(Fault {
             reason: Refusal::StructTooLarge,
             place: at,
-        },
+            passed: items - 1,
+        }),
     }
 }
 
@@ -37,7 +39,7 @@ pub fn read_item(s: &[u8], c: Convention, at: usize, end: usize, depth: usize) -
     ensures { λ r. ⌜ r ≡ itemAnswer c (itemAt c depth (now (s .entry)) end at) ⌝ }
 {
     match leaf_items::read_body(s, 0x10, 0x12, at, end) {
-        Body::Refused(reason) => ItemRead::Refused { reason, place: at },
+        Body::Refused(reason) => leaf_items::refused_here(reason, at),
         Body::To(to) => {
             let tag = s[at];
             if tag == 0x10 {
@@ -57,16 +59,10 @@ fn read_struct(s: &[u8], c: Convention, at: usize, end: usize, depth: usize) -> 
     ensures { λ r. ⌜ r ≡ itemAnswer c (structAt c depth (now (s .entry)) at end) ⌝ }
 {
     if depth == 0 {
-        return ItemRead::Refused {
-            reason: Refusal::TooDeep,
-            place: at,
-        };
+        return leaf_items::refused_here(Refusal::TooDeep, at);
     }
     if end - at == 3 {
-        return ItemRead::Refused {
-            reason: Refusal::Malformed,
-            place: at,
-        };
+        return leaf_items::refused_here(Refusal::Malformed, at);
     }
     let mut fields = layout::no_fields();
     let mut next = at + 3;
@@ -82,8 +78,8 @@ fn read_struct(s: &[u8], c: Convention, at: usize, end: usize, depth: usize) -> 
                 next = after;
                 items = items + more;
             }
-            ItemRead::Refused { reason, place } => {
-                return ItemRead::Refused { reason, place };
+            ItemRead::Refused(fault) => {
+                return ItemRead::Refused(items::later_by(items, fault));
             }
         }
     }

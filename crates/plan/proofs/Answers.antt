@@ -11,7 +11,7 @@ use Rattle.types.specs.declared.ValueType.{ValueType}
 use Rattle.types.specs.Sizes.{sizeOf}
 use Rattle.types.specs.Trees.{Trees, none, _▸_, typeOf, countOf}
 use Rattle.types.specs.Limits.{AllSized}
-use Rattle.items.specs.declared.Refusal.{Refusal}
+use Rattle.items.specs.declared.Fault.{Fault}
 use Rattle.items.specs.Reading.{Reading, got, no}
 use Rattle.signature.specs.declared.Argument.{Argument}
 use Rattle.signature.specs.Signature.{Result, nothing, value, Signature}
@@ -91,12 +91,12 @@ answer-plannable s = go (signatureOf s) refl
           result = small-result (g .convention) (g .result) (a .result);
           small = table-small (g .convention) (g .arguments) (a .arguments);
         }
-    go (no r place) e = record { few = omega arith; room = omega arith; result = tt; small = λ i h. absurd (omega arith) }
+    go (no f) e = record { few = omega arith; room = omega arith; result = tt; small = λ i h. absurd (omega arith) }
 
 pub planned-answer : (x : Reading Signature) → planned (signatureAnswer x) ≡ planAnswer x
 unfolding planned planAnswer
 planned-answer (got g next n) = ap (planIn n (g .convention) (resultType (g .convention) (g .result))) (table-types (g .convention) (g .arguments))
-planned-answer (no r place) = refl
+planned-answer (no f) = refl
 
 -- ---- its counts
 
@@ -111,9 +111,9 @@ few : (g : Signature) (next n : ℕ) → countOf (g .arguments) ≤ maxArguments
 unfolding planAnswer planIn
 few g next n h = omega (arith, length-of-types (g .convention) (g .arguments))
 
-none-few : (r : Refusal) (place : ℕ) → planAnswer (no r place) .count ≤ maxArguments
+none-few : (f : Fault) → planAnswer (no f) .count ≤ maxArguments
 unfolding planAnswer
-none-few r place = omega arith
+none-few f = omega arith
 
 -- no plan has more arguments than a signature may
 pub answer-few : (s : List ℕ) → planAnswer (signatureOf s) .count ≤ maxArguments
@@ -121,7 +121,7 @@ answer-few s = go (signatureOf s) refl
   where
     go : (x : Reading Signature) → signatureOf s ≡ x → planAnswer x .count ≤ maxArguments
     go (got g next n) e = few g next n (accepted s g next n e .within .few)
-    go (no r place) e = none-few r place
+    go (no f) e = none-few f
 
 -- its table has a span for each
 pub answer-table : (x : Reading Signature) → planAnswer x .count ≤ length (planAnswer x .spans)
@@ -130,4 +130,4 @@ answer-table (got g next n) =
     let c = g .convention in
     let k = startIn c (resultType c (g .result)) in
     simp length-append (omega (arith, length-spans c (rulesOf c) k (typesOf c (g .arguments))))
-answer-table (no r place) = omega arith
+answer-table (no f) = omega arith

@@ -13,8 +13,9 @@ use Rattle.types.specs.declared.ValueType.{ValueType}
 use Rattle.types.specs.Sizes.{sizeOf}
 use Rattle.types.specs.Trees.{Trees, none, _▸_, typeOf}
 use Rattle.items.specs.declared.Refusal.{Refusal}
+use Rattle.items.specs.declared.Fault.{Fault}
 use Rattle.items.specs.declared.ItemRead.{ItemRead}
-use Rattle.items.specs.Reading.{Reading, got, no}
+use Rattle.items.specs.Reading.{Reading, fault, got, no, later}
 use Rattle.items.specs.Read.{itemAt}
 use Rattle.items.specs.Answer.{itemAnswer}
 use Rattle.items.proofs.Loop.{item-answered}
@@ -71,13 +72,13 @@ module _ (c : Convention) (s : List ℕ) (at e : ℕ) (r : Rules) where
 -- ---- the answers
 
 module _ (c : Convention) (s : List ℕ) (at e : ℕ) (result : ResultType) (earlier : ℕ) where
-  pub measure-no : (x : Refusal) (place : ℕ) → argumentsIn c s at e ≡ no x place →
-      measureOf (refused x place) ≡ measureOf (planWith c result earlier (length s) (argumentsIn c s at e))
-  measure-no x place q = rw q
+  pub measure-no : (f : Fault) → argumentsIn c s at e ≡ no f →
+      measureOf (refused (later earlier f)) ≡ measureOf (planWith c result earlier (length s) (argumentsIn c s at e))
+  measure-no f q = rw q
 
   module _ (k : Cursor) (v count next n : ℕ) (m : Measuring c s at e (rulesOf c) (startIn c result) k v count next n) (last : e ≤ next) where
     pub measure-trailing : next < length s →
-        measureOf (refused Refusal.TrailingBytes next) ≡ measureOf (planWith c result earlier (length s) (argumentsIn c s at e))
+        measureOf (refused (fault Refusal.TrailingBytes next (earlier + n))) ≡ measureOf (planWith c result earlier (length s) (argumentsIn c s at e))
     measure-trailing h = rw (turn-last c s at e (m .ts) count next n (m .turn) last, lt-ltb next (length s) h)
 
     pub measure-end : length s ≤ next →
@@ -93,15 +94,15 @@ unfolding planAnswer
 plan-then s c r n (got ts next m) = go (ltb next (length s))
   where
     go : (more : Bool) →
-        planAnswer (pick more (no Refusal.TrailingBytes next) (got (record { convention = c; result = r; arguments = ts }) next (n + m)))
-        ≡ pick more (refused Refusal.TrailingBytes next) (planIn (n + m) c (resultType c r) (typesOf c ts))
+        planAnswer (pick more (no (fault Refusal.TrailingBytes next (n + m))) (got (record { convention = c; result = r; arguments = ts }) next (n + m)))
+        ≡ pick more (refused (fault Refusal.TrailingBytes next (n + m))) (planIn (n + m) c (resultType c r) (typesOf c ts))
     go true = refl
     go false = refl
-plan-then s c r n (no x place) = refl
+plan-then s c r n (no f) = refl
 
-pub measured-refused : (s : List ℕ) (r : Refusal) (place : ℕ) → signatureOf s ≡ no r place → measureOf (refused r place) ≡ measureOf (planAnswer (signatureOf s))
+pub measured-refused : (s : List ℕ) (f : Fault) → signatureOf s ≡ no f → measureOf (refused f) ≡ measureOf (planAnswer (signatureOf s))
 unfolding planAnswer
-measured-refused s r place q = rw q
+measured-refused s f q = rw q
 
 pub plan-arguments : (s : List ℕ) (x : HeadRead) → x ≡ headAnswer (headOf s) → (c : Convention) (t : ResultType) (at b n : ℕ) → x ≡ HeadRead.Head c t at b n →
     planAnswer (signatureOf s) ≡ planWith c t n (length s) (argumentsIn c s at b)

@@ -9,7 +9,7 @@ use Rattle.words.specs.Basics.{pick}
 use Rattle.conventions.specs.declared.Convention.{Convention}
 use Rattle.types.specs.declared.ValueType.{ValueType}
 use Rattle.types.specs.Sizes.{sizeOf}
-use Rattle.items.specs.declared.Refusal.{Refusal}
+use Rattle.items.specs.declared.Fault.{Fault}
 use Rattle.items.specs.Reading.{got, no}
 use Rattle.signature.specs.declared.ResultType.{ResultType}
 use Rattle.signature.specs.Read.{maxArguments}
@@ -137,15 +137,15 @@ none-at i = getD-blanks [] maxArguments i
 none : (i : ℕ) (x : Spot) → Owns (getD (replicate maxArguments noSpan) i noSpan) x → ⊥
 none i x o = none-owned x (subst (λ (s : Span). Owns s x) (none-at i) o)
 
-refused-disjoint : (reason : Refusal) (place : ℕ) → Disjoint (refused reason place)
-refused-disjoint reason place = record {
+refused-disjoint : (f : Fault) → Disjoint (refused f)
+refused-disjoint f = record {
   apart = λ i j x h a b. none i x a;
   image = λ i j b h x y. none i (imageSpot b) x;
   hidden = λ s i x e a b. none i x b;
 }
 
-refused-within : (reason : Refusal) (place : ℕ) → Within (refused reason place)
-refused-within reason place =
+refused-within : (f : Fault) → Within (refused f)
+refused-within f =
     let numbered : Numbered noSpan = omega arith in
     let homed : Homed noSpan = record { from = omega arith; to = omega arith } in
     record {
@@ -166,9 +166,9 @@ refused-within reason place =
 pub disjoint : PlansDisjoint
 unfolding planAnswer
 disjoint (got g next n) = plan-disjoint n (g .convention) (resultType (g .convention) (g .result)) (typesOf (g .convention) (g .arguments))
-disjoint (no reason place) = refused-disjoint reason place
+disjoint (no f) = refused-disjoint f
 
 pub within : PlansWithin
 unfolding planAnswer
 within (got g next n) = plan-within n (g .convention) (resultType (g .convention) (g .result)) (typesOf (g .convention) (g .arguments))
-within (no reason place) = refused-within reason place
+within (no f) = refused-within f

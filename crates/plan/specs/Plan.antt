@@ -11,7 +11,8 @@ use Rattle.types.specs.declared.ValueType.{ValueType}
 use Rattle.types.specs.Sizes.{sizeOf}
 use Rattle.types.specs.Trees.{Trees, none, _▸_, typeOf}
 use Rattle.items.specs.declared.Refusal.{Refusal}
-use Rattle.items.specs.Reading.{Reading, got, no}
+use Rattle.items.specs.declared.Fault.{Fault}
+use Rattle.items.specs.Reading.{Reading, fault, got, no, later}
 use Rattle.signature.specs.declared.Argument.{Argument}
 use Rattle.signature.specs.declared.ResultType.{ResultType}
 use Rattle.signature.specs.declared.Outcome.{Outcome}
@@ -97,9 +98,9 @@ blankPlan o c r n = record {
   spans = replicate maxArguments noSpan;
 }
 
--- "Every refusal leaves all buffers and the state untouched; counts are 0"
-abbrev pub refused : Refusal → ℕ → Plan
-refused reason place = blankPlan (Outcome.Refused reason place) Convention.Ppc64 ResultPlaces.Nothing 0
+-- "Every refusal leaves all buffers and the state untouched"
+abbrev pub refused : Fault → Plan
+refused f = blankPlan (Outcome.Refused f) Convention.Ppc64 ResultPlaces.Nothing 0
 
 -- the arguments' types in order
 unfoldable pub typesOf : Convention → Trees → List ValueType
@@ -109,7 +110,7 @@ typesOf c (ts ▸ t) = typesOf c ts ++ typeOf c t ∷ []
 -- of what the reader finds in a signature's bytes
 unfoldable pub planAnswer : Reading Signature → Plan
 planAnswer (got g next n) = planIn n (g .convention) (resultType (g .convention) (g .result)) (typesOf (g .convention) (g .arguments))
-planAnswer (no reason place) = refused reason place
+planAnswer (no f) = refused f
 
 -- ---- the same of the reader's answer
 
@@ -121,7 +122,7 @@ typesIn g = map typeIn (take (g .count) (g .arguments))
 
 abbrev pub plannedAs : Outcome → SignatureRead → Plan
 plannedAs (Outcome.Accepted n) g = planIn n (g .convention) (g .result) (typesIn g)
-plannedAs (Outcome.Refused reason place) g = refused reason place
+plannedAs (Outcome.Refused f) g = refused f
 
 unfoldable pub planned : SignatureRead → Plan
 planned g = plannedAs (g .outcome) g
@@ -134,5 +135,5 @@ measureOf p = record { outcome = p .outcome; area = p .area; values = p .values;
 
 -- from the arguments on, in a signature of `all` bytes, where n items came before theirs: as `withArguments` of the reader
 abbrev pub planWith : Convention → ResultType → ℕ → ℕ → Reading Trees → Plan
-planWith c r n all (got ts next m) = pick (ltb next all) (refused Refusal.TrailingBytes next) (planIn (n + m) c r (typesOf c ts))
-planWith c r n all (no x place) = refused x place
+planWith c r n all (got ts next m) = pick (ltb next all) (refused (fault Refusal.TrailingBytes next (n + m))) (planIn (n + m) c r (typesOf c ts))
+planWith c r n all (no f) = refused (later n f)

@@ -1,6 +1,7 @@
 // The plan of a signature: for each argument its registers, memory and copy; the sizes of the parameter area, the values and
 // the copies; the places of the result.
 use conventions::Convention;
+use items::Fault;
 use items::ItemRead;
 use items::Refusal;
 use places::ByteRange;
@@ -98,10 +99,7 @@ pub fn plan_signature(g: SignatureRead) -> Plan
 {
     let outcome = g.outcome;
     match outcome {
-        Outcome::Refused {
-            reason: _,
-            place: _,
-        } => blank(outcome, Convention::Ppc64, ResultPlaces::Nothing, 0),
+        Outcome::Refused(_) => blank(outcome, Convention::Ppc64, ResultPlaces::Nothing, 0),
         Outcome::Accepted(_) => {
             let convention = g.convention;
             let returned = g.result;
@@ -139,11 +137,11 @@ pub fn plan_of(s: &[u8]) -> Plan
     plan_signature(signature::read_signature(s))
 }
 
-fn no_measure(reason: Refusal, place: usize) -> Measured
-    ensures { λ m. ⌜ m ≡ measureOf (refused reason place) ⌝ }
+fn no_measure(fault: Fault) -> Measured
+    ensures { λ m. ⌜ m ≡ measureOf (refused fault) ⌝ }
 {
     Measured {
-        outcome: Outcome::Refused { reason, place },
+        outcome: Outcome::Refused(fault),
         area: 0,
         values: 0,
         copies: 0,
@@ -172,7 +170,11 @@ fn measure_arguments(
     let mut items: usize = 1;
     while next < end {
         if count == 64 {
-            return no_measure(Refusal::TooManyArguments, next);
+            return no_measure(Fault {
+                reason: Refusal::TooManyArguments,
+                place: next,
+                passed: earlier + items,
+            });
         }
         match nested_items::read_item(s, convention, next, end, 8) {
             ItemRead::Item {
@@ -187,17 +189,22 @@ fn measure_arguments(
                 next = after;
                 items = items + more;
             }
-            ItemRead::Refused { reason, place } => {
-                return no_measure(reason, place);
+            ItemRead::Refused(fault) => {
+                return no_measure(items::later_by(earlier + items, fault));
             }
         }
     }
+    let counted = earlier + items;
     if next < s.len() {
-        return no_measure(Refusal::TrailingBytes, next);
+        return no_measure(Fault {
+            reason: Refusal::TrailingBytes,
+            place: next,
+            passed: counted,
+        });
     }
     let area = placing::area_of(convention, c);
     Measured {
-        outcome: Outcome::Accepted(earlier + items),
+        outcome: Outcome::Accepted(counted),
         area,
         values,
         copies: c.copies,
@@ -209,7 +216,7 @@ pub fn measure(s: &[u8]) -> Measured
     ensures { λ m. ⌜ m ≡ measureOf (planAnswer (signatureOf (now (s .entry)))) ⌝ }
 {
     match signature::read_head(s) {
-        HeadRead::Refused { reason, place } => no_measure(reason, place),
+        HeadRead::Refused(fault) => no_measure(fault),
         HeadRead::Head {
             convention,
             result,

@@ -13,7 +13,7 @@ use Rattle.signature.specs.Answer.{signatureAnswer}
 use Rattle.places.specs.Step.{rulesOf}
 use Rattle.plan.specs.declared.Plan.{Plan}
 use Rattle.slots.specs.declared.Answer.{Answer}
-use Rattle.slots.specs.declared.Refusal.{Refusal}
+use Rattle.items.specs.declared.Fault.{Fault}
 use Rattle.slots.specs.Buffers.{Buffers}
 use Rattle.slots.specs.Placements.{Placement, valuesAt}
 use Rattle.slots.specs.Limits.{Held, Fits}
@@ -57,10 +57,10 @@ all-ready g p i a h image area = record {
 -- ---- the answer
 
 module _ (s : List ℕ) (have : Sizes) (base : ℕ) (b : Buffers) where
-  pub answer-refused : (reason : _) (place : ℕ) → planFor s .outcome ≡ Outcome.Refused reason place
-      → Answer.Refused (Refusal.Signature reason) place ≡ readAnswer s have base b
+  pub answer-refused : (f : Fault) → planFor s .outcome ≡ Outcome.Refused f
+      → Answer.Unread f ≡ readAnswer s have base b
   unfolding readAnswer
-  answer-refused reason place e = rw e
+  answer-refused f e = rw e
 
   module _ (g : SignatureRead) (p : Plan) (n : ℕ) (read : g ≡ signatureAnswer (signatureOf s)) (plan : p ≡ planFor s) (e : planFor s .outcome ≡ Outcome.Accepted n) where
     -- of the lengths l and the arguments a
@@ -84,7 +84,8 @@ module _ (s : List ℕ) (have : Sizes) (base : ℕ) (b : Buffers) where
 pub values-kept : (s : List ℕ) (base : ℕ) (a : Answer) (b : Buffers) (values : List ℕ) → isRefused a ≡ true → values ≡ readValues s base a b values
 unfolding readValues
 values-kept s base Answer.Done b values e = let z : _≡_ {A = ℕ} 0 1 = cc in absurd (omega arith)
-values-kept s base (Answer.Refused reason place) b values e = refl
+values-kept s base (Answer.Unread f) b values e = refl
+values-kept s base (Answer.Refused reason) b values e = refl
 
 pub values-taken : (s : List ℕ) (base : ℕ) (b : Buffers) (values last : List ℕ) (g : SignatureRead) (p : Plan)
     → g ≡ signatureAnswer (signatureOf s) → p ≡ planFor s

@@ -31,7 +31,7 @@ inCopies address base n c = pick (leb base address) (leb (address - base + n) c)
 -- 13: "a by-pointer argument not wholly inside the copy buffer"
 abbrev pub copyAnswer : Bool → Answer
 copyAnswer true = Answer.Done
-copyAnswer false = Answer.Refused Refusal.OutsideCopies 0
+copyAnswer false = Answer.Refused Refusal.OutsideCopies
 
 abbrev pub wordsAnswer : ℕ → Placement → Buffers → Answer
 wordsAnswer base p b =

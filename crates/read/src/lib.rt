@@ -44,10 +44,7 @@ fn copy_answer(inside: bool) -> Answer
     if inside {
         return Answer::Done;
     }
-    Answer::Refused {
-        reason: Refusal::OutsideCopies,
-        place: 0,
-    }
+    Answer::Refused(Refusal::OutsideCopies)
 }
 
 // Whether one argument can be read, of a type and its size, where there are `length` bytes of copies.
@@ -112,22 +109,13 @@ fn tested(have: Sizes, values: usize, area: usize) -> Answer
     ensures { λ a. ⌜ a ≡ firstOf (readTests have values area) ⌝ }
 {
     if have.image != 512 {
-        return Answer::Refused {
-            reason: Refusal::ImageSize,
-            place: 0,
-        };
+        return Answer::Refused(Refusal::ImageSize);
     }
     if have.values != values {
-        return Answer::Refused {
-            reason: Refusal::ValuesSize,
-            place: 0,
-        };
+        return Answer::Refused(Refusal::ValuesSize);
     }
     if have.area < area {
-        return Answer::Refused {
-            reason: Refusal::AreaTooShort,
-            place: 0,
-        };
+        return Answer::Refused(Refusal::AreaTooShort);
     }
     Answer::Done
 }
@@ -149,10 +137,7 @@ pub fn read(
     let p = plan::plan_signature(g);
     let outcome = p.outcome;
     match outcome {
-        Outcome::Refused { reason, place } => Answer::Refused {
-            reason: Refusal::Signature(reason),
-            place,
-        },
+        Outcome::Refused(fault) => Answer::Unread(fault),
         Outcome::Accepted(_) => {
             let have = Sizes {
                 values: values.len(),

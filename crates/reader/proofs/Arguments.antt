@@ -12,12 +12,13 @@ use Rattle.words.specs.Basics.{pick}
 use Rattle.conventions.specs.declared.Convention.{Convention}
 use Rattle.types.specs.Trees.{Tree, Trees, none, _▸_, typeOf, countOf}
 use Rattle.items.specs.declared.Refusal.{Refusal}
+use Rattle.items.specs.declared.Fault.{Fault}
 use Rattle.items.specs.declared.Body.{Body}
-use Rattle.items.specs.Reading.{Reading, got, no, inBody}
+use Rattle.items.specs.Reading.{Reading, fault, got, no, inBody}
 use Rattle.items.specs.Read.{lengthAt, bodyAt, sequence, itemAt}
 use Rattle.items.specs.Encode.{encodeTree, encodeTrees}
 use Rattle.items.proofs.Laws.{body-to}
-use Rattle.items.proofs.Sound.{by-pick, by-choose, by-then, Got, body-framed, Ended, none-read, sequence-sound, item-sound, item-read}
+use Rattle.items.proofs.Sound.{by-pick, by-choose, by-then, by-next, Got, body-framed, Ended, none-read, sequence-sound, item-sound, item-read}
 use Rattle.conventions.specs.declared.ConventionCode.{ConventionCode}
 use Rattle.conventions.specs.Numbers.{conventionCode}
 use Rattle.signature.specs.declared.Outcome.{Outcome}
@@ -36,11 +37,11 @@ use Rattle.reader.proofs.Laws.{end-within, body-here, start-found, end-
 
 got-self : {A : Type 0} (x : Reading A) → Got (λ a next n. x ≡ got a next n) x
 got-self (got a next n) = refl
-got-self (no r place) = tt
+got-self (no f) = tt
 
 got-map : {A : Type 0} (P Q : A → ℕ → ℕ → Type 0) (x : Reading A) → ((a : A) (next n : ℕ) → P a next n → Q a next n) → Got P x → Got Q x
 got-map P Q (got a next n) f p = f a next n p
-got-map P Q (no r place) f p = tt
+got-map P Q (no r) f p = tt
 
 -- one argument of types in order
 
@@ -99,7 +100,7 @@ module _ (c : Convention) (s : List ℕ) (e start : ℕ) (short : length s ≤ 4
   unfolding sequence
   all-stepped zero at n ts place = by-pick (Got (Stepped ts at)) (ltb at e) _ _ (λ _. tt) (λ _. stepped-end ts at at n)
   all-stepped (suc most) at n ts place = by-choose (Got (Stepped ts at)) (ltb at e) _ _
-      (λ _. by-then (λ t after m. itemAt c 8 s e at ≡ got t after m) (Stepped ts at) (itemAt c 8 s e at) _ (got-self (itemAt c 8 s e at))
+      (λ _. by-next (λ t after m. itemAt c 8 s e at ≡ got t after m) (Stepped ts at) n (itemAt c 8 s e at) _ (got-self (itemAt c 8 s e at))
       (λ t after m read. got-map (Stepped (ts ▸ t) after) (Stepped ts at) (sequence (itemAt c 8 s e) e most after (n + m) (ts ▸ t))
       (one-more ts at place t after m read) (all-stepped most after (n + m) (ts ▸ t) (next-place ts at place t after m read))))
       (λ _. stepped-end ts at at n)
@@ -115,7 +116,7 @@ convention-body s = go (bodyAt s 0x01 0x01 (length s) 0) refl
     code ConventionCode.Unknown q = tt
 
     go : (x : Body) → bodyAt s 0x01 0x01 (length s) 0 ≡ x
-        → Got (λ c next n. bodyAt s 0x01 0x01 (length s) 0 ≡ Body.To 4) (inBody x 0 (λ b. pick (eqb b 4) (conventionBy (conventionCode (getD s 3 0))) (no Refusal.Malformed 0)))
+        → Got (λ c next n. bodyAt s 0x01 0x01 (length s) 0 ≡ Body.To 4) (inBody x 0 (λ b. pick (eqb b 4) (conventionBy (conventionCode (getD s 3 0))) (no (fault Refusal.Malformed 0 0))))
     go (Body.To b) q = by-pick (Got (λ c next n. bodyAt s 0x01 0x01 (length s) 0 ≡ Body.To 4)) (eqb b 4) _ _
         (λ h. code (conventionCode (getD s 3 0)) (q ∙ ap Body.To (eqb-true b 4 h))) (λ _. tt)
     go (Body.Refused r) q = tt
@@ -126,7 +127,7 @@ result-body c s at = go (bodyAt s 0x02 0x02 (length s) at) refl
   where
     go : (x : Body) → bodyAt s 0x02 0x02 (length s) at ≡ x → Got (λ r next n. bodyAt s 0x02 0x02 (length s) at ≡ Body.To next) (inBody x at (λ b. resultIn c s (at + 3) b))
     go (Body.To b) q = by-choose (Got (λ r next n. bodyAt s 0x02 0x02 (length s) at ≡ Body.To next)) (eqb (at + 3) b) _ _ (λ _. q)
-        (λ _. by-then (λ t next n. itemAt c 8 s b (at + 3) ≡ got t next n) (λ r next n. bodyAt s 0x02 0x02 (length s) at ≡ Body.To next)
+        (λ _. by-next (λ t next n. itemAt c 8 s b (at + 3) ≡ got t next n) (λ r next n. bodyAt s 0x02 0x02 (length s) at ≡ Body.To next) 1
         (itemAt c 8 s b (at + 3)) _ (got-self (itemAt c 8 s b (at + 3)))
         (λ t next n _. by-pick (Got (λ r next n. bodyAt s 0x02 0x02 (length s) at ≡ Body.To next)) (ltb next b) _ _ (λ _. tt) (λ _. q)))
     go (Body.Refused r) q = tt
@@ -145,7 +146,7 @@ arguments-body c s at = go (bodyAt s 0x03 0x03 (length s) at) refl
     third : (b : ℕ) → bodyAt s 0x03 0x03 (length s) at ≡ Body.To b → (x : Reading Trees) → argumentsIn c s (at + 3) b ≡ x →
         Got (Ended c 8 s b (at + 3) 1 64) x → Got (Third c s at) x
     third b q (got ts next n) read ended = record { end = b; body = q; inside = ended .all .inside; read = read }
-    third b q (no r place) read ended = tt
+    third b q (no f) read ended = tt
 
     go : (x : Body) → bodyAt s 0x03 0x03 (length s) at ≡ x → Got (Third c s at) (inBody x at (λ b. argumentsIn c s (at + 3) b))
     go (Body.To b) q =
@@ -211,8 +212,8 @@ signature-placed : (s : List ℕ) → Got (λ g next n. Placed s g) (signatureOf
 unfolding signatureOf afterConvention afterResult
 signature-placed s = by-choose (Got (λ g next n. Placed s g)) (ltb 4096 (length s)) _ _ (λ _. tt)
     (λ l. by-then (λ c at n. conventionAt s ≡ got c at n) (λ g next n. Placed s g) (conventionAt s) _ (got-self (conventionAt s))
-    (λ c at₁ n₁ first. by-then (λ r next m. resultAt c s at₁ ≡ got r next m) (λ g next n. Placed s g) (resultAt c s at₁) _ (got-self (resultAt c s at₁))
-    (λ r at₂ n₂ second. by-then (Third c s at₂) (λ g next n. Placed s g) (argumentsAt c s at₂) _ (arguments-body c s at₂)
+    (λ c at₁ n₁ first. by-next (λ r next m. resultAt c s at₁ ≡ got r next m) (λ g next n. Placed s g) n₁ (resultAt c s at₁) _ (got-self (resultAt c s at₁))
+    (λ r at₂ n₂ second. by-next (Third c s at₂) (λ g next n. Placed s g) (n₁ + n₂) (argumentsAt c s at₂) _ (arguments-body c s at₂)
     (λ ts next m third. by-pick (Got (λ g next n. Placed s g)) (ltb next (length s)) _ _ (λ _. tt)
     (λ last. placed s (ltb-false 4096 (length s) l) c at₁ n₁ first r at₂ n₂ second ts next m third (ltb-false next (length s) last))))))
 
@@ -238,12 +239,12 @@ arguments-in-order s g next n q index h = arguments-stepped s g (rw q at (signat
 -- what the whole reading's answer says of one argument
 
 module _ (s : List ℕ) (index : ℕ) (x : SignatureRead) (found : x ≡ signatureAnswer (signatureOf s)) where
-  pub argument-refused : (r : Refusal) (place : ℕ) → x .outcome ≡ Outcome.Refused r place → ArgumentRead.Refused r place ≡ argumentAnswer index (signatureOf s)
-  argument-refused r place q = go (signatureOf s) found
+  pub argument-refused : (r : Fault) → x .outcome ≡ Outcome.Refused r → ArgumentRead.Refused r ≡ argumentAnswer index (signatureOf s)
+  argument-refused r q = go (signatureOf s) found
     where
-      go : (y : Reading Signature) → x ≡ signatureAnswer y → ArgumentRead.Refused r place ≡ argumentAnswer index y
+      go : (y : Reading Signature) → x ≡ signatureAnswer y → ArgumentRead.Refused r ≡ argumentAnswer index y
       go (got g next n) f = let e = sym q ∙ ap (λ (z : SignatureRead). z .outcome) f in let z : _≡_ {A = ℕ} 0 1 = cc in absurd (omega arith)
-      go (no r′ place′) f = let e = sym q ∙ ap (λ (z : SignatureRead). z .outcome) f in cc
+      go (no r′) f = let e = sym q ∙ ap (λ (z : SignatureRead). z .outcome) f in cc
 
   module _ (items : ℕ) (q : x .outcome ≡ Outcome.Accepted items) where
     pub argument-missing : x .count ≤ index → ArgumentRead.Missing ≡ argumentAnswer index (signatureOf s)
@@ -253,7 +254,7 @@ module _ (s : List ℕ) (index : ℕ) (x : SignatureRead) (found : x ≡ signatu
         go (got g next n) f =
             let count = ap (λ (z : SignatureRead). z .count) f in
             sym (argument-none (g .convention) (10 + length (encodeResult (g .result))) (g .arguments) index (omega arith))
-        go (no r place) f = let e = sym q ∙ ap (λ (z : SignatureRead). z .outcome) f in let z : _≡_ {A = ℕ} 0 1 = cc in absurd (omega arith)
+        go (no r) f = let e = sym q ∙ ap (λ (z : SignatureRead). z .outcome) f in let z : _≡_ {A = ℕ} 0 1 = cc in absurd (omega arith)
 
     pub argument-stepped : index < x .count → (start : ℕ) → start ≡ argumentsStart s → steppedTo (x .convention) s start (length s) index ≡ argumentAnswer index (signatureOf s)
     argument-stepped h start from = rw from (go (signatureOf s) (signature-placed s) found)
@@ -262,4 +263,4 @@ module _ (s : List ℕ) (index : ℕ) (x : SignatureRead) (found : x ≡ signatu
         go (got g next n) p f =
             let count = ap (λ (z : SignatureRead). z .count) f in
             ap (λ (z : SignatureRead). steppedTo (z .convention) s (argumentsStart s) (length s) index) f ∙ arguments-stepped s g p index (omega arith)
-        go (no r place) p f = let e = sym q ∙ ap (λ (z : SignatureRead). z .outcome) f in let z : _≡_ {A = ℕ} 0 1 = cc in absurd (omega arith)
+        go (no r) p f = let e = sym q ∙ ap (λ (z : SignatureRead). z .outcome) f in let z : _≡_ {A = ℕ} 0 1 = cc in absurd (omega arith)

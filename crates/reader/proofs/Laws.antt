@@ -11,9 +11,10 @@ use Rattle.conventions.specs.declared.Convention.{Convention}
 use Rattle.types.specs.declared.ValueType.{ValueType}
 use Rattle.types.specs.Trees.{Tree, typeOf}
 use Rattle.items.specs.declared.Refusal.{Refusal}
+use Rattle.items.specs.declared.Fault.{Fault}
 use Rattle.items.specs.declared.Body.{Body}
 use Rattle.items.specs.declared.ItemRead.{ItemRead}
-use Rattle.items.specs.Reading.{got, no}
+use Rattle.items.specs.Reading.{fault, got, no}
 use Rattle.items.specs.Read.{bodyAt, itemAt}
 use Rattle.items.specs.Answer.{itemAnswer}
 use Rattle.items.proofs.Laws.{body-short, item-refused, item-got, item-no}
@@ -70,7 +71,7 @@ module _ (s : List ℕ) (at e : ℕ) where
   unfolding bodyIn
   body-long h = rw (lt-ltb 4096 (length s) h)
 
-  pub type-long : (c : Convention) → 4096 < length s → ItemRead.Refused Refusal.TooLong 0 ≡ itemAnswer c (typeIn c s at e)
+  pub type-long : (c : Convention) → 4096 < length s → ItemRead.Refused (fault Refusal.TooLong 0 0) ≡ itemAnswer c (typeIn c s at e)
   unfolding typeIn
   type-long c h = rw (lt-ltb 4096 (length s) h)
 
@@ -86,8 +87,8 @@ module _ (s : List ℕ) (at e : ℕ) where
     unfolding typeIn
     type-here c x found = rw (le-ltb 4096 (length s) short, ← q) found
 
-    pub type-past : (c : Convention) → to < at → ItemRead.Refused Refusal.Truncated at ≡ itemAnswer c (typeIn c s at e)
-    type-past c h = type-here c (ItemRead.Refused Refusal.Truncated at)
+    pub type-past : (c : Convention) → to < at → ItemRead.Refused (fault Refusal.Truncated at 0) ≡ itemAnswer c (typeIn c s at e)
+    type-past c h = type-here c (ItemRead.Refused (fault Refusal.Truncated at 0))
         (rw (item-refused c 8 s to at Refusal.Truncated (body-short s 0x10 0x12 to at (omega arith))))
 
   -- a body that was found lies within the bytes
@@ -125,11 +126,11 @@ module _ (s : List ℕ) (at e : ℕ) where
 
 module _ (c : Convention) (s : List ℕ) (e : ℕ) (all : ArgumentRead) (at k : ℕ) (rest : all ≡ steppedTo c s at e k) (x : ItemRead)
     (found : x ≡ itemAnswer c (typeIn c s at e)) where
-  pub step-no : (r : Refusal) (place : ℕ) → x ≡ ItemRead.Refused r place → ArgumentRead.Refused r place ≡ all
+  pub step-no : (f : Fault) → x ≡ ItemRead.Refused f → ArgumentRead.Refused f ≡ all
   unfolding steppedTo
-  step-no r place q = sym (rest ∙ go k (item-no c (typeIn c s at e) r place (sym q ∙ found)))
+  step-no f q = sym (rest ∙ go k (item-no c (typeIn c s at e) f (sym q ∙ found)))
     where
-      go : (j : ℕ) → typeIn c s at e ≡ no r place → steppedTo c s at e j ≡ ArgumentRead.Refused r place
+      go : (j : ℕ) → typeIn c s at e ≡ no f → steppedTo c s at e j ≡ ArgumentRead.Refused f
       go zero read = rw read
       go (suc j) read = rw read
 

@@ -1,7 +1,7 @@
 -- A reader's answers have the numbers of what they are found by: a header's body, and the whole reading. Assumes nothing.
 use Prim.Native.Nat.{ℕ}
 use mathlib.Core.Path.{_≡_, refl}
-use Rattle.items.specs.declared.Refusal.{Refusal}
+use Rattle.items.specs.declared.Fault.{Fault}
 use Rattle.items.specs.declared.Body.{Body}
 use Rattle.items.specs.Reading.{no}
 use Rattle.items.specs.Refusals.{bodyNumber, readingNumber}
@@ -15,5 +15,5 @@ header-number tag (Body.To b) = refl
 header-number tag (Body.Refused r) = refl
 
 -- a refused signature's number is that of each of its arguments
-pub argument-number : (index : ℕ) (r : Refusal) (place : ℕ) → argumentNumber (argumentAnswer index (no r place)) ≡ readingNumber {A = Signature} (no r place)
-argument-number index r place = refl
+pub argument-number : (index : ℕ) (f : Fault) → argumentNumber (argumentAnswer index (no f)) ≡ readingNumber {A = Signature} (no f)
+argument-number index f = refl

@@ -23,19 +23,19 @@ argumentIn c start index (ts ▸ t) =
 -- of a whole reading: the convention's item is 4 bytes, the other two have a header of 3 each
 abbrev pub argumentAnswer : ℕ → Reading Signature → ArgumentRead
 argumentAnswer index (got g next n) = argumentIn (g .convention) (10 + length (encodeResult (g .result))) index (g .arguments)
-argumentAnswer index (no r place) = ArgumentRead.Refused r place
+argumentAnswer index (no f) = ArgumentRead.Refused f
 
 -- the arguments' first item: past two items, and into the third
 unfoldable pub argumentsStart : List ℕ → ℕ
 argumentsStart s = bodyStart s (bodyEnd s (bodyEnd s 0 (length s)) (length s)) (length s)
 
 abbrev pub onward : Reading Tree → (ℕ → ArgumentRead) → ArgumentRead
-onward (got t next n) f = f next
-onward (no r place) f = ArgumentRead.Refused r place
+onward (got t next n) g = g next
+onward (no f) g = ArgumentRead.Refused f
 
 abbrev pub here : Convention → ℕ → Reading Tree → ArgumentRead
 here c at (got t next n) = ArgumentRead.Argument (typeOf c t) at
-here c at (no r place) = ArgumentRead.Refused r place
+here c at (no f) = ArgumentRead.Refused f
 
 -- the type item after k others, from `at` on; the first refusal on the way is the answer
 unfoldable pub steppedTo : Convention → List ℕ → ℕ → ℕ → ℕ → ArgumentRead

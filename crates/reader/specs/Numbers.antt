@@ -12,4 +12,4 @@ headerNumber (Header.Refused r) = numberOf r
 abbrev pub argumentNumber : ArgumentRead → ℕ
 argumentNumber (ArgumentRead.Argument t place) = 0
 argumentNumber ArgumentRead.Missing = 24
-argumentNumber (ArgumentRead.Refused r place) = numberOf r
+argumentNumber (ArgumentRead.Refused f) = numberOf (f .reason)

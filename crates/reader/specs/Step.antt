@@ -11,7 +11,7 @@ use Rattle.types.specs.Trees.{Tree}
 use Rattle.items.specs.declared.Refusal.{Refusal}
 use Rattle.items.specs.declared.Body.{Body}
 use Rattle.items.specs.declared.ItemRead.{ItemRead}
-use Rattle.items.specs.Reading.{Reading, no}
+use Rattle.items.specs.Reading.{Reading, fault, no}
 use Rattle.items.specs.Read.{bodyAt, itemAt}
 use Rattle.signature.specs.Read.{maxLength, maxDepth}
 use Rattle.reader.specs.declared.Header.{Header}
@@ -53,9 +53,9 @@ bodyEnd s at e = endBy at (bodyIn s at e)
 
 -- a type item outside any struct; "1 first"
 unfoldable pub typeIn : Convention → List ℕ → ℕ → ℕ → Reading Tree
-typeIn c s at e = pick (ltb maxLength (length s)) (no Refusal.TooLong 0) (itemAt c maxDepth s (endIn s e) at)
+typeIn c s at e = pick (ltb maxLength (length s)) (no (fault Refusal.TooLong 0 0)) (itemAt c maxDepth s (endIn s e) at)
 
 -- the place after a type item; a reader stays where it is after a refusal
 abbrev pub placeAfter : ItemRead → ℕ → ℕ
 placeAfter (ItemRead.Item t next n) at = next
-placeAfter (ItemRead.Refused r place) at = at
+placeAfter (ItemRead.Refused f) at = at

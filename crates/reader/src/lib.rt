@@ -3,6 +3,7 @@
 // it apart and put it together.
 use conventions::Convention;
 use items::Body;
+use items::Fault;
 use items::ItemRead;
 use items::Refusal;
 use signature::Outcome;
@@ -27,11 +28,11 @@ pub enum Header {
     Refused(Refusal),
 }
 
-// An argument's type and the place of its item; or none has that number; or why and where the signature is refused.
+// An argument's type and the place of its item; or none has that number; or the signature is refused.
 pub enum ArgumentRead {
     Argument { ty: ValueType, place: usize },
     Missing,
-    Refused { reason: Refusal, place: usize },
+    Refused(Fault),
 }
 
 // The end of a part: never past the bytes.
@@ -107,17 +108,11 @@ fn type_in(s: &[u8], at: usize, end: usize, c: Convention) -> ItemRead
     ensures { λ r. ⌜ r ≡ itemAnswer c (typeIn c (now (s .entry)) at end) ⌝ }
 {
     if 4096 < s.len() {
-        return ItemRead::Refused {
-            reason: Refusal::TooLong,
-            place: 0,
-        };
+        return leaf_items::refused_here(Refusal::TooLong, 0);
     }
     let to = end_in(s, end);
     if to < at {
-        return ItemRead::Refused {
-            reason: Refusal::Truncated,
-            place: at,
-        };
+        return leaf_items::refused_here(Refusal::Truncated, at);
     }
     nested_items::read_item(s, c, at, to, 8)
 }
@@ -128,7 +123,7 @@ fn place_after(item: ItemRead, at: usize) -> usize
 {
     match item {
         ItemRead::Item { ty, next, items } => next,
-        ItemRead::Refused { reason, place } => at,
+        ItemRead::Refused(fault) => at,
     }
 }
 
@@ -236,26 +231,14 @@ fn step_to(s: &[u8], at: usize, end: usize, c: Convention, count: usize) -> Argu
                 place = next;
                 left = left - 1;
             }
-            ItemRead::Refused {
-                reason,
-                place: fault,
-            } => {
-                return ArgumentRead::Refused {
-                    reason,
-                    place: fault,
-                };
+            ItemRead::Refused(fault) => {
+                return ArgumentRead::Refused(fault);
             }
         }
     }
     match type_of_part(s, place, end, c) {
         ItemRead::Item { ty, next, items } => ArgumentRead::Argument { ty, place },
-        ItemRead::Refused {
-            reason,
-            place: fault,
-        } => ArgumentRead::Refused {
-            reason,
-            place: fault,
-        },
+        ItemRead::Refused(fault) => ArgumentRead::Refused(fault),
     }
 }
 
@@ -266,7 +249,7 @@ pub fn argument_at(s: &[u8], index: usize) -> ArgumentRead
     let whole = signature::read_signature(s);
     let outcome = whole.outcome;
     match outcome {
-        Outcome::Refused { reason, place } => ArgumentRead::Refused { reason, place },
+        Outcome::Refused(fault) => ArgumentRead::Refused(fault),
         Outcome::Accepted(items) => {
             if whole.count <= index {
                 return ArgumentRead::Missing;

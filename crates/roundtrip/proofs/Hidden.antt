@@ -60,12 +60,12 @@ hidden-kept (got g next n) base v x b e =
     rw (arguments-got g next n)
     (kept-all (startIn c r) (general (x .general .first)) 8 _ b (omega (arith, f .0)) (omega (arith, f .1))
     (all-later c (rulesOf c) base (startIn c r) (typesOf c (g .arguments)) v (named-start (rulesOf c) (hiddenIn c r))))
-hidden-kept (no reason place) base v x b e = let z : _≡_ {A = ℕ} 0 1 = cc in absurd (omega arith)
+hidden-kept (no f) base v x b e = let z : _≡_ {A = ℕ} 0 1 = cc in absurd (omega arith)
 
 register-below : (y : Reading Signature) (x : Span) → planAnswer y .result ≡ ResultPlaces.Hidden x → x .general .first < 32
 unfolding planAnswer planIn
 register-below (got g next n) x e = register-first (g .convention) (resultType (g .convention) (g .result)) x e .1
-register-below (no reason place) x e = let z : _≡_ {A = ℕ} 0 1 = cc in absurd (omega arith)
+register-below (no f) x e = let z : _≡_ {A = ℕ} 0 1 = cc in absurd (omega arith)
 
 pub hidden-stands : HiddenStands
 unfolding fillBuffers filledSlots argumentsOf putAll put bytesAt planAnswer

@@ -12,6 +12,7 @@ use Rattle.words.specs.Basics.{pick}
 use Rattle.conventions.specs.declared.Convention.{Convention}
 use Rattle.types.specs.declared.ValueType.{ValueType}
 use Rattle.types.specs.Sizes.{sizeOf}
+use Rattle.items.specs.declared.Fault.{Fault}
 use Rattle.items.specs.Reading.{Reading, got, no}
 use Rattle.signature.specs.Signature.{Signature}
 use Rattle.signature.specs.Read.{signatureOf}
@@ -142,11 +143,11 @@ ordered-apart c r base k (y ∷ ts) v (suc i) (suc j) x named h l s t =
 
 -- ---- every signature
 
-none-touched : (base : ℕ) (v : List ℕ) (reason : _) (place i : ℕ) (x : Byte)
-    → Touches (getD (slotLists (rulesOf Convention.Ppc64) base (argumentsIn (signatureAnswer (no reason place)) (planAnswer (no reason place))) v) i []) x → ⊥
+none-touched : (base : ℕ) (v : List ℕ) (f : Fault) (i : ℕ) (x : Byte)
+    → Touches (getD (slotLists (rulesOf Convention.Ppc64) base (argumentsIn (signatureAnswer (no f)) (planAnswer (no f))) v) i []) x → ⊥
 unfolding argumentsIn placements planAnswer slotLists Touches
-none-touched base v reason place zero x t = t
-none-touched base v reason place (suc i) x t = t
+none-touched base v f zero x t = t
+none-touched base v f (suc i) x t = t
 
 sorted : (s : List ℕ) (base : ℕ) (v : List ℕ) (i j : ℕ) (x : Byte) → i < j → Touches (getD (slotLists (rulesFor s) base (argumentsOf s) v) i []) x
     → Touches (getD (slotLists (rulesFor s) base (argumentsOf s) v) j []) x → ⊥
@@ -163,7 +164,7 @@ sorted s base v i j x l = go (signatureOf s) (carried s)
         (named-start (rulesOf c) (hiddenIn c (resultType c (g .result)))) (subst (All (Held (rulesOf c))) same (h .held)) l
         (subst (λ (ps : List Placement). Touches (getD (slotLists (rulesOf c) base ps v) i []) x) same a)
         (subst (λ (ps : List Placement). Touches (getD (slotLists (rulesOf c) base ps v) j []) x) same b)
-    go (no reason place) h a b = none-touched base v reason place i x a
+    go (no f) h a b = none-touched base v f i x a
 
 pub slots-apart : SlotsApart
 slots-apart s base v i j x h a b = go (ltb i j) refl

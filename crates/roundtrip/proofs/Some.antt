@@ -45,7 +45,7 @@ arguments-some s = go (signatureOf s) refl
         subst (All Some) (sym (arguments-got g next n))
         (all-some (g .convention) (rulesOf (g .convention)) (startIn (g .convention) (resultType (g .convention) (g .result))) (typesOf (g .convention) (g .arguments))
         (all-typed (g .convention) (g .arguments) (accepted s g next n e .arguments)))
-    go (no reason place) e = none-some
+    go (no f) e = none-some
 
 at-some : (ps : List Placement) (i : ℕ) → All Some ps → 0 < getD ps i noArgument .size
 unfolding All

@@ -16,6 +16,7 @@ use Rattle.words.proofs.Numbers.{bytes-part}
 use Rattle.conventions.specs.declared.Convention.{Convention}
 use Rattle.types.specs.declared.ValueType.{ValueType}
 use Rattle.types.specs.Sizes.{sizeOf}
+use Rattle.items.specs.declared.Fault.{Fault}
 use Rattle.items.specs.Reading.{Reading, got, no}
 use Rattle.signature.specs.declared.Outcome.{Outcome}
 use Rattle.signature.specs.Signature.{Signature}
@@ -151,7 +152,7 @@ read-tests have values area i v a = simp (eq-eqb _ _ i, eq-eqb _ _ v, le-ltb _ _
 
 pub reading-done : (o : Outcome) (x : Answer) → afterReading o x ≡ Answer.Done → (y : Answer) → y ≡ Answer.Done → (x ≡ Answer.Done) × (afterReading o y ≡ Answer.Done)
 reading-done (Outcome.Accepted n) x e y q = (e, q)
-reading-done (Outcome.Refused reason place) x e y q = let z : _≡_ {A = ℕ} 0 1 = cc in absurd (omega arith)
+reading-done (Outcome.Refused f) x e y q = let z : _≡_ {A = ℕ} 0 1 = cc in absurd (omega arith)
 
 pub overlay-whole : (l bs : List ℕ) → length l ≡ length bs → overlay l bs ≡ bs
 overlay-whole l bs e =
@@ -160,10 +161,10 @@ overlay-whole l bs e =
     overlay-is l bs (omega arith) ∙ ap (λ (t : List ℕ). bs ++ t) none ∙ append-nil bs
 
 -- a refused signature has no arguments
-none-put : (base : ℕ) (v : List ℕ) (b : Buffers) (reason : _) (place : ℕ)
-    → AllPut (rulesOf Convention.Ppc64) base (argumentsIn (signatureAnswer (no reason place)) (planAnswer (no reason place))) v b
+none-put : (base : ℕ) (v : List ℕ) (b : Buffers) (f : Fault)
+    → AllPut (rulesOf Convention.Ppc64) base (argumentsIn (signatureAnswer (no f)) (planAnswer (no f))) v b
 unfolding AllPut argumentsIn placements
-none-put base v b reason place = tt
+none-put base v b f = tt
 
 -- a signature's arguments, after its slots are put in any buffers that have room for them
 plan-put : (s : List ℕ) (base : ℕ) (v : List ℕ) (b : Buffers) → Bytes v → length v ≡ planFor s .values → length (b .image) ≡ 512 → planFor s .area ≤ length (b .area)
@@ -192,7 +193,7 @@ plan-put s base v b bytes values image area copies low = go (signatureOf s) (car
           total = e ∙ sym (h .total) ∙ ap sizesOf same;
           bytes = bytes;
         }))
-    go (no reason place) h e i j k = none-put base v _ reason place
+    go (no f) h e i j k = none-put base v _ f
 
 -- what an accepted filling leaves: every argument stands, and the buffers have the lengths that the plan asks for
 pub record Left (s values : List ℕ) (base : ℕ) (b : Buffers) : Type 0 where

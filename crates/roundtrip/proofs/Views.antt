@@ -20,6 +20,7 @@ use Rattle.conventions.specs.declared.Convention.{Convention}
 use Rattle.types.specs.declared.Equivalent.{Equivalent}
 use Rattle.types.specs.declared.ValueType.{ValueType}
 use Rattle.types.specs.Sizes.{sizeOf, equivalentOf}
+use Rattle.items.specs.declared.Fault.{Fault}
 use Rattle.items.specs.Reading.{Reading, got, no}
 use Rattle.signature.specs.declared.ResultType.{ResultType}
 use Rattle.signature.specs.Signature.{Signature}
@@ -260,14 +261,14 @@ plan-homes : (c : Convention) (r : ResultType) (ts : List ValueType) → c ≡ C
 plan-homes Convention.Ppc64 r ts e = homes-from (startIn Convention.Ppc64 r) ts
 plan-homes Convention.Z r ts e = let z : _≡_ {A = ℕ} 0 1 = cc in absurd (omega arith)
 
-none-homes : (n : ℕ) (reason : _) (place : ℕ) → HomesFrom n (argumentsIn (signatureAnswer (no reason place)) (planAnswer (no reason place)))
+none-homes : (n : ℕ) (f : Fault) → HomesFrom n (argumentsIn (signatureAnswer (no f)) (planAnswer (no f)))
 unfolding argumentsIn placements HomesFrom
-none-homes n reason place = tt
+none-homes n f = tt
 
 -- of a signature whose hidden address, if it has one, is the first doubleword
 abbrev StartsFrom : ℕ → Reading Signature → Type 0
 StartsFrom n (got g next m) = n ≤ startIn (g .convention) (resultType (g .convention) (g .result)) .stack
-StartsFrom n (no reason place) = Unit {0}
+StartsFrom n (no f) = Unit {0}
 
 homes-follow : (s : List ℕ) (n : ℕ) → signatureAnswer (signatureOf s) .convention ≡ Convention.Ppc64 → StartsFrom n (signatureOf s) → HomesFrom n (argumentsOf s)
 unfolding argumentsOf
@@ -277,11 +278,11 @@ homes-follow s n = go (signatureOf s)
     go (got g next m) q l =
         subst (HomesFrom n) (sym (arguments-got g next m))
         (homes-later n (startIn (g .convention) (resultType (g .convention) (g .result)) .stack) _ l (plan-homes (g .convention) (resultType (g .convention) (g .result)) (typesOf (g .convention) (g .arguments)) q))
-    go (no reason place) q l = none-homes n reason place
+    go (no f) q l = none-homes n f
 
 starts-any : (x : Reading Signature) → StartsFrom 0 x
 starts-any (got g next m) = omega arith
-starts-any (no reason place) = tt
+starts-any (no f) = tt
 
 -- what can be read can be homed
 register-done : (r : Rules) (base : ℕ) (p : Placement) (b : Buffers) → argumentAnswer r base p b ≡ Answer.Done → registerAnswer r (p .ty) (p .span) (b .image) ≡ Answer.Done
@@ -450,7 +451,7 @@ hidden-start c r x q e = rw (hidden-address c r x e .1) (address-word c q)
 starts-hidden : (y : Reading Signature) (x : Span) → signatureAnswer y .convention ≡ Convention.Ppc64 → planAnswer y .result ≡ ResultPlaces.Hidden x → StartsFrom 8 y
 unfolding planAnswer planIn
 starts-hidden (got g next m) x q e = hidden-start (g .convention) (resultType (g .convention) (g .result)) x q e
-starts-hidden (no reason place) x q e = tt
+starts-hidden (no f) x q e = tt
 
 pub hidden-stays : HiddenStays
 unfolding homeArea homeAnswer
@@ -462,4 +463,5 @@ hidden-stays s image area x e = go (homeAnswer s image (length area)) refl
         let power = home-passed _ _ _ _ tests .convention in
         subst (λ (r : Rules). part 0 8 (homed r (argumentsOf s) image area) ≡ part 0 8 area) (sym (ap rulesOf power))
         (homed-kept (argumentsOf s) 8 0 8 image area (homes-follow s 8 power (starts-hidden (signatureOf s) x power e)) (omega arith))
-    go (Answer.Refused reason place) q = refl
+    go (Answer.Unread f) q = refl
+    go (Answer.Refused reason) q = refl

@@ -33,7 +33,7 @@ module _ (s : List ℕ) where
       (sym (code-back c) ∙ ap conventionCode (sym (item-byte s 0x01 (codeOf c) 0 h)))
 
   module _ (c : Convention) where
-    value-reads : (t : Tree) (at b : ℕ) → limits.Within c t → Has s at (encodeTree t) → b ≡ at + length (encodeTree t) → resultIn c s at b ≡ got (value t) b (itemsOf t + 1)
+    value-reads : (t : Tree) (at b : ℕ) → limits.Within c t → Has s at (encodeTree t) → b ≡ at + length (encodeTree t) → resultIn c s at b ≡ got (value t) b (1 + itemsOf t)
     unfolding resultIn
     value-reads t at b w h q =
         let long = tree-long t in
@@ -45,7 +45,7 @@ module _ (s : List ℕ) where
         resultIn c s at b ≡ got r b (resultItems r + 1)
     unfolding encodeResult ResultWithin resultItems
     result-in-reads nothing at b w h q = result-none c s at b (omega arith)
-    result-in-reads (value t) at b w h q = value-reads t at b w h q
+    result-in-reads (value t) at b w h q = let same : 1 + itemsOf t ≡ itemsOf t + 1 = omega arith in value-reads t at b w h q ∙ ap (got (value t) b) same
 
     result-reads : (r : Result) (at next : ℕ) → ResultWithin c r → Has s at (item 0x02 (encodeResult r)) → next ≡ at + 3 + length (encodeResult r) →
         next ≤ length s → resultAt c s at ≡ got r next (resultItems r + 1)

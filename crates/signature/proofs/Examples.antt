@@ -26,10 +26,10 @@ pub example-read : signatureOf example ≡
 unfolding example bodyAt integerCode floatCode integerAt floatAt sequence roundUp withField shapeOf fieldsOf sizedAt contentsAt itemBy structAt itemAt conventionCode conventionAt resultIn resultAt argumentsIn argumentsAt afterResult afterConvention signatureOf
 example-read = refl
 
--- the answer in document 01's numbers: a refusal's number and place, or 0 and the count of items
-answer : Reading Signature → ℕ × ℕ
-answer (got g next n) = (0, n)
-answer (no r place) = (numberOf r, place)
+-- the answer in document 01's numbers: number, place and count of headers
+answer : Reading Signature → List ℕ
+answer (got g next n) = 0 ∷ 0 ∷ n ∷ []
+answer (no f) = numberOf (f .reason) ∷ f .place ∷ f .passed ∷ []
 
 nested : ℕ → Tree
 nested zero = integer IntegerKind.I8
@@ -38,16 +38,27 @@ nested (suc n) = struct (none ▸ nested n)
 of : Trees → List ℕ
 of ts = encode (record { convention = Convention.Z; result = nothing; arguments = ts })
 
+several : ℕ → Tree → Trees
+several zero t = none
+several (suc n) t = several n t ▸ t
+
 -- each row: what is computed, and what it is to be
-pub rows : List ((ℕ × ℕ) × (ℕ × ℕ))
+pub rows : List (List ℕ × List ℕ)
 rows =
-    -- "`refused 2 at 0`, as for empty input"
-    (answer (signatureOf []), (2, 0))
-    -- "depth 8 yes, 9 gives 6"
-    ∷ (answer (signatureOf (of (none ▸ nested 8))), (0, 12))
-    ∷ (answer (signatureOf (of (none ▸ nested 9))), (6, 34))
+    -- "`refused 2 at 0 after 0`", as for empty input
+    (answer (signatureOf []), 2 ∷ 0 ∷ 0 ∷ [])
+    -- "depth 8 yes, 9 gives 6"; the ninth struct's own header is not counted
+    ∷ (answer (signatureOf (of (none ▸ nested 8))), 0 ∷ 0 ∷ 12 ∷ [])
+    ∷ (answer (signatureOf (of (none ▸ nested 9))), 6 ∷ 34 ∷ 11 ∷ [])
+    -- "for 8 the fields inside are" counted: three items and 33 fields
+    ∷ (answer (signatureOf (of (none ▸ struct (several 33 (integer IntegerKind.I64))))), 8 ∷ 10 ∷ 36 ∷ [])
+    -- "bytes left over .. are no item": after the result's one type, and after the third item
+    ∷ (answer (signatureOf (1 ∷ 0 ∷ 1 ∷ 2 ∷ 2 ∷ 0 ∷ 5 ∷ 0x10 ∷ 0 ∷ 1 ∷ 4 ∷ 0x10 ∷ 3 ∷ 0 ∷ 0 ∷ [])), 4 ∷ 11 ∷ 3 ∷ [])
+    ∷ (answer (signatureOf (1 ∷ 0 ∷ 1 ∷ 2 ∷ 2 ∷ 0 ∷ 0 ∷ 3 ∷ 0 ∷ 0 ∷ 9 ∷ [])), 9 ∷ 10 ∷ 3 ∷ [])
+    -- a second field whose length passes its struct's end
+    ∷ (answer (signatureOf (1 ∷ 0 ∷ 1 ∷ 2 ∷ 2 ∷ 0 ∷ 0 ∷ 3 ∷ 0 ∷ 10 ∷ 0x12 ∷ 0 ∷ 7 ∷ 0x10 ∷ 0 ∷ 1 ∷ 4 ∷ 0x10 ∷ 0 ∷ 1 ∷ [])), 2 ∷ 17 ∷ 5 ∷ [])
     ∷ []
 
-pub rows-hold : map (λ (r : (ℕ × ℕ) × (ℕ × ℕ)). r .0) rows ≡ map (λ (r : (ℕ × ℕ) × (ℕ × ℕ)). r .1) rows
-unfolding rows answer nested of item encodeTree encodeResult encode bodyAt integerCode floatCode integerAt floatAt sequence roundUp withField shapeOf fieldsOf sizedAt contentsAt itemBy structAt itemAt conventionCode conventionAt resultIn resultAt argumentsIn argumentsAt afterResult afterConvention signatureOf
+pub rows-hold : map (λ (r : List ℕ × List ℕ). r .0) rows ≡ map (λ (r : List ℕ × List ℕ). r .1) rows
+unfolding rows answer nested several of item encodeTree encodeResult encode bodyAt integerCode floatCode integerAt floatAt sequence roundUp withField shapeOf fieldsOf sizedAt contentsAt itemBy structAt itemAt conventionCode conventionAt resultIn resultAt argumentsIn argumentsAt afterResult afterConvention signatureOf
 rows-hold = refl

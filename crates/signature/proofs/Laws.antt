@@ -13,9 +13,10 @@ use Rattle.conventions.specs.declared.Convention.{Convention}
 use Rattle.types.specs.declared.ValueType.{ValueType}
 use Rattle.types.specs.Trees.{Trees}
 use Rattle.items.specs.declared.Refusal.{Refusal}
+use Rattle.items.specs.declared.Fault.{Fault}
 use Rattle.items.specs.declared.Body.{Body}
 use Rattle.items.specs.declared.ItemRead.{ItemRead}
-use Rattle.items.specs.Reading.{Reading, got, no, choose, andThen, inBody}
+use Rattle.items.specs.Reading.{Reading, fault, got, no, later, after, choose, andThen, inBody}
 use Rattle.items.specs.Read.{bodyAt, itemAt}
 use Rattle.items.specs.Answer.{itemAnswer}
 use Rattle.items.proofs.Laws.{item-got, item-no}
@@ -27,18 +28,18 @@ use Rattle.signature.specs.declared.ResultType.{ResultType}
 use Rattle.signature.specs.declared.ResultRead.{ResultRead}
 use Rattle.signature.specs.declared.HeadRead.{HeadRead}
 use Rattle.signature.specs.Signature.{Result, nothing, Signature, Head}
-use Rattle.signature.specs.Read.{maxDepth, conventionBy, conventionAt, resultIn, resultAt, argumentsIn, argumentsAt, afterResult, afterConvention, signatureOf, headAfter, headOf}
+use Rattle.signature.specs.Read.{maxDepth, conventionBy, conventionAt, resultIn, resultAt, argumentsIn, argumentsAt, afterResult, afterConvention, signatureOf, headBy, headAfter, headOf}
 use Rattle.signature.specs.Answer.{conventionAnswer, resultType, resultAnswer, headAnswer, refused, accepted, withArguments, signatureAnswer}
 
 -- the convention
 
 module _ (s : List ℕ) where
-  pub convention-no : (r : Refusal) → bodyAt s 0x01 0x01 (length s) 0 ≡ Body.Refused r → conventionAt s ≡ no r 0
+  pub convention-no : (r : Refusal) → bodyAt s 0x01 0x01 (length s) 0 ≡ Body.Refused r → conventionAt s ≡ no (fault r 0 0)
   unfolding conventionAt
   convention-no r q = rw q
 
   module _ (b : ℕ) (body : bodyAt s 0x01 0x01 (length s) 0 ≡ Body.To b) where
-    pub convention-length : (b ≡ 4 → ⊥) → conventionAt s ≡ no Refusal.Malformed 0
+    pub convention-length : (b ≡ 4 → ⊥) → conventionAt s ≡ no (fault Refusal.Malformed 0 0)
     unfolding conventionAt
     convention-length h = rw (body, ne-eqb b 4 h)
 
@@ -46,11 +47,11 @@ module _ (s : List ℕ) where
     unfolding conventionAt
     convention-by h x q = rw (body, eq-eqb b 4 h, ← q)
 
--- a convention ends at 4 and is one item, and is refused at 0
+-- a convention ends at 4 and is one item
 
 abbrev First : Reading Convention → Type 0
 First (got c next n) = (next ≡ 4) × (n ≡ 1)
-First (no r place) = place ≡ 0
+First (no f) = Unit {0}
 
 convention-first : (s : List ℕ) → First (conventionAt s)
 unfolding conventionAt
@@ -58,20 +59,20 @@ convention-first s = go (bodyAt s 0x01 0x01 (length s) 0)
   where
     code : (x : ConventionCode) → First (conventionBy x)
     code (ConventionCode.Known c) = (refl, refl)
-    code ConventionCode.Unknown = refl
+    code ConventionCode.Unknown = tt
 
-    go : (x : Body) → First (inBody x 0 (λ b. pick (eqb b 4) (conventionBy (conventionCode (getD s 3 0))) (no Refusal.Malformed 0)))
-    go (Body.To b) = by-pick First (eqb b 4) _ _ (λ _. code (conventionCode (getD s 3 0))) (λ _. refl)
-    go (Body.Refused r) = refl
+    go : (x : Body) → First (inBody x 0 (λ b. pick (eqb b 4) (conventionBy (conventionCode (getD s 3 0))) (no (fault Refusal.Malformed 0 0))))
+    go (Body.To b) = by-pick First (eqb b 4) _ _ (λ _. code (conventionCode (getD s 3 0))) (λ _. tt)
+    go (Body.Refused r) = tt
 
 -- so the program's answer says what was read
 first-known : (x : Reading Convention) (c : Convention) → First x → ConventionRead.Known c ≡ conventionAnswer x → x ≡ got c 4 1
 first-known (got k next n) c f q = cc (f .0, f .1)
-first-known (no r place) c f q = let z : _≡_ {A = ℕ} 0 1 = cc in absurd (omega arith)
+first-known (no r) c f q = let z : _≡_ {A = ℕ} 0 1 = cc in absurd (omega arith)
 
-first-refused : (x : Reading Convention) (r : Refusal) → First x → ConventionRead.Refused r ≡ conventionAnswer x → x ≡ no r 0
-first-refused (got k next n) r f q = let z : _≡_ {A = ℕ} 0 1 = cc in absurd (omega arith)
-first-refused (no x place) r f q = cc
+convention-refused : (x : Reading Convention) (f : Fault) → ConventionRead.Refused f ≡ conventionAnswer x → x ≡ no f
+convention-refused (got k next n) f q = let z : _≡_ {A = ℕ} 0 1 = cc in absurd (omega arith)
+convention-refused (no x) f q = cc
 
 pub convention-known : (s : List ℕ) (x : ConventionRead) (c : Convention) → x ≡ conventionAnswer (conventionAt s) → x ≡ ConventionRead.Known c → conventionAt s ≡ got c 4 1
 convention-known s x c found q = first-known (conventionAt s) c (convention-first s) (sym q ∙ found)
@@ -84,25 +85,25 @@ module _ (c : Convention) (s : List ℕ) (at b : ℕ) where
   result-none q = rw (eq-eqb at b q)
 
   module _ (some : at ≡ b → ⊥) (r : ItemRead) (found : r ≡ itemAnswer c (itemAt c maxDepth s b at)) where
-    pub result-no : (x : Refusal) (place : ℕ) → r ≡ ItemRead.Refused x place → resultIn c s at b ≡ no x place
+    pub result-no : (f : Fault) → r ≡ ItemRead.Refused f → resultIn c s at b ≡ no (later 1 f)
     unfolding resultIn
-    result-no x place q = rw (ne-eqb at b some, item-no c (itemAt c maxDepth s b at) x place (sym q ∙ found))
+    result-no f q = rw (ne-eqb at b some, item-no c (itemAt c maxDepth s b at) f (sym q ∙ found))
 
     module _ (t : ValueType) (next n : ℕ) (q : r ≡ ItemRead.Item t next n) where
-      pub result-more : next < b → resultIn c s at b ≡ no Refusal.Malformed next
+      pub result-more : next < b → resultIn c s at b ≡ no (fault Refusal.Malformed next (1 + n))
       unfolding resultIn
       result-more h =
           let (tree, read, same) = item-got c (itemAt c maxDepth s b at) t next n (sym q ∙ found) in
           rw (ne-eqb at b some, read, lt-ltb next b h)
 
-      pub result-one : b ≤ next → resultAnswer c (resultIn c s at b) ≡ ResultRead.Result (ResultType.Value t) b (n + 1)
+      pub result-one : b ≤ next → resultAnswer c (resultIn c s at b) ≡ ResultRead.Result (ResultType.Value t) b (1 + n)
       unfolding resultIn
       result-one h =
           let (tree, read, same) = item-got c (itemAt c maxDepth s b at) t next n (sym q ∙ found) in
-          rw (ne-eqb at b some, read, le-ltb next b h) (ap (λ (u : ValueType). ResultRead.Result (ResultType.Value u) b (n + 1)) (sym same))
+          rw (ne-eqb at b some, read, le-ltb next b h) (ap (λ (u : ValueType). ResultRead.Result (ResultType.Value u) b (1 + n)) (sym same))
 
 module _ (c : Convention) (s : List ℕ) (at : ℕ) where
-  pub result-refused : (r : Refusal) → bodyAt s 0x02 0x02 (length s) at ≡ Body.Refused r → resultAt c s at ≡ no r at
+  pub result-refused : (r : Refusal) → bodyAt s 0x02 0x02 (length s) at ≡ Body.Refused r → resultAt c s at ≡ no (fault r at 0)
   unfolding resultAt
   result-refused r q = rw q
 
@@ -119,21 +120,21 @@ module _ (c : Convention) (s : List ℕ) (at : ℕ) where
 pub result-got : (c : Convention) (x : Reading Result) (t : ResultType) (next n : ℕ) → ResultRead.Result t next n ≡ resultAnswer c x →
     (r : Result) × (x ≡ got r next n) × (t ≡ resultType c r)
 result-got c (got r a m) t next n q = (r, cc, cc)
-result-got c (no x place) t next n q = let z : _≡_ {A = ℕ} 0 1 = cc in absurd (omega arith)
+result-got c (no f) t next n q = let z : _≡_ {A = ℕ} 0 1 = cc in absurd (omega arith)
 
-pub result-was-refused : (c : Convention) (x : Reading Result) (r : Refusal) (place : ℕ) → ResultRead.Refused r place ≡ resultAnswer c x → x ≡ no r place
-result-was-refused c (got y a m) r place q = let z : _≡_ {A = ℕ} 0 1 = cc in absurd (omega arith)
-result-was-refused c (no x p) r place q = cc
+pub result-was-refused : (c : Convention) (x : Reading Result) (f : Fault) → ResultRead.Refused f ≡ resultAnswer c x → x ≡ no f
+result-was-refused c (got y a m) f q = let z : _≡_ {A = ℕ} 0 1 = cc in absurd (omega arith)
+result-was-refused c (no x) f q = cc
 
 -- what comes before the arguments
 
 module _ (s : List ℕ) (c : Convention) (at n : ℕ) (x : ResultRead) (found : x ≡ resultAnswer c (resultAt c s at)) where
-  pub head-no-result : (r : Refusal) (place : ℕ) → x ≡ ResultRead.Refused r place → headAfter s c at n ≡ no r place
+  pub head-no-result : (f : Fault) → x ≡ ResultRead.Refused f → headAfter s c at n ≡ no (later n f)
   unfolding headAfter
-  head-no-result r place q = rw (result-was-refused c (resultAt c s at) r place (sym q ∙ found))
+  head-no-result f q = rw (result-was-refused c (resultAt c s at) f (sym q ∙ found))
 
   module _ (t : ResultType) (next m : ℕ) (q : x ≡ ResultRead.Result t next m) where
-    pub head-no-arguments : (r : Refusal) → bodyAt s 0x03 0x03 (length s) next ≡ Body.Refused r → headAfter s c at n ≡ no r next
+    pub head-no-arguments : (r : Refusal) → bodyAt s 0x03 0x03 (length s) next ≡ Body.Refused r → headAfter s c at n ≡ no (fault r next (n + m))
     unfolding headAfter
     head-no-arguments r body = let (tree, read, same) = result-got c (resultAt c s at) t next m (sym q ∙ found) in rw (read, body)
 
@@ -144,14 +145,14 @@ module _ (s : List ℕ) (c : Convention) (at n : ℕ) (x : ResultRead) (found : 
         rw (read, body) (ap (λ (u : ResultType). HeadRead.Head c u (next + 3) b (n + m)) (sym same))
 
 module _ (s : List ℕ) where
-  pub head-long : 4096 < length s → headOf s ≡ no Refusal.TooLong 0
+  pub head-long : 4096 < length s → headOf s ≡ no (fault Refusal.TooLong 0 0)
   unfolding headOf
   head-long h = rw (lt-ltb 4096 (length s) h)
 
   module _ (short : length s ≤ 4096) (x : ConventionRead) (found : x ≡ conventionAnswer (conventionAt s)) where
-    pub head-no-convention : (r : Refusal) → x ≡ ConventionRead.Refused r → headOf s ≡ no r 0
+    pub head-no-convention : (f : Fault) → x ≡ ConventionRead.Refused f → headOf s ≡ no f
     unfolding headOf
-    head-no-convention r q = rw (le-ltb 4096 (length s) short, first-refused (conventionAt s) r (convention-first s) (sym q ∙ found))
+    head-no-convention f q = rw (le-ltb 4096 (length s) short, convention-refused (conventionAt s) f (sym q ∙ found))
 
     pub head-known : (c : Convention) → x ≡ ConventionRead.Known c → headOf s ≡ headAfter s c 4 1
     unfolding headOf
@@ -166,11 +167,11 @@ same-head r p q u v = cc
 pub head-got : (x : Reading Head) (c : Convention) (t : ResultType) (at b n : ℕ) → HeadRead.Head c t at b n ≡ headAnswer x →
     (r : Result) × (x ≡ got (record { convention = c; result = r; end = b }) at n) × (t ≡ resultType c r)
 head-got (got h next m) c t at b n q = (h .result, same-head (h .result) (cc) (cc) (cc) (cc), cc)
-head-got (no r place) c t at b n q = let z : _≡_ {A = ℕ} 0 1 = cc in absurd (omega arith)
+head-got (no f) c t at b n q = let z : _≡_ {A = ℕ} 0 1 = cc in absurd (omega arith)
 
-pub head-was-refused : (x : Reading Head) (r : Refusal) (place : ℕ) → HeadRead.Refused r place ≡ headAnswer x → x ≡ no r place
-head-was-refused (got h next m) r place q = let z : _≡_ {A = ℕ} 0 1 = cc in absurd (omega arith)
-head-was-refused (no x p) r place q = cc
+pub head-was-refused : (x : Reading Head) (f : Fault) → HeadRead.Refused f ≡ headAnswer x → x ≡ no f
+head-was-refused (got h next m) f q = let z : _≡_ {A = ℕ} 0 1 = cc in absurd (omega arith)
+head-was-refused (no x) f q = cc
 
 -- the whole: its head, then the arguments
 
@@ -178,7 +179,8 @@ module _ (s : List ℕ) where
   -- a signature from its arguments on, where n items came before theirs
   abbrev pub thenArguments : Convention → Result → ℕ → Reading Trees → Reading Signature
   thenArguments c r n x =
-      andThen x (λ ts next m. pick (ltb next (length s)) (no Refusal.TrailingBytes next) (got (record { convention = c; result = r; arguments = ts }) next (n + m)))
+      andThen (after n x) (λ ts next m.
+      pick (ltb next (length s)) (no (fault Refusal.TrailingBytes next m)) (got (record { convention = c; result = r; arguments = ts }) next m))
 
   abbrev pub afterHead : Head → ℕ → ℕ → Reading Signature
   afterHead h at n = thenArguments (h .convention) (h .result) n (argumentsIn (h .convention) s at (h .end))
@@ -189,23 +191,23 @@ module _ (s : List ℕ) where
     where
       third : (c : Convention) (r : Result) (at n : ℕ) (x : Body) →
           thenArguments c r n (inBody x at (λ b. argumentsIn c s (at + 3) b))
-          ≡ andThen (inBody x at (λ b. got (record { convention = c; result = r; end = b }) (at + 3) n)) afterHead
+          ≡ andThen (headBy c r at n x) afterHead
       third c r at n (Body.To b) = refl
-      third c r at n (Body.Refused x) = refl
+      third c r at n (Body.Refused x) = let same : n + 0 ≡ n = omega arith in ap (λ (k : ℕ). no (fault x at k)) same
 
       second : (c : Convention) (n : ℕ) (x : Reading Result) →
-          andThen x (λ r next m. afterResult s c r next (n + m))
-          ≡ andThen (andThen x (λ r next m. inBody (bodyAt s 0x03 0x03 (length s) next) next (λ b. got (record { convention = c; result = r; end = b }) (next + 3) (n + m)))) afterHead
+          andThen (after n x) (afterResult s c)
+          ≡ andThen (andThen (after n x) (λ r next m. headBy c r next m (bodyAt s 0x03 0x03 (length s) next))) afterHead
       second c n (got r next m) = third c r next (n + m) (bodyAt s 0x03 0x03 (length s) next)
-      second c n (no r place) = refl
+      second c n (no f) = refl
 
       first : (x : Reading Convention) → andThen x (afterConvention s) ≡ andThen (andThen x (headAfter s)) afterHead
       first (got c at n) = second c n (resultAt c s at)
-      first (no r place) = refl
+      first (no f) = refl
 
       whole : (long : Bool) →
-          choose long (λ _. no Refusal.TooLong 0) (λ _. andThen (conventionAt s) (afterConvention s))
-          ≡ andThen (choose long (λ _. no Refusal.TooLong 0) (λ _. andThen (conventionAt s) (headAfter s))) afterHead
+          choose long (λ _. no (fault Refusal.TooLong 0 0)) (λ _. andThen (conventionAt s) (afterConvention s))
+          ≡ andThen (choose long (λ _. no (fault Refusal.TooLong 0 0)) (λ _. andThen (conventionAt s) (headAfter s))) afterHead
       whole true = refl
       whole false = first (conventionAt s)
 
@@ -215,15 +217,15 @@ module _ (s : List ℕ) where
   arguments-answer c r n (got ts next m) = go (ltb next (length s))
     where
       go : (more : Bool) →
-          signatureAnswer (pick more (no Refusal.TrailingBytes next) (got (record { convention = c; result = r; arguments = ts }) next (n + m)))
-          ≡ pick more (refused Refusal.TrailingBytes next) (accepted c (resultType c r) ts (n + m))
+          signatureAnswer (pick more (no (fault Refusal.TrailingBytes next (n + m))) (got (record { convention = c; result = r; arguments = ts }) next (n + m)))
+          ≡ pick more (refused (fault Refusal.TrailingBytes next (n + m))) (accepted c (resultType c r) ts (n + m))
       go true = refl
       go false = refl
-  arguments-answer c r n (no x place) = refl
+  arguments-answer c r n (no f) = refl
 
   module _ (x : HeadRead) (found : x ≡ headAnswer (headOf s)) where
-    pub signature-refused : (r : Refusal) (place : ℕ) → x ≡ HeadRead.Refused r place → signatureOf s ≡ no r place
-    signature-refused r place q = signature-head ∙ ap (λ (y : Reading Head). andThen y afterHead) (head-was-refused (headOf s) r place (sym q ∙ found))
+    pub signature-refused : (f : Fault) → x ≡ HeadRead.Refused f → signatureOf s ≡ no f
+    signature-refused f q = signature-head ∙ ap (λ (y : Reading Head). andThen y afterHead) (head-was-refused (headOf s) f (sym q ∙ found))
 
     -- the result's tree is gone, its type is there
     pub signature-then : (c : Convention) (t : ResultType) (at b n : ℕ) → x ≡ HeadRead.Head c t at b n →

@@ -6,3 +6,4 @@ pub mod Complete
 pub mod Theorems
 pub mod Numbers
 pub mod Examples
+pub mod HowFar

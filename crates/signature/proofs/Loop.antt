@@ -11,8 +11,9 @@ use Rattle.types.specs.declared.IntegerKind.{IntegerKind}
 use Rattle.types.specs.declared.ValueType.{ValueType}
 use Rattle.types.specs.Trees.{Tree, Trees, none, _▸_, typeOf, countOf}
 use Rattle.items.specs.declared.Refusal.{Refusal}
+use Rattle.items.specs.declared.Fault.{Fault}
 use Rattle.items.specs.declared.ItemRead.{ItemRead}
-use Rattle.items.specs.Reading.{got, no}
+use Rattle.items.specs.Reading.{fault, got, no, later}
 use Rattle.items.specs.Read.{sequence, itemAt}
 use Rattle.items.specs.Answer.{itemAnswer}
 use Rattle.items.proofs.Laws.{sequence-done, sequence-full, sequence-more, sequence-no, item-got, item-no}
@@ -68,14 +69,14 @@ module _ (c : Convention) (s : List ℕ) (start e : ℕ) where
 
   module _ (ts : Trees) (count next n : ℕ) (turn : Turn c s start e ts count next n) where
     module _ (h : next < e) where
-      pub turn-full : count ≡ 64 → argumentsIn c s start e ≡ no Refusal.TooManyArguments next
+      pub turn-full : count ≡ 64 → argumentsIn c s start e ≡ no (fault Refusal.TooManyArguments next n)
       turn-full q = sequence-full (itemAt c 8 s e) e (argumentsIn c s start e) (turn .left) next n ts (turn .rest) h (omega arith)
 
       module _ (some : count ≡ 64 → ⊥) (r : ItemRead) (found : r ≡ itemAnswer c (itemAt c 8 s e next)) where
-        pub turn-no : (x : Refusal) (place : ℕ) → r ≡ ItemRead.Refused x place → argumentsIn c s start e ≡ no x place
-        turn-no x place q =
-            sequence-no (itemAt c 8 s e) e (argumentsIn c s start e) (turn .left) next n ts (turn .rest) h (omega arith) x place
-            (item-no c (itemAt c 8 s e next) x place (sym q ∙ found))
+        pub turn-no : (f : Fault) → r ≡ ItemRead.Refused f → argumentsIn c s start e ≡ no (later n f)
+        turn-no f q =
+            sequence-no (itemAt c 8 s e) e (argumentsIn c s start e) (turn .left) next n ts (turn .rest) h (omega arith) f
+            (item-no c (itemAt c 8 s e next) f (sym q ∙ found))
 
         pub turn-more : (t : ValueType) (after m : ℕ) → r ≡ ItemRead.Item t after m → More c s start e ts t (count + 1) after (n + m)
         unfolding countOf
@@ -121,7 +122,7 @@ module _ (c : Convention) (s : List ℕ) (start e : ℕ) where
         }
 
     module _ (last : e ≤ next) (result : ResultType) (before : ℕ) where
-      pub tabled-trailing : next < length s → refused Refusal.TrailingBytes next ≡ withArguments c result before (length s) (argumentsIn c s start e)
+      pub tabled-trailing : next < length s → refused (fault Refusal.TrailingBytes next (before + n)) ≡ withArguments c result before (length s) (argumentsIn c s start e)
       tabled-trailing h = rw (turn-last c s start e (tabled .ts) count next n (tabled .turn) last, lt-ltb next (length s) h)
 
       pub tabled-end : length s ≤ next →
@@ -129,6 +130,6 @@ module _ (c : Convention) (s : List ℕ) (start e : ℕ) where
           (withArguments c result before (length s) (argumentsIn c s start e))
       tabled-end h = rw (turn-last c s start e (tabled .ts) count next n (tabled .turn) last, le-ltb next (length s) h) (cc (tabled .turn .many, tabled .types))
 
-  pub arguments-no : (r : Refusal) (place : ℕ) → argumentsIn c s start e ≡ no r place → (result : ResultType) (before all : ℕ) →
-      refused r place ≡ withArguments c result before all (argumentsIn c s start e)
-  arguments-no r place q result before all = rw q
+  pub arguments-no : (f : Fault) → argumentsIn c s start e ≡ no f → (result : ResultType) (before all : ℕ) →
+      refused (later before f) ≡ withArguments c result before all (argumentsIn c s start e)
+  arguments-no f q result before all = rw q

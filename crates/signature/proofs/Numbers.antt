@@ -9,16 +9,16 @@ use Rattle.signature.specs.Numbers.{outcomeNumber, conventionReadNumber,
 
 pub outcome-number : (x : Reading Signature) → outcomeNumber (signatureAnswer x .outcome) ≡ readingNumber x
 outcome-number (got g next n) = refl
-outcome-number (no r place) = refl
+outcome-number (no f) = refl
 
 pub convention-number : (x : Reading Convention) → conventionReadNumber (conventionAnswer x) ≡ readingNumber x
 convention-number (got c next n) = refl
-convention-number (no r place) = refl
+convention-number (no f) = refl
 
 pub result-number : (c : Convention) (x : Reading Result) → resultReadNumber (resultAnswer c x) ≡ readingNumber x
 result-number c (got r next n) = refl
-result-number c (no r place) = refl
+result-number c (no f) = refl
 
 pub head-number : (x : Reading Head) → headReadNumber (headAnswer x) ≡ readingNumber x
 head-number (got h next n) = refl
-head-number (no r place) = refl
+head-number (no f) = refl

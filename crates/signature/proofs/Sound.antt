@@ -11,12 +11,13 @@ use Rattle.conventions.specs.declared.Convention.{Convention}
 use Rattle.types.specs.Trees.{Tree, Trees, none, countOf}
 use Rattle.types.specs.Limits as limits
 use Rattle.items.specs.Reading.{Reading, got, no}
-use Rattle.items.specs.Read.{itemAt}
+use Rattle.items.specs.declared.Body.{Body}
+use Rattle.items.specs.Read.{bodyAt, itemAt}
 use Rattle.items.specs.Encode.{item, encodeTree, encodeTrees, itemsIn}
 use Rattle.items.proofs.Levels.{left-within, all-left-within}
 use Rattle.items.proofs.Has.{Has, has-move, has-append, has-item, has-same, length-item}
 use Rattle.items.proofs.Trees.{tree-third, trees-third}
-use Rattle.items.proofs.Sound.{by-pick, by-choose, by-then, by-body, Got, Framed, Read, Ended, none-read, sequence-sound, item-sound}
+use Rattle.items.proofs.Sound.{by-pick, by-choose, by-then, by-next, by-body, BodyIs, body-is, Got, Framed, Read, Ended, none-read, sequence-sound, item-sound}
 use Rattle.conventions.specs.declared.ConventionCode.{ConventionCode}
 use Rattle.conventions.specs.Numbers.{conventionCode, codeOf}
 use Rattle.conventions.proofs.Laws.{CodeIs, code-is}
@@ -25,7 +26,7 @@ use Rattle.signature.specs.declared.ResultRead.{ResultRead}
 use Rattle.signature.specs.declared.HeadRead.{HeadRead}
 use Rattle.signature.specs.Answer.{resultAnswer, headAnswer}
 use Rattle.signature.specs.Signature.{Result, nothing, value, Signature, Head}
-use Rattle.signature.specs.Read.{maxDepth, maxArguments, conventionBy, conventionAt, resultIn, resultAt, argumentsIn, argumentsAt, afterResult, afterConvention, signatureOf, headAfter, headOf}
+use Rattle.signature.specs.Read.{maxDepth, maxArguments, conventionBy, conventionAt, resultIn, resultAt, argumentsIn, argumentsAt, afterResult, afterConvention, signatureOf, headBy, headAfter, headOf}
 use Rattle.signature.proofs.Laws.{result-got, head-got}
 use Rattle.signature.specs.Encode.{encodeResult, encode, resultItems, signatureItems, ResultWithin, Within}
 
@@ -63,7 +64,7 @@ pub record ResultSound (c : Convention) (s : List ℕ) (at : ℕ) (r : Result) (
   pub count : n ≡ resultItems r + 1
 
 module _ (c : Convention) (s : List ℕ) (at b : ℕ) (framed : Framed s 0x02 0x02 (length s) at b) where
-  result-one-sound : (t : Tree) (next n : ℕ) → Read c maxDepth s b (at + 3) t next n → b ≤ next → ResultSound c s at (value t) b (n + 1)
+  result-one-sound : (t : Tree) (next n : ℕ) → Read c maxDepth s b (at + 3) t next n → b ≤ next → ResultSound c s at (value t) b (1 + n)
   unfolding ResultWithin encodeResult resultItems
   result-one-sound t next n r last =
       let ends = r .ends in
@@ -90,7 +91,7 @@ module _ (c : Convention) (s : List ℕ) (at b : ℕ) (framed : Framed s 0x02 0x
   result-in-sound : Got (ResultSound c s at) (resultIn c s (at + 3) b)
   unfolding resultIn
   result-in-sound = by-choose (Got (ResultSound c s at)) (eqb (at + 3) b) _ _ (λ q. result-none-sound (eqb-true (at + 3) b q))
-      (λ _. by-then (Read c maxDepth s b (at + 3)) (ResultSound c s at) (itemAt c maxDepth s b (at + 3)) _ (item-sound c maxDepth s b (at + 3))
+      (λ _. by-next (Read c maxDepth s b (at + 3)) (ResultSound c s at) 1 (itemAt c maxDepth s b (at + 3)) _ (item-sound c maxDepth s b (at + 3))
       (λ t next n r. by-pick (Got (ResultSound c s at)) (ltb next b) _ _ (λ _. tt) (λ l. result-one-sound t next n r (ltb-false next b l))))
 
 pub result-sound : (c : Convention) (s : List ℕ) (at : ℕ) → Got (ResultSound c s at) (resultAt c s at)
@@ -124,7 +125,7 @@ arguments-ended c s at b framed ts next n e =
 
 weaken : {A : Type 0} (P Q : A → ℕ → ℕ → Type 0) (x : Reading A) → ((a : A) (next n : ℕ) → P a next n → Q a next n) → Got P x → Got Q x
 weaken P Q (got a next n) f p = f a next n p
-weaken P Q (no r place) f p = tt
+weaken P Q (no r) f p = tt
 
 pub arguments-sound : (c : Convention) (s : List ℕ) (at : ℕ) → Got (ArgumentsSound c s at) (argumentsAt c s at)
 unfolding argumentsAt argumentsIn countOf
@@ -189,12 +190,12 @@ module _ (s : List ℕ) (short : length s ≤ 4096) (c : Convention) (at₁ n₁
 
   after-result-sound : Got (SignatureSound s) (afterResult s c r at₂ (n₁ + n₂))
   unfolding afterResult
-  after-result-sound = by-then (ArgumentsSound c s at₂) (SignatureSound s) (argumentsAt c s at₂) _ (arguments-sound c s at₂)
+  after-result-sound = by-next (ArgumentsSound c s at₂) (SignatureSound s) (n₁ + n₂) (argumentsAt c s at₂) _ (arguments-sound c s at₂)
       (λ ts next m third. by-pick (Got (SignatureSound s)) (ltb next (length s)) _ _ (λ _. tt) (λ l. all-sound ts next m third (ltb-false next (length s) l)))
 
 after-convention-sound : (s : List ℕ) → length s ≤ 4096 → (c : Convention) (at n : ℕ) → ConventionSound s c at n → Got (SignatureSound s) (afterConvention s c at n)
 unfolding afterConvention
-after-convention-sound s short c at n first = by-then (ResultSound c s at) (SignatureSound s) (resultAt c s at) _ (result-sound c s at)
+after-convention-sound s short c at n first = by-next (ResultSound c s at) (SignatureSound s) n (resultAt c s at) _ (result-sound c s at)
     (λ r next m second. after-result-sound s short c at n first r next m second)
 
 signature-sound : (s : List ℕ) → Got (SignatureSound s) (signatureOf s)
@@ -230,11 +231,15 @@ HeadSound s h next n = HeadBounded s next (h .end) n
 
 head-after-sound : (s : List ℕ) → length s ≤ 4096 → (c : Convention) (at n : ℕ) → ConventionSound s c at n → Got (HeadSound s) (headAfter s c at n)
 unfolding headAfter
-head-after-sound s short c at n first = by-then (ResultSound c s at) (HeadSound s) (resultAt c s at) _ (result-sound c s at)
-    (λ r next m second. by-body (HeadSound s) s 0x03 0x03 (length s) next _ (λ b framed.
-    let third = result-third r in
-    let ends = framed .ends in
-    record { inside = omega arith; within = framed .inside; short = short; third = omega arith }))
+head-after-sound s short c at n first = by-next (ResultSound c s at) (HeadSound s) n (resultAt c s at) _ (result-sound c s at)
+    (λ r next m second. go r next m second (bodyAt s 0x03 0x03 (length s) next) (body-is s 0x03 0x03 (length s) next))
+  where
+    go : (r : Result) (next m : ℕ) → ResultSound c s at r next m → (x : Body) → BodyIs s 0x03 0x03 (length s) next x → Got (HeadSound s) (headBy c r next (n + m) x)
+    go r next m second (Body.To b) framed =
+        let third = result-third r in
+        let ends = framed .ends in
+        record { inside = omega arith; within = framed .inside; short = short; third = omega arith }
+    go r next m second (Body.Refused x) framed = tt
 
 head-sound : (s : List ℕ) → Got (HeadSound s) (headOf s)
 unfolding headOf

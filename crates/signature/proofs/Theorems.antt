@@ -11,7 +11,7 @@ use Rattle.conventions.specs.declared.Convention.{Convention}
 use Rattle.conventions.specs.Numbers.{codeOf}
 use Rattle.conventions.proofs.Laws.{code-byte}
 use Rattle.types.proofs.Sized.{within-sized, all-within-sized}
-use Rattle.items.specs.declared.Refusal.{Refusal}
+use Rattle.items.specs.declared.Fault.{Fault}
 use Rattle.items.specs.Reading.{got, no}
 use Rattle.items.specs.Encode.{item, encodeTrees}
 use Rattle.items.proofs.Trees.{bytes-none, bytes-cons, bytes-item, tree-bytes, trees-bytes}
@@ -50,8 +50,8 @@ accepted s g next n q =
     }
 
 -- an encoding is never refused
-pub encode-not-refused : (g : Signature) → Within g → (r : Refusal) (place : ℕ) → signatureOf (encode g) ≡ no r place → ⊥
-encode-not-refused g w r place q =
+pub encode-not-refused : (g : Signature) → Within g → (f : Fault) → signatureOf (encode g) ≡ no f → ⊥
+encode-not-refused g w f q =
     let read = encode-reads g w in
     let z : _≡_ {A = ℕ} 0 1 = cc in
     omega arith

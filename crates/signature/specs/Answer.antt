@@ -9,7 +9,8 @@ use Rattle.types.specs.declared.IntegerKind.{IntegerKind}
 use Rattle.types.specs.declared.ValueType.{ValueType}
 use Rattle.types.specs.Trees.{Trees, none, _▸_, typeOf, countOf}
 use Rattle.items.specs.declared.Refusal.{Refusal}
-use Rattle.items.specs.Reading.{Reading, got, no}
+use Rattle.items.specs.declared.Fault.{Fault}
+use Rattle.items.specs.Reading.{Reading, fault, got, no, later}
 use Rattle.signature.specs.declared.ResultType.{ResultType}
 use Rattle.signature.specs.declared.Argument.{Argument}
 use Rattle.signature.specs.declared.Outcome.{Outcome}
@@ -22,7 +23,7 @@ use Rattle.signature.specs.Read.{maxArguments}
 
 abbrev pub conventionAnswer : Reading Convention → ConventionRead
 conventionAnswer (got c next n) = ConventionRead.Known c
-conventionAnswer (no r place) = ConventionRead.Refused r
+conventionAnswer (no f) = ConventionRead.Refused f
 
 abbrev pub resultType : Convention → Result → ResultType
 resultType c nothing = ResultType.Nothing
@@ -30,11 +31,11 @@ resultType c (value t) = ResultType.Value (typeOf c t)
 
 abbrev pub resultAnswer : Convention → Reading Result → ResultRead
 resultAnswer c (got r next n) = ResultRead.Result (resultType c r) next n
-resultAnswer c (no r place) = ResultRead.Refused r place
+resultAnswer c (no f) = ResultRead.Refused f
 
 abbrev pub headAnswer : Reading Head → HeadRead
 headAnswer (got h next n) = HeadRead.Head (h .convention) (resultType (h .convention) (h .result)) next (h .end) n
-headAnswer (no r place) = HeadRead.Refused r place
+headAnswer (no f) = HeadRead.Refused f
 
 -- the table of arguments: their types in order, and an i8 in each place after them
 
@@ -51,10 +52,10 @@ listed c (ts ▸ t) = listed c ts ++ argument (typeOf c t) ∷ []
 unfoldable pub table : Convention → Trees → List Argument
 table c ts = listed c ts ++ replicate (maxArguments - countOf ts) (argument (ValueType.Integer IntegerKind.I8))
 
--- "Every refusal leaves all buffers and the state untouched; counts are 0"
-abbrev pub refused : Refusal → ℕ → SignatureRead
-refused r place = record {
-  outcome = Outcome.Refused r place;
+-- "Every refusal leaves all buffers and the state untouched"
+abbrev pub refused : Fault → SignatureRead
+refused f = record {
+  outcome = Outcome.Refused f;
   convention = Convention.Ppc64;
   result = ResultType.Nothing;
   count = 0;
@@ -66,9 +67,9 @@ accepted c r ts n = record { outcome = Outcome.Accepted n; convention = c; resul
 
 abbrev pub signatureAnswer : Reading Signature → SignatureRead
 signatureAnswer (got g next n) = accepted (g .convention) (resultType (g .convention) (g .result)) (g .arguments) n
-signatureAnswer (no r place) = refused r place
+signatureAnswer (no f) = refused f
 
 -- from the arguments on, in a signature of `all` bytes, where the convention and the result's type took n items
 abbrev pub withArguments : Convention → ResultType → ℕ → ℕ → Reading Trees → SignatureRead
-withArguments c r n all (got ts next m) = pick (ltb next all) (refused Refusal.TrailingBytes next) (accepted c r ts (n + m))
-withArguments c r n all (no x place) = refused x place
+withArguments c r n all (got ts next m) = pick (ltb next all) (refused (fault Refusal.TrailingBytes next (n + m))) (accepted c r ts (n + m))
+withArguments c r n all (no f) = refused (later n f)

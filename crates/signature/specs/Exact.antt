@@ -1,6 +1,6 @@
--- What reading a signature is proved to be, besides its definition: the encoder theorem, and the bounds that document 01 gives
--- for what is accepted. proofs/Theorems.antt proves them. Assumes nothing.
-use Prim.Native.Nat.{ℕ, _*_, _≤_}
+-- What reading a signature is proved to be, besides its definition: the encoder theorem, the bounds that document 01 gives for what is
+-- accepted, and how far a refused reading got. proofs/Theorems.antt and proofs/HowFar.antt prove them. Assumes nothing.
+use Prim.Native.Nat.{ℕ, _+_, _*_, _≤_, _<_}
 use mathlib.Core.Path.{_≡_}
 use mathlib.Core.List.{List}
 use lib.ListN.{length}
@@ -8,7 +8,9 @@ use Rattle.conventions.specs.declared.Convention.{Convention}
 use Rattle.types.specs.Sizes.{Sized}
 use Rattle.types.specs.Trees.{typeOf}
 use Rattle.types.specs.Limits.{AllSized}
-use Rattle.items.specs.Reading.{got}
+use Rattle.items.specs.declared.Fault.{Fault}
+use Rattle.items.specs.Reading.{fault, got, no}
+use Rattle.items.specs.HowFar.{walked, stopOf, metBy, HowFar}
 use Rattle.signature.specs.Signature.{Result, nothing, value, Signature}
 use Rattle.signature.specs.Read.{signatureOf}
 use Rattle.signature.specs.Encode.{encode, signatureItems, Within}
@@ -36,3 +38,19 @@ pub record Accepted (s : List ℕ) (g : Signature) (n : ℕ) : Type 0 where
   pub third : 3 * n ≤ length s
   pub result : ResultSized (g .convention) (g .result)
   pub arguments : AllSized (g .convention) (g .arguments)
+
+-- of a refused one: where its reading stopped
+pub record Stopped (s : List ℕ) (f : Fault) : Type 0 where
+  -- "Still no more than the input length divided by 3"
+  pub third : 3 * f .passed ≤ length s
+  -- the headers that had passed lead, one after the other, from the first byte to where the reading stopped
+  pub far : HowFar s (length s) 0 f
+  -- each of them begins before that place, and three bytes or more after the one before
+  pub before : (i : ℕ) → i < metBy f → walked s 0 i + 3 ≤ stopOf s f
+  pub ascending : (i j : ℕ) → i < j → walked s 0 i + 3 ≤ walked s 0 j
+  -- and no other count would be so
+  pub only : (n : ℕ) → HowFar s (length s) 0 (fault (f .reason) (f .place) n) → n ≡ f .passed
+
+-- How far is what it says: document 02, No. 10.
+abbrev pub SaysHowFar : List ℕ → Type 0
+SaysHowFar s = (f : Fault) → signatureOf s ≡ no f → Stopped s f

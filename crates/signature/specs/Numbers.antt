@@ -8,16 +8,16 @@ use Rattle.signature.specs.declared.HeadRead.{HeadRead}
 
 abbrev pub outcomeNumber : Outcome → ℕ
 outcomeNumber (Outcome.Accepted n) = 0
-outcomeNumber (Outcome.Refused r place) = numberOf r
+outcomeNumber (Outcome.Refused f) = numberOf (f .reason)
 
 abbrev pub conventionReadNumber : ConventionRead → ℕ
 conventionReadNumber (ConventionRead.Known c) = 0
-conventionReadNumber (ConventionRead.Refused r) = numberOf r
+conventionReadNumber (ConventionRead.Refused f) = numberOf (f .reason)
 
 abbrev pub resultReadNumber : ResultRead → ℕ
 resultReadNumber (ResultRead.Result t next n) = 0
-resultReadNumber (ResultRead.Refused r place) = numberOf r
+resultReadNumber (ResultRead.Refused f) = numberOf (f .reason)
 
 abbrev pub headReadNumber : HeadRead → ℕ
 headReadNumber (HeadRead.Head c t at e n) = 0
-headReadNumber (HeadRead.Refused r place) = numberOf r
+headReadNumber (HeadRead.Refused f) = numberOf (f .reason)

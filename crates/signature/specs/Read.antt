@@ -8,7 +8,8 @@ use Rattle.words.specs.Basics.{pick}
 use Rattle.conventions.specs.declared.Convention.{Convention}
 use Rattle.types.specs.Trees.{Trees, none}
 use Rattle.items.specs.declared.Refusal.{Refusal}
-use Rattle.items.specs.Reading.{Reading, got, no, choose, andThen, inBody}
+use Rattle.items.specs.declared.Body.{Body}
+use Rattle.items.specs.Reading.{Reading, fault, got, no, after, choose, andThen, inBody}
 use Rattle.items.specs.Read.{bodyAt, sequence, itemAt}
 use Rattle.conventions.specs.declared.ConventionCode.{ConventionCode}
 use Rattle.conventions.specs.Numbers.{conventionCode}
@@ -29,18 +30,19 @@ maxDepth = 8
 -- an unknown code is malformed
 abbrev pub conventionBy : ConventionCode → Reading Convention
 conventionBy (ConventionCode.Known c) = got c 4 1
-conventionBy ConventionCode.Unknown = no Refusal.Malformed 0
+conventionBy ConventionCode.Unknown = no (fault Refusal.Malformed 0 0)
 
 -- "tag 0x01: length 1"
 unfoldable pub conventionAt : List ℕ → Reading Convention
 conventionAt s =
-    inBody (bodyAt s 0x01 0x01 (length s) 0) 0 (λ b. pick (eqb b 4) (conventionBy (conventionCode (getD s 3 0))) (no Refusal.Malformed 0))
+    inBody (bodyAt s 0x01 0x01 (length s) 0) 0 (λ b. pick (eqb b 4) (conventionBy (conventionCode (getD s 3 0))) (no (fault Refusal.Malformed 0 0)))
 
--- "empty body for none, else one type item"; 4: "bytes after the result's one type (place: the first such byte)"
+-- "empty body for none, else one type item"; 4: "bytes after the result's one type (place: the first such byte)";
+-- its item's own header is counted first
 unfoldable pub resultIn : Convention → List ℕ → ℕ → ℕ → Reading Result
 resultIn c s at b =
     choose (eqb at b) (λ _. got nothing b 1)
-    (λ _. andThen (itemAt c maxDepth s b at) (λ t next n. pick (ltb next b) (no Refusal.Malformed next) (got (value t) b (n + 1))))
+    (λ _. andThen (after 1 (itemAt c maxDepth s b at)) (λ t next n. pick (ltb next b) (no (fault Refusal.Malformed next n)) (got (value t) b n)))
 
 -- "tag 0x02: result"
 unfoldable pub resultAt : Convention → List ℕ → ℕ → Reading Result
@@ -57,22 +59,24 @@ argumentsAt c s at = inBody (bodyAt s 0x03 0x03 (length s) at) at (λ b. argumen
 -- 9: "bytes after the third item (place: there)"; n items came before it
 unfoldable pub afterResult : List ℕ → Convention → Result → ℕ → ℕ → Reading Signature
 afterResult s c r at n =
-    andThen (argumentsAt c s at) (λ ts next m.
-    pick (ltb next (length s)) (no Refusal.TrailingBytes next) (got (record { convention = c; result = r; arguments = ts }) next (n + m)))
+    andThen (after n (argumentsAt c s at)) (λ ts next m.
+    pick (ltb next (length s)) (no (fault Refusal.TrailingBytes next m)) (got (record { convention = c; result = r; arguments = ts }) next m))
 
 unfoldable pub afterConvention : List ℕ → Convention → ℕ → ℕ → Reading Signature
-afterConvention s c at n = andThen (resultAt c s at) (λ r next m. afterResult s c r next (n + m))
+afterConvention s c at n = andThen (after n (resultAt c s at)) (afterResult s c)
 
 -- "A signature is three items in this order, and nothing after"
 unfoldable pub signatureOf : List ℕ → Reading Signature
-signatureOf s = choose (ltb maxLength (length s)) (λ _. no Refusal.TooLong 0) (λ _. andThen (conventionAt s) (afterConvention s))
+signatureOf s = choose (ltb maxLength (length s)) (λ _. no (fault Refusal.TooLong 0 0)) (λ _. andThen (conventionAt s) (afterConvention s))
 
 -- The same items, read up to the arguments: `next` is where the third item's body starts. The law `signature-head` says that
 -- reading a signature is reading its head and then the arguments.
+abbrev pub headBy : Convention → Result → ℕ → ℕ → Body → Reading Head
+headBy c r at n (Body.To b) = got (record { convention = c; result = r; end = b }) (at + 3) n
+headBy c r at n (Body.Refused x) = no (fault x at n)
+
 unfoldable pub headAfter : List ℕ → Convention → ℕ → ℕ → Reading Head
-headAfter s c at n =
-    andThen (resultAt c s at) (λ r next m.
-    inBody (bodyAt s 0x03 0x03 (length s) next) next (λ b. got (record { convention = c; result = r; end = b }) (next + 3) (n + m)))
+headAfter s c at n = andThen (after n (resultAt c s at)) (λ r next m. headBy c r next m (bodyAt s 0x03 0x03 (length s) next))
 
 unfoldable pub headOf : List ℕ → Reading Head
-headOf s = choose (ltb maxLength (length s)) (λ _. no Refusal.TooLong 0) (λ _. andThen (conventionAt s) (headAfter s))
+headOf s = choose (ltb maxLength (length s)) (λ _. no (fault Refusal.TooLong 0 0)) (λ _. andThen (conventionAt s) (headAfter s))

@@ -2,6 +2,7 @@
 use conventions::Convention;
 use conventions::ConventionCode;
 use items::Body;
+use items::Fault;
 use items::ItemRead;
 use items::Refusal;
 use types::IntegerKind;
@@ -21,10 +22,10 @@ pub struct Argument {
     pub ty: ValueType,
 }
 
-// Accepted, with the count of items; or why and where refused.
+// Accepted, with the count of items; or refused.
 pub enum Outcome {
     Accepted(usize),
-    Refused { reason: Refusal, place: usize },
+    Refused(Fault),
 }
 
 // The answer on a signature. A refused one has no result and no arguments; the places of the table past `count` hold an i8.
@@ -39,7 +40,7 @@ pub struct SignatureRead {
 // The first item.
 pub enum ConventionRead {
     Known(Convention),
-    Refused(Refusal),
+    Refused(Fault),
 }
 
 // The second item, with the place of the third and the count of its items.
@@ -49,10 +50,7 @@ pub enum ResultRead {
         next: usize,
         items: usize,
     },
-    Refused {
-        reason: Refusal,
-        place: usize,
-    },
+    Refused(Fault),
 }
 
 // What stands before the arguments: the convention and the result's type; the arguments' bytes are those from `at` to `end`,
@@ -65,10 +63,7 @@ pub enum HeadRead {
         end: usize,
         earlier: usize,
     },
-    Refused {
-        reason: Refusal,
-        place: usize,
-    },
+    Refused(Fault),
 }
 
 fn no_arguments() -> [Argument; 64]
@@ -79,12 +74,12 @@ fn no_arguments() -> [Argument; 64]
     }; 64]
 }
 
-fn refuse(reason: Refusal, place: usize) -> SignatureRead
-    ensures { λ r. ⌜ r ≡ refused reason place ⌝ }
+fn refuse(fault: Fault) -> SignatureRead
+    ensures { λ r. ⌜ r ≡ refused fault ⌝ }
 {
     let arguments = no_arguments();
     SignatureRead {
-        outcome: Outcome::Refused { reason, place },
+        outcome: Outcome::Refused(fault),
         convention: Convention::Ppc64,
         result: ResultType::Nothing,
         count: 0,
@@ -97,14 +92,23 @@ fn read_convention(s: &[u8]) -> ConventionRead
     ensures { λ r. ⌜ r ≡ conventionAnswer (conventionAt (now (s .entry))) ⌝ }
 {
     match leaf_items::read_body(s, 0x01, 0x01, 0, s.len()) {
-        Body::Refused(reason) => ConventionRead::Refused(reason),
+        Body::Refused(reason) => ConventionRead::Refused(Fault {
+            reason,
+            place: 0,
+            passed: 0,
+        }),
         Body::To(to) => {
+            let malformed = Fault {
+                reason: Refusal::Malformed,
+                place: 0,
+                passed: 0,
+            };
             if to != 4 {
-                return ConventionRead::Refused(Refusal::Malformed);
+                return ConventionRead::Refused(malformed);
             }
             match conventions::convention_code(s[3] as u64) {
                 ConventionCode::Known(c) => ConventionRead::Known(c),
-                ConventionCode::Unknown => ConventionRead::Refused(Refusal::Malformed),
+                ConventionCode::Unknown => ConventionRead::Refused(malformed),
             }
         }
     }
@@ -123,18 +127,20 @@ fn read_result_body(s: &[u8], c: Convention, at: usize, end: usize) -> ResultRea
         };
     }
     match nested_items::read_item(s, c, at, end, 8) {
-        ItemRead::Refused { reason, place } => ResultRead::Refused { reason, place },
+        ItemRead::Refused(fault) => ResultRead::Refused(items::later_by(1, fault)),
         ItemRead::Item { ty, next, items } => {
+            let counted = 1 + items;
             if next < end {
-                return ResultRead::Refused {
+                return ResultRead::Refused(Fault {
                     reason: Refusal::Malformed,
                     place: next,
-                };
+                    passed: counted,
+                });
             }
             ResultRead::Result {
                 ty: ResultType::Value(ty),
                 next: end,
-                items: items + 1,
+                items: counted,
             }
         }
     }
@@ -146,7 +152,11 @@ fn read_result(s: &[u8], c: Convention, at: usize) -> ResultRead
     ensures { λ r. ⌜ r ≡ resultAnswer c (resultAt c (now (s .entry)) at) ⌝ }
 {
     match leaf_items::read_body(s, 0x02, 0x02, at, s.len()) {
-        Body::Refused(reason) => ResultRead::Refused { reason, place: at },
+        Body::Refused(reason) => ResultRead::Refused(Fault {
+            reason,
+            place: at,
+            passed: 0,
+        }),
         Body::To(to) => read_result_body(s, c, at + 3, to),
     }
 }
@@ -169,7 +179,11 @@ fn read_arguments(
     let mut items: usize = 1;
     while next < end {
         if count == 64 {
-            return refuse(Refusal::TooManyArguments, next);
+            return refuse(Fault {
+                reason: Refusal::TooManyArguments,
+                place: next,
+                passed: earlier + items,
+            });
         }
         match nested_items::read_item(s, c, next, end, 8) {
             ItemRead::Item {
@@ -182,16 +196,21 @@ fn read_arguments(
                 next = after;
                 items = items + more;
             }
-            ItemRead::Refused { reason, place } => {
-                return refuse(reason, place);
+            ItemRead::Refused(fault) => {
+                return refuse(items::later_by(earlier + items, fault));
             }
         }
     }
+    let counted = earlier + items;
     if next < s.len() {
-        return refuse(Refusal::TrailingBytes, next);
+        return refuse(Fault {
+            reason: Refusal::TrailingBytes,
+            place: next,
+            passed: counted,
+        });
     }
     SignatureRead {
-        outcome: Outcome::Accepted(earlier + items),
+        outcome: Outcome::Accepted(counted),
         convention: c,
         result,
         count,
@@ -205,23 +224,25 @@ fn read_head_after(s: &[u8], c: Convention) -> HeadRead
     ensures { λ r. ⌜ r ≡ headAnswer (headAfter (now (s .entry)) c 4 1) ⌝ }
 {
     match read_result(s, c, 4) {
-        ResultRead::Refused { reason, place } => HeadRead::Refused { reason, place },
+        ResultRead::Refused(fault) => HeadRead::Refused(items::later_by(1, fault)),
         ResultRead::Result {
             ty,
             next: third,
             items,
         } => {
+            let earlier = 1 + items;
             match leaf_items::read_body(s, 0x03, 0x03, third, s.len()) {
-                Body::Refused(reason) => HeadRead::Refused {
+                Body::Refused(reason) => HeadRead::Refused(Fault {
                     reason,
                     place: third,
-                },
+                    passed: earlier,
+                }),
                 Body::To(to) => HeadRead::Head {
                     convention: c,
                     result: ty,
                     at: third + 3,
                     end: to,
-                    earlier: 1 + items,
+                    earlier,
                 },
             }
         }
@@ -234,13 +255,14 @@ pub fn read_head(s: &[u8]) -> HeadRead
     ensures { λ r. ⌜ r ≡ headAnswer (headOf (now (s .entry))) ⌝ }
 {
     if 4096 < s.len() {
-        return HeadRead::Refused {
+        return HeadRead::Refused(Fault {
             reason: Refusal::TooLong,
             place: 0,
-        };
+            passed: 0,
+        });
     }
     match read_convention(s) {
-        ConventionRead::Refused(reason) => HeadRead::Refused { reason, place: 0 },
+        ConventionRead::Refused(fault) => HeadRead::Refused(fault),
         ConventionRead::Known(c) => read_head_after(s, c),
     }
 }
@@ -250,7 +272,7 @@ pub fn read_signature(s: &[u8]) -> SignatureRead
     ensures { λ r. ⌜ r ≡ signatureAnswer (signatureOf (now (s .entry))) ⌝ }
 {
     match read_head(s) {
-        HeadRead::Refused { reason, place } => refuse(reason, place),
+        HeadRead::Refused(fault) => refuse(fault),
         HeadRead::Head {
             convention,
             result,

@@ -91,7 +91,7 @@ carried s = go (signatureOf s) refl
           fit = subst (All (Fits (planIn n c r ts .area) (planIn n c r ts .copies))) (sym same) (planned-fit n c r ts);
           total = ap sizesOf same ∙ placements-sizes c (rulesOf c) k ts ∙ planned-values n c r ts;
         }
-    go (no reason place) e = record { few = omega arith; types = omega arith; spans = omega arith; held = none-all _; fit = none-all _; total = refl }
+    go (no f) e = record { few = omega arith; types = omega arith; spans = omega arith; held = none-all _; fit = none-all _; total = refl }
 
 -- ---- the same of what the reader and the planner answered
 

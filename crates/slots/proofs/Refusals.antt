@@ -15,7 +15,7 @@ pub first-done : (t : Test) (ts : List Test) → firstOf (t ∷ ts) ≡ Answer.D
 unfolding firstOf
 first-done t ts = go (t .holds)
   where
-    go : (b : Bool) → pick b (Answer.Refused (t .reason) 0) (firstOf ts) ≡ Answer.Done → (b ≡ false) × (firstOf ts ≡ Answer.Done)
+    go : (b : Bool) → pick b (Answer.Refused (t .reason)) (firstOf ts) ≡ Answer.Done → (b ≡ false) × (firstOf ts ≡ Answer.Done)
     go true e = let z : _≡_ {A = ℕ} 0 1 = cc in absurd (omega arith)
     go false e = (refl, e)
 
@@ -30,12 +30,15 @@ differ-false m n = go (eqb m n) refl
 
 pub or-refused : (a b : Answer) → isRefused a ≡ true → orElse a b ≡ a
 or-refused Answer.Done b e = let z : _≡_ {A = ℕ} 0 1 = cc in absurd (omega arith)
-or-refused (Answer.Refused reason place) b e = refl
+or-refused (Answer.Unread f) b e = refl
+or-refused (Answer.Refused reason) b e = refl
 
 pub not-refused : (a : Answer) → isRefused a ≡ false → a ≡ Answer.Done
 not-refused Answer.Done e = refl
-not-refused (Answer.Refused reason place) e = let z : _≡_ {A = ℕ} 0 1 = cc in absurd (omega arith)
+not-refused (Answer.Unread f) e = let z : _≡_ {A = ℕ} 0 1 = cc in absurd (omega arith)
+not-refused (Answer.Refused reason) e = let z : _≡_ {A = ℕ} 0 1 = cc in absurd (omega arith)
 
 pub or-done : (a b : Answer) → orElse a b ≡ Answer.Done → (a ≡ Answer.Done) × (b ≡ Answer.Done)
 or-done Answer.Done b e = (refl, e)
-or-done (Answer.Refused reason place) b e = let z : _≡_ {A = ℕ} 0 1 = cc in absurd (omega arith)
+or-done (Answer.Unread f) b e = let z : _≡_ {A = ℕ} 0 1 = cc in absurd (omega arith)
+or-done (Answer.Refused reason) b e = let z : _≡_ {A = ℕ} 0 1 = cc in absurd (omega arith)

@@ -8,15 +8,13 @@ use Rattle.words.specs.Basics.{pick}
 use Rattle.ieee.specs.declared.Narrowed.{Narrowed}
 use Rattle.ieee.specs.Narrowing.{narrow}
 use Rattle.types.specs.declared.Equivalent.{Equivalent}
-use Rattle.items.specs.Refusals as items
+use Rattle.items.specs.Refusals as reading
 use Rattle.signature.specs.declared.Outcome.{Outcome}
 use Rattle.places.specs.declared.Rules.{Rules}
 use Rattle.slots.specs.declared.Refusal.{Refusal}
 use Rattle.slots.specs.declared.Answer.{Answer}
 
 abbrev pub numberOf : Refusal → ℕ
--- 1 to 9
-numberOf (Refusal.Signature r) = items.numberOf r
 -- "value buffer not exactly the arguments' total size"
 numberOf Refusal.ValuesSize = 10
 -- "parameter buffer shorter than the area"
@@ -35,7 +33,8 @@ numberOf Refusal.NoView = 24
 -- the number of an answer: 0 where nothing is refused
 abbrev pub answerNumber : Answer → ℕ
 answerNumber Answer.Done = 0
-answerNumber (Answer.Refused reason place) = numberOf reason
+answerNumber (Answer.Unread f) = reading.numberOf (f .reason)
+answerNumber (Answer.Refused reason) = numberOf reason
 
 -- "not exactly", "not 512 bytes": two numbers are not the same
 abbrev pub differ : ℕ → ℕ → Bool
@@ -49,20 +48,21 @@ pub record Test : Type 0 where
 abbrev pub test : Bool → Refusal → Test
 test b r = record { holds = b; reason = r }
 
--- the answer of tests in order: the first that holds refuses; "place .. 0 for refusals 1 and 10 to 24"
+-- the answer of tests in order: the first that holds refuses
 unfoldable pub firstOf : List Test → Answer
 firstOf [] = Answer.Done
-firstOf (t ∷ ts) = pick (t .holds) (Answer.Refused (t .reason) 0) (firstOf ts)
+firstOf (t ∷ ts) = pick (t .holds) (Answer.Refused (t .reason)) (firstOf ts)
 
--- a signature's refusal comes before all others
+-- a signature's refusal comes before all others, and is handed on whole
 abbrev pub afterReading : Outcome → Answer → Answer
 afterReading (Outcome.Accepted n) a = a
-afterReading (Outcome.Refused reason place) a = Answer.Refused (Refusal.Signature reason) place
+afterReading (Outcome.Refused f) a = Answer.Unread f
 
 -- of two answers, the first that refuses
 abbrev pub orElse : Answer → Answer → Answer
 orElse Answer.Done a = a
-orElse (Answer.Refused reason place) a = Answer.Refused reason place
+orElse (Answer.Unread f) a = Answer.Unread f
+orElse (Answer.Refused reason) a = Answer.Refused reason
 
 -- "by argument, left to right": of several, the first that refuses
 unfoldable pub firstOfAll : {A : Type 0} → (A → Answer) → List A → Answer
@@ -71,17 +71,19 @@ firstOfAll f (x ∷ xs) = orElse (f x) (firstOfAll f xs)
 
 abbrev pub isDone : Answer → Bool
 isDone Answer.Done = true
-isDone (Answer.Refused reason place) = false
+isDone (Answer.Unread f) = false
+isDone (Answer.Refused reason) = false
 
 abbrev pub isRefused : Answer → Bool
 isRefused Answer.Done = false
-isRefused (Answer.Refused reason place) = true
+isRefused (Answer.Unread f) = true
+isRefused (Answer.Refused reason) = true
 
 -- ---- an FPR
 
 abbrev pub narrowedAnswer : Narrowed → Answer
 narrowedAnswer (Narrowed.Single x) = Answer.Done
-narrowedAnswer Narrowed.NotWidened = Answer.Refused Refusal.NotWidened 0
+narrowedAnswer Narrowed.NotWidened = Answer.Refused Refusal.NotWidened
 
 -- 14: "a single's PPC64 FPR that is no widened single"; x are the FPR's 64 bits
 abbrev pub floatAnswer : Rules → Equivalent → ℕ → Answer

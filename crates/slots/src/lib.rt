@@ -1,6 +1,7 @@
 // What stands in the slots of one argument: the 64 bits of a value in a general register, in memory or in an FPR, and the refusals
 // of filling, reading, home and view.
 use ieee::Narrowed;
+use items::Fault;
 use places::Rules;
 use types::Equivalent;
 use types::FloatFormat;
@@ -17,9 +18,8 @@ ghost use Rattle.slots.specs.Forms.{signedKind, isSigned, headFirst, sta
 ghost use Rattle.ieee.specs.Narrowing.{narrow as narrowOf};
 ghost use Rattle.slots.specs.Refusals.{numberOf, isRefused, narrowedAnswer, floatAnswer};
 
-// Why a call is refused; `number_of` gives document 01's number.
+// Why a call is refused once its signature is read; `number_of` gives document 01's number.
 pub enum Refusal {
-    Signature(items::Refusal),
     ValuesSize,
     AreaTooShort,
     BadCopies,
@@ -29,17 +29,17 @@ pub enum Refusal {
     NoView,
 }
 
-// The answer of a call: done, or why and where refused. Only a signature's refusal has a place other than 0.
+// The answer of a call: done; or its signature is refused, by the reading's fault; or the call is, at place 0.
 pub enum Answer {
     Done,
-    Refused { reason: Refusal, place: usize },
+    Unread(Fault),
+    Refused(Refusal),
 }
 
 pub fn number_of(r: Refusal) -> u64
     ensures { λ n. ⌜ n ≡ numberOf r ⌝ }
 {
     match r {
-        Refusal::Signature(s) => items::number_of(s),
         Refusal::ValuesSize => 10,
         Refusal::AreaTooShort => 11,
         Refusal::BadCopies => 12,
@@ -155,10 +155,7 @@ fn narrowed_answer(x: u64) -> Answer
 {
     match ieee::narrow(x) {
         Narrowed::Single(_) => Answer::Done,
-        Narrowed::NotWidened => Answer::Refused {
-            reason: Refusal::NotWidened,
-            place: 0,
-        },
+        Narrowed::NotWidened => Answer::Refused(Refusal::NotWidened),
     }
 }
 
@@ -181,9 +178,7 @@ pub fn is_refused(a: Answer) -> bool
 {
     match a {
         Answer::Done => false,
-        Answer::Refused {
-            reason: _,
-            place: _,
-        } => true,
+        Answer::Unread(_) => true,
+        Answer::Refused(_) => true,
     }
 }

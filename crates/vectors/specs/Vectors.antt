@@ -149,11 +149,11 @@ table-10-text =
     ∷ 114 ∷ 101 ∷ 115 ∷ 117 ∷ 108 ∷ 116 ∷ 32 ∷ 114 ∷ 50 ∷ 10
     ∷ []
 
--- "A refusal prints `refused 2 at 0`, as for empty input"
+-- "A refusal prints `refused 2 at 0 after 0`", as for empty input
 unfoldable pub empty-text : List ℕ
 empty-text =
-    -- refused 2 at 0
-    114 ∷ 101 ∷ 102 ∷ 117 ∷ 115 ∷ 101 ∷ 100 ∷ 32 ∷ 50 ∷ 32 ∷ 97 ∷ 116 ∷ 32 ∷ 48 ∷ 10
+    -- refused 2 at 0 after 0
+    114 ∷ 101 ∷ 102 ∷ 117 ∷ 115 ∷ 101 ∷ 100 ∷ 32 ∷ 50 ∷ 32 ∷ 97 ∷ 116 ∷ 32 ∷ 48 ∷ 32 ∷ 97 ∷ 102 ∷ 116 ∷ 101 ∷ 114 ∷ 32 ∷ 48 ∷ 10
     ∷ []
 
 unfoldable pub vectors : List Vector

@@ -3,6 +3,7 @@
 //! the memory and some bytes on either side of it.
 
 use crate::random::Random;
+use crate::signatures::{refused, ACCEPTED};
 use crate::Difference;
 use flakuzhen::surface::machine as library;
 use flakuzhen::surface::Answer;
@@ -161,8 +162,7 @@ impl Pair {
     }
 }
 
-/// What the second program answers, in the words of the C surface: "counts are 0", and so is every
-/// place of these refusals.
+/// What the second program answers, in the words of the C surface.
 pub fn call_second(machine: &mut Machine, call: &Call, memory: &mut [u8]) -> Answer {
     let answer = match call {
         Call::Start {
@@ -183,14 +183,9 @@ pub fn call_second(machine: &mut Machine, call: &Call, memory: &mut [u8]) -> Ans
         Call::WriteMemory { address, bytes } => machine.write_memory(*address, bytes, memory),
         Call::Leave => machine.leave(memory),
     };
-    let (number, place) = match answer {
-        Ok(()) => (0, 0),
-        Err(refusal) => (refusal.number, refusal.place as u64),
-    };
-    Answer {
-        number,
-        place,
-        items: 0,
+    match answer {
+        Ok(()) => ACCEPTED,
+        Err(refusal) => refused(&refusal),
     }
 }
 

@@ -4,7 +4,7 @@
 use crate::calls::{self, Call, Case, Fault, Operation};
 use crate::plans;
 use crate::random::Random;
-use crate::signatures::hex;
+use crate::signatures::{hex, refused, ACCEPTED};
 use crate::Difference;
 use flakuzhen::surface::marshal::{self as surface, Part};
 use flakuzhen::surface::Answer;
@@ -19,6 +19,8 @@ pub struct Histogram {
     pub operation: Operation,
     /// Yes at 0, each refusal at its number.
     pub answers: [u64; 25],
+    /// How many of each had a count of items.
+    pub counted: [u64; 25],
     /// How often each fault was the one that was answered.
     pub faults: BTreeMap<Fault, u64>,
     /// How often a call had both of these, and the first was answered.
@@ -37,6 +39,7 @@ impl Histogram {
         Histogram {
             operation,
             answers: [0; 25],
+            counted: [0; 25],
             faults: BTreeMap::new(),
             orders: BTreeMap::new(),
             edges: BTreeMap::new(),
@@ -51,7 +54,9 @@ impl Histogram {
     }
 
     fn count(&mut self, case: &Case, answer: Answer) {
-        self.answers[answer.number as usize] += 1;
+        let number = answer.number as usize;
+        self.answers[number] += 1;
+        self.counted[number] += u64::from(answer.items > 0);
         let answered = case.faults.first().copied();
         match answered {
             None => plans::count_cases(&case.signature, &case.plan, &mut self.accepted),
@@ -80,8 +85,11 @@ impl fmt::Display for Histogram {
             self.total()
         )?;
         for (number, count) in self.answers.iter().enumerate().skip(1) {
-            if *count > 0 {
-                write!(to, ", {number}: {count}")?;
+            let counted = self.counted[number];
+            match (*count, counted) {
+                (0, _) => {}
+                (_, 0) => write!(to, ", {number}: {count}")?,
+                _ => write!(to, ", {number}: {count} ({counted} counted)")?,
             }
         }
         if self.operation == Operation::Fill {
@@ -146,18 +154,13 @@ fn guard(at: usize) -> u8 {
 
 /// The second program's answer in the words of the C surface, which for view are a part's.
 fn answer_of(result: Result<(usize, usize), Refusal>) -> Part {
-    let (number, place, start, length) = match result {
-        Ok((start, length)) => (0, 0, start, length),
-        Err(Refusal { number, place }) => (number, place, 0, 0),
-    };
-    Part {
-        answer: Answer {
-            number,
-            place: place as u64,
-            items: 0,
+    match result {
+        Ok((start, length)) => Part {
+            answer: ACCEPTED,
+            start: start as u64,
+            length: length as u64,
         },
-        start: start as u64,
-        length: length as u64,
+        Err(refusal) => no_part(refused(&refusal)),
     }
 }
 

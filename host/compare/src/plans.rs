@@ -4,10 +4,9 @@
 use crate::encode::{self, INTEGERS};
 use crate::generate;
 use crate::random::Random;
-use crate::signatures::hex;
+use crate::signatures::{hex, refused, ACCEPTED};
 use crate::Difference;
 use flakuzhen::surface::plans::{self as surface, Sizes};
-use flakuzhen::surface::Answer;
 use reference::{
     compact, float_equivalent, ArgumentPlan, Convention, Float, Integer, Place, Plan, ResultPlan,
     Signature, Type,
@@ -77,6 +76,8 @@ pub const Z: [&str; 29] = [
 pub struct Histogram {
     /// Yes at 0, each refusal at its number.
     pub answers: [u64; 10],
+    /// How many of each had a count of items.
+    pub counted: [u64; 10],
     pub cases: BTreeMap<String, u64>,
     /// The bytes of the longest listing.
     pub longest: usize,
@@ -111,7 +112,7 @@ impl fmt::Display for Histogram {
         let (total, accepted) = (self.total(), self.accepted());
         write!(to, "{total} signatures planned: accepted {accepted}")?;
         for (number, count) in self.answers.iter().enumerate().skip(1) {
-            write!(to, ", {number}: {count}")?;
+            write!(to, ", {number}: {count} ({} counted)", self.counted[number])?;
         }
         write!(to, "; longest listing {} bytes", self.longest)?;
         for (name, count) in &self.cases {
@@ -125,20 +126,16 @@ impl fmt::Display for Histogram {
 const NOT_LENT: usize = 40;
 
 /// What the second program answers, in the words of the C surface.
-fn expected_sizes(plan: &Result<Plan, reference::Refusal>) -> Sizes {
-    let (number, place, values, area, copies) = match plan {
-        Ok(plan) => (0, 0, plan.values, plan.area, plan.copies),
-        Err(refusal) => (refusal.number, refusal.place, 0, 0, 0),
-    };
-    Sizes {
-        answer: Answer {
-            number,
-            place: place as u64,
-            items: 0,
-        },
+pub(crate) fn expected_sizes(plan: &Result<Plan, reference::Refusal>) -> Sizes {
+    let sizes = |answer, [values, area, copies]: [usize; 3]| Sizes {
+        answer,
         values: values as u64,
         area: area as u64,
         copies: copies as u64,
+    };
+    match plan {
+        Ok(plan) => sizes(ACCEPTED, [plan.values, plan.area, plan.copies]),
+        Err(refusal) => sizes(refused(refusal), [0; 3]),
     }
 }
 
@@ -176,7 +173,9 @@ pub fn compare(bytes: &[u8], longer: usize, seen: &mut Histogram) -> Result<(), 
     };
     compare_listing(bytes, &listing, longer).or_else(differ)?;
 
-    seen.answers[expected.answer.number as usize] += 1;
+    let number = expected.answer.number as usize;
+    seen.answers[number] += 1;
+    seen.counted[number] += u64::from(expected.answer.items > 0);
     seen.longest = seen.longest.max(listing.len());
     if let (Ok(signature), Ok(plan)) = (&signature, &plan) {
         count_cases(signature, plan, seen);

@@ -5,17 +5,23 @@ use crate::generate;
 use crate::random::Random;
 use crate::Difference;
 use flakuzhen::surface::{self, Answer};
+use reference::Refusal;
+use std::collections::BTreeSet;
 use std::fmt;
 
 /// How often each answer was given: yes at 0, each refusal at its number.
 #[derive(Clone, Default)]
 pub struct Histogram {
     pub answers: [u64; 10],
+    /// The counts of items that came with each.
+    pub items: [BTreeSet<u64>; 10],
 }
 
 impl Histogram {
-    pub fn count(&mut self, number: u64) {
-        self.answers[number as usize] += 1;
+    pub fn count(&mut self, answer: Answer) {
+        let number = answer.number as usize;
+        self.answers[number] += 1;
+        self.items[number].insert(answer.items);
     }
 
     pub fn total(&self) -> u64 {
@@ -34,9 +40,20 @@ impl fmt::Display for Histogram {
         for (number, count) in self.answers.iter().enumerate().skip(1) {
             write!(to, ", {number}: {count}")?;
         }
+        write!(to, "; different counts of items")?;
+        for (number, items) in self.items.iter().enumerate() {
+            write!(to, ", {number}: {}", items.len())?;
+        }
         Ok(())
     }
 }
+
+/// The answer yes of a call that counts no items.
+pub(crate) const ACCEPTED: Answer = Answer {
+    number: 0,
+    place: 0,
+    items: 0,
+};
 
 /// What the second program answers, in the words of the C surface.
 pub fn expected(bytes: &[u8]) -> Answer {
@@ -46,11 +63,16 @@ pub fn expected(bytes: &[u8]) -> Answer {
             place: 0,
             items: signature.items() as u64,
         },
-        Err(refusal) => Answer {
-            number: refusal.number,
-            place: refusal.place as u64,
-            items: 0,
-        },
+        Err(refusal) => refused(&refusal),
+    }
+}
+
+/// The second program's refusal in the words of the C surface.
+pub(crate) fn refused(refusal: &Refusal) -> Answer {
+    Answer {
+        number: refusal.number,
+        place: refusal.place as u64,
+        items: refusal.items as u64,
     }
 }
 
@@ -65,12 +87,20 @@ pub fn compare(bytes: &[u8]) -> Result<Answer, Difference> {
         );
         return Err(Difference(told));
     }
+    // "at most a third of the input length", and "still no more" where it is refused
+    if given.items * 3 > bytes.len() as u64 {
+        return Err(Difference(format!(
+            "{} items in the signature {}",
+            given.items,
+            hex(bytes)
+        )));
+    }
     Ok(given)
 }
 
 /// Compares the two on a signature made from a tree, which both must accept and the second
 /// program must give back.
-pub fn compare_valid(random: &mut Random) -> Result<Vec<u8>, Difference> {
+pub fn compare_valid(random: &mut Random) -> Result<(Vec<u8>, Answer), Difference> {
     let made = generate::valid(random);
     let bytes = encode::signature(&made);
     let answer = compare(&bytes)?;
@@ -81,15 +111,7 @@ pub fn compare_valid(random: &mut Random) -> Result<Vec<u8>, Difference> {
             hex(&bytes)
         )));
     }
-    // "at most a third of the input length"
-    if answer.items * 3 > bytes.len() as u64 {
-        return Err(Difference(format!(
-            "{} items in the signature {}",
-            answer.items,
-            hex(&bytes)
-        )));
-    }
-    Ok(bytes)
+    Ok((bytes, answer))
 }
 
 /// Compares the two on at least this many generated signatures.
@@ -97,8 +119,8 @@ pub fn run(seed: u64, cases: u64) -> Result<Histogram, Difference> {
     let mut random = Random::new(seed);
     let mut histogram = Histogram::default();
     while histogram.total() < cases {
-        let valid = compare_valid(&mut random)?;
-        histogram.count(0);
+        let (valid, answer) = compare_valid(&mut random)?;
+        histogram.count(answer);
         let faulty = generate::faulty(&mut random);
         let also_faulty = generate::faulty(&mut random);
         let others = [
@@ -109,7 +131,7 @@ pub fn run(seed: u64, cases: u64) -> Result<Histogram, Difference> {
             generate::noise(&mut random),
         ];
         for bytes in &others {
-            histogram.count(compare(bytes)?.number);
+            histogram.count(compare(bytes)?);
         }
     }
     Ok(histogram)

@@ -36,11 +36,12 @@ fn accepted(name: &str, bytes: &[u8], items: u64) {
     holds(name, bytes, answer);
 }
 
-fn refused(name: &str, bytes: &[u8], number: u64, place: usize) {
+/// Refused at this place after this many headers.
+fn refused(name: &str, bytes: &[u8], number: u64, place: usize, items: u64) {
     let answer = Answer {
         number,
         place: place as u64,
-        items: 0,
+        items,
     };
     holds(name, bytes, answer);
 }
@@ -66,7 +67,8 @@ fn both(result: Option<&Type>, arguments: &[Type]) -> [Vec<u8>; 2] {
 }
 
 /// The document's rule for a type as the result and as the first argument, for both conventions:
-/// accepted with this many items of its own, or refused at an offset from its header.
+/// accepted with this many items of its own, or refused at an offset from its header after this many
+/// headers of its own.
 fn accepted_as_type(name: &str, of: &Type, items: u64) {
     for bytes in both(Some(of), &[]) {
         accepted(name, &bytes, 3 + items);
@@ -76,12 +78,12 @@ fn accepted_as_type(name: &str, of: &Type, items: u64) {
     }
 }
 
-fn refused_as_type(name: &str, of: &Type, number: u64, offset: usize) {
+fn refused_as_type(name: &str, of: &Type, number: u64, offset: usize, items: u64) {
     for bytes in both(Some(of), &[]) {
-        refused(name, &bytes, number, RESULT_BODY + offset);
+        refused(name, &bytes, number, RESULT_BODY + offset, 2 + items);
     }
     for bytes in both(None, std::slice::from_ref(of)) {
-        refused(name, &bytes, number, ARGUMENTS_BODY + offset);
+        refused(name, &bytes, number, ARGUMENTS_BODY + offset, 3 + items);
     }
 }
 
@@ -89,7 +91,7 @@ fn refused_as_type(name: &str, of: &Type, number: u64, offset: usize) {
 fn the_documents_example() {
     let bytes = [1, 0, 1, 1, 2, 0, 0, 3, 0, 8, 0x10, 0, 1, 4, 0x11, 0, 1, 1];
     accepted("the example", &bytes, 5);
-    refused("nothing at all", &[], 2, 0);
+    refused("nothing at all", &[], 2, 0, 0);
 }
 
 #[test]
@@ -102,21 +104,21 @@ fn sixty_four_arguments_and_sixty_five() {
         }
         for bytes in both(None, &vec![argument.clone(); 65]) {
             let place = ARGUMENTS_BODY + 64 * length;
-            refused("65 arguments", &bytes, 7, place);
+            refused("65 arguments", &bytes, 7, place, 3 + 64 * items);
         }
     }
     // whatever the bytes after the 64th are, and before those after the third item
     let full = type_items(&vec![I8; 64]);
     for stray in [&[0x00][..], &[0x10], &[0xff, 0xff, 0xff], &[0x10, 0, 9]] {
         let mut bytes = signature_of(Convention::Z, &[], &[&full, stray].concat());
-        refused("bytes after the 64th", &bytes, 7, ARGUMENTS_BODY + 256);
+        refused("bytes after the 64th", &bytes, 7, ARGUMENTS_BODY + 256, 67);
         bytes.push(0);
-        refused("and after the third", &bytes, 7, ARGUMENTS_BODY + 256);
+        refused("and after the third", &bytes, 7, ARGUMENTS_BODY + 256, 67);
     }
     // the 64th is tested before what follows it
     let faulty = [&type_items(&vec![I8; 63])[..], &[INTEGER, 0, 1, 9, 0]].concat();
     let bytes = signature_of(Convention::Z, &[], &faulty);
-    refused("a faulty 64th", &bytes, 4, ARGUMENTS_BODY + 252);
+    refused("a faulty 64th", &bytes, 4, ARGUMENTS_BODY + 252, 66);
 }
 
 #[test]
@@ -124,10 +126,10 @@ fn structs_of_256_bytes_and_of_more() {
     accepted_as_type("32 doubles", &structure(&vec![DOUBLE; 32]), 33);
     let mut more = vec![DOUBLE; 32];
     more.push(I8);
-    refused_as_type("32 doubles and an i8", &structure(&more), 8, 0);
+    refused_as_type("32 doubles and an i8", &structure(&more), 8, 0, 33);
 
     accepted_as_type("256 i8", &structure(&vec![I8; 256]), 257);
-    refused_as_type("257 i8", &structure(&vec![I8; 257]), 8, 0);
+    refused_as_type("257 i8", &structure(&vec![I8; 257]), 8, 0, 257);
 
     // 249 to 256 bytes before rounding, 256 after
     for small in 1..=8 {
@@ -139,12 +141,12 @@ fn structs_of_256_bytes_and_of_more() {
     let pairs: Vec<Type> = (0..16).flat_map(|_| [I8, I64]).collect();
     accepted_as_type("16 pairs with gaps", &structure(&pairs), 33);
     let with_one_more = [&pairs[..], &[I8]].concat();
-    refused_as_type("and an i8", &structure(&with_one_more), 8, 0);
+    refused_as_type("and an i8", &structure(&with_one_more), 8, 0, 33);
 
     // 255 bytes of i8 and an i16: the gap makes 258
     let mut gap = vec![I8; 255];
     gap.push(I16);
-    refused_as_type("255 i8 and an i16", &structure(&gap), 8, 0);
+    refused_as_type("255 i8 and an i16", &structure(&gap), 8, 0, 256);
     gap.remove(0);
     accepted_as_type("254 i8 and an i16", &structure(&gap), 256);
 }
@@ -155,14 +157,20 @@ fn sizes_of_structs_within_structs() {
     let three = structure(&[I8, I8, I8]);
     let fields = [vec![three.clone(); 85], vec![I8]].concat();
     accepted_as_type("85 times 3 and 1", &structure(&fields), 1 + 85 * 4 + 1);
-    refused_as_type("86 times 3", &structure(&vec![three; 86]), 8, 0);
+    refused_as_type("86 times 3", &structure(&vec![three; 86]), 8, 0, 86 * 4);
     let four = structure(&[I16, I8]);
     accepted_as_type(
         "64 times 4",
         &structure(&vec![four.clone(); 64]),
         1 + 64 * 3,
     );
-    refused_as_type("65 times 4", &structure(&vec![four.clone(); 65]), 8, 0);
+    refused_as_type(
+        "65 times 4",
+        &structure(&vec![four.clone(); 65]),
+        8,
+        0,
+        65 * 3,
+    );
     // its alignment of 2 leaves a gap after an i8
     let fields = [vec![I8], vec![four; 63], vec![I8]].concat();
     accepted_as_type(
@@ -175,7 +183,7 @@ fn sizes_of_structs_within_structs() {
     let fields = [sixteen.clone(), vec![I8; 240]].concat();
     accepted_as_type("16 and 240", &structure(&fields), 1 + 3 + 240);
     let fields = [sixteen, vec![I8; 241]].concat();
-    refused_as_type("16 and 241", &structure(&fields), 8, 0);
+    refused_as_type("16 and 241", &structure(&fields), 8, 0, 3 + 241);
 
     // the inner struct that is too large comes before the outer one
     let large = structure(&vec![DOUBLE; 33]);
@@ -184,31 +192,38 @@ fn sizes_of_structs_within_structs() {
         &structure(std::slice::from_ref(&large)),
         8,
         3,
+        1 + 33,
     );
-    refused_as_type("too large within six", &nested(6, large), 8, 18);
+    refused_as_type("too large within six", &nested(6, large), 8, 18, 6 + 33);
     let halves = vec![structure(&vec![DOUBLE; 16]); 2];
     accepted_as_type("two halves", &structure(&halves), 35);
     let more = [halves, vec![nested(3, I8)]].concat();
-    refused_as_type("two halves and more", &structure(&more), 8, 0);
+    refused_as_type("two halves and more", &structure(&more), 8, 0, 2 * 17 + 4);
 }
 
 #[test]
 fn depth_8_and_9() {
     accepted_as_type("depth 8", &nested(8, I8), 9);
-    refused_as_type("depth 9", &nested(9, I8), 6, 24);
-    refused_as_type("depth 30", &nested(30, I8), 6, 24);
+    refused_as_type("depth 9", &nested(9, I8), 6, 24, 8);
+    refused_as_type("depth 30", &nested(30, I8), 6, 24, 8);
     // fields beside the deep one
     let beside = structure(&[I8, nested(7, DOUBLE), I8, nested(7, SINGLE)]);
     accepted_as_type("depth 8 twice", &beside, 19);
     let beside = structure(&[I8, nested(7, DOUBLE), I8, nested(8, SINGLE)]);
     // the second deep field starts after header, i8, the first deep field's 25 bytes and i8
-    refused_as_type("depth 9 second", &beside, 6, 3 + 4 + 25 + 4 + 21);
+    refused_as_type(
+        "depth 9 second",
+        &beside,
+        6,
+        3 + 4 + 25 + 4 + 21,
+        1 + 1 + 8 + 1 + 7,
+    );
     // depth comes before an empty body and after length room
-    refused_as_type("depth 9 and empty", &nested(8, structure(&[])), 6, 24);
-    refused_as_type("depth 8 and empty", &nested(7, structure(&[])), 4, 21);
+    refused_as_type("depth 9 and empty", &nested(8, structure(&[])), 6, 24, 8);
+    refused_as_type("depth 8 and empty", &nested(7, structure(&[])), 4, 21, 7);
     let mut bytes = signature_of(Convention::Ppc64, &encode::type_item(&nested(9, I8)), &[]);
     bytes[RESULT_BODY + 25] = 0xff;
-    refused("depth 9 and too long", &bytes, 2, RESULT_BODY + 24);
+    refused("depth 9 and too long", &bytes, 2, RESULT_BODY + 24, 2 + 8);
 }
 
 /// Structs of i8, with these counts.
@@ -225,18 +240,18 @@ fn a_signature_of_4096_bytes_and_of_4097() {
     for bytes in both(None, &arguments) {
         assert_eq!(bytes.len(), 4096);
         accepted("4,096 bytes", &bytes, 3 + 6 + 1017);
-        refused("and one more", &[&bytes[..], &[0]].concat(), 1, 0);
-        refused("all but one", &bytes[..4095], 2, 7);
+        refused("and one more", &[&bytes[..], &[0]].concat(), 1, 0, 0);
+        refused("all but one", &bytes[..4095], 2, 7, 2);
     }
     // well formed but for the length: 5 structs' headers and 1,018 integers
     let arguments = structs_of_i8(&[204, 204, 204, 203, 203]);
     for bytes in both(None, &arguments) {
         assert_eq!(bytes.len(), 4097);
-        refused("4,097 bytes", &bytes, 1, 0);
+        refused("4,097 bytes", &bytes, 1, 0, 0);
     }
-    refused("4,096 zeros", &[0; 4096], 3, 0);
-    refused("4,097 zeros", &[0; 4097], 1, 0);
-    refused("70,000 zeros", &[0; 70_000], 1, 0);
+    refused("4,096 zeros", &[0; 4096], 3, 0, 0);
+    refused("4,097 zeros", &[0; 4097], 1, 0, 0);
+    refused("70,000 zeros", &[0; 70_000], 1, 0, 0);
 }
 
 #[test]
@@ -263,42 +278,49 @@ fn structs_of_256_fields_in_the_result_and_the_arguments() {
     }
     for bytes in both(Some(&full), &vec![full.clone(); 3]) {
         assert_eq!(bytes.len(), 10 + 4 * 1027);
-        refused("four full structs", &bytes, 1, 0);
+        refused("four full structs", &bytes, 1, 0, 0);
     }
 }
 
 #[test]
 fn long_doubles_in_structs_and_out_of_them() {
     accepted_as_type("alone", &LONG_DOUBLE, 1);
-    refused_as_type("only field", &structure(&[LONG_DOUBLE]), 5, 3);
-    refused_as_type("last field", &structure(&[I8, LONG_DOUBLE]), 5, 7);
-    refused_as_type("first field", &structure(&[LONG_DOUBLE, I8]), 5, 3);
-    refused_as_type("at depth 8", &nested(8, LONG_DOUBLE), 5, 24);
+    refused_as_type("only field", &structure(&[LONG_DOUBLE]), 5, 3, 1);
+    refused_as_type("last field", &structure(&[I8, LONG_DOUBLE]), 5, 7, 2);
+    refused_as_type("first field", &structure(&[LONG_DOUBLE, I8]), 5, 3, 1);
+    refused_as_type("at depth 8", &nested(8, LONG_DOUBLE), 5, 24, 8);
     // at depth 9 the struct around it is refused before it is seen
-    refused_as_type("at depth 9", &nested(9, LONG_DOUBLE), 6, 24);
+    refused_as_type("at depth 9", &nested(9, LONG_DOUBLE), 6, 24, 8);
     // before the size of the struct that it is in
     let mut large = vec![DOUBLE; 33];
     large.push(LONG_DOUBLE);
-    refused_as_type("in too large a struct", &structure(&large), 5, 3 + 132);
+    refused_as_type(
+        "in too large a struct",
+        &structure(&large),
+        5,
+        3 + 132,
+        1 + 33,
+    );
     // a body that is not allowed comes first
     for body in [&[][..], &[2, 2], &[3]] {
         let faulty = item(STRUCT, &item(FLOAT, body));
         let bytes = signature_of(Convention::Z, &faulty, &[]);
-        refused("with a faulty body", &bytes, 4, RESULT_BODY + 3);
+        refused("with a faulty body", &bytes, 4, RESULT_BODY + 3, 3);
     }
 }
 
 #[test]
 fn empty_structs() {
     let empty = structure(&[]);
-    refused_as_type("alone", &empty, 4, 0);
+    refused_as_type("alone", &empty, 4, 0, 0);
     refused_as_type(
         "in a struct",
         &structure(std::slice::from_ref(&empty)),
         4,
         3,
+        1,
     );
-    refused_as_type("after a field", &structure(&[I64, empty]), 4, 7);
+    refused_as_type("after a field", &structure(&[I64, empty]), 4, 7, 2);
 }
 
 #[test]
@@ -317,6 +339,7 @@ fn bytes_after_the_third_item() {
                 &[&bytes[..], stray].concat(),
                 9,
                 place,
+                5,
             );
         }
     }
@@ -325,28 +348,40 @@ fn bytes_after_the_third_item() {
 #[test]
 fn bytes_after_the_results_type() {
     for stray in [&[0x00][..], &[0x10, 0, 1, 4], &[0x12, 0, 0], &[0xff; 9]] {
-        for of in [I8, LONG_DOUBLE, structure(&[I8, I64])] {
+        for (of, items) in [(I8, 1), (LONG_DOUBLE, 1), (structure(&[I8, I64]), 3)] {
             let first = encode::type_item(&of);
             let body = [&first[..], stray].concat();
             let bytes = signature_of(Convention::Ppc64, &body, &[]);
-            refused("after the result", &bytes, 4, RESULT_BODY + first.len());
+            refused(
+                "after the result",
+                &bytes,
+                4,
+                RESULT_BODY + first.len(),
+                2 + items,
+            );
         }
     }
     // the type itself comes first
     let bytes = signature_of(Convention::Ppc64, &[INTEGER, 0, 1, 9, 0], &[]);
-    refused("a faulty type before them", &bytes, 4, RESULT_BODY);
+    refused("a faulty type before them", &bytes, 4, RESULT_BODY, 2);
 }
 
 #[test]
 fn bytes_after_a_field_or_an_argument_are_the_next_header() {
     let stray = [&encode::type_item(&I8)[..], &[0x10, 0]].concat();
     let bytes = signature_of(Convention::Z, &[], &stray);
-    refused("two bytes after an argument", &bytes, 2, ARGUMENTS_BODY + 4);
+    refused(
+        "two bytes after an argument",
+        &bytes,
+        2,
+        ARGUMENTS_BODY + 4,
+        4,
+    );
     let bytes = signature_of(Convention::Z, &[], &item(STRUCT, &stray));
-    refused("two bytes after a field", &bytes, 2, ARGUMENTS_BODY + 7);
+    refused("two bytes after a field", &bytes, 2, ARGUMENTS_BODY + 7, 5);
     let stray = [&encode::type_item(&I8)[..], &[ARGUMENTS, 0, 0]].concat();
     let bytes = signature_of(Convention::Z, &[], &stray);
-    refused("a tag of another level", &bytes, 3, ARGUMENTS_BODY + 4);
+    refused("a tag of another level", &bytes, 3, ARGUMENTS_BODY + 4, 4);
 }
 
 #[test]
@@ -355,17 +390,17 @@ fn codes_at_their_limits() {
         let bytes = signature_of(Convention::Ppc64, &item(INTEGER, &[code]), &[]);
         match code {
             0..=8 => accepted("integer", &bytes, 4),
-            _ => refused("integer", &bytes, 4, RESULT_BODY),
+            _ => refused("integer", &bytes, 4, RESULT_BODY, 2),
         }
         let bytes = signature_of(Convention::Ppc64, &item(FLOAT, &[code]), &[]);
         match code {
             0..=2 => accepted("float", &bytes, 4),
-            _ => refused("float", &bytes, 4, RESULT_BODY),
+            _ => refused("float", &bytes, 4, RESULT_BODY, 2),
         }
         let bytes = [1, 0, 1, code, 2, 0, 0, 3, 0, 0];
         match code {
             1..=2 => accepted("convention", &bytes, 3),
-            _ => refused("convention", &bytes, 4, 0),
+            _ => refused("convention", &bytes, 4, 0, 0),
         }
     }
 }
@@ -377,18 +412,18 @@ fn tags_at_every_position() {
         // with length 0, so that an allowed type is refused for its body
         let number = if allowed_type { 4 } else { 3 };
         let bytes = signature_of(Convention::Z, &[tag, 0, 0], &[]);
-        refused("in the result", &bytes, number, RESULT_BODY);
+        refused("in the result", &bytes, number, RESULT_BODY, 2);
         let bytes = signature_of(Convention::Z, &[], &[tag, 0, 0]);
-        refused("in the arguments", &bytes, number, ARGUMENTS_BODY);
+        refused("in the arguments", &bytes, number, ARGUMENTS_BODY, 3);
         let bytes = signature_of(Convention::Z, &[], &item(STRUCT, &[tag, 0, 0]));
-        refused("in a struct", &bytes, number, ARGUMENTS_BODY + 3);
+        refused("in a struct", &bytes, number, ARGUMENTS_BODY + 3, 4);
         let whole = [1, 0, 1, 1, 2, 0, 0, 3, 0, 0];
-        for (place, right) in [(0, 1), (4, 2), (7, 3)] {
+        for (passed, (place, right)) in (0..).zip([(0, 1), (4, 2), (7, 3)]) {
             let mut bytes = whole;
             bytes[place] = tag;
             match tag == right {
                 true => accepted("the right tag", &bytes, 3),
-                false => refused("another tag", &bytes, 3, place),
+                false => refused("another tag", &bytes, 3, place, passed),
             }
         }
     }

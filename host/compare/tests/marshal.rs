@@ -32,9 +32,14 @@ fn run(operation: Operation, edges: &[&str], cases: &[&str]) -> Histogram {
     println!("{seen}");
     assert!(seen.total() >= CALLS);
     assert!(seen.answers[0] >= CALLS / 4);
-    for number in 1..=9 {
-        assert!(seen.answers[number] > 0, "{number} never came");
+    for (number, &counted) in seen.counted.iter().enumerate() {
+        match number {
+            // the reader's refusals, with its counts
+            2..=9 => assert!(counted > 0, "{number} never came with a count of items"),
+            _ => assert_eq!(counted, 0, "{number} has no count of items"),
+        }
     }
+    assert!(seen.answers[1] > 0, "1 never came");
     let faults = operation.faults();
     for (at, &fault) in faults.iter().enumerate() {
         let count = seen.faults.get(&fault).copied().unwrap_or(0);

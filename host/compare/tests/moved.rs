@@ -27,15 +27,19 @@ fn copy(from: &Path, to: &Path) {
     }
 }
 
-/// A git repository of the test's own.
+/// A git repository of the test's own, outside of this one, in which no file of Rattle may lie that no
+/// crate has.
 struct Repository(PathBuf);
+
+impl Drop for Repository {
+    fn drop(&mut self) {
+        let _ = fs::remove_dir_all(&self.0);
+    }
+}
 
 impl Repository {
     fn new(name: &str) -> Repository {
-        let folder = Path::new(env!("CARGO_TARGET_TMPDIR")).join(name);
-        if folder.exists() {
-            fs::remove_dir_all(&folder).expect("an earlier repository removed");
-        }
+        let folder = std::env::temp_dir().join(format!("flakuzhen-{name}-{}", std::process::id()));
         fs::create_dir_all(&folder).expect("a folder");
         let repository = Repository(folder);
         repository.git(&["init", "--quiet"]);

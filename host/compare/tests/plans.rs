@@ -49,6 +49,12 @@ fn generated_signatures() {
     assert!(seen.accepted() >= ACCEPTED);
     for (number, &count) in seen.answers.iter().enumerate() {
         assert!(count >= 200, "the answer {number} came only {count} times");
+        // `items` is a refused reading's alone
+        let counted = seen.counted[number];
+        match number {
+            0 | 1 => assert_eq!(counted, 0),
+            _ => assert!(counted >= 100, "{number} had items only {counted} times"),
+        }
     }
     let cases = [&PPC64[..], &Z, &RESULTS].concat();
     for case in &cases {

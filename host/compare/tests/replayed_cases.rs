@@ -128,6 +128,26 @@ fn every_operation_gives_every_answer() {
     }
 }
 
+/// A refused signature's count of headers is among the answers of every operation that reads one.
+#[test]
+fn refused_signatures_come_with_counts() {
+    let cases = cases::all(compare::seed(), cases::LEAST);
+    for operation in [
+        Operation::ReadSignature,
+        Operation::Measure,
+        Operation::Fill,
+        Operation::Read,
+        Operation::Home,
+        Operation::View,
+    ] {
+        let refused = cases
+            .iter()
+            .filter(|case| case.operation == operation && (2..=9).contains(&case.answer[0]));
+        let counted = refused.filter(|case| case.answer[2] > 0).count();
+        assert!(counted >= 100, "{operation:?}: only {counted} counts");
+    }
+}
+
 /// The case of this number with what must be replayed before it.
 fn with_its_machine(cases: &[Case], number: usize) -> Vec<Case> {
     let of_the_machine = Operation::StartPpc64..=Operation::Leave;

@@ -10,7 +10,7 @@ const CASES: u64 = 400_000;
 
 fn compare(bytes: &[u8], histogram: &mut Histogram) {
     match signatures::compare(bytes) {
-        Ok(answer) => histogram.count(answer.number),
+        Ok(answer) => histogram.count(answer),
         Err(difference) => panic!("{difference}"),
     }
 }
@@ -30,6 +30,12 @@ fn generated_signatures() {
             count >= 1_000,
             "the answer {number} came only {count} times"
         );
+        // each with many counts of items, but for 1, which has none
+        let items = &histogram.items[number];
+        match number {
+            1 => assert_eq!(items.iter().collect::<Vec<_>>(), [&0]),
+            _ => assert!(items.len() >= 20, "{number} had only the counts {items:?}"),
+        }
     }
 }
 
@@ -41,7 +47,7 @@ fn every_prefix_of_valid_signatures() {
     let mut histogram = Histogram::default();
     for _ in 0..300 {
         let bytes = match signatures::compare_valid(&mut random) {
-            Ok(bytes) => bytes,
+            Ok((bytes, _)) => bytes,
             Err(difference) => panic!("seed {seed:#x}: {difference}"),
         };
         for length in 0..bytes.len() {

@@ -6,9 +6,9 @@
 //! let signature = [1, 0, 1, 1, 2, 0, 0, 3, 0, 8, 0x10, 0, 1, 4, 0x11, 0, 1, 1];
 //! assert_eq!(flakuzhen::read_signature(&signature), Ok(5));
 //!
-//! // the same without its last byte: the arguments' length passes the end
+//! // the same without its last byte: the arguments' length passes the end, after two good headers
 //! let refusal = flakuzhen::read_signature(&signature[..17]).unwrap_err();
-//! assert_eq!((refusal.number, refusal.place), (2, 7));
+//! assert_eq!((refusal.number, refusal.place, refusal.items), (2, 7, 2));
 //! ```
 
 #![deny(unsafe_code)]
@@ -22,6 +22,8 @@ pub mod surface;
 pub use marshal::{fill, home, read, view};
 pub use plans::{listing, measure, Sizes};
 
+use surface::Answer;
+
 use std::error::Error;
 use std::fmt;
 
@@ -33,12 +35,15 @@ pub struct Refusal {
     /// The offset of the faulty item's header or byte in the signature, or 0 for a refusal that
     /// names no place.
     pub place: u64,
+    /// How far the reading of the signature had come: the headers that had passed their tests of
+    /// room, tag and length, without that of the faulty item. 0 for refusals 1 and 10 up.
+    pub items: u64,
 }
 
 /// Reads a signature and gives its count of items, those nested in others included.
 pub fn read_signature(signature: &[u8]) -> Result<u64, Refusal> {
     let answer = surface::read_signature(signature);
-    accepted(answer.number, answer.place, answer.items)
+    accepted(answer, answer.items)
 }
 
 /// The bits of the double that has a single's value. A NaN's bits are moved as they are: a
@@ -49,16 +54,30 @@ pub fn widen(single: u32) -> u64 {
 
 /// The bits of the single that [`widen`] makes these bits of, refused where there is none.
 pub fn narrow(double: u64) -> Result<u32, Refusal> {
-    let answer = surface::narrow(double);
+    let narrowed = surface::narrow(double);
+    let answer = Answer {
+        number: narrowed.number,
+        place: narrowed.place,
+        items: 0,
+    };
     // the library's promise: an accepted answer is a single's 32 bits
-    accepted(answer.number, answer.place, answer.bits as u32)
+    accepted(answer, narrowed.bits as u32)
 }
 
-fn accepted<T>(number: u64, place: u64, value: T) -> Result<T, Refusal> {
+fn accepted<T>(answer: Answer, value: T) -> Result<T, Refusal> {
+    let Answer {
+        number,
+        place,
+        items,
+    } = answer;
     if number == 0 {
         Ok(value)
     } else {
-        Err(Refusal { number, place })
+        Err(Refusal {
+            number,
+            place,
+            items,
+        })
     }
 }
 
@@ -98,8 +117,17 @@ impl Refusal {
 
 impl fmt::Display for Refusal {
     fn fmt(&self, to: &mut fmt::Formatter<'_>) -> fmt::Result {
-        let Refusal { number, place } = self;
-        write!(to, "refused {number} at {place}: {}", self.message())
+        let Refusal {
+            number,
+            place,
+            items,
+        } = self;
+        write!(to, "refused {number} at {place}")?;
+        // a reading's refusals, which alone have a count
+        if (1..=9).contains(number) {
+            write!(to, " after {items}")?;
+        }
+        write!(to, ": {}", self.message())
     }
 }
 
@@ -114,13 +142,19 @@ mod tests {
         let unknown = Refusal {
             number: 0,
             place: 0,
+            items: 0,
         };
         for number in 1..=24 {
-            let refusal = Refusal { number, place: 3 };
-            assert_ne!(refusal.message(), unknown.message());
-            assert!(refusal
-                .to_string()
-                .starts_with(&format!("refused {number} at 3: ")));
+            let refusal = Refusal {
+                number,
+                place: 3,
+                items: 2,
+            };
+            let message = refusal.message();
+            assert_ne!(message, unknown.message());
+            let after = if number < 10 { " after 2" } else { "" };
+            let told = format!("refused {number} at 3{after}: {message}");
+            assert_eq!(refusal.to_string(), told);
         }
     }
 
@@ -131,6 +165,7 @@ mod tests {
         let refusal = Refusal {
             number: 14,
             place: 0,
+            items: 0,
         };
         assert_eq!(narrow(0x3690_0000_0000_0000), Err(refusal));
     }

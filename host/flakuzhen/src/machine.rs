@@ -85,7 +85,7 @@ impl Machine {
             Convention::Ppc64 => surface::machine::start_ppc64(state, registers, base, memory),
             Convention::Z => surface::machine::start_z(state, registers, base, memory),
         };
-        accepted(answer.number, answer.place, machine)
+        accepted(answer, machine)
     }
 
     /// A machine that was kept in two parts. Nothing is tested here: each call tests the state and
@@ -97,7 +97,7 @@ impl Machine {
     /// Enters a frame: saves what the request names, and moves the stack pointer.
     pub fn enter(&mut self, request: &Frame) -> Result<(), Refusal> {
         let answer = surface::machine::enter(&mut self.state, request, &mut self.memory);
-        accepted(answer.number, answer.place, ())
+        accepted(answer, ())
     }
 
     /// Writes a register, if the frame that was entered last may.
@@ -105,19 +105,19 @@ impl Machine {
         let (bank, number) = register.bank_and_number();
         let answer =
             surface::machine::write_register(&mut self.state, bank, number, value, &self.memory);
-        accepted(answer.number, answer.place, ())
+        accepted(answer, ())
     }
 
     /// Writes 1 to 256 bytes of memory, if the frame that was entered last may.
     pub fn write_memory(&mut self, address: u64, bytes: &[u8]) -> Result<(), Refusal> {
         let answer = surface::machine::write_memory(&self.state, address, bytes, &mut self.memory);
-        accepted(answer.number, answer.place, ())
+        accepted(answer, ())
     }
 
     /// Leaves the frame that was entered last: restores what was saved, and the stack pointer.
     pub fn leave(&mut self) -> Result<(), Refusal> {
         let answer = surface::machine::leave(&mut self.state, &self.memory);
-        accepted(answer.number, answer.place, ())
+        accepted(answer, ())
     }
 
     /// The register that is the stack pointer: r1 on PPC64, r15 on Z.
@@ -163,8 +163,16 @@ mod tests {
         Machine::start(Convention::Z, &registers, 0x2000, vec![0xee; 1024]).expect("a start")
     }
 
+    fn refusal(number: u64) -> Refusal {
+        Refusal {
+            number,
+            place: 0,
+            items: 0,
+        }
+    }
+
     fn refused(answer: Result<(), Refusal>, number: u64) {
-        assert_eq!(answer, Err(Refusal { number, place: 0 }));
+        assert_eq!(answer, Err(refusal(number)));
     }
 
     #[test]
@@ -206,11 +214,7 @@ mod tests {
 
     #[test]
     fn a_refused_start_is_no_machine() {
-        let refusal = Refusal {
-            number: 16,
-            place: 0,
-        };
         let answer = Machine::start(Convention::Ppc64, &Registers::default(), 8, vec![0; 256]);
-        assert_eq!(answer, Err(refusal));
+        assert_eq!(answer, Err(refusal(16)));
     }
 }

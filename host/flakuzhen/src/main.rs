@@ -8,6 +8,7 @@ mod hex;
 mod replay;
 mod stack_picture;
 
+use flakuzhen::Refusal;
 use std::ffi::{OsStr, OsString};
 use std::fs::File;
 use std::io::{self, Read, Write};
@@ -21,7 +22,8 @@ usage: flakuzhen list [--hex] [FILE..]
 
 list      prints where each argument of each signature goes, and its result
 read      prints a line for each signature with its count of items, 'items N'
-          Either prints 'refused NUMBER at PLACE' for a signature that is refused.
+          Either prints 'refused NUMBER at PLACE after ITEMS' for a signature that is
+          refused: ITEMS is the count of headers that were good until there.
 --hex     the input is hexadecimal text with '#' comments, not the bytes themselves
 --picture draws a table of the registers, the parameter area and the copies instead, a row
           to a doubleword, with the argument that has each byte
@@ -120,7 +122,12 @@ fn read(signatures: &[Vec<u8>]) -> Outcome {
             Ok(items) => format!("items {items}\n"),
             Err(refusal) => {
                 status = 1;
-                format!("refused {} at {}\n", refusal.number, refusal.place)
+                let Refusal {
+                    number,
+                    place,
+                    items,
+                } = refusal;
+                format!("refused {number} at {place} after {items}\n")
             }
         };
         text.push_str(&line);

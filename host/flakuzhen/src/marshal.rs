@@ -36,7 +36,7 @@ pub fn fill(
     hidden: u64,
 ) -> Result<(), Refusal> {
     let answer = surface::marshal::fill(signature, values, image, area, copies, copy_base, hidden);
-    accepted(answer.number, answer.place, ())
+    accepted(answer, ())
 }
 
 /// Takes the values of a call's arguments from where its caller put them, in order without gaps.
@@ -49,14 +49,14 @@ pub fn read(
     copy_base: u64,
 ) -> Result<(), Refusal> {
     let answer = surface::marshal::read(signature, values, image, area, copies, copy_base);
-    accepted(answer.number, answer.place, ())
+    accepted(answer, ())
 }
 
 /// PPC64: copies the arguments that came in registers into the area, each to its own place, so
 /// that all arguments stand there.
 pub fn home(signature: &[u8], image: &[u8], area: &mut [u8]) -> Result<(), Refusal> {
     let answer = surface::marshal::home(signature, image, area);
-    accepted(answer.number, answer.place, ())
+    accepted(answer, ())
 }
 
 /// PPC64: the bytes of the argument with this index, counted from 0, in an area that [`home`] has
@@ -74,7 +74,7 @@ pub fn home(signature: &[u8], image: &[u8], area: &mut [u8]) -> Result<(), Refus
 /// ```
 pub fn view<'a>(area: &'a [u8], signature: &[u8], index: u64) -> Result<&'a [u8], Refusal> {
     let part = surface::marshal::view(area, signature, index);
-    accepted(part.answer.number, part.answer.place, ())?;
+    accepted(part.answer, ())?;
     // the library's promise: an accepted part lies within the area
     Ok(&area[part.start as usize..][..part.length as usize])
 }

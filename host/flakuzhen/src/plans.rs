@@ -32,7 +32,7 @@ pub fn measure(signature: &[u8]) -> Result<Sizes, Refusal> {
         area: sizes.area,
         copies: sizes.copies,
     };
-    accepted(sizes.answer.number, sizes.answer.place, planned)
+    accepted(sizes.answer, planned)
 }
 
 /// The plan of a call in print, or for a refused signature the one line that says so.
@@ -42,7 +42,7 @@ pub fn measure(signature: &[u8]) -> Result<Sizes, Refusal> {
 /// let signature = [1, 0, 1, 1, 2, 0, 0, 3, 0, 8, 0x10, 0, 1, 4, 0x11, 0, 1, 1];
 /// let listing = "PPC64 args 2 area 64\n0 r3 @0\n1 f1 @8\nresult none\n";
 /// assert_eq!(flakuzhen::listing(&signature), listing);
-/// assert_eq!(flakuzhen::listing(&[]), "refused 2 at 0\n");
+/// assert_eq!(flakuzhen::listing(&[]), "refused 2 at 0 after 0\n");
 /// ```
 pub fn listing(signature: &[u8]) -> String {
     listing_from(signature, USUAL_LISTING)
@@ -81,9 +81,10 @@ mod tests {
         let refusal = Refusal {
             number: 2,
             place: 14,
+            items: 4,
         };
         assert_eq!(measure(&SIGNATURE[..24]), Err(refusal));
-        assert_eq!(listing(&SIGNATURE[..24]), "refused 2 at 14\n");
+        assert_eq!(listing(&SIGNATURE[..24]), "refused 2 at 14 after 4\n");
     }
 
     #[test]

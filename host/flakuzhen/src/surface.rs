@@ -7,7 +7,8 @@ pub mod machine;
 pub mod marshal;
 pub mod plans;
 
-/// `fz_answer`: number 0 is yes.
+/// `fz_answer`: number 0 is yes. A refused signature's `items` is the count of headers that had
+/// passed.
 #[repr(C)]
 #[derive(Clone, Copy, Debug, PartialEq, Eq)]
 pub struct Answer {

@@ -45,17 +45,25 @@ fn example(name: &str) -> String {
 fn reads_the_examples() {
     let readings = [
         ("limit-64-arguments.hex", 0, "items 67\n"),
-        ("limit-65-arguments.hex", 1, "refused 7 at 266\n"),
+        ("limit-65-arguments.hex", 1, "refused 7 at 266 after 67\n"),
         ("limit-depth-8.hex", 0, "items 12\n"),
-        ("limit-depth-9.hex", 1, "refused 6 at 34\n"),
+        ("limit-depth-9.hex", 1, "refused 6 at 34 after 11\n"),
         ("limit-struct-of-256-bytes.hex", 0, "items 36\n"),
-        ("limit-struct-of-264-bytes.hex", 1, "refused 8 at 10\n"),
+        (
+            "limit-struct-of-264-bytes.hex",
+            1,
+            "refused 8 at 10 after 36\n",
+        ),
         ("ppc64-dgemm.hex", 0, "items 17\n"),
         ("ppc64-figure-3-18.hex", 0, "items 17\n"),
         ("ppc64-ldiv.hex", 0, "items 8\n"),
         ("ppc64-straddling-struct.hex", 0, "items 16\n"),
         ("ppc64-two-arguments.hex", 0, "items 5\n"),
-        ("refused-long-double-field.hex", 1, "refused 5 at 17\n"),
+        (
+            "refused-long-double-field.hex",
+            1,
+            "refused 5 at 17 after 5\n",
+        ),
         ("z-powl.hex", 0, "items 6\n"),
         ("z-small-structs.hex", 0, "items 27\n"),
         ("z-table-10.hex", 0, "items 13\n"),
@@ -173,7 +181,7 @@ fn lists_several_files_in_their_order() {
     let names = ["z-table-10.hex", "refused-long-double-field.hex"];
     let [first, second] = names.map(example);
     let output = run(&["list", &first, "--hex", &second, "-"], b"01 00");
-    let text = names.map(stored_listing).concat() + "refused 2 at 0\n";
+    let text = names.map(stored_listing).concat() + "refused 2 at 0 after 0\n";
     prints(&output, 1, &text);
 }
 
@@ -182,8 +190,8 @@ fn lists_bytes_from_standard_input() {
     let listing = "PPC64 args 2 area 64\n0 r3 @0\n1 f1 @8\nresult none\n";
     prints(&run(&["list"], &EXAMPLE), 0, listing);
     prints(&run(&["list", "-"], &EXAMPLE), 0, listing);
-    prints(&run(&["list"], b""), 1, "refused 2 at 0\n");
-    prints(&run(&["list"], &[0; 4097]), 1, "refused 1 at 0\n");
+    prints(&run(&["list"], b""), 1, "refused 2 at 0 after 0\n");
+    prints(&run(&["list"], &[0; 4097]), 1, "refused 1 at 0 after 0\n");
 }
 
 #[test]
@@ -191,15 +199,19 @@ fn reads_several_files_in_their_order() {
     let first = example("z-table-10.hex");
     let second = example("refused-long-double-field.hex");
     let output = run(&["read", &first, "--hex", &second, "-"], b"01 00");
-    prints(&output, 1, "items 13\nrefused 5 at 17\nrefused 2 at 0\n");
+    prints(
+        &output,
+        1,
+        "items 13\nrefused 5 at 17 after 5\nrefused 2 at 0 after 0\n",
+    );
 }
 
 #[test]
 fn reads_bytes_from_standard_input() {
     prints(&run(&["read"], &EXAMPLE), 0, "items 5\n");
     prints(&run(&["read", "-"], &EXAMPLE), 0, "items 5\n");
-    prints(&run(&["read"], b""), 1, "refused 2 at 0\n");
-    prints(&run(&["read"], &[0; 4097]), 1, "refused 1 at 0\n");
+    prints(&run(&["read"], b""), 1, "refused 2 at 0 after 0\n");
+    prints(&run(&["read"], &[0; 4097]), 1, "refused 1 at 0 after 0\n");
 }
 
 #[test]
@@ -266,7 +278,11 @@ fn oversized_input() {
             &run(&[command], &vec![0; (1 << 20) + 1]),
             "over 1048576 bytes",
         );
-        prints(&run(&[command], &vec![0; 1 << 20]), 1, "refused 1 at 0\n");
+        prints(
+            &run(&[command], &vec![0; 1 << 20]),
+            1,
+            "refused 1 at 0 after 0\n",
+        );
     }
 }
 

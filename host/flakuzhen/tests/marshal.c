@@ -21,9 +21,15 @@ static void start(void)
     memset(copies, 0xee, sizeof copies);
 }
 
-static int answers(fz_answer answer, uint64_t number, uint64_t place)
+static int answers(fz_answer answer, uint64_t number)
 {
-    return answer.number == number && answer.place == place && answer.items == 0;
+    return answer.number == number && answer.place == 0 && answer.items == 0;
+}
+
+/* what the reader answers to a signature whose third item passes the end */
+static int truncated(fz_answer answer)
+{
+    return answer.number == FZ_TRUNCATED && answer.place == 7 && answer.items == 2;
 }
 
 static void check_ppc64(void)
@@ -38,31 +44,35 @@ static void check_ppc64(void)
     fz_part part;
 
     start();
-    CHECK(answers(fz_fill(ppc64, 18, values, 8, image, 512, area, 64, copies, 0, 1, 0), 0, 0));
+    CHECK(answers(fz_fill(ppc64, 18, values, 8, image, 512, area, 64, copies, 0, 1, 0), 0));
     CHECK(memcmp(image + 8 * 3, r3, 8) == 0);
     CHECK(memcmp(image + 256 + 8 * 1, f1, 8) == 0);
     CHECK(image[23] == 0xee && image[32] == 0xee && area[0] == 0xee);
-    CHECK(answers(fz_read(ppc64, 18, back, 8, image, 512, area, 64, copies, 0, 1), 0, 0));
+    CHECK(answers(fz_read(ppc64, 18, back, 8, image, 512, area, 64, copies, 0, 1), 0));
     CHECK(memcmp(back, values, 8) == 0);
 
-    CHECK(answers(fz_home(ppc64, 18, image, 512, area, 64), 0, 0));
+    CHECK(answers(fz_home(ppc64, 18, image, 512, area, 64), 0));
     CHECK(memcmp(area, homed, 16) == 0 && area[16] == 0xee);
     part = fz_view(area, 64, ppc64, 18, 1);
-    CHECK(answers(part.answer, 0, 0) && part.start == 12 && part.length == 4);
+    CHECK(answers(part.answer, 0) && part.start == 12 && part.length == 4);
     part = fz_view(area, 64, ppc64, 18, 2);
-    CHECK(answers(part.answer, FZ_NO_VIEW, 0) && part.start == 0 && part.length == 0);
+    CHECK(answers(part.answer, FZ_NO_VIEW) && part.start == 0 && part.length == 0);
     part = fz_view(area, 63, ppc64, 18, 1);
-    CHECK(answers(part.answer, FZ_AREA_TOO_SHORT, 0) && part.start == 0 && part.length == 0);
+    CHECK(answers(part.answer, FZ_AREA_TOO_SHORT) && part.start == 0 && part.length == 0);
 
-    CHECK(answers(fz_fill(ppc64, 17, values, 8, image, 512, area, 64, copies, 0, 1, 0), 2, 7));
+    CHECK(truncated(fz_fill(ppc64, 17, values, 8, image, 512, area, 64, copies, 0, 1, 0)));
+    CHECK(truncated(fz_read(ppc64, 17, back, 8, image, 512, area, 64, copies, 0, 1)));
+    CHECK(truncated(fz_home(ppc64, 17, image, 512, area, 64)));
+    part = fz_view(area, 64, ppc64, 17, 1);
+    CHECK(truncated(part.answer) && part.start == 0 && part.length == 0);
     CHECK(answers(fz_fill(ppc64, 18, values, 8, image, 511, area, 64, copies, 0, 1, 0),
-                  FZ_IMAGE_SIZE, 0));
+                  FZ_IMAGE_SIZE));
     CHECK(answers(fz_fill(ppc64, 18, values, 7, image, 512, area, 64, copies, 0, 1, 0),
-                  FZ_VALUES_SIZE, 0));
+                  FZ_VALUES_SIZE));
     image[256 + 8 * 1 + 7] = 1;
     CHECK(answers(fz_read(ppc64, 18, back, 8, image, 512, area, 64, copies, 0, 1),
-                  FZ_NOT_WIDENED, 0));
-    CHECK(answers(fz_home(ppc64, 18, image, 512, area, 64), FZ_NOT_WIDENED, 0));
+                  FZ_NOT_WIDENED));
+    CHECK(answers(fz_home(ppc64, 18, image, 512, area, 64), FZ_NOT_WIDENED));
 }
 
 static void check_z(void)
@@ -75,17 +85,17 @@ static void check_z(void)
 
     start();
     CHECK(answers(fz_fill(z, 18, values, 16, image, 512, area, 0, copies, 16, 0x1000, 0x2000),
-                  0, 0));
+                  0));
     CHECK(memcmp(image + 8 * 2, registers, 16) == 0);
     CHECK(memcmp(copies, values, 16) == 0);
-    CHECK(answers(fz_read(z, 18, back, 16, image, 512, area, 0, copies, 16, 0x1000), 0, 0));
+    CHECK(answers(fz_read(z, 18, back, 16, image, 512, area, 0, copies, 16, 0x1000), 0));
     CHECK(memcmp(back, values, 16) == 0);
     CHECK(answers(fz_read(z, 18, back, 16, image, 512, area, 0, copies, 15, 0x1000),
-                  FZ_OUTSIDE_COPIES, 0));
+                  FZ_OUTSIDE_COPIES));
     CHECK(answers(fz_fill(z, 18, values, 16, image, 512, area, 0, copies, 16, 0x1004, 0x2000),
-                  FZ_BAD_COPIES, 0));
-    CHECK(answers(fz_home(z, 18, image, 512, area, 64), FZ_NO_VIEW, 0));
-    CHECK(answers(fz_view(area, 64, z, 18, 0).answer, FZ_NO_VIEW, 0));
+                  FZ_BAD_COPIES));
+    CHECK(answers(fz_home(z, 18, image, 512, area, 64), FZ_NO_VIEW));
+    CHECK(answers(fz_view(area, 64, z, 18, 0).answer, FZ_NO_VIEW));
 }
 
 int main(void)

@@ -17,7 +17,7 @@ static void check_reading(void)
     fz_answer none = fz_read_signature(sig, 0);
 
     CHECK(yes.number == FZ_ACCEPTED && yes.place == 0 && yes.items == 5);
-    CHECK(no.number == FZ_TRUNCATED && no.place == 7 && no.items == 0);
+    CHECK(no.number == FZ_TRUNCATED && no.place == 7 && no.items == 2);
     CHECK(none.number == FZ_TRUNCATED && none.place == 0 && none.items == 0);
 }
 
@@ -44,7 +44,7 @@ static void check_measuring(void)
 
     CHECK(yes.answer.number == FZ_ACCEPTED && yes.answer.place == 0 && yes.answer.items == 0);
     CHECK(yes.values == 20 && yes.area == 0 && yes.copies == 16);
-    CHECK(no.answer.number == FZ_TRUNCATED && no.answer.place == 14 && no.answer.items == 0);
+    CHECK(no.answer.number == FZ_TRUNCATED && no.answer.place == 14 && no.answer.items == 4);
     CHECK(no.values == 0 && no.area == 0 && no.copies == 0);
 }
 
@@ -71,8 +71,8 @@ static void check_listing(void)
 
     for (room = 0; room <= 100; room++)
         check_listing_in(room);
-    CHECK(fz_listing(call, 0, text, sizeof text) == 15);
-    CHECK(strcmp(text, "refused 2 at 0\n") == 0);
+    CHECK(fz_listing(call, 0, text, sizeof text) == 23);
+    CHECK(strcmp(text, "refused 2 at 0 after 0\n") == 0);
 }
 
 int main(void)

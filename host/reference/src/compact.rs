@@ -145,35 +145,42 @@ pub fn measure(bytes: &[u8]) -> Result<Sizes, Refusal> {
     place(bytes, &mut Nobody).map(|(_, _, sizes)| sizes)
 }
 
+/// A signature's bytes, and the headers that have passed so far.
+struct Input<'a> {
+    bytes: &'a [u8],
+    passed: usize,
+}
+
 /// Reads a signature and places its arguments.
 fn place(
     bytes: &[u8],
     keeper: &mut impl Keeper,
 ) -> Result<(Convention, ResultType, Sizes), Refusal> {
+    let mut input = Input { bytes, passed: 0 };
     if bytes.len() > 4096 {
-        return refuse(1, 0);
+        return input.refuse(1, 0);
     }
-    let convention_end = header(bytes, 0, bytes.len(), |tag| tag == 0x01)?;
+    let convention_end = input.header(0, bytes.len(), |tag| tag == 0x01)?;
     let convention = match bytes[3..convention_end] {
         [1] => Convention::Ppc64,
         [2] => Convention::Z,
-        _ => return refuse(4, 0),
+        _ => return input.refuse_item(4, 0),
     };
-    let result_end = header(bytes, convention_end, bytes.len(), |tag| tag == 0x02)?;
-    let result = result_type(bytes, convention_end + 3, result_end)?;
-    let end = header(bytes, result_end, bytes.len(), |tag| tag == 0x03)?;
+    let result_end = input.header(convention_end, bytes.len(), |tag| tag == 0x02)?;
+    let result = result_type(&mut input, convention_end + 3, result_end)?;
+    let end = input.header(result_end, bytes.len(), |tag| tag == 0x03)?;
     let sizes = match convention {
-        Convention::Ppc64 => place_ppc64(bytes, result_end + 3, end, result, keeper)?,
-        Convention::Z => place_z(bytes, result_end + 3, end, result, keeper)?,
+        Convention::Ppc64 => place_ppc64(&mut input, result_end + 3, end, result, keeper)?,
+        Convention::Z => place_z(&mut input, result_end + 3, end, result, keeper)?,
     };
     if end < bytes.len() {
-        return refuse(9, end);
+        return input.refuse(9, end);
     }
     Ok((convention, result, sizes))
 }
 
 fn place_ppc64(
-    bytes: &[u8],
+    input: &mut Input<'_>,
     body: usize,
     end: usize,
     result: ResultType,
@@ -182,7 +189,7 @@ fn place_ppc64(
     let hidden = result == ResultType::Struct;
     let mut doublewords = usize::from(hidden);
     let mut floats = 0;
-    let values = arguments(bytes, body, end, keeper, |shape| {
+    let values = arguments(input, body, end, keeper, |shape| {
         let first = doublewords;
         let count = shape.size.div_ceil(8);
         doublewords += count;
@@ -225,7 +232,7 @@ fn place_ppc64(
 }
 
 fn place_z(
-    bytes: &[u8],
+    input: &mut Input<'_>,
     body: usize,
     end: usize,
     result: ResultType,
@@ -236,7 +243,7 @@ fn place_z(
     let mut floating = 0;
     let mut stack: u16 = 160;
     let mut copies = 0;
-    let values = arguments(bytes, body, end, keeper, |shape| {
+    let values = arguments(input, body, end, keeper, |shape| {
         let mut argument = Argument::default();
         let by_reference = match shape.kind {
             Kind::LongDouble => true,
@@ -281,7 +288,7 @@ fn place_z(
 /// Hands over the arguments that stand from `body` to `end`, each placed by `place`, and gives the
 /// size of their values.
 fn arguments(
-    bytes: &[u8],
+    input: &mut Input<'_>,
     body: usize,
     end: usize,
     keeper: &mut impl Keeper,
@@ -294,9 +301,9 @@ fn arguments(
     let mut at = body;
     while at < end {
         if count == 64 {
-            return refuse(7, at);
+            return input.refuse(7, at);
         }
-        let (shape, after) = shape(bytes, at, end, 1)?;
+        let (shape, after) = shape(input, at, end, 1)?;
         values += shape.size;
         count += 1;
         keeper.keep(Argument {
@@ -309,13 +316,13 @@ fn arguments(
     Ok(values)
 }
 
-fn result_type(bytes: &[u8], body: usize, end: usize) -> Result<ResultType, Refusal> {
+fn result_type(input: &mut Input<'_>, body: usize, end: usize) -> Result<ResultType, Refusal> {
     if body == end {
         return Ok(ResultType::None);
     }
-    let (shape, after) = shape(bytes, body, end, 1)?;
+    let (shape, after) = shape(input, body, end, 1)?;
     if after < end {
-        return refuse(4, after);
+        return input.refuse(4, after);
     }
     Ok(match shape.kind {
         Kind::Integer => ResultType::Integer,
@@ -326,10 +333,15 @@ fn result_type(bytes: &[u8], body: usize, end: usize) -> Result<ResultType, Refu
 }
 
 /// The type item at `at`, whose own depth would be `depth` if it were a struct, and its end.
-fn shape(bytes: &[u8], at: usize, limit: usize, depth: usize) -> Result<(Shape, usize), Refusal> {
-    let end = header(bytes, at, limit, |tag| matches!(tag, 0x10..=0x12))?;
-    let body = &bytes[at + 3..end];
-    let shape = match (bytes[at], body) {
+fn shape(
+    input: &mut Input<'_>,
+    at: usize,
+    limit: usize,
+    depth: usize,
+) -> Result<(Shape, usize), Refusal> {
+    let end = input.header(at, limit, |tag| matches!(tag, 0x10..=0x12))?;
+    let body = &input.bytes[at + 3..end];
+    let shape = match (input.bytes[at], body) {
         (0x10, &[code @ 0..=8]) => {
             let content = match code {
                 0 | 2 | 4 | 6 => Content::SignedInteger,
@@ -337,13 +349,13 @@ fn shape(bytes: &[u8], at: usize, limit: usize, depth: usize) -> Result<(Shape, 
             };
             scalar(Kind::Integer, INTEGER_SIZES[usize::from(code)], content)
         }
-        (0x11, &[2]) if depth > 1 => return refuse(5, at),
+        (0x11, &[2]) if depth > 1 => return input.refuse_item(5, at),
         (0x11, &[2]) => scalar(Kind::LongDouble, 16, Content::Other),
         (0x11, &[code @ 0..=1]) => {
             scalar(Kind::Float, FLOAT_SIZES[usize::from(code)], Content::Float)
         }
-        (0x12, _) => struct_shape(bytes, at, end, depth)?,
-        _ => return refuse(4, at),
+        (0x12, _) => struct_shape(input, at, end, depth)?,
+        _ => return input.refuse_item(4, at),
     };
     Ok((shape, end))
 }
@@ -357,19 +369,24 @@ fn scalar(kind: Kind, size: usize, content: Content) -> Shape {
     }
 }
 
-fn struct_shape(bytes: &[u8], at: usize, end: usize, depth: usize) -> Result<Shape, Refusal> {
+fn struct_shape(
+    input: &mut Input<'_>,
+    at: usize,
+    end: usize,
+    depth: usize,
+) -> Result<Shape, Refusal> {
     if depth > 8 {
-        return refuse(6, at);
+        return input.refuse_item(6, at);
     }
     let mut next = at + 3;
     if next == end {
-        return refuse(4, at);
+        return input.refuse_item(4, at);
     }
     let mut size = 0;
     let mut alignment = 1;
     let mut kind = Kind::Struct;
     while next < end {
-        let (field, after) = shape(bytes, next, end, depth + 1)?;
+        let (field, after) = shape(input, next, end, depth + 1)?;
         let only = next == at + 3 && after == end;
         if only && matches!(field.kind, Kind::Float | Kind::FloatStruct) {
             kind = Kind::FloatStruct;
@@ -380,7 +397,7 @@ fn struct_shape(bytes: &[u8], at: usize, end: usize, depth: usize) -> Result<Sha
     }
     size = next_multiple(size, alignment);
     if size > 256 {
-        return refuse(8, at);
+        return input.refuse_item(8, at);
     }
     Ok(Shape {
         kind,
@@ -395,28 +412,44 @@ fn next_multiple(number: usize, alignment: usize) -> usize {
     (number + alignment - 1) & !(alignment - 1)
 }
 
-/// Tests the header at `at` and gives the end of its item.
-fn header(
-    bytes: &[u8],
-    at: usize,
-    limit: usize,
-    allowed: impl Fn(u8) -> bool,
-) -> Result<usize, Refusal> {
-    let &[tag, high, low, ..] = &bytes[at..limit] else {
-        return refuse(2, at);
-    };
-    if !allowed(tag) {
-        return refuse(3, at);
+impl Input<'_> {
+    /// Tests the header at `at` and gives the end of its item.
+    fn header(
+        &mut self,
+        at: usize,
+        limit: usize,
+        allowed: impl Fn(u8) -> bool,
+    ) -> Result<usize, Refusal> {
+        let &[tag, high, low, ..] = &self.bytes[at..limit] else {
+            return self.refuse(2, at);
+        };
+        if !allowed(tag) {
+            return self.refuse(3, at);
+        }
+        let end = at + 3 + usize::from(u16::from_be_bytes([high, low]));
+        if end > limit {
+            return self.refuse(2, at);
+        }
+        self.passed += 1;
+        Ok(end)
     }
-    let end = at + 3 + usize::from(u16::from_be_bytes([high, low]));
-    if end > limit {
-        return refuse(2, at);
-    }
-    Ok(end)
-}
 
-fn refuse<T>(number: u64, place: usize) -> Result<T, Refusal> {
-    Err(Refusal { number, place })
+    fn refuse<T>(&self, number: u64, place: usize) -> Result<T, Refusal> {
+        Err(Refusal {
+            number,
+            place,
+            items: self.passed,
+        })
+    }
+
+    /// Refuses an item whose header has passed, and is not to be counted.
+    fn refuse_item<T>(&self, number: u64, place: usize) -> Result<T, Refusal> {
+        Err(Refusal {
+            number,
+            place,
+            items: self.passed - 1,
+        })
+    }
 }
 
 /// As `planner` says it, for comparing the two.

@@ -10,9 +10,14 @@ pub fn listing(bytes: &[u8]) -> String {
     }
 }
 
-/// "A refusal prints `refused 2 at 0`", and a newline as after every line.
+/// "The printed line becomes `refused 2 at 0 after 0`", and a newline as after every line.
 pub fn refusal_line(refusal: &Refusal) -> String {
-    format!("refused {} at {}\n", refusal.number, refusal.place)
+    let Refusal {
+        number,
+        place,
+        items,
+    } = refusal;
+    format!("refused {number} at {place} after {items}\n")
 }
 
 /// A plan in print.
@@ -184,8 +189,10 @@ result hidden r2
 
     #[test]
     fn a_refusal() {
-        assert_eq!(listing(&[]), "refused 2 at 0\n");
-        assert_eq!(listing(&[0; 4097]), "refused 1 at 0\n");
+        assert_eq!(listing(&[]), "refused 2 at 0 after 0\n");
+        assert_eq!(listing(&[0; 4097]), "refused 1 at 0 after 0\n");
+        let bytes = [1, 0, 1, 1, 2, 0, 0, 3, 0, 0, 0];
+        assert_eq!(listing(&bytes), "refused 9 at 10 after 3\n");
     }
 
     #[test]

@@ -543,7 +543,7 @@ fn register_writable(
 }
 
 fn refuse<T>(number: u64) -> Result<T, Refusal> {
-    Err(Refusal { number, place: 0 })
+    Err(Refusal::without_place(number))
 }
 
 #[cfg(test)]
@@ -612,7 +612,7 @@ mod tests {
     }
 
     fn refused(answer: Result<(), Refusal>, number: u64) {
-        assert_eq!(answer, Err(Refusal { number, place: 0 }));
+        assert_eq!(answer, Err(Refusal::without_place(number)));
     }
 
     #[test]

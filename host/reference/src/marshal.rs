@@ -157,7 +157,9 @@ pub fn read(
             Form::Widened => found.extend_from_slice(&narrowed(first)?),
             Form::Address => {
                 let copy = pointed_at(number(first), size, copies.len(), copy_base);
-                found.extend_from_slice(&copies[copy.ok_or(refusal(OUTSIDE_COPIES))?]);
+                found.extend_from_slice(
+                    &copies[copy.ok_or(Refusal::without_place(OUTSIDE_COPIES))?],
+                );
             }
         }
     }
@@ -280,20 +282,15 @@ fn number(doubleword: &[u8]) -> u64 {
 
 /// The single whose widened bits stand in a floating register.
 fn narrowed(doubleword: &[u8]) -> Result<[u8; 4], Refusal> {
-    let single = narrow(number(doubleword)).ok_or(refusal(NOT_WIDENED))?;
+    let single = narrow(number(doubleword)).ok_or(Refusal::without_place(NOT_WIDENED))?;
     Ok(single.to_be_bytes())
 }
 
 fn require(holds: bool, otherwise: u64) -> Result<(), Refusal> {
     match holds {
         true => Ok(()),
-        false => Err(refusal(otherwise)),
+        false => Err(Refusal::without_place(otherwise)),
     }
-}
-
-/// A refusal from 10 on names no place.
-fn refusal(number: u64) -> Refusal {
-    Refusal { number, place: 0 }
 }
 
 #[cfg(test)]
@@ -401,7 +398,7 @@ mod tests {
     }
 
     fn refused<T>(number: u64) -> Result<T, Refusal> {
-        Err(Refusal { number, place: 0 })
+        Err(Refusal::without_place(number))
     }
 
     /// Fills, compares every byte with what is stated, and reads the values back.
@@ -584,7 +581,8 @@ mod tests {
             call.fill(&of[..of.len() - 1], &values, 0),
             Err(Refusal {
                 number: 2,
-                place: 7
+                place: 7,
+                items: 2
             })
         );
     }

@@ -1,5 +1,6 @@
 //! The reader of signatures: document 01, "A signature's bytes" and refusals 1 to 9 of "When the
-//! bridge says no". Offsets count from the signature's first byte.
+//! bridge says no", with the counts of document 02's No. 10. Offsets count from the signature's first
+//! byte.
 
 use crate::{Convention, Float, Integer, Refusal, Signature, Type};
 
@@ -23,151 +24,182 @@ struct Item {
     end: usize,
 }
 
+/// The bytes, and how many headers "had passed header room, tag and length room" so far,
+/// "enclosing and nested ones alike".
+struct Reader<'a> {
+    bytes: &'a [u8],
+    passed: usize,
+}
+
 /// Reads a whole signature.
 pub fn read(bytes: &[u8]) -> Result<Signature, Refusal> {
+    let mut reader = Reader { bytes, passed: 0 };
     if bytes.len() > LONGEST_SIGNATURE {
-        return refuse(1, 0);
+        return reader.refuse(1, 0);
     }
-    let first = item(bytes, 0, bytes.len(), &[CONVENTION])?;
-    let convention = match bytes[first.body..first.end] {
-        [1] => Convention::Ppc64,
-        [2] => Convention::Z,
-        _ => return refuse(4, first.place),
-    };
-    let second = item(bytes, first.end, bytes.len(), &[RESULT])?;
-    let result = result(bytes, &second)?;
-    let third = item(bytes, second.end, bytes.len(), &[ARGUMENTS])?;
-    let arguments = arguments(bytes, &third)?;
-    if third.end < bytes.len() {
-        return refuse(9, third.end);
-    }
-    Ok(Signature {
-        convention,
-        result,
-        arguments,
-    })
+    reader.signature()
 }
 
-/// "empty body for none, else one type item"
-fn result(bytes: &[u8], item: &Item) -> Result<Option<Type>, Refusal> {
-    if item.body == item.end {
-        return Ok(None);
-    }
-    let (result, after) = type_item(bytes, item.body, item.end, 1)?;
-    if after < item.end {
-        return refuse(4, after);
-    }
-    Ok(Some(result))
-}
-
-/// "0 to 64 type items"
-fn arguments(bytes: &[u8], item: &Item) -> Result<Vec<Type>, Refusal> {
-    let mut arguments = Vec::new();
-    let mut place = item.body;
-    while place < item.end {
-        if arguments.len() == MOST_ARGUMENTS {
-            return refuse(7, place);
+impl Reader<'_> {
+    fn signature(&mut self) -> Result<Signature, Refusal> {
+        let end = self.bytes.len();
+        let first = self.item(0, end, &[CONVENTION])?;
+        let convention = match self.bytes[first.body..first.end] {
+            [1] => Convention::Ppc64,
+            [2] => Convention::Z,
+            _ => return self.refuse_item(4, &first),
+        };
+        let second = self.item(first.end, end, &[RESULT])?;
+        let result = self.result(&second)?;
+        let third = self.item(second.end, end, &[ARGUMENTS])?;
+        let arguments = self.arguments(&third)?;
+        if third.end < end {
+            return self.refuse(9, third.end);
         }
-        let (argument, after) = type_item(bytes, place, item.end, 1)?;
-        arguments.push(argument);
-        place = after;
+        Ok(Signature {
+            convention,
+            result,
+            arguments,
+        })
     }
-    Ok(arguments)
-}
 
-/// The type whose item stands at `place`, and the offset after that item. A struct that stands
-/// there has this `depth`; "an argument or result struct has depth 1".
-fn type_item(
-    bytes: &[u8],
-    place: usize,
-    end: usize,
-    depth: usize,
-) -> Result<(Type, usize), Refusal> {
-    let item = item(bytes, place, end, &[INTEGER, FLOAT, STRUCT])?;
-    let read = match item.tag {
-        INTEGER => integer(bytes, &item)?,
-        FLOAT => float(bytes, &item, depth)?,
-        _ => structure(bytes, &item, depth)?,
-    };
-    Ok((read, item.end))
-}
+    /// "empty body for none, else one type item"
+    fn result(&mut self, item: &Item) -> Result<Option<Type>, Refusal> {
+        if item.body == item.end {
+            return Ok(None);
+        }
+        let (result, after) = self.type_item(item.body, item.end, 1)?;
+        if after < item.end {
+            return self.refuse(4, after);
+        }
+        Ok(Some(result))
+    }
 
-fn integer(bytes: &[u8], item: &Item) -> Result<Type, Refusal> {
-    let integer = match bytes[item.body..item.end] {
-        [0] => Integer::I8,
-        [1] => Integer::U8,
-        [2] => Integer::I16,
-        [3] => Integer::U16,
-        [4] => Integer::I32,
-        [5] => Integer::U32,
-        [6] => Integer::I64,
-        [7] => Integer::U64,
-        [8] => Integer::Pointer,
-        _ => return refuse(4, item.place),
-    };
-    Ok(Type::Integer(integer))
-}
+    /// "0 to 64 type items"
+    fn arguments(&mut self, item: &Item) -> Result<Vec<Type>, Refusal> {
+        let mut arguments = Vec::new();
+        let mut place = item.body;
+        while place < item.end {
+            if arguments.len() == MOST_ARGUMENTS {
+                return self.refuse(7, place);
+            }
+            let (argument, after) = self.type_item(place, item.end, 1)?;
+            arguments.push(argument);
+            place = after;
+        }
+        Ok(arguments)
+    }
 
-fn float(bytes: &[u8], item: &Item, depth: usize) -> Result<Type, Refusal> {
-    let float = match bytes[item.body..item.end] {
-        [0] => Float::Single,
-        [1] => Float::Double,
-        [2] => Float::LongDouble,
-        _ => return refuse(4, item.place),
-    };
-    let inside_a_struct = depth > 1;
-    if float == Float::LongDouble && inside_a_struct {
-        return refuse(5, item.place);
+    /// The type whose item stands at `place`, and the offset after that item. A struct that stands
+    /// there has this `depth`; "an argument or result struct has depth 1".
+    fn type_item(
+        &mut self,
+        place: usize,
+        end: usize,
+        depth: usize,
+    ) -> Result<(Type, usize), Refusal> {
+        let item = self.item(place, end, &[INTEGER, FLOAT, STRUCT])?;
+        let read = match item.tag {
+            INTEGER => self.integer(&item)?,
+            FLOAT => self.float(&item, depth)?,
+            _ => self.structure(&item, depth)?,
+        };
+        Ok((read, item.end))
     }
-    Ok(Type::Float(float))
-}
 
-fn structure(bytes: &[u8], item: &Item, depth: usize) -> Result<Type, Refusal> {
-    if depth > DEEPEST_STRUCT {
-        return refuse(6, item.place);
+    fn integer(&self, item: &Item) -> Result<Type, Refusal> {
+        let integer = match self.bytes[item.body..item.end] {
+            [0] => Integer::I8,
+            [1] => Integer::U8,
+            [2] => Integer::I16,
+            [3] => Integer::U16,
+            [4] => Integer::I32,
+            [5] => Integer::U32,
+            [6] => Integer::I64,
+            [7] => Integer::U64,
+            [8] => Integer::Pointer,
+            _ => return self.refuse_item(4, item),
+        };
+        Ok(Type::Integer(integer))
     }
-    if item.body == item.end {
-        return refuse(4, item.place);
-    }
-    let mut fields = Vec::new();
-    let mut place = item.body;
-    while place < item.end {
-        let (field, after) = type_item(bytes, place, item.end, depth + 1)?;
-        fields.push(field);
-        place = after;
-    }
-    let structure = Type::Struct(fields);
-    if structure.size() > LARGEST_STRUCT {
-        return refuse(8, item.place);
-    }
-    Ok(structure)
-}
 
-/// The header at `place`, in an enclosing body that ends at `end`. "At an item: header room, tag,
-/// length room."
-fn item(bytes: &[u8], place: usize, end: usize, allowed: &[u8]) -> Result<Item, Refusal> {
-    if end - place < 3 {
-        return refuse(2, place);
+    fn float(&self, item: &Item, depth: usize) -> Result<Type, Refusal> {
+        let float = match self.bytes[item.body..item.end] {
+            [0] => Float::Single,
+            [1] => Float::Double,
+            [2] => Float::LongDouble,
+            _ => return self.refuse_item(4, item),
+        };
+        let inside_a_struct = depth > 1;
+        if float == Float::LongDouble && inside_a_struct {
+            return self.refuse_item(5, item);
+        }
+        Ok(Type::Float(float))
     }
-    let tag = bytes[place];
-    if !allowed.contains(&tag) {
-        return refuse(3, place);
-    }
-    let length = usize::from(bytes[place + 1]) * 256 + usize::from(bytes[place + 2]);
-    let body = place + 3;
-    if length > end - body {
-        return refuse(2, place);
-    }
-    Ok(Item {
-        place,
-        tag,
-        body,
-        end: body + length,
-    })
-}
 
-fn refuse<T>(number: u64, place: usize) -> Result<T, Refusal> {
-    Err(Refusal { number, place })
+    fn structure(&mut self, item: &Item, depth: usize) -> Result<Type, Refusal> {
+        if depth > DEEPEST_STRUCT {
+            return self.refuse_item(6, item);
+        }
+        if item.body == item.end {
+            return self.refuse_item(4, item);
+        }
+        let mut fields = Vec::new();
+        let mut place = item.body;
+        while place < item.end {
+            let (field, after) = self.type_item(place, item.end, depth + 1)?;
+            fields.push(field);
+            place = after;
+        }
+        let structure = Type::Struct(fields);
+        if structure.size() > LARGEST_STRUCT {
+            return self.refuse_item(8, item);
+        }
+        Ok(structure)
+    }
+
+    /// The header at `place`, in an enclosing body that ends at `end`. "At an item: header room,
+    /// tag, length room."
+    fn item(&mut self, place: usize, end: usize, allowed: &[u8]) -> Result<Item, Refusal> {
+        if end - place < 3 {
+            return self.refuse(2, place);
+        }
+        let tag = self.bytes[place];
+        if !allowed.contains(&tag) {
+            return self.refuse(3, place);
+        }
+        let length = usize::from(self.bytes[place + 1]) * 256 + usize::from(self.bytes[place + 2]);
+        let body = place + 3;
+        if length > end - body {
+            return self.refuse(2, place);
+        }
+        self.passed += 1;
+        Ok(Item {
+            place,
+            tag,
+            body,
+            end: body + length,
+        })
+    }
+
+    /// A refusal at a header that has not passed, or at bytes left over, which "are no item".
+    fn refuse<T>(&self, number: u64, place: usize) -> Result<T, Refusal> {
+        Err(Refusal {
+            number,
+            place,
+            items: self.passed,
+        })
+    }
+
+    /// A refusal of an item whose header has passed: "the refused item's own header isn't counted",
+    /// and what stands in it is.
+    fn refuse_item<T>(&self, number: u64, item: &Item) -> Result<T, Refusal> {
+        Err(Refusal {
+            number,
+            place: item.place,
+            items: self.passed - 1,
+        })
+    }
 }
 
 #[cfg(test)]
@@ -205,8 +237,14 @@ mod tests {
         (0..count).fold(innermost.to_vec(), |inner, _| item(STRUCT, &inner))
     }
 
-    fn refused(bytes: &[u8], number: u64, place: usize) {
-        assert_eq!(read(bytes), Err(Refusal { number, place }));
+    /// Refused with this number, at this place, after this many headers.
+    fn refused(bytes: &[u8], number: u64, place: usize, items: usize) {
+        let refusal = Refusal {
+            number,
+            place,
+            items,
+        };
+        assert_eq!(read(bytes), Err(refusal));
     }
 
     const I8_ITEM: [u8; 4] = [INTEGER, 0, 1, 0];
@@ -261,61 +299,64 @@ mod tests {
 
     #[test]
     fn refusal_1_is_a_signature_over_4096_bytes_whatever_it_holds() {
-        refused(&[0; 4097], 1, 0);
-        refused(&[0; 4096], 3, 0);
+        refused(&[0; 4097], 1, 0, 0);
+        refused(&[0; 4096], 3, 0, 0);
     }
 
     #[test]
     fn refusal_2_is_no_room_for_a_header_or_its_length() {
-        refused(&[], 2, 0);
-        refused(&hex("01 00"), 2, 0);
-        refused(&hex("01 0001"), 2, 0);
-        refused(&hex("01 0001 01"), 2, 4);
-        refused(&hex("01 0001 01 02 0000"), 2, 7);
+        refused(&[], 2, 0, 0);
+        refused(&hex("01 00"), 2, 0, 0);
+        refused(&hex("01 0001"), 2, 0, 0);
+        refused(&hex("01 0001 01"), 2, 4, 1);
+        refused(&hex("01 0001 01 02 0000"), 2, 7, 2);
         // the enclosing end counts, not the signature's
-        refused(&hex("01 0001 01 02 0003 10 0001 04 03 0000"), 2, 7);
-        refused(&hex("01 0001 01 02 0002 10 00 03 0000"), 2, 7);
+        refused(&hex("01 0001 01 02 0003 10 0001 04 03 0000"), 2, 7, 2);
+        refused(&hex("01 0001 01 02 0002 10 00 03 0000"), 2, 7, 2);
         refused(
             &signature(&[], &[INTEGER, 0, 1, 0, INTEGER, 0]),
             2,
             ARGUMENTS_BODY + 4,
+            4,
         );
     }
 
     #[test]
     fn refusal_3_is_a_tag_not_allowed_there() {
-        refused(&hex("02 0000 01"), 3, 0);
-        refused(&hex("01 0001 01 03 0000"), 3, 4);
-        refused(&hex("01 0001 01 02 0000 02 0000"), 3, 7);
-        refused(&signature(&item(0x13, &[0]), &[]), 3, RESULT_BODY);
+        refused(&hex("02 0000 01"), 3, 0, 0);
+        refused(&hex("01 0001 01 03 0000"), 3, 4, 1);
+        refused(&hex("01 0001 01 02 0000 02 0000"), 3, 7, 2);
+        refused(&signature(&item(0x13, &[0]), &[]), 3, RESULT_BODY, 2);
         refused(
             &signature(&[], &item(STRUCT, &item(0x03, &[]))),
             3,
             ARGUMENTS_BODY + 3,
+            4,
         );
     }
 
     #[test]
     fn refusal_4_is_a_length_or_a_code_not_allowed() {
-        refused(&hex("01 0001 00 02 0000 03 0000"), 4, 0);
-        refused(&hex("01 0001 03 02 0000 03 0000"), 4, 0);
-        refused(&hex("01 0000 02 0000 03 0000"), 4, 0);
-        refused(&hex("01 0002 01 01 02 0000 03 0000"), 4, 0);
-        refused(&signature(&item(INTEGER, &[9]), &[]), 4, RESULT_BODY);
-        refused(&signature(&item(INTEGER, &[0, 0]), &[]), 4, RESULT_BODY);
-        refused(&signature(&item(FLOAT, &[]), &[]), 4, RESULT_BODY);
-        refused(&signature(&item(FLOAT, &[3]), &[]), 4, RESULT_BODY);
-        refused(&signature(&[], &item(STRUCT, &[])), 4, ARGUMENTS_BODY);
+        refused(&hex("01 0001 00 02 0000 03 0000"), 4, 0, 0);
+        refused(&hex("01 0001 03 02 0000 03 0000"), 4, 0, 0);
+        refused(&hex("01 0000 02 0000 03 0000"), 4, 0, 0);
+        refused(&hex("01 0002 01 01 02 0000 03 0000"), 4, 0, 0);
+        refused(&signature(&item(INTEGER, &[9]), &[]), 4, RESULT_BODY, 2);
+        refused(&signature(&item(INTEGER, &[0, 0]), &[]), 4, RESULT_BODY, 2);
+        refused(&signature(&item(FLOAT, &[]), &[]), 4, RESULT_BODY, 2);
+        refused(&signature(&item(FLOAT, &[3]), &[]), 4, RESULT_BODY, 2);
+        refused(&signature(&[], &item(STRUCT, &[])), 4, ARGUMENTS_BODY, 3);
     }
 
     #[test]
     fn refusal_4_is_also_a_byte_after_the_results_one_type() {
         let two = [I8_ITEM, I8_ITEM].concat();
-        refused(&signature(&two, &[]), 4, RESULT_BODY + 4);
+        refused(&signature(&two, &[]), 4, RESULT_BODY + 4, 3);
         refused(
             &signature(&[INTEGER, 0, 1, 0, 0xff], &[]),
             4,
             RESULT_BODY + 4,
+            3,
         );
     }
 
@@ -325,11 +366,13 @@ mod tests {
             &signature(&nested(1, &LONG_DOUBLE_ITEM), &[]),
             5,
             RESULT_BODY + 3,
+            3,
         );
         refused(
             &signature(&[], &nested(8, &LONG_DOUBLE_ITEM)),
             5,
             ARGUMENTS_BODY + 24,
+            11,
         );
         assert!(read(&signature(&LONG_DOUBLE_ITEM, &LONG_DOUBLE_ITEM)).is_ok());
     }
@@ -337,11 +380,17 @@ mod tests {
     #[test]
     fn refusal_6_is_a_struct_at_depth_9() {
         assert!(read(&signature(&nested(8, &I8_ITEM), &nested(8, &I8_ITEM))).is_ok());
-        refused(&signature(&nested(9, &I8_ITEM), &[]), 6, RESULT_BODY + 24);
+        refused(
+            &signature(&nested(9, &I8_ITEM), &[]),
+            6,
+            RESULT_BODY + 24,
+            10,
+        );
         refused(
             &signature(&[], &nested(9, &I8_ITEM)),
             6,
             ARGUMENTS_BODY + 24,
+            11,
         );
     }
 
@@ -352,9 +401,10 @@ mod tests {
             &signature(&[], &I8_ITEM.repeat(65)),
             7,
             ARGUMENTS_BODY + 256,
+            67,
         );
         let with_a_byte = [I8_ITEM.repeat(64), vec![0xff]].concat();
-        refused(&signature(&[], &with_a_byte), 7, ARGUMENTS_BODY + 256);
+        refused(&signature(&[], &with_a_byte), 7, ARGUMENTS_BODY + 256, 67);
     }
 
     #[test]
@@ -362,23 +412,23 @@ mod tests {
         let doubles = DOUBLE_ITEM.repeat(32);
         assert!(read(&signature(&[], &item(STRUCT, &doubles))).is_ok());
         let more = [doubles, I8_ITEM.to_vec()].concat();
-        refused(&signature(&[], &item(STRUCT, &more)), 8, ARGUMENTS_BODY);
+        refused(&signature(&[], &item(STRUCT, &more)), 8, ARGUMENTS_BODY, 36);
     }
 
     #[test]
     fn refusal_9_is_a_byte_after_the_third_item() {
-        refused(&hex("01 0001 01 02 0000 03 0000 00"), 9, 10);
-        refused(&hex("01 0001 01 02 0000 03 0000 03 0000"), 9, 10);
+        refused(&hex("01 0001 01 02 0000 03 0000 00"), 9, 10, 3);
+        refused(&hex("01 0001 01 02 0000 03 0000 03 0000"), 9, 10, 3);
     }
 
     #[test]
     fn the_order_at_a_header_is_room_then_tag_then_length() {
         // two bytes with a wrong tag: no room comes first
-        refused(&hex("ff ff"), 2, 0);
+        refused(&hex("ff ff"), 2, 0, 0);
         // a wrong tag with a length that passes the end: the tag comes first
-        refused(&hex("ff ff ff"), 3, 0);
+        refused(&hex("ff ff ff"), 3, 0, 0);
         // a length that passes the end, of an item whose length is never allowed: room first
-        refused(&hex("01 0005 01"), 2, 0);
+        refused(&hex("01 0005 01"), 2, 0, 0);
     }
 
     #[test]
@@ -386,19 +436,20 @@ mod tests {
         let at = RESULT_BODY + 24;
         // at depth 9 with a length that passes the end
         let long = [STRUCT, 0xff, 0xff];
-        refused(&signature(&nested(8, &long), &[]), 2, at);
+        refused(&signature(&nested(8, &long), &[]), 2, at, 10);
         // at depth 9 and empty
-        refused(&signature(&nested(9, &[]), &[]), 6, at);
+        refused(&signature(&nested(9, &[]), &[]), 6, at, 10);
         // a faulty field of a struct that is too large
         let faulty = [DOUBLE_ITEM.repeat(33), vec![INTEGER, 0, 1, 9]].concat();
         refused(
             &signature(&item(STRUCT, &faulty), &[]),
             4,
             RESULT_BODY + 3 + 132,
+            36,
         );
         // a struct that is too large makes the one around it too large: the inner one comes first
         let inner = nested(2, &DOUBLE_ITEM.repeat(33));
-        refused(&signature(&inner, &[]), 8, RESULT_BODY + 3);
+        refused(&signature(&inner, &[]), 8, RESULT_BODY + 3, 36);
     }
 
     #[test]
@@ -407,28 +458,30 @@ mod tests {
             &signature(&nested(1, &item(FLOAT, &[2, 2])), &[]),
             4,
             RESULT_BODY + 3,
+            3,
         );
         refused(
             &signature(&nested(1, &item(FLOAT, &[3])), &[]),
             4,
             RESULT_BODY + 3,
+            3,
         );
     }
 
     #[test]
     fn what_stands_further_left_is_refused_first() {
         // a faulty result before what is missing after it
-        refused(&hex("01 0001 01 02 0004 10 0001 09"), 4, 7);
+        refused(&hex("01 0001 01 02 0004 10 0001 09"), 4, 7, 2);
         // bytes after the result's type before a faulty third item
-        refused(&hex("01 0001 01 02 0005 10 0001 00 ff ff"), 4, 11);
+        refused(&hex("01 0001 01 02 0005 10 0001 00 ff ff"), 4, 11, 3);
         // a faulty result type before the bytes after it
-        refused(&hex("01 0001 01 02 0005 10 0001 09 ff 03 0000"), 4, 7);
+        refused(&hex("01 0001 01 02 0005 10 0001 09 ff 03 0000"), 4, 7, 2);
         // bytes after the 64th argument before bytes after the third item
         let mut bytes = signature(&[], &[I8_ITEM.repeat(64), vec![0]].concat());
         bytes.push(0);
-        refused(&bytes, 7, ARGUMENTS_BODY + 256);
+        refused(&bytes, 7, ARGUMENTS_BODY + 256, 67);
         // the 64th argument's own fault before bytes after it
         let faulty = [I8_ITEM.repeat(63), vec![INTEGER, 0, 1, 9, 0]].concat();
-        refused(&signature(&[], &faulty), 4, ARGUMENTS_BODY + 252);
+        refused(&signature(&[], &faulty), 4, ARGUMENTS_BODY + 252, 66);
     }
 }

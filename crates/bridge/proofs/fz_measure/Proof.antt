@@ -13,16 +13,22 @@ enum-told c = search needs
 enum-known-outcome : tie.Need-enum-known-outcome
 enum-known-outcome c = search needs
 
-number-of-requires : tie.Need-number-of-requires
-number-of-requires c κs = search needs
+fault-answer-requires : tie.Need-fault-answer-requires
+fault-answer-requires c κs = search needs
 
 returns : tie.Need-returns
 returns c = accepted-sizes _ _ (c .before .before .measure .ensures) _ (c .enum-told .given .1)
 
 returns-2 : tie.Need-returns-2
-returns-2 c = refused-sizes _ _ (c .before .before .before .before .measure .ensures) _ _ (c .before .before .outcome .given .1) _ (c .number-of .ensures)
+returns-2 c = refused-sizes _ _ (c .before .before .before .before .measure .ensures) _ (c .before .before .outcome .given .1) _ (c .fault-answer .ensures)
 
 pub fz-measure-spec : {M : Type 1} → statement M
 fz-measure-spec =
     tie.close
-    (tie.spec measure-requires enum-told enum-known-outcome number-of-requires returns returns-2)
+    (tie.spec
+    measure-requires
+    enum-told
+    enum-known-outcome
+    fault-answer-requires
+    returns
+    returns-2)

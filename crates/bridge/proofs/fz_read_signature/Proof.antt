@@ -1,4 +1,5 @@
 -- By the reading's outcome.
+use mathlib.Core.Path.{_∙_}
 use borrow.Author.Needs.{needs}
 use Rattle.bridge.proofs.fz_read_signature.Statement.{statement}
 use Rattle.bridge.proofs.Laws.{accepted-answer, refused-answer}
@@ -13,14 +14,14 @@ enum-known-outcome c = search needs
 enum-known-outcome-2 : tie.Need-enum-known-outcome-2
 enum-known-outcome-2 c = search needs
 
-number-of-requires : tie.Need-number-of-requires
-number-of-requires c κs = search needs
+fault-answer-requires : tie.Need-fault-answer-requires
+fault-answer-requires c κs = search needs
 
 returns : tie.Need-returns
 returns c = accepted-answer _ _ (c .before .before .before .read-signature .ensures) _ (c .before .outcome .given .1)
 
 returns-2 : tie.Need-returns-2
-returns-2 c = refused-answer _ _ (c .before .before .before .before .read-signature .ensures) _ _ (c .before .before .outcome2 .given .1) _ (c .number-of .ensures)
+returns-2 c = c .fault-answer .ensures ∙ refused-answer _ _ (c .before .before .before .before .read-signature .ensures) _ (c .before .before .outcome2 .given .1)
 
 pub fz-read-signature-spec : {M : Type 1} → statement M
 fz-read-signature-spec =
@@ -29,6 +30,6 @@ fz-read-signature-spec =
     read-signature-requires
     enum-known-outcome
     enum-known-outcome-2
-    number-of-requires
+    fault-answer-requires
     returns
     returns-2)

@@ -64,7 +64,7 @@ unfolding fillBuffers
 returns-2 c =
     let start = c .before .before .before .before .before .before .before .before .before .before in
     let same = plan-same (start .args .sig .now) _ (c .before .before .before .plan-signature .result) (c .before .before .before .before .read-signature .ensures) (c .before .before .before .plan-signature .ensures) in
-    (answer-refused (start .args .sig .now) _ (start .args .base) _ _ (ap (λ (p : Plan). p .outcome) (sym same) ∙ c .before .outcome .given .1), refl)
+    (answer-refused (start .args .sig .now) _ (start .args .base) _ (ap (λ (p : Plan). p .outcome) (sym same) ∙ c .before .outcome .given .1), refl)
 
 same-length : tie.Need-same-length
 same-length c = search needs

@@ -74,7 +74,7 @@ unfolding homeArea
 returns-3 c =
     let start = c .before .before .before .before .before .before .before .before in
     let same = plan-same (start .args .sig .now) _ (c .before .before .before .plan-signature .result) (c .before .before .before .before .read-signature .ensures) (c .before .before .before .plan-signature .ensures) in
-    (home-refused (start .args .sig .now) (start .args .image .now) _ _ _ (ap (λ (p : Plan). p .outcome) (sym same) ∙ c .before .outcome .given .1), refl)
+    (home-refused (start .args .sig .now) (start .args .image .now) _ _ (ap (λ (p : Plan). p .outcome) (sym same) ∙ c .before .outcome .given .1), refl)
 
 same-length : tie.Need-same-length
 same-length c = search needs

@@ -1,7 +1,7 @@
 -- The length, then the code, then where a long double stands.
 use borrow.Author.Needs.{needs}
 use Rattle.leaf_items.proofs.read_float.Statement.{statement}
-use mathlib.Core.Path.{sym}
+use mathlib.Core.Path.{sym, _∙_}
 use mathlib.Core.Bool.{true, false}
 use native.Mathlib.Omega.{arith}
 use borrow.Author.Tests.{lt-ltb, le-ltb}
@@ -14,8 +14,11 @@ use Rattle.leaf_items.proofs.read_float.Tie as tie
 sub-if1 : tie.Need-sub-if1
 sub-if1 c = search needs
 
+refused-here-requires : tie.Need-refused-here-requires
+refused-here-requires c κs = search needs
+
 returns : tie.Need-returns
-returns c = sym (float-length _ _ _ _ _ (omega arith))
+returns c = c .refused-here .ensures ∙ sym (float-length _ _ _ _ _ (omega arith))
 
 add-float-code : tie.Need-add-float-code
 add-float-code c = search needs
@@ -38,8 +41,14 @@ enum-told-2 c = search needs
 enum-told-3 : tie.Need-enum-told-3
 enum-told-3 c = search needs
 
+refused-here-requires-2 : tie.Need-refused-here-requires-2
+refused-here-requires-2 c κs = search needs
+
 enum-told-4 : tie.Need-enum-told-4
 enum-told-4 c = search needs
+
+refused-here-requires-3 : tie.Need-refused-here-requires-3
+refused-here-requires-3 c κs = search needs
 
 returns-2 : tie.Need-returns-2
 unfolding typeOf
@@ -50,20 +59,21 @@ unfolding typeOf
 returns-3 c = sym (float-by _ _ _ _ _ (omega arith) (FloatCode.Format FloatFormat.Double) (cc))
 
 returns-4 : tie.Need-returns-4
-returns-4 c = sym (long-double-by _ _ _ _ _ (omega arith) (cc) true (lt-ltb _ _ (c .if2 .taken)))
+returns-4 c = c .refused-here2 .ensures ∙ sym (long-double-by _ _ _ _ _ (omega arith) (cc) true (lt-ltb _ _ (c .before .if2 .taken)))
 
 returns-5 : tie.Need-returns-5
 unfolding typeOf
 returns-5 c = sym (long-double-by _ _ _ _ _ (omega arith) (cc) false (le-ltb _ _ (c .if2 .left)))
 
 returns-6 : tie.Need-returns-6
-returns-6 c = sym (float-by _ _ _ _ _ (omega arith) FloatCode.Unknown (cc))
+returns-6 c = c .refused-here3 .ensures ∙ sym (float-by _ _ _ _ _ (omega arith) FloatCode.Unknown (cc))
 
 pub read-float-spec : {M : Type 1} → statement M
 read-float-spec =
     tie.close
     (tie.spec
     sub-if1
+    refused-here-requires
     returns
     add-float-code
     shared-slice-read-float-code
@@ -72,7 +82,9 @@ read-float-spec =
     enum-told
     enum-told-2
     enum-told-3
+    refused-here-requires-2
     enum-told-4
+    refused-here-requires-3
     returns-2
     returns-3
     returns-4

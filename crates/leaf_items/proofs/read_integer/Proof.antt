@@ -1,7 +1,7 @@
 -- The length, then the code.
 use borrow.Author.Needs.{needs}
 use Rattle.leaf_items.proofs.read_integer.Statement.{statement}
-use mathlib.Core.Path.{sym}
+use mathlib.Core.Path.{sym, _∙_}
 use native.Mathlib.Omega.{arith}
 use Rattle.items.specs.declared.IntegerCode.{IntegerCode}
 use Rattle.types.specs.Trees.{typeOf}
@@ -11,8 +11,11 @@ use Rattle.leaf_items.proofs.read_integer.Tie as tie
 sub-if1 : tie.Need-sub-if1
 sub-if1 c = search needs
 
+refused-here-requires : tie.Need-refused-here-requires
+refused-here-requires c κs = search needs
+
 returns : tie.Need-returns
-returns c = sym (integer-length _ _ _ _ (omega arith))
+returns c = c .refused-here .ensures ∙ sym (integer-length _ _ _ _ (omega arith))
 
 add-integer-code : tie.Need-add-integer-code
 add-integer-code c = search needs
@@ -29,23 +32,28 @@ enum-known-k c = search needs
 enum-told : tie.Need-enum-told
 enum-told c = search needs
 
+refused-here-requires-2 : tie.Need-refused-here-requires-2
+refused-here-requires-2 c κs = search needs
+
 returns-2 : tie.Need-returns-2
 unfolding typeOf
 returns-2 c = sym (integer-by _ _ _ _ (omega arith) (IntegerCode.Kind (c .before .k .given .0 .0)) (cc))
 
 returns-3 : tie.Need-returns-3
-returns-3 c = sym (integer-by _ _ _ _ (omega arith) IntegerCode.Unknown (cc))
+returns-3 c = c .refused-here2 .ensures ∙ sym (integer-by _ _ _ _ (omega arith) IntegerCode.Unknown (cc))
 
 pub read-integer-spec : {M : Type 1} → statement M
 read-integer-spec =
     tie.close
     (tie.spec
     sub-if1
+    refused-here-requires
     returns
     add-integer-code
     shared-slice-read-integer-code
     integer-code-requires
     enum-known-k
     enum-told
+    refused-here-requires-2
     returns-2
     returns-3)

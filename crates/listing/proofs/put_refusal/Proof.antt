@@ -20,6 +20,12 @@ slice-aggregate-put-labelled-2 c = search needs
 put-labelled-requires-2 : tie.Need-put-labelled-requires-2
 put-labelled-requires-2 c κs = search needs
 
+slice-aggregate-put-labelled-3 : tie.Need-slice-aggregate-put-labelled-3
+slice-aggregate-put-labelled-3 c = search needs
+
+put-labelled-requires-3 : tie.Need-put-labelled-requires-3
+put-labelled-requires-3 c κs = search needs
+
 put-byte-requires : tie.Need-put-byte-requires
 put-byte-requires c κs = search needs
 
@@ -29,10 +35,11 @@ same-length c = search needs
 returns : tie.Need-returns
 unfolding refusalText
 returns c =
-    let number = c .before .before .before .before .before .before .before .before .before .before .before .put-labelled .ensures .0 in
-    let place = c .before .before .before .before .before .before .put-labelled2 .ensures .0 in
+    let number = c .before .before .before .before .before .before .before .before .before .before .before .before .before .before .before .before .put-labelled .ensures .0 in
+    let place = c .before .before .before .before .before .before .before .before .before .before .before .put-labelled2 .ensures .0 in
+    let passed = c .before .before .before .before .before .before .put-labelled3 .ensures .0 in
     let end = c .before .before .put-byte .ensures in
-    rw (← c .before .before .before .before .before .before .before .before .before .before .before .before .before .before .number-of .ensures) (wrote-then number (wrote-then place end))
+    rw (← c .before .before .before .before .before .before .before .before .before .before .before .before .before .before .before .before .before .before .before .number-of .ensures) (wrote-then number (wrote-then place (wrote-then passed end)))
 
 pub put-refusal-spec : {M : Type 1} → statement M
 put-refusal-spec =
@@ -43,6 +50,8 @@ put-refusal-spec =
     put-labelled-requires
     slice-aggregate-put-labelled-2
     put-labelled-requires-2
+    slice-aggregate-put-labelled-3
+    put-labelled-requires-3
     put-byte-requires
     same-length
     returns)

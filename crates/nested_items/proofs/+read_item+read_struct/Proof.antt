@@ -8,10 +8,11 @@ use Rattle.nested_items.proofs.+read_item+read_struct.Tie.{close}
 use mathlib.Core.Path.{sym, ap, _∙_}
 use native.Mathlib.Omega.{arith}
 use borrow.Author.Needs.{needs}
+use Rattle.items.specs.declared.ItemRead.{ItemRead}
 use Rattle.items.specs.Answer.{itemAnswer}
 use Rattle.items.proofs.Laws.{struct-deep, struct-empty, item-refused, item-integer, item-float, item-struct}
 use Rattle.items.proofs.Sound.{body-framed}
-use Rattle.items.proofs.Loop.{Turn, turn-start, turn-more, turn-no, turn-end, item-answered}
+use Rattle.items.proofs.Loop.{Turn, turn-start, turn-more, turn-no, turn-end, item-answered, fault-answered}
 use Rattle.nested_items.proofs.read_item.Reads as read-item
 use Rattle.nested_items.proofs.read_item.Kinds as read-item-kinds
 use Rattle.nested_items.proofs.+read_item+read_struct.Lts-read_item as read-item-lts
@@ -19,6 +20,8 @@ use Rattle.nested_items.proofs.read_struct.Reads as read-struct
 use Rattle.nested_items.proofs.read_struct.Kinds as read-struct-kinds
 use Rattle.nested_items.proofs.+read_item+read_struct.Lts-read_struct as read-struct-lts
 use Rattle.nested_items.proofs.closed_item.Reads as closed-item-reads
+use Rattle.items.proofs.later_by.Reads as later-by-reads
+use Rattle.leaf_items.proofs.refused_here.Reads as refused-here-reads
 use Rattle.leaf_items.proofs.read_body.Reads as read-body-reads
 use Rattle.leaf_items.proofs.read_float.Reads as read-float-reads
 use Rattle.leaf_items.proofs.read_integer.Reads as read-integer-reads
@@ -48,16 +51,19 @@ read-struct-below t =
 
 -- what is known of the callees
 abbrev item-calls : ℕ → read-item-lts.Claims
-item-calls t = (read-body-reads.Asked, read-body-reads.Learnt, read-integer-reads.Asked, read-integer-reads.Learnt, read-float-reads.Asked, read-float-reads.Learnt, read-struct-below t, read-struct.Post)
+item-calls t = (read-body-reads.Asked, read-body-reads.Learnt, refused-here-reads.Asked, refused-here-reads.Learnt, read-integer-reads.Asked, read-integer-reads.Learnt, read-float-reads.Asked, read-float-reads.Learnt, read-struct-below t, read-struct.Post)
 
 abbrev struct-calls : ℕ → read-struct-lts.Claims
-struct-calls t = (no-fields-reads.Asked, no-fields-reads.Learnt, read-item-below t, read-item.Post, with-field-reads.Asked, with-field-reads.Learnt, closed-item-reads.Asked, closed-item-reads.Learnt)
+struct-calls t = (refused-here-reads.Asked, refused-here-reads.Learnt, no-fields-reads.Asked, no-fields-reads.Learnt, read-item-below t, read-item.Post, with-field-reads.Asked, with-field-reads.Learnt, later-by-reads.Asked, later-by-reads.Learnt, closed-item-reads.Asked, closed-item-reads.Learnt)
 
 read-item-read-body-requires : (t : ℕ) → read-item-lts.Need-read-body-requires (item-calls t) (read-item-at t) read-item.Post
 read-item-read-body-requires t c κs = omega arith
 
 read-item-enum-known-reason : (t : ℕ) → read-item-lts.Need-enum-known-reason (item-calls t) (read-item-at t) read-item.Post
 read-item-enum-known-reason t c = search needs
+
+read-item-refused-here-requires : (t : ℕ) → read-item-lts.Need-refused-here-requires (item-calls t) (read-item-at t) read-item.Post
+read-item-refused-here-requires t c κs = search needs
 
 read-item-enum-known-to : (t : ℕ) → read-item-lts.Need-enum-known-to (item-calls t) (read-item-at t) read-item.Post
 read-item-enum-known-to t c = search needs
@@ -81,7 +87,7 @@ read-item-read-struct-requires : (t : ℕ) → read-item-lts.Need-read-struct-re
 read-item-read-struct-requires t c κs = let f = body-framed _ _ _ _ _ _ (sym (c .before .before .before .before .before .before .read-body .ensures) ∙ c .before .before .before .before .to .given .1) in (omega arith, omega arith)
 
 read-item-returns-3 : (t : ℕ) → read-item-lts.Need-returns-3 (item-calls t) (read-item-at t) read-item.Post
-read-item-returns-3 t c = sym (ap (itemAnswer _) (item-refused _ _ _ _ _ _ (sym (c .before .before .before .read-body .ensures) ∙ c .before .reason .given .1)))
+read-item-returns-3 t c = c .refused-here .ensures ∙ sym (ap (itemAnswer _) (item-refused _ _ _ _ _ _ (sym (c .before .before .before .before .read-body .ensures) ∙ c .before .before .reason .given .1)))
 
 read-item-returns-4 : (t : ℕ) → read-item-lts.Need-returns-4 (item-calls t) (read-item-at t) read-item.Post
 read-item-returns-4 t c = c .read-struct .ensures ∙ sym (ap (itemAnswer _) (item-struct _ _ _ _ _ _ (sym (c .before .before .before .before .before .before .before .read-body .ensures) ∙ c .before .before .before .before .before .to .given .1) (c .before .before .if1 .left) (c .before .if2 .left)))
@@ -92,14 +98,20 @@ read-struct-Inv-loop s c at end depth fields₀ next₀ items₀ fields next ite
 abbrev read-struct-μ-loop : read-struct-lts.MeasureT-loop
 read-struct-μ-loop s c at end depth fields₀ next₀ items₀ fields next items = end - next
 
+read-struct-refused-here-requires : (t : ℕ) → read-struct-lts.Need-refused-here-requires (struct-calls t) (read-struct-at t) read-struct.Post read-struct-Inv-loop read-struct-μ-loop
+read-struct-refused-here-requires t c κs = search needs
+
 read-struct-returns : (t : ℕ) → read-struct-lts.Need-returns (struct-calls t) (read-struct-at t) read-struct.Post read-struct-Inv-loop read-struct-μ-loop
-read-struct-returns t c = sym (ap (itemAnswer _) (struct-deep _ _ _ _ _ (c .if1 .taken)))
+read-struct-returns t c = c .refused-here .ensures ∙ sym (ap (itemAnswer _) (struct-deep _ _ _ _ _ (c .before .if1 .taken)))
 
 read-struct-sub-if2 : (t : ℕ) → read-struct-lts.Need-sub-if2 (struct-calls t) (read-struct-at t) read-struct.Post read-struct-Inv-loop read-struct-μ-loop
 read-struct-sub-if2 t c = omega arith
 
+read-struct-refused-here-requires-2 : (t : ℕ) → read-struct-lts.Need-refused-here-requires-2 (struct-calls t) (read-struct-at t) read-struct.Post read-struct-Inv-loop read-struct-μ-loop
+read-struct-refused-here-requires-2 t c κs = search needs
+
 read-struct-returns-2 : (t : ℕ) → read-struct-lts.Need-returns-2 (struct-calls t) (read-struct-at t) read-struct.Post read-struct-Inv-loop read-struct-μ-loop
-read-struct-returns-2 t c = sym (ap (itemAnswer _) (struct-empty _ _ _ _ _ (omega arith) (omega arith)))
+read-struct-returns-2 t c = c .refused-here2 .ensures ∙ sym (ap (itemAnswer _) (struct-empty _ _ _ _ _ (omega arith) (omega arith)))
 
 read-struct-no-fields-requires : (t : ℕ) → read-struct-lts.Need-no-fields-requires (struct-calls t) (read-struct-at t) read-struct.Post read-struct-Inv-loop read-struct-μ-loop
 read-struct-no-fields-requires t c κs = search needs
@@ -131,11 +143,14 @@ read-struct-loop-less t c = let a = item-answered _ _ _ _ _ _ _ _ _ (omega arith
 read-struct-loop-again : (t : ℕ) → read-struct-lts.Need-loop-again (struct-calls t) (read-struct-at t) read-struct.Post read-struct-Inv-loop read-struct-μ-loop
 read-struct-loop-again t c = turn-more _ _ _ _ _ _ _ _ (c .before .before .before .before .before .before .loop .inv) (c .before .before .before .before .before .loop-test .taken) _ (c .before .before .before .before .read-item .ensures) (omega arith) _ _ _ (c .before .before .ty .given .1) _ (c .with-field .ensures)
 
-read-struct-enum-known-reason : (t : ℕ) → read-struct-lts.Need-enum-known-reason (struct-calls t) (read-struct-at t) read-struct.Post read-struct-Inv-loop read-struct-μ-loop
-read-struct-enum-known-reason t c = search needs
+read-struct-enum-known-fault : (t : ℕ) → read-struct-lts.Need-enum-known-fault (struct-calls t) (read-struct-at t) read-struct.Post read-struct-Inv-loop read-struct-μ-loop
+read-struct-enum-known-fault t c = search needs
+
+read-struct-later-by-requires : (t : ℕ) → read-struct-lts.Need-later-by-requires (struct-calls t) (read-struct-at t) read-struct.Post read-struct-Inv-loop read-struct-μ-loop
+read-struct-later-by-requires t c κs = let a = fault-answered _ _ _ _ _ _ _ (omega arith) (c .before .before .before .read-item .ensures) (c .before .fault .given .1) in omega arith
 
 read-struct-returns-3 : (t : ℕ) → read-struct-lts.Need-returns-3 (struct-calls t) (read-struct-at t) read-struct.Post read-struct-Inv-loop read-struct-μ-loop
-read-struct-returns-3 t c = turn-no _ _ _ _ _ _ _ _ (c .before .before .before .before .before .loop .inv) (c .before .before .before .before .loop-test .taken) _ (c .before .before .before .read-item .ensures) (omega arith) (omega arith) _ _ (c .before .reason .given .1)
+read-struct-returns-3 t c = ap ItemRead.Refused (c .later-by .ensures) ∙ turn-no _ _ _ _ _ _ _ _ (c .before .before .before .before .before .before .loop .inv) (c .before .before .before .before .before .loop-test .taken) _ (c .before .before .before .before .read-item .ensures) (omega arith) (omega arith) _ (c .before .before .fault .given .1)
 
 read-struct-closed-item-requires : (t : ℕ) → read-struct-lts.Need-closed-item-requires (struct-calls t) (read-struct-at t) read-struct.Post read-struct-Inv-loop read-struct-μ-loop
 read-struct-closed-item-requires t c κs = omega arith
@@ -149,6 +164,7 @@ pub +read-item+read-struct-spec : {M : Type 1} → statement M
     read-item.Post
     (read-item-read-body-requires t)
     (read-item-enum-known-reason t)
+    (read-item-refused-here-requires t)
     (read-item-enum-known-to t)
     (read-item-shared-slice-read-tag t)
     (read-item-read-integer-requires t)
@@ -163,8 +179,10 @@ pub +read-item+read-struct-spec : {M : Type 1} → statement M
     read-struct.Post
     read-struct-Inv-loop
     read-struct-μ-loop
+    (read-struct-refused-here-requires t)
     (read-struct-returns t)
     (read-struct-sub-if2 t)
+    (read-struct-refused-here-requires-2 t)
     (read-struct-returns-2 t)
     (read-struct-no-fields-requires t)
     (read-struct-add-next t)
@@ -176,7 +194,8 @@ pub +read-item+read-struct-spec : {M : Type 1} → statement M
     (read-struct-add-items t)
     (read-struct-loop-less t)
     (read-struct-loop-again t)
-    (read-struct-enum-known-reason t)
+    (read-struct-enum-known-fault t)
+    (read-struct-later-by-requires t)
     (read-struct-returns-3 t)
     (read-struct-closed-item-requires t)
     (read-struct-returns-4 t)

@@ -12,8 +12,8 @@ use Rattle.plan.proofs.measure.Tie as tie
 read-head-requires : tie.Need-read-head-requires
 read-head-requires c κs = search needs
 
-enum-known-reason : tie.Need-enum-known-reason
-enum-known-reason c = search needs
+enum-known-fault : tie.Need-enum-known-fault
+enum-known-fault c = search needs
 
 no-measure-requires : tie.Need-no-measure-requires
 no-measure-requires c κs = search needs
@@ -25,7 +25,7 @@ measure-arguments-requires : tie.Need-measure-arguments-requires
 measure-arguments-requires c κs = let k = head-bounded _ _ _ _ _ _ _ (c .before .before .before .read-head .ensures) (c .before .convention .given .1) in omega arith
 
 returns : tie.Need-returns
-returns c = c .no-measure .ensures ∙ measured-refused _ _ _ (signature-refused _ _ (c .before .before .before .before .read-head .ensures) _ _ (c .before .before .reason .given .1))
+returns c = c .no-measure .ensures ∙ measured-refused _ _ (signature-refused _ _ (c .before .before .before .before .read-head .ensures) _ (c .before .before .fault .given .1))
 
 returns-2 : tie.Need-returns-2
 returns-2 c = c .measure-arguments .ensures ∙ sym (ap measureOf (plan-arguments _ _ (c .before .before .before .before .read-head .ensures) _ _ _ _ _ (c .before .before .convention .given .1)))
@@ -35,7 +35,7 @@ measure-spec =
     tie.close
     (tie.spec
     read-head-requires
-    enum-known-reason
+    enum-known-fault
     no-measure-requires
     enum-known-convention
     measure-arguments-requires

@@ -3,10 +3,13 @@
 use borrow.Author.Needs.{needs}
 use native.Mathlib.Omega.{arith}
 use Prim.Native.Nat.{_-_}
-use mathlib.Core.Path.{_∙_}
-use Rattle.items.proofs.Loop.{item-answered}
+use mathlib.Core.Path.{ap, _∙_}
+use Rattle.items.specs.declared.Fault.{Fault}
+use Rattle.items.proofs.Laws.{later-later}
+use Rattle.items.proofs.Loop.{item-answered, fault-answered}
 use Rattle.signature.proofs.Loop.{turn-full, turn-no}
 use Rattle.places.proofs.Bounds.{rules-lawful}
+use Rattle.plan.specs.Plan.{refused, measureOf}
 use Rattle.plan.proofs.Fold.{reached-roomy}
 use Rattle.plan.proofs.Measures.{Measuring, measuring-start, measuring-more, measure-no, measure-trailing, measure-end}
 use Rattle.plan.proofs.measure_arguments.Statement.{statement}
@@ -30,11 +33,14 @@ start-requires c κs = search needs
 loop-holds : tie.Need-loop-holds Inv-loop μ-loop
 loop-holds c = rw (c .start .ensures, c .before .before .call-rules-of .ensures) (measuring-start _ _ _ _ _ _ (rules-lawful (c .before .before .before .before .args .convention)) (omega arith))
 
+add-t23 : tie.Need-add-t23 Inv-loop μ-loop
+add-t23 c = omega arith
+
 no-measure-requires : tie.Need-no-measure-requires Inv-loop μ-loop
 no-measure-requires c κs = search needs
 
 returns : tie.Need-returns Inv-loop μ-loop
-returns c = c .no-measure .ensures ∙ measure-no _ _ _ _ _ _ _ _ (turn-full _ _ _ _ _ _ _ _ (c .before .before .before .loop .inv .turn) (c .before .before .loop-test .taken) (c .before .if1 .taken))
+returns c = c .no-measure .ensures ∙ measure-no _ _ _ _ _ _ _ (turn-full _ _ _ _ _ _ _ _ (c .before .before .before .loop .inv .turn) (c .before .before .loop-test .taken) (c .before .if1 .taken))
 
 read-item-requires : tie.Need-read-item-requires Inv-loop μ-loop
 read-item-requires c κs = omega arith
@@ -75,14 +81,23 @@ loop-again c =
     rw (c .advance .ensures, c .before .size-of .ensures, rules)
     (measuring-more _ _ _ _ _ _ _ _ _ _ _ (rw rules at (c .before .before .before .before .before .before .before .before .loop .inv)) (rules-lawful (c .before .before .before .before .before .before .before .before .before .before .before .before .before .args .convention)) (c .before .before .before .before .before .before .before .loop-test .taken) (c .before .before .before .before .before .before .if1 .left) _ (c .before .before .before .before .before .read-item .ensures) _ _ _ (c .before .before .before .ty .given .1))
 
-enum-known-reason : tie.Need-enum-known-reason Inv-loop μ-loop
-enum-known-reason c = search needs
+enum-known-fault : tie.Need-enum-known-fault Inv-loop μ-loop
+enum-known-fault c = search needs
+
+add-later-by : tie.Need-add-later-by Inv-loop μ-loop
+add-later-by c = omega arith
+
+later-by-requires : tie.Need-later-by-requires Inv-loop μ-loop
+later-by-requires c κs = let a = fault-answered _ _ _ _ _ _ _ (omega arith) (c .before .before .before .read-item .ensures) (c .before .fault .given .1) in omega arith
 
 no-measure-requires-2 : tie.Need-no-measure-requires-2 Inv-loop μ-loop
 no-measure-requires-2 c κs = search needs
 
 returns-2 : tie.Need-returns-2 Inv-loop μ-loop
-returns-2 c = c .no-measure2 .ensures ∙ measure-no _ _ _ _ _ _ _ _ (turn-no _ _ _ _ _ _ _ _ (c .before .before .before .before .before .before .before .loop .inv .turn) (c .before .before .before .before .before .before .loop-test .taken) (c .before .before .before .before .before .if1 .left) _ (c .before .before .before .before .read-item .ensures) _ _ (c .before .before .reason .given .1))
+returns-2 c = c .no-measure2 .ensures ∙ ap (λ (f : Fault). measureOf (refused f)) (c .before .later-by .ensures ∙ later-later _ _ _) ∙ measure-no _ _ _ _ _ _ _ (turn-no _ _ _ _ _ _ _ _ (c .before .before .before .before .before .before .before .before .loop .inv .turn) (c .before .before .before .before .before .before .before .loop-test .taken) (c .before .before .before .before .before .before .if1 .left) _ (c .before .before .before .before .before .read-item .ensures) _ (c .before .before .before .fault .given .1))
+
+add-counted : tie.Need-add-counted Inv-loop μ-loop
+add-counted c = omega arith
 
 no-measure-requires-3 : tie.Need-no-measure-requires-3 Inv-loop μ-loop
 no-measure-requires-3 c κs = search needs
@@ -94,9 +109,6 @@ returns-3 c =
 
 area-of-requires : tie.Need-area-of-requires Inv-loop μ-loop
 area-of-requires c κs = search needs
-
-add-t24 : tie.Need-add-t24 Inv-loop μ-loop
-add-t24 c = omega arith
 
 returns-4 : tie.Need-returns-4 Inv-loop μ-loop
 returns-4 c =
@@ -113,6 +125,7 @@ measure-arguments-spec =
     hidden-in-requires
     start-requires
     loop-holds
+    add-t23
     no-measure-requires
     returns
     read-item-requires
@@ -124,11 +137,13 @@ measure-arguments-spec =
     add-items
     loop-less
     loop-again
-    enum-known-reason
+    enum-known-fault
+    add-later-by
+    later-by-requires
     no-measure-requires-2
     returns-2
+    add-counted
     no-measure-requires-3
     returns-3
     area-of-requires
-    add-t24
     returns-4)

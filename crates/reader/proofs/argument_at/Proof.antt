@@ -25,7 +25,7 @@ step-to-requires : tie.Need-step-to-requires
 step-to-requires c κs = search needs
 
 returns-2 : tie.Need-returns-2
-returns-2 c = argument-refused _ _ _ (c .before .before .before .read-signature .ensures) _ _ (c .before .outcome .given .1)
+returns-2 c = argument-refused _ _ _ (c .before .before .before .read-signature .ensures) _ (c .before .outcome .given .1)
 
 returns-3 : tie.Need-returns-3
 returns-3 c =

@@ -31,11 +31,11 @@ loop-less c = omega arith
 loop-again : tie.Need-loop-again Inv-loop μ-loop
 loop-again c = step-on _ _ _ _ _ _ (c .before .before .before .before .before .loop .inv) _ (c .before .before .before .type-of-part .ensures) _ _ _ (c .before .ty .given .1) (c .before .before .before .before .loop-test .taken)
 
-enum-known-reason : tie.Need-enum-known-reason Inv-loop μ-loop
-enum-known-reason c = search needs
+enum-known-fault : tie.Need-enum-known-fault Inv-loop μ-loop
+enum-known-fault c = search needs
 
 returns : tie.Need-returns Inv-loop μ-loop
-returns c = step-no _ _ _ _ _ _ (c .before .before .before .before .before .loop .inv) _ (c .before .before .before .type-of-part .ensures) _ _ (c .before .reason .given .1)
+returns c = step-no _ _ _ _ _ _ (c .before .before .before .before .before .loop .inv) _ (c .before .before .before .type-of-part .ensures) _ (c .before .fault .given .1)
 
 type-of-part-requires-2 : tie.Need-type-of-part-requires-2 Inv-loop μ-loop
 type-of-part-requires-2 c κs = search needs
@@ -43,14 +43,14 @@ type-of-part-requires-2 c κs = search needs
 enum-known-ty-2 : tie.Need-enum-known-ty-2 Inv-loop μ-loop
 enum-known-ty-2 c = search needs
 
-enum-known-reason-2 : tie.Need-enum-known-reason-2 Inv-loop μ-loop
-enum-known-reason-2 c = search needs
+enum-known-fault-2 : tie.Need-enum-known-fault-2 Inv-loop μ-loop
+enum-known-fault-2 c = search needs
 
 returns-2 : tie.Need-returns-2 Inv-loop μ-loop
 returns-2 c = step-here _ _ _ _ _ _ (c .before .before .before .before .before .loop .inv) _ (c .before .before .before .type-of-part2 .ensures) _ _ _ (c .before .ty2 .given .1) (omega arith)
 
 returns-3 : tie.Need-returns-3 Inv-loop μ-loop
-returns-3 c = step-no _ _ _ _ _ _ (c .before .before .before .before .before .loop .inv) _ (c .before .before .before .type-of-part2 .ensures) _ _ (c .before .reason2 .given .1)
+returns-3 c = step-no _ _ _ _ _ _ (c .before .before .before .before .before .loop .inv) _ (c .before .before .before .type-of-part2 .ensures) _ (c .before .fault2 .given .1)
 
 pub step-to-spec : {M : Type 1} → statement M
 step-to-spec =
@@ -64,10 +64,10 @@ step-to-spec =
     sub-left
     loop-less
     loop-again
-    enum-known-reason
+    enum-known-fault
     returns
     type-of-part-requires-2
     enum-known-ty-2
-    enum-known-reason-2
+    enum-known-fault-2
     returns-2
     returns-3)

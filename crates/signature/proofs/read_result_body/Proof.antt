@@ -1,9 +1,10 @@
 -- No body is no result; else one type, and nothing after it.
 use borrow.Author.Needs.{needs}
 use Rattle.signature.proofs.read_result_body.Statement.{statement}
-use mathlib.Core.Path.{sym, ap}
+use mathlib.Core.Path.{sym, ap, _∙_}
 use native.Mathlib.Omega.{arith}
-use Rattle.items.proofs.Loop.{item-answered}
+use Rattle.items.proofs.Loop.{item-answered, fault-answered}
+use Rattle.signature.specs.declared.ResultRead.{ResultRead}
 use Rattle.signature.specs.Answer.{resultAnswer}
 use Rattle.signature.proofs.Laws.{result-none, result-no, result-more, result-one}
 use Rattle.signature.proofs.read_result_body.Tie as tie
@@ -14,20 +15,23 @@ returns c = sym (ap (resultAnswer _) (result-none _ _ _ _ (c .if1 .taken)))
 read-item-requires : tie.Need-read-item-requires
 read-item-requires c κs = search needs
 
-enum-known-reason : tie.Need-enum-known-reason
-enum-known-reason c = search needs
+enum-known-fault : tie.Need-enum-known-fault
+enum-known-fault c = search needs
+
+later-by-requires : tie.Need-later-by-requires
+later-by-requires c κs = let a = fault-answered _ _ _ _ _ _ _ (omega arith) (c .before .before .before .read-item .ensures) (c .before .fault .given .1) in omega arith
 
 enum-known-ty : tie.Need-enum-known-ty
 enum-known-ty c = search needs
 
+add-counted : tie.Need-add-counted
+add-counted c = let a = item-answered _ _ _ _ _ _ _ _ _ (omega arith) (c .before .before .before .read-item .ensures) (c .before .ty .given .1) in omega arith
+
 returns-2 : tie.Need-returns-2
 returns-2 c = sym (ap (resultAnswer _) (result-more _ _ _ _ (c .before .before .before .before .before .if1 .left) _ (c .before .before .before .before .read-item .ensures) _ _ _ (c .before .before .ty .given .1) (c .if2 .taken)))
 
-add-t17 : tie.Need-add-t17
-add-t17 c = let a = item-answered _ _ _ _ _ _ _ _ _ (omega arith) (c .before .before .before .before .read-item .ensures) (c .before .before .ty .given .1) in omega arith
-
 returns-3 : tie.Need-returns-3
-returns-3 c = sym (ap (resultAnswer _) (result-no _ _ _ _ (c .before .before .before .before .if1 .left) _ (c .before .before .before .read-item .ensures) _ _ (c .before .reason .given .1)))
+returns-3 c = ap ResultRead.Refused (c .later-by .ensures) ∙ sym (ap (resultAnswer _) (result-no _ _ _ _ (c .before .before .before .before .before .if1 .left) _ (c .before .before .before .before .read-item .ensures) _ (c .before .before .fault .given .1)))
 
 returns-4 : tie.Need-returns-4
 returns-4 c = sym (result-one _ _ _ _ (c .before .before .before .before .before .if1 .left) _ (c .before .before .before .before .read-item .ensures) _ _ _ (c .before .before .ty .given .1) (c .if2 .left))
@@ -38,9 +42,10 @@ read-result-body-spec =
     (tie.spec
     returns
     read-item-requires
-    enum-known-reason
+    enum-known-fault
+    later-by-requires
     enum-known-ty
+    add-counted
     returns-2
-    add-t17
     returns-3
     returns-4)

@@ -11,8 +11,8 @@ use Rattle.signature.proofs.read_signature.Tie as tie
 read-head-requires : tie.Need-read-head-requires
 read-head-requires c κs = search needs
 
-enum-known-reason : tie.Need-enum-known-reason
-enum-known-reason c = search needs
+enum-known-fault : tie.Need-enum-known-fault
+enum-known-fault c = search needs
 
 refuse-requires : tie.Need-refuse-requires
 refuse-requires c κs = search needs
@@ -24,7 +24,7 @@ read-arguments-requires : tie.Need-read-arguments-requires
 read-arguments-requires c κs = let k = head-bounded _ _ _ _ _ _ _ (c .before .before .before .read-head .ensures) (c .before .convention .given .1) in omega arith
 
 returns : tie.Need-returns
-returns c = c .refuse .ensures ∙ sym (ap signatureAnswer (signature-refused _ _ (c .before .before .before .before .read-head .ensures) _ _ (c .before .before .reason .given .1)))
+returns c = c .refuse .ensures ∙ sym (ap signatureAnswer (signature-refused _ _ (c .before .before .before .before .read-head .ensures) _ (c .before .before .fault .given .1)))
 
 returns-2 : tie.Need-returns-2
 returns-2 c = c .read-arguments .ensures ∙ sym (signature-arguments _ _ (c .before .before .before .before .read-head .ensures) _ _ _ _ _ (c .before .before .convention .given .1))
@@ -34,7 +34,7 @@ read-signature-spec =
     tie.close
     (tie.spec
     read-head-requires
-    enum-known-reason
+    enum-known-fault
     refuse-requires
     enum-known-convention
     read-arguments-requires

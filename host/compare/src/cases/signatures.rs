@@ -119,16 +119,20 @@ fn reading(signature: &[u8]) -> Case {
 
 fn measuring(signature: &[u8]) -> Case {
     let plan = reference::read(signature).map(|signature| reference::plan(&signature));
-    let answer = match plan {
-        Ok(plan) => [0, 0, plan.values, plan.area, plan.copies],
-        Err(refusal) => [refusal.number as usize, refusal.place, 0, 0, 0],
-    };
-    let [number, place, values, area, copies] = answer.map(|number| number as u64);
+    let sizes = plans::expected_sizes(&plan);
+    let answer = sizes.answer;
     Case {
         operation: Operation::Measure,
         numbers: vec![],
         lent: vec![signature.to_vec()],
-        answer: vec![number, place, 0, values, area, copies],
+        answer: vec![
+            answer.number,
+            answer.place,
+            answer.items,
+            sizes.values,
+            sizes.area,
+            sizes.copies,
+        ],
         changes: vec![vec![]],
     }
 }

@@ -2,7 +2,7 @@
 
 use super::Answer;
 
-/// `fz_sizes`: the bytes that a call needs, all 0 in a refused answer.
+/// `fz_sizes`: the bytes that a call needs, all 0 where the answer is no.
 #[repr(C)]
 #[derive(Clone, Copy, Debug, PartialEq, Eq)]
 pub struct Sizes {

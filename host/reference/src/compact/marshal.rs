@@ -222,7 +222,7 @@ fn narrow(double: u64) -> Option<u32> {
 }
 
 fn refuse<T>(number: u64) -> Result<T, Refusal> {
-    Err(Refusal { number, place: 0 })
+    Err(Refusal::without_place(number))
 }
 
 #[cfg(test)]

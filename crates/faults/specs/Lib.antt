@@ -1,0 +1,2 @@
+-- The words of a reading's fault. Assumes nothing.
+pub mod Faults
