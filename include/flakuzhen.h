@@ -43,7 +43,7 @@
  *    much of it was good (fz_read_signature). In a refused answer all else is 0.
  *
  * Versions: FZ_VERSION is this header's, fz_version the library's. A version's first number is that
- * of the shared library's name, libflakuzhen.so.0, and of its functions' symbol versions. It changes
+ * of the shared library's name, libflakuzhen.so.1, and of its functions' symbol versions. It changes
  * with the first release in which a struct has another layout or a function another meaning, so
  * that a program compiled for one meaning is never run with another. The second changes where
  * functions are added, the third otherwise.
@@ -58,8 +58,8 @@
 extern "C" {
 #endif
 
-/* 10,000 times the version's first number, 100 times the second, and the third: 0.1.0. */
-#define FZ_VERSION 100
+/* 10,000 times the version's first number, 100 times the second, and the third: 1.0.0. */
+#define FZ_VERSION 10000
 
 /* The FZ_VERSION of the library that this program runs with. */
 uint64_t fz_version(void);
@@ -206,7 +206,8 @@ uint64_t fz_listing(const uint8_t *sig, size_t sig_length, char *text, size_t te
  * start. What is lent to one call must not overlap. Numbers in memory are big-endian.
  *
  * On PPC64 the 288 bytes under the stack pointer are the floor: interrupt code trusts them to be
- * free. They always lie in the memory, and no call writes there. Z has no floor.
+ * free. They always lie in the memory, and no call writes there but those of a leaf, a function
+ * without a frame of its own. Z has no floor and no leaves.
  *
  * Only the answer's number counts here: place and items are 0. A refused call leaves the state and
  * the memory as they were. State and memory may be changed or made up between the calls: every call
@@ -214,7 +215,7 @@ uint64_t fz_listing(const uint8_t *sig, size_t sig_length, char *text, size_t te
  */
 
 /* Why a call of the machine is refused. A start tests 16 alone; any other call tests 23, then 16,
- * then its own: enter 17, 18, 19; the writes 20; leave 22, 21. The first that fails is the
+ * then its own: enter 17, 28, 18, 19; the writes 20; leave 22, 21. The first that fails is the
  * answer. */
 enum fz_machine_refusal {
     FZ_BAD_MEMORY = 16,      /* at the start: a memory_length that is no multiple of 16, under 256
@@ -227,13 +228,14 @@ enum fz_machine_refusal {
                                 less than the floor above it */
     FZ_NOT_PERMITTED = 20,   /* a write that the function may not do */
     FZ_BROKEN_CHAIN = 21,    /* the doubleword at the stack pointer, on Z the one where r15 was
-                                saved, is not the caller's stack pointer */
+                                saved, is not the caller's stack pointer; never of a leaf */
     FZ_NOTHING_ENTERED = 22, /* a leave with no frame entered */
-    FZ_BAD_STATE = 23        /* a state that no calls lead to: a convention that is none, a depth
+    FZ_BAD_STATE = 23,       /* a state that no calls lead to: a convention that is none, a depth
                                 over 32, the record of an entered frame that is out of range, a base
                                 or size that a start refuses, a cr over 32 bits, a stack pointer
                                 below the base, with less than the floor above it, or not the
-                                start's less the sizes of all frames */
+                                start's less the sizes of all frames, or a leaf below the top */
+    FZ_ABOVE_LEAF = 28       /* an enter where the function entered last is a leaf */
 };
 
 /* 66 words. On Z, r16 up, f16 up, LR and CR are carried along and never change. */
@@ -244,7 +246,7 @@ typedef struct {
     uint64_t cr; /* 32 bits: field 0 is the top four of them, field 7 the lowest */
 } fz_registers;
 
-/* What a function needs of its frame. 5 words.
+/* What a function needs of its frame. 6 words.
  *
  *              PPC64                              Z
  *   first_gpr  14 to 32: saves it up to r31       6 to 14: saves it up to r15
@@ -255,22 +257,28 @@ typedef struct {
  *              of 8, for arguments that its own
  *              calls pass in memory; the frame
  *              has room for 64 in any case
+ *   leaf       1: a leaf, with locals and         0
+ *              outgoing 0; 0: none
  *
  * From the new stack pointer up, a frame is: a header (48 bytes on PPC64, 160 on Z) with the
  * caller's stack pointer in its first 8, the outgoing area, the locals, which are as much larger as
  * makes the frame a multiple of 16 (8 on Z), then the saves. On PPC64 these are the general
  * registers and above them the floating ones; LR and CR are saved in the caller's header, at 16 and
  * 8. On Z they are the floating registers alone, and the general register n is saved in the
- * caller's header, at 8n. */
+ * caller's header, at 8n.
+ *
+ * A leaf has no frame: its saves lie in the same places below the stack pointer, which stays, and
+ * so in the floor, and CR in the header there. It saves no LR, and may not write it. */
 typedef struct {
     uint64_t first_gpr;
     uint64_t first_fpr;
     uint64_t saves_cr;
     uint64_t locals;
     uint64_t outgoing;
+    uint64_t leaf;
 } fz_frame;
 
-/* The state. 230 words. */
+/* The state. 262 words. */
 typedef struct {
     uint64_t convention; /* 1 PPC64, 2 Z */
     uint64_t base;       /* the address of the memory's first byte */
@@ -292,7 +300,7 @@ fz_answer fz_start_z(fz_machine *machine, const fz_registers *registers, uint64_
 
 /* Enters a frame: saves the registers that the request names (on PPC64 LR too), stores the caller's
  * stack pointer at the new one, and keeps the request in the state. No register but the stack
- * pointer changes. */
+ * pointer changes. Of a leaf only the registers named are saved, and the stack pointer stays. */
 fz_answer fz_enter(fz_machine *machine, const fz_frame *request, uint8_t *memory,
                    size_t memory_length);
 
@@ -302,7 +310,7 @@ fz_answer fz_enter(fz_machine *machine, const fz_frame *request, uint8_t *memory
  *   bank  number     PPC64: may be written               Z: may be written
  *   0     0 to 31    r0, r3 to r12; those it has saved   r0 to r5, r14; those it has saved, but r15
  *   1     0 to 31    f0 to f13; those it has saved       f0 to f7; those it has saved
- *   2     any        LR                                  -
+ *   2     any        LR, but not in a leaf               -
  *   3     0 to 7     fields of CR, to a value of 0 to    -
  *                    15: 0, 1, 5, 6, 7; if it has saved
  *                    CR all
@@ -313,7 +321,8 @@ fz_answer fz_write_register(fz_machine *machine, uint64_t bank, uint64_t number,
 
 /* Writes 1 to 256 bytes at an address. They must lie wholly in one of three areas: the locals or
  * the outgoing area of the frame that was entered last, or the outgoing area of its caller. The
- * start has an outgoing area of 64 bytes on PPC64, of none on Z, and no locals. */
+ * start has an outgoing area of 64 bytes on PPC64, of none on Z, and no locals. A leaf has the bytes
+ * of the floor below its saves, and its caller's outgoing area. */
 fz_answer fz_write_memory(const fz_machine *machine, uint64_t address, const uint8_t *bytes,
                           size_t bytes_length, uint8_t *memory, size_t memory_length);
 

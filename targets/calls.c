@@ -87,7 +87,7 @@ static fz_answer start(const place *where, span line, machine *on)
 static fz_answer enter(const place *where, span line, machine *on)
 {
     static const char *const names[] = {"g", "m", "cr", "locals", "out"};
-    fz_frame request = {0, 0, 0, 0, 0};
+    fz_frame request = {0, 0, 0, 0, 0, 0};
     uint64_t *const values[] = {&request.first_gpr, &request.first_fpr, &request.saves_cr,
                                 &request.locals, &request.outgoing};
     int given[] = {0, 0, 0, 0, 0}, i;
@@ -97,12 +97,19 @@ static fz_answer enter(const place *where, span line, machine *on)
         const uint8_t *equals = memchr(word.at, '=', word.length);
         span name = word;
 
+        if (is(word, "leaf")) {
+            if (request.leaf)
+                fail_at_word(where, "", word, " twice in an enter");
+            request.leaf = 1;
+            continue;
+        }
         if (equals != NULL)
             name.length = (size_t)(equals - word.at);
         for (i = 0; i < 4 && !is(name, names[i]); i++)
             ;
         if (equals == NULL || !is(name, names[i]))
-            fail_at_word(where, "", word, " in an enter, which has g=, m=, cr=, locals=, out=");
+            fail_at_word(where, "", word,
+                         " in an enter, which has leaf, g=, m=, cr=, locals=, out=");
         if (given[i])
             fail_at_word(where, "", name, " twice in an enter");
         given[i] = 1;

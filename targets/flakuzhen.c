@@ -29,6 +29,7 @@ static const char usage[] =
     "            enter g=29 m=30 cr=1 locals=20 out=64\n"
     "                                        saves r29 up, f30 up and CR; bytes of locals and\n"
     "                                        of outgoing arguments (cr, locals, out: else 0)\n"
+    "            enter leaf g=29 m=30 cr=1   a leaf, without a frame\n"
     "            write r29 0x1234            also f14, lr, or cr2 for a field of CR\n"
     "            write mem ADDRESS BYTES     the bytes in hexadecimal\n"
     "            leave\n"

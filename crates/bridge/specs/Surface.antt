@@ -34,4 +34,4 @@ abbrev pub versionNumber : ℕ → ℕ → ℕ → ℕ
 versionNumber major minor patch = 10000 * major + 100 * minor + patch
 
 abbrev pub version : ℕ
-version = versionNumber 0 1 0
+version = versionNumber 1 0 0

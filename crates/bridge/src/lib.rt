@@ -35,7 +35,7 @@ pub struct NarrowingAnswer {
 pub extern "C" fn fz_version() -> u64
     ensures { λ r. ⌜ r ≡ version ⌝ }
 {
-    100
+    10000
 }
 
 #[no_mangle]

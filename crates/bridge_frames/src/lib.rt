@@ -1,4 +1,4 @@
-// The frame machine for C and Rust: `fz_machine` is 230 words, `fz_registers` 66 and `fz_frame` 5, in the layout of the crate word_layout.
+// The frame machine for C and Rust: `fz_machine` is 262 words, `fz_registers` 66 and `fz_frame` 6, in the layout of the crate word_layout.
 // A refused call leaves the machine's words and the memory as they were; a refused start leaves the convention, the registers as handed in and all else 0.
 use answers::Answer;
 ghost use mathlib.Core.Path.{_≡_};
@@ -22,7 +22,7 @@ fn answer_of(a: machine::Answer) -> Answer
 // Of `registers`' CR an accepted start takes the low 32 bits.
 #[no_mangle]
 pub extern "C" fn fz_start_ppc64(
-    machine: &mut [u64; 230],
+    machine: &mut [u64; 262],
     registers: &[u64; 66],
     base: u64,
     memory: &mut [u8],
@@ -37,7 +37,7 @@ pub extern "C" fn fz_start_ppc64(
 
 #[no_mangle]
 pub extern "C" fn fz_start_z(
-    machine: &mut [u64; 230],
+    machine: &mut [u64; 262],
     registers: &[u64; 66],
     base: u64,
     memory: &mut [u8],
@@ -52,8 +52,8 @@ pub extern "C" fn fz_start_z(
 
 #[no_mangle]
 pub extern "C" fn fz_enter(
-    machine: &mut [u64; 230],
-    request: &[u64; 5],
+    machine: &mut [u64; 262],
+    request: &[u64; 6],
     memory: &mut [u8],
 ) -> Answer
     ensures { λ r. ⌜ r ≡ frameAnswer (enterOutcome (stateIn (now (machine .entry))) (length (now (memory .entry))) (frameIn (now (request .entry)) 0) .answer) ⌝ }
@@ -67,7 +67,7 @@ pub extern "C" fn fz_enter(
 // Bank 0 general, 1 floating, 2 LR, 3 a field of CR. The memory is only measured.
 #[no_mangle]
 pub extern "C" fn fz_write_register(
-    machine: &mut [u64; 230],
+    machine: &mut [u64; 262],
     bank: u64,
     number: u64,
     value: u64,
@@ -82,7 +82,7 @@ pub extern "C" fn fz_write_register(
 
 #[no_mangle]
 pub extern "C" fn fz_write_memory(
-    machine: &[u64; 230],
+    machine: &[u64; 262],
     address: u64,
     bytes: &[u8],
     memory: &mut [u8],
@@ -95,7 +95,7 @@ pub extern "C" fn fz_write_memory(
 }
 
 #[no_mangle]
-pub extern "C" fn fz_leave(machine: &mut [u64; 230], memory: &[u8]) -> Answer
+pub extern "C" fn fz_leave(machine: &mut [u64; 262], memory: &[u8]) -> Answer
     ensures { λ r. ⌜ r ≡ frameAnswer (leaveOutcome (stateIn (now (machine .entry))) (now (memory .entry)) .answer) ⌝ }
     ensures { λ _. ⌜ now (machine .exit) ≡ leaveWords (now (machine .entry)) (now (memory .entry)) ⌝ }
 {

@@ -19,6 +19,10 @@ pub fn judge_enter(k: Rules, s: State, n: usize, f: Frame) -> Answer
             if !rules::request_ok(k, f) {
                 return Answer::Refused(Refusal::BadRequest);
             }
+            let u = state_checks::top_frame(k, s);
+            if u.leaf {
+                return Answer::Refused(Refusal::AboveLeaf);
+            }
             if 32 <= s.depth {
                 return Answer::Refused(Refusal::TooManyFrames);
             }
@@ -85,6 +89,9 @@ pub fn judge_leave(k: Rules, s: State, memory: &[u8]) -> Answer
                 return Answer::Refused(Refusal::NothingEntered);
             }
             let f = state_checks::top_frame(k, s);
+            if f.leaf {
+                return Answer::Accepted;
+            }
             let z = rules::frame_size(k, f);
             let p = state_checks::stack_pointer(k, s);
             let b = s.base;

@@ -25,7 +25,7 @@ pub fn push(k: Rules, s: State, f: Frame) -> State
     t
 }
 
-// The back chain at the new stack pointer, and the saves.
+// The back chain at the new stack pointer, which a leaf has not, and the saves.
 pub fn save_frame(memory: &mut [u8], k: Rules, s: State, f: Frame)
     requires { ⌜ (Lawful k) × (Sound k s (length (now memory))) × (CanEnter k s f) ⌝ }
     ensures { λ _. ⌜ now (memory .exit) ≡ enteredMemory k s (now (memory .entry)) f ⌝ }
@@ -35,7 +35,7 @@ pub fn save_frame(memory: &mut [u8], k: Rules, s: State, f: Frame)
     let b = s.base;
     let o = (p - b) as usize;
     let registers = s.registers;
-    words::store(memory, o - z, k.word, p);
+    words::store(memory, o - z, rules::chain_width(k, f), p);
     saving::save_registers(memory, k, f, registers, o);
 }
 
@@ -61,6 +61,7 @@ pub fn pop(k: Rules, s: State, memory: &[u8]) -> State
         saves_cr: false,
         locals: 0,
         outgoing: 0,
+        leaf: false,
     };
     popped
 }

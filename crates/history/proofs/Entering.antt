@@ -1,6 +1,7 @@
 -- An accepted enter keeps the invariant, with its enter open. Assumes nothing.
 use Prim.Native.Nat.{ℕ, zero, suc, _+_, _-_, _*_, _^_, _≤_, _<_}
 use mathlib.Core.Path.{_≡_, refl, _∙_}
+use mathlib.Core.Bool.{true, false}
 use mathlib.Core.List.{List, [], _∷_}
 use native.Mathlib.Omega.{arith}
 use native.Mathlib.Numerals.{add-one}
@@ -14,19 +15,19 @@ use Rattle.rules.specs.declared.Frame.{Frame}
 use Rattle.rules.specs.declared.Registers.{Registers}
 use Rattle.rules.specs.declared.Linkage.{Linkage}
 use Rattle.rules.specs.declared.Linkage.the-variants.{LinkRegister, SaveArea}
-use Rattle.rules.specs.Frames.{noFrame, withPointer, below, frameSize, savesBy, saves}
+use Rattle.rules.specs.Frames.{noFrame, withPointer, below, frameSize, chainWidth, savesBy, saves}
 use Rattle.rules.specs.Lawful.{Lawful}
 use Rattle.rules.proofs.Facts.{fit-set}
 use Rattle.rules.proofs.Conventions.{pointer-unpreserved}
-use Rattle.rules.proofs.Places.{room-for, chain-in, ascending}
+use Rattle.rules.proofs.Places.{solid-chain, below-reach, chain-in, ascending}
 use Rattle.machine.specs.declared.Answer.the-variants.{Accepted}
 use Rattle.machine.specs.declared.State.{State}
 use Rattle.machine.specs.Machine.{stackPointer, offset, frameAt, okFrames, sizes, enterAnswer, entered, enteredMemory}
 use Rattle.machine.specs.Premises.{CanEnter}
-use Rattle.machine.proofs.States.{enter-yes, frames-agree, sizes-agree}
+use Rattle.machine.proofs.States.{enter-yes, top-agree, frames-agree, sizes-agree}
 use Rattle.history.specs.Calls.{Machine}
-use Rattle.history.specs.Preserved.{OpenEnter}
-use Rattle.history.proofs.Invariant.{Fit, Base, Top, Invariant, base-of}
+use Rattle.history.specs.Preserved.{OpenEnter, callerOf}
+use Rattle.history.proofs.Invariant.{Fit, fit-small, Base, Top, Invariant, base-of, top-is}
 
 fit-one : (x m : ℕ) → x < m → (i : ℕ) → getD (x ∷ []) i 0 < m
 fit-one x m h zero = h
@@ -56,54 +57,63 @@ module _ (k : Rules) (law : Lawful k) (m : Machine) (f : Frame) (b : Base k m) (
 
   requests-entered : okFrames k (set (s .frames) (s .depth) f) (s .depth + 1) ≡ okFrames k (s .frames) (s .depth)
   unfolding okFrames
-  requests-entered = rw (add-one, new-frame, y .request) (frames-agree k (s .depth) (set (s .frames) (s .depth) f) (s .frames) old-frame)
+  requests-entered =
+      rw (add-one, new-frame, y .request, top-agree k (s .depth) (set (s .frames) (s .depth) f) (s .frames) old-frame, y .solid) (frames-agree k (s .depth) (set (s .frames) (s .depth) f) (s .frames) old-frame)
 
   sizes-entered : sizes k (set (s .frames) (s .depth) f) (s .depth + 1) ≡ sizes k (s .frames) (s .depth) + frameSize k f
   unfolding sizes
   sizes-entered = rw (add-one, new-frame, sizes-agree k (s .depth) (set (s .frames) (s .depth) f) (s .frames) old-frame)
 
-  pub fits-below : frameSize k f ≤ offset k s
+  fits-below : frameSize k f ≤ offset k s
   fits-below = omega (arith, y .room)
+
+  saves-fit : below (k .linkage) k f ≤ offset k s
+  saves-fit = omega (arith, y .room, below-reach k law f (y .request))
 
   abbrev m′ : Machine
   m′ = record { state = entered k s f; memory = enteredMemory k s (m .memory) f }
+
+  fit-entered : Fit k (withPointer k (s .registers) (stackPointer k s - frameSize k f))
+  unfolding withPointer
+  fit-entered = record {
+    gprs = length-set (s .registers .gpr) (k .pointer) (stackPointer k s - frameSize k f) ∙ b .fit .gprs;
+    fprs = b .fit .fprs;
+    gpr = fit-set (s .registers .gpr) (k .pointer) (stackPointer k s - frameSize k f) (2 ^ (8 * k .word)) (b .fit .gpr) (omega (arith, pointer-fits));
+    fpr = b .fit .fpr;
+    lr = b .fit .lr;
+    cr = b .fit .cr;
+  }
 
   base-entered : Base k m′
   unfolding entered enteredMemory withPointer
   base-entered =
       let l = m .memory in
       record {
-        fit = record {
-          gprs = length-set (s .registers .gpr) (k .pointer) (stackPointer k s - frameSize k f) ∙ b .fit .gprs;
-          fprs = b .fit .fprs;
-          gpr = fit-set (s .registers .gpr) (k .pointer) (stackPointer k s - frameSize k f) (2 ^ (8 * k .word)) (b .fit .gpr) (omega (arith, pointer-fits));
-          fpr = b .fit .fpr;
-          lr = b .fit .lr;
-          cr = b .fit .cr;
-        };
+        fit = fit-entered;
         frames = length-set (s .frames) (s .depth) f ∙ b .frames;
         rules = b .rules;
         sound = record {
+          small = fit-small k law (withPointer k (s .registers) (stackPointer k s - frameSize k f)) fit-entered;
           shallow = omega (arith, y .shallow);
           requests = requests-entered ∙ b .sound .requests;
           memory = b .sound .memory;
           over = omega (arith, new-pointer, y .room);
           sum = omega (arith, new-pointer, y .room, b .sound .sum, sizes-entered);
-          length = all-length (saves k f (offset k s) (s .registers)) (store l (offset k s - frameSize k f) (k .word) (stackPointer k s))
-              ∙ store-length l (offset k s - frameSize k f) (k .word) (stackPointer k s) ∙ b .sound .length;
+          length = all-length (saves k f (offset k s) (s .registers)) (store l (offset k s - frameSize k f) (chainWidth k f) (stackPointer k s))
+              ∙ store-length l (offset k s - frameSize k f) (chainWidth k f) (stackPointer k s) ∙ b .sound .length;
         };
       }
 
-  top-entered : (os : List OpenEnter) → Top k (record { before = m; request = f }) os m′
+  top-entered : (os : List OpenEnter) → callerOf k os .leaf ≡ false → Top k (record { before = m; request = f }) os m′
   unfolding entered enteredMemory withPointer
-  top-entered os =
+  top-entered os solid =
       let l = m .memory in
       let vs = saves k f (offset k s) (s .registers) in
-      let l₁ = store l (offset k s - frameSize k f) (k .word) (stackPointer k s) in
-      let asc = ascending k law f (y .request) (offset k s) fits-below (s .registers) in
+      let l₁ = store l (offset k s - frameSize k f) (chainWidth k f) (stackPointer k s) in
+      let asc = ascending k law f (y .request) (offset k s) saves-fit (s .registers) in
       let lo = offset k s - below (k .linkage) k f in
       let hi = offset k s + k .header in
-      let under = room-for k law f (y .request) (offset k s) fits-below in
+      let under = chain-in k law f (y .request) (offset k s) fits-below in
       let room : offset k s + k .header ≤ length l = omega (arith, b .sound .length, b .sound .sum, b .sound .over, law .head) in
       record {
         request = y .request;
@@ -116,10 +126,14 @@ module _ (k : Rules) (law : Lawful k) (m : Machine) (f : Frame) (b : Base k m) (
         gprs = λ n p q. getD-set-other (s .registers .gpr) (k .pointer) n (stackPointer k s - frameSize k f) 0 (λ e. pointer-unpreserved k law n p e);
         fprs = λ n p q. refl;
         fields = λ p. refl;
-        held = all-held vs lo hi l₁ asc (omega (arith, room, store-length l (offset k s - frameSize k f) (k .word) (stackPointer k s))) (fit-saves (k .linkage) k f (offset k s) (s .registers) (b .fit));
-        chain = load-agree (saveAll l₁ vs) l₁ (offset k s - frameSize k f) (k .word) (all-length vs l₁) (λ c p q. all-outside vs l₁ c (outside-below vs lo hi c asc (omega (arith, under, law .chain))))
-            ∙ load-store l (offset k s - frameSize k f) (k .word) (stackPointer k s) pointer-fits (omega (arith, room, law .chain));
-        bytes = λ c p q r. all-outside vs l₁ c q ∙ store-above l (offset k s - frameSize k f) (k .word) (stackPointer k s) c (omega (arith, chain-in k law f (y .request) (offset k s) fits-below));
+        held = all-held vs lo hi l₁ asc (omega (arith, room, store-length l (offset k s - frameSize k f) (chainWidth k f) (stackPointer k s))) (fit-saves (k .linkage) k f (offset k s) (s .registers) (b .fit));
+        solid = solid;
+        lr = λ e. refl;
+        chain = λ e.
+            let width = solid-chain k f e in
+            load-agree (saveAll l₁ vs) l₁ (offset k s - frameSize k f) (k .word) (all-length vs l₁) (λ c p q. all-outside vs l₁ c (outside-below vs lo hi c asc (omega (arith, under, width))))
+            ∙ rw width (load-store l (offset k s - frameSize k f) (k .word) (stackPointer k s) pointer-fits (omega (arith, room, law .chain)));
+        bytes = λ c p q r. all-outside vs l₁ c q ∙ store-above l (offset k s - frameSize k f) (chainWidth k f) (stackPointer k s) c (omega (arith, under));
       }
 
 pub enter-keeps : (k : Rules) → Lawful k → (os : List OpenEnter) (m : Machine) (f : Frame) → Invariant k os m → enterAnswer k (m .state) (length (m .memory)) f ≡ Accepted
@@ -127,4 +141,4 @@ pub enter-keeps : (k : Rules) → Lawful k → (os : List OpenEnter) (m : Machin
 enter-keeps k law os m f i e =
     let b = base-of k os m i in
     let y = enter-yes k (m .state) (length (m .memory)) f e .1 in
-    (base-entered k law m f b y, top-entered k law m f b y os, i)
+    (base-entered k law m f b y, top-entered k law m f b y os (rw (top-is k os m i) at (y .solid)), i)

@@ -13,7 +13,7 @@ use Rattle.saves.specs.Saves.{store, load, saveRun, loadRun}
 use Rattle.conventions.specs.declared.Convention.the-variants.{Ppc64, Z}
 use Rattle.rules.specs.declared.Frame.{Frame}
 use Rattle.rules.specs.declared.Registers.{Registers}
-use Rattle.rules.specs.Frames.{withPointer, okRequest, below, frameSize, gprAt, savesBy, linkAt, mergeFields, restoredLr, restoredCr, restored, bankOf, writableField, writableRegister, withField, withRegister}
+use Rattle.rules.specs.Frames.{withPointer, allWithin, lowered, okRegisters, cleared, okLeaf, okRequest, below, fullSize, frameSize, chainWidth, gprAt, savesBy, linkAt, mergeFields, restoredLr, restoredCr, restored, bankOf, writableField, writableRegister, withField, withRegister}
 use Rattle.machine.specs.Answers.{answerNumber, judge}
 use Rattle.machine.specs.Machine.{topFrame, callerFrame, okFrames, sizes, okMemory, okState, startAnswer, started, startedMemory, enterAnswer, entered, enteredMemory, writableBytes, writableAddress, writeRegisterAnswer, writeMemoryAnswer, writtenRegister, writtenMemory, leaveAnswer, left, startOutcome, startMemory, enterOutcome, enterMemory, writeRegisterOutcome, writeMemoryOutcome, writeMemoryMemory, leaveOutcome}
 use Rattle.history.specs.Calls.{Call, enter, writeRegister, writeMemory, leave, Machine, answer, after, fresh}
@@ -31,7 +31,7 @@ abbrev registers : Registers
 registers = record { gpr = replicate 32 7; fpr = replicate 32 9; lr = 11; cr = 0 }
 
 abbrev request : Frame
-request = record { «first_gpr» = 29; «first_fpr» = 30; «saves_cr» = true; locals = 20; outgoing = 64 }
+request = record { «first_gpr» = 29; «first_fpr» = 30; «saves_cr» = true; locals = 20; outgoing = 64; leaf = false }
 
 abbrev calls : List Call
 calls =
@@ -52,7 +52,7 @@ start = fresh Ppc64 4096 (replicate 640 1) registers
 
 -- the same on Z: all that a request may save, with one byte of locals and 8 of outgoing area
 abbrev request-z : Frame
-request-z = record { «first_gpr» = 6; «first_fpr» = 8; «saves_cr» = false; locals = 1; outgoing = 8 }
+request-z = record { «first_gpr» = 6; «first_fpr» = 8; «saves_cr» = false; locals = 1; outgoing = 8; leaf = false }
 
 abbrev calls-z : List Call
 calls-z =
@@ -70,11 +70,33 @@ calls-z =
 abbrev start-z : Machine
 start-z = fresh Z 4096 (replicate 512 1) registers
 
+-- leaves on PPC64: one above a frame, which is at 4448; the floor is from 4160 on
+abbrev leaf : Frame
+leaf = record { «first_gpr» = 30; «first_fpr» = 32; «saves_cr» = true; locals = 0; outgoing = 0; leaf = true }
+
+abbrev calls-leaf : List Call
+calls-leaf =
+    enter request
+    ∷ enter leaf
+    ∷ enter leaf
+    ∷ writeRegister 0 30 5
+    ∷ writeRegister 2 0 5
+    ∷ writeMemory 4160 (1 ∷ 2 ∷ [])
+    ∷ writeMemory 4159 (1 ∷ 2 ∷ [])
+    ∷ writeMemory 4431 (1 ∷ 2 ∷ [])
+    ∷ writeMemory 4496 (1 ∷ 2 ∷ [])
+    ∷ leave
+    ∷ leave
+    ∷ []
+
 -- The answers on PPC64: 22 where nothing is entered, 20 where r28 is not saved and where the back chain is in no area. On Z: 17 where CR is asked for, 20 for the stack
 -- pointer, LR and CR. After the calls the saved registers, LR and condition field 2 are back.
+-- With a leaf: 28 above it, 20 for LR, below the floor and in its saves.
 pub worked : (numbers calls start ≡ 22 ∷ 0 ∷ 0 ∷ 20 ∷ 0 ∷ 0 ∷ 0 ∷ 20 ∷ 0 ∷ 22 ∷ [])
     × (run calls start .state .registers ≡ record { gpr = 7 ∷ (4096 + 640 - 112) ∷ replicate 30 7; fpr = replicate 32 9; lr = 11; cr = 0 })
     × (numbers calls-z start-z ≡ 17 ∷ 0 ∷ 0 ∷ 0 ∷ 20 ∷ 0 ∷ 20 ∷ 20 ∷ 0 ∷ [])
     × (run calls-z start-z .state .registers ≡ record { gpr = replicate 15 7 ++ (4096 + 512 - 160) ∷ replicate 16 7; fpr = replicate 32 9; lr = 11; cr = 0 })
-unfolding overlay splice bytesOf valueOf store load saveRun loadRun withPointer okRequest below roundUp frameSize gprAt savesBy linkAt mergeFields restoredLr restoredCr restored bankOf writableField writableRegister withField withRegister judge topFrame callerFrame okFrames sizes okMemory okState startAnswer started startedMemory enterAnswer entered enteredMemory writableBytes writableAddress writeRegisterAnswer writeMemoryAnswer writtenRegister writtenMemory leaveAnswer left startOutcome startMemory enterOutcome enterMemory writeRegisterOutcome writeMemoryOutcome writeMemoryMemory leaveOutcome
-worked = (refl, refl, refl, refl)
+    × (numbers calls-leaf start ≡ 0 ∷ 0 ∷ 28 ∷ 0 ∷ 20 ∷ 0 ∷ 20 ∷ 20 ∷ 0 ∷ 0 ∷ 0 ∷ [])
+    × (run calls-leaf start .state .registers ≡ record { gpr = 7 ∷ (4096 + 640 - 112) ∷ replicate 30 7; fpr = replicate 32 9; lr = 11; cr = 0 })
+unfolding overlay splice bytesOf valueOf store load saveRun loadRun withPointer allWithin lowered okRegisters cleared okLeaf okRequest below roundUp fullSize frameSize chainWidth gprAt savesBy linkAt mergeFields restoredLr restoredCr restored bankOf writableField writableRegister withField withRegister judge topFrame callerFrame okFrames sizes okMemory okState startAnswer started startedMemory enterAnswer entered enteredMemory writableBytes writableAddress writeRegisterAnswer writeMemoryAnswer writtenRegister writtenMemory leaveAnswer left startOutcome startMemory enterOutcome enterMemory writeRegisterOutcome writeMemoryOutcome writeMemoryMemory leaveOutcome
+worked = (refl, refl, refl, refl, refl, refl)

@@ -7,15 +7,17 @@ use mathlib.Core.Bool.{true, false}
 use mathlib.Core.List.{List, [], _∷_}
 use native.Mathlib.Omega.{arith}
 use lib.ListN.{length, getD}
+use borrow.Author.Tests.{le-leb}
 use Rattle.saves.specs.Saves.{load, Outside}
 use Rattle.saves.proofs.Words.{load-agree}
 use Rattle.saves.proofs.Saving.{HeldAll, all-agree}
 use Rattle.rules.specs.declared.Rules.{Rules}
 use Rattle.rules.specs.declared.Registers.{Registers}
 use Rattle.rules.specs.Rules.{within}
-use Rattle.rules.specs.Frames.{firstGpr, firstFpr, savesCr, okRequest, outgoingLength, below, frameSize, saves, preservedCondition}
+use Rattle.rules.specs.Frames.{firstGpr, firstFpr, savesCr, okRegisters, okRequest, outgoingLength, below, frameSize, chainWidth, saves, preservedCondition}
 use Rattle.rules.specs.Lawful.{Lawful}
-use Rattle.rules.proofs.Places.{ascending}
+use Rattle.rules.proofs.Halves.{each-within}
+use Rattle.rules.proofs.Places.{solid-chain, below-reach, ascending}
 use Rattle.machine.specs.Machine.{rulesOf, stackPointer, offset, frameAt, topFrame}
 use Rattle.machine.specs.Premises.{Sound}
 use Rattle.history.specs.Calls.{Machine}
@@ -29,6 +31,12 @@ pub record Fit (k : Rules) (r : Registers) : Type 0 where
   pub fpr : (i : ℕ) → getD (r .fpr) i 0 < 2 ^ 64
   pub lr : r .lr < 2 ^ (8 * k .word)
   pub cr : r .cr < 2 ^ 32
+
+-- registers that fit their words pass 23
+pub fit-small : (k : Rules) → Lawful k → (r : Registers) → Fit k r → okRegisters k r ≡ true
+unfolding okRegisters
+fit-small k law r w =
+    rw (each-within (k .limit) (r .gpr) 32 (λ i. omega (arith, w .gpr i, law .limit)), le-leb (r .lr) (k .limit) (omega (arith, w .lr, law .limit)))
 
 pub record Base (k : Rules) (m : Machine) : Type 0 where
   pub fit : Fit k (m .state .registers)
@@ -49,7 +57,10 @@ pub record Top (k : Rules) (o : OpenEnter) (os : List OpenEnter) (m : Machine) :
   pub fprs : (n : ℕ) → within (k .fpr .preserved) n ≡ true → n < firstFpr (o .request) → getD (m .state .registers .fpr) n 0 ≡ getD (o .before .state .registers .fpr) n 0
   pub fields : savesCr (o .request) ≡ false → preservedCondition (k .linkage) (m .state .registers .cr) ≡ preservedCondition (k .linkage) (o .before .state .registers .cr)
   pub held : HeldAll (m .memory) (saves k (o .request) (offset k (o .before .state)) (o .before .state .registers))
-  pub chain : load (m .memory) (offset k (o .before .state) - frameSize k (o .request)) (k .word) ≡ stackPointer k (o .before .state)
+  -- the caller is no leaf; a leaf keeps LR, any other frame its back chain
+  pub solid : callerOf k os .leaf ≡ false
+  pub lr : o .request .leaf ≡ true → m .state .registers .lr ≡ o .before .state .registers .lr
+  pub chain : o .request .leaf ≡ false → load (m .memory) (offset k (o .before .state) - frameSize k (o .request)) (k .word) ≡ stackPointer k (o .before .state)
   pub bytes : (b : ℕ) → offset k (o .before .state) ≤ b
       → Outside b (saves k (o .request) (offset k (o .before .state)) (o .before .state .registers))
       → ((b < offset k (o .before .state) + k .header) ⊎ (offset k (o .before .state) + k .header + outgoingLength k (callerOf k os) ≤ b))
@@ -73,7 +84,7 @@ top-is k (o ∷ os) m i = rw (i .1 .deep) (i .1 .recorded)
 -- the bytes that the latest open frame rests on are the same in l and l′: its back chain, its saves with the caller's header, and all past the caller's outgoing area
 abbrev pub Rests : Rules → OpenEnter → List OpenEnter → List ℕ → List ℕ → Type 0
 Rests k o os l l′ =
-    ((b : ℕ) → offset k (o .before .state) - frameSize k (o .request) ≤ b → b < offset k (o .before .state) - frameSize k (o .request) + k .word → getD l′ b 0 ≡ getD l b 0)
+    ((b : ℕ) → offset k (o .before .state) - frameSize k (o .request) ≤ b → b < offset k (o .before .state) - frameSize k (o .request) + chainWidth k (o .request) → getD l′ b 0 ≡ getD l b 0)
     × ((b : ℕ) → offset k (o .before .state) - below (k .linkage) k (o .request) ≤ b → b < offset k (o .before .state) + k .header → getD l′ b 0 ≡ getD l b 0)
     × ((b : ℕ) → offset k (o .before .state) + k .header + outgoingLength k (callerOf k os) ≤ b → getD l′ b 0 ≡ getD l b 0)
 
@@ -92,11 +103,16 @@ pub record Keeps (k : Rules) (os : List OpenEnter) (m m′ : Machine) : Type 0 w
   pub gprs : (n : ℕ) → within (k .gpr .preserved) n ≡ true → n < firstGpr (callerOf k os) → getD (m′ .state .registers .gpr) n 0 ≡ getD (m .state .registers .gpr) n 0
   pub fprs : (n : ℕ) → within (k .fpr .preserved) n ≡ true → n < firstFpr (callerOf k os) → getD (m′ .state .registers .fpr) n 0 ≡ getD (m .state .registers .fpr) n 0
   pub fields : savesCr (callerOf k os) ≡ false → preservedCondition (k .linkage) (m′ .state .registers .cr) ≡ preservedCondition (k .linkage) (m .state .registers .cr)
+  pub lr : callerOf k os .leaf ≡ true → m′ .state .registers .lr ≡ m .state .registers .lr
   pub rests : RestsAll k os (offset k (m .state)) (m .memory) (m′ .memory)
 
 -- the caller's pointer has room for the frame below it
 pub room-below : (k : Rules) (o : OpenEnter) (os : List OpenEnter) (m : Machine) → Base k m → Top k o os m → frameSize k (o .request) ≤ offset k (o .before .state)
 room-below k o os m b t = omega (arith, b .sound .over, t .base, t .pointer)
+
+-- and for what it saves
+pub saves-below : (k : Rules) → Lawful k → (o : OpenEnter) (os : List OpenEnter) (m : Machine) → Base k m → Top k o os m → below (k .linkage) k (o .request) ≤ offset k (o .before .state)
+saves-below k law o os m b t = omega (arith, b .sound .over, t .base, t .pointer, below-reach k law (o .request) (t .request))
 
 pub invariant-keeps : (k : Rules) → Lawful k → (os : List OpenEnter) (m m′ : Machine) → Invariant k os m → Base k m′ → Keeps k os m m′ → Invariant k os m′
 invariant-keeps k law [] m m′ i b e =
@@ -107,7 +123,7 @@ invariant-keeps k law (o ∷ os) m m′ i b e =
     let t = i .1 in
     let s = offset k (o .before .state) in
     let f = o .request in
-    let fits = room-below k o os m (i .0) t in
+    let fits = saves-below k law o os m (i .0) t in
     let size : length (m′ .memory) ≡ length (m .memory) = b .sound .length ∙ e .size ∙ sym (i .0 .sound .length) in (
       b,
       record {
@@ -123,7 +139,9 @@ invariant-keeps k law (o ∷ os) m m′ i b e =
         fields = λ p. e .fields p ∙ t .fields p;
         held = all-agree (saves k f s (o .before .state .registers)) (s - below (k .linkage) k f) (s + k .header) (m .memory) (m′ .memory)
             (ascending k law f (t .request) s fits (o .before .state .registers)) (record { lengths = sym size; bytes = λ b p q. sym (e .rests .1 b p q) }) (t .held);
-        chain = load-agree (m′ .memory) (m .memory) (s - frameSize k f) (k .word) size (λ b p q. e .rests .0 b p q) ∙ t .chain;
+        solid = t .solid;
+        lr = λ p. e .lr p ∙ t .lr p;
+        chain = λ z. load-agree (m′ .memory) (m .memory) (s - frameSize k f) (k .word) size (λ b p q. e .rests .0 b p (omega (arith, solid-chain k f z))) ∙ t .chain z;
         bytes = λ b p q r. ⊎-elim (λ u. e .rests .1 b (omega arith) u) (λ u. e .rests .2 b u) r ∙ t .bytes b p q r;
       },
       i .2,

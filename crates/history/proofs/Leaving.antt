@@ -1,8 +1,8 @@
 -- A leave is refused where nothing is open; else it is accepted, gives back what the matching enter found, and keeps the invariant. Assumes nothing.
 use Prim.Native.Nat.{ℕ, _+_, _-_, _*_, _^_, _≤_, _<_}
-use mathlib.Core.Path.{_≡_, refl, _∙_}
+use mathlib.Core.Path.{_≡_, refl, sym, _∙_}
 use mathlib.Core.Logic.{inl, inr, ⊎-elim}
-use mathlib.Core.Bool.{true}
+use mathlib.Core.Bool.{true, false≢true}
 use mathlib.Core.List.{List, [], _∷_}
 use native.Mathlib.Omega.{arith}
 use lib.ListN.{length, getD, set, length-set}
@@ -17,9 +17,9 @@ use Rattle.rules.specs.declared.Registers.{Registers}
 use Rattle.rules.specs.Rules.{within}
 use Rattle.rules.specs.Frames.{firstGpr, firstFpr, noFrame, below, frameSize, saves, gprSave, fprSave, linkAt, restored, returnAddress, preservedCondition}
 use Rattle.rules.specs.Lawful.{Lawful}
-use Rattle.rules.proofs.Facts.{fit-set}
+use Rattle.rules.proofs.Facts.{either, fit-set}
 use Rattle.rules.proofs.Conventions.{pointer-unpreserved, before-lt}
-use Rattle.rules.proofs.Places.{ranges, gpr-end, fpr-end, room-for, ascending, chain-outside}
+use Rattle.rules.proofs.Places.{ranges, solid-chain, gpr-end, fpr-end, room-for, ascending, chain-outside}
 use Rattle.rules.proofs.Restoring.{gpr-held, fpr-held, link-held, lr-fit, cr-fit, cr-held, return-held}
 use Rattle.machine.specs.declared.Answer.the-variants.{Accepted, Refused}
 use Rattle.machine.specs.declared.Refusal.the-variants.{NothingEntered}
@@ -30,7 +30,7 @@ use Rattle.machine.proofs.Judging.{judge-next}
 use Rattle.machine.proofs.States.{state-accepted, frames-agree, sizes-agree}
 use Rattle.history.specs.Calls.{Machine}
 use Rattle.history.specs.Preserved.{OpenEnter, Preserved}
-use Rattle.history.proofs.Invariant.{Fit, Base, Invariant, base-of, top-is, RestsAll, Keeps, room-below, invariant-keeps}
+use Rattle.history.proofs.Invariant.{Fit, fit-small, Base, Invariant, base-of, top-is, RestsAll, Keeps, room-below, saves-below, invariant-keeps}
 
 -- with nothing open, refusal 22
 pub leave-refused : (k : Rules) (m : Machine) → Invariant k [] m → leaveAnswer k (m .state) (m .memory) ≡ Refused NothingEntered
@@ -42,16 +42,17 @@ rests-down : (k : Rules) → Lawful k → (os : List OpenEnter) (o : OpenEnter) 
 rests-down k law [] o m i =
     let t = i .1 in
     let s = offset k (o .before .state) in
-    λ b p q. t .bytes b p (chain-outside k law (o .request) (t .request) s (room-below k o [] m (i .0) t) (o .before .state .registers) b p q) (inl (omega (arith, law .chain)))
+    λ b p q. t .bytes b p (chain-outside k law (o .request) (t .request) s (saves-below k law o [] m (i .0) t) (o .before .state .registers) b p q) (inl (omega (arith, law .chain)))
 rests-down k law (p ∷ ps) o m i =
     let t = i .1 in
     let u = i .2 .1 in
     let s = offset k (o .before .state) in
     let r = offset k (p .before .state) in
-    let fits-o = room-below k o (p ∷ ps) m (i .0) t in
+    let fits-o = saves-below k law o (p ∷ ps) m (i .0) t in
     let fits-p = room-below k p ps (o .before) (i .2 .0) u in
     let at : s ≡ r - frameSize k (p .request) = omega (arith, u .pointer, u .base) in
-    let under = room-for k law (p .request) (u .request) r fits-p in
+    let under = room-for k law (p .request) (u .request) r fits-p (t .solid) in
+    let width = solid-chain k (p .request) (t .solid) in
     let hd = law .chain in
     let vs = saves k (o .request) s (o .before .state .registers) in
     let lo = s - below (k .linkage) k (o .request) in
@@ -95,10 +96,11 @@ module _ (k : Rules) (law : Lawful k) (o : OpenEnter) (os : List OpenEnter) (m :
   unfolding leaveAnswer judge
   accepted =
       let deep : ltb 0 (s .depth) ≡ true = lt-ltb 0 (s .depth) (omega (arith, i .1 .deep)) in
-      let link : load (m .memory) (linkAt (k .linkage) k (offset k s) c₀) (k .word) ≡ stackPointer k s₀
-      = link-held k (o .request) c₀ (s₀ .registers) (m .memory) (k .linkage) (law .linkage) (offset k s) (stackPointer k s₀) gpr-least (i .1 .held) (rw at (i .1 .chain)) refl in
-      judge-next (stateTests k s (length (m .memory))) (leaveTests k s (m .memory)) (state-accepted k s (length (m .memory)) (i .0 .sound))
-      ∙ rw (deep, top, caller-at, i .1 .pointer, eq-eqb (load (m .memory) (linkAt (k .linkage) k (offset k s) c₀) (k .word)) (stackPointer k s₀) link)
+      let next = judge-next (stateTests k s (length (m .memory))) (leaveTests k s (m .memory)) (state-accepted k s (length (m .memory)) (i .0 .sound)) in
+      either (o .request .leaf) (λ e. next ∙ rw (deep, top, e))
+      (λ e. let link : load (m .memory) (linkAt (k .linkage) k (offset k s) c₀) (k .word) ≡ stackPointer k s₀
+      = link-held k (o .request) c₀ (s₀ .registers) (m .memory) (k .linkage) (law .linkage) (offset k s) (stackPointer k s₀) gpr-least (i .1 .held) (rw at (i .1 .chain e)) refl in
+      next ∙ rw (deep, top, caller-at, i .1 .pointer, eq-eqb (load (m .memory) (linkAt (k .linkage) k (offset k s) c₀) (k .word)) (stackPointer k s₀) link, e))
 
   -- the runs that the matching enter saved, and that the memory still holds
   abbrev general : Save
@@ -163,7 +165,7 @@ module _ (k : Rules) (law : Lawful k) (o : OpenEnter) (os : List OpenEnter) (m :
 
   return-back : returnAddress (k .linkage) r ≡ returnAddress (k .linkage) (s₀ .registers)
   unfolding restored
-  return-back = return-held k (o .request) c₀ (s₀ .registers) (m .memory) (k .linkage) (law .linkage) r (s .registers .lr) gpr-least (i .1 .held) refl gpr-in-run
+  return-back = return-held k (o .request) c₀ (s₀ .registers) (m .memory) (k .linkage) (law .linkage) r (s .registers .lr) gpr-least (i .1 .held) (i .1 .lr) refl gpr-in-run
 
   fields-back : preservedCondition (k .linkage) (r .cr) ≡ preservedCondition (k .linkage) (s₀ .registers .cr)
   unfolding restored
@@ -177,7 +179,7 @@ module _ (k : Rules) (law : Lawful k) (o : OpenEnter) (os : List OpenEnter) (m :
     gpr = fit-set (taken (s .registers .gpr) (m .memory) general) (k .pointer) (stackPointer k s₀) (2 ^ (8 * k .word))
         (taken-fit general (s .registers .gpr) (m .memory) gpr-ends gpr-there (2 ^ (8 * k .word)) (i .0 .fit .gpr) (was .fit .gpr)) (was .fit .gpr (k .pointer));
     fpr = taken-fit floating (s .registers .fpr) (m .memory) fpr-ends fpr-there (2 ^ 64) (i .0 .fit .fpr) (was .fit .fpr);
-    lr = lr-fit k (o .request) c₀ (s₀ .registers) (m .memory) (k .linkage) (s .registers .lr) (2 ^ (8 * k .word)) (i .1 .held) (i .0 .fit .lr) (was .fit .lr);
+    lr = lr-fit k (o .request) c₀ (s₀ .registers) (m .memory) (k .linkage) (s .registers .lr) (2 ^ (8 * k .word)) (i .1 .held) (i .1 .lr) (i .0 .fit .lr) (was .fit .lr);
     cr = cr-fit k (o .request) c₀ (s₀ .registers) (m .memory) (k .linkage) (s .registers .cr) (i .0 .fit .cr);
   }
 
@@ -205,6 +207,7 @@ module _ (k : Rules) (law : Lawful k) (o : OpenEnter) (os : List OpenEnter) (m :
         frames = length-set (s .frames) (s .depth - 1) noFrame ∙ b .frames;
         rules = b .rules;
         sound = record {
+          small = fit-small k law r fit-back;
           shallow = omega (arith, b .sound .shallow);
           requests = requests-back;
           memory = b .sound .memory;
@@ -224,6 +227,7 @@ module _ (k : Rules) (law : Lawful k) (o : OpenEnter) (os : List OpenEnter) (m :
     gprs = λ n p q. gprs-back n p;
     fprs = λ n p q. fprs-back n p;
     fields = λ p. fields-back;
+    lr = λ p. absurd (false≢true (sym (i .1 .solid) ∙ p));
     rests = rests-down k law os o m i;
   })
 

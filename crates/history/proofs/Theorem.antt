@@ -1,21 +1,22 @@
--- Demand 3, proved: every list of calls from every accepted start of either convention. The invariant holds at the start and each call keeps it. Assumes nothing.
-use Prim.Native.Nat.{ℕ, _+_, _-_, _*_, _^_, _≤_, _<_}
+-- Demand 3, proved: every list of calls from every accepted start of any convention. The invariant holds at the start and each call keeps it. Assumes nothing.
+use Prim.Native.Nat.{ℕ, zero, suc, _+_, _-_, _*_, _^_, _≤_, _<_}
 use mathlib.Core.Path.{_≡_, refl, sym, _∙_}
 use mathlib.Core.Bool.{true}
 use mathlib.Core.List.{List, [], _∷_}
 use native.Mathlib.Omega.{arith}
+use native.Mathlib.Nat.{mod-lt}
 use lib.ListN.{length, getD, set, length-set}
 use lib.Seq.{getD-set-same}
 use Rattle.saves.specs.Saves.{load}
 use Rattle.saves.proofs.Words.{store-length, load-store}
 use Rattle.conventions.specs.declared.Convention.{Convention}
-use Rattle.conventions.specs.declared.Convention.the-variants.{Ppc64, Z}
 use Rattle.rules.specs.declared.Rules.{Rules}
 use Rattle.rules.specs.declared.Registers.{Registers}
 use Rattle.rules.specs.Rules.{rules}
-use Rattle.rules.specs.Frames.{withPointer}
+use Rattle.rules.specs.Frames.{withPointer, lowered, cleared}
 use Rattle.rules.specs.Lawful.{Lawful}
 use Rattle.rules.proofs.Facts.{fit-set}
+use Rattle.rules.proofs.Halves.{lowered-length, lowered-fit}
 use Rattle.rules.proofs.Conventions.{lawful}
 use Rattle.machine.specs.declared.Answer.{Answer}
 use Rattle.machine.specs.declared.Answer.the-variants.{Accepted, Refused}
@@ -23,30 +24,23 @@ use Rattle.machine.specs.Machine.{okMemory, okFrames, sizes, startAnswer, start
 use Rattle.machine.proofs.Judging.{never, holds-yes}
 use Rattle.machine.proofs.States.{memory-yes}
 use Rattle.history.specs.Calls.{Call, enter, writeRegister, writeMemory, leave, Machine, answer, after, fresh}
-use Rattle.history.specs.Preserved.{OpenEnter, openAfter, CallHolds, Holds, RegistersFit, CallsFit, Demand3OfStates}
-use Rattle.history.proofs.Invariant.{Base, Invariant, base-of}
+use Rattle.history.specs.Preserved.{OpenEnter, openAfter, CallHolds, Holds, RegistersFit, CallFits, CallsFit, Demand3OfStates}
+use Rattle.history.proofs.Invariant.{Fit, fit-small, Base, Invariant, base-of}
 use Rattle.history.proofs.Entering.{enter-keeps}
 use Rattle.history.proofs.Writing.{write-register-keeps, write-memory-keeps}
 use Rattle.history.proofs.Leaving.{leave-refused, leave-accepted, leave-keeps}
 
 -- ---- one call
 
--- a value to write fits a general register
-abbrev pub Fits : Rules → Call → Type 0
-Fits k (enter f) = Unit {0}
-Fits k (writeRegister b n v) = (v < 2 ^ (8 * k .word)) × (v < 2 ^ 64)
-Fits k (writeMemory a bs) = Unit {0}
-Fits k leave = Unit {0}
-
 module _ (k : Rules) (law : Lawful k) where
-  pub step : (c : Call) → Fits k c → (os : List OpenEnter) (m : Machine) → Invariant k os m → (a : Answer) → answer c m ≡ a
+  pub step : (c : Call) → CallFits c → (os : List OpenEnter) (m : Machine) → Invariant k os m → (a : Answer) → answer c m ≡ a
       → CallHolds k c a os (after c m) × Invariant k (openAfter c a m os) (after c m)
   unfolding enterOutcome enterMemory writeRegisterOutcome writeMemoryOutcome writeMemoryMemory leaveOutcome
   step (enter f) w os m i Accepted e =
       let r = base-of k os m i .rules in (tt, rw (e, r) (enter-keeps k law os m f i (rw r at e)))
   step (enter f) w os m i (Refused x) e = (tt, rw e i)
   step (writeRegister b n v) w os m i Accepted e =
-      let r = base-of k os m i .rules in (tt, rw e (write-register-keeps k law os m b n v (w .0) (w .1) i (rw r at e)))
+      let r = base-of k os m i .rules in (tt, rw e (write-register-keeps k law os m b n v w i (rw r at e)))
   step (writeRegister b n v) w os m i (Refused x) e = (tt, rw e i)
   step (writeMemory a bs) w os m i Accepted e =
       let r = base-of k os m i .rules in (tt, rw e (write-memory-keeps k law os m a bs i (rw r at e)))
@@ -58,11 +52,7 @@ module _ (k : Rules) (law : Lawful k) where
 
   -- ---- a list of calls
 
-  abbrev pub AllFit : List Call → Type 0
-  AllFit [] = Unit {0}
-  AllFit (c ∷ cs) = Fits k c × AllFit cs
-
-  holds : (cs : List Call) → AllFit cs → (os : List OpenEnter) (m : Machine) → Invariant k os m → Holds k cs os m
+  holds : (cs : List Call) → CallsFit cs → (os : List OpenEnter) (m : Machine) → Invariant k os m → Holds k cs os m
   holds [] w os m i = tt
   holds (c ∷ cs) w os m i =
       let r = step c (w .0) os m i (answer c m) refl in
@@ -70,17 +60,11 @@ module _ (k : Rules) (law : Lawful k) where
 
 -- ---- the start
 
--- both conventions have words of 64 bits
-word-64 : (c : Convention) → 2 ^ (8 * rules c .word) ≡ 2 ^ 64
-word-64 Ppc64 = refl
-word-64 Z = refl
-
-pub all-fit : (c : Convention) (cs : List Call) → CallsFit cs → AllFit (rules c) (lawful c) cs
-all-fit c [] w = tt
-all-fit c (enter f ∷ cs) w = (tt, all-fit c cs (w .1))
-all-fit c (writeRegister b n v ∷ cs) w = ((rw (word-64 c) (w .0), w .0), all-fit c cs (w .1))
-all-fit c (writeMemory a bs ∷ cs) w = (tt, all-fit c cs (w .1))
-all-fit c (leave ∷ cs) w = (tt, all-fit c cs (w .1))
+-- there are no registers past the last
+past : (xs : List ℕ) (i : ℕ) → length xs ≤ i → getD xs i 0 ≡ 0
+past [] i h = refl
+past (x ∷ xs) zero h = absurd (omega arith)
+past (x ∷ xs) (suc i) h = past xs i (omega arith)
 
 module _ (c : Convention) (b : ℕ) (l : List ℕ) (r : Registers) (fit : RegistersFit r) (e : startAnswer c b (length l) ≡ Accepted) where
   abbrev k : Rules
@@ -99,23 +83,41 @@ module _ (c : Convention) (b : ℕ) (l : List ℕ) (r : Registers) (fit : Regist
   bounds : (256 ≤ n) × (n ≤ 65536) × (b + n ≤ k .limit) × (k .room + k .floor ≤ n)
   bounds = memory-yes k b n okay
 
-  pointer : getD (set (r .gpr) (k .pointer) (b + n - k .room)) (k .pointer) 0 ≡ b + n - k .room
-  pointer = getD-set-same (r .gpr) (k .pointer) (b + n - k .room) 0 (omega (arith, fit .gprs, law .pointer))
+  -- the general registers less their high halves
+  abbrev low : List ℕ
+  low = lowered (k .limit) (r .gpr) 32
+
+  low-fit : (i : ℕ) → getD low i 0 < 2 ^ (8 * k .word)
+  low-fit i =
+      omega (arith, law .limit, lowered-fit (k .limit) 32 (r .gpr) (λ j p. omega (arith, past (r .gpr) j (omega (arith, fit .gprs)))) i)
+
+  pointer : getD (set low (k .pointer) (b + n - k .room)) (k .pointer) 0 ≡ b + n - k .room
+  pointer = getD-set-same low (k .pointer) (b + n - k .room) 0 (omega (arith, fit .gprs, law .pointer, lowered-length (k .limit) (r .gpr) 32))
+
+  abbrev registers : Registers
+  registers = withPointer k (cleared k r) (b + n - k .room)
+
+  fits : Fit k registers
+  unfolding withPointer cleared
+  fits =
+      let pos : 0 < k .limit + 1 = omega arith in
+      record {
+        gprs = length-set low (k .pointer) (b + n - k .room) ∙ lowered-length (k .limit) (r .gpr) 32 ∙ fit .gprs;
+        fprs = fit .fprs;
+        gpr = fit-set low (k .pointer) (b + n - k .room) (2 ^ (8 * k .word)) low-fit (omega (arith, bounds, law .limit));
+        fpr = fit .fpr;
+        lr = omega (arith, mod-lt (r .lr) pos, law .limit);
+        cr = fit .cr;
+      }
 
   base : Base k (record { state = started c b n r; memory = startedMemory k l })
-  unfolding started startedMemory withPointer okFrames sizes
+  unfolding started startedMemory withPointer cleared okFrames sizes
   base = record {
-    fit = record {
-      gprs = length-set (r .gpr) (k .pointer) (b + n - k .room) ∙ fit .gprs;
-      fprs = fit .fprs;
-      gpr = fit-set (r .gpr) (k .pointer) (b + n - k .room) (2 ^ (8 * k .word)) (rw (word-64 c) (fit .gpr)) (omega (arith, bounds, law .limit));
-      fpr = fit .fpr;
-      lr = rw (word-64 c) (fit .lr);
-      cr = fit .cr;
-    };
+    fit = fits;
     frames = refl;
     rules = refl;
     sound = record {
+      small = fit-small k law registers fits;
       shallow = omega arith;
       requests = refl;
       memory = okay;
@@ -125,17 +127,17 @@ module _ (c : Convention) (b : ℕ) (l : List ℕ) (r : Registers) (fit : Regist
     };
   }
 
-  zero-word : load (startedMemory k l) (getD (set (r .gpr) (k .pointer) (b + n - k .room)) (k .pointer) 0 - b) (k .word) ≡ 0
+  zero-word : load (startedMemory k l) (getD (set low (k .pointer) (b + n - k .room)) (k .pointer) 0 - b) (k .word) ≡ 0
   unfolding startedMemory
   zero-word =
-      let at : getD (set (r .gpr) (k .pointer) (b + n - k .room)) (k .pointer) 0 - b ≡ n - k .room = omega (arith, pointer, bounds, law .room) in
+      let at : getD (set low (k .pointer) (b + n - k .room)) (k .pointer) 0 - b ≡ n - k .room = omega (arith, pointer, bounds, law .room) in
       rw at (load-store l (n - k .room) (k .word) 0 (omega (arith, law .limit)) (omega (arith, bounds, law .head, law .room, law .chain)))
 
   pub start-invariant : Invariant k [] (fresh c b l r)
-  unfolding startOutcome startMemory started withPointer
+  unfolding startOutcome startMemory started withPointer cleared
   start-invariant = rw e (base, refl, zero-word)
 
 -- DEMAND 3 of the machine's own calls
 pub calls-hold : Demand3OfStates
 unfolding startOutcome
-calls-hold c b l r fit e cs w = holds (rules c) (lawful c) cs (all-fit c cs w) [] (fresh c b l r) (start-invariant c b l r fit e)
+calls-hold c b l r fit e cs w = holds (rules c) (lawful c) cs w [] (fresh c b l r) (start-invariant c b l r fit e)

@@ -1,33 +1,34 @@
 -- An accepted write keeps the invariant: it reaches nothing that an open frame rests on. Assumes nothing.
 use Prim.Native.Nat.{ℕ, _+_, _-_, _*_, _^_, _≤_, _<_}
-use mathlib.Core.Path.{_≡_, refl, _∙_}
+use mathlib.Core.Path.{_≡_, refl, sym, _∙_}
 use mathlib.Core.Logic.{_⊎_, inl, inr, ⊎-elim}
-use mathlib.Core.Bool.{true, false≢true}
+use mathlib.Core.Bool.{true, false, not, false≢true}
 use mathlib.Core.List.{List, [], _∷_}
 use native.Mathlib.Omega.{arith}
 use lib.ListN.{length, getD, set, length-set}
 use lib.Seq.{getD-set-other}
 use lib.Dec.{leb}
+use borrow.Author.Tests.{leb-true}
 use Rattle.words.specs.Splice.{splice}
 use Rattle.words.proofs.Splices.{length-splice, splice-at-other}
 use Rattle.rules.specs.declared.Rules.{Rules}
 use Rattle.rules.specs.declared.Registers.{Registers}
 use Rattle.rules.specs.declared.RegisterBank.{RegisterBank}
 use Rattle.rules.specs.declared.RegisterBank.the-variants.{General, Floating, Link, ConditionField, None}
-use Rattle.rules.specs.Frames.{firstGpr, firstFpr, startFrame, outgoingLength, below, frameSize, bankOf, writable, writableField, writableRegister, withRegister}
+use Rattle.rules.specs.Frames.{firstGpr, firstFpr, startFrame, hasCondition, outgoingLength, below, frameSize, chainWidth, bankOf, writable, writableField, writableRegister, withRegister}
 use Rattle.rules.specs.Lawful.{Lawful}
-use Rattle.rules.proofs.Facts.{and-yes, fit-set}
+use Rattle.rules.proofs.Facts.{either, and-yes, not-yes, fit-set}
 use Rattle.rules.proofs.Conventions.{writable-apart, pointer-unwritable}
-use Rattle.rules.proofs.Places.{ranges, room-for}
+use Rattle.rules.proofs.Places.{ranges, leaf-chain, solid-chain}
 use Rattle.rules.proofs.Writing.{field-number, field-fit, field-preserves}
 use Rattle.machine.specs.declared.Answer.the-variants.{Accepted}
 use Rattle.machine.specs.declared.State.{State}
-use Rattle.machine.specs.Machine.{stackPointer, offset, topFrame, callerFrame, stateTests, writableBytes, writableAddress, writeRegisterAnswer, writeMemoryAnswer, writtenRegister, writtenMemory}
-use Rattle.machine.proofs.Areas.{areas}
+use Rattle.machine.specs.Machine.{stackPointer, offset, topFrame, callerFrame, stateTests, outgoingFrom, writableBytes, writableAddress, writeRegisterAnswer, writeMemoryAnswer, writtenRegister, writtenMemory}
+use Rattle.machine.proofs.Areas.{solid-outgoing, outgoing-le, locals-le, areas}
 use Rattle.machine.proofs.Judging.{holds-yes, judge-both}
 use Rattle.history.specs.Calls.{Machine}
 use Rattle.history.specs.Preserved.{OpenEnter, callerOf}
-use Rattle.history.proofs.Invariant.{Fit, Base, Invariant, base-of, top-is, RestsAll, Keeps, room-below, invariant-keeps}
+use Rattle.history.proofs.Invariant.{Fit, fit-small, Base, Invariant, base-of, top-is, RestsAll, Keeps, room-below, invariant-keeps}
 
 caller-is : (k : Rules) (o : OpenEnter) (os : List OpenEnter) (m : Machine) → Invariant k (o ∷ os) m → callerFrame k (m .state .frames) (m .state .depth) ≡ callerOf k os
 unfolding topFrame callerFrame
@@ -65,11 +66,15 @@ rests-write k law (o ∷ os) m i a bs e =
     let at : offset k (m .state) ≡ s - frameSize k f = omega (arith, t .pointer, t .base) in
     let c : offset k (m .state) + frameSize k f ≡ s = omega (arith, at, fits) in
     let r = areas k (m .state) a (length bs) e f (top-is k (o ∷ os) m i) (callerOf k os) (caller-is k o os m i) in
-    let under = room-for k law f (t .request) s fits in
     let hd = law .chain in
+    let o₁ = outgoing-le k f (offset k (m .state)) in
+    let o₂ = locals-le k law f (t .request) (offset k (m .state)) in
+    let chain : (b : ℕ) → s - frameSize k f ≤ b → b < s - frameSize k f + chainWidth k f → outgoingFrom k f (offset k (m .state)) ≡ offset k (m .state) + k .header
+    = λ b p q. either (f .leaf) (λ z. absurd (omega (arith, leaf-chain k f z))) (λ z. solid-outgoing k f (offset k (m .state)) z) in
+    let width : chainWidth k f ≤ k .word = either (f .leaf) (λ z. omega (arith, leaf-chain k f z)) (λ z. omega (arith, solid-chain k f z)) in
     let r₂ : (a + length bs ≤ s - below (k .linkage) k f) ⊎ ((s + k .header ≤ a) × (a + length bs ≤ s + k .header + outgoingLength k (callerOf k os)))
     = ⊎-elim (λ u. inl (omega arith)) (λ u. ⊎-elim (λ w. inl (rw c at (w .1))) (λ w. inr (omega arith)) (u .1)) r in (
-      λ b p q. beside (m .memory) a bs b (⊎-elim (λ u. inl (omega arith)) (λ u. ⊎-elim (λ w. inl (omega arith)) (λ w. inl (omega arith)) (u .1)) r),
+      λ b p q. let z = chain b p q in beside (m .memory) a bs b (⊎-elim (λ u. inl (omega arith)) (λ u. ⊎-elim (λ w. inl (omega arith)) (λ w. inl (omega arith)) (u .1)) r),
       λ b p q. beside (m .memory) a bs b (⊎-elim (λ u. inr (omega arith)) (λ u. inl (omega arith)) r₂),
       λ b p. beside (m .memory) a bs b (⊎-elim (λ u. inr (omega arith)) (λ u. inr (omega arith)) r₂),
     )
@@ -101,6 +106,7 @@ module _ (k : Rules) (law : Lawful k) (os : List OpenEnter) (m : Machine) (i : I
         frames = b .frames;
         rules = b .rules;
         sound = record {
+          small = fit-small k law r w;
           shallow = b .sound .shallow;
           requests = b .sound .requests;
           memory = b .sound .memory;
@@ -135,6 +141,7 @@ module _ (k : Rules) (law : Lawful k) (os : List OpenEnter) (m : Machine) (i : I
         gprs = λ j q r. getD-set-other (s .registers .gpr) n j v 0 (λ z. writable-apart (k .gpr) (k .end) (law .gpr) (firstGpr (callerOf k os)) n p j q r z);
         fprs = λ j q r. refl;
         fields = λ q. refl;
+        lr = λ q. refl;
         rests = rests-same k os (offset k s) (m .memory);
       })
 
@@ -160,12 +167,13 @@ module _ (k : Rules) (law : Lawful k) (os : List OpenEnter) (m : Machine) (i : I
         gprs = λ j q r. refl;
         fprs = λ j q r. getD-set-other (s .registers .fpr) n j v 0 (λ z. writable-apart (k .fpr) (k .end) (law .fpr) (firstFpr (callerOf k os)) n p j q r z);
         fields = λ q. refl;
+        lr = λ q. refl;
         rests = rests-same k os (offset k s) (m .memory);
       })
 
-  write-link : (n v : ℕ) → v < 2 ^ (8 * k .word) → Invariant k os (with (withRegister (s .registers) Link n v))
+  write-link : (n v : ℕ) → v < 2 ^ (8 * k .word) → callerOf k os .leaf ≡ false → Invariant k os (with (withRegister (s .registers) Link n v))
   unfolding withRegister
-  write-link n v w =
+  write-link n v w solid =
       keeps-registers (withRegister (s .registers) Link n v)
       (record { gprs = b .fit .gprs; fprs = b .fit .fprs; gpr = b .fit .gpr; fpr = b .fit .fpr; lr = w; cr = b .fit .cr })
       refl
@@ -178,6 +186,7 @@ module _ (k : Rules) (law : Lawful k) (os : List OpenEnter) (m : Machine) (i : I
         gprs = λ j q r. refl;
         fprs = λ j q r. refl;
         fields = λ q. refl;
+        lr = λ q. absurd (false≢true (sym solid ∙ q));
         rests = rests-same k os (offset k s) (m .memory);
       })
 
@@ -197,24 +206,30 @@ module _ (k : Rules) (law : Lawful k) (os : List OpenEnter) (m : Machine) (i : I
         gprs = λ j q r. refl;
         fprs = λ j q r. refl;
         fields = λ q. field-preserves k (callerOf k os) n v (s .registers .cr) p q (b .fit .cr);
+        lr = λ q. refl;
         rests = rests-same k os (offset k s) (m .memory);
       })
 
-  write-bank : (c : RegisterBank) (n v : ℕ) → v < 2 ^ (8 * k .word) → v < 2 ^ 64 → writableRegister k (callerOf k os) c n v ≡ true → Invariant k os (with (withRegister (s .registers) c n v))
+  -- a value in a general register or LR fits its word, or the write is refused
+  write-bank : (c : RegisterBank) (n v : ℕ) → v < 2 ^ 64 → writableRegister k (callerOf k os) c n v ≡ true → Invariant k os (with (withRegister (s .registers) c n v))
   unfolding writableRegister
-  write-bank General n v w x p = write-general n v w p
-  write-bank Floating n v w x p = write-floating n v x p
-  write-bank Link n v w x p = write-link n v w
-  write-bank ConditionField n v w x p = write-field n v p
-  write-bank None n v w x p = absurd (false≢true p)
+  write-bank General n v x p =
+      let q = and-yes (writable (k .gpr) (firstGpr (callerOf k os)) n) _ p in
+      write-general n v (omega (arith, leb-true v (k .limit) (q .1), law .limit)) (q .0)
+  write-bank Floating n v x p = write-floating n v x p
+  write-bank Link n v x p =
+      let q = and-yes (not (callerOf k os .leaf)) _ (and-yes (hasCondition (k .linkage)) _ p .1) in
+      write-link n v (omega (arith, leb-true v (k .limit) (q .1), law .limit)) (not-yes (callerOf k os .leaf) (q .0))
+  write-bank ConditionField n v x p = write-field n v p
+  write-bank None n v x p = absurd (false≢true p)
 
-pub write-register-keeps : (k : Rules) → Lawful k → (os : List OpenEnter) (m : Machine) (c n v : ℕ) → v < 2 ^ (8 * k .word) → v < 2 ^ 64 → Invariant k os m
+pub write-register-keeps : (k : Rules) → Lawful k → (os : List OpenEnter) (m : Machine) (c n v : ℕ) → v < 2 ^ 64 → Invariant k os m
     → writeRegisterAnswer k (m .state) (length (m .memory)) c n v ≡ Accepted → Invariant k os (record { state = writtenRegister (m .state) c n v; memory = m .memory })
 unfolding writeRegisterAnswer writtenRegister
-write-register-keeps k law os m c n v w x i e =
+write-register-keeps k law os m c n v x i e =
     let s = m .state in
     let t = judge-both (stateTests k s (length (m .memory))) _ e in
-    write-bank k law os m i (bankOf c) n v w x (rw (top-is k os m i) at (holds-yes _ _ (t .1) .0))
+    write-bank k law os m i (bankOf c) n v x (rw (top-is k os m i) at (holds-yes _ _ (t .1) .0))
 
 pub write-memory-keeps : (k : Rules) → Lawful k → (os : List OpenEnter) (m : Machine) (a : ℕ) (bs : List ℕ) → Invariant k os m
     → writeMemoryAnswer k (m .state) (length (m .memory)) a (length bs) ≡ Accepted → Invariant k os (record { state = m .state; memory = writtenMemory (m .state) (m .memory) a bs })
@@ -230,6 +245,7 @@ write-memory-keeps k law os m a bs i e =
       frames = b .frames;
       rules = b .rules;
       sound = record {
+        small = b .sound .small;
         shallow = b .sound .shallow;
         requests = b .sound .requests;
         memory = b .sound .memory;
@@ -247,5 +263,6 @@ write-memory-keeps k law os m a bs i e =
       gprs = λ j q r. refl;
       fprs = λ j q r. refl;
       fields = λ q. refl;
+      lr = λ q. refl;
       rests = rests-write k law os m i (a - s .base) bs (p .1);
     })

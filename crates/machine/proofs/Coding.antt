@@ -2,7 +2,7 @@
 use Prim.Native.Nat.{ℕ, zero, suc, _+_, _-_, _≤_, _<_}
 use mathlib.Core.Path.{_≡_, refl, sym, ap, _∙_, subst}
 use mathlib.Core.Logic.{⊎-elim}
-use mathlib.Core.Bool.{Bool, true, false, _&&_}
+use mathlib.Core.Bool.{Bool, true, false, not, _&&_}
 use mathlib.Core.List.{List}
 use native.Mathlib.Omega.{arith}
 use lib.ListN.{length}
@@ -13,9 +13,9 @@ use Rattle.rules.specs.declared.Rules.{Rules}
 use Rattle.rules.specs.declared.Frame.{Frame}
 use Rattle.rules.specs.Frames.{startFrame, okRequest, outgoingLength, frameSize}
 use Rattle.rules.specs.Lawful.{Lawful, Placed}
-use Rattle.rules.proofs.Facts.{and-yes}
+use Rattle.rules.proofs.Facts.{and-yes, not-yes}
 use Rattle.rules.proofs.Conventions.{lawful}
-use Rattle.rules.proofs.Places.{ranges}
+use Rattle.rules.proofs.Places.{ranges, below-reach}
 use Rattle.machine.specs.Machine.{State, offset, frameAt, topFrame, callerFrame, top, caller, okFrames, sizes}
 use Rattle.machine.specs.Premises.{Sound, CanEnter}
 use Rattle.machine.proofs.States.{memory-yes}
@@ -37,14 +37,18 @@ eqb-sub p u e h = go (eqb (p + u) e) refl
 
 -- ---- the records, one turn of a loop
 
-pub frames-down : (k : Rules) (fs : List Frame) (d : ℕ) → 0 < d → okFrames k fs d ≡ (okRequest k (frameAt fs (d - 1)) && okFrames k fs (d - 1))
+pub frames-down : (k : Rules) (fs : List Frame) (d : ℕ) → 0 < d → okFrames k fs d ≡ (okRequest k (frameAt fs (d - 1)) && (not (topFrame k fs (d - 1) .leaf) && okFrames k fs (d - 1)))
 unfolding okFrames
 frames-down k fs zero h = absurd (omega arith)
 frames-down k fs (suc d) h = let e : suc d - 1 ≡ d = omega arith in rw e
 
--- the record read is in range, and so are those below it
-pub frames-read : (k : Rules) (fs : List Frame) (d : ℕ) → 0 < d → okFrames k fs d ≡ true → (okRequest k (frameAt fs (d - 1)) ≡ true) × (okFrames k fs (d - 1) ≡ true)
-frames-read k fs d h e = and-yes (okRequest k (frameAt fs (d - 1))) _ (sym (frames-down k fs d h) ∙ e)
+-- the record read is in range, what is under it is no leaf, and the records below it are in range
+pub frames-read : (k : Rules) (fs : List Frame) (d : ℕ) → 0 < d → okFrames k fs d ≡ true
+    → (okRequest k (frameAt fs (d - 1)) ≡ true) × (topFrame k fs (d - 1) .leaf ≡ false) × (okFrames k fs (d - 1) ≡ true)
+frames-read k fs d h e =
+    let p = and-yes (okRequest k (frameAt fs (d - 1))) _ (sym (frames-down k fs d h) ∙ e) in
+    let q = and-yes (not (topFrame k fs (d - 1) .leaf)) _ (p .1) in
+    (p .0, not-yes (topFrame k fs (d - 1) .leaf) (q .0), q .1)
 
 pub frames-none : (k : Rules) (fs : List Frame) (d : ℕ) → d ≤ 0 → okFrames k fs d ≡ true
 unfolding okFrames
@@ -90,8 +94,8 @@ pub frame-request : (k : Rules) (fs : List Frame) (d i : ℕ) → okFrames k fs 
 unfolding okFrames
 frame-request k fs zero i e h = absurd (omega arith)
 frame-request k fs (suc d) i e h =
-    let t = and-yes (okRequest k (frameAt fs d)) (okFrames k fs d) e in
-    ⊎-elim (λ p. frame-request k fs d i (t .1) p) (λ p. let x : i ≡ d = omega arith in rw x (t .0)) (le-or-lt (suc i) d)
+    let t = and-yes (okRequest k (frameAt fs d)) _ e in
+    ⊎-elim (λ p. frame-request k fs d i (and-yes (not (topFrame k fs d .leaf)) _ (t .1) .1) p) (λ p. let x : i ≡ d = omega arith in rw x (t .0)) (le-or-lt (suc i) d)
 
 outgoing-small : (k : Rules) → Lawful k → (f : Frame) → okRequest k f ≡ true → outgoingLength k f ≤ 16648
 outgoing-small k law f e = omega (arith, ranges k f e .outgoing, law .least)
@@ -137,8 +141,13 @@ module _ (k : Rules) (law : Lawful k) (s : State) (n : ℕ) (sound : Sound k s n
         omega (arith, e, pointer-room)
 
     pub top-placed : Placed k (top k s) (offset k s + frameSize k (top k s)) n
-    top-placed = record { lawful = law; request = top-request; fits = omega arith; room = omega (arith, top-room, law .head) }
+    top-placed = record {
+      lawful = law;
+      request = top-request;
+      fits = omega (arith, below-reach k law (top k s) top-request, sound .over);
+      room = omega (arith, top-room, law .head);
+    }
 
 -- a request that may be entered lies below the present pointer, whose header is in the memory
 pub enter-placed : (k : Rules) → Lawful k → (s : State) (n : ℕ) → Sound k s n → (f : Frame) → CanEnter k s f → Placed k f (offset k s) n
-enter-placed k law s n sound f can = record { lawful = law; request = can .request; fits = omega (arith, can .room); room = omega (arith, pointer-room k law s n sound, law .head) }
+enter-placed k law s n sound f can = record { lawful = law; request = can .request; fits = omega (arith, can .room, below-reach k law f (can .request)); room = omega (arith, pointer-room k law s n sound, law .head) }

@@ -10,7 +10,8 @@ use Rattle.conventions.specs.declared.Convention.{Convention}
 use Rattle.conventions.specs.declared.Convention.the-variants.{Ppc64, Z}
 use Rattle.rules.specs.declared.Registers.{Registers}
 use Rattle.rules.specs.Rules.{ppc64, z, rules}
-use Rattle.rules.specs.Frames.{withPointer}
+use Rattle.rules.specs.Frames.{withPointer, lowered, cleared}
+use Rattle.rules.proofs.Halves.{lowered-length}
 use Rattle.machine.specs.Machine.{stackPointer, okMemory, started}
 
 -- "N not a multiple of 16, under 256, over 65,536, base B not a multiple of 16, B + N over 2^64 - 1", in both conventions;
@@ -27,9 +28,9 @@ least-memory = (refl, refl)
 
 -- the stack pointer starts at "B + N - 112 (PPC64), B + N - 160 (Z)"
 start-ppc64 : (b n : ℕ) (r : Registers) → length (r .gpr) ≡ 32 → stackPointer ppc64 (started Ppc64 b n r) ≡ b + n - 112
-unfolding started withPointer
-start-ppc64 b n r h = getD-set-same (r .gpr) 1 (b + n - 112) 0 (omega arith)
+unfolding started withPointer cleared
+start-ppc64 b n r h = getD-set-same (lowered (ppc64 .limit) (r .gpr) 32) 1 (b + n - 112) 0 (omega (arith, lowered-length (ppc64 .limit) (r .gpr) 32))
 
 start-z : (b n : ℕ) (r : Registers) → length (r .gpr) ≡ 32 → stackPointer z (started Z b n r) ≡ b + n - 160
-unfolding started withPointer
-start-z b n r h = getD-set-same (r .gpr) 15 (b + n - 160) 0 (omega arith)
+unfolding started withPointer cleared
+start-z b n r h = getD-set-same (lowered (z .limit) (r .gpr) 32) 15 (b + n - 160) 0 (omega (arith, lowered-length (z .limit) (r .gpr) 32))

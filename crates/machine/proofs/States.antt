@@ -9,10 +9,10 @@ use lib.Dec.{leb, eqb}
 use borrow.Author.Tests.{leb-true, ltb-true, eqb-true, le-leb, eq-eqb}
 use Rattle.rules.specs.declared.Rules.{Rules}
 use Rattle.rules.specs.declared.Frame.{Frame}
-use Rattle.rules.specs.Frames.{frameSize, bankOf, writableRegister}
-use Rattle.rules.proofs.Facts.{and-yes}
+use Rattle.rules.specs.Frames.{okRegisters, frameSize, bankOf, writableRegister}
+use Rattle.rules.proofs.Facts.{and-yes, not-yes}
 use Rattle.machine.specs.Answers.{Accepted, judge}
-use Rattle.machine.specs.Machine.{State, stackPointer, frameAt, okFrames, sizes, okMemory, okState, stateTests, enterAnswer, top, writableAddress, writeRegisterAnswer, writeMemoryAnswer, leaveTests, leaveAnswer}
+use Rattle.machine.specs.Machine.{State, stackPointer, frameAt, topFrame, okFrames, sizes, okMemory, okState, stateTests, enterAnswer, top, writableAddress, writeRegisterAnswer, writeMemoryAnswer, leaveTests, leaveAnswer}
 use Rattle.machine.specs.Premises.{Sound, CanEnter, CanLeave}
 use Rattle.machine.proofs.Judging.{holds-yes, judge-both}
 
@@ -32,11 +32,13 @@ unfolding okState
 state-yes k s n e =
     let t = holds-yes _ _ e in
     let u = holds-yes _ _ (t .1) in
-    let a = and-yes (leb (s .depth) 32) _ (t .0) in
+    let r = and-yes (okRegisters k (s .registers)) _ (t .0) in
+    let a = and-yes (leb (s .depth) 32) _ (r .1) in
     let b = and-yes (okFrames k (s .frames) (s .depth)) _ (a .1) in
     let c = and-yes (okMemory k (s .base) (s .size)) _ (b .1) in
     let d = and-yes (leb (s .base + k .floor) (stackPointer k s)) _ (c .1) in
     record {
+      small = r .0;
       shallow = leb-true (s .depth) 32 (a .0);
       requests = b .0;
       memory = c .0;
@@ -49,6 +51,7 @@ pub state-accepted : (k : Rules) (s : State) (n : ℕ) → Sound k s n → judge
 unfolding okState judge
 state-accepted k s n y =
     rw (
+      y .small,
       le-leb (s .depth) 32 (y .shallow),
       y .requests,
       y .memory,
@@ -63,9 +66,15 @@ enter-yes k s n f e =
     let t = judge-both (stateTests k s n) _ e in
     let a = holds-yes _ _ (t .1) in
     let b = holds-yes _ _ (a .1) in
-    let c = holds-yes _ _ (b .1) in (
+    let c = holds-yes _ _ (b .1) in
+    let d = holds-yes _ _ (c .1) in (
       state-yes k s n (t .0),
-      record { request = a .0; shallow = ltb-true (s .depth) 32 (b .0); room = leb-true (s .base + frameSize k f + k .floor) (stackPointer k s) (c .0) },
+      record {
+        request = a .0;
+        solid = not-yes (top k s .leaf) (b .0);
+        shallow = ltb-true (s .depth) 32 (c .0);
+        room = leb-true (s .base + frameSize k f + k .floor) (stackPointer k s) (d .0);
+      },
     )
 
 pub write-register-yes : (k : Rules) (s : State) (n b i v : ℕ) → writeRegisterAnswer k s n b i v ≡ Accepted → Sound k s n × (writableRegister k (top k s) (bankOf b) i v ≡ true)
@@ -87,10 +96,15 @@ leave-yes k s l e =
     record { deep = ltb-true 0 (s .depth) (holds-yes _ _ (t .1) .0); sound = state-yes k s (length l) (t .0) }
 
 -- records that agree below d
+pub top-agree : (k : Rules) (d : ℕ) (fs gs : List Frame) → ((i : ℕ) → i < d → frameAt fs i ≡ frameAt gs i) → topFrame k fs d ≡ topFrame k gs d
+unfolding topFrame
+top-agree k zero fs gs h = refl
+top-agree k (suc d) fs gs h = h d (omega arith)
+
 pub frames-agree : (k : Rules) (d : ℕ) (fs gs : List Frame) → ((i : ℕ) → i < d → frameAt fs i ≡ frameAt gs i) → okFrames k fs d ≡ okFrames k gs d
 unfolding okFrames
 frames-agree k zero fs gs h = refl
-frames-agree k (suc d) fs gs h = rw (h d (omega arith), frames-agree k d fs gs (λ i p. h i (omega arith)))
+frames-agree k (suc d) fs gs h = rw (h d (omega arith), top-agree k d fs gs (λ i p. h i (omega arith)), frames-agree k d fs gs (λ i p. h i (omega arith)))
 
 pub sizes-agree : (k : Rules) (d : ℕ) (fs gs : List Frame) → ((i : ℕ) → i < d → frameAt fs i ≡ frameAt gs i) → sizes k fs d ≡ sizes k gs d
 unfolding sizes

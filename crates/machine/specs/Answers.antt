@@ -1,14 +1,14 @@
--- Answers and refusals. Document 01, "When the bridge says no". Assumes nothing.
+-- Answers and refusals. Document 01, "When the bridge says no"; document 02, No. 9. Assumes nothing.
 use Prim.Native.Nat.{ℕ}
 use mathlib.Core.Bool.{Bool}
 use mathlib.Core.List.{List, [], _∷_}
 use Rattle.words.specs.Basics.{pick}
 pub use Rattle.machine.specs.declared.Refusal.{Refusal}
-pub use Rattle.machine.specs.declared.Refusal.the-variants.{BadMemory, BadRequest, TooManyFrames, NoRoom, NotPermitted, BrokenChain, NothingEntered, BadState}
+pub use Rattle.machine.specs.declared.Refusal.the-variants.{BadMemory, BadRequest, TooManyFrames, NoRoom, NotPermitted, BrokenChain, NothingEntered, BadState, AboveLeaf}
 pub use Rattle.machine.specs.declared.Answer.{Answer}
 pub use Rattle.machine.specs.declared.Answer.the-variants.{Accepted, Refused}
 
--- document 01's number of each refusal ("No"); its place is 0 for all of them
+-- document 01's number of each refusal ("No"), and document 02's 28; its place is 0 for all of them
 abbrev pub refusalNumber : Refusal → ℕ
 refusalNumber BadMemory = 16
 refusalNumber BadRequest = 17
@@ -18,6 +18,7 @@ refusalNumber NotPermitted = 20
 refusalNumber BrokenChain = 21
 refusalNumber NothingEntered = 22
 refusalNumber BadState = 23
+refusalNumber AboveLeaf = 28
 
 -- an answer's number: 0 for an accepted call
 abbrev pub answerNumber : Answer → ℕ

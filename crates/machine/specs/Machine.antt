@@ -1,12 +1,13 @@
 -- The frame machine: what each call answers, and the state and the memory after it, for every state, request and memory. Document 01, "Frames" and refusals 16 to 23;
--- document 02, No. 8.
+-- document 02, No. 8 and No. 9.
 -- Addresses are integers without wrap. Definitions are over the rules k of a convention; those that the contracts cite take them from the state.
 -- Assumes nothing.
 use Prim.Native.Nat.{ℕ, zero, suc, _+_, _-_, _%_}
-use mathlib.Core.Bool.{Bool, true, _&&_, _||_}
+use mathlib.Core.Bool.{Bool, true, not, _&&_, _||_}
 use mathlib.Core.List.{List, [], _∷_, _++_}
 use lib.ListN.{getD, set, length, replicate}
 use lib.Dec.{leb, ltb, eqb}
+use Rattle.words.specs.Basics.{pick}
 use Rattle.words.specs.Splice.{splice}
 use Rattle.saves.specs.Saves.{store, load, saveAll}
 use Rattle.conventions.specs.declared.Convention.{Convention}
@@ -14,8 +15,8 @@ use Rattle.rules.specs.declared.Rules.{Rules}
 use Rattle.rules.specs.declared.Frame.{Frame}
 use Rattle.rules.specs.declared.Registers.{Registers}
 use Rattle.rules.specs.Rules.{rules}
-use Rattle.rules.specs.Frames.{noFrame, startFrame, withPointer, okRequest, outgoingLength, below, frameSize, saves, linkAt, restored, bankOf, writableRegister, withRegister}
-use Rattle.machine.specs.Answers.{Answer, BadMemory, BadRequest, TooManyFrames, NoRoom, NotPermitted, BrokenChain, NothingEntered, BadState, Test, require, judge, settle}
+use Rattle.rules.specs.Frames.{noFrame, startFrame, withPointer, okRegisters, cleared, okRequest, outgoingLength, below, frameSize, chainWidth, saves, linkAt, restored, bankOf, writableRegister, withRegister}
+use Rattle.machine.specs.Answers.{Answer, BadMemory, BadRequest, TooManyFrames, NoRoom, NotPermitted, BrokenChain, NothingEntered, BadState, AboveLeaf, Test, require, judge, settle}
 pub use Rattle.machine.specs.declared.State.{State}
 pub use Rattle.machine.specs.declared.Outcome.{Outcome}
 
@@ -52,10 +53,10 @@ top k s = topFrame k (s .frames) (s .depth)
 abbrev pub caller : Rules → State → Frame
 caller k s = callerFrame k (s .frames) (s .depth)
 
--- would 17 accept each of the first d records, and what is the sum of their sizes?
+-- would 17 accept each of the first d records, with none above a leaf, and what is the sum of their sizes? 02, No. 9: "a state with a leaf below the top gives 23"
 unfoldable pub okFrames : Rules → List Frame → ℕ → Bool
 okFrames k fs zero = true
-okFrames k fs (suc d) = okRequest k (frameAt fs d) && okFrames k fs d
+okFrames k fs (suc d) = okRequest k (frameAt fs d) && (not (topFrame k fs d .leaf) && okFrames k fs d)
 
 unfoldable pub sizes : Rules → List Frame → ℕ → ℕ
 sizes k fs zero = 0
@@ -70,8 +71,8 @@ okMemory k b n = eqb (n % 16) 0 && (leb 256 n && (leb n 65536 && (eqb (b % 16) 0
 -- 02, No. 8: "In 23, less room than this counts as below B"
 unfoldable pub okState : Rules → State → Bool
 okState k s =
-    leb (s .depth) 32 && (okFrames k (s .frames) (s .depth) && (okMemory k (s .base) (s .size)
-    && (leb (s .base + k .floor) (stackPointer k s) && eqb (stackPointer k s + sizes k (s .frames) (s .depth) + k .room) (s .base + s .size))))
+    okRegisters k (s .registers) && (leb (s .depth) 32 && (okFrames k (s .frames) (s .depth) && (okMemory k (s .base) (s .size)
+    && (leb (s .base + k .floor) (stackPointer k s) && eqb (stackPointer k s + sizes k (s .frames) (s .depth) + k .room) (s .base + s .size)))))
 
 -- what every call but start tests first, with n bytes of memory lent: "otherwise 23, 16"
 abbrev pub stateTests : Rules → State → ℕ → List Test
@@ -90,7 +91,7 @@ started c b n r = record {
   base = b;
   size = n;
   depth = 0;
-  registers = withPointer (rules c) r (b + n - rules c .room);
+  registers = withPointer (rules c) (cleared (rules c) r) (b + n - rules c .room);
   frames = replicate 32 noFrame;
 }
 
@@ -104,10 +105,11 @@ notStarted c r = record { convention = c; base = 0; size = 0; depth = 0; registe
 
 -- ---- enter
 
--- "enter 17, 18, 19", and 19 is "new stack pointer below B"; 02, No. 8: "Enter now also needs 288 free bytes under the new stack pointer on PPC64 .., else 19"
+-- "enter 17, 18, 19", and 19 is "new stack pointer below B"; 02, No. 8: "Enter now also needs 288 free bytes under the new stack pointer on PPC64 .., else 19";
+-- 02, No. 9: "Enter above a leaf gives new refusal 28, tested after 17"
 abbrev pub enterTests : Rules → State → Frame → List Test
 enterTests k s f =
-    require (okRequest k f) BadRequest ∷ require (ltb (s .depth) 32) TooManyFrames ∷ require (leb (s .base + frameSize k f + k .floor) (stackPointer k s)) NoRoom ∷ []
+    require (okRequest k f) BadRequest ∷ require (not (top k s .leaf)) AboveLeaf ∷ require (ltb (s .depth) 32) TooManyFrames ∷ require (leb (s .base + frameSize k f + k .floor) (stackPointer k s)) NoRoom ∷ []
 
 -- what an enter answers, with n bytes of memory lent
 unfoldable pub enterAnswer : Rules → State → ℕ → Frame → Answer
@@ -124,9 +126,9 @@ entered k s f = record {
   frames = set (s .frames) (s .depth) f;
 }
 
--- "back chain at the new pointer", then the saves
+-- "back chain at the new pointer", of a leaf none, then the saves
 unfoldable pub enteredMemory : Rules → State → List ℕ → Frame → List ℕ
-enteredMemory k s l f = saveAll (store l (offset k s - frameSize k f) (k .word) (stackPointer k s)) (saves k f (offset k s) (s .registers))
+enteredMemory k s l f = saveAll (store l (offset k s - frameSize k f) (chainWidth k f) (stackPointer k s)) (saves k f (offset k s) (s .registers))
 
 -- ---- write
 
@@ -134,15 +136,23 @@ enteredMemory k s l f = saveAll (store l (offset k s - frameSize k f) (k .word) 
 abbrev pub inside : ℕ → ℕ → ℕ → ℕ → Bool
 inside a n b e = leb b a && leb (a + n) e
 
+-- Where the own outgoing area and the locals above it begin, with the frame's own pointer at o. A leaf has no outgoing area, and its locals are "the bytes of the floor
+-- area of No. 8 that aren't its saves" (02, No. 9).
+abbrev pub outgoingFrom : Rules → Frame → ℕ → ℕ
+outgoingFrom k f o = pick (f .leaf) (o - k .floor) (o + k .header)
+
+abbrev pub localsFrom : Rules → Frame → ℕ → ℕ
+localsFrom k f o = pick (f .leaf) (o - k .floor) (o + k .header + outgoingLength k f)
+
 -- "Memory, 1 to 256 bytes wholly inside one of: own locals (all between the outgoing area and the saves), own outgoing area, caller's outgoing area";
--- at the start there is only the own outgoing area
+-- at the start there is only the own outgoing area; 02, No. 9: "The leaf may write the bytes of the floor area .., and the caller's outgoing area"
 unfoldable pub writableBytes : Rules → State → ℕ → ℕ → Bool
 writableBytes k s a n =
     let f = top k s in
     let o = offset k s in
     let c = o + frameSize k f in
-    leb 1 n && (leb n 256 && (inside a n (o + k .header) (o + k .header + outgoingLength k f)
-    || (ltb 0 (s .depth) && (inside a n (o + k .header + outgoingLength k f) (c - below (k .linkage) k f)
+    leb 1 n && (leb n 256 && (inside a n (outgoingFrom k f o) (localsFrom k f o)
+    || (ltb 0 (s .depth) && (inside a n (localsFrom k f o) (c - below (k .linkage) k f)
     || inside a n (c + k .header) (c + k .header + outgoingLength k (caller k s))))))
 
 -- "write 20", with n bytes of memory lent: of the value v to register `number` of bank b
@@ -172,12 +182,13 @@ writtenMemory s l a bs = splice l (a - s .base) bs
 
 -- ---- leave
 
--- "leave 22, 21": 21 where "the back chain (on Z the r15 slot instead) isn't the caller's stack pointer"
+-- "leave 22, 21": 21 where "the back chain (on Z the r15 slot instead) isn't the caller's stack pointer"; 02, No. 9: "Leave skips the back chain
+-- test for a leaf"
 abbrev pub leaveTests : Rules → State → List ℕ → List Test
 leaveTests k s l =
     let z = frameSize k (top k s) in
     require (ltb 0 (s .depth)) NothingEntered
-    ∷ require (eqb (load l (linkAt (k .linkage) k (offset k s) (offset k s + z)) (k .word)) (stackPointer k s + z)) BrokenChain
+    ∷ require (top k s .leaf || eqb (load l (linkAt (k .linkage) k (offset k s) (offset k s + z)) (k .word)) (stackPointer k s + z)) BrokenChain
     ∷ []
 
 -- what a leave answers with the memory l lent

@@ -1,14 +1,15 @@
 -- What is known of a state and a request once the tests of refusals have passed: the premises of the functions behind the calls. Assumes nothing.
 use Prim.Native.Nat.{ℕ, _+_, _≤_, _<_}
 use mathlib.Core.Path.{_≡_}
-use mathlib.Core.Bool.{true}
+use mathlib.Core.Bool.{true, false}
 use Rattle.rules.specs.declared.Rules.{Rules}
 use Rattle.rules.specs.declared.Frame.{Frame}
-use Rattle.rules.specs.Frames.{okRequest, frameSize}
-use Rattle.machine.specs.Machine.{State, stackPointer, okFrames, sizes, okMemory}
+use Rattle.rules.specs.Frames.{okRegisters, okRequest, frameSize}
+use Rattle.machine.specs.Machine.{State, stackPointer, top, okFrames, sizes, okMemory}
 
 -- refusals 23 and 16, with n bytes of memory lent
 pub record Sound (k : Rules) (s : State) (n : ℕ) : Type 0 where
+  pub small : okRegisters k (s .registers) ≡ true
   pub shallow : s .depth ≤ 32
   pub requests : okFrames k (s .frames) (s .depth) ≡ true
   pub memory : okMemory k (s .base) (s .size) ≡ true
@@ -16,9 +17,10 @@ pub record Sound (k : Rules) (s : State) (n : ℕ) : Type 0 where
   pub sum : stackPointer k s + sizes k (s .frames) (s .depth) + k .room ≡ s .base + s .size
   pub length : n ≡ s .size
 
--- refusals 17, 18 and 19
+-- refusals 17, 28, 18 and 19
 pub record CanEnter (k : Rules) (s : State) (f : Frame) : Type 0 where
   pub request : okRequest k f ≡ true
+  pub solid : top k s .leaf ≡ false
   pub shallow : s .depth < 32
   pub room : s .base + frameSize k f + k .floor ≤ stackPointer k s
 

@@ -24,6 +24,8 @@ pub enum Refusal {
     NothingEntered,
     // The state's numbers can't be.
     BadState,
+    // The frame entered last is a leaf.
+    AboveLeaf,
 }
 
 pub enum Answer {
@@ -44,6 +46,7 @@ fn refusal_number(r: Refusal) -> u64
         Refusal::BrokenChain => 21,
         Refusal::NothingEntered => 22,
         Refusal::BadState => 23,
+        Refusal::AboveLeaf => 28,
     }
 }
 

@@ -13,7 +13,7 @@ use machine::Answer;
 use machine::Outcome;
 
 // Puts a start's state in the words; a refused one's CR as it came, all 64 bits.
-fn put_start(words: &mut [u64; 230], registers: &[u64; 66], o: Outcome) -> Answer
+fn put_start(words: &mut [u64; 262], registers: &[u64; 66], o: Outcome) -> Answer
     ensures { λ r. ⌜ r ≡ o .answer ⌝ }
     ensures { λ _. ⌜ now (words .exit) ≡ settle (o .answer) (stateWords (o .state)) (set (stateWords (o .state)) 69 (getD (now (registers .entry)) 65 0)) ⌝ }
 {
@@ -31,7 +31,7 @@ fn put_start(words: &mut [u64; 230], registers: &[u64; 66], o: Outcome) -> Answe
 
 // The fresh start on PPC64: all the words are written, also where it is refused.
 pub fn start_ppc64(
-    words: &mut [u64; 230],
+    words: &mut [u64; 262],
     registers: &[u64; 66],
     base: u64,
     memory: &mut [u8],
@@ -46,7 +46,7 @@ pub fn start_ppc64(
 
 // The fresh start on Z.
 pub fn start_z(
-    words: &mut [u64; 230],
+    words: &mut [u64; 262],
     registers: &[u64; 66],
     base: u64,
     memory: &mut [u8],
@@ -60,7 +60,7 @@ pub fn start_z(
 }
 
 // Enters a frame.
-pub fn enter(words: &mut [u64; 230], request: &[u64; 5], memory: &mut [u8]) -> Answer
+pub fn enter(words: &mut [u64; 262], request: &[u64; 6], memory: &mut [u8]) -> Answer
     ensures { λ r. ⌜ r ≡ enterOutcome (stateIn (now (words .entry))) (length (now (memory .entry))) (frameIn (now (request .entry)) 0) .answer ⌝ }
     ensures { λ _. ⌜ now (words .exit) ≡ enterWords (now (words .entry)) (length (now (memory .entry))) (now (request .entry)) ⌝ }
     ensures { λ _. ⌜ now (memory .exit) ≡ enterMemory (stateIn (now (words .entry))) (now (memory .entry)) (frameIn (now (request .entry)) 0) ⌝ }
@@ -81,7 +81,7 @@ pub fn enter(words: &mut [u64; 230], request: &[u64; 5], memory: &mut [u8]) -> A
 
 // Writes a value to a register: bank 0 general, 1 floating, 2 LR, 3 a field of CR.
 pub fn write_register(
-    words: &mut [u64; 230],
+    words: &mut [u64; 262],
     bank: u64,
     number: u64,
     value: u64,
@@ -105,7 +105,7 @@ pub fn write_register(
 }
 
 // Writes bytes to the memory at an address.
-pub fn write_memory(words: &[u64; 230], address: u64, bytes: &[u8], memory: &mut [u8]) -> Answer
+pub fn write_memory(words: &[u64; 262], address: u64, bytes: &[u8], memory: &mut [u8]) -> Answer
     ensures { λ r. ⌜ r ≡ writeMemoryOutcome (stateIn (now (words .entry))) (length (now (memory .entry))) address (length (now (bytes .entry))) .answer ⌝ }
     ensures { λ _. ⌜ now (memory .exit) ≡ writeMemoryMemory (stateIn (now (words .entry))) (now (memory .entry)) address (now (bytes .entry)) ⌝ }
 {
@@ -115,7 +115,7 @@ pub fn write_memory(words: &[u64; 230], address: u64, bytes: &[u8], memory: &mut
 }
 
 // Leaves the frame entered last.
-pub fn leave(words: &mut [u64; 230], memory: &[u8]) -> Answer
+pub fn leave(words: &mut [u64; 262], memory: &[u8]) -> Answer
     ensures { λ r. ⌜ r ≡ leaveOutcome (stateIn (now (words .entry))) (now (memory .entry)) .answer ⌝ }
     ensures { λ _. ⌜ now (words .exit) ≡ leaveWords (now (words .entry)) (now (memory .entry)) ⌝ }
 {

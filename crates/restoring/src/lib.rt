@@ -29,13 +29,19 @@ fn merge_fields(old: u32, new: u64) -> u32
     old / 16777216 * 16777216 + n * 4096 + old % 4096
 }
 
-fn restore_lr(memory: &[u8], k: Rules, s: usize, x: u64) -> u64
+fn restore_lr(memory: &[u8], k: Rules, f: Frame, s: usize, x: u64) -> u64
     requires { ⌜ (Lawful k) × (s + k .header ≤ length (now memory)) ⌝ }
-    ensures { λ r. ⌜ r ≡ restoredLr (k .linkage) k s (now (memory .entry)) x ⌝ }
+    ensures { λ r. ⌜ r ≡ restoredLr (k .linkage) k f s (now (memory .entry)) x ⌝ }
 {
     let linkage = k.linkage;
     match linkage {
-        Linkage::LinkRegister(_, lr_at) => words::load(memory, s + lr_at, k.word),
+        Linkage::LinkRegister(_, lr_at) => {
+            if f.leaf {
+                x
+            } else {
+                words::load(memory, s + lr_at, k.word)
+            }
+        }
         Linkage::SaveArea(_) => x,
     }
 }
@@ -73,7 +79,7 @@ pub fn restore(memory: &[u8], k: Rules, f: Frame, s: usize, p: u64, r: Registers
     let mut general = saves::load_run(memory, gpr, at, k.word, g, k.end - g);
     general[i] = p;
     let floating = saves::load_run(memory, fpr, s - 8 * c, 8, m, c);
-    let lr = restore_lr(memory, k, s, r.lr);
+    let lr = restore_lr(memory, k, f, s, r.lr);
     let cr = restore_cr(memory, k, f, s, r.cr);
     Registers {
         gpr: general,

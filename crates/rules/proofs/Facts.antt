@@ -2,7 +2,7 @@
 use Prim.Native.Nat.{ℕ, zero, suc, _≤_, _<_}
 use mathlib.Core.Path.{_≡_, refl, subst}
 use mathlib.Core.Logic.{_⊎_, inl, inr}
-use mathlib.Core.Bool.{Bool, true, false, _&&_, _||_, false≢true}
+use mathlib.Core.Bool.{Bool, true, false, not, _&&_, _||_, false≢true}
 use mathlib.Core.List.{List, [], _∷_}
 use lib.ListN.{getD, set}
 use lib.Dec.{leb}
@@ -10,9 +10,18 @@ use borrow.Author.Tests.{leb-true}
 use Rattle.rules.specs.Rules.{Linkage, Rules}
 use Rattle.rules.specs.Lawful.{LinkageLaw}
 
+-- by cases on a test
+pub either : {A : Type 0} (b : Bool) → (b ≡ true → A) → (b ≡ false → A) → A
+either true t f = t refl
+either false t f = f refl
+
 pub and-yes : (a b : Bool) → (a && b) ≡ true → (a ≡ true) × (b ≡ true)
 and-yes true b e = (refl, e)
 and-yes false b e = absurd (false≢true e)
+
+pub not-yes : (b : Bool) → not b ≡ true → b ≡ false
+not-yes true e = absurd (false≢true e)
+not-yes false e = refl
 
 pub or-yes : (a b : Bool) → (a || b) ≡ true → (a ≡ true) ⊎ (b ≡ true)
 or-yes true b e = inl refl

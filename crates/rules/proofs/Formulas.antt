@@ -2,22 +2,23 @@
 -- Assumes nothing.
 use Prim.Native.Nat.{ℕ, _+_, _-_, _*_, _/_, _%_, max}
 use mathlib.Core.Path.{_≡_, refl}
+use mathlib.Core.Bool.{not}
 use mathlib.Core.List.{[], _∷_}
 use native.Mathlib.Omega.{arith}
 use lib.ListN.{getD}
 use Rattle.words.specs.Basics.{roundUp}
 use Rattle.rules.specs.Rules.{ppc64, z, Frame, Registers}
-use Rattle.rules.specs.Frames.{firstGpr, firstFpr, savesCr, below, frameSize, gprAt, savesBy, saves, linkAt, wordSave, flag, returnAddress, preservedCondition, unitOf, withField}
+use Rattle.rules.specs.Frames.{firstGpr, firstFpr, savesCr, below, fullSize, gprAt, savesBy, saves, linkAt, wordSave, flag, returnAddress, preservedCondition, unitOf, withField}
 
 module _ (f : Frame) (s : ℕ) where
   -- "48 + max(64, P) + L + 8(32 - g) + 8(32 - m), rounded up to 16"
-  size-ppc64 : frameSize ppc64 f ≡ (48 + max 64 (f .outgoing) + f .locals + 8 * (32 - firstGpr f) + 8 * (32 - firstFpr f) + 15) / 16 * 16
-  unfolding frameSize roundUp below
+  size-ppc64 : fullSize ppc64 f ≡ (48 + max 64 (f .outgoing) + f .locals + 8 * (32 - firstGpr f) + 8 * (32 - firstFpr f) + 15) / 16 * 16
+  unfolding fullSize roundUp below
   size-ppc64 = omega arith
 
   -- "160 + P + L + 8(16 - m), rounded up to 8"
-  size-z : frameSize z f ≡ (160 + f .outgoing + f .locals + 8 * (16 - firstFpr f) + 7) / 8 * 8
-  unfolding frameSize roundUp below
+  size-z : fullSize z f ≡ (160 + f .outgoing + f .locals + 8 * (16 - firstFpr f) + 7) / 8 * 8
+  unfolding fullSize roundUp below
   size-z = omega arith
 
   -- "f(n) at S - 8(32 - n), r(n) at S - 8(32 - m) - 8(32 - n), CR in the 4 bytes at S + 8 if saved, LR at S + 16"
@@ -25,7 +26,7 @@ module _ (f : Frame) (s : ℕ) where
       ≡ record { values = r .gpr; from = firstGpr f; count = 32 - firstGpr f; at = s - 8 * (32 - firstFpr f) - 8 * (32 - firstGpr f); width = 8 }
       ∷ record { values = r .fpr; from = firstFpr f; count = 32 - firstFpr f; at = s - 8 * (32 - firstFpr f); width = 8 }
       ∷ wordSave (r .cr) (flag (savesCr f)) (s + 8) 4
-      ∷ wordSave (r .lr) 1 (s + 16) 8
+      ∷ wordSave (r .lr) (flag (not (f .leaf))) (s + 16) 8
       ∷ []
   unfolding savesBy gprAt
   saves-ppc64 r = refl

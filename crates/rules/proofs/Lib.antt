@@ -4,3 +4,4 @@ pub mod Places
 pub mod Formulas
 pub mod Restoring
 pub mod Writing
+pub mod Halves

@@ -1,8 +1,8 @@
 -- Where the parts of a frame lie: header, outgoing area, locals and saves in this order below the caller's pointer, other saves in the caller's header. Assumes nothing.
 use Prim.Native.Nat.{ℕ, suc, _+_, _-_, _*_, _%_, _^_, _≤_, _<_}
-use mathlib.Core.Path.{_≡_, sym, ap, _∙_}
+use mathlib.Core.Path.{_≡_, refl, sym, ap, _∙_}
 use mathlib.Core.Logic.{inl, inr}
-use mathlib.Core.Bool.{Bool, true, false}
+use mathlib.Core.Bool.{Bool, true, false, not, false≢true}
 use native.Mathlib.Omega.{arith}
 use native.Mathlib.Nat.{mul-add, mul-suc, mul-le-mul-left, pow-le-pow-right}
 use lib.Dec.{lit<, leb, eqb}
@@ -11,9 +11,9 @@ use Rattle.words.proofs.Basics.{round-up-least, round-up-most}
 use Rattle.saves.specs.Saves.{Outside}
 use Rattle.saves.proofs.Saving.{Ascending}
 use Rattle.rules.specs.Rules.{Linkage, LinkRegister, SaveArea, Rules, Frame, Registers, inSpan}
-use Rattle.rules.specs.Frames.{firstGpr, firstFpr, savesCr, okRequest, outgoingLength, below, frameSize, flag, gprAt, savesBy, saves, linkAt}
+use Rattle.rules.specs.Frames.{firstGpr, firstFpr, savesCr, hasCondition, okLeaf, okRequest, outgoingLength, below, fullSize, frameSize, chainWidth, flag, gprAt, savesBy, saves, linkAt}
 use Rattle.rules.specs.Lawful.{LinkageLaw, Lawful}
-use Rattle.rules.proofs.Facts.{and-yes, between}
+use Rattle.rules.proofs.Facts.{either, and-yes, between}
 
 -- what the ranges of a request say
 pub record Ranges (k : Rules) (f : Frame) : Type 0 where
@@ -36,6 +36,36 @@ ranges k f e =
       locals = leb-true (f .locals) 32000 (t .0);
       outgoing = leb-true (f .outgoing) 16392 (v .0);
     }
+
+-- ---- a leaf, and a frame that is none
+
+pub leaf-size : (k : Rules) (f : Frame) → f .leaf ≡ true → frameSize k f ≡ 0
+unfolding frameSize
+leaf-size k f e = rw e
+
+pub solid-size : (k : Rules) (f : Frame) → f .leaf ≡ false → frameSize k f ≡ fullSize k f
+unfolding frameSize
+solid-size k f e = rw e
+
+pub leaf-chain : (k : Rules) (f : Frame) → f .leaf ≡ true → chainWidth k f ≡ 0
+unfolding chainWidth
+leaf-chain k f e = rw e
+
+pub solid-chain : (k : Rules) (f : Frame) → f .leaf ≡ false → chainWidth k f ≡ k .word
+unfolding chainWidth
+solid-chain k f e = rw e
+
+-- a leaf is asked for only where there is a link register
+pub leaf-linkage : (k : Rules) (f : Frame) → okRequest k f ≡ true → f .leaf ≡ true → hasCondition (k .linkage) ≡ true
+unfolding okRequest okLeaf
+leaf-linkage k f e l =
+    let p = and-yes (inSpan (k .gpr .request) (firstGpr f)) _ e in
+    let q = and-yes (inSpan (k .fpr .request) (firstFpr f)) _ (p .1) in
+    let t = and-yes (leb (f .locals) 32000) _ (q .1) in
+    let u = and-yes (eqb (f .outgoing % 8) 0) _ (t .1) in
+    let v = and-yes (leb (f .outgoing) 16392) _ (u .1) in
+    let w = and-yes (okLeaf k f) _ (v .1) in
+    and-yes (hasCondition (k .linkage)) _ (rw l at (w .0)) .0
 
 -- ---- arithmetic
 
@@ -62,6 +92,14 @@ unfolding below
 below-small (LinkRegister c l) k w e f = omega (arith, words-small (k .word) (k .end - firstGpr f) w (omega arith))
 below-small (SaveArea r) k w e f = omega arith
 
+-- what a leaf saves below its caller's pointer lies in the floor
+below-floor : (p : Linkage) (k : Rules) → LinkageLaw p k → (f : Frame) → hasCondition p ≡ true → k .gpr .request .first ≤ firstGpr f → k .fpr .request .first ≤ firstFpr f
+    → below p k f ≤ k .floor
+unfolding below
+below-floor (LinkRegister c l) k law f h g m =
+    omega (arith, mul-le-mul-left {m = k .end - firstGpr f} {n = k .end - k .gpr .request .first} (k .word) (omega arith))
+below-floor (SaveArea r) k law f h g m = absurd (false≢true h)
+
 fpr-below : (p : Linkage) (k : Rules) (f : Frame) → 8 * (k .end - firstFpr f) ≤ below p k f
 unfolding below
 fpr-below (LinkRegister c l) k f = omega arith
@@ -70,7 +108,10 @@ fpr-below (SaveArea r) k f = omega arith
 ascending-by : (p : Linkage) (k : Rules) → LinkageLaw p k → (f : Frame) (s : ℕ) (r : Registers) → firstGpr f ≤ k .end → below p k f ≤ s
     → Ascending (s - below p k f) (savesBy p k f s r) (s + k .header)
 unfolding below savesBy gprAt
-ascending-by (LinkRegister c l) k law f s r e h = let b = flag-le (savesCr f) in omega arith
+ascending-by (LinkRegister c l) k law f s r e h =
+    let b = flag-le (savesCr f) in
+    let d = mul-le-mul-left {m = flag (not (f .leaf))} {n = 1} (k .word) (flag-le (not (f .leaf))) in
+    omega arith
 ascending-by (SaveArea n) k law f s r e h = omega (arith, words-split (k .word) (firstGpr f) (k .end) e)
 
 chain-outside-by : (p : Linkage) (k : Rules) → LinkageLaw p k → (f : Frame) (s : ℕ) (r : Registers) (b : ℕ) → k .gpr .request .first ≤ firstGpr f → below p k f ≤ s
@@ -106,9 +147,9 @@ module _ (k : Rules) (law : Lawful k) (f : Frame) (r : okRequest k f ≡ true) w
   fpr-end = omega (arith, ranges k f r .fpr, law .fpr .most)
 
   -- a frame's size is bounded, and at least its parts'
-  pub size-small : frameSize k f ≤ 49600
-  unfolding frameSize
-  size-small =
+  pub full-small : fullSize k f ≤ 49600
+  unfolding fullSize
+  full-small =
       let q = ranges k f r in
       omega (
         arith,
@@ -120,33 +161,45 @@ module _ (k : Rules) (law : Lawful k) (f : Frame) (r : okRequest k f ≡ true) w
         law .least,
       )
 
-  pub size-parts : k .header + outgoingLength k f + f .locals + below (k .linkage) k f ≤ frameSize k f
-  unfolding frameSize
-  size-parts = round-up-least (k .header + outgoingLength k f + f .locals + below (k .linkage) k f) (k .alignment) (law .some)
+  pub full-parts : k .header + outgoingLength k f + f .locals + below (k .linkage) k f ≤ fullSize k f
+  unfolding fullSize
+  full-parts = round-up-least (k .header + outgoingLength k f + f .locals + below (k .linkage) k f) (k .alignment) (law .some)
+
+  pub size-small : frameSize k f ≤ 49600
+  size-small = either (f .leaf) (λ e. omega (arith, leaf-size k f e)) (λ e. omega (arith, solid-size k f e, full-small))
+
+  pub size-parts : f .leaf ≡ false → k .header + outgoingLength k f + f .locals + below (k .linkage) k f ≤ frameSize k f
+  size-parts e = omega (arith, solid-size k f e, full-parts)
 
   pub below-le-512 : below (k .linkage) k f ≤ 512
   below-le-512 = below-small (k .linkage) k (law .word) (law .end) f
 
+  -- a frame's saves lie in the frame, a leaf's in the floor
+  pub below-reach : below (k .linkage) k f ≤ frameSize k f + k .floor
+  below-reach =
+      let q = ranges k f r in
+      either (f .leaf) (λ e. omega (arith, below-floor (k .linkage) k (law .linkage) f (leaf-linkage k f r e) (q .gpr .0) (q .fpr .0))) (λ e. omega (arith, size-parts e))
+
   -- with the caller's pointer at s
-  module _ (s : ℕ) (fits : frameSize k f ≤ s) where
-    pub below-le : below (k .linkage) k f ≤ s
-    below-le = omega (arith, size-parts)
-
-    pub room-for : (s - frameSize k f) + k .header + outgoingLength k f ≤ s - below (k .linkage) k f
-    room-for = omega (arith, size-parts)
-
-    pub chain-in : (s - frameSize k f) + k .word ≤ s
-    chain-in = omega (arith, size-parts, law .chain)
-
+  module _ (s : ℕ) (fits : below (k .linkage) k f ≤ s) where
     pub fpr-le : 8 * (k .end - firstFpr f) ≤ s
-    fpr-le = omega (arith, below-le, fpr-below (k .linkage) k f)
+    fpr-le = omega (arith, fpr-below (k .linkage) k f)
 
     pub gpr-in : gprAt (k .linkage) k f s + k .word * (k .end - firstGpr f) ≤ s + k .header
-    gpr-in = gpr-in-by (k .linkage) k (law .linkage) f s gpr-end below-le
+    gpr-in = gpr-in-by (k .linkage) k (law .linkage) f s gpr-end fits
 
     pub ascending : (t : Registers) → Ascending (s - below (k .linkage) k f) (saves k f s t) (s + k .header)
-    ascending t = ascending-by (k .linkage) k (law .linkage) f s t gpr-end below-le
+    ascending t = ascending-by (k .linkage) k (law .linkage) f s t gpr-end fits
 
     -- nothing is saved in the caller's back chain
     pub chain-outside : (t : Registers) (b : ℕ) → s ≤ b → b < s + k .word → Outside b (saves k f s t)
-    chain-outside t b p q = chain-outside-by (k .linkage) k (law .linkage) f s t b (ranges k f r .gpr .0) below-le p q
+    chain-outside t b p q = chain-outside-by (k .linkage) k (law .linkage) f s t b (ranges k f r .gpr .0) fits p q
+
+  -- a frame that is no leaf, with its own pointer below s
+  module _ (s : ℕ) (fits : frameSize k f ≤ s) where
+    pub room-for : f .leaf ≡ false → (s - frameSize k f) + k .header + outgoingLength k f ≤ s - below (k .linkage) k f
+    room-for e = omega (arith, size-parts e)
+
+    -- the back chain lies below the saves
+    pub chain-in : chainWidth k f ≤ frameSize k f - below (k .linkage) k f
+    chain-in = either (f .leaf) (λ e. omega (arith, leaf-chain k f e)) (λ e. omega (arith, solid-chain k f e, size-parts e, law .chain))

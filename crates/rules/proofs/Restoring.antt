@@ -1,7 +1,7 @@
 -- What a leave takes back from memory is what the enter saved there. Assumes nothing.
 use Prim.Native.Nat.{ℕ, _+_, _-_, _*_, _^_, _≤_, _<_}
 use mathlib.Core.Path.{_≡_, refl, ap, _∙_}
-use mathlib.Core.Bool.{Bool, true, false}
+use mathlib.Core.Bool.{Bool, true, false, not}
 use mathlib.Core.List.{List}
 use native.Mathlib.Omega.{arith}
 use lib.ListN.{getD}
@@ -11,6 +11,7 @@ use Rattle.words.specs.Basics.{pick}
 use Rattle.rules.specs.Rules.{Linkage, LinkRegister, SaveArea, Rules, Frame, Registers}
 use Rattle.rules.specs.Frames.{firstGpr, savesCr, flag, gprAt, gprSave, fprSave, savesBy, linkAt, preservedFields, mergeFields, restoredLr, restoredCr, returnAddress, preservedCondition}
 use Rattle.rules.specs.Lawful.{LinkageLaw}
+use Rattle.rules.proofs.Facts.{either}
 use Rattle.rules.proofs.Places.{words-split}
 
 pub merge-preserved : (a b : ℕ) → preservedFields (mergeFields a b) ≡ preservedFields b
@@ -46,14 +47,17 @@ module _ (k : Rules) (f : Frame) (s : ℕ) (t : Registers) (l : List ℕ) where
       let b : firstGpr f + (k .pointer - firstGpr f) ≡ k .pointer = omega arith in
       rw a (h .1 .0 (k .pointer - firstGpr f) (omega arith) ∙ rw b q)
 
-  lr-held : (c r x : ℕ) → HeldAll l (savesBy (LinkRegister c r) k f s t) → restoredLr (LinkRegister c r) k s l x ≡ t .lr
+  -- LR is the caller's: restored, or kept by a leaf
+  lr-held : (c r x : ℕ) → HeldAll l (savesBy (LinkRegister c r) k f s t) → (f .leaf ≡ true → x ≡ t .lr) → restoredLr (LinkRegister c r) k f s l x ≡ t .lr
   unfolding savesBy restoredLr
-  lr-held c r x h = one-held l (s + r) (k .word) (t .lr) (h .1 .1 .1 .0 0 (omega arith))
+  lr-held c r x h u =
+      either (f .leaf) (λ e. rw e (u e))
+      (λ e. let n : 0 < flag (not (f .leaf)) = rw e (omega arith) in rw e (one-held l (s + r) (k .word) (t .lr) (h .1 .1 .1 .0 0 n)))
 
-  pub lr-fit : (p : Linkage) (x m : ℕ) → HeldAll l (savesBy p k f s t) → x < m → t .lr < m → restoredLr p k s l x < m
+  pub lr-fit : (p : Linkage) (x m : ℕ) → HeldAll l (savesBy p k f s t) → (f .leaf ≡ true → x ≡ t .lr) → x < m → t .lr < m → restoredLr p k f s l x < m
   unfolding restoredLr
-  lr-fit (LinkRegister c r) x m h p q = omega (arith, lr-held c r x h)
-  lr-fit (SaveArea n) x m h p q = p
+  lr-fit (LinkRegister c r) x m h u p q = omega (arith, lr-held c r x h u)
+  lr-fit (SaveArea n) x m h u p q = p
 
   pub cr-fit : (p : Linkage) (x : ℕ) → x < 2 ^ 32 → restoredCr p f s l x < 2 ^ 32
   unfolding restoredCr
@@ -77,8 +81,8 @@ module _ (k : Rules) (f : Frame) (s : ℕ) (t : Registers) (l : List ℕ) where
   cr-held (SaveArea n) x h u = refl
 
   -- the return address: LR is restored, or its register is
-  pub return-held : (p : Linkage) → LinkageLaw p k → (u : Registers) (x : ℕ) → firstGpr f ≤ k .gpr .request .last → HeldAll l (savesBy p k f s t) → u .lr ≡ restoredLr p k s l x
+  pub return-held : (p : Linkage) → LinkageLaw p k → (u : Registers) (x : ℕ) → firstGpr f ≤ k .gpr .request .last → HeldAll l (savesBy p k f s t) → (f .leaf ≡ true → x ≡ t .lr) → u .lr ≡ restoredLr p k f s l x
       → ((n : ℕ) → (n ≡ k .pointer → ⊥) → firstGpr f ≤ n → n < k .end → getD (u .gpr) n 0 ≡ getD (t .gpr) n 0)
       → returnAddress p u ≡ returnAddress p t
-  return-held (LinkRegister c r) law u x g h e q = e ∙ lr-held c r x h
-  return-held (SaveArea n) law u x g h e q = q n (λ z. omega arith) (omega arith) (omega arith)
+  return-held (LinkRegister c r) law u x g h v e q = e ∙ lr-held c r x h v
+  return-held (SaveArea n) law u x g h v e q = q n (λ z. omega arith) (omega arith) (omega arith)

@@ -7,7 +7,7 @@ use native.Mathlib.Omega.{arith}
 use lib.Dec.{leb}
 use borrow.Author.Tests.{leb-true}
 use Rattle.rules.specs.Rules.{Linkage, LinkRegister, SaveArea, Rules, Frame, RegisterBank, General, Floating, Link, ConditionField, None}
-use Rattle.rules.specs.Frames.{savesCr, hasCondition, writableField, withField, preservedFields, preservedCondition, firstGpr, firstFpr, writableRegister}
+use Rattle.rules.specs.Frames.{savesCr, hasCondition, writableField, withField, preservedFields, preservedCondition, firstGpr, firstFpr, writable, writableRegister}
 use Rattle.rules.specs.Lawful.{Lawful, Named}
 use Rattle.rules.proofs.Conventions.{writable-lt}
 use Rattle.rules.proofs.Facts.{and-yes, or-yes, between}
@@ -68,7 +68,7 @@ field-preserves k f n v c p z h =
 -- a register that may be written is there
 pub writable-named : (k : Rules) → Lawful k → (f : Frame) (b : RegisterBank) (n v : ℕ) → writableRegister k f b n v ≡ true → Named b n v
 unfolding writableRegister
-writable-named k law f General n v e = writable-lt (k .gpr) (k .end) (law .gpr) (firstGpr f) n e
+writable-named k law f General n v e = writable-lt (k .gpr) (k .end) (law .gpr) (firstGpr f) n (and-yes (writable (k .gpr) (firstGpr f) n) _ e .0)
 writable-named k law f Floating n v e = writable-lt (k .fpr) (k .end) (law .fpr) (firstFpr f) n e
 writable-named k law f Link n v e = tt
 writable-named k law f ConditionField n v e = field-number k f n v e

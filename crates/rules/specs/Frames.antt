@@ -1,7 +1,7 @@
--- One frame by the rules k of a convention: what may be asked, its size, what is saved where and given back, and what it may write. Document 01, "Frames".
+-- One frame by the rules k of a convention: what may be asked, its size, what is saved where and given back, and what it may write. Document 01, "Frames"; document 02, No. 9.
 -- A definition that goes by cases on the linkage takes it as its first argument, and is used at `k .linkage`. Places are offsets in the memory; s is that of the caller's stack pointer S.
 -- Assumes nothing.
-use Prim.Native.Nat.{ℕ, _+_, _-_, _*_, _/_, _%_, _^_, max}
+use Prim.Native.Nat.{ℕ, zero, suc, _+_, _-_, _*_, _/_, _%_, _^_, max}
 use mathlib.Core.Bool.{Bool, true, false, not, _&&_, _||_}
 use mathlib.Core.List.{List, [], _∷_}
 use lib.ListN.{getD, set}
@@ -22,15 +22,35 @@ savesCr f = f .«saves_cr»
 
 -- a record that was never used: "depth and all records 0"
 abbrev pub noFrame : Frame
-noFrame = record { «first_gpr» = 0; «first_fpr» = 0; «saves_cr» = false; locals = 0; outgoing = 0 }
+noFrame = record { «first_gpr» = 0; «first_fpr» = 0; «saves_cr» = false; locals = 0; outgoing = 0; leaf = false }
 
 -- the start as a frame: "At the start nothing counts as saved, with no locals, P 0"
 abbrev pub startFrame : Rules → Frame
-startFrame k = record { «first_gpr» = k .gpr .request .last; «first_fpr» = k .fpr .request .last; «saves_cr» = false; locals = 0; outgoing = 0 }
+startFrame k = record { «first_gpr» = k .gpr .request .last; «first_fpr» = k .fpr .request .last; «saves_cr» = false; locals = 0; outgoing = 0; leaf = false }
 
 -- the registers with the stack pointer at p
 unfoldable pub withPointer : Rules → Registers → ℕ → Registers
 withPointer k r p = record { gpr = set (r .gpr) (k .pointer) p; fpr = r .fpr; lr = r .lr; cr = r .cr }
+
+-- ---- registers of a word: where it has 64 bits, every register fits and is as handed in
+
+-- is each of the first n numbers at most m?
+unfoldable pub allWithin : ℕ → List ℕ → ℕ → Bool
+allWithin m xs zero = true
+allWithin m xs (suc n) = leb (getD xs n 0) m && allWithin m xs n
+
+-- the first n numbers, each less its high half: what is left of it by m + 1, a power of two
+unfoldable pub lowered : ℕ → List ℕ → ℕ → List ℕ
+lowered m xs zero = xs
+lowered m xs (suc n) = lowered m (set xs n (getD xs n 0 % (m + 1))) n
+
+-- do the general registers and LR fit a word? 02, No. 1: "a GPR or LR write over 2^32 - 1 gives 20, a state holding one 23"
+unfoldable pub okRegisters : Rules → Registers → Bool
+okRegisters k r = allWithin (k .limit) (r .gpr) 32 && leb (r .lr) (k .limit)
+
+-- 02, No. 1: "Start clears the high halves of GPRs and LR"
+unfoldable pub cleared : Rules → Registers → Registers
+cleared k r = record { gpr = lowered (k .limit) (r .gpr) 32; fpr = r .fpr; lr = r .lr % (k .limit + 1); cr = r .cr }
 
 -- ---- requests and sizes
 
@@ -39,11 +59,15 @@ abbrev pub hasCondition : Linkage → Bool
 hasCondition (LinkRegister c l) = true
 hasCondition (SaveArea r) = false
 
+-- may it be a leaf, if it asks for that? 02, No. 9: "PPC64 and AIX only; a leaf request on Z, or with L or P above 0, gives 17"
+unfoldable pub okLeaf : Rules → Frame → Bool
+okLeaf k f = not (f .leaf) || (hasCondition (k .linkage) && (eqb (f .locals) 0 && eqb (f .outgoing) 0))
+
 -- refusal 17's ranges: g and m; "CR or not; locals L up to 32,000; outgoing P, a multiple of 8 up to 16,392"
 unfoldable pub okRequest : Rules → Frame → Bool
 okRequest k f =
     inSpan (k .gpr .request) (firstGpr f) && (inSpan (k .fpr .request) (firstFpr f)
-    && (leb (f .locals) 32000 && (eqb (f .outgoing % 8) 0 && (leb (f .outgoing) 16392 && (hasCondition (k .linkage) || not (savesCr f))))))
+    && (leb (f .locals) 32000 && (eqb (f .outgoing % 8) 0 && (leb (f .outgoing) 16392 && (okLeaf k f && (hasCondition (k .linkage) || not (savesCr f)))))))
 
 -- the length of the outgoing area (the parameter save area): "at least 64 long, on PPC64"
 abbrev pub outgoingLength : Rules → Frame → ℕ
@@ -55,8 +79,16 @@ below (LinkRegister c l) k f = 8 * (k .end - firstFpr f) + k .word * (k .end - f
 below (SaveArea r) k f = 8 * (k .end - firstFpr f)
 
 -- "Size: 48 + max(64, P) + L + 8(32 - g) + 8(32 - m), rounded up to 16"; on Z "160 + P + L + 8(16 - m), rounded up to 8"
+unfoldable pub fullSize : Rules → Frame → ℕ
+fullSize k f = roundUp (k .header + outgoingLength k f + f .locals + below (k .linkage) k f) (k .alignment)
+
+-- how far an enter moves the stack pointer: by the size; 02, No. 9, of a leaf: "stack pointer unmoved", "its size counts 0 in refusal 23"
 unfoldable pub frameSize : Rules → Frame → ℕ
-frameSize k f = roundUp (k .header + outgoingLength k f + f .locals + below (k .linkage) k f) (k .alignment)
+frameSize k f = pick (f .leaf) 0 (fullSize k f)
+
+-- the bytes of the back chain at the new pointer: a word; by a leaf "no back chain written"
+unfoldable pub chainWidth : Rules → Frame → ℕ
+chainWidth k f = pick (f .leaf) 0 (k .word)
 
 -- ---- what an enter saves
 
@@ -82,10 +114,11 @@ gprSave p k f s xs = record { values = xs; from = firstGpr f; count = k .end - f
 abbrev pub wordSave : ℕ → ℕ → ℕ → ℕ → Save
 wordSave x c at w = record { values = x ∷ []; from = 0; count = c; at = at; width = w }
 
--- all that an enter saves besides the back chain, ascending: "CR in the 4 bytes at S + 8 if saved, LR at S + 16"
+-- all that an enter saves besides the back chain, ascending: "CR in the 4 bytes at S + 8 if saved, LR at S + 16"; 02, No. 9, of a leaf:
+-- "saves in the same slots below it", "LR is not saved", "CR is saved as usual"
 unfoldable pub savesBy : Linkage → Rules → Frame → ℕ → Registers → List Save
 savesBy (LinkRegister c l) k f s r =
-    gprSave (LinkRegister c l) k f s (r .gpr) ∷ fprSave k f s (r .fpr) ∷ wordSave (r .cr) (flag (savesCr f)) (s + c) 4 ∷ wordSave (r .lr) 1 (s + l) (k .word) ∷ []
+    gprSave (LinkRegister c l) k f s (r .gpr) ∷ fprSave k f s (r .fpr) ∷ wordSave (r .cr) (flag (savesCr f)) (s + c) 4 ∷ wordSave (r .lr) (flag (not (f .leaf))) (s + l) (k .word) ∷ []
 savesBy (SaveArea n) k f s r = fprSave k f s (r .fpr) ∷ gprSave (SaveArea n) k f s (r .gpr) ∷ []
 
 -- the same by the convention
@@ -107,10 +140,10 @@ preservedFields c = c / 4096 % 4096
 unfoldable pub mergeFields : ℕ → ℕ → ℕ
 mergeFields old new = old / 16777216 * 16777216 + preservedFields new * 4096 + old % 4096
 
--- LR and CR as "Leave restores these" from the memory m, whatever stands there; x is what the frame has in them
-unfoldable pub restoredLr : Linkage → Rules → ℕ → List ℕ → ℕ → ℕ
-restoredLr (LinkRegister c l) k s m x = load m (s + l) (k .word)
-restoredLr (SaveArea r) k s m x = x
+-- LR and CR as "Leave restores these" from the memory m, whatever stands there; x is what the frame has in them. A leaf has saved no LR.
+unfoldable pub restoredLr : Linkage → Rules → Frame → ℕ → List ℕ → ℕ → ℕ
+restoredLr (LinkRegister c l) k f s m x = pick (f .leaf) x (load m (s + l) (k .word))
+restoredLr (SaveArea r) k f s m x = x
 
 unfoldable pub restoredCr : Linkage → Frame → ℕ → List ℕ → ℕ → ℕ
 restoredCr (LinkRegister c l) f s m x = pick (savesCr f) (mergeFields x (load m (s + c) 4)) x
@@ -121,7 +154,7 @@ unfoldable pub restored : Rules → Frame → ℕ → List ℕ → ℕ → Regis
 restored k f s m p r = record {
   gpr = set (taken (r .gpr) m (gprSave (k .linkage) k f s [])) (k .pointer) p;
   fpr = taken (r .fpr) m (fprSave k f s []);
-  lr = restoredLr (k .linkage) k s m (r .lr);
+  lr = restoredLr (k .linkage) k f s m (r .lr);
   cr = restoredCr (k .linkage) f s m (r .cr);
 }
 
@@ -151,11 +184,12 @@ writableField k f n v = hasCondition (k .linkage) && (leb v 15 && (leb n 1 || ((
 unfoldable pub bankOf : ℕ → RegisterBank
 bankOf b = pick (eqb b 0) General (pick (eqb b 1) Floating (pick (eqb b 2) Link (pick (eqb b 3) ConditionField None)))
 
--- Is a write of v to register n of a bank permitted to the frame f? LR's number is not looked at; LR and CR are not writable on Z.
+-- Is a write of v to register n of a bank permitted to the frame f? LR's number is not looked at; LR and CR are not writable on Z;
+-- 02, No. 9, of a leaf: "LR is not saved and so may not be written"
 unfoldable pub writableRegister : Rules → Frame → RegisterBank → ℕ → ℕ → Bool
-writableRegister k f General n v = writable (k .gpr) (firstGpr f) n
+writableRegister k f General n v = writable (k .gpr) (firstGpr f) n && leb v (k .limit)
 writableRegister k f Floating n v = writable (k .fpr) (firstFpr f) n
-writableRegister k f Link n v = hasCondition (k .linkage)
+writableRegister k f Link n v = hasCondition (k .linkage) && (not (f .leaf) && leb v (k .limit))
 writableRegister k f ConditionField n v = writableField k f n v
 writableRegister k f None n v = false
 

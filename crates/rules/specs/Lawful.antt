@@ -1,13 +1,13 @@
 -- What the machine asks of a convention's numbers: that the parts of a frame and the sets of registers do not meet, and that sizes stay small;
 -- and what the functions that save, restore and write ask of their numbers. Assumes nothing.
-use Prim.Native.Nat.{ℕ, _+_, _*_, _^_, _≤_, _<_}
+use Prim.Native.Nat.{ℕ, _+_, _-_, _*_, _^_, _≤_, _<_}
 use mathlib.Core.Path.{_≡_}
 use mathlib.Core.Logic.{_⊎_}
 use mathlib.Core.Bool.{Bool, true, false, _&&_, _||_}
 use mathlib.Core.List.{List, [], _∷_}
 use lib.Dec.{ltb}
 use Rattle.rules.specs.Rules.{Span, within, Bank, Linkage, LinkRegister, SaveArea, Rules, Frame, RegisterBank, General, Floating, Link, ConditionField, None}
-use Rattle.rules.specs.Frames.{okRequest, frameSize}
+use Rattle.rules.specs.Frames.{okRequest, below}
 
 -- no register of the span, and of the spans, is in the others
 abbrev pub apart : Span → List Span → Bool
@@ -31,9 +31,11 @@ pub record BankLaw (b : Bank) (end : ℕ) : Type 0 where
   pub split : disjoint (b .volatile) (b .preserved) ≡ true
   pub inside : before (b .preserved) end ≡ true
 
--- the slots above the caller's pointer lie in its header, clear of the back chain
+-- the slots above the caller's pointer lie in its header, clear of the back chain; all that may be saved below it lies in the floor, as a leaf's saves must
 abbrev pub LinkageLaw : Linkage → Rules → Type 0
-LinkageLaw (LinkRegister c l) k = (k .word ≤ c) × (c + 4 ≤ l) × (l + k .word ≤ k .header)
+LinkageLaw (LinkRegister c l) k =
+    (k .word ≤ c) × (c + 4 ≤ l) × (l + k .word ≤ k .header)
+    × (8 * (k .end - k .fpr .request .first) + k .word * (k .end - k .gpr .request .first) ≤ k .floor)
 LinkageLaw (SaveArea r) k =
     (1 ≤ k .gpr .request .first) × (k .word * k .end ≤ k .header) × (k .gpr .request .last ≤ r) × (r < k .pointer) × (k .pointer < k .end)
 
@@ -48,7 +50,7 @@ pub record Lawful (k : Rules) : Type 0 where
   pub alignment : k .alignment ≤ 16
   pub end : k .end ≤ 32
   pub pointer : k .pointer < 32
-  pub limit : k .limit < 2 ^ (8 * k .word)
+  pub limit : k .limit + 1 ≡ 2 ^ (8 * k .word)
   pub memory : 65536 ≤ k .limit
   pub unkept : within (k .gpr .preserved) (k .pointer) ≡ false
   pub unfree : within (k .gpr .volatile) (k .pointer) ≡ false
@@ -58,11 +60,11 @@ pub record Lawful (k : Rules) : Type 0 where
   pub fpr : BankLaw (k .fpr) (k .end)
   pub linkage : LinkageLaw (k .linkage) k
 
--- a request in range whose frame fits below the offset s of the caller's pointer, with the caller's header inside n bytes of memory
+-- a request in range whose saves fit below the offset s of the caller's pointer, with the caller's header inside n bytes of memory
 pub record Placed (k : Rules) (f : Frame) (s n : ℕ) : Type 0 where
   pub lawful : Lawful k
   pub request : okRequest k f ≡ true
-  pub fits : frameSize k f ≤ s
+  pub fits : below (k .linkage) k f ≤ s
   pub room : s + k .header ≤ n
 
 -- register n of the bank is there, and v is a value of it

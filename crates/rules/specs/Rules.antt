@@ -1,4 +1,4 @@
--- A convention's frames as a value: its numbers, and the two values; those that calls have too come from `conventions`. Document 01, "Frames"; document 02, No. 8; the
+-- A convention's frames as a value: its numbers, and the two values; those that calls have too come from `conventions`. Document 01, "Frames"; document 02, No. 8 and No. 9; the
 -- published papers are 000 (PPC64) and 001 (Z).
 -- Assumes nothing.
 use Prim.Native.Nat.{ℕ, _-_, _^_}

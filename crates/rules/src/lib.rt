@@ -5,7 +5,7 @@ ghost use mathlib.Core.Path.{_≡_};
 ghost use mathlib.Core.Bool.{true};
 ghost use Prim.Native.Nat.{_<_};
 ghost use Rattle.rules.specs.Rules.{inSpan};
-ghost use Rattle.rules.specs.Frames.{startFrame, withPointer, okRequest, hasCondition, outgoingLength, below, frameSize};
+ghost use Rattle.rules.specs.Frames.{startFrame, withPointer, okLeaf, okRequest, hasCondition, outgoingLength, below, fullSize, frameSize, chainWidth};
 ghost use Rattle.rules.specs.Lawful.{Lawful};
 
 // The registers `first` to `last`.
@@ -48,7 +48,7 @@ pub struct Rules {
     pub pointer: usize,
     // Saved registers end before this one.
     pub end: usize,
-    // The highest address.
+    // The highest address, and so the largest number in a general register.
     pub limit: u64,
     pub gpr: Bank,
     pub fpr: Bank,
@@ -56,13 +56,15 @@ pub struct Rules {
 }
 
 // A frame: what a request asks for, and what is recorded of an entered one. The general registers from `first_gpr` on and the floating
-// registers from `first_fpr` on are saved, CR if `saves_cr`; `locals` and `outgoing` are bytes.
+// registers from `first_fpr` on are saved, CR if `saves_cr`; `locals` and `outgoing` are bytes. A leaf has no frame: its saves lie below
+// the stack pointer, which stays.
 pub struct Frame {
     pub first_gpr: usize,
     pub first_fpr: usize,
     pub saves_cr: bool,
     pub locals: usize,
     pub outgoing: usize,
+    pub leaf: bool,
 }
 
 // The bank that a register to write is named in; `None` is none.
@@ -104,6 +106,7 @@ pub fn start_frame(k: Rules) -> Frame
         saves_cr: false,
         locals: 0,
         outgoing: 0,
+        leaf: false,
     }
 }
 
@@ -115,6 +118,23 @@ pub fn has_condition(p: Linkage) -> bool
         Linkage::LinkRegister(_, _) => true,
         Linkage::SaveArea(_) => false,
     }
+}
+
+// Is a request that asks for a leaf one that may?
+fn leaf_ok(k: Rules, f: Frame) -> bool
+    ensures { λ r. ⌜ r ≡ okLeaf k f ⌝ }
+{
+    if !f.leaf {
+        return true;
+    }
+    let linkage = k.linkage;
+    if !has_condition(linkage) {
+        return false;
+    }
+    if f.locals != 0 {
+        return false;
+    }
+    f.outgoing == 0
 }
 
 // Is a request in range?
@@ -137,6 +157,9 @@ pub fn request_ok(k: Rules, f: Frame) -> bool
         return false;
     }
     if 16392 < p {
+        return false;
+    }
+    if !leaf_ok(k, f) {
         return false;
     }
     let linkage = k.linkage;
@@ -170,15 +193,37 @@ pub fn below_size(k: Rules, f: Frame) -> usize
     }
 }
 
-// The size of a frame.
+// The size of a frame that is no leaf.
+fn full_size(k: Rules, f: Frame) -> usize
+    requires { ⌜ Lawful k ⌝ }
+    requires { ⌜ okRequest k f ≡ true ⌝ }
+    ensures { λ r. ⌜ r ≡ fullSize k f ⌝ }
+{
+    let b = below_size(k, f);
+    let p = outgoing_length(k, f);
+    words::round_up(k.header + p + f.locals + b, k.alignment)
+}
+
+// How far an enter moves the stack pointer.
 pub fn frame_size(k: Rules, f: Frame) -> usize
     requires { ⌜ Lawful k ⌝ }
     requires { ⌜ okRequest k f ≡ true ⌝ }
     ensures { λ r. ⌜ r ≡ frameSize k f ⌝ }
 {
-    let b = below_size(k, f);
-    let p = outgoing_length(k, f);
-    words::round_up(k.header + p + f.locals + b, k.alignment)
+    if f.leaf {
+        return 0;
+    }
+    full_size(k, f)
+}
+
+// The bytes of a frame's back chain.
+pub fn chain_width(k: Rules, f: Frame) -> usize
+    ensures { λ r. ⌜ r ≡ chainWidth k f ⌝ }
+{
+    if f.leaf {
+        return 0;
+    }
+    k.word
 }
 
 // The registers with the stack pointer at p.

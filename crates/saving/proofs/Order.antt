@@ -1,8 +1,9 @@
 -- What is saved, in the order of the code. Assumes nothing.
 use Prim.Native.Nat.{ℕ, _+_}
 use mathlib.Core.Path.{_≡_}
+use mathlib.Core.Bool.{not}
 use mathlib.Core.List.{List, [], _∷_}
-use Rattle.saves.specs.Saves.{store, saveRun, saved, saveAll}
+use Rattle.saves.specs.Saves.{saveRun, saved, saveAll}
 use Rattle.rules.specs.declared.Linkage.{Linkage}
 use Rattle.rules.specs.declared.Linkage.the-variants.{LinkRegister, SaveArea}
 use Rattle.rules.specs.declared.Rules.{Rules}
@@ -12,8 +13,8 @@ use Rattle.rules.specs.Frames.{savesCr, flag, gprSave, fprSave, savesBy}
 
 pub saves-link : (p : Linkage) (c l : ℕ) (k : Rules) (f : Frame) (s : ℕ) (r : Registers) (m : List ℕ) → p ≡ LinkRegister c l
     → saveAll m (savesBy p k f s r)
-    ≡ store (saveRun (saved (saved m (gprSave p k f s (r .gpr))) (fprSave k f s (r .fpr))) (r .cr ∷ []) (s + c) 4 0 (flag (savesCr f))) (s + l) (k .word) (r .lr)
-unfolding savesBy saveRun
+    ≡ saveRun (saveRun (saved (saved m (gprSave p k f s (r .gpr))) (fprSave k f s (r .fpr))) (r .cr ∷ []) (s + c) 4 0 (flag (savesCr f))) (r .lr ∷ []) (s + l) (k .word) 0 (flag (not (f .leaf)))
+unfolding savesBy
 saves-link p c l k f s r m e = rw e
 
 pub saves-area : (p : Linkage) (n : ℕ) (k : Rules) (f : Frame) (s : ℕ) (r : Registers) (m : List ℕ) → p ≡ SaveArea n

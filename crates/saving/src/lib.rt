@@ -27,13 +27,13 @@ pub fn gpr_at(k: Rules, f: Frame, s: usize, n: usize) -> usize
     }
 }
 
-// A condition register in the word at `at`, or nothing.
-fn save_condition(memory: &mut [u8], at: usize, on: bool, cr: u32)
-    requires { ⌜ at + 4 ≤ length (now memory) ⌝ }
-    ensures { λ _. ⌜ now (memory .exit) ≡ saveRun (now (memory .entry)) (cr ∷ []) at 4 0 (flag on) ⌝ }
+// The number x in the word of w bytes at `at`, or nothing.
+fn save_word(memory: &mut [u8], at: usize, w: usize, on: bool, x: u64)
+    requires { ⌜ at + w ≤ length (now memory) ⌝ }
+    ensures { λ _. ⌜ now (memory .exit) ≡ saveRun (now (memory .entry)) (x ∷ []) at w 0 (flag on) ⌝ }
 {
     if on {
-        words::store(memory, at, 4, cr as u64);
+        words::store(memory, at, w, x);
     }
 }
 
@@ -68,8 +68,8 @@ pub fn save_registers(memory: &mut [u8], k: Rules, f: Frame, r: Registers, s: us
         Linkage::LinkRegister(cr_at, lr_at) => {
             save_general(memory, k, f, r, s);
             save_floating(memory, k, f, r, s);
-            save_condition(memory, s + cr_at, f.saves_cr, r.cr);
-            words::store(memory, s + lr_at, k.word, r.lr);
+            save_word(memory, s + cr_at, 4, f.saves_cr, r.cr as u64);
+            save_word(memory, s + lr_at, k.word, !f.leaf, r.lr);
         }
         Linkage::SaveArea(_) => {
             save_floating(memory, k, f, r, s);

@@ -4,11 +4,13 @@ ghost use mathlib.Core.Bool.{true};
 ghost use Prim.Native.Nat.{_≤_};
 ghost use Rattle.rules.specs.Lawful.{Lawful};
 ghost use Rattle.machine.specs.Answers.{judge};
-ghost use Rattle.machine.specs.Machine.{stackPointer, top, caller, okFrames, sizes, okMemory, okState, stateTests};
+ghost use Rattle.rules.specs.Frames.{allWithin, okRegisters};
+ghost use Rattle.machine.specs.Machine.{stackPointer, topFrame, top, caller, okFrames, sizes, okMemory, okState, stateTests};
 use machine::Answer;
 use machine::Refusal;
 use machine::State;
 use rules::Frame;
+use rules::Registers;
 use rules::Rules;
 
 // Are a memory's base and length in range? (Refusal 16.)
@@ -34,6 +36,17 @@ pub fn memory_ok(k: Rules, base: u64, n: usize) -> bool
     k.room + k.floor <= n
 }
 
+// The frame entered last of d; the start where there is none.
+fn frame_under(k: Rules, fs: [Frame; 32], d: usize) -> Frame
+    requires { ⌜ d ≤ 32 ⌝ }
+    ensures { λ r. ⌜ r ≡ topFrame k fs d ⌝ }
+{
+    if d == 0 {
+        return rules::start_frame(k);
+    }
+    fs[d - 1]
+}
+
 fn frames_ok(k: Rules, fs: [Frame; 32], depth: usize) -> bool
     requires { ⌜ depth ≤ 32 ⌝ }
     ensures { λ r. ⌜ r ≡ okFrames k fs depth ⌝ }
@@ -45,8 +58,37 @@ fn frames_ok(k: Rules, fs: [Frame; 32], depth: usize) -> bool
         if !rules::request_ok(k, f) {
             return false;
         }
+        let u = frame_under(k, fs, d);
+        if u.leaf {
+            return false;
+        }
     }
     true
+}
+
+// Are all 32 numbers at most m?
+fn all_within(m: u64, xs: [u64; 32]) -> bool
+    ensures { λ r. ⌜ r ≡ allWithin m xs 32 ⌝ }
+{
+    let mut i: usize = 32;
+    while 0 < i {
+        i -= 1;
+        if m < xs[i] {
+            return false;
+        }
+    }
+    true
+}
+
+// Do the general registers and LR fit a word?
+fn registers_ok(k: Rules, r: Registers) -> bool
+    ensures { λ b. ⌜ b ≡ okRegisters k r ⌝ }
+{
+    let gpr = r.gpr;
+    if !all_within(k.limit, gpr) {
+        return false;
+    }
+    r.lr <= k.limit
 }
 
 fn sizes_of(k: Rules, fs: [Frame; 32], depth: usize) -> usize
@@ -77,6 +119,10 @@ fn state_ok(k: Rules, s: State) -> bool
     requires { ⌜ Lawful k ⌝ }
     ensures { λ r. ⌜ r ≡ okState k s ⌝ }
 {
+    let registers = s.registers;
+    if !registers_ok(k, registers) {
+        return false;
+    }
     let d = s.depth;
     if 32 < d {
         return false;
@@ -121,11 +167,8 @@ pub fn top_frame(k: Rules, s: State) -> Frame
     requires { ⌜ s .depth ≤ 32 ⌝ }
     ensures { λ r. ⌜ r ≡ top k s ⌝ }
 {
-    let d = s.depth;
-    if d == 0 {
-        return rules::start_frame(k);
-    }
-    s.frames[d - 1]
+    let fs = s.frames;
+    frame_under(k, fs, s.depth)
 }
 
 pub fn caller_frame(k: Rules, s: State) -> Frame

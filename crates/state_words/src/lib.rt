@@ -1,4 +1,4 @@
-// The frame machine's state read from 230 64-bit words, and written to them.
+// The frame machine's state read from 262 64-bit words, and written to them.
 ghost use mathlib.Core.Path.{_≡_};
 ghost use Prim.Native.Nat.{_+_, _≤_, _<_};
 ghost use lib.ListN.{length};
@@ -43,9 +43,9 @@ pub fn registers_in(words: &[u64], at: usize) -> Registers
     }
 }
 
-// The request or the record in the five words from `at` on; one that is refused where its flag is neither 0 nor 1.
+// The request or the record in the six words from `at` on; one that is refused where a flag of it is neither 0 nor 1.
 pub fn frame_in(words: &[u64], at: usize) -> Frame
-    requires { ⌜ at + 5 ≤ length (now words) ⌝ }
+    requires { ⌜ at + 6 ≤ length (now words) ⌝ }
     ensures { λ r. ⌜ r ≡ frameIn (now (words .entry)) at ⌝ }
 {
     let flag = words[at + 2];
@@ -56,6 +56,18 @@ pub fn frame_in(words: &[u64], at: usize) -> Frame
             saves_cr: false,
             locals: 0,
             outgoing: 0,
+            leaf: false,
+        };
+    }
+    let mark = words[at + 5];
+    if 1 < mark {
+        return Frame {
+            first_gpr: 0,
+            first_fpr: 0,
+            saves_cr: false,
+            locals: 0,
+            outgoing: 0,
+            leaf: false,
         };
     }
     Frame {
@@ -64,12 +76,13 @@ pub fn frame_in(words: &[u64], at: usize) -> Frame
         saves_cr: flag == 1,
         locals: words[at + 3] as usize,
         outgoing: words[at + 4] as usize,
+        leaf: mark == 1,
     }
 }
 
 // All 32 records.
 fn frames_in(words: &[u64]) -> [Frame; 32]
-    requires { ⌜ length (now words) ≡ 230 ⌝ }
+    requires { ⌜ length (now words) ≡ 262 ⌝ }
     ensures { λ r. ⌜ r ≡ framesIn 32 (now (words .entry)) 0 ⌝ }
 {
     let none = Frame {
@@ -78,11 +91,12 @@ fn frames_in(words: &[u64]) -> [Frame; 32]
         saves_cr: false,
         locals: 0,
         outgoing: 0,
+        leaf: false,
     };
     let mut fs = [none; 32];
     let mut i: usize = 0;
     while i < 32 {
-        let f = frame_in(words, 70 + 5 * i);
+        let f = frame_in(words, 70 + 6 * i);
         fs[i] = f;
         i += 1;
     }
@@ -110,7 +124,7 @@ fn is_known(code: ConventionCode) -> bool
 
 // The depth; one over 32, which every call refuses, where the convention's code or CR cannot be.
 fn depth_in(words: &[u64]) -> usize
-    requires { ⌜ length (now words) ≡ 230 ⌝ }
+    requires { ⌜ length (now words) ≡ 262 ⌝ }
     ensures { λ r. ⌜ r ≡ depthIn (now (words .entry)) ⌝ }
 {
     let code = conventions::convention_code(words[0]);
@@ -123,9 +137,9 @@ fn depth_in(words: &[u64]) -> usize
     words[3] as usize
 }
 
-// The state that 230 words are read as.
+// The state that 262 words are read as.
 pub fn state_in(words: &[u64]) -> State
-    requires { ⌜ length (now words) ≡ 230 ⌝ }
+    requires { ⌜ length (now words) ≡ 262 ⌝ }
     ensures { λ r. ⌜ r ≡ stateIn (now (words .entry)) ⌝ }
 {
     let convention = convention_of(conventions::convention_code(words[0]));
@@ -154,7 +168,7 @@ fn put_bank(words: &mut [u64], at: usize, bank: [u64; 32])
 
 // The registers over the words 4 to 69.
 pub fn put_registers(words: &mut [u64], r: Registers)
-    requires { ⌜ length (now words) ≡ 230 ⌝ }
+    requires { ⌜ length (now words) ≡ 262 ⌝ }
     ensures { λ _. ⌜ (now (words .exit) ≡ withRegisters (now (words .entry)) r) × (length (registerWords r) ≡ 66) ⌝ }
 {
     let gpr = r.gpr;
@@ -173,20 +187,21 @@ fn flag_word(b: bool) -> u64
 
 // The record i.
 fn put_frame(words: &mut [u64], i: usize, f: Frame)
-    requires { ⌜ (length (now words) ≡ 230) × (i < 32) ⌝ }
+    requires { ⌜ (length (now words) ≡ 262) × (i < 32) ⌝ }
     ensures { λ _. ⌜ now (words .exit) ≡ withFrame (now (words .entry)) i f ⌝ }
 {
-    let at = 70 + 5 * i;
+    let at = 70 + 6 * i;
     words[at] = f.first_gpr as u64;
     words[at + 1] = f.first_fpr as u64;
     words[at + 2] = flag_word(f.saves_cr);
     words[at + 3] = f.locals as u64;
     words[at + 4] = f.outgoing as u64;
+    words[at + 5] = flag_word(f.leaf);
 }
 
 // All 32 records.
 fn put_frames(words: &mut [u64], fs: [Frame; 32])
-    requires { ⌜ length (now words) ≡ 230 ⌝ }
+    requires { ⌜ length (now words) ≡ 262 ⌝ }
     ensures { λ _. ⌜ (now (words .exit) ≡ splice (now (words .entry)) 70 (framesWords fs)) × (length fs ≡ 32) ⌝ }
 {
     let mut i: usize = 0;
@@ -197,9 +212,9 @@ fn put_frames(words: &mut [u64], fs: [Frame; 32])
     }
 }
 
-// All 230 words of a state.
+// All 262 words of a state.
 pub fn put_state(words: &mut [u64], s: State)
-    requires { ⌜ length (now words) ≡ 230 ⌝ }
+    requires { ⌜ length (now words) ≡ 262 ⌝ }
     ensures { λ _. ⌜ now (words .exit) ≡ stateWords s ⌝ }
 {
     let c = s.convention;
@@ -215,7 +230,7 @@ pub fn put_state(words: &mut [u64], s: State)
 
 // What an enter or a leave changes: the depth, the registers, and the record i.
 pub fn put_changed(words: &mut [u64], s: State, i: usize)
-    requires { ⌜ (length (now words) ≡ 230) × (i < 32) ⌝ }
+    requires { ⌜ (length (now words) ≡ 262) × (i < 32) ⌝ }
     ensures { λ _. ⌜ now (words .exit) ≡ changed (now (words .entry)) s i ⌝ }
 {
     let registers = s.registers;

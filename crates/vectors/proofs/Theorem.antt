@@ -18,9 +18,9 @@ use lib.Count.{leadingZeros}
 use Rattle.ieee.specs.Format.{join, split}
 use Rattle.ieee.specs.Widening.{widenFields, widen}
 use Rattle.ieee.specs.Narrowing.{candidateFields, candidate, narrow}
-use Rattle.rules.specs.Frames.{below, frameSize}
+use Rattle.rules.specs.Frames.{below, fullSize, frameSize}
 use Rattle.vectors.specs.Vectors.{AllHold, vectors, figure-3-18, figure-3-18-text, table-10, table-10-text, empty-text}
 
 pub vectors-hold : AllHold vectors
-unfolding vectors figure-3-18 figure-3-18-text table-10 table-10-text empty-text roundUp withField shapeOf typeOf bodyAt integerCode floatCode integerAt floatAt sequence sizedAt contentsAt itemBy structAt itemAt conventionCode conventionAt resultIn resultAt argumentsIn argumentsAt afterResult afterConvention signatureOf words fprs shareOf powerShare zClass zSpanOf zNextOf spanOf nextOf fresh startOf areaOf hiddenFor returning resultOf upFrom registersOf spansOf lastOf tableOf planIn typesOf planAnswer digitsOf decimal placesText lineText linesText headText resultText refusalText acceptedText planText listingOf leadingZeros join split widenFields widen candidateFields candidate narrow below frameSize
+unfolding vectors figure-3-18 figure-3-18-text table-10 table-10-text empty-text roundUp withField shapeOf typeOf bodyAt integerCode floatCode integerAt floatAt sequence sizedAt contentsAt itemBy structAt itemAt conventionCode conventionAt resultIn resultAt argumentsIn argumentsAt afterResult afterConvention signatureOf words fprs shareOf powerShare zClass zSpanOf zNextOf spanOf nextOf fresh startOf areaOf hiddenFor returning resultOf upFrom registersOf spansOf lastOf tableOf planIn typesOf planAnswer digitsOf decimal placesText lineText linesText headText resultText refusalText acceptedText planText listingOf leadingZeros join split widenFields widen candidateFields candidate narrow below fullSize frameSize
 vectors-hold = (refl, (refl, (refl, (refl, (refl, (refl, (refl, (refl, (refl, (refl, (refl, (refl, tt))))))))))))

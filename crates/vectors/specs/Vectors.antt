@@ -26,7 +26,7 @@ pub data Vector : Type 0 where
   sized : Rules → ℕ → ℕ → ℕ → ℕ → ℕ → Vector
 
 abbrev request : ℕ → ℕ → ℕ → ℕ → Frame
-request g m l p = record { «first_gpr» = g; «first_fpr» = m; «saves_cr» = false; locals = l; outgoing = p }
+request g m l p = record { «first_gpr» = g; «first_fpr» = m; «saves_cr» = false; locals = l; outgoing = p; leaf = false }
 
 abbrev pub Holds : Vector → Type 0
 Holds (printed s t) = listingOf s ≡ t

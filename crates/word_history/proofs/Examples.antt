@@ -12,7 +12,7 @@ use Rattle.saves.specs.Saves.{store, load, saveRun, loadRun}
 use Rattle.conventions.specs.declared.Convention.{Convention}
 use Rattle.conventions.specs.Numbers.{conventionCode}
 use Rattle.conventions.specs.declared.Convention.the-variants.{Ppc64, Z}
-use Rattle.rules.specs.Frames.{withPointer, okRequest, below, frameSize, gprAt, savesBy, linkAt, mergeFields, restoredLr, restoredCr, restored, bankOf, writableRegister, withRegister}
+use Rattle.rules.specs.Frames.{withPointer, allWithin, lowered, okRegisters, cleared, okLeaf, okRequest, below, fullSize, frameSize, chainWidth, gprAt, savesBy, linkAt, mergeFields, restoredLr, restoredCr, restored, bankOf, writableRegister, withRegister}
 use Rattle.machine.specs.declared.Answer.the-variants.{Accepted}
 use Rattle.machine.specs.Answers.{answerNumber, judge}
 use Rattle.machine.specs.Machine.{topFrame, okFrames, sizes, okMemory, okState, startAnswer, started, startedMemory, enterAnswer, entered, enteredMemory, writeRegisterAnswer, writtenRegister, leaveAnswer, left, startOutcome, startMemory, enterOutcome, enterMemory, writeRegisterOutcome, leaveOutcome}
@@ -37,10 +37,13 @@ abbrev calls : List ℕ → ℕ → List Call
 calls q n = leave ∷ enter q ∷ writeRegister 0 n 5 ∷ leave ∷ leave ∷ []
 
 abbrev calls-ppc64 : List Call
-calls-ppc64 = calls (29 ∷ 30 ∷ 1 ∷ 20 ∷ 64 ∷ []) 30
+calls-ppc64 = calls (29 ∷ 30 ∷ 1 ∷ 20 ∷ 64 ∷ 0 ∷ []) 30
 
 abbrev calls-z : List Call
-calls-z = calls (6 ∷ 8 ∷ 0 ∷ 1 ∷ 8 ∷ []) 6
+calls-z = calls (6 ∷ 8 ∷ 0 ∷ 1 ∷ 8 ∷ 0 ∷ []) 6
+
+abbrev calls-leaf : List Call
+calls-leaf = calls (29 ∷ 30 ∷ 1 ∷ 0 ∷ 0 ∷ 1 ∷ []) 30
 
 -- Both starts are accepted. A leave is refused by 22 where nothing is entered. After the calls all the words are as the start left them.
 pub worked : (startOutcome Ppc64 4096 640 (registersIn (replicate 66 7) 0) .answer ≡ Accepted)
@@ -49,5 +52,7 @@ pub worked : (startOutcome Ppc64 4096 640 (registersIn (replicate 66 7) 0) .answ
     × (numbers calls-z (start Z) ≡ 22 ∷ 0 ∷ 0 ∷ 0 ∷ 22 ∷ [])
     × (run calls-ppc64 (start Ppc64) .words ≡ start Ppc64 .words)
     × (run calls-z (start Z) .words ≡ start Z .words)
-unfolding conventionCode overlay splice bytesOf valueOf store load saveRun loadRun withPointer okRequest below roundUp frameSize gprAt savesBy linkAt mergeFields restoredLr restoredCr restored bankOf writableRegister withRegister judge topFrame okFrames sizes okMemory okState startAnswer started startedMemory enterAnswer entered enteredMemory writeRegisterAnswer writtenRegister leaveAnswer left startOutcome startMemory enterOutcome enterMemory writeRegisterOutcome leaveOutcome isMachine depthIn registersIn frameIn framesIn stateIn registerWords frameWords framesWords stateWords changed startWords enterWords writeRegisterWords leaveWords
-worked = (refl, refl, refl, refl, refl, refl)
+    × (numbers calls-leaf (start Ppc64) ≡ 22 ∷ 0 ∷ 0 ∷ 0 ∷ 22 ∷ [])
+    × (run calls-leaf (start Ppc64) .words ≡ start Ppc64 .words)
+unfolding conventionCode overlay splice bytesOf valueOf store load saveRun loadRun withPointer allWithin lowered okRegisters cleared okLeaf okRequest below roundUp fullSize frameSize chainWidth gprAt savesBy linkAt mergeFields restoredLr restoredCr restored bankOf writableRegister withRegister judge topFrame okFrames sizes okMemory okState startAnswer started startedMemory enterAnswer entered enteredMemory writeRegisterAnswer writtenRegister leaveAnswer left startOutcome startMemory enterOutcome enterMemory writeRegisterOutcome leaveOutcome isMachine depthIn registersIn frameIn framesIn stateIn registerWords frameWords framesWords stateWords changed startWords enterWords writeRegisterWords leaveWords
+worked = (refl, refl, refl, refl, refl, refl, refl, refl)

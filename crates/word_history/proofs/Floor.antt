@@ -11,16 +11,16 @@ use Rattle.history.specs.Calls as states
 use Rattle.history.specs.Floor as states-floor
 use Rattle.history.proofs.Floor.{floor-kept}
 use Rattle.word_history.specs.Calls.{Call, Lent, after, fresh}
-use Rattle.word_history.specs.Demand3.{machineIn, callsIn}
+use Rattle.word_history.specs.Demand3.{machineIn, callIn, callsIn}
 use Rattle.word_history.specs.Floor.{FloorHolds, KeepsFloor}
 use Rattle.word_history.proofs.Theorem.{reading-after, words-length, start-length, registers-fit}
 
-floor-read : (k : Rules) (cs : List Call) (m : Lent) → length (m .words) ≡ 230 → states-floor.FloorHolds k (callsIn cs) (machineIn m) → FloorHolds k cs m
+floor-read : (k : Rules) (cs : List Call) (m : Lent) → length (m .words) ≡ 262 → states-floor.FloorHolds k (callsIn cs) (machineIn m) → FloorHolds k cs m
 floor-read k [] m h p = p
 floor-read k (c ∷ cs) m h p =
     let e = reading-after c m h in (
       p .0,
-      subst (λ (n : states.Machine). states-floor.Untouched k (machineIn m) n) (sym e) (p .1),
+      subst (λ (n : states.Machine). states-floor.Untouched k (callIn c) (machineIn m) n) (sym e) (p .1),
       floor-read k cs (after c m) (words-length c m ∙ h) (subst (λ (n : states.Machine). states-floor.FloorHolds k (callsIn cs) n) (sym e) (p .2)),
     )
 

@@ -12,7 +12,8 @@ use Rattle.words.proofs.Splices.{length-splice, length-part}
 use Rattle.conventions.specs.declared.Convention.{Convention}
 use Rattle.rules.specs.declared.Rules.{Rules}
 use Rattle.rules.specs.Rules.{rules}
-use Rattle.rules.specs.Frames.{noFrame, withPointer}
+use Rattle.rules.specs.Frames.{noFrame, withPointer, cleared}
+use Rattle.rules.proofs.Halves.{lowered-length}
 use Rattle.machine.specs.declared.State.{State}
 use Rattle.machine.specs.declared.Answer.{Answer}
 use Rattle.machine.specs.declared.Answer.the-variants.{Accepted, Refused}
@@ -34,7 +35,7 @@ use Rattle.word_history.specs.Demand3.{machineIn, callIn, callsIn, Holds
 abbrev machineOf : List ℕ → State → states.Machine
 machineOf l s = record { state = s; memory = l }
 
-pub reading-after : (c : Call) (m : Lent) → length (m .words) ≡ 230 → machineIn (after c m) ≡ states.after (callIn c) (machineIn m)
+pub reading-after : (c : Call) (m : Lent) → length (m .words) ≡ 262 → machineIn (after c m) ≡ states.after (callIn c) (machineIn m)
 unfolding writeMemoryOutcome
 reading-after (enter q) m h = ap (machineOf (enterMemory (stateIn (m .words)) (m .memory) (frameIn q 0))) (enter-state (m .words) (length (m .memory)) q h)
 reading-after (writeRegister b n v) m h = ap (machineOf (m .memory)) (write-register-state (m .words) (length (m .memory)) b n v h)
@@ -70,9 +71,9 @@ words-length leave m =
     let o = leaveOutcome (stateIn (m .words)) (m .memory) in
     settle-length (o .answer) (changed (m .words) (o .state) (o .state .depth)) (m .words) (changed-length (m .words) (o .state) (o .state .depth))
 
--- a start's are 230
-pub start-length : (c : Convention) (rs : List ℕ) (b n : ℕ) → length rs ≡ 66 → length (startWords c rs b n) ≡ 230
-unfolding startWords refusedWords startOutcome started withPointer registersIn stateWords
+-- a start's are 262
+pub start-length : (c : Convention) (rs : List ℕ) (b n : ℕ) → length rs ≡ 66 → length (startWords c rs b n) ≡ 262
+unfolding startWords refusedWords startOutcome started withPointer cleared registersIn stateWords
 start-length c rs b n h = go (startAnswer c b n)
   where
     g : length (part 0 32 rs) ≡ 32
@@ -81,13 +82,13 @@ start-length c rs b n h = go (startAnswer c b n)
     f : length (part (0 + 32) 32 rs) ≡ 32
     f = length-part (0 + 32) 32 rs (omega arith)
 
-    go : (a : Answer) → length (settle a (stateWords (settle a (started c b n (registersIn rs 0)) (notStarted c (registersIn rs 0)))) (refusedWords c rs)) ≡ 230
-    go Accepted = simp length-append (omega (arith, length-register-words (started c b n (registersIn rs 0) .registers) (simp length-set g) f, length-frames-words (replicate 32 noFrame)))
+    go : (a : Answer) → length (settle a (stateWords (settle a (started c b n (registersIn rs 0)) (notStarted c (registersIn rs 0)))) (refusedWords c rs)) ≡ 262
+    go Accepted = simp length-append (omega (arith, length-register-words (started c b n (registersIn rs 0) .registers) (simp length-set (lowered-length (rules c .limit) (part 0 32 rs) 32 ∙ g)) f, length-frames-words (replicate 32 noFrame)))
     go (Refused x) = simp length-append (omega arith)
 
 -- ---- a list of calls
 
-holds-read : (k : Rules) (cs : List Call) (os : List OpenEnter) (m : Lent) → length (m .words) ≡ 230 → states-kept.Holds k (callsIn cs) os (machineIn m) → Holds k cs os m
+holds-read : (k : Rules) (cs : List Call) (os : List OpenEnter) (m : Lent) → length (m .words) ≡ 262 → states-kept.Holds k (callsIn cs) os (machineIn m) → Holds k cs os m
 holds-read k [] os m h p = tt
 holds-read k (c ∷ cs) os m h p =
     let e = reading-after c m h in

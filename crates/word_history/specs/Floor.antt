@@ -1,5 +1,5 @@
--- The floor under lists of the exported calls. Document 02, No. 8: "Interrupt code on the PowerPC machines trusts the room under the stack pointer." `KeepsFloor` is the
--- claim with all that it asks for, of which `words-floor` in proofs/Floor.antt is a value. What it is to keep the floor is said in crates/history/specs/Floor.antt of the
+-- The floor under lists of the exported calls. Document 02, No. 8: "Interrupt code on the PowerPC machines trusts the room under the stack pointer"; No. 9 lets a leaf
+-- write there. `KeepsFloor` is the claim with all that it asks for, of which `words-floor` in proofs/Floor.antt is a value. What it is to keep the floor is said in crates/history/specs/Floor.antt of the
 -- state and the memory; here the state is what the lent words are read as. Assumes nothing.
 use Prim.Native.Nat.{ℕ}
 use mathlib.Core.Path.{_≡_}
@@ -14,12 +14,13 @@ use Rattle.word_layout.specs.Words.{registersIn}
 use Rattle.history.specs.Preserved.{CallsFit}
 use Rattle.history.specs.Floor.{FloorInside, Untouched}
 use Rattle.word_history.specs.Calls.{Call, Lent, after, fresh}
-use Rattle.word_history.specs.Demand3.{machineIn, callsIn, WordsFit}
+use Rattle.word_history.specs.Demand3.{machineIn, callIn, callsIn, WordsFit}
 
--- before the first of the calls and after each of them the floor is inside the memory, and no call touches what lies below the stack pointer that it leaves behind
+-- before the first of the calls and after each of them the floor is inside the memory, and each call leaves what lies below the stack pointer that it leaves behind,
+-- but for what is a leaf's
 abbrev pub FloorHolds : Rules → List Call → Lent → Type 0
 FloorHolds k [] m = FloorInside k (machineIn m)
-FloorHolds k (c ∷ cs) m = FloorInside k (machineIn m) × Untouched k (machineIn m) (machineIn (after c m)) × FloorHolds k cs (after c m)
+FloorHolds k (c ∷ cs) m = FloorInside k (machineIn m) × Untouched k (callIn c) (machineIn m) (machineIn (after c m)) × FloorHolds k cs (after c m)
 
 -- in each convention, from each accepted start, of every list of exported calls; the premises are those of `Demand3`
 abbrev pub KeepsFloor : Type 0

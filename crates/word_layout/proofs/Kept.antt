@@ -73,7 +73,7 @@ module _ (ws : List ℕ) (a v : ℕ) where
   word-kept : (b : ℕ) → (b ≡ a → ⊥) → set (set ws a v) b (getD ws b 0) ≡ set ws a v
   word-kept b h = rw (← getD-set-other ws a b v 0 h) (set-getD (set ws a v) b 0)
 
-module _ (ws : List ℕ) (n : length ws ≡ 230) (m : isMachine ws ≡ true) where
+module _ (ws : List ℕ) (n : length ws ≡ 262) (m : isMachine ws ≡ true) where
   cr-kept : getD ws 69 0 % 2 ^ 32 ≡ getD ws 69 0
   unfolding isMachine
   cr-kept =
@@ -117,7 +117,7 @@ module _ (ws : List ℕ) (n : length ws ≡ 230) (m : isMachine ws ≡ true) whe
 pointer-small : (c : Convention) → rules c .pointer < 32
 pointer-small c = lawful c .pointer
 
-module _ (ws : List ℕ) (n : ℕ) (qs : List ℕ) (l : length ws ≡ 230) where
+module _ (ws : List ℕ) (n : ℕ) (qs : List ℕ) (l : length ws ≡ 262) where
   -- the depth, the stack pointer's word and the record
   pub enter-changes : enterAnswer (rulesOf (stateIn ws)) (stateIn ws) n (frameIn qs 0) ≡ Accepted
       → enterWords ws n qs
@@ -151,7 +151,7 @@ wordAfter Link cr i v = v
 wordAfter ConditionField cr i v = withField cr i v
 wordAfter None cr i v = v
 
-module _ (ws : List ℕ) (n b i v : ℕ) (l : length ws ≡ 230) where
+module _ (ws : List ℕ) (n b i v : ℕ) (l : length ws ≡ 262) where
   one-word : (k : Rules) → isMachine ws ≡ true → (c : RegisterBank) → Named c i v → writableRegister k (top k (stateIn ws)) c i v ≡ true
       → withRegisters ws (withRegister (registersIn ws 4) c i v) ≡ set ws (registerWord c i) (wordAfter c (getD ws 69 0) i v)
   unfolding registersIn withRegister writableRegister

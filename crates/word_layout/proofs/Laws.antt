@@ -39,7 +39,7 @@ splice-all l bs h = splice-head l bs ∙ overlay-all l bs h
 pub part-whole : (n : ℕ) (l : List ℕ) → length l ≡ n → part 0 n l ≡ l
 part-whole n l h = take-all n l (omega arith)
 
-pub length-frames-words : (fs : List Frame) → length (framesWords fs) ≡ 5 * length fs
+pub length-frames-words : (fs : List Frame) → length (framesWords fs) ≡ 6 * length fs
 unfolding framesWords frameWords
 length-frames-words [] = refl
 length-frames-words (f ∷ fs) = omega (arith, length-frames-words fs)
@@ -75,31 +75,34 @@ copy-end (suc k) l f at s h = absurd (omega arith)
 splice-set : (l : List ℕ) (at j x : ℕ) (xs : List ℕ) → splice l (at + j) (x ∷ xs) ≡ splice (set l (at + j) x) (at + (j + 1)) xs
 splice-set l at j x xs = let e : at + (j + 1) ≡ at + j + 1 = omega arith in rw e (sym (splice-next l (at + j) x xs))
 
-pub five-words : (l : List ℕ) (at a b c d e : ℕ) → set (set (set (set (set l at a) (at + 1) b) (at + 2) c) (at + 3) d) (at + 4) e ≡ splice l at (a ∷ b ∷ c ∷ d ∷ e ∷ [])
-five-words l at a b c d e =
+pub six-words : (l : List ℕ) (at a b c d e f : ℕ)
+    → set (set (set (set (set (set l at a) (at + 1) b) (at + 2) c) (at + 3) d) (at + 4) e) (at + 5) f ≡ splice l at (a ∷ b ∷ c ∷ d ∷ e ∷ f ∷ [])
+six-words l at a b c d e f =
     let l1 = set l at a in
     let l2 = set l1 (at + 1) b in
     let l3 = set l2 (at + 2) c in
     let l4 = set l3 (at + 3) d in
     let l5 = set l4 (at + 4) e in
-    sym (sym (splice-next l at a (b ∷ c ∷ d ∷ e ∷ [])) ∙ splice-set l1 at 1 b (c ∷ d ∷ e ∷ []) ∙ splice-set l2 at 2 c (d ∷ e ∷ []) ∙ splice-set l3 at 3 d (e ∷ []) ∙ splice-set l4 at 4 e [] ∙ splice-nothing l5 (at + 5))
+    let l6 = set l5 (at + 5) f in
+    sym (sym (splice-next l at a (b ∷ c ∷ d ∷ e ∷ f ∷ [])) ∙ splice-set l1 at 1 b (c ∷ d ∷ e ∷ f ∷ []) ∙ splice-set l2 at 2 c (d ∷ e ∷ f ∷ []) ∙ splice-set l3 at 3 d (e ∷ f ∷ []) ∙ splice-set l4 at 4 e (f ∷ []) ∙ splice-set l5 at 5 f []
+    ∙ splice-nothing l6 (at + 6))
 
 -- ---- records
 
-frames-more : (n : ℕ) (ws : List ℕ) (i : ℕ) → framesIn (suc n) ws i ≡ framesIn n ws i ++ frameIn ws (70 + 5 * (i + n)) ∷ []
+frames-more : (n : ℕ) (ws : List ℕ) (i : ℕ) → framesIn (suc n) ws i ≡ framesIn n ws i ++ frameIn ws (70 + 6 * (i + n)) ∷ []
 unfolding framesIn
 frames-more zero ws i = let e : i + 0 ≡ i = omega arith in rw e
-frames-more (suc n) ws i = let e : i + suc n ≡ i + 1 + n = omega arith in rw e (ap (λ (t : List Frame). frameIn ws (70 + 5 * i) ∷ t) (frames-more n ws (i + 1)))
+frames-more (suc n) ws i = let e : i + suc n ≡ i + 1 + n = omega arith in rw e (ap (λ (t : List Frame). frameIn ws (70 + 6 * i) ∷ t) (frames-more n ws (i + 1)))
 
-pub frames-next : (n : ℕ) (ws : List ℕ) → framesIn (suc n) ws 0 ≡ framesIn n ws 0 ++ frameIn ws (70 + 5 * n) ∷ []
+pub frames-next : (n : ℕ) (ws : List ℕ) → framesIn (suc n) ws 0 ≡ framesIn n ws 0 ++ frameIn ws (70 + 6 * n) ∷ []
 frames-next n ws = let e : 0 + n ≡ n = omega arith in rw e at (frames-more n ws 0)
 
 module _ (l : List ℕ) (fs : List Frame) (i : ℕ) (h : i < length fs) where
-  pub frames-turn : splice (splice l (70 + 5 * i) (frameWords (getD fs i noFrame))) (70 + 5 * (i + 1)) (framesWords (drop (i + 1) fs)) ≡ splice l (70 + 5 * i) (framesWords (drop i fs))
+  pub frames-turn : splice (splice l (70 + 6 * i) (frameWords (getD fs i noFrame))) (70 + 6 * (i + 1)) (framesWords (drop (i + 1) fs)) ≡ splice l (70 + 6 * i) (framesWords (drop i fs))
   unfolding framesWords frameWords
   frames-turn =
-      let e : 70 + 5 * (i + 1) ≡ 70 + 5 * i + 5 = omega arith in
-      rw (e, drop-cons fs i noFrame, add-one) (sym (splice-append l (70 + 5 * i) (frameWords (getD fs i noFrame)) (framesWords (drop (suc i) fs))))
+      let e : 70 + 6 * (i + 1) ≡ 70 + 6 * i + 6 = omega arith in
+      rw (e, drop-cons fs i noFrame, add-one) (sym (splice-append l (70 + 6 * i) (frameWords (getD fs i noFrame)) (framesWords (drop (suc i) fs))))
 
 pub frames-end : (l : List ℕ) (fs : List Frame) (at i : ℕ) → length fs ≤ i → splice l at (framesWords (drop i fs)) ≡ l
 unfolding framesWords
@@ -118,8 +121,8 @@ module _ (l : List ℕ) (r : Registers) (g : length (r .gpr) ≡ 32) (f : length
       let d : splice m 68 tail ≡ set (set m 68 (r .lr)) 69 (r .cr) = sym (splice-next m 68 (r .lr) (r .cr ∷ [])) ∙ splice-one (set m 68 (r .lr)) 69 (r .cr) in
       sym (rw (rw g at a, rw f at b) d)
 
-module _ (l : List ℕ) (s : State) (n : length l ≡ 230) (r : length (registerWords (s .registers)) ≡ 66) (f : length (s .frames) ≡ 32) where
-  whole : length (stateWords s) ≡ 230
+module _ (l : List ℕ) (s : State) (n : length l ≡ 262) (r : length (registerWords (s .registers)) ≡ 66) (f : length (s .frames) ≡ 32) where
+  whole : length (stateWords s) ≡ 262
   unfolding stateWords
   whole = simp length-append (omega (arith, length-frames-words (s .frames)))
 
@@ -167,7 +170,7 @@ module _ (rs : List ℕ) (l : length rs ≡ 66) where
   pub refused-back : (c : Convention) → set (stateWords (notStarted c (registersIn rs 0))) 69 (getD rs 65 0) ≡ refusedWords c rs
   unfolding stateWords notStarted refusedWords framesWords frameWords
   refused-back c =
-      let zeros : List ℕ = replicate 160 0 in
+      let zeros : List ℕ = replicate 192 0 in
       ap (λ (t : List ℕ). codeOf c ∷ 0 ∷ 0 ∷ 0 ∷ t) (set-append-left (registerWords (registersIn rs 0)) zeros 65 (getD rs 65 0) (omega (arith, handed-length)) ∙ ap (λ (t : List ℕ). t ++ zeros) handed-back)
 
   -- a start's words are its state's, where it is refused with CR's word as it came

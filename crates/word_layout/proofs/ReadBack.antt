@@ -4,7 +4,7 @@ use native.Mathlib.Nat.{mod-eq-of-lt}
 use native.Mathlib.Omega.{arith}
 use mathlib.Core.Path.{_≡_, refl, sym, ap, _∙_}
 use mathlib.Core.Logic.{inl, inr}
-use mathlib.Core.Bool.{Bool, true, false}
+use mathlib.Core.Bool.{Bool, true, false, _&&_}
 use mathlib.Core.List.{List, [], _∷_}
 use lib.ListN.{length, getD, set, length-set}
 use lib.Dec.{leb, eqb}
@@ -26,13 +26,15 @@ use Rattle.word_layout.proofs.Laws.{registers-put, length-register-word
 
 -- ---- a record
 
-pub flag-back : (b : Bool) (g m l p : ℕ)
-    → pick (leb (flag b) 1) (record { «first_gpr» = g; «first_fpr» = m; «saves_cr» = eqb (flag b) 1; locals = l; outgoing = p }) noFrame
-    ≡ record { «first_gpr» = g; «first_fpr» = m; «saves_cr» = b; locals = l; outgoing = p }
-flag-back true g m l p = refl
-flag-back false g m l p = refl
+pub flag-back : (b c : Bool) (g m l p : ℕ)
+    → pick (leb (flag b) 1 && leb (flag c) 1) (record { «first_gpr» = g; «first_fpr» = m; «saves_cr» = eqb (flag b) 1; locals = l; outgoing = p; leaf = eqb (flag c) 1 }) noFrame
+    ≡ record { «first_gpr» = g; «first_fpr» = m; «saves_cr» = b; locals = l; outgoing = p; leaf = c }
+flag-back true true g m l p = refl
+flag-back true false g m l p = refl
+flag-back false true g m l p = refl
+flag-back false false g m l p = refl
 
-pub frame-same : (l : List ℕ) (at : ℕ) (f : Frame) → at + 5 ≤ length l → frameIn (splice l at (frameWords f)) at ≡ f
+pub frame-same : (l : List ℕ) (at : ℕ) (f : Frame) → at + 6 ≤ length l → frameIn (splice l at (frameWords f)) at ≡ f
 unfolding frameIn frameWords
 frame-same l at f h =
     let at-0 : at + 0 ≡ at = omega arith in
@@ -41,35 +43,43 @@ frame-same l at f h =
     let w2 = splice-at-same l at (frameWords f) 2 0 h (omega arith) in
     let w3 = splice-at-same l at (frameWords f) 3 0 h (omega arith) in
     let w4 = splice-at-same l at (frameWords f) 4 0 h (omega arith) in
-    rw (w0, w1, w2, w3, w4) (flag-back (f .«saves_cr») (f .«first_gpr») (f .«first_fpr») (f .locals) (f .outgoing))
+    let w5 = splice-at-same l at (frameWords f) 5 0 h (omega arith) in
+    rw (w0, w1, w2, w3, w4, w5) (flag-back (f .«saves_cr») (f .leaf) (f .«first_gpr») (f .«first_fpr») (f .locals) (f .outgoing))
 
-pub frame-agree : (l m : List ℕ) (at : ℕ) → ((j : ℕ) → at ≤ j → j < at + 5 → getD l j 0 ≡ getD m j 0) → frameIn l at ≡ frameIn m at
+pub frame-agree : (l m : List ℕ) (at : ℕ) → ((j : ℕ) → at ≤ j → j < at + 6 → getD l j 0 ≡ getD m j 0) → frameIn l at ≡ frameIn m at
 unfolding frameIn
 frame-agree l m at h =
-    rw (h at (omega arith) (omega arith), h (at + 1) (omega arith) (omega arith), h (at + 2) (omega arith) (omega arith), h (at + 3) (omega arith) (omega arith), h (at + 4) (omega arith) (omega arith))
+    rw (
+      h at (omega arith) (omega arith),
+      h (at + 1) (omega arith) (omega arith),
+      h (at + 2) (omega arith) (omega arith),
+      h (at + 3) (omega arith) (omega arith),
+      h (at + 4) (omega arith) (omega arith),
+      h (at + 5) (omega arith) (omega arith),
+    )
 
-pub frame-other : (l : List ℕ) (n : ℕ) (f : Frame) (at : ℕ) → Apart at 5 n 5 → frameIn (splice l n (frameWords f)) at ≡ frameIn l at
+pub frame-other : (l : List ℕ) (n : ℕ) (f : Frame) (at : ℕ) → Apart at 6 n 6 → frameIn (splice l n (frameWords f)) at ≡ frameIn l at
 unfolding frameWords
 frame-other l n f at (inl h) = frame-agree _ l at (λ j a b. splice-at-other l n (frameWords f) j 0 (inl (omega arith)))
 frame-other l n f at (inr h) = frame-agree _ l at (λ j a b. splice-at-other l n (frameWords f) j 0 (inr (omega arith)))
 
-pub frames-agree : (n : ℕ) (l m : List ℕ) (i : ℕ) → ((j : ℕ) → i ≤ j → j < i + n → frameIn l (70 + 5 * j) ≡ frameIn m (70 + 5 * j)) → framesIn n l i ≡ framesIn n m i
+pub frames-agree : (n : ℕ) (l m : List ℕ) (i : ℕ) → ((j : ℕ) → i ≤ j → j < i + n → frameIn l (70 + 6 * j) ≡ frameIn m (70 + 6 * j)) → framesIn n l i ≡ framesIn n m i
 unfolding framesIn
 frames-agree zero l m i h = refl
 frames-agree (suc n) l m i h = rw (h i (omega arith) (omega arith), frames-agree n l m (i + 1) (λ j a b. h j (omega arith) (omega arith)))
 
 -- one record is put, and the others stay
-pub frames-set : (n : ℕ) (l : List ℕ) (i k : ℕ) (f : Frame) → k < n → 70 + 5 * (i + n) ≤ length l
-    → framesIn n (splice l (70 + 5 * (i + k)) (frameWords f)) i ≡ set (framesIn n l i) k f
+pub frames-set : (n : ℕ) (l : List ℕ) (i k : ℕ) (f : Frame) → k < n → 70 + 6 * (i + n) ≤ length l
+    → framesIn n (splice l (70 + 6 * (i + k)) (frameWords f)) i ≡ set (framesIn n l i) k f
 unfolding framesIn
 frames-set zero l i k f h r = absurd (omega arith)
 frames-set (suc n) l i zero f h r =
     let here : i + 0 ≡ i = omega arith in
     rw here
-    (rw (frame-same l (70 + 5 * i) f (omega arith), frames-agree n (splice l (70 + 5 * i) (frameWords f)) l (i + 1) (λ j a b. frame-other l (70 + 5 * i) f (70 + 5 * j) (inr (omega arith)))))
+    (rw (frame-same l (70 + 6 * i) f (omega arith), frames-agree n (splice l (70 + 6 * i) (frameWords f)) l (i + 1) (λ j a b. frame-other l (70 + 6 * i) f (70 + 6 * j) (inr (omega arith)))))
 frames-set (suc n) l i (suc k) f h r =
     let there : i + suc k ≡ i + 1 + k = omega arith in
-    rw there (rw (frame-other l (70 + 5 * (i + 1 + k)) f (70 + 5 * i) (inl (omega arith)), frames-set n l (i + 1) k f (omega arith) (omega arith)))
+    rw there (rw (frame-other l (70 + 6 * (i + 1 + k)) f (70 + 6 * i) (inl (omega arith)), frames-set n l (i + 1) k f (omega arith) (omega arith)))
 
 -- ---- registers
 
@@ -123,11 +133,11 @@ module _ (ws : List ℕ) (n : ℕ) (bs : List ℕ) where
       rw (splice-other ws n bs 4 32 (inr (omega arith)), splice-other ws n bs 36 32 (inr (omega arith)), splice-at-other ws n bs 68 0 (inr (omega arith)), splice-at-other ws n bs 69 0 (inr (omega arith)))
 
   frames-other : n + length bs ≤ 70 → framesIn 32 (splice ws n bs) 0 ≡ framesIn 32 ws 0
-  frames-other h = frames-agree 32 (splice ws n bs) ws 0 (λ j a b. frame-agree (splice ws n bs) ws (70 + 5 * j) (λ k c d. splice-at-other ws n bs k 0 (inr (omega arith))))
+  frames-other h = frames-agree 32 (splice ws n bs) ws 0 (λ j a b. frame-agree (splice ws n bs) ws (70 + 6 * j) (λ k c d. splice-at-other ws n bs k 0 (inr (omega arith))))
 
 -- ---- a state whose depth, registers or one record is put
 
-module _ (ws : List ℕ) (n : length ws ≡ 230) (m : isMachine ws ≡ true) where
+module _ (ws : List ℕ) (n : length ws ≡ 262) (m : isMachine ws ≡ true) where
   pub depth-machine : (d : ℕ) → isMachine (set ws 3 d) ≡ true
   unfolding isMachine
   depth-machine d = rw (getD-set-other ws 3 0 d 0 (λ e. omega arith), getD-set-other ws 3 69 d 0 (λ e. omega arith)) m
@@ -172,7 +182,7 @@ module _ (ws : List ℕ) (n : length ws ≡ 230) (m : isMachine ws ≡ true) whe
   module _ (i : ℕ) (f : Frame) (h : i < 32) where
     frame-machine : isMachine (withFrame ws i f) ≡ true
     unfolding isMachine
-    frame-machine = rw (splice-at-other ws (70 + 5 * i) (frameWords f) 0 0 (inl (omega arith)), splice-at-other ws (70 + 5 * i) (frameWords f) 69 0 (inl (omega arith))) m
+    frame-machine = rw (splice-at-other ws (70 + 6 * i) (frameWords f) 0 0 (inl (omega arith)), splice-at-other ws (70 + 6 * i) (frameWords f) 69 0 (inl (omega arith))) m
 
     pub frame-back : stateIn (withFrame ws i f) ≡ record { convention = stateIn ws .convention; base = stateIn ws .base; size = stateIn ws .size; depth = stateIn ws .depth; registers = stateIn ws .registers; frames = set (stateIn ws .frames) i f }
     unfolding stateIn depthIn
@@ -181,24 +191,24 @@ module _ (ws : List ℕ) (n : length ws ≡ 230) (m : isMachine ws ≡ true) whe
         rw (
           frame-machine,
           m,
-          splice-at-other ws (70 + 5 * i) (frameWords f) 0 0 (inl (omega arith)),
-          splice-at-other ws (70 + 5 * i) (frameWords f) 1 0 (inl (omega arith)),
-          splice-at-other ws (70 + 5 * i) (frameWords f) 2 0 (inl (omega arith)),
-          splice-at-other ws (70 + 5 * i) (frameWords f) 3 0 (inl (omega arith)),
-          registers-other ws (70 + 5 * i) (frameWords f) (inl (omega arith)),
+          splice-at-other ws (70 + 6 * i) (frameWords f) 0 0 (inl (omega arith)),
+          splice-at-other ws (70 + 6 * i) (frameWords f) 1 0 (inl (omega arith)),
+          splice-at-other ws (70 + 6 * i) (frameWords f) 2 0 (inl (omega arith)),
+          splice-at-other ws (70 + 6 * i) (frameWords f) 3 0 (inl (omega arith)),
+          registers-other ws (70 + 6 * i) (frameWords f) (inl (omega arith)),
           rw from-0 at (frames-set 32 ws 0 i f h (omega arith)),
         )
 
 -- what an enter or a leave puts
-module _ (ws : List ℕ) (n : length ws ≡ 230) (m : isMachine ws ≡ true) (s : State) (i : ℕ) (h : i < 32) (g : length (s .registers .gpr) ≡ 32) (f : length (s .registers .fpr) ≡ 32) (c : s .registers .cr < 2 ^ 32) where
+module _ (ws : List ℕ) (n : length ws ≡ 262) (m : isMachine ws ≡ true) (s : State) (i : ℕ) (h : i < 32) (g : length (s .registers .gpr) ≡ 32) (f : length (s .registers .fpr) ≡ 32) (c : s .registers .cr < 2 ^ 32) where
   pub changed-back : stateIn (changed ws s i)
       ≡ record { convention = stateIn ws .convention; base = stateIn ws .base; size = stateIn ws .size; depth = s .depth; registers = s .registers; frames = set (stateIn ws .frames) i (frameAt (s .frames) i) }
   unfolding changed
   changed-back =
       let deep : List ℕ = set ws 3 (s .depth) in
-      let deep-length : length deep ≡ 230 = simp length-set n in
+      let deep-length : length deep ≡ 262 = simp length-set n in
       let deep-machine = depth-machine ws n m (s .depth) in
       let full : List ℕ = withRegisters deep (s .registers) in
-      let full-length : length full ≡ 230 = length-splice deep 4 (registerWords (s .registers)) ∙ deep-length in
+      let full-length : length full ≡ 262 = length-splice deep 4 (registerWords (s .registers)) ∙ deep-length in
       let full-machine = registers-machine deep deep-length deep-machine (s .registers) g f c in
       rw (frame-back full full-length full-machine i (frameAt (s .frames) i) h, registers-back deep deep-length deep-machine (s .registers) g f c, depth-back ws n m (s .depth))

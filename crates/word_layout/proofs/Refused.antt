@@ -1,4 +1,4 @@
--- What the reading turns into refusals: words that are no machine's, and those of a refused start, give 23 before any other test; a request whose flag is neither
+-- What the reading turns into refusals: words that are no machine's, and those of a refused start, give 23 before any other test; a request with a flag that is neither
 -- 0 nor 1 gives 17. Assumes nothing.
 use Prim.Native.Nat.{ℕ, _+_, _<_}
 use mathlib.Core.Path.{_≡_, refl}
@@ -11,34 +11,44 @@ use Rattle.conventions.specs.declared.Convention.{Convention}
 use Rattle.conventions.specs.declared.Convention.the-variants.{Ppc64, Z}
 use Rattle.rules.specs.declared.Rules.{Rules}
 use Rattle.rules.specs.Rules.{rules}
-use Rattle.rules.specs.Frames.{okRequest}
+use Rattle.rules.specs.Frames.{noFrame, okRegisters, okRequest}
 use Rattle.machine.specs.declared.Refusal.the-variants.{BadState}
 use Rattle.machine.specs.declared.Answer.the-variants.{Refused}
 use Rattle.machine.specs.Answers.{Test, judge}
 use Rattle.machine.specs.Machine.{okFrames, okMemory, okState, stateTests}
-use Rattle.word_layout.specs.Words.{isMachine, depthIn, frameIn, stateIn}
+use Rattle.word_layout.specs.Words.{isMachine, depthIn, registersIn, frameIn, stateIn}
 use Rattle.word_layout.specs.Calls.{refusedWords}
+
+and-no : (b : Bool) → (b && false) ≡ false
+and-no true = refl
+and-no false = refl
 
 no-state : (k : Rules) (ws : List ℕ) → isMachine ws ≡ false → okState k (stateIn ws) ≡ false
 unfolding okState stateIn depthIn
-no-state k ws h = rw h
+no-state k ws h = rw h (and-no (okRegisters k (registersIn ws 4)))
 
 -- every answer but a start's is of this form
 pub no-machine : (k : Rules) (ws : List ℕ) (n : ℕ) (ts : List Test) → isMachine ws ≡ false → judge (stateTests k (stateIn ws) n ++ ts) ≡ Refused BadState
 unfolding judge
 no-machine k ws n ts h = rw (no-state k ws h)
 
-no-and : (a b : Bool) → (a && (b && false)) ≡ false
-no-and true true = refl
-no-and true false = refl
-no-and false b = refl
-
 -- whatever the words rs handed in
 pub no-start : (c : Convention) (rs : List ℕ) (k : Rules) (n : ℕ) (ts : List Test) → judge (stateTests k (stateIn (refusedWords c rs)) n ++ ts) ≡ Refused BadState
 unfolding judge okState okMemory stateIn refusedWords
-no-start c rs k n ts = rw (no-and (leb (stateIn (refusedWords c rs) .depth) 32) (okFrames k (stateIn (refusedWords c rs) .frames) (stateIn (refusedWords c rs) .depth)))
+no-start c rs k n ts =
+    let s = stateIn (refusedWords c rs) in
+    rw (and-no (okFrames k (s .frames) (s .depth)), and-no (leb (s .depth) 32), and-no (okRegisters k (s .registers)))
+
+-- the record that is read where a flag is none asks for r0, which no convention saves
+no-frame : (c : Convention) → okRequest (rules c) noFrame ≡ false
+unfolding okRequest
+no-frame Ppc64 = refl
+no-frame Z = refl
 
 pub no-flag : (c : Convention) (ws : List ℕ) (at : ℕ) → 1 < getD ws (at + 2) 0 → okRequest (rules c) (frameIn ws at) ≡ false
-unfolding frameIn okRequest
-no-flag Ppc64 ws at h = rw (lt-leb (getD ws (at + 2) 0) 1 h)
-no-flag Z ws at h = rw (lt-leb (getD ws (at + 2) 0) 1 h)
+unfolding frameIn
+no-flag c ws at h = rw (lt-leb (getD ws (at + 2) 0) 1 h) (no-frame c)
+
+pub no-mark : (c : Convention) (ws : List ℕ) (at : ℕ) → 1 < getD ws (at + 5) 0 → okRequest (rules c) (frameIn ws at) ≡ false
+unfolding frameIn
+no-mark c ws at h = rw (lt-leb (getD ws (at + 5) 0) 1 h, and-no (leb (getD ws (at + 2) 0) 1)) (no-frame c)

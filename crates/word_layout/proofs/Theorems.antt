@@ -22,7 +22,9 @@ use Rattle.rules.specs.declared.Registers.{Registers}
 use Rattle.rules.specs.declared.RegisterBank.{RegisterBank}
 use Rattle.rules.specs.declared.RegisterBank.the-variants.{General, Floating, Link, ConditionField, None}
 use Rattle.rules.specs.Lawful.{Named}
-use Rattle.rules.specs.Frames.{noFrame, withPointer, frameSize, gprSave, fprSave, restored, bankOf, withRegister}
+use Rattle.rules.specs.Rules.{rules}
+use Rattle.rules.proofs.Halves.{lowered-length}
+use Rattle.rules.specs.Frames.{noFrame, withPointer, cleared, frameSize, gprSave, fprSave, restored, bankOf, withRegister}
 use Rattle.rules.proofs.Conventions.{lawful}
 use Rattle.rules.proofs.Writing.{field-fit, writable-named}
 use Rattle.rules.proofs.Restoring.{cr-fit}
@@ -68,7 +70,7 @@ registers-read ws at h = record {
   cr = mod-lt (getD ws (at + 65) 0) (omega arith);
 }
 
-state-read : (ws : List ℕ) → length ws ≡ 230 → Read (stateIn ws .registers)
+state-read : (ws : List ℕ) → length ws ≡ 262 → Read (stateIn ws .registers)
 unfolding stateIn
 state-read ws n = registers-read ws 4 (omega arith)
 
@@ -78,17 +80,17 @@ frames-32 ws = length-frames 32 ws 0
 
 -- ---- all the words of a state
 
-frames-read : (fs : List Frame) (ws : List ℕ) (i : ℕ) → drop (70 + 5 * i) ws ≡ framesWords fs → framesIn (length fs) ws i ≡ fs
+frames-read : (fs : List Frame) (ws : List ℕ) (i : ℕ) → drop (70 + 6 * i) ws ≡ framesWords fs → framesIn (length fs) ws i ≡ fs
 unfolding framesIn framesWords frameIn frameWords
 frames-read [] ws i e = refl
 frames-read (f ∷ fs) ws i e =
-    let at = 70 + 5 * i in
+    let at = 70 + 6 * i in
     let at-0 : at + 0 ≡ at = omega arith in
     let here : (j : ℕ) → getD ws (at + j) 0 ≡ getD (framesWords (f ∷ fs)) j 0 = λ j. sym (getD-drop at ws j 0) ∙ ap (λ (t : List ℕ). getD t j 0) e in
     let w0 = rw at-0 at (here 0) in
-    let head : frameIn ws at ≡ f = rw (w0, here 1, here 2, here 3, here 4) (flag-back (f .«saves_cr») (f .«first_gpr») (f .«first_fpr») (f .locals) (f .outgoing)) in
-    let next : 70 + 5 * (i + 1) ≡ at + 5 = omega arith in
-    let rest : drop (70 + 5 * (i + 1)) ws ≡ framesWords fs = rw next (sym (drop-drop 5 at ws) ∙ ap (λ (t : List ℕ). drop 5 t) e) in
+    let head : frameIn ws at ≡ f = rw (w0, here 1, here 2, here 3, here 4, here 5) (flag-back (f .«saves_cr») (f .leaf) (f .«first_gpr») (f .«first_fpr») (f .locals) (f .outgoing)) in
+    let next : 70 + 6 * (i + 1) ≡ at + 6 = omega arith in
+    let rest : drop (70 + 6 * (i + 1)) ws ≡ framesWords fs = rw next (sym (drop-drop 6 at ws) ∙ ap (λ (t : List ℕ). drop 6 t) e) in
     rw (head, frames-read fs ws (i + 1) rest)
 
 code-machine : (c : Convention) (ws : List ℕ) → getD ws 0 0 ≡ codeOf c → getD ws 69 0 < 2 ^ 32 → isMachine ws ≡ true
@@ -100,15 +102,15 @@ module _ (s : State) (y : Read (s .registers)) (f : length (s .frames) ≡ 32) w
   words-66 = length-register-words (s .registers) (y .gpr) (y .fpr)
 
   blank : List ℕ
-  blank = set (set (set (set (replicate 230 0) 0 (codeOf (s .convention))) 1 (s .base)) 2 (s .size)) 3 (s .depth)
+  blank = set (set (set (set (replicate 262 0) 0 (codeOf (s .convention))) 1 (s .base)) 2 (s .size)) 3 (s .depth)
 
-  blank-length : length blank ≡ 230
+  blank-length : length blank ≡ 262
   unfolding blank
   blank-length = simp length-set
 
   spliced : splice (splice blank 4 (registerWords (s .registers))) 70 (framesWords (s .frames)) ≡ stateWords s
   unfolding blank
-  spliced = state-put (replicate 230 0) s refl words-66 f
+  spliced = state-put (replicate 262 0) s refl words-66 f
 
   registers-there : registersIn (stateWords s) 4 ≡ s .registers
   registers-there =
@@ -139,8 +141,8 @@ module _ (c : Convention) (rs : List ℕ) (b n : ℕ) (l : length rs ≡ 66) whe
   handed = registers-read rs 0 (omega arith)
 
   pub start-state : startOutcome c b n (registersIn rs 0) .answer ≡ Accepted → stateIn (startWords c rs b n) ≡ startOutcome c b n (registersIn rs 0) .state
-  unfolding startWords startOutcome started withPointer
-  start-state e = rw e (state-words-back (started c b n (registersIn rs 0)) (record { gpr = simp length-set (handed .gpr); fpr = handed .fpr; cr = handed .cr }) refl)
+  unfolding startWords startOutcome started withPointer cleared
+  start-state e = rw e (state-words-back (started c b n (registersIn rs 0)) (record { gpr = simp length-set (lowered-length (rules c .limit) (registersIn rs 0 .gpr) 32 ∙ handed .gpr); fpr = handed .fpr; cr = handed .cr }) refl)
 
   -- whatever CR's word is, 23 refuses these words (no-start of Refused)
   pub refused-state : getD rs 65 0 < 2 ^ 32 → stateIn (refusedWords c rs) ≡ notStarted c (registersIn rs 0)
@@ -153,7 +155,7 @@ module _ (c : Convention) (rs : List ℕ) (b n : ℕ) (l : length rs ≡ 66) whe
 
 -- ---- enter
 
-module _ (ws : List ℕ) (n : ℕ) (qs : List ℕ) (l : length ws ≡ 230) where
+module _ (ws : List ℕ) (n : ℕ) (qs : List ℕ) (l : length ws ≡ 262) where
   entered-back : enterAnswer (rulesOf (stateIn ws)) (stateIn ws) n (frameIn qs 0) ≡ Accepted
       → stateIn (changed ws (entered (rulesOf (stateIn ws)) (stateIn ws) (frameIn qs 0)) (stateIn ws .depth)) ≡ entered (rulesOf (stateIn ws)) (stateIn ws) (frameIn qs 0)
   unfolding entered withPointer enterAnswer
@@ -183,7 +185,7 @@ with-register-read r Link i v h y = record { gpr = y .gpr; fpr = y .fpr; cr = y 
 with-register-read r ConditionField i v h y = record { gpr = y .gpr; fpr = y .fpr; cr = field-fit i (r .cr) v (h .1) (y .cr) (h .0) }
 with-register-read r None i v h y = y
 
-module _ (ws : List ℕ) (n b i v : ℕ) (l : length ws ≡ 230) where
+module _ (ws : List ℕ) (n b i v : ℕ) (l : length ws ≡ 262) where
   written-back : writeRegisterAnswer (rulesOf (stateIn ws)) (stateIn ws) n b i v ≡ Accepted
       → stateIn (withRegisters ws (writtenRegister (stateIn ws) b i v .registers)) ≡ writtenRegister (stateIn ws) b i v
   unfolding writtenRegister writeRegisterAnswer
@@ -212,7 +214,7 @@ restored-read k f s m p r y = record {
   cr = cr-fit k f s r m (k .linkage) (r .cr) (y .cr);
 }
 
-module _ (ws m : List ℕ) (l : length ws ≡ 230) where
+module _ (ws m : List ℕ) (l : length ws ≡ 262) where
   left-back : leaveAnswer (rulesOf (stateIn ws)) (stateIn ws) m ≡ Accepted
       → stateIn (changed ws (left (rulesOf (stateIn ws)) (stateIn ws) m) (left (rulesOf (stateIn ws)) (stateIn ws) m .depth)) ≡ left (rulesOf (stateIn ws)) (stateIn ws) m
   unfolding left leaveAnswer

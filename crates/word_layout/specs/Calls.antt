@@ -18,7 +18,7 @@ changed ws s i = withFrame (withRegisters (withDepth ws (s .depth)) (s .register
 
 -- "a refused start hands the registers back as they came, all else 0": all 64 bits of each word rs, CR's too; the convention stays
 unfoldable pub refusedWords : Convention → List ℕ → List ℕ
-refusedWords c rs = codeOf c ∷ 0 ∷ 0 ∷ 0 ∷ (rs ++ replicate 160 0)
+refusedWords c rs = codeOf c ∷ 0 ∷ 0 ∷ 0 ∷ (rs ++ replicate 192 0)
 
 -- start writes all the words, also where it is refused; rs are the registers handed in, n the length of the memory
 unfoldable pub startWords : Convention → List ℕ → ℕ → ℕ → List ℕ

@@ -1,6 +1,7 @@
--- The frame machine's state as 230 words of 64 bits, the layout that a caller in C lends (`fz_machine`): word 0 the convention's code, 1 the base, 2 the size,
--- 3 the depth, 4 to 35 the general registers, 36 to 67 the floating registers, 68 LR, 69 CR, and five words for each of 32 records from word 70 on: the first
--- general and the first floating register saved, whether CR is (0 or 1), locals, outgoing. The layout is ours; what it holds is document 01's, "Frames".
+-- The frame machine's state as 262 words of 64 bits, the layout that a caller in C lends (`fz_machine`): word 0 the convention's code, 1 the base, 2 the size,
+-- 3 the depth, 4 to 35 the general registers, 36 to 67 the floating registers, 68 LR, 69 CR, and six words for each of 32 records from word 70 on: the first
+-- general and the first floating register saved, whether CR is (0 or 1), locals, outgoing, whether it is a leaf (0 or 1). The layout is ours; what it holds is document 01's, "Frames", and
+-- document 02's, No. 9.
 -- Assumes nothing.
 use Prim.Native.Nat.{ℕ, zero, suc, _+_, _-_, _*_, _%_, _^_}
 use mathlib.Core.Bool.{Bool, true, false, _&&_}
@@ -45,19 +46,27 @@ registersIn ws at = record {
   cr = getD ws (at + 65) 0 % 2 ^ 32;
 }
 
--- the request or the record in the five words from `at` on; where "CR or not" is neither 0 nor 1, one that 17 refuses: r0 is the first register saved
+-- the request or the record in the six words from `at` on; where "CR or not" or the mark of a leaf is neither 0 nor 1, one that 17 refuses: r0 is the first register
+-- saved
 unfoldable pub frameIn : List ℕ → ℕ → Frame
 frameIn ws at =
-    pick (leb (getD ws (at + 2) 0) 1)
-    (record { «first_gpr» = getD ws at 0; «first_fpr» = getD ws (at + 1) 0; «saves_cr» = eqb (getD ws (at + 2) 0) 1; locals = getD ws (at + 3) 0; outgoing = getD ws (at + 4) 0 })
+    pick (leb (getD ws (at + 2) 0) 1 && leb (getD ws (at + 5) 0) 1)
+    (record {
+      «first_gpr» = getD ws at 0;
+      «first_fpr» = getD ws (at + 1) 0;
+      «saves_cr» = eqb (getD ws (at + 2) 0) 1;
+      locals = getD ws (at + 3) 0;
+      outgoing = getD ws (at + 4) 0;
+      leaf = eqb (getD ws (at + 5) 0) 1;
+    })
     noFrame
 
 -- the n records from record i on
 unfoldable pub framesIn : ℕ → List ℕ → ℕ → List Frame
 framesIn zero ws i = []
-framesIn (suc n) ws i = frameIn ws (70 + 5 * i) ∷ framesIn n ws (i + 1)
+framesIn (suc n) ws i = frameIn ws (70 + 6 * i) ∷ framesIn n ws (i + 1)
 
--- the state that 230 words are read as
+-- the state that 262 words are read as
 unfoldable pub stateIn : List ℕ → State
 stateIn ws = record {
   convention = conventionOf (conventionCode (getD ws 0 0));
@@ -74,7 +83,7 @@ unfoldable pub registerWords : Registers → List ℕ
 registerWords r = r .gpr ++ (r .fpr ++ r .lr ∷ r .cr ∷ [])
 
 unfoldable pub frameWords : Frame → List ℕ
-frameWords f = firstGpr f ∷ firstFpr f ∷ flag (savesCr f) ∷ f .locals ∷ f .outgoing ∷ []
+frameWords f = firstGpr f ∷ firstFpr f ∷ flag (savesCr f) ∷ f .locals ∷ f .outgoing ∷ flag (f .leaf) ∷ []
 
 unfoldable pub framesWords : List Frame → List ℕ
 framesWords [] = []
@@ -92,4 +101,4 @@ abbrev pub withRegisters : List ℕ → Registers → List ℕ
 withRegisters ws r = splice ws 4 (registerWords r)
 
 abbrev pub withFrame : List ℕ → ℕ → Frame → List ℕ
-withFrame ws i f = splice ws (70 + 5 * i) (frameWords f)
+withFrame ws i f = splice ws (70 + 6 * i) (frameWords f)

@@ -1,9 +1,12 @@
-// Which bytes of the memory a frame may write: its own outgoing area, its locals, and its caller's outgoing area.
+// Which bytes of the memory a frame may write: its own outgoing area and its locals, or a leaf's part of the floor; and its caller's outgoing area.
 ghost use mathlib.Core.Path.{_≡_};
+ghost use Prim.Native.Nat.{_≤_};
 ghost use Rattle.rules.specs.Lawful.{Lawful};
-ghost use Rattle.machine.specs.Machine.{inside, writableBytes, writableAddress};
+ghost use Rattle.rules.specs.Frames.{outgoingLength};
+ghost use Rattle.machine.specs.Machine.{inside, outgoingFrom, localsFrom, writableBytes, writableAddress};
 ghost use Rattle.machine.specs.Premises.{Sound};
 use machine::State;
+use rules::Frame;
 use rules::Rules;
 
 // n bytes from offset a wholly inside the bytes from offset b up to e.
@@ -17,6 +20,27 @@ fn lies_inside(a: usize, n: usize, b: usize, e: usize) -> bool
         return false;
     }
     n <= e - a
+}
+
+// Where the own outgoing area and the locals of the frame f start, with its pointer at o.
+fn outgoing_from(k: Rules, f: Frame, o: usize) -> usize
+    requires { ⌜ (Lawful k) × (k .floor ≤ o) × (o ≤ 65536) ⌝ }
+    ensures { λ r. ⌜ r ≡ outgoingFrom k f o ⌝ }
+{
+    if f.leaf {
+        return o - k.floor;
+    }
+    o + k.header
+}
+
+fn locals_from(k: Rules, f: Frame, o: usize) -> usize
+    requires { ⌜ (Lawful k) × (k .floor ≤ o) × (o ≤ 65536) × (outgoingLength k f ≤ 16648) ⌝ }
+    ensures { λ r. ⌜ r ≡ localsFrom k f o ⌝ }
+{
+    if f.leaf {
+        return o - k.floor;
+    }
+    o + k.header + rules::outgoing_length(k, f)
 }
 
 // May the n bytes from offset a be written?
@@ -34,8 +58,8 @@ fn bytes_writable(k: Rules, s: State, a: usize, n: usize, len: usize) -> bool
     let f = state_checks::top_frame(k, s);
     let b = s.base;
     let o = (state_checks::stack_pointer(k, s) - b) as usize;
-    let own = o + k.header;
-    let locals = own + rules::outgoing_length(k, f);
+    let own = outgoing_from(k, f, o);
+    let locals = locals_from(k, f, o);
     if lies_inside(a, n, own, locals) {
         return true;
     }

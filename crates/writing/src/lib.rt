@@ -80,17 +80,38 @@ pub fn bank_of(b: u64) -> RegisterBank
     RegisterBank::None
 }
 
+fn general_writable(k: Rules, f: Frame, n: usize, v: u64) -> bool
+    ensures { λ r. ⌜ r ≡ writableRegister k f RegisterBank.General n v ⌝ }
+{
+    let general = k.gpr;
+    if !bank_writable(general, f.first_gpr, n) {
+        return false;
+    }
+    v <= k.limit
+}
+
+fn link_writable(k: Rules, f: Frame, n: usize, v: u64) -> bool
+    ensures { λ r. ⌜ r ≡ writableRegister k f RegisterBank.Link n v ⌝ }
+{
+    let linkage = k.linkage;
+    if !rules::has_condition(linkage) {
+        return false;
+    }
+    if f.leaf {
+        return false;
+    }
+    v <= k.limit
+}
+
 // May the frame f write v to register n of the bank b?
 pub fn register_writable(k: Rules, f: Frame, b: RegisterBank, n: usize, v: u64) -> bool
     ensures { λ r. ⌜ r ≡ writableRegister k f b n v ⌝ }
 {
-    let general = k.gpr;
     let floating = k.fpr;
-    let linkage = k.linkage;
     match b {
-        RegisterBank::General => bank_writable(general, f.first_gpr, n),
+        RegisterBank::General => general_writable(k, f, n, v),
         RegisterBank::Floating => bank_writable(floating, f.first_fpr, n),
-        RegisterBank::Link => rules::has_condition(linkage),
+        RegisterBank::Link => link_writable(k, f, n, v),
         RegisterBank::ConditionField => field_writable(k, f, n, v),
         RegisterBank::None => false,
     }

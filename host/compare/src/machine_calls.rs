@@ -1,5 +1,6 @@
 //! Calls of the frame machine at random, aimed at the edges: frames down to the last free byte, 32
-//! of them, writes at the borders of the areas, requests and registers at the ends of their ranges.
+//! of them, leaves above them, writes at the borders of the areas, requests and registers at the
+//! ends of their ranges.
 
 use crate::machines::{random_bytes, random_registers, stack_pointer, Call};
 use crate::random::Random;
@@ -132,6 +133,17 @@ pub fn request(random: &mut Random, convention: Convention) -> Request {
             2..=8 => 0,
             _ => random.number() % 20 * 8,
         },
+        leaf: 0,
+    }
+}
+
+/// The same request for a leaf.
+pub fn leaf(request: Request) -> Request {
+    Request {
+        locals: 0,
+        outgoing: 0,
+        leaf: 1,
+        ..request
     }
 }
 
@@ -203,15 +215,35 @@ pub fn broken_request(random: &mut Random, convention: Convention, request: Requ
         3 => u64::MAX - random.number() % 40,
         _ => random.number() | 64,
     };
-    match random.below(6) {
+    match random.below(8) {
         0 => broken.first_gpr = outside(random, gprs),
         1 => broken.first_fpr = outside(random, fprs),
         2 => broken.saves_cr = random.pick(&[most_cr + 1, 2, 256, u64::MAX]),
         3 => broken.locals = random.pick(&[32_001, 32_016, 1 << 32, u64::MAX - 400, u64::MAX]),
         4 => broken.outgoing = random.pick(&[16_400, 1 << 32, u64::MAX - 7, u64::MAX - 399]),
-        _ => broken.outgoing = (broken.outgoing / 8 * 8) | (1 + random.number() % 7),
+        5 => broken.outgoing = (broken.outgoing / 8 * 8) | (1 + random.number() % 7),
+        6 => broken.leaf = random.pick(&[2, 3, 256, 1 << 32, u64::MAX]),
+        // a leaf on Z, or one with locals or an outgoing area
+        _ => {
+            broken = leaf(broken);
+            if convention == Convention::Ppc64 {
+                match random.below(3) {
+                    0 => broken.locals = random.pick(&[1, 8, 32_000]),
+                    1 => broken.outgoing = random.pick(&[8, 64, 16_392]),
+                    _ => (broken.locals, broken.outgoing) = (1, 8),
+                }
+            }
+        }
     }
     broken
+}
+
+/// Whether the frame that was entered last, of a depth that can be, is a leaf.
+pub fn in_leaf(machine: &Machine) -> bool {
+    match machine.depth {
+        depth @ 1..=32 => machine.frames[depth as usize - 1].is_leaf(),
+        _ => false,
+    }
 }
 
 /// The bytes that frames may still take, in a state that can be.
@@ -228,7 +260,10 @@ pub fn call(random: &mut Random, machine: &Machine, style: Style) -> Call {
         Style::Writes => [2, 16, 32, 2],
     };
     if let Some(convention) = machine.possible() {
-        if room(machine, convention) < frame_size(convention, &smallest_request(convention)) {
+        if in_leaf(machine) {
+            weights[0] = 1 + weights[0] / 4;
+        } else if room(machine, convention) < frame_size(convention, &smallest_request(convention))
+        {
             // now and then it is told that the stack is full
             weights[0] = 1;
             weights[3] *= 2;
@@ -263,11 +298,14 @@ fn enter(random: &mut Random, machine: &Machine, style: Style) -> Call {
         Style::Mixed => random.once_in(2),
         Style::Writes => random.once_in(4),
     };
-    let asked = match random.below(8) {
+    let mut asked = match random.below(8) {
         0 => fitting_request(random, convention, room),
         _ if small => small_request(random, convention),
         _ => request(random, convention),
     };
+    if convention == Convention::Ppc64 && random.once_in(6) {
+        asked = leaf(asked);
+    }
     match random.below(16) {
         0 => Call::Enter(broken_request(random, convention, asked)),
         _ => Call::Enter(asked),
@@ -373,7 +411,11 @@ pub fn protected(random: &mut Random, machine: &Machine, convention: Convention)
         1 => caller + 8 * (random.number() % 6),
         _ => {
             let slots = save_slots(convention, &top, u128::from(caller));
-            slots[random.below(slots.len())].1 as u64
+            match slots.len() {
+                // a leaf that saves nothing
+                0 => pointer,
+                count => slots[random.below(count)].1 as u64,
+            }
         }
     }
 }

@@ -32,15 +32,15 @@ pub struct Reach {
     pub register_writes: [u64; 4],
     /// Those of registers that the frame has saved.
     pub saved_register_writes: u64,
-    /// Accepted memory writes: locals, own and caller's outgoing area.
-    pub memory_writes: [u64; 3],
+    /// Accepted memory writes: locals, own and caller's outgoing area, a leaf's part of the floor.
+    pub memory_writes: [u64; 4],
     /// Accepted memory writes that touch the first, and the last, byte of an area.
     pub first_bytes: u64,
     pub last_bytes: u64,
     /// Refused memory writes that would lie in an area but for one byte.
     pub one_byte_outside: u64,
     /// Refused calls by number.
-    pub refusals: [u64; 24],
+    pub refusals: [u64; 29],
     /// The most frames, and how often there were 32.
     pub deepest: u64,
     pub full: u64,
@@ -51,6 +51,12 @@ pub struct Reach {
     /// What was refused for the floor alone: starts, enters, and calls of states. Each would have
     /// been accepted, or its state would, if the stack pointer might go down to the base.
     pub floors: [u64; 3],
+    /// Leaves entered, at the start, above a frame, as the 32nd, and where no frame would fit.
+    pub leaves_entered: [u64; 4],
+    /// Leaves left, register writes of a leaf, and calls of states with a leaf below the top.
+    pub leaves_left: u64,
+    pub leaf_register_writes: u64,
+    pub leaves_below: u64,
     /// Leaves after which the caller was seen to find all that a call must preserve.
     pub preserving: u64,
     /// Accepted leaves that restored bytes by chance.
@@ -60,7 +66,7 @@ pub struct Reach {
 impl fmt::Display for Reach {
     fn fmt(&self, to: &mut fmt::Formatter<'_>) -> fmt::Result {
         let [gpr, fpr, lr, cr] = self.register_writes;
-        let [locals, own, callers] = self.memory_writes;
+        let [locals, own, callers, floor] = self.memory_writes;
         writeln!(
             to,
             "{} lists or states, {} of {LONGEST_LIST} calls; {} calls",
@@ -84,13 +90,20 @@ impl fmt::Display for Reach {
         )?;
         writeln!(
             to,
-            "memory writes: locals {locals}, own outgoing {own}, caller's outgoing {callers}; {} \
-             with a first byte, {} with a last, {} refused for one byte",
+            "memory writes: locals {locals}, own outgoing {own}, caller's outgoing {callers}, floor \
+             {floor}; {} with a first byte, {} with a last, {} refused for one byte",
             self.first_bytes, self.last_bytes, self.one_byte_outside
         )?;
+        let [first, above, last, full] = self.leaves_entered;
+        writeln!(
+            to,
+            "leaves: {first} at the start, {above} above frames, {last} as the 32nd, {full} where no \
+             frame fits; {} left; {} register writes; {} calls with one below the top",
+            self.leaves_left, self.leaf_register_writes, self.leaves_below
+        )?;
         write!(to, "refused:")?;
-        for (number, count) in self.refusals.iter().enumerate().skip(16) {
-            write!(to, " {number}: {count}")?;
+        for number in (16..=23).chain([28]) {
+            write!(to, " {number}: {}", self.refusals[number])?;
         }
         let [starts, enters, states] = self.floors;
         write!(
@@ -129,8 +142,19 @@ impl Counted<'_> {
         let reach = &mut self.reach;
         match call {
             Call::Start { .. } => reach.starts += 1,
-            Call::Enter(_) => {
+            Call::Enter(request) => {
                 reach.enters += 1;
+                if request.is_leaf() {
+                    reach.leaves_entered[usize::from(before.depth > 0)] += 1;
+                    reach.leaves_entered[2] += u64::from(after.depth == 32);
+                    let frame = Request {
+                        leaf: 0,
+                        ..*request
+                    };
+                    let room = calls::room(before, Convention::Ppc64);
+                    let fits = frame_size(Convention::Ppc64, &frame) <= room;
+                    reach.leaves_entered[3] += u64::from(!fits);
+                }
                 reach.deepest = reach.deepest.max(after.depth);
                 reach.full += u64::from(after.depth == 32);
                 let free = stack_pointer(after) - after.base;
@@ -147,6 +171,7 @@ impl Counted<'_> {
                     _ => false,
                 };
                 reach.saved_register_writes += u64::from(saved);
+                reach.leaf_register_writes += u64::from(calls::in_leaf(before));
             }
             Call::WriteMemory { address, bytes } => {
                 let start = u128::from(*address);
@@ -157,6 +182,7 @@ impl Counted<'_> {
                             AreaKind::Locals => 0,
                             AreaKind::OwnOutgoing => 1,
                             AreaKind::CallersOutgoing => 2,
+                            AreaKind::Floor => 3,
                         };
                         reach.memory_writes[kind] += 1;
                         reach.first_bytes += u64::from(area.start == start);
@@ -164,7 +190,10 @@ impl Counted<'_> {
                     }
                 }
             }
-            Call::Leave => reach.leaves += 1,
+            Call::Leave => {
+                reach.leaves += 1;
+                reach.leaves_left += u64::from(calls::in_leaf(before));
+            }
         }
     }
 
@@ -198,7 +227,11 @@ impl Counted<'_> {
                 let to_the_base = room + floor(convention);
                 reach.floors[1] += u64::from(frame_size(convention, request) <= to_the_base);
             }
-            (23, _) => reach.floors[2] += u64::from(lacks_the_floor_alone(before)),
+            (23, _) => {
+                reach.floors[2] += u64::from(lacks_the_floor_alone(before));
+                let below = 0..before.depth.clamp(1, 32) as usize - 1;
+                reach.leaves_below += u64::from(before.frames[below].iter().any(Request::is_leaf));
+            }
             (20, Call::WriteMemory { address, bytes }) if (2..=256).contains(&bytes.len()) => {
                 let start = u128::from(*address);
                 let end = start + bytes.len() as u128;
@@ -509,7 +542,7 @@ pub fn change(random: &mut Random, state: &mut Machine) {
     let step = random.pick(&[1, 8, 16, 112, 160, 4096]);
     let signed = random.pick(&[step, 0u64.wrapping_sub(step)]);
     let entered = state.depth.clamp(1, 32) as usize;
-    match random.below(13) {
+    match random.below(14) {
         0 => state.convention = random.pick(&[0, 1, 2, 3, 257, u64::MAX]),
         1 => state.base = state.base.wrapping_add(signed),
         2 => {
@@ -540,6 +573,7 @@ pub fn change(random: &mut Random, state: &mut Machine) {
                     saves_cr: random.number(),
                     locals: random.number(),
                     outgoing: random.number(),
+                    leaf: random.number() % 3,
                 };
             }
         }
@@ -550,6 +584,15 @@ pub fn change(random: &mut Random, state: &mut Machine) {
             let cut = pointer.wrapping_sub(under).wrapping_sub(state.base);
             state.base = state.base.wrapping_add(cut);
             state.size = state.size.wrapping_sub(cut);
+        }
+        // a leaf anywhere, with the stack pointer that follows
+        12 => {
+            let at = random.below(entered);
+            let frame = state.frames[at];
+            state.frames[at] = calls::leaf(frame);
+            if request_allowed(convention, &frame) {
+                *pointer = pointer.wrapping_add(frame_size(convention, &frame));
+            }
         }
         // the whole machine at another address
         _ => {
@@ -635,6 +678,10 @@ pub fn make_up(random: &mut Random, convention: Convention, length: usize, state
             true => calls::small_request(random, convention),
             false => calls::request(random, convention),
         };
+        // now and then below others, where it may not be
+        if random.once_in(256) {
+            *frame = calls::leaf(*frame);
+        }
         pointer = pointer.wrapping_sub(frame_size(convention, frame));
     }
     // mostly, frames that do not fit are cut off, so that the state can be
@@ -644,6 +691,12 @@ pub fn make_up(random: &mut Random, convention: Convention, length: usize, state
             let cut = &state.frames[state.depth as usize];
             pointer = pointer.wrapping_add(frame_size(convention, cut));
         }
+    }
+    // mostly where it may be
+    if state.depth > 0 && random.once_in(3) {
+        let top = &mut state.frames[state.depth as usize - 1];
+        pointer = pointer.wrapping_add(frame_size(convention, top));
+        *top = calls::leaf(*top);
     }
     state.registers.gpr[pointer_register(convention)] = pointer;
 }

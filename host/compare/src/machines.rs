@@ -1,5 +1,5 @@
 //! The frame machine compared. Both programs make the same calls, each on a state and a memory of
-//! its own, and after every call all of both is compared: the answer, the 230 words of the state,
+//! its own, and after every call all of both is compared: the answer, the 262 words of the state,
 //! the memory and some bytes on either side of it.
 
 use crate::random::Random;
@@ -262,6 +262,7 @@ fn library_frame(of: &Request) -> library::Frame {
         saves_cr: of.saves_cr,
         locals: of.locals,
         outgoing: of.outgoing,
+        leaf: of.leaf,
     }
 }
 
@@ -276,7 +277,7 @@ fn library_machine(of: &Machine) -> library::Machine {
     }
 }
 
-/// Whether all 230 words are the same.
+/// Whether all 262 words are the same.
 fn same_machine(given: &library::Machine, expected: &Machine) -> bool {
     *given == library_machine(expected)
 }

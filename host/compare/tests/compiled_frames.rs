@@ -51,6 +51,7 @@ fn frame(line: &str) -> Frame {
             saves_cr: number("cr"),
             locals: number("locals"),
             outgoing: number("out"),
+            leaf: 0,
         },
         size: number("size"),
         rule: number("rule"),

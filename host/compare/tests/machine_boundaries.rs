@@ -45,7 +45,12 @@ fn request(g: u64, m: u64, saves_cr: u64, locals: u64, outgoing: u64) -> Request
         saves_cr,
         locals,
         outgoing,
+        leaf: 0,
     }
+}
+
+fn leaf(g: u64, m: u64, saves_cr: u64) -> Request {
+    machine_calls::leaf(request(g, m, saves_cr, 0, 0))
 }
 
 /// The request that saves and keeps the least.
@@ -112,9 +117,17 @@ fn the_frame_sizes_of_the_document() {
     }
 }
 
-/// The size that document 01 gives, or nothing where 17 refuses the request.
+/// The size that document 01 gives, and 02, No. 9, for a leaf, or nothing where 17 refuses the
+/// request.
 fn stated_size(convention: Convention, of: &Request) -> Option<u64> {
     let (g, m, cr) = (of.first_gpr, of.first_fpr, of.saves_cr);
+    if of.leaf > 0 {
+        let frame = Request { leaf: 0, ..*of };
+        let allowed = convention == Ppc64 && (of.leaf, of.locals, of.outgoing) == (1, 0, 0);
+        return stated_size(convention, &frame)
+            .filter(|_| allowed)
+            .map(|_| 0);
+    }
     if of.locals > 32_000 || of.outgoing > 16_392 || of.outgoing % 8 != 0 {
         return None;
     }
@@ -140,8 +153,12 @@ fn every_first_register_of_a_request() {
         for g in 0..=34 {
             for m in 0..=34 {
                 for cr in 0..=2 {
-                    for (locals, outgoing) in [(0, 0), (9, 72), (13, 4)] {
-                        let request = request(g, m, cr, locals, outgoing);
+                    let sizes = [(0, 0, 0), (9, 72, 0), (13, 4, 0), (0, 0, 1), (0, 0, 2)];
+                    for (locals, outgoing, leaf) in sizes {
+                        let request = Request {
+                            leaf,
+                            ..request(g, m, cr, locals, outgoing)
+                        };
                         let size = stated_size(convention, &request);
                         let number = if size.is_some() { 0 } else { 17 };
                         answers(&mut pair, &Call::Enter(request), number);
@@ -155,7 +172,7 @@ fn every_first_register_of_a_request() {
             }
         }
     }
-    assert_eq!(accepted, 19 * 19 * 2 * 2 + 9 * 9 * 2);
+    assert_eq!(accepted, 19 * 19 * 2 * 3 + 9 * 9 * 2);
 }
 
 #[test]
@@ -181,17 +198,20 @@ fn every_edge_of_locals_and_outgoing_area() {
         let before = stack_pointer(pair.state());
         for &locals in &locals {
             for &outgoing in &outgoing {
-                let request = Request {
-                    locals,
-                    outgoing,
-                    ..all_saved(convention)
-                };
-                let size = stated_size(convention, &request);
-                let number = if size.is_some() { 0 } else { 17 };
-                answers(&mut pair, &Call::Enter(request), number);
-                if let Some(size) = size {
-                    assert_eq!(stack_pointer(pair.state()), before - size);
-                    answers(&mut pair, &Call::Leave, 0);
+                for leaf in [0, 1] {
+                    let request = Request {
+                        locals,
+                        outgoing,
+                        leaf,
+                        ..all_saved(convention)
+                    };
+                    let size = stated_size(convention, &request);
+                    let number = if size.is_some() { 0 } else { 17 };
+                    answers(&mut pair, &Call::Enter(request), number);
+                    if let Some(size) = size {
+                        assert_eq!(stack_pointer(pair.state()), before - size);
+                        answers(&mut pair, &Call::Leave, 0);
+                    }
                 }
             }
         }
@@ -331,6 +351,133 @@ fn the_floor_and_one_step_less() {
     }
 }
 
+/// 02, No. 9: a leaf above every number of frames. Nothing is entered above it, and what its caller
+/// had is there after it.
+#[test]
+fn a_leaf_at_every_depth() {
+    let mut pair = started(Ppc64, 16_384);
+    for depth in 0..=31 {
+        for frame in [leaf(32, 32, 0), leaf(14, 14, 1), leaf(29, 30, 1)] {
+            let before = (pair.state().clone(), pair.memory().to_vec());
+            answers(&mut pair, &Call::Enter(frame), 0);
+            assert_eq!(pair.state().depth, depth + 1);
+            let saved = (32 - frame.first_gpr + 32 - frame.first_fpr) * 8;
+            let s = (stack_pointer(pair.state()) - BASE) as usize;
+            assert_eq!(stack_pointer(pair.state()), stack_pointer(&before.0));
+            // the saves and CR's slot, and nothing else
+            let mut memory = pair.memory().to_vec();
+            let from = s - saved as usize;
+            memory[from..s].copy_from_slice(&before.1[from..s]);
+            if frame.saves_cr == 1 {
+                memory[s + 8..s + 12].copy_from_slice(&before.1[s + 8..s + 12]);
+            }
+            assert_eq!(memory, before.1);
+            // 28 after 17, before 18 and 19
+            answers(&mut pair, &Call::Enter(request(13, 32, 0, 0, 0)), 17);
+            answers(&mut pair, &Call::Enter(smallest(Ppc64)), 28);
+            answers(&mut pair, &Call::Enter(request(32, 32, 0, 32_000, 0)), 28);
+            answers(&mut pair, &Call::Enter(leaf(32, 32, 0)), 28);
+            let lr = Call::WriteRegister {
+                bank: 2,
+                number: 0,
+                value: 5,
+            };
+            answers(&mut pair, &lr, 20);
+            answers(&mut pair, &Call::Leave, 0);
+            assert_eq!(*pair.state(), before.0);
+        }
+        answers(&mut pair, &Call::Enter(all_saved(Ppc64)), 0);
+    }
+    // the 33rd, leaf or not
+    answers(&mut pair, &Call::Enter(leaf(32, 32, 0)), 18);
+}
+
+/// A leaf in the smallest memory, and above a frame that leaves exactly the floor: all of the
+/// floor's bytes are its own, from the memory's first on.
+#[test]
+fn a_leaf_at_the_last_byte() {
+    for framed in [false, true] {
+        for (g, m) in [(32, 32), (14, 14), (14, 32), (32, 14), (31, 31), (15, 14)] {
+            let mut pair = started(Ppc64, if framed { 512 } else { 400 });
+            if framed {
+                answers(&mut pair, &Call::Enter(smallest(Ppc64)), 0);
+            }
+            answers(&mut pair, &Call::Enter(smallest(Ppc64)), 19);
+            answers(&mut pair, &Call::Enter(leaf(g, m, 0)), 0);
+            assert_eq!(stack_pointer(pair.state()), BASE + 288);
+            let free = 288 - 8 * (32 - g) - 8 * (32 - m);
+            let size = pair.memory().len() as u64;
+            for offset in 0..size {
+                for length in [1, 2, 8, 64, 65, 256] {
+                    let call = Call::WriteMemory {
+                        address: BASE + offset,
+                        bytes: vec![offset as u8; length as usize],
+                    };
+                    let end = offset + length;
+                    // below the saves, or in the caller's outgoing area
+                    let inside = end <= free || offset >= 288 + 48 && end <= 288 + 112;
+                    answers(&mut pair, &call, if inside { 0 } else { 20 });
+                }
+            }
+            answers(&mut pair, &Call::Leave, 0);
+        }
+    }
+}
+
+/// A leave of a leaf looks at its saves alone, not at the word at the stack pointer.
+#[test]
+fn a_leaf_left_with_every_byte_of_the_memory_changed() {
+    let mut pair = started(Ppc64, 1024);
+    answers(&mut pair, &Call::Enter(request(31, 30, 1, 5, 80)), 0);
+    answers(&mut pair, &Call::Enter(leaf(29, 31, 1)), 0);
+    let entered = pair.state().clone();
+    let memory = pair.memory().to_vec();
+    let s = (stack_pointer(&entered) - BASE) as usize;
+    answers(&mut pair, &Call::Leave, 0);
+    let left = pair.state().clone();
+    for (at, byte) in memory.iter().enumerate() {
+        pair.change_state(|state| *state = entered.clone());
+        pair.change_memory(at, &[byte ^ 0x10]);
+        answers(&mut pair, &Call::Leave, 0);
+        // f31 and r29 to r31; of CR's word fields 2 to 4, which this bit is of in its middle bytes
+        let matters = (s - 32..s).contains(&at) || (s + 9..s + 11).contains(&at);
+        assert_eq!(*pair.state() != left, matters, "byte {at}");
+        pair.change_memory(at, &[*byte]);
+    }
+}
+
+/// Every choice of leaves among four entered frames: it can be where the top alone may be one.
+#[test]
+fn states_with_leaves_anywhere() {
+    for depth in 0..=4 {
+        for marks in 0..81_usize {
+            let mut pair = started(Ppc64, 1024);
+            let mark = |at: usize| (marks / 3_usize.pow(at as u32) % 3) as u64;
+            pair.change_state(|state| {
+                state.depth = depth;
+                for at in 0..4 {
+                    state.frames[at] = Request {
+                        leaf: mark(at),
+                        ..smallest(Ppc64)
+                    };
+                    if (at as u64) < depth && mark(at) == 0 {
+                        state.registers.gpr[1] -= 112;
+                    }
+                }
+            });
+            let top = (depth as usize).saturating_sub(1);
+            let below = (0..top).all(|at| mark(at) == 0);
+            let can_be = below && (depth == 0 || mark(top) < 2);
+            let call = Call::WriteRegister {
+                bank: 0,
+                number: 3,
+                value: 3,
+            };
+            answers(&mut pair, &call, if can_be { 0 } else { 23 });
+        }
+    }
+}
+
 /// The registers that document 01 lets a frame write: their banks and numbers.
 fn writable(convention: Convention, top: &Request) -> Vec<(u64, Vec<u64>)> {
     let (g, m) = (top.first_gpr, top.first_fpr);
@@ -338,7 +485,8 @@ fn writable(convention: Convention, top: &Request) -> Vec<(u64, Vec<u64>)> {
         Ppc64 => vec![
             (0, [0].into_iter().chain(3..=12).chain(g..=31).collect()),
             (1, (0..=13).chain(m..=31).collect()),
-            (2, vec![0]),
+            // a leaf does not save LR, and so may not write it
+            (2, if top.leaf == 1 { vec![] } else { vec![0] }),
             (
                 3,
                 match top.saves_cr {
@@ -359,7 +507,10 @@ fn every_register(pair: &mut Pair, convention: Convention, top: &Request) {
     let writable = writable(convention, top);
     let may = |bank, number| {
         let mut numbers = writable.iter().filter(|(of, _)| *of == bank);
-        numbers.any(|(_, numbers)| bank == 2 || numbers.contains(&number))
+        numbers.any(|(_, numbers)| match bank {
+            2 => !numbers.is_empty(),
+            _ => numbers.contains(&number),
+        })
     };
     let numbers = (0..=40).chain([63, 64, 256, 1 << 32, (1 << 32) + 3, u64::MAX]);
     for number in numbers {
@@ -395,6 +546,10 @@ fn every_register_of_every_frame() {
         for cr in 0..=most_cr {
             frames.extend(gprs.clone().map(|g| request(g, *fprs.end(), cr, 0, 0)));
             frames.extend(fprs.clone().map(|m| request(*gprs.end(), m, cr, 0, 0)));
+        }
+        if convention == Ppc64 {
+            let leaves: Vec<Request> = frames.iter().copied().map(machine_calls::leaf).collect();
+            frames.extend(leaves);
         }
         for frame in frames {
             answers(&mut pair, &Call::Enter(frame), 0);

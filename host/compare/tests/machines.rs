@@ -28,6 +28,11 @@ fn every_refusal_at_least(least: u64, reach: &Reach) {
     for (number, &count) in reach.refusals.iter().enumerate() {
         match number {
             16..=23 => assert!(count >= least, "refusal {number}: only {count}"),
+            // Z has no leaves
+            28 => assert!(
+                count >= least || reach.leaves_left == 0,
+                "refusal 28: only {count}"
+            ),
             _ => assert_eq!(count, 0, "refusal {number} is no refusal of the machine"),
         }
     }
@@ -90,7 +95,25 @@ fn lists_of_calls_on_ppc64() {
             ("states without the floor", reach.floors[2]),
         ],
     );
-    at_least(10_000, &[("enters without the floor", reach.floors[1])]);
+    at_least(
+        10_000,
+        &[
+            ("enters without the floor", reach.floors[1]),
+            ("leaves above frames", reach.leaves_entered[1]),
+            ("leaves left", reach.leaves_left),
+            ("writes of registers by leaves", reach.leaf_register_writes),
+            ("writes of the floor by leaves", reach.memory_writes[3]),
+        ],
+    );
+    at_least(
+        500,
+        &[
+            ("leaves at the start", reach.leaves_entered[0]),
+            ("leaves as the 32nd", reach.leaves_entered[2]),
+            ("leaves where no frame fits", reach.leaves_entered[3]),
+            ("leaves below the top", reach.leaves_below),
+        ],
+    );
 }
 
 #[test]
@@ -99,6 +122,7 @@ fn lists_of_calls_on_z() {
     // there are none
     assert_eq!(reach.register_writes[2..], [0, 0]);
     assert_eq!(reach.floors, [0; 3]);
+    assert_eq!((reach.leaves_left, reach.refusals[28]), (0, 0));
 }
 
 #[test]
@@ -119,6 +143,8 @@ fn states_and_memories_that_were_made_up() {
         &[
             ("memories of another length", reach.refusals[16]),
             ("calls of states without the floor", reach.floors[2]),
+            ("leaves left", reach.leaves_left),
+            ("leaves below the top", reach.leaves_below),
             ("broken chains", reach.refusals[21]),
             ("enters", reach.enters),
         ],

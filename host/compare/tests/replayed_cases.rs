@@ -93,7 +93,7 @@ fn refusals(of: Operation) -> Vec<u64> {
         Operation::ReadSignature | Operation::Measure => (1..=9).collect(),
         Operation::Narrow => vec![14],
         Operation::StartPpc64 | Operation::StartZ => vec![16],
-        Operation::Enter => vec![16, 17, 18, 19, 23],
+        Operation::Enter => vec![16, 17, 18, 19, 23, 28],
         Operation::WriteRegister | Operation::WriteMemory => vec![16, 20, 23],
         Operation::Leave => vec![16, 21, 22, 23],
         Operation::Fill => (1..=12).chain([15]).collect(),

@@ -109,6 +109,7 @@ impl Refusal {
             22 => "no frame to leave",
             23 => "a machine state that cannot be",
             24 => "no home or view for this convention, or no argument with this index",
+            28 => "an enter above a leaf",
             _ => "a refusal that this version has no words for",
         }
     }

@@ -15,6 +15,7 @@
 //!     saves_cr: 0,
 //!     locals: 20,
 //!     outgoing: 64,
+//!     leaf: 0,
 //! })?;
 //! assert_eq!(machine.stack_pointer(), before - 176);
 //!
@@ -151,6 +152,7 @@ mod tests {
         saves_cr: 0,
         locals: 8,
         outgoing: 16,
+        leaf: 0,
     };
 
     fn started() -> Machine {

@@ -39,6 +39,7 @@ FILE      has one call to a line, and '#' comments; '-' is standard input:
             enter g=29 m=30 cr=1 locals=20 out=64
                                         saves r29 up, f30 up and CR; bytes of locals and
                                         of outgoing arguments (cr, locals, out: else 0)
+            enter leaf g=29 m=30 cr=1   a leaf, without a frame
             write r29 0x1234            also f14, lr, or cr2 for a field of CR
             write mem ADDRESS BYTES     the bytes in hexadecimal
             leave

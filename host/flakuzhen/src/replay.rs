@@ -174,8 +174,16 @@ fn parse_start(convention: &str, size: &str, base: &str) -> Result<Call, String>
 /// registers must be there: what they are without any is not the same in both conventions.
 fn parse_request(words: &[&str]) -> Result<Frame, String> {
     let mut values: [Option<u64>; 5] = [None; 5];
+    let mut leaf = 0;
     for word in words {
-        let fault = || format!("{word:?} in an enter, which has g=, m=, cr=, locals=, out=");
+        if *word == "leaf" {
+            if leaf == 1 {
+                return Err("\"leaf\" twice in an enter".to_string());
+            }
+            leaf = 1;
+            continue;
+        }
+        let fault = || format!("{word:?} in an enter, which has leaf, g=, m=, cr=, locals=, out=");
         let (name, value) = word.split_once('=').ok_or_else(fault)?;
         let names = ["g", "m", "cr", "locals", "out"];
         let at = names.iter().position(|&known| known == name);
@@ -192,6 +200,7 @@ fn parse_request(words: &[&str]) -> Result<Frame, String> {
         saves_cr: saves_cr.unwrap_or(0),
         locals: locals.unwrap_or(0),
         outgoing: outgoing.unwrap_or(0),
+        leaf,
     })
 }
 
@@ -263,6 +272,7 @@ mod tests {
             saves_cr: 1,
             locals: 20,
             outgoing: 64,
+            leaf: 0,
         };
         assert_eq!(
             call("enter g=29 m=30 cr=1 locals=20 out=64"),
@@ -272,6 +282,14 @@ mod tests {
             call("enter out=0x40 locals=20 cr=1 m=30 g=29"),
             Call::Enter(request)
         );
+        let leaf = Frame {
+            locals: 0,
+            outgoing: 0,
+            leaf: 1,
+            ..request
+        };
+        assert_eq!(call("enter leaf g=29 m=30 cr=1"), Call::Enter(leaf));
+        assert_eq!(call("enter g=29 cr=1 leaf m=30"), Call::Enter(leaf));
         assert_eq!(call("leave"), Call::Leave);
         let writes = [
             ("write r29 0x1234", Register::General(29), 0x1234),

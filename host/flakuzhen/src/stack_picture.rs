@@ -2,8 +2,8 @@
 //!
 //! How a frame is laid out is said nowhere here: the library is asked. A word that a leave restores
 //! a register from is that register's save slot; words that may be written are an area; what is
-//! neither is header; the floor under the last frame is as long as the least room that an enter
-//! leaves. So the picture cannot show another layout than the one that is proved.
+//! neither is header; the floor under the stack pointer is what a leaf may write there. So the
+//! picture cannot show another layout than the one that is proved.
 
 use flakuzhen::machine::{Convention, Frame, Machine, Registers};
 use std::ops::Range;
@@ -17,8 +17,10 @@ enum Part {
     BackChain,
     Outgoing,
     Locals,
-    /// The number of the frame, the oldest being 1, and the name of the register.
-    Saved(usize, String),
+    /// The bytes of the floor that the leaf of this name may write.
+    Free(String),
+    /// The name of the frame or leaf, the oldest being number 1, and that of the register.
+    Saved(String, String),
 }
 
 /// The picture, or nothing for a machine that is none.
@@ -27,16 +29,18 @@ pub fn draw(machine: &Machine) -> String {
         return String::new();
     }
     let functions = functions(machine);
-    let parts = parts(&functions);
+    let floor = floor(machine);
+    let parts = parts(&functions, floor);
     let mut text = String::new();
     let mut end = machine.memory().len();
-    for (number, function) in functions.iter().rev().enumerate() {
+    for function in functions.iter().rev() {
         let start = place_of(function);
-        let name = match number {
-            0 => "start".to_string(),
-            _ => format!("frame {number}"),
-        };
         let pointer = function.stack_pointer();
+        let name = name_of(function);
+        if is_leaf(function) {
+            text.push_str(&format!("  {name}, without a frame at {pointer:#x}\n"));
+            continue;
+        }
         text.push_str(&format!(
             "  {name}, {} bytes at {pointer:#x}\n",
             end - start
@@ -46,17 +50,21 @@ pub fn draw(machine: &Machine) -> String {
         }
         end = start;
     }
-    let floor = floor(machine);
     if floor > 0 {
-        let address = machine.stack_pointer() - floor;
+        let address = machine.stack_pointer() - floor as u64;
         text.push_str(&format!("  floor, {floor} bytes at {address:#x}\n"));
+        if is_leaf(machine) {
+            for run in runs(&parts, end - floor..end).iter().rev() {
+                text.push_str(&row(machine, &parts[run.start / WORD], run));
+            }
+        }
     }
     text
 }
 
-/// The bytes that stay free under every stack pointer: in a machine of its own, at address 0, the
-/// stack pointer of the largest frame that fits.
-fn floor(machine: &Machine) -> u64 {
+/// The bytes of the floor under every stack pointer: what a leaf that saves as little as may be can
+/// write below its own, in a machine at address 0. Where there are no leaves there is no floor.
+fn floor(machine: &Machine) -> usize {
     let convention = match machine.state().convention {
         1 => Convention::Ppc64,
         _ => Convention::Z,
@@ -65,27 +73,41 @@ fn floor(machine: &Machine) -> u64 {
     let Ok(start) = Machine::start(convention, &Registers::default(), 0, memory) else {
         return 0;
     };
-    let entered = |request: &Frame| {
+    let entered = |(first_gpr, first_fpr)| {
         let mut machine = start.clone();
-        machine.enter(request).ok().map(|()| machine)
+        let leaf = Frame {
+            first_gpr,
+            first_fpr,
+            leaf: 1,
+            ..Frame::default()
+        };
+        machine.enter(&leaf).ok().map(|()| machine)
     };
-    // which first registers may be asked for goes by the convention
-    let first_registers = (0..=32).flat_map(|g| (0..=32).map(move |m| (g, m)));
-    let request = |(first_gpr, first_fpr), locals| Frame {
-        first_gpr,
-        first_fpr,
-        locals,
-        ..Frame::default()
+    let mut first_registers = (0..=32).flat_map(|g| (0..=32).map(move |m| (g, m))).rev();
+    let Some(mut machine) = first_registers.find_map(entered) else {
+        return 0;
     };
-    let allowed = first_registers
-        .rev()
-        .find(|&registers| entered(&request(registers, 0)).is_some());
-    let fullest = allowed.and_then(|registers| {
-        (0..1024)
-            .rev()
-            .find_map(|locals| entered(&request(registers, locals)))
-    });
-    fullest.map_or(0, |machine| machine.stack_pointer())
+    let under = (0..machine.stack_pointer()).rev();
+    under
+        .take_while(|&address| machine.write_memory(address, &[0]).is_ok())
+        .count()
+}
+
+/// Whether the function has no frame.
+fn is_leaf(function: &Machine) -> bool {
+    match function.state().depth as usize {
+        0 => false,
+        depth => function.state().frames[depth - 1].leaf == 1,
+    }
+}
+
+/// What a function is called.
+fn name_of(function: &Machine) -> String {
+    match function.state().depth {
+        0 => "start".to_string(),
+        depth if is_leaf(function) => format!("leaf {depth}"),
+        depth => format!("frame {depth}"),
+    }
 }
 
 /// The machine as it is for the function that was entered last, then for its caller, and so on to
@@ -107,25 +129,28 @@ fn place_of(function: &Machine) -> usize {
 }
 
 /// What each word of the memory is.
-fn parts(functions: &[Machine]) -> Vec<Part> {
+fn parts(functions: &[Machine], floor: usize) -> Vec<Part> {
     let size = functions[0].memory().len();
     let start_of = |index: usize| functions.get(index).map_or(size, place_of);
     let mut parts = vec![Part::Header; size / WORD];
     for (index, function) in functions.iter().enumerate() {
-        let own = start_of(index)..start_of(index + 1);
+        let mut own = start_of(index)..start_of(index + 1);
+        if is_leaf(function) {
+            own.start -= floor;
+        }
         mark_areas(function, own.clone(), &mut parts);
         if let Some(caller) = functions.get(index + 1) {
             // what it has saved is in its own frame and in its caller's
             let reach = own.start..start_of(index + 2);
             mark_saves(function, caller, reach, &mut parts);
         }
-        // the doubleword at the stack pointer
-        parts[own.start / WORD..][..2].fill(Part::BackChain);
+        // the doubleword at the stack pointer, which is the caller's where a leaf has none
+        parts[start_of(index) / WORD..][..2].fill(Part::BackChain);
     }
     parts
 }
 
-/// Marks what the function may write of its own frame.
+/// Marks what the function may write of its own frame, or as a leaf of the floor.
 fn mark_areas(function: &Machine, own: Range<usize>, parts: &mut [Part]) {
     let mut function = function.clone();
     let mut areas: Vec<Range<usize>> = Vec::new();
@@ -144,6 +169,7 @@ fn mark_areas(function: &Machine, own: Range<usize>, parts: &mut [Part]) {
     let depth = function.state().depth as usize;
     let asked = depth > 0 && function.state().frames[depth - 1].locals > 0;
     let names = match areas.len() {
+        _ if is_leaf(&function) => vec![Part::Free(name_of(&function))],
         // a lone area is the locals just where locals were asked for: else there are none
         1 if asked => vec![Part::Locals],
         _ => vec![Part::Outgoing, Part::Locals],
@@ -162,7 +188,7 @@ fn may_write(function: &mut Machine, place: Range<usize>) -> bool {
 
 /// Marks the words that a leave restores registers from: those whose change it shows.
 fn mark_saves(function: &Machine, caller: &Machine, reach: Range<usize>, parts: &mut [Part]) {
-    let frame = function.state().depth as usize;
+    let owner = name_of(function);
     let (state, mut memory) = function.clone().into_parts();
     for at in reach.step_by(WORD) {
         flip(&mut memory[at..at + WORD]);
@@ -174,7 +200,7 @@ fn mark_saves(function: &Machine, caller: &Machine, reach: Range<usize>, parts: 
             Err(_) => Some("r15".to_string()),
         };
         if let Some(name) = name {
-            parts[at / WORD] = Part::Saved(frame, name);
+            parts[at / WORD] = Part::Saved(owner.clone(), name);
         }
         memory = changed.into_parts().1;
         flip(&mut memory[at..at + WORD]);
@@ -221,7 +247,8 @@ fn row(function: &Machine, part: &Part, bytes: &Range<usize>) -> String {
         Part::BackChain => ("back chain".to_string(), true),
         Part::Outgoing => ("outgoing area".to_string(), false),
         Part::Locals => ("locals".to_string(), false),
-        Part::Saved(frame, register) => (format!("frame {frame} saved {register}"), true),
+        Part::Free(leaf) => (format!("free for {leaf}"), false),
+        Part::Saved(owner, register) => (format!("{owner} saved {register}"), true),
     };
     let last = function.state().base + function.memory().len() as u64 - 1;
     let width = format!("{last:#x}").len();

@@ -231,6 +231,8 @@ fn same_of_line(line: &[u8]) -> i32 {
 fn calls_of_all_kinds() {
     let lines = [
         "enter g=32 m=32",
+        "enter leaf g=32 m=32",
+        "enter cr=1 g=14 leaf m=14",
         "\tenter  out=0x10 locals=0x7D0 m=14 cr=1 g=14 \r",
         "enter g=00000000000000000000000000029 m=0x0000000000000000000000000000001e",
         "start z 0x1000 0",
@@ -255,6 +257,9 @@ fn calls_of_all_kinds() {
         "start z 256 18446744073709551600",
         "start ppc64 256 8",
         "enter g=0 m=0",
+        "enter leaf g=32 m=32 locals=1",
+        "start z 4096 0\nenter leaf g=14 m=16",
+        "enter leaf g=32 m=32\nenter g=32 m=32",
         "enter g=32 m=32 cr=2",
         "enter g=32 m=32 locals=18446744073709551615 out=0xffffffffffffffff",
         "write r32 1",

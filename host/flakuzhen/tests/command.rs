@@ -318,7 +318,7 @@ fn replays_the_examples() {
         prints(&run(&["replay", "-"], &text), 1, &stored(&list, "out"));
         replayed += 1;
     }
-    assert_eq!(replayed, 4);
+    assert_eq!(replayed, 5);
 }
 
 #[test]
@@ -343,7 +343,7 @@ fn replays_each_call_and_says_the_stack_pointer_where_it_moves() {
 
 #[test]
 fn a_bad_line_is_told_with_its_number_and_no_call_is_made() {
-    let faults: [(&[u8], &str); 27] = [
+    let faults: [(&[u8], &str); 28] = [
         (b"jump", "\"jump\" is no call"),
         (b"Leave", "\"Leave\" is no call"),
         (b"leave now", "a leave has no words"),
@@ -356,6 +356,7 @@ fn a_bad_line_is_told_with_its_number_and_no_call_is_made() {
         (b"enter m=30", "an enter without g="),
         (b"enter g=29", "an enter without m="),
         (b"enter g=29 m=30 g=29", "\"g\" twice"),
+        (b"enter leaf g=29 m=30 leaf", "\"leaf\" twice"),
         (b"enter g=29 m=30 x=1", "\"x=1\" in an enter"),
         (b"enter g=29 m=30 cr", "\"cr\" in an enter"),
         (b"enter g= m=30", "\"\" is no number"),

@@ -39,14 +39,15 @@ WORD(fz_registers, fpr, 32);
 WORD(fz_registers, lr, 64);
 WORD(fz_registers, cr, 65);
 
-SIZE(fz_frame, 5);
+SIZE(fz_frame, 6);
 WORD(fz_frame, first_gpr, 0);
 WORD(fz_frame, first_fpr, 1);
 WORD(fz_frame, saves_cr, 2);
 WORD(fz_frame, locals, 3);
 WORD(fz_frame, outgoing, 4);
+WORD(fz_frame, leaf, 5);
 
-SIZE(fz_machine, 230);
+SIZE(fz_machine, 262);
 WORD(fz_machine, convention, 0);
 WORD(fz_machine, base, 1);
 WORD(fz_machine, size, 2);

@@ -41,9 +41,9 @@ static void hand_in_registers(void)
 
 static void check_ppc64(void)
 {
-    static const fz_frame request = {29, 30, 1, 20, 64};
-    static const fz_frame none = {13, 30, 1, 20, 64};
-    static const fz_frame large = {32, 32, 0, 1024, 0};
+    static const fz_frame request = {29, 30, 1, 20, 64, 0};
+    static const fz_frame none = {13, 30, 1, 20, 64, 0};
+    static const fz_frame large = {32, 32, 0, 1024, 0, 0};
     static const uint8_t bytes[4] = {1, 2, 3, 4};
     uint64_t s = BASE + LENGTH - 112;
     const fz_machine *written = &machine;
@@ -89,9 +89,46 @@ static void check_ppc64(void)
     CHECK(memcmp(&machine, &before, sizeof machine) == 0);
 }
 
+/* a leaf, which has no frame: its saves are under the stack pointer, which stays */
+static void check_leaf(void)
+{
+    static const fz_frame frame = {32, 32, 0, 0, 0, 0};
+    static const fz_frame leaf = {29, 30, 1, 0, 0, 1};
+    static const fz_frame with_locals = {29, 30, 1, 1, 0, 1};
+    static const fz_frame marked = {29, 30, 1, 0, 0, 2};
+    static const uint8_t bytes[4] = {1, 2, 3, 4};
+    uint64_t s = BASE + LENGTH - 112;
+    fz_machine before;
+
+    hand_in_registers();
+    CHECK(answers(fz_start_ppc64(&machine, &registers, BASE, memory, LENGTH), FZ_ACCEPTED));
+    before = machine;
+    CHECK(answers(fz_enter(&machine, &with_locals, memory, LENGTH), FZ_BAD_REQUEST));
+    CHECK(answers(fz_enter(&machine, &marked, memory, LENGTH), FZ_BAD_REQUEST));
+    CHECK(answers(fz_enter(&machine, &leaf, memory, LENGTH), FZ_ACCEPTED));
+    CHECK(machine.depth == 1 && machine.registers.gpr[1] == s);
+    CHECK(memcmp(&machine.frames[0], &leaf, sizeof leaf) == 0);
+    CHECK(doubleword(s - 8) == 231 && doubleword(s - 40) == 129 && doubleword(s) == 0);
+    CHECK(doubleword(s + 8) == UINT64_C(0x12345678eeeeeeee));
+    CHECK(doubleword(s + 16) == UINT64_C(0xeeeeeeeeeeeeeeee));
+
+    CHECK(answers(fz_enter(&machine, &frame, memory, LENGTH), FZ_ABOVE_LEAF));
+    CHECK(answers(fz_write_register(&machine, 2, 0, 9, memory, LENGTH), FZ_NOT_PERMITTED));
+    CHECK(answers(fz_write_register(&machine, 0, 29, 7, memory, LENGTH), FZ_ACCEPTED));
+    CHECK(answers(fz_write_memory(&machine, s - 288, bytes, 4, memory, LENGTH), FZ_ACCEPTED));
+    CHECK(answers(fz_write_memory(&machine, s - 44, bytes, 4, memory, LENGTH), FZ_ACCEPTED));
+    CHECK(answers(fz_write_memory(&machine, s - 43, bytes, 4, memory, LENGTH), FZ_NOT_PERMITTED));
+    CHECK(answers(fz_write_memory(&machine, s - 289, bytes, 4, memory, LENGTH), FZ_NOT_PERMITTED));
+    /* the word at the stack pointer is no chain of a leaf's */
+    memory[s - BASE] ^= 1;
+    CHECK(answers(fz_leave(&machine, memory, LENGTH), FZ_ACCEPTED));
+    CHECK(memcmp(&machine, &before, sizeof machine) == 0);
+}
+
 static void check_z(void)
 {
-    static const fz_frame request = {6, 8, 0, 1, 8};
+    static const fz_frame request = {6, 8, 0, 1, 8, 0};
+    static const fz_frame leaf = {14, 16, 0, 0, 0, 1};
     uint64_t s = BASE + LENGTH - 160;
     fz_machine before;
     int i;
@@ -106,6 +143,7 @@ static void check_z(void)
     CHECK(answers(fz_start_z(&machine, &registers, BASE, memory, LENGTH), FZ_ACCEPTED));
     CHECK(machine.registers.cr == UINT64_C(0x12345678));
     before = machine;
+    CHECK(answers(fz_enter(&machine, &leaf, memory, LENGTH), FZ_BAD_REQUEST));
     CHECK(answers(fz_enter(&machine, &request, memory, LENGTH), FZ_ACCEPTED));
     CHECK(machine.registers.gpr[15] == s - 240 && doubleword(s - 240) == s);
     CHECK(doubleword(s + 48) == 106 && doubleword(s + 120) == s && doubleword(s - 8) == 215);
@@ -126,6 +164,7 @@ static void check_z(void)
 int main(void)
 {
     check_ppc64();
+    check_leaf();
     check_z();
     return wrong;
 }

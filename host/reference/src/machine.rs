@@ -1,5 +1,5 @@
 //! The frame machine: document 01, "Frames" and refusals 16 to 23 of "When the bridge says no", with
-//! what document 02 changes: No. 8, the floor under the stack pointer. The state has the words of the C surface, so that any state at all can be handed in, also one that
+//! what document 02 changes: No. 8, the floor under the stack pointer; No. 9, leaves. The state has the words of the C surface, so that any state at all can be handed in, also one that
 //! no calls lead to. Every function tests first and changes afterwards, so that a refused call
 //! changes nothing. Addresses are computed in 128 bits, where no sum of theirs can wrap.
 
@@ -30,6 +30,8 @@ pub struct Request {
     pub locals: u64,
     /// Document 01's P.
     pub outgoing: u64,
+    /// 02, No. 9: 1 for a leaf, which has no frame.
+    pub leaf: u64,
 }
 
 #[derive(Clone, Debug, PartialEq, Eq)]
@@ -59,6 +61,8 @@ pub enum AreaKind {
     Locals,
     OwnOutgoing,
     CallersOutgoing,
+    /// The floor's bytes below a leaf's saves.
+    Floor,
 }
 
 /// Bytes of memory from `start` up to, not including, `end`.
@@ -107,6 +111,10 @@ impl Machine {
         if !request_allowed(convention, request) {
             return refuse(17);
         }
+        // 02, No. 9: "Enter above a leaf gives new refusal 28, tested after 17"
+        if self.top().is_some_and(Request::is_leaf) {
+            return refuse(28);
+        }
         if self.depth == MOST_FRAMES {
             return refuse(18);
         }
@@ -126,8 +134,10 @@ impl Machine {
                 Saved::Lr => self.put(memory, at, &self.registers.lr.to_be_bytes()),
             }
         }
-        // the back chain
-        self.put(memory, pointer, &(caller as u64).to_be_bytes());
+        // the back chain, which a leaf has none of
+        if !request.is_leaf() {
+            self.put(memory, pointer, &(caller as u64).to_be_bytes());
+        }
         self.registers.gpr[pointer_register(convention)] = pointer as u64;
         self.frames[self.depth as usize] = *request;
         self.depth += 1;
@@ -195,7 +205,8 @@ impl Machine {
             // the slot of r15
             Convention::Z => caller + 8 * 15,
         };
-        if u128::from(self.doubleword(memory, chain_at)) != caller {
+        // "Leave skips the back chain test for a leaf"
+        if !request.is_leaf() && u128::from(self.doubleword(memory, chain_at)) != caller {
             return refuse(21);
         }
 
@@ -249,6 +260,12 @@ impl Machine {
         {
             return None;
         }
+        // 02, No. 9: "a state with a leaf below the top gives 23"
+        if let [below @ .., _] = entered {
+            if below.iter().any(Request::is_leaf) {
+                return None;
+            }
+        }
         let sizes = entered
             .iter()
             .map(|frame| u128::from(frame_size(convention, frame)));
@@ -286,6 +303,18 @@ impl Machine {
             1 => 0,
             depth => self.frames[depth as usize - 2].outgoing,
         };
+        if top.is_leaf() {
+            // "the bytes of the floor area of No. 8 that aren't its saves, and the caller's
+            // outgoing area"
+            let floor = Area {
+                kind: AreaKind::Floor,
+                start: pointer - u128::from(floor(convention)),
+                end: pointer - u128::from(saves_below_caller(convention, top)),
+            };
+            let kind = AreaKind::CallersOutgoing;
+            let callers = outgoing(convention, kind, pointer, callers_outgoing);
+            return vec![floor, callers];
+        }
         let own = outgoing(convention, AreaKind::OwnOutgoing, pointer, top.outgoing);
         // "all between the outgoing area and the saves"
         let locals = Area {
@@ -311,6 +340,12 @@ impl Machine {
         let at = (address - u128::from(self.base)) as usize;
         let bytes = memory[at..at + 8].try_into();
         u64::from_be_bytes(bytes.expect("eight bytes"))
+    }
+}
+
+impl Request {
+    pub fn is_leaf(&self) -> bool {
+        self.leaf == 1
     }
 }
 
@@ -351,14 +386,24 @@ pub fn request_allowed(convention: Convention, request: &Request) -> bool {
                 && request.saves_cr == 0
         }
     };
+    // 02, No. 9: "PPC64 and AIX only; a leaf request on Z, or with L or P above 0, gives 17"
+    let leaf_or_not = match request.leaf {
+        0 => true,
+        1 => convention == Convention::Ppc64 && request.locals == 0 && request.outgoing == 0,
+        _ => false,
+    };
     of_the_convention
+        && leaf_or_not
         && request.locals <= 32_000
         && request.outgoing <= 16_392
         && request.outgoing % 8 == 0
 }
 
-/// The bytes that a frame takes, for a request that is allowed.
+/// The bytes that a frame takes, for a request that is allowed: none for a leaf.
 pub fn frame_size(convention: Convention, request: &Request) -> u64 {
+    if request.is_leaf() {
+        return 0;
+    }
     let Request {
         first_gpr: g,
         first_fpr: m,
@@ -393,7 +438,10 @@ pub fn save_slots(convention: Convention, request: &Request, caller: u128) -> Ve
             if request.saves_cr == 1 {
                 slots.push((Saved::Cr, s + 8));
             }
-            slots.push((Saved::Lr, s + 16));
+            // "LR is not saved" by a leaf
+            if !request.is_leaf() {
+                slots.push((Saved::Lr, s + 16));
+            }
         }
         Convention::Z => {
             for n in g..16 {
@@ -470,7 +518,8 @@ fn register_writable(
             14..=31 => saved_fpr,
             _ => false,
         },
-        (Convention::Ppc64, 2) => true,
+        // a leaf does not save it "and so may not" write it
+        (Convention::Ppc64, 2) => !top.is_some_and(Request::is_leaf),
         (Convention::Ppc64, 3) => {
             value <= 15
                 && match number {
@@ -525,6 +574,14 @@ mod tests {
             saves_cr: cr,
             locals,
             outgoing,
+            leaf: 0,
+        }
+    }
+
+    fn leaf(g: u64, m: u64, cr: u64) -> Request {
+        Request {
+            leaf: 1,
+            ..request(g, m, cr, 0, 0)
         }
     }
 
@@ -752,6 +809,177 @@ mod tests {
             }
             assert_eq!(machine, expected);
         }
+    }
+
+    #[test]
+    fn a_leaf_saves_below_the_pointer_that_stays() {
+        let (mut machine, mut memory) = ppc64();
+        let s = machine.registers.gpr[1];
+        let before = machine.clone();
+        let frame = leaf(29, 30, 1);
+        assert_eq!(machine.enter(&frame, &mut memory), Ok(()));
+
+        let old = registers();
+        let mut expected = pattern(4096);
+        let top = (s - BASE) as usize;
+        expected[top..top + 8].fill(0);
+        for (n, below) in [(31, 8), (30, 16)] {
+            expected[top - below..][..8].copy_from_slice(&old.fpr[n].to_be_bytes());
+        }
+        for (n, below) in [(31, 24), (30, 32), (29, 40)] {
+            expected[top - below..][..8].copy_from_slice(&old.gpr[n].to_be_bytes());
+        }
+        expected[top + 8..][..4].copy_from_slice(&(old.cr as u32).to_be_bytes());
+        assert_eq!(memory, expected);
+        let mut expected = before.clone();
+        expected.depth = 1;
+        expected.frames[0] = frame;
+        assert_eq!(machine, expected);
+
+        machine.registers.gpr[29..].fill(7);
+        machine.registers.fpr[30..].fill(7);
+        machine.registers.cr = 0;
+        // LR is not restored, and the word at the pointer is not looked at
+        machine.registers.lr = 7;
+        memory[top..top + 8].fill(0xff);
+        assert_eq!(machine.leave(&memory), Ok(()));
+        let mut expected = before;
+        expected.registers.lr = 7;
+        expected.registers.cr = 0x0065_4000;
+        assert_eq!(machine, expected);
+    }
+
+    #[test]
+    fn the_bytes_that_a_leaf_may_write() {
+        let (mut machine, mut memory) = ppc64();
+        let s = machine.registers.gpr[1];
+        // all that can be saved fills the floor: 18 and 18 doublewords
+        assert_eq!(machine.enter(&leaf(14, 14, 0), &mut memory), Ok(()));
+        assert_eq!(open_bytes(&machine, &mut memory, s - 288), [(336, 400)]);
+        assert_eq!(machine.leave(&memory), Ok(()));
+        assert_eq!(machine.enter(&leaf(32, 32, 0), &mut memory), Ok(()));
+        let runs = [(0, 288), (336, 400)];
+        assert_eq!(open_bytes(&machine, &mut memory, s - 288), runs);
+        assert_eq!(machine.leave(&memory), Ok(()));
+        // under a frame, whose outgoing area is the caller's
+        let frame = request(29, 30, 1, 20, 72);
+        assert_eq!(machine.enter(&frame, &mut memory), Ok(()));
+        let s = machine.registers.gpr[1];
+        assert_eq!(machine.enter(&leaf(31, 31, 0), &mut memory), Ok(()));
+        let runs = [(0, 272), (336, 408)];
+        assert_eq!(open_bytes(&machine, &mut memory, s - 288), runs);
+        // in the smallest memory too
+        let (mut machine, mut memory) = started(Convention::Ppc64, 400);
+        refused(machine.enter(&request(32, 32, 0, 0, 0), &mut memory), 19);
+        assert_eq!(machine.enter(&leaf(14, 14, 1), &mut memory), Ok(()));
+        assert_eq!(machine.leave(&memory), Ok(()));
+        assert_eq!(machine.enter(&leaf(32, 32, 1), &mut memory), Ok(()));
+        assert_eq!(open_bytes(&machine, &mut memory, BASE)[0], (0, 288));
+    }
+
+    #[test]
+    fn the_registers_that_a_leaf_may_write() {
+        let (mut machine, mut memory) = ppc64();
+        assert_eq!(machine.enter(&leaf(30, 31, 1), &mut memory), Ok(()));
+        let volatile: Vec<u64> = [0].into_iter().chain(3..=12).collect();
+        assert_eq!(
+            writable(&machine, &memory, 0),
+            [&volatile[..], &[30, 31]].concat()
+        );
+        assert_eq!(
+            writable(&machine, &memory, 1),
+            (0..=13).chain([31]).collect::<Vec<_>>()
+        );
+        assert_eq!(writable(&machine, &memory, 2), []);
+        assert_eq!(writable(&machine, &memory, 3), (0..=7).collect::<Vec<_>>());
+    }
+
+    #[test]
+    fn a_leaf_request_out_of_range_gives_17() {
+        for (convention, request) in [
+            (
+                Convention::Z,
+                Request {
+                    leaf: 1,
+                    ..request(14, 16, 0, 0, 0)
+                },
+            ),
+            (
+                Convention::Ppc64,
+                Request {
+                    leaf: 1,
+                    ..request(32, 32, 0, 1, 0)
+                },
+            ),
+            (
+                Convention::Ppc64,
+                Request {
+                    leaf: 1,
+                    ..request(32, 32, 0, 0, 8)
+                },
+            ),
+            (
+                Convention::Ppc64,
+                Request {
+                    leaf: 2,
+                    ..request(32, 32, 0, 0, 0)
+                },
+            ),
+            (Convention::Ppc64, leaf(13, 32, 0)),
+            (Convention::Ppc64, leaf(32, 33, 0)),
+            (Convention::Ppc64, leaf(32, 32, 2)),
+        ] {
+            assert!(!request_allowed(convention, &request));
+        }
+        assert!(request_allowed(Convention::Ppc64, &leaf(14, 32, 1)));
+    }
+
+    #[test]
+    fn refusal_28_is_an_enter_above_a_leaf() {
+        let (mut machine, mut memory) = ppc64();
+        for depth in 0..=31 {
+            machine.depth = 0;
+            machine.registers.gpr[1] = BASE + 4096 - 112;
+            let mut memory = pattern(8192);
+            let (mut machine, _) = start(Convention::Ppc64, &registers(), BASE, &mut memory);
+            for _ in 0..depth {
+                let frame = request(32, 32, 0, 0, 0);
+                assert_eq!(machine.enter(&frame, &mut memory), Ok(()));
+            }
+            assert_eq!(machine.enter(&leaf(32, 32, 0), &mut memory), Ok(()));
+            // after 17, and before 18 and 19
+            refused(machine.enter(&request(13, 32, 0, 0, 0), &mut memory), 17);
+            refused(machine.enter(&request(32, 32, 0, 0, 0), &mut memory), 28);
+            refused(
+                machine.enter(&request(32, 32, 0, 32_000, 0), &mut memory),
+                28,
+            );
+            refused(machine.enter(&leaf(32, 32, 0), &mut memory), 28);
+            assert_eq!(machine.leave(&memory), Ok(()));
+            assert_eq!(machine.depth, depth);
+        }
+        // a leaf counts among the 32
+        let mut memory_of_32 = pattern(8192);
+        let (mut full, _) = start(Convention::Ppc64, &registers(), BASE, &mut memory_of_32);
+        for _ in 0..32 {
+            let frame = request(32, 32, 0, 0, 0);
+            assert_eq!(full.enter(&frame, &mut memory_of_32), Ok(()));
+        }
+        refused(full.enter(&leaf(32, 32, 0), &mut memory_of_32), 18);
+        // a state with a leaf below the top
+        machine.depth = 2;
+        machine.frames[0] = leaf(32, 32, 0);
+        machine.frames[1] = request(32, 32, 0, 0, 0);
+        machine.registers.gpr[1] = BASE + 4096 - 112 - 112;
+        assert_eq!(machine.possible(), None);
+        machine.frames.swap(0, 1);
+        assert_eq!(machine.possible(), Some(Convention::Ppc64));
+        machine.frames[1].leaf = 2;
+        assert_eq!(machine.possible(), None);
+        machine.frames[1].leaf = 1;
+        assert_eq!(machine.leave(&memory), Ok(()));
+        memory.fill(0);
+        refused(machine.leave(&memory), 21);
     }
 
     #[test]

@@ -47,27 +47,30 @@ sub-at c =
     let yes = memory-yes (frame-rules-of .result) (z .args .base) (length (now (z .args .memory))) (sym (memory-ok .ensures) ∙ not-false (memory-ok .result) (c .before .if1 .left)) in
     omega (arith, law .room, yes)
 
+clear-requires : tie.Need-clear-requires
+clear-requires c κs = search needs
+
 add-with-pointer : tie.Need-add-with-pointer
 add-with-pointer c =
-    let z = c .before .before .before .before .before in
-    let frame-rules-of = c .before .before .before .frame-rules-of in
-    let memory-ok = c .before .before .memory-ok in
+    let z = c .before .before .before .before .before .before in
+    let frame-rules-of = c .before .before .before .before .frame-rules-of in
+    let memory-ok = c .before .before .before .memory-ok in
     let law : Lawful (frame-rules-of .result) = rw (frame-rules-of .ensures) (lawful (z .args .c)) in
-    let yes = memory-yes (frame-rules-of .result) (z .args .base) (length (now (z .args .memory))) (sym (memory-ok .ensures) ∙ not-false (memory-ok .result) (c .before .if1 .left)) in
+    let yes = memory-yes (frame-rules-of .result) (z .args .base) (length (now (z .args .memory))) (sym (memory-ok .ensures) ∙ not-false (memory-ok .result) (c .before .before .if1 .left)) in
     omega (arith, law .room, yes, limit-64 (frame-rules-of .result) law)
 
 with-pointer-requires : tie.Need-with-pointer-requires
 with-pointer-requires c κs =
-    let z = c .before .before .before .before .before in
-    let frame-rules-of = c .before .before .before .frame-rules-of in
+    let z = c .before .before .before .before .before .before in
+    let frame-rules-of = c .before .before .before .before .frame-rules-of in
     let law : Lawful (frame-rules-of .result) = rw (frame-rules-of .ensures) (lawful (z .args .c)) in law .pointer
 
 store-requires : tie.Need-store-requires
 store-requires c κs =
-    let z = c .before .before .before .before .before .before .before in
-    let frame-rules-of = c .before .before .before .before .before .frame-rules-of in
-    let memory-ok = c .before .before .before .before .memory-ok in
-    let if1 = c .before .before .before .if1 in
+    let z = c .before .before .before .before .before .before .before .before in
+    let frame-rules-of = c .before .before .before .before .before .before .frame-rules-of in
+    let memory-ok = c .before .before .before .before .before .memory-ok in
+    let if1 = c .before .before .before .before .if1 in
     let law : Lawful (frame-rules-of .result) = rw (frame-rules-of .ensures) (lawful (z .args .c)) in
     let yes = memory-yes (frame-rules-of .result) (z .args .base) (length (now (z .args .memory))) (sym (memory-ok .ensures) ∙ not-false (memory-ok .result) (if1 .left)) in
     omega (arith, law .room, law .head, law .chain, yes)
@@ -78,11 +81,11 @@ same-length c = search needs
 returns-2 : tie.Need-returns-2
 unfolding started startedMemory store
 returns-2 c =
-    let z = c .before .before .before .before .before .before .before .before .before .before in
+    let z = c .before .before .before .before .before .before .before .before .before .before .before in
     let l = now (z .args .memory) in
-    let frame-rules-of = c .before .before .before .before .before .before .before .before .frame-rules-of in
-    let memory-ok = c .before .before .before .before .before .before .before .memory-ok in
-    let if1 = c .before .before .before .before .before .before .if1 in
+    let frame-rules-of = c .before .before .before .before .before .before .before .before .before .frame-rules-of in
+    let memory-ok = c .before .before .before .before .before .before .before .before .memory-ok in
+    let if1 = c .before .before .before .before .before .before .before .if1 in
     let with-pointer = c .before .before .before .before .with-pointer in
     let store = c .before .before .store in
     let law : Lawful (frame-rules-of .result) = rw (frame-rules-of .ensures) (lawful (z .args .c)) in
@@ -92,7 +95,7 @@ returns-2 c =
     let e = start-accepted (z .args .c) (z .args .base) l (z .args .registers) (accepted-start (z .args .c) (z .args .base) (length l) ok) in
     let at : z .args .base + (length l - frame-rules-of .result .room) ≡ z .args .base + length l - frame-rules-of .result .room
     = omega (arith, law .room, yes) in
-    (rw (with-pointer .ensures, at, frame-rules-of .ensures) (sym (e .0)), rw (store .ensures, frame-rules-of .ensures) (sym (e .1)))
+    (rw (with-pointer .ensures, c .before .before .before .before .before .clear .ensures, at, frame-rules-of .ensures) (sym (e .0)), rw (store .ensures, frame-rules-of .ensures) (sym (e .1)))
 
 pub start-spec : {M : Type 1} → statement M
 start-spec =
@@ -102,6 +105,7 @@ start-spec =
     memory-ok-requires
     returns
     sub-at
+    clear-requires
     add-with-pointer
     with-pointer-requires
     store-requires

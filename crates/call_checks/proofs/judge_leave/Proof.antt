@@ -4,7 +4,9 @@ use Rattle.rules.proofs.Places.{limit-64, link-in}
 use Rattle.machine.proofs.Coding.{top-request, top-room, memory-small, pointer-limit}
 use Rattle.machine.proofs.States.{state-yes}
 use Rattle.machine.proofs.Judging.{judge-next, judge-stops}
+use Rattle.rules.specs.declared.Frame.{Frame}
 use Rattle.rules.specs.Frames.{frameSize, linkAt}
+use mathlib.Core.Bool.{true, false}
 use Rattle.machine.specs.declared.Answer.the-variants.{Accepted}
 use Rattle.machine.specs.Answers.{judge}
 use Rattle.machine.specs.Machine.{stackPointer, offset, top, stateTests, leaveTests, leaveAnswer}
@@ -50,42 +52,55 @@ top-frame-requires c κs =
     let sound = state-yes (z .args .k) (z .args .s) (length l) acc in
     sound .shallow
 
-frame-size-requires : tie.Need-frame-size-requires
-frame-size-requires c κs =
-    let z = c .before .before .before .before .before .before .before in
+returns-2 : tie.Need-returns-2
+unfolding leaveAnswer judge
+returns-2 c =
+    let z = c .before .before .before .before .before .before .before .before in
     let l = now (z .args .memory) in
     let k = z .args .k in
     let s = z .args .s in
-    let judge-state = c .before .before .before .before .before .judge-state in
-    let enum-told = c .before .before .before .enum-told in
+    let judge-state = c .before .before .before .before .before .before .judge-state in
+    let enum-told = c .before .before .before .before .enum-told in
+    let acc : judge (stateTests k s (length l)) ≡ Accepted = sym (judge-state .ensures) ∙ enum-told .given .1 in
+    let leaf : top k s .leaf ≡ true = ap (λ (f : Frame). f .leaf) (sym (c .before .top-frame .ensures)) ∙ c .if2 .taken in
+    sym (judge-next (stateTests k s (length l)) (leaveTests k s l) acc ∙ rw (lt-ltb 0 (s .depth) (omega (arith, c .before .before .if1 .left)), leaf))
+
+frame-size-requires : tie.Need-frame-size-requires
+frame-size-requires c κs =
+    let z = c .before .before .before .before .before .before .before .before in
+    let l = now (z .args .memory) in
+    let k = z .args .k in
+    let s = z .args .s in
+    let judge-state = c .before .before .before .before .before .before .judge-state in
+    let enum-told = c .before .before .before .before .enum-told in
     let acc : judge (stateTests k s (length l)) ≡ Accepted = sym (judge-state .ensures) ∙ enum-told .given .1 in
     let sound = state-yes k s (length l) acc in
-    let deep : 0 < s .depth = omega (arith, c .before .if1 .left) in
-    (z .pre, rw (c .top-frame .ensures) (top-request k (z .pre) s (length l) sound deep))
+    let deep : 0 < s .depth = omega (arith, c .before .before .if1 .left) in
+    (z .pre, rw (c .before .top-frame .ensures) (top-request k (z .pre) s (length l) sound deep))
 
 stack-pointer-requires : tie.Need-stack-pointer-requires
 stack-pointer-requires c κs = search needs
 
 sub-o : tie.Need-sub-o
 sub-o c =
-    let z = c .before .before .before .before .before .before .before .before .before in
+    let z = c .before .before .before .before .before .before .before .before .before .before in
     let l = now (z .args .memory) in
-    let judge-state = c .before .before .before .before .before .before .before .judge-state in
-    let enum-told = c .before .before .before .before .before .enum-told in
+    let judge-state = c .before .before .before .before .before .before .before .before .judge-state in
+    let enum-told = c .before .before .before .before .before .before .enum-told in
     let acc : judge (stateTests (z .args .k) (z .args .s) (length l)) ≡ Accepted = sym (judge-state .ensures) ∙ enum-told .given .1 in
     let sound = state-yes (z .args .k) (z .args .s) (length l) acc in
     omega (arith, c .stack-pointer .ensures, sound .over)
 
 add-link-at : tie.Need-add-link-at
 add-link-at c =
-    let z = c .before .before .before .before .before .before .before .before .before in
+    let z = c .before .before .before .before .before .before .before .before .before .before in
     let l = now (z .args .memory) in
     let k = z .args .k in
     let s = z .args .s in
-    let judge-state = c .before .before .before .before .before .before .before .judge-state in
-    let enum-told = c .before .before .before .before .before .enum-told in
-    let if1 = c .before .before .before .if1 in
-    let top-frame = c .before .before .top-frame in
+    let judge-state = c .before .before .before .before .before .before .before .before .judge-state in
+    let enum-told = c .before .before .before .before .before .before .enum-told in
+    let if1 = c .before .before .before .before .if1 in
+    let top-frame = c .before .before .before .top-frame in
     let acc : judge (stateTests k s (length l)) ≡ Accepted = sym (judge-state .ensures) ∙ enum-told .given .1 in
     let sound = state-yes k s (length l) acc in
     let deep : 0 < s .depth = omega (arith, if1 .left) in
@@ -94,14 +109,14 @@ add-link-at c =
 
 link-at-requires : tie.Need-link-at-requires
 link-at-requires c κs =
-    let z = c .before .before .before .before .before .before .before .before .before in
+    let z = c .before .before .before .before .before .before .before .before .before .before in
     let l = now (z .args .memory) in
     let k = z .args .k in
     let s = z .args .s in
-    let judge-state = c .before .before .before .before .before .before .before .judge-state in
-    let enum-told = c .before .before .before .before .before .enum-told in
-    let if1 = c .before .before .before .if1 in
-    let top-frame = c .before .before .top-frame in
+    let judge-state = c .before .before .before .before .before .before .before .before .judge-state in
+    let enum-told = c .before .before .before .before .before .before .enum-told in
+    let if1 = c .before .before .before .before .if1 in
+    let top-frame = c .before .before .before .top-frame in
     let acc : judge (stateTests k s (length l)) ≡ Accepted = sym (judge-state .ensures) ∙ enum-told .given .1 in
     let sound = state-yes k s (length l) acc in
     let deep : 0 < s .depth = omega (arith, if1 .left) in
@@ -110,15 +125,15 @@ link-at-requires c κs =
 
 load-requires : tie.Need-load-requires
 load-requires c κs =
-    let z = c .before .before .before .before .before .before .before .before .before .before in
+    let z = c .before .before .before .before .before .before .before .before .before .before .before in
     let l = now (z .args .memory) in
     let k = z .args .k in
     let s = z .args .s in
-    let judge-state = c .before .before .before .before .before .before .before .before .judge-state in
-    let enum-told = c .before .before .before .before .before .before .enum-told in
-    let if1 = c .before .before .before .before .if1 in
+    let judge-state = c .before .before .before .before .before .before .before .before .before .judge-state in
+    let enum-told = c .before .before .before .before .before .before .before .enum-told in
+    let if1 = c .before .before .before .before .before .if1 in
     let frame-size = c .before .before .frame-size in
-    let top-frame = c .before .before .before .top-frame in
+    let top-frame = c .before .before .before .before .top-frame in
     let acc : judge (stateTests k s (length l)) ≡ Accepted = sym (judge-state .ensures) ∙ enum-told .given .1 in
     let sound = state-yes k s (length l) acc in
     let deep : 0 < s .depth = omega (arith, if1 .left) in
@@ -128,17 +143,17 @@ load-requires c κs =
     = c .link-at .ensures ∙ rw (frame-size .ensures, top-frame .ensures, c .before .stack-pointer .ensures) in
     (z .pre .word, omega (arith, at, link-in k (z .pre) o c′ (omega arith), top-room k (z .pre) s (length l) sound deep, z .pre .head))
 
-add-if2 : tie.Need-add-if2
-add-if2 c =
-    let z = c .before .before .before .before .before .before .before .before .before .before .before in
+add-if3 : tie.Need-add-if3
+add-if3 c =
+    let z = c .before .before .before .before .before .before .before .before .before .before .before .before in
     let l = now (z .args .memory) in
     let k = z .args .k in
     let s = z .args .s in
-    let judge-state = c .before .before .before .before .before .before .before .before .before .judge-state in
-    let enum-told = c .before .before .before .before .before .before .before .enum-told in
-    let if1 = c .before .before .before .before .before .if1 in
+    let judge-state = c .before .before .before .before .before .before .before .before .before .before .judge-state in
+    let enum-told = c .before .before .before .before .before .before .before .before .enum-told in
+    let if1 = c .before .before .before .before .before .before .if1 in
     let frame-size = c .before .before .before .frame-size in
-    let top-frame = c .before .before .before .before .top-frame in
+    let top-frame = c .before .before .before .before .before .top-frame in
     let stack-pointer = c .before .before .stack-pointer in
     let acc : judge (stateTests k s (length l)) ≡ Accepted = sym (judge-state .ensures) ∙ enum-told .given .1 in
     let sound = state-yes k s (length l) acc in
@@ -155,55 +170,57 @@ add-if2 c =
       limit-64 k (z .pre),
     )
 
-returns-2 : tie.Need-returns-2
+returns-3 : tie.Need-returns-3
 unfolding leaveAnswer judge load
-returns-2 c =
-    let z = c .before .before .before .before .before .before .before .before .before .before .before .before in
+returns-3 c =
+    let z = c .before .before .before .before .before .before .before .before .before .before .before .before .before in
     let l = now (z .args .memory) in
     let k = z .args .k in
     let s = z .args .s in
-    let judge-state = c .before .before .before .before .before .before .before .before .before .before .judge-state in
-    let enum-told = c .before .before .before .before .before .before .before .before .enum-told in
+    let judge-state = c .before .before .before .before .before .before .before .before .before .before .before .judge-state in
+    let enum-told = c .before .before .before .before .before .before .before .before .before .enum-told in
     let frame-size = c .before .before .before .before .frame-size in
-    let top-frame = c .before .before .before .before .before .top-frame in
+    let top-frame = c .before .before .before .before .before .before .top-frame in
     let link-at = c .before .before .link-at in
     let stack-pointer = c .before .before .before .stack-pointer in
-    let if1 = c .before .before .before .before .before .before .if1 in
+    let if1 = c .before .before .before .before .before .before .before .if1 in
     let acc : judge (stateTests k s (length l)) ≡ Accepted = sym (judge-state .ensures) ∙ enum-told .given .1 in
     let sound = state-yes k s (length l) acc in
     let size : frame-size .result ≡ frameSize k (top k s) = frame-size .ensures ∙ ap (frameSize k) (top-frame .ensures) in
     let held : c .before .load .result ≡ load l (linkAt (k .linkage) k (offset k s) (offset k s + frameSize k (top k s))) (k .word)
     = c .before .load .ensures ∙ rw (link-at .ensures, frame-size .ensures, top-frame .ensures, stack-pointer .ensures) in
-    sym (judge-next (stateTests k s (length l)) (leaveTests k s l) acc ∙ rw (lt-ltb 0 (s .depth) (omega (arith, if1 .left)), ne-eqb (load l (linkAt (k .linkage) k (offset k s) (offset k s + frameSize k (top k s))) (k .word)) (stackPointer k s + frameSize k (top k s)) (λ e. omega (arith, held, size, stack-pointer .ensures, c .if2 .taken))))
+    let solid : top k s .leaf ≡ false = ap (λ (f : Frame). f .leaf) (sym (top-frame .ensures)) ∙ c .before .before .before .before .before .if2 .left in
+    sym (judge-next (stateTests k s (length l)) (leaveTests k s l) acc ∙ rw (lt-ltb 0 (s .depth) (omega (arith, if1 .left)), ne-eqb (load l (linkAt (k .linkage) k (offset k s) (offset k s + frameSize k (top k s))) (k .word)) (stackPointer k s + frameSize k (top k s)) (λ e. omega (arith, held, size, stack-pointer .ensures, c .if3 .taken)), solid))
 
-returns-3 : tie.Need-returns-3
+returns-4 : tie.Need-returns-4
 unfolding leaveAnswer
-returns-3 c =
+returns-4 c =
     let z = c .before .before .before .before .before in
     let l = now (z .args .memory) in
     let judge-state = c .before .before .before .judge-state in
     sym (judge-stops (stateTests (z .args .k) (z .args .s) (length l)) (leaveTests (z .args .k) (z .args .s) l) _ (sym (judge-state .ensures) ∙ c .before .a .given .1))
 
-returns-4 : tie.Need-returns-4
+returns-5 : tie.Need-returns-5
 unfolding leaveAnswer judge load
-returns-4 c =
-    let z = c .before .before .before .before .before .before .before .before .before .before .before .before in
+returns-5 c =
+    let z = c .before .before .before .before .before .before .before .before .before .before .before .before .before in
     let l = now (z .args .memory) in
     let k = z .args .k in
     let s = z .args .s in
-    let judge-state = c .before .before .before .before .before .before .before .before .before .before .judge-state in
-    let enum-told = c .before .before .before .before .before .before .before .before .enum-told in
+    let judge-state = c .before .before .before .before .before .before .before .before .before .before .before .judge-state in
+    let enum-told = c .before .before .before .before .before .before .before .before .before .enum-told in
     let frame-size = c .before .before .before .before .frame-size in
-    let top-frame = c .before .before .before .before .before .top-frame in
+    let top-frame = c .before .before .before .before .before .before .top-frame in
     let link-at = c .before .before .link-at in
     let stack-pointer = c .before .before .before .stack-pointer in
-    let if1 = c .before .before .before .before .before .before .if1 in
+    let if1 = c .before .before .before .before .before .before .before .if1 in
     let acc : judge (stateTests k s (length l)) ≡ Accepted = sym (judge-state .ensures) ∙ enum-told .given .1 in
     let sound = state-yes k s (length l) acc in
     let size : frame-size .result ≡ frameSize k (top k s) = frame-size .ensures ∙ ap (frameSize k) (top-frame .ensures) in
     let held : c .before .load .result ≡ load l (linkAt (k .linkage) k (offset k s) (offset k s + frameSize k (top k s))) (k .word)
     = c .before .load .ensures ∙ rw (link-at .ensures, frame-size .ensures, top-frame .ensures, stack-pointer .ensures) in
-    sym (judge-next (stateTests k s (length l)) (leaveTests k s l) acc ∙ rw (lt-ltb 0 (s .depth) (omega (arith, if1 .left)), eq-eqb (load l (linkAt (k .linkage) k (offset k s) (offset k s + frameSize k (top k s))) (k .word)) (stackPointer k s + frameSize k (top k s)) (omega (arith, held, size, stack-pointer .ensures, c .if2 .left))))
+    let solid : top k s .leaf ≡ false = ap (λ (f : Frame). f .leaf) (sym (top-frame .ensures)) ∙ c .before .before .before .before .before .if2 .left in
+    sym (judge-next (stateTests k s (length l)) (leaveTests k s l) acc ∙ rw (lt-ltb 0 (s .depth) (omega (arith, if1 .left)), eq-eqb (load l (linkAt (k .linkage) k (offset k s) (offset k s + frameSize k (top k s))) (k .word)) (stackPointer k s + frameSize k (top k s)) (omega (arith, held, size, stack-pointer .ensures, c .if3 .left)), solid))
 
 pub judge-leave-spec : {M : Type 1} → statement M
 judge-leave-spec =
@@ -214,13 +231,14 @@ judge-leave-spec =
     enum-told
     returns
     top-frame-requires
+    returns-2
     frame-size-requires
     stack-pointer-requires
     sub-o
     add-link-at
     link-at-requires
     load-requires
-    add-if2
-    returns-2
+    add-if3
     returns-3
-    returns-4)
+    returns-4
+    returns-5)

@@ -1,82 +1,18 @@
--- The parts of a lawful frame stay small, and their sum is the definition's. Assumes nothing.
--- The parts of a lawful frame stay small, and their sum is the definition's. Assumes nothing.
-use Rattle.rules.proofs.Places.{size-small, size-parts}
-use Rattle.rules.specs.Frames.{frameSize}
-use native.Mathlib.Omega.{arith}
+-- Nothing for a leaf, else the full size. Assumes nothing.
+use mathlib.Core.Path.{sym, _∙_}
 use borrow.Author.Needs.{needs}
+use Rattle.rules.proofs.Places.{leaf-size, solid-size}
 use Rattle.rules.proofs.frame_size.Statement.{statement}
 use Rattle.rules.proofs.frame_size.Tie as tie
 
-below-size-requires : tie.Need-below-size-requires
-below-size-requires c κs = search needs
-
-outgoing-length-requires : tie.Need-outgoing-length-requires
-outgoing-length-requires c κs = search needs
-
-add-round-up : tie.Need-add-round-up
-add-round-up c =
-    let z = c .before .before .before in
-    omega (
-      arith,
-      size-small (z .args .k) (z .pre .0) (z .args .f) (z .pre .1),
-      size-parts (z .args .k) (z .pre .0) (z .args .f) (z .pre .1),
-      c .before .outgoing-length .ensures,
-    )
-
-add-round-up-2 : tie.Need-add-round-up-2
-add-round-up-2 c =
-    let z = c .before .before .before .before in
-    let outgoing-length = c .before .before .outgoing-length in
-    omega (
-      arith,
-      size-small (z .args .k) (z .pre .0) (z .args .f) (z .pre .1),
-      size-parts (z .args .k) (z .pre .0) (z .args .f) (z .pre .1),
-      outgoing-length .ensures,
-    )
-
-add-round-up-3 : tie.Need-add-round-up-3
-add-round-up-3 c =
-    let z = c .before .before .before .before in
-    let outgoing-length = c .before .before .outgoing-length in
-    let below-size = c .before .before .before .below-size in
-    omega (
-      arith,
-      size-small (z .args .k) (z .pre .0) (z .args .f) (z .pre .1),
-      size-parts (z .args .k) (z .pre .0) (z .args .f) (z .pre .1),
-      outgoing-length .ensures,
-      below-size .ensures,
-    )
-
-round-up-requires : tie.Need-round-up-requires
-round-up-requires c κs =
-    let z = c .before .before .before .before in
-    let outgoing-length = c .before .before .outgoing-length in
-    let below-size = c .before .before .before .below-size in
-    omega (
-      arith,
-      size-small (z .args .k) (z .pre .0) (z .args .f) (z .pre .1),
-      size-parts (z .args .k) (z .pre .0) (z .args .f) (z .pre .1),
-      outgoing-length .ensures,
-      below-size .ensures,
-      z .pre .0 .some,
-      z .pre .0 .alignment,
-    )
-
 returns : tie.Need-returns
-unfolding frameSize
-returns c =
-    let outgoing-length = c .before .before .before .outgoing-length in
-    let below-size = c .before .before .before .before .below-size in
-    rw (c .round-up .ensures, outgoing-length .ensures, below-size .ensures)
+returns c = let z = c .before in sym (leaf-size (z .args .k) (z .args .f) (c .if1 .taken))
+
+full-size-requires : tie.Need-full-size-requires
+full-size-requires c κs = search needs
+
+returns-2 : tie.Need-returns-2
+returns-2 c = let z = c .before .before in c .full-size .ensures ∙ sym (solid-size (z .args .k) (z .args .f) (c .before .if1 .left))
 
 pub frame-size-spec : {M : Type 1} → statement M
-frame-size-spec =
-    tie.close
-    (tie.spec
-    below-size-requires
-    outgoing-length-requires
-    add-round-up
-    add-round-up-2
-    add-round-up-3
-    round-up-requires
-    returns)
+frame-size-spec = tie.close (tie.spec returns full-size-requires returns-2)

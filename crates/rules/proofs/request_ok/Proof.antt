@@ -71,8 +71,8 @@ returns-5 c =
       lt-leb (f .outgoing) 16392 (omega arith),
     )
 
-has-condition-requires : tie.Need-has-condition-requires
-has-condition-requires c κs = search needs
+leaf-ok-requires : tie.Need-leaf-ok-requires
+leaf-ok-requires c κs = search needs
 
 returns-6 : tie.Need-returns-6
 unfolding okRequest
@@ -89,18 +89,42 @@ returns-6 c =
       le-leb (f .locals) 32000 (omega arith),
       eq-eqb (f .outgoing % 8) 0 (omega arith),
       le-leb (f .outgoing) 16392 (omega arith),
-      sym (c .before .has-condition .ensures) ∙ c .if6 .taken,
+      sym (c .before .leaf-ok .ensures) ∙ not-true (c .before .leaf-ok .result) (c .if6 .taken),
     )
+
+has-condition-requires : tie.Need-has-condition-requires
+has-condition-requires c κs = search needs
 
 returns-7 : tie.Need-returns-7
 unfolding okRequest
 returns-7 c =
-    let z = c .before .before .before .before .before .before .before .before .before .before .before .before .before in
+    let z = c .before .before .before .before .before .before .before .before .before .before .before .before .before .before in
     let f = z .args .f in
-    let in-span = c .before .before .before .before .before .before .before .before .before .before .before .in-span in
-    let if1 = c .before .before .before .before .before .before .before .before .before .before .if1 in
-    let in-span2 = c .before .before .before .before .before .before .before .before .in-span2 in
-    let if2 = c .before .before .before .before .before .before .before .if2 in
+    let in-span = c .before .before .before .before .before .before .before .before .before .before .before .before .in-span in
+    let if1 = c .before .before .before .before .before .before .before .before .before .before .before .if1 in
+    let in-span2 = c .before .before .before .before .before .before .before .before .before .in-span2 in
+    let if2 = c .before .before .before .before .before .before .before .before .if2 in
+    let leaf-ok = c .before .before .before .leaf-ok in
+    rw (
+      sym (in-span .ensures) ∙ not-false (in-span .result) (if1 .left),
+      sym (in-span2 .ensures) ∙ not-false (in-span2 .result) (if2 .left),
+      le-leb (f .locals) 32000 (omega arith),
+      eq-eqb (f .outgoing % 8) 0 (omega arith),
+      le-leb (f .outgoing) 16392 (omega arith),
+      sym (leaf-ok .ensures) ∙ not-false (leaf-ok .result) (c .before .before .if6 .left),
+      sym (c .before .has-condition .ensures) ∙ c .if7 .taken,
+    )
+
+returns-8 : tie.Need-returns-8
+unfolding okRequest
+returns-8 c =
+    let z = c .before .before .before .before .before .before .before .before .before .before .before .before .before .before .before in
+    let f = z .args .f in
+    let in-span = c .before .before .before .before .before .before .before .before .before .before .before .before .before .in-span in
+    let if1 = c .before .before .before .before .before .before .before .before .before .before .before .before .if1 in
+    let in-span2 = c .before .before .before .before .before .before .before .before .before .before .in-span2 in
+    let if2 = c .before .before .before .before .before .before .before .before .before .if2 in
+    let leaf-ok = c .before .before .before .before .leaf-ok in
     let has-condition = c .before .before .has-condition in
     rw (
       sym (in-span .ensures) ∙ not-false (in-span .result) (if1 .left),
@@ -108,7 +132,8 @@ returns-7 c =
       le-leb (f .locals) 32000 (omega arith),
       eq-eqb (f .outgoing % 8) 0 (omega arith),
       le-leb (f .outgoing) 16392 (omega arith),
-      sym (has-condition .ensures) ∙ c .before .if6 .left,
+      sym (leaf-ok .ensures) ∙ not-false (leaf-ok .result) (c .before .before .before .if6 .left),
+      sym (has-condition .ensures) ∙ c .before .if7 .left,
     )
 
 pub request-ok-spec : {M : Type 1} → statement M
@@ -122,6 +147,8 @@ request-ok-spec =
     returns-3
     returns-4
     returns-5
-    has-condition-requires
+    leaf-ok-requires
     returns-6
-    returns-7)
+    has-condition-requires
+    returns-7
+    returns-8)

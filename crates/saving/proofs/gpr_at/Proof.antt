@@ -1,5 +1,5 @@
 -- By the linkage, the definition's own arithmetic: the saves fit below the caller's pointer, or in its header. Assumes nothing.
-use Rattle.rules.proofs.Places.{gpr-end, fpr-end, fpr-le, below-le, gpr-in, words-small}
+use Rattle.rules.proofs.Places.{gpr-end, fpr-end, fpr-le, gpr-in, words-small}
 use Rattle.rules.specs.declared.Linkage.{Linkage}
 use Rattle.rules.specs.Frames.{below, gprAt}
 use Prim.Native.Nat.{_-_}
@@ -40,7 +40,7 @@ unfolding below
 sub-result-4 c =
     let z = c .before .before in
     let e = ap (λ (p : Linkage). below p (z .args .k) (z .args .f)) (c .enum-told .given .1) in
-    omega (arith, e, below-le (z .args .k) (z .pre .lawful) (z .args .f) (z .pre .request) (z .args .s) (z .pre .fits))
+    omega (arith, e, z .pre .fits)
 
 enum-told-2 : tie.Need-enum-told-2
 enum-told-2 c = search needs

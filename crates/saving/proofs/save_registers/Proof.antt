@@ -1,7 +1,5 @@
 -- By the linkage, each save in the order of the definition; CR's and LR's slots lie in the caller's header. Assumes nothing.
--- By the linkage, each save in the order of the definition; CR's and LR's slots lie in the caller's header. Assumes nothing.
 use denote.Ref.{now}
-use Rattle.saves.specs.Saves.{store}
 use Rattle.rules.proofs.Facts.{law-at}
 use Rattle.saving.proofs.Order.{saves-link, saves-area}
 use native.Mathlib.Omega.{arith}
@@ -19,47 +17,37 @@ save-general-requires c κs = search needs
 save-floating-requires : tie.Need-save-floating-requires
 save-floating-requires c κs = search needs
 
-add-save-condition : tie.Need-add-save-condition
-add-save-condition c =
+add-save-word : tie.Need-add-save-word
+add-save-word c =
     let z = c .before .before .before .before .before .before .before .before .before .before .before .before .before in
     let linkage = c .before .before .before .before .before .before .before .before .before .before .linkage in
     omega (arith, law-at (z .args .k .linkage) _ (z .args .k) (linkage .given .1) (z .pre .lawful .linkage), z .pre .room)
 
-save-condition-requires : tie.Need-save-condition-requires
-save-condition-requires c κs =
-    let z = c .before .before .before .before .before .before .before .before .before .before .before .before .before in
-    let linkage = c .before .before .before .before .before .before .before .before .before .before .linkage in
-    let save-general = c .before .before .before .before .before .before .before .save-general in
-    let save-floating = c .before .before .before .save-floating in
-    omega (
-      arith,
-      law-at (z .args .k .linkage) _ (z .args .k) (linkage .given .1) (z .pre .lawful .linkage),
-      z .pre .room,
-      save-general .kept .0,
-      save-floating .kept .0,
-    )
+cast-save-word : tie.Need-cast-save-word
+cast-save-word c = search needs
 
-add-store : tie.Need-add-store
-add-store c =
-    let z = c .before .before .before .before .before .before .before .before .before .before .before .before .before .before .before .before .before in
-    let linkage = c .before .before .before .before .before .before .before .before .before .before .before .before .before .before .linkage in
+save-word-requires : tie.Need-save-word-requires
+save-word-requires c κs =
+    let z = c .before .before .before .before .before .before .before .before .before .before .before .before .before .before in
+    let linkage = c .before .before .before .before .before .before .before .before .before .before .before .linkage in
+    let save-general = c .before .before .before .before .before .before .before .before .save-general in
+    let save-floating = c .before .before .before .before .save-floating in
+    omega (arith, law-at (z .args .k .linkage) _ (z .args .k) (linkage .given .1) (z .pre .lawful .linkage), z .pre .room, save-general .kept .0, save-floating .kept .0)
+
+add-save-word-2 : tie.Need-add-save-word-2
+add-save-word-2 c =
+    let z = c .before .before .before .before .before .before .before .before .before .before .before .before .before .before .before .before .before .before in
+    let linkage = c .before .before .before .before .before .before .before .before .before .before .before .before .before .before .before .linkage in
     omega (arith, law-at (z .args .k .linkage) _ (z .args .k) (linkage .given .1) (z .pre .lawful .linkage), z .pre .room)
 
-store-requires : tie.Need-store-requires
-store-requires c κs =
-    let z = c .before .before .before .before .before .before .before .before .before .before .before .before .before .before .before .before .before in
-    let linkage = c .before .before .before .before .before .before .before .before .before .before .before .before .before .before .linkage in
-    let save-general = c .before .before .before .before .before .before .before .before .before .before .before .save-general in
-    let save-floating = c .before .before .before .before .before .before .before .save-floating in
-    let save-condition = c .before .before .before .save-condition in
-    omega (
-      arith,
-      law-at (z .args .k .linkage) _ (z .args .k) (linkage .given .1) (z .pre .lawful .linkage),
-      z .pre .room,
-      save-general .kept .0,
-      save-floating .kept .0,
-      save-condition .kept .0,
-    )
+save-word-requires-2 : tie.Need-save-word-requires-2
+save-word-requires-2 c κs =
+    let z = c .before .before .before .before .before .before .before .before .before .before .before .before .before .before .before .before .before .before .before in
+    let linkage = c .before .before .before .before .before .before .before .before .before .before .before .before .before .before .before .before .linkage in
+    let save-general = c .before .before .before .before .before .before .before .before .before .before .before .before .before .save-general in
+    let save-floating = c .before .before .before .before .before .before .before .before .before .save-floating in
+    let save-word = c .before .before .before .before .save-word in
+    omega (arith, law-at (z .args .k .linkage) _ (z .args .k) (linkage .given .1) (z .pre .lawful .linkage), z .pre .room, save-general .kept .0, save-floating .kept .0, save-word .kept .0)
 
 enum-told : tie.Need-enum-told
 enum-told c = search needs
@@ -74,15 +62,14 @@ same-length : tie.Need-same-length
 same-length c = search needs
 
 returns : tie.Need-returns
-unfolding store
 returns c =
-    let z = c .before .before .before .before .before .before .before .before .before .before .before .before .before .before .before .before .before .before .before .before in
-    let store = c .before .before .store in
-    let save-condition = c .before .before .before .before .before .before .save-condition in
-    let save-floating = c .before .before .before .before .before .before .before .before .before .before .save-floating in
-    let save-general = c .before .before .before .before .before .before .before .before .before .before .before .before .before .before .save-general in
-    let linkage = c .before .before .before .before .before .before .before .before .before .before .before .before .before .before .before .before .before .linkage in
-    rw (store .ensures, save-condition .ensures, save-floating .ensures, save-general .ensures)
+    let z = c .before .before .before .before .before .before .before .before .before .before .before .before .before .before .before .before .before .before .before .before .before .before in
+    let save-word2 = c .before .before .save-word2 in
+    let save-word = c .before .before .before .before .before .before .before .save-word in
+    let save-floating = c .before .before .before .before .before .before .before .before .before .before .before .before .save-floating in
+    let save-general = c .before .before .before .before .before .before .before .before .before .before .before .before .before .before .before .before .save-general in
+    let linkage = c .before .before .before .before .before .before .before .before .before .before .before .before .before .before .before .before .before .before .before .linkage in
+    rw (save-word2 .ensures, save-word .ensures, save-floating .ensures, save-general .ensures)
     (sym (saves-link (z .args .k .linkage) (linkage .given .0 .0) (linkage .given .0 .1 .0) (z .args .k) (z .args .f) (z .args .s) (z .args .r) (now (z .args .memory)) (linkage .given .1)))
 
 same-length-2 : tie.Need-same-length-2
@@ -104,10 +91,11 @@ save-registers-spec =
     enum-known-linkage
     save-general-requires
     save-floating-requires
-    add-save-condition
-    save-condition-requires
-    add-store
-    store-requires
+    add-save-word
+    cast-save-word
+    save-word-requires
+    add-save-word-2
+    save-word-requires-2
     enum-told
     save-floating-requires-2
     save-general-requires-2

@@ -57,7 +57,7 @@ loop-again c =
         loop .inv .0,
       ),
       omega arith,
-      y .1,
+      y .2,
       omega (arith, c .frame-size .ensures),
     )
 

@@ -1,4 +1,4 @@
--- The definition's own test of the flag. Assumes nothing.
+-- The definition's own tests of the two flags. Assumes nothing.
 use borrow.Author.Tests.{le-leb, lt-leb}
 use Rattle.word_layout.specs.Words.{frameIn}
 use borrow.Author.Needs.{needs}
@@ -18,42 +18,55 @@ returns : tie.Need-returns
 unfolding frameIn
 returns c = rw (lt-leb _ 1 (c .if1 .taken))
 
-mul-t4 : tie.Need-mul-t4
-mul-t4 c = search needs
+add-mark : tie.Need-add-mark
+add-mark c = search needs
 
-shared-slice-read-t7 : tie.Need-shared-slice-read-t7
-shared-slice-read-t7 c = search needs
+mul-mark : tie.Need-mul-mark
+mul-mark c = search needs
 
-add-t10 : tie.Need-add-t10
-add-t10 c = search needs
-
-mul-t11 : tie.Need-mul-t11
-mul-t11 c = search needs
-
-shared-slice-read-t13 : tie.Need-shared-slice-read-t13
-shared-slice-read-t13 c = search needs
-
-add-t15 : tie.Need-add-t15
-add-t15 c = search needs
-
-mul-t16 : tie.Need-mul-t16
-mul-t16 c = search needs
-
-shared-slice-read-t18 : tie.Need-shared-slice-read-t18
-shared-slice-read-t18 c = search needs
-
-add-t20 : tie.Need-add-t20
-add-t20 c = search needs
-
-mul-t21 : tie.Need-mul-t21
-mul-t21 c = search needs
-
-shared-slice-read-t23 : tie.Need-shared-slice-read-t23
-shared-slice-read-t23 c = search needs
+shared-slice-read-mark : tie.Need-shared-slice-read-mark
+shared-slice-read-mark c = search needs
 
 returns-2 : tie.Need-returns-2
 unfolding frameIn
-returns-2 c = rw (le-leb _ 1 (c .before .before .before .before .if1 .left))
+returns-2 c = rw (le-leb _ 1 (c .before .before .if1 .left), lt-leb _ 1 (c .if2 .taken))
+
+mul-t5 : tie.Need-mul-t5
+mul-t5 c = search needs
+
+shared-slice-read-t8 : tie.Need-shared-slice-read-t8
+shared-slice-read-t8 c = search needs
+
+add-t12 : tie.Need-add-t12
+add-t12 c = search needs
+
+mul-t13 : tie.Need-mul-t13
+mul-t13 c = search needs
+
+shared-slice-read-t15 : tie.Need-shared-slice-read-t15
+shared-slice-read-t15 c = search needs
+
+add-t17 : tie.Need-add-t17
+add-t17 c = search needs
+
+mul-t18 : tie.Need-mul-t18
+mul-t18 c = search needs
+
+shared-slice-read-t20 : tie.Need-shared-slice-read-t20
+shared-slice-read-t20 c = search needs
+
+add-t22 : tie.Need-add-t22
+add-t22 c = search needs
+
+mul-t23 : tie.Need-mul-t23
+mul-t23 c = search needs
+
+shared-slice-read-t25 : tie.Need-shared-slice-read-t25
+shared-slice-read-t25 c = search needs
+
+returns-3 : tie.Need-returns-3
+unfolding frameIn
+returns-3 c = rw (le-leb _ 1 (c .before .before .before .before .before .before .if1 .left), le-leb _ 1 (c .before .before .before .before .if2 .left))
 
 pub frame-in-spec : {M : Type 1} → statement M
 frame-in-spec =
@@ -63,15 +76,19 @@ frame-in-spec =
     mul-flag
     shared-slice-read-flag
     returns
-    mul-t4
-    shared-slice-read-t7
-    add-t10
-    mul-t11
-    shared-slice-read-t13
-    add-t15
-    mul-t16
-    shared-slice-read-t18
-    add-t20
-    mul-t21
-    shared-slice-read-t23
-    returns-2)
+    add-mark
+    mul-mark
+    shared-slice-read-mark
+    returns-2
+    mul-t5
+    shared-slice-read-t8
+    add-t12
+    mul-t13
+    shared-slice-read-t15
+    add-t17
+    mul-t18
+    shared-slice-read-t20
+    add-t22
+    mul-t23
+    shared-slice-read-t25
+    returns-3)

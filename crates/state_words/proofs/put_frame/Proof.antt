@@ -1,7 +1,7 @@
--- Five stores are a splice. Assumes nothing.
+-- Six stores are a splice. Assumes nothing.
 use Rattle.rules.specs.Frames.{flag}
 use Rattle.word_layout.specs.Words.{frameWords}
-use Rattle.word_layout.proofs.Laws.{five-words}
+use Rattle.word_layout.proofs.Laws.{six-words}
 use denote.Ref.{now}
 use lib.ListN.{length-set}
 use Prim.Native.Nat.{_+_, _*_}
@@ -61,14 +61,26 @@ mul-words-5 c = search needs
 slice-write-words-5 : tie.Need-slice-write-words-5
 slice-write-words-5 c = simp length-set (omega arith)
 
+flag-word-requires-2 : tie.Need-flag-word-requires-2
+flag-word-requires-2 c κs = search needs
+
+add-words-5 : tie.Need-add-words-5
+add-words-5 c = search needs
+
+mul-words-6 : tie.Need-mul-words-6
+mul-words-6 c = search needs
+
+slice-write-words-6 : tie.Need-slice-write-words-6
+slice-write-words-6 c = simp length-set (omega arith)
+
 same-length : tie.Need-same-length
 same-length c = search needs
 
 returns : tie.Need-returns
 unfolding frameWords
 returns c =
-    let z = c .before .before in
-    rw (c .flag-word .ensures) (five-words (now (z .args .words)) (70 + 5 * z .args .i) (z .args .f .«first_gpr») (z .args .f .«first_fpr») (flag (z .args .f .«saves_cr»)) (z .args .f .locals) (z .args .f .outgoing))
+    let z = c .before .before .before in
+    rw (c .flag-word2 .ensures, c .before .flag-word .ensures) (six-words (now (z .args .words)) (70 + 6 * z .args .i) (z .args .f .«first_gpr») (z .args .f .«first_fpr») (flag (z .args .f .«saves_cr»)) (z .args .f .locals) (z .args .f .outgoing) (flag (z .args .f .leaf)))
 
 pub put-frame-spec : {M : Type 1} → statement M
 put-frame-spec =
@@ -91,5 +103,9 @@ put-frame-spec =
     add-words-4
     mul-words-5
     slice-write-words-5
+    flag-word-requires-2
+    add-words-5
+    mul-words-6
+    slice-write-words-6
     same-length
     returns)

@@ -1,8 +1,8 @@
 -- The three areas in the definition's order; each lies in the memory, so no sum wraps. Assumes nothing.
-use Rattle.rules.proofs.Places.{size-parts}
+use Rattle.rules.proofs.Places.{below-reach}
 use Rattle.machine.proofs.Coding.{pointer-room, memory-small, top-outgoing, caller-outgoing, top-request, top-room}
 use Rattle.rules.specs.Frames.{outgoingLength, below, frameSize}
-use Rattle.machine.specs.Machine.{offset, top, caller, inside, writableBytes}
+use Rattle.machine.specs.Machine.{offset, top, caller, inside, outgoingFrom, localsFrom, writableBytes}
 use mathlib.Core.Bool.{true, false}
 use borrow.Author.Tests.{lt-leb, le-leb, lt-ltb, le-ltb}
 use Prim.Native.Nat.{_+_, _-_, _<_}
@@ -33,30 +33,19 @@ stack-pointer-requires c κs = search needs
 sub-o : tie.Need-sub-o
 sub-o c = search needs
 
-add-own : tie.Need-add-own
-add-own c = search needs
-
-outgoing-length-requires : tie.Need-outgoing-length-requires
-outgoing-length-requires c κs = search needs
-
-add-locals : tie.Need-add-locals
-add-locals c =
-    let z = c .before .before .before .before .before .before in
+outgoing-from-requires : tie.Need-outgoing-from-requires
+outgoing-from-requires c κs =
+    let z = c .before .before .before .before in
     let k = z .args .k in
     let s = z .args .s in
-    let top-frame = c .before .before .before .top-frame in
-    let stack-pointer = c .before .before .stack-pointer in
-    let out : c .outgoing-length .result ≡ outgoingLength k (top k s) = c .outgoing-length .ensures ∙ ap (outgoingLength k) (top-frame .ensures) in
-    omega (
-      arith,
-      out,
-      stack-pointer .ensures,
-      top-outgoing k (z .pre .0) s (z .args .len) (z .pre .1),
-      pointer-room k (z .pre .0) s (z .args .len) (z .pre .1),
-      memory-small k (z .pre .0) s (z .args .len) (z .pre .1),
-      z .pre .0 .head,
-      z .pre .0 .room,
-    )
+    (z .pre .0, omega (arith, c .stack-pointer .ensures, z .pre .1 .over), omega (arith, c .stack-pointer .ensures, pointer-room k (z .pre .0) s (z .args .len) (z .pre .1), memory-small k (z .pre .0) s (z .args .len) (z .pre .1)))
+
+locals-from-requires : tie.Need-locals-from-requires
+locals-from-requires c κs =
+    let z = c .before .before .before .before .before in
+    let k = z .args .k in
+    let s = z .args .s in
+    (z .pre .0, omega (arith, c .before .stack-pointer .ensures, z .pre .1 .over), omega (arith, c .before .stack-pointer .ensures, pointer-room k (z .pre .0) s (z .args .len) (z .pre .1), memory-small k (z .pre .0) s (z .args .len) (z .pre .1)), omega (arith, top-outgoing k (z .pre .0) s (z .args .len) (z .pre .1), ap (outgoingLength k) (c .before .before .top-frame .ensures)))
 
 lies-inside-requires : tie.Need-lies-inside-requires
 lies-inside-requires c κs = search needs
@@ -68,12 +57,13 @@ returns-3 c =
     let k = z .args .k in
     let s = z .args .s in
     let stack-pointer = c .before .before .before .before .stack-pointer in
-    let outgoing-length = c .before .before .outgoing-length in
+    let locals-from = c .before .before .locals-from in
+    let outgoing-from = c .before .before .before .outgoing-from in
     let top-frame = c .before .before .before .before .before .top-frame in
     let if1 = c .before .before .before .before .before .before .before .if1 in
     let if2 = c .before .before .before .before .before .before .if2 in
-    let own : inside (z .args .a) (z .args .n) (offset k s + k .header) (offset k s + k .header + outgoingLength k (top k s)) ≡ true
-    = sym (rw (stack-pointer .ensures, outgoing-length .ensures, top-frame .ensures) at (c .before .lies-inside .ensures)) ∙ c .if3 .taken in
+    let own : inside (z .args .a) (z .args .n) (outgoingFrom k (top k s) (offset k s)) (localsFrom k (top k s) (offset k s)) ≡ true
+    = sym (rw (locals-from .ensures, outgoing-from .ensures, stack-pointer .ensures, top-frame .ensures) at (c .before .lies-inside .ensures)) ∙ c .if3 .taken in
     rw (le-leb 1 (z .args .n) (omega (arith, if1 .left)), le-leb (z .args .n) 256 (omega (arith, if2 .left)), own)
 
 returns-4 : tie.Need-returns-4
@@ -83,13 +73,14 @@ returns-4 c =
     let k = z .args .k in
     let s = z .args .s in
     let stack-pointer = c .before .before .before .before .before .stack-pointer in
-    let outgoing-length = c .before .before .before .outgoing-length in
+    let locals-from = c .before .before .before .locals-from in
+    let outgoing-from = c .before .before .before .before .outgoing-from in
     let top-frame = c .before .before .before .before .before .before .top-frame in
     let lies-inside = c .before .before .lies-inside in
     let if1 = c .before .before .before .before .before .before .before .before .if1 in
     let if2 = c .before .before .before .before .before .before .before .if2 in
-    let own : inside (z .args .a) (z .args .n) (offset k s + k .header) (offset k s + k .header + outgoingLength k (top k s)) ≡ false
-    = sym (rw (stack-pointer .ensures, outgoing-length .ensures, top-frame .ensures) at (lies-inside .ensures)) ∙ c .before .if3 .left in
+    let own : inside (z .args .a) (z .args .n) (outgoingFrom k (top k s) (offset k s)) (localsFrom k (top k s) (offset k s)) ≡ false
+    = sym (rw (locals-from .ensures, outgoing-from .ensures, stack-pointer .ensures, top-frame .ensures) at (lies-inside .ensures)) ∙ c .before .if3 .left in
     rw (
       le-leb 1 (z .args .n) (omega (arith, if1 .left)),
       le-leb (z .args .n) 256 (omega (arith, if2 .left)),
@@ -138,7 +129,7 @@ sub-saves c =
     let deep : 0 < s .depth = omega (arith, if4 .left) in
     let size : c .before .frame-size .result ≡ frameSize k (top k s) = c .before .frame-size .ensures ∙ ap (frameSize k) (top-frame .ensures) in
     let under : c .below-size .result ≡ below (k .linkage) k (top k s) = c .below-size .ensures ∙ ap (below (k .linkage) k) (top-frame .ensures) in
-    omega (arith, size, under, size-parts k (z .pre .0) (top k s) (top-request k (z .pre .0) s (z .args .len) (z .pre .1) deep))
+    omega (arith, size, under, c .before .before .before .before .before .before .before .stack-pointer .ensures, z .pre .1 .over, below-reach k (z .pre .0) (top k s) (top-request k (z .pre .0) s (z .args .len) (z .pre .1) deep))
 
 lies-inside-requires-2 : tie.Need-lies-inside-requires-2
 lies-inside-requires-2 c κs = search needs
@@ -151,7 +142,8 @@ returns-5 c =
     let s = z .args .s in
     let if4 = c .before .before .before .before .if4 in
     let stack-pointer = c .before .before .before .before .before .before .before .before .before .stack-pointer in
-    let outgoing-length = c .before .before .before .before .before .before .before .outgoing-length in
+    let locals-from = c .before .before .before .before .before .before .before .locals-from in
+    let outgoing-from = c .before .before .before .before .before .before .before .before .outgoing-from in
     let top-frame = c .before .before .before .before .before .before .before .before .before .before .top-frame in
     let lies-inside = c .before .before .before .before .before .before .lies-inside in
     let if3 = c .before .before .before .before .before .if3 in
@@ -160,12 +152,12 @@ returns-5 c =
     let if1 = c .before .before .before .before .before .before .before .before .before .before .before .before .if1 in
     let if2 = c .before .before .before .before .before .before .before .before .before .before .before .if2 in
     let deep : 0 < s .depth = omega (arith, if4 .left) in
-    let own : inside (z .args .a) (z .args .n) (offset k s + k .header) (offset k s + k .header + outgoingLength k (top k s)) ≡ false
-    = sym (rw (stack-pointer .ensures, outgoing-length .ensures, top-frame .ensures) at (lies-inside .ensures)) ∙ if3 .left in
-    let locals : inside (z .args .a) (z .args .n) (offset k s + k .header + outgoingLength k (top k s)) ((offset k s + frameSize k (top k s)) - below (k .linkage) k (top k s)) ≡ true
+    let own : inside (z .args .a) (z .args .n) (outgoingFrom k (top k s) (offset k s)) (localsFrom k (top k s) (offset k s)) ≡ false
+    = sym (rw (locals-from .ensures, outgoing-from .ensures, stack-pointer .ensures, top-frame .ensures) at (lies-inside .ensures)) ∙ if3 .left in
+    let locals : inside (z .args .a) (z .args .n) (localsFrom k (top k s) (offset k s)) ((offset k s + frameSize k (top k s)) - below (k .linkage) k (top k s)) ≡ true
     = sym (rw (
+      locals-from .ensures,
       stack-pointer .ensures,
-      outgoing-length .ensures,
       frame-size .ensures,
       below-size .ensures,
       top-frame .ensures,
@@ -196,8 +188,8 @@ add-callers c =
       z .pre .0 .room,
     )
 
-outgoing-length-requires-2 : tie.Need-outgoing-length-requires-2
-outgoing-length-requires-2 c κs = search needs
+outgoing-length-requires : tie.Need-outgoing-length-requires
+outgoing-length-requires c κs = search needs
 
 add-lies-inside : tie.Need-add-lies-inside
 add-lies-inside c =
@@ -211,8 +203,8 @@ add-lies-inside c =
     let stack-pointer = c .before .before .before .before .before .before .before .before .before .before .before .before .stack-pointer in
     let deep : 0 < s .depth = omega (arith, if4 .left) in
     let size : frame-size .result ≡ frameSize k (top k s) = frame-size .ensures ∙ ap (frameSize k) (top-frame .ensures) in
-    let out : c .outgoing-length2 .result ≡ outgoingLength k (caller k s)
-    = c .outgoing-length2 .ensures ∙ ap (outgoingLength k) (caller-frame .ensures) in
+    let out : c .outgoing-length .result ≡ outgoingLength k (caller k s)
+    = c .outgoing-length .ensures ∙ ap (outgoingLength k) (caller-frame .ensures) in
     omega (
       arith,
       size,
@@ -236,7 +228,8 @@ returns-6 c =
     let s = z .args .s in
     let if4 = c .before .before .before .before .before .before .before .before .if4 in
     let stack-pointer = c .before .before .before .before .before .before .before .before .before .before .before .before .before .stack-pointer in
-    let outgoing-length = c .before .before .before .before .before .before .before .before .before .before .before .outgoing-length in
+    let locals-from = c .before .before .before .before .before .before .before .before .before .before .before .locals-from in
+    let outgoing-from = c .before .before .before .before .before .before .before .before .before .before .before .before .outgoing-from in
     let top-frame = c .before .before .before .before .before .before .before .before .before .before .before .before .before .before .top-frame in
     let lies-inside = c .before .before .before .before .before .before .before .before .before .before .lies-inside in
     let if3 = c .before .before .before .before .before .before .before .before .before .if3 in
@@ -248,12 +241,12 @@ returns-6 c =
     let if1 = c .before .before .before .before .before .before .before .before .before .before .before .before .before .before .before .before .if1 in
     let if2 = c .before .before .before .before .before .before .before .before .before .before .before .before .before .before .before .if2 in
     let deep : 0 < s .depth = omega (arith, if4 .left) in
-    let own : inside (z .args .a) (z .args .n) (offset k s + k .header) (offset k s + k .header + outgoingLength k (top k s)) ≡ false
-    = sym (rw (stack-pointer .ensures, outgoing-length .ensures, top-frame .ensures) at (lies-inside .ensures)) ∙ if3 .left in
-    let locals : inside (z .args .a) (z .args .n) (offset k s + k .header + outgoingLength k (top k s)) ((offset k s + frameSize k (top k s)) - below (k .linkage) k (top k s)) ≡ false
+    let own : inside (z .args .a) (z .args .n) (outgoingFrom k (top k s) (offset k s)) (localsFrom k (top k s) (offset k s)) ≡ false
+    = sym (rw (locals-from .ensures, outgoing-from .ensures, stack-pointer .ensures, top-frame .ensures) at (lies-inside .ensures)) ∙ if3 .left in
+    let locals : inside (z .args .a) (z .args .n) (localsFrom k (top k s) (offset k s)) ((offset k s + frameSize k (top k s)) - below (k .linkage) k (top k s)) ≡ false
     = sym (rw (
+      locals-from .ensures,
       stack-pointer .ensures,
-      outgoing-length .ensures,
       frame-size .ensures,
       below-size .ensures,
       top-frame .ensures,
@@ -262,7 +255,7 @@ returns-6 c =
     = rw (
       stack-pointer .ensures,
       frame-size .ensures,
-      c .before .outgoing-length2 .ensures,
+      c .before .outgoing-length .ensures,
       top-frame .ensures,
       caller-frame .ensures,
     ) at (c .lies-inside3 .ensures) in
@@ -284,9 +277,8 @@ bytes-writable-spec =
     top-frame-requires
     stack-pointer-requires
     sub-o
-    add-own
-    outgoing-length-requires
-    add-locals
+    outgoing-from-requires
+    locals-from-requires
     lies-inside-requires
     returns-3
     returns-4
@@ -298,7 +290,7 @@ bytes-writable-spec =
     returns-5
     caller-frame-requires
     add-callers
-    outgoing-length-requires-2
+    outgoing-length-requires
     add-lies-inside
     lies-inside-requires-3
     returns-6)

@@ -9,20 +9,20 @@ use Rattle.writing.proofs.register_writable.Tie as tie
 enum-told : tie.Need-enum-told
 enum-told c = search needs
 
-bank-writable-requires : tie.Need-bank-writable-requires
-bank-writable-requires c κs = search needs
+general-writable-requires : tie.Need-general-writable-requires
+general-writable-requires c κs = search needs
 
 enum-told-2 : tie.Need-enum-told-2
 enum-told-2 c = search needs
 
-bank-writable-requires-2 : tie.Need-bank-writable-requires-2
-bank-writable-requires-2 c κs = search needs
+bank-writable-requires : tie.Need-bank-writable-requires
+bank-writable-requires c κs = search needs
 
 enum-told-3 : tie.Need-enum-told-3
 enum-told-3 c = search needs
 
-has-condition-requires : tie.Need-has-condition-requires
-has-condition-requires c κs = search needs
+link-writable-requires : tie.Need-link-writable-requires
+link-writable-requires c κs = search needs
 
 enum-told-4 : tie.Need-enum-told-4
 enum-told-4 c = search needs
@@ -36,31 +36,31 @@ enum-told-5 c = search needs
 returns : tie.Need-returns
 unfolding writableRegister
 returns c =
-    let z = c .before .before .before .before .before in
-    c .bank-writable .ensures ∙ sym (ap (λ (b : RegisterBank). writableRegister (z .args .k) (z .args .f) b (z .args .n) (z .args .v)) (c .before .enum-told .given .1))
+    let z = c .before .before .before .before in
+    c .general-writable .ensures ∙ sym (ap (λ (b : RegisterBank). writableRegister (z .args .k) (z .args .f) b (z .args .n) (z .args .v)) (c .before .enum-told .given .1))
 
 returns-2 : tie.Need-returns-2
 unfolding writableRegister
 returns-2 c =
-    let z = c .before .before .before .before .before in
-    c .bank-writable2 .ensures ∙ sym (ap (λ (b : RegisterBank). writableRegister (z .args .k) (z .args .f) b (z .args .n) (z .args .v)) (c .before .enum-told2 .given .1))
+    let z = c .before .before .before .before in
+    c .bank-writable .ensures ∙ sym (ap (λ (b : RegisterBank). writableRegister (z .args .k) (z .args .f) b (z .args .n) (z .args .v)) (c .before .enum-told2 .given .1))
 
 returns-3 : tie.Need-returns-3
 unfolding writableRegister
 returns-3 c =
-    let z = c .before .before .before .before .before in
-    c .has-condition .ensures ∙ sym (ap (λ (b : RegisterBank). writableRegister (z .args .k) (z .args .f) b (z .args .n) (z .args .v)) (c .before .enum-told3 .given .1))
+    let z = c .before .before .before .before in
+    c .link-writable .ensures ∙ sym (ap (λ (b : RegisterBank). writableRegister (z .args .k) (z .args .f) b (z .args .n) (z .args .v)) (c .before .enum-told3 .given .1))
 
 returns-4 : tie.Need-returns-4
 unfolding writableRegister
 returns-4 c =
-    let z = c .before .before .before .before .before in
+    let z = c .before .before .before .before in
     c .field-writable .ensures ∙ sym (ap (λ (b : RegisterBank). writableRegister (z .args .k) (z .args .f) b (z .args .n) (z .args .v)) (c .before .enum-told4 .given .1))
 
 returns-5 : tie.Need-returns-5
 unfolding writableRegister
 returns-5 c =
-    let z = c .before .before .before .before in
+    let z = c .before .before .before in
     sym (ap (λ (b : RegisterBank). writableRegister (z .args .k) (z .args .f) b (z .args .n) (z .args .v)) (c .enum-told5 .given .1))
 
 pub register-writable-spec : {M : Type 1} → statement M
@@ -68,11 +68,11 @@ register-writable-spec =
     tie.close
     (tie.spec
     enum-told
-    bank-writable-requires
+    general-writable-requires
     enum-told-2
-    bank-writable-requires-2
+    bank-writable-requires
     enum-told-3
-    has-condition-requires
+    link-writable-requires
     enum-told-4
     field-writable-requires
     enum-told-5

@@ -132,17 +132,18 @@ fn register_words(of: &Registers) -> Vec<u64> {
     [&of.gpr[..], &of.fpr[..], &[of.lr, of.cr]].concat()
 }
 
-fn request_words(of: &Request) -> [u64; 5] {
+fn request_words(of: &Request) -> [u64; 6] {
     [
         of.first_gpr,
         of.first_fpr,
         of.saves_cr,
         of.locals,
         of.outgoing,
+        of.leaf,
     ]
 }
 
-/// The 230 words of the C surface's struct.
+/// The 262 words of the C surface's struct.
 fn state_bytes(of: &Machine) -> Vec<u8> {
     let mut words = vec![of.convention, of.base, of.size, of.depth];
     words.extend(register_words(&of.registers));

@@ -21,6 +21,7 @@ pub struct Frame {
     pub saves_cr: u64,
     pub locals: u64,
     pub outgoing: u64,
+    pub leaf: u64,
 }
 
 /// `fz_machine`: the state, without the memory.

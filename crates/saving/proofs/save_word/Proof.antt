@@ -1,9 +1,8 @@
 -- One word, or none. Assumes nothing.
--- One word, or none. Assumes nothing.
 use Rattle.saves.specs.Saves.{saveRun, store}
 use borrow.Author.Needs.{needs}
-use Rattle.saving.proofs.save_condition.Statement.{statement}
-use Rattle.saving.proofs.save_condition.Tie as tie
+use Rattle.saving.proofs.save_word.Statement.{statement}
+use Rattle.saving.proofs.save_word.Tie as tie
 
 store-requires : tie.Need-store-requires
 store-requires c κs = search needs
@@ -22,5 +21,5 @@ returns-2 : tie.Need-returns-2
 unfolding saveRun
 returns-2 c = rw (c .if1 .left)
 
-pub save-condition-spec : {M : Type 1} → statement M
-save-condition-spec = tie.close (tie.spec store-requires same-length returns returns-2)
+pub save-word-spec : {M : Type 1} → statement M
+save-word-spec = tie.close (tie.spec store-requires same-length returns returns-2)
