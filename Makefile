@@ -5,7 +5,8 @@
 # make install  the command, the libraries, the header and the manual page, under PREFIX=/usr/local;
 #             make uninstall removes them
 # make soak   the comparisons on fresh seeds; SECONDS=n says for how long
-# make bench  the time of planning, filling and reading beside the second program's
+# make bench  the time of planning, filling and reading beside the second program's, and the stack of
+#             each function
 # make lint   what the gate does not ask: layout and clippy of the Rust code
 # make sanitize  the C programs and the Rust tests under AddressSanitizer
 # make clean  remove all that is built
@@ -111,10 +112,12 @@ sanitize: $(ARCHIVE) $(SHARED)
 	@scripts/sanitize
 
 # a profile of its own: with all optimisations and without the tests' checks of sums
-bench: $(ARCHIVE)
+bench: $(ARCHIVE) build/x86_64/stack
 	cd host && cargo run --profile bench --offline --locked --quiet -p compare --bin bench
 	@echo
 	cd host && cargo run --profile bench --offline --locked --quiet -p compare --bin bench-marshal
+	@echo
+	build/x86_64/stack
 
 lint: $(ARCHIVE)
 	cd host && cargo fmt --check && cargo clippy $(CARGO_WORDS) --all-targets -- -D warnings

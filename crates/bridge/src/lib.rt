@@ -42,8 +42,8 @@ pub extern "C" fn fz_version() -> u64
 pub extern "C" fn fz_read_signature(sig: &[u8]) -> Answer
     ensures { λ r. ⌜ r ≡ readingAnswer (signatureOf (now (sig .entry))) ⌝ }
 {
-    let read = signature::read_signature(sig);
-    let outcome = read.outcome;
+    let m = plan::measure(sig);
+    let outcome = m.outcome;
     match outcome {
         Outcome::Accepted(items) => Answer {
             number: 0,

@@ -9,6 +9,7 @@ use places::RegisterRange;
 use places::ResultPlaces;
 use places::Span;
 use signature::HeadRead;
+use signature::MAX_ARGUMENTS;
 use signature::Outcome;
 use signature::ResultType;
 use signature::SignatureRead;
@@ -30,7 +31,7 @@ pub struct Plan {
     pub area: usize,
     pub values: usize,
     pub copies: usize,
-    pub spans: [Span; 64],
+    pub spans: [Span; MAX_ARGUMENTS],
 }
 
 // A plan's outcome and sizes, without its places.
@@ -65,12 +66,12 @@ fn blank(outcome: Outcome, convention: Convention, result: ResultPlaces, count: 
             memory: empty,
             copy: empty,
             indirect: false,
-        }; 64],
+        }; MAX_ARGUMENTS],
     }
 }
 
 // Whether a result is handed over through memory, at a hidden address.
-fn hidden_in(c: Convention, result: ResultType) -> bool
+pub fn hidden_in(c: Convention, result: ResultType) -> bool
     ensures { λ b. ⌜ b ≡ hiddenIn c result ⌝ }
 {
     match result {
@@ -79,7 +80,7 @@ fn hidden_in(c: Convention, result: ResultType) -> bool
     }
 }
 
-fn result_in(c: Convention, result: ResultType) -> ResultPlaces
+pub fn result_in(c: Convention, result: ResultType) -> ResultPlaces
     requires { ⌜ SmallResult c result ⌝ }
     ensures { λ q. ⌜ q ≡ resultIn c result ⌝ }
 {
@@ -150,7 +151,7 @@ fn no_measure(fault: Fault) -> Measured
 
 // The sizes from the arguments on, which stand from `at` to `end`; `earlier` items came before theirs. Each is read, placed and
 // let go: no table is made.
-fn measure_arguments(
+pub fn measure_arguments(
     s: &[u8],
     convention: Convention,
     returned: ResultType,
@@ -169,7 +170,7 @@ fn measure_arguments(
     let mut next = at;
     let mut items: usize = 1;
     while next < end {
-        if count == 64 {
+        if count == MAX_ARGUMENTS {
             return no_measure(Fault {
                 reason: Refusal::TooManyArguments,
                 place: next,

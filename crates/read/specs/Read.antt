@@ -12,14 +12,15 @@ use Rattle.types.specs.Sizes.{equivalentOf}
 use Rattle.signature.specs.declared.SignatureRead.{SignatureRead}
 use Rattle.places.specs.declared.Rules.{Rules}
 use Rattle.places.specs.Step.{rulesOf}
-use Rattle.plan.specs.declared.Plan.{Plan}
 use Rattle.slots.specs.declared.Refusal.{Refusal}
 use Rattle.slots.specs.declared.Answer.{Answer}
 use Rattle.slots.specs.Buffers.{Buffers}
 use Rattle.slots.specs.Placements.{Placement, floatAt, addressAt, valuesAt}
 use Rattle.slots.specs.Refusals.{Test, test, differ, firstOf, afterReading, orElse, firstOfAll, isDone, floatAnswer}
 use Rattle.slots.specs.Limits.{All}
-use Rattle.slots.specs.Arguments.{argumentsIn, argumentsOf, planFor, rulesFor}
+use Rattle.slots.specs.Arguments.{argumentsOf, planFor, rulesFor}
+use Rattle.plan.specs.Limits.{Plannable}
+use Rattle.arguments.specs.Table.{argumentsFrom}
 use Rattle.unmarshal.specs.Readable.{Ready}
 use Rattle.read.specs.declared.Sizes.{Sizes}
 
@@ -67,9 +68,7 @@ readValues s base answer b values = pick (isDone answer) (overlay values (values
 abbrev pub sizes : List ℕ → List ℕ → List ℕ → Sizes
 sizes values image area = record { values = length values; image = length image; area = length area }
 
--- what the first pass asks: all arguments, and the lengths of the image and the area
-pub record AllReady (g : SignatureRead) (p : Plan) (i a : ℕ) : Type 0 where
-  pub few : g .count ≤ 64
-  pub types : g .count ≤ length (g .arguments)
-  pub spans : g .count ≤ length (p .spans)
-  pub each : All (Ready (rulesOf (g .convention)) i a) (argumentsIn g p)
+-- what the first pass asks: all arguments of a signature that was read, and the lengths of the image and the area
+pub record AllReady (g : SignatureRead) (i a : ℕ) : Type 0 where
+  pub plannable : Plannable g
+  pub each : All (Ready (rulesOf (g .convention)) i a) (argumentsFrom g)

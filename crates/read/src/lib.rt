@@ -2,7 +2,6 @@
 // that can't be read, and only then are the values taken, so that a refused reading leaves the value buffer as it was.
 use places::Rules;
 use places::Span;
-use plan::Plan;
 use signature::Outcome;
 use signature::SignatureRead;
 use slots::Answer;
@@ -14,7 +13,7 @@ ghost use Rattle.places.specs.Step.{rulesOf};
 ghost use Rattle.slots.specs.Buffers.{buffers};
 ghost use Rattle.slots.specs.Placements.{placement};
 ghost use Rattle.slots.specs.Refusals.{firstOf};
-ghost use Rattle.slots.specs.Arguments.{argumentsIn};
+ghost use Rattle.arguments.specs.Table.{argumentsFrom};
 ghost use Rattle.unmarshal.specs.Readable.{Ready};
 ghost use Rattle.read.specs.Read.{inCopies, copyAnswer, argumentAnswer, argumentsAnswer, readTests, readAnswer, readValues, sizes, AllReady};
 
@@ -74,31 +73,34 @@ fn argument_answer(
     Answer::Done
 }
 
-// The refusal of the first argument, left to right, that can't be read.
+// The refusal of the first argument of a signature that was read, left to right, that can't be read.
 pub fn first_refusal(
     image: &[u8],
     area: &[u8],
     copies: &[u8],
     g: SignatureRead,
-    p: Plan,
     base: u64,
 ) -> Answer
-    requires { ⌜ AllReady g p (length (now image)) (length (now area)) ⌝ }
-    ensures { λ a. ⌜ a ≡ argumentsAnswer (rulesOf (g .convention)) base (argumentsIn g p) (buffers (now (image .entry)) (now (area .entry)) (now (copies .entry))) ⌝ }
+    requires { ⌜ AllReady g (length (now image)) (length (now area)) ⌝ }
+    ensures { λ a. ⌜ a ≡ argumentsAnswer (rulesOf (g .convention)) base (argumentsFrom g) (buffers (now (image .entry)) (now (area .entry)) (now (copies .entry))) ⌝ }
 {
     let convention = g.convention;
+    let result = g.result;
     let count = g.count;
     let rules = abi::call_rules_of(convention);
+    let mut c = arguments::first_cursor(convention, result);
     let mut i: usize = 0;
     while i < count {
         let a = g.arguments[i];
         let t = a.ty;
-        let s = p.spans[i];
         let n = types::size_of(convention, t);
+        let p = placing::step(rules, c, t, n);
+        let s = p.span;
         let answer = argument_answer(image, area, copies, rules, t, n, s, base);
         if slots::is_refused(answer) {
             return answer;
         }
+        c = p.next;
         i = i + 1;
     }
     Answer::Done
@@ -134,8 +136,8 @@ pub fn read(
     ensures { λ a. ⌜ now (values .exit) ≡ readValues (now (sig .entry)) base a (buffers (now (image .entry)) (now (area .entry)) (now (copies .entry))) (now (values .entry)) ⌝ }
 {
     let g = signature::read_signature(sig);
-    let p = plan::plan_signature(g);
-    let outcome = p.outcome;
+    let m = arguments::measure_table(g);
+    let outcome = m.outcome;
     match outcome {
         Outcome::Refused(fault) => Answer::Unread(fault),
         Outcome::Accepted(_) => {
@@ -144,15 +146,15 @@ pub fn read(
                 image: image.len(),
                 area: area.len(),
             };
-            let lengths = tested(have, p.values, p.area);
+            let lengths = tested(have, m.values, m.area);
             if slots::is_refused(lengths) {
                 return lengths;
             }
-            let answer = first_refusal(image, area, copies, g, p, base);
+            let answer = first_refusal(image, area, copies, g, base);
             if slots::is_refused(answer) {
                 return answer;
             }
-            unmarshal::take_arguments(values, image, area, copies, g, p, base);
+            unmarshal::take_arguments(values, image, area, copies, g, base);
             Answer::Done
         }
     }

@@ -1,4 +1,4 @@
-// Reads a whole signature: the convention, the result's type and the types of 0 to 64 arguments.
+// Reads a whole signature: the convention, the result's type and the types of 0 to 128 arguments.
 use conventions::Convention;
 use conventions::ConventionCode;
 use items::Body;
@@ -12,6 +12,11 @@ ghost use Prim.Native.Nat.{_+_, _^_, _≤_, _<_};
 ghost use lib.ListN.{length};
 ghost use Rattle.signature.specs.Read.{conventionAt, resultIn, resultAt, argumentsIn, headAfter, headOf, signatureOf};
 ghost use Rattle.signature.specs.Answer.{noArguments, refused, conventionAnswer, resultAnswer, headAnswer, withArguments, signatureAnswer};
+
+// The most bytes that a signature may have, and the most arguments: `maxLength` and `maxArguments` of specs/Limits.antt.
+pub const MAX_LENGTH: usize = 16384;
+
+pub const MAX_ARGUMENTS: usize = 128;
 
 pub enum ResultType {
     Nothing,
@@ -34,7 +39,7 @@ pub struct SignatureRead {
     pub convention: Convention,
     pub result: ResultType,
     pub count: usize,
-    pub arguments: [Argument; 64],
+    pub arguments: [Argument; MAX_ARGUMENTS],
 }
 
 // The first item.
@@ -66,12 +71,12 @@ pub enum HeadRead {
     Refused(Fault),
 }
 
-fn no_arguments() -> [Argument; 64]
+fn no_arguments() -> [Argument; MAX_ARGUMENTS]
     ensures { λ r. ⌜ r ≡ noArguments ⌝ }
 {
     [Argument {
         ty: ValueType::Integer(IntegerKind::I8),
-    }; 64]
+    }; MAX_ARGUMENTS]
 }
 
 fn refuse(fault: Fault) -> SignatureRead
@@ -178,7 +183,7 @@ fn read_arguments(
     let mut next = at;
     let mut items: usize = 1;
     while next < end {
-        if count == 64 {
+        if count == MAX_ARGUMENTS {
             return refuse(Fault {
                 reason: Refusal::TooManyArguments,
                 place: next,
@@ -254,7 +259,7 @@ fn read_head_after(s: &[u8], c: Convention) -> HeadRead
 pub fn read_head(s: &[u8]) -> HeadRead
     ensures { λ r. ⌜ r ≡ headAnswer (headOf (now (s .entry))) ⌝ }
 {
-    if 4096 < s.len() {
+    if MAX_LENGTH < s.len() {
         return HeadRead::Refused(Fault {
             reason: Refusal::TooLong,
             place: 0,
