@@ -2,7 +2,8 @@
 pub mod Signature
 pub mod Limits
 pub mod Read
+pub mod Encode
+pub mod Places
 pub mod Answer
 pub mod Numbers
-pub mod Encode
 pub mod Exact

@@ -23,8 +23,10 @@ pub enum ResultType {
     Value(ValueType),
 }
 
+// An argument's type, and the place of its item's header. Kept to 8 bytes: a place is below 2^16.
 pub struct Argument {
     pub ty: ValueType,
+    pub place: u16,
 }
 
 // Accepted, with the count of items; or refused.
@@ -33,7 +35,7 @@ pub enum Outcome {
     Refused(Fault),
 }
 
-// The answer on a signature. A refused one has no result and no arguments; the places of the table past `count` hold an i8.
+// The answer on a signature. A refused one has no result and no arguments; the entries of the table past `count` hold an i8 at 0.
 pub struct SignatureRead {
     pub outcome: Outcome,
     pub convention: Convention,
@@ -76,6 +78,7 @@ fn no_arguments() -> [Argument; MAX_ARGUMENTS]
 {
     [Argument {
         ty: ValueType::Integer(IntegerKind::I8),
+        place: 0,
     }; MAX_ARGUMENTS]
 }
 
@@ -176,7 +179,7 @@ fn read_arguments(
     earlier: usize,
 ) -> SignatureRead
     requires { ⌜ (at ≤ end) × (end ≤ length (now s)) × (end ≤ 2 ^ 16) × (earlier ≤ 2 ^ 16) ⌝ }
-    ensures { λ r. ⌜ r ≡ withArguments c result earlier (length (now (s .entry))) (argumentsIn c (now (s .entry)) at end) ⌝ }
+    ensures { λ r. ⌜ r ≡ withArguments c result earlier (length (now (s .entry))) at (argumentsIn c (now (s .entry)) at end) ⌝ }
 {
     let mut arguments = no_arguments();
     let mut count: usize = 0;
@@ -196,7 +199,10 @@ fn read_arguments(
                 next: after,
                 items: more,
             } => {
-                arguments[count] = Argument { ty };
+                arguments[count] = Argument {
+                    ty,
+                    place: next as u16,
+                };
                 count = count + 1;
                 next = after;
                 items = items + more;

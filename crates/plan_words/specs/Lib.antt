@@ -1,0 +1,3 @@
+-- A plan in 64-bit words. Assumes nothing.
+pub mod Entries
+pub mod Planned
