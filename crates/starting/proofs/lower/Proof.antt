@@ -6,8 +6,8 @@ use Prim.Native.Nat.{_-_, _≤_}
 use native.Mathlib.Omega.{arith}
 use mathlib.Core.Path.{_≡_, refl, sym, _∙_}
 use borrow.Author.Needs.{needs}
-use Rattle.abi.proofs.lower.Statement.{statement}
-use Rattle.abi.proofs.lower.Tie as tie
+use Rattle.starting.proofs.lower.Statement.{statement}
+use Rattle.starting.proofs.lower.Tie as tie
 
 abbrev Inv-loop : tie.InvT-loop
 Inv-loop m xs i₀ ys i = (lowered m ys i ≡ lowered m xs 32) × (i ≤ 32)

@@ -1,8 +1,8 @@
 -- Each part as the definition says. Assumes nothing.
 use Rattle.rules.specs.Frames.{cleared}
 use borrow.Author.Needs.{needs}
-use Rattle.abi.proofs.clear.Statement.{statement}
-use Rattle.abi.proofs.clear.Tie as tie
+use Rattle.starting.proofs.clear.Statement.{statement}
+use Rattle.starting.proofs.clear.Tie as tie
 
 lower-requires : tie.Need-lower-requires
 lower-requires c κs = search needs

@@ -3,8 +3,8 @@ use native.Mathlib.Omega.{arith}
 use native.Mathlib.Nat.{mod-eq-of-lt}
 use mathlib.Core.Path.{refl, sym}
 use borrow.Author.Needs.{needs}
-use Rattle.abi.proofs.low.Statement.{statement}
-use Rattle.abi.proofs.low.Tie as tie
+use Rattle.starting.proofs.low.Statement.{statement}
+use Rattle.starting.proofs.low.Tie as tie
 
 returns : tie.Need-returns
 returns c = sym (mod-eq-of-lt (omega (arith, c .if1 .taken)))
