@@ -135,7 +135,7 @@ pub fn plan_signature(g: SignatureRead) -> Plan
 pub fn plan_of(s: &[u8]) -> Plan
     ensures { λ p. ⌜ p ≡ planAnswer (signatureOf (now (s .entry))) ⌝ }
 {
-    plan_signature(signature::read_signature(s))
+    plan_signature(whole_signature::read_signature(s))
 }
 
 fn no_measure(fault: Fault) -> Measured
@@ -216,7 +216,7 @@ pub fn measure_arguments(
 pub fn measure(s: &[u8]) -> Measured
     ensures { λ m. ⌜ m ≡ measureOf (planAnswer (signatureOf (now (s .entry)))) ⌝ }
 {
-    match signature::read_head(s) {
+    match whole_signature::read_head(s) {
         HeadRead::Refused(fault) => no_measure(fault),
         HeadRead::Head {
             convention,

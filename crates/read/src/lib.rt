@@ -181,7 +181,7 @@ pub fn read(
     ensures { λ a. ⌜ a ≡ readAnswer (now (sig .entry)) (sizes (now (values .entry)) (now (image .entry)) (now (area .entry))) base (buffers (now (image .entry)) (now (area .entry)) (now (copies .entry))) ⌝ }
     ensures { λ a. ⌜ now (values .exit) ≡ readValues (now (sig .entry)) base a (buffers (now (image .entry)) (now (area .entry)) (now (copies .entry))) (now (values .entry)) ⌝ }
 {
-    let g = signature::read_signature(sig);
+    let g = whole_signature::read_signature(sig);
     let m = arguments::measure_table(g);
     let outcome = m.outcome;
     match outcome {

@@ -1,7 +1,7 @@
 -- The table is the one with no arguments.
 use borrow.Author.Needs.{needs}
-use Rattle.signature.proofs.refuse.Statement.{statement}
-use Rattle.signature.proofs.refuse.Tie as tie
+use Rattle.whole_signature.proofs.refuse.Statement.{statement}
+use Rattle.whole_signature.proofs.refuse.Tie as tie
 
 no-arguments-requires : tie.Need-no-arguments-requires
 no-arguments-requires c κs = search needs

@@ -1,12 +1,12 @@
 -- What comes before the arguments, then the arguments.
 use borrow.Author.Needs.{needs}
-use Rattle.signature.proofs.read_signature.Statement.{statement}
+use Rattle.whole_signature.proofs.read_signature.Statement.{statement}
 use mathlib.Core.Path.{sym, ap, _∙_}
 use native.Mathlib.Omega.{arith}
 use Rattle.signature.specs.Answer.{signatureAnswer}
 use Rattle.signature.proofs.Laws.{signature-refused, signature-arguments}
 use Rattle.signature.proofs.Sound.{head-bounded}
-use Rattle.signature.proofs.read_signature.Tie as tie
+use Rattle.whole_signature.proofs.read_signature.Tie as tie
 
 read-head-requires : tie.Need-read-head-requires
 read-head-requires c κs = search needs

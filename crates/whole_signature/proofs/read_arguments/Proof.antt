@@ -1,14 +1,14 @@
 -- The loop keeps the arguments so far, and that reading on from here gives all of them.
-use Rattle.signature.proofs.read_arguments.Statement.{statement}
+use Rattle.whole_signature.proofs.read_arguments.Statement.{statement}
 use mathlib.Core.Path.{ap, _∙_}
 use Prim.Native.Nat.{_-_}
 use borrow.Author.Needs.{needs}
 use native.Mathlib.Omega.{arith}
 use Rattle.items.proofs.Loop.{item-answered, fault-answered}
 use Rattle.items.proofs.Laws.{later-later}
 use Rattle.signature.specs.Answer.{refused}
 use Rattle.signature.proofs.Loop.{Tabled, turn-full, turn-no, tabled-start, tabled-more, tabled-trailing, tabled-end, arguments-no}
-use Rattle.signature.proofs.read_arguments.Tie as tie
+use Rattle.whole_signature.proofs.read_arguments.Tie as tie
 
 abbrev Inv-loop : tie.InvT-loop
 Inv-loop s c result at end earlier arguments₀ count₀ next₀ items₀ arguments count next items = Tabled c s at end arguments count next items
