@@ -42,7 +42,7 @@ pub extern "C" fn fz_version() -> u64
 pub extern "C" fn fz_read_signature(sig: &[u8]) -> Answer
     ensures { λ r. ⌜ r ≡ readingAnswer (signatureOf (now (sig .entry))) ⌝ }
 {
-    let m = plan::measure(sig);
+    let m = measuring::measure(sig);
     let outcome = m.outcome;
     match outcome {
         Outcome::Accepted(items) => Answer {
@@ -58,7 +58,7 @@ pub extern "C" fn fz_read_signature(sig: &[u8]) -> Answer
 pub extern "C" fn fz_measure(sig: &[u8]) -> Sizes
     ensures { λ r. ⌜ r ≡ sizesAnswer (signatureOf (now (sig .entry))) ⌝ }
 {
-    let m = plan::measure(sig);
+    let m = measuring::measure(sig);
     let values = m.values as u64;
     let area = m.area as u64;
     let copies = m.copies as u64;

@@ -138,7 +138,7 @@ pub fn fill(
             }
             let convention = g.convention;
             let returned = g.result;
-            let result = plan::result_in(convention, returned);
+            let result = planning::result_in(convention, returned);
             put_hidden(image, result, hidden);
             put_arguments(image, area, copies, g, values, base);
             Answer::Done

@@ -147,7 +147,7 @@ pub fn home(sig: &[u8], image: &[u8], area: &mut [u8]) -> Answer
     ensures { λ a. ⌜ now (area .exit) ≡ homeArea (now (sig .entry)) a (now (image .entry)) (now (area .entry)) ⌝ }
 {
     let g = whole_signature::read_signature(sig);
-    let p = plan::plan_signature(g);
+    let p = planning::plan_signature(g);
     let outcome = p.outcome;
     match outcome {
         Outcome::Refused(fault) => Answer::Unread(fault),
@@ -204,7 +204,7 @@ pub fn view_part(sig: &[u8], index: usize, have: usize) -> ViewPart
     ensures { λ p. ⌜ p ≡ viewPart (now (sig .entry)) have index ⌝ }
 {
     let g = whole_signature::read_signature(sig);
-    let p = plan::plan_signature(g);
+    let p = planning::plan_signature(g);
     let outcome = p.outcome;
     let convention = g.convention;
     let answer = view_answer(outcome, convention, g.count, index, have, p.area);

@@ -1,6 +1,6 @@
 -- The result, then the third item's header after it.
 use borrow.Author.Needs.{needs}
-use Rattle.whole_signature.proofs.read_head_after.Statement.{statement}
+use Rattle.signature_head.proofs.read_head_after.Statement.{statement}
 use mathlib.Core.Path.{sym, ap, _∙_}
 use native.Mathlib.Omega.{arith}
 use Rattle.signature.specs.declared.HeadRead.{HeadRead}
@@ -8,7 +8,7 @@ use Rattle.signature.specs.Answer.{headAnswer}
 use Rattle.signature.proofs.Laws.{head-no-result, head-no-arguments, head-to}
 use Rattle.signature.proofs.Sound.{result-bounded}
 use Rattle.signature.proofs.HowFar.{result-fault-third}
-use Rattle.whole_signature.proofs.read_head_after.Tie as tie
+use Rattle.signature_head.proofs.read_head_after.Tie as tie
 
 read-result-requires : tie.Need-read-result-requires
 read-result-requires c κs = search needs

@@ -1,12 +1,12 @@
 -- The header, then the body.
 use borrow.Author.Needs.{needs}
-use Rattle.whole_signature.proofs.read_result.Statement.{statement}
+use Rattle.signature_head.proofs.read_result.Statement.{statement}
 use mathlib.Core.Path.{sym, ap, _∙_}
 use native.Mathlib.Omega.{arith}
 use Rattle.items.proofs.Sound.{body-framed}
 use Rattle.signature.specs.Answer.{resultAnswer}
 use Rattle.signature.proofs.Laws.{result-refused, result-to}
-use Rattle.whole_signature.proofs.read_result.Tie as tie
+use Rattle.signature_head.proofs.read_result.Tie as tie
 
 read-body-requires : tie.Need-read-body-requires
 read-body-requires c κs = search needs

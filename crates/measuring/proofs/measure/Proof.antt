@@ -4,10 +4,10 @@ use native.Mathlib.Omega.{arith}
 use mathlib.Core.Path.{sym, ap, _∙_}
 use Rattle.signature.proofs.Laws.{signature-refused}
 use Rattle.signature.proofs.Sound.{head-bounded}
 use Rattle.plan.specs.Plan.{measureOf}
 use Rattle.plan.proofs.Measures.{measured-refused, plan-arguments}
-use Rattle.plan.proofs.measure.Statement.{statement}
-use Rattle.plan.proofs.measure.Tie as tie
+use Rattle.measuring.proofs.measure.Statement.{statement}
+use Rattle.measuring.proofs.measure.Tie as tie
 
 read-head-requires : tie.Need-read-head-requires
 read-head-requires c κs = search needs

@@ -1,9 +1,9 @@
 -- By cases on the result.
 use Rattle.plan.specs.Limits.{SmallResult}
 use mathlib.Core.Path.{subst, _∙_}
 use borrow.Author.Needs.{needs}
-use Rattle.plan.proofs.result_in.Statement.{statement}
-use Rattle.plan.proofs.result_in.Tie as tie
+use Rattle.planning.proofs.result_in.Statement.{statement}
+use Rattle.planning.proofs.result_in.Tie as tie
 
 enum-told : tie.Need-enum-told
 enum-told c = search needs

@@ -1,10 +1,10 @@
 -- The reader's answer can be planned, and its plan is that of what it reads.
 use Rattle.plan.proofs.Answers.{answer-plannable, planned-answer}
 use Rattle.plan.specs.Plan.{planned}
 use mathlib.Core.Path.{ap, _∙_}
 use borrow.Author.Needs.{needs}
-use Rattle.plan.proofs.plan_of.Statement.{statement}
-use Rattle.plan.proofs.plan_of.Tie as tie
+use Rattle.planning.proofs.plan_of.Statement.{statement}
+use Rattle.planning.proofs.plan_of.Tie as tie
 
 read-signature-requires : tie.Need-read-signature-requires
 read-signature-requires c κs = search needs

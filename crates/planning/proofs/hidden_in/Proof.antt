@@ -1,8 +1,8 @@
 -- By cases on the result.
 use mathlib.Core.Path.{_∙_}
 use borrow.Author.Needs.{needs}
-use Rattle.plan.proofs.hidden_in.Statement.{statement}
-use Rattle.plan.proofs.hidden_in.Tie as tie
+use Rattle.planning.proofs.hidden_in.Statement.{statement}
+use Rattle.planning.proofs.hidden_in.Tie as tie
 
 enum-told : tie.Need-enum-told
 enum-told c = search needs

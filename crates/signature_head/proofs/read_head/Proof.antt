@@ -1,12 +1,12 @@
 -- The length first, then the items in order.
 use borrow.Author.Needs.{needs}
-use Rattle.whole_signature.proofs.read_head.Statement.{statement}
+use Rattle.signature_head.proofs.read_head.Statement.{statement}
 use mathlib.Core.Path.{sym, ap, _∙_}
 use native.Mathlib.Omega.{arith}
 use Rattle.signature.specs.Answer.{headAnswer}
 use Rattle.signature.proofs.Laws.{convention-known, head-long, head-no-convention, head-known}
 use Rattle.signature.proofs.Sound.{convention-read}
-use Rattle.whole_signature.proofs.read_head.Tie as tie
+use Rattle.signature_head.proofs.read_head.Tie as tie
 
 returns : tie.Need-returns
 returns c = sym (ap headAnswer (head-long _ (c .if1 .taken)))

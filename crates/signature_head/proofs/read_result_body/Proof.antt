@@ -1,13 +1,13 @@
 -- No body is no result; else one type, and nothing after it.
 use borrow.Author.Needs.{needs}
-use Rattle.whole_signature.proofs.read_result_body.Statement.{statement}
+use Rattle.signature_head.proofs.read_result_body.Statement.{statement}
 use mathlib.Core.Path.{sym, ap, _∙_}
 use native.Mathlib.Omega.{arith}
 use Rattle.items.proofs.Loop.{item-answered, fault-answered}
 use Rattle.signature.specs.declared.ResultRead.{ResultRead}
 use Rattle.signature.specs.Answer.{resultAnswer}
 use Rattle.signature.proofs.Laws.{result-none, result-no, result-more, result-one}
-use Rattle.whole_signature.proofs.read_result_body.Tie as tie
+use Rattle.signature_head.proofs.read_result_body.Tie as tie
 
 returns : tie.Need-returns
 returns c = sym (ap (resultAnswer _) (result-none _ _ _ _ (c .if1 .taken)))

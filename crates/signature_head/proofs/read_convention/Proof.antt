@@ -1,13 +1,13 @@
 -- The header, the length, then the code.
 use borrow.Author.Needs.{needs}
-use Rattle.whole_signature.proofs.read_convention.Statement.{statement}
+use Rattle.signature_head.proofs.read_convention.Statement.{statement}
 use mathlib.Core.Path.{sym, ap, _∙_}
 use native.Mathlib.Omega.{arith}
 use Rattle.items.proofs.Sound.{body-framed}
 use Rattle.signature.specs.Answer.{conventionAnswer}
 use Rattle.conventions.specs.declared.ConventionCode.{ConventionCode}
 use Rattle.signature.proofs.Laws.{convention-no, convention-length, convention-by}
-use Rattle.whole_signature.proofs.read_convention.Tie as tie
+use Rattle.signature_head.proofs.read_convention.Tie as tie
 
 read-body-requires : tie.Need-read-body-requires
 read-body-requires c κs = search needs

@@ -1,16 +1,16 @@
 -- The loop plans one argument a turn; what it has planned and what is left make up the whole fold (`Going`).
 use Rattle.plan.proofs.Turns.{Going, Kept, length-types, types-drop, going-start, going-more, going-end}
 use Rattle.plan.specs.Plan.{planned, planIn, typesIn}
 use Rattle.plan.specs.declared.Plan.{Plan}
 use Rattle.plan.proofs.Fold.{reached-roomy}
 use Rattle.places.proofs.Bounds.{rules-lawful}
 use Rattle.places.specs.Step.{placed}
 use borrow.Author.Needs.{needs}
 use native.Mathlib.Omega.{arith}
 use Prim.Native.Nat.{_-_}
 use mathlib.Core.Path.{refl, ap, _∙_}
-use Rattle.plan.proofs.plan_signature.Statement.{statement}
-use Rattle.plan.proofs.plan_signature.Tie as tie
+use Rattle.planning.proofs.plan_signature.Statement.{statement}
+use Rattle.planning.proofs.plan_signature.Tie as tie
 
 abbrev Inv-loop : tie.InvT-loop
 Inv-loop g convention count rules hidden c₀ plan₀ values₀ i₀ c plan values i = Going convention rules c₀ (typesIn g) (plan .spans) c values i × Kept plan₀ plan

@@ -9,11 +9,11 @@ use Rattle.items.proofs.Laws.{later-later}
 use Rattle.items.proofs.Loop.{item-answered, fault-answered}
 use Rattle.signature.proofs.Loop.{turn-full, turn-no}
 use Rattle.places.proofs.Bounds.{rules-lawful}
 use Rattle.plan.specs.Plan.{refused, measureOf}
 use Rattle.plan.proofs.Fold.{reached-roomy}
 use Rattle.plan.proofs.Measures.{Measuring, measuring-start, measuring-more, measure-no, measure-trailing, measure-end}
-use Rattle.plan.proofs.measure_arguments.Statement.{statement}
-use Rattle.plan.proofs.measure_arguments.Tie as tie
+use Rattle.measuring.proofs.measure_arguments.Statement.{statement}
+use Rattle.measuring.proofs.measure_arguments.Tie as tie
 
 abbrev Inv-loop : tie.InvT-loop
 Inv-loop s convention at end earlier rules hidden c₀ values₀ count₀ next₀ items₀ c values count next items = Measuring convention s at end rules c₀ c values count next items
