@@ -1,8 +1,8 @@
 -- By the outcome.
 use borrow.Author.Needs.{needs}
-use Rattle.bridge.proofs.fz_measure.Statement.{statement}
-use Rattle.bridge.proofs.Laws.{accepted-sizes, refused-sizes}
-use Rattle.bridge.proofs.fz_measure.Tie as tie
+use Rattle.bridge_plans.proofs.fz_measure.Statement.{statement}
+use Rattle.bridge_plans.proofs.Laws.{accepted-sizes, refused-sizes}
+use Rattle.bridge_plans.proofs.fz_measure.Tie as tie
 
 measure-requires : tie.Need-measure-requires
 measure-requires c κs = search needs
