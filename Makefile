@@ -5,7 +5,8 @@
 # make install  the command, the libraries, the header and the manual page, under PREFIX=/usr/local;
 #             make uninstall removes them
 # make soak   the comparisons on fresh seeds; SECONDS=n says for how long
-# make bench  the time of planning, filling and reading beside the second program's
+# make bench  the time of planning, filling and reading beside the second program's, and the stack of
+#             each function
 # make lint   what the gate does not ask: layout and clippy of the Rust code
 # make sanitize  the C programs and the Rust tests under AddressSanitizer
 # make clean  remove all that is built
@@ -24,7 +25,7 @@ CC = gcc
 # the inputs of a proof: a change of any file or folder here proves the library again
 PROVED_FROM := crates.txt $(shell find crates -print 2>/dev/null)
 # the crates that export functions
-BRIDGES := bridge bridge_values bridge_frames
+BRIDGES := bridge bridge_plans bridge_values bridge_frames
 ARCHIVE := build/libflakuzhen.a
 SHARED := build/libflakuzhen.so
 # a version's first number is the soname's
@@ -111,10 +112,12 @@ sanitize: $(ARCHIVE) $(SHARED)
 	@scripts/sanitize
 
 # a profile of its own: with all optimisations and without the tests' checks of sums
-bench: $(ARCHIVE)
+bench: $(ARCHIVE) build/x86_64/stack
 	cd host && cargo run --profile bench --offline --locked --quiet -p compare --bin bench
 	@echo
 	cd host && cargo run --profile bench --offline --locked --quiet -p compare --bin bench-marshal
+	@echo
+	build/x86_64/stack
 
 lint: $(ARCHIVE)
 	cd host && cargo fmt --check && cargo clippy $(CARGO_WORDS) --all-targets -- -D warnings

@@ -39,7 +39,8 @@ build/%/$(notdir $(1))-shared: $(1).c include/flakuzhen.h build/%/libflakuzhen.s
 endef
 
 HEADER_TESTS := layout surface machine marshal
-PROGRAMS := targets/flakuzhen targets/replay targets/plan $(HEADER_TESTS:%=host/flakuzhen/tests/%)
+PROGRAMS := $(addprefix targets/,flakuzhen replay plan stack) \
+    $(HEADER_TESTS:%=host/flakuzhen/tests/%)
 $(foreach source,$(PROGRAMS),$(eval $(call program,$(source))))
 
 # the command has more files
@@ -57,10 +58,10 @@ test-targets: build/cases $(SHARED) \
 	@scripts/target-tools run $(CHOSEN)
 	@set -e; for target in $(CHOSEN); do scripts/test-target $$target $(HEADER_TESTS); done
 
-build/x86_64/plan: targets/plan.c include/flakuzhen.h $(ARCHIVE)
+build/x86_64/plan build/x86_64/stack: build/x86_64/%: targets/%.c include/flakuzhen.h $(ARCHIVE)
 	@mkdir -p $(@D)
 	$(CC) -static $(C_WORDS) $(ARCHIVE)
 
-bench-targets: $(patsubst %,build/%/plan,x86_64 $(CHOSEN))
+bench-targets: $(foreach target,x86_64 $(CHOSEN),build/$(target)/plan build/$(target)/stack)
 	@scripts/target-tools run $(CHOSEN)
 	@scripts/bench-targets $(CHOSEN)

@@ -10,27 +10,30 @@ use Rattle.words.specs.Basics.{pick}
 use Rattle.conventions.specs.declared.Convention.{Convention}
 use Rattle.types.specs.Sizes.{sizeOf}
 use Rattle.items.specs.declared.Fault.{Fault}
-use Rattle.items.specs.Reading.{Reading, got, no}
 use lib.ListN.{length}
 use Rattle.signature.specs.declared.Outcome.{Outcome}
 use Rattle.signature.specs.declared.ResultType.{ResultType}
 use Rattle.signature.specs.declared.SignatureRead.{SignatureRead}
-use Rattle.signature.specs.Signature.{Signature}
 use Rattle.signature.specs.Read.{signatureOf}
-use Rattle.signature.specs.Answer.{resultType, signatureAnswer}
+use Rattle.signature.specs.Answer.{signatureAnswer}
 use Rattle.places.specs.declared.ResultPlaces.{ResultPlaces}
 use Rattle.places.specs.Values.{pointer}
 use Rattle.places.specs.Step.{rulesOf, wordOf, spanOf, fresh, hiddenFor, returning, resultOf}
 use Rattle.places.specs.ZSeries.{zClass, zSpanOf}
 use Rattle.plan.specs.declared.Plan.{Plan}
-use Rattle.plan.specs.Plan.{resultIn, planIn, planAnswer}
+use Rattle.plan.specs.declared.Measured.{Measured}
+use Rattle.plan.specs.Plan.{resultIn, measureOf}
+use Rattle.plan.proofs.Answers.{answer-plannable}
 use Rattle.slots.specs.declared.Answer.{Answer}
 use Rattle.slots.specs.declared.Refusal.{Refusal}
 use Rattle.slots.specs.Buffers.{Buffers, buffers, Slot, put, putAll}
 use Rattle.slots.specs.Placements.{Placement, hiddenSlots, slotsOfAll}
-use Rattle.slots.specs.Limits.{Held, Fits}
+use Rattle.slots.specs.Limits.{Held, Fits, All, sizesOf}
 use Rattle.slots.specs.Refusals.{test, differ, firstOf, isRefused}
-use Rattle.slots.specs.Arguments.{argumentsIn, argumentsOf, planFor, Carried}
+use Rattle.slots.specs.Arguments.{argumentsOf, planFor}
+use Rattle.slots.proofs.Answered.{carried}
+use Rattle.arguments.specs.Table.{argumentsFrom}
+use Rattle.arguments.proofs.Table.{arguments-read}
 use Rattle.slots.proofs.Buffers.{putAll-lengths, putAll-append}
 use Rattle.slots.proofs.Planned.{all-with}
 use Rattle.slots.proofs.Refusals.{first-done, differ-false}
@@ -84,19 +87,28 @@ tests-passed have p base low e =
       low = good .1;
     }
 
+-- the same of sizes m that were measured
+pub tests-lent : (s : List ℕ) (have : Lengths) (base : ℕ) (m : Measured) → base < 2 ^ 64 → m ≡ measureOf (planFor s)
+    → firstOf (fillTests have (m .values) (m .area) (m .copies) base) ≡ Answer.Done → Lent have (planFor s) base
+tests-lent s have base m low p e = tests-passed have (planFor s) base low (rw p at e)
+
 -- ---- the arguments
 
-pub all-ready : (g : SignatureRead) (p : Plan) (base v i a c : ℕ) → Carried g p → v ≡ p .values → i ≡ 512 → p .area ≤ a → p .copies ≤ c → base + p .copies < 2 ^ 64
-    → AllReady g p base v i a c
-all-ready g p base v i a c h values image area copies low = record {
-  few = h .few;
-  types = h .types;
-  spans = h .spans;
-  each = all-with (Held (rulesOf (g .convention))) (Fits (p .area) (p .copies)) (Ready (rulesOf (g .convention)) base i a c) ready (argumentsIn g p) (h .held) (h .fit);
-  total = h .total ∙ sym values;
-}
+pub all-ready : (s : List ℕ) (g : SignatureRead) (base v i a k : ℕ) → g ≡ signatureAnswer (signatureOf s)
+    → v ≡ planFor s .values → i ≡ 512 → planFor s .area ≤ a → planFor s .copies ≤ k → base + planFor s .copies < 2 ^ 64 → AllReady g base v i a k
+unfolding argumentsOf
+all-ready s g base v i a k same values image area copies low =
+    let h = carried s in
+    record {
+      plannable = rw same (answer-plannable s);
+      each =
+          rw (arguments-read s g same)
+          (all-with (Held (rulesOf (g .convention))) (Fits (planFor s .area) (planFor s .copies)) (Ready (rulesOf (g .convention)) base i a k) ready (argumentsOf s)
+          (subst (λ (x : SignatureRead). All (Held (rulesOf (x .convention))) (argumentsOf s)) (sym same) (h .held)) (h .fit));
+      total = ap sizesOf (arguments-read s g same) ∙ h .total ∙ sym values;
+    }
   where
-    ready : (q : Placement) → Held (rulesOf (g .convention)) q → Fits (p .area) (p .copies) q → Ready (rulesOf (g .convention)) base i a c q
+    ready : (q : Placement) → Held (rulesOf (g .convention)) q → Fits (planFor s .area) (planFor s .copies) q → Ready (rulesOf (g .convention)) base i a k q
     ready q x y = record {
       held = x;
       fits = record { general = y .general; floating = y .floating; memory = omega (arith, y .memory); copies = omega (arith, y .copies) };
@@ -124,23 +136,21 @@ result-fits c (ResultType.Value t) = go (hiddenFor (rulesOf c) t)
     go true = (address-first c, refl)
     go false = tt
 
-pub hidden-fits : (x : Reading Signature) (i : ℕ) → i ≡ 512 → HiddenFits (planAnswer x .result) i
-unfolding planAnswer planIn
-hidden-fits (got g next n) i e = rw e (result-fits (g .convention) (resultType (g .convention) (g .result)))
-hidden-fits (no f) i e = tt
+pub hidden-fits : (c : Convention) (t : ResultType) (q : ResultPlaces) (i : ℕ) → q ≡ resultIn c t → i ≡ 512 → HiddenFits q i
+hidden-fits c t q i p e = rw (p, e) (result-fits c t)
 
 -- ---- the answer and the buffers
 
 module _ (s : List ℕ) where
-  pub answer-refused : (have : Lengths) (base : ℕ) (f : Fault) → planFor s .outcome ≡ Outcome.Refused f
+  pub answer-refused : (have : Lengths) (base : ℕ) (m : Measured) (f : Fault) → m ≡ measureOf (planFor s) → m .outcome ≡ Outcome.Refused f
       → Answer.Unread f ≡ fillAnswer s have base
   unfolding fillAnswer
-  answer-refused have base f e = rw e
+  answer-refused have base m f p e = rw (rw p at e)
 
-  pub answer-tested : (have : Lengths) (base n : ℕ) (p : Plan) (a : Answer) → p ≡ planFor s → planFor s .outcome ≡ Outcome.Accepted n
-      → a ≡ firstOf (fillTests have (p .values) (p .area) (p .copies) base) → a ≡ fillAnswer s have base
+  pub answer-tested : (have : Lengths) (base n : ℕ) (m : Measured) (a : Answer) → m ≡ measureOf (planFor s) → m .outcome ≡ Outcome.Accepted n
+      → a ≡ firstOf (fillTests have (m .values) (m .area) (m .copies) base) → a ≡ fillAnswer s have base
   unfolding fillAnswer
-  answer-tested have base n p a q e t = rw e (subst (λ (p : Plan). a ≡ firstOf (fillTests have (p .values) (p .area) (p .copies) base)) q t)
+  answer-tested have base n m a p e t = rw (rw p at e) (rw p at t)
 
 -- a hidden address changes the image alone
 hidden-whole : (q : ResultPlaces) (address : ℕ) (image area copies i : List ℕ) → buffers i [] [] ≡ putAll (hiddenSlots q address) (buffers image [] [])
@@ -160,13 +170,13 @@ buffers-kept s values base hidden Answer.Done b e = let z : _≡_ {A = ℕ} 0 1 
 buffers-kept s values base hidden (Answer.Unread f) b e = refl
 buffers-kept s values base hidden (Answer.Refused reason) b e = refl
 
-pub buffers-done : (s values image area copies i : List ℕ) (base hidden : ℕ) (g : SignatureRead) (p : Plan) (b : Buffers)
-    → g ≡ signatureAnswer (signatureOf s) → p ≡ planFor s
-    → buffers i [] [] ≡ putAll (hiddenSlots (p .result) hidden) (buffers image [] [])
-    → b ≡ putAll (slotsOfAll (rulesOf (g .convention)) base (argumentsIn g p) values) (buffers i area copies)
+pub buffers-done : (s values image area copies i : List ℕ) (base hidden : ℕ) (g : SignatureRead) (q : ResultPlaces) (b : Buffers)
+    → g ≡ signatureAnswer (signatureOf s) → planFor s .result ≡ q
+    → buffers i [] [] ≡ putAll (hiddenSlots q hidden) (buffers image [] [])
+    → b ≡ putAll (slotsOfAll (rulesOf (g .convention)) base (argumentsFrom g) values) (buffers i area copies)
     → b ≡ fillBuffers s values base hidden Answer.Done (buffers image area copies)
-unfolding fillBuffers filledSlots argumentsOf
-buffers-done s values image area copies i base hidden g p b e q x y =
-    let slots : List Slot = slotsOfAll (rulesOf (g .convention)) base (argumentsIn g p) values in
-    let whole = hidden-whole (p .result) hidden image area copies i x in
-    rw (← e, ← q) (y ∙ ap (putAll slots) whole ∙ sym (putAll-append (hiddenSlots (p .result) hidden) slots (buffers image area copies)))
+unfolding fillBuffers filledSlots
+buffers-done s values image area copies i base hidden g q b e p x y =
+    let slots : List Slot = slotsOfAll (rulesOf (g .convention)) base (argumentsFrom g) values in
+    let whole = hidden-whole q hidden image area copies i x in
+    rw (← e, ← arguments-read s g e, p) (y ∙ ap (putAll slots) whole ∙ sym (putAll-append (hiddenSlots q hidden) slots (buffers image area copies)))

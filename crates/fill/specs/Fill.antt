@@ -10,14 +10,15 @@ use Rattle.words.specs.Basics.{pick}
 use Rattle.signature.specs.declared.SignatureRead.{SignatureRead}
 use Rattle.places.specs.declared.ResultPlaces.{ResultPlaces}
 use Rattle.places.specs.Step.{rulesOf}
-use Rattle.plan.specs.declared.Plan.{Plan}
 use Rattle.slots.specs.declared.Refusal.{Refusal}
 use Rattle.slots.specs.declared.Answer.{Answer}
 use Rattle.slots.specs.Buffers.{Buffers, Slot, putAll}
 use Rattle.slots.specs.Placements.{slotsOfAll, hiddenSlots}
 use Rattle.slots.specs.Refusals.{Test, test, differ, firstOf, afterReading, isDone}
 use Rattle.slots.specs.Limits.{All, sizesOf}
-use Rattle.slots.specs.Arguments.{argumentsIn, argumentsOf, planFor, rulesFor}
+use Rattle.slots.specs.Arguments.{argumentsOf, planFor, rulesFor}
+use Rattle.plan.specs.Limits.{Plannable}
+use Rattle.arguments.specs.Table.{argumentsFrom}
 use Rattle.marshal.specs.Room.{Ready}
 use Rattle.fill.specs.declared.Lengths.{Lengths}
 
@@ -67,10 +68,8 @@ HiddenFits ResultPlaces.Nothing i = Unit {0}
 HiddenFits (ResultPlaces.Registers s) i = Unit {0}
 HiddenFits (ResultPlaces.Hidden s) i = (s .general .first < 32) × (i ≡ 512)
 
--- all arguments, of values of v bytes
-pub record AllReady (g : SignatureRead) (p : Plan) (base v i a c : ℕ) : Type 0 where
-  pub few : g .count ≤ 64
-  pub types : g .count ≤ length (g .arguments)
-  pub spans : g .count ≤ length (p .spans)
-  pub each : All (Ready (rulesOf (g .convention)) base i a c) (argumentsIn g p)
-  pub total : sizesOf (argumentsIn g p) ≡ v
+-- all arguments of a signature that was read, of values of v bytes
+pub record AllReady (g : SignatureRead) (base v i a c : ℕ) : Type 0 where
+  pub plannable : Plannable g
+  pub each : All (Ready (rulesOf (g .convention)) base i a c) (argumentsFrom g)
+  pub total : sizesOf (argumentsFrom g) ≡ v

@@ -1,6 +1,5 @@
 // Filling: the values of a call's arguments are put where its signature's plan says, unless a buffer is too small or its base unfit.
 use places::ResultPlaces;
-use plan::Plan;
 use signature::Outcome;
 use signature::SignatureRead;
 use slots::Answer;
@@ -12,7 +11,7 @@ ghost use Rattle.places.specs.Step.{rulesOf};
 ghost use Rattle.slots.specs.Buffers.{buffers, putAll};
 ghost use Rattle.slots.specs.Placements.{slotsOfAll, hiddenSlots};
 ghost use Rattle.slots.specs.Refusals.{firstOf};
-ghost use Rattle.slots.specs.Arguments.{argumentsIn};
+ghost use Rattle.arguments.specs.Table.{argumentsFrom};
 ghost use Rattle.fill.specs.Fill.{badCopies, fillTests, fillAnswer, fillBuffers, lengths, HiddenFits, AllReady};
 
 // The lengths of the lent buffers.
@@ -23,31 +22,35 @@ pub struct Lengths {
     pub copies: usize,
 }
 
-// All arguments, left to right.
+// All arguments of a signature that was read, left to right.
 fn put_arguments(
     image: &mut [u8],
     area: &mut [u8],
     copies: &mut [u8],
     g: SignatureRead,
-    p: Plan,
     values: &[u8],
     base: u64,
 )
-    requires { ⌜ AllReady g p base (length (now values)) (length (now image)) (length (now area)) (length (now copies)) ⌝ }
-    ensures { λ _. ⌜ buffers (now (image .exit)) (now (area .exit)) (now (copies .exit)) ≡ putAll (slotsOfAll (rulesOf (g .convention)) base (argumentsIn g p) (now (values .entry))) (buffers (now (image .entry)) (now (area .entry)) (now (copies .entry))) ⌝ }
+    requires { ⌜ AllReady g base (length (now values)) (length (now image)) (length (now area)) (length (now copies)) ⌝ }
+    ensures { λ _. ⌜ buffers (now (image .exit)) (now (area .exit)) (now (copies .exit)) ≡ putAll (slotsOfAll (rulesOf (g .convention)) base (argumentsFrom g) (now (values .entry))) (buffers (now (image .entry)) (now (area .entry)) (now (copies .entry))) ⌝ }
 {
     let convention = g.convention;
+    let result = g.result;
     let count = g.count;
     let rules = abi::call_rules_of(convention);
+    let mut c = arguments::first_cursor(convention, result);
     let mut v: usize = 0;
     let mut i: usize = 0;
     while i < count {
         let a = g.arguments[i];
         let t = a.ty;
-        let s = p.spans[i];
-        let end = v + types::size_of(convention, t);
-        marshal::put_argument(image, area, copies, rules, t, s, &values[v..end], base);
-        v = end;
+        let size = types::size_of(convention, t);
+        let p = placing::step(rules, c, t, size);
+        let s = p.span;
+        let to = v + size;
+        marshal::put_argument(image, area, copies, rules, t, s, &values[v..to], base);
+        v = to;
+        c = p.next;
         i = i + 1;
     }
 }
@@ -117,9 +120,9 @@ pub fn fill(
     ensures { λ a. ⌜ a ≡ fillAnswer (now (sig .entry)) (lengths (now (values .entry)) (now (image .entry)) (now (area .entry)) (now (copies .entry))) base ⌝ }
     ensures { λ a. ⌜ buffers (now (image .exit)) (now (area .exit)) (now (copies .exit)) ≡ fillBuffers (now (sig .entry)) (now (values .entry)) base hidden a (buffers (now (image .entry)) (now (area .entry)) (now (copies .entry))) ⌝ }
 {
-    let g = signature::read_signature(sig);
-    let p = plan::plan_signature(g);
-    let outcome = p.outcome;
+    let g = whole_signature::read_signature(sig);
+    let m = arguments::measure_table(g);
+    let outcome = m.outcome;
     match outcome {
         Outcome::Refused(fault) => Answer::Unread(fault),
         Outcome::Accepted(_) => {
@@ -129,13 +132,15 @@ pub fn fill(
                 area: area.len(),
                 copies: copies.len(),
             };
-            let answer = tested(have, p.values, p.area, p.copies, base);
+            let answer = tested(have, m.values, m.area, m.copies, base);
             if slots::is_refused(answer) {
                 return answer;
             }
-            let result = p.result;
+            let convention = g.convention;
+            let returned = g.result;
+            let result = planning::result_in(convention, returned);
             put_hidden(image, result, hidden);
-            put_arguments(image, area, copies, g, p, values, base);
+            put_arguments(image, area, copies, g, values, base);
             Answer::Done
         }
     }

@@ -15,6 +15,7 @@ use Rattle.types.specs.declared.ValueType.{ValueType}
 use Rattle.types.specs.Sizes.{sizeOf}
 use Rattle.items.specs.declared.Fault.{Fault}
 use Rattle.items.specs.Reading.{Reading, got, no}
+use Rattle.signature.specs.Limits.{maxArguments}
 use Rattle.signature.specs.declared.Outcome.{Outcome}
 use Rattle.signature.specs.declared.ResultType.{ResultType}
 use Rattle.signature.specs.declared.SignatureRead.{SignatureRead}
@@ -150,7 +151,7 @@ view-passed Convention.Z count index have area e = let a = first-done _ _ e in l
 
 pub record Hand (s : List ℕ) (have index : ℕ) (g : SignatureRead) (p : Plan) : Type 0 where
   pub done : viewAnswer s have index ≡ Answer.Done
-  pub small : index < 64
+  pub small : index < maxArguments
   pub room : p .area ≤ have
   pub rules : rulesOf (g .convention) ≡ ppc64
   pub held : Held (rulesOf (g .convention)) (argumentAt g p index)

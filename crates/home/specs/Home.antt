@@ -16,6 +16,7 @@ use Rattle.conventions.specs.declared.Convention.{Convention}
 use Rattle.types.specs.declared.Equivalent.{Equivalent}
 use Rattle.types.specs.declared.ValueType.{ValueType}
 use Rattle.types.specs.Sizes.{equivalentOf}
+use Rattle.signature.specs.Limits.{maxArguments}
 use Rattle.signature.specs.declared.SignatureRead.{SignatureRead}
 use Rattle.signature.specs.Read.{signatureOf}
 use Rattle.signature.specs.Answer.{signatureAnswer}
@@ -116,7 +117,7 @@ pub record Registered (a i : ℕ) (p : Placement) : Type 0 where
 -- all arguments
 pub record AllRegistered (g : SignatureRead) (p : Plan) (i : ℕ) : Type 0 where
   pub convention : g .convention ≡ Convention.Ppc64
-  pub few : g .count ≤ 64
+  pub few : g .count ≤ maxArguments
   pub types : g .count ≤ length (g .arguments)
   pub spans : g .count ≤ length (p .spans)
   pub each : All (Registered (p .area) i) (argumentsIn g p)

@@ -6,7 +6,7 @@ use Rattle.items.specs.declared.ItemRead.{ItemRead}
 use Rattle.items.specs.Reading.{Reading, got, no}
 
 abbrev pub numberOf : Refusal → ℕ
--- "signature over 4,096 bytes"
+-- "signature over 4,096 bytes"; document 02, No. 6 makes it 16,384
 numberOf Refusal.TooLong = 1
 -- "fewer than 3 bytes for a header, or the length passes the enclosing end"
 numberOf Refusal.Truncated = 2
@@ -18,7 +18,7 @@ numberOf Refusal.Malformed = 4
 numberOf Refusal.LongDoubleInStruct = 5
 -- "struct depth over 8"
 numberOf Refusal.TooDeep = 6
--- "bytes left after the 64th argument"
+-- "bytes left after the 64th argument"; document 02, No. 6 makes it the 128th
 numberOf Refusal.TooManyArguments = 7
 -- "struct size over 256"
 numberOf Refusal.StructTooLarge = 8

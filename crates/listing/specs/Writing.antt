@@ -6,7 +6,7 @@ use lib.ListN.{length}
 use Rattle.words.specs.Basics.{pick}
 use Rattle.places.specs.Places.{Numbered, ResultNumbered}
 use Rattle.words.specs.Splice.{overlay}
-use Rattle.signature.specs.Read.{maxArguments}
+use Rattle.signature.specs.Limits.{maxArguments}
 use Rattle.plan.specs.declared.Plan.{Plan}
 use Rattle.plan.specs.Disjoint.{spanAt}
 

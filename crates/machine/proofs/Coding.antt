@@ -11,7 +11,7 @@ use borrow.Author.Tests.{le-leb, lt-leb, eq-eqb, ne-eqb, eqb-true, eqb-false}
 use Rattle.saves.proofs.Taking.{le-or-lt}
 use Rattle.rules.specs.declared.Rules.{Rules}
 use Rattle.rules.specs.declared.Frame.{Frame}
-use Rattle.rules.specs.Frames.{startFrame, okRequest, outgoingLength, frameSize}
+use Rattle.rules.specs.Frames.{startFrame, maxOutgoing, okRequest, outgoingLength, frameSize}
 use Rattle.rules.specs.Lawful.{Lawful, Placed}
 use Rattle.rules.proofs.Facts.{and-yes, not-yes}
 use Rattle.rules.proofs.Conventions.{lawful}
@@ -97,10 +97,10 @@ frame-request k fs (suc d) i e h =
     let t = and-yes (okRequest k (frameAt fs d)) _ e in
     ⊎-elim (λ p. frame-request k fs d i (and-yes (not (topFrame k fs d .leaf)) _ (t .1) .1) p) (λ p. let x : i ≡ d = omega arith in rw x (t .0)) (le-or-lt (suc i) d)
 
-outgoing-small : (k : Rules) → Lawful k → (f : Frame) → okRequest k f ≡ true → outgoingLength k f ≤ 16648
+outgoing-small : (k : Rules) → Lawful k → (f : Frame) → okRequest k f ≡ true → outgoingLength k f ≤ maxOutgoing + 256
 outgoing-small k law f e = omega (arith, ranges k f e .outgoing, law .least)
 
-start-small : (k : Rules) → Lawful k → outgoingLength k (startFrame k) ≤ 16648
+start-small : (k : Rules) → Lawful k → outgoingLength k (startFrame k) ≤ maxOutgoing + 256
 start-small k law = omega (arith, law .least)
 
 module _ (k : Rules) (law : Lawful k) (s : State) (n : ℕ) (sound : Sound k s n) where
@@ -114,17 +114,17 @@ module _ (k : Rules) (law : Lawful k) (s : State) (n : ℕ) (sound : Sound k s n
   pub pointer-limit : s .base + s .size ≤ k .limit
   pointer-limit = omega (arith, memory-yes k (s .base) (s .size) (sound .memory))
 
-  pub top-outgoing : outgoingLength k (top k s) ≤ 16648
+  pub top-outgoing : outgoingLength k (top k s) ≤ maxOutgoing + 256
   top-outgoing =
-      ⊎-elim (λ p. subst (λ (f : Frame). outgoingLength k f ≤ 16648) (sym (top-none k (s .frames) (s .depth) p)) (start-small k law))
-      (λ p. subst (λ (f : Frame). outgoingLength k f ≤ 16648) (sym (top-some k (s .frames) (s .depth) p))
+      ⊎-elim (λ p. subst (λ (f : Frame). outgoingLength k f ≤ maxOutgoing + 256) (sym (top-none k (s .frames) (s .depth) p)) (start-small k law))
+      (λ p. subst (λ (f : Frame). outgoingLength k f ≤ maxOutgoing + 256) (sym (top-some k (s .frames) (s .depth) p))
       (outgoing-small k law (frameAt (s .frames) (s .depth - 1)) (frame-request k (s .frames) (s .depth) (s .depth - 1) (sound .requests) (omega arith))))
       (le-or-lt (s .depth) 0)
 
-  pub caller-outgoing : outgoingLength k (caller k s) ≤ 16648
+  pub caller-outgoing : outgoingLength k (caller k s) ≤ maxOutgoing + 256
   caller-outgoing =
-      ⊎-elim (λ p. subst (λ (f : Frame). outgoingLength k f ≤ 16648) (sym (caller-none k (s .frames) (s .depth) p)) (start-small k law))
-      (λ p. subst (λ (f : Frame). outgoingLength k f ≤ 16648) (sym (caller-some k (s .frames) (s .depth) p))
+      ⊎-elim (λ p. subst (λ (f : Frame). outgoingLength k f ≤ maxOutgoing + 256) (sym (caller-none k (s .frames) (s .depth) p)) (start-small k law))
+      (λ p. subst (λ (f : Frame). outgoingLength k f ≤ maxOutgoing + 256) (sym (caller-some k (s .frames) (s .depth) p))
       (outgoing-small k law (frameAt (s .frames) (s .depth - 2)) (frame-request k (s .frames) (s .depth) (s .depth - 2) (sound .requests) (omega arith))))
       (le-or-lt (s .depth) 1)
 

@@ -15,7 +15,8 @@ use Rattle.items.specs.declared.Fault.{Fault}
 use Rattle.items.specs.Reading.{Reading, got, no}
 use Rattle.signature.specs.declared.Argument.{Argument}
 use Rattle.signature.specs.Signature.{Result, nothing, value, Signature}
-use Rattle.signature.specs.Read.{maxArguments, signatureOf}
+use Rattle.signature.specs.Limits.{maxArguments}
+use Rattle.signature.specs.Read.{signatureOf}
 use Rattle.signature.specs.Answer.{argument, listed, table, resultType, signatureAnswer}
 use Rattle.signature.specs.Exact.{ResultSized}
 use Rattle.signature.proofs.Theorems.{accepted}
@@ -100,7 +101,7 @@ planned-answer (no f) = refl
 
 -- ---- its counts
 
-length-of-types : (c : Convention) (ts : Trees) → length (typesOf c ts) ≡ countOf ts
+pub length-of-types : (c : Convention) (ts : Trees) → length (typesOf c ts) ≡ countOf ts
 length-of-types c ts = sym (ap length (listed-types c ts)) ∙ length-map (listed c ts) ∙ length-listed c ts
   where
     length-map : (l : List Argument) → length (map typeIn l) ≡ length l

@@ -10,7 +10,7 @@ use lib.ListN.{length, getD, replicate}
 use Rattle.conventions.specs.declared.Convention.{Convention}
 use Rattle.types.specs.declared.ValueType.{ValueType}
 use Rattle.types.specs.Sizes.{sizeOf}
-use Rattle.signature.specs.Read.{maxArguments}
+use Rattle.signature.specs.Limits.{maxArguments}
 use Rattle.places.specs.declared.Cursor.{Cursor}
 use Rattle.places.specs.declared.Span.{Span}
 use Rattle.places.specs.declared.Rules.{Rules}

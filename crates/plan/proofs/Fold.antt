@@ -13,7 +13,7 @@ use Rattle.places.specs.declared.Rules.{Rules}
 use Rattle.places.specs.Step.{Lawful, Roomy, nextOf, startOf}
 use Rattle.places.proofs.Bounds.{Named, named-start, named-next, named-roomy, near-next, start-bytes}
 use Rattle.places.proofs.Between.{Forward, forward-same, forward-then, step-forward}
-use Rattle.signature.specs.Read.{maxArguments}
+use Rattle.signature.specs.Limits.{maxArguments}
 use Rattle.plan.specs.Plan.{spansOf, lastOf, valuesOf}
 
 pub length-spans : (c : Convention) (r : Rules) (k : Cursor) (ts : List ValueType) → length (spansOf c r k ts) ≡ length ts

@@ -19,6 +19,7 @@ use Rattle.items.specs.Reading.{Reading, fault, got, no, later}
 use Rattle.items.specs.Read.{itemAt}
 use Rattle.items.specs.Answer.{itemAnswer}
 use Rattle.items.proofs.Loop.{item-answered}
+use Rattle.signature.specs.Limits.{maxArguments}
 use Rattle.signature.specs.declared.Outcome.{Outcome}
 use Rattle.signature.specs.declared.ResultType.{ResultType}
 use Rattle.signature.specs.declared.HeadRead.{HeadRead}
@@ -53,7 +54,7 @@ module _ (c : Convention) (s : List ℕ) (at e : ℕ) (r : Rules) where
   measuring-start hidden l h = record { ts = none; turn = turn-start c s at e h; last = refl; total = refl; reached = reached-start r hidden l }
 
   module _ (start k : Cursor) (v count next n : ℕ) (m : Measuring c s at e r start k v count next n) where
-    pub measuring-more : Lawful r → next < e → (count ≡ 64 → ⊥) → (x : ItemRead) → x ≡ itemAnswer c (itemAt c 8 s e next) → (t : ValueType) (after j : ℕ) →
+    pub measuring-more : Lawful r → next < e → (count ≡ maxArguments → ⊥) → (x : ItemRead) → x ≡ itemAnswer c (itemAt c 8 s e next) → (t : ValueType) (after j : ℕ) →
         x ≡ ItemRead.Item t after j → Measuring c s at e r start (nextOf r k t (sizeOf c t)) (v + sizeOf c t) (count + 1) after (n + j)
     unfolding typesOf
     measuring-more l h some x found t after j q =

@@ -12,7 +12,7 @@ use Rattle.types.specs.Sizes.{sizeOf}
 use Rattle.items.specs.declared.Fault.{Fault}
 use Rattle.items.specs.Reading.{got, no}
 use Rattle.signature.specs.declared.ResultType.{ResultType}
-use Rattle.signature.specs.Read.{maxArguments}
+use Rattle.signature.specs.Limits.{maxArguments}
 use Rattle.signature.specs.Answer.{resultType}
 use Rattle.places.specs.declared.Cursor.{Cursor}
 use Rattle.places.specs.declared.Span.{Span}

@@ -8,7 +8,7 @@ use Rattle.types.specs.declared.ValueType.{ValueType}
 use Rattle.types.specs.Sizes.{sizeOf}
 use Rattle.signature.specs.declared.ResultType.{ResultType}
 use Rattle.signature.specs.declared.SignatureRead.{SignatureRead}
-use Rattle.signature.specs.Read.{maxArguments}
+use Rattle.signature.specs.Limits.{maxArguments}
 use Rattle.signature.specs.Answer.{argument}
 
 -- refusal 8: no "struct size over 256"

@@ -1,24 +1,31 @@
 -- The answer and the value buffer of a whole reading, from those of its parts. Assumes nothing.
-use mathlib.Core.Path.{_≡_, refl, sym, ap, ap₂, _∙_}
+use mathlib.Core.Path.{_≡_, refl, sym, ap, ap₂, _∙_, subst}
 use mathlib.Core.Bool.{true, false}
 use mathlib.Core.List.{List}
 use Prim.Native.Nat.{ℕ, _≤_}
 use native.Mathlib.Omega.{arith}
 use borrow.Author.Tests.{ltb-false}
 use Rattle.words.specs.Splice.{overlay}
+use Rattle.conventions.specs.declared.Convention.{Convention}
 use Rattle.signature.specs.declared.Outcome.{Outcome}
 use Rattle.signature.specs.declared.SignatureRead.{SignatureRead}
 use Rattle.signature.specs.Read.{signatureOf}
 use Rattle.signature.specs.Answer.{signatureAnswer}
 use Rattle.places.specs.Step.{rulesOf}
 use Rattle.plan.specs.declared.Plan.{Plan}
+use Rattle.plan.specs.declared.Measured.{Measured}
+use Rattle.plan.specs.Plan.{measureOf}
+use Rattle.plan.proofs.Answers.{answer-plannable}
 use Rattle.slots.specs.declared.Answer.{Answer}
 use Rattle.items.specs.declared.Fault.{Fault}
 use Rattle.slots.specs.Buffers.{Buffers}
 use Rattle.slots.specs.Placements.{Placement, valuesAt}
-use Rattle.slots.specs.Limits.{Held, Fits}
-use Rattle.slots.specs.Refusals.{firstOf, orElse, afterReading, isRefused}
-use Rattle.slots.specs.Arguments.{argumentsIn, argumentsOf, planFor, rulesFor, Carried}
+use Rattle.slots.specs.Limits.{Held, Fits, All, sizesOf}
+use Rattle.slots.specs.Refusals.{firstOf, orElse, isRefused}
+use Rattle.slots.specs.Arguments.{argumentsOf, planFor}
+use Rattle.slots.proofs.Answered.{carried}
+use Rattle.arguments.specs.Table.{argumentsFrom}
+use Rattle.arguments.proofs.Table.{arguments-read}
 use Rattle.slots.proofs.Planned.{all-with}
 use Rattle.slots.proofs.Refusals.{first-done, differ-false, or-refused, not-refused}
 use Rattle.unmarshal.specs.Readable.{Ready}
@@ -43,40 +50,53 @@ tests-passed have p e =
       area = ltb-false (have .area) (p .area) (c .0);
     }
 
-pub all-ready : (g : SignatureRead) (p : Plan) (i a : ℕ) → Carried g p → i ≡ 512 → p .area ≤ a → AllReady g p i a
-all-ready g p i a h image area = record {
-  few = h .few;
-  types = h .types;
-  spans = h .spans;
-  each = all-with (Held (rulesOf (g .convention))) (Fits (p .area) (p .copies)) (Ready (rulesOf (g .convention)) i a) ready (argumentsIn g p) (h .held) (h .fit);
-}
+-- the same of sizes m that were measured
+pub tests-lent : (s : List ℕ) (have : Sizes) (m : Measured) → m ≡ measureOf (planFor s)
+    → firstOf (readTests have (m .values) (m .area)) ≡ Answer.Done → Lent have (planFor s)
+tests-lent s have m p e = tests-passed have (planFor s) (rw p at e)
+
+-- each argument is then one that the first pass can look at
+pub each-ready : (s : List ℕ) (c : Convention) (i a : ℕ) → signatureAnswer (signatureOf s) .convention ≡ c → i ≡ 512 → planFor s .area ≤ a
+    → All (Ready (rulesOf c) i a) (argumentsOf s)
+unfolding argumentsOf
+each-ready s c i a same image area =
+    let h = carried s in
+    all-with (Held (rulesOf c)) (Fits (planFor s .area) (planFor s .copies)) (Ready (rulesOf c) i a) ready (argumentsOf s)
+    (subst (λ (d : Convention). All (Held (rulesOf d)) (argumentsOf s)) same (h .held)) (h .fit)
   where
-    ready : (q : Placement) → Held (rulesOf (g .convention)) q → Fits (p .area) (p .copies) q → Ready (rulesOf (g .convention)) i a q
+    ready : (q : Placement) → Held (rulesOf c) q → Fits (planFor s .area) (planFor s .copies) q → Ready (rulesOf c) i a q
     ready q x y = record { held = x; general = y .general; floating = y .floating; memory = omega (arith, y .memory); registers = image }
+
+pub all-ready : (s : List ℕ) (g : SignatureRead) (i a : ℕ) → g ≡ signatureAnswer (signatureOf s) → i ≡ 512 → planFor s .area ≤ a → AllReady g i a
+all-ready s g i a same image area = record {
+  plannable = rw same (answer-plannable s);
+  each = rw (arguments-read s g same) (each-ready s (g .convention) i a (ap (λ (x : SignatureRead). x .convention) (sym same)) image area);
+}
+
+-- their sizes are those of the values
+pub all-sizes : (s : List ℕ) (g : SignatureRead) → g ≡ signatureAnswer (signatureOf s) → sizesOf (argumentsFrom g) ≡ planFor s .values
+unfolding argumentsOf
+all-sizes s g same = ap sizesOf (arguments-read s g same) ∙ carried s .total
 
 -- ---- the answer
 
-module _ (s : List ℕ) (have : Sizes) (base : ℕ) (b : Buffers) where
-  pub answer-refused : (f : Fault) → planFor s .outcome ≡ Outcome.Refused f
-      → Answer.Unread f ≡ readAnswer s have base b
+module _ (s : List ℕ) (have : Sizes) (base : ℕ) (b : Buffers) (m : Measured) (p : m ≡ measureOf (planFor s)) where
+  pub answer-refused : (f : Fault) → m .outcome ≡ Outcome.Refused f → Answer.Unread f ≡ readAnswer s have base b
   unfolding readAnswer
-  answer-refused f e = rw e
+  answer-refused f e = rw (rw p at e)
 
-  module _ (g : SignatureRead) (p : Plan) (n : ℕ) (read : g ≡ signatureAnswer (signatureOf s)) (plan : p ≡ planFor s) (e : planFor s .outcome ≡ Outcome.Accepted n) where
+  module _ (g : SignatureRead) (same : g ≡ signatureAnswer (signatureOf s)) (n : ℕ) (e : m .outcome ≡ Outcome.Accepted n) where
     -- of the lengths l and the arguments a
-    whole : (l a : Answer) → l ≡ firstOf (readTests have (p .values) (p .area)) → a ≡ argumentsAnswer (rulesOf (g .convention)) base (argumentsIn g p) b
+    whole : (l a : Answer) → l ≡ firstOf (readTests have (m .values) (m .area)) → a ≡ argumentsAnswer (rulesOf (g .convention)) base (argumentsFrom g) b
         → orElse l a ≡ readAnswer s have base b
-    unfolding readAnswer argumentsOf
-    whole l a x y =
-        ap₂ orElse x y
-        ∙ ap₂ (λ (g : SignatureRead) (p : Plan). orElse (firstOf (readTests have (p .values) (p .area))) (argumentsAnswer (rulesOf (g .convention)) base (argumentsIn g p) b)) read plan
-        ∙ sym (ap (λ (o : Outcome). afterReading o (orElse (firstOf (readTests have (planFor s .values) (planFor s .area))) (argumentsAnswer (rulesFor s) base (argumentsOf s) b))) e)
+    unfolding readAnswer
+    whole l a x y = rw (rw p at e, ← same, ← arguments-read s g same) (ap₂ orElse (rw p at x) y)
 
-    pub answer-lengths : (l : Answer) → l ≡ firstOf (readTests have (p .values) (p .area)) → isRefused l ≡ true → l ≡ readAnswer s have base b
-    answer-lengths l x t = sym (or-refused l _ t) ∙ whole l (argumentsAnswer (rulesOf (g .convention)) base (argumentsIn g p) b) x refl
+    pub answer-lengths : (l : Answer) → l ≡ firstOf (readTests have (m .values) (m .area)) → isRefused l ≡ true → l ≡ readAnswer s have base b
+    answer-lengths l x t = sym (or-refused l _ t) ∙ whole l (argumentsAnswer (rulesOf (g .convention)) base (argumentsFrom g) b) x refl
 
-    pub answer-arguments : (l a : Answer) → l ≡ firstOf (readTests have (p .values) (p .area)) → isRefused l ≡ false
-        → a ≡ argumentsAnswer (rulesOf (g .convention)) base (argumentsIn g p) b → a ≡ readAnswer s have base b
+    pub answer-arguments : (l a : Answer) → l ≡ firstOf (readTests have (m .values) (m .area)) → isRefused l ≡ false
+        → a ≡ argumentsAnswer (rulesOf (g .convention)) base (argumentsFrom g) b → a ≡ readAnswer s have base b
     answer-arguments l a x t y = ap (λ (z : Answer). orElse z a) (sym (not-refused l t)) ∙ whole l a x y
 
 -- ---- the value buffer
@@ -87,8 +107,7 @@ values-kept s base Answer.Done b values e = let z : _≡_ {A = ℕ} 0 1 = cc in 
 values-kept s base (Answer.Unread f) b values e = refl
 values-kept s base (Answer.Refused reason) b values e = refl
 
-pub values-taken : (s : List ℕ) (base : ℕ) (b : Buffers) (values last : List ℕ) (g : SignatureRead) (p : Plan)
-    → g ≡ signatureAnswer (signatureOf s) → p ≡ planFor s
-    → last ≡ overlay values (valuesAt (rulesOf (g .convention)) base (argumentsIn g p) b) → last ≡ readValues s base Answer.Done b values
-unfolding readValues argumentsOf
-values-taken s base b values last g p read plan e = rw (← read, ← plan) e
+pub values-taken : (s : List ℕ) (base : ℕ) (b : Buffers) (values last : List ℕ) (g : SignatureRead) → g ≡ signatureAnswer (signatureOf s)
+    → last ≡ overlay values (valuesAt (rulesOf (g .convention)) base (argumentsFrom g) b) → last ≡ readValues s base Answer.Done b values
+unfolding readValues
+values-taken s base b values last g same e = rw (← same, ← arguments-read s g same) e

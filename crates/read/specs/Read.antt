@@ -8,18 +8,22 @@ use lib.ListN.{length}
 use Rattle.words.specs.Basics.{pick}
 use Rattle.words.specs.Splice.{overlay}
 use Rattle.words.specs.Numbers.{valueOf}
+use Rattle.types.specs.declared.FloatFormat.{FloatFormat}
+use Rattle.types.specs.declared.Equivalent.{Equivalent}
+use Rattle.types.specs.declared.ValueType.{ValueType}
 use Rattle.types.specs.Sizes.{equivalentOf}
 use Rattle.signature.specs.declared.SignatureRead.{SignatureRead}
 use Rattle.places.specs.declared.Rules.{Rules}
 use Rattle.places.specs.Step.{rulesOf}
-use Rattle.plan.specs.declared.Plan.{Plan}
 use Rattle.slots.specs.declared.Refusal.{Refusal}
 use Rattle.slots.specs.declared.Answer.{Answer}
 use Rattle.slots.specs.Buffers.{Buffers}
 use Rattle.slots.specs.Placements.{Placement, floatAt, addressAt, valuesAt}
 use Rattle.slots.specs.Refusals.{Test, test, differ, firstOf, afterReading, orElse, firstOfAll, isDone, floatAnswer}
 use Rattle.slots.specs.Limits.{All}
-use Rattle.slots.specs.Arguments.{argumentsIn, argumentsOf, planFor, rulesFor}
+use Rattle.slots.specs.Arguments.{argumentsOf, planFor, rulesFor}
+use Rattle.plan.specs.Limits.{Plannable}
+use Rattle.arguments.specs.Table.{argumentsFrom}
 use Rattle.unmarshal.specs.Readable.{Ready}
 use Rattle.read.specs.declared.Sizes.{Sizes}
 
@@ -40,6 +44,21 @@ wordsAnswer base p b =
 unfoldable pub argumentAnswer : Rules → ℕ → Placement → Buffers → Answer
 argumentAnswer r base p b =
     pick (ltb 0 (p .span .floating .count)) (floatAnswer r (equivalentOf (p .ty)) (valueOf (floatAt (p .span) b))) (wordsAnswer base p b)
+
+-- the types whose arguments 13 or 14 can refuse: on PowerPC those that go as a single, which has its FPR to be tested; on Z those
+-- that may be passed by pointer to a copy (law `never-refused`)
+abbrev pub isSingle : Equivalent → Bool
+isSingle Equivalent.Nothing = false
+isSingle Equivalent.Single = true
+isSingle Equivalent.Double = false
+
+abbrev pub canRefuse : Rules → ValueType → Bool
+canRefuse (Rules.Power f) t = isSingle (equivalentOf t)
+canRefuse Rules.Z (ValueType.Integer k) = false
+canRefuse Rules.Z (ValueType.Float FloatFormat.Single) = false
+canRefuse Rules.Z (ValueType.Float FloatFormat.Double) = false
+canRefuse Rules.Z (ValueType.Float FloatFormat.LongDouble) = true
+canRefuse Rules.Z (ValueType.Struct s) = true
 
 -- "13 and 14 by argument, left to right"
 unfoldable pub argumentsAnswer : Rules → ℕ → List Placement → Buffers → Answer
@@ -67,9 +86,7 @@ readValues s base answer b values = pick (isDone answer) (overlay values (values
 abbrev pub sizes : List ℕ → List ℕ → List ℕ → Sizes
 sizes values image area = record { values = length values; image = length image; area = length area }
 
--- what the first pass asks: all arguments, and the lengths of the image and the area
-pub record AllReady (g : SignatureRead) (p : Plan) (i a : ℕ) : Type 0 where
-  pub few : g .count ≤ 64
-  pub types : g .count ≤ length (g .arguments)
-  pub spans : g .count ≤ length (p .spans)
-  pub each : All (Ready (rulesOf (g .convention)) i a) (argumentsIn g p)
+-- what the first pass asks: all arguments of a signature that was read, and the lengths of the image and the area
+pub record AllReady (g : SignatureRead) (i a : ℕ) : Type 0 where
+  pub plannable : Plannable g
+  pub each : All (Ready (rulesOf (g .convention)) i a) (argumentsFrom g)

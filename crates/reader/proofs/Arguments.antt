@@ -19,6 +19,7 @@ use Rattle.items.specs.Read.{lengthAt, bodyAt, sequence, itemAt}
 use Rattle.items.specs.Encode.{encodeTree, encodeTrees}
 use Rattle.items.proofs.Laws.{body-to}
 use Rattle.items.proofs.Sound.{by-pick, by-choose, by-then, by-next, Got, body-framed, Ended, none-read, sequence-sound, item-sound, item-read}
+use Rattle.signature.specs.Limits.{maxLength, maxArguments}
 use Rattle.conventions.specs.declared.ConventionCode.{ConventionCode}
 use Rattle.conventions.specs.Numbers.{conventionCode}
 use Rattle.signature.specs.declared.Outcome.{Outcome}
@@ -62,10 +63,10 @@ module _ (c : Convention) (start : ℕ) where
 -- Type items one after the other up to e, of which those of ts are read: reading on keeps them, and the item after k others from
 -- here is the type with that number.
 
-module _ (c : Convention) (s : List ℕ) (e start : ℕ) (short : length s ≤ 4096) (within : e ≤ length s) where
+module _ (c : Convention) (s : List ℕ) (e start : ℕ) (short : length s ≤ maxLength) (within : e ≤ length s) where
   type-is : (at : ℕ) → typeIn c s at e ≡ itemAt c 8 s e at
   unfolding typeIn
-  type-is at = rw (le-ltb 4096 (length s) short, ← (end-within s e within))
+  type-is at = rw (le-ltb maxLength (length s) short, ← (end-within s e within))
 
   pub record Stepped (ts : Trees) (at : ℕ) (us : Trees) (next n : ℕ) : Type 0 where
     pub keeps : (index : ℕ) → index < countOf ts → argumentIn c start index us ≡ argumentIn c start index ts
@@ -144,7 +145,7 @@ unfolding argumentsAt argumentsIn countOf
 arguments-body c s at = go (bodyAt s 0x03 0x03 (length s) at) refl
   where
     third : (b : ℕ) → bodyAt s 0x03 0x03 (length s) at ≡ Body.To b → (x : Reading Trees) → argumentsIn c s (at + 3) b ≡ x →
-        Got (Ended c 8 s b (at + 3) 1 64) x → Got (Third c s at) x
+        Got (Ended c 8 s b (at + 3) 1 maxArguments) x → Got (Third c s at) x
     third b q (got ts next n) read ended = record { end = b; body = q; inside = ended .all .inside; read = read }
     third b q (no f) read ended = tt
 
@@ -152,11 +153,11 @@ arguments-body c s at = go (bodyAt s 0x03 0x03 (length s) at) refl
     go (Body.To b) q =
         let framed = body-framed s 0x03 0x03 (length s) at b q in
         third b q (argumentsIn c s (at + 3) b) refl
-        (sequence-sound c 8 s b (at + 3) 1 64 (itemAt c 8 s b) (λ k. item-sound c 8 s b k) 64 (at + 3) 1 none (none-read c 8 s b (at + 3) 1 (omega arith)) refl)
+        (sequence-sound c 8 s b (at + 3) 1 maxArguments (itemAt c 8 s b) (λ k. item-sound c 8 s b k) maxArguments (at + 3) 1 none (none-read c 8 s b (at + 3) 1 (omega arith)) refl)
     go (Body.Refused r) q = tt
 
 -- a header with one tag is one with any tag
-any-tag : (s : List ℕ) → length s ≤ 4096 → (tag at b : ℕ) → tag ≤ 255 → bodyAt s tag tag (length s) at ≡ Body.To b → Body.To b ≡ bodyIn s at (length s)
+any-tag : (s : List ℕ) → length s ≤ maxLength → (tag at b : ℕ) → tag ≤ 255 → bodyAt s tag tag (length s) at ≡ Body.To b → Body.To b ≡ bodyIn s at (length s)
 any-tag s short tag at b small q =
     let framed = body-framed s tag tag (length s) at b q in
     body-here s at (length s) short (length s) (end-within s (length s) (omega arith)) (Body.To b)
@@ -164,13 +165,13 @@ any-tag s short tag at b small q =
 
 -- of an accepted signature: the first argument's place, by stepping and by the encoder, and what is read from there
 pub record Placed (s : List ℕ) (g : Signature) : Type 0 where
-  pub short : length s ≤ 4096
+  pub short : length s ≤ maxLength
   pub start : argumentsStart s ≡ 10 + length (encodeResult (g .result))
   pub next : ℕ
   pub count : ℕ
   pub read : argumentsIn (g .convention) s (10 + length (encodeResult (g .result))) (length s) ≡ got (g .arguments) next count
 
-module _ (s : List ℕ) (short : length s ≤ 4096) (c : Convention) (at₁ n₁ : ℕ) (first : conventionAt s ≡ got c at₁ n₁) (r : Result) (at₂ n₂ : ℕ)
+module _ (s : List ℕ) (short : length s ≤ maxLength) (c : Convention) (at₁ n₁ : ℕ) (first : conventionAt s ≡ got c at₁ n₁) (r : Result) (at₂ n₂ : ℕ)
     (second : resultAt c s at₁ ≡ got r at₂ n₂) (ts : Trees) (next m : ℕ) (third : Third c s at₂ ts next m) (last : length s ≤ next) where
   here : at₁ ≡ 4
   here = convention-read s c at₁ n₁ first .ends
@@ -210,12 +211,12 @@ module _ (s : List ℕ) (short : length s ≤ 4096) (c : Convention) (at₁ n₁
 
 signature-placed : (s : List ℕ) → Got (λ g next n. Placed s g) (signatureOf s)
 unfolding signatureOf afterConvention afterResult
-signature-placed s = by-choose (Got (λ g next n. Placed s g)) (ltb 4096 (length s)) _ _ (λ _. tt)
+signature-placed s = by-choose (Got (λ g next n. Placed s g)) (ltb maxLength (length s)) _ _ (λ _. tt)
     (λ l. by-then (λ c at n. conventionAt s ≡ got c at n) (λ g next n. Placed s g) (conventionAt s) _ (got-self (conventionAt s))
     (λ c at₁ n₁ first. by-next (λ r next m. resultAt c s at₁ ≡ got r next m) (λ g next n. Placed s g) n₁ (resultAt c s at₁) _ (got-self (resultAt c s at₁))
     (λ r at₂ n₂ second. by-next (Third c s at₂) (λ g next n. Placed s g) (n₁ + n₂) (argumentsAt c s at₂) _ (arguments-body c s at₂)
     (λ ts next m third. by-pick (Got (λ g next n. Placed s g)) (ltb next (length s)) _ _ (λ _. tt)
-    (λ last. placed s (ltb-false 4096 (length s) l) c at₁ n₁ first r at₂ n₂ second ts next m third (ltb-false next (length s) last))))))
+    (λ last. placed s (ltb-false maxLength (length s) l) c at₁ n₁ first r at₂ n₂ second ts next m third (ltb-false next (length s) last))))))
 
 -- an accepted signature's arguments, one after the other
 arguments-stepped : (s : List ℕ) (g : Signature) → Placed s g → (index : ℕ) → index < countOf (g .arguments) →
@@ -223,7 +224,7 @@ arguments-stepped : (s : List ℕ) (g : Signature) → Placed s g → (index : �
 unfolding argumentsIn encodeTrees countOf
 arguments-stepped s g p index h =
     let start = 10 + length (encodeResult (g .result)) in
-    let all = all-stepped (g .convention) s (length s) start (p .short) (omega arith) 64 start 1 none (omega arith) in
+    let all = all-stepped (g .convention) s (length s) start (p .short) (omega arith) maxArguments start 1 none (omega arith) in
     rw (p .start) (got-of s g p all .steps index (omega arith) ∙ ap (λ (i : ℕ). argumentIn (g .convention) start i (g .arguments)) (omega arith))
   where
     got-of : (s : List ℕ) (g : Signature) (p : Placed s g) →

@@ -19,6 +19,7 @@ use Rattle.items.specs.Read.{bodyAt, itemAt}
 use Rattle.items.specs.Answer.{itemAnswer}
 use Rattle.items.proofs.Laws.{body-short, item-refused, item-got, item-no}
 use Rattle.items.proofs.Sound.{by-pick, body-framed}
+use Rattle.signature.specs.Limits.{maxLength}
 use Rattle.reader.specs.declared.Header.{Header}
 use Rattle.reader.specs.declared.ArgumentRead.{ArgumentRead}
 use Rattle.reader.specs.Step.{endIn, leftAt, bodyIn, headerIn, bodyStart, bodyEnd, typeIn}
@@ -47,7 +48,7 @@ Inside s at (Body.Refused r) = Unit {0}
 
 inside : (s : List ℕ) (at e : ℕ) → Inside s at (bodyIn s at e)
 unfolding bodyIn
-inside s at e = by-pick (Inside s at) (ltb 4096 (length s)) _ _ (λ _. tt) (λ _. go _ _ (bodyAt s _ _ (endIn s e) at) refl)
+inside s at e = by-pick (Inside s at) (ltb maxLength (length s)) _ _ (λ _. tt) (λ _. go _ _ (bodyAt s _ _ (endIn s e) at) refl)
   where
     go : (low high : ℕ) (x : Body) → bodyAt s low high (endIn s e) at ≡ x → Inside s at x
     go low high (Body.To b) found =
@@ -67,25 +68,25 @@ module _ (s : List ℕ) (at e : ℕ) where
   unfolding leftAt
   left-some to q = rw q
 
-  pub body-long : 4096 < length s → Body.Refused Refusal.TooLong ≡ bodyIn s at e
+  pub body-long : maxLength < length s → Body.Refused Refusal.TooLong ≡ bodyIn s at e
   unfolding bodyIn
-  body-long h = rw (lt-ltb 4096 (length s) h)
+  body-long h = rw (lt-ltb maxLength (length s) h)
 
-  pub type-long : (c : Convention) → 4096 < length s → ItemRead.Refused (fault Refusal.TooLong 0 0) ≡ itemAnswer c (typeIn c s at e)
+  pub type-long : (c : Convention) → maxLength < length s → ItemRead.Refused (fault Refusal.TooLong 0 0) ≡ itemAnswer c (typeIn c s at e)
   unfolding typeIn
-  type-long c h = rw (lt-ltb 4096 (length s) h)
+  type-long c h = rw (lt-ltb maxLength (length s) h)
 
-  module _ (short : length s ≤ 4096) (to : ℕ) (q : to ≡ endIn s e) where
+  module _ (short : length s ≤ maxLength) (to : ℕ) (q : to ≡ endIn s e) where
     pub body-here : (x : Body) → x ≡ bodyAt s 0x00 0xff to at → x ≡ bodyIn s at e
     unfolding bodyIn
-    body-here x found = rw (le-ltb 4096 (length s) short, ← q) found
+    body-here x found = rw (le-ltb maxLength (length s) short, ← q) found
 
     pub body-past : to < at → Body.Refused Refusal.Truncated ≡ bodyIn s at e
     body-past h = body-here (Body.Refused Refusal.Truncated) (sym (body-short s 0x00 0xff to at (omega arith)))
 
     pub type-here : (c : Convention) (x : ItemRead) → x ≡ itemAnswer c (itemAt c 8 s to at) → x ≡ itemAnswer c (typeIn c s at e)
     unfolding typeIn
-    type-here c x found = rw (le-ltb 4096 (length s) short, ← q) found
+    type-here c x found = rw (le-ltb maxLength (length s) short, ← q) found
 
     pub type-past : (c : Convention) → to < at → ItemRead.Refused (fault Refusal.Truncated at 0) ≡ itemAnswer c (typeIn c s at e)
     type-past c h = type-here c (ItemRead.Refused (fault Refusal.Truncated at 0))

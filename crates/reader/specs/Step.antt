@@ -13,7 +13,7 @@ use Rattle.items.specs.declared.Body.{Body}
 use Rattle.items.specs.declared.ItemRead.{ItemRead}
 use Rattle.items.specs.Reading.{Reading, fault, no}
 use Rattle.items.specs.Read.{bodyAt, itemAt}
-use Rattle.signature.specs.Read.{maxLength, maxDepth}
+use Rattle.signature.specs.Limits.{maxLength, maxDepth}
 use Rattle.reader.specs.declared.Header.{Header}
 
 -- no part goes past the bytes

@@ -50,7 +50,7 @@ use Rattle.unmarshal.proofs.Arguments.{value-length}
 use Rattle.read.specs.declared.Sizes.{Sizes}
 use Rattle.read.specs.Read.{sizes, wordsAnswer, argumentAnswer, argumentsAnswer, readTests, readAnswer, readValues}
 use Rattle.read.proofs.Arguments.{all-readable}
-use Rattle.read.proofs.Accepted.{tests-passed, all-ready}
+use Rattle.read.proofs.Accepted.{tests-passed, each-ready}
 use Rattle.home.specs.Home.{registerAnswer, registersAnswer, homeTests, homeAnswer, homedBytes, homed, homeArea, Homed}
 use Rattle.home.specs.View.{viewTests, viewAnswer, noArgument, ownBytes, viewOf}
 use Rattle.home.proofs.Homed.{homed-all, reading-done}
@@ -385,10 +385,8 @@ length-values r base (p ∷ ps) b h =
 -- every argument of a reading that nothing refuses can be read
 arguments-readable : (s : List ℕ) (base : ℕ) (b : Buffers) → length (b .image) ≡ 512 → planFor s .area ≤ length (b .area)
     → argumentsAnswer (rulesFor s) base (argumentsOf s) b ≡ Answer.Done → All (λ (p : Placement). Readable (rulesFor s) base p b) (argumentsOf s)
-unfolding argumentsOf
 arguments-readable s base b image area done =
-    let ready = all-ready (signatureAnswer (signatureOf s)) (planFor s) (length (b .image)) (length (b .area)) (carried s) image area in
-    all-readable (rulesFor s) base b (argumentsOf s) (ready .each) done
+    all-readable (rulesFor s) base b (argumentsOf s) (each-ready s (signatureAnswer (signatureOf s) .convention) (length (b .image)) (length (b .area)) refl image area) done
 
 -- what can be read can be homed, and then each view is the value read
 viewed : (s : List ℕ) (base : ℕ) (b : Buffers) → signatureAnswer (signatureOf s) .convention ≡ Convention.Ppc64

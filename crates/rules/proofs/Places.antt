@@ -11,7 +11,7 @@ use Rattle.words.proofs.Basics.{round-up-least, round-up-most}
 use Rattle.saves.specs.Saves.{Outside}
 use Rattle.saves.proofs.Saving.{Ascending}
 use Rattle.rules.specs.Rules.{Linkage, LinkRegister, SaveArea, Rules, Frame, Registers, inSpan}
-use Rattle.rules.specs.Frames.{firstGpr, firstFpr, savesCr, hasCondition, okLeaf, okRequest, outgoingLength, below, fullSize, frameSize, chainWidth, flag, gprAt, savesBy, saves, linkAt}
+use Rattle.rules.specs.Frames.{firstGpr, firstFpr, savesCr, hasCondition, maxOutgoing, okLeaf, okRequest, outgoingLength, below, fullSize, frameSize, mostSize, chainWidth, flag, gprAt, savesBy, saves, linkAt}
 use Rattle.rules.specs.Lawful.{LinkageLaw, Lawful}
 use Rattle.rules.proofs.Facts.{either, and-yes, between}
 
@@ -20,7 +20,7 @@ pub record Ranges (k : Rules) (f : Frame) : Type 0 where
   pub gpr : (k .gpr .request .first ≤ firstGpr f) × (firstGpr f ≤ k .gpr .request .last)
   pub fpr : (k .fpr .request .first ≤ firstFpr f) × (firstFpr f ≤ k .fpr .request .last)
   pub locals : f .locals ≤ 32000
-  pub outgoing : f .outgoing ≤ 16392
+  pub outgoing : f .outgoing ≤ maxOutgoing
 
 pub ranges : (k : Rules) (f : Frame) → okRequest k f ≡ true → Ranges k f
 unfolding okRequest
@@ -29,12 +29,12 @@ ranges k f e =
     let q = and-yes (inSpan (k .fpr .request) (firstFpr f)) _ (p .1) in
     let t = and-yes (leb (f .locals) 32000) _ (q .1) in
     let u = and-yes (eqb (f .outgoing % 8) 0) _ (t .1) in
-    let v = and-yes (leb (f .outgoing) 16392) _ (u .1) in
+    let v = and-yes (leb (f .outgoing) maxOutgoing) _ (u .1) in
     record {
       gpr = between (k .gpr .request .first) (firstGpr f) (k .gpr .request .last) (p .0);
       fpr = between (k .fpr .request .first) (firstFpr f) (k .fpr .request .last) (q .0);
       locals = leb-true (f .locals) 32000 (t .0);
-      outgoing = leb-true (f .outgoing) 16392 (v .0);
+      outgoing = leb-true (f .outgoing) maxOutgoing (v .0);
     }
 
 -- ---- a leaf, and a frame that is none
@@ -63,7 +63,7 @@ leaf-linkage k f e l =
     let q = and-yes (inSpan (k .fpr .request) (firstFpr f)) _ (p .1) in
     let t = and-yes (leb (f .locals) 32000) _ (q .1) in
     let u = and-yes (eqb (f .outgoing % 8) 0) _ (t .1) in
-    let v = and-yes (leb (f .outgoing) 16392) _ (u .1) in
+    let v = and-yes (leb (f .outgoing) maxOutgoing) _ (u .1) in
     let w = and-yes (okLeaf k f) _ (v .1) in
     and-yes (hasCondition (k .linkage)) _ (rw l at (w .0)) .0
 
@@ -147,7 +147,7 @@ module _ (k : Rules) (law : Lawful k) (f : Frame) (r : okRequest k f ≡ true) w
   fpr-end = omega (arith, ranges k f r .fpr, law .fpr .most)
 
   -- a frame's size is bounded, and at least its parts'
-  pub full-small : fullSize k f ≤ 49600
+  pub full-small : fullSize k f ≤ mostSize
   unfolding fullSize
   full-small =
       let q = ranges k f r in
@@ -165,7 +165,7 @@ module _ (k : Rules) (law : Lawful k) (f : Frame) (r : okRequest k f ≡ true) w
   unfolding fullSize
   full-parts = round-up-least (k .header + outgoingLength k f + f .locals + below (k .linkage) k f) (k .alignment) (law .some)
 
-  pub size-small : frameSize k f ≤ 49600
+  pub size-small : frameSize k f ≤ mostSize
   size-small = either (f .leaf) (λ e. omega (arith, leaf-size k f e)) (λ e. omega (arith, solid-size k f e, full-small))
 
   pub size-parts : f .leaf ≡ false → k .header + outgoingLength k f + f .locals + below (k .linkage) k f ≤ frameSize k f

@@ -59,15 +59,19 @@ abbrev pub hasCondition : Linkage → Bool
 hasCondition (LinkRegister c l) = true
 hasCondition (SaveArea r) = false
 
+-- the most that a request may ask for: P up to 32,776 (document 02, No. 6)
+abbrev pub maxOutgoing : ℕ
+maxOutgoing = 32776
+
 -- may it be a leaf, if it asks for that? 02, No. 9: "PPC64 and AIX only; a leaf request on Z, or with L or P above 0, gives 17"
 unfoldable pub okLeaf : Rules → Frame → Bool
 okLeaf k f = not (f .leaf) || (hasCondition (k .linkage) && (eqb (f .locals) 0 && eqb (f .outgoing) 0))
 
--- refusal 17's ranges: g and m; "CR or not; locals L up to 32,000; outgoing P, a multiple of 8 up to 16,392"
+-- refusal 17's ranges: g and m; "CR or not; locals L up to 32,000; outgoing P, a multiple of 8 up to" the most
 unfoldable pub okRequest : Rules → Frame → Bool
 okRequest k f =
     inSpan (k .gpr .request) (firstGpr f) && (inSpan (k .fpr .request) (firstFpr f)
-    && (leb (f .locals) 32000 && (eqb (f .outgoing % 8) 0 && (leb (f .outgoing) 16392 && (okLeaf k f && (hasCondition (k .linkage) || not (savesCr f)))))))
+    && (leb (f .locals) 32000 && (eqb (f .outgoing % 8) 0 && (leb (f .outgoing) maxOutgoing && (okLeaf k f && (hasCondition (k .linkage) || not (savesCr f)))))))
 
 -- the length of the outgoing area (the parameter save area): "at least 64 long, on PPC64"
 abbrev pub outgoingLength : Rules → Frame → ℕ
@@ -89,6 +93,10 @@ frameSize k f = pick (f .leaf) 0 (fullSize k f)
 -- the bytes of the back chain at the new pointer: a word; by a leaf "no back chain written"
 unfoldable pub chainWidth : Rules → Frame → ℕ
 chainWidth k f = pick (f .leaf) 0 (k .word)
+
+-- no frame of a request in range is larger (law `size-small`): 32,000 bytes of locals, and the rest for the header, the saves and the rounding
+abbrev pub mostSize : ℕ
+mostSize = maxOutgoing + 33208
 
 -- ---- what an enter saves
 

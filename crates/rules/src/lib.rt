@@ -137,6 +137,9 @@ fn leaf_ok(k: Rules, f: Frame) -> bool
     f.outgoing == 0
 }
 
+// The largest outgoing area that a request may ask for: `maxOutgoing` of specs/Frames.antt.
+pub const MAX_OUTGOING: usize = 32776;
+
 // Is a request in range?
 pub fn request_ok(k: Rules, f: Frame) -> bool
     ensures { λ r. ⌜ r ≡ okRequest k f ⌝ }
@@ -156,7 +159,7 @@ pub fn request_ok(k: Rules, f: Frame) -> bool
     if p % 8 != 0 {
         return false;
     }
-    if 16392 < p {
+    if MAX_OUTGOING < p {
         return false;
     }
     if !leaf_ok(k, f) {

@@ -20,7 +20,8 @@ use Rattle.conventions.specs.declared.ConventionCode.{ConventionCode}
 use Rattle.conventions.specs.Numbers.{conventionCode, codeOf}
 use Rattle.conventions.proofs.Laws.{code-back}
 use Rattle.signature.specs.Signature.{Result, nothing, value, Signature}
-use Rattle.signature.specs.Read.{maxDepth, maxArguments, conventionAt, resultIn, resultAt, argumentsIn, argumentsAt, afterResult, afterConvention, signatureOf}
+use Rattle.signature.specs.Limits.{maxLength, maxArguments, maxDepth}
+use Rattle.signature.specs.Read.{conventionAt, resultIn, resultAt, argumentsIn, argumentsAt, afterResult, afterConvention, signatureOf}
 use Rattle.signature.specs.Encode.{encodeResult, encode, resultItems, signatureItems, ResultWithin, Within}
 use Rattle.signature.proofs.Laws.{convention-by, result-none, result-to, arguments-to}
 use Rattle.signature.proofs.Sound.{length-encode}
@@ -64,12 +65,12 @@ module _ (s : List ℕ) where
         arguments-to c s at next to ∙ sequence-done (itemAt c maxDepth s next) next _ left next (1 + itemsIn ts) ts rest (omega arith)
 
   -- the whole, from its three items
-  all-reads : (g : Signature) (at n : ℕ) → length s ≤ 4096 → conventionAt s ≡ got (g .convention) 4 1 → resultAt (g .convention) s 4 ≡ got (g .result) at n →
+  all-reads : (g : Signature) (at n : ℕ) → length s ≤ maxLength → conventionAt s ≡ got (g .convention) 4 1 → resultAt (g .convention) s 4 ≡ got (g .result) at n →
       (m : ℕ) → argumentsAt (g .convention) s at ≡ got (g .arguments) (length s) m → signatureOf s ≡ got g (length s) (1 + n + m)
   unfolding signatureOf afterConvention afterResult
   all-reads g at n short first second m third =
       let last : length s ≤ length s = omega arith in
-      rw (le-ltb 4096 (length s) short, first, second, third, le-ltb (length s) (length s) last)
+      rw (le-ltb maxLength (length s) short, first, second, third, le-ltb (length s) (length s) last)
 
 pub encode-reads : (g : Signature) → Within g → signatureOf (encode g) ≡ got g (length (encode g)) (signatureItems g)
 unfolding encode signatureItems

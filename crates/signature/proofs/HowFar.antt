@@ -20,7 +20,8 @@ use Rattle.conventions.specs.declared.ConventionCode.{ConventionCode}
 use Rattle.conventions.specs.Numbers.{conventionCode}
 use Rattle.signature.specs.declared.ResultRead.{ResultRead}
 use Rattle.signature.specs.Signature.{Result, Signature}
-use Rattle.signature.specs.Read.{maxLength, maxDepth, maxArguments, conventionBy, conventionAt, resultIn, resultAt, argumentsIn, argumentsAt, afterResult, afterConvention, signatureOf}
+use Rattle.signature.specs.Limits.{maxLength, maxDepth, maxArguments}
+use Rattle.signature.specs.Read.{conventionBy, conventionAt, resultIn, resultAt, argumentsIn, argumentsAt, afterResult, afterConvention, signatureOf}
 use Rattle.signature.specs.Answer.{resultAnswer}
 use Rattle.signature.specs.Exact.{SaysHowFar}
 use Rattle.signature.proofs.Laws.{result-was-refused}

@@ -28,7 +28,8 @@ use Rattle.signature.specs.declared.ResultType.{ResultType}
 use Rattle.signature.specs.declared.ResultRead.{ResultRead}
 use Rattle.signature.specs.declared.HeadRead.{HeadRead}
 use Rattle.signature.specs.Signature.{Result, nothing, Signature, Head}
-use Rattle.signature.specs.Read.{maxDepth, conventionBy, conventionAt, resultIn, resultAt, argumentsIn, argumentsAt, afterResult, afterConvention, signatureOf, headBy, headAfter, headOf}
+use Rattle.signature.specs.Limits.{maxLength, maxDepth}
+use Rattle.signature.specs.Read.{conventionBy, conventionAt, resultIn, resultAt, argumentsIn, argumentsAt, afterResult, afterConvention, signatureOf, headBy, headAfter, headOf}
 use Rattle.signature.specs.Answer.{conventionAnswer, resultType, resultAnswer, headAnswer, refused, accepted, withArguments, signatureAnswer}
 
 -- the convention
@@ -145,18 +146,18 @@ module _ (s : List ℕ) (c : Convention) (at n : ℕ) (x : ResultRead) (found : 
         rw (read, body) (ap (λ (u : ResultType). HeadRead.Head c u (next + 3) b (n + m)) (sym same))
 
 module _ (s : List ℕ) where
-  pub head-long : 4096 < length s → headOf s ≡ no (fault Refusal.TooLong 0 0)
+  pub head-long : maxLength < length s → headOf s ≡ no (fault Refusal.TooLong 0 0)
   unfolding headOf
-  head-long h = rw (lt-ltb 4096 (length s) h)
+  head-long h = rw (lt-ltb maxLength (length s) h)
 
-  module _ (short : length s ≤ 4096) (x : ConventionRead) (found : x ≡ conventionAnswer (conventionAt s)) where
+  module _ (short : length s ≤ maxLength) (x : ConventionRead) (found : x ≡ conventionAnswer (conventionAt s)) where
     pub head-no-convention : (f : Fault) → x ≡ ConventionRead.Refused f → headOf s ≡ no f
     unfolding headOf
-    head-no-convention f q = rw (le-ltb 4096 (length s) short, convention-refused (conventionAt s) f (sym q ∙ found))
+    head-no-convention f q = rw (le-ltb maxLength (length s) short, convention-refused (conventionAt s) f (sym q ∙ found))
 
     pub head-known : (c : Convention) → x ≡ ConventionRead.Known c → headOf s ≡ headAfter s c 4 1
     unfolding headOf
-    head-known c q = rw (le-ltb 4096 (length s) short, convention-known s x c found q)
+    head-known c q = rw (le-ltb maxLength (length s) short, convention-known s x c found q)
 
 -- what a program's answer says of it
 
@@ -187,7 +188,7 @@ module _ (s : List ℕ) where
 
   pub signature-head : signatureOf s ≡ andThen (headOf s) afterHead
   unfolding signatureOf headOf afterConvention headAfter afterResult argumentsAt
-  signature-head = whole (ltb 4096 (length s))
+  signature-head = whole (ltb maxLength (length s))
     where
       third : (c : Convention) (r : Result) (at n : ℕ) (x : Body) →
           thenArguments c r n (inBody x at (λ b. argumentsIn c s (at + 3) b))

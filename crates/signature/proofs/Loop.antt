@@ -18,6 +18,7 @@ use Rattle.items.specs.Read.{sequence, itemAt}
 use Rattle.items.specs.Answer.{itemAnswer}
 use Rattle.items.proofs.Laws.{sequence-done, sequence-full, sequence-more, sequence-no, item-got, item-no}
 use Rattle.items.proofs.Loop.{item-answered}
+use Rattle.signature.specs.Limits.{maxArguments}
 use Rattle.signature.specs.declared.Argument.{Argument}
 use Rattle.signature.specs.declared.ResultType.{ResultType}
 use Rattle.signature.specs.declared.SignatureRead.{SignatureRead}
@@ -36,13 +37,13 @@ table-none : (c : Convention) → noArguments ≡ table c none
 unfolding table listed countOf
 table-none c = refl
 
-table-more : (c : Convention) (ts : Trees) (t : Tree) → countOf ts < 64 → set (table c ts) (countOf ts) (argument (typeOf c t)) ≡ table c (ts ▸ t)
+table-more : (c : Convention) (ts : Trees) (t : Tree) → countOf ts < maxArguments → set (table c ts) (countOf ts) (argument (typeOf c t)) ≡ table c (ts ▸ t)
 unfolding table listed countOf
 table-more c ts t h =
     let blank = argument (ValueType.Integer IntegerKind.I8) in
-    let left : 64 - countOf ts ≡ suc (64 - (countOf ts + 1)) = omega arith in
-    rw left (set-at (listed c ts) blank (replicate (64 - (countOf ts + 1)) blank) (argument (typeOf c t)) (countOf ts) (listed-length c ts)
-    ∙ sym (append-assoc (listed c ts) (argument (typeOf c t) ∷ []) (replicate (64 - (countOf ts + 1)) blank)))
+    let left : maxArguments - countOf ts ≡ suc (maxArguments - (countOf ts + 1)) = omega arith in
+    rw left (set-at (listed c ts) blank (replicate (maxArguments - (countOf ts + 1)) blank) (argument (typeOf c t)) (countOf ts) (listed-length c ts)
+    ∙ sym (append-assoc (listed c ts) (argument (typeOf c t) ∷ []) (replicate (maxArguments - (countOf ts + 1)) blank)))
 
 same-set : {l k : List Argument} {i j : ℕ} {t u : ValueType} → l ≡ k → i ≡ j → t ≡ u → set l i (argument t) ≡ set k j (argument u)
 same-set p q r = cc
@@ -50,7 +51,7 @@ same-set p q r = cc
 -- the arguments so far, and that reading on from here gives all of them
 pub record Turn (c : Convention) (s : List ℕ) (start e : ℕ) (ts : Trees) (count next n : ℕ) : Type 0 where
   pub left : ℕ
-  pub few : count + left ≡ 64
+  pub few : count + left ≡ maxArguments
   pub many : count ≡ countOf ts
   pub within : next ≤ e
   pub third : start + 3 * n ≤ next + 3
@@ -65,14 +66,14 @@ pub record More (c : Convention) (s : List ℕ) (start e : ℕ) (ts : Trees) (t 
 module _ (c : Convention) (s : List ℕ) (start e : ℕ) where
   pub turn-start : start ≤ e → Turn c s start e none 0 start 1
   unfolding argumentsIn countOf
-  turn-start h = record { left = 64; few = refl; many = refl; within = h; third = omega arith; rest = refl }
+  turn-start h = record { left = maxArguments; few = refl; many = refl; within = h; third = omega arith; rest = refl }
 
   module _ (ts : Trees) (count next n : ℕ) (turn : Turn c s start e ts count next n) where
     module _ (h : next < e) where
-      pub turn-full : count ≡ 64 → argumentsIn c s start e ≡ no (fault Refusal.TooManyArguments next n)
+      pub turn-full : count ≡ maxArguments → argumentsIn c s start e ≡ no (fault Refusal.TooManyArguments next n)
       turn-full q = sequence-full (itemAt c 8 s e) e (argumentsIn c s start e) (turn .left) next n ts (turn .rest) h (omega arith)
 
-      module _ (some : count ≡ 64 → ⊥) (r : ItemRead) (found : r ≡ itemAnswer c (itemAt c 8 s e next)) where
+      module _ (some : count ≡ maxArguments → ⊥) (r : ItemRead) (found : r ≡ itemAnswer c (itemAt c 8 s e next)) where
         pub turn-no : (f : Fault) → r ≡ ItemRead.Refused f → argumentsIn c s start e ≡ no (later n f)
         turn-no f q =
             sequence-no (itemAt c 8 s e) e (argumentsIn c s start e) (turn .left) next n ts (turn .rest) h (omega arith) f
@@ -110,7 +111,7 @@ module _ (c : Convention) (s : List ℕ) (start e : ℕ) where
   tabled-start l q h = record { ts = none; turn = turn-start c s start e h; types = q ∙ table-none c }
 
   module _ (l : List Argument) (count next n : ℕ) (tabled : Tabled c s start e l count next n) where
-    pub tabled-more : next < e → (count ≡ 64 → ⊥) → (r : ItemRead) → r ≡ itemAnswer c (itemAt c 8 s e next) → (t : ValueType) (after m : ℕ) →
+    pub tabled-more : next < e → (count ≡ maxArguments → ⊥) → (r : ItemRead) → r ≡ itemAnswer c (itemAt c 8 s e next) → (t : ValueType) (after m : ℕ) →
         r ≡ ItemRead.Item t after m → Tabled c s start e (set l count (argument t)) (count + 1) after (n + m)
     tabled-more h some r found t after m q =
         let turn = tabled .turn in

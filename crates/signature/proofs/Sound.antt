@@ -26,7 +26,8 @@ use Rattle.signature.specs.declared.ResultRead.{ResultRead}
 use Rattle.signature.specs.declared.HeadRead.{HeadRead}
 use Rattle.signature.specs.Answer.{resultAnswer, headAnswer}
 use Rattle.signature.specs.Signature.{Result, nothing, value, Signature, Head}
-use Rattle.signature.specs.Read.{maxDepth, maxArguments, conventionBy, conventionAt, resultIn, resultAt, argumentsIn, argumentsAt, afterResult, afterConvention, signatureOf, headBy, headAfter, headOf}
+use Rattle.signature.specs.Limits.{maxLength, maxArguments, maxDepth}
+use Rattle.signature.specs.Read.{conventionBy, conventionAt, resultIn, resultAt, argumentsIn, argumentsAt, afterResult, afterConvention, signatureOf, headBy, headAfter, headOf}
 use Rattle.signature.proofs.Laws.{result-got, head-got}
 use Rattle.signature.specs.Encode.{encodeResult, encode, resultItems, signatureItems, ResultWithin, Within}
 
@@ -170,7 +171,7 @@ pub record SignatureSound (s : List ℕ) (g : Signature) (next n : ℕ) : Type 0
   pub ends : next ≡ length s
   pub items : n ≡ signatureItems g
 
-module _ (s : List ℕ) (short : length s ≤ 4096) (c : Convention) (at₁ n₁ : ℕ) (first : ConventionSound s c at₁ n₁) (r : Result) (at₂ n₂ : ℕ)
+module _ (s : List ℕ) (short : length s ≤ maxLength) (c : Convention) (at₁ n₁ : ℕ) (first : ConventionSound s c at₁ n₁) (r : Result) (at₂ n₂ : ℕ)
     (second : ResultSound c s at₁ r at₂ n₂) where
   all-sound : (ts : Trees) (next m : ℕ) → ArgumentsSound c s at₂ ts next m → length s ≤ next →
       SignatureSound s (record { convention = c; result = r; arguments = ts }) next (n₁ + n₂ + m)
@@ -193,15 +194,15 @@ module _ (s : List ℕ) (short : length s ≤ 4096) (c : Convention) (at₁ n₁
   after-result-sound = by-next (ArgumentsSound c s at₂) (SignatureSound s) (n₁ + n₂) (argumentsAt c s at₂) _ (arguments-sound c s at₂)
       (λ ts next m third. by-pick (Got (SignatureSound s)) (ltb next (length s)) _ _ (λ _. tt) (λ l. all-sound ts next m third (ltb-false next (length s) l)))
 
-after-convention-sound : (s : List ℕ) → length s ≤ 4096 → (c : Convention) (at n : ℕ) → ConventionSound s c at n → Got (SignatureSound s) (afterConvention s c at n)
+after-convention-sound : (s : List ℕ) → length s ≤ maxLength → (c : Convention) (at n : ℕ) → ConventionSound s c at n → Got (SignatureSound s) (afterConvention s c at n)
 unfolding afterConvention
 after-convention-sound s short c at n first = by-next (ResultSound c s at) (SignatureSound s) n (resultAt c s at) _ (result-sound c s at)
     (λ r next m second. after-result-sound s short c at n first r next m second)
 
 signature-sound : (s : List ℕ) → Got (SignatureSound s) (signatureOf s)
 unfolding signatureOf
-signature-sound s = by-choose (Got (SignatureSound s)) (ltb 4096 (length s)) _ _ (λ _. tt)
-    (λ l. by-then (ConventionSound s) (SignatureSound s) (conventionAt s) _ (convention-sound s) (after-convention-sound s (ltb-false 4096 (length s) l)))
+signature-sound s = by-choose (Got (SignatureSound s)) (ltb maxLength (length s)) _ _ (λ _. tt)
+    (λ l. by-then (ConventionSound s) (SignatureSound s) (conventionAt s) _ (convention-sound s) (after-convention-sound s (ltb-false maxLength (length s) l)))
 
 -- the same of a reading that is known
 
@@ -223,13 +224,13 @@ result-third (value t) = tree-third t
 pub record HeadBounded (s : List ℕ) (at b n : ℕ) : Type 0 where
   pub inside : at ≤ b
   pub within : b ≤ length s
-  pub short : length s ≤ 4096
+  pub short : length s ≤ maxLength
   pub third : 3 * n ≤ at
 
 abbrev HeadSound : List ℕ → Head → ℕ → ℕ → Type 0
 HeadSound s h next n = HeadBounded s next (h .end) n
 
-head-after-sound : (s : List ℕ) → length s ≤ 4096 → (c : Convention) (at n : ℕ) → ConventionSound s c at n → Got (HeadSound s) (headAfter s c at n)
+head-after-sound : (s : List ℕ) → length s ≤ maxLength → (c : Convention) (at n : ℕ) → ConventionSound s c at n → Got (HeadSound s) (headAfter s c at n)
 unfolding headAfter
 head-after-sound s short c at n first = by-next (ResultSound c s at) (HeadSound s) n (resultAt c s at) _ (result-sound c s at)
     (λ r next m second. go r next m second (bodyAt s 0x03 0x03 (length s) next) (body-is s 0x03 0x03 (length s) next))
@@ -243,8 +244,8 @@ head-after-sound s short c at n first = by-next (ResultSound c s at) (HeadSound 
 
 head-sound : (s : List ℕ) → Got (HeadSound s) (headOf s)
 unfolding headOf
-head-sound s = by-choose (Got (HeadSound s)) (ltb 4096 (length s)) _ _ (λ _. tt)
-    (λ l. by-then (ConventionSound s) (HeadSound s) (conventionAt s) _ (convention-sound s) (head-after-sound s (ltb-false 4096 (length s) l)))
+head-sound s = by-choose (Got (HeadSound s)) (ltb maxLength (length s)) _ _ (λ _. tt)
+    (λ l. by-then (ConventionSound s) (HeadSound s) (conventionAt s) _ (convention-sound s) (head-after-sound s (ltb-false maxLength (length s) l)))
 
 pub head-bounded : (s : List ℕ) (x : HeadRead) (c : Convention) (t : ResultType) (at b n : ℕ) → x ≡ headAnswer (headOf s) →
     x ≡ HeadRead.Head c t at b n → HeadBounded s at b n

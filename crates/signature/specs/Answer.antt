@@ -19,7 +19,7 @@ use Rattle.signature.specs.declared.ConventionRead.{ConventionRead}
 use Rattle.signature.specs.declared.ResultRead.{ResultRead}
 use Rattle.signature.specs.declared.HeadRead.{HeadRead}
 use Rattle.signature.specs.Signature.{Result, nothing, value, Signature, Head}
-use Rattle.signature.specs.Read.{maxArguments}
+use Rattle.signature.specs.Limits.{maxArguments}
 
 abbrev pub conventionAnswer : Reading Convention → ConventionRead
 conventionAnswer (got c next n) = ConventionRead.Known c

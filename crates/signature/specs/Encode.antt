@@ -8,6 +8,7 @@ use Rattle.conventions.specs.Numbers.{codeOf}
 use Rattle.types.specs.Trees.{countOf}
 use Rattle.types.specs.Limits as types
 use Rattle.items.specs.Encode.{item, encodeTree, encodeTrees, itemsOf, itemsIn}
+use Rattle.signature.specs.Limits.{maxLength, maxArguments}
 use Rattle.signature.specs.Signature.{Result, nothing, value, Signature}
 
 unfoldable pub encodeResult : Result → List ℕ
@@ -35,5 +36,5 @@ ResultWithin c (value t) = types.Within c t
 pub record Within (g : Signature) : Type 0 where
   pub result : ResultWithin (g .convention) (g .result)
   pub arguments : types.AllWithin (g .convention) (g .arguments)
-  pub few : countOf (g .arguments) ≤ 64
-  pub short : length (encode g) ≤ 4096
+  pub few : countOf (g .arguments) ≤ maxArguments
+  pub short : length (encode g) ≤ maxLength

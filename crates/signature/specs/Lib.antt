@@ -1,5 +1,6 @@
 -- What reading a signature finds, and the bytes that an encoder gives for one. Assumes nothing.
 pub mod Signature
+pub mod Limits
 pub mod Read
 pub mod Answer
 pub mod Numbers

@@ -13,19 +13,8 @@ use Rattle.items.specs.Reading.{Reading, fault, got, no, after, choose, andThen
 use Rattle.items.specs.Read.{bodyAt, sequence, itemAt}
 use Rattle.conventions.specs.declared.ConventionCode.{ConventionCode}
 use Rattle.conventions.specs.Numbers.{conventionCode}
+use Rattle.signature.specs.Limits.{maxLength, maxArguments, maxDepth}
 use Rattle.signature.specs.Signature.{Result, nothing, value, Signature, Head}
-
--- 1: "signature over 4,096 bytes"
-abbrev pub maxLength : ℕ
-maxLength = 4096
-
--- 7: "bytes left after the 64th argument"
-abbrev pub maxArguments : ℕ
-maxArguments = 64
-
--- the depth left outside any struct; 6: "struct depth over 8"
-abbrev pub maxDepth : ℕ
-maxDepth = 8
 
 -- an unknown code is malformed
 abbrev pub conventionBy : ConventionCode → Reading Convention
@@ -48,7 +37,7 @@ resultIn c s at b =
 unfoldable pub resultAt : Convention → List ℕ → ℕ → Reading Result
 resultAt c s at = inBody (bodyAt s 0x02 0x02 (length s) at) at (λ b. resultIn c s (at + 3) b)
 
--- "0 to 64 type items"; their item's own header is counted first
+-- 0 to 128 "type items"; their item's own header is counted first
 unfoldable pub argumentsIn : Convention → List ℕ → ℕ → ℕ → Reading Trees
 argumentsIn c s at b = sequence (itemAt c maxDepth s b) b maxArguments at 1 none
 

@@ -6,8 +6,9 @@ use native.Mathlib.Omega.{arith}
 use lib.ListN.{length, replicate, length-append}
 use Rattle.conventions.specs.declared.Convention.{Convention}
 use Rattle.types.specs.declared.ValueType.{ValueType}
-use Rattle.types.specs.Trees.{Trees, none, _▸_, countOf}
+use Rattle.types.specs.Trees.{countOf}
 use Rattle.items.specs.Reading.{Reading, got, no}
+use Rattle.signature.specs.Limits.{maxArguments}
 use Rattle.signature.specs.declared.ResultType.{ResultType}
 use Rattle.signature.specs.declared.SignatureRead.{SignatureRead}
 use Rattle.signature.specs.Signature.{Signature}
@@ -22,7 +23,7 @@ use Rattle.plan.specs.declared.Plan.{Plan}
 use Rattle.plan.specs.Plan.{spansOf, valuesOf, noSpan, tableOf, hiddenIn, startIn, endIn, planIn, planAnswer, typesOf, planned}
 use Rattle.plan.specs.Limits.{Plannable}
 use Rattle.plan.proofs.Fold.{length-spans}
-use Rattle.plan.proofs.Answers.{table-types, answer-plannable, planned-answer}
+use Rattle.plan.proofs.Answers.{table-types, answer-plannable, planned-answer, length-of-types}
 use Rattle.slots.specs.Placements.{Placement, placements}
 use Rattle.slots.specs.Limits.{Held, Fits, All, sizesOf}
 use Rattle.slots.specs.Arguments.{argumentsIn, planFor, Carried}
@@ -40,20 +41,15 @@ arguments-got g next n =
     let k : Cursor = startIn c (resultType c (g .result)) in
     let ts : List ValueType = typesOf c (g .arguments) in
     let ss : List Span = spansOf c (rulesOf c) k ts in
-    ap (λ (l : List ValueType). placements c l (ss ++ replicate (64 - length ss) noSpan)) (table-types c (g .arguments))
-    ∙ placements-table c (rulesOf c) k ts (replicate (64 - length ss) noSpan)
-
-length-typesOf : (c : Convention) (ts : Trees) → length (typesOf c ts) ≡ countOf ts
-unfolding typesOf countOf
-length-typesOf c none = refl
-length-typesOf c (ts ▸ t) = simp length-append (omega (arith, length-typesOf c ts))
+    ap (λ (l : List ValueType). placements c l (ss ++ replicate (maxArguments - length ss) noSpan)) (table-types c (g .arguments))
+    ∙ placements-table c (rulesOf c) k ts (replicate (maxArguments - length ss) noSpan)
 
 -- every slot of the plan's table is there
-planned-room : (n : ℕ) (c : Convention) (r : ResultType) (ts : List ValueType) (m : ℕ) → length ts ≡ m → m ≤ 64 → m ≤ length (planIn n c r ts .spans)
+planned-room : (n : ℕ) (c : Convention) (r : ResultType) (ts : List ValueType) (m : ℕ) → length ts ≡ m → m ≤ maxArguments → m ≤ length (planIn n c r ts .spans)
 unfolding planIn tableOf
 planned-room n c r ts m e h =
     let ss : List Span = spansOf c (rulesOf c) (startIn c r) ts in
-    omega (arith, length-spans c (rulesOf c) (startIn c r) ts, length-append ss (replicate (64 - length ss) noSpan))
+    omega (arith, length-spans c (rulesOf c) (startIn c r) ts, length-append ss (replicate (maxArguments - length ss) noSpan))
 
 planned-fit : (n : ℕ) (c : Convention) (r : ResultType) (ts : List ValueType)
     → All (Fits (planIn n c r ts .area) (planIn n c r ts .copies)) (placements c ts (spansOf c (rulesOf c) (startIn c r) ts))
@@ -86,7 +82,7 @@ carried s = go (signatureOf s) refl
         record {
           few = a .within .few;
           types = plan .room;
-          spans = planned-room n c r ts (countOf (g .arguments)) (length-typesOf c (g .arguments)) (a .within .few);
+          spans = planned-room n c r ts (countOf (g .arguments)) (length-of-types c (g .arguments)) (a .within .few);
           held = subst (All (Held (rulesOf c))) (sym same) (all-held c k ts (all-typed c (g .arguments) (a .arguments)));
           fit = subst (All (Fits (planIn n c r ts .area) (planIn n c r ts .copies))) (sym same) (planned-fit n c r ts);
           total = ap sizesOf same ∙ placements-sizes c (rulesOf c) k ts ∙ planned-values n c r ts;

@@ -3,6 +3,7 @@ use Prim.Native.Nat.{ℕ, _≤_}
 use mathlib.Core.Path.{_≡_}
 use mathlib.Core.List.{List}
 use lib.ListN.{length}
+use Rattle.signature.specs.Limits.{maxArguments}
 use Rattle.signature.specs.declared.SignatureRead.{SignatureRead}
 use Rattle.signature.specs.Read.{signatureOf}
 use Rattle.signature.specs.Answer.{signatureAnswer}
@@ -28,10 +29,10 @@ planFor s = planAnswer (signatureOf s)
 abbrev pub rulesFor : List ℕ → Rules
 rulesFor s = rulesOf (signatureAnswer (signatureOf s) .convention)
 
--- What holds of every signature's arguments, whatever its bytes (law `carried`): there are at most 64; each is held by its span, and
+-- What holds of every signature's arguments, whatever its bytes (law `carried`): there are at most 128; each is held by its span, and
 -- lies in the area and the copies of its plan; their sizes are those of the values.
 pub record Carried (g : SignatureRead) (p : Plan) : Type 0 where
-  pub few : g .count ≤ 64
+  pub few : g .count ≤ maxArguments
   pub types : g .count ≤ length (g .arguments)
   pub spans : g .count ≤ length (p .spans)
   pub held : All (Held (rulesOf (g .convention))) (argumentsIn g p)

@@ -1,8 +1,9 @@
 // The tests that every call makes of a state and its memory (refusals 23 and 16), and what calls read of a state: the stack pointer, the frame entered last and its caller.
 ghost use mathlib.Core.Path.{_≡_};
 ghost use mathlib.Core.Bool.{true};
-ghost use Prim.Native.Nat.{_≤_};
+ghost use Prim.Native.Nat.{_*_, _≤_};
 ghost use Rattle.rules.specs.Lawful.{Lawful};
+ghost use Rattle.rules.specs.Frames.{mostSize};
 ghost use Rattle.machine.specs.Answers.{judge};
 ghost use Rattle.rules.specs.Frames.{allWithin, okRegisters};
 ghost use Rattle.machine.specs.Machine.{stackPointer, topFrame, top, caller, okFrames, sizes, okMemory, okState, stateTests};
@@ -93,7 +94,7 @@ fn registers_ok(k: Rules, r: Registers) -> bool
 
 fn sizes_of(k: Rules, fs: [Frame; 32], depth: usize) -> usize
     requires { ⌜ (Lawful k) × (depth ≤ 32) × (okFrames k fs depth ≡ true) ⌝ }
-    ensures { λ r. ⌜ (r ≡ sizes k fs depth) × (r ≤ 2097152) ⌝ }
+    ensures { λ r. ⌜ (r ≡ sizes k fs depth) × (r ≤ 32 * mostSize) ⌝ }
 {
     let mut d = depth;
     let mut sum: usize = 0;

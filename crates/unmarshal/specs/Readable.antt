@@ -12,13 +12,13 @@ use Rattle.signature.specs.declared.SignatureRead.{SignatureRead}
 use Rattle.places.specs.declared.Rules.{Rules}
 use Rattle.places.specs.declared.Span.{Span}
 use Rattle.places.specs.Step.{rulesOf}
-use Rattle.plan.specs.declared.Plan.{Plan}
 use Rattle.slots.specs.declared.Answer.{Answer}
 use Rattle.slots.specs.Buffers.{Buffers}
 use Rattle.slots.specs.Placements.{Placement, floatAt, addressAt}
 use Rattle.slots.specs.Refusals.{floatAnswer}
 use Rattle.slots.specs.Limits.{Held, All, sizesOf}
-use Rattle.slots.specs.Arguments.{argumentsIn}
+use Rattle.plan.specs.Limits.{Plannable}
+use Rattle.arguments.specs.Table.{argumentsFrom}
 
 -- a span's words lie in the image and the area
 abbrev pub WordsFit : Span → List ℕ → List ℕ → Type 0
@@ -48,10 +48,8 @@ pub record Readable (r : Rules) (base : ℕ) (p : Placement) (b : Buffers) : Typ
   pub inside : p .span .floating .count ≤ 0 → p .span .indirect ≡ true
       → (base ≤ addressAt (p .span) b) × (addressAt (p .span) b - base + p .size ≤ length (b .copies))
 
--- all arguments, into values of v bytes
-pub record AllReadable (g : SignatureRead) (p : Plan) (base v : ℕ) (b : Buffers) : Type 0 where
-  pub few : g .count ≤ 64
-  pub types : g .count ≤ length (g .arguments)
-  pub spans : g .count ≤ length (p .spans)
-  pub each : All (λ (q : Placement). Readable (rulesOf (g .convention)) base q b) (argumentsIn g p)
-  pub total : sizesOf (argumentsIn g p) ≡ v
+-- all arguments of a signature that was read, into values of v bytes
+pub record AllReadable (g : SignatureRead) (base v : ℕ) (b : Buffers) : Type 0 where
+  pub plannable : Plannable g
+  pub each : All (λ (q : Placement). Readable (rulesOf (g .convention)) base q b) (argumentsFrom g)
+  pub total : sizesOf (argumentsFrom g) ≡ v

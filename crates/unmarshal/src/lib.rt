@@ -2,7 +2,6 @@
 use ieee::Narrowed;
 use places::Rules;
 use places::Span;
-use plan::Plan;
 use signature::SignatureRead;
 use types::Equivalent;
 use types::ValueType;
@@ -16,7 +15,7 @@ ghost use Rattle.places.specs.Step.{rulesOf};
 ghost use Rattle.slots.specs.Buffers.{buffers};
 ghost use Rattle.slots.specs.Forms.{narrowedBytes, floatValueAs};
 ghost use Rattle.slots.specs.Placements.{placement, wordsAt, addressAt, valueAt, valuesAt};
-ghost use Rattle.slots.specs.Arguments.{argumentsIn};
+ghost use Rattle.arguments.specs.Table.{argumentsFrom};
 ghost use Rattle.unmarshal.specs.Readable.{WordsFit, FloatRoom, Readable, AllReadable};
 
 // The 64 bits of a span's only word.
@@ -130,31 +129,34 @@ fn take_argument(
     take_words(out, image, area, s, slots::own_start(r, t, n), n);
 }
 
-// The values of all arguments, one after the other.
+// The values of all arguments of a signature that was read, one after the other.
 pub fn take_arguments(
     values: &mut [u8],
     image: &[u8],
     area: &[u8],
     copies: &[u8],
     g: SignatureRead,
-    p: Plan,
     base: u64,
 )
-    requires { ⌜ AllReadable g p base (length (now values)) (buffers (now image) (now area) (now copies)) ⌝ }
-    ensures { λ _. ⌜ now (values .exit) ≡ overlay (now (values .entry)) (valuesAt (rulesOf (g .convention)) base (argumentsIn g p) (buffers (now (image .entry)) (now (area .entry)) (now (copies .entry)))) ⌝ }
+    requires { ⌜ AllReadable g base (length (now values)) (buffers (now image) (now area) (now copies)) ⌝ }
+    ensures { λ _. ⌜ now (values .exit) ≡ overlay (now (values .entry)) (valuesAt (rulesOf (g .convention)) base (argumentsFrom g) (buffers (now (image .entry)) (now (area .entry)) (now (copies .entry)))) ⌝ }
 {
     let convention = g.convention;
+    let result = g.result;
     let count = g.count;
     let rules = abi::call_rules_of(convention);
+    let mut c = arguments::first_cursor(convention, result);
     let mut v: usize = 0;
     let mut i: usize = 0;
     while i < count {
         let a = g.arguments[i];
         let t = a.ty;
-        let s = p.spans[i];
         let n = types::size_of(convention, t);
+        let p = placing::step(rules, c, t, n);
+        let s = p.span;
         take_argument(&mut values[v..], image, area, copies, rules, t, n, s, base);
         v = v + n;
+        c = p.next;
         i = i + 1;
     }
 }

@@ -1,8 +1,8 @@
 // Which bytes of the memory a frame may write: its own outgoing area and its locals, or a leaf's part of the floor; and its caller's outgoing area.
 ghost use mathlib.Core.Path.{_≡_};
-ghost use Prim.Native.Nat.{_≤_};
+ghost use Prim.Native.Nat.{_+_, _≤_};
 ghost use Rattle.rules.specs.Lawful.{Lawful};
-ghost use Rattle.rules.specs.Frames.{outgoingLength};
+ghost use Rattle.rules.specs.Frames.{maxOutgoing, outgoingLength};
 ghost use Rattle.machine.specs.Machine.{inside, outgoingFrom, localsFrom, writableBytes, writableAddress};
 ghost use Rattle.machine.specs.Premises.{Sound};
 use machine::State;
@@ -34,7 +34,7 @@ fn outgoing_from(k: Rules, f: Frame, o: usize) -> usize
 }
 
 fn locals_from(k: Rules, f: Frame, o: usize) -> usize
-    requires { ⌜ (Lawful k) × (k .floor ≤ o) × (o ≤ 65536) × (outgoingLength k f ≤ 16648) ⌝ }
+    requires { ⌜ (Lawful k) × (k .floor ≤ o) × (o ≤ 65536) × (outgoingLength k f ≤ maxOutgoing + 256) ⌝ }
     ensures { λ r. ⌜ r ≡ localsFrom k f o ⌝ }
 {
     if f.leaf {

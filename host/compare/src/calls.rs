@@ -520,7 +520,7 @@ fn make_index(random: &mut Random, case: &mut Case) {
                 let edge = "the index after the last argument's";
                 (count as u64, Some((Some(Fault::NoArgument), edge)))
             }
-            1 => (64, None),
+            1 => (generate::MOST_ARGUMENTS as u64, None),
             2 => {
                 // an index that is there, with a bit above it
                 let index = random.below(count.max(1)) as u64 | 1 << (8 + random.below(56));

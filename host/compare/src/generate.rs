@@ -4,10 +4,10 @@ use crate::encode::{
     self, ARGUMENTS, CONVENTION, FLOAT, FLOATS, INTEGER, INTEGERS, RESULT, STRUCT,
 };
 use crate::random::Random;
-use reference::{struct_size, Convention, Float, Signature, Type};
+use reference::{struct_size, Convention, Float, Integer, Signature, Type};
 
-const LONGEST_SIGNATURE: usize = 4096;
-const MOST_ARGUMENTS: usize = 64;
+const LONGEST_SIGNATURE: usize = 16_384;
+pub const MOST_ARGUMENTS: usize = 128;
 const DEEPEST_STRUCT: usize = 8;
 const LARGEST_STRUCT: usize = 256;
 /// The bytes of a signature's three headers and its convention's code.
@@ -22,6 +22,9 @@ const TELLING_BYTES: [u8; 14] = [
 pub fn valid(random: &mut Random) -> Signature {
     let convention = random.pick(&[Convention::Ppc64, Convention::Z]);
     let result = random.once_in(2).then(|| valid_type(random));
+    if random.once_in(100) {
+        return longest(random, convention, result);
+    }
     let count = match random.below(16) {
         0 => MOST_ARGUMENTS,
         1..=3 => random.below(MOST_ARGUMENTS + 1),
@@ -29,6 +32,33 @@ pub fn valid(random: &mut Random) -> Signature {
     };
     let arguments = (0..count).map(|_| valid_type(random));
     fitting(convention, result, arguments)
+}
+
+/// A signature of the longest length, or of up to three bytes less: structs of integers, and one
+/// that takes what is left.
+fn longest(random: &mut Random, convention: Convention, result: Option<Type>) -> Signature {
+    let structure = |count| Type::Struct(vec![Type::Integer(Integer::U8); count]);
+    let mut room = LONGEST_SIGNATURE - FRAME - result.as_ref().map_or(0, encode::type_length);
+    let mut arguments = Vec::new();
+    loop {
+        // the fields of a struct that takes all that is left
+        let all = (room - 3) / 4;
+        let count = match all <= LARGEST_STRUCT {
+            true => all,
+            // what is left then is enough for one more
+            false => (1 + random.below(LARGEST_STRUCT)).min(all - 2),
+        };
+        let next = structure(count);
+        room -= encode::type_length(&next);
+        arguments.push(next);
+        if count == all {
+            return Signature {
+                convention,
+                result,
+                arguments,
+            };
+        }
+    }
 }
 
 /// The signature with these types, without the arguments that would make it too long.
@@ -287,11 +317,11 @@ fn break_parent(random: &mut Random, item: &mut Loose) {
     }
 }
 
-/// Repeats the items within this one, up to about two hundred: too many arguments, a struct that
+/// Repeats the items within this one, up to about three hundred: too many arguments, a struct that
 /// is too large, a signature that is too long.
 fn repeat_items(random: &mut Random, item: &mut Loose) {
     let pattern = item.items.clone();
-    let most = 1 + random.below(200);
+    let most = 1 + random.below(300);
     while item.items.len() < most {
         item.items.extend_from_slice(&pattern);
     }

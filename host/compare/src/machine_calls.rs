@@ -128,8 +128,8 @@ pub fn request(random: &mut Random, convention: Convention) -> Request {
             _ => random.number() % 300,
         },
         outgoing: match random.below(16) {
-            0 => 16_392,
-            1 => random.number() % 2_050 * 8,
+            0 => 32_776,
+            1 => random.number() % 4_098 * 8,
             2..=8 => 0,
             _ => random.number() % 20 * 8,
         },
@@ -220,7 +220,7 @@ pub fn broken_request(random: &mut Random, convention: Convention, request: Requ
         1 => broken.first_fpr = outside(random, fprs),
         2 => broken.saves_cr = random.pick(&[most_cr + 1, 2, 256, u64::MAX]),
         3 => broken.locals = random.pick(&[32_001, 32_016, 1 << 32, u64::MAX - 400, u64::MAX]),
-        4 => broken.outgoing = random.pick(&[16_400, 1 << 32, u64::MAX - 7, u64::MAX - 399]),
+        4 => broken.outgoing = random.pick(&[32_784, 1 << 32, u64::MAX - 7, u64::MAX - 399]),
         5 => broken.outgoing = (broken.outgoing / 8 * 8) | (1 + random.number() % 7),
         6 => broken.leaf = random.pick(&[2, 3, 256, 1 << 32, u64::MAX]),
         // a leaf on Z, or one with locals or an outgoing area
@@ -229,7 +229,7 @@ pub fn broken_request(random: &mut Random, convention: Convention, request: Requ
             if convention == Convention::Ppc64 {
                 match random.below(3) {
                     0 => broken.locals = random.pick(&[1, 8, 32_000]),
-                    1 => broken.outgoing = random.pick(&[8, 64, 16_392]),
+                    1 => broken.outgoing = random.pick(&[8, 64, 32_776]),
                     _ => (broken.locals, broken.outgoing) = (1, 8),
                 }
             }

@@ -16,7 +16,7 @@ use std::fmt;
 
 /// What accepted calls of PPC64 must have been like, as a histogram has it.
 pub const PPC64: [&str; 20] = [
-    "PPC64 64 arguments",
+    "PPC64 128 arguments",
     "PPC64 double in FPR",
     "PPC64 double in FPR past r10",
     "PPC64 double in memory",
@@ -40,7 +40,7 @@ pub const PPC64: [&str; 20] = [
 
 /// What accepted calls of Z must have been like.
 pub const Z: [&str; 29] = [
-    "Z 64 arguments",
+    "Z 128 arguments",
     "Z copies end off a multiple of 8",
     "Z double in FPR",
     "Z double in memory",
@@ -225,7 +225,7 @@ pub(crate) fn count_cases(signature: &Signature, plan: &Plan, seen: &mut Histogr
     count("calls");
     match plan.arguments.len() {
         0 => count("no arguments"),
-        64 => count("64 arguments"),
+        generate::MOST_ARGUMENTS => count("128 arguments"),
         _ => {}
     }
     count(match &signature.result {
@@ -333,8 +333,8 @@ pub fn interesting(random: &mut Random) -> Signature {
         argument(random, mix)
     });
     let count = match random.below(8) {
-        0 => 64,
-        1..=2 => random.below(65),
+        0 => generate::MOST_ARGUMENTS,
+        1..=2 => random.below(generate::MOST_ARGUMENTS + 1),
         3..=5 => random.below(25),
         _ => random.below(9),
     };

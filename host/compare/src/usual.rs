@@ -7,12 +7,25 @@ use reference::{Convention, Float, Signature, Type};
 use std::collections::HashSet;
 use std::ops::RangeInclusive;
 
-const COUNTS: [RangeInclusive<usize>; 3] = [0..=8, 9..=32, 33..=64];
+const COUNTS: [RangeInclusive<usize>; 4] = [0..=8, 9..=32, 33..=64, 65..=128];
+/// All that there can be.
+pub const ALL: RangeInclusive<usize> = 0..=128;
+/// The numbers of arguments that are measured by themselves.
+const SINGLE_COUNTS: [usize; 7] = [0, 1, 4, 8, 16, 64, 128];
 
-/// Signatures with a like number of arguments.
+/// Signatures with a like number of arguments, or the same.
 pub struct Group {
     pub counts: RangeInclusive<usize>,
     pub signatures: Vec<Vec<u8>>,
+}
+
+/// The numbers of arguments for people.
+pub fn told(counts: &RangeInclusive<usize>) -> String {
+    let (first, last) = (counts.start(), counts.end());
+    match first == last {
+        true => first.to_string(),
+        false => format!("{first} to {last}"),
+    }
 }
 
 /// This many different accepted signatures, every number of arguments as likely as another, in
@@ -23,27 +36,51 @@ pub fn groups(seed: u64, signatures: usize) -> Vec<Group> {
         signatures: Vec::new(),
     };
     let mut groups: Vec<Group> = COUNTS.iter().map(group).collect();
-    let mut random = Random::new(seed);
-    let mut known = HashSet::new();
-    while known.len() < signatures {
-        let signature = signature(&mut random);
-        let bytes = encode::signature(&signature);
-        if known.insert(bytes.clone()) {
-            let count = signature.arguments.len();
-            let group = groups
-                .iter_mut()
-                .find(|group| group.counts.contains(&count));
-            let group = group.expect("a group for every count");
-            group.signatures.push(bytes);
-        }
+    for (count, bytes) in different(seed, signatures, |random| random.below(ALL.end() + 1)) {
+        let group = groups
+            .iter_mut()
+            .find(|group| group.counts.contains(&count));
+        let group = group.expect("a group for every count");
+        group.signatures.push(bytes);
     }
     groups
 }
 
-fn signature(random: &mut Random) -> Signature {
+/// This many different accepted signatures for each number of arguments that is measured by itself.
+pub fn single_counts(seed: u64, signatures: usize) -> Vec<Group> {
+    let group = |count: usize| Group {
+        counts: count..=count,
+        signatures: different(seed, signatures, |_| count)
+            .into_iter()
+            .map(|(_, bytes)| bytes)
+            .collect(),
+    };
+    SINGLE_COUNTS.map(group).into()
+}
+
+/// This many different accepted signatures with the number of their arguments, which `count` names.
+fn different(
+    seed: u64,
+    signatures: usize,
+    count: impl Fn(&mut Random) -> usize,
+) -> Vec<(usize, Vec<u8>)> {
+    let mut random = Random::new(seed);
+    let mut known = HashSet::new();
+    let mut all = Vec::new();
+    while all.len() < signatures {
+        let count = count(&mut random);
+        let signature = signature(&mut random, count);
+        let bytes = encode::signature(&signature);
+        if known.insert(bytes.clone()) {
+            all.push((signature.arguments.len(), bytes));
+        }
+    }
+    all
+}
+
+fn signature(random: &mut Random, count: usize) -> Signature {
     let convention = random.pick(&[Convention::Ppc64, Convention::Z]);
     let result = random.once_in(2).then(|| usual_type(random));
-    let count = random.below(65);
     generate::fitting(convention, result, (0..count).map(|_| usual_type(random)))
 }
 

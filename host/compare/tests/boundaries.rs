@@ -1,4 +1,4 @@
-//! The limits of document 01, one step on either side. Each case states the answer that the
+//! The limits of documents 01 and 02, one step on either side. Each case states the answer that the
 //! document gives, and both programs are held to it.
 
 use compare::encode::{self, item, signature_of, type_items, ARGUMENTS, FLOAT, INTEGER, STRUCT};
@@ -95,30 +95,38 @@ fn the_documents_example() {
 }
 
 #[test]
-fn sixty_four_arguments_and_sixty_five() {
+fn arguments_127_128_and_129() {
     for argument in [I8, SINGLE, LONG_DOUBLE, structure(&[I8, DOUBLE])] {
         let items = argument.items() as u64;
         let length = encode::type_item(&argument).len();
-        for bytes in both(None, &vec![argument.clone(); 64]) {
-            accepted("64 arguments", &bytes, 3 + 64 * items);
+        for count in [127, 128] {
+            for bytes in both(None, &vec![argument.clone(); count]) {
+                accepted("up to 128 arguments", &bytes, 3 + count as u64 * items);
+            }
         }
-        for bytes in both(None, &vec![argument.clone(); 65]) {
-            let place = ARGUMENTS_BODY + 64 * length;
-            refused("65 arguments", &bytes, 7, place, 3 + 64 * items);
+        for bytes in both(None, &vec![argument.clone(); 129]) {
+            let place = ARGUMENTS_BODY + 128 * length;
+            refused("129 arguments", &bytes, 7, place, 3 + 128 * items);
         }
     }
-    // whatever the bytes after the 64th are, and before those after the third item
-    let full = type_items(&vec![I8; 64]);
+    // whatever the bytes after the 128th are, and before those after the third item
+    let full = type_items(&vec![I8; 128]);
     for stray in [&[0x00][..], &[0x10], &[0xff, 0xff, 0xff], &[0x10, 0, 9]] {
         let mut bytes = signature_of(Convention::Z, &[], &[&full, stray].concat());
-        refused("bytes after the 64th", &bytes, 7, ARGUMENTS_BODY + 256, 67);
+        refused(
+            "bytes after the 128th",
+            &bytes,
+            7,
+            ARGUMENTS_BODY + 512,
+            131,
+        );
         bytes.push(0);
-        refused("and after the third", &bytes, 7, ARGUMENTS_BODY + 256, 67);
+        refused("and after the third", &bytes, 7, ARGUMENTS_BODY + 512, 131);
     }
-    // the 64th is tested before what follows it
-    let faulty = [&type_items(&vec![I8; 63])[..], &[INTEGER, 0, 1, 9, 0]].concat();
+    // the 128th is tested before what follows it
+    let faulty = [&type_items(&vec![I8; 127])[..], &[INTEGER, 0, 1, 9, 0]].concat();
     let bytes = signature_of(Convention::Z, &[], &faulty);
-    refused("a faulty 64th", &bytes, 4, ARGUMENTS_BODY + 252, 66);
+    refused("a faulty 128th", &bytes, 4, ARGUMENTS_BODY + 508, 130);
 }
 
 #[test]
@@ -226,59 +234,73 @@ fn depth_8_and_9() {
     refused("depth 9 and too long", &bytes, 2, RESULT_BODY + 24, 2 + 8);
 }
 
-/// Structs of i8, with these counts.
-fn structs_of_i8(counts: &[usize]) -> Vec<Type> {
-    let of = |&count: &usize| structure(&vec![I8; count]);
-    counts.iter().map(of).collect()
+/// This many structs of i8, with this many fields in the first of them and one less in the others.
+fn structs_of_i8(count: usize, fields: usize, first: usize) -> Vec<Type> {
+    let of = |at| structure(&vec![I8; if at < first { fields } else { fields - 1 }]);
+    (0..count).map(of).collect()
 }
 
 #[test]
-fn a_signature_of_4096_bytes_and_of_4097() {
-    // 10 bytes for the convention and the headers of result and arguments, 6 structs' headers of
-    // 3 bytes, 1,017 integers of 4 bytes
-    let arguments = structs_of_i8(&[170, 170, 170, 169, 169, 169]);
-    for bytes in both(None, &arguments) {
-        assert_eq!(bytes.len(), 4096);
-        accepted("4,096 bytes", &bytes, 3 + 6 + 1017);
+fn a_signature_of_16383_bytes_16384_and_16385() {
+    // 10 bytes for the convention and the headers of result and arguments, 18 structs' headers of
+    // 3 bytes, 4,080 integers of 4 bytes
+    for bytes in both(None, &structs_of_i8(18, 227, 12)) {
+        assert_eq!(bytes.len(), 16_384);
+        accepted("16,384 bytes", &bytes, 3 + 18 + 4_080);
         refused("and one more", &[&bytes[..], &[0]].concat(), 1, 0, 0);
-        refused("all but one", &bytes[..4095], 2, 7, 2);
+        refused("all but one", &bytes[..16_383], 2, 7, 2);
     }
-    // well formed but for the length: 5 structs' headers and 1,018 integers
-    let arguments = structs_of_i8(&[204, 204, 204, 203, 203]);
-    for bytes in both(None, &arguments) {
-        assert_eq!(bytes.len(), 4097);
-        refused("4,097 bytes", &bytes, 1, 0, 0);
+    // 19 structs' headers and 4,079 integers
+    for bytes in both(None, &structs_of_i8(19, 215, 13)) {
+        assert_eq!(bytes.len(), 16_383);
+        accepted("16,383 bytes", &bytes, 3 + 19 + 4_079);
+        let place = bytes.len();
+        refused(
+            "a byte after them",
+            &[&bytes[..], &[0]].concat(),
+            9,
+            place,
+            3 + 19 + 4_079,
+        );
     }
-    refused("4,096 zeros", &[0; 4096], 3, 0, 0);
-    refused("4,097 zeros", &[0; 4097], 1, 0, 0);
+    // well formed but for the length: 17 structs' headers and 4,081 integers
+    for bytes in both(None, &structs_of_i8(17, 241, 1)) {
+        assert_eq!(bytes.len(), 16_385);
+        refused("16,385 bytes", &bytes, 1, 0, 0);
+    }
+    refused("16,384 zeros", &[0; 16_384], 3, 0, 0);
+    refused("16,385 zeros", &[0; 16_385], 1, 0, 0);
     refused("70,000 zeros", &[0; 70_000], 1, 0, 0);
 }
 
 #[test]
-fn one_type_that_takes_a_whole_signature() {
-    // a struct's header of 3 bytes, 254 fields of 4 within four structs and one within five
-    let fields = [vec![nested(4, I8); 254], vec![nested(5, I8)]].concat();
-    let whole = structure(&fields);
-    let items = 1 + 254 * 5 + 6;
-    for bytes in both(Some(&whole), &[]) {
-        assert_eq!(bytes.len(), 4096);
-        accepted("in the result", &bytes, 3 + items);
+fn the_most_items() {
+    // 256 integers of one byte, each within seven structs: 25 bytes and 8 items each
+    let longest = structure(&vec![nested(7, I8); 256]);
+    assert_eq!(encode::type_item(&longest).len(), 3 + 256 * 25);
+    accepted_as_type("the longest type", &longest, 1 + 256 * 8);
+    // two of them, and one that takes what is left: 3 and 125 times 25 and 20 times 22 bytes
+    let rest = structure(&[vec![nested(7, I8); 125], vec![nested(6, I8); 20]].concat());
+    let items = 3 + 2 * (1 + 256 * 8) + (1 + 125 * 8 + 20 * 7);
+    for bytes in both(Some(&longest), &[longest.clone(), rest.clone()]) {
+        assert_eq!(bytes.len(), 16_384);
+        accepted("in the whole signature", &bytes, items);
     }
-    for bytes in both(None, &[whole]) {
-        assert_eq!(bytes.len(), 4096);
-        accepted("in the arguments", &bytes, 3 + items);
+    for bytes in both(None, &[rest, longest.clone(), longest]) {
+        assert_eq!(bytes.len(), 16_384);
+        accepted("in the arguments", &bytes, items);
     }
 }
 
 #[test]
 fn structs_of_256_fields_in_the_result_and_the_arguments() {
     let full = structure(&vec![I8; 256]);
-    for bytes in both(Some(&full), &vec![full.clone(); 2]) {
-        accepted("three full structs", &bytes, 3 + 3 * 257);
+    for bytes in both(Some(&full), &vec![full.clone(); 14]) {
+        accepted("15 full structs", &bytes, 3 + 15 * 257);
     }
-    for bytes in both(Some(&full), &vec![full.clone(); 3]) {
-        assert_eq!(bytes.len(), 10 + 4 * 1027);
-        refused("four full structs", &bytes, 1, 0, 0);
+    for bytes in both(Some(&full), &vec![full.clone(); 15]) {
+        assert_eq!(bytes.len(), 10 + 16 * 1027);
+        refused("16 full structs", &bytes, 1, 0, 0);
     }
 }
 

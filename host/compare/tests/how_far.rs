@@ -36,7 +36,7 @@ fn digits(text: &str, to: &mut Vec<u8>) {
 /// Number, place and count of items. `%` is the code of the convention.
 const REFUSED: [(&str, u64, u64, u64); 44] = [
     // 1: "0 for refusal 1", whatever the bytes are
-    ("01 0001 % 02 0000 03 0ff7 (00)*4087", 1, 0, 0),
+    ("01 0001 % 02 0000 03 3ff7 (00)*16375", 1, 0, 0),
     // 2, no room for a header: what stands before it is counted
     ("", 2, 0, 0),
     ("01 00", 2, 0, 0),
@@ -113,20 +113,20 @@ const REFUSED: [(&str, u64, u64, u64); 44] = [
         38,
         12,
     ),
-    // 7: bytes left over; the three items and 64 arguments
-    ("01 0001 % 02 0000 03 0101 (10 0001 00)*64 00", 7, 266, 67),
+    // 7: bytes left over; the three items and 128 arguments
+    ("01 0001 % 02 0000 03 0201 (10 0001 00)*128 00", 7, 522, 131),
     (
-        "01 0001 % 02 0000 03 0104 (10 0001 00)*64 10 0001 00",
+        "01 0001 % 02 0000 03 0204 (10 0001 00)*128 10 0001 00",
         7,
-        266,
-        67,
+        522,
+        131,
     ),
     // and the result's two: a struct and its field
     (
-        "01 0001 % 02 0007 12 0004 10 0001 00 03 0101 (10 0001 00)*64 00",
+        "01 0001 % 02 0007 12 0004 10 0001 00 03 0201 (10 0001 00)*128 00",
         7,
-        273,
-        69,
+        529,
+        133,
     ),
     // 8: the struct's own header is not counted, its 33 fields are
     (

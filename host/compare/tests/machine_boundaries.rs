@@ -1,5 +1,5 @@
 //! The frame machine at each edge of its rules, one step on either side. Each case states the answer
-//! that document 01 gives, and both programs are held to it; after every call both states and
+//! that the documents give, and both programs are held to it; after every call both states and
 //! memories are compared too.
 
 use compare::machine_calls;
@@ -128,7 +128,7 @@ fn stated_size(convention: Convention, of: &Request) -> Option<u64> {
             .filter(|_| allowed)
             .map(|_| 0);
     }
-    if of.locals > 32_000 || of.outgoing > 16_392 || of.outgoing % 8 != 0 {
+    if of.locals > 32_000 || of.outgoing > 32_776 || of.outgoing % 8 != 0 {
         return None;
     }
     match convention {
@@ -191,7 +191,7 @@ fn every_edge_of_locals_and_outgoing_area() {
         u64::MAX,
     ];
     let mut outgoing: Vec<u64> = (0..=80).collect();
-    outgoing.extend(16_380..=16_402);
+    outgoing.extend((16_384..=16_400).chain(32_764..=32_792));
     outgoing.extend([1 << 32, 1 << 63, u64::MAX - 7, u64::MAX]);
     for convention in BOTH {
         let mut pair = started(convention, 65_536);
@@ -665,6 +665,44 @@ fn the_start_writes_its_own_outgoing_area() {
                 answers(&mut pair, &call, if inside { 0 } else { 20 });
             }
         }
+    }
+}
+
+/// The largest outgoing area, and one step more. Its own function and the one that it calls may write
+/// its first and its last bytes, and none that reach over its ends.
+#[test]
+fn an_outgoing_area_of_32776_bytes_and_of_32784() {
+    // 48 and 160 bytes of header; the sum is a multiple of 8, and on PPC64 8 more make one of 16
+    for (convention, header, size) in [(Ppc64, 48, 32_832), (Z, 160, 32_936)] {
+        let of = |outgoing| Request {
+            outgoing,
+            ..smallest(convention)
+        };
+        let mut pair = started(convention, 65_536);
+        let before = stack_pointer(pair.state());
+        for outgoing in [32_775, 32_777, 32_784] {
+            answers(&mut pair, &Call::Enter(of(outgoing)), 17);
+        }
+        answers(&mut pair, &Call::Enter(of(32_776)), 0);
+        assert_eq!(stack_pointer(pair.state()), before - size);
+        let area = before - size + header;
+        for called in [false, true] {
+            if called {
+                answers(&mut pair, &Call::Enter(of(0)), 0);
+            }
+            for (address, number) in [
+                (area - 1, 20),
+                (area, 0),
+                (area + 32_776 - 256, 0),
+                (area + 32_776 - 255, 20),
+            ] {
+                let bytes = vec![0x5a; 256];
+                answers(&mut pair, &Call::WriteMemory { address, bytes }, number);
+            }
+        }
+        answers(&mut pair, &Call::Leave, 0);
+        answers(&mut pair, &Call::Leave, 0);
+        assert_eq!(stack_pointer(pair.state()), before);
     }
 }
 

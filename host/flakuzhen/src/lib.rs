@@ -85,13 +85,13 @@ impl Refusal {
     /// What the number means, in words.
     pub fn message(&self) -> &'static str {
         match self.number {
-            1 => "the signature is over 4,096 bytes",
+            1 => "the signature is over 16,384 bytes",
             2 => "no room for an item's header, or its length passes the enclosing end",
             3 => "a tag that is not allowed there",
             4 => "a length or code that is not allowed, an empty struct, or bytes after the result's type",
             5 => "a long double inside a struct",
             6 => "structs nested deeper than 8",
-            7 => "bytes after the 64th argument",
+            7 => "bytes after the 128th argument",
             8 => "a struct of over 256 bytes",
             9 => "bytes after the third item",
             10 => "the buffer of values is not exactly of the arguments' size",

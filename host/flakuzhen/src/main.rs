@@ -48,7 +48,7 @@ Exit status: 0 all accepted; 1 a signature or a call was refused; 2 a word, a fi
 is wrong.
 ";
 
-/// The most that is taken of a file, far above the 4,096 bytes that a signature may have and
+/// The most that is taken of a file, far above the 16,384 bytes that a signature may have and
 /// enough for the most talkative comments.
 const LARGEST_INPUT: u64 = 1 << 20;
 

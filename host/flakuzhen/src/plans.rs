@@ -14,7 +14,7 @@ pub struct Sizes {
 }
 
 /// Enough for every listing that was ever seen, and no promise: a longer one takes a second call.
-const USUAL_LISTING: usize = 2048;
+const USUAL_LISTING: usize = 4096;
 
 /// Plans the call of a function with this signature and gives the sizes of its buffers.
 ///

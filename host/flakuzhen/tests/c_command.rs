@@ -136,7 +136,15 @@ fn bytes_of_all_kinds() {
             other[at] ^= 3;
             same(&[command, "--"], &other);
         }
-        for length in [0, 4095, 4096, 4097, (1 << 20) - 1, 1 << 20, (1 << 20) + 1] {
+        for length in [
+            0,
+            16_383,
+            16_384,
+            16_385,
+            (1 << 20) - 1,
+            1 << 20,
+            (1 << 20) + 1,
+        ] {
             same(&[command], &vec![0; length]);
             same(&[command, "--hex"], &vec![b' '; length]);
         }

@@ -1,7 +1,8 @@
 //! The header and both libraries, used from C and from C++, as they are built and as they are
-//! installed; the C example; and the names that the shared library shows.
+//! installed; the C example; the names that the shared library shows; and the stack that each
+//! function takes.
 
-use std::collections::BTreeSet;
+use std::collections::{BTreeMap, BTreeSet};
 use std::path::{Path, PathBuf};
 use std::process::{Command, Output};
 
@@ -276,4 +277,44 @@ fn the_shared_library_shows_what_the_header_declares_and_nothing_else() {
         .collect();
     expected.insert(version);
     assert_eq!(shown, expected);
+}
+
+/// The bytes of stack that the header allows each function: lines with a number of KiB and names.
+fn stated_stack() -> BTreeMap<String, usize> {
+    let header = std::fs::read_to_string(root().join("include/flakuzhen.h")).expect("the header");
+    let mut stated = BTreeMap::new();
+    for line in header.lines() {
+        let Some((kib, names)) = line.trim_start_matches(" *").split_once(" KiB ") else {
+            continue;
+        };
+        let Ok(kib) = kib.trim().parse::<usize>() else {
+            continue;
+        };
+        for name in names.split(',') {
+            let before = stated.insert(name.trim().to_string(), 1024 * kib);
+            assert_eq!(before, None, "{name} is there twice");
+        }
+    }
+    stated
+}
+
+#[test]
+fn no_function_takes_more_stack_than_the_header_says() {
+    let program = temporary("stack");
+    let source = root().join("targets/stack.c");
+    // nothing is left to be linked at a function's first call, which takes stack too
+    let words = [&C[..], &["-O2", "-Wl,-z,now"]].concat();
+    compile(&source, &program, &words, "libflakuzhen.a");
+    let said = String::from_utf8(run(&mut Command::new(program)).stdout).expect("a table");
+    println!("{said}");
+    let stated = stated_stack();
+    let mut measured = BTreeSet::new();
+    for line in said.lines() {
+        let (name, bytes) = line.split_once(' ').expect("a name and its bytes");
+        let bytes: usize = bytes.trim().parse().expect("a number of bytes");
+        assert!(bytes <= stated[name], "{name} takes {bytes} bytes of stack");
+        measured.insert(name.to_string());
+    }
+    assert_eq!(measured, declared());
+    assert!(stated.keys().eq(&measured));
 }

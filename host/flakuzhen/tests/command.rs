@@ -44,8 +44,8 @@ fn example(name: &str) -> String {
 #[test]
 fn reads_the_examples() {
     let readings = [
-        ("limit-64-arguments.hex", 0, "items 67\n"),
-        ("limit-65-arguments.hex", 1, "refused 7 at 266 after 67\n"),
+        ("limit-128-arguments.hex", 0, "items 131\n"),
+        ("limit-129-arguments.hex", 1, "refused 7 at 522 after 131\n"),
         ("limit-depth-8.hex", 0, "items 12\n"),
         ("limit-depth-9.hex", 1, "refused 6 at 34 after 11\n"),
         ("limit-struct-of-256-bytes.hex", 0, "items 36\n"),
@@ -191,7 +191,7 @@ fn lists_bytes_from_standard_input() {
     prints(&run(&["list"], &EXAMPLE), 0, listing);
     prints(&run(&["list", "-"], &EXAMPLE), 0, listing);
     prints(&run(&["list"], b""), 1, "refused 2 at 0 after 0\n");
-    prints(&run(&["list"], &[0; 4097]), 1, "refused 1 at 0 after 0\n");
+    prints(&run(&["list"], &[0; 16_385]), 1, "refused 1 at 0 after 0\n");
 }
 
 #[test]
@@ -211,7 +211,7 @@ fn reads_bytes_from_standard_input() {
     prints(&run(&["read"], &EXAMPLE), 0, "items 5\n");
     prints(&run(&["read", "-"], &EXAMPLE), 0, "items 5\n");
     prints(&run(&["read"], b""), 1, "refused 2 at 0 after 0\n");
-    prints(&run(&["read"], &[0; 4097]), 1, "refused 1 at 0 after 0\n");
+    prints(&run(&["read"], &[0; 16_385]), 1, "refused 1 at 0 after 0\n");
 }
 
 #[test]

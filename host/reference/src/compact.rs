@@ -157,7 +157,7 @@ fn place(
     keeper: &mut impl Keeper,
 ) -> Result<(Convention, ResultType, Sizes), Refusal> {
     let mut input = Input { bytes, passed: 0 };
-    if bytes.len() > 4096 {
+    if bytes.len() > 16_384 {
         return input.refuse(1, 0);
     }
     let convention_end = input.header(0, bytes.len(), |tag| tag == 0x01)?;
@@ -295,12 +295,12 @@ fn arguments(
     mut place: impl FnMut(Shape) -> Argument,
 ) -> Result<usize, Refusal> {
     // each takes at least four bytes
-    keeper.expect(((end - body) / 4).min(64));
+    keeper.expect(((end - body) / 4).min(128));
     let mut count = 0;
     let mut values = 0;
     let mut at = body;
     while at < end {
-        if count == 64 {
+        if count == 128 {
             return input.refuse(7, at);
         }
         let (shape, after) = shape(input, at, end, 1)?;

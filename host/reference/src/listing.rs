@@ -190,7 +190,7 @@ result hidden r2
     #[test]
     fn a_refusal() {
         assert_eq!(listing(&[]), "refused 2 at 0 after 0\n");
-        assert_eq!(listing(&[0; 4097]), "refused 1 at 0 after 0\n");
+        assert_eq!(listing(&[0; 16_385]), "refused 1 at 0 after 0\n");
         let bytes = [1, 0, 1, 1, 2, 0, 0, 3, 0, 0, 0];
         assert_eq!(listing(&bytes), "refused 9 at 10 after 3\n");
     }

@@ -395,7 +395,7 @@ pub fn request_allowed(convention: Convention, request: &Request) -> bool {
     of_the_convention
         && leaf_or_not
         && request.locals <= 32_000
-        && request.outgoing <= 16_392
+        && request.outgoing <= 32_776
         && request.outgoing % 8 == 0
 }
 
@@ -1027,10 +1027,10 @@ mod tests {
         for (convention, g, m, most_cr) in
             [(Convention::Ppc64, 32, 32, 1), (Convention::Z, 14, 16, 0)]
         {
-            assert!(allowed(convention, request(g, m, most_cr, 32_000, 16_392)));
+            assert!(allowed(convention, request(g, m, most_cr, 32_000, 32_776)));
             assert!(!allowed(convention, request(g, m, most_cr + 1, 0, 0)));
             assert!(!allowed(convention, request(g, m, 0, 32_001, 0)));
-            assert!(!allowed(convention, request(g, m, 0, 0, 16_400)));
+            assert!(!allowed(convention, request(g, m, 0, 0, 32_784)));
             assert!(!allowed(convention, request(g, m, 0, 0, 12)));
         }
         let (mut machine, mut memory) = ppc64();

@@ -1,11 +1,11 @@
 //! The reader of signatures: document 01, "A signature's bytes" and refusals 1 to 9 of "When the
-//! bridge says no", with the counts of document 02's No. 10. Offsets count from the signature's first
-//! byte.
+//! bridge says no", with the counts of document 02's No. 10 and the limits of its No. 6. Offsets count
+//! from the signature's first byte.
 
 use crate::{Convention, Float, Integer, Refusal, Signature, Type};
 
-const LONGEST_SIGNATURE: usize = 4096;
-const MOST_ARGUMENTS: usize = 64;
+const LONGEST_SIGNATURE: usize = 16_384;
+const MOST_ARGUMENTS: usize = 128;
 const DEEPEST_STRUCT: usize = 8;
 const LARGEST_STRUCT: usize = 256;
 
@@ -75,7 +75,7 @@ impl Reader<'_> {
         Ok(Some(result))
     }
 
-    /// "0 to 64 type items"
+    /// "0 to 64 type items", raised "to 128"
     fn arguments(&mut self, item: &Item) -> Result<Vec<Type>, Refusal> {
         let mut arguments = Vec::new();
         let mut place = item.body;
@@ -298,9 +298,9 @@ mod tests {
     }
 
     #[test]
-    fn refusal_1_is_a_signature_over_4096_bytes_whatever_it_holds() {
-        refused(&[0; 4097], 1, 0, 0);
-        refused(&[0; 4096], 3, 0, 0);
+    fn refusal_1_is_a_signature_over_16384_bytes_whatever_it_holds() {
+        refused(&[0; 16_385], 1, 0, 0);
+        refused(&[0; 16_384], 3, 0, 0);
     }
 
     #[test]
@@ -395,16 +395,16 @@ mod tests {
     }
 
     #[test]
-    fn refusal_7_is_a_byte_after_the_64th_argument() {
-        assert!(read(&signature(&[], &I8_ITEM.repeat(64))).is_ok());
+    fn refusal_7_is_a_byte_after_the_128th_argument() {
+        assert!(read(&signature(&[], &I8_ITEM.repeat(128))).is_ok());
         refused(
-            &signature(&[], &I8_ITEM.repeat(65)),
+            &signature(&[], &I8_ITEM.repeat(129)),
             7,
-            ARGUMENTS_BODY + 256,
-            67,
+            ARGUMENTS_BODY + 512,
+            131,
         );
-        let with_a_byte = [I8_ITEM.repeat(64), vec![0xff]].concat();
-        refused(&signature(&[], &with_a_byte), 7, ARGUMENTS_BODY + 256, 67);
+        let with_a_byte = [I8_ITEM.repeat(128), vec![0xff]].concat();
+        refused(&signature(&[], &with_a_byte), 7, ARGUMENTS_BODY + 512, 131);
     }
 
     #[test]
@@ -476,12 +476,12 @@ mod tests {
         refused(&hex("01 0001 01 02 0005 10 0001 00 ff ff"), 4, 11, 3);
         // a faulty result type before the bytes after it
         refused(&hex("01 0001 01 02 0005 10 0001 09 ff 03 0000"), 4, 7, 2);
-        // bytes after the 64th argument before bytes after the third item
-        let mut bytes = signature(&[], &[I8_ITEM.repeat(64), vec![0]].concat());
+        // bytes after the 128th argument before bytes after the third item
+        let mut bytes = signature(&[], &[I8_ITEM.repeat(128), vec![0]].concat());
         bytes.push(0);
-        refused(&bytes, 7, ARGUMENTS_BODY + 256, 67);
-        // the 64th argument's own fault before bytes after it
-        let faulty = [I8_ITEM.repeat(63), vec![INTEGER, 0, 1, 9, 0]].concat();
-        refused(&signature(&[], &faulty), 4, ARGUMENTS_BODY + 252, 66);
+        refused(&bytes, 7, ARGUMENTS_BODY + 512, 131);
+        // the 128th argument's own fault before bytes after it
+        let faulty = [I8_ITEM.repeat(127), vec![INTEGER, 0, 1, 9, 0]].concat();
+        refused(&signature(&[], &faulty), 4, ARGUMENTS_BODY + 508, 130);
     }
 }

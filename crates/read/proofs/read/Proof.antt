@@ -1,14 +1,15 @@
--- The signature is read and planned, the lengths are tested, every argument is checked, and only then are the values taken.
-use mathlib.Core.Path.{refl, sym, ap, _∙_}
-use Rattle.plan.specs.declared.Plan.{Plan}
+-- The signature is read and its table measured, the lengths are tested, every argument is checked, and only then are the values taken.
+use mathlib.Core.Path.{_≡_, refl, sym, _∙_}
+use Rattle.plan.specs.Plan.{measureOf}
 use Rattle.plan.proofs.Answers.{answer-plannable}
 use Rattle.slots.specs.declared.Answer.{Answer}
 use Rattle.slots.specs.Buffers.{buffers}
-use Rattle.slots.proofs.Answered.{plan-same, carried-same}
+use Rattle.slots.specs.Arguments.{planFor}
 use Rattle.slots.proofs.Refusals.{not-refused}
+use Rattle.arguments.proofs.Table.{measured-read}
 use Rattle.read.specs.Read.{readValues}
 use Rattle.read.proofs.Arguments.{all-readable}
-use Rattle.read.proofs.Accepted.{Lent, tests-passed, all-ready, answer-refused, answer-lengths, answer-arguments, values-kept, values-taken}
+use Rattle.read.proofs.Accepted.{tests-lent, all-ready, all-sizes, answer-refused, answer-lengths, answer-arguments, values-kept, values-taken}
 use borrow.Author.Needs.{needs}
 use Rattle.read.proofs.read.Statement.{statement}
 use Rattle.read.proofs.read.Tie as tie
@@ -16,8 +17,12 @@ use Rattle.read.proofs.read.Tie as tie
 read-signature-requires : tie.Need-read-signature-requires
 read-signature-requires c κs = search needs
 
-plan-signature-requires : tie.Need-plan-signature-requires
-plan-signature-requires c κs = rw (c .read-signature .ensures) (answer-plannable (c .before .before .before .before .before .before .args .sig .now))
+measure-table-requires : tie.Need-measure-table-requires
+measure-table-requires c κs = rw (c .read-signature .ensures) (answer-plannable (c .before .before .before .before .before .before .args .sig .now))
+
+-- what is measured are the sizes of the plan
+sizes : (c : tie.After-measure-table) → c .measure-table .result ≡ measureOf (planFor (c .before .before .before .before .before .before .before .args .sig .now))
+sizes c = measured-read _ _ _ (c .before .read-signature .ensures) (c .measure-table .ensures)
 
 enum-known-outcome : tie.Need-enum-known-outcome
 enum-known-outcome c = search needs
@@ -33,75 +38,60 @@ is-refused-requires c κs = search needs
 
 returns : tie.Need-returns
 returns c =
-    let start = c .before .before .before .before .before .before .before .before .before .before .before .before in
-    let p : Plan = c .before .before .before .before .before .plan-signature .result in
-    let read = c .before .before .before .before .before .before .read-signature .ensures in
-    let same = plan-same (start .args .sig .now) _ p read (c .before .before .before .before .before .plan-signature .ensures) in
+    let measured = c .before .before .before .before .before in
+    let start = measured .before .before .before .before .before .before .before in
     let refused = sym (c .before .is-refused .ensures) ∙ c .if1 .taken in (
-      answer-lengths (start .args .sig .now) _ (start .args .base) _ _ p _ read same (ap (λ (p : Plan). p .outcome) (sym same) ∙ c .before .before .before .enum-told .given .1) _ (c .before .before .tested .ensures) refused,
+      answer-lengths (start .args .sig .now) _ (start .args .base) _ _ (sizes measured) _ (measured .before .read-signature .ensures) _ (c .before .before .before .enum-told .given .1) _ (c .before .before .tested .ensures) refused,
       values-kept (start .args .sig .now) (start .args .base) _ _ (start .args .values .now) refused,
     )
 
 first-refusal-requires : tie.Need-first-refusal-requires
 first-refusal-requires c κs =
-    let start = c .before .before .before .before .before .before .before .before .before .before .before .before in
-    let p : Plan = c .before .before .before .before .before .plan-signature .result in
-    let read = c .before .before .before .before .before .before .read-signature .ensures in
-    let same = plan-same (start .args .sig .now) _ p read (c .before .before .before .before .before .plan-signature .ensures) in
-    let lent : Lent _ p = tests-passed _ p (sym (c .before .before .tested .ensures) ∙ not-refused _ (sym (c .before .is-refused .ensures) ∙ c .if1 .left)) in
-    all-ready _ p _ _ (carried-same (start .args .sig .now) _ p read same) (lent .image) (lent .area)
+    let measured = c .before .before .before .before .before in
+    let start = measured .before .before .before .before .before .before .before in
+    let lent = tests-lent (start .args .sig .now) _ _ (sizes measured) (sym (c .before .before .tested .ensures) ∙ not-refused _ (sym (c .before .is-refused .ensures) ∙ c .if1 .left)) in
+    all-ready (start .args .sig .now) _ _ _ (measured .before .read-signature .ensures) (lent .image) (lent .area)
 
 is-refused-requires-2 : tie.Need-is-refused-requires-2
 is-refused-requires-2 c κs = search needs
 
 returns-2 : tie.Need-returns-2
 returns-2 c =
-    let start = c .before .before .before .before .before .before .before .before .before .before .before .before .before .before .before in
-    let p : Plan = c .before .before .before .before .before .before .before .before .plan-signature .result in
-    let read = c .before .before .before .before .before .before .before .before .before .read-signature .ensures in
-    let same = plan-same (start .args .sig .now) _ p read (c .before .before .before .before .before .before .before .before .plan-signature .ensures) in
+    let measured = c .before .before .before .before .before .before .before .before in
+    let start = measured .before .before .before .before .before .before .before in
     let refused = sym (c .before .is-refused2 .ensures) ∙ c .if2 .taken in (
-      answer-arguments (start .args .sig .now) _ (start .args .base) _ _ p _ read same (ap (λ (p : Plan). p .outcome) (sym same) ∙ c .before .before .before .before .before .before .enum-told .given .1) _ _ (c .before .before .before .before .before .tested .ensures) (sym (c .before .before .before .before .is-refused .ensures) ∙ c .before .before .before .if1 .left) (c .before .before .first-refusal .ensures),
+      answer-arguments (start .args .sig .now) _ (start .args .base) _ _ (sizes measured) _ (measured .before .read-signature .ensures) _ (c .before .before .before .before .before .before .enum-told .given .1) _ _ (c .before .before .before .before .before .tested .ensures) (sym (c .before .before .before .before .is-refused .ensures) ∙ c .before .before .before .if1 .left) (c .before .before .first-refusal .ensures),
       values-kept (start .args .sig .now) (start .args .base) _ _ (start .args .values .now) refused,
     )
 
 take-arguments-requires : tie.Need-take-arguments-requires
 take-arguments-requires c κs =
-    let start = c .before .before .before .before .before .before .before .before .before .before .before .before .before .before .before .before in
-    let p : Plan = c .before .before .before .before .before .before .before .before .before .plan-signature .result in
-    let read = c .before .before .before .before .before .before .before .before .before .before .read-signature .ensures in
-    let same = plan-same (start .args .sig .now) _ p read (c .before .before .before .before .before .before .before .before .before .plan-signature .ensures) in
-    let lent : Lent _ p = tests-passed _ p (sym (c .before .before .before .before .before .before .tested .ensures) ∙ not-refused _ (sym (c .before .before .before .before .before .is-refused .ensures) ∙ c .before .before .before .before .if1 .left)) in
-    let carried = carried-same (start .args .sig .now) _ p read same in
-    let ready = all-ready _ p _ _ carried (lent .image) (lent .area) in
+    let measured = c .before .before .before .before .before .before .before .before .before in
+    let start = measured .before .before .before .before .before .before .before in
+    let read = measured .before .read-signature .ensures in
+    let lent = tests-lent (start .args .sig .now) _ _ (sizes measured) (sym (c .before .before .before .before .before .before .tested .ensures) ∙ not-refused _ (sym (c .before .before .before .before .before .is-refused .ensures) ∙ c .before .before .before .before .if1 .left)) in
+    let ready = all-ready (start .args .sig .now) _ _ _ read (lent .image) (lent .area) in
     let done = sym (c .before .before .before .first-refusal .ensures) ∙ not-refused _ (sym (c .before .before .is-refused2 .ensures) ∙ c .before .if2 .left) in
-    record {
-      few = ready .few;
-      types = ready .types;
-      spans = ready .spans;
-      each = all-readable _ _ _ _ (ready .each) done;
-      total = carried .total ∙ sym (lent .values);
-    }
+    record { plannable = ready .plannable; each = all-readable _ _ _ _ (ready .each) done; total = all-sizes (start .args .sig .now) _ read ∙ sym (lent .values) }
 
 returns-3 : tie.Need-returns-3
 unfolding readValues
 returns-3 c =
-    let start = c .before .before .before .before .before .before .before .before .before .before in
-    let same = plan-same (start .args .sig .now) _ (c .before .before .before .plan-signature .result) (c .before .before .before .before .read-signature .ensures) (c .before .before .before .plan-signature .ensures) in
-    (answer-refused (start .args .sig .now) _ (start .args .base) _ _ (ap (λ (p : Plan). p .outcome) (sym same) ∙ c .before .outcome .given .1), refl)
+    let measured = c .before .before .before in
+    let start = measured .before .before .before .before .before .before .before in
+    (answer-refused (start .args .sig .now) _ (start .args .base) _ _ (sizes measured) _ (c .before .outcome .given .1), refl)
 
 same-length : tie.Need-same-length
 same-length c = search needs
 
 returns-4 : tie.Need-returns-4
 returns-4 c =
-    let start = c .before .before .before .before .before .before .before .before .before .before .before .before .before .before .before .before .before .before .before in
-    let p : Plan = c .before .before .before .before .before .before .before .before .before .before .before .before .plan-signature .result in
-    let read = c .before .before .before .before .before .before .before .before .before .before .before .before .before .read-signature .ensures in
-    let same = plan-same (start .args .sig .now) _ p read (c .before .before .before .before .before .before .before .before .before .before .before .before .plan-signature .ensures) in
+    let measured = c .before .before .before .before .before .before .before .before .before .before .before .before in
+    let start = measured .before .before .before .before .before .before .before in
+    let read = measured .before .read-signature .ensures in
     let done = not-refused _ (sym (c .before .before .before .before .before .is-refused2 .ensures) ∙ c .before .before .before .before .if2 .left) in (
-      answer-arguments (start .args .sig .now) _ (start .args .base) _ _ p _ read same (ap (λ (p : Plan). p .outcome) (sym same) ∙ c .before .before .before .before .before .before .before .before .before .before .enum-told .given .1) _ Answer.Done (c .before .before .before .before .before .before .before .before .before .tested .ensures) (sym (c .before .before .before .before .before .before .before .before .is-refused .ensures) ∙ c .before .before .before .before .before .before .before .if1 .left) (sym done ∙ c .before .before .before .before .before .before .first-refusal .ensures),
-      values-taken (start .args .sig .now) (start .args .base) (buffers (start .args .image .now) (start .args .area .now) (start .args .copies .now)) (start .args .values .now) _ _ p read same (c .before .before .take-arguments .ensures),
+      answer-arguments (start .args .sig .now) _ (start .args .base) _ _ (sizes measured) _ read _ (c .before .before .before .before .before .before .before .before .before .before .enum-told .given .1) _ Answer.Done (c .before .before .before .before .before .before .before .before .before .tested .ensures) (sym (c .before .before .before .before .before .before .before .before .is-refused .ensures) ∙ c .before .before .before .before .before .before .before .if1 .left) (sym done ∙ c .before .before .before .before .before .before .first-refusal .ensures),
+      values-taken (start .args .sig .now) (start .args .base) (buffers (start .args .image .now) (start .args .area .now) (start .args .copies .now)) (start .args .values .now) _ _ read (c .before .before .take-arguments .ensures),
     )
 
 pub read-spec : {M : Type 1} → statement M
@@ -109,7 +99,7 @@ read-spec =
     tie.close
     (tie.spec
     read-signature-requires
-    plan-signature-requires
+    measure-table-requires
     enum-known-outcome
     enum-told
     tested-requires

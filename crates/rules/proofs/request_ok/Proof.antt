@@ -1,5 +1,5 @@
 -- The definition's tests in their order. Assumes nothing.
-use Rattle.rules.specs.Frames.{okRequest}
+use Rattle.rules.specs.Frames.{maxOutgoing, okRequest}
 use Prim.Native.Nat.{_%_}
 use borrow.Author.Tests.{lt-leb, le-leb, eq-eqb, ne-eqb, not-true, not-false}
 use native.Mathlib.Omega.{arith}
@@ -68,7 +68,7 @@ returns-5 c =
       sym (in-span2 .ensures) ∙ not-false (in-span2 .result) (if2 .left),
       le-leb (f .locals) 32000 (omega arith),
       eq-eqb (f .outgoing % 8) 0 (omega arith),
-      lt-leb (f .outgoing) 16392 (omega arith),
+      lt-leb (f .outgoing) maxOutgoing (omega arith),
     )
 
 leaf-ok-requires : tie.Need-leaf-ok-requires
@@ -88,7 +88,7 @@ returns-6 c =
       sym (in-span2 .ensures) ∙ not-false (in-span2 .result) (if2 .left),
       le-leb (f .locals) 32000 (omega arith),
       eq-eqb (f .outgoing % 8) 0 (omega arith),
-      le-leb (f .outgoing) 16392 (omega arith),
+      le-leb (f .outgoing) maxOutgoing (omega arith),
       sym (c .before .leaf-ok .ensures) ∙ not-true (c .before .leaf-ok .result) (c .if6 .taken),
     )
 
@@ -110,7 +110,7 @@ returns-7 c =
       sym (in-span2 .ensures) ∙ not-false (in-span2 .result) (if2 .left),
       le-leb (f .locals) 32000 (omega arith),
       eq-eqb (f .outgoing % 8) 0 (omega arith),
-      le-leb (f .outgoing) 16392 (omega arith),
+      le-leb (f .outgoing) maxOutgoing (omega arith),
       sym (leaf-ok .ensures) ∙ not-false (leaf-ok .result) (c .before .before .if6 .left),
       sym (c .before .has-condition .ensures) ∙ c .if7 .taken,
     )
@@ -131,7 +131,7 @@ returns-8 c =
       sym (in-span2 .ensures) ∙ not-false (in-span2 .result) (if2 .left),
       le-leb (f .locals) 32000 (omega arith),
       eq-eqb (f .outgoing % 8) 0 (omega arith),
-      le-leb (f .outgoing) 16392 (omega arith),
+      le-leb (f .outgoing) maxOutgoing (omega arith),
       sym (leaf-ok .ensures) ∙ not-false (leaf-ok .result) (c .before .before .before .if6 .left),
       sym (has-condition .ensures) ∙ c .before .if7 .left,
     )

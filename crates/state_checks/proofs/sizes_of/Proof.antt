@@ -1,4 +1,5 @@
 -- Down from the top record: the sum so far and the sizes left make the whole. Assumes nothing.
+use Rattle.rules.specs.Frames.{mostSize}
 use Rattle.rules.proofs.Places.{size-small}
 use Rattle.machine.proofs.Coding.{sizes-down, sizes-none, frames-read}
 use Rattle.machine.specs.Machine.{okFrames, frameAt, sizes}
@@ -10,7 +11,7 @@ use Rattle.state_checks.proofs.sizes_of.Statement.{statement}
 use Rattle.state_checks.proofs.sizes_of.Tie as tie
 
 abbrev Inv-loop : tie.InvT-loop
-Inv-loop k depth fs d₀ sum₀ d sum = (sum + sizes k fs d ≡ sizes k fs depth) × (d ≤ depth) × (okFrames k fs d ≡ true) × (sum + 65536 * d ≤ 65536 * depth)
+Inv-loop k depth fs d₀ sum₀ d sum = (sum + sizes k fs d ≡ sizes k fs depth) × (d ≤ depth) × (okFrames k fs d ≡ true) × (sum + mostSize * d ≤ mostSize * depth)
 
 abbrev μ-loop : tie.MeasureT-loop
 μ-loop k depth fs d₀ sum₀ d sum = d

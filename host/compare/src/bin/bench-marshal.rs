@@ -15,6 +15,8 @@ use std::ops::RangeInclusive;
 use std::process::ExitCode;
 
 const CALLS: usize = 3_000;
+/// For each number of arguments that is measured by itself.
+const OF_A_COUNT: usize = 200;
 const ROUNDS: usize = 101;
 const BASE: u64 = 0x10000;
 
@@ -59,7 +61,9 @@ fn main() -> ExitCode {
     let seed = compare::seed();
     let mut random = Random::new(seed);
     let mut groups = Vec::new();
-    for group in usual::groups(seed, CALLS) {
+    let single_counts = usual::single_counts(seed, OF_A_COUNT);
+    let all_groups = usual::groups(seed, CALLS).into_iter().chain(single_counts);
+    for group in all_groups {
         let Some(calls) = filled(&mut random, &group) else {
             eprintln!("the two differ on a call of seed {seed:#x}: nothing is measured");
             return ExitCode::FAILURE;
@@ -73,7 +77,10 @@ fn main() -> ExitCode {
     println!("{:28}  {:30}  read", "", "fill");
     println!("arguments  calls  mean bytes  {side}  {side}");
     let mut all = Sums::default();
-    for (counts, calls) in &groups {
+    let (mixed, single_counts): (Vec<_>, Vec<_>) = groups
+        .iter()
+        .partition(|(counts, _)| counts.start() < counts.end());
+    for (counts, calls) in mixed {
         let sums = measured(calls);
         print(counts, &sums);
         all.calls += sums.calls;
@@ -81,7 +88,11 @@ fn main() -> ExitCode {
         all.fill.add(&sums.fill);
         all.read.add(&sums.read);
     }
-    print(&(0..=64), &all);
+    print(&usual::ALL, &all);
+    println!();
+    for (counts, calls) in single_counts {
+        print(counts, &measured(calls));
+    }
     ExitCode::SUCCESS
 }
 
@@ -195,9 +206,8 @@ fn measured(calls: &[RefCell<Call>]) -> Sums {
 
 fn print(counts: &RangeInclusive<usize>, sums: &Sums) {
     print!(
-        "{:>2} to {:>2}   {:>5}  {:>10.0}",
-        counts.start(),
-        counts.end(),
+        "{:>9}  {:>5}  {:>10.0}",
+        usual::told(counts),
         sums.calls,
         sums.bytes / sums.calls
     );

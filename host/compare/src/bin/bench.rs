@@ -12,6 +12,8 @@ use std::ops::RangeInclusive;
 use std::process::ExitCode;
 
 const SIGNATURES: usize = 10_000;
+/// For each number of arguments that is measured by itself.
+const OF_A_COUNT: usize = 500;
 const ROUNDS: usize = 101;
 
 const SIDES: &str = "\
@@ -37,7 +39,9 @@ struct Sums {
 fn main() -> ExitCode {
     let seed = compare::seed();
     let groups = usual::groups(seed, SIGNATURES);
-    for bytes in groups.iter().flat_map(|group| &group.signatures) {
+    let single_counts = usual::single_counts(seed, OF_A_COUNT);
+    let measured_ones = groups.iter().chain(&single_counts);
+    for bytes in measured_ones.flat_map(|group| &group.signatures) {
         if !agree(bytes) {
             eprintln!("the two differ on a signature of seed {seed:#x}: nothing is measured");
             return ExitCode::FAILURE;
@@ -63,7 +67,11 @@ fn main() -> ExitCode {
         all.second += sums.second;
         all.places += sums.places;
     }
-    print(&(0..=64), &all);
+    print(&usual::ALL, &all);
+    println!();
+    for group in &single_counts {
+        print(&group.counts, &measured(group));
+    }
     ExitCode::SUCCESS
 }
 
@@ -100,9 +108,8 @@ fn measured(group: &Group) -> Sums {
 
 fn print(counts: &RangeInclusive<usize>, sums: &Sums) {
     println!(
-        "{:>2} to {:>2}   {:>10}  {:>10.0}  {:>7.0}  {:>14.0}  {:>5.2}  {:>11.0}  {:>5.2}",
-        counts.start(),
-        counts.end(),
+        "{:>9}  {:>10}  {:>10.0}  {:>7.0}  {:>14.0}  {:>5.2}  {:>11.0}  {:>5.2}",
+        usual::told(counts),
         sums.signatures,
         sums.bytes / sums.signatures,
         sums.library / sums.signatures,

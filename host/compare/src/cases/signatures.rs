@@ -12,7 +12,7 @@ use reference::{Convention, Integer, Type};
 pub fn boundaries() -> Vec<Case> {
     let mut signatures = Vec::new();
     for convention in [Convention::Ppc64, Convention::Z] {
-        for count in [0, 63, 64, 65] {
+        for count in [0, 127, 128, 129] {
             let arguments = encode::item(INTEGER, &[4]).repeat(count);
             signatures.push(of(convention, &[], &arguments));
         }
@@ -27,7 +27,7 @@ pub fn boundaries() -> Vec<Case> {
             });
             signatures.push(of(convention, &nested, &nested));
         }
-        for length in 4093..=4097 {
+        for length in 16_381..=16_385 {
             signatures.push(of(convention, &[], &structs_of_length(length - 10)));
         }
         let long_double = encode::item(FLOAT, &[2]);
@@ -69,7 +69,7 @@ pub fn boundaries() -> Vec<Case> {
 /// Types of this length: structs of single bytes, in the number that leaves a multiple of 4 for
 /// their fields.
 fn structs_of_length(length: usize) -> Vec<u8> {
-    let count = 8 - length % 4;
+    let count = 20 - length % 4;
     let fields = (length - 3 * count) / 4;
     let field = encode::item(INTEGER, &[1]);
     (0..count)

@@ -1,0 +1,2 @@
+-- A signature's arguments one after the other. Assumes nothing.
+pub mod Table

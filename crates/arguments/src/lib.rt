@@ -1,0 +1,59 @@
+// The arguments of a signature that was read, one after the other: the cursor of the first, and the sizes of their plan. Who goes over
+// them places each with a cursor of its own, so that there is no table of spans.
+use conventions::Convention;
+use places::Cursor;
+use plan::Measured;
+use signature::Outcome;
+use signature::ResultType;
+use signature::SignatureRead;
+ghost use mathlib.Core.Path.{_≡_};
+ghost use Rattle.plan.specs.Plan.{startIn, planned, measureOf};
+ghost use Rattle.plan.specs.Limits.{Plannable};
+
+// The cursor of the first argument.
+pub fn first_cursor(c: Convention, result: ResultType) -> Cursor
+    ensures { λ k. ⌜ k ≡ startIn c result ⌝ }
+{
+    let hidden = planning::hidden_in(c, result);
+    placing::start(c, hidden)
+}
+
+// The outcome and the sizes of the plan of a signature that was read: each argument of its table is passed and let go.
+pub fn measure_table(g: SignatureRead) -> Measured
+    requires { ⌜ Plannable g ⌝ }
+    ensures { λ m. ⌜ m ≡ measureOf (planned g) ⌝ }
+{
+    let outcome = g.outcome;
+    match outcome {
+        Outcome::Refused(_) => Measured {
+            outcome,
+            area: 0,
+            values: 0,
+            copies: 0,
+        },
+        Outcome::Accepted(_) => {
+            let convention = g.convention;
+            let result = g.result;
+            let count = g.count;
+            let rules = abi::call_rules_of(convention);
+            let mut c = first_cursor(convention, result);
+            let mut values: usize = 0;
+            let mut i: usize = 0;
+            while i < count {
+                let a = g.arguments[i];
+                let t = a.ty;
+                let size = types::size_of(convention, t);
+                c = placing::advance(rules, c, t, size);
+                values = values + size;
+                i = i + 1;
+            }
+            let area = placing::area_of(convention, c);
+            Measured {
+                outcome,
+                area,
+                values,
+                copies: c.copies,
+            }
+        }
+    }
+}
