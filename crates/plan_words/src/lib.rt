@@ -108,7 +108,7 @@ pub fn plan_words(sig: &[u8], places: &mut [u64]) -> Planned
     ensures { λ p. ⌜ p ≡ plannedOf (planAnswer (signatureOf (now (sig .entry)))) ⌝ }
     ensures { λ p. ⌜ now (places .exit) ≡ tabled (now (places .entry)) (entriesOf (signatureOf (now (sig .entry)))) ⌝ }
 {
-    let g = signature::read_signature(sig);
+    let g = whole_signature::read_signature(sig);
     let outcome = g.outcome;
     match outcome {
         Outcome::Refused(_) => Planned {
@@ -125,8 +125,8 @@ pub fn plan_words(sig: &[u8], places: &mut [u64]) -> Planned
             let returned = g.result;
             let count = g.count;
             let rules = abi::call_rules_of(convention);
-            let hidden = plan::hidden_in(convention, returned);
-            let result = plan::result_in(convention, returned);
+            let hidden = planning::hidden_in(convention, returned);
+            let result = planning::result_in(convention, returned);
             let room = ENTRY * count <= places.len();
             let mut c = placing::start(convention, hidden);
             let mut values: usize = 0;
@@ -138,7 +138,8 @@ pub fn plan_words(sig: &[u8], places: &mut [u64]) -> Planned
                 let p = placing::step(rules, c, t, size);
                 let s = p.span;
                 put_argument(places, room, i, a.place as usize, size, values, s);
-                c = p.next;
+                // not the step's own: the cursor stays in registers
+                c = placing::advance(rules, c, t, size);
                 values = values + size;
                 i = i + 1;
             }

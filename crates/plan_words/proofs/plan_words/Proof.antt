@@ -86,6 +86,16 @@ put-argument-requires c κs =
     (filling-length (signatureOf (c .before .before .before .before .before .before .before .before .before .before .before .before .before .before .before .before .before .args .sig .now)) (c .before .before .before .before .before .before .before .before .before .before .before .before .before .before .read-signature .result) (c .before .before .before .before .before .before .before .before .before .before .before .before .before .before .read-signature .ensures) _ (c .before .before .before .before .before .before .before .before .before .before .before .before .enum-told2 .given .1) plannable _ _ _ _ _ _ (c .before .before .before .before .before .before .before .loop .inv))
     (c .before .before .before .before .before .before .loop-test .taken)
 
+advance-requires : tie.Need-advance-requires Inv-loop μ-loop
+advance-requires c κs =
+    let plannable : Plannable (c .before .before .before .before .before .before .before .before .before .before .before .before .before .before .before .before .before .read-signature .result) = rw (c .before .before .before .before .before .before .before .before .before .before .before .before .before .before .before .before .before .read-signature .ensures) (answer-plannable (c .before .before .before .before .before .before .before .before .before .before .before .before .before .before .before .before .before .before .before .before .args .sig .now)) in
+    let going = c .before .before .before .before .before .before .before .before .before .before .loop .inv .going in
+    let many = length-types (c .before .before .before .before .before .before .before .before .before .before .before .before .before .before .before .before .before .read-signature .result .count) (c .before .before .before .before .before .before .before .before .before .before .before .before .before .before .before .before .before .read-signature .result .arguments) (plannable .room) in (
+      rw (c .before .before .before .before .before .before .before .before .before .before .before .before .before .before .call-rules-of .ensures) (rules-lawful (c .before .before .before .before .before .before .before .before .before .before .before .before .before .before .before .before .before .read-signature .result .convention)),
+      reached-roomy _ _ _ _ (omega (arith, many, going .within, plannable .few)) (going .reached),
+      rw (c .before .before .before .before .before .before .before .size-of .ensures) (plannable .small (c .before .before .before .before .before .before .before .before .before .before .loop .i) (c .before .before .before .before .before .before .before .before .before .loop-test .taken)),
+    )
+
 add-values : tie.Need-add-values Inv-loop μ-loop
 add-values c =
     let plannable : Plannable (c .before .before .before .before .before .before .before .before .before .before .before .before .before .before .before .before .before .before .read-signature .result) = rw (c .before .before .before .before .before .before .before .before .before .before .before .before .before .before .before .before .before .before .read-signature .ensures) (answer-plannable (c .before .before .before .before .before .before .before .before .before .before .before .before .before .before .before .before .before .before .before .before .before .args .sig .now)) in
@@ -105,7 +115,7 @@ loop-again : tie.Need-loop-again Inv-loop μ-loop
 unfolding placed
 loop-again c =
     let plannable : Plannable (c .before .before .before .before .before .before .before .before .before .before .before .before .before .before .before .before .before .before .read-signature .result) = rw (c .before .before .before .before .before .before .before .before .before .before .before .before .before .before .before .before .before .before .read-signature .ensures) (answer-plannable (c .before .before .before .before .before .before .before .before .before .before .before .before .before .before .before .before .before .before .before .before .before .args .sig .now)) in
-    rw (c .before .before .before .put-argument .ensures, c .before .before .before .before .before .before .before .step .ensures, c .before .before .before .before .before .before .before .before .size-of .ensures, c .before .before .before .before .before .before .before .before .before .before .before .before .before .before .before .call-rules-of .ensures)
+    rw (c .advance .ensures, c .before .before .before .put-argument .ensures, c .before .before .before .before .before .before .before .step .ensures, c .before .before .before .before .before .before .before .before .size-of .ensures, c .before .before .before .before .before .before .before .before .before .before .before .before .before .before .before .call-rules-of .ensures)
     (filling-more (signatureOf (c .before .before .before .before .before .before .before .before .before .before .before .before .before .before .before .before .before .before .before .before .before .args .sig .now)) (c .before .before .before .before .before .before .before .before .before .before .before .before .before .before .before .before .before .before .read-signature .result) (c .before .before .before .before .before .before .before .before .before .before .before .before .before .before .before .before .before .before .read-signature .ensures) _ (c .before .before .before .before .before .before .before .before .before .before .before .before .before .before .before .before .enum-told2 .given .1) plannable _ _ _ _ _ _ (c .before .before .before .before .before .before .before .before .before .before .before .loop .inv) (c .before .before .before .before .before .before .before .before .before .before .loop-test .taken))
 
 area-of-requires : tie.Need-area-of-requires Inv-loop μ-loop
@@ -160,6 +170,7 @@ plan-words-spec =
     step-requires
     cast-put-argument
     put-argument-requires
+    advance-requires
     add-values
     add-i
     loop-less
