@@ -6,7 +6,7 @@ use Prim.Native.Nat.{_-_, _*_}
 use lib.ListN.{length}
 use borrow.Rule.Slice.PartMut.{putMid}
 use Rattle.words.proofs.Splices.{lent-tail, length-part}
-use Rattle.plan_words.specs.Entries.{entryWords}
+use Rattle.plan_words.specs.Kept.{keptWords}
 use Rattle.plan_words.proofs.Turns.{has-room}
 use Rattle.plan_words.proofs.put_argument.Statement.{statement}
 use Rattle.plan_words.proofs.put_argument.Tie as tie
@@ -40,7 +40,7 @@ returns c =
     let z = c .before .before .before .before .before .before .args in
     let l = z .places .now in
     let at = 13 * z .i in
-    rw (c .before .before .before .before .if1 .taken) (ap (putMid at (length l - at) l) (c .before .before .put-entry .ensures) ∙ lent-tail l at (entryWords (z .item) (z .size) (z .value) (z .s)))
+    rw (c .before .before .before .before .if1 .taken) (ap (putMid at (length l - at) l) (c .before .before .put-entry .ensures) ∙ lent-tail l at (keptWords (z .value) (z .k)))
 
 returns-2 : tie.Need-returns-2
 returns-2 c = rw (c .if1 .left)
