@@ -13,7 +13,6 @@ use Rattle.items.specs.Reading.{Reading, got, no}
 use Rattle.signature.specs.declared.SignatureRead.{SignatureRead}
 use Rattle.signature.specs.Signature.{Signature}
 use Rattle.signature.specs.Read.{signatureOf}
-use Rattle.signature.specs.Places.{firstItem}
 use Rattle.signature.specs.Answer.{resultType, signatureAnswer}
 use Rattle.places.specs.declared.Cursor.{Cursor}
 use Rattle.places.specs.Step.{Roomy, rulesOf, spanOf, nextOf}
@@ -33,7 +32,7 @@ use Rattle.arguments.specs.Table.{argumentsFrom}
 arguments-same : (x : Reading Signature) → argumentsFrom (signatureAnswer x) ≡ argumentsIn (signatureAnswer x) (planAnswer x)
 unfolding argumentsFrom argumentsIn planAnswer placements
 arguments-same (got g next n) =
-    ap (λ (ts : List ValueType). placements (g .convention) ts (spansOf (g .convention) (rulesOf (g .convention)) (startIn (g .convention) (resultType (g .convention) (g .result))) ts)) (table-types (g .convention) (firstItem (g .result)) (g .arguments))
+    ap (λ (ts : List ValueType). placements (g .convention) ts (spansOf (g .convention) (rulesOf (g .convention)) (startIn (g .convention) (resultType (g .convention) (g .result))) ts)) (table-types (g .convention) (g .arguments))
     ∙ sym (arguments-got g next n)
 arguments-same (no f) = refl
 

@@ -6,6 +6,7 @@ use native.Mathlib.Omega.{arith}
 use lib.ListN.{length, getD, take, replicate, length-append, List·getD-append}
 use lib.Seq.{take-at, getD-at}
 use Rattle.conventions.specs.declared.Convention.{Convention}
+use Rattle.types.specs.declared.IntegerKind.{IntegerKind}
 use Rattle.types.specs.declared.ValueType.{ValueType}
 use Rattle.types.specs.Sizes.{sizeOf}
 use Rattle.types.specs.Trees.{Trees, none, _▸_, typeOf, countOf}
@@ -16,15 +17,16 @@ use Rattle.signature.specs.declared.Argument.{Argument}
 use Rattle.signature.specs.Signature.{Result, nothing, value, Signature}
 use Rattle.signature.specs.Limits.{maxArguments}
 use Rattle.signature.specs.Read.{signatureOf}
-use Rattle.signature.specs.Places.{firstItem, itemAfter}
-use Rattle.signature.specs.Answer.{argument, blankArgument, listed, table, resultType, signatureAnswer}
+use Rattle.signature.specs.Answer.{argument, listed, table, resultType, signatureAnswer}
 use Rattle.signature.specs.Exact.{ResultSized}
 use Rattle.signature.proofs.Theorems.{accepted}
-use Rattle.signature.proofs.Loop.{listed-length}
 use Rattle.places.specs.Step.{rulesOf}
 use Rattle.plan.specs.Plan.{tableOf, startIn, planIn, typesOf, planAnswer, typeIn, planned}
 use Rattle.plan.specs.Limits.{SmallResult, Plannable}
 use Rattle.plan.proofs.Fold.{length-spans}
+
+abbrev pub blank : Argument
+blank = argument (ValueType.Integer IntegerKind.I8)
 
 -- ---- the table of arguments
 
@@ -32,44 +34,45 @@ map-append : (l m : List Argument) → map typeIn (l ++ m) ≡ map typeIn l ++ m
 map-append [] m = refl
 map-append (a ∷ l) m = ap (λ (x : List ValueType). typeIn a ∷ x) (map-append l m)
 
-listed-types : (c : Convention) (start : ℕ) (ts : Trees) → map typeIn (listed c start ts) ≡ typesOf c ts
+length-listed : (c : Convention) (ts : Trees) → length (listed c ts) ≡ countOf ts
+unfolding listed countOf
+length-listed c none = refl
+length-listed c (ts ▸ t) = simp length-append (omega (arith, length-listed c ts))
+
+listed-types : (c : Convention) (ts : Trees) → map typeIn (listed c ts) ≡ typesOf c ts
 unfolding listed typesOf
-listed-types c start none = refl
-listed-types c start (ts ▸ t) =
-    map-append (listed c start ts) (argument (typeOf c t) (itemAfter start ts) ∷ [])
-    ∙ ap (λ (l : List ValueType). l ++ typeOf c t ∷ []) (listed-types c start ts)
+listed-types c none = refl
+listed-types c (ts ▸ t) = map-append (listed c ts) (argument (typeOf c t) ∷ []) ∙ ap (λ (l : List ValueType). l ++ typeOf c t ∷ []) (listed-types c ts)
 
-table-first : (c : Convention) (start : ℕ) (ts : Trees) → take (countOf ts) (table c start ts) ≡ listed c start ts
+-- the types of the table's first places are the signature's
+pub table-types : (c : Convention) (ts : Trees) → map typeIn (take (countOf ts) (table c ts)) ≡ typesOf c ts
 unfolding table
-table-first c start ts = take-at (listed c start ts) (replicate (maxArguments - countOf ts) blankArgument) (countOf ts) (listed-length c start ts)
+table-types c ts =
+    ap (map typeIn) (take-at (listed c ts) (replicate (maxArguments - countOf ts) blank) (countOf ts) (length-listed c ts)) ∙ listed-types c ts
 
--- the types of the table's first entries are the signature's
-pub table-types : (c : Convention) (start : ℕ) (ts : Trees) → map typeIn (take (countOf ts) (table c start ts)) ≡ typesOf c ts
-table-types c start ts = ap (map typeIn) (table-first c start ts) ∙ listed-types c start ts
-
-listed-small : (c : Convention) (start : ℕ) (ts : Trees) → AllSized c ts → (i : ℕ) → i < countOf ts → sizeOf c (getD (listed c start ts) i blankArgument .ty) ≤ 256
+listed-small : (c : Convention) (ts : Trees) → AllSized c ts → (i : ℕ) → i < countOf ts → sizeOf c (getD (listed c ts) i blank .ty) ≤ 256
 unfolding listed countOf AllSized
-listed-small c start none a i h = absurd (omega arith)
-listed-small c start (ts ▸ t) a i h = go (countOf ts - i) refl (listed-small c start ts (a .0) i)
+listed-small c none a i h = absurd (omega arith)
+listed-small c (ts ▸ t) a i h = go (countOf ts - i) refl (listed-small c ts (a .0) i)
   where
-    go : (n : ℕ) → countOf ts - i ≡ n → (i < countOf ts → sizeOf c (getD (listed c start ts) i blankArgument .ty) ≤ 256)
-        → sizeOf c (getD (listed c start ts ++ argument (typeOf c t) (itemAfter start ts) ∷ []) i blankArgument .ty) ≤ 256
+    go : (n : ℕ) → countOf ts - i ≡ n → (i < countOf ts → sizeOf c (getD (listed c ts) i blank .ty) ≤ 256)
+        → sizeOf c (getD (listed c ts ++ argument (typeOf c t) ∷ []) i blank .ty) ≤ 256
     go zero e ih =
-        let at : i ≡ length (listed c start ts) = omega (arith, listed-length c start ts) in
-        rw (getD-at (listed c start ts) (argument (typeOf c t) (itemAfter start ts)) [] blankArgument i (sym at)) (a .1 .small)
+        let at : i ≡ length (listed c ts) = omega (arith, length-listed c ts) in
+        rw (getD-at (listed c ts) (argument (typeOf c t)) [] blank i (sym at)) (a .1 .small)
     go (suc n) e ih =
-        let before : i < length (listed c start ts) = omega (arith, listed-length c start ts) in
-        rw (List·getD-append (listed c start ts) (argument (typeOf c t) (itemAfter start ts) ∷ []) blankArgument i before) (ih (omega arith))
+        let before : i < length (listed c ts) = omega (arith, length-listed c ts) in
+        rw (List·getD-append (listed c ts) (argument (typeOf c t) ∷ []) blank i before) (ih (omega arith))
 
-table-small : (c : Convention) (start : ℕ) (ts : Trees) → AllSized c ts → (i : ℕ) → i < countOf ts → sizeOf c (getD (table c start ts) i blankArgument .ty) ≤ 256
+table-small : (c : Convention) (ts : Trees) → AllSized c ts → (i : ℕ) → i < countOf ts → sizeOf c (getD (table c ts) i blank .ty) ≤ 256
 unfolding table
-table-small c start ts a i h =
-    let before : i < length (listed c start ts) = omega (arith, listed-length c start ts) in
-    rw (List·getD-append (listed c start ts) (replicate (maxArguments - countOf ts) blankArgument) blankArgument i before) (listed-small c start ts a i h)
+table-small c ts a i h =
+    let before : i < length (listed c ts) = omega (arith, length-listed c ts) in
+    rw (List·getD-append (listed c ts) (replicate (maxArguments - countOf ts) blank) blank i before) (listed-small c ts a i h)
 
-length-table : (c : Convention) (start : ℕ) (ts : Trees) → countOf ts ≤ length (table c start ts)
+length-table : (c : Convention) (ts : Trees) → countOf ts ≤ length (table c ts)
 unfolding table
-length-table c start ts = simp length-append (omega (arith, listed-length c start ts))
+length-table c ts = simp length-append (omega (arith, length-listed c ts))
 
 small-result : (c : Convention) (r : Result) → ResultSized c r → SmallResult c (resultType c r)
 small-result c nothing h = tt
@@ -85,21 +88,21 @@ answer-plannable s = go (signatureOf s) refl
         let a = accepted s g next n e in
         record {
           few = a .within .few;
-          room = length-table (g .convention) (firstItem (g .result)) (g .arguments);
+          room = length-table (g .convention) (g .arguments);
           result = small-result (g .convention) (g .result) (a .result);
-          small = table-small (g .convention) (firstItem (g .result)) (g .arguments) (a .arguments);
+          small = table-small (g .convention) (g .arguments) (a .arguments);
         }
     go (no f) e = record { few = omega arith; room = omega arith; result = tt; small = λ i h. absurd (omega arith) }
 
 pub planned-answer : (x : Reading Signature) → planned (signatureAnswer x) ≡ planAnswer x
 unfolding planned planAnswer
-planned-answer (got g next n) = ap (planIn n (g .convention) (resultType (g .convention) (g .result))) (table-types (g .convention) (firstItem (g .result)) (g .arguments))
+planned-answer (got g next n) = ap (planIn n (g .convention) (resultType (g .convention) (g .result))) (table-types (g .convention) (g .arguments))
 planned-answer (no f) = refl
 
 -- ---- its counts
 
 pub length-of-types : (c : Convention) (ts : Trees) → length (typesOf c ts) ≡ countOf ts
-length-of-types c ts = sym (ap length (listed-types c 0 ts)) ∙ length-map (listed c 0 ts) ∙ listed-length c 0 ts
+length-of-types c ts = sym (ap length (listed-types c ts)) ∙ length-map (listed c ts) ∙ length-listed c ts
   where
     length-map : (l : List Argument) → length (map typeIn l) ≡ length l
     length-map [] = refl

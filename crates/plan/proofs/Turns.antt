@@ -16,10 +16,10 @@ use Rattle.places.specs.declared.Cursor.{Cursor}
 use Rattle.places.specs.declared.Span.{Span}
 use Rattle.places.specs.declared.Rules.{Rules}
 use Rattle.places.specs.Step.{Lawful, spanOf, nextOf, startOf}
-use Rattle.signature.specs.Answer.{blankArgument}
 use Rattle.plan.specs.declared.Plan.{Plan}
 use Rattle.plan.specs.Plan.{spansOf, lastOf, valuesOf, noSpan, tableOf, typeIn}
 use Rattle.plan.proofs.Fold.{length-spans, Reached, reached-start, reached-more}
+use Rattle.plan.proofs.Answers.{blank}
 
 -- ---- the types of the reader's table
 
@@ -30,7 +30,7 @@ length-types (suc n) (a ∷ l) h = ap suc (length-types n l (omega arith))
 
 -- the next type, and those after it
 pub types-drop : (n : ℕ) (l : List Argument) (i : ℕ) → i < n → n ≤ length l
-    → drop i (map typeIn (take n l)) ≡ getD l i blankArgument .ty ∷ drop (suc i) (map typeIn (take n l))
+    → drop i (map typeIn (take n l)) ≡ getD l i blank .ty ∷ drop (suc i) (map typeIn (take n l))
 types-drop zero l i h k = absurd (omega arith)
 types-drop (suc n) [] i h k = absurd (omega arith)
 types-drop (suc n) (a ∷ l) zero h k = refl

@@ -3,12 +3,13 @@
 use Prim.Native.Nat.{ℕ, _≤_, _<_}
 use lib.ListN.{length, getD}
 use Rattle.conventions.specs.declared.Convention.{Convention}
+use Rattle.types.specs.declared.IntegerKind.{IntegerKind}
 use Rattle.types.specs.declared.ValueType.{ValueType}
 use Rattle.types.specs.Sizes.{sizeOf}
 use Rattle.signature.specs.declared.ResultType.{ResultType}
 use Rattle.signature.specs.declared.SignatureRead.{SignatureRead}
 use Rattle.signature.specs.Limits.{maxArguments}
-use Rattle.signature.specs.Answer.{blankArgument}
+use Rattle.signature.specs.Answer.{argument}
 
 -- refusal 8: no "struct size over 256"
 abbrev pub SmallResult : Convention → ResultType → Type 0
@@ -16,7 +17,7 @@ SmallResult c ResultType.Nothing = Unit {0}
 SmallResult c (ResultType.Value t) = sizeOf c t ≤ 256
 
 abbrev pub typeAt : SignatureRead → ℕ → ValueType
-typeAt g i = getD (g .arguments) i blankArgument .ty
+typeAt g i = getD (g .arguments) i (argument (ValueType.Integer IntegerKind.I8)) .ty
 
 pub record Plannable (g : SignatureRead) : Type 0 where
   pub few : g .count ≤ maxArguments

@@ -6,8 +6,8 @@ use Prim.Native.Nat.{ℕ, zero, suc, _+_, _-_, _≤_, _<_}
 use native.Mathlib.Omega.{arith}
 use lib.ListN.{length, getD, drop, replicate, length-append, List·getD-append, drop-of-length-le}
 use lib.Seq.{drop-cons, getD-at}
-use lib.Dec.{ltb}
-use borrow.Author.Tests.{le-ltb}
+use lib.Dec.{ltb, eqb}
+use borrow.Author.Tests.{le-ltb, eq-eqb, ne-eqb}
 use Rattle.words.specs.Basics.{pick}
 use Rattle.conventions.specs.declared.Convention.{Convention}
 use Rattle.types.specs.declared.ValueType.{ValueType}
@@ -15,22 +15,23 @@ use Rattle.types.specs.Sizes.{sizeOf}
 use Rattle.types.specs.Trees.{Tree, Trees, none, _▸_, typeOf, countOf}
 use Rattle.items.specs.declared.Refusal.{Refusal}
 use Rattle.items.specs.declared.Fault.{Fault}
-use Rattle.items.specs.Reading.{Reading, fault, got, no, later}
-use Rattle.signature.specs.declared.Argument.{Argument}
+use Rattle.items.specs.declared.Body.{Body}
+use Rattle.items.specs.Reading.{Reading, fault, got, no, later, andThen}
+use Rattle.items.specs.Read.{bodyAt}
+use Rattle.items.specs.Encode.{encodeTrees}
+use Rattle.items.proofs.Sound.{by-choose, by-then, by-next, Got}
 use Rattle.signature.specs.declared.ResultType.{ResultType}
 use Rattle.signature.specs.declared.HeadRead.{HeadRead}
 use Rattle.signature.specs.declared.SignatureRead.{SignatureRead}
-use Rattle.signature.specs.Signature.{Signature}
-use Rattle.signature.specs.Limits.{maxArguments}
-use Rattle.signature.specs.Places.{itemAfter}
-use Rattle.signature.specs.Read.{argumentsIn, signatureOf, headOf}
-use Rattle.signature.specs.Answer as answers
-use Rattle.signature.specs.Answer.{argument, blankArgument, listed, table, accepted, withArguments, headAnswer, signatureAnswer}
-use Rattle.signature.proofs.Loop.{listed-length}
-use Rattle.signature.proofs.Sound.{signature-arguments}
+use Rattle.signature.specs.Signature.{Result, Signature, Head}
+use Rattle.signature.specs.Limits.{maxLength, maxArguments}
+use Rattle.signature.specs.Read.{conventionAt, resultAt, argumentsIn, signatureOf, headBy, headAfter, headOf}
+use Rattle.signature.specs.Answer.{accepted, withArguments, headAnswer, signatureAnswer}
+use Rattle.signature.specs.Encode.{encodeResult}
+use Rattle.signature.proofs.Laws.{head-got, thenArguments, afterHead, signature-head, signature-arguments}
+use Rattle.signature.proofs.Sound.{convention-read, result-read}
 use Rattle.reader.specs.declared.ArgumentRead.{ArgumentRead}
-use Rattle.reader.specs.Argument.{argumentAnswer}
-use Rattle.reader.proofs.Arguments.{argument-tabled}
+use Rattle.reader.specs.Argument.{argumentIn, argumentAnswer}
 use Rattle.places.specs.declared.Cursor.{Cursor}
 use Rattle.places.specs.declared.Span.{Span}
 use Rattle.places.specs.declared.Rules.{Rules}
@@ -44,8 +45,27 @@ use Rattle.plan.proofs.Answers.{length-of-types, answer-plannable}
 use Rattle.plan.proofs.Measures.{plan-arguments}
 use Rattle.plan_words.specs.declared.Kept.{Kept}
 use Rattle.plan_words.specs.Entries.{entryWords, itemIn, sizeIn, sizeAt, valueAt, entryAt, entriesUpTo, entriesOf}
-use Rattle.plan_words.specs.Kept.{kept, nothing, keptWords, keptOf, rowsFrom, rowsWith, SmallWith}
+use Rattle.plan_words.specs.Kept.{itemAfter, kept, nothing, keptWords, keptOf, rowsFrom, rowsWith, SmallWith}
 use Rattle.plan_words.proofs.Turns.{length-kept}
+
+-- where the arguments' items start
+head-starts : (s : List ℕ) → Got (λ h next n. next ≡ 10 + length (encodeResult (h .result))) (headOf s)
+unfolding headOf headAfter
+head-starts s = by-choose (Got Starts) (ltb maxLength (length s)) _ _ (λ _. tt)
+    (λ _. by-then (λ c at n. conventionAt s ≡ got c at n) Starts (conventionAt s) _ (got-self (conventionAt s))
+    (λ c at n first. by-next (λ r next m. resultAt c s at ≡ got r next m) Starts n (resultAt c s at) _ (got-self (resultAt c s at))
+    (λ r next m second. go c at n first r next m second (bodyAt s 0x03 0x03 (length s) next))))
+  where
+    Starts : Head → ℕ → ℕ → Type 0
+    Starts h next n = next ≡ 10 + length (encodeResult (h .result))
+
+    got-self : {A : Type 0} (x : Reading A) → Got (λ a next n. x ≡ got a next n) x
+    got-self (got a next n) = refl
+    got-self (no f) = tt
+
+    go : (c : Convention) (at n : ℕ) → conventionAt s ≡ got c at n → (r : Result) (next m : ℕ) → resultAt c s at ≡ got r next m → (x : Body) → Got Starts (headBy c r next (n + m) x)
+    go c at n first r next m second (Body.To b) = omega (arith, convention-read s c at n first .ends, result-read c s at r next m second .ends)
+    go c at n first r next m second (Body.Refused x) = tt
 
 -- one argument's span more
 spans-more : (c : Convention) (r : Rules) (k : Cursor) (ts : List ValueType) (t : ValueType) →
@@ -54,53 +74,45 @@ unfolding spansOf lastOf
 spans-more c r k [] t = refl
 spans-more c r k (u ∷ ts) t = ap (λ (l : List Span). spanOf r k u (sizeOf c u) ∷ l) (spans-more c r (nextOf r k u (sizeOf c u)) ts t)
 
--- what is kept of argument i is what the reader's table and the plan have of it
+-- what is kept of argument i is what the reader and the plan say of it
 module _ (c : Convention) (r : ResultType) (at : ℕ) where
   abbrev spans : Trees → List Span
   spans ts = spansOf c (rulesOf c) (startIn c r) (typesOf c ts)
 
-  abbrev told : Argument → Span → Kept
-  told a s = kept (a .place) (sizeOf c (a .ty)) s
+  abbrev told : ArgumentRead → Span → Kept
+  told a s = kept (itemIn a) (sizeIn c a) s
 
   length-of-spans : (ts : Trees) → length (spans ts) ≡ countOf ts
   length-of-spans ts = length-spans c (rulesOf c) (startIn c r) (typesOf c ts) ∙ length-of-types c ts
 
-  kept-at : (ts : Trees) (i : ℕ) → i < countOf ts → getD (keptOf c r at ts) i nothing ≡ told (getD (listed c at ts) i blankArgument) (getD (spans ts) i noSpan)
-  unfolding keptOf listed typesOf countOf
+  kept-at : (ts : Trees) (i : ℕ) → i < countOf ts → getD (keptOf c r at ts) i nothing ≡ told (argumentIn c at i ts) (getD (spans ts) i noSpan)
+  unfolding keptOf argumentIn typesOf countOf
   kept-at none i h = absurd (omega arith)
   kept-at (ts ▸ t) i h = rw (spans-more c (rulesOf c) (startIn c r) (typesOf c ts) (typeOf c t)) (go (countOf ts - i) refl (kept-at ts i))
     where
       here : Span
       here = spanOf (rulesOf c) (endIn c r (typesOf c ts)) (typeOf c t) (sizeOf c (typeOf c t))
 
-      go : (left : ℕ) → countOf ts - i ≡ left → (i < countOf ts → getD (keptOf c r at ts) i nothing ≡ told (getD (listed c at ts) i blankArgument) (getD (spans ts) i noSpan)) →
+      go : (left : ℕ) → countOf ts - i ≡ left → (i < countOf ts → getD (keptOf c r at ts) i nothing ≡ told (argumentIn c at i ts) (getD (spans ts) i noSpan)) →
           getD (keptOf c r at ts ++ kept (itemAfter at ts) (sizeOf c (typeOf c t)) here ∷ []) i nothing
-          ≡ told (getD (listed c at ts ++ argument (typeOf c t) (itemAfter at ts) ∷ []) i blankArgument) (getD (spans ts ++ here ∷ []) i noSpan)
+          ≡ told (pick (eqb i (countOf ts)) (ArgumentRead.Argument (typeOf c t) (at + length (encodeTrees ts))) (argumentIn c at i ts)) (getD (spans ts ++ here ∷ []) i noSpan)
       go zero e earlier =
           rw (
+            eq-eqb i (countOf ts) (omega arith),
             getD-at (keptOf c r at ts) (kept (itemAfter at ts) (sizeOf c (typeOf c t)) here) [] nothing i (omega (arith, length-kept c r at ts)),
-            getD-at (listed c at ts) (argument (typeOf c t) (itemAfter at ts)) [] blankArgument i (omega (arith, listed-length c at ts)),
             getD-at (spans ts) here [] noSpan i (omega (arith, length-of-spans ts)),
           )
       go (suc left) e earlier =
           rw (
+            ne-eqb i (countOf ts) (λ q. omega arith),
             List·getD-append (keptOf c r at ts) (kept (itemAfter at ts) (sizeOf c (typeOf c t)) here ∷ []) nothing i (omega (arith, length-kept c r at ts)),
-            List·getD-append (listed c at ts) (argument (typeOf c t) (itemAfter at ts) ∷ []) blankArgument i (omega (arith, listed-length c at ts)),
             List·getD-append (spans ts) (here ∷ []) noSpan i (omega (arith, length-of-spans ts)),
           ) (earlier (omega arith))
 
 -- ---- an accepted reading
 
 module _ (y : Reading Signature) (n : ℕ) (c : Convention) (r : ResultType) (at : ℕ) (ts : Trees) (plan : planAnswer y ≡ planIn n c r (typesOf c ts))
-    (read : signatureAnswer y ≡ accepted c r at ts n) where
-  argument-here : (i : ℕ) → i < countOf ts →
-      ArgumentRead.Argument (getD (listed c at ts) i blankArgument .ty) (getD (listed c at ts) i blankArgument .place) ≡ argumentAnswer i y
-  unfolding table
-  argument-here i h =
-      let less : i < length (listed c at ts) = omega (arith, listed-length c at ts) in
-      let many : i < signatureAnswer y .count = omega (arith, ap (λ (g : SignatureRead). g .count) read) in
-      rw (sym (List·getD-append (listed c at ts) (replicate (maxArguments - countOf ts) blankArgument) blankArgument i less)) (rw read at (argument-tabled y i many))
-
+    (says : (i : ℕ) → argumentIn c at i ts ≡ argumentAnswer i y) where
   span-here : (i : ℕ) → i < countOf ts → getD (spans c r at ts) i noSpan ≡ spanAt (planAnswer y) i
   unfolding planIn tableOf
   span-here i h =
@@ -108,9 +120,9 @@ module _ (y : Reading Signature) (n : ℕ) (c : Convention) (r : ResultType) (at
       sym (List·getD-append (spans c r at ts) (replicate (maxArguments - length (spans c r at ts)) noSpan) noSpan i less)
       ∙ ap (λ (p : Plan). spanAt p i) (sym plan)
 
-  size-here : (i : ℕ) → i < countOf ts → sizeOf c (getD (listed c at ts) i blankArgument .ty) ≡ sizeAt y i
+  size-here : (i : ℕ) → sizeIn c (argumentIn c at i ts) ≡ sizeAt y i
   unfolding planIn
-  size-here i h = rw plan (ap (sizeIn c) (argument-here i h))
+  size-here i = rw plan (ap (sizeIn c) (says i))
 
   same-words : {i j a b : ℕ} {s u : Span} → (v : ℕ) → i ≡ j → a ≡ b → s ≡ u → keptWords v (kept i a s) ≡ entryWords j b v u
   unfolding keptWords entryWords
@@ -118,7 +130,7 @@ module _ (y : Reading Signature) (n : ℕ) (c : Convention) (r : ResultType) (at
 
   entry-here : (i : ℕ) → i < countOf ts → keptWords (valueAt y i) (getD (keptOf c r at ts) i nothing) ≡ entryAt y i
   entry-here i h =
-      rw (kept-at c r at ts i h) (same-words (valueAt y i) (ap itemIn (argument-here i h)) (size-here i h) (span-here i h))
+      rw (kept-at c r at ts i h) (same-words (valueAt y i) (ap itemIn (says i)) (size-here i) (span-here i h))
 
   -- the first i entries, and the rows of the others
   entries-then : (i : ℕ) → i ≤ countOf ts → entriesUpTo y i ++ rowsFrom (valueAt y i) (drop i (keptOf c r at ts)) ≡ rowsFrom 0 (keptOf c r at ts)
@@ -128,7 +140,7 @@ module _ (y : Reading Signature) (n : ℕ) (c : Convention) (r : ResultType) (at
       let less : i < length (keptOf c r at ts) = omega (arith, length-kept c r at ts) in
       let k : Kept = getD (keptOf c r at ts) i nothing in
       let after : List ℕ → List ℕ = λ (e : List ℕ). entriesUpTo y i ++ (e ++ rowsFrom (valueAt y i + sizeAt y i) (drop (suc i) (keptOf c r at ts))) in
-      let size : k .size ≡ sizeAt y i = ap (λ (x : Kept). x .size) (kept-at c r at ts i (omega arith)) ∙ size-here i (omega arith) in
+      let size : k .size ≡ sizeAt y i = ap (λ (x : Kept). x .size) (kept-at c r at ts i (omega arith)) ∙ size-here i in
       append-assoc (entriesUpTo y i) (entryAt y i) (rowsFrom (valueAt y i + sizeAt y i) (drop (suc i) (keptOf c r at ts)))
       ∙ ap after (sym (entry-here i (omega arith)))
       ∙ ap (λ (b : ℕ). entriesUpTo y i ++ (keptWords (valueAt y i) k ++ rowsFrom (valueAt y i + b) (drop (suc i) (keptOf c r at ts)))) (sym size)
@@ -148,34 +160,42 @@ refused-rows : (y : Reading Signature) (f : Fault) → planAnswer y ≡ refused 
 unfolding entriesOf entriesUpTo
 refused-rows y f plan = rw plan
 
-rows-of : (y : Reading Signature) (c : Convention) (r : ResultType) (at n all : ℕ) (x : Reading Trees) → planAnswer y ≡ planWith c r n all x →
-    signatureAnswer y ≡ withArguments c r n all at x → rowsWith c r at all x ≡ entriesOf y
-rows-of y c r at n all (no f) plan read = refused-rows y (later n f) plan
-rows-of y c r at n all (got ts next m) plan read = go (ltb next all) plan read
+rows-of : (s : List ℕ) (c : Convention) (r : Result) (t : ResultType) (at n : ℕ) (x : Reading Trees) → at ≡ 10 + length (encodeResult r) →
+    planAnswer (thenArguments s c r n x) ≡ planWith c t n (length s) x → rowsWith c t at (length s) x ≡ entriesOf (thenArguments s c r n x)
+rows-of s c r t at n (no f) starts plan = refused-rows (no (later n f)) (later n f) plan
+rows-of s c r t at n (got ts next m) starts plan = go (ltb next (length s)) plan
   where
-    go : (more : Bool) → planAnswer y ≡ pick more (refused (fault Refusal.TrailingBytes next (n + m))) (planIn (n + m) c r (typesOf c ts)) →
-        signatureAnswer y ≡ pick more (answers.refused (fault Refusal.TrailingBytes next (n + m))) (accepted c r at ts (n + m)) → pick more [] (rowsFrom 0 (keptOf c r at ts)) ≡ entriesOf y
-    go true plan read = refused-rows y (fault Refusal.TrailingBytes next (n + m)) plan
-    go false plan read = accepted-rows y (n + m) c r at ts plan read
+    go : (more : Bool) →
+        planAnswer (pick more (no (fault Refusal.TrailingBytes next (n + m))) (got (record { convention = c; result = r; arguments = ts }) next (n + m)))
+        ≡ pick more (refused (fault Refusal.TrailingBytes next (n + m))) (planIn (n + m) c t (typesOf c ts)) →
+        pick more [] (rowsFrom 0 (keptOf c t at ts))
+        ≡ entriesOf (pick more (no (fault Refusal.TrailingBytes next (n + m))) (got (record { convention = c; result = r; arguments = ts }) next (n + m)))
+    go true plan = refused-rows (no (fault Refusal.TrailingBytes next (n + m))) (fault Refusal.TrailingBytes next (n + m)) plan
+    go false plan =
+        accepted-rows (got (record { convention = c; result = r; arguments = ts }) next (n + m)) (n + m) c t at ts plan
+        (λ i. ap (λ (k : ℕ). argumentIn c k i ts) starts)
 
 pub rows-entries : (s : List ℕ) (x : HeadRead) → x ≡ headAnswer (headOf s) → (c : Convention) (t : ResultType) (at b n : ℕ) → x ≡ HeadRead.Head c t at b n →
     rowsWith c t at (length s) (argumentsIn c s at b) ≡ entriesOf (signatureOf s)
 rows-entries s x found c t at b n q =
-    rows-of (signatureOf s) c t at n (length s) (argumentsIn c s at b) (plan-arguments s x found c t at b n q) (signature-arguments s x found c t at b n q)
+    let (r, read, same) = head-got (headOf s) c t at b n (sym q ∙ found) in
+    let whole : signatureOf s ≡ thenArguments s c r n (argumentsIn c s at b) = signature-head s ∙ ap (λ (y : Reading Head). andThen y (afterHead s)) read in
+    let starts : at ≡ 10 + length (encodeResult r) = rw read at (head-starts s) in
+    rows-of s c r t at n (argumentsIn c s at b) starts (ap planAnswer (sym whole) ∙ plan-arguments s x found c t at b n q) ∙ ap entriesOf (sym whole)
 
 pub no-entries : (s : List ℕ) (f : Fault) → signatureOf s ≡ no f → [] ≡ entriesOf (signatureOf s)
 unfolding planAnswer
 no-entries s f q = refused-rows (signatureOf s) f (rw q)
 
 -- the result's type of an accepted signature is small
-small-of : (g : SignatureRead) (c : Convention) (r : ResultType) (at n all : ℕ) (x : Reading Trees) → SmallResult (g .convention) (g .result) →
-    g ≡ withArguments c r n all at x → SmallWith c r all x
-small-of g c r at n all (no f) small read = tt
-small-of g c r at n all (got ts next m) small read = λ h.
-    let whole : g ≡ accepted c r at ts (n + m) = rw (le-ltb next all h) at read in
+small-of : (g : SignatureRead) (c : Convention) (r : ResultType) (n all : ℕ) (x : Reading Trees) → SmallResult (g .convention) (g .result) →
+    g ≡ withArguments c r n all x → SmallWith c r all x
+small-of g c r n all (no f) small read = tt
+small-of g c r n all (got ts next m) small read = λ h.
+    let whole : g ≡ accepted c r ts (n + m) = rw (le-ltb next all h) at read in
     rw whole at small
 
 pub small-result : (s : List ℕ) (x : HeadRead) → x ≡ headAnswer (headOf s) → (c : Convention) (t : ResultType) (at b n : ℕ) → x ≡ HeadRead.Head c t at b n →
     SmallWith c t (length s) (argumentsIn c s at b)
 small-result s x found c t at b n q =
-    small-of (signatureAnswer (signatureOf s)) c t at n (length s) (argumentsIn c s at b) (answer-plannable s .result) (signature-arguments s x found c t at b n q)
+    small-of (signatureAnswer (signatureOf s)) c t n (length s) (argumentsIn c s at b) (answer-plannable s .result) (signature-arguments s x found c t at b n q)

@@ -22,13 +22,15 @@ use Rattle.items.specs.declared.ItemRead.{ItemRead}
 use Rattle.items.specs.Reading.{fault, got, no, later}
 use Rattle.items.specs.Read.{itemAt}
 use Rattle.items.specs.Answer.{itemAnswer}
+use Rattle.items.specs.Encode.{encodeTree, encodeTrees}
+use Rattle.items.proofs.Laws.{sequence-more, item-got}
 use Rattle.items.proofs.Loop.{item-answered}
+use Rattle.items.proofs.Sound.{item-read}
 use Rattle.signature.specs.Limits.{maxArguments}
 use Rattle.signature.specs.declared.Outcome.{Outcome}
 use Rattle.signature.specs.declared.ResultType.{ResultType}
-use Rattle.signature.specs.Places.{itemAfter}
 use Rattle.signature.specs.Read.{argumentsIn}
-use Rattle.signature.proofs.Loop.{Turn, turn-start, turn-more, turn-last}
+use Rattle.signature.proofs.Loop.{Turn, turn-start, turn-last}
 use Rattle.places.specs.declared.Cursor.{Cursor}
 use Rattle.places.specs.declared.Span.{Span}
 use Rattle.places.specs.Step.{rulesOf, spanOf, nextOf, areaOf}
@@ -41,7 +43,7 @@ use Rattle.plan_words.specs.declared.Kept.{Kept}
 use Rattle.plan_words.specs.declared.Planned.{Planned}
 use Rattle.plan_words.specs.Planned.{plannedOf}
 use Rattle.plan_words.specs.Entries.{tabled, HasRoom}
-use Rattle.plan_words.specs.Kept.{kept, nothing, keptWords, keptOf, rowsFrom, rowsWith, SmallWith}
+use Rattle.plan_words.specs.Kept.{itemAfter, kept, nothing, keptWords, keptOf, rowsFrom, rowsWith, SmallWith}
 
 -- ---- lengths
 
@@ -69,6 +71,7 @@ keptTable c r at ts count = keptOf c r at ts ++ replicate (maxArguments - count)
 pub record Keeping (c : Convention) (s : List ℕ) (at e : ℕ) (r : ResultType) (k : Cursor) (table : List Kept) (v count next n : ℕ) : Type 0 where
   pub ts : Trees
   pub turn : Turn c s at e ts count next n
+  pub ends : next ≡ itemAfter at ts
   pub last : k ≡ endIn c r (typesOf c ts)
   pub total : v ≡ valuesOf c (typesOf c ts)
   pub reached : Reached (rulesOf c) k v count
@@ -85,10 +88,11 @@ same-next c p q = cc
 
 module _ (c : Convention) (s : List ℕ) (at e : ℕ) (r : ResultType) where
   pub keeping-start : (k : Cursor) (table : List Kept) → k ≡ startIn c r → table ≡ replicate maxArguments nothing → at ≤ e → Keeping c s at e r k table 0 0 at 1
-  unfolding typesOf lastOf valuesOf keptOf
+  unfolding typesOf lastOf valuesOf keptOf encodeTrees
   keeping-start k table p q h = rw (p, q) (record {
     ts = none;
     turn = turn-start c s at e h;
+    ends = omega arith;
     last = refl;
     total = refl;
     reached = reached-start (rulesOf c) (hiddenIn c r) (rules-lawful c);
@@ -99,23 +103,32 @@ module _ (c : Convention) (s : List ℕ) (at e : ℕ) (r : ResultType) where
     pub keeping-more : next < e → (count ≡ maxArguments → ⊥) → (x : ItemRead) → x ≡ itemAnswer c (itemAt c 8 s e next) → (t : ValueType) (after j : ℕ) →
         x ≡ ItemRead.Item t after j →
         Keeping c s at e r (nextOf (rulesOf c) k t (sizeOf c t)) (set table count (kept next (sizeOf c t) (spanOf (rulesOf c) k t (sizeOf c t)))) (v + sizeOf c t) (count + 1) after (n + j)
-    unfolding typesOf keptOf
+    unfolding typesOf keptOf countOf encodeTrees
     keeping-more h some x found t after j q =
         let a = item-answered c 8 s e next x t after j (omega arith) found q in
-        let more = turn-more c s at e (m .ts) count next n (m .turn) h some x found t after j q in
+        let (tree, read, same) = item-got c (itemAt c 8 s e next) t after j (sym q ∙ found) in
+        let turn = m .turn in
         let so-far : List ValueType = typesOf c (m .ts) in
-        let u : ValueType = typeOf c (more .tree) in
+        let u : ValueType = typeOf c tree in
         let here : Kept = kept (itemAfter at (m .ts)) (sizeOf c u) (spanOf (rulesOf c) (endIn c r so-far) u (sizeOf c u)) in
         let left : maxArguments - count ≡ suc (maxArguments - (count + 1)) = omega (arith, m .turn .few) in
         record {
-          ts = m .ts ▸ more .tree;
-          turn = more .turn;
-          last = same-next c (m .last) (more .same) ∙ sym (last-more c (rulesOf c) (startIn c r) so-far u);
-          total = omega (arith, m .total, ap (sizeOf c) (more .same), values-more c so-far u);
+          ts = m .ts ▸ tree;
+          turn = record {
+            left = turn .left - 1;
+            few = omega arith;
+            many = omega arith;
+            within = a .inside;
+            third = omega arith;
+            rest = sequence-more (itemAt c 8 s e) e (argumentsIn c s at e) (turn .left) next n (m .ts) (turn .rest) h (omega arith) tree after j read;
+          };
+          ends = let r = item-read c 8 s e next tree after j read in omega (arith, m .ends, r .ends, length-append (encodeTrees (m .ts)) (encodeTree tree));
+          last = same-next c (m .last) same ∙ sym (last-more c (rulesOf c) (startIn c r) so-far u);
+          total = omega (arith, m .total, ap (sizeOf c) same, values-more c so-far u);
           reached = reached-more (rulesOf c) k v count t (sizeOf c t) (rules-lawful c) (a .sized .small) (m .reached);
           array =
               ap (λ (l : List Kept). set l count (kept next (sizeOf c t) (spanOf (rulesOf c) k t (sizeOf c t)))) (m .array)
-              ∙ ap (λ (y : Kept). set (keptTable c r at (m .ts) count) count y) (same-kept (m .turn .ends) (ap (sizeOf c) (more .same)) (same-span c (m .last) (more .same)))
+              ∙ ap (λ (y : Kept). set (keptTable c r at (m .ts) count) count y) (same-kept (m .ends) (ap (sizeOf c) same) (same-span c (m .last) same))
               ∙ rw left (set-at (keptOf c r at (m .ts)) nothing (replicate (maxArguments - (count + 1)) nothing) here count (omega (arith, length-kept c r at (m .ts), m .turn .many)))
               ∙ sym (append-assoc (keptOf c r at (m .ts)) (here ∷ []) (replicate (maxArguments - (count + 1)) nothing));
         }

@@ -3,19 +3,24 @@
 use Prim.Native.Nat.{ℕ, _+_, _≤_}
 use mathlib.Core.List.{List, [], _∷_, _++_}
 use lib.Dec.{ltb}
+use lib.ListN.{length}
 use Rattle.words.specs.Basics.{pick}
 use Rattle.conventions.specs.declared.Convention.{Convention}
 use Rattle.types.specs.Sizes.{sizeOf}
 use Rattle.types.specs.Trees.{Trees, none, _▸_, typeOf}
 use Rattle.items.specs.Reading.{Reading, got, no}
 use Rattle.signature.specs.declared.ResultType.{ResultType}
-use Rattle.signature.specs.Places.{itemAfter}
+use Rattle.items.specs.Encode.{encodeTrees}
 use Rattle.places.specs.declared.Span.{Span}
 use Rattle.places.specs.Step.{rulesOf, spanOf}
 use Rattle.plan.specs.Plan.{noSpan, endIn, typesOf}
 use Rattle.plan.specs.Limits.{SmallResult}
 use Rattle.plan_words.specs.declared.Kept.{Kept}
 use Rattle.plan_words.specs.Entries.{firstWord, startWord}
+
+-- the place of the item after those of the arguments ts, which stand one after the other from `at` on
+abbrev pub itemAfter : ℕ → Trees → ℕ
+itemAfter at ts = at + length (encodeTrees ts)
 
 abbrev pub kept : ℕ → ℕ → Span → Kept
 kept item size s = record {

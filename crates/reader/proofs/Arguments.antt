@@ -1,11 +1,10 @@
 -- Stepping through an accepted signature gives its arguments in order: past two items and into the third stands the first
 -- argument's item, and the item after k others is the k-th argument's, of its type and at its place in the encoding.
 -- Assumes nothing.
-use Prim.Native.Nat.{ℕ, zero, suc, _+_, _-_, _≤_, _<_}
+use Prim.Native.Nat.{ℕ, zero, suc, _+_, _≤_, _<_}
 use mathlib.Core.Path.{_≡_, refl, sym, ap, _∙_}
-use mathlib.Core.List.{List, [], _∷_, _++_}
-use lib.ListN.{length, getD, replicate, length-append, List·getD-append}
-use lib.Seq.{getD-at}
+use mathlib.Core.List.{List}
+use lib.ListN.{length, getD, length-append}
 use lib.Dec.{ltb, eqb}
 use native.Mathlib.Omega.{arith}
 use borrow.Author.Tests.{le-ltb, eq-eqb, ne-eqb, ltb-false, eqb-true}
@@ -28,12 +27,8 @@ use Rattle.signature.specs.declared.SignatureRead.{SignatureRead}
 use Rattle.signature.specs.Signature.{Result, Signature}
 use Rattle.signature.specs.Read.{conventionBy, conventionAt, resultIn, resultAt, argumentsIn, argumentsAt, afterResult, afterConvention, signatureOf}
 use Rattle.signature.specs.Encode.{encodeResult}
-use Rattle.signature.specs.declared.Argument.{Argument}
-use Rattle.signature.specs.Places.{firstItem, itemAfter}
-use Rattle.signature.specs.Answer.{argument, blankArgument, listed, table, signatureAnswer}
-use Rattle.signature.proofs.Loop.{listed-length}
+use Rattle.signature.specs.Answer.{signatureAnswer}
 use Rattle.signature.proofs.Sound.{convention-read, result-read}
-use Rattle.signature.proofs.Theorems.{accepted}
 use Rattle.reader.specs.declared.ArgumentRead.{ArgumentRead}
 use Rattle.reader.specs.Step.{bodyIn, bodyStart, bodyEnd, typeIn}
 use Rattle.reader.specs.Argument.{argumentIn, argumentAnswer, argumentsStart, steppedTo}
@@ -242,39 +237,6 @@ pub arguments-in-order : (s : List ℕ) (g : Signature) (next n : ℕ) → signa
     steppedTo (g .convention) s (argumentsStart s) (length s) index ≡ argumentIn (g .convention) (10 + length (encodeResult (g .result))) index (g .arguments)
 arguments-in-order s g next n q index h = arguments-stepped s g (rw q at (signature-placed s)) index h
 
--- the reader's table of arguments has the type and the place of each
-
-abbrev readAs : Argument → ArgumentRead
-readAs a = ArgumentRead.Argument (a .ty) (a .place)
-
-listed-argument : (c : Convention) (start : ℕ) (ts : Trees) (index : ℕ) → index < countOf ts →
-    readAs (getD (listed c start ts) index blankArgument) ≡ argumentIn c start index ts
-unfolding listed countOf
-listed-argument c start none index h = absurd (omega arith)
-listed-argument c start (ts ▸ t) index h = go (countOf ts - index) refl (listed-argument c start ts index)
-  where
-    go : (left : ℕ) → countOf ts - index ≡ left → (index < countOf ts → readAs (getD (listed c start ts) index blankArgument) ≡ argumentIn c start index ts) →
-        readAs (getD (listed c start ts ++ argument (typeOf c t) (itemAfter start ts) ∷ []) index blankArgument) ≡ argumentIn c start index (ts ▸ t)
-    go zero e earlier =
-        let last : index ≡ countOf ts = omega arith in
-        let at : length (listed c start ts) ≡ index = omega (arith, listed-length c start ts) in
-        rw (getD-at (listed c start ts) (argument (typeOf c t) (itemAfter start ts)) [] blankArgument index at, last) (sym (argument-last c start ts t))
-    go (suc left) e earlier =
-        let less : index < length (listed c start ts) = omega (arith, listed-length c start ts) in
-        rw (List·getD-append (listed c start ts) (argument (typeOf c t) (itemAfter start ts) ∷ []) blankArgument index less)
-        (earlier (omega arith) ∙ sym (argument-before c start ts t index (omega arith)))
-
-pub argument-tabled : (x : Reading Signature) (index : ℕ) → index < signatureAnswer x .count →
-    readAs (getD (signatureAnswer x .arguments) index blankArgument) ≡ argumentAnswer index x
-unfolding table
-argument-tabled (got g next n) index h =
-    let c = g .convention in
-    let start = firstItem (g .result) in
-    let less : index < length (listed c start (g .arguments)) = omega (arith, listed-length c start (g .arguments)) in
-    rw (List·getD-append (listed c start (g .arguments)) (replicate (maxArguments - countOf (g .arguments)) blankArgument) blankArgument index less)
-    (listed-argument c start (g .arguments) index h)
-argument-tabled (no f) index h = absurd (omega arith)
-
 -- what the whole reading's answer says of one argument
 
 module _ (s : List ℕ) (index : ℕ) (x : SignatureRead) (found : x ≡ signatureAnswer (signatureOf s)) where
@@ -284,13 +246,6 @@ module _ (s : List ℕ) (index : ℕ) (x : SignatureRead) (found : x ≡ signatu
       go : (y : Reading Signature) → x ≡ signatureAnswer y → ArgumentRead.Refused r ≡ argumentAnswer index y
       go (got g next n) f = let e = sym q ∙ ap (λ (z : SignatureRead). z .outcome) f in let z : _≡_ {A = ℕ} 0 1 = cc in absurd (omega arith)
       go (no r′) f = let e = sym q ∙ ap (λ (z : SignatureRead). z .outcome) f in cc
-
-  pub argument-few : x .count ≤ maxArguments
-  argument-few = rw found (go (signatureOf s) refl)
-    where
-      go : (y : Reading Signature) → signatureOf s ≡ y → signatureAnswer y .count ≤ maxArguments
-      go (got g next n) e = accepted s g next n e .within .few
-      go (no f) e = omega arith
 
   module _ (items : ℕ) (q : x .outcome ≡ Outcome.Accepted items) where
     pub argument-missing : x .count ≤ index → ArgumentRead.Missing ≡ argumentAnswer index (signatureOf s)
@@ -302,7 +257,11 @@ module _ (s : List ℕ) (index : ℕ) (x : SignatureRead) (found : x ≡ signatu
             sym (argument-none (g .convention) (10 + length (encodeResult (g .result))) (g .arguments) index (omega arith))
         go (no r) f = let e = sym q ∙ ap (λ (z : SignatureRead). z .outcome) f in let z : _≡_ {A = ℕ} 0 1 = cc in absurd (omega arith)
 
-    -- the table's entry for it
-    pub argument-found : index < x .count →
-        ArgumentRead.Argument (getD (x .arguments) index blankArgument .ty) (getD (x .arguments) index blankArgument .place) ≡ argumentAnswer index (signatureOf s)
-    argument-found h = rw found (argument-tabled (signatureOf s) index (let count = ap (λ (z : SignatureRead). z .count) found in omega arith))
+    pub argument-stepped : index < x .count → (start : ℕ) → start ≡ argumentsStart s → steppedTo (x .convention) s start (length s) index ≡ argumentAnswer index (signatureOf s)
+    argument-stepped h start from = rw from (go (signatureOf s) (signature-placed s) found)
+      where
+        go : (y : Reading Signature) → Got (λ g next n. Placed s g) y → x ≡ signatureAnswer y → steppedTo (x .convention) s (argumentsStart s) (length s) index ≡ argumentAnswer index y
+        go (got g next n) p f =
+            let count = ap (λ (z : SignatureRead). z .count) f in
+            ap (λ (z : SignatureRead). steppedTo (z .convention) s (argumentsStart s) (length s) index) f ∙ arguments-stepped s g p index (omega arith)
+        go (no r) p f = let e = sym q ∙ ap (λ (z : SignatureRead). z .outcome) f in let z : _≡_ {A = ℕ} 0 1 = cc in absurd (omega arith)

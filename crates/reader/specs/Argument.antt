@@ -1,6 +1,6 @@
 -- One argument of a signature: its type, and the place of its item by the encoder. Below it, the same by stepping.
 -- Assumes nothing.
-use Prim.Native.Nat.{ℕ, zero, suc}
+use Prim.Native.Nat.{ℕ, zero, suc, _+_}
 use mathlib.Core.List.{List}
 use lib.ListN.{length}
 use lib.Dec.{eqb}
@@ -8,8 +8,9 @@ use Rattle.words.specs.Basics.{pick}
 use Rattle.conventions.specs.declared.Convention.{Convention}
 use Rattle.types.specs.Trees.{Tree, Trees, none, _▸_, typeOf, countOf}
 use Rattle.items.specs.Reading.{Reading, got, no}
+use Rattle.items.specs.Encode.{encodeTrees}
 use Rattle.signature.specs.Signature.{Signature}
-use Rattle.signature.specs.Places.{firstItem, itemAfter}
+use Rattle.signature.specs.Encode.{encodeResult}
 use Rattle.reader.specs.declared.ArgumentRead.{ArgumentRead}
 use Rattle.reader.specs.Step.{bodyStart, bodyEnd, typeIn}
 
@@ -17,11 +18,11 @@ use Rattle.reader.specs.Step.{bodyStart, bodyEnd, typeIn}
 unfoldable pub argumentIn : Convention → ℕ → ℕ → Trees → ArgumentRead
 argumentIn c start index none = ArgumentRead.Missing
 argumentIn c start index (ts ▸ t) =
-    pick (eqb index (countOf ts)) (ArgumentRead.Argument (typeOf c t) (itemAfter start ts)) (argumentIn c start index ts)
+    pick (eqb index (countOf ts)) (ArgumentRead.Argument (typeOf c t) (start + length (encodeTrees ts))) (argumentIn c start index ts)
 
--- of a whole reading
+-- of a whole reading: the convention's item is 4 bytes, the other two have a header of 3 each
 abbrev pub argumentAnswer : ℕ → Reading Signature → ArgumentRead
-argumentAnswer index (got g next n) = argumentIn (g .convention) (firstItem (g .result)) index (g .arguments)
+argumentAnswer index (got g next n) = argumentIn (g .convention) (10 + length (encodeResult (g .result))) index (g .arguments)
 argumentAnswer index (no f) = ArgumentRead.Refused f
 
 -- the arguments' first item: past two items, and into the third

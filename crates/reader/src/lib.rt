@@ -13,7 +13,7 @@ ghost use Rattle.items.specs.Answer.{itemAnswer};
 ghost use Rattle.signature.specs.Read.{signatureOf};
 ghost use Rattle.reader.specs.Step.{endIn, leftAt, bodyIn, headerIn, bodyStart, bodyEnd, typeIn, placeAfter};
 ghost use Rattle.reader.specs.Reader.{started, skipped, entered, advanced};
-ghost use Rattle.reader.specs.Argument.{argumentAnswer};
+ghost use Rattle.reader.specs.Argument.{argumentAnswer, argumentsStart, steppedTo};
 
 // The bytes, the place of the next item, and the end of the part that is stepped through. Any numbers are allowed.
 pub struct Reader<'a> {
@@ -201,6 +201,47 @@ impl<'a> Reader<'a> {
     }
 }
 
+// Where the arguments' first item stands: past two items and into the third.
+fn arguments_start(s: &[u8]) -> usize
+    ensures { λ r. ⌜ r ≡ argumentsStart (now (s .entry)) ⌝ }
+{
+    Reader::new(s).skip().skip().enter().at
+}
+
+// The type item at `at`, by a reader of the part up to `end`.
+fn type_of_part(s: &[u8], at: usize, end: usize, c: Convention) -> ItemRead
+    ensures { λ r. ⌜ r ≡ itemAnswer c (typeIn c (now (s .entry)) at end) ⌝ }
+{
+    Reader {
+        signature: s,
+        at,
+        end,
+    }.type_item(c)
+}
+
+// The type item after `count` others, from `at` on.
+fn step_to(s: &[u8], at: usize, end: usize, c: Convention, count: usize) -> ArgumentRead
+    ensures { λ r. ⌜ r ≡ steppedTo c (now (s .entry)) at end count ⌝ }
+{
+    let mut place = at;
+    let mut left = count;
+    while 0 < left {
+        match type_of_part(s, place, end, c) {
+            ItemRead::Item { ty, next, items } => {
+                place = next;
+                left = left - 1;
+            }
+            ItemRead::Refused(fault) => {
+                return ArgumentRead::Refused(fault);
+            }
+        }
+    }
+    match type_of_part(s, place, end, c) {
+        ItemRead::Item { ty, next, items } => ArgumentRead::Argument { ty, place },
+        ItemRead::Refused(fault) => ArgumentRead::Refused(fault),
+    }
+}
+
 // Argument number `index` of any bytes, counted from 0: its type, and where its item stands.
 pub fn argument_at(s: &[u8], index: usize) -> ArgumentRead
     ensures { λ r. ⌜ r ≡ argumentAnswer index (signatureOf (now (s .entry))) ⌝ }
@@ -213,12 +254,8 @@ pub fn argument_at(s: &[u8], index: usize) -> ArgumentRead
             if whole.count <= index {
                 return ArgumentRead::Missing;
             }
-            let a = whole.arguments[index];
-            let ty = a.ty;
-            ArgumentRead::Argument {
-                ty,
-                place: a.place as usize,
-            }
+            let c = whole.convention;
+            step_to(s, arguments_start(s), s.len(), c, index)
         }
     }
 }

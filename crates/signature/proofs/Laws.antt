@@ -30,7 +30,6 @@ use Rattle.signature.specs.declared.HeadRead.{HeadRead}
 use Rattle.signature.specs.Signature.{Result, nothing, Signature, Head}
 use Rattle.signature.specs.Limits.{maxLength, maxDepth}
 use Rattle.signature.specs.Read.{conventionBy, conventionAt, resultIn, resultAt, argumentsIn, argumentsAt, afterResult, afterConvention, signatureOf, headBy, headAfter, headOf}
-use Rattle.signature.specs.Places.{firstItem}
 use Rattle.signature.specs.Answer.{conventionAnswer, resultType, resultAnswer, headAnswer, refused, accepted, withArguments, signatureAnswer}
 
 -- the convention
@@ -214,13 +213,13 @@ module _ (s : List ℕ) where
       whole false = first (conventionAt s)
 
   -- the arguments' answer is the signature's
-  pub arguments-answer : (c : Convention) (r : Result) (n : ℕ) (x : Reading Trees) →
-      signatureAnswer (thenArguments c r n x) ≡ withArguments c (resultType c r) n (length s) (firstItem r) x
+  arguments-answer : (c : Convention) (r : Result) (n : ℕ) (x : Reading Trees) →
+      signatureAnswer (thenArguments c r n x) ≡ withArguments c (resultType c r) n (length s) x
   arguments-answer c r n (got ts next m) = go (ltb next (length s))
     where
       go : (more : Bool) →
           signatureAnswer (pick more (no (fault Refusal.TrailingBytes next (n + m))) (got (record { convention = c; result = r; arguments = ts }) next (n + m)))
-          ≡ pick more (refused (fault Refusal.TrailingBytes next (n + m))) (accepted c (resultType c r) (firstItem r) ts (n + m))
+          ≡ pick more (refused (fault Refusal.TrailingBytes next (n + m))) (accepted c (resultType c r) ts (n + m))
       go true = refl
       go false = refl
   arguments-answer c r n (no f) = refl
@@ -235,3 +234,11 @@ module _ (s : List ℕ) where
     signature-then c t at b n q =
         let (r, read, same) = head-got (headOf s) c t at b n (sym q ∙ found) in
         (r, signature-head ∙ ap (λ (y : Reading Head). andThen y afterHead) read, same)
+
+    pub signature-arguments : (c : Convention) (t : ResultType) (at b n : ℕ) → x ≡ HeadRead.Head c t at b n →
+        signatureAnswer (signatureOf s) ≡ withArguments c t n (length s) (argumentsIn c s at b)
+    signature-arguments c t at b n q =
+        let (r, read, same) = signature-then c t at b n q in
+        ap signatureAnswer read
+        ∙ arguments-answer c r n (argumentsIn c s at b)
+        ∙ ap (λ (u : ResultType). withArguments c u n (length s) (argumentsIn c s at b)) (sym same)

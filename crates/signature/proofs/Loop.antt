@@ -7,6 +7,7 @@ use lib.Seq.{set-at}
 use native.Mathlib.Omega.{arith}
 use borrow.Author.Tests.{lt-ltb, le-ltb}
 use Rattle.conventions.specs.declared.Convention.{Convention}
+use Rattle.types.specs.declared.IntegerKind.{IntegerKind}
 use Rattle.types.specs.declared.ValueType.{ValueType}
 use Rattle.types.specs.Trees.{Tree, Trees, none, _▸_, typeOf, countOf}
 use Rattle.items.specs.declared.Refusal.{Refusal}
@@ -16,9 +17,6 @@ use Rattle.items.specs.Reading.{fault, got, no, later}
 use Rattle.items.specs.Read.{sequence, itemAt}
 use Rattle.items.specs.Answer.{itemAnswer}
 use Rattle.items.proofs.Laws.{sequence-done, sequence-full, sequence-more, sequence-no, item-got, item-no}
-use Rattle.items.specs.Encode.{encodeTrees}
-use Rattle.items.proofs.Trees.{length-more}
-use Rattle.items.proofs.Sound.{item-read}
 use Rattle.items.proofs.Loop.{item-answered}
 use Rattle.signature.specs.Limits.{maxArguments}
 use Rattle.signature.specs.declared.Argument.{Argument}
@@ -26,31 +24,29 @@ use Rattle.signature.specs.declared.ResultType.{ResultType}
 use Rattle.signature.specs.declared.SignatureRead.{SignatureRead}
 use Rattle.signature.specs.declared.Outcome.{Outcome}
 use Rattle.signature.specs.Read.{argumentsIn}
-use Rattle.signature.specs.Places.{itemAfter}
-use Rattle.signature.specs.Answer.{argument, blankArgument, noArguments, listed, table, refused, withArguments}
+use Rattle.signature.specs.Answer.{argument, noArguments, listed, table, refused, withArguments}
 
 -- the table
 
-pub listed-length : (c : Convention) (start : ℕ) (ts : Trees) → length (listed c start ts) ≡ countOf ts
+listed-length : (c : Convention) (ts : Trees) → length (listed c ts) ≡ countOf ts
 unfolding listed countOf
-listed-length c start none = refl
-listed-length c start (ts ▸ t) = simp (length-append, listed-length c start ts)
+listed-length c none = refl
+listed-length c (ts ▸ t) = simp (length-append, listed-length c ts)
 
-table-none : (c : Convention) (start : ℕ) → noArguments ≡ table c start none
+table-none : (c : Convention) → noArguments ≡ table c none
 unfolding table listed countOf
-table-none c start = refl
+table-none c = refl
 
-table-more : (c : Convention) (start : ℕ) (ts : Trees) (t : Tree) → countOf ts < maxArguments →
-    set (table c start ts) (countOf ts) (argument (typeOf c t) (itemAfter start ts)) ≡ table c start (ts ▸ t)
+table-more : (c : Convention) (ts : Trees) (t : Tree) → countOf ts < maxArguments → set (table c ts) (countOf ts) (argument (typeOf c t)) ≡ table c (ts ▸ t)
 unfolding table listed countOf
-table-more c start ts t h =
-    let one = argument (typeOf c t) (itemAfter start ts) in
+table-more c ts t h =
+    let blank = argument (ValueType.Integer IntegerKind.I8) in
     let left : maxArguments - countOf ts ≡ suc (maxArguments - (countOf ts + 1)) = omega arith in
-    rw left (set-at (listed c start ts) blankArgument (replicate (maxArguments - (countOf ts + 1)) blankArgument) one (countOf ts) (listed-length c start ts)
-    ∙ sym (append-assoc (listed c start ts) (one ∷ []) (replicate (maxArguments - (countOf ts + 1)) blankArgument)))
+    rw left (set-at (listed c ts) blank (replicate (maxArguments - (countOf ts + 1)) blank) (argument (typeOf c t)) (countOf ts) (listed-length c ts)
+    ∙ sym (append-assoc (listed c ts) (argument (typeOf c t) ∷ []) (replicate (maxArguments - (countOf ts + 1)) blank)))
 
-same-set : {l k : List Argument} {i j : ℕ} {t u : ValueType} {a b : ℕ} → l ≡ k → i ≡ j → t ≡ u → a ≡ b → set l i (argument t a) ≡ set k j (argument u b)
-same-set p q r e = cc
+same-set : {l k : List Argument} {i j : ℕ} {t u : ValueType} → l ≡ k → i ≡ j → t ≡ u → set l i (argument t) ≡ set k j (argument u)
+same-set p q r = cc
 
 -- the arguments so far, and that reading on from here gives all of them
 pub record Turn (c : Convention) (s : List ℕ) (start e : ℕ) (ts : Trees) (count next n : ℕ) : Type 0 where
@@ -58,7 +54,6 @@ pub record Turn (c : Convention) (s : List ℕ) (start e : ℕ) (ts : Trees) (co
   pub few : count + left ≡ maxArguments
   pub many : count ≡ countOf ts
   pub within : next ≤ e
-  pub ends : next ≡ itemAfter start ts
   pub third : start + 3 * n ≤ next + 3
   pub rest : argumentsIn c s start e ≡ sequence (itemAt c 8 s e) e left next n ts
 
@@ -70,8 +65,8 @@ pub record More (c : Convention) (s : List ℕ) (start e : ℕ) (ts : Trees) (t 
 
 module _ (c : Convention) (s : List ℕ) (start e : ℕ) where
   pub turn-start : start ≤ e → Turn c s start e none 0 start 1
-  unfolding argumentsIn countOf encodeTrees
-  turn-start h = record { left = maxArguments; few = refl; many = refl; within = h; ends = omega arith; third = omega arith; rest = refl }
+  unfolding argumentsIn countOf
+  turn-start h = record { left = maxArguments; few = refl; many = refl; within = h; third = omega arith; rest = refl }
 
   module _ (ts : Trees) (count next n : ℕ) (turn : Turn c s start e ts count next n) where
     module _ (h : next < e) where
@@ -89,9 +84,6 @@ module _ (c : Convention) (s : List ℕ) (start e : ℕ) where
         turn-more t after m q =
             let (tree, read, same) = item-got c (itemAt c 8 s e next) t after m (sym q ∙ found) in
             let a = item-answered c 8 s e next r t after m (omega arith) found q in
-            let here = item-read c 8 s e next tree after m read .ends in
-            let more = length-more ts tree in
-            let ends = turn .ends in
             record {
               tree = tree;
               same = same;
@@ -100,7 +92,6 @@ module _ (c : Convention) (s : List ℕ) (start e : ℕ) where
                 few = omega arith;
                 many = omega arith;
                 within = a .inside;
-                ends = omega arith;
                 third = omega arith;
                 rest = sequence-more (itemAt c 8 s e) e (argumentsIn c s start e) (turn .left) next n ts (turn .rest) h (omega arith) tree after m read;
               };
@@ -113,33 +104,33 @@ module _ (c : Convention) (s : List ℕ) (start e : ℕ) where
 pub record Tabled (c : Convention) (s : List ℕ) (start e : ℕ) (arguments : List Argument) (count next n : ℕ) : Type 0 where
   pub ts : Trees
   pub turn : Turn c s start e ts count next n
-  pub types : arguments ≡ table c start ts
+  pub types : arguments ≡ table c ts
 
 module _ (c : Convention) (s : List ℕ) (start e : ℕ) where
   pub tabled-start : (l : List Argument) → l ≡ noArguments → start ≤ e → Tabled c s start e l 0 start 1
-  tabled-start l q h = record { ts = none; turn = turn-start c s start e h; types = q ∙ table-none c start }
+  tabled-start l q h = record { ts = none; turn = turn-start c s start e h; types = q ∙ table-none c }
 
   module _ (l : List Argument) (count next n : ℕ) (tabled : Tabled c s start e l count next n) where
     pub tabled-more : next < e → (count ≡ maxArguments → ⊥) → (r : ItemRead) → r ≡ itemAnswer c (itemAt c 8 s e next) → (t : ValueType) (after m : ℕ) →
-        r ≡ ItemRead.Item t after m → Tabled c s start e (set l count (argument t next)) (count + 1) after (n + m)
+        r ≡ ItemRead.Item t after m → Tabled c s start e (set l count (argument t)) (count + 1) after (n + m)
     tabled-more h some r found t after m q =
         let turn = tabled .turn in
         let more = turn-more c s start e (tabled .ts) count next n turn h some r found t after m q in
         record {
           ts = tabled .ts ▸ more .tree;
           turn = more .turn;
-          types = same-set (tabled .types) (turn .many) (more .same) (turn .ends) ∙ table-more c start (tabled .ts) (more .tree) (omega (arith, turn .few, turn .many));
+          types = same-set (tabled .types) (turn .many) (more .same) ∙ table-more c (tabled .ts) (more .tree) (omega (arith, turn .few, turn .many));
         }
 
     module _ (last : e ≤ next) (result : ResultType) (before : ℕ) where
-      pub tabled-trailing : next < length s → refused (fault Refusal.TrailingBytes next (before + n)) ≡ withArguments c result before (length s) start (argumentsIn c s start e)
+      pub tabled-trailing : next < length s → refused (fault Refusal.TrailingBytes next (before + n)) ≡ withArguments c result before (length s) (argumentsIn c s start e)
       tabled-trailing h = rw (turn-last c s start e (tabled .ts) count next n (tabled .turn) last, lt-ltb next (length s) h)
 
       pub tabled-end : length s ≤ next →
           _≡_ {A = SignatureRead} (record { outcome = Outcome.Accepted (before + n); convention = c; result = result; count = count; arguments = l })
-          (withArguments c result before (length s) start (argumentsIn c s start e))
+          (withArguments c result before (length s) (argumentsIn c s start e))
       tabled-end h = rw (turn-last c s start e (tabled .ts) count next n (tabled .turn) last, le-ltb next (length s) h) (cc (tabled .turn .many, tabled .types))
 
   pub arguments-no : (f : Fault) → argumentsIn c s start e ≡ no f → (result : ResultType) (before all : ℕ) →
-      refused (later before f) ≡ withArguments c result before all start (argumentsIn c s start e)
+      refused (later before f) ≡ withArguments c result before all (argumentsIn c s start e)
   arguments-no f q result before all = rw q

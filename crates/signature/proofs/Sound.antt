@@ -1,6 +1,6 @@
 -- What is read is an encoding of a signature within the limits. Assumes nothing.
 use Prim.Native.Nat.{ℕ, _+_, _*_, _≤_}
-use mathlib.Core.Path.{_≡_, refl, sym, ap, _∙_}
+use mathlib.Core.Path.{_≡_, refl, sym, _∙_}
 use mathlib.Core.List.{List, [], _∷_, _++_}
 use lib.ListN.{length, getD, length-append}
 use lib.Dec.{ltb, eqb}
@@ -10,7 +10,7 @@ use Rattle.words.specs.Numbers.{Bytes}
 use Rattle.conventions.specs.declared.Convention.{Convention}
 use Rattle.types.specs.Trees.{Tree, Trees, none, countOf}
 use Rattle.types.specs.Limits as limits
-use Rattle.items.specs.Reading.{Reading, got, no, andThen}
+use Rattle.items.specs.Reading.{Reading, got, no}
 use Rattle.items.specs.declared.Body.{Body}
 use Rattle.items.specs.Read.{bodyAt, itemAt}
 use Rattle.items.specs.Encode.{item, encodeTree, encodeTrees, itemsIn}
@@ -24,12 +24,11 @@ use Rattle.conventions.proofs.Laws.{CodeIs, code-is}
 use Rattle.signature.specs.declared.ResultType.{ResultType}
 use Rattle.signature.specs.declared.ResultRead.{ResultRead}
 use Rattle.signature.specs.declared.HeadRead.{HeadRead}
-use Rattle.signature.specs.Places.{firstItem}
-use Rattle.signature.specs.Answer.{resultAnswer, headAnswer, signatureAnswer, withArguments}
+use Rattle.signature.specs.Answer.{resultAnswer, headAnswer}
 use Rattle.signature.specs.Signature.{Result, nothing, value, Signature, Head}
 use Rattle.signature.specs.Limits.{maxLength, maxArguments, maxDepth}
 use Rattle.signature.specs.Read.{conventionBy, conventionAt, resultIn, resultAt, argumentsIn, argumentsAt, afterResult, afterConvention, signatureOf, headBy, headAfter, headOf}
-use Rattle.signature.proofs.Laws.{result-got, head-got, afterHead, signature-head, arguments-answer}
+use Rattle.signature.proofs.Laws.{result-got, head-got}
 use Rattle.signature.specs.Encode.{encodeResult, encode, resultItems, signatureItems, ResultWithin, Within}
 
 -- an item of the signature that ends the item's framing
@@ -229,7 +228,7 @@ pub record HeadBounded (s : List ℕ) (at b n : ℕ) : Type 0 where
   pub third : 3 * n ≤ at
 
 abbrev HeadSound : List ℕ → Head → ℕ → ℕ → Type 0
-HeadSound s h next n = HeadBounded s next (h .end) n × (next ≡ firstItem (h .result))
+HeadSound s h next n = HeadBounded s next (h .end) n
 
 head-after-sound : (s : List ℕ) → length s ≤ maxLength → (c : Convention) (at n : ℕ) → ConventionSound s c at n → Got (HeadSound s) (headAfter s c at n)
 unfolding headAfter
@@ -240,7 +239,7 @@ head-after-sound s short c at n first = by-next (ResultSound c s at) (HeadSound 
     go r next m second (Body.To b) framed =
         let third = result-third r in
         let ends = framed .ends in
-        (record { inside = omega arith; within = framed .inside; short = short; third = omega arith }, omega (arith, first .ends, second .ends))
+        record { inside = omega arith; within = framed .inside; short = short; third = omega arith }
     go r next m second (Body.Refused x) framed = tt
 
 head-sound : (s : List ℕ) → Got (HeadSound s) (headOf s)
@@ -250,18 +249,7 @@ head-sound s = by-choose (Got (HeadSound s)) (ltb maxLength (length s)) _ _ (λ 
 
 pub head-bounded : (s : List ℕ) (x : HeadRead) (c : Convention) (t : ResultType) (at b n : ℕ) → x ≡ headAnswer (headOf s) →
     x ≡ HeadRead.Head c t at b n → HeadBounded s at b n
-head-bounded s x c t at b n found q = let (r, read, same) = head-got (headOf s) c t at b n (sym q ∙ found) in (rw read at (head-sound s)) .0
-
--- the whole is what the arguments' answer makes of it; the result's tree is gone, its type is there
-pub signature-arguments : (s : List ℕ) (x : HeadRead) → x ≡ headAnswer (headOf s) → (c : Convention) (t : ResultType) (at b n : ℕ) → x ≡ HeadRead.Head c t at b n →
-    signatureAnswer (signatureOf s) ≡ withArguments c t n (length s) at (argumentsIn c s at b)
-signature-arguments s x found c t at b n q =
-    let (r, read, same) = head-got (headOf s) c t at b n (sym q ∙ found) in
-    let sound : HeadSound s (record { convention = c; result = r; end = b }) at n = rw read at (head-sound s) in
-    ap signatureAnswer (signature-head s ∙ ap (λ (y : Reading Head). andThen y (afterHead s)) read)
-    ∙ arguments-answer s c r n (argumentsIn c s at b)
-    ∙ ap (λ (u : ResultType). withArguments c u n (length s) (firstItem r) (argumentsIn c s at b)) (sym same)
-    ∙ ap (λ (k : ℕ). withArguments c t n (length s) k (argumentsIn c s at b)) (sym (sound .1))
+head-bounded s x c t at b n found q = let (r, read, same) = head-got (headOf s) c t at b n (sym q ∙ found) in rw read at (head-sound s)
 
 -- what a program's answer says of the result's item: it ends within the signature, three bytes or more for each item in it
 pub record Bounded (s : List ℕ) (at next n : ℕ) : Type 0 where

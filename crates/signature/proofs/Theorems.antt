@@ -1,6 +1,6 @@
 -- What is proved of reading a signature, besides that the program's answer is the definition's (specs/Exact.antt states it).
 -- Assumes nothing.
-use Prim.Native.Nat.{ℕ, _+_, _<_}
+use Prim.Native.Nat.{ℕ, _<_}
 use mathlib.Core.Path.{_≡_, sym, ap, _∙_}
 use mathlib.Core.List.{List, [], _∷_, _++_}
 use lib.ListN.{length}
@@ -10,17 +10,14 @@ use Rattle.words.proofs.Numbers.{bytes-append}
 use Rattle.conventions.specs.declared.Convention.{Convention}
 use Rattle.conventions.specs.Numbers.{codeOf}
 use Rattle.conventions.proofs.Laws.{code-byte}
-use Rattle.types.specs.Trees.{Trees, none, _▸_}
 use Rattle.types.proofs.Sized.{within-sized, all-within-sized}
 use Rattle.items.specs.declared.Fault.{Fault}
 use Rattle.items.specs.Reading.{got, no}
-use Rattle.items.specs.Encode.{item, encodeTree, encodeTrees}
-use Rattle.items.proofs.Has.{Has, has-move, has-left, has-right, has-all, item-body, length-item}
+use Rattle.items.specs.Encode.{item, encodeTrees}
 use Rattle.items.proofs.Trees.{bytes-none, bytes-cons, bytes-item, tree-bytes, trees-bytes}
 use Rattle.signature.specs.Signature.{Result, nothing, value, Signature}
 use Rattle.signature.specs.Read.{signatureOf}
 use Rattle.signature.specs.Encode.{encodeResult, encode, signatureItems, ResultWithin, Within}
-use Rattle.signature.specs.Places.{firstItem, itemAfter}
 use Rattle.signature.specs.Exact.{ReadsExactly, ResultSized, Accepted}
 use Rattle.signature.proofs.Sound.{signature-read, length-encode, encode-third}
 use Rattle.signature.proofs.Complete.{encode-reads}
@@ -84,32 +81,3 @@ encode-bytes g w =
     (bytes-append (item 0x02 (encodeResult (g .result))) (item 0x03 (encodeTrees (g .arguments)))
     (bytes-item 0x02 (encodeResult (g .result)) (omega arith) (omega arith) (result-bytes (g .result) (omega arith)))
     (bytes-item 0x03 (encodeTrees (g .arguments)) (omega arith) (omega arith) (trees-bytes (g .arguments) (omega arith))))
-
--- each argument's item stands at the place that the table of arguments has for it
-
-unfoldable pub AllStand : List ℕ → ℕ → Trees → Type 0
-AllStand s start none = Unit {0}
-AllStand s start (ts ▸ t) = AllStand s start ts × Has s (itemAfter start ts) (encodeTree t)
-
-all-stand : (s : List ℕ) (start : ℕ) (ts : Trees) → Has s start (encodeTrees ts) → AllStand s start ts
-unfolding AllStand encodeTrees
-all-stand s start none h = tt
-all-stand s start (ts ▸ t) h = (all-stand s start ts (has-left s (encodeTrees ts) (encodeTree t) start h), has-right s (encodeTrees ts) (encodeTree t) start h)
-
-encode-stands : (g : Signature) → AllStand (encode g) (firstItem (g .result)) (g .arguments)
-unfolding encode
-encode-stands g =
-    let s = encode g in
-    let one = item 0x01 (codeOf (g .convention) ∷ []) in
-    let two = item 0x02 (encodeResult (g .result)) in
-    let three = item 0x03 (encodeTrees (g .arguments)) in
-    let size₁ : length one ≡ 4 = length-item 0x01 (codeOf (g .convention) ∷ []) in
-    let size₂ = length-item 0x02 (encodeResult (g .result)) in
-    let all : Has s 0 (one ++ (two ++ three)) = has-all s in
-    let third = has-right s two three (0 + length one) (has-right s one (two ++ three) 0 all) in
-    all-stand s (firstItem (g .result)) (g .arguments)
-    (has-move s (encodeTrees (g .arguments)) (0 + length one + length two + 3) (firstItem (g .result)) (omega arith)
-    (item-body s 0x03 (encodeTrees (g .arguments)) (0 + length one + length two) third))
-
-pub arguments-stand : (s : List ℕ) → Bytes s → (g : Signature) (next n : ℕ) → signatureOf s ≡ got g next n → AllStand s (firstItem (g .result)) (g .arguments)
-arguments-stand s bytes g next n q = rw (signature-read s g next n q .here bytes) (encode-stands g)

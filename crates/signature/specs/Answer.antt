@@ -20,7 +20,6 @@ use Rattle.signature.specs.declared.ResultRead.{ResultRead}
 use Rattle.signature.specs.declared.HeadRead.{HeadRead}
 use Rattle.signature.specs.Signature.{Result, nothing, value, Signature, Head}
 use Rattle.signature.specs.Limits.{maxArguments}
-use Rattle.signature.specs.Places.{firstItem, itemAfter}
 
 abbrev pub conventionAnswer : Reading Convention → ConventionRead
 conventionAnswer (got c next n) = ConventionRead.Known c
@@ -38,23 +37,20 @@ abbrev pub headAnswer : Reading Head → HeadRead
 headAnswer (got h next n) = HeadRead.Head (h .convention) (resultType (h .convention) (h .result)) next (h .end) n
 headAnswer (no f) = HeadRead.Refused f
 
--- the table of arguments, whose items stand from `start` on: the type and the place of each in order, and an i8 at 0 after them
+-- the table of arguments: their types in order, and an i8 in each place after them
 
-abbrev pub argument : ValueType → ℕ → Argument
-argument t place = record { ty = t; place = place }
-
-abbrev pub blankArgument : Argument
-blankArgument = argument (ValueType.Integer IntegerKind.I8) 0
+abbrev pub argument : ValueType → Argument
+argument t = record { ty = t }
 
 abbrev pub noArguments : List Argument
-noArguments = replicate maxArguments blankArgument
+noArguments = replicate maxArguments (argument (ValueType.Integer IntegerKind.I8))
 
-unfoldable pub listed : Convention → ℕ → Trees → List Argument
-listed c start none = []
-listed c start (ts ▸ t) = listed c start ts ++ argument (typeOf c t) (itemAfter start ts) ∷ []
+unfoldable pub listed : Convention → Trees → List Argument
+listed c none = []
+listed c (ts ▸ t) = listed c ts ++ argument (typeOf c t) ∷ []
 
-unfoldable pub table : Convention → ℕ → Trees → List Argument
-table c start ts = listed c start ts ++ replicate (maxArguments - countOf ts) blankArgument
+unfoldable pub table : Convention → Trees → List Argument
+table c ts = listed c ts ++ replicate (maxArguments - countOf ts) (argument (ValueType.Integer IntegerKind.I8))
 
 -- "Every refusal leaves all buffers and the state untouched"
 abbrev pub refused : Fault → SignatureRead
@@ -66,15 +62,14 @@ refused f = record {
   arguments = noArguments;
 }
 
-abbrev pub accepted : Convention → ResultType → ℕ → Trees → ℕ → SignatureRead
-accepted c r start ts n = record { outcome = Outcome.Accepted n; convention = c; result = r; count = countOf ts; arguments = table c start ts }
+abbrev pub accepted : Convention → ResultType → Trees → ℕ → SignatureRead
+accepted c r ts n = record { outcome = Outcome.Accepted n; convention = c; result = r; count = countOf ts; arguments = table c ts }
 
 abbrev pub signatureAnswer : Reading Signature → SignatureRead
-signatureAnswer (got g next n) =
-    accepted (g .convention) (resultType (g .convention) (g .result)) (firstItem (g .result)) (g .arguments) n
+signatureAnswer (got g next n) = accepted (g .convention) (resultType (g .convention) (g .result)) (g .arguments) n
 signatureAnswer (no f) = refused f
 
--- from the arguments on, which stand from `start` on in a signature of `all` bytes, where the convention and the result's type took n items
-abbrev pub withArguments : Convention → ResultType → ℕ → ℕ → ℕ → Reading Trees → SignatureRead
-withArguments c r n all start (got ts next m) = pick (ltb next all) (refused (fault Refusal.TrailingBytes next (n + m))) (accepted c r start ts (n + m))
-withArguments c r n all start (no f) = refused (later n f)
+-- from the arguments on, in a signature of `all` bytes, where the convention and the result's type took n items
+abbrev pub withArguments : Convention → ResultType → ℕ → ℕ → Reading Trees → SignatureRead
+withArguments c r n all (got ts next m) = pick (ltb next all) (refused (fault Refusal.TrailingBytes next (n + m))) (accepted c r ts (n + m))
+withArguments c r n all (no f) = refused (later n f)

@@ -2,8 +2,7 @@
 pub mod Signature
 pub mod Limits
 pub mod Read
-pub mod Encode
-pub mod Places
 pub mod Answer
 pub mod Numbers
+pub mod Encode
 pub mod Exact

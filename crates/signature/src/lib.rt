@@ -14,10 +14,8 @@ pub enum ResultType {
     Value(ValueType),
 }
 
-// An argument's type, and the place of its item's header. Kept to 8 bytes: a place is below 2^16.
 pub struct Argument {
     pub ty: ValueType,
-    pub place: u16,
 }
 
 // Accepted, with the count of items; or refused.
@@ -26,7 +24,7 @@ pub enum Outcome {
     Refused(Fault),
 }
 
-// The answer on a signature. A refused one has no result and no arguments; the entries of the table past `count` hold an i8 at 0.
+// The answer on a signature. A refused one has no result and no arguments; the places of the table past `count` hold an i8.
 pub struct SignatureRead {
     pub outcome: Outcome,
     pub convention: Convention,
@@ -70,6 +68,5 @@ pub fn no_arguments() -> [Argument; MAX_ARGUMENTS]
 {
     [Argument {
         ty: ValueType::Integer(IntegerKind::I8),
-        place: 0,
     }; MAX_ARGUMENTS]
 }

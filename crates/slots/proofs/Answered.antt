@@ -8,7 +8,6 @@ use Rattle.conventions.specs.declared.Convention.{Convention}
 use Rattle.types.specs.declared.ValueType.{ValueType}
 use Rattle.types.specs.Trees.{countOf}
 use Rattle.items.specs.Reading.{Reading, got, no}
-use Rattle.signature.specs.Places.{firstItem}
 use Rattle.signature.specs.Limits.{maxArguments}
 use Rattle.signature.specs.declared.ResultType.{ResultType}
 use Rattle.signature.specs.declared.SignatureRead.{SignatureRead}
@@ -42,7 +41,7 @@ arguments-got g next n =
     let k : Cursor = startIn c (resultType c (g .result)) in
     let ts : List ValueType = typesOf c (g .arguments) in
     let ss : List Span = spansOf c (rulesOf c) k ts in
-    ap (λ (l : List ValueType). placements c l (ss ++ replicate (maxArguments - length ss) noSpan)) (table-types c (firstItem (g .result)) (g .arguments))
+    ap (λ (l : List ValueType). placements c l (ss ++ replicate (maxArguments - length ss) noSpan)) (table-types c (g .arguments))
     ∙ placements-table c (rulesOf c) k ts (replicate (maxArguments - length ss) noSpan)
 
 -- every slot of the plan's table is there

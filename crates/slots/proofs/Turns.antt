@@ -12,7 +12,7 @@ use Rattle.types.specs.declared.IntegerKind.{IntegerKind}
 use Rattle.types.specs.declared.ValueType.{ValueType}
 use Rattle.types.specs.Sizes.{sizeOf}
 use Rattle.signature.specs.declared.SignatureRead.{SignatureRead}
-use Rattle.signature.specs.Answer.{blankArgument}
+use Rattle.signature.specs.Answer.{argument}
 use Rattle.places.specs.declared.Span.{Span}
 use Rattle.plan.specs.declared.Plan.{Plan}
 use Rattle.plan.specs.Plan.{noSpan, typesIn}
@@ -38,8 +38,8 @@ drop-placements c (t ∷ ts) (s ∷ ss) (suc i) = drop-placements c ts ss i
 -- argument i of a signature and its plan
 abbrev pub argumentAt : SignatureRead → Plan → ℕ → Placement
 argumentAt g p i =
-    placement (getD (g .arguments) i blankArgument .ty)
-    (sizeOf (g .convention) (getD (g .arguments) i blankArgument .ty)) (getD (p .spans) i noSpan)
+    placement (getD (g .arguments) i (argument (ValueType.Integer IntegerKind.I8)) .ty)
+    (sizeOf (g .convention) (getD (g .arguments) i (argument (ValueType.Integer IntegerKind.I8)) .ty)) (getD (p .spans) i noSpan)
 
 -- the argument at hand and those after it
 pub next-argument : (g : SignatureRead) (p : Plan) (i : ℕ) → i < g .count → g .count ≤ length (g .arguments) → g .count ≤ length (p .spans)

@@ -38,7 +38,7 @@ fn read_arguments(
     earlier: usize,
 ) -> SignatureRead
     requires { ⌜ (at ≤ end) × (end ≤ length (now s)) × (end ≤ 2 ^ 16) × (earlier ≤ 2 ^ 16) ⌝ }
-    ensures { λ r. ⌜ r ≡ withArguments c result earlier (length (now (s .entry))) at (argumentsIn c (now (s .entry)) at end) ⌝ }
+    ensures { λ r. ⌜ r ≡ withArguments c result earlier (length (now (s .entry))) (argumentsIn c (now (s .entry)) at end) ⌝ }
 {
     let mut arguments = signature::no_arguments();
     let mut count: usize = 0;
@@ -58,10 +58,7 @@ fn read_arguments(
                 next: after,
                 items: more,
             } => {
-                arguments[count] = Argument {
-                    ty,
-                    place: next as u16,
-                };
+                arguments[count] = Argument { ty };
                 count = count + 1;
                 next = after;
                 items = items + more;

@@ -1,8 +1,9 @@
--- The whole reading says whether there is such an argument; its table has it.
+-- The whole reading says whether there is such an argument; stepping finds it.
 use borrow.Author.Needs.{needs}
+use mathlib.Core.Path.{_∙_}
 use native.Mathlib.Omega.{arith}
 use Rattle.reader.proofs.argument_at.Statement.{statement}
-use Rattle.reader.proofs.Arguments.{argument-refused, argument-few, argument-missing, argument-found}
+use Rattle.reader.proofs.Arguments.{argument-refused, argument-missing, argument-stepped}
 use Rattle.reader.proofs.argument_at.Tie as tie
 
 read-signature-requires : tie.Need-read-signature-requires
@@ -15,22 +16,21 @@ enum-known-outcome-2 : tie.Need-enum-known-outcome-2
 enum-known-outcome-2 c = search needs
 
 returns : tie.Need-returns
-returns c = argument-missing _ _ _ (c .before .before .before .before .read-signature .ensures) _ (c .before .before .outcome2 .given .1) (omega arith)
+returns c = argument-missing _ _ _ (c .before .before .before .before .before .read-signature .ensures) _ (c .before .before .before .outcome2 .given .1) (omega arith)
 
-mul-a : tie.Need-mul-a
-mul-a c = omega (arith, argument-few _ 0 _ (c .before .before .before .before .read-signature .ensures))
+arguments-start-requires : tie.Need-arguments-start-requires
+arguments-start-requires c κs = search needs
 
-element-copy-out-a : tie.Need-element-copy-out-a
-element-copy-out-a c = omega (arith, argument-few _ 0 _ (c .before .before .before .before .read-signature .ensures))
-
-cast-t11 : tie.Need-cast-t11
-cast-t11 c = search needs
+step-to-requires : tie.Need-step-to-requires
+step-to-requires c κs = search needs
 
 returns-2 : tie.Need-returns-2
 returns-2 c = argument-refused _ _ _ (c .before .before .before .read-signature .ensures) _ (c .before .outcome .given .1)
 
 returns-3 : tie.Need-returns-3
-returns-3 c = argument-found _ _ _ (c .before .before .before .before .before .before .read-signature .ensures) _ (c .before .before .before .before .outcome2 .given .1) (omega arith)
+returns-3 c =
+    c .step-to .ensures ∙ argument-stepped _ _ _ (c .before .before .before .before .before .before .before .read-signature .ensures) _
+    (c .before .before .before .before .before .outcome2 .given .1) (omega arith) _ (c .before .arguments-start .ensures)
 
 pub argument-at-spec : {M : Type 1} → statement M
 argument-at-spec =
@@ -40,8 +40,7 @@ argument-at-spec =
     enum-known-outcome
     enum-known-outcome-2
     returns
-    mul-a
-    element-copy-out-a
-    cast-t11
+    arguments-start-requires
+    step-to-requires
     returns-2
     returns-3)

@@ -37,9 +37,6 @@ read-item-requires c κs = omega arith
 enum-known-ty : tie.Need-enum-known-ty Inv-loop μ-loop
 enum-known-ty c = search needs
 
-cast-t22 : tie.Need-cast-t22 Inv-loop μ-loop
-cast-t22 c = omega arith
-
 mul-arguments : tie.Need-mul-arguments Inv-loop μ-loop
 mul-arguments c = omega arith
 
@@ -98,7 +95,6 @@ read-arguments-spec =
     returns
     read-item-requires
     enum-known-ty
-    cast-t22
     mul-arguments
     array-set-from-arguments
     add-count

@@ -4,8 +4,8 @@ use Rattle.whole_signature.proofs.read_signature.Statement.{statement}
 use mathlib.Core.Path.{sym, ap, _∙_}
 use native.Mathlib.Omega.{arith}
 use Rattle.signature.specs.Answer.{signatureAnswer}
-use Rattle.signature.proofs.Laws.{signature-refused}
-use Rattle.signature.proofs.Sound.{head-bounded, signature-arguments}
+use Rattle.signature.proofs.Laws.{signature-refused, signature-arguments}
+use Rattle.signature.proofs.Sound.{head-bounded}
 use Rattle.whole_signature.proofs.read_signature.Tie as tie
 
 read-head-requires : tie.Need-read-head-requires
