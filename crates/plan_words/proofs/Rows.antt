@@ -15,23 +15,20 @@ use Rattle.types.specs.Sizes.{sizeOf}
 use Rattle.types.specs.Trees.{Tree, Trees, none, _▸_, typeOf, countOf}
 use Rattle.items.specs.declared.Refusal.{Refusal}
 use Rattle.items.specs.declared.Fault.{Fault}
-use Rattle.items.specs.declared.Body.{Body}
-use Rattle.items.specs.Reading.{Reading, fault, got, no, later, andThen}
-use Rattle.items.specs.Read.{bodyAt}
+use Rattle.items.specs.Reading.{Reading, fault, got, no, later}
 use Rattle.items.specs.Encode.{encodeTrees}
-use Rattle.items.proofs.Sound.{by-choose, by-then, by-next, Got}
 use Rattle.signature.specs.declared.ResultType.{ResultType}
 use Rattle.signature.specs.declared.HeadRead.{HeadRead}
 use Rattle.signature.specs.declared.SignatureRead.{SignatureRead}
-use Rattle.signature.specs.Signature.{Result, Signature, Head}
-use Rattle.signature.specs.Limits.{maxLength, maxArguments}
-use Rattle.signature.specs.Read.{conventionAt, resultAt, argumentsIn, signatureOf, headBy, headAfter, headOf}
+use Rattle.signature.specs.Signature.{Result, Signature}
+use Rattle.signature.specs.Limits.{maxArguments}
+use Rattle.signature.specs.Read.{argumentsIn, signatureOf, headOf}
 use Rattle.signature.specs.Answer.{accepted, withArguments, headAnswer, signatureAnswer}
 use Rattle.signature.specs.Encode.{encodeResult}
-use Rattle.signature.proofs.Laws.{head-got, thenArguments, afterHead, signature-head, signature-arguments}
-use Rattle.signature.proofs.Sound.{convention-read, result-read}
+use Rattle.signature.proofs.Laws.{thenArguments, signature-arguments}
 use Rattle.reader.specs.declared.ArgumentRead.{ArgumentRead}
 use Rattle.reader.specs.Argument.{argumentIn, argumentAnswer}
+use Rattle.reader.proofs.Found.{begun}
 use Rattle.places.specs.declared.Cursor.{Cursor}
 use Rattle.places.specs.declared.Span.{Span}
 use Rattle.places.specs.declared.Rules.{Rules}
@@ -47,25 +44,6 @@ use Rattle.plan_words.specs.declared.Kept.{Kept}
 use Rattle.plan_words.specs.Entries.{entryWords, itemIn, sizeIn, sizeAt, valueAt, entryAt, entriesUpTo, entriesOf}
 use Rattle.plan_words.specs.Kept.{itemAfter, kept, nothing, keptWords, keptOf, rowsFrom, rowsWith, SmallWith}
 use Rattle.plan_words.proofs.Turns.{length-kept}
-
--- where the arguments' items start
-head-starts : (s : List ℕ) → Got (λ h next n. next ≡ 10 + length (encodeResult (h .result))) (headOf s)
-unfolding headOf headAfter
-head-starts s = by-choose (Got Starts) (ltb maxLength (length s)) _ _ (λ _. tt)
-    (λ _. by-then (λ c at n. conventionAt s ≡ got c at n) Starts (conventionAt s) _ (got-self (conventionAt s))
-    (λ c at n first. by-next (λ r next m. resultAt c s at ≡ got r next m) Starts n (resultAt c s at) _ (got-self (resultAt c s at))
-    (λ r next m second. go c at n first r next m second (bodyAt s 0x03 0x03 (length s) next))))
-  where
-    Starts : Head → ℕ → ℕ → Type 0
-    Starts h next n = next ≡ 10 + length (encodeResult (h .result))
-
-    got-self : {A : Type 0} (x : Reading A) → Got (λ a next n. x ≡ got a next n) x
-    got-self (got a next n) = refl
-    got-self (no f) = tt
-
-    go : (c : Convention) (at n : ℕ) → conventionAt s ≡ got c at n → (r : Result) (next m : ℕ) → resultAt c s at ≡ got r next m → (x : Body) → Got Starts (headBy c r next (n + m) x)
-    go c at n first r next m second (Body.To b) = omega (arith, convention-read s c at n first .ends, result-read c s at r next m second .ends)
-    go c at n first r next m second (Body.Refused x) = tt
 
 -- one argument's span more
 spans-more : (c : Convention) (r : Rules) (k : Cursor) (ts : List ValueType) (t : ValueType) →
@@ -178,10 +156,9 @@ rows-of s c r t at n (got ts next m) starts plan = go (ltb next (length s)) plan
 pub rows-entries : (s : List ℕ) (x : HeadRead) → x ≡ headAnswer (headOf s) → (c : Convention) (t : ResultType) (at b n : ℕ) → x ≡ HeadRead.Head c t at b n →
     rowsWith c t at (length s) (argumentsIn c s at b) ≡ entriesOf (signatureOf s)
 rows-entries s x found c t at b n q =
-    let (r, read, same) = head-got (headOf s) c t at b n (sym q ∙ found) in
-    let whole : signatureOf s ≡ thenArguments s c r n (argumentsIn c s at b) = signature-head s ∙ ap (λ (y : Reading Head). andThen y (afterHead s)) read in
-    let starts : at ≡ 10 + length (encodeResult r) = rw read at (head-starts s) in
-    rows-of s c r t at n (argumentsIn c s at b) starts (ap planAnswer (sym whole) ∙ plan-arguments s x found c t at b n q) ∙ ap entriesOf (sym whole)
+    let g = begun s x found c t at b n q in
+    rows-of s c (g .result) t at n (argumentsIn c s at b) (g .starts) (ap planAnswer (sym (g .whole)) ∙ plan-arguments s x found c t at b n q)
+    ∙ ap entriesOf (sym (g .whole))
 
 pub no-entries : (s : List ℕ) (f : Fault) → signatureOf s ≡ no f → [] ≡ entriesOf (signatureOf s)
 unfolding planAnswer

@@ -22,15 +22,14 @@ use Rattle.items.specs.declared.ItemRead.{ItemRead}
 use Rattle.items.specs.Reading.{fault, got, no, later}
 use Rattle.items.specs.Read.{itemAt}
 use Rattle.items.specs.Answer.{itemAnswer}
-use Rattle.items.specs.Encode.{encodeTree, encodeTrees}
-use Rattle.items.proofs.Laws.{sequence-more, item-got}
+use Rattle.items.specs.Encode.{encodeTrees}
 use Rattle.items.proofs.Loop.{item-answered}
-use Rattle.items.proofs.Sound.{item-read}
 use Rattle.signature.specs.Limits.{maxArguments}
 use Rattle.signature.specs.declared.Outcome.{Outcome}
 use Rattle.signature.specs.declared.ResultType.{ResultType}
 use Rattle.signature.specs.Read.{argumentsIn}
 use Rattle.signature.proofs.Loop.{Turn, turn-start, turn-last}
+use Rattle.reader.proofs.Found.{further}
 use Rattle.places.specs.declared.Cursor.{Cursor}
 use Rattle.places.specs.declared.Span.{Span}
 use Rattle.places.specs.Step.{rulesOf, spanOf, nextOf, areaOf}
@@ -103,32 +102,24 @@ module _ (c : Convention) (s : List ℕ) (at e : ℕ) (r : ResultType) where
     pub keeping-more : next < e → (count ≡ maxArguments → ⊥) → (x : ItemRead) → x ≡ itemAnswer c (itemAt c 8 s e next) → (t : ValueType) (after j : ℕ) →
         x ≡ ItemRead.Item t after j →
         Keeping c s at e r (nextOf (rulesOf c) k t (sizeOf c t)) (set table count (kept next (sizeOf c t) (spanOf (rulesOf c) k t (sizeOf c t)))) (v + sizeOf c t) (count + 1) after (n + j)
-    unfolding typesOf keptOf countOf encodeTrees
+    unfolding typesOf keptOf
     keeping-more h some x found t after j q =
         let a = item-answered c 8 s e next x t after j (omega arith) found q in
-        let (tree, read, same) = item-got c (itemAt c 8 s e next) t after j (sym q ∙ found) in
-        let turn = m .turn in
+        let more = further c s at e (m .ts) count next n (m .turn) (m .ends) h some x found t after j q in
         let so-far : List ValueType = typesOf c (m .ts) in
-        let u : ValueType = typeOf c tree in
+        let u : ValueType = typeOf c (more .tree) in
         let here : Kept = kept (itemAfter at (m .ts)) (sizeOf c u) (spanOf (rulesOf c) (endIn c r so-far) u (sizeOf c u)) in
         let left : maxArguments - count ≡ suc (maxArguments - (count + 1)) = omega (arith, m .turn .few) in
         record {
-          ts = m .ts ▸ tree;
-          turn = record {
-            left = turn .left - 1;
-            few = omega arith;
-            many = omega arith;
-            within = a .inside;
-            third = omega arith;
-            rest = sequence-more (itemAt c 8 s e) e (argumentsIn c s at e) (turn .left) next n (m .ts) (turn .rest) h (omega arith) tree after j read;
-          };
-          ends = let r = item-read c 8 s e next tree after j read in omega (arith, m .ends, r .ends, length-append (encodeTrees (m .ts)) (encodeTree tree));
-          last = same-next c (m .last) same ∙ sym (last-more c (rulesOf c) (startIn c r) so-far u);
-          total = omega (arith, m .total, ap (sizeOf c) same, values-more c so-far u);
+          ts = m .ts ▸ more .tree;
+          turn = more .turn;
+          ends = more .ends;
+          last = same-next c (m .last) (more .same) ∙ sym (last-more c (rulesOf c) (startIn c r) so-far u);
+          total = omega (arith, m .total, ap (sizeOf c) (more .same), values-more c so-far u);
           reached = reached-more (rulesOf c) k v count t (sizeOf c t) (rules-lawful c) (a .sized .small) (m .reached);
           array =
               ap (λ (l : List Kept). set l count (kept next (sizeOf c t) (spanOf (rulesOf c) k t (sizeOf c t)))) (m .array)
-              ∙ ap (λ (y : Kept). set (keptTable c r at (m .ts) count) count y) (same-kept (m .ends) (ap (sizeOf c) same) (same-span c (m .last) same))
+              ∙ ap (λ (y : Kept). set (keptTable c r at (m .ts) count) count y) (same-kept (m .ends) (ap (sizeOf c) (more .same)) (same-span c (m .last) (more .same)))
               ∙ rw left (set-at (keptOf c r at (m .ts)) nothing (replicate (maxArguments - (count + 1)) nothing) here count (omega (arith, length-kept c r at (m .ts), m .turn .many)))
               ∙ sym (append-assoc (keptOf c r at (m .ts)) (here ∷ []) (replicate (maxArguments - (count + 1)) nothing));
         }
