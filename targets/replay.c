@@ -24,6 +24,7 @@ enum {
     READ,
     HOME,
     VIEW,
+    START_AIX,
     OPERATIONS,
     SET_MACHINE = 100,
     CHANGE_MACHINE = 101
@@ -50,6 +51,7 @@ static const struct shape {
     [READ] = {"fz_read", 1, 5, 3, 0},
     [HOME] = {"fz_home", 0, 3, 3, 0},
     [VIEW] = {"fz_view", 1, 2, 5, 0},
+    [START_AIX] = {"fz_start_aix", 2, 1, 3, 2},
 };
 
 #define MOST_NUMBERS 4
@@ -335,10 +337,12 @@ static void call_machine(int operation, const uint64_t *numbers)
     switch (operation) {
     case START_PPC64:
     case START_Z:
+    case START_AIX:
         words_from(&registers, sizeof registers, &own[0]);
-        set_answer(operation == START_Z
-                       ? fz_start_z(machine, &registers, numbers[0], bytes, length)
-                       : fz_start_ppc64(machine, &registers, numbers[0], bytes, length));
+        set_answer((operation == START_PPC64 ? fz_start_ppc64
+                    : operation == START_Z   ? fz_start_z
+                                             : fz_start_aix)(machine, &registers, numbers[0],
+                                                             bytes, length));
         words_to(&registers, sizeof registers, &own[0]);
         break;
     case ENTER:

@@ -1,5 +1,5 @@
-//! A call drawn as tables: each register and each doubleword that its arguments have, and which
-//! argument has each byte.
+//! A call drawn as tables: each register and each doubleword that its arguments have, on AIX each
+//! word, and which argument has each byte.
 //!
 //! Which registers and doublewords an argument has is read from the library's listing. Which of
 //! their bytes are the value's own and which only fill up is asked of the library too, by filling
@@ -25,7 +25,7 @@ pub fn draw(signature: &[u8]) -> String {
 /// An argument, as its line of the listing has it.
 struct Argument {
     registers: Vec<String>,
-    /// Of its first doubleword, where the listing says it.
+    /// Of its first doubleword or word, where the listing says it.
     offset: Option<usize>,
     by_reference: bool,
 }
@@ -104,13 +104,13 @@ impl Call {
 
     fn draw(&self) -> String {
         let tables = [
-            ("registers", self.register_rows()),
-            ("area", self.area_rows()),
-            ("copies", self.copy_rows()),
+            ("registers", 8, self.register_rows()),
+            ("area", self.word(), self.area_rows()),
+            ("copies", 8, self.copy_rows()),
         ];
         let mut text = format!("{}\n", self.title);
-        for (name, rows) in tables.iter().filter(|(_, rows)| !rows.is_empty()) {
-            let numbers = (0..8).map(|number| number.to_string()).collect();
+        for (name, width, rows) in tables.iter().filter(|(_, _, rows)| !rows.is_empty()) {
+            let numbers = (0..*width).map(|number| number.to_string()).collect();
             text.push('\n');
             text.push_str(&Row::new(name, numbers).line());
             for row in rows {
@@ -118,7 +118,7 @@ impl Call {
             }
         }
         text.push_str(&format!("\n{}\n", self.result));
-        let rows = tables.iter().flat_map(|(_, rows)| rows);
+        let rows = tables.iter().flat_map(|(_, _, rows)| rows);
         text + &legend(rows.flat_map(|row| &row.marks).collect())
     }
 
@@ -130,7 +130,9 @@ impl Call {
     fn register_rows(&self) -> Vec<Row> {
         let mut rows: Vec<(usize, Row)> = Vec::new();
         if let Some(register) = self.hidden() {
-            rows.push((place_in_image(register), Row::new(register, repeated("h"))));
+            let padding = vec![".".to_string(); 8 - self.word()];
+            let marks = [padding, repeated("h", self.word())].concat();
+            rows.push((place_in_image(register), Row::new(register, marks)));
         }
         for (number, argument) in self.arguments.iter().enumerate() {
             for register in &argument.registers {
@@ -155,10 +157,18 @@ impl Call {
         .unwrap_or(0)
     }
 
+    /// The bytes of a general register, by which the area is counted.
+    fn word(&self) -> usize {
+        match self.title.starts_with("AIX ") {
+            true => 4,
+            false => 8,
+        }
+    }
+
     fn area_rows(&self) -> Vec<Row> {
         let first = self.first_offset();
-        let doublewords = (0..self.sizes.area as usize).step_by(8);
-        doublewords
+        let words = (0..self.sizes.area as usize).step_by(self.word());
+        words
             .map(|place| self.area_row(place, first + place))
             .collect()
     }
@@ -176,10 +186,14 @@ impl Call {
         let Some((number, argument, start)) = owner else {
             let hidden = self.hidden().filter(|_| place == 0);
             let note = hidden.map(|name| format!("h is in {name}"));
-            return Row::new(&label, repeated("")).noted(note);
+            return Row::new(&label, repeated("", self.word())).noted(note);
         };
-        let marks = self.marks(number, &self.bytes.area[place..place + 8]);
-        let register = argument.registers.get((offset - start) / 8);
+        let marks = self.marks(number, &self.bytes.area[place..place + self.word()]);
+        // a floating register has all words of a double
+        let register = match &argument.registers[..] {
+            [only] if only.starts_with('f') => Some(only),
+            registers => registers.get((offset - start) / self.word()),
+        };
         let note = register.map(|name| format!("{number} is in {name}"));
         Row::new(&label, marks).noted(note)
     }
@@ -221,7 +235,7 @@ impl Call {
 
     fn marks(&self, number: usize, bytes: &[Byte]) -> Vec<String> {
         match self.arguments[number].by_reference {
-            true => repeated(&format!("&{number}")),
+            true => repeated(&format!("&{number}"), 8),
             false => value_marks(&number.to_string(), bytes),
         }
     }
@@ -275,8 +289,8 @@ impl Row {
     }
 }
 
-fn repeated(mark: &str) -> Vec<String> {
-    vec![mark.to_string(); 8]
+fn repeated(mark: &str, count: usize) -> Vec<String> {
+    vec![mark.to_string(); count]
 }
 
 fn value_marks(name: &str, bytes: &[Byte]) -> Vec<String> {

@@ -8,7 +8,8 @@
 use flakuzhen::machine::{Convention, Frame, Machine, Registers};
 use std::ops::Range;
 
-/// Bytes that are asked for at a time: CR's save slot is the smallest of all parts.
+/// Bytes that are asked for at a time: CR's save slot is the smallest of all parts, and so are all of
+/// AIX's words.
 const WORD: usize = 4;
 
 #[derive(Clone, PartialEq, Eq)]
@@ -67,6 +68,7 @@ pub fn draw(machine: &Machine) -> String {
 fn floor(machine: &Machine) -> usize {
     let convention = match machine.state().convention {
         1 => Convention::Ppc64,
+        3 => Convention::Aix,
         _ => Convention::Z,
     };
     let memory = vec![0; 1024];
@@ -133,6 +135,11 @@ fn parts(functions: &[Machine], floor: usize) -> Vec<Part> {
     let size = functions[0].memory().len();
     let start_of = |index: usize| functions.get(index).map_or(size, place_of);
     let mut parts = vec![Part::Header; size / WORD];
+    // a back chain is a doubleword, on AIX a word
+    let chain = match functions[0].state().convention {
+        3 => 1,
+        _ => 2,
+    };
     for (index, function) in functions.iter().enumerate() {
         let mut own = start_of(index)..start_of(index + 1);
         if is_leaf(function) {
@@ -144,8 +151,8 @@ fn parts(functions: &[Machine], floor: usize) -> Vec<Part> {
             let reach = own.start..start_of(index + 2);
             mark_saves(function, caller, reach, &mut parts);
         }
-        // the doubleword at the stack pointer, which is the caller's where a leaf has none
-        parts[start_of(index) / WORD..][..2].fill(Part::BackChain);
+        // at the stack pointer, which is the caller's where a leaf has none
+        parts[start_of(index) / WORD..][..chain].fill(Part::BackChain);
     }
     parts
 }
@@ -195,8 +202,8 @@ fn mark_saves(function: &Machine, caller: &Machine, reach: Range<usize>, parts: 
         let mut changed = Machine::from_parts(state.clone(), memory);
         let name = match changed.leave() {
             Ok(()) => difference(&caller.state().registers, &changed.state().registers),
-            // the caller's stack pointer is the one thing that a leave tests: on PPC64 the back
-            // chain, which has a name of its own, on Z the slot of r15
+            // the caller's stack pointer is the one thing that a leave tests: on PPC64 and AIX the
+            // back chain, which has a name of its own, on Z the slot of r15
             Err(_) => Some("r15".to_string()),
         };
         if let Some(name) = name {
