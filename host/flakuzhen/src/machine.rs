@@ -222,8 +222,8 @@ mod tests {
             ..Registers::default()
         };
         registers.gpr[31] = u64::MAX;
-        let mut machine = Machine::start(Convention::Aix, &registers, 0x2000, vec![0xee; 1024])
-            .expect("a start");
+        let mut machine =
+            Machine::start(Convention::Aix, &registers, 0x2000, vec![0xee; 1024]).expect("a start");
         let pointer = 0x2000 + 1024 - 64;
         assert_eq!(machine.stack_pointer(), pointer);
         assert_eq!(machine.memory()[1024 - 64..][..5], [0, 0, 0, 0, 0xee]);
