@@ -1,0 +1,16 @@
+-- The start of this convention. Assumes nothing.
+use borrow.Author.Needs.{needs}
+use Rattle.abi.proofs.Aix.start.Statement.{statement}
+use Rattle.abi.proofs.Aix.start.Tie as tie
+
+start-requires : tie.Need-start-requires
+start-requires c κs = search needs
+
+same-length : tie.Need-same-length
+same-length c = search needs
+
+returns : tie.Need-returns
+returns c = c .before .before .start .ensures
+
+pub start-spec : {M : Type 1} → statement M
+start-spec = tie.close (tie.spec start-requires same-length returns)
