@@ -7,7 +7,7 @@
 //! and does not follow them fills up. So there is no rule here that could differ from the proved
 //! ones.
 
-use flakuzhen::{fill, listing, measure, Refusal, Sizes};
+use flakuzhen::{fill, home, listing, measure, Refusal, Sizes};
 
 /// Bytes of the image of the registers.
 const IMAGE: usize = 512;
@@ -73,6 +73,8 @@ struct Call {
     /// Of a call whose values are zeros.
     zeros: Buffers<u8>,
     bytes: Buffers<Byte>,
+    /// The bytes of the area that are an argument's which is in registers.
+    homes: Vec<bool>,
 }
 
 impl Call {
@@ -89,7 +91,11 @@ impl Call {
             area: kinds(&zeros.area, &values.area, &ground.area),
             copies: kinds(&zeros.copies, &values.copies, &ground.copies),
         };
+        // home writes zeros there; Z has none, and no argument in registers has an offset there
+        let mut homed = vec![0xff; sizes.area as usize];
+        let _ = home(signature, &zeros.image, &mut homed);
         Ok(Call {
+            homes: homed.iter().map(|&byte| byte == 0).collect(),
             sizes,
             title: lines[0].to_string(),
             result: lines[lines.len() - 1].to_string(),
@@ -191,7 +197,7 @@ impl Call {
         let marks = self.marks(number, &self.bytes.area[place..place + self.word()]);
         // a floating register has all words of a double
         let register = match &argument.registers[..] {
-            [only] if only.starts_with('f') => Some(only),
+            [only] if only.starts_with('f') => Some(only).filter(|_| self.homes[place]),
             registers => registers.get((offset - start) / self.word()),
         };
         let note = register.map(|name| format!("{number} is in {name}"));

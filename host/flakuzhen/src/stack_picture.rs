@@ -18,6 +18,8 @@ enum Part {
     BackChain,
     Outgoing,
     Locals,
+    /// What the start has above its outgoing area.
+    Unused,
     /// The bytes of the floor that the leaf of this name may write.
     Free(String),
     /// The name of the frame or leaf, the oldest being number 1, and that of the register.
@@ -161,7 +163,7 @@ fn parts(functions: &[Machine], floor: usize) -> Vec<Part> {
 fn mark_areas(function: &Machine, own: Range<usize>, parts: &mut [Part]) {
     let mut function = function.clone();
     let mut areas: Vec<Range<usize>> = Vec::new();
-    for at in own.step_by(WORD) {
+    for at in own.clone().step_by(WORD) {
         if !may_write(&mut function, at..at + WORD) {
             continue;
         }
@@ -174,6 +176,9 @@ fn mark_areas(function: &Machine, own: Range<usize>, parts: &mut [Part]) {
         }
     }
     let depth = function.state().depth as usize;
+    if let (0, Some(last)) = (depth, areas.last()) {
+        parts[last.end / WORD..own.end / WORD].fill(Part::Unused);
+    }
     let asked = depth > 0 && function.state().frames[depth - 1].locals > 0;
     let names = match areas.len() {
         _ if is_leaf(&function) => vec![Part::Free(name_of(&function))],
@@ -254,6 +259,7 @@ fn row(function: &Machine, part: &Part, bytes: &Range<usize>) -> String {
         Part::BackChain => ("back chain".to_string(), true),
         Part::Outgoing => ("outgoing area".to_string(), false),
         Part::Locals => ("locals".to_string(), false),
+        Part::Unused => ("unused".to_string(), false),
         Part::Free(leaf) => (format!("free for {leaf}"), false),
         Part::Saved(owner, register) => (format!("{owner} saved {register}"), true),
     };
