@@ -4,8 +4,8 @@
 //! Which registers and doublewords an argument has is read from the library's listing. Which of
 //! their bytes are the value's own and which only fill up is asked of the library too, by filling
 //! the call with different values: a byte that follows the values is a value's, one that is written
-//! and does not follow them fills up. So there is no rule here that could differ from the proved
-//! ones.
+//! and does not follow them fills up. Which words of the area a floating register stands for is what
+//! a home writes. So there is no rule here that could differ from the proved ones.
 
 use flakuzhen::{fill, home, listing, measure, Refusal, Sizes};
 
