@@ -120,7 +120,7 @@ pub fn fill(
     ensures { λ a. ⌜ a ≡ fillAnswer (now (sig .entry)) (lengths (now (values .entry)) (now (image .entry)) (now (area .entry)) (now (copies .entry))) base ⌝ }
     ensures { λ a. ⌜ buffers (now (image .exit)) (now (area .exit)) (now (copies .exit)) ≡ fillBuffers (now (sig .entry)) (now (values .entry)) base hidden a (buffers (now (image .entry)) (now (area .entry)) (now (copies .entry))) ⌝ }
 {
-    let g = signature::read_signature(sig);
+    let g = whole_signature::read_signature(sig);
     let m = arguments::measure_table(g);
     let outcome = m.outcome;
     match outcome {
@@ -138,7 +138,7 @@ pub fn fill(
             }
             let convention = g.convention;
             let returned = g.result;
-            let result = plan::result_in(convention, returned);
+            let result = planning::result_in(convention, returned);
             put_hidden(image, result, hidden);
             put_arguments(image, area, copies, g, values, base);
             Answer::Done

@@ -146,8 +146,8 @@ pub fn home(sig: &[u8], image: &[u8], area: &mut [u8]) -> Answer
     ensures { λ a. ⌜ a ≡ homeAnswer (now (sig .entry)) (now (image .entry)) (length (now (area .entry))) ⌝ }
     ensures { λ a. ⌜ now (area .exit) ≡ homeArea (now (sig .entry)) a (now (image .entry)) (now (area .entry)) ⌝ }
 {
-    let g = signature::read_signature(sig);
-    let p = plan::plan_signature(g);
+    let g = whole_signature::read_signature(sig);
+    let p = planning::plan_signature(g);
     let outcome = p.outcome;
     match outcome {
         Outcome::Refused(fault) => Answer::Unread(fault),
@@ -203,8 +203,8 @@ fn view_answer(
 pub fn view_part(sig: &[u8], index: usize, have: usize) -> ViewPart
     ensures { λ p. ⌜ p ≡ viewPart (now (sig .entry)) have index ⌝ }
 {
-    let g = signature::read_signature(sig);
-    let p = plan::plan_signature(g);
+    let g = whole_signature::read_signature(sig);
+    let p = planning::plan_signature(g);
     let outcome = p.outcome;
     let convention = g.convention;
     let answer = view_answer(outcome, convention, g.count, index, have, p.area);

@@ -25,6 +25,7 @@ fn put_name(text: &mut [u8], at: usize, c: Convention) -> usize
     match c {
         Convention::Ppc64 => put_bytes(text, at, b"PPC64"),
         Convention::Z => put_bytes(text, at, b"Z"),
+        Convention::Aix => put_bytes(text, at, b"AIX"),
     }
 }
 
@@ -108,7 +109,7 @@ fn put_plan(text: &mut [u8], p: Plan) -> usize
 pub fn listing(s: &[u8], text: &mut [u8]) -> usize
     ensures { λ r. ⌜ (r ≡ length (listingOf (now (s .entry)))) × (now (text .exit) ≡ printed (now (text .entry)) (listingOf (now (s .entry)))) ⌝ }
 {
-    let p = plan::plan_of(s);
+    let p = planning::plan_of(s);
     let mut unused = [0u8; 1];
     let length = put_plan(&mut unused, p);
     if text.len() < length {
