@@ -66,10 +66,8 @@ impl Saved {
     }
 }
 
-/// What the frames of PPC64 and AIX differ in.
+/// What the frames of PPC64 and AIX differ in, beside the width of a word.
 struct PowerPc {
-    /// The bytes of a general register and of LR.
-    word: u64,
     header: u64,
     least_outgoing: u64,
     /// Where CR and LR are saved, from the caller's stack pointer.
@@ -83,7 +81,6 @@ struct PowerPc {
 }
 
 const PPC64: PowerPc = PowerPc {
-    word: 8,
     header: 48,
     least_outgoing: 64,
     cr: 8,
@@ -96,7 +93,6 @@ const PPC64: PowerPc = PowerPc {
 /// 02, No. 1: "Header 24 bytes, CR at 4, LR at 8. Saves start at r13"; "24 + max(32, P) + L"; "start is
 /// at B + N - 64". No. 8: "220 on AIX".
 const AIX: PowerPc = PowerPc {
-    word: 4,
     header: 24,
     least_outgoing: 32,
     cr: 4,
@@ -477,19 +473,15 @@ pub fn frame_size(convention: Convention, request: &Request) -> u64 {
         return 0;
     }
     let Request {
-        first_gpr: g,
-        first_fpr: m,
-        locals,
-        outgoing,
-        ..
+        locals, outgoing, ..
     } = *request;
+    let saves = saves_below_caller(convention, request);
     match powerpc(convention) {
         Some(powerpc) => {
-            let saves = powerpc.word * (32 - g) + 8 * (32 - m);
-            let all = powerpc.header + outgoing.max(powerpc.least_outgoing) + locals + saves;
-            all.div_ceil(16) * 16
+            let outgoing = outgoing.max(powerpc.least_outgoing);
+            (powerpc.header + outgoing + locals + saves).div_ceil(16) * 16
         }
-        None => (160 + outgoing + locals + 8 * (16 - m)).div_ceil(8) * 8,
+        None => (160 + outgoing + locals + saves).div_ceil(8) * 8,
     }
 }
 
@@ -503,7 +495,7 @@ pub fn save_slots(convention: Convention, request: &Request, caller: u128) -> Ve
     match powerpc(convention) {
         Some(powerpc) => {
             let room_for_fprs = 8 * (32 - m) as u128;
-            let word = u128::from(powerpc.word);
+            let word = convention.word() as u128;
             for n in m..32 {
                 slots.push((Saved::Fpr(n), s - 8 * (32 - n) as u128));
             }
@@ -532,16 +524,19 @@ pub fn save_slots(convention: Convention, request: &Request, caller: u128) -> Ve
 
 /// The bytes just below the caller's stack pointer that hold saved registers.
 fn saves_below_caller(convention: Convention, request: &Request) -> u64 {
-    match powerpc(convention) {
-        Some(powerpc) => 8 * (32 - request.first_fpr) + powerpc.word * (32 - request.first_gpr),
+    let word = convention.word() as u64;
+    match convention {
+        Convention::Ppc64 | Convention::Aix => {
+            8 * (32 - request.first_fpr) + word * (32 - request.first_gpr)
+        }
         // the general registers are saved above it
-        None => 8 * (16 - request.first_fpr),
+        Convention::Z => 8 * (16 - request.first_fpr),
     }
 }
 
 /// The outgoing area of the frame at this stack pointer. "Outgoing areas start at 48, at least 64
 /// long, on PPC64; at 160 on Z"; on AIX "at 24, at least 32 long".
-pub fn outgoing(convention: Convention, kind: AreaKind, pointer: u128, length: u64) -> Area {
+fn outgoing(convention: Convention, kind: AreaKind, pointer: u128, length: u64) -> Area {
     let (start, length) = match powerpc(convention) {
         Some(powerpc) => (
             pointer + u128::from(powerpc.header),
