@@ -115,7 +115,7 @@ enum fz_refusal {
     FZ_STRUCT_TOO_LARGE = 8,      /* a struct of over 256 bytes */
     FZ_TRAILING_BYTES = 9,        /* bytes after the third item (place: the first) */
     FZ_NOT_WIDENED = 14,          /* the bits of a double that is no widened single; place 0 */
-    FZ_NOT_ON_AIX = 25            /* on AIX a long double, or a double inside a struct */
+    FZ_FLOAT_NOT_CARRIED = 25     /* on AIX a long double, or a double inside a struct */
 };
 
 typedef struct {

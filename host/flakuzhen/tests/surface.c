@@ -37,7 +37,7 @@ static void check_aix(void)
     CHECK(strcmp(text, listing) == 0);
     sig[24] = 1;
     no = fz_read_signature(sig, sizeof sig);
-    CHECK(no.number == FZ_NOT_ON_AIX && no.place == 21 && no.items == 6);
+    CHECK(no.number == FZ_FLOAT_NOT_CARRIED && no.place == 21 && no.items == 6);
     sig[24] = 2;
     no = fz_read_signature(sig, sizeof sig);
     CHECK(no.number == FZ_LONG_DOUBLE_IN_STRUCT && no.place == 21 && no.items == 6);
