@@ -383,7 +383,7 @@ fn make_hidden(random: &mut Random, case: &mut Case) {
             1 => (random.number() | 1 << 63, None),
             _ => (1 << 32 | random.number(), None),
         },
-        false => match random.below(4) {
+        false => match random.below(2) {
             0 => {
                 let edge = "the highest hidden address";
                 (u64::from(u32::MAX), Some((None, edge)))
