@@ -261,7 +261,7 @@ enum fz_machine_refusal {
     FZ_ABOVE_LEAF = 28       /* an enter where the function entered last is a leaf */
 };
 
-/* 66 words. On Z, r16 up, f16 up, LR and CR are carried along and never change. */
+/* 66 numbers. On Z, r16 up, f16 up, LR and CR are carried along and never change. */
 typedef struct {
     uint64_t gpr[32]; /* the stack pointer is r1 on PPC64 and AIX, r15 on Z */
     uint64_t fpr[32];
@@ -269,7 +269,7 @@ typedef struct {
     uint64_t cr; /* 32 bits: field 0 is the top four of them, field 7 the lowest */
 } fz_registers;
 
-/* What a function needs of its frame. 6 words.
+/* What a function needs of its frame. 6 numbers.
  *
  *              PPC64, AIX                         Z
  *   first_gpr  14 to 32, on AIX 13 to 32: saves   6 to 14: saves it up to r15
@@ -303,7 +303,7 @@ typedef struct {
     uint64_t leaf;
 } fz_frame;
 
-/* The state. 262 words. */
+/* The state. 262 numbers. */
 typedef struct {
     uint64_t convention; /* 1 PPC64, 2 Z, 3 AIX */
     uint64_t base;       /* the address of the memory's first byte */
