@@ -9,6 +9,7 @@ use lib.Dec.{leb}
 use lib.ListN.{length}
 use Rattle.words.specs.Basics.{pick}
 use Rattle.places.specs.declared.Rules.{Rules}
+use Rattle.places.specs.Step.{wordOf}
 use Rattle.slots.specs.declared.Answer.{Answer}
 use Rattle.slots.specs.Buffers.{Buffers}
 use Rattle.slots.specs.Placements.{Placement, addressAt}
@@ -35,7 +36,7 @@ module _ (r : Rules) (base : ℕ) (b : Buffers) where
   readable p ready done = record {
     ready = ready;
     exact = λ some. simp (lt-ltb 0 (p .span .floating .count) some) at done;
-    inside = λ none e. inside-facts (addressAt (p .span) b) base (p .size) (length (b .copies)) (simp (le-ltb 0 (p .span .floating .count) none, e) at done);
+    inside = λ none e. inside-facts (addressAt (wordOf r) (p .span) b) base (p .size) (length (b .copies)) (simp (le-ltb 0 (p .span .floating .count) none, e) at done);
   }
 
   pub all-readable : (ps : List Placement) → All (Ready r (length (b .image)) (length (b .area))) ps → argumentsAnswer r base ps b ≡ Answer.Done

@@ -11,7 +11,7 @@ use Rattle.words.specs.Numbers.{valueOf}
 use Rattle.types.specs.Sizes.{equivalentOf}
 use Rattle.signature.specs.declared.SignatureRead.{SignatureRead}
 use Rattle.places.specs.declared.Rules.{Rules}
-use Rattle.places.specs.Step.{rulesOf}
+use Rattle.places.specs.Step.{rulesOf, wordOf}
 use Rattle.slots.specs.declared.Refusal.{Refusal}
 use Rattle.slots.specs.declared.Answer.{Answer}
 use Rattle.slots.specs.Buffers.{Buffers}
@@ -34,13 +34,13 @@ abbrev pub copyAnswer : Bool → Answer
 copyAnswer true = Answer.Done
 copyAnswer false = Answer.Refused Refusal.OutsideCopies
 
-abbrev pub wordsAnswer : ℕ → Placement → Buffers → Answer
-wordsAnswer base p b =
-    pick (p .span .indirect) (copyAnswer (inCopies (addressAt (p .span) b) base (p .size) (length (b .copies)))) Answer.Done
+abbrev pub wordsAnswer : Rules → ℕ → Placement → Buffers → Answer
+wordsAnswer r base p b =
+    pick (p .span .indirect) (copyAnswer (inCopies (addressAt (wordOf r) (p .span) b) base (p .size) (length (b .copies)))) Answer.Done
 
 unfoldable pub argumentAnswer : Rules → ℕ → Placement → Buffers → Answer
 argumentAnswer r base p b =
-    pick (ltb 0 (p .span .floating .count)) (floatAnswer r (equivalentOf (p .ty)) (valueOf (floatAt (p .span) b))) (wordsAnswer base p b)
+    pick (ltb 0 (p .span .floating .count)) (floatAnswer r (equivalentOf (p .ty)) (valueOf (floatAt (p .span) b))) (wordsAnswer r base p b)
 
 -- "13 and 14 by argument, left to right"
 unfoldable pub argumentsAnswer : Rules → ℕ → List Placement → Buffers → Answer
