@@ -1,23 +1,17 @@
 // Each convention as one type: its constants, its rules for calls and for frames, its starting cursor and its fresh machine. The functions below the
 // types go from a `Convention` to what its type says.
 ghost use mathlib.Core.Path.{_≡_};
-ghost use Prim.Native.Nat.{_+_, _%_};
 ghost use lib.ListN.{length};
 ghost use Rattle.conventions.specs.Numbers.{leastArea};
 ghost use Rattle.places.specs.Step.{rulesOf, fresh};
 ghost use Rattle.rules.specs.Rules.{rules};
-ghost use Rattle.rules.specs.Frames.{lowered, cleared};
 ghost use Rattle.machine.specs.Machine.{startOutcome, startMemory};
 use conventions::Convention;
-use machine::Answer;
 use machine::Outcome;
-use machine::Refusal;
-use machine::State;
 use places::Cursor;
 use places::Edition;
 use places::PowerRules;
 use rules::Bank;
-use rules::Frame;
 use rules::Linkage;
 use rules::Registers;
 use rules::Rules;
@@ -130,7 +124,13 @@ impl Ppc64 {
         ensures { λ r. ⌜ r ≡ startOutcome Convention.Ppc64 base (length (now (memory .entry))) registers ⌝ }
         ensures { λ _. ⌜ now (memory .exit) ≡ startMemory Convention.Ppc64 base (now (memory .entry)) ⌝ }
     {
-        start(Convention::Ppc64, memory, base, registers)
+        starting::start(
+            Ppc64::frame_rules(),
+            Convention::Ppc64,
+            memory,
+            base,
+            registers,
+        )
     }
 }
 
@@ -222,7 +222,7 @@ impl Z {
         ensures { λ r. ⌜ r ≡ startOutcome Convention.Z base (length (now (memory .entry))) registers ⌝ }
         ensures { λ _. ⌜ now (memory .exit) ≡ startMemory Convention.Z base (now (memory .entry)) ⌝ }
     {
-        start(Convention::Z, memory, base, registers)
+        starting::start(Z::frame_rules(), Convention::Z, memory, base, registers)
     }
 }
 
@@ -265,91 +265,5 @@ pub fn frame_rules_of(c: Convention) -> Rules
     match c {
         Convention::Ppc64 => Ppc64::frame_rules(),
         Convention::Z => Z::frame_rules(),
-    }
-}
-
-// A number less its high half, where a word has less than 64 bits.
-fn low(m: u64, x: u64) -> u64
-    ensures { λ r. ⌜ r ≡ x % (m + 1) ⌝ }
-{
-    if x <= m {
-        return x;
-    }
-    x % (m + 1)
-}
-
-// All 32 numbers less their high halves.
-fn lower(m: u64, xs: [u64; 32]) -> [u64; 32]
-    ensures { λ r. ⌜ r ≡ lowered m xs 32 ⌝ }
-{
-    let mut ys = xs;
-    let mut i: usize = 32;
-    while 0 < i {
-        i -= 1;
-        ys[i] = low(m, ys[i]);
-    }
-    ys
-}
-
-// The registers less the high halves of the general ones and of LR.
-fn clear(k: Rules, r: Registers) -> Registers
-    ensures { λ q. ⌜ q ≡ cleared k r ⌝ }
-{
-    let gpr = r.gpr;
-    let fpr = r.fpr;
-    let general = lower(k.limit, gpr);
-    let lr = low(k.limit, r.lr);
-    Registers {
-        gpr: general,
-        fpr: fpr,
-        lr: lr,
-        cr: r.cr,
-    }
-}
-
-// A machine on this memory with these registers: the stack pointer set, a zero word at it. A refused start hands back the convention and the registers
-// as they came, with base, size, depth and records 0, and leaves the memory.
-fn start(c: Convention, memory: &mut [u8], base: u64, registers: Registers) -> Outcome
-    ensures { λ r. ⌜ r ≡ startOutcome c base (length (now (memory .entry))) registers ⌝ }
-    ensures { λ _. ⌜ now (memory .exit) ≡ startMemory c base (now (memory .entry)) ⌝ }
-{
-    let k = frame_rules_of(c);
-    let n = memory.len();
-    let none = Frame {
-        first_gpr: 0,
-        first_fpr: 0,
-        saves_cr: false,
-        locals: 0,
-        outgoing: 0,
-        leaf: false,
-    };
-    let frames = [none; 32];
-    if !state_checks::memory_ok(k, base, n) {
-        return Outcome {
-            answer: Answer::Refused(Refusal::BadMemory),
-            state: State {
-                convention: c,
-                base: 0,
-                size: 0,
-                depth: 0,
-                registers: registers,
-                frames: frames,
-            },
-        };
-    }
-    let at = n - k.room;
-    let handed = clear(k, registers);
-    let r = rules::with_pointer(k, handed, base + at as u64);
-    words::store(memory, at, k.word, 0);
-    Outcome {
-        answer: Answer::Accepted,
-        state: State {
-            convention: c,
-            base: base,
-            size: n,
-            depth: 0,
-            registers: r,
-            frames: frames,
-        },
     }
 }

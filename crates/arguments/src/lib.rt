@@ -14,7 +14,7 @@ ghost use Rattle.plan.specs.Limits.{Plannable};
 pub fn first_cursor(c: Convention, result: ResultType) -> Cursor
     ensures { λ k. ⌜ k ≡ startIn c result ⌝ }
 {
-    let hidden = plan::hidden_in(c, result);
+    let hidden = planning::hidden_in(c, result);
     placing::start(c, hidden)
 }
 

@@ -1,6 +1,6 @@
 -- What the program's outcome says of the reading, in the surface's words. Assumes nothing.
 use Prim.Native.Nat.{ℕ}
-use mathlib.Core.Path.{_≡_, ap, _∙_}
+use mathlib.Core.Path.{_≡_, ap}
 use native.Mathlib.Omega.{arith}
 use Rattle.items.specs.declared.Fault.{Fault}
 use Rattle.items.specs.Reading.{Reading, got, no}
@@ -9,10 +9,8 @@ use Rattle.signature.specs.Signature.{Signature}
 use Rattle.plan.specs.declared.Measured.{Measured}
 use Rattle.plan.specs.Plan.{planIn, planAnswer, measureOf}
 use Rattle.answers.specs.declared.Answer.{Answer}
-use Rattle.answers.specs.Answers.{yes}
 use Rattle.faults.specs.Faults.{faultAnswer}
-use Rattle.bridge.specs.declared.Sizes.{Sizes}
-use Rattle.bridge.specs.Surface.{readingAnswer, sizesAnswer}
+use Rattle.bridge.specs.Surface.{readingAnswer}
 
 module _ (m : Measured) where
   pub accepted-answer : (x : Reading Signature) → m ≡ measureOf (planAnswer x) → (n : ℕ) → m .outcome ≡ Outcome.Accepted n →
@@ -25,18 +23,3 @@ module _ (m : Measured) where
   unfolding readingAnswer planAnswer planIn
   refused-answer (got g next k) e f q = let z : _≡_ {A = ℕ} 0 1 = cc (ap (λ (y : Measured). y .outcome) e) in absurd (omega arith)
   refused-answer (no g) e f q = let same : f ≡ g = cc (ap (λ (y : Measured). y .outcome) e) in ap faultAnswer same
-
-  pub accepted-sizes : (x : Reading Signature) → m ≡ measureOf (planAnswer x) → (n : ℕ) → m .outcome ≡ Outcome.Accepted n →
-      _≡_ {A = Sizes} (record { answer = yes; values = m .values; area = m .area; copies = m .copies }) (sizesAnswer x)
-  unfolding sizesAnswer planAnswer
-  accepted-sizes (got g next k) e n q = ap (λ (y : Measured). record { answer = yes; values = y .values; area = y .area; copies = y .copies }) e
-  accepted-sizes (no f) e n q = let z : _≡_ {A = ℕ} 0 1 = cc (ap (λ (y : Measured). y .outcome) e) in absurd (omega arith)
-
-  pub refused-sizes : (x : Reading Signature) → m ≡ measureOf (planAnswer x) → (f : Fault) → m .outcome ≡ Outcome.Refused f → (a : Answer) → a ≡ faultAnswer f →
-      _≡_ {A = Sizes} (record { answer = a; values = 0; area = 0; copies = 0 }) (sizesAnswer x)
-  unfolding sizesAnswer planAnswer planIn
-  refused-sizes (got g next k) e f q a is = let z : _≡_ {A = ℕ} 0 1 = cc (ap (λ (y : Measured). y .outcome) e) in absurd (omega arith)
-  refused-sizes (no g) e f q a is =
-      let same : f ≡ g = cc (ap (λ (y : Measured). y .outcome) e) in
-      let words : a ≡ faultAnswer g = is ∙ ap faultAnswer same in
-      cc

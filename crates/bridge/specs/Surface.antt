@@ -3,26 +3,14 @@ use Prim.Native.Nat.{ℕ, _+_, _*_}
 use Rattle.ieee.specs.declared.Narrowed.{Narrowed}
 use Rattle.items.specs.Reading.{Reading, got, no}
 use Rattle.signature.specs.Signature.{Signature}
-use Rattle.plan.specs.declared.Plan.{Plan}
-use Rattle.plan.specs.Plan.{planAnswer}
 use Rattle.answers.specs.declared.Answer.{Answer}
-use Rattle.answers.specs.Answers.{yes}
 use Rattle.faults.specs.Faults.{faultAnswer}
-use Rattle.bridge.specs.declared.Sizes.{Sizes}
 use Rattle.bridge.specs.declared.NarrowingAnswer.{NarrowingAnswer}
 
 -- "An accepted reading reports its count of items", a refused one the headers that had passed; number 0 says yes
 unfoldable pub readingAnswer : Reading Signature → Answer
 readingAnswer (got g next n) = record { number = 0; place = 0; items = n }
 readingAnswer (no f) = faultAnswer f
-
--- of a plan: the sizes of the values, the area and the copies; a refused signature's are 0
-abbrev pub planSizes : Answer → Plan → Sizes
-planSizes a p = record { answer = a; values = p .values; area = p .area; copies = p .copies }
-
-unfoldable pub sizesAnswer : Reading Signature → Sizes
-sizesAnswer (got g next n) = planSizes yes (planAnswer (got g next n))
-sizesAnswer (no f) = record { answer = faultAnswer f; values = 0; area = 0; copies = 0 }
 
 -- 14: "a single's PPC64 FPR that is no widened single"
 unfoldable pub narrowingAnswer : Narrowed → NarrowingAnswer

@@ -1,5 +1,5 @@
-// The surface for C and Rust, which include/flakuzhen.h declares: the version, signatures, plans and floats. Each function of the last three calls
-// one of the crates below and lays its answer out in 64-bit words.
+// The surface for C and Rust, which include/flakuzhen.h declares: the version, signatures and floats. Each function of the last two calls one
+// of the crates below and lays its answer out in 64-bit words.
 use answers::Answer;
 use ieee::Narrowed;
 use signature::Outcome;
@@ -7,20 +7,8 @@ ghost use mathlib.Core.Path.{_≡_};
 ghost use Prim.Native.Nat.{_%_, _^_};
 ghost use Rattle.ieee.specs.Widening.{widen};
 ghost use Rattle.ieee.specs.Narrowing.{narrow};
-ghost use lib.ListN.{length};
-ghost use Rattle.listing.specs.Text.{listingOf};
-ghost use Rattle.listing.specs.Writing.{printed};
 ghost use Rattle.signature.specs.Read.{signatureOf};
-ghost use Rattle.bridge.specs.Surface.{readingAnswer, sizesAnswer, narrowingAnswer, version};
-
-// `fz_sizes`: the bytes that the values, the parameter area and the copies of a call take.
-#[repr(C)]
-pub struct Sizes {
-    pub answer: Answer,
-    pub values: u64,
-    pub area: u64,
-    pub copies: u64,
-}
+ghost use Rattle.bridge.specs.Surface.{readingAnswer, narrowingAnswer, version};
 
 // `fz_narrowed`: number 0 is yes, 14 no.
 #[repr(C)]
@@ -42,7 +30,7 @@ pub extern "C" fn fz_version() -> u64
 pub extern "C" fn fz_read_signature(sig: &[u8]) -> Answer
     ensures { λ r. ⌜ r ≡ readingAnswer (signatureOf (now (sig .entry))) ⌝ }
 {
-    let m = plan::measure(sig);
+    let m = measuring::measure(sig);
     let outcome = m.outcome;
     match outcome {
         Outcome::Accepted(items) => Answer {
@@ -52,43 +40,6 @@ pub extern "C" fn fz_read_signature(sig: &[u8]) -> Answer
         },
         Outcome::Refused(fault) => faults::fault_answer(fault),
     }
-}
-
-#[no_mangle]
-pub extern "C" fn fz_measure(sig: &[u8]) -> Sizes
-    ensures { λ r. ⌜ r ≡ sizesAnswer (signatureOf (now (sig .entry))) ⌝ }
-{
-    let m = plan::measure(sig);
-    let values = m.values as u64;
-    let area = m.area as u64;
-    let copies = m.copies as u64;
-    let outcome = m.outcome;
-    match outcome {
-        Outcome::Accepted(_) => Sizes {
-            answer: Answer {
-                number: 0,
-                place: 0,
-                items: 0,
-            },
-            values,
-            area,
-            copies,
-        },
-        Outcome::Refused(fault) => Sizes {
-            answer: faults::fault_answer(fault),
-            values: 0,
-            area: 0,
-            copies: 0,
-        },
-    }
-}
-
-// The length of the printed plan, which is put at the head of the text where there is room for all of it.
-#[no_mangle]
-pub extern "C" fn fz_listing(sig: &[u8], text: &mut [u8]) -> u64
-    ensures { λ r. ⌜ (r ≡ length (listingOf (now (sig .entry)))) × (now (text .exit) ≡ printed (now (text .entry)) (listingOf (now (sig .entry)))) ⌝ }
-{
-    listing::listing(sig, text) as u64
 }
 
 // The low 32 bits are widened.

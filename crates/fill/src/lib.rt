@@ -135,7 +135,7 @@ pub fn fill(
     ensures { λ a. ⌜ a ≡ fillAnswer (now (sig .entry)) (lengths (now (values .entry)) (now (image .entry)) (now (area .entry)) (now (copies .entry))) base hidden ⌝ }
     ensures { λ a. ⌜ buffers (now (image .exit)) (now (area .exit)) (now (copies .exit)) ≡ fillBuffers (now (sig .entry)) (now (values .entry)) base hidden a (buffers (now (image .entry)) (now (area .entry)) (now (copies .entry))) ⌝ }
 {
-    let g = signature::read_signature(sig);
+    let g = whole_signature::read_signature(sig);
     let m = arguments::measure_table(g);
     let outcome = m.outcome;
     match outcome {
@@ -144,7 +144,7 @@ pub fn fill(
             let convention = g.convention;
             let returned = g.result;
             let word = conventions::word_bytes(convention);
-            let result = plan::result_in(convention, returned);
+            let result = planning::result_in(convention, returned);
             let high = high_address(word, result, hidden);
             let have = Lengths {
                 values: values.len(),

@@ -76,8 +76,8 @@ pub fn home(sig: &[u8], image: &[u8], area: &mut [u8]) -> Answer
     ensures { λ a. ⌜ a ≡ homeAnswer (now (sig .entry)) (now (image .entry)) (length (now (area .entry))) ⌝ }
     ensures { λ a. ⌜ now (area .exit) ≡ homeArea (now (sig .entry)) a (now (image .entry)) (now (area .entry)) ⌝ }
 {
-    let g = signature::read_signature(sig);
-    let p = plan::plan_signature(g);
+    let g = whole_signature::read_signature(sig);
+    let p = planning::plan_signature(g);
     let outcome = p.outcome;
     match outcome {
         Outcome::Refused(fault) => Answer::Unread(fault),

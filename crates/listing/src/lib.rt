@@ -108,7 +108,7 @@ fn put_plan(text: &mut [u8], p: Plan) -> usize
 pub fn listing(s: &[u8], text: &mut [u8]) -> usize
     ensures { λ r. ⌜ (r ≡ length (listingOf (now (s .entry)))) × (now (text .exit) ≡ printed (now (text .entry)) (listingOf (now (s .entry)))) ⌝ }
 {
-    let p = plan::plan_of(s);
+    let p = planning::plan_of(s);
     let mut unused = [0u8; 1];
     let length = put_plan(&mut unused, p);
     if text.len() < length {

@@ -8,6 +8,9 @@ use lib.ListN.{length}
 use Rattle.words.specs.Basics.{pick}
 use Rattle.words.specs.Splice.{overlay}
 use Rattle.words.specs.Numbers.{valueOf}
+use Rattle.types.specs.declared.FloatFormat.{FloatFormat}
+use Rattle.types.specs.declared.Equivalent.{Equivalent}
+use Rattle.types.specs.declared.ValueType.{ValueType}
 use Rattle.types.specs.Sizes.{equivalentOf}
 use Rattle.signature.specs.declared.SignatureRead.{SignatureRead}
 use Rattle.places.specs.declared.Rules.{Rules}
@@ -41,6 +44,21 @@ wordsAnswer r base p b =
 unfoldable pub argumentAnswer : Rules → ℕ → Placement → Buffers → Answer
 argumentAnswer r base p b =
     pick (ltb 0 (p .span .floating .count)) (floatAnswer r (equivalentOf (p .ty)) (valueOf (floatAt (p .span) b))) (wordsAnswer r base p b)
+
+-- the types whose arguments 13 or 14 can refuse: on PowerPC those that go as a single, which has its FPR to be tested; on Z those
+-- that may be passed by pointer to a copy (law `never-refused`)
+abbrev pub isSingle : Equivalent → Bool
+isSingle Equivalent.Nothing = false
+isSingle Equivalent.Single = true
+isSingle Equivalent.Double = false
+
+abbrev pub canRefuse : Rules → ValueType → Bool
+canRefuse (Rules.Power f) t = isSingle (equivalentOf t)
+canRefuse Rules.Z (ValueType.Integer k) = false
+canRefuse Rules.Z (ValueType.Float FloatFormat.Single) = false
+canRefuse Rules.Z (ValueType.Float FloatFormat.Double) = false
+canRefuse Rules.Z (ValueType.Float FloatFormat.LongDouble) = true
+canRefuse Rules.Z (ValueType.Struct s) = true
 
 -- "13 and 14 by argument, left to right"
 unfoldable pub argumentsAnswer : Rules → ℕ → List Placement → Buffers → Answer

@@ -1,21 +1,25 @@
 // Reading: the values of a call's arguments out of its registers, memory and copies. A first pass over the arguments finds the first
 // that can't be read, and only then are the values taken, so that a refused reading leaves the value buffer as it was.
+use places::Cursor;
 use places::Rules;
 use places::Span;
 use signature::Outcome;
 use signature::SignatureRead;
 use slots::Answer;
 use slots::Refusal;
+use types::Equivalent;
+use types::FloatFormat;
 use types::ValueType;
 ghost use mathlib.Core.Path.{_≡_};
+ghost use Prim.Native.Nat.{_≤_};
 ghost use lib.ListN.{length};
-ghost use Rattle.places.specs.Step.{rulesOf};
+ghost use Rattle.places.specs.Step.{Lawful, Roomy, rulesOf, spanOf};
 ghost use Rattle.slots.specs.Buffers.{buffers};
 ghost use Rattle.slots.specs.Placements.{placement};
 ghost use Rattle.slots.specs.Refusals.{firstOf};
 ghost use Rattle.arguments.specs.Table.{argumentsFrom};
 ghost use Rattle.unmarshal.specs.Readable.{Ready};
-ghost use Rattle.read.specs.Read.{inCopies, copyAnswer, argumentAnswer, argumentsAnswer, readTests, readAnswer, readValues, sizes, AllReady};
+ghost use Rattle.read.specs.Read.{inCopies, copyAnswer, argumentAnswer, canRefuse, argumentsAnswer, readTests, readAnswer, readValues, sizes, AllReady};
 
 // The lengths of the lent buffers that are tested.
 pub struct Sizes {
@@ -73,6 +77,50 @@ fn argument_answer(
     Answer::Done
 }
 
+// Whether reading an argument of a type can be refused at all. Most can't, and then nobody need know its places.
+fn can_refuse(r: Rules, t: ValueType) -> bool
+    ensures { λ b. ⌜ b ≡ canRefuse r t ⌝ }
+{
+    match r {
+        Rules::Power(_) => match types::equivalent_of(t) {
+            Equivalent::Nothing => false,
+            Equivalent::Single => true,
+            Equivalent::Double => false,
+        },
+        Rules::Z => match t {
+            ValueType::Integer(_) => false,
+            ValueType::Float(f) => match f {
+                FloatFormat::Single => false,
+                FloatFormat::Double => false,
+                FloatFormat::LongDouble => true,
+            },
+            ValueType::Struct(_) => true,
+        },
+    }
+}
+
+// Whether the argument at a cursor, of a type and its size, can be read.
+fn answer_at(
+    image: &[u8],
+    area: &[u8],
+    copies: &[u8],
+    r: Rules,
+    c: Cursor,
+    t: ValueType,
+    n: usize,
+    base: u64,
+) -> Answer
+    requires { ⌜ Lawful r × Roomy c × (n ≤ 256) × Ready r (length (now image)) (length (now area)) (placement t n (spanOf r c t n)) ⌝ }
+    ensures { λ a. ⌜ a ≡ argumentAnswer r base (placement t n (spanOf r c t n)) (buffers (now (image .entry)) (now (area .entry)) (now (copies .entry))) ⌝ }
+{
+    if can_refuse(r, t) {
+        let p = placing::step(r, c, t, n);
+        let s = p.span;
+        return argument_answer(image, area, copies, r, t, n, s, base);
+    }
+    Answer::Done
+}
+
 // The refusal of the first argument of a signature that was read, left to right, that can't be read.
 pub fn first_refusal(
     image: &[u8],
@@ -94,13 +142,11 @@ pub fn first_refusal(
         let a = g.arguments[i];
         let t = a.ty;
         let n = types::size_of(convention, t);
-        let p = placing::step(rules, c, t, n);
-        let s = p.span;
-        let answer = argument_answer(image, area, copies, rules, t, n, s, base);
+        let answer = answer_at(image, area, copies, rules, c, t, n, base);
         if slots::is_refused(answer) {
             return answer;
         }
-        c = p.next;
+        c = placing::advance(rules, c, t, n);
         i = i + 1;
     }
     Answer::Done
@@ -135,7 +181,7 @@ pub fn read(
     ensures { λ a. ⌜ a ≡ readAnswer (now (sig .entry)) (sizes (now (values .entry)) (now (image .entry)) (now (area .entry))) base (buffers (now (image .entry)) (now (area .entry)) (now (copies .entry))) ⌝ }
     ensures { λ a. ⌜ now (values .exit) ≡ readValues (now (sig .entry)) base a (buffers (now (image .entry)) (now (area .entry)) (now (copies .entry))) (now (values .entry)) ⌝ }
 {
-    let g = signature::read_signature(sig);
+    let g = whole_signature::read_signature(sig);
     let m = arguments::measure_table(g);
     let outcome = m.outcome;
     match outcome {

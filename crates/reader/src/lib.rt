@@ -60,7 +60,7 @@ fn left_at(s: &[u8], at: usize, end: usize) -> usize
 fn body_in(s: &[u8], at: usize, end: usize) -> Body
     ensures { λ r. ⌜ r ≡ bodyIn (now (s .entry)) at end ⌝ }
 {
-    if signature::MAX_LENGTH < s.len() {
+    if signature_head::MAX_LENGTH < s.len() {
         return Body::Refused(Refusal::TooLong);
     }
     let to = end_in(s, end);
@@ -107,7 +107,7 @@ fn body_end(s: &[u8], at: usize, end: usize) -> usize
 fn type_in(s: &[u8], at: usize, end: usize, c: Convention) -> ItemRead
     ensures { λ r. ⌜ r ≡ itemAnswer c (typeIn c (now (s .entry)) at end) ⌝ }
 {
-    if signature::MAX_LENGTH < s.len() {
+    if signature_head::MAX_LENGTH < s.len() {
         return leaf_items::refused_here(Refusal::TooLong, 0);
     }
     let to = end_in(s, end);
@@ -246,7 +246,7 @@ fn step_to(s: &[u8], at: usize, end: usize, c: Convention, count: usize) -> Argu
 pub fn argument_at(s: &[u8], index: usize) -> ArgumentRead
     ensures { λ r. ⌜ r ≡ argumentAnswer index (signatureOf (now (s .entry))) ⌝ }
 {
-    let whole = signature::read_signature(s);
+    let whole = whole_signature::read_signature(s);
     let outcome = whole.outcome;
     match outcome {
         Outcome::Refused(fault) => ArgumentRead::Refused(fault),

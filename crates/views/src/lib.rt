@@ -51,8 +51,8 @@ fn view_answer(
 pub fn view_part(sig: &[u8], index: usize, have: usize) -> ViewPart
     ensures { λ p. ⌜ p ≡ viewPart (now (sig .entry)) have index ⌝ }
 {
-    let g = signature::read_signature(sig);
-    let p = plan::plan_signature(g);
+    let g = whole_signature::read_signature(sig);
+    let p = planning::plan_signature(g);
     let outcome = p.outcome;
     let convention = g.convention;
     let rules = abi::call_rules_of(convention);

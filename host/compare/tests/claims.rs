@@ -154,7 +154,10 @@ fn what_the_claims_name_is_there() {
 #[test]
 fn what_is_not_there_is_found() {
     let page = page()
-        .replace("signature/refuse_everything", "signature/refuse_nothing")
+        .replace(
+            "signature_head/refuse_everything",
+            "signature_head/refuse_nothing",
+        )
         .replace("`fillAnswer`", "`fillAnswering`")
         .replace(
             "crates/plan/specs/Disjoint.antt",
@@ -162,7 +165,7 @@ fn what_is_not_there_is_found() {
         );
     let expected = [
         "no file crates/plan/specs/Apart.antt",
-        "no edit signature/refuse_nothing",
+        "no edit signature_head/refuse_nothing",
         "nothing is called fillAnswering",
     ];
     assert_eq!(faults(&page), expected);

@@ -3,10 +3,10 @@
 use borrow.Author.Needs.{needs}
 use mathlib.Core.Path.{_≡_, sym, _∙_}
 use mathlib.Core.List.{_∷_}
-use Prim.Native.Nat.{ℕ, suc, _+_, _-_}
+use Prim.Native.Nat.{ℕ, suc, _+_, _-_, _≤_}
 use native.Mathlib.Omega.{arith}
 use lib.ListN.{length, drop}
-use Rattle.places.specs.Step.{rulesOf, placed}
+use Rattle.places.specs.Step.{Lawful, Roomy, rulesOf, spanOf}
 use Rattle.places.proofs.Bounds.{rules-lawful}
 use Rattle.plan.specs.Limits.{typeAt}
 use Rattle.slots.specs.Buffers.{buffers}
@@ -28,17 +28,31 @@ abbrev μ-loop : tie.MeasureT-loop
 μ-loop image area copies base g convention count rules c₀ i₀ c i = count - i
 
 -- the argument at hand
-abbrev hand : (c : tie.After-step Inv-loop μ-loop) → Placement
-hand c = placement (typeAt (c .before .before .before .before .before .before .before .before .before .before .args .t4) (c .before .before .before .before .loop .i)) (c .before .size-of .result) (c .step .result .span)
+abbrev hand : (c : tie.After-size-of Inv-loop μ-loop) → Placement
+hand c = placement (typeAt (c .before .before .before .before .before .before .before .before .before .args .t4) (c .before .before .before .loop .i)) (c .size-of .result) (spanOf (c .before .before .before .before .before .call-rules-of .result) (c .before .before .before .loop .c) (typeAt (c .before .before .before .before .before .before .before .before .before .args .t4) (c .before .before .before .loop .i)) (c .size-of .result))
 
-next : (c : tie.After-step Inv-loop μ-loop) → drop (c .before .before .before .before .loop .i) (argumentsFrom (c .before .before .before .before .before .before .before .before .before .before .args .t4)) ≡ hand c ∷ drop (suc (c .before .before .before .before .loop .i)) (argumentsFrom (c .before .before .before .before .before .before .before .before .before .before .args .t4))
-unfolding placed
+next : (c : tie.After-size-of Inv-loop μ-loop) → drop (c .before .before .before .loop .i) (argumentsFrom (c .before .before .before .before .before .before .before .before .before .args .t4)) ≡ hand c ∷ drop (suc (c .before .before .before .loop .i)) (argumentsFrom (c .before .before .before .before .before .before .before .before .before .args .t4))
 next c =
-    rw (c .step .ensures, c .before .size-of .ensures, c .before .before .before .before .before .before .call-rules-of .ensures)
-    (walking-hand (c .before .before .before .before .before .before .before .before .before .before .args .t4) (c .before .before .before .before .before .before .before .before .before .before .pre .plannable) _ _ _ (c .before .before .before .before .loop .inv .1) (c .before .before .before .loop-test .taken))
+    rw (c .size-of .ensures, c .before .before .before .before .before .call-rules-of .ensures)
+    (walking-hand (c .before .before .before .before .before .before .before .before .before .args .t4) (c .before .before .before .before .before .before .before .before .before .pre .plannable) _ _ _ (c .before .before .before .loop .inv .1) (c .before .before .loop-test .taken))
 
-asked : (c : tie.After-argument-answer Inv-loop μ-loop) → c .argument-answer .result ≡ argumentAnswer (rulesOf (c .before .before .before .before .before .before .before .before .before .before .before .before .args .t4 .convention)) (c .before .before .before .before .before .before .before .before .before .before .before .before .args .base) (hand (c .before .before)) (buffers (c .before .before .before .before .before .before .before .before .before .before .before .before .args .image .now) (c .before .before .before .before .before .before .before .before .before .before .before .before .args .area .now) (c .before .before .before .before .before .before .before .before .before .before .before .before .args .copies .now))
-asked c = c .argument-answer .ensures ∙ rw (c .before .before .before .before .before .before .before .before .call-rules-of .ensures)
+-- the rules, the cursor and the size are what a step asks for
+record Steps (c : tie.After-size-of Inv-loop μ-loop) : Type 0 where
+  lawful : Lawful (c .before .before .before .before .before .call-rules-of .result)
+  roomy : Roomy (c .before .before .before .loop .c)
+  small : c .size-of .result ≤ 256
+
+steps : (c : tie.After-size-of Inv-loop μ-loop) → Steps c
+steps c =
+    let start = c .before .before .before .before .before .before .before .before .before in
+    record {
+      lawful = rw (c .before .before .before .before .before .call-rules-of .ensures) (rules-lawful (start .args .t4 .convention));
+      roomy = walking-roomy (start .args .t4) (start .pre .plannable) _ _ _ (c .before .before .before .loop .inv .1);
+      small = rw (c .size-of .ensures) (start .pre .plannable .small (c .before .before .before .loop .i) (c .before .before .loop-test .taken));
+    }
+
+asked : (c : tie.After-answer-at Inv-loop μ-loop) → c .answer-at .result ≡ argumentAnswer (rulesOf (c .before .before .before .before .before .before .before .before .before .before .args .t4 .convention)) (c .before .before .before .before .before .before .before .before .before .before .args .base) (hand (c .before)) (buffers (c .before .before .before .before .before .before .before .before .before .before .args .image .now) (c .before .before .before .before .before .before .before .before .before .before .args .area .now) (c .before .before .before .before .before .before .before .before .before .before .args .copies .now))
+asked c = c .answer-at .ensures ∙ rw (c .before .before .before .before .before .before .call-rules-of .ensures)
 
 call-rules-of-requires : tie.Need-call-rules-of-requires Inv-loop μ-loop
 call-rules-of-requires c κs = search needs
@@ -60,18 +74,11 @@ element-copy-out-a c = omega (arith, c .before .before .before .before .before .
 size-of-requires : tie.Need-size-of-requires Inv-loop μ-loop
 size-of-requires c κs = search needs
 
-step-requires : tie.Need-step-requires Inv-loop μ-loop
-step-requires c κs =
-    let start = c .before .before .before .before .before .before .before .before .before in (
-      rw (c .before .before .before .before .before .call-rules-of .ensures) (rules-lawful (start .args .t4 .convention)),
-      walking-roomy (start .args .t4) (start .pre .plannable) _ _ _ (c .before .before .before .loop .inv .1),
-      rw (c .size-of .ensures) (start .pre .plannable .small (c .before .before .before .loop .i) (c .before .before .loop-test .taken)),
-    )
-
-argument-answer-requires : tie.Need-argument-answer-requires Inv-loop μ-loop
-argument-answer-requires c κs =
-    let stepped = c .before in
-    rw (stepped .before .before .before .before .before .before .call-rules-of .ensures) (checking-ready _ _ _ _ (hand stepped) (next stepped) (stepped .before .before .before .before .loop .inv .2))
+answer-at-requires : tie.Need-answer-at-requires Inv-loop μ-loop
+answer-at-requires c κs =
+    let fit = steps c in
+    let ready = checking-ready _ _ _ _ (hand c) (next c) (c .before .before .before .loop .inv .2) in
+    (fit .lawful, fit .roomy, fit .small, rw (c .before .before .before .before .before .call-rules-of .ensures) (rw (c .before .before .before .before .before .call-rules-of .ensures) at ready))
 
 is-refused-requires : tie.Need-is-refused-requires Inv-loop μ-loop
 is-refused-requires c κs = search needs
@@ -79,24 +86,26 @@ is-refused-requires c κs = search needs
 returns : tie.Need-returns Inv-loop μ-loop
 unfolding argumentsAnswer
 returns c =
-    let stepped = c .before .before .before .before in
-    checking-refused _ _ _ _ (hand stepped) (next stepped) (stepped .before .before .before .before .loop .inv .2) _ (asked (c .before .before)) (sym (c .before .is-refused .ensures) ∙ c .if1 .taken)
+    let sized = c .before .before .before in
+    checking-refused _ _ _ _ (hand sized) (next sized) (sized .before .before .before .loop .inv .2) _ (asked (c .before .before)) (sym (c .before .is-refused .ensures) ∙ c .if1 .taken)
+
+advance-requires : tie.Need-advance-requires Inv-loop μ-loop
+advance-requires c κs = let fit = steps (c .before .before .before) in (fit .lawful, fit .roomy, fit .small)
 
 add-i : tie.Need-add-i Inv-loop μ-loop
-add-i c = omega (arith, c .before .before .before .before .before .before .before .before .before .before .before .before .before .before .before .pre .plannable .few, c .before .before .before .before .before .before .before .before .loop-test .taken)
+add-i c = omega (arith, c .before .before .before .before .before .before .before .before .before .before .before .before .before .pre .plannable .few, c .before .before .before .before .before .before .loop-test .taken)
 
 loop-less : tie.Need-loop-less Inv-loop μ-loop
-loop-less c = omega (arith, c .before .before .before .before .before .before .before .before .loop-test .taken)
+loop-less c = omega (arith, c .before .before .before .before .before .before .loop-test .taken)
 
 loop-again : tie.Need-loop-again Inv-loop μ-loop
-unfolding placed
 loop-again c =
-    let stepped = c .before .before .before .before .before in
-    let start = stepped .before .before .before .before .before .before .before .before .before .before in (
-      stepped .before .before .before .before .loop .inv .0 + stepped .before .size-of .result,
-      rw (stepped .step .ensures, stepped .before .size-of .ensures, stepped .before .before .before .before .before .before .call-rules-of .ensures)
-          (walking-more (start .args .t4) (start .pre .plannable) _ _ _ (stepped .before .before .before .before .loop .inv .1) (stepped .before .before .before .loop-test .taken)),
-      checking-more _ _ _ _ (hand stepped) (next stepped) (stepped .before .before .before .before .loop .inv .2) _ (asked (c .before .before .before)) (sym (c .before .before .is-refused .ensures) ∙ c .before .if1 .left),
+    let sized = c .before .before .before .before in
+    let start = sized .before .before .before .before .before .before .before .before .before in (
+      sized .before .before .before .loop .inv .0 + sized .size-of .result,
+      rw (c .advance .ensures, sized .size-of .ensures, sized .before .before .before .before .before .call-rules-of .ensures)
+          (walking-more (start .args .t4) (start .pre .plannable) _ _ _ (sized .before .before .before .loop .inv .1) (sized .before .before .loop-test .taken)),
+      checking-more _ _ _ _ (hand sized) (next sized) (sized .before .before .before .loop .inv .2) _ (asked (c .before .before .before)) (sym (c .before .before .is-refused .ensures) ∙ c .before .if1 .left),
     )
 
 returns-2 : tie.Need-returns-2 Inv-loop μ-loop
@@ -118,10 +127,10 @@ first-refusal-spec =
     mul-a
     element-copy-out-a
     size-of-requires
-    step-requires
-    argument-answer-requires
+    answer-at-requires
     is-refused-requires
     returns
+    advance-requires
     add-i
     loop-less
     loop-again

@@ -1,0 +1,2 @@
+-- What the exported functions on plans answer. Assumes nothing.
+pub mod Plans

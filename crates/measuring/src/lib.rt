@@ -1,0 +1,106 @@
+// The sizes of a signature's plan, without a table of its arguments: each is read, passed and let go.
+use conventions::Convention;
+use items::Fault;
+use items::ItemRead;
+use items::Refusal;
+use plan::Measured;
+use signature::HeadRead;
+use signature::MAX_ARGUMENTS;
+use signature::Outcome;
+use signature::ResultType;
+ghost use mathlib.Core.Path.{_≡_};
+ghost use Prim.Native.Nat.{_^_, _≤_};
+ghost use lib.ListN.{length};
+ghost use Rattle.signature.specs.Read.{argumentsIn, signatureOf};
+ghost use Rattle.plan.specs.Plan.{refused, planAnswer, measureOf, planWith};
+ghost use Rattle.plan.specs.Limits.{SmallResult};
+
+fn no_measure(fault: Fault) -> Measured
+    ensures { λ m. ⌜ m ≡ measureOf (refused fault) ⌝ }
+{
+    Measured {
+        outcome: Outcome::Refused(fault),
+        area: 0,
+        values: 0,
+        copies: 0,
+    }
+}
+
+// The sizes from the arguments on, which stand from `at` to `end`; `earlier` items came before theirs. Each is read, placed and
+// let go: no table is made.
+fn measure_arguments(
+    s: &[u8],
+    convention: Convention,
+    returned: ResultType,
+    at: usize,
+    end: usize,
+    earlier: usize,
+) -> Measured
+    requires { ⌜ (at ≤ end) × (end ≤ length (now s)) × (end ≤ 2 ^ 16) × (earlier ≤ 2 ^ 16) ⌝ }
+    ensures { λ m. ⌜ m ≡ measureOf (planWith convention returned earlier (length (now (s .entry))) (argumentsIn convention (now (s .entry)) at end)) ⌝ }
+{
+    let rules = abi::call_rules_of(convention);
+    let hidden = planning::hidden_in(convention, returned);
+    let mut c = placing::start(convention, hidden);
+    let mut values: usize = 0;
+    let mut count: usize = 0;
+    let mut next = at;
+    let mut items: usize = 1;
+    while next < end {
+        if count == MAX_ARGUMENTS {
+            return no_measure(Fault {
+                reason: Refusal::TooManyArguments,
+                place: next,
+                passed: earlier + items,
+            });
+        }
+        match nested_items::read_item(s, convention, next, end, 8) {
+            ItemRead::Item {
+                ty,
+                next: after,
+                items: more,
+            } => {
+                let bytes = types::size_of(convention, ty);
+                c = placing::advance(rules, c, ty, bytes);
+                values = values + bytes;
+                count = count + 1;
+                next = after;
+                items = items + more;
+            }
+            ItemRead::Refused(fault) => {
+                return no_measure(items::later_by(earlier + items, fault));
+            }
+        }
+    }
+    let counted = earlier + items;
+    if next < s.len() {
+        return no_measure(Fault {
+            reason: Refusal::TrailingBytes,
+            place: next,
+            passed: counted,
+        });
+    }
+    let area = placing::area_of(convention, c);
+    Measured {
+        outcome: Outcome::Accepted(counted),
+        area,
+        values,
+        copies: c.copies,
+    }
+}
+
+// The sizes of the plan of a signature's bytes: any bytes at all.
+pub fn measure(s: &[u8]) -> Measured
+    ensures { λ m. ⌜ m ≡ measureOf (planAnswer (signatureOf (now (s .entry)))) ⌝ }
+{
+    match signature_head::read_head(s) {
+        HeadRead::Refused(fault) => no_measure(fault),
+        HeadRead::Head {
+            convention,
+            result,
+            at,
+            end,
+            earlier,
+        } => measure_arguments(s, convention, result, at, end, earlier),
+    }
+}

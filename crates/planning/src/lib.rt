@@ -1,0 +1,111 @@
+// The plan of a signature: the code.
+use conventions::Convention;
+use places::ByteRange;
+use places::RegisterRange;
+use places::ResultPlaces;
+use places::Span;
+use plan::Plan;
+use signature::MAX_ARGUMENTS;
+use signature::Outcome;
+use signature::ResultType;
+use signature::SignatureRead;
+ghost use mathlib.Core.Path.{_≡_};
+ghost use Rattle.signature.specs.Read.{signatureOf};
+ghost use Rattle.plan.specs.Plan.{hiddenIn, resultIn, blankPlan, planned, planAnswer};
+ghost use Rattle.plan.specs.Limits.{SmallResult, Plannable};
+
+// A plan without spans and sizes.
+fn blank(outcome: Outcome, convention: Convention, result: ResultPlaces, count: usize) -> Plan
+    ensures { λ p. ⌜ p ≡ blankPlan outcome convention result count ⌝ }
+{
+    let none = RegisterRange { first: 0, count: 0 };
+    let empty = ByteRange {
+        start: 0,
+        length: 0,
+    };
+    Plan {
+        outcome,
+        convention,
+        result,
+        count,
+        area: 0,
+        values: 0,
+        copies: 0,
+        spans: [Span {
+            general: none,
+            floating: none,
+            home: empty,
+            memory: empty,
+            copy: empty,
+            indirect: false,
+        }; MAX_ARGUMENTS],
+    }
+}
+
+// Whether a result is handed over through memory, at a hidden address.
+pub fn hidden_in(c: Convention, result: ResultType) -> bool
+    ensures { λ b. ⌜ b ≡ hiddenIn c result ⌝ }
+{
+    match result {
+        ResultType::Nothing => false,
+        ResultType::Value(t) => placing::hidden_for(abi::call_rules_of(c), t),
+    }
+}
+
+pub fn result_in(c: Convention, result: ResultType) -> ResultPlaces
+    requires { ⌜ SmallResult c result ⌝ }
+    ensures { λ q. ⌜ q ≡ resultIn c result ⌝ }
+{
+    match result {
+        ResultType::Nothing => ResultPlaces::Nothing,
+        ResultType::Value(t) => {
+            let size = types::size_of(c, t);
+            placing::result_places(c, t, size)
+        }
+    }
+}
+
+// The plan of a signature that was read.
+pub fn plan_signature(g: SignatureRead) -> Plan
+    requires { ⌜ Plannable g ⌝ }
+    ensures { λ p. ⌜ p ≡ planned g ⌝ }
+{
+    let outcome = g.outcome;
+    match outcome {
+        Outcome::Refused(_) => blank(outcome, Convention::Ppc64, ResultPlaces::Nothing, 0),
+        Outcome::Accepted(_) => {
+            let convention = g.convention;
+            let returned = g.result;
+            let count = g.count;
+            let rules = abi::call_rules_of(convention);
+            let hidden = hidden_in(convention, returned);
+            let result = result_in(convention, returned);
+            let mut c = placing::start(convention, hidden);
+            let mut plan = blank(outcome, convention, result, count);
+            let mut values: usize = 0;
+            let mut i: usize = 0;
+            while i < count {
+                let a = g.arguments[i];
+                let t = a.ty;
+                let size = types::size_of(convention, t);
+                let p = placing::step(rules, c, t, size);
+                let s = p.span;
+                plan.spans[i] = s;
+                c = p.next;
+                values = values + size;
+                i = i + 1;
+            }
+            plan.area = placing::area_of(convention, c);
+            plan.values = values;
+            plan.copies = c.copies;
+            plan
+        }
+    }
+}
+
+// The plan of a signature's bytes: any bytes at all.
+pub fn plan_of(s: &[u8]) -> Plan
+    ensures { λ p. ⌜ p ≡ planAnswer (signatureOf (now (s .entry))) ⌝ }
+{
+    plan_signature(whole_signature::read_signature(s))
+}

@@ -1,0 +1,102 @@
+// Reads a whole signature: the convention, the result's type and the types of 0 to 128 arguments.
+use conventions::Convention;
+use items::Fault;
+use items::ItemRead;
+use items::Refusal;
+use signature::Argument;
+use signature::HeadRead;
+use signature::MAX_ARGUMENTS;
+use signature::Outcome;
+use signature::ResultType;
+use signature::SignatureRead;
+ghost use mathlib.Core.Path.{_≡_};
+ghost use Prim.Native.Nat.{_+_, _^_, _≤_, _<_};
+ghost use lib.ListN.{length};
+ghost use Rattle.signature.specs.Read.{argumentsIn, signatureOf};
+ghost use Rattle.signature.specs.Answer.{refused, withArguments, signatureAnswer};
+
+fn refuse(fault: Fault) -> SignatureRead
+    ensures { λ r. ⌜ r ≡ refused fault ⌝ }
+{
+    let arguments = signature::no_arguments();
+    SignatureRead {
+        outcome: Outcome::Refused(fault),
+        convention: Convention::Ppc64,
+        result: ResultType::Nothing,
+        count: 0,
+        arguments,
+    }
+}
+
+// The arguments, in the third item's body from `at` to `end`, and the signature's end; `earlier` items came before this one.
+fn read_arguments(
+    s: &[u8],
+    c: Convention,
+    result: ResultType,
+    at: usize,
+    end: usize,
+    earlier: usize,
+) -> SignatureRead
+    requires { ⌜ (at ≤ end) × (end ≤ length (now s)) × (end ≤ 2 ^ 16) × (earlier ≤ 2 ^ 16) ⌝ }
+    ensures { λ r. ⌜ r ≡ withArguments c result earlier (length (now (s .entry))) (argumentsIn c (now (s .entry)) at end) ⌝ }
+{
+    let mut arguments = signature::no_arguments();
+    let mut count: usize = 0;
+    let mut next = at;
+    let mut items: usize = 1;
+    while next < end {
+        if count == MAX_ARGUMENTS {
+            return refuse(Fault {
+                reason: Refusal::TooManyArguments,
+                place: next,
+                passed: earlier + items,
+            });
+        }
+        match nested_items::read_item(s, c, next, end, 8) {
+            ItemRead::Item {
+                ty,
+                next: after,
+                items: more,
+            } => {
+                arguments[count] = Argument { ty };
+                count = count + 1;
+                next = after;
+                items = items + more;
+            }
+            ItemRead::Refused(fault) => {
+                return refuse(items::later_by(earlier + items, fault));
+            }
+        }
+    }
+    let counted = earlier + items;
+    if next < s.len() {
+        return refuse(Fault {
+            reason: Refusal::TrailingBytes,
+            place: next,
+            passed: counted,
+        });
+    }
+    SignatureRead {
+        outcome: Outcome::Accepted(counted),
+        convention: c,
+        result,
+        count,
+        arguments,
+    }
+}
+
+// A signature: any bytes at all.
+pub fn read_signature(s: &[u8]) -> SignatureRead
+    ensures { λ r. ⌜ r ≡ signatureAnswer (signatureOf (now (s .entry))) ⌝ }
+{
+    match signature_head::read_head(s) {
+        HeadRead::Refused(fault) => refuse(fault),
+        HeadRead::Head {
+            convention,
+            result,
+            at,
+            end,
+            earlier,
+        } => read_arguments(s, convention, result, at, end, earlier),
+    }
+}
