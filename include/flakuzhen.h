@@ -41,7 +41,7 @@
  *    x86-64, PowerPC and zSeries (make bench and make bench-targets measure it):
  *       1 KiB   fz_version, fz_widen, fz_narrow
  *       4 KiB   fz_read_signature, fz_measure
- *       8 KiB   fz_fill, fz_read, fz_start_ppc64, fz_start_z
+ *       8 KiB   fz_fill, fz_read, fz_start_ppc64, fz_start_z, fz_start_aix
  *      12 KiB   fz_listing, fz_write_register
  *      16 KiB   fz_view, fz_write_memory
  *      20 KiB   fz_home, fz_enter, fz_leave
@@ -297,14 +297,17 @@ typedef struct {
 } fz_machine;
 
 /* Starts a machine for a convention, whatever *machine held. The registers are those handed in (of
- * cr the low 32 bits), but for the stack pointer: it is 112 bytes below the memory's end on PPC64,
- * 160 on Z, and eight zeros are written there. A refused start leaves the memory as it was, and in
- * *machine the convention, the registers as handed in (of cr all 64 bits) and all else 0: a state
- * that every other call refuses with 23. */
+ * cr the low 32 bits, on AIX of every general register and of lr too), but for the stack pointer:
+ * it is 112 bytes below the memory's end on PPC64, 160 on Z, 64 on AIX, and a word of zeros (8
+ * bytes, on AIX 4) is written there. A refused start leaves the memory as it was, and in *machine
+ * the convention, the registers as handed in (of each all 64 bits) and all else 0: a state that
+ * every other call refuses with 23. */
 fz_answer fz_start_ppc64(fz_machine *machine, const fz_registers *registers, uint64_t base,
                          uint8_t *memory, size_t memory_length);
 fz_answer fz_start_z(fz_machine *machine, const fz_registers *registers, uint64_t base,
                      uint8_t *memory, size_t memory_length);
+fz_answer fz_start_aix(fz_machine *machine, const fz_registers *registers, uint64_t base,
+                       uint8_t *memory, size_t memory_length);
 
 /* Enters a frame: saves the registers that the request names (on PPC64 LR too), stores the caller's
  * stack pointer at the new one, and keeps the request in the state. No register but the stack

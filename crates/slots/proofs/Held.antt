@@ -229,3 +229,4 @@ z-held k (ValueType.Struct s) h = z-struct k (ValueType.Struct s) (s .size) (s .
 pub step-held : (c : Convention) (k : Cursor) (t : ValueType) → Typed c t → Held (rulesOf c) (placement t (sizeOf c t) (spanOf (rulesOf c) k t (sizeOf c t)))
 step-held Convention.Ppc64 k t h = power-held 8 (omega arith) (omega arith) Convention.Ppc64 k t h
 step-held Convention.Z k t h = z-held k t h
+step-held Convention.Aix k t h = power-held 4 (omega arith) (omega arith) Convention.Aix k t h
