@@ -39,7 +39,7 @@ registerAnswer r t s image = pick (ltb 0 (s .floating .count)) (floatAnswer r (e
 
 -- ---- the bytes
 
--- an argument's register words, as memory holds them: "GPRs as they stand" (No. 1: home copies low halves), "an FPR in its memory form"
+-- an argument's register words, as memory holds them: "GPRs as they stand", on AIX their low halves; "an FPR in its memory form"
 unfoldable pub homedBytes : Rules → Placement → List ℕ → List ℕ
 homedBytes r p image =
     pick (ltb 0 (p .span .floating .count)) (homeBytes r (p .ty) (p .size) (floatValue r (p .ty) (fprOf (p .span) image)))

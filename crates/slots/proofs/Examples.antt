@@ -7,11 +7,10 @@ use Rattle.types.specs.declared.FloatFormat.{FloatFormat}
 use Rattle.types.specs.declared.Equivalent.{Equivalent}
 use Rattle.types.specs.declared.ValueType.{ValueType}
 use Rattle.places.specs.declared.Rules.{Rules}
-use Rattle.places.specs.declared.Edition.{Edition}
 use Rattle.places.specs.Values.{cursor}
 use Rattle.places.specs.Spots.{general, floating, area, copies}
 use Rattle.places.specs.Power.{words, fprs, shareOf, powerShare}
-use Rattle.places.specs.Step.{power, ppc64, spanOf}
+use Rattle.places.specs.Step.{ppc64, aix, spanOf}
 use Rattle.registers.specs.Registers.{spread, gather}
 use Rattle.slots.specs.Buffers.{slot}
 use Rattle.slots.specs.Placements.{Placement, placement, standing, slotsOf}
@@ -51,35 +50,32 @@ z-struct : homeBytes Rules.Z (ValueType.Struct (record { size = 2; align = 1; eq
 unfolding homeBytes startsAtHead extended bytesOf valueOf zeroExtended
 z-struct = refl
 
--- ---- PowerPC with words of 4 bytes
+-- ---- AIX, whose words have 4 bytes (No. 1: "Narrow wholes and structs fill 4-byte words as they fill doublewords on PPC64")
 
-abbrev short : Rules
-short = power 4 Edition.Earlier
-
--- the i16 -2 is a word; the single 1.0 is one; three bytes are at a word's head
-short-signed : homeBytes short (ValueType.Integer IntegerKind.I16) 2 (0xff ∷ 0xfe ∷ []) ≡ 0xff ∷ 0xff ∷ 0xff ∷ 0xfe ∷ []
+-- the i16 -2 is a word; the single 1.0 "is one word"; three bytes are at a word's head
+aix-signed : homeBytes aix (ValueType.Integer IntegerKind.I16) 2 (0xff ∷ 0xfe ∷ []) ≡ 0xff ∷ 0xff ∷ 0xff ∷ 0xfe ∷ []
 unfolding homeBytes startsAtHead extended words bytesOf valueOf signExtended zeroExtended signBit
-short-signed = refl
+aix-signed = refl
 
-short-single : homeBytes short (ValueType.Float FloatFormat.Single) 4 (0x3f ∷ 0x80 ∷ 0 ∷ 0 ∷ []) ≡ 0x3f ∷ 0x80 ∷ 0 ∷ 0 ∷ []
+aix-single : homeBytes aix (ValueType.Float FloatFormat.Single) 4 (0x3f ∷ 0x80 ∷ 0 ∷ 0 ∷ []) ≡ 0x3f ∷ 0x80 ∷ 0 ∷ 0 ∷ []
 unfolding homeBytes startsAtHead extended words bytesOf valueOf zeroExtended
-short-single = refl
+aix-single = refl
 
-short-struct : homeBytes short three 3 (1 ∷ 2 ∷ 3 ∷ []) ≡ 1 ∷ 2 ∷ 3 ∷ 0 ∷ []
+aix-struct : homeBytes aix three 3 (1 ∷ 2 ∷ 3 ∷ []) ≡ 1 ∷ 2 ∷ 3 ∷ 0 ∷ []
 unfolding homeBytes startsAtHead words three
-short-struct = refl
+aix-struct = refl
 
--- a u64 whose first word is in r10 and whose second is the first in memory, at 32
+-- a u64 whose first word is in r10 and whose second is the first of the excess, at 32: "r3 to r10 take the first eight"
 straddling : Placement
-straddling = placement (ValueType.Integer IntegerKind.U64) 8 (spanOf short (cursor 10 1 28 0) (ValueType.Integer IntegerKind.U64) 8)
+straddling = placement (ValueType.Integer IntegerKind.U64) 8 (spanOf aix (cursor 10 1 28 0) (ValueType.Integer IntegerKind.U64) 8)
 
--- a word is in the low half of its register, above zeros
-short-straddles : slotsOf short 0 straddling (1 ∷ 2 ∷ 3 ∷ 4 ∷ 5 ∷ 6 ∷ 7 ∷ 8 ∷ [])
+-- "Its image keeps each GPR in the low half of its 8 bytes, high half zero"
+aix-straddles : slotsOf aix 0 straddling (1 ∷ 2 ∷ 3 ∷ 4 ∷ 5 ∷ 6 ∷ 7 ∷ 8 ∷ [])
     ≡ slot (floating 1) [] ∷ slot (general 10) (0 ∷ 0 ∷ 0 ∷ 0 ∷ 1 ∷ 2 ∷ 3 ∷ 4 ∷ []) ∷ slot (area 32) (5 ∷ 6 ∷ 7 ∷ 8 ∷ []) ∷ slot (copies 0) [] ∷ []
 unfolding slotsOf straddling standing spread spanOf powerShare shareOf fprs words homeBytes startsAtHead extended bytesOf valueOf zeroExtended
-short-straddles = refl
+aix-straddles = refl
 
 -- high halves are ignored
-short-gathered : gather 4 2 (9 ∷ 9 ∷ 9 ∷ 9 ∷ 1 ∷ 2 ∷ 3 ∷ 4 ∷ 9 ∷ 9 ∷ 9 ∷ 9 ∷ 5 ∷ 6 ∷ 7 ∷ 8 ∷ []) ≡ 1 ∷ 2 ∷ 3 ∷ 4 ∷ 5 ∷ 6 ∷ 7 ∷ 8 ∷ []
+aix-gathered : gather 4 2 (9 ∷ 9 ∷ 9 ∷ 9 ∷ 1 ∷ 2 ∷ 3 ∷ 4 ∷ 9 ∷ 9 ∷ 9 ∷ 9 ∷ 5 ∷ 6 ∷ 7 ∷ 8 ∷ []) ≡ 1 ∷ 2 ∷ 3 ∷ 4 ∷ 5 ∷ 6 ∷ 7 ∷ 8 ∷ []
 unfolding gather
-short-gathered = refl
+aix-gathered = refl
