@@ -142,6 +142,7 @@ address-first : (c : Convention) → spanOf (rulesOf c) (fresh (rulesOf c)) poin
 unfolding spanOf fresh zClass zSpanOf
 address-first Convention.Ppc64 = omega arith
 address-first Convention.Z = omega arith
+address-first Convention.Aix = omega arith
 
 result-fits : (c : Convention) (r : ResultType) → HiddenFits (resultIn c r) 512
 unfolding resultOf
