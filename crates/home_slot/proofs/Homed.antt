@@ -85,8 +85,6 @@ plan-homed : (n : ℕ) (c : Convention) (r : ResultType) (ts : List ValueType) �
 unfolding planIn
 plan-homed n Convention.Ppc64 r ts e =
     all-homed 8 (omega arith) (omega arith) Convention.Ppc64 (startIn Convention.Ppc64 r) ts _ (area-holds Convention.Ppc64 (endIn Convention.Ppc64 r ts))
-plan-homed n Convention.Aix r ts e =
-    all-homed 4 (omega arith) (omega arith) Convention.Aix (startIn Convention.Aix r) ts _ (area-holds Convention.Aix (endIn Convention.Aix r ts))
 plan-homed n Convention.Z r ts e = let z : _≡_ {A = ℕ} 0 1 = cc in absurd (omega arith)
 plan-homed n Convention.Aix r ts e =
     all-homed 4 (omega arith) (omega arith) Convention.Aix (startIn Convention.Aix r) ts _ (area-holds Convention.Aix (endIn Convention.Aix r ts))

@@ -463,7 +463,6 @@ address-power w least most = omega (arith, words-room w least most w)
 
 address-word : (c : Convention) → homeless (rulesOf c) ≡ false → wordOf (rulesOf c) ≤ startOf (rulesOf c) true .stack
 address-word Convention.Ppc64 q = address-power 8 (omega arith) (omega arith)
-address-word Convention.Aix q = address-power 4 (omega arith) (omega arith)
 address-word Convention.Z q = let z : _≡_ {A = ℕ} 0 1 = cc in absurd (omega arith)
 address-word Convention.Aix q = address-power 4 (omega arith) (omega arith)
 
