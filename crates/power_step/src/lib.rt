@@ -19,9 +19,12 @@ fn words_of(word: usize, size: usize) -> usize
     requires { ⌜ (4 ≤ word) × (word ≤ 8) × (size ≤ 256) ⌝ }
     ensures { λ r. ⌜ (r ≡ words word size) × (word * r ≤ 264) ⌝ }
 {
-    // The usual width by a shift: a division by a variable is slow.
+    // The conventions' widths by a shift: a division by a variable is slow.
     if word == 8 {
         return (size + 7) / 8;
+    }
+    if word == 4 {
+        return (size + 3) / 4;
     }
     (size + (word - 1)) / word
 }
