@@ -211,8 +211,7 @@ fn plan_arguments(
                 let s = p.span;
                 let k = keep(next, size, s);
                 table[count] = k;
-                // not the step's own: the cursor stays in registers
-                c = placing::advance(rules, c, ty, size);
+                c = p.next;
                 values = values + size;
                 count = count + 1;
                 next = after;

@@ -87,15 +87,6 @@ mul-table c = omega (arith, c .before .before .before .before .before .before .b
 array-set-from-table : tie.Need-array-set-from-table Inv-loop μ-loop Inv-loop2 μ-loop2
 array-set-from-table c = omega (arith, c .before .before .before .before .before .before .before .before .before .before .loop .inv .turn .few, c .before .before .before .before .before .before .before .before .if1 .left)
 
-advance-requires : tie.Need-advance-requires Inv-loop μ-loop Inv-loop2 μ-loop2
-advance-requires c κs =
-    let a = item-answered _ _ _ _ _ _ _ _ _ (omega arith) (c .before .before .before .before .before .before .before .read-item .ensures) (c .before .before .before .before .before .ty .given .1) in
-    let m = c .before .before .before .before .before .before .before .before .before .before .loop .inv in (
-      rw (c .before .before .before .before .before .before .before .before .before .before .before .before .before .before .call-rules-of .ensures) (rules-lawful (c .before .before .before .before .before .before .before .before .before .before .before .before .before .before .before .before .before .args .convention)),
-      reached-roomy _ _ _ _ (omega (arith, m .turn .few)) (m .reached),
-      rw (c .before .before .before .size-of .ensures) (a .sized .small),
-    )
-
 add-values : tie.Need-add-values Inv-loop μ-loop Inv-loop2 μ-loop2
 add-values c =
     let a = item-answered _ _ _ _ _ _ _ _ _ (omega arith) (c .before .before .before .before .before .before .before .before .read-item .ensures) (c .before .before .before .before .before .before .ty .given .1) in
@@ -114,7 +105,7 @@ loop-less c = let a = item-answered _ _ _ _ _ _ _ _ _ (omega arith) (c .before .
 loop-again : tie.Need-loop-again Inv-loop μ-loop Inv-loop2 μ-loop2
 unfolding placed
 loop-again c =
-    rw (c .advance .ensures, c .before .keep .ensures, c .before .before .before .step .ensures, c .before .before .before .before .size-of .ensures, c .before .before .before .before .before .before .before .before .before .before .before .before .before .before .before .call-rules-of .ensures)
+    rw (c .before .keep .ensures, c .before .before .before .step .ensures, c .before .before .before .before .size-of .ensures, c .before .before .before .before .before .before .before .before .before .before .before .before .before .before .before .call-rules-of .ensures)
     (keeping-more _ _ _ _ _ _ _ _ _ _ _ (c .before .before .before .before .before .before .before .before .before .before .before .loop .inv) (c .before .before .before .before .before .before .before .before .before .before .loop-test .taken) (c .before .before .before .before .before .before .before .before .before .if1 .left) _ (c .before .before .before .before .before .before .before .before .read-item .ensures) _ _ _ (c .before .before .before .before .before .before .ty .given .1))
 
 enum-known-fault : tie.Need-enum-known-fault Inv-loop μ-loop Inv-loop2 μ-loop2
@@ -219,7 +210,6 @@ plan-arguments-spec =
     keep-requires
     mul-table
     array-set-from-table
-    advance-requires
     add-values
     add-count
     add-items
