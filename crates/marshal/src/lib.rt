@@ -99,13 +99,13 @@ pub fn put_argument(
         words::put_number(&mut image[at..], 8, slots::float_word(r, t, v));
         return;
     }
-    let word = places::word_of(r);
     if indirect {
         let start = copy.start as usize;
         words::put(&mut copies[start..], v);
-        put_words(image, area, word, s, base + start as u64);
+        put_word(image, area, s, base + start as u64);
         return;
     }
+    let word = places::word_of(r);
     if slots::starts_at_head(r, t) {
         put_bytes(image, area, word, s, v);
         return;

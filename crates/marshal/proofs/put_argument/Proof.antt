@@ -1,7 +1,7 @@
 -- By the way that the argument is passed: in an FPR, by a pointer to its copy, from the head of its words on, or at their end.
-use mathlib.Core.Path.{_≡_, refl, sym, ap, _∙_}
+use mathlib.Core.Path.{_≡_, refl, sym, ap, subst, _∙_}
 use mathlib.Core.List.{List, _++_}
-use Prim.Native.Nat.{ℕ, _+_, _-_, _*_, _≤_}
+use Prim.Native.Nat.{ℕ, _+_, _-_, _*_, _≤_, _<_}
 use native.Mathlib.Omega.{arith}
 use lib.ListN.{length, replicate}
 use borrow.Rule.Slice.PartMut.{putMid}
@@ -13,7 +13,8 @@ use Rattle.places.specs.Step.{wordOf}
 use Rattle.slots.specs.Buffers.{buffers}
 use Rattle.slots.specs.Placements.{Placement, placement}
 use Rattle.marshal.proofs.Arguments.{argument-float, argument-words, stands-address, stands-head, stands-end, number-fits, copy-none, copy-put}
-use Rattle.slots.proofs.Limits.{float-small}
+use Rattle.marshal.proofs.Pieces.{number-plain}
+use Rattle.slots.proofs.Limits.{float-small, one-address}
 use borrow.Author.Needs.{needs}
 use Rattle.marshal.proofs.put_argument.Statement.{statement}
 use Rattle.marshal.proofs.put_argument.Tie as tie
@@ -60,9 +61,6 @@ returns c =
     ap (λ (i : List ℕ). buffers i (start .args .area .now) (start .args .copies .now)) (ap (putMid at (length l - at) l) (c .before .before .put-number .ensures) ∙ lent-tail l at (bytesOf 8 (c .before .before .before .float-word .result)) ∙ ap (λ (x : ℕ). splice l at (bytesOf 8 x)) (c .before .before .before .float-word .ensures))
     ∙ argument-float (start .args .r) (start .args .base) (argument start) (start .args .v .now) l (start .args .area .now) (start .args .copies .now) (start .pre .held) (c .before .before .before .before .before .before .if1 .taken)
 
-word-of-requires : tie.Need-word-of-requires
-word-of-requires c κs = search needs
-
 cast-start : tie.Need-cast-start
 cast-start c = search needs
 
@@ -77,19 +75,19 @@ part-put-end c = search needs
 
 put-requires : tie.Need-put-requires
 put-requires c κs =
-    let pre = c .before .before .before .before .before .before .before .before .before .before .before .before .pre in
+    let pre = c .before .before .before .before .before .before .before .before .before .before .before .pre in
     omega (arith, pre .held .copied (c .before .before .if2 .taken), pre .fits .copies)
 
-add-put-words : tie.Need-add-put-words
-add-put-words c = search needs
+add-put-word : tie.Need-add-put-word
+add-put-word c = search needs
 
-put-words-requires : tie.Need-put-words-requires
-put-words-requires c κs =
-    let start = c .before .before .before .before .before .before .before .before .before .before .before .before .before .before .before .before .before in
+put-word-requires : tie.Need-put-word-requires
+put-word-requires c κs =
+    let start = c .before .before .before .before .before .before .before .before .before .before .before .before .before .before .before .before in
     let pre = start .pre in
-    let least : 1 ≤ wordOf (start .args .r) = omega (arith, pre .held .word) in
-    rw (c .before .before .before .before .before .before .before .before .word-of .ensures)
-    ((least, pre .held .word .1, pre .fits .general, pre .registers, pre .fits .memory, pre .held .stored), number-fits (start .args .r) (start .args .base) (argument start) (start .args .v .now) (pre .held) (c .before .before .before .before .before .before .before .before .before .if1 .left) (λ e. let z : _≡_ {A = ℕ} 0 1 = cc (e, c .before .before .before .before .before .before .before .if2 .taken) in absurd (omega arith)))
+    let stored : 0 < start .args .s .memory .length → 8 ≤ start .args .s .memory .length =
+    subst (λ (w : ℕ). 0 < start .args .s .memory .length → w ≤ start .args .s .memory .length) (pre .held .address (c .before .before .before .before .before .before .before .if2 .taken) .0) (pre .held .stored) in
+    ((omega arith, omega arith, pre .fits .general, pre .registers, pre .fits .memory, stored), one-address (start .args .r) (argument start) (pre .held) (c .before .before .before .before .before .before .before .before .if1 .left) (c .before .before .before .before .before .before .before .if2 .taken))
 
 same-length-2 : tie.Need-same-length-2
 same-length-2 c = search needs
@@ -102,18 +100,22 @@ same-length-4 c = search needs
 
 returns-2 : tie.Need-returns-2
 returns-2 c =
-    let start = c .before .before .before .before .before .before .before .before .before .before .before .before .before .before .before .before .before .before .before .before .before .before in
+    let start = c .before .before .before .before .before .before .before .before .before .before .before .before .before .before .before .before .before .before .before .before .before in
     let l : List ℕ = start .args .copies .now in
     let v : List ℕ = start .args .v .now in
     let at : ℕ = start .args .s .copy .start in
     let s = start .args .s in
-    let put = rw (c .before .before .before .before .before .before .before .before .before .before .before .before .before .word-of .ensures) at (c .before .before .before .before .put-words .ensures) in
+    let pre = start .pre in
+    let put = number-plain _ _ _ _ _ _ _ (wordOf (start .args .r)) _ _ (pre .held .address (c .before .before .before .before .before .before .before .before .before .before .before .before .if2 .taken) .0) (one-address (start .args .r) (argument start) (pre .held) (c .before .before .before .before .before .before .before .before .before .before .before .before .before .if1 .left) (c .before .before .before .before .before .before .before .before .before .before .before .before .if2 .taken)) (c .before .before .before .before .put-word .ensures) in
     let copied = ap (putMid at (length l - at) l) (c .before .before .before .before .before .before .before .before .before .put .ensures) ∙ lent-tail l at v in
-    argument-words (start .args .r) (start .args .base) (argument start) v (start .args .image .now) (start .args .area .now) l (start .pre .held)
-    (bytesOf (wordOf (start .args .r) * s .general .count + s .memory .length) (start .args .base + at)) _ _ _ (c .before .before .before .before .before .before .before .before .before .before .before .before .before .before .if1 .left)
-    (stands-address (start .args .r) (start .args .base) (argument start) v (start .pre .held) (c .before .before .before .before .before .before .before .before .before .before .before .before .before .before .if1 .left) (c .before .before .before .before .before .before .before .before .before .before .before .before .if2 .taken))
+    argument-words (start .args .r) (start .args .base) (argument start) v (start .args .image .now) (start .args .area .now) l (pre .held)
+    (bytesOf (wordOf (start .args .r) * s .general .count + s .memory .length) (start .args .base + at)) _ _ _ (c .before .before .before .before .before .before .before .before .before .before .before .before .before .if1 .left)
+    (stands-address (start .args .r) (start .args .base) (argument start) v (pre .held) (c .before .before .before .before .before .before .before .before .before .before .before .before .before .if1 .left) (c .before .before .before .before .before .before .before .before .before .before .before .before .if2 .taken))
     (put .0) (put .1)
     (copied ∙ sym (copy-put (argument start) v l (c .before .before .before .before .before .before .before .before .before .before .before .before .if2 .taken)))
+
+word-of-requires : tie.Need-word-of-requires
+word-of-requires c κs = search needs
 
 starts-at-head-requires : tie.Need-starts-at-head-requires
 starts-at-head-requires c κs = search needs
@@ -123,9 +125,9 @@ put-bytes-requires c κs =
     let start = c .before .before .before .before .before .before .before .before .before .before .before .before .before .before in
     let pre = start .pre in
     let w = pre .held .words (omega (arith, c .before .before .before .before .before .before .if1 .left)) in
-    let f = pre .held .room (c .before .before .before .before .if2 .left) in
+    let f = pre .held .room (c .before .before .before .before .before .if2 .left) in
     let least : 1 ≤ wordOf (start .args .r) = omega (arith, pre .held .word) in
-    rw (c .before .before .before .before .before .word-of .ensures) ((least, pre .held .word .1, pre .fits .general, pre .registers, pre .fits .memory, pre .held .stored), omega (arith, w, f), omega (arith, w, f))
+    rw (c .before .before .before .before .word-of .ensures) ((least, pre .held .word .1, pre .fits .general, pre .registers, pre .fits .memory, pre .held .stored), omega (arith, w, f), omega (arith, w, f))
 
 same-length-5 : tie.Need-same-length-5
 same-length-5 c = search needs
@@ -139,26 +141,26 @@ returns-3 c =
     let v : List ℕ = start .args .v .now in
     let s = start .args .s in
     let h = sym (c .before .before .before .before .before .before .before .before .starts-at-head .ensures) ∙ c .before .before .before .before .before .before .before .if3 .taken in
-    let put = rw (c .before .before .before .before .before .before .before .before .before .before .word-of .ensures) at (c .before .before .before .before .put-bytes .ensures) in
+    let put = rw (c .before .before .before .before .before .before .before .before .before .word-of .ensures) at (c .before .before .before .before .put-bytes .ensures) in
     argument-words (start .args .r) (start .args .base) (argument start) v (start .args .image .now) (start .args .area .now) (start .args .copies .now) (start .pre .held)
     (v ++ replicate (wordOf (start .args .r) * s .general .count + s .memory .length - length v) 0) _ _ _ (c .before .before .before .before .before .before .before .before .before .before .before .if1 .left)
-    (stands-head (start .args .r) (start .args .base) (argument start) v (start .pre .held) (c .before .before .before .before .before .before .before .before .before .before .before .if1 .left) (c .before .before .before .before .before .before .before .before .before .if2 .left) h refl)
+    (stands-head (start .args .r) (start .args .base) (argument start) v (start .pre .held) (c .before .before .before .before .before .before .before .before .before .before .before .if1 .left) (c .before .before .before .before .before .before .before .before .before .before .if2 .left) h refl)
     (put .0) (put .1)
-    (copy-none (argument start) v (start .args .copies .now) (c .before .before .before .before .before .before .before .before .before .if2 .left))
+    (copy-none (argument start) v (start .args .copies .now) (c .before .before .before .before .before .before .before .before .before .before .if2 .left))
 
 value-word-requires : tie.Need-value-word-requires
 value-word-requires c κs =
     let start = c .before .before .before .before .before .before .before .before .before .before .before .before .before .before in
     let h = sym (c .before .before .before .starts-at-head .ensures) ∙ c .before .before .if3 .left in
-    start .pre .held .small h (c .before .before .before .before .if2 .left)
+    start .pre .held .small h (c .before .before .before .before .before .if2 .left)
 
-put-words-requires-2 : tie.Need-put-words-requires-2
-put-words-requires-2 c κs =
+put-words-requires : tie.Need-put-words-requires
+put-words-requires c κs =
     let start = c .before .before .before .before .before .before .before .before .before .before .before .before .before .before .before in
     let pre = start .pre in
     let h = sym (c .before .before .before .before .starts-at-head .ensures) ∙ c .before .before .before .if3 .left in
     let least : 1 ≤ wordOf (start .args .r) = omega (arith, pre .held .word) in
-    rw (c .before .before .before .before .before .before .word-of .ensures) ((least, pre .held .word .1, pre .fits .general, pre .registers, pre .fits .memory, pre .held .stored), number-fits (start .args .r) (start .args .base) (argument start) (start .args .v .now) (pre .held) (c .before .before .before .before .before .before .before .if1 .left) (λ e. h))
+    rw (c .before .before .before .before .before .word-of .ensures) ((least, pre .held .word .1, pre .fits .general, pre .registers, pre .fits .memory, pre .held .stored), number-fits (start .args .r) (start .args .base) (argument start) (start .args .v .now) (pre .held) (c .before .before .before .before .before .before .before .if1 .left) (λ e. h))
 
 same-length-7 : tie.Need-same-length-7
 same-length-7 c = search needs
@@ -172,12 +174,12 @@ returns-4 c =
     let v : List ℕ = start .args .v .now in
     let h = sym (c .before .before .before .before .before .before .before .before .before .starts-at-head .ensures) ∙ c .before .before .before .before .before .before .before .before .if3 .left in
     let room : ℕ = wordOf (start .args .r) * start .args .s .general .count + start .args .s .memory .length in
-    let put = rw (c .before .before .before .before .before .before .before .before .before .before .before .word-of .ensures) at (c .before .before .before .before .put-words2 .ensures) in
+    let put = rw (c .before .before .before .before .before .before .before .before .before .before .word-of .ensures) at (c .before .before .before .before .put-words .ensures) in
     argument-words (start .args .r) (start .args .base) (argument start) v (start .args .image .now) (start .args .area .now) (start .args .copies .now) (start .pre .held)
     (bytesOf room (c .before .before .before .before .before .value-word .result)) _ _ _ (c .before .before .before .before .before .before .before .before .before .before .before .before .if1 .left)
-    (stands-end (start .args .r) (start .args .base) (argument start) v (start .pre .held) (c .before .before .before .before .before .before .before .before .before .before .before .before .if1 .left) (c .before .before .before .before .before .before .before .before .before .before .if2 .left) h refl ∙ ap (bytesOf room) (sym (c .before .before .before .before .before .value-word .ensures)))
+    (stands-end (start .args .r) (start .args .base) (argument start) v (start .pre .held) (c .before .before .before .before .before .before .before .before .before .before .before .before .if1 .left) (c .before .before .before .before .before .before .before .before .before .before .before .if2 .left) h refl ∙ ap (bytesOf room) (sym (c .before .before .before .before .before .value-word .ensures)))
     (put .0) (put .1)
-    (copy-none (argument start) v (start .args .copies .now) (c .before .before .before .before .before .before .before .before .before .before .if2 .left))
+    (copy-none (argument start) v (start .args .copies .now) (c .before .before .before .before .before .before .before .before .before .before .before .if2 .left))
 
 pub put-argument-spec : {M : Type 1} → statement M
 put-argument-spec =
@@ -193,25 +195,25 @@ put-argument-spec =
     put-number-requires
     same-length
     returns
-    word-of-requires
     cast-start
     sub-put
     part-put-start
     part-put-end
     put-requires
-    add-put-words
-    put-words-requires
+    add-put-word
+    put-word-requires
     same-length-2
     same-length-3
     same-length-4
     returns-2
+    word-of-requires
     starts-at-head-requires
     put-bytes-requires
     same-length-5
     same-length-6
     returns-3
     value-word-requires
-    put-words-requires-2
+    put-words-requires
     same-length-7
     same-length-8
     returns-4)

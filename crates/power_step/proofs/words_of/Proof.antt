@@ -15,38 +15,22 @@ returns : tie.Need-returns
 unfolding words
 returns c = rw (c .if1 .taken) (refl, omega arith)
 
-add-result-2 : tie.Need-add-result-2
-add-result-2 c = search needs
-
-returns-2 : tie.Need-returns-2
-unfolding words
-returns-2 c = rw (c .if2 .taken) (refl, omega arith)
-
 sub-result : tie.Need-sub-result
 sub-result c = search needs
 
-add-result-3 : tie.Need-add-result-3
-add-result-3 c = search needs
+add-result-2 : tie.Need-add-result-2
+add-result-2 c = search needs
 
 div-result : tie.Need-div-result
 div-result c = search needs
 
-returns-3 : tie.Need-returns-3
+returns-2 : tie.Need-returns-2
 unfolding words
-returns-3 c =
-    let w : ℕ = c .before .before .args .word in
-    let n : ℕ = c .before .before .args .size + (w - 1) in
+returns-2 c =
+    let w : ℕ = c .before .args .word in
+    let n : ℕ = c .before .args .size + (w - 1) in
     (refl, omega (arith, div-mul-le-self n w, mul-comm (n / w) w))
 
 pub words-of-spec : {M : Type 1} → statement M
 words-of-spec =
-    tie.close
-    (tie.spec
-    add-result
-    returns
-    add-result-2
-    returns-2
-    sub-result
-    add-result-3
-    div-result
-    returns-3)
+    tie.close (tie.spec add-result returns sub-result add-result-2 div-result returns-2)
