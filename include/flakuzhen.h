@@ -4,8 +4,8 @@
  * A program that calls a function of such a machine, or that is called by one, does this:
  *
  *   1. It describes the function by a signature, a short string of bytes (see below).
- *   2. fz_measure plans the call and says how many bytes its buffers need; fz_listing prints where
- *      each argument goes.
+ *   2. fz_measure plans the call and says how many bytes its buffers need; fz_plan also says where
+ *      each argument goes, and fz_listing prints it.
  *   3. fz_fill puts the arguments' values into an image of the registers and into memory, as the
  *      calling function must. Or:
  *   4. fz_read takes them out of there, as the called function finds them; fz_home and fz_view
@@ -41,7 +41,7 @@
  *    x86-64, PowerPC and zSeries (make bench and make bench-targets measure it):
  *       1 KiB   fz_version, fz_widen, fz_narrow
  *       4 KiB   fz_read_signature, fz_measure
- *       8 KiB   fz_fill, fz_read, fz_start_ppc64, fz_start_z
+ *       8 KiB   fz_plan, fz_fill, fz_read, fz_start_ppc64, fz_start_z
  *      12 KiB   fz_listing, fz_write_register
  *      16 KiB   fz_view, fz_write_memory
  *      20 KiB   fz_home, fz_enter, fz_leave
@@ -173,6 +173,38 @@ typedef struct {
 
 /* Plans the call of a function with this signature and gives the sizes of its buffers. */
 fz_sizes fz_measure(const uint8_t *sig, size_t sig_length);
+
+/* Where an argument stands. A range that is not used is 0 and 0. Offsets in the area count from its
+ * first byte, also on Z, where that byte is 160 bytes above the stack pointer. */
+typedef struct {
+    uint64_t item;                  /* where its type's item starts in the signature */
+    uint64_t size, value;           /* bytes of its value, and where they start in `values` */
+    uint64_t first_gpr, gprs;       /* general registers: the first and how many */
+    uint64_t first_fpr, fprs;       /* floating registers */
+    uint64_t home, home_length;     /* its bytes of the area, used or not */
+    uint64_t memory, memory_length; /* those of them that hold it */
+    uint64_t copy, copy_length;     /* its copy, where it is passed by reference */
+} fz_place;
+
+/* The words of an fz_place. */
+#define FZ_PLACE_WORDS 13
+
+typedef struct {
+    fz_answer answer;                  /* as in fz_sizes */
+    uint64_t convention;               /* 1 PPC64, 2 Z */
+    uint64_t ellipsis;                 /* 0: no signature has one */
+    uint64_t arguments;                /* how many */
+    uint64_t values, area, copies;     /* as in fz_sizes */
+    uint64_t result;                   /* 0 none, 1 in registers, 2 hidden: in the caller's memory */
+    uint64_t result_gpr, result_gprs;  /* its general registers; hidden: the one with its address */
+    uint64_t result_fpr, result_fprs;  /* its floating registers */
+} fz_planned;
+
+/* Plans the call and writes where each argument stands to `places`, which has places_length words:
+ * an fz_place for each argument, in order, from the first word on. Where that is too short for all
+ * arguments nothing is written, not even a part of them, and `arguments` still says how many there
+ * are; words past the last argument stay as they are. The table must not overlap the signature. */
+fz_planned fz_plan(const uint8_t *sig, size_t sig_length, uint64_t *places, size_t places_length);
 
 /* Prints the plan to the text_length bytes at text and gives the listing's length. A call is never
  * refused: where text_length is below that length, nothing is written, not even a part of the

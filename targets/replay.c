@@ -24,6 +24,7 @@ enum {
     READ,
     HOME,
     VIEW,
+    PLAN,
     OPERATIONS,
     SET_MACHINE = 100,
     CHANGE_MACHINE = 101
@@ -50,11 +51,12 @@ static const struct shape {
     [READ] = {"fz_read", 1, 5, 3, 0},
     [HOME] = {"fz_home", 0, 3, 3, 0},
     [VIEW] = {"fz_view", 1, 2, 5, 0},
+    [PLAN] = {"fz_plan", 0, 2, 14, 0},
 };
 
 #define MOST_NUMBERS 4
 #define MOST_LENT 5
-#define MOST_WORDS 6
+#define MOST_WORDS 14
 
 static unsigned long made[OPERATIONS], mismatches;
 static unsigned long replayed; /* the number of the case at hand */
@@ -269,6 +271,29 @@ static void call_plain(int operation, const uint64_t *numbers)
     }
 }
 
+/* the most words of a table of places */
+#define MOST_PLACES 2048
+
+/* Plans into a table between words that no call may change. */
+static void call_plan(void)
+{
+    static uint64_t table[GUARD + MOST_PLACES + GUARD];
+    size_t words = own[1].length / 8, i;
+    fz_planned planned;
+
+    if (words > MOST_PLACES)
+        fail("a table that is too long");
+    for (i = 0; i < sizeof table / sizeof *table; i++)
+        table[i] = i;
+    words_from(table + GUARD, 8 * words, &own[1]);
+    planned = fz_plan(lent(&own[0]), own[0].length, table + GUARD, words);
+    words_to(table + GUARD, 8 * words, &own[1]);
+    for (i = 0; i < sizeof table / sizeof *table; i++)
+        if ((i < GUARD || i >= GUARD + words) && table[i] != i)
+            mismatch(PLAN, "word beside the table", i, table[i], i);
+    memcpy(answer, &planned, sizeof planned);
+}
+
 /* Calls of one call's values: the buffers are in the order of the function's parameters. */
 static void call_values(int operation, const uint64_t *numbers)
 {
@@ -383,6 +408,8 @@ static void replay(int operation)
     memset(answer, 0xc5, sizeof answer);
     if (shape->kept)
         call_machine(operation, numbers);
+    else if (operation == PLAN)
+        call_plan();
     else if (operation >= FILL)
         call_values(operation, numbers);
     else

@@ -64,6 +64,7 @@ static uint8_t copies[MOST_ARGUMENTS * LARGEST_STRUCT], memory[MEMORY];
 static size_t sig_length;
 static fz_sizes sizes;
 static char text[1 << 16];
+static uint64_t places[FZ_PLACE_WORDS * MOST_ARGUMENTS];
 static fz_registers registers;
 static fz_machine machine;
 static fz_frame request;
@@ -161,6 +162,11 @@ static void call_measure(void)
     number = fz_measure(sig, sig_length).answer.number;
 }
 
+static void call_plan(void)
+{
+    number = fz_plan(sig, sig_length, places, sizeof places / sizeof *places).answer.number;
+}
+
 static void call_listing(void)
 {
     number = fz_listing(sig, sig_length, text, sizeof text) > sizeof text;
@@ -240,6 +246,7 @@ enum {
     VERSION,
     READ_SIGNATURE,
     MEASURE,
+    PLAN,
     LISTING,
     FILL,
     READ,
@@ -264,6 +271,7 @@ static struct {
     [VERSION] = {"fz_version", call_version, 0},
     [READ_SIGNATURE] = {"fz_read_signature", call_read_signature, 0},
     [MEASURE] = {"fz_measure", call_measure, 0},
+    [PLAN] = {"fz_plan", call_plan, 0},
     [LISTING] = {"fz_listing", call_listing, 0},
     [FILL] = {"fz_fill", call_fill, 0},
     [READ] = {"fz_read", call_read, 0},
@@ -303,6 +311,7 @@ static void measure_signature(uint8_t convention, const type *of)
     memset(area, 0, sizeof area);
     measure(READ_SIGNATURE);
     measure(MEASURE);
+    measure(PLAN);
     measure(LISTING);
     measure(FILL);
     measure(READ);

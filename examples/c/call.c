@@ -109,6 +109,34 @@ static void print_listing(void)
     free(text);
 }
 
+/* Where each argument stands: its type in the signature, its bytes of the values, and its places. */
+static void print_places(void)
+{
+    uint64_t none = 0; /* a pointer is never null, even for no words */
+    fz_planned planned = fz_plan(signature, sizeof signature, &none, 0);
+    fz_place *places;
+
+    must(planned.answer, "plan");
+    places = (fz_place *)buffer(planned.arguments * sizeof *places);
+    fz_plan(signature, sizeof signature, (uint64_t *)places, FZ_PLACE_WORDS * planned.arguments);
+    for (uint64_t i = 0; i < planned.arguments; i++) {
+        const fz_place *at = &places[i];
+
+        printf("argument %" PRIu64 " type @%" PRIu64 " values %" PRIu64 "..%" PRIu64, i, at->item,
+               at->value, at->value + at->size);
+        for (uint64_t n = 0; n < at->gprs; n++)
+            printf(" r%" PRIu64, at->first_gpr + n);
+        for (uint64_t n = 0; n < at->fprs; n++)
+            printf(" f%" PRIu64, at->first_fpr + n);
+        if (at->home_length != 0)
+            printf(" home %" PRIu64 "..%" PRIu64, at->home, at->home + at->home_length);
+        if (at->copy_length != 0)
+            printf(" copy %" PRIu64 "..%" PRIu64, at->copy, at->copy + at->copy_length);
+        putchar('\n');
+    }
+    free(places);
+}
+
 static void print_registers(const uint8_t *image)
 {
     for (int n = 0; n < 64; n++) {
@@ -130,6 +158,7 @@ static void print_call(uint8_t convention)
     sizes = fz_measure(signature, sizeof signature);
     must(sizes.answer, "plan");
     print_listing();
+    print_places();
     printf("values %" PRIu64 " area %" PRIu64 " copies %" PRIu64 "\n", sizes.values, sizes.area,
            sizes.copies);
 

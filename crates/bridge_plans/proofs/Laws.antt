@@ -8,11 +8,16 @@ use Rattle.signature.specs.declared.Outcome.{Outcome}
 use Rattle.signature.specs.Signature.{Signature}
 use Rattle.plan.specs.declared.Measured.{Measured}
 use Rattle.plan.specs.Plan.{planIn, planAnswer, measureOf}
+use Rattle.conventions.specs.Numbers.{codeOf}
+use Rattle.plan_words.specs.declared.Planned.{Planned}
+use Rattle.plan_words.specs.declared.ResultWords.{ResultWords}
+use Rattle.plan_words.specs.Planned.{plannedOf, resultWords}
 use Rattle.answers.specs.declared.Answer.{Answer}
 use Rattle.answers.specs.Answers.{yes}
 use Rattle.faults.specs.Faults.{faultAnswer}
 use Rattle.bridge_plans.specs.declared.Sizes.{Sizes}
-use Rattle.bridge_plans.specs.Plans.{sizesAnswer}
+use Rattle.bridge_plans.specs.declared.PlanAnswer.{PlanAnswer}
+use Rattle.bridge_plans.specs.Plans.{sizesAnswer, plannedAnswer}
 
 module _ (m : Measured) where
   pub accepted-sizes : (x : Reading Signature) → m ≡ measureOf (planAnswer x) → (n : ℕ) → m .outcome ≡ Outcome.Accepted n →
@@ -29,3 +34,49 @@ module _ (m : Measured) where
       let same : f ≡ g = cc (ap (λ (y : Measured). y .outcome) e) in
       let words : a ≡ faultAnswer g = is ∙ ap faultAnswer same in
       cc
+
+-- the same of a plan
+
+module _ (m : Planned) where
+  pub accepted-plan : (x : Reading Signature) → m ≡ plannedOf (planAnswer x) → (n : ℕ) → m .outcome ≡ Outcome.Accepted n →
+      (r : ResultWords) → r ≡ resultWords (m .result) → (code : ℕ) → code ≡ codeOf (m .convention) →
+      _≡_ {A = PlanAnswer}
+      (record {
+        answer = yes;
+        convention = code;
+        ellipsis = 0;
+        arguments = m .count;
+        values = m .values;
+        area = m .area;
+        copies = m .copies;
+        result = r .kind;
+        «result_gpr» = r .gpr;
+        «result_gprs» = r .gprs;
+        «result_fpr» = r .fpr;
+        «result_fprs» = r .fprs;
+      })
+      (plannedAnswer x)
+  unfolding plannedAnswer planAnswer planIn
+  accepted-plan (got g next k) e n q r words code is = rw (words, is, e)
+  accepted-plan (no f) e n q r words code is = let z : _≡_ {A = ℕ} 0 1 = cc (ap (λ (y : Planned). y .outcome) e) in absurd (omega arith)
+
+  pub refused-plan : (x : Reading Signature) → m ≡ plannedOf (planAnswer x) → (f : Fault) → m .outcome ≡ Outcome.Refused f → (a : Answer) → a ≡ faultAnswer f →
+      _≡_ {A = PlanAnswer}
+      (record {
+        answer = a;
+        convention = 0;
+        ellipsis = 0;
+        arguments = 0;
+        values = 0;
+        area = 0;
+        copies = 0;
+        result = 0;
+        «result_gpr» = 0;
+        «result_gprs» = 0;
+        «result_fpr» = 0;
+        «result_fprs» = 0;
+      })
+      (plannedAnswer x)
+  unfolding plannedAnswer planAnswer planIn
+  refused-plan (got g next k) e f q a is = let z : _≡_ {A = ℕ} 0 1 = cc (ap (λ (y : Planned). y .outcome) e) in absurd (omega arith)
+  refused-plan (no g) e f q a is = let same : f ≡ g = cc (ap (λ (y : Planned). y .outcome) e) in rw (is, same)

@@ -1,12 +1,16 @@
 -- The words of the answers on plans. Assumes nothing.
+use Rattle.conventions.specs.Numbers.{codeOf}
 use Rattle.items.specs.Reading.{Reading, got, no}
 use Rattle.signature.specs.Signature.{Signature}
 use Rattle.plan.specs.declared.Plan.{Plan}
 use Rattle.plan.specs.Plan.{planAnswer}
+use Rattle.plan_words.specs.declared.ResultWords.{ResultWords}
+use Rattle.plan_words.specs.Planned.{resultWords}
 use Rattle.answers.specs.declared.Answer.{Answer}
 use Rattle.answers.specs.Answers.{yes}
 use Rattle.faults.specs.Faults.{faultAnswer}
 use Rattle.bridge_plans.specs.declared.Sizes.{Sizes}
+use Rattle.bridge_plans.specs.declared.PlanAnswer.{PlanAnswer}
 
 -- of a plan: the sizes of the values, the area and the copies; a refused signature's are 0
 abbrev pub planSizes : Answer → Plan → Sizes
@@ -15,3 +19,38 @@ planSizes a p = record { answer = a; values = p .values; area = p .area; copies 
 unfoldable pub sizesAnswer : Reading Signature → Sizes
 sizesAnswer (got g next n) = planSizes yes (planAnswer (got g next n))
 sizesAnswer (no f) = record { answer = faultAnswer f; values = 0; area = 0; copies = 0 }
+
+-- of a plan without its arguments' places: what is known of the call, and its result's places in words; no signature has an ellipsis
+abbrev pub planWords : Answer → Plan → ResultWords → PlanAnswer
+planWords a p r = record {
+  answer = a;
+  convention = codeOf (p .convention);
+  ellipsis = 0;
+  arguments = p .count;
+  values = p .values;
+  area = p .area;
+  copies = p .copies;
+  result = r .kind;
+  «result_gpr» = r .gpr;
+  «result_gprs» = r .gprs;
+  «result_fpr» = r .fpr;
+  «result_fprs» = r .fprs;
+}
+
+-- a refused signature has no plan
+unfoldable pub plannedAnswer : Reading Signature → PlanAnswer
+plannedAnswer (got g next n) = planWords yes (planAnswer (got g next n)) (resultWords (planAnswer (got g next n) .result))
+plannedAnswer (no f) = record {
+  answer = faultAnswer f;
+  convention = 0;
+  ellipsis = 0;
+  arguments = 0;
+  values = 0;
+  area = 0;
+  copies = 0;
+  result = 0;
+  «result_gpr» = 0;
+  «result_gprs» = 0;
+  «result_fpr» = 0;
+  «result_fprs» = 0;
+}

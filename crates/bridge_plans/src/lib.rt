@@ -1,4 +1,4 @@
-// The surface for C and Rust on plans: the sizes of a call and its listing. It is an object of its own beside that on signatures, so that each
+// The surface for C and Rust on plans: the sizes of a call, its whole plan and its listing. It is an object of its own beside that on signatures, so that each
 // has the planner's code where it is used.
 use answers::Answer;
 use signature::Outcome;
@@ -7,7 +7,8 @@ ghost use lib.ListN.{length};
 ghost use Rattle.listing.specs.Text.{listingOf};
 ghost use Rattle.listing.specs.Writing.{printed};
 ghost use Rattle.signature.specs.Read.{signatureOf};
-ghost use Rattle.bridge_plans.specs.Plans.{sizesAnswer};
+ghost use Rattle.plan_words.specs.Entries.{entriesOf, tabled};
+ghost use Rattle.bridge_plans.specs.Plans.{sizesAnswer, plannedAnswer};
 
 // `fz_sizes`: the bytes that the values, the parameter area and the copies of a call take.
 #[repr(C)]
@@ -16,6 +17,24 @@ pub struct Sizes {
     pub values: u64,
     pub area: u64,
     pub copies: u64,
+}
+
+// `fz_planned`: the plan without its arguments' places. `result` is 0 for none, 1 in registers, 2 in memory, and after it come the
+// result's registers, or the one with its address. No signature has an ellipsis.
+#[repr(C)]
+pub struct PlanAnswer {
+    pub answer: Answer,
+    pub convention: u64,
+    pub ellipsis: u64,
+    pub arguments: u64,
+    pub values: u64,
+    pub area: u64,
+    pub copies: u64,
+    pub result: u64,
+    pub result_gpr: u64,
+    pub result_gprs: u64,
+    pub result_fpr: u64,
+    pub result_fprs: u64,
 }
 
 #[no_mangle]
@@ -44,6 +63,54 @@ pub extern "C" fn fz_measure(sig: &[u8]) -> Sizes
             area: 0,
             copies: 0,
         },
+    }
+}
+
+// The plan, with an entry for each argument at the head of the table where there is room for all of them.
+#[no_mangle]
+pub extern "C" fn fz_plan(sig: &[u8], places: &mut [u64]) -> PlanAnswer
+    ensures { λ r. ⌜ (r ≡ plannedAnswer (signatureOf (now (sig .entry)))) × (now (places .exit) ≡ tabled (now (places .entry)) (entriesOf (signatureOf (now (sig .entry))))) ⌝ }
+{
+    let p = plan_words::plan_words(sig, places);
+    let outcome = p.outcome;
+    match outcome {
+        Outcome::Refused(fault) => PlanAnswer {
+            answer: faults::fault_answer(fault),
+            convention: 0,
+            ellipsis: 0,
+            arguments: 0,
+            values: 0,
+            area: 0,
+            copies: 0,
+            result: 0,
+            result_gpr: 0,
+            result_gprs: 0,
+            result_fpr: 0,
+            result_fprs: 0,
+        },
+        Outcome::Accepted(_) => {
+            let convention = p.convention;
+            let result = p.result;
+            let r = plan_words::result_words(result);
+            PlanAnswer {
+                answer: Answer {
+                    number: 0,
+                    place: 0,
+                    items: 0,
+                },
+                convention: conventions::code_of(convention),
+                ellipsis: 0,
+                arguments: p.count as u64,
+                values: p.values as u64,
+                area: p.area as u64,
+                copies: p.copies as u64,
+                result: r.kind,
+                result_gpr: r.gpr,
+                result_gprs: r.gprs,
+                result_fpr: r.fpr,
+                result_fprs: r.fprs,
+            }
+        }
     }
 }
 

@@ -12,7 +12,6 @@ use Rattle.words.specs.Basics.{pick}
 use Rattle.conventions.specs.declared.Convention.{Convention}
 use Rattle.types.specs.Trees.{Tree, Trees, none, _▸_, typeOf, countOf}
 use Rattle.items.specs.declared.Refusal.{Refusal}
-use Rattle.items.specs.declared.Fault.{Fault}
 use Rattle.items.specs.declared.Body.{Body}
 use Rattle.items.specs.Reading.{Reading, fault, got, no, inBody}
 use Rattle.items.specs.Read.{lengthAt, bodyAt, sequence, itemAt}
@@ -22,16 +21,13 @@ use Rattle.items.proofs.Sound.{by-pick, by-choose, by-then, by-next, Got, body-
 use Rattle.signature.specs.Limits.{maxLength, maxArguments}
 use Rattle.conventions.specs.declared.ConventionCode.{ConventionCode}
 use Rattle.conventions.specs.Numbers.{conventionCode}
-use Rattle.signature.specs.declared.Outcome.{Outcome}
-use Rattle.signature.specs.declared.SignatureRead.{SignatureRead}
 use Rattle.signature.specs.Signature.{Result, Signature}
 use Rattle.signature.specs.Read.{conventionBy, conventionAt, resultIn, resultAt, argumentsIn, argumentsAt, afterResult, afterConvention, signatureOf}
 use Rattle.signature.specs.Encode.{encodeResult}
-use Rattle.signature.specs.Answer.{signatureAnswer}
 use Rattle.signature.proofs.Sound.{convention-read, result-read}
 use Rattle.reader.specs.declared.ArgumentRead.{ArgumentRead}
 use Rattle.reader.specs.Step.{bodyIn, bodyStart, bodyEnd, typeIn}
-use Rattle.reader.specs.Argument.{argumentIn, argumentAnswer, argumentsStart, steppedTo}
+use Rattle.reader.specs.Argument.{argumentIn, argumentsStart, steppedTo}
 use Rattle.reader.proofs.Laws.{end-within, body-here, start-found, end-found}
 
 -- readings: what was got is what the reading is, and what follows from what holds of it
@@ -47,11 +43,6 @@ got-map P Q (no r) f p = tt
 -- one argument of types in order
 
 module _ (c : Convention) (start : ℕ) where
-  pub argument-none : (ts : Trees) (index : ℕ) → countOf ts ≤ index → argumentIn c start index ts ≡ ArgumentRead.Missing
-  unfolding argumentIn countOf
-  argument-none none index h = refl
-  argument-none (ts ▸ t) index h = rw (ne-eqb index (countOf ts) (λ q. omega arith)) (argument-none ts index (omega arith))
-
   argument-last : (ts : Trees) (t : Tree) → argumentIn c start (countOf ts) (ts ▸ t) ≡ ArgumentRead.Argument (typeOf c t) (start + length (encodeTrees ts))
   unfolding argumentIn
   argument-last ts t = rw (eq-eqb (countOf ts) (countOf ts) refl)
@@ -236,32 +227,3 @@ arguments-stepped s g p index h =
 pub arguments-in-order : (s : List ℕ) (g : Signature) (next n : ℕ) → signatureOf s ≡ got g next n → (index : ℕ) → index < countOf (g .arguments) →
     steppedTo (g .convention) s (argumentsStart s) (length s) index ≡ argumentIn (g .convention) (10 + length (encodeResult (g .result))) index (g .arguments)
 arguments-in-order s g next n q index h = arguments-stepped s g (rw q at (signature-placed s)) index h
-
--- what the whole reading's answer says of one argument
-
-module _ (s : List ℕ) (index : ℕ) (x : SignatureRead) (found : x ≡ signatureAnswer (signatureOf s)) where
-  pub argument-refused : (r : Fault) → x .outcome ≡ Outcome.Refused r → ArgumentRead.Refused r ≡ argumentAnswer index (signatureOf s)
-  argument-refused r q = go (signatureOf s) found
-    where
-      go : (y : Reading Signature) → x ≡ signatureAnswer y → ArgumentRead.Refused r ≡ argumentAnswer index y
-      go (got g next n) f = let e = sym q ∙ ap (λ (z : SignatureRead). z .outcome) f in let z : _≡_ {A = ℕ} 0 1 = cc in absurd (omega arith)
-      go (no r′) f = let e = sym q ∙ ap (λ (z : SignatureRead). z .outcome) f in cc
-
-  module _ (items : ℕ) (q : x .outcome ≡ Outcome.Accepted items) where
-    pub argument-missing : x .count ≤ index → ArgumentRead.Missing ≡ argumentAnswer index (signatureOf s)
-    argument-missing h = go (signatureOf s) found
-      where
-        go : (y : Reading Signature) → x ≡ signatureAnswer y → ArgumentRead.Missing ≡ argumentAnswer index y
-        go (got g next n) f =
-            let count = ap (λ (z : SignatureRead). z .count) f in
-            sym (argument-none (g .convention) (10 + length (encodeResult (g .result))) (g .arguments) index (omega arith))
-        go (no r) f = let e = sym q ∙ ap (λ (z : SignatureRead). z .outcome) f in let z : _≡_ {A = ℕ} 0 1 = cc in absurd (omega arith)
-
-    pub argument-stepped : index < x .count → (start : ℕ) → start ≡ argumentsStart s → steppedTo (x .convention) s start (length s) index ≡ argumentAnswer index (signatureOf s)
-    argument-stepped h start from = rw from (go (signatureOf s) (signature-placed s) found)
-      where
-        go : (y : Reading Signature) → Got (λ g next n. Placed s g) y → x ≡ signatureAnswer y → steppedTo (x .convention) s (argumentsStart s) (length s) index ≡ argumentAnswer index y
-        go (got g next n) p f =
-            let count = ap (λ (z : SignatureRead). z .count) f in
-            ap (λ (z : SignatureRead). steppedTo (z .convention) s (argumentsStart s) (length s) index) f ∙ arguments-stepped s g p index (omega arith)
-        go (no r) p f = let e = sym q ∙ ap (λ (z : SignatureRead). z .outcome) f in let z : _≡_ {A = ℕ} 0 1 = cc in absurd (omega arith)

@@ -1,29 +1,23 @@
 -- The stepping definitions, a law for each way through them. Assumes nothing.
-use Prim.Native.Nat.{ℕ, zero, suc, _+_, _-_, _≤_, _<_}
-use mathlib.Core.Path.{_≡_, refl, sym, ap, _∙_}
+use Prim.Native.Nat.{ℕ, _+_, _-_, _≤_, _<_}
+use mathlib.Core.Path.{_≡_, refl, sym, _∙_}
 use mathlib.Core.List.{List}
 use lib.ListN.{length, getD}
 use lib.Dec.{ltb}
-use native.Mathlib.Numerals.{sub-one}
 use native.Mathlib.Omega.{arith}
 use borrow.Author.Tests.{lt-ltb, le-ltb, ltb-false}
 use Rattle.conventions.specs.declared.Convention.{Convention}
-use Rattle.types.specs.declared.ValueType.{ValueType}
-use Rattle.types.specs.Trees.{Tree, typeOf}
 use Rattle.items.specs.declared.Refusal.{Refusal}
-use Rattle.items.specs.declared.Fault.{Fault}
 use Rattle.items.specs.declared.Body.{Body}
 use Rattle.items.specs.declared.ItemRead.{ItemRead}
-use Rattle.items.specs.Reading.{fault, got, no}
+use Rattle.items.specs.Reading.{fault}
 use Rattle.items.specs.Read.{bodyAt, itemAt}
 use Rattle.items.specs.Answer.{itemAnswer}
-use Rattle.items.proofs.Laws.{body-short, item-refused, item-got, item-no}
+use Rattle.items.proofs.Laws.{body-short, item-refused}
 use Rattle.items.proofs.Sound.{by-pick, body-framed}
 use Rattle.signature.specs.Limits.{maxLength}
 use Rattle.reader.specs.declared.Header.{Header}
-use Rattle.reader.specs.declared.ArgumentRead.{ArgumentRead}
 use Rattle.reader.specs.Step.{endIn, leftAt, bodyIn, headerIn, bodyStart, bodyEnd, typeIn}
-use Rattle.reader.specs.Argument.{steppedTo}
 
 -- the end
 
@@ -122,33 +116,3 @@ module _ (s : List ℕ) (at e : ℕ) where
       pub end-refused : at ≡ bodyEnd s at e
       unfolding bodyEnd
       end-refused = rw (sym found ∙ q)
-
--- what stepping gives from a place on
-
-module _ (c : Convention) (s : List ℕ) (e : ℕ) (all : ArgumentRead) (at k : ℕ) (rest : all ≡ steppedTo c s at e k) (x : ItemRead)
-    (found : x ≡ itemAnswer c (typeIn c s at e)) where
-  pub step-no : (f : Fault) → x ≡ ItemRead.Refused f → ArgumentRead.Refused f ≡ all
-  unfolding steppedTo
-  step-no f q = sym (rest ∙ go k (item-no c (typeIn c s at e) f (sym q ∙ found)))
-    where
-      go : (j : ℕ) → typeIn c s at e ≡ no f → steppedTo c s at e j ≡ ArgumentRead.Refused f
-      go zero read = rw read
-      go (suc j) read = rw read
-
-  module _ (t : ValueType) (next n : ℕ) (q : x ≡ ItemRead.Item t next n) where
-    pub step-on : 0 < k → all ≡ steppedTo c s next e (k - 1)
-    unfolding steppedTo
-    step-on some = let (tree, read, same) = item-got c (typeIn c s at e) t next n (sym q ∙ found) in rest ∙ go k some tree read
-      where
-        go : (j : ℕ) → 0 < j → (tree : Tree) → typeIn c s at e ≡ got tree next n → steppedTo c s at e j ≡ steppedTo c s next e (j - 1)
-        go zero none tree read = absurd (omega arith)
-        go (suc j) some tree read = rw (sub-one, read)
-
-    pub step-here : k ≡ 0 → ArgumentRead.Argument t at ≡ all
-    unfolding steppedTo
-    step-here last =
-        let (tree, read, same) = item-got c (typeIn c s at e) t next n (sym q ∙ found) in
-        sym (rest ∙ go k last tree read ∙ ap (λ (u : ValueType). ArgumentRead.Argument u at) (sym same))
-      where
-        go : (j : ℕ) → j ≡ 0 → (tree : Tree) → typeIn c s at e ≡ got tree next n → steppedTo c s at e j ≡ ArgumentRead.Argument (typeOf c tree) at
-        go j last tree read = rw (last, read)

@@ -6,14 +6,17 @@ use items::Body;
 use items::Fault;
 use items::ItemRead;
 use items::Refusal;
-use signature::Outcome;
+use signature::HeadRead;
+use signature::MAX_ARGUMENTS;
 use types::ValueType;
 ghost use mathlib.Core.Path.{_≡_};
+ghost use Prim.Native.Nat.{_^_, _≤_};
+ghost use lib.ListN.{length};
 ghost use Rattle.items.specs.Answer.{itemAnswer};
-ghost use Rattle.signature.specs.Read.{signatureOf};
+ghost use Rattle.signature.specs.Read.{argumentsIn, signatureOf};
 ghost use Rattle.reader.specs.Step.{endIn, leftAt, bodyIn, headerIn, bodyStart, bodyEnd, typeIn, placeAfter};
 ghost use Rattle.reader.specs.Reader.{started, skipped, entered, advanced};
-ghost use Rattle.reader.specs.Argument.{argumentAnswer, argumentsStart, steppedTo};
+ghost use Rattle.reader.specs.Argument.{argumentAnswer, argumentWith, notedAs};
 
 // The bytes, the place of the next item, and the end of the part that is stepped through. Any numbers are allowed.
 pub struct Reader<'a> {
@@ -201,61 +204,86 @@ impl<'a> Reader<'a> {
     }
 }
 
-// Where the arguments' first item stands: past two items and into the third.
-fn arguments_start(s: &[u8]) -> usize
-    ensures { λ r. ⌜ r ≡ argumentsStart (now (s .entry)) ⌝ }
+// What is known of argument number `index` after argument number `count`, of this type and at this place.
+fn noted(
+    found: ArgumentRead,
+    index: usize,
+    count: usize,
+    ty: ValueType,
+    place: usize,
+) -> ArgumentRead
+    ensures { λ r. ⌜ r ≡ notedAs found index count ty place ⌝ }
 {
-    Reader::new(s).skip().skip().enter().at
+    if index == count {
+        return ArgumentRead::Argument { ty, place };
+    }
+    found
 }
 
-// The type item at `at`, by a reader of the part up to `end`.
-fn type_of_part(s: &[u8], at: usize, end: usize, c: Convention) -> ItemRead
-    ensures { λ r. ⌜ r ≡ itemAnswer c (typeIn c (now (s .entry)) at end) ⌝ }
+// The same from the arguments on, which stand from `at` to `end`; `earlier` items came before theirs. All are read: a refused signature has no
+// arguments.
+fn argument_from(
+    s: &[u8],
+    c: Convention,
+    at: usize,
+    end: usize,
+    earlier: usize,
+    index: usize,
+) -> ArgumentRead
+    requires { ⌜ (at ≤ end) × (end ≤ length (now s)) × (end ≤ 2 ^ 16) × (earlier ≤ 2 ^ 16) ⌝ }
+    ensures { λ r. ⌜ r ≡ argumentWith c at earlier (length (now (s .entry))) index (argumentsIn c (now (s .entry)) at end) ⌝ }
 {
-    Reader {
-        signature: s,
-        at,
-        end,
-    }.type_item(c)
-}
-
-// The type item after `count` others, from `at` on.
-fn step_to(s: &[u8], at: usize, end: usize, c: Convention, count: usize) -> ArgumentRead
-    ensures { λ r. ⌜ r ≡ steppedTo c (now (s .entry)) at end count ⌝ }
-{
-    let mut place = at;
-    let mut left = count;
-    while 0 < left {
-        match type_of_part(s, place, end, c) {
-            ItemRead::Item { ty, next, items } => {
-                place = next;
-                left = left - 1;
+    let mut found = ArgumentRead::Missing;
+    let mut count: usize = 0;
+    let mut next = at;
+    let mut items: usize = 1;
+    while next < end {
+        if count == MAX_ARGUMENTS {
+            return ArgumentRead::Refused(Fault {
+                reason: Refusal::TooManyArguments,
+                place: next,
+                passed: earlier + items,
+            });
+        }
+        match nested_items::read_item(s, c, next, end, 8) {
+            ItemRead::Item {
+                ty,
+                next: after,
+                items: more,
+            } => {
+                found = noted(found, index, count, ty, next);
+                count = count + 1;
+                next = after;
+                items = items + more;
             }
             ItemRead::Refused(fault) => {
-                return ArgumentRead::Refused(fault);
+                return ArgumentRead::Refused(items::later_by(earlier + items, fault));
             }
         }
     }
-    match type_of_part(s, place, end, c) {
-        ItemRead::Item { ty, next, items } => ArgumentRead::Argument { ty, place },
-        ItemRead::Refused(fault) => ArgumentRead::Refused(fault),
+    let counted = earlier + items;
+    if next < s.len() {
+        return ArgumentRead::Refused(Fault {
+            reason: Refusal::TrailingBytes,
+            place: next,
+            passed: counted,
+        });
     }
+    found
 }
 
 // Argument number `index` of any bytes, counted from 0: its type, and where its item stands.
 pub fn argument_at(s: &[u8], index: usize) -> ArgumentRead
     ensures { λ r. ⌜ r ≡ argumentAnswer index (signatureOf (now (s .entry))) ⌝ }
 {
-    let whole = whole_signature::read_signature(s);
-    let outcome = whole.outcome;
-    match outcome {
-        Outcome::Refused(fault) => ArgumentRead::Refused(fault),
-        Outcome::Accepted(items) => {
-            if whole.count <= index {
-                return ArgumentRead::Missing;
-            }
-            let c = whole.convention;
-            step_to(s, arguments_start(s), s.len(), c, index)
-        }
+    match signature_head::read_head(s) {
+        HeadRead::Refused(fault) => ArgumentRead::Refused(fault),
+        HeadRead::Head {
+            convention,
+            result,
+            at,
+            end,
+            earlier,
+        } => argument_from(s, convention, at, end, earlier, index),
     }
 }

@@ -6,7 +6,7 @@
 
 #![forbid(unsafe_code)]
 
-use flakuzhen::Refusal;
+use flakuzhen::{Plan, Refusal};
 
 const PPC64: u8 = 1;
 const Z: u8 = 2;
@@ -40,6 +40,7 @@ fn print_call(convention: u8) -> Result<(), Refusal> {
     let signature = signature(convention);
     let sizes = flakuzhen::measure(&signature)?;
     print!("{}", flakuzhen::listing(&signature));
+    print_places(&flakuzhen::plan(&signature)?);
     println!(
         "values {} area {} copies {}",
         sizes.values, sizes.area, sizes.copies
@@ -83,6 +84,26 @@ fn print_call(convention: u8) -> Result<(), Refusal> {
         word(&back[24..]) as i16
     );
     Ok(())
+}
+
+/// Where each argument stands: its type in the signature, its bytes of the values, and its places.
+fn print_places(plan: &Plan) {
+    for (number, argument) in plan.into_iter().enumerate() {
+        print!(
+            "argument {number} type @{} values {:?}",
+            argument.item, argument.value
+        );
+        for register in argument.registers() {
+            print!(" {register}");
+        }
+        if !argument.home.is_empty() {
+            print!(" home {:?}", argument.home);
+        }
+        if let Some(copy) = &argument.copy {
+            print!(" copy {copy:?}");
+        }
+        println!();
+    }
 }
 
 fn print_registers(image: &[u8]) {

@@ -45,6 +45,7 @@ pub enum Operation {
     Read = 13,
     Home = 14,
     View = 15,
+    Plan = 16,
     /// No call: the state and the memory that the next calls of the frame machine find.
     SetMachine = 100,
     /// No call: changes of that state and that memory.
@@ -53,7 +54,7 @@ pub enum Operation {
 
 impl Operation {
     /// Those that call the library.
-    pub const CALLS: [Operation; 15] = [
+    pub const CALLS: [Operation; 16] = [
         Operation::ReadSignature,
         Operation::Measure,
         Operation::Listing,
@@ -69,6 +70,7 @@ impl Operation {
         Operation::Read,
         Operation::Home,
         Operation::View,
+        Operation::Plan,
     ];
 
     fn is_call(self) -> bool {

@@ -1,12 +1,13 @@
-//! Planning compared: the sizes, and the listing byte for byte, in buffers of every kind of
-//! length.
+//! Planning compared: the sizes, the whole plan word for word, and the listing byte for byte, in
+//! tables and buffers of every kind of length.
 
 use crate::encode::{self, INTEGERS};
 use crate::generate;
 use crate::random::Random;
 use crate::signatures::{hex, refused, ACCEPTED};
 use crate::Difference;
-use flakuzhen::surface::plans::{self as surface, Sizes};
+use flakuzhen::surface::plans::{self as surface, Planned, Sizes};
+use reference::table::{self, Table, ENTRY};
 use reference::{
     compact, float_equivalent, ArgumentPlan, Convention, Float, Integer, Place, Plan, ResultPlan,
     Signature, Type,
@@ -139,8 +140,48 @@ pub(crate) fn expected_sizes(plan: &Result<Plan, reference::Refusal>) -> Sizes {
     }
 }
 
-/// Compares the two on one signature. `longer` is by how much the longest buffer for the listing
-/// is longer than it.
+pub(crate) fn expected_plan(table: &Result<Table, reference::Refusal>) -> Planned {
+    let (answer, head) = match table {
+        Ok(table) => (ACCEPTED, table.head),
+        Err(refusal) => (refused(refusal), [0; 11]),
+    };
+    let [convention, ellipsis, arguments, values, area, copies, result, result_gpr, result_gprs, result_fpr, result_fprs] =
+        head;
+    Planned {
+        answer,
+        convention,
+        ellipsis,
+        arguments,
+        values,
+        area,
+        copies,
+        result,
+        result_gpr,
+        result_gprs,
+        result_fpr,
+        result_fprs,
+    }
+}
+
+/// What a table holds before: no word of it can be one of an entry.
+pub(crate) fn word_before(at: usize) -> u64 {
+    !(at as u64)
+}
+
+/// What a table of this many words holds after.
+pub(crate) fn expected_words(table: &Result<Table, reference::Refusal>, room: usize) -> Vec<u64> {
+    let mut words: Vec<u64> = (0..room).map(word_before).collect();
+    if let Ok(table) = table {
+        let entries = table.entries.concat();
+        if let Some(head) = words.get_mut(..entries.len()) {
+            head.copy_from_slice(&entries);
+        }
+    }
+    words
+}
+
+/// Compares the two on one signature. `longer` is by how much the longest buffer for the listing,
+/// and the longest table, is longer than it.
 pub fn compare(bytes: &[u8], longer: usize, seen: &mut Histogram) -> Result<(), Difference> {
     let differ = |told: String| {
         Err(Difference(format!(
@@ -167,6 +208,7 @@ pub fn compare(bytes: &[u8], longer: usize, seen: &mut Histogram) -> Result<(), 
             "the second program's planners differ: {plan:?}\nand the compact one {compact:?}"
         ));
     }
+    compare_tables(bytes, longer).or_else(differ)?;
     let listing = match &plan {
         Ok(plan) => reference::listing_of(plan),
         Err(refusal) => reference::refusal_line(refusal),
@@ -179,6 +221,39 @@ pub fn compare(bytes: &[u8], longer: usize, seen: &mut Histogram) -> Result<(), 
     seen.longest = seen.longest.max(listing.len());
     if let (Ok(signature), Ok(plan)) = (&signature, &plan) {
         count_cases(signature, plan, seen);
+    }
+    Ok(())
+}
+
+/// Holds the library to the whole plan in tables without room, with one word too few, with exactly
+/// enough and with more; behind each lie words that are not lent. The second program's compact one
+/// is held to it too.
+fn compare_tables(bytes: &[u8], longer: usize) -> Result<(), String> {
+    let table = table::table(bytes);
+    let expected = expected_plan(&table);
+    let length = ENTRY * expected.arguments as usize;
+    for room in [0, length.saturating_sub(1), length, length + longer] {
+        let mut after = expected_words(&table, room);
+        after.extend((room..room + NOT_LENT).map(word_before));
+        let mut words: Vec<u64> = (0..room + NOT_LENT).map(word_before).collect();
+        let given = surface::plan(bytes, &mut words[..room]);
+        if given != expected {
+            return Err(format!(
+                "with room for {room} words the library plans {given:?}\nthe second program {expected:?}"
+            ));
+        }
+        if words != after {
+            return Err(format!(
+                "with room for {room} words the library leaves\n{words:?}\nand not\n{after:?}"
+            ));
+        }
+        let mut words: Vec<u64> = (0..room + NOT_LENT).map(word_before).collect();
+        let compact = compact::table(bytes, &mut words[..room]);
+        if compact != table.as_ref().map(|table| table.head).map_err(|&no| no) || words != after {
+            return Err(format!(
+                "with room for {room} words the compact planner gives {compact:?} and\n{words:?}\nand not\n{after:?}"
+            ));
+        }
     }
     Ok(())
 }

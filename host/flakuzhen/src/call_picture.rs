@@ -1,114 +1,49 @@
 //! A call drawn as tables: each register and each doubleword that its arguments have, and which
 //! argument has each byte.
 //!
-//! Which registers and doublewords an argument has is read from the library's listing. Which of
-//! their bytes are the value's own and which only fill up is asked of the library too, by filling
-//! the call with different values: a byte that follows the values is a value's, one that is written
-//! and does not follow them fills up. So there is no rule here that could differ from the proved
-//! ones.
+//! Which registers, doublewords and copies an argument has is the library's plan. Where its value
+//! stands in them, and what fills up, follows from its size and from whether it is a struct: the
+//! tests hold that to what the library's filling writes.
 
-use flakuzhen::{fill, listing, measure, Refusal, Sizes};
+use flakuzhen::{listing, plan, Argument, Convention, Plan, Register, ResultPlace};
+use std::ops::Range;
 
-/// Bytes of the image of the registers.
-const IMAGE: usize = 512;
-/// Any address that copies may have.
-const COPY_BASE: u64 = 0x1000;
+/// A type item's tag.
+const STRUCT: u8 = 0x12;
+/// On Z offsets count from the stack pointer, and the area starts this far above it.
+const Z_AREA: usize = 160;
 
 /// The picture of a call, or for a refused signature the line that says so.
 pub fn draw(signature: &[u8]) -> String {
-    match Call::of(signature) {
-        Ok(call) => call.draw(),
+    match plan(signature) {
+        Ok(plan) => Call { plan, signature }.draw(),
         Err(_) => listing(signature),
     }
 }
 
-/// An argument, as its line of the listing has it.
-struct Argument {
-    registers: Vec<String>,
-    /// Of its first doubleword, where the listing says it.
-    offset: Option<usize>,
-    by_reference: bool,
+struct Call<'a> {
+    plan: Plan,
+    signature: &'a [u8],
 }
 
-impl Argument {
-    fn of(line: &str) -> Argument {
-        let mut argument = Argument {
-            registers: Vec::new(),
-            offset: None,
-            by_reference: false,
-        };
-        // after the argument's number
-        for word in line.split(' ').skip(1) {
-            match (word, word.strip_prefix('@')) {
-                (_, Some(offset)) => argument.offset = offset.parse().ok(),
-                ("ref", _) => argument.by_reference = true,
-                ("mem", _) => {}
-                _ => argument.registers.push(word.to_string()),
-            }
-        }
-        argument
-    }
-}
-
-/// What a fill has left in its three buffers, or what each byte of it is.
-struct Buffers<T> {
-    image: Vec<T>,
-    area: Vec<T>,
-    copies: Vec<T>,
-}
-
-#[derive(Clone, Copy, PartialEq, Eq)]
-enum Byte {
-    Untouched,
-    Padding,
-    Value,
-}
-
-struct Call {
-    sizes: Sizes,
-    /// The listing's first and last lines.
-    title: String,
-    result: String,
-    arguments: Vec<Argument>,
-    /// Of a call whose values are zeros.
-    zeros: Buffers<u8>,
-    bytes: Buffers<Byte>,
-}
-
-impl Call {
-    fn of(signature: &[u8]) -> Result<Call, Refusal> {
-        let sizes = measure(signature)?;
-        let text = listing(signature);
-        let lines: Vec<&str> = text.lines().collect();
-        let zeros = filled(signature, &sizes, 0, 0)?;
-        // no sign is set by these values, so the bytes that extend an integer stay as they are
-        let values = filled(signature, &sizes, 0x7f, 0)?;
-        let ground = filled(signature, &sizes, 0, 0xff)?;
-        let bytes = Buffers {
-            image: kinds(&zeros.image, &values.image, &ground.image),
-            area: kinds(&zeros.area, &values.area, &ground.area),
-            copies: kinds(&zeros.copies, &values.copies, &ground.copies),
-        };
-        Ok(Call {
-            sizes,
-            title: lines[0].to_string(),
-            result: lines[lines.len() - 1].to_string(),
-            arguments: lines[1..lines.len() - 1]
-                .iter()
-                .map(|line| Argument::of(line))
-                .collect(),
-            zeros,
-            bytes,
-        })
-    }
-
+impl Call<'_> {
     fn draw(&self) -> String {
+        let Plan {
+            convention,
+            sizes,
+            arguments,
+            ..
+        } = &self.plan;
         let tables = [
             ("registers", self.register_rows()),
             ("area", self.area_rows()),
             ("copies", self.copy_rows()),
         ];
-        let mut text = format!("{}\n", self.title);
+        let mut text = format!(
+            "{convention} args {} area {}\n",
+            arguments.len(),
+            sizes.area
+        );
         for (name, rows) in tables.iter().filter(|(_, rows)| !rows.is_empty()) {
             let numbers = (0..8).map(|number| number.to_string()).collect();
             text.push('\n');
@@ -117,112 +52,112 @@ impl Call {
                 text.push_str(&row.line());
             }
         }
-        text.push_str(&format!("\n{}\n", self.result));
+        text.push_str(&format!("\nresult {}\n", self.result()));
         let rows = tables.iter().flat_map(|(_, rows)| rows);
         text + &legend(rows.flat_map(|row| &row.marks).collect())
     }
 
+    fn result(&self) -> String {
+        match &self.plan.result {
+            ResultPlace::None => "none".to_string(),
+            ResultPlace::Registers(registers) => {
+                let names: Vec<String> = registers.iter().map(Register::to_string).collect();
+                names.join(" ")
+            }
+            ResultPlace::Hidden(register) => format!("hidden {register}"),
+        }
+    }
+
     /// The register with the address for the result, if there is one.
-    fn hidden(&self) -> Option<&str> {
-        self.result.strip_prefix("result hidden ")
+    fn hidden(&self) -> Option<Register> {
+        match self.plan.result {
+            ResultPlace::Hidden(register) => Some(register),
+            _ => None,
+        }
     }
 
     fn register_rows(&self) -> Vec<Row> {
-        let mut rows: Vec<(usize, Row)> = Vec::new();
+        let mut rows: Vec<(Register, Row)> = Vec::new();
         if let Some(register) = self.hidden() {
-            rows.push((place_in_image(register), Row::new(register, repeated("h"))));
+            rows.push((register, Row::new(&register.to_string(), repeated("h"))));
         }
-        for (number, argument) in self.arguments.iter().enumerate() {
-            for register in &argument.registers {
-                let place = place_in_image(register);
-                let marks = self.marks(number, &self.bytes.image[place..place + 8]);
-                rows.push((place, Row::new(register, marks)));
+        for (number, argument) in self.plan.arguments.iter().enumerate() {
+            for (at, register) in argument.registers().enumerate() {
+                let marks = self.marks(number, argument, 8 * at);
+                rows.push((register, Row::new(&register.to_string(), marks)));
             }
         }
-        rows.sort_by_key(|&(place, _)| place);
+        // general registers before floating ones
+        rows.sort_by_key(|&(register, _)| register);
         rows.into_iter().map(|(_, row)| row).collect()
     }
 
-    /// The offset that the listing gives to the area's first byte. On Z offsets count from the
-    /// stack pointer, and what lies in memory there starts with the area.
-    fn first_offset(&self) -> usize {
-        let in_memory = |argument: &&Argument| argument.registers.is_empty();
-        let first = self.arguments.iter().filter(in_memory);
-        match self.title.starts_with("Z ") {
-            true => first.filter_map(|argument| argument.offset).min(),
-            false => None,
-        }
-        .unwrap_or(0)
-    }
-
     fn area_rows(&self) -> Vec<Row> {
-        let first = self.first_offset();
-        let doublewords = (0..self.sizes.area as usize).step_by(8);
-        doublewords
-            .map(|place| self.area_row(place, first + place))
-            .collect()
+        let doublewords = (0..self.plan.sizes.area as usize).step_by(8);
+        doublewords.map(|place| self.area_row(place)).collect()
     }
 
-    fn area_row(&self, place: usize, offset: usize) -> Row {
-        let label = format!("@{offset}");
-        // the last argument that starts here or before
-        let starts = |argument: &Argument| argument.offset.filter(|&start| start <= offset);
-        let owner = self
-            .arguments
-            .iter()
-            .enumerate()
-            .rev()
-            .find_map(|(number, argument)| Some((number, argument, starts(argument)?)));
-        let Some((number, argument, start)) = owner else {
+    fn area_row(&self, place: usize) -> Row {
+        let first = match self.plan.convention {
+            Convention::Ppc64 => 0,
+            Convention::Z => Z_AREA,
+        };
+        let label = format!("@{}", first + place);
+        let mut arguments = self.plan.arguments.iter().enumerate();
+        let owner = arguments.find(|(_, argument)| argument.home.contains(&place));
+        let Some((number, argument)) = owner else {
             let hidden = self.hidden().filter(|_| place == 0);
             let note = hidden.map(|name| format!("h is in {name}"));
             return Row::new(&label, repeated("")).noted(note);
         };
-        let marks = self.marks(number, &self.bytes.area[place..place + 8]);
-        let register = argument.registers.get((offset - start) / 8);
+        let at = place - argument.home.start;
+        if argument.memory.contains(&place) {
+            return Row::new(&label, self.marks(number, argument, at));
+        }
+        let register = argument.registers().nth(at / 8);
         let note = register.map(|name| format!("{number} is in {name}"));
-        Row::new(&label, marks).noted(note)
+        Row::new(&label, repeated("")).noted(note)
     }
 
-    /// Copies start where the addresses in their arguments' slots point.
     fn copy_rows(&self) -> Vec<Row> {
-        let mut starts: Vec<(usize, usize)> = Vec::new();
-        for (number, argument) in self.arguments.iter().enumerate() {
-            if argument.by_reference {
-                let address = u64::from_be_bytes(self.slot(argument));
-                starts.push(((address - COPY_BASE) as usize, number));
-            }
-        }
         let mut rows = Vec::new();
-        for place in (0..self.bytes.copies.len()).step_by(8) {
-            let end = self.bytes.copies.len().min(place + 8);
-            let owner = starts.iter().rev().find(|&&(start, _)| start <= place);
-            let marks = owner.map(|&(_, number)| {
-                value_marks(&number.to_string(), &self.bytes.copies[place..end])
+        for place in (0..self.plan.sizes.copies as usize).step_by(8) {
+            let mut arguments = self.plan.arguments.iter().enumerate();
+            let marks = arguments.find_map(|(number, argument)| {
+                let copy = argument.copy.clone().filter(|copy| copy.contains(&place))?;
+                Some(vec![number.to_string(); copy.end.min(place + 8) - place])
             });
             rows.push(Row::new(&format!("@{place}"), marks.unwrap_or_default()));
         }
         rows
     }
 
-    /// The 8 bytes of an argument that has no more.
-    fn slot(&self, argument: &Argument) -> [u8; 8] {
-        let (buffer, place) = match argument.registers.first() {
-            Some(register) => (&self.zeros.image, place_in_image(register)),
-            None => {
-                let offset = argument.offset.unwrap_or(0);
-                (&self.zeros.area, offset - self.first_offset())
-            }
+    /// The marks of the 8 bytes of an argument that come after `at` others.
+    fn marks(&self, number: usize, argument: &Argument, at: usize) -> Vec<String> {
+        if argument.by_reference() {
+            return repeated(&format!("&{number}"));
+        }
+        let own = self.own(argument);
+        let mark = |byte| match own.contains(&byte) {
+            true => number.to_string(),
+            false => ".".to_string(),
         };
-        let mut slot = [0; 8];
-        slot.copy_from_slice(&buffer[place..place + 8]);
-        slot
+        (at..at + 8).map(mark).collect()
     }
 
-    fn marks(&self, number: usize, bytes: &[Byte]) -> Vec<String> {
-        match self.arguments[number].by_reference {
-            true => repeated(&format!("&{number}")),
-            false => value_marks(&number.to_string(), bytes),
+    /// Where in its places a value stands.
+    fn own(&self, argument: &Argument) -> Range<usize> {
+        let size = argument.value.len();
+        let in_float = !argument.floating.is_empty();
+        let is_struct = self.signature[argument.item] == STRUCT;
+        match self.plan.convention {
+            // a single widened to a double: sign, exponent and fraction have 35 bits
+            Convention::Ppc64 if in_float && size == 4 => 0..5,
+            Convention::Ppc64 if is_struct => 0..size,
+            Convention::Z if in_float => 0..size,
+            // at the end of a doubleword
+            _ if size < 8 => 8 - size..8,
+            _ => 0..size,
         }
     }
 }
@@ -279,55 +214,108 @@ fn repeated(mark: &str) -> Vec<String> {
     vec![mark.to_string(); 8]
 }
 
-fn value_marks(name: &str, bytes: &[Byte]) -> Vec<String> {
-    let mark = |byte: &Byte| match byte {
-        Byte::Untouched => String::new(),
-        Byte::Padding => ".".to_string(),
-        Byte::Value => name.to_string(),
-    };
-    bytes.iter().map(mark).collect()
-}
+#[cfg(test)]
+mod tests {
+    use super::*;
+    use flakuzhen::{fill, Sizes};
 
-/// Where a register stands in the image.
-fn place_in_image(register: &str) -> usize {
-    let (bank, number) = register.split_at(1);
-    let number: usize = number.parse().expect("a register's number");
-    match bank {
-        "f" => 256 + 8 * number,
-        _ => 8 * number,
+    /// Any address that copies may have.
+    const COPY_BASE: u64 = 0x1000;
+
+    /// Image, area and copies of the call, filled with values whose bytes are all `value`, on
+    /// buffers whose bytes are all `ground`.
+    fn filled(signature: &[u8], sizes: &Sizes, value: u8, ground: u8) -> [Vec<u8>; 3] {
+        let mut image = vec![ground; 512];
+        let mut area = vec![ground; sizes.area as usize];
+        let mut copies = vec![ground; sizes.copies as usize];
+        let values = vec![value; sizes.values as usize];
+        let hidden = 0;
+        fill(
+            signature,
+            &values,
+            &mut image,
+            &mut area,
+            &mut copies,
+            COPY_BASE,
+            hidden,
+        )
+        .expect("an accepted call");
+        [image, area, copies]
     }
-}
 
-/// The call, filled with values whose bytes are all `value`, on buffers whose bytes are all
-/// `ground`.
-fn filled(signature: &[u8], sizes: &Sizes, value: u8, ground: u8) -> Result<Buffers<u8>, Refusal> {
-    let mut image = vec![ground; IMAGE];
-    let mut area = vec![ground; sizes.area as usize];
-    let mut copies = vec![ground; sizes.copies as usize];
-    let values = vec![value; sizes.values as usize];
-    fill(
-        signature,
-        &values,
-        &mut image,
-        &mut area,
-        &mut copies,
-        COPY_BASE,
-        0,
-    )?;
-    Ok(Buffers {
-        image,
-        area,
-        copies,
-    })
-}
+    /// The mark that a byte has by what filling does: one that follows the values is a value's, one
+    /// that is written and does not follow them fills up.
+    fn expected(argument: &str, filled: [u8; 3]) -> String {
+        let [zeros, values, ground] = filled;
+        match (zeros == values, zeros == ground) {
+            (false, _) => argument.to_string(),
+            (true, true) => ".".to_string(),
+            (true, false) => String::new(),
+        }
+    }
 
-/// What each byte of a buffer is: `values` was filled with other values than `zeros`, and `ground`
-/// over other bytes.
-fn kinds(zeros: &[u8], values: &[u8], ground: &[u8]) -> Vec<Byte> {
-    let kind = |at: usize| match (zeros[at] == values[at], zeros[at] == ground[at]) {
-        (false, _) => Byte::Value,
-        (true, true) => Byte::Padding,
-        (true, false) => Byte::Untouched,
-    };
-    (0..zeros.len()).map(kind).collect()
+    /// A signature of one type, in a struct or not, once and after enough others to be in memory.
+    fn signatures() -> Vec<Vec<u8>> {
+        let scalars = (0..9u8)
+            .map(|code| vec![0x10, 0, 1, code])
+            .chain((0..3u8).map(|code| vec![0x11, 0, 1, code]));
+        let mut types: Vec<Vec<u8>> = scalars.collect();
+        for fields in [1, 2, 3, 4, 5, 8, 12, 17] {
+            let body = [0x10, 0, 1, 1].repeat(fields);
+            types.push([&[0x12, 0, body.len() as u8][..], &body].concat());
+        }
+        for field in [[0x11, 0, 1, 0], [0x11, 0, 1, 1]] {
+            types.push([&[0x12, 0, 4][..], &field].concat());
+        }
+        let mut all = Vec::new();
+        for convention in [1, 2] {
+            for (of, before) in types.iter().flat_map(|of| [(of, 0), (of, 7), (of, 20)]) {
+                let mut arguments = [0x10, 0, 1, 4].repeat(before);
+                arguments.extend([0x11, 0, 1, 1].repeat(before));
+                arguments.extend_from_slice(of);
+                let [high, low] = (arguments.len() as u16).to_be_bytes();
+                let head = [1, 0, 1, convention, 2, 0, 0, 3, high, low];
+                all.push([&head[..], &arguments].concat());
+            }
+        }
+        all
+    }
+
+    #[test]
+    fn the_marks_are_what_filling_writes() {
+        let (mut own, mut filling) = (0, 0);
+        for signature in signatures() {
+            let plan = plan(&signature).expect("an accepted signature");
+            let sizes = plan.sizes;
+            let [zeros, values, ground] = [(0, 0), (0x7f, 0), (0, 0xff)]
+                .map(|(value, ground)| filled(&signature, &sizes, value, ground));
+            let call = Call {
+                plan,
+                signature: &signature,
+            };
+            for (number, argument) in call.plan.arguments.iter().enumerate() {
+                if argument.by_reference() {
+                    continue;
+                }
+                let in_image = argument.registers().map(|register| match register {
+                    Register::General(number) => (0, 8 * usize::from(number)),
+                    Register::Floating(number) => (0, 256 + 8 * usize::from(number)),
+                });
+                let in_area = argument.memory.clone().step_by(8).map(|place| (1, place));
+                for (word, (buffer, place)) in in_image.chain(in_area).enumerate() {
+                    let marks = call.marks(number, argument, 8 * word);
+                    for (byte, mark) in marks.iter().enumerate() {
+                        let at = place + byte;
+                        let filled = [&zeros, &values, &ground].map(|of| of[buffer][at]);
+                        assert_eq!(mark, &expected(&number.to_string(), filled));
+                        match mark.as_str() {
+                            "." => filling += 1,
+                            _ => own += 1,
+                        }
+                    }
+                }
+            }
+        }
+        assert!(own > 10_000 && filling > 1_000, "{own} and {filling}");
+    }
 }

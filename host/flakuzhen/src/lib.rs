@@ -20,7 +20,7 @@ mod plans;
 pub mod surface;
 
 pub use marshal::{fill, home, read, view};
-pub use plans::{listing, measure, Sizes};
+pub use plans::{listing, measure, plan, Argument, Convention, Plan, Register, ResultPlace, Sizes};
 
 use surface::Answer;
 

@@ -33,13 +33,7 @@ use crate::surface;
 use crate::{accepted, Refusal};
 
 pub use crate::surface::machine::{Frame, Machine as State, Registers};
-
-/// Whose frames the machine has.
-#[derive(Clone, Copy, Debug, PartialEq, Eq)]
-pub enum Convention {
-    Ppc64,
-    Z,
-}
+pub use crate::Convention;
 
 /// A register, or a field of the condition register, whether or not there is one of that number.
 #[derive(Clone, Copy, Debug, PartialEq, Eq)]

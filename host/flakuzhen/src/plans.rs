@@ -1,6 +1,10 @@
-//! Where a call's values stand, told as sizes and in print.
+//! Where a call's values stand: as sizes, as a plan, and in print.
 
+use crate::surface::plans::{Planned, PLACE_WORDS};
 use crate::{accepted, surface, Refusal};
+
+use std::fmt;
+use std::ops::Range;
 
 /// The bytes that a call's buffers need.
 #[derive(Clone, Copy, Debug, PartialEq, Eq)]
@@ -11,6 +15,182 @@ pub struct Sizes {
     pub area: u64,
     /// The copies of arguments that are passed by reference: the end of the last, or 0.
     pub copies: u64,
+}
+
+/// A calling convention: the one that a signature names, or whose frames a machine has.
+#[derive(Clone, Copy, Debug, PartialEq, Eq)]
+pub enum Convention {
+    Ppc64,
+    Z,
+}
+
+/// A register, which prints as its name: `r3`, `f1`.
+#[derive(Clone, Copy, Debug, PartialEq, Eq, PartialOrd, Ord)]
+pub enum Register {
+    General(u8),
+    Floating(u8),
+}
+
+/// Where everything of a call stands.
+#[derive(Clone, Debug, PartialEq, Eq)]
+pub struct Plan {
+    pub convention: Convention,
+    pub sizes: Sizes,
+    pub result: ResultPlace,
+    /// In order. `for argument in &plan` goes over them too.
+    pub arguments: Vec<Argument>,
+}
+
+/// Where an argument stands. A range that is not used is empty.
+#[derive(Clone, Debug, PartialEq, Eq)]
+pub struct Argument {
+    /// Where its type's item starts in the signature.
+    pub item: usize,
+    /// Its bytes of all arguments' values.
+    pub value: Range<usize>,
+    /// The numbers of its general registers.
+    pub general: Range<u8>,
+    /// The numbers of its floating registers.
+    pub floating: Range<u8>,
+    /// Its bytes of the parameter area, used or not.
+    pub home: Range<usize>,
+    /// Those of them that hold it.
+    pub memory: Range<usize>,
+    /// Its copy in the copies, where it is passed by reference.
+    pub copy: Option<Range<usize>>,
+}
+
+/// Where the result stands.
+#[derive(Clone, Debug, PartialEq, Eq)]
+pub enum ResultPlace {
+    None,
+    Registers(Vec<Register>),
+    /// In memory of the caller's. Its address is a hidden first argument, in this register.
+    Hidden(Register),
+}
+
+impl fmt::Display for Convention {
+    fn fmt(&self, to: &mut fmt::Formatter<'_>) -> fmt::Result {
+        to.write_str(match self {
+            Convention::Ppc64 => "PPC64",
+            Convention::Z => "Z",
+        })
+    }
+}
+
+impl fmt::Display for Register {
+    fn fmt(&self, to: &mut fmt::Formatter<'_>) -> fmt::Result {
+        match self {
+            Register::General(number) => write!(to, "r{number}"),
+            Register::Floating(number) => write!(to, "f{number}"),
+        }
+    }
+}
+
+impl Argument {
+    /// Its registers, in the order of its bytes.
+    pub fn registers(&self) -> impl Iterator<Item = Register> {
+        registers(self.general.clone(), self.floating.clone())
+    }
+
+    pub fn by_reference(&self) -> bool {
+        self.copy.is_some()
+    }
+
+    /// Of the words of a table's entry.
+    fn of(words: &[u64; PLACE_WORDS]) -> Argument {
+        let range = |at: usize| words[at] as usize..(words[at] + words[at + 1]) as usize;
+        let copy = range(11);
+        Argument {
+            item: words[0] as usize,
+            value: words[2] as usize..(words[2] + words[1]) as usize,
+            general: numbers(words[3], words[4]),
+            floating: numbers(words[5], words[6]),
+            home: range(7),
+            memory: range(9),
+            copy: (!copy.is_empty()).then_some(copy),
+        }
+    }
+}
+
+/// The library's promise: a register's number is below 32.
+fn numbers(first: u64, count: u64) -> Range<u8> {
+    first as u8..(first + count) as u8
+}
+
+fn registers(general: Range<u8>, floating: Range<u8>) -> impl Iterator<Item = Register> {
+    let floating = floating.map(Register::Floating);
+    floating.chain(general.map(Register::General))
+}
+
+impl<'a> IntoIterator for &'a Plan {
+    type Item = &'a Argument;
+    type IntoIter = std::slice::Iter<'a, Argument>;
+
+    fn into_iter(self) -> Self::IntoIter {
+        self.arguments.iter()
+    }
+}
+
+/// Plans the call of a function with this signature.
+///
+/// ```
+/// use flakuzhen::{Register, ResultPlace};
+///
+/// // PPC64, no result, arguments i32 and double
+/// let signature = [1, 0, 1, 1, 2, 0, 0, 3, 0, 8, 0x10, 0, 1, 4, 0x11, 0, 1, 1];
+/// let plan = flakuzhen::plan(&signature)?;
+/// assert_eq!(plan.result, ResultPlace::None);
+/// let second = &plan.arguments[1];
+/// assert_eq!(second.registers().collect::<Vec<_>>(), [Register::Floating(1)]);
+/// assert_eq!((second.item, second.value.clone()), (14, 4..12));
+/// // its doubleword of the area is not used
+/// assert_eq!((second.home.clone(), second.memory.is_empty()), (8..16, true));
+/// # Ok::<(), flakuzhen::Refusal>(())
+/// ```
+pub fn plan(signature: &[u8]) -> Result<Plan, Refusal> {
+    // an argument's item has at least 4 bytes
+    plan_from(signature, signature.len() / 4)
+}
+
+/// The plan, first tried with room for this many arguments.
+fn plan_from(signature: &[u8], room: usize) -> Result<Plan, Refusal> {
+    let mut places = vec![0; PLACE_WORDS * room];
+    let mut planned = surface::plans::plan(signature, &mut places);
+    if planned.arguments as usize > room {
+        places.resize(PLACE_WORDS * planned.arguments as usize, 0);
+        planned = surface::plans::plan(signature, &mut places);
+    }
+    accepted(planned.answer, ())?;
+    let entries = places.chunks_exact(PLACE_WORDS);
+    let argument = |entry: &[u64]| Argument::of(entry.try_into().expect("the words of an entry"));
+    Ok(Plan {
+        // the library's promise: one of these two
+        convention: match planned.convention {
+            1 => Convention::Ppc64,
+            _ => Convention::Z,
+        },
+        sizes: Sizes {
+            values: planned.values,
+            area: planned.area,
+            copies: planned.copies,
+        },
+        result: result_place(&planned),
+        arguments: entries
+            .take(planned.arguments as usize)
+            .map(argument)
+            .collect(),
+    })
+}
+
+fn result_place(planned: &Planned) -> ResultPlace {
+    let general = numbers(planned.result_gpr, planned.result_gprs);
+    let floating = numbers(planned.result_fpr, planned.result_fprs);
+    match planned.result {
+        0 => ResultPlace::None,
+        1 => ResultPlace::Registers(registers(general, floating).collect()),
+        _ => ResultPlace::Hidden(Register::General(general.start)),
+    }
 }
 
 /// Enough for every listing that was ever seen, and no promise: a longer one takes a second call.
@@ -85,6 +265,44 @@ mod tests {
         };
         assert_eq!(measure(&SIGNATURE[..24]), Err(refusal));
         assert_eq!(listing(&SIGNATURE[..24]), "refused 2 at 14 after 4\n");
+    }
+
+    #[test]
+    fn a_plan_that_does_not_fit_at_first() {
+        let long_double = Argument {
+            item: 17,
+            value: 0..16,
+            general: 3..4,
+            floating: 0..0,
+            home: 0..0,
+            memory: 0..0,
+            copy: Some(0..16),
+        };
+        let single = Argument {
+            item: 21,
+            value: 16..20,
+            general: 0..0,
+            floating: 0..1,
+            copy: None,
+            ..long_double.clone()
+        };
+        let expected = Plan {
+            convention: Convention::Z,
+            sizes: measure(&SIGNATURE).expect("an accepted signature"),
+            result: ResultPlace::Hidden(Register::General(2)),
+            arguments: vec![long_double, single],
+        };
+        assert_eq!(plan(&SIGNATURE).as_ref(), Ok(&expected));
+        for room in 0..4 {
+            assert_eq!(plan_from(&SIGNATURE, room).as_ref(), Ok(&expected));
+        }
+        let of = |register: &Register| register.to_string();
+        let names: Vec<String> = (&expected)
+            .into_iter()
+            .map(|argument| argument.registers().map(|one| of(&one)).collect())
+            .collect();
+        assert_eq!(names, ["r3", "f0"]);
+        assert_eq!(plan(&SIGNATURE[..24]).unwrap_err().place, 14);
     }
 
     #[test]

@@ -28,6 +28,35 @@ WORD(fz_sizes, values, 3);
 WORD(fz_sizes, area, 4);
 WORD(fz_sizes, copies, 5);
 
+SIZE(fz_place, FZ_PLACE_WORDS);
+WORD(fz_place, item, 0);
+WORD(fz_place, size, 1);
+WORD(fz_place, value, 2);
+WORD(fz_place, first_gpr, 3);
+WORD(fz_place, gprs, 4);
+WORD(fz_place, first_fpr, 5);
+WORD(fz_place, fprs, 6);
+WORD(fz_place, home, 7);
+WORD(fz_place, home_length, 8);
+WORD(fz_place, memory, 9);
+WORD(fz_place, memory_length, 10);
+WORD(fz_place, copy, 11);
+WORD(fz_place, copy_length, 12);
+
+SIZE(fz_planned, 14);
+WORD(fz_planned, answer, 0);
+WORD(fz_planned, convention, 3);
+WORD(fz_planned, ellipsis, 4);
+WORD(fz_planned, arguments, 5);
+WORD(fz_planned, values, 6);
+WORD(fz_planned, area, 7);
+WORD(fz_planned, copies, 8);
+WORD(fz_planned, result, 9);
+WORD(fz_planned, result_gpr, 10);
+WORD(fz_planned, result_gprs, 11);
+WORD(fz_planned, result_fpr, 12);
+WORD(fz_planned, result_fprs, 13);
+
 SIZE(fz_part, 5);
 WORD(fz_part, answer, 0);
 WORD(fz_part, start, 3);

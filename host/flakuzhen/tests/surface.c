@@ -48,6 +48,47 @@ static void check_measuring(void)
     CHECK(no.values == 0 && no.area == 0 && no.copies == 0);
 }
 
+/* Plans the call into a table of `room` words and holds the whole of it, and what lies behind it, to
+ * the two arguments' places where those fit and to what was there before where they do not. */
+static void check_planning_in(size_t room)
+{
+    static const uint64_t expected[2 * FZ_PLACE_WORDS] = {
+        17, 16, 0, 3, 1, 0, 0, 0, 0, 0, 0, 0, 16, /* the long double: its address in r3 */
+        21, 4, 16, 0, 0, 0, 1, 0, 0, 0, 0, 0, 0,  /* the single, in f0 */
+    };
+    uint64_t places[40];
+    size_t i;
+    fz_planned planned;
+
+    for (i = 0; i < 40; i++)
+        places[i] = ~(uint64_t)i;
+    planned = fz_plan(call, sizeof call, places, room);
+    CHECK(planned.answer.number == FZ_ACCEPTED && planned.answer.place == 0);
+    CHECK(planned.answer.items == 0);
+    CHECK(planned.convention == 2 && planned.ellipsis == 0 && planned.arguments == 2);
+    CHECK(planned.values == 20 && planned.area == 0 && planned.copies == 16);
+    CHECK(planned.result == 2 && planned.result_gpr == 2 && planned.result_gprs == 1);
+    CHECK(planned.result_fpr == 0 && planned.result_fprs == 0);
+    for (i = 0; i < 40; i++) {
+        int written = room >= 2 * FZ_PLACE_WORDS && i < 2 * FZ_PLACE_WORDS;
+
+        CHECK(places[i] == (written ? expected[i] : ~(uint64_t)i));
+    }
+}
+
+static void check_planning(void)
+{
+    uint64_t word = 7;
+    size_t room;
+    fz_planned no = fz_plan(call, sizeof call - 1, &word, 1);
+
+    for (room = 0; room <= 40; room++)
+        check_planning_in(room);
+    CHECK(no.answer.number == FZ_TRUNCATED && no.answer.place == 14 && no.answer.items == 4);
+    CHECK(no.convention == 0 && no.arguments == 0 && no.values == 0 && no.result == 0);
+    CHECK(word == 7);
+}
+
 /* Lists the call to a text of `room` bytes and holds the whole of it, and what lies behind it, to
  * the listing where that fits and to what was there before where it does not. */
 static void check_listing_in(size_t room)
@@ -81,6 +122,7 @@ int main(void)
     check_reading();
     check_float_bits();
     check_measuring();
+    check_planning();
     check_listing();
     return wrong;
 }

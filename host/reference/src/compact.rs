@@ -6,8 +6,10 @@
 use crate::{Convention, Place, Refusal, ResultPlan};
 
 mod marshal;
+mod table;
 
 pub use marshal::{fill, read};
+pub use table::{table, table_at_once};
 
 /// Registers that follow each other, on Z always one.
 #[derive(Clone, Copy, Debug, Default, PartialEq, Eq)]
@@ -104,7 +106,8 @@ pub struct Sizes {
 trait Keeper {
     /// Comes first, with the most arguments that there can be.
     fn expect(&mut self, most: usize);
-    fn keep(&mut self, argument: Argument);
+    /// `item` is where the argument's item stands.
+    fn keep(&mut self, argument: Argument, item: usize);
 }
 
 impl Keeper for Vec<Argument> {
@@ -112,7 +115,7 @@ impl Keeper for Vec<Argument> {
         self.reserve_exact(most);
     }
 
-    fn keep(&mut self, argument: Argument) {
+    fn keep(&mut self, argument: Argument, _item: usize) {
         self.push(argument);
     }
 }
@@ -123,7 +126,7 @@ struct Nobody;
 impl Keeper for Nobody {
     fn expect(&mut self, _most: usize) {}
 
-    fn keep(&mut self, _argument: Argument) {}
+    fn keep(&mut self, _argument: Argument, _item: usize) {}
 }
 
 /// Reads a signature and plans its call.
@@ -306,11 +309,12 @@ fn arguments(
         let (shape, after) = shape(input, at, end, 1)?;
         values += shape.size;
         count += 1;
-        keeper.keep(Argument {
+        let argument = Argument {
             size: shape.size as u16,
             content: shape.content,
             ..place(shape)
-        });
+        };
+        keeper.keep(argument, at);
         at = after;
     }
     Ok(values)

@@ -12,6 +12,7 @@ pub mod machine;
 pub mod marshal;
 mod planner;
 mod reader;
+pub mod table;
 mod types;
 
 pub use listing::{listing, listing_of, refusal_line};

@@ -1,46 +1,39 @@
--- The whole reading says whether there is such an argument; stepping finds it.
+-- What comes before the arguments, then the arguments.
 use borrow.Author.Needs.{needs}
-use mathlib.Core.Path.{_∙_}
+use mathlib.Core.Path.{sym, ap, _∙_}
 use native.Mathlib.Omega.{arith}
+use Rattle.signature.proofs.Laws.{signature-refused}
+use Rattle.signature.proofs.Sound.{head-bounded}
+use Rattle.reader.specs.Argument.{argumentAnswer}
+use Rattle.reader.proofs.Found.{begun, argument-begun}
 use Rattle.reader.proofs.argument_at.Statement.{statement}
-use Rattle.reader.proofs.Arguments.{argument-refused, argument-missing, argument-stepped}
 use Rattle.reader.proofs.argument_at.Tie as tie
 
-read-signature-requires : tie.Need-read-signature-requires
-read-signature-requires c κs = search needs
+read-head-requires : tie.Need-read-head-requires
+read-head-requires c κs = search needs
 
-enum-known-outcome : tie.Need-enum-known-outcome
-enum-known-outcome c = search needs
+enum-known-fault : tie.Need-enum-known-fault
+enum-known-fault c = search needs
 
-enum-known-outcome-2 : tie.Need-enum-known-outcome-2
-enum-known-outcome-2 c = search needs
+enum-known-convention : tie.Need-enum-known-convention
+enum-known-convention c = search needs
+
+argument-from-requires : tie.Need-argument-from-requires
+argument-from-requires c κs = let k = head-bounded _ _ _ _ _ _ _ (c .before .before .before .read-head .ensures) (c .before .convention .given .1) in omega arith
 
 returns : tie.Need-returns
-returns c = argument-missing _ _ _ (c .before .before .before .before .before .read-signature .ensures) _ (c .before .before .before .outcome2 .given .1) (omega arith)
-
-arguments-start-requires : tie.Need-arguments-start-requires
-arguments-start-requires c κs = search needs
-
-step-to-requires : tie.Need-step-to-requires
-step-to-requires c κs = search needs
+returns c = sym (ap (argumentAnswer (c .before .before .before .before .before .args .index)) (signature-refused _ _ (c .before .before .before .read-head .ensures) _ (c .before .fault .given .1)))
 
 returns-2 : tie.Need-returns-2
-returns-2 c = argument-refused _ _ _ (c .before .before .before .read-signature .ensures) _ (c .before .outcome .given .1)
-
-returns-3 : tie.Need-returns-3
-returns-3 c =
-    c .step-to .ensures ∙ argument-stepped _ _ _ (c .before .before .before .before .before .before .before .read-signature .ensures) _
-    (c .before .before .before .before .before .outcome2 .given .1) (omega arith) _ (c .before .arguments-start .ensures)
+returns-2 c = c .argument-from .ensures ∙ sym (argument-begun _ _ _ _ _ _ _ (begun _ _ (c .before .before .before .before .read-head .ensures) _ _ _ _ _ (c .before .before .convention .given .1)))
 
 pub argument-at-spec : {M : Type 1} → statement M
 argument-at-spec =
     tie.close
     (tie.spec
-    read-signature-requires
-    enum-known-outcome
-    enum-known-outcome-2
+    read-head-requires
+    enum-known-fault
+    enum-known-convention
+    argument-from-requires
     returns
-    arguments-start-requires
-    step-to-requires
-    returns-2
-    returns-3)
+    returns-2)

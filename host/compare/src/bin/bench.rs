@@ -1,5 +1,5 @@
-//! The time that measuring a call takes in the proved library and in the second program, on the
-//! same signatures, in turns.
+//! The time that measuring a call and planning it whole takes in the proved library and in the
+//! second program, on the same signatures, in turns.
 
 #![forbid(unsafe_code)]
 
@@ -7,6 +7,7 @@ use compare::timing;
 use compare::usual::{self, Group};
 use flakuzhen::surface::plans as library;
 use reference::compact;
+use std::cell::RefCell;
 use std::hint::black_box;
 use std::ops::RangeInclusive;
 use std::process::ExitCode;
@@ -15,14 +16,22 @@ const SIGNATURES: usize = 10_000;
 /// For each number of arguments that is measured by itself.
 const OF_A_COUNT: usize = 500;
 const ROUNDS: usize = 101;
+/// The words of a table for the most arguments.
+const TABLE: usize = 128 * library::PLACE_WORDS;
 
 const SIDES: &str = "\
 library         fz_measure: reads and tests the signature's bytes, places every argument and gives
                 the sizes of the call's three buffers; no place is kept
 second program  compact::measure: the same from the same bytes in ordinary Rust, in one pass and
                 without trees
-with places     compact::plan: the same, and every argument's places kept in one vector. The library
-                keeps them where they are used: see filling and reading
+with places     compact::plan: the same, and every argument's places kept in one vector
+";
+
+const TABLE_SIDES: &str = "\
+library         fz_plan: the same, and every argument's places in a lent table, which stays as it was
+                where the signature is refused or the table is too short
+second program  compact::table: the same from the same bytes, with the same promise
+at once         compact::table_at_once: each entry is written as it comes, without that promise
 ";
 
 /// What all signatures of a group took together.
@@ -33,7 +42,18 @@ struct Sums {
     /// Nanoseconds.
     library: f64,
     second: f64,
-    places: f64,
+    /// The second program's other way.
+    other: f64,
+}
+
+impl Sums {
+    fn add(&mut self, more: &Sums) {
+        self.signatures += more.signatures;
+        self.bytes += more.bytes;
+        self.library += more.library;
+        self.second += more.second;
+        self.other += more.other;
+    }
 }
 
 fn main() -> ExitCode {
@@ -61,16 +81,28 @@ fn main() -> ExitCode {
     for group in &groups {
         let sums = measured(group);
         print(&group.counts, &sums);
-        all.signatures += sums.signatures;
-        all.bytes += sums.bytes;
-        all.library += sums.library;
-        all.second += sums.second;
-        all.places += sums.places;
+        all.add(&sums);
     }
     print(&usual::ALL, &all);
     println!();
     for group in &single_counts {
         print(&group.counts, &measured(group));
+    }
+    println!("\nPlanning a call whole, over the same signatures, measured likewise:");
+    println!("\n{TABLE_SIDES}");
+    println!(
+        "arguments  signatures  mean bytes  library  second program  ratio      at once  ratio"
+    );
+    let mut all = Sums::default();
+    for group in &groups {
+        let sums = planned(group);
+        print(&group.counts, &sums);
+        all.add(&sums);
+    }
+    print(&usual::ALL, &all);
+    println!();
+    for group in &single_counts {
+        print(&group.counts, &planned(group));
     }
     ExitCode::SUCCESS
 }
@@ -83,6 +115,18 @@ fn agree(bytes: &[u8]) -> bool {
     sizes.answer.number == 0
         && compact::measure(bytes).is_ok_and(|m| same([m.values, m.area, m.copies]))
         && compact::plan(bytes).is_ok_and(|plan| same([plan.values, plan.area, plan.copies]))
+        && agree_on_tables(bytes)
+}
+
+/// All three leave the same table.
+fn agree_on_tables(bytes: &[u8]) -> bool {
+    let mut tables = [[0; TABLE]; 3];
+    let [own, second, other] = &mut tables;
+    library::plan(bytes, own).answer.number == 0
+        && compact::table(bytes, second).is_ok()
+        && compact::table_at_once(bytes, other).is_ok()
+        && own == second
+        && own == other
 }
 
 fn measured(group: &Group) -> Sums {
@@ -96,13 +140,36 @@ fn measured(group: &Group) -> Sums {
         // what is made is also dropped within the time, as a caller would
         let _ = black_box(compact::plan(black_box(bytes)));
     });
+    sums(group, [own, second, places])
+}
+
+fn planned(group: &Group) -> Sums {
+    let table = RefCell::new([0; TABLE]);
+    let library = |bytes: &Vec<u8>| {
+        black_box(library::plan(black_box(bytes), &mut *table.borrow_mut()));
+    };
+    let (own, second) = timing::medians(&group.signatures, ROUNDS, library, |bytes| {
+        let _ = black_box(compact::table(black_box(bytes), &mut *table.borrow_mut()));
+    });
+    let (_, other) = timing::medians(&group.signatures, ROUNDS, library, |bytes| {
+        let _ = black_box(compact::table_at_once(
+            black_box(bytes),
+            &mut *table.borrow_mut(),
+        ));
+    });
+    sums(group, [own, second, other])
+}
+
+/// Of the nanoseconds that a signature takes.
+fn sums(group: &Group, each: [f64; 3]) -> Sums {
     let signatures = group.signatures.len() as f64;
+    let [library, second, other] = each.map(|time| time * signatures);
     Sums {
         signatures,
         bytes: group.signatures.iter().map(Vec::len).sum::<usize>() as f64,
-        library: own * signatures,
-        second: second * signatures,
-        places: places * signatures,
+        library,
+        second,
+        other,
     }
 }
 
@@ -115,7 +182,7 @@ fn print(counts: &RangeInclusive<usize>, sums: &Sums) {
         sums.library / sums.signatures,
         sums.second / sums.signatures,
         sums.library / sums.second,
-        sums.places / sums.signatures,
-        sums.library / sums.places
+        sums.other / sums.signatures,
+        sums.library / sums.other
     );
 }

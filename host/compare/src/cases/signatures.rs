@@ -1,4 +1,4 @@
-//! Cases of reading, measuring and listing.
+//! Cases of reading, measuring, planning and listing.
 
 use super::{changes, Case, Operation};
 use crate::encode::{self, ARGUMENTS, CONVENTION, FLOAT, INTEGER, RESULT, STRUCT};
@@ -6,6 +6,7 @@ use crate::generate;
 use crate::plans;
 use crate::random::Random;
 use crate::signatures::expected;
+use reference::table::{self, ENTRY};
 use reference::{Convention, Integer, Type};
 
 /// Each limit of a signature with a step on either side of it, and every prefix of a signature.
@@ -60,6 +61,7 @@ pub fn boundaries() -> Vec<Case> {
         cases.push(reading(signature));
         cases.push(measuring(signature));
         for room in Room::ALL {
+            cases.push(planning(signature, room));
             cases.push(listing(signature, room));
         }
     }
@@ -104,6 +106,10 @@ pub fn some(random: &mut Random, cases: &mut Vec<Case>) {
         let room = random.pick(&Room::ALL);
         cases.push(listing(signature, room));
     }
+    for signature in [&valid, &chosen, &damaged, &faulty] {
+        let room = random.pick(&Room::ALL);
+        cases.push(planning(signature, room));
+    }
 }
 
 fn reading(signature: &[u8]) -> Case {
@@ -137,7 +143,7 @@ fn measuring(signature: &[u8]) -> Case {
     }
 }
 
-/// How long the text is that a listing is printed to.
+/// How long the text is that a listing is printed to, or the table that a plan is written to.
 #[derive(Clone, Copy)]
 enum Room {
     None,
@@ -150,14 +156,41 @@ impl Room {
     const ALL: [Room; 4] = [Room::None, Room::OneTooShort, Room::Exact, Room::Longer];
 }
 
+impl Room {
+    /// Where this much is needed.
+    fn of(self, needed: usize) -> usize {
+        match self {
+            Room::None => 0,
+            Room::OneTooShort => needed.saturating_sub(1),
+            Room::Exact => needed,
+            Room::Longer => needed + 33,
+        }
+    }
+}
+
+/// The table's words are lent and written as 8 bytes each.
+fn planning(signature: &[u8], room: Room) -> Case {
+    let table = table::table(signature);
+    let planned = plans::expected_plan(&table);
+    let answer = planned.answer;
+    let head = table.as_ref().map_or([0; 11], |table| table.head);
+    let length = room.of(ENTRY * planned.arguments as usize);
+    let bytes = |words: Vec<u64>| words.iter().flat_map(|word| word.to_be_bytes()).collect();
+    let before: Vec<u8> = bytes((0..length).map(plans::word_before).collect());
+    let after: Vec<u8> = bytes(plans::expected_words(&table, length));
+    let words = [answer.number, answer.place, answer.items];
+    Case {
+        operation: Operation::Plan,
+        numbers: vec![],
+        answer: words.into_iter().chain(head).collect(),
+        changes: vec![vec![], changes(&before, &after)],
+        lent: vec![signature.to_vec(), before],
+    }
+}
+
 fn listing(signature: &[u8], room: Room) -> Case {
     let listing = reference::listing(signature);
-    let length = match room {
-        Room::None => 0,
-        Room::OneTooShort => listing.len() - 1,
-        Room::Exact => listing.len(),
-        Room::Longer => listing.len() + 33,
-    };
+    let length = room.of(listing.len());
     // no byte of a listing is one of these
     let before: Vec<u8> = (0..length).map(|at| 0x80 | at as u8).collect();
     let mut after = before.clone();

@@ -1,0 +1,4 @@
+-- Laws that belong to no one function.
+pub mod Stores
+pub mod Turns
+pub mod Rows

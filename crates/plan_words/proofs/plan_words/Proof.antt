@@ -1,0 +1,64 @@
+-- What comes before the arguments, then the arguments; their rows are the whole reading's entries.
+use borrow.Author.Needs.{needs}
+use mathlib.Core.Path.{sym, ap, _∙_}
+use native.Mathlib.Omega.{arith}
+use Rattle.signature.proofs.Laws.{signature-refused}
+use Rattle.signature.proofs.Sound.{head-bounded}
+use Rattle.plan.specs.Plan.{planAnswer}
+use Rattle.plan.proofs.Measures.{plan-arguments}
+use Rattle.plan_words.specs.Planned.{plannedOf}
+use Rattle.plan_words.specs.Entries.{tabled}
+use Rattle.plan_words.proofs.Turns.{tabled-nothing}
+use Rattle.plan_words.proofs.Rows.{rows-entries, no-entries, small-result}
+use Rattle.plan_words.proofs.plan_words.Statement.{statement}
+use Rattle.plan_words.proofs.plan_words.Tie as tie
+
+read-head-requires : tie.Need-read-head-requires
+read-head-requires c κs = search needs
+
+enum-known-fault : tie.Need-enum-known-fault
+enum-known-fault c = search needs
+
+no-plan-requires : tie.Need-no-plan-requires
+no-plan-requires c κs = search needs
+
+enum-known-convention : tie.Need-enum-known-convention
+enum-known-convention c = search needs
+
+plan-arguments-requires : tie.Need-plan-arguments-requires
+plan-arguments-requires c κs =
+    let found = c .before .before .before .before .read-head .ensures in
+    let is = c .before .before .convention .given .1 in
+    let k = head-bounded _ _ _ _ _ _ _ found is in
+    (omega arith, omega arith, omega arith, omega arith, small-result _ _ found _ _ _ _ _ is)
+
+returns : tie.Need-returns
+unfolding planAnswer
+returns c =
+    let none = signature-refused _ _ (c .before .before .before .before .read-head .ensures) _ (c .before .before .fault .given .1) in
+    let table = c .before .before .before .before .before .before .before .args .places .now in
+    (c .no-plan .ensures ∙ rw none, tabled-nothing table ∙ ap (tabled table) (no-entries _ _ none))
+
+same-length : tie.Need-same-length
+same-length c = search needs
+
+returns-2 : tie.Need-returns-2
+returns-2 c =
+    let found = c .before .before .before .before .before .before .before .read-head .ensures in
+    let is = c .before .before .before .before .before .convention .given .1 in (
+      c .before .before .plan-arguments .ensures .0 ∙ sym (ap plannedOf (plan-arguments _ _ found _ _ _ _ _ is)),
+      c .before .before .plan-arguments .ensures .1 ∙ ap (tabled (c .before .before .before .before .before .before .before .before .before .before .args .places .now)) (rows-entries _ _ found _ _ _ _ _ is),
+    )
+
+pub plan-words-spec : {M : Type 1} → statement M
+plan-words-spec =
+    tie.close
+    (tie.spec
+    read-head-requires
+    enum-known-fault
+    no-plan-requires
+    enum-known-convention
+    plan-arguments-requires
+    returns
+    same-length
+    returns-2)
