@@ -1,5 +1,5 @@
-/* Flakuzhen: how the values of a call stand in registers and memory on 64-bit PowerPC (PPC64) and
- * 64-bit zSeries (Z), as these machines' calling conventions say. Link with -lflakuzhen.
+/* Flakuzhen: how the values of a call stand in registers and memory on 64-bit PowerPC (PPC64), 64-bit
+ * zSeries (Z) and 32-bit AIX, as their calling conventions say. Link with -lflakuzhen.
  *
  * A program that calls a function of such a machine, or that is called by one, does this:
  *
@@ -21,9 +21,10 @@
  * Words that come up everywhere:
  *
  *   doubleword      8 bytes: the size of a register, and of most arguments' share of memory
+ *   word            4 bytes: the same on AIX, whose floating registers have 8 nonetheless
  *   r0 .. r31       general registers (r0 to r15 on Z), for integers and addresses
  *   f0 .. f31       floating registers (f0 to f15 on Z)
- *   big-endian      the highest byte of a number comes first, as on both machines
+ *   big-endian      the highest byte of a number comes first, as on all these machines
  *   stack pointer   the register with the address of the running function's stack frame
  *   parameter area  the part of the caller's frame with the arguments that are in no register
  *   hidden address  where the caller wants a result that fits no register; it is passed along as
@@ -41,7 +42,7 @@
  *    x86-64, PowerPC and zSeries (make bench and make bench-targets measure it):
  *       1 KiB   fz_version, fz_widen, fz_narrow
  *       4 KiB   fz_read_signature, fz_measure
- *       8 KiB   fz_plan, fz_fill, fz_read, fz_start_ppc64, fz_start_z
+ *       8 KiB   fz_plan, fz_fill, fz_read, fz_start_ppc64, fz_start_z, fz_start_aix
  *      12 KiB   fz_listing, fz_write_register
  *      16 KiB   fz_view, fz_write_memory
  *      20 KiB   fz_home, fz_enter, fz_leave
@@ -77,14 +78,16 @@ uint64_t fz_version(void);
  * signature is these three items in this order, and nothing after:
  *
  *   tag  body
- *   01   the convention, one byte: 1 PPC64, 2 Z
+ *   01   the convention, one byte: 1 PPC64, 2 Z, 3 AIX
  *   02   the result: nothing for a function that gives none, else one type
  *   03   the arguments: 0 to 128 types
  *
  * A type is an item too:
  *
- *   10   an integer, one byte: 0 i8, 1 u8, 2 i16, 3 u16, 4 i32, 5 u32, 6 i64, 7 u64, 8 pointer
- *   11   a float, one byte: 0 single (4 bytes), 1 double (8), 2 long double (16)
+ *   10   an integer, one byte: 0 i8, 1 u8, 2 i16, 3 u16, 4 i32, 5 u32, 6 i64, 7 u64, 8 pointer (8
+ *        bytes, on AIX 4)
+ *   11   a float, one byte: 0 single (4 bytes), 1 double (8), 2 long double (16). AIX has no long
+ *        double, and no double inside a struct
  *   12   a struct: one or more types, its fields. Each field stands at the next multiple of its
  *        alignment, which is its size, for a struct its largest field's alignment; a struct's
  *        size is rounded up to its alignment.
@@ -95,8 +98,8 @@ uint64_t fz_version(void);
  */
 
 /* Why an input is refused. Tests run from left to right; at an item in the order header room,
- * tag, length room, depth, body, long double, contents, struct size. The first that fails is the
- * answer. */
+ * tag, length room, depth, body, long double, what AIX has not, contents, struct size. The first
+ * that fails is the answer. */
 enum fz_refusal {
     FZ_ACCEPTED = 0,
     FZ_TOO_LONG = 1,              /* over 16,384 bytes; tested before all else; place 0 */
@@ -111,7 +114,8 @@ enum fz_refusal {
     FZ_TOO_MANY_ARGUMENTS = 7,    /* bytes after the 128th argument (place: the first) */
     FZ_STRUCT_TOO_LARGE = 8,      /* a struct of over 256 bytes */
     FZ_TRAILING_BYTES = 9,        /* bytes after the third item (place: the first) */
-    FZ_NOT_WIDENED = 14           /* the bits of a double that is no widened single; place 0 */
+    FZ_NOT_WIDENED = 14,          /* the bits of a double that is no widened single; place 0 */
+    FZ_FLOAT_NOT_CARRIED = 25     /* on AIX a long double, or a double inside a struct */
 };
 
 typedef struct {
@@ -135,7 +139,7 @@ fz_answer fz_read_signature(const uint8_t *sig, size_t sig_length);
 
 /* The bits of the double that has the value of the single whose bits are the low 32 of `bits`; the
  * high 32 are ignored. A NaN's fraction is moved bit for bit, so a signaling one stays one. This
- * is how a single stands in a floating register of PPC64. */
+ * is how a single stands in a floating register of PPC64 and AIX. */
 uint64_t fz_widen(uint64_t bits);
 
 /* The way back: the bits of the one single that fz_widen makes `bits` of. Nothing is rounded: a
@@ -152,6 +156,10 @@ fz_narrowed fz_narrow(uint64_t bits);
  * ones are in memory. Results: integers in r3, singles and doubles in f1, long doubles in f1 and
  * f2, structs in the caller's memory.
  *
+ * On AIX all this is so by words (4 bytes each): a double and a 64-bit integer take two of them, a
+ * single, a pointer and any other integer one, a struct as many as it fills or begins to fill. The
+ * first eight words are in r3 to r10. A 64-bit integer's result is in r3 and r4, the high word first.
+ *
  * On Z every argument takes one register or, when none of its kind is left, the next 8 bytes of the
  * stack, from 160 bytes above the stack pointer on. Singles, doubles and structs of only one of
  * these, nested or not, take f0, f2, f4 and f6. All else takes r2 to r6. A long double, and a
@@ -159,14 +167,14 @@ fz_narrowed fz_narrow(uint64_t bits);
  * and the copy's address is the argument. Results: integers in r2, singles and doubles in f0, long
  * doubles and structs in the caller's memory.
  *
- * The address of a result in the caller's memory is a hidden first argument: in r3 on PPC64, with
- * the list's first doubleword, and in r2 on Z. */
+ * The address of a result in the caller's memory is a hidden first argument: in r3 on PPC64 and AIX,
+ * with the list's first doubleword or word, and in r2 on Z. */
 
 typedef struct {
     fz_answer answer; /* its items are 0, unless the signature is refused */
     uint64_t values;  /* bytes of all arguments, in order and without gaps between them */
-    uint64_t area;    /* bytes of the parameter area: on PPC64 64 or more; on Z what lies on the
-                         stack, possibly 0 */
+    uint64_t area;    /* bytes of the parameter area: on PPC64 64 or more, on AIX 32 or more; on Z
+                         what lies on the stack, possibly 0 */
     uint64_t copies;  /* end of the last copy, where each starts at a multiple of 8 and the first
                          at 0; 0 where no argument is passed by reference */
 } fz_sizes;
@@ -217,6 +225,8 @@ fz_planned fz_plan(const uint8_t *sig, size_t sig_length, uint64_t *places, size
  *   2 f1 @72
  *   result f1 f2                   also: none, or hidden and the register with its address
  *
+ * On AIX it is the same by words, and the result of a 64-bit integer is r3 r4.
+ *
  * On Z only what lies on the stack has an offset, which counts from the stack pointer, and ref
  * marks an argument that is passed by reference:
  *
@@ -245,9 +255,11 @@ uint64_t fz_listing(const uint8_t *sig, size_t sig_length, char *text, size_t te
  * are lent anew to every call and belong together: the memory has the length that it had at the
  * start. What is lent to one call must not overlap. Numbers in memory are big-endian.
  *
- * On PPC64 the 288 bytes under the stack pointer are the floor: interrupt code trusts them to be
- * free. They always lie in the memory, and no call writes there but those of a leaf, a function
- * without a frame of its own. Z has no floor and no leaves.
+ * On PPC64 the 288 bytes under the stack pointer are the floor, on AIX the 220: interrupt code trusts
+ * them to be free. They always lie in the memory, and no call writes there but those of a leaf, a
+ * function without a frame of its own. Z has no floor and no leaves.
+ *
+ * On AIX general registers, LR and addresses have 32 bits: the high halves of their words here are 0.
  *
  * Only the answer's number counts here: place and items are 0. A refused call leaves the state and
  * the memory as they were. State and memory may be changed or made up between the calls: every call
@@ -259,53 +271,58 @@ uint64_t fz_listing(const uint8_t *sig, size_t sig_length, char *text, size_t te
  * answer. */
 enum fz_machine_refusal {
     FZ_BAD_MEMORY = 16,      /* at the start: a memory_length that is no multiple of 16, under 256
-                                (on PPC64 under 400, which the floor needs) or over 65,536; a base
-                                that is no multiple of 16; base plus length over 2^64 - 1. Later:
-                                not the length of the start */
+                                (for the floor, on PPC64 under 400 and on AIX under 288) or over
+                                65,536; a base that is no multiple of 16; base plus length over
+                                2^64 - 1, on AIX over 2^32 - 1. Later: not the length of the start */
     FZ_BAD_REQUEST = 17,     /* a frame request out of the ranges at fz_frame */
     FZ_TOO_MANY_FRAMES = 18, /* already 32 frames */
     FZ_NO_ROOM = 19,         /* the new stack pointer would be below the memory's base, or have
                                 less than the floor above it */
-    FZ_NOT_PERMITTED = 20,   /* a write that the function may not do */
-    FZ_BROKEN_CHAIN = 21,    /* the doubleword at the stack pointer, on Z the one where r15 was
-                                saved, is not the caller's stack pointer; never of a leaf */
+    FZ_NOT_PERMITTED = 20,   /* a write that the function may not do, or on AIX of a general register
+                                or LR with a value over 2^32 - 1 */
+    FZ_BROKEN_CHAIN = 21,    /* the doubleword at the stack pointer, on AIX the word, on Z the
+                                doubleword where r15 was saved, is not the caller's stack pointer;
+                                never of a leaf */
     FZ_NOTHING_ENTERED = 22, /* a leave with no frame entered */
     FZ_BAD_STATE = 23,       /* a state that no calls lead to: a convention that is none, a depth
                                 over 32, the record of an entered frame that is out of range, a base
-                                or size that a start refuses, a cr over 32 bits, a stack pointer
-                                below the base, with less than the floor above it, or not the
-                                start's less the sizes of all frames, or a leaf below the top */
+                                or size that a start refuses, a cr over 32 bits, on AIX a general
+                                register or lr over 32 bits, a stack pointer below the base, with
+                                less than the floor above it, or not the start's less the sizes of
+                                all frames, or a leaf below the top */
     FZ_ABOVE_LEAF = 28       /* an enter where the function entered last is a leaf */
 };
 
-/* 66 words. On Z, r16 up, f16 up, LR and CR are carried along and never change. */
+/* 66 numbers. On Z, r16 up, f16 up, LR and CR are carried along and never change. */
 typedef struct {
-    uint64_t gpr[32]; /* the stack pointer is r1 on PPC64, r15 on Z */
+    uint64_t gpr[32]; /* the stack pointer is r1 on PPC64 and AIX, r15 on Z */
     uint64_t fpr[32];
     uint64_t lr;
     uint64_t cr; /* 32 bits: field 0 is the top four of them, field 7 the lowest */
 } fz_registers;
 
-/* What a function needs of its frame. 6 words.
+/* What a function needs of its frame. 6 numbers.
  *
- *              PPC64                              Z
- *   first_gpr  14 to 32: saves it up to r31       6 to 14: saves it up to r15
+ *              PPC64, AIX                         Z
+ *   first_gpr  14 to 32, on AIX 13 to 32: saves   6 to 14: saves it up to r15
+ *              it up to r31
  *   first_fpr  14 to 32: saves it up to f31       8 to 16: saves it up to f15
  *   saves_cr   1: saves CR; 0: does not           0
  *   locals     0 to 32,000 bytes                  the same
  *   outgoing   0 to 32,776 bytes, a multiple      the same
  *              of 8, for arguments that its own
  *              calls pass in memory; the frame
- *              has room for 64 in any case
+ *              has room for 64 in any case, on
+ *              AIX for 32
  *   leaf       1: a leaf, with locals and         0
  *              outgoing 0; 0: none
  *
- * From the new stack pointer up, a frame is: a header (48 bytes on PPC64, 160 on Z) with the
- * caller's stack pointer in its first 8, the outgoing area, the locals, which are as much larger as
- * makes the frame a multiple of 16 (8 on Z), then the saves. On PPC64 these are the general
- * registers and above them the floating ones; LR and CR are saved in the caller's header, at 16 and
- * 8. On Z they are the floating registers alone, and the general register n is saved in the
- * caller's header, at 8n.
+ * From the new stack pointer up, a frame is: a header (48 bytes on PPC64, 24 on AIX, 160 on Z) with
+ * the caller's stack pointer in its first 8 (4 on AIX), the outgoing area, the locals, which are as
+ * much larger as makes the frame a multiple of 16 (8 on Z), then the saves. On PPC64 and AIX these
+ * are the general registers, of 8 bytes each and of 4, and above them the floating ones, of 8; LR and
+ * CR are saved in the caller's header, at 16 and 8, on AIX at 8 and 4. On Z they are the floating
+ * registers alone, and the general register n is saved in the caller's header, at 8n.
  *
  * A leaf has no frame: its saves lie in the same places below the stack pointer, which stays, and
  * so in the floor, and CR in the header there. It saves no LR, and may not write it. */
@@ -318,9 +335,9 @@ typedef struct {
     uint64_t leaf;
 } fz_frame;
 
-/* The state. 262 words. */
+/* The state. 262 numbers. */
 typedef struct {
-    uint64_t convention; /* 1 PPC64, 2 Z */
+    uint64_t convention; /* 1 PPC64, 2 Z, 3 AIX */
     uint64_t base;       /* the address of the memory's first byte */
     uint64_t size;       /* the memory's length */
     uint64_t depth;      /* frames entered and not left */
@@ -329,17 +346,20 @@ typedef struct {
 } fz_machine;
 
 /* Starts a machine for a convention, whatever *machine held. The registers are those handed in (of
- * cr the low 32 bits), but for the stack pointer: it is 112 bytes below the memory's end on PPC64,
- * 160 on Z, and eight zeros are written there. A refused start leaves the memory as it was, and in
- * *machine the convention, the registers as handed in (of cr all 64 bits) and all else 0: a state
- * that every other call refuses with 23. */
+ * cr the low 32 bits, on AIX of every general register and of lr too), but for the stack pointer:
+ * it is 112 bytes below the memory's end on PPC64, 160 on Z, 64 on AIX, and a word of zeros (8
+ * bytes, on AIX 4) is written there. A refused start leaves the memory as it was, and in *machine
+ * the convention, the registers as handed in (of each all 64 bits) and all else 0: a state that
+ * every other call refuses with 23. */
 fz_answer fz_start_ppc64(fz_machine *machine, const fz_registers *registers, uint64_t base,
                          uint8_t *memory, size_t memory_length);
 fz_answer fz_start_z(fz_machine *machine, const fz_registers *registers, uint64_t base,
                      uint8_t *memory, size_t memory_length);
+fz_answer fz_start_aix(fz_machine *machine, const fz_registers *registers, uint64_t base,
+                       uint8_t *memory, size_t memory_length);
 
-/* Enters a frame: saves the registers that the request names (on PPC64 LR too), stores the caller's
- * stack pointer at the new one, and keeps the request in the state. No register but the stack
+/* Enters a frame: saves the registers that the request names (on PPC64 and AIX LR too), stores the
+ * caller's stack pointer at the new one, and keeps the request in the state. No register but the stack
  * pointer changes. Of a leaf only the registers named are saved, and the stack pointer stays. */
 fz_answer fz_enter(fz_machine *machine, const fz_frame *request, uint8_t *memory,
                    size_t memory_length);
@@ -347,7 +367,7 @@ fz_answer fz_enter(fz_machine *machine, const fz_frame *request, uint8_t *memory
 /* Writes a register of the function whose frame was entered last, or of the start where there is
  * none:
  *
- *   bank  number     PPC64: may be written               Z: may be written
+ *   bank  number     PPC64, AIX: may be written          Z: may be written
  *   0     0 to 31    r0, r3 to r12; those it has saved   r0 to r5, r14; those it has saved, but r15
  *   1     0 to 31    f0 to f13; those it has saved       f0 to f7; those it has saved
  *   2     any        LR, but not in a leaf               -
@@ -355,14 +375,14 @@ fz_answer fz_enter(fz_machine *machine, const fz_frame *request, uint8_t *memory
  *                    15: 0, 1, 5, 6, 7; if it has saved
  *                    CR all
  *
- * The memory is only asked for its length. */
+ * On AIX banks 0 and 2 take values up to 2^32 - 1. The memory is only asked for its length. */
 fz_answer fz_write_register(fz_machine *machine, uint64_t bank, uint64_t number, uint64_t value,
                             const uint8_t *memory, size_t memory_length);
 
 /* Writes 1 to 256 bytes at an address. They must lie wholly in one of three areas: the locals or
  * the outgoing area of the frame that was entered last, or the outgoing area of its caller. The
- * start has an outgoing area of 64 bytes on PPC64, of none on Z, and no locals. A leaf has the bytes
- * of the floor below its saves, and its caller's outgoing area. */
+ * start has an outgoing area of 64 bytes on PPC64, of 32 on AIX, of none on Z, and no locals. A leaf
+ * has the bytes of the floor below its saves, and its caller's outgoing area. */
 fz_answer fz_write_memory(const fz_machine *machine, uint64_t address, const uint8_t *bytes,
                           size_t bytes_length, uint8_t *memory, size_t memory_length);
 
@@ -380,15 +400,19 @@ fz_answer fz_leave(fz_machine *machine, const uint8_t *memory, size_t memory_len
  *
  *   values  the values of all arguments, in order and without gaps, each of its type's size: 2
  *           bytes for an i16, a struct's padding included
- *   image   the registers, 512 bytes: general register n at 8n, floating register n at 256 + 8n
+ *   image   the registers, 512 bytes: general register n at 8n, floating register n at 256 + 8n. On
+ *           AIX a general register's 4 bytes are the last of its 8, after 4 zeros, which are written
+ *           with it and not looked at
  *   area    the parameter area in the caller's stack frame, which begins 48 bytes above the stack
- *           pointer on PPC64, 160 on Z. It may be longer than the call needs
+ *           pointer on PPC64, 24 on AIX, 160 on Z. It may be longer than the call needs
  *   copies  Z alone: the values of the arguments that are passed by reference. `copy_base` is the
  *           address of its first byte. It may be longer than the call needs
  *
- * How a value stands in its registers and doublewords:
+ * How a value stands in its registers and doublewords. On AIX it is as on PPC64, with words of 4
+ * bytes in the place of doublewords, of which a single is one:
  *
- *   integer         extended to 64 bits, a signed one with its sign, an unsigned one with zeros
+ *   integer         extended to 64 bits, a signed one with its sign, an unsigned one with zeros; on
+ *                   AIX one of less than 32 bits to 32
  *   single          PPC64: in a floating register the double of the same value (fz_widen); in the
  *                   area the second 4 bytes of a doubleword, after 4 zeros
  *                   Z: in a floating register the first 4 bytes, 4 zeros after them; in the area
@@ -411,10 +435,12 @@ enum fz_marshal_refusal {
     FZ_AREA_TOO_SHORT = 11, /* the area shorter than the call needs */
     FZ_BAD_COPIES = 12,     /* filling a call with copies, the last of which ends at C: the copy
                                buffer shorter than C, copy_base no multiple of 8, or copy_base + C
-                               over 2^64 - 1 */
+                               over 2^64 - 1; filling a call of AIX whose result is a struct: a
+                               hidden address over 2^32 - 1 */
     FZ_OUTSIDE_COPIES = 13, /* reading: an argument by reference that does not lie wholly inside
                                the copy buffer */
-    /* FZ_NOT_WIDENED = 14     a single's floating register on PPC64 that holds no widened single */
+    /* FZ_NOT_WIDENED = 14     a single's floating register on PPC64 or AIX that holds no widened
+                               single */
     FZ_IMAGE_SIZE = 15,     /* the image not 512 bytes */
     FZ_NO_VIEW = 24         /* home or view for Z, or a view of an argument that is not there */
 };
@@ -428,9 +454,9 @@ typedef struct {
 
 /* Puts the values of the arguments into the image, the area and the copies, as a caller does. The
  * copies stand at multiples of 8 from copy_base on, in the arguments' order. Where the result is a
- * struct, or on Z a long double, `hidden` is the address for it and goes to r3 on PPC64, to r2 on
- * Z; else it is ignored. So are the copies and copy_base of a call without copies. Only the named
- * registers, doublewords and copies change: all other bytes of the three buffers stay.
+ * struct, or on Z a long double, `hidden` is the address for it and goes to r3 on PPC64 and AIX, to
+ * r2 on Z; else it is ignored. So are the copies and copy_base of a call without copies. Only the
+ * named registers, doublewords, words and copies change: all other bytes of the three buffers stay.
  * Refuses, in this order: what fz_read_signature refuses, FZ_IMAGE_SIZE, FZ_VALUES_SIZE,
  * FZ_AREA_TOO_SHORT, FZ_BAD_COPIES. */
 fz_answer fz_fill(const uint8_t *sig, size_t sig_length,
@@ -455,17 +481,17 @@ fz_answer fz_read(const uint8_t *sig, size_t sig_length,
                   const uint8_t *copies, size_t copies_length,
                   uint64_t copy_base);
 
-/* PPC64. Every argument has its place in the area, also one that is passed in registers. This
+/* PPC64 and AIX. Every argument has its place in the area, also one that is passed in registers. This
  * copies those that came in registers to their places, as a callee does that wants its arguments
- * side by side: general registers as they are, a floating register's single as it would stand in
- * memory. The hidden address's doubleword and all other bytes stay.
+ * side by side: general registers as they are, on AIX their 4 bytes, a floating register's single as
+ * it would stand in memory. The hidden address's doubleword or word and all other bytes stay.
  * Refuses, in this order: what fz_read_signature refuses, FZ_NO_VIEW, FZ_IMAGE_SIZE,
  * FZ_AREA_TOO_SHORT, FZ_NOT_WIDENED. */
 fz_answer fz_home(const uint8_t *sig, size_t sig_length,
                   const uint8_t *image, size_t image_length,
                   uint8_t *area, size_t area_length);
 
-/* PPC64. Where the bytes of argument `index`, counted from 0, stand in an area in which all
+/* PPC64 and AIX. Where the bytes of argument `index`, counted from 0, stand in an area in which all
  * arguments stand (fz_home): the value's own, without what is around them. In a refused answer
  * start and length are 0; else the length is never 0.
  * Refuses, in this order: what fz_read_signature refuses, FZ_NO_VIEW, FZ_AREA_TOO_SHORT. */

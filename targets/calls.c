@@ -66,24 +66,30 @@ static uint64_t read_number(const place *where, span word)
 static fz_answer start(const place *where, span line, machine *on)
 {
     static const fz_registers zeros;
+    static const struct {
+        const char *name;
+        fz_answer (*start)(fz_machine *, const fz_registers *, uint64_t, uint8_t *, size_t);
+    } conventions[] = {{"ppc64", fz_start_ppc64}, {"z", fz_start_z}, {"aix", fz_start_aix}};
     span convention = next_word(&line), size = next_word(&line), base = next_word(&line);
-    int ppc64 = is(convention, "ppc64");
     uint64_t length, address;
+    int of;
 
     if (base.length == 0 || next_word(&line).length != 0)
-        fail(where, "a start is 'start ppc64 SIZE BASE' or 'start z SIZE BASE'");
-    if (!ppc64 && !is(convention, "z"))
-        fail_at_word(where, "", convention, " is no convention: ppc64 or z");
+        fail(where, "a start is 'start CONVENTION SIZE BASE', of ppc64, z or aix");
+    for (of = 0; of < 2 && !is(convention, conventions[of].name); of++)
+        ;
+    if (!is(convention, conventions[of].name))
+        fail_at_word(where, "", convention, " is no convention: ppc64, z or aix");
     length = read_number(where, size);
     if (length > LARGEST_MEMORY)
         fail(where, "a memory of over %d bytes", LARGEST_MEMORY);
     address = read_number(where, base);
     renew_memory(on, (size_t)length);
-    return (ppc64 ? fz_start_ppc64 : fz_start_z)(&on->state, &zeros, address, on->memory, on->size);
+    return conventions[of].start(&on->state, &zeros, address, on->memory, on->size);
 }
 
 /* Each word at most once and in any order. Only those for the first saved registers must be there:
- * what they are without any is not the same in both conventions. */
+ * what they are without any is not the same in all conventions. */
 static fz_answer enter(const place *where, span line, machine *on)
 {
     static const char *const names[] = {"g", "m", "cr", "locals", "out"};

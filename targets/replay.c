@@ -25,6 +25,7 @@ enum {
     HOME,
     VIEW,
     PLAN,
+    START_AIX,
     OPERATIONS,
     SET_MACHINE = 100,
     CHANGE_MACHINE = 101
@@ -52,6 +53,7 @@ static const struct shape {
     [HOME] = {"fz_home", 0, 3, 3, 0},
     [VIEW] = {"fz_view", 1, 2, 5, 0},
     [PLAN] = {"fz_plan", 0, 2, 14, 0},
+    [START_AIX] = {"fz_start_aix", 2, 1, 3, 2},
 };
 
 #define MOST_NUMBERS 4
@@ -360,10 +362,12 @@ static void call_machine(int operation, const uint64_t *numbers)
     switch (operation) {
     case START_PPC64:
     case START_Z:
+    case START_AIX:
         words_from(&registers, sizeof registers, &own[0]);
-        set_answer(operation == START_Z
-                       ? fz_start_z(machine, &registers, numbers[0], bytes, length)
-                       : fz_start_ppc64(machine, &registers, numbers[0], bytes, length));
+        set_answer((operation == START_PPC64 ? fz_start_ppc64
+                    : operation == START_Z   ? fz_start_z
+                                             : fz_start_aix)(machine, &registers, numbers[0],
+                                                             bytes, length));
         words_to(&registers, sizeof registers, &own[0]);
         break;
     case ENTER:

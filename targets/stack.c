@@ -101,6 +101,12 @@ static size_t length_of(const type *of)
     return 3 * of->structs + 4 * of->fields;
 }
 
+/* Whether AIX refuses it: a long double, or a double inside a struct. */
+static int not_on_aix(const type *of)
+{
+    return of->tag == 0x11 && (of->code == 2 || (of->code == 1 && of->structs > 0));
+}
+
 static void put_type(const type *of)
 {
     size_t level, field;
@@ -137,6 +143,7 @@ static const type types[] = {
     {0x11, 0, 1, 8},   /* a single within 8 structs */
     {0x10, 0, 256, 1}, /* the most fields */
     {0x11, 1, 32, 1},  /* the largest struct */
+    {0x10, 6, 32, 1},  /* the same of integers */
     {0x10, 0, 256, 8},
 };
 
@@ -218,6 +225,11 @@ static void call_start_z(void)
     number = fz_start_z(&machine, &registers, BASE, memory, sizeof memory).number;
 }
 
+static void call_start_aix(void)
+{
+    number = fz_start_aix(&machine, &registers, BASE, memory, sizeof memory).number;
+}
+
 static void call_enter(void)
 {
     number = fz_enter(&machine, &request, memory, sizeof memory).number;
@@ -230,8 +242,9 @@ static void call_write_register(void)
 
 static void call_write_memory(void)
 {
-    /* the locals' first bytes: on PPC64 the outgoing area has at least 64 */
-    uint64_t header = machine.convention == 2 ? 160 : 48 + 64;
+    /* the locals' first bytes: on PPC64 the outgoing area has at least 64, on AIX 32 */
+    static const uint64_t headers[] = {48 + 64, 160, 24 + 32};
+    uint64_t header = headers[machine.convention - 1];
     uint64_t pointer = machine.registers.gpr[machine.convention == 2 ? 15 : 1];
 
     number = fz_write_memory(&machine, pointer + header, values, 256, memory, sizeof memory).number;
@@ -256,6 +269,7 @@ enum {
     NARROW,
     START_PPC64,
     START_Z,
+    START_AIX,
     ENTER,
     WRITE_REGISTER,
     WRITE_MEMORY,
@@ -281,6 +295,7 @@ static struct {
     [NARROW] = {"fz_narrow", call_narrow, 0},
     [START_PPC64] = {"fz_start_ppc64", call_start_ppc64, 0},
     [START_Z] = {"fz_start_z", call_start_z, 0},
+    [START_AIX] = {"fz_start_aix", call_start_aix, 0},
     [ENTER] = {"fz_enter", call_enter, 0},
     [WRITE_REGISTER] = {"fz_write_register", call_write_register, 0},
     [WRITE_MEMORY] = {"fz_write_memory", call_write_memory, 0},
@@ -315,7 +330,7 @@ static void measure_signature(uint8_t convention, const type *of)
     measure(LISTING);
     measure(FILL);
     measure(READ);
-    if (convention == 1) {
+    if (convention != 2) {
         measure(HOME);
         view_index = 0;
         measure(VIEW);
@@ -327,6 +342,7 @@ static void measure_machine(int start)
 {
     static const fz_frame small = {32, 32, 0, 0, 0, 0}, small_z = {14, 16, 0, 0, 0, 0};
     static const fz_frame large = {14, 14, 1, 32000, 0, 0}, large_z = {6, 8, 0, 32000, 0, 0};
+    static const fz_frame large_aix = {13, 14, 1, 32000, 0, 0};
     int z = start == START_Z, depth;
 
     measure(start);
@@ -334,7 +350,7 @@ static void measure_machine(int start)
         request = z ? small_z : small;
         measure(ENTER);
     }
-    request = z ? large_z : large;
+    request = z ? large_z : start == START_AIX ? large_aix : large;
     measure(ENTER);
     measure(WRITE_REGISTER);
     measure(WRITE_MEMORY);
@@ -351,14 +367,16 @@ int main(void)
     if (stack == NULL)
         fail("no memory");
     without_library = written(call_nothing);
-    for (convention = 1; convention <= 2; convention++)
+    for (convention = 1; convention <= 3; convention++)
         for (i = 0; i < sizeof types / sizeof *types; i++)
-            measure_signature(convention, &types[i]);
+            if (convention != 3 || !not_on_aix(&types[i]))
+                measure_signature(convention, &types[i]);
     measure(VERSION);
     measure(WIDEN);
     measure(NARROW);
     measure_machine(START_PPC64);
     measure_machine(START_Z);
+    measure_machine(START_AIX);
     for (i = 0; i < FUNCTIONS; i++)
         printf("%-17s %6lu\n", functions[i].name, (unsigned long)functions[i].most);
     return 0;

@@ -3,8 +3,9 @@
 ghost use mathlib.Core.Path.{_≡_};
 ghost use lib.ListN.{length};
 ghost use Rattle.conventions.specs.Numbers.{leastArea};
-ghost use Rattle.places.specs.Step.{rulesOf, fresh};
-ghost use Rattle.rules.specs.Rules.{rules};
+ghost use Rattle.places.specs.declared.Edition.{Edition};
+ghost use Rattle.places.specs.Step.{power, rulesOf, fresh};
+ghost use Rattle.rules.specs.Rules.{powerGpr, powerFpr, rules};
 ghost use Rattle.machine.specs.Machine.{startOutcome, startMemory};
 use conventions::Convention;
 use machine::Outcome;
@@ -37,6 +38,8 @@ impl Ppc64 {
     pub const START_ROOM: usize = 112;
 
     pub const FLOOR: usize = 288;
+    // Saves start at this register.
+    pub const FIRST_SAVED: usize = 14;
 
     pub const STACK_POINTER: usize = 1;
     // Where CR and LR are saved in the caller's header.
@@ -47,10 +50,7 @@ impl Ppc64 {
     pub fn call_rules() -> places::Rules
         ensures { λ r. ⌜ r ≡ rulesOf Convention.Ppc64 ⌝ }
     {
-        places::Rules::Power(PowerRules {
-            word: Self::WORD,
-            edition: Edition::Earlier,
-        })
+        earlier(Self::WORD)
     }
 
     // Where the first argument starts.
@@ -68,25 +68,6 @@ impl Ppc64 {
     pub fn frame_rules() -> Rules
         ensures { λ r. ⌜ r ≡ rules Convention.Ppc64 ⌝ }
     {
-        let volatile = [Span { first: 0, last: 0 }, Span { first: 3, last: 12 }];
-        let preserved = [
-            Span { first: 2, last: 2 },
-            Span {
-                first: 13,
-                last: 31,
-            },
-        ];
-        let floating = [Span { first: 0, last: 13 }, Span { first: 0, last: 13 }];
-        let kept = [
-            Span {
-                first: 14,
-                last: 31,
-            },
-            Span {
-                first: 14,
-                last: 31,
-            },
-        ];
         Rules {
             word: Self::WORD,
             header: Self::HEADER,
@@ -97,24 +78,8 @@ impl Ppc64 {
             pointer: Self::STACK_POINTER,
             end: 32,
             limit: 18446744073709551615,
-            gpr: Bank {
-                request: Span {
-                    first: 14,
-                    last: 32,
-                },
-                last: 31,
-                volatile: volatile,
-                preserved: preserved,
-            },
-            fpr: Bank {
-                request: Span {
-                    first: 14,
-                    last: 32,
-                },
-                last: 31,
-                volatile: floating,
-                preserved: kept,
-            },
+            gpr: power_gpr(Self::FIRST_SAVED),
+            fpr: power_fpr(),
             linkage: Linkage::LinkRegister(Self::CR_SLOT, Self::LR_SLOT),
         }
     }
@@ -226,6 +191,141 @@ impl Z {
     }
 }
 
+// 32-bit AIX: document 003. PPC64's rules by words of 4 bytes, with r13 among the saved registers.
+pub struct Aix {}
+
+impl Aix {
+    pub const WORD: usize = Convention::AIX_WORD;
+
+    pub const HEADER: usize = 24;
+
+    pub const ALIGNMENT: usize = 16;
+
+    pub const LEAST_WORDS: usize = Ppc64::LEAST_WORDS;
+
+    pub const FIRST_GENERAL: usize = Ppc64::FIRST_GENERAL;
+
+    pub const FIRST_FLOATING: usize = Ppc64::FIRST_FLOATING;
+
+    pub const START_ROOM: usize = 64;
+
+    pub const FLOOR: usize = 220;
+
+    pub const FIRST_SAVED: usize = 13;
+
+    pub const STACK_POINTER: usize = Ppc64::STACK_POINTER;
+
+    pub const CR_SLOT: usize = 4;
+
+    pub const LR_SLOT: usize = 8;
+    // The highest address, which is also the largest number in a word.
+    pub const LIMIT: u64 = 4294967295;
+
+    pub fn call_rules() -> places::Rules
+        ensures { λ r. ⌜ r ≡ rulesOf Convention.Aix ⌝ }
+    {
+        earlier(Self::WORD)
+    }
+
+    pub fn cursor() -> Cursor
+        ensures { λ r. ⌜ r ≡ fresh (rulesOf Convention.Aix) ⌝ }
+    {
+        Cursor {
+            general: Self::FIRST_GENERAL,
+            floating: Self::FIRST_FLOATING,
+            stack: 0,
+            copies: 0,
+        }
+    }
+
+    pub fn frame_rules() -> Rules
+        ensures { λ r. ⌜ r ≡ rules Convention.Aix ⌝ }
+    {
+        Rules {
+            word: Self::WORD,
+            header: Self::HEADER,
+            least: Self::WORD * Self::LEAST_WORDS,
+            alignment: Self::ALIGNMENT,
+            room: Self::START_ROOM,
+            floor: Self::FLOOR,
+            pointer: Self::STACK_POINTER,
+            end: 32,
+            limit: Self::LIMIT,
+            gpr: power_gpr(Self::FIRST_SAVED),
+            fpr: power_fpr(),
+            linkage: Linkage::LinkRegister(Self::CR_SLOT, Self::LR_SLOT),
+        }
+    }
+
+    pub fn start(memory: &mut [u8], base: u64, registers: Registers) -> Outcome
+        ensures { λ r. ⌜ r ≡ startOutcome Convention.Aix base (length (now (memory .entry))) registers ⌝ }
+        ensures { λ _. ⌜ now (memory .exit) ≡ startMemory Convention.Aix base (now (memory .entry)) ⌝ }
+    {
+        starting::start(Aix::frame_rules(), Convention::Aix, memory, base, registers)
+    }
+}
+
+// ---- what PPC64 and AIX share
+
+// The rules of calls by words of so many bytes, in the earlier edition.
+fn earlier(word: usize) -> places::Rules
+    ensures { λ r. ⌜ r ≡ power word Edition.Earlier ⌝ }
+{
+    places::Rules::Power(PowerRules {
+        word: word,
+        edition: Edition::Earlier,
+    })
+}
+
+// The general registers, where saves start at r(first).
+fn power_gpr(first: usize) -> Bank
+    ensures { λ b. ⌜ b ≡ powerGpr first ⌝ }
+{
+    let volatile = [Span { first: 0, last: 0 }, Span { first: 3, last: 12 }];
+    let preserved = [
+        Span { first: 2, last: 2 },
+        Span {
+            first: 13,
+            last: 31,
+        },
+    ];
+    Bank {
+        request: Span {
+            first: first,
+            last: 32,
+        },
+        last: 31,
+        volatile: volatile,
+        preserved: preserved,
+    }
+}
+
+// The floating registers.
+fn power_fpr() -> Bank
+    ensures { λ b. ⌜ b ≡ powerFpr ⌝ }
+{
+    let volatile = [Span { first: 0, last: 13 }, Span { first: 0, last: 13 }];
+    let preserved = [
+        Span {
+            first: 14,
+            last: 31,
+        },
+        Span {
+            first: 14,
+            last: 31,
+        },
+    ];
+    Bank {
+        request: Span {
+            first: 14,
+            last: 32,
+        },
+        last: 31,
+        volatile: volatile,
+        preserved: preserved,
+    }
+}
+
 // ---- by the convention's name
 
 // The rules of its calls.
@@ -235,6 +335,7 @@ pub fn call_rules_of(c: Convention) -> places::Rules
     match c {
         Convention::Ppc64 => Ppc64::call_rules(),
         Convention::Z => Z::call_rules(),
+        Convention::Aix => Aix::call_rules(),
     }
 }
 
@@ -245,6 +346,7 @@ pub fn cursor_of(c: Convention) -> Cursor
     match c {
         Convention::Ppc64 => Ppc64::cursor(),
         Convention::Z => Z::cursor(),
+        Convention::Aix => Aix::cursor(),
     }
 }
 
@@ -255,6 +357,7 @@ pub fn least_area_of(c: Convention) -> usize
     match c {
         Convention::Ppc64 => Ppc64::WORD * Ppc64::LEAST_WORDS,
         Convention::Z => Z::WORD * Z::LEAST_WORDS,
+        Convention::Aix => Aix::WORD * Aix::LEAST_WORDS,
     }
 }
 
@@ -265,5 +368,6 @@ pub fn frame_rules_of(c: Convention) -> Rules
     match c {
         Convention::Ppc64 => Ppc64::frame_rules(),
         Convention::Z => Z::frame_rules(),
+        Convention::Aix => Aix::frame_rules(),
     }
 }

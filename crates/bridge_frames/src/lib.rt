@@ -3,7 +3,7 @@
 use answers::Answer;
 ghost use mathlib.Core.Path.{_≡_};
 ghost use lib.ListN.{length};
-ghost use Rattle.conventions.specs.declared.Convention.the-variants.{Ppc64, Z};
+ghost use Rattle.conventions.specs.declared.Convention.the-variants.{Ppc64, Z, Aix};
 ghost use Rattle.machine.specs.Machine.{startOutcome, startMemory, enterOutcome, enterMemory, writeRegisterOutcome, writeMemoryOutcome, writeMemoryMemory, leaveOutcome};
 ghost use Rattle.word_layout.specs.Words.{registersIn, frameIn, stateIn};
 ghost use Rattle.word_layout.specs.Calls.{startWords, enterWords, writeRegisterWords, leaveWords};
@@ -47,6 +47,22 @@ pub extern "C" fn fz_start_z(
     ensures { λ _. ⌜ now (memory .exit) ≡ startMemory Z base (now (memory .entry)) ⌝ }
 {
     let a = machine_words::start_z(machine, registers, base, memory);
+    answer_of(a)
+}
+
+// Of the general registers and LR an accepted start takes the low 32 bits.
+#[no_mangle]
+pub extern "C" fn fz_start_aix(
+    machine: &mut [u64; 262],
+    registers: &[u64; 66],
+    base: u64,
+    memory: &mut [u8],
+) -> Answer
+    ensures { λ r. ⌜ r ≡ frameAnswer (startOutcome Aix base (length (now (memory .entry))) (registersIn (now (registers .entry)) 0) .answer) ⌝ }
+    ensures { λ _. ⌜ now (machine .exit) ≡ startWords Aix (now (registers .entry)) base (length (now (memory .entry))) ⌝ }
+    ensures { λ _. ⌜ now (memory .exit) ≡ startMemory Aix base (now (memory .entry)) ⌝ }
+{
+    let a = machine_words::start_aix(machine, registers, base, memory);
     answer_of(a)
 }
 

@@ -5,12 +5,12 @@ use Rattle.items.specs.declared.Fault.{Fault}
 use Rattle.slots.specs.declared.Answer as slots
 use Rattle.slots.specs.declared.Refusal.{Refusal}
 use Rattle.slots.specs.Refusals.{numberOf}
-use Rattle.home.specs.declared.ViewPart.{ViewPart}
 use Rattle.answers.specs.declared.Answer.{Answer}
 use Rattle.answers.specs.Answers.{answerOf, yes}
 use Rattle.faults.specs.Faults.{faultAnswer}
 use Rattle.bridge_values.specs.declared.Part.{Part}
 use Rattle.bridge_values.specs.Values.{callAnswer, partAnswer}
+use Rattle.views.specs.declared.ViewPart.{ViewPart}
 
 pub done-answer : (a : slots.Answer) → a ≡ slots.Answer.Done → yes ≡ callAnswer a
 unfolding callAnswer

@@ -2,11 +2,11 @@
 -- place (.. 0 for refusals 1 and 10 to 24). .. counts are 0", but for a reading's own refusal. Assumes nothing.
 use Rattle.slots.specs.declared.Answer as slots
 use Rattle.slots.specs.Refusals.{numberOf}
-use Rattle.home.specs.declared.ViewPart.{ViewPart}
 use Rattle.answers.specs.declared.Answer.{Answer}
 use Rattle.answers.specs.Answers.{answerOf, yes}
 use Rattle.faults.specs.Faults.{faultAnswer}
 use Rattle.bridge_values.specs.declared.Part.{Part}
+use Rattle.views.specs.declared.ViewPart.{ViewPart}
 
 unfoldable pub callAnswer : slots.Answer → Answer
 callAnswer slots.Answer.Done = yes

@@ -7,8 +7,8 @@ ghost use Rattle.slots.specs.Buffers.{buffers};
 ghost use Rattle.fill.specs.Fill.{lengths, fillAnswer, fillBuffers};
 ghost use Rattle.read.specs.Read.{sizes, readAnswer, readValues};
 ghost use Rattle.home.specs.Home.{homeAnswer, homeArea};
-ghost use Rattle.home.specs.View.{viewPart};
 ghost use Rattle.bridge_values.specs.Values.{callAnswer, partAnswer};
+ghost use Rattle.views.specs.View.{viewPart};
 
 // `fz_part`: `length` bytes of a buffer from `start` on.
 #[repr(C)]
@@ -46,8 +46,8 @@ pub extern "C" fn fz_fill(
     base: u64,
     hidden: u64,
 ) -> Answer
-    ensures { λ r. ⌜ r ≡ callAnswer (fillAnswer (now (sig .entry)) (lengths (now (values .entry)) (now (image .entry)) (now (area .entry)) (now (copies .entry))) base) ⌝ }
-    ensures { λ _. ⌜ buffers (now (image .exit)) (now (area .exit)) (now (copies .exit)) ≡ fillBuffers (now (sig .entry)) (now (values .entry)) base hidden (fillAnswer (now (sig .entry)) (lengths (now (values .entry)) (now (image .entry)) (now (area .entry)) (now (copies .entry))) base) (buffers (now (image .entry)) (now (area .entry)) (now (copies .entry))) ⌝ }
+    ensures { λ r. ⌜ r ≡ callAnswer (fillAnswer (now (sig .entry)) (lengths (now (values .entry)) (now (image .entry)) (now (area .entry)) (now (copies .entry))) base hidden) ⌝ }
+    ensures { λ _. ⌜ buffers (now (image .exit)) (now (area .exit)) (now (copies .exit)) ≡ fillBuffers (now (sig .entry)) (now (values .entry)) base hidden (fillAnswer (now (sig .entry)) (lengths (now (values .entry)) (now (image .entry)) (now (area .entry)) (now (copies .entry))) base hidden) (buffers (now (image .entry)) (now (area .entry)) (now (copies .entry))) ⌝ }
 {
     let a = fill::fill(sig, values, image, area, copies, base, hidden);
     answer_of(a)
@@ -83,7 +83,7 @@ pub extern "C" fn fz_home(sig: &[u8], image: &[u8], area: &mut [u8]) -> Answer
 pub extern "C" fn fz_view(area: &[u8], sig: &[u8], index: u64) -> Part
     ensures { λ r. ⌜ r ≡ partAnswer (viewPart (now (sig .entry)) (length (now (area .entry))) index) ⌝ }
 {
-    let p = home::view_part(sig, index as usize, area.len());
+    let p = views::view_part(sig, index as usize, area.len());
     let a = p.answer;
     let start = p.start as u64;
     let length = p.length as u64;

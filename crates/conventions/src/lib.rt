@@ -6,6 +6,7 @@ ghost use Rattle.conventions.specs.Numbers.{wordBytes, codeOf, conventio
 pub enum Convention {
     Ppc64,
     Z,
+    Aix,
 }
 
 // What a code says.
@@ -20,9 +21,13 @@ impl Convention {
 
     pub const Z_WORD: usize = 8;
 
+    pub const AIX_WORD: usize = 4;
+
     pub const PPC64_CODE: u64 = 1;
 
     pub const Z_CODE: u64 = 2;
+
+    pub const AIX_CODE: u64 = 3;
 }
 
 // The bytes of a word.
@@ -32,6 +37,7 @@ pub fn word_bytes(c: Convention) -> usize
     match c {
         Convention::Ppc64 => Convention::PPC64_WORD,
         Convention::Z => Convention::Z_WORD,
+        Convention::Aix => Convention::AIX_WORD,
     }
 }
 
@@ -42,6 +48,7 @@ pub fn code_of(c: Convention) -> u64
     match c {
         Convention::Ppc64 => Convention::PPC64_CODE,
         Convention::Z => Convention::Z_CODE,
+        Convention::Aix => Convention::AIX_CODE,
     }
 }
 
@@ -54,6 +61,9 @@ pub fn convention_code(code: u64) -> ConventionCode
     }
     if code == Convention::Z_CODE {
         return ConventionCode::Known(Convention::Z);
+    }
+    if code == Convention::AIX_CODE {
+        return ConventionCode::Known(Convention::Aix);
     }
     ConventionCode::Unknown
 }

@@ -2,11 +2,20 @@
 use mathlib.Core.Path.{_≡_, refl, sym, ap, _∙_, subst}
 use mathlib.Core.Bool.{Bool, true, false}
 use mathlib.Core.List.{List, []}
-use Prim.Native.Nat.{ℕ, _+_, _-_, _%_, _^_, _≤_, _<_}
+use Prim.Native.Nat.{ℕ, _+_, _-_, _*_, _%_, _^_, _≤_, _<_}
 use native.Mathlib.Omega.{arith}
-use borrow.Author.Tests.{ltb-false, eqb-true}
+use native.Mathlib.Nat.{mod-lt, mod-eq-of-lt}
+use lib.Pow.{pow-pos}
+use borrow.Author.Tests.{lt-ltb, le-ltb, ltb-true, ltb-false, eqb-true}
 use lib.Dec.{eqb, ltb}
 use Rattle.words.specs.Basics.{pick}
+use Rattle.words.specs.Numbers.{bytesOf, zeroExtended}
+use Rattle.words.proofs.Numbers.{length-bytesOf}
+use Rattle.conventions.specs.Numbers.{wordBytes}
+use Rattle.conventions.proofs.Laws.{word-bounds}
+use Rattle.places.proofs.Bounds.{rules-word}
+use Rattle.registers.specs.Registers.{spread}
+use Rattle.registers.proofs.Registers.{register-number, spread-one}
 use Rattle.conventions.specs.declared.Convention.{Convention}
 use Rattle.types.specs.Sizes.{sizeOf}
 use Rattle.items.specs.declared.Fault.{Fault}
@@ -17,6 +26,7 @@ use Rattle.signature.specs.declared.SignatureRead.{SignatureRead}
 use Rattle.signature.specs.Read.{signatureOf}
 use Rattle.signature.specs.Answer.{signatureAnswer}
 use Rattle.places.specs.declared.ResultPlaces.{ResultPlaces}
+use Rattle.places.specs.declared.Span.{Span}
 use Rattle.places.specs.Values.{pointer}
 use Rattle.places.specs.Step.{rulesOf, wordOf, spanOf, fresh, hiddenFor, returning, resultOf}
 use Rattle.places.specs.ZSeries.{zClass, zSpanOf}
@@ -30,7 +40,7 @@ use Rattle.slots.specs.Buffers.{Buffers, buffers, Slot, put, putAll}
 use Rattle.slots.specs.Placements.{Placement, hiddenSlots, slotsOfAll}
 use Rattle.slots.specs.Limits.{Held, Fits, All, sizesOf}
 use Rattle.slots.specs.Refusals.{test, differ, firstOf, isRefused}
-use Rattle.slots.specs.Arguments.{argumentsOf, planFor}
+use Rattle.slots.specs.Arguments.{argumentsOf, planFor, rulesFor}
 use Rattle.slots.proofs.Answered.{carried}
 use Rattle.arguments.specs.Table.{argumentsFrom}
 use Rattle.arguments.proofs.Table.{arguments-read}
@@ -39,7 +49,7 @@ use Rattle.slots.proofs.Planned.{all-with}
 use Rattle.slots.proofs.Refusals.{first-done, differ-false}
 use Rattle.marshal.specs.Room.{Ready}
 use Rattle.fill.specs.declared.Lengths.{Lengths}
-use Rattle.fill.specs.Fill.{badCopies, fillTests, fillAnswer, filledSlots, fillBuffers, HiddenFits, AllReady}
+use Rattle.fill.specs.Fill.{badCopies, highAddress, fillTests, fillAnswer, filledSlots, fillBuffers, HiddenFits, WordSize, AllReady}
 
 -- ---- the tests
 copies-good : (e n base : ℕ) → base < 2 ^ 64 → badCopies e n base ≡ false → (e ≤ n) × (base + e < 2 ^ 64)
@@ -70,10 +80,10 @@ pub record Lent (have : Lengths) (p : Plan) (base : ℕ) : Type 0 where
   pub copies : p .copies ≤ have .copies
   pub low : base + p .copies < 2 ^ 64
 
-pub tests-passed : (have : Lengths) (p : Plan) (base : ℕ) → base < 2 ^ 64
-    → firstOf (fillTests have (p .values) (p .area) (p .copies) base) ≡ Answer.Done → Lent have p base
+pub tests-passed : (have : Lengths) (p : Plan) (base : ℕ) (high : Bool) → base < 2 ^ 64
+    → firstOf (fillTests have (p .values) (p .area) (p .copies) base high) ≡ Answer.Done → Lent have p base
 unfolding fillTests
-tests-passed have p base low e =
+tests-passed have p base high low e =
     let a = first-done _ _ e in
     let b = first-done _ _ (a .1) in
     let c = first-done _ _ (b .1) in
@@ -87,10 +97,20 @@ tests-passed have p base low e =
       low = good .1;
     }
 
+-- nor is the hidden address too high
+pub tests-low : (have : Lengths) (values area copies base : ℕ) (high : Bool) → firstOf (fillTests have values area copies base high) ≡ Answer.Done → high ≡ false
+unfolding fillTests
+tests-low have values area copies base high e =
+    let a = first-done _ _ e in
+    let b = first-done _ _ (a .1) in
+    let c = first-done _ _ (b .1) in
+    let d = first-done _ _ (c .1) in
+    first-done _ _ (d .1) .0
+
 -- the same of sizes m that were measured
-pub tests-lent : (s : List ℕ) (have : Lengths) (base : ℕ) (m : Measured) → base < 2 ^ 64 → m ≡ measureOf (planFor s)
-    → firstOf (fillTests have (m .values) (m .area) (m .copies) base) ≡ Answer.Done → Lent have (planFor s) base
-tests-lent s have base m low p e = tests-passed have (planFor s) base low (rw p at e)
+pub tests-lent : (s : List ℕ) (have : Lengths) (base : ℕ) (m : Measured) (high : Bool) → base < 2 ^ 64 → m ≡ measureOf (planFor s)
+    → firstOf (fillTests have (m .values) (m .area) (m .copies) base high) ≡ Answer.Done → Lent have (planFor s) base
+tests-lent s have base m high low p e = tests-passed have (planFor s) base high low (rw p at e)
 
 -- ---- the arguments
 
@@ -122,6 +142,7 @@ address-first : (c : Convention) → spanOf (rulesOf c) (fresh (rulesOf c)) poin
 unfolding spanOf fresh zClass zSpanOf
 address-first Convention.Ppc64 = omega arith
 address-first Convention.Z = omega arith
+address-first Convention.Aix = omega arith
 
 result-fits : (c : Convention) (r : ResultType) → HiddenFits (resultIn c r) 512
 unfolding resultOf
@@ -142,26 +163,68 @@ hidden-fits c t q i p e = rw (p, e) (result-fits c t)
 -- ---- the answer and the buffers
 
 module _ (s : List ℕ) where
-  pub answer-refused : (have : Lengths) (base : ℕ) (m : Measured) (f : Fault) → m ≡ measureOf (planFor s) → m .outcome ≡ Outcome.Refused f
-      → Answer.Unread f ≡ fillAnswer s have base
+  pub answer-refused : (have : Lengths) (base hidden : ℕ) (m : Measured) (f : Fault) → m ≡ measureOf (planFor s) → m .outcome ≡ Outcome.Refused f
+      → Answer.Unread f ≡ fillAnswer s have base hidden
   unfolding fillAnswer
-  answer-refused have base m f p e = rw (rw p at e)
+  answer-refused have base hidden m f p e = rw (rw p at e)
 
-  pub answer-tested : (have : Lengths) (base n : ℕ) (m : Measured) (a : Answer) → m ≡ measureOf (planFor s) → m .outcome ≡ Outcome.Accepted n
-      → a ≡ firstOf (fillTests have (m .values) (m .area) (m .copies) base) → a ≡ fillAnswer s have base
+  pub answer-tested : (have : Lengths) (base hidden n w : ℕ) (m : Measured) (q : ResultPlaces) (high : Bool) (a : Answer)
+      → m ≡ measureOf (planFor s) → w ≡ wordOf (rulesFor s) → q ≡ planFor s .result → high ≡ highAddress w q hidden → m .outcome ≡ Outcome.Accepted n
+      → a ≡ firstOf (fillTests have (m .values) (m .area) (m .copies) base high) → a ≡ fillAnswer s have base hidden
   unfolding fillAnswer
-  answer-tested have base n m a p e t = rw (rw p at e) (rw p at t)
+  answer-tested have base hidden n w m q high a p x y z e t = rw (rw p at e) (rw (p, z, x, y) at t)
+
+  -- the word of the signature's convention
+  pub word-read : (g : SignatureRead) (w : ℕ) → g ≡ signatureAnswer (signatureOf s) → w ≡ wordBytes (g .convention) → w ≡ wordOf (rulesFor s)
+  word-read g w e q = q ∙ sym (rules-word (g .convention)) ∙ ap (λ (x : SignatureRead). wordOf (rulesOf (x .convention))) e
+
+-- ---- the hidden address
+
+-- one that is too high is more than its lowest bytes
+pub high-is : (w x : ℕ) → ltb (zeroExtended w x) x ≡ ltb (2 ^ (8 * w) - 1) x
+unfolding zeroExtended
+high-is w x = go (ltb (2 ^ (8 * w) - 1) x) refl
+  where
+    go : (b : Bool) → ltb (2 ^ (8 * w) - 1) x ≡ b → ltb (x % 2 ^ (8 * w)) x ≡ b
+    go true e =
+        let l : 2 ^ (8 * w) - 1 < x = ltb-true (2 ^ (8 * w) - 1) x e in
+        lt-ltb (x % 2 ^ (8 * w)) x (omega (arith, mod-lt x (pow-pos (8 * w)), pow-pos (8 * w)))
+    go false e =
+        let l : x ≤ 2 ^ (8 * w) - 1 = ltb-false (2 ^ (8 * w) - 1) x e in
+        let low : x < 2 ^ (8 * w) = omega (arith, pow-pos (8 * w)) in
+        rw (mod-eq-of-lt low) (le-ltb x x (omega arith))
+
+-- none is where a word is a doubleword
+pub never-high : (q : ResultPlaces) (x : ℕ) → x < 2 ^ 64 → highAddress 8 q x ≡ false
+never-high ResultPlaces.Nothing x h = refl
+never-high (ResultPlaces.Registers s) x h = refl
+never-high (ResultPlaces.Hidden s) x h = le-ltb (2 ^ 64 - 1) x (omega arith)
+
+-- its word in the register
+pub address-word : (w x : ℕ) → w ≤ 8 → bytesOf 8 (zeroExtended w x) ≡ spread w 1 (bytesOf w x)
+address-word w x h = register-number w x h ∙ sym (spread-one w (bytesOf w x) (length-bytesOf w x))
+
+-- which is the whole address where that is not too high
+pub low-address : (w x : ℕ) (s : Span) → w ≤ 8 → highAddress w (ResultPlaces.Hidden s) x ≡ false → spread w 1 (bytesOf w x) ≡ bytesOf 8 x
+unfolding zeroExtended
+low-address w x s h e =
+    let l : x ≤ 2 ^ (8 * w) - 1 = ltb-false (2 ^ (8 * w) - 1) x e in
+    let low : x < 2 ^ (8 * w) = omega (arith, pow-pos (8 * w)) in
+    sym (address-word w x h) ∙ ap (bytesOf 8) (mod-eq-of-lt low)
+
+pub word-size : (c : Convention) → WordSize (wordBytes c)
+word-size c = let b = word-bounds c in (omega arith, omega arith)
 
 -- a hidden address changes the image alone
-hidden-whole : (q : ResultPlaces) (address : ℕ) (image area copies i : List ℕ) → buffers i [] [] ≡ putAll (hiddenSlots q address) (buffers image [] [])
-    → buffers i area copies ≡ putAll (hiddenSlots q address) (buffers image area copies)
+hidden-whole : (w : ℕ) (q : ResultPlaces) (address : ℕ) (image area copies i : List ℕ) → buffers i [] [] ≡ putAll (hiddenSlots w q address) (buffers image [] [])
+    → buffers i area copies ≡ putAll (hiddenSlots w q address) (buffers image area copies)
 unfolding putAll put
-hidden-whole ResultPlaces.Nothing address image area copies i e = ap (λ (b : Buffers). buffers (b .image) area copies) e
-hidden-whole (ResultPlaces.Registers s) address image area copies i e = ap (λ (b : Buffers). buffers (b .image) area copies) e
-hidden-whole (ResultPlaces.Hidden s) address image area copies i e = ap (λ (b : Buffers). buffers (b .image) area copies) e
+hidden-whole w ResultPlaces.Nothing address image area copies i e = ap (λ (b : Buffers). buffers (b .image) area copies) e
+hidden-whole w (ResultPlaces.Registers s) address image area copies i e = ap (λ (b : Buffers). buffers (b .image) area copies) e
+hidden-whole w (ResultPlaces.Hidden s) address image area copies i e = ap (λ (b : Buffers). buffers (b .image) area copies) e
 
-pub hidden-length : (q : ResultPlaces) (address : ℕ) (image i : List ℕ) → buffers i [] [] ≡ putAll (hiddenSlots q address) (buffers image [] []) → length i ≡ length image
-hidden-length q address image i e = ap (λ (b : Buffers). length (b .image)) e ∙ putAll-lengths (hiddenSlots q address) (buffers image [] []) .image
+pub hidden-length : (w : ℕ) (q : ResultPlaces) (address : ℕ) (image i : List ℕ) → buffers i [] [] ≡ putAll (hiddenSlots w q address) (buffers image [] []) → length i ≡ length image
+hidden-length w q address image i e = ap (λ (b : Buffers). length (b .image)) e ∙ putAll-lengths (hiddenSlots w q address) (buffers image [] []) .image
 
 -- a refusal leaves them
 pub buffers-kept : (s values : List ℕ) (base hidden : ℕ) (a : Answer) (b : Buffers) → isRefused a ≡ true → b ≡ fillBuffers s values base hidden a b
@@ -170,13 +233,13 @@ buffers-kept s values base hidden Answer.Done b e = let z : _≡_ {A = ℕ} 0 1 
 buffers-kept s values base hidden (Answer.Unread f) b e = refl
 buffers-kept s values base hidden (Answer.Refused reason) b e = refl
 
-pub buffers-done : (s values image area copies i : List ℕ) (base hidden : ℕ) (g : SignatureRead) (q : ResultPlaces) (b : Buffers)
-    → g ≡ signatureAnswer (signatureOf s) → planFor s .result ≡ q
-    → buffers i [] [] ≡ putAll (hiddenSlots q hidden) (buffers image [] [])
+pub buffers-done : (s values image area copies i : List ℕ) (base hidden w : ℕ) (g : SignatureRead) (q : ResultPlaces) (b : Buffers)
+    → g ≡ signatureAnswer (signatureOf s) → w ≡ wordOf (rulesFor s) → planFor s .result ≡ q
+    → buffers i [] [] ≡ putAll (hiddenSlots w q hidden) (buffers image [] [])
     → b ≡ putAll (slotsOfAll (rulesOf (g .convention)) base (argumentsFrom g) values) (buffers i area copies)
     → b ≡ fillBuffers s values base hidden Answer.Done (buffers image area copies)
 unfolding fillBuffers filledSlots
-buffers-done s values image area copies i base hidden g q b e p x y =
+buffers-done s values image area copies i base hidden w g q b e n p x y =
     let slots : List Slot = slotsOfAll (rulesOf (g .convention)) base (argumentsFrom g) values in
-    let whole = hidden-whole q hidden image area copies i x in
-    rw (← e, ← arguments-read s g e, p) (y ∙ ap (putAll slots) whole ∙ sym (putAll-append (hiddenSlots q hidden) slots (buffers image area copies)))
+    let whole = hidden-whole w q hidden image area copies i x in
+    rw (← n, ← e, ← arguments-read s g e, p) (y ∙ ap (putAll slots) whole ∙ sym (putAll-append (hiddenSlots w q hidden) slots (buffers image area copies)))

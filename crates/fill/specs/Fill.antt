@@ -1,6 +1,6 @@
 -- Filling: its answer, and what the buffers hold afterwards. Document 01, "When the bridge says no" and "What stands in a slot".
 -- Assumes nothing.
-use Prim.Native.Nat.{ℕ, _+_, _-_, _%_, _^_, _≤_, _<_}
+use Prim.Native.Nat.{ℕ, _+_, _-_, _*_, _%_, _^_, _≤_, _<_}
 use mathlib.Core.Path.{_≡_}
 use mathlib.Core.Bool.{Bool, true, false}
 use mathlib.Core.List.{List, [], _∷_, _++_}
@@ -9,7 +9,7 @@ use lib.ListN.{length}
 use Rattle.words.specs.Basics.{pick}
 use Rattle.signature.specs.declared.SignatureRead.{SignatureRead}
 use Rattle.places.specs.declared.ResultPlaces.{ResultPlaces}
-use Rattle.places.specs.Step.{rulesOf}
+use Rattle.places.specs.Step.{rulesOf, wordOf}
 use Rattle.slots.specs.declared.Refusal.{Refusal}
 use Rattle.slots.specs.declared.Answer.{Answer}
 use Rattle.slots.specs.Buffers.{Buffers, Slot, putAll}
@@ -33,28 +33,36 @@ unfoldable pub badCopies : ℕ → ℕ → ℕ → Bool
 badCopies e n base =
     pick (eqb e 0) false (pick (ltb n e) true (pick (differ (base % 8) 0) true (ltb (2 ^ 64 - 1) (base + e))))
 
--- "After reading: .. 15, 10, 11, 12": of buffers of these lengths, where the plan asks for values, an area and copies of these sizes
-unfoldable pub fillTests : Lengths → ℕ → ℕ → ℕ → ℕ → List Test
-fillTests have values area copies base =
+-- No. 1: "a needed hidden address over [2^32 - 1] gives 12": one that a word of w bytes has no room for
+abbrev pub highAddress : ℕ → ResultPlaces → ℕ → Bool
+highAddress w ResultPlaces.Nothing address = false
+highAddress w (ResultPlaces.Registers s) address = false
+highAddress w (ResultPlaces.Hidden s) address = ltb (2 ^ (8 * w) - 1) address
+
+-- "After reading: .. 15, 10, 11, 12": of buffers of these lengths, where the plan asks for values, an area and copies of these sizes,
+-- and the hidden address is too high or not
+unfoldable pub fillTests : Lengths → ℕ → ℕ → ℕ → ℕ → Bool → List Test
+fillTests have values area copies base high =
     test (differ (have .image) 512) Refusal.ImageSize
     ∷ test (differ (have .values) values) Refusal.ValuesSize
     ∷ test (ltb (have .area) area) Refusal.AreaTooShort
     ∷ test (badCopies copies (have .copies) base) Refusal.BadCopies
+    ∷ test high Refusal.BadCopies
     ∷ []
 
 -- "1 first, then left to right .. After reading: ..": the answer for a signature's bytes s
-unfoldable pub fillAnswer : List ℕ → Lengths → ℕ → Answer
-fillAnswer s have base =
+unfoldable pub fillAnswer : List ℕ → Lengths → ℕ → ℕ → Answer
+fillAnswer s have base hidden =
     afterReading (planFor s .outcome)
     (firstOf
-    (fillTests have (planFor s .values) (planFor s .area) (planFor s .copies) base))
+    (fillTests have (planFor s .values) (planFor s .area) (planFor s .copies) base (highAddress (wordOf (rulesFor s)) (planFor s .result) hidden)))
 
 -- ---- the buffers
 
 -- every slot and copy that filling names: the hidden address's register, and those of each argument
 unfoldable pub filledSlots : List ℕ → List ℕ → ℕ → ℕ → List Slot
 filledSlots s values base hidden =
-    hiddenSlots (planFor s .result) hidden ++ slotsOfAll (rulesFor s) base (argumentsOf s) values
+    hiddenSlots (wordOf (rulesFor s)) (planFor s .result) hidden ++ slotsOfAll (rulesFor s) base (argumentsOf s) values
 
 -- "Filling changes only named slots and copies"; "Every refusal leaves all buffers .. untouched"
 unfoldable pub fillBuffers : List ℕ → List ℕ → ℕ → ℕ → Answer → Buffers → Buffers
@@ -67,6 +75,10 @@ abbrev pub HiddenFits : ResultPlaces → ℕ → Type 0
 HiddenFits ResultPlaces.Nothing i = Unit {0}
 HiddenFits (ResultPlaces.Registers s) i = Unit {0}
 HiddenFits (ResultPlaces.Hidden s) i = (s .general .first < 32) × (i ≡ 512)
+
+-- the bytes of a word
+abbrev pub WordSize : ℕ → Type 0
+WordSize w = (1 ≤ w) × (w ≤ 8)
 
 -- all arguments of a signature that was read, of values of v bytes
 pub record AllReady (g : SignatureRead) (base v i a c : ℕ) : Type 0 where

@@ -12,7 +12,7 @@ ghost use Rattle.slots.specs.Buffers.{buffers, putAll};
 ghost use Rattle.slots.specs.Placements.{slotsOfAll, hiddenSlots};
 ghost use Rattle.slots.specs.Refusals.{firstOf};
 ghost use Rattle.arguments.specs.Table.{argumentsFrom};
-ghost use Rattle.fill.specs.Fill.{badCopies, fillTests, fillAnswer, fillBuffers, lengths, HiddenFits, AllReady};
+ghost use Rattle.fill.specs.Fill.{badCopies, highAddress, fillTests, fillAnswer, fillBuffers, lengths, HiddenFits, WordSize, AllReady};
 
 // The lengths of the lent buffers.
 pub struct Lengths {
@@ -55,10 +55,10 @@ fn put_arguments(
     }
 }
 
-// The hidden address in its register, where the result needs one.
-fn put_hidden(image: &mut [u8], result: ResultPlaces, address: u64)
-    requires { ⌜ HiddenFits result (length (now image)) ⌝ }
-    ensures { λ _. ⌜ buffers (now (image .exit)) [] [] ≡ putAll (hiddenSlots result address) (buffers (now (image .entry)) [] []) ⌝ }
+// The hidden address in its register, a word, where the result needs one.
+fn put_hidden(image: &mut [u8], word: usize, result: ResultPlaces, address: u64)
+    requires { ⌜ HiddenFits result (length (now image)) × WordSize word ⌝ }
+    ensures { λ _. ⌜ buffers (now (image .exit)) [] [] ≡ putAll (hiddenSlots word result address) (buffers (now (image .entry)) [] []) ⌝ }
 {
     match result {
         ResultPlaces::Nothing => {}
@@ -66,7 +66,7 @@ fn put_hidden(image: &mut [u8], result: ResultPlaces, address: u64)
         ResultPlaces::Hidden(s) => {
             let general = s.general;
             let at = 8 * (general.first as usize);
-            words::put_number(&mut image[at..], 8, address);
+            words::put_number(&mut image[at..], 8, words::zero_extend(address, word));
         }
     }
 }
@@ -87,9 +87,21 @@ fn bad_copies(e: usize, n: usize, base: u64) -> bool
     u64::MAX - base < e as u64
 }
 
-// Whether the buffers have the lengths that a plan asks for.
-fn tested(have: Lengths, values: usize, area: usize, copies: usize, base: u64) -> Answer
-    ensures { λ a. ⌜ a ≡ firstOf (fillTests have values area copies base) ⌝ }
+// Whether a hidden address is needed that a word has no room for.
+fn high_address(word: usize, result: ResultPlaces, address: u64) -> bool
+    requires { ⌜ WordSize word ⌝ }
+    ensures { λ b. ⌜ b ≡ highAddress word result address ⌝ }
+{
+    match result {
+        ResultPlaces::Nothing => false,
+        ResultPlaces::Registers(_) => false,
+        ResultPlaces::Hidden(_) => words::zero_extend(address, word) < address,
+    }
+}
+
+// Whether the buffers have the lengths that a plan asks for, and the hidden address is not too high.
+fn tested(have: Lengths, values: usize, area: usize, copies: usize, base: u64, high: bool) -> Answer
+    ensures { λ a. ⌜ a ≡ firstOf (fillTests have values area copies base high) ⌝ }
 {
     if have.image != 512 {
         return Answer::Refused(Refusal::ImageSize);
@@ -101,6 +113,9 @@ fn tested(have: Lengths, values: usize, area: usize, copies: usize, base: u64) -
         return Answer::Refused(Refusal::AreaTooShort);
     }
     if bad_copies(copies, have.copies, base) {
+        return Answer::Refused(Refusal::BadCopies);
+    }
+    if high {
         return Answer::Refused(Refusal::BadCopies);
     }
     Answer::Done
@@ -117,7 +132,7 @@ pub fn fill(
     base: u64,
     hidden: u64,
 ) -> Answer
-    ensures { λ a. ⌜ a ≡ fillAnswer (now (sig .entry)) (lengths (now (values .entry)) (now (image .entry)) (now (area .entry)) (now (copies .entry))) base ⌝ }
+    ensures { λ a. ⌜ a ≡ fillAnswer (now (sig .entry)) (lengths (now (values .entry)) (now (image .entry)) (now (area .entry)) (now (copies .entry))) base hidden ⌝ }
     ensures { λ a. ⌜ buffers (now (image .exit)) (now (area .exit)) (now (copies .exit)) ≡ fillBuffers (now (sig .entry)) (now (values .entry)) base hidden a (buffers (now (image .entry)) (now (area .entry)) (now (copies .entry))) ⌝ }
 {
     let g = whole_signature::read_signature(sig);
@@ -126,20 +141,22 @@ pub fn fill(
     match outcome {
         Outcome::Refused(fault) => Answer::Unread(fault),
         Outcome::Accepted(_) => {
+            let convention = g.convention;
+            let returned = g.result;
+            let word = conventions::word_bytes(convention);
+            let result = planning::result_in(convention, returned);
+            let high = high_address(word, result, hidden);
             let have = Lengths {
                 values: values.len(),
                 image: image.len(),
                 area: area.len(),
                 copies: copies.len(),
             };
-            let answer = tested(have, m.values, m.area, m.copies, base);
+            let answer = tested(have, m.values, m.area, m.copies, base, high);
             if slots::is_refused(answer) {
                 return answer;
             }
-            let convention = g.convention;
-            let returned = g.result;
-            let result = planning::result_in(convention, returned);
-            put_hidden(image, result, hidden);
+            put_hidden(image, word, result, hidden);
             put_arguments(image, area, copies, g, values, base);
             Answer::Done
         }

@@ -1,7 +1,7 @@
--- A list of calls of each convention worked on numbers, so that the theorem is seen to speak of something: a start on 640 bytes (Z: 512), a frame entered, refused and accepted
+-- Lists of calls of each convention worked on numbers, so that the theorem is seen to speak of something: a start on 640 bytes (Z: 512), a frame entered, refused and accepted
 -- writes, and leaves.
 -- Assumes nothing.
-use Prim.Native.Nat.{ℕ, _+_, _-_}
+use Prim.Native.Nat.{ℕ, _+_, _-_, _^_}
 use mathlib.Core.Path.{_≡_, refl}
 use mathlib.Core.Bool.{true, false}
 use mathlib.Core.List.{List, [], _∷_, _++_}
@@ -10,7 +10,7 @@ use Rattle.words.specs.Basics.{roundUp}
 use Rattle.words.specs.Splice.{overlay, splice}
 use Rattle.words.specs.Numbers.{bytesOf, valueOf}
 use Rattle.saves.specs.Saves.{store, load, saveRun, loadRun}
-use Rattle.conventions.specs.declared.Convention.the-variants.{Ppc64, Z}
+use Rattle.conventions.specs.declared.Convention.the-variants.{Ppc64, Z, Aix}
 use Rattle.rules.specs.declared.Frame.{Frame}
 use Rattle.rules.specs.declared.Registers.{Registers}
 use Rattle.rules.specs.Frames.{withPointer, allWithin, lowered, okRegisters, cleared, okLeaf, okRequest, below, fullSize, frameSize, chainWidth, gprAt, savesBy, linkAt, mergeFields, restoredLr, restoredCr, restored, bankOf, writableField, writableRegister, withField, withRegister}
@@ -100,3 +100,61 @@ pub worked : (numbers calls start ≡ 22 ∷ 0 ∷ 0 ∷ 20 ∷ 0 ∷ 0 ∷ 0 �
     × (run calls-leaf start .state .registers ≡ record { gpr = 7 ∷ (4096 + 640 - 112) ∷ replicate 30 7; fpr = replicate 32 9; lr = 11; cr = 0 })
 unfolding overlay splice bytesOf valueOf store load saveRun loadRun withPointer allWithin lowered okRegisters cleared okLeaf okRequest below roundUp fullSize frameSize chainWidth gprAt savesBy linkAt mergeFields restoredLr restoredCr restored bankOf writableField writableRegister withField withRegister judge topFrame callerFrame okFrames sizes okMemory okState startAnswer started startedMemory enterAnswer entered enteredMemory writableBytes writableAddress writeRegisterAnswer writeMemoryAnswer writtenRegister writtenMemory leaveAnswer left startOutcome startMemory enterOutcome enterMemory writeRegisterOutcome writeMemoryOutcome writeMemoryMemory leaveOutcome
 worked = (refl, refl, refl, refl, refl, refl)
+
+-- on AIX: registers handed in with high halves, and a frame that saves r13 and up
+abbrev wide : Registers
+wide = record { gpr = replicate 32 (2 ^ 32 + 7); fpr = replicate 32 (2 ^ 32 + 9); lr = 2 ^ 40 + 11; cr = 0 }
+
+abbrev request-aix : Frame
+request-aix = record { «first_gpr» = 13; «first_fpr» = 30; «saves_cr» = true; locals = 20; outgoing = 64; leaf = false }
+
+-- the frame is at 4464, its outgoing area from 4488 on
+abbrev calls-aix : List Call
+calls-aix =
+    leave
+    ∷ enter request-aix
+    ∷ writeRegister 0 13 5
+    ∷ writeRegister 0 13 (2 ^ 32)
+    ∷ writeRegister 2 0 (2 ^ 32 - 1)
+    ∷ writeRegister 2 0 (2 ^ 32)
+    ∷ writeRegister 1 31 (2 ^ 32)
+    ∷ writeRegister 3 2 15
+    ∷ writeMemory 4488 (1 ∷ 2 ∷ [])
+    ∷ writeMemory 4487 (1 ∷ 2 ∷ [])
+    ∷ leave
+    ∷ leave
+    ∷ []
+
+-- a leaf above that frame; the floor is from 4244 on
+abbrev leaf-aix : Frame
+leaf-aix = record { «first_gpr» = 13; «first_fpr» = 14; «saves_cr» = true; locals = 0; outgoing = 0; leaf = true }
+
+abbrev calls-leaf-aix : List Call
+calls-leaf-aix =
+    enter request-aix
+    ∷ enter leaf
+    ∷ enter leaf
+    ∷ writeRegister 0 30 5
+    ∷ writeRegister 2 0 5
+    ∷ writeMemory 4244 (1 ∷ 2 ∷ [])
+    ∷ writeMemory 4243 (1 ∷ 2 ∷ [])
+    ∷ writeMemory 4455 (1 ∷ 2 ∷ [])
+    ∷ writeMemory 4488 (1 ∷ 2 ∷ [])
+    ∷ leave
+    ∷ enter leaf-aix
+    ∷ writeMemory 4244 (1 ∷ [])
+    ∷ leave
+    ∷ leave
+    ∷ []
+
+abbrev start-aix : Machine
+start-aix = fresh Aix 4096 (replicate 640 1) wide
+
+-- 20 for a general register or LR over 2^32 - 1, not for a floating one, and below the outgoing area. After the calls the general registers and LR are those handed in less
+-- their high halves. With a leaf: 28 above it, 20 for LR, below the floor and in its saves, which may take up the whole floor.
+pub worked-aix : (numbers calls-aix start-aix ≡ 22 ∷ 0 ∷ 0 ∷ 20 ∷ 0 ∷ 20 ∷ 0 ∷ 0 ∷ 0 ∷ 20 ∷ 0 ∷ 22 ∷ [])
+    × (run calls-aix start-aix .state .registers ≡ record { gpr = 7 ∷ (4096 + 640 - 64) ∷ replicate 30 7; fpr = replicate 32 (2 ^ 32 + 9); lr = 11; cr = 0 })
+    × (numbers calls-leaf-aix start-aix ≡ 0 ∷ 0 ∷ 28 ∷ 0 ∷ 20 ∷ 0 ∷ 20 ∷ 20 ∷ 0 ∷ 0 ∷ 0 ∷ 20 ∷ 0 ∷ 0 ∷ [])
+    × (run calls-leaf-aix start-aix .state .registers ≡ record { gpr = 7 ∷ (4096 + 640 - 64) ∷ replicate 30 7; fpr = replicate 32 (2 ^ 32 + 9); lr = 11; cr = 0 })
+unfolding overlay splice bytesOf valueOf store load saveRun loadRun withPointer allWithin lowered okRegisters cleared okLeaf okRequest below roundUp fullSize frameSize chainWidth gprAt savesBy linkAt mergeFields restoredLr restoredCr restored bankOf writableField writableRegister withField withRegister judge topFrame callerFrame okFrames sizes okMemory okState startAnswer started startedMemory enterAnswer entered enteredMemory writableBytes writableAddress writeRegisterAnswer writeMemoryAnswer writtenRegister writtenMemory leaveAnswer left startOutcome startMemory enterOutcome enterMemory writeRegisterOutcome writeMemoryOutcome writeMemoryMemory leaveOutcome
+worked-aix = (refl, refl, refl, refl)

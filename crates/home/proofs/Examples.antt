@@ -15,9 +15,11 @@ use Rattle.types.specs.declared.ValueType.{ValueType}
 use Rattle.places.specs.Values.{cursor}
 use Rattle.places.specs.Power.{words, fprs, shareOf, powerShare}
 use Rattle.places.specs.Step.{ppc64, spanOf}
+use Rattle.registers.specs.Registers.{gather}
 use Rattle.slots.specs.Forms.{startsAtHead, extended, homeBytes, floatValue}
 use Rattle.slots.specs.Placements.{Placement, placement}
-use Rattle.home.specs.Home.{homedBytes, homed}
+use Rattle.home_slot.specs.Homes.{homedBytes}
+use Rattle.home.specs.Home.{homed}
 
 -- a single and an i8 after a hidden address: f1 and r5, at 8 and 16
 pair : List Placement
@@ -34,5 +36,5 @@ image =
 -- the first doubleword, the hidden address's, stays, and so does what follows the arguments
 pair-homed : homed ppc64 pair image (replicate 28 7)
     ≡ 7 ∷ 7 ∷ 7 ∷ 7 ∷ 7 ∷ 7 ∷ 7 ∷ 7 ∷ 0 ∷ 0 ∷ 0 ∷ 0 ∷ 0x3f ∷ 0x80 ∷ 0 ∷ 0 ∷ 1 ∷ 2 ∷ 3 ∷ 4 ∷ 5 ∷ 6 ∷ 7 ∷ 8 ∷ 7 ∷ 7 ∷ 7 ∷ 7 ∷ []
-unfolding homed pair image homedBytes spanOf powerShare shareOf fprs words homeBytes floatValue startsAtHead extended zeroExtended bytesOf valueOf splice overlay narrow candidate candidateFields widen widenFields join split leadingZeros
+unfolding homed pair image homedBytes gather spanOf powerShare shareOf fprs words homeBytes floatValue startsAtHead extended zeroExtended bytesOf valueOf splice overlay narrow candidate candidateFields widen widenFields join split leadingZeros
 pair-homed = refl

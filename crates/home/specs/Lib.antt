@@ -1,3 +1,2 @@
 -- What home is, and a view of what it left. Assumes nothing.
 pub mod Home
-pub mod View

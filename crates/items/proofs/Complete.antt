@@ -1,6 +1,7 @@
 -- Every encoding of a type within the limits is read, and gives the type back. Assumes nothing.
 use Prim.Native.Nat.{ℕ, _+_, _-_, _≤_}
 use mathlib.Core.Path.{_≡_, refl, sym, ap, _∙_}
+use mathlib.Core.Bool.{false}
 use mathlib.Core.List.{List, [], _∷_}
 use lib.ListN.{length, getD, length-append}
 use lib.Dec.{ltb}
@@ -9,13 +10,13 @@ use borrow.Author.Tests.{le-ltb, eq-eqb}
 use Rattle.conventions.specs.declared.Convention.{Convention}
 use Rattle.types.specs.declared.IntegerKind.{IntegerKind}
 use Rattle.types.specs.declared.FloatFormat.{FloatFormat}
-use Rattle.types.specs.Sizes.{sizeOf}
+use Rattle.types.specs.Sizes.{sizeOf, lacksFloat}
 use Rattle.types.specs.Structs.{shapeOf}
 use Rattle.types.specs.Trees.{Tree, Trees, integer, float, struct, none, _▸_, typeOf, fieldsOf, countOf}
 use Rattle.items.specs.declared.IntegerCode.{IntegerCode}
 use Rattle.items.specs.declared.Body.{Body}
 use Rattle.items.specs.Reading.{Reading, got}
-use Rattle.items.specs.Read.{bodyAt, integerCode, floatCode, integerAt, floatAt, sequence, sizedAt, itemAt}
+use Rattle.items.specs.Read.{bodyAt, integerCode, floatCode, integerAt, floatOf, floatAt, sequence, sizedAt, itemAt}
 use Rattle.items.specs.Encode.{integerNumber, floatNumber, item, encodeTree, encodeTrees, itemsOf, itemsIn}
 use Rattle.items.proofs.Laws.{body-to, sequence-done, sequence-more, struct-read, item-integer, item-float, item-struct}
 use Rattle.items.proofs.Levels.{FloatLeft, Left, AllLeft}
@@ -42,12 +43,14 @@ integer-reads : (s : List ℕ) (at b : ℕ) (k : IntegerKind) → b ≡ at + 4 �
 unfolding integerAt
 integer-reads s at b k h q = rw (eq-eqb b (at + 4) h, q, integer-code k)
 
-float-reads : (s : List ℕ) (d at b : ℕ) (f : FloatFormat) → FloatLeft d f → b ≡ at + 4 → getD s (at + 3) 0 ≡ floatNumber f →
-    floatAt s (ltb d 8) at b ≡ got (float f) b 1
-unfolding floatAt floatCode
-float-reads s d at b FloatFormat.Single w h q = rw (eq-eqb b (at + 4) h, q)
-float-reads s d at b FloatFormat.Double w h q = rw (eq-eqb b (at + 4) h, q)
-float-reads s d at b FloatFormat.LongDouble w h q = rw (eq-eqb b (at + 4) h, q, le-ltb d 8 w)
+float-reads : (c : Convention) (s : List ℕ) (d at b : ℕ) (f : FloatFormat) → FloatLeft d f → lacksFloat c (ltb d 8) f ≡ false → b ≡ at + 4 → getD s (at + 3) 0 ≡ floatNumber f →
+    floatAt c s (ltb d 8) at b ≡ got (float f) b 1
+unfolding floatAt floatCode floatOf
+float-reads c s d at b FloatFormat.Single w l h q = rw (eq-eqb b (at + 4) h, q, l)
+float-reads c s d at b FloatFormat.Double w l h q = rw (eq-eqb b (at + 4) h, q, l)
+float-reads c s d at b FloatFormat.LongDouble w l h q =
+    let outside : ltb d 8 ≡ false = le-ltb d 8 w in
+    rw (eq-eqb b (at + 4) h, q, l, outside)
 
 sized-small : (c : Convention) (at b n : ℕ) (ts : Trees) → sizeOf c (typeOf c (struct ts)) ≤ 256 → sizedAt c at b n ts ≡ got (struct ts) b n
 unfolding sizedAt typeOf
@@ -82,7 +85,7 @@ module _ (c : Convention) (s : List ℕ) where
         let size = length-item 0x11 body in
         let to = header-reads 0x10 0x12 0x11 body e at next (omega arith) (omega arith) h (omega arith) room in
         item-float c d s e at next to (item-tag s 0x11 body at h)
-        ∙ float-reads s d at next f w (omega arith) (item-byte s 0x11 (floatNumber f) at h)
+        ∙ float-reads c s d at next f (w .0) (w .1) (omega arith) (item-byte s 0x11 (floatNumber f) at h)
     tree-reads (struct ts) d e at next w h q room =
         let body = encodeTrees ts in
         let size = length-item 0x12 body in

@@ -12,6 +12,7 @@ use borrow.Author.Tests.{ltb-false, ltb-true, eqb-true, eqb-false, eq-eqb}
 use Rattle.words.specs.Basics.{pick}
 use Rattle.conventions.specs.declared.Convention.{Convention}
 use Rattle.types.specs.declared.FloatFormat.{FloatFormat}
+use Rattle.types.specs.Sizes.{lacksFloat}
 use Rattle.types.specs.Structs.{shapeOf}
 use Rattle.types.specs.Trees.{Tree, Trees, none, _▸_, fieldsOf}
 use Rattle.items.specs.declared.Refusal.{Refusal}
@@ -20,7 +21,7 @@ use Rattle.items.specs.declared.Body.{Body}
 use Rattle.items.specs.declared.IntegerCode.{IntegerCode}
 use Rattle.items.specs.declared.FloatCode.{FloatCode}
 use Rattle.items.specs.Reading.{Reading, fault, got, no, later, after, choose, andThen, inBody}
-use Rattle.items.specs.Read.{lengthAt, bodyAt, integerCode, floatCode, integerBy, integerAt, floatBy, floatAt, sequence, sizedAt, contentsAt, itemBy, structAt, itemAt}
+use Rattle.items.specs.Read.{lengthAt, bodyAt, integerCode, floatCode, integerBy, integerAt, floatOf, floatBy, floatAt, sequence, sizedAt, contentsAt, itemBy, structAt, itemAt}
 use Rattle.items.specs.HowFar.{encloses, nextHeader, walked, isLarge, stopOf, metBy, IsTag, Header, Passed, HowFar}
 use Rattle.items.proofs.Sound.{by-pick, by-choose, Framed, BodyIs, body-is}
 
@@ -204,15 +205,19 @@ module _ (s : List ℕ) (e at b : ℕ) (room : at ≤ e) (framed : Framed s 0x10
       go (IntegerCode.Kind k) = one-goes k
       go IntegerCode.Unknown = stops-here s e at Refusal.Malformed refl room
 
-  float-goes : (inside : Bool) → Goes s e at (floatAt s inside at b)
+  carried-goes : (c : Convention) (f : FloatFormat) (inside : Bool) → Goes s e at (floatOf c f inside at b)
+  unfolding floatOf
+  carried-goes c f inside = by-pick (Goes s e at) (lacksFloat c inside f) _ _ (λ _. stops-here s e at Refusal.FloatNotCarried refl room) (λ _. one-goes b)
+
+  float-goes : (c : Convention) (inside : Bool) → Goes s e at (floatAt c s inside at b)
   unfolding floatAt
-  float-goes inside = by-pick (Goes s e at) (eqb b (at + 4)) _ _ (λ _. go (floatCode (getD s (at + 3) 0))) (λ _. stops-here s e at Refusal.Malformed refl room)
+  float-goes c inside = by-pick (Goes s e at) (eqb b (at + 4)) _ _ (λ _. go (floatCode (getD s (at + 3) 0))) (λ _. stops-here s e at Refusal.Malformed refl room)
     where
-      go : (x : FloatCode) → Goes s e at (floatBy x inside at b)
-      go (FloatCode.Format FloatFormat.Single) = one-goes b
-      go (FloatCode.Format FloatFormat.Double) = one-goes b
+      go : (x : FloatCode) → Goes s e at (floatBy c x inside at b)
+      go (FloatCode.Format FloatFormat.Single) = carried-goes c FloatFormat.Single inside
+      go (FloatCode.Format FloatFormat.Double) = carried-goes c FloatFormat.Double inside
       go (FloatCode.Format FloatFormat.LongDouble) =
-          by-pick (Goes s e at) inside _ _ (λ _. stops-here s e at Refusal.LongDoubleInStruct refl room) (λ _. one-goes b)
+          by-pick (Goes s e at) inside _ _ (λ _. stops-here s e at Refusal.LongDoubleInStruct refl room) (λ _. carried-goes c FloatFormat.LongDouble inside)
       go FloatCode.Unknown = stops-here s e at Refusal.Malformed refl room
 
 -- a header's own body is room enough for it
@@ -269,12 +274,12 @@ module _ (c : Convention) (s : List ℕ) (e at b : ℕ) (framed : Framed s 0x10 
       go some (got ts next n) g = sized-goes some ts next n (g .0) (g .1) (g .2)
       go some (no f) g = far-within s b e at f (framed .inside) g
 
-item-by-goes : (s : List ℕ) (e at : ℕ) (structure : ℕ → ℕ → Reading Tree) (inside : Bool) → at ≤ e →
-    ((b : ℕ) → Framed s 0x10 0x12 e at b → getD s at 0 ≡ 0x12 → Goes s e at (structure at b)) → Goes s e at (itemBy structure inside s e at)
+item-by-goes : (c : Convention) (s : List ℕ) (e at : ℕ) (structure : ℕ → ℕ → Reading Tree) (inside : Bool) → at ≤ e →
+    ((b : ℕ) → Framed s 0x10 0x12 e at b → getD s at 0 ≡ 0x12 → Goes s e at (structure at b)) → Goes s e at (itemBy c structure inside s e at)
 unfolding itemBy
-item-by-goes s e at structure inside room goes = goes-body s 0x10 0x12 e at _ room (λ b framed.
+item-by-goes c s e at structure inside room goes = goes-body s 0x10 0x12 e at _ room (λ b framed.
     by-choose (Goes s e at) (eqb (getD s at 0) 0x10) _ _ (λ q. integer-goes s e at b room framed (rw (eqb-true (getD s at 0) 0x10 q)))
-    (λ q. by-choose (Goes s e at) (eqb (getD s at 0) 0x11) _ _ (λ r. float-goes s e at b room framed (rw (eqb-true (getD s at 0) 0x11 r)) inside)
+    (λ q. by-choose (Goes s e at) (eqb (getD s at 0) 0x11) _ _ (λ r. float-goes s e at b room framed (rw (eqb-true (getD s at 0) 0x11 r)) c inside)
     (λ r.
     let i = eqb-false (getD s at 0) 0x10 q in
     let f = eqb-false (getD s at 0) 0x11 r in
@@ -284,12 +289,12 @@ struct-goes : (c : Convention) (d : ℕ) (s : List ℕ) (e at b : ℕ) → at �
 unfolding structAt
 struct-goes c zero s e at b room framed tag = stops-here s e at Refusal.TooDeep refl room
 struct-goes c (suc d) s e at b room framed tag =
-    contents-goes c s e at b framed tag (λ k. itemBy (structAt c d s) (ltb d 8) s b k)
-    (λ k h. item-by-goes s b k (structAt c d s) (ltb d 8) h (λ b′ framed′ tag′. struct-goes c d s b k b′ h framed′ tag′))
+    contents-goes c s e at b framed tag (λ k. itemBy c (structAt c d s) (ltb d 8) s b k)
+    (λ k h. item-by-goes c s b k (structAt c d s) (ltb d 8) h (λ b′ framed′ tag′. struct-goes c d s b k b′ h framed′ tag′))
 
 pub item-goes : (c : Convention) (d : ℕ) (s : List ℕ) (e at : ℕ) → at ≤ e → Goes s e at (itemAt c d s e at)
 unfolding itemAt
-item-goes c d s e at room = item-by-goes s e at (structAt c d s) (ltb d 8) room (λ b framed tag. struct-goes c d s e at b room framed tag)
+item-goes c d s e at room = item-by-goes c s e at (structAt c d s) (ltb d 8) room (λ b framed tag. struct-goes c d s e at b room framed tag)
 
 -- each header that was met begins before the place where the reading stopped, and three bytes or more after the one before
 pub far-before : (s : List ℕ) (e at : ℕ) (f : Fault) → HowFar s e at f → (i : ℕ) → i < metBy f → walked s at i + 3 ≤ stopOf s f

@@ -133,7 +133,7 @@ module _ (c : Convention) (d : ℕ) (s : List ℕ) (e at : ℕ) where
     unfolding itemAt itemBy
     item-integer q = rw (body, eq-eqb (getD s at 0) 0x10 q)
 
-    pub item-float : getD s at 0 ≡ 0x11 → itemAt c d s e at ≡ floatAt s (ltb d 8) at b
+    pub item-float : getD s at 0 ≡ 0x11 → itemAt c d s e at ≡ floatAt c s (ltb d 8) at b
     unfolding itemAt itemBy
     item-float q = rw (body, ne-eqb (getD s at 0) 0x10 (omega arith), eq-eqb (getD s at 0) 0x11 q)
 
@@ -153,16 +153,16 @@ module _ (c : Convention) (s : List ℕ) (at b : ℕ) where
   integer-by h x q = rw (eq-eqb b (at + 4) h, ← q)
 
   module _ (inside : Bool) where
-    pub float-length : (b ≡ at + 4 → ⊥) → itemAnswer c (floatAt s inside at b) ≡ ItemRead.Refused (fault Refusal.Malformed at 0)
+    pub float-length : (b ≡ at + 4 → ⊥) → itemAnswer c (floatAt c s inside at b) ≡ ItemRead.Refused (fault Refusal.Malformed at 0)
     unfolding floatAt
     float-length h = rw (ne-eqb b (at + 4) h)
 
-    pub float-by : b ≡ at + 4 → (x : FloatCode) → x ≡ floatCode (getD s (at + 3) 0) → itemAnswer c (floatAt s inside at b) ≡ itemAnswer c (floatBy x inside at b)
+    pub float-by : b ≡ at + 4 → (x : FloatCode) → x ≡ floatCode (getD s (at + 3) 0) → itemAnswer c (floatAt c s inside at b) ≡ itemAnswer c (floatBy c x inside at b)
     unfolding floatAt
     float-by h x q = rw (eq-eqb b (at + 4) h, ← q)
 
     pub long-double-by : b ≡ at + 4 → FloatCode.Format FloatFormat.LongDouble ≡ floatCode (getD s (at + 3) 0) → (i : Bool) → inside ≡ i →
-        itemAnswer c (floatAt s inside at b) ≡ itemAnswer c (floatBy (FloatCode.Format FloatFormat.LongDouble) i at b)
+        itemAnswer c (floatAt c s inside at b) ≡ itemAnswer c (floatBy c (FloatCode.Format FloatFormat.LongDouble) i at b)
     long-double-by h q i r = float-by h (FloatCode.Format FloatFormat.LongDouble) q ∙ rw r
 
 -- what a program's answer says of the reading

@@ -8,7 +8,7 @@ use native.Mathlib.Omega.{arith}
 use borrow.Author.Tests.{ltb-true, ltb-false, lt-ltb}
 use Rattle.conventions.specs.declared.Convention.{Convention}
 use Rattle.types.specs.declared.FloatFormat.{FloatFormat}
-use Rattle.types.specs.Sizes.{sizeOf, Sized}
+use Rattle.types.specs.Sizes.{sizeOf, lacksFloat, Sized}
 use Rattle.types.specs.Trees.{Tree, Trees, integer, float, struct, none, _▸_, typeOf}
 use Rattle.types.specs.Limits.{depthOf, depthIn, FloatFits, Some, Fits, AllFit, Within, AllWithin}
 use Rattle.types.proofs.Sized.{fits-sized}
@@ -23,7 +23,7 @@ FloatLeft d FloatFormat.LongDouble = 8 ≤ d
 unfoldable mutual
   pub Left : Convention → ℕ → Tree → Type 0
   Left c d (integer k) = Unit {0}
-  Left c d (float f) = FloatLeft d f
+  Left c d (float f) = FloatLeft d f × (lacksFloat c (ltb d 8) f ≡ false)
   Left c d (struct ts) = (0 < d) × Some ts × AllLeft c (d - 1) ts × (sizeOf c (typeOf c (struct ts)) ≤ 256)
 
   pub AllLeft : Convention → ℕ → Trees → Type 0
@@ -48,7 +48,7 @@ module _ (c : Convention) where
 
     fits-left : (t : Tree) (d : ℕ) (inside : Bool) → ltb d 8 ≡ inside → d ≤ 8 → depthOf t ≤ d → Fits c inside t → Left c d t
     fits-left (integer k) d inside q l h f = tt
-    fits-left (float g) d inside q l h f = float-left d g inside q f
+    fits-left (float g) d inside q l h f = (float-left d g inside q (f .0), rw q (f .1))
     fits-left (struct ts) d inside q l h f = (omega arith, f .0, all-fit-left ts (d - 1) (omega arith) (omega arith) (f .1), f .2)
 
     all-fit-left : (ts : Trees) (d : ℕ) → d < 8 → depthIn ts ≤ d → AllFit c ts → AllLeft c d ts
@@ -60,7 +60,7 @@ module _ (c : Convention) where
 
     left-fits : (t : Tree) (d : ℕ) (inside : Bool) → ltb d 8 ≡ inside → d ≤ 8 → Left c d t → (depthOf t ≤ d) × Fits c inside t
     left-fits (integer k) d inside q l w = (omega arith, tt)
-    left-fits (float g) d inside q l w = (omega arith, float-fits d g inside q w)
+    left-fits (float g) d inside q l w = (omega arith, (float-fits d g inside q (w .0), rw (← q) (w .1)))
     left-fits (struct ts) d inside q l w =
         let some : 0 < d = w .0 in
         let (deep, f) = all-left-fit ts (d - 1) (omega arith) (w .2) in

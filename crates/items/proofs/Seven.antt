@@ -9,6 +9,7 @@ use native.Mathlib.Omega.{arith}
 use borrow.Author.Tests.{ltb-true}
 use Rattle.conventions.specs.declared.Convention.{Convention}
 use Rattle.types.specs.declared.FloatFormat.{FloatFormat}
+use Rattle.types.specs.Sizes.{lacksFloat}
 use Rattle.types.specs.Structs.{shapeOf, tooLarge}
 use Rattle.types.specs.Trees.{Tree, Trees, none, _▸_, fieldsOf}
 use Rattle.items.specs.declared.IntegerCode.{IntegerCode}
@@ -16,7 +17,7 @@ use Rattle.items.specs.declared.FloatCode.{FloatCode}
 use Rattle.items.specs.declared.Body.{Body}
 use Rattle.items.specs.Reading.{Reading, got, no, after, andThen, inBody}
 use Rattle.items.specs.Refusals.{numberOf, bodyNumber}
-use Rattle.items.specs.Read.{lengthAt, bodyAt, integerCode, floatCode, integerBy, integerAt, floatBy, floatAt, sequence, sizedAt, contentsAt, byTag, itemBy, structAt, itemAt}
+use Rattle.items.specs.Read.{lengthAt, bodyAt, integerCode, floatCode, integerBy, integerAt, floatOf, floatBy, floatAt, sequence, sizedAt, contentsAt, byTag, itemBy, structAt, itemAt}
 use Rattle.items.specs.Seven.{Other, NotSeven, ItemsNotSeven, StructsNotSeven}
 use Rattle.items.proofs.Sound.{Got, Read, by-pick, by-choose, item-sound}
 use Rattle.items.proofs.Trees.{tree-long}
@@ -42,14 +43,18 @@ integer-not-seven s at b = by-pick NotSeven (eqb b (at + 4)) _ _ (λ _. go (inte
     go (IntegerCode.Kind k) = λ q. omega arith
     go IntegerCode.Unknown = λ q. omega arith
 
-float-not-seven : (s : List ℕ) (inside : Bool) (at b : ℕ) → NotSeven (floatAt s inside at b)
+carried-not-seven : (c : Convention) (f : FloatFormat) (inside : Bool) (at b : ℕ) → NotSeven (floatOf c f inside at b)
+unfolding floatOf
+carried-not-seven c f inside at b = by-pick NotSeven (lacksFloat c inside f) _ _ (λ _ q. omega arith) (λ _ q. omega arith)
+
+float-not-seven : (c : Convention) (s : List ℕ) (inside : Bool) (at b : ℕ) → NotSeven (floatAt c s inside at b)
 unfolding floatAt
-float-not-seven s inside at b = by-pick NotSeven (eqb b (at + 4)) _ _ (λ _. go (floatCode (getD s (at + 3) 0))) (λ _ q. omega arith)
+float-not-seven c s inside at b = by-pick NotSeven (eqb b (at + 4)) _ _ (λ _. go (floatCode (getD s (at + 3) 0))) (λ _ q. omega arith)
   where
-    go : (x : FloatCode) → NotSeven (floatBy x inside at b)
-    go (FloatCode.Format FloatFormat.Single) = λ q. omega arith
-    go (FloatCode.Format FloatFormat.Double) = λ q. omega arith
-    go (FloatCode.Format FloatFormat.LongDouble) = by-pick NotSeven inside _ _ (λ _ q. omega arith) (λ _ q. omega arith)
+    go : (x : FloatCode) → NotSeven (floatBy c x inside at b)
+    go (FloatCode.Format FloatFormat.Single) = carried-not-seven c FloatFormat.Single inside at b
+    go (FloatCode.Format FloatFormat.Double) = carried-not-seven c FloatFormat.Double inside at b
+    go (FloatCode.Format FloatFormat.LongDouble) = by-pick NotSeven inside _ _ (λ _ q. omega arith) (λ _. carried-not-seven c FloatFormat.LongDouble inside at b)
     go FloatCode.Unknown = λ q. omega arith
 
 -- ---- a sequence whose limit is not less than its bytes
@@ -86,15 +91,15 @@ module _ (item : ℕ → Reading Tree) (b : ℕ) (moves : (k : ℕ) → Moves k 
 
 -- ---- items in items
 
-item-by-not-seven : (structure : ℕ → ℕ → Reading Tree) (inside : Bool) (s : List ℕ) (e at : ℕ) → ((b : ℕ) → NotSeven (structure at b))
-    → NotSeven (itemBy structure inside s e at)
+item-by-not-seven : (c : Convention) (structure : ℕ → ℕ → Reading Tree) (inside : Bool) (s : List ℕ) (e at : ℕ) → ((b : ℕ) → NotSeven (structure at b))
+    → NotSeven (itemBy c structure inside s e at)
 unfolding itemBy
-item-by-not-seven structure inside s e at h = go (bodyAt s 0x10 0x12 e at) (body-not-seven s 0x10 0x12 e at)
+item-by-not-seven c structure inside s e at h = go (bodyAt s 0x10 0x12 e at) (body-not-seven s 0x10 0x12 e at)
   where
-    go : (x : Body) → BodyNotSeven x → NotSeven (inBody x at (λ b. byTag (getD s at 0) (integerAt s at b) (floatAt s inside at b) (λ _. structure at b)))
+    go : (x : Body) → BodyNotSeven x → NotSeven (inBody x at (λ b. byTag (getD s at 0) (integerAt s at b) (floatAt c s inside at b) (λ _. structure at b)))
     go (Body.To b) k =
         by-choose NotSeven (eqb (getD s at 0) 0x10) _ _ (λ _. integer-not-seven s at b)
-        (λ _. by-choose NotSeven (eqb (getD s at 0) 0x11) _ _ (λ _. float-not-seven s inside at b) (λ _. h b))
+        (λ _. by-choose NotSeven (eqb (getD s at 0) 0x11) _ _ (λ _. float-not-seven c s inside at b) (λ _. h b))
     go (Body.Refused r) k = k
 
 -- what an item was read from has its header's length at least
@@ -107,9 +112,9 @@ unfolding structAt itemAt
 structs-not-seven c zero s at b = λ q. omega arith
 structs-not-seven c (suc d) s at b =
     contents-not-seven (itemAt c d s b) b
-    (λ k. moves c d s b k (itemAt c d s b k) (item-by-not-seven (structAt c d s) (ltb d 8) s b k (λ b′. structs-not-seven c d s k b′)) (item-sound c d s b k))
+    (λ k. moves c d s b k (itemAt c d s b k) (item-by-not-seven c (structAt c d s) (ltb d 8) s b k (λ b′. structs-not-seven c d s k b′)) (item-sound c d s b k))
     c at
 
 pub items-not-seven : ItemsNotSeven
 unfolding itemAt
-items-not-seven c d s e at = item-by-not-seven (structAt c d s) (ltb d 8) s e at (λ b. structs-not-seven c d s at b)
+items-not-seven c d s e at = item-by-not-seven c (structAt c d s) (ltb d 8) s e at (λ b. structs-not-seven c d s at b)

@@ -12,14 +12,14 @@ use Rattle.words.specs.Basics.{pick}
 use Rattle.words.specs.Numbers.{Bytes}
 use Rattle.conventions.specs.declared.Convention.{Convention}
 use Rattle.types.specs.declared.FloatFormat.{FloatFormat}
-use Rattle.types.specs.Sizes.{Sized}
+use Rattle.types.specs.Sizes.{lacksFloat, Sized}
 use Rattle.types.specs.Structs.{shapeOf}
 use Rattle.types.specs.Trees.{Tree, Trees, float, none, _▸_, typeOf, fieldsOf, countOf}
 use Rattle.items.specs.declared.IntegerCode.{IntegerCode}
 use Rattle.items.specs.declared.FloatCode.{FloatCode}
 use Rattle.items.specs.declared.Body.{Body}
 use Rattle.items.specs.Reading.{Reading, got, no, after, choose, andThen, inBody}
-use Rattle.items.specs.Read.{lengthAt, bodyAt, integerCode, floatCode, integerBy, integerAt, floatBy, floatAt, sequence, sizedAt, contentsAt, itemBy, structAt, itemAt}
+use Rattle.items.specs.Read.{lengthAt, bodyAt, integerCode, floatCode, integerBy, integerAt, floatOf, floatBy, floatAt, sequence, sizedAt, contentsAt, itemBy, structAt, itemAt}
 use Rattle.items.specs.Encode.{integerNumber, floatNumber, item, encodeTree, encodeTrees, itemsOf, itemsIn}
 use Rattle.items.proofs.Levels.{FloatLeft, Left, AllLeft, left-sized}
 use Rattle.items.proofs.Has.{Has, has-move, has-append, has-item, length-item}
@@ -139,17 +139,17 @@ module _ (c : Convention) (d : ℕ) (s : List ℕ) (e at b : ℕ) (framed : Fram
           record { within = tt; here = has-byte 0x10 (integerNumber k) t q v; ends = omega arith; inside = framed .inside; count = refl }
       go IntegerCode.Unknown q v = tt
 
-  float-sound : getD s at 0 ≡ 0x11 → Got (Read c d s e at) (floatAt s (ltb d 8) at b)
-  unfolding floatAt encodeTree Left itemsOf
+  float-sound : getD s at 0 ≡ 0x11 → Got (Read c d s e at) (floatAt c s (ltb d 8) at b)
+  unfolding floatAt floatOf encodeTree Left itemsOf
   float-sound t = by-pick (Got (Read c d s e at)) (eqb b (at + 4)) _ _
       (λ q. go (floatCode (getD s (at + 3) 0)) (eqb-true b (at + 4) q) (float-is (getD s (at + 3) 0))) (λ _. tt)
     where
-      one : (f : FloatFormat) → b ≡ at + 4 → getD s (at + 3) 0 ≡ floatNumber f → FloatLeft d f → Read c d s e at (float f) b 1
-      one f q v w =
+      one : (f : FloatFormat) → b ≡ at + 4 → getD s (at + 3) 0 ≡ floatNumber f → FloatLeft d f → Got (Read c d s e at) (floatOf c f (ltb d 8) at b)
+      one f q v w = by-pick (Got (Read c d s e at)) (lacksFloat c (ltb d 8) f) _ _ (λ _. tt) (λ l.
           let size = length-item 0x11 (floatNumber f ∷ []) in
-          record { within = w; here = has-byte 0x11 (floatNumber f) t q v; ends = omega arith; inside = framed .inside; count = refl }
+          record { within = (w, l); here = has-byte 0x11 (floatNumber f) t q v; ends = omega arith; inside = framed .inside; count = refl })
 
-      go : (x : FloatCode) → b ≡ at + 4 → FloatIs (getD s (at + 3) 0) x → Got (Read c d s e at) (floatBy x (ltb d 8) at b)
+      go : (x : FloatCode) → b ≡ at + 4 → FloatIs (getD s (at + 3) 0) x → Got (Read c d s e at) (floatBy c x (ltb d 8) at b)
       go (FloatCode.Format FloatFormat.Single) q v = one FloatFormat.Single q v tt
       go (FloatCode.Format FloatFormat.Double) q v = one FloatFormat.Double q v tt
       go (FloatCode.Format FloatFormat.LongDouble) q v =
@@ -233,7 +233,7 @@ module _ (c : Convention) (d : ℕ) (s : List ℕ) (e at b : ℕ) (framed : Fram
       (sized-sound (omega arith) limit))
 
 item-by-sound : (c : Convention) (d : ℕ) (s : List ℕ) (e at : ℕ) (structure : ℕ → ℕ → Reading Tree) →
-    ((b : ℕ) → Framed s 0x10 0x12 e at b → getD s at 0 ≡ 0x12 → Got (Read c d s e at) (structure at b)) → Got (Read c d s e at) (itemBy structure (ltb d 8) s e at)
+    ((b : ℕ) → Framed s 0x10 0x12 e at b → getD s at 0 ≡ 0x12 → Got (Read c d s e at) (structure at b)) → Got (Read c d s e at) (itemBy c structure (ltb d 8) s e at)
 unfolding itemBy
 item-by-sound c d s e at structure sound = by-body (Read c d s e at) s 0x10 0x12 e at _ (λ b framed.
     by-choose (Got (Read c d s e at)) (eqb (getD s at 0) 0x10) _ _ (λ q. integer-sound c d s e at b framed (eqb-true (getD s at 0) 0x10 q))
@@ -247,7 +247,7 @@ struct-sound : (c : Convention) (d : ℕ) (s : List ℕ) (e at b : ℕ) → Fram
 unfolding structAt
 struct-sound c zero s e at b framed tag = tt
 struct-sound c (suc d) s e at b framed tag =
-    contents-sound c d s e at b framed tag (λ k. itemBy (structAt c d s) (ltb d 8) s b k)
+    contents-sound c d s e at b framed tag (λ k. itemBy c (structAt c d s) (ltb d 8) s b k)
     (λ k. item-by-sound c d s b k (structAt c d s) (λ b′ framed′ tag′. struct-sound c d s b k b′ framed′ tag′))
 
 pub item-sound : (c : Convention) (d : ℕ) (s : List ℕ) (e at : ℕ) → Got (Read c d s e at) (itemAt c d s e at)

@@ -1,5 +1,5 @@
 -- What reading a type item finds: document 01, "A signature's bytes", with the refusals in the order "At an item: header
--- room, tag, length room, then depth (6), body (4), long double (5), contents, size (8)". The list s is the whole signature,
+-- room, tag, length room, then depth (6), body (4), long double (5), contents, size (8)", and No. 1's 25 after 5. The list s is the whole signature,
 -- `at` the place of an item's header, e the enclosing end and b the end of an item's body. Assumes nothing.
 use Prim.Native.Nat.{ℕ, zero, suc, _+_, _-_, _*_}
 use mathlib.Core.Bool.{Bool}
@@ -10,6 +10,7 @@ use Rattle.words.specs.Basics.{pick}
 use Rattle.conventions.specs.declared.Convention.{Convention}
 use Rattle.types.specs.declared.IntegerKind.{IntegerKind}
 use Rattle.types.specs.declared.FloatFormat.{FloatFormat}
+use Rattle.types.specs.Sizes.{lacksFloat}
 use Rattle.types.specs.Structs.{shapeOf, tooLarge}
 use Rattle.types.specs.Trees.{Tree, Trees, integer, float, struct, none, _▸_, fieldsOf}
 use Rattle.items.specs.declared.Refusal.{Refusal}
@@ -59,16 +60,20 @@ integerBy IntegerCode.Unknown at b = no (fault Refusal.Malformed at 0)
 unfoldable pub integerAt : List ℕ → ℕ → ℕ → Reading Tree
 integerAt s at b = pick (eqb b (at + 4)) (integerBy (integerCode (getD s (at + 3) 0)) at b) (no (fault Refusal.Malformed at 0))
 
--- 5: "long double inside a struct"
-abbrev pub floatBy : FloatCode → Bool → ℕ → ℕ → Reading Tree
-floatBy (FloatCode.Format FloatFormat.Single) inside at b = got (float FloatFormat.Single) b 1
-floatBy (FloatCode.Format FloatFormat.Double) inside at b = got (float FloatFormat.Double) b 1
-floatBy (FloatCode.Format FloatFormat.LongDouble) inside at b = pick inside (no (fault Refusal.LongDoubleInStruct at 0)) (got (float FloatFormat.LongDouble) b 1)
-floatBy FloatCode.Unknown inside at b = no (fault Refusal.Malformed at 0)
+-- 25: a float that the convention has not
+unfoldable pub floatOf : Convention → FloatFormat → Bool → ℕ → ℕ → Reading Tree
+floatOf c f inside at b = pick (lacksFloat c inside f) (no (fault Refusal.FloatNotCarried at 0)) (got (float f) b 1)
+
+-- 5: "long double inside a struct"; 25 is "tested after 5"
+abbrev pub floatBy : Convention → FloatCode → Bool → ℕ → ℕ → Reading Tree
+floatBy c (FloatCode.Format FloatFormat.Single) inside at b = floatOf c FloatFormat.Single inside at b
+floatBy c (FloatCode.Format FloatFormat.Double) inside at b = floatOf c FloatFormat.Double inside at b
+floatBy c (FloatCode.Format FloatFormat.LongDouble) inside at b = pick inside (no (fault Refusal.LongDoubleInStruct at 0)) (floatOf c FloatFormat.LongDouble inside at b)
+floatBy c FloatCode.Unknown inside at b = no (fault Refusal.Malformed at 0)
 
 -- "0x11 float, length 1"
-unfoldable pub floatAt : List ℕ → Bool → ℕ → ℕ → Reading Tree
-floatAt s inside at b = pick (eqb b (at + 4)) (floatBy (floatCode (getD s (at + 3) 0)) inside at b) (no (fault Refusal.Malformed at 0))
+unfoldable pub floatAt : Convention → List ℕ → Bool → ℕ → ℕ → Reading Tree
+floatAt c s inside at b = pick (eqb b (at + 4)) (floatBy c (floatCode (getD s (at + 3) 0)) inside at b) (no (fault Refusal.Malformed at 0))
 
 -- Type items one after the other up to the end e, at most `most` of them, after the types ts; n headers came before, those of
 -- the types and the enclosing one. Only arguments are limited: a struct's `most` is its body's length, and no item is shorter
@@ -93,15 +98,15 @@ abbrev pub byTag : ℕ → Reading Tree → Reading Tree → (Unit {0} → Readi
 byTag tag i f s = choose (eqb tag 0x10) (λ _. i) (λ _. choose (eqb tag 0x11) (λ _. f) s)
 
 -- a type item, by what a struct's is
-unfoldable pub itemBy : (ℕ → ℕ → Reading Tree) → Bool → List ℕ → ℕ → ℕ → Reading Tree
-itemBy structure inside s e at =
-    inBody (bodyAt s 0x10 0x12 e at) at (λ b. byTag (getD s at 0) (integerAt s at b) (floatAt s inside at b) (λ _. structure at b))
+unfoldable pub itemBy : Convention → (ℕ → ℕ → Reading Tree) → Bool → List ℕ → ℕ → ℕ → Reading Tree
+itemBy c structure inside s e at =
+    inBody (bodyAt s 0x10 0x12 e at) at (λ b. byTag (getD s at 0) (integerAt s at b) (floatAt c s inside at b) (λ _. structure at b))
 
 -- "Reading a struct and reading a field call each other, and the depth left falls": d levels of structs are left, 8 outside
 -- any struct. 6: "struct depth over 8"
 unfoldable pub structAt : Convention → ℕ → List ℕ → ℕ → ℕ → Reading Tree
 structAt c zero s at b = no (fault Refusal.TooDeep at 0)
-structAt c (suc d) s at b = contentsAt c (λ k. itemBy (structAt c d s) (ltb d 8) s b k) at b
+structAt c (suc d) s at b = contentsAt c (λ k. itemBy c (structAt c d s) (ltb d 8) s b k) at b
 
 unfoldable pub itemAt : Convention → ℕ → List ℕ → ℕ → ℕ → Reading Tree
-itemAt c d s e at = itemBy (structAt c d s) (ltb d 8) s e at
+itemAt c d s e at = itemBy c (structAt c d s) (ltb d 8) s e at

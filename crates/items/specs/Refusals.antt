@@ -24,6 +24,8 @@ numberOf Refusal.TooManyArguments = 7
 numberOf Refusal.StructTooLarge = 8
 -- "bytes after the third item"
 numberOf Refusal.TrailingBytes = 9
+-- No. 1: "A long double, or a double inside a struct, gives new refusal 25 at that item"
+numberOf Refusal.FloatNotCarried = 25
 
 -- ---- the number of each answer: 0 where nothing is refused
 

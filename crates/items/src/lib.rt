@@ -18,6 +18,7 @@ pub enum Refusal {
     TooManyArguments,
     StructTooLarge,
     TrailingBytes,
+    FloatNotCarried,
 }
 
 pub fn number_of(r: Refusal) -> u64
@@ -33,6 +34,7 @@ pub fn number_of(r: Refusal) -> u64
         Refusal::TooManyArguments => 7,
         Refusal::StructTooLarge => 8,
         Refusal::TrailingBytes => 9,
+        Refusal::FloatNotCarried => 25,
     }
 }
 

@@ -3,7 +3,7 @@ ghost use mathlib.Core.Path.{_≡_};
 ghost use Prim.Native.Nat.{_+_, _*_, _≤_};
 ghost use lib.Dec.{ltb};
 ghost use lib.ListN.{length};
-ghost use Rattle.items.specs.Read.{bodyAt, integerCode, floatCode, integerAt, floatAt};
+ghost use Rattle.items.specs.Read.{bodyAt, integerCode, floatCode, integerAt, floatOf, floatAt};
 ghost use Rattle.items.specs.Reading.{fault};
 ghost use Rattle.items.specs.Answer.{itemAnswer};
 use conventions::Convention;
@@ -103,35 +103,38 @@ pub fn read_integer(s: &[u8], c: Convention, at: usize, end: usize) -> ItemRead
     }
 }
 
+// A float item at `at` that 5 does not refuse: whether the convention has it.
+fn float_item(c: Convention, f: FloatFormat, at: usize, end: usize, depth: usize) -> ItemRead
+    ensures { λ r. ⌜ r ≡ itemAnswer c (floatOf c f (ltb depth 8) at end) ⌝ }
+{
+    let inside = depth < 8;
+    if types::lacks_float(c, inside, f) {
+        return refused_here(Refusal::FloatNotCarried, at);
+    }
+    ItemRead::Item {
+        ty: ValueType::Float(f),
+        next: end,
+        items: 1,
+    }
+}
+
 // The float item at `at`, whose body ends at `end`, with `depth` levels of structs left: fewer than 8 inside a struct.
 pub fn read_float(s: &[u8], c: Convention, at: usize, end: usize, depth: usize) -> ItemRead
     requires { ⌜ (at + 3 ≤ end) × (end ≤ length (now s)) ⌝ }
-    ensures { λ r. ⌜ r ≡ itemAnswer c (floatAt (now (s .entry)) (ltb depth 8) at end) ⌝ }
+    ensures { λ r. ⌜ r ≡ itemAnswer c (floatAt c (now (s .entry)) (ltb depth 8) at end) ⌝ }
 {
     if end - at != 4 {
         return refused_here(Refusal::Malformed, at);
     }
     match float_code(s[at + 3]) {
         FloatCode::Format(f) => match f {
-            FloatFormat::Single => ItemRead::Item {
-                ty: ValueType::Float(FloatFormat::Single),
-                next: end,
-                items: 1,
-            },
-            FloatFormat::Double => ItemRead::Item {
-                ty: ValueType::Float(FloatFormat::Double),
-                next: end,
-                items: 1,
-            },
+            FloatFormat::Single => float_item(c, FloatFormat::Single, at, end, depth),
+            FloatFormat::Double => float_item(c, FloatFormat::Double, at, end, depth),
             FloatFormat::LongDouble => {
                 if depth < 8 {
                     refused_here(Refusal::LongDoubleInStruct, at)
                 } else {
-                    ItemRead::Item {
-                        ty: ValueType::Float(FloatFormat::LongDouble),
-                        next: end,
-                        items: 1,
-                    }
+                    float_item(c, FloatFormat::LongDouble, at, end, depth)
                 }
             }
         },

@@ -36,9 +36,10 @@ abbrev pub memoryText : Span → List ℕ
 memoryText s = pick (stored s) (placeText (Place.Memory (s .memory .start))) []
 
 -- after `@`: the offset of the argument's first doubleword, even if that one is in a register. "Z prints `@` only after `mem`
--- (from 160)"
+-- (from 160)"; 02, No. 1: on AIX "`@` from the area's start"
 abbrev pub offsetText : Convention → Span → List ℕ
 offsetText Convention.Ppc64 s = offsetMark ++ decimal (s .home .start)
+offsetText Convention.Aix s = offsetMark ++ decimal (s .home .start)
 offsetText Convention.Z s = pick (stored s) (offsetMark ++ decimal (headerBytes Convention.Z + s .home .start)) []
 
 -- "` ref` at the line's end for an argument passed by pointer to a copy"

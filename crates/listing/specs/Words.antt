@@ -11,6 +11,10 @@ ppc64Name = 80 ∷ 80 ∷ 67 ∷ 54 ∷ 52 ∷ []
 abbrev pub zName : List ℕ
 zName = 90 ∷ []
 
+-- "AIX"
+abbrev pub aixName : List ℕ
+aixName = 65 ∷ 73 ∷ 88 ∷ []
+
 -- " args "
 abbrev pub argsWord : List ℕ
 argsWord = 32 ∷ 97 ∷ 114 ∷ 103 ∷ 115 ∷ 32 ∷ []

@@ -25,6 +25,7 @@ fn put_name(text: &mut [u8], at: usize, c: Convention) -> usize
     match c {
         Convention::Ppc64 => put_bytes(text, at, b"PPC64"),
         Convention::Z => put_bytes(text, at, b"Z"),
+        Convention::Aix => put_bytes(text, at, b"AIX"),
     }
 }
 

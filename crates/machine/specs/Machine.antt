@@ -1,5 +1,5 @@
 -- The frame machine: what each call answers, and the state and the memory after it, for every state, request and memory. Document 01, "Frames" and refusals 16 to 23;
--- document 02, No. 8 and No. 9.
+-- document 02, No. 1, No. 8 and No. 9.
 -- Addresses are integers without wrap. Definitions are over the rules k of a convention; those that the contracts cite take them from the state.
 -- Assumes nothing.
 use Prim.Native.Nat.{ℕ, zero, suc, _+_, _-_, _%_}
@@ -62,13 +62,13 @@ unfoldable pub sizes : Rules → List Frame → ℕ → ℕ
 sizes k fs zero = 0
 sizes k fs (suc d) = sizes k fs d + frameSize k (frameAt fs d)
 
--- refusal 16: "machine memory N not a multiple of 16, under 256, over 65,536, base B not a multiple of 16, B + N over 2^64 - 1"; 02, No. 8: "Start gives 16 unless the
--- start pointer has that room", which is the floor
+-- refusal 16: "machine memory N not a multiple of 16, under 256, over 65,536, base B not a multiple of 16, B + N over 2^64 - 1"; 02, No. 1, of AIX: "B + N over
+-- 2^32 - 1 gives 16"; No. 8: "Start gives 16 unless the start pointer has that room", which is the floor
 unfoldable pub okMemory : Rules → ℕ → ℕ → Bool
 okMemory k b n = eqb (n % 16) 0 && (leb 256 n && (leb n 65536 && (eqb (b % 16) 0 && (leb (b + n) (k .limit) && leb (k .room + k .floor) n))))
 
 -- refusal 23: "depth over 32, an entered frame's record that 17 would refuse, B or N as in 16, or stack pointer below B or not the start's less the sum of frame sizes";
--- 02, No. 8: "In 23, less room than this counts as below B"
+-- 02, No. 1: "a GPR or LR write over 2^32 - 1 gives 20, a state holding one 23"; No. 8: "In 23, less room than this counts as below B"
 unfoldable pub okState : Rules → State → Bool
 okState k s =
     okRegisters k (s .registers) && (leb (s .depth) 32 && (okFrames k (s .frames) (s .depth) && (okMemory k (s .base) (s .size)
@@ -84,7 +84,8 @@ stateTests k s n = require (okState k s) BadState ∷ require (eqb n (s .size)) 
 unfoldable pub startAnswer : Convention → ℕ → ℕ → Answer
 startAnswer c b n = judge (require (okMemory (rules c) b n) BadMemory ∷ [])
 
--- "Start writes 8 zero bytes at the stack pointer: B + N - 112 (PPC64), B + N - 160 (Z). Other registers are as handed in, depth and all records 0"
+-- "Start writes 8 zero bytes at the stack pointer: B + N - 112 (PPC64), B + N - 160 (Z). Other registers are as handed in, depth and all records 0";
+-- 02, No. 1, of AIX: "start is at B + N - 64 with a zero word", "Start clears the high halves of GPRs and LR"
 unfoldable pub started : Convention → ℕ → ℕ → Registers → State
 started c b n r = record {
   convention = c;
@@ -105,8 +106,8 @@ notStarted c r = record { convention = c; base = 0; size = 0; depth = 0; registe
 
 -- ---- enter
 
--- "enter 17, 18, 19", and 19 is "new stack pointer below B"; 02, No. 8: "Enter now also needs 288 free bytes under the new stack pointer on PPC64 .., else 19";
--- 02, No. 9: "Enter above a leaf gives new refusal 28, tested after 17"
+-- "enter 17, 18, 19", and 19 is "new stack pointer below B"; 02, No. 8: "Enter now also needs 288 free bytes under the new stack pointer on PPC64 and 220 on AIX, else 19";
+-- No. 9: "Enter above a leaf gives new refusal 28, tested after 17"
 abbrev pub enterTests : Rules → State → Frame → List Test
 enterTests k s f =
     require (okRequest k f) BadRequest ∷ require (not (top k s .leaf)) AboveLeaf ∷ require (ltb (s .depth) 32) TooManyFrames ∷ require (leb (s .base + frameSize k f + k .floor) (stackPointer k s)) NoRoom ∷ []

@@ -6,6 +6,7 @@ ghost use Rattle.machine.specs.Answers.{settle};
 ghost use Rattle.machine.specs.Machine.{startOutcome, startMemory, enterOutcome, enterMemory, writeRegisterOutcome, writeMemoryOutcome, writeMemoryMemory, leaveOutcome};
 ghost use Rattle.word_layout.specs.Words.{registersIn, frameIn, stateIn, stateWords};
 ghost use Rattle.word_layout.specs.Calls.{startWords, enterWords, writeRegisterWords, leaveWords};
+use abi::Aix;
 use abi::Ppc64;
 use abi::Z;
 use conventions::Convention;
@@ -56,6 +57,21 @@ pub fn start_z(
     ensures { λ _. ⌜ now (memory .exit) ≡ startMemory Convention.Z base (now (memory .entry)) ⌝ }
 {
     let o = Z::start(memory, base, state_words::registers_in(registers, 0));
+    put_start(words, registers, o)
+}
+
+// The fresh start on AIX.
+pub fn start_aix(
+    words: &mut [u64; 262],
+    registers: &[u64; 66],
+    base: u64,
+    memory: &mut [u8],
+) -> Answer
+    ensures { λ r. ⌜ r ≡ startOutcome Convention.Aix base (length (now (memory .entry))) (registersIn (now (registers .entry)) 0) .answer ⌝ }
+    ensures { λ _. ⌜ now (words .exit) ≡ startWords Convention.Aix (now (registers .entry)) base (length (now (memory .entry))) ⌝ }
+    ensures { λ _. ⌜ now (memory .exit) ≡ startMemory Convention.Aix base (now (memory .entry)) ⌝ }
+{
+    let o = Aix::start(memory, base, state_words::registers_in(registers, 0));
     put_start(words, registers, o)
 }
 

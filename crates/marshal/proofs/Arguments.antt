@@ -1,6 +1,6 @@
 -- The slots of one argument, by the way that it is passed. Assumes nothing.
-use mathlib.Core.Path.{_≡_, sym, ap, ap₂, _∙_}
-use mathlib.Core.Bool.{true, false}
+use mathlib.Core.Path.{_≡_, refl, sym, ap, ap₂, subst, _∙_}
+use mathlib.Core.Bool.{Bool, true, false}
 use mathlib.Core.List.{List, _++_}
 use Prim.Native.Nat.{ℕ, _+_, _-_, _*_, _≤_, _<_}
 use native.Mathlib.Omega.{arith}
@@ -12,17 +12,21 @@ use Rattle.words.proofs.Splices.{splice-nothing}
 use Rattle.words.proofs.Numbers.{length-bytesOf}
 use Rattle.types.specs.Sizes.{equivalentOf}
 use Rattle.places.specs.declared.Rules.{Rules}
+use Rattle.places.specs.Step.{wordOf}
+use Rattle.registers.specs.Registers.{spread}
 use Rattle.slots.specs.Buffers.{buffers, generalAt, floatingAt, put, putAll}
 use Rattle.slots.specs.Forms.{startsAtHead, extended, homeBytes, floatWord, floatBytes}
 use Rattle.slots.specs.Placements.{Placement, standing, copyBytes, slotsOf}
 use Rattle.slots.specs.Limits.{Held}
+use Rattle.marshal.specs.Room.{NumberFits}
+use Rattle.slots.proofs.Limits.{one-word, one-address, one-doubleword}
 
 module _ (r : Rules) (base : ℕ) (p : Placement) (v image area copies : List ℕ) (h : Held r p) where
   -- in an FPR
   pub argument-float : 0 < p .span .floating .count
       → buffers (splice image (floatingAt (p .span .floating .first)) (bytesOf 8 (floatWord r (equivalentOf (p .ty)) (valueOf v)))) area copies
       ≡ putAll (slotsOf r base p v) (buffers image area copies)
-  unfolding slotsOf putAll put floatBytes
+  unfolding slotsOf putAll put floatBytes spread
   argument-float some =
       let one : p .span .floating .count ≡ 1 = omega (arith, h .floats) in
       let none : p .span .general .count ≡ 0 = h .alone one .0 in
@@ -34,8 +38,8 @@ module _ (r : Rules) (base : ℕ) (p : Placement) (v image area copies : List �
 
   -- in general registers and memory, where the words bs stand there
   pub argument-words : (bs i a c : List ℕ) → p .span .floating .count ≤ 0 → standing r base p v ≡ bs
-      → i ≡ splice image (generalAt (p .span .general .first)) (take (8 * p .span .general .count) bs)
-      → a ≡ splice area (p .span .memory .start) (part (8 * p .span .general .count) (p .span .memory .length) bs)
+      → i ≡ splice image (generalAt (p .span .general .first)) (spread (wordOf r) (p .span .general .count) bs)
+      → a ≡ splice area (p .span .memory .start) (part (wordOf r * p .span .general .count) (p .span .memory .length) bs)
       → c ≡ splice copies (p .span .copy .start) (copyBytes p v)
       → buffers i a c ≡ putAll (slotsOf r base p v) (buffers image area copies)
   unfolding slotsOf putAll put
@@ -43,29 +47,47 @@ module _ (r : Rules) (base : ℕ) (p : Placement) (v image area copies : List �
       let no : p .span .floating .count ≡ 0 = omega arith in
       let f : List ℕ = floatBytes r (p .ty) v in
       let fpr : splice image (floatingAt (p .span .floating .first)) (take (8 * p .span .floating .count) f) ≡ image = rw (no, splice-nothing) in
-      let i' : splice (splice image (floatingAt (p .span .floating .first)) (take (8 * p .span .floating .count) f)) (generalAt (p .span .general .first)) (take (8 * p .span .general .count) (standing r base p v)) ≡ i =
-      ap₂ (λ (l m : List ℕ). splice l (generalAt (p .span .general .first)) (take (8 * p .span .general .count) m)) fpr e ∙ sym x in
-      let a' : splice area (p .span .memory .start) (part (8 * p .span .general .count) (p .span .memory .length) (standing r base p v)) ≡ a =
-      ap (λ (m : List ℕ). splice area (p .span .memory .start) (part (8 * p .span .general .count) (p .span .memory .length) m)) e ∙ sym y in
+      let i' : splice (splice image (floatingAt (p .span .floating .first)) (take (8 * p .span .floating .count) f)) (generalAt (p .span .general .first)) (spread (wordOf r) (p .span .general .count) (standing r base p v)) ≡ i =
+      ap₂ (λ (l m : List ℕ). splice l (generalAt (p .span .general .first)) (spread (wordOf r) (p .span .general .count) m)) fpr e ∙ sym x in
+      let a' : splice area (p .span .memory .start) (part (wordOf r * p .span .general .count) (p .span .memory .length) (standing r base p v)) ≡ a =
+      ap (λ (m : List ℕ). splice area (p .span .memory .start) (part (wordOf r * p .span .general .count) (p .span .memory .length) m)) e ∙ sym y in
       rw (i', a', ← z)
 
--- what stands in the words: the address of a copy, the value from its head on, or the value at the end of its only word
+-- what stands in the words: the address of a copy, the value from its head on, or the value at their end
 module _ (r : Rules) (base : ℕ) (p : Placement) (v : List ℕ) (h : Held r p) where
-  pub stands-address : p .span .indirect ≡ true → standing r base p v ≡ bytesOf 8 (base + p .span .copy .start)
+  pub stands-address : p .span .floating .count ≤ 0 → p .span .indirect ≡ true
+      → standing r base p v ≡ bytesOf (wordOf r * p .span .general .count + p .span .memory .length) (base + p .span .copy .start)
   unfolding standing
-  stands-address e = rw e
+  stands-address none e = rw (e, one-word r p h none e)
 
   pub stands-head : p .span .floating .count ≤ 0 → p .span .indirect ≡ false → startsAtHead r (p .ty) ≡ true → length v ≡ p .size
-      → standing r base p v ≡ v ++ replicate (8 * p .span .general .count + p .span .memory .length - length v) 0
+      → standing r base p v ≡ v ++ replicate (wordOf r * p .span .general .count + p .span .memory .length - length v) 0
   unfolding standing homeBytes
   stands-head none e s n =
       let no : p .span .floating .count ≡ 0 = omega arith in
       rw (e, s, h .words no, n)
 
-  pub stands-end : p .span .indirect ≡ false → startsAtHead r (p .ty) ≡ false → length v ≡ p .size
-      → standing r base p v ≡ bytesOf 8 (extended (p .ty) (length v) (valueOf v))
+  pub stands-end : p .span .floating .count ≤ 0 → p .span .indirect ≡ false → startsAtHead r (p .ty) ≡ false → length v ≡ p .size
+      → standing r base p v ≡ bytesOf (wordOf r * p .span .general .count + p .span .memory .length) (extended (p .ty) (length v) (valueOf v))
   unfolding standing homeBytes
-  stands-end e s n = rw (e, s, h .end s, n)
+  stands-end none e s n =
+      let no : p .span .floating .count ≡ 0 = omega arith in
+      rw (e, s, h .words no, n)
+
+  -- an address or a value at the end of its words is a number of at most eight bytes
+  pub number-fits : p .span .floating .count ≤ 0 → (p .span .indirect ≡ false → startsAtHead r (p .ty) ≡ false) → NumberFits (wordOf r) (p .span)
+  number-fits none e = go (p .span .indirect) refl
+    where
+      go : (b : Bool) → p .span .indirect ≡ b → NumberFits (wordOf r) (p .span)
+      go true q =
+          (omega (arith, one-word r p h none q), λ x. one-address r p h none q)
+      go false q =
+          let no : p .span .floating .count ≡ 0 = omega arith in
+          let small = h .small (e q) q in
+          let words = h .words no in (
+            omega (arith, h .room q),
+            λ x. subst (λ (w : ℕ). w * p .span .general .count + p .span .memory .length ≡ 8) x (words ∙ one-doubleword r (p .size) x (small .0) (small .1)),
+          )
 
 -- no copy is put where there is none
 pub copy-none : (p : Placement) (v copies : List ℕ) → p .span .indirect ≡ false → copies ≡ splice copies (p .span .copy .start) (copyBytes p v)

@@ -1,17 +1,22 @@
 -- What stands in general registers and what in memory: the two writes of a value's words. Assumes nothing.
-use mathlib.Core.Path.{_≡_, sym}
-use mathlib.Core.List.{List, _++_}
-use Prim.Native.Nat.{ℕ, _+_, _-_, _*_, _%_, _≤_, _<_}
+use mathlib.Core.Path.{_≡_, refl, sym, ap, _∙_}
+use mathlib.Core.Bool.{Bool, true, false}
+use mathlib.Core.List.{List, _++_, append-assoc, append-nil}
+use Prim.Native.Nat.{ℕ, _+_, _-_, _*_, _≤_, _<_}
 use native.Mathlib.Omega.{arith}
 use native.Mathlib.Nat.{sub-zero, add-zero}
-use lib.ListN.{length, take, drop, replicate, length-append, length-drop, length-replicate}
-use lib.Seq.{take-all, take-append-le, drop-append-le}
+use borrow.Author.Tests.{ltb-true, ltb-false}
+use lib.Dec.{ltb}
+use lib.ListN.{length, take, drop, replicate, length-append, length-drop, length-replicate, take-append-drop}
+use lib.Seq.{take-all, drop-append-le, length-take-le}
 use Rattle.words.specs.Splice.{splice, part}
 use Rattle.words.specs.Numbers.{bytesOf}
 use Rattle.words.proofs.Splices.{splice-nothing}
 use Rattle.words.proofs.Numbers.{length-bytesOf}
+use Rattle.registers.specs.Registers.{spread}
+use Rattle.registers.proofs.Registers.{spread-take, spread-doublewords}
 
--- ---- one word
+-- ---- one doubleword
 module _ (l a : List ℕ) (g s x : ℕ) (k m : ℕ) (one : 8 * k + m ≡ 8) where
   pub word-general : 0 < k
       → (splice l g (bytesOf 8 x) ≡ splice l g (take (8 * k) (bytesOf 8 x))) × (a ≡ splice a s (part (8 * k) m (bytesOf 8 x)))
@@ -29,31 +34,45 @@ module _ (l a : List ℕ) (g s x : ℕ) (k m : ℕ) (one : 8 * k + m ≡ 8) wher
       let all : take 8 (bytesOf 8 x) ≡ bytesOf 8 x = take-all 8 (bytesOf 8 x) (omega (arith, length-bytesOf 8 x)) in
       (rw e (sym (splice-nothing l g)), rw (e, z, all))
 
--- ---- several words, and zeros at their end
+-- it is put by the rule for words of any width
+pub number-plain : (l a i o : List ℕ) (g s x w k m : ℕ) → w ≡ 8 → 8 * k + m ≡ 8
+    → (i ≡ splice l g (take (8 * k) (bytesOf 8 x))) × (o ≡ splice a s (part (8 * k) m (bytesOf 8 x)))
+    → (i ≡ splice l g (spread w k (bytesOf (w * k + m) x))) × (o ≡ splice a s (part (w * k) m (bytesOf (w * k + m) x)))
+number-plain l a i o g s x w k m e one h = rw (e, one, spread-doublewords k (bytesOf 8 x)) h
 
-module _ (l a v : List ℕ) (g s k m : ℕ) (some : 8 * k + m < length v + 8) (all : length v ≤ 8 * k + m) (words : m % 8 ≡ 0) where
-  pub bytes-general : length v ≤ 8 * k
-      → (splice l g (v ++ replicate (8 * k - length v) 0) ≡ splice l g (take (8 * k) (v ++ replicate (8 * k + m - length v) 0)))
-      × (a ≡ splice a s (part (8 * k) m (v ++ replicate (8 * k + m - length v) 0)))
+-- ---- several words, and zeros at their end: k words of w bytes in registers, and m bytes in memory
+
+module _ (l a v : List ℕ) (g s w k m : ℕ) (some : w * k + m < length v + w) (all : length v ≤ w * k + m) (words : 0 < m → w ≤ m) where
+  pub bytes-general : length v ≤ w * k
+      → (splice l g (spread w k (v ++ replicate (w * k - length v) 0)) ≡ splice l g (spread w k (v ++ replicate (w * k + m - length v) 0)))
+      × (a ≡ splice a s (part (w * k) m (v ++ replicate (w * k + m - length v) 0)))
   bytes-general h =
-      let z : m ≡ 0 = omega arith in
-      let t : take (8 * k) (v ++ replicate (8 * k - length v) 0) ≡ v ++ replicate (8 * k - length v) 0 =
-      take-all (8 * k) (v ++ replicate (8 * k - length v) 0)
-      (omega (arith, length-append v (replicate (8 * k - length v) 0), length-replicate {A = ℕ} (8 * k - length v) 0)) in
-      (rw (z, add-zero (8 * k), t), rw z (sym (splice-nothing a s)))
+      let z : m ≡ 0 = none (ltb 0 m) refl in
+      (rw (z, add-zero (w * k)), rw z (sym (splice-nothing a s)))
+    where
+      none : (b : Bool) → ltb 0 m ≡ b → m ≡ 0
+      none true e = let l = words (ltb-true 0 m e) in absurd (omega arith)
+      none false e = let l : m ≤ 0 = ltb-false 0 m e in omega arith
 
-  pub bytes-both : 8 * k < length v
-      → (splice l g (part 0 (8 * k - 0) v) ≡ splice l g (take (8 * k) (v ++ replicate (8 * k + m - length v) 0)))
-      × (splice a s (part (8 * k) (length v - 8 * k) v ++ replicate (m - (length v - 8 * k)) 0)
-      ≡ splice a s (part (8 * k) m (v ++ replicate (8 * k + m - length v) 0)))
+  pub bytes-both : w * k < length v
+      → (splice l g (spread w k (part 0 (w * k - 0) v ++ replicate (w * k - length (part 0 (w * k - 0) v)) 0)) ≡ splice l g (spread w k (v ++ replicate (w * k + m - length v) 0)))
+      × (splice a s (part (w * k) (length v - w * k) v ++ replicate (m - (length v - w * k)) 0)
+      ≡ splice a s (part (w * k) m (v ++ replicate (w * k + m - length v) 0)))
   bytes-both h =
-      let e : 8 * k + m - length v ≡ m - (length v - 8 * k) = omega arith in
-      let n : ℕ = m - (length v - 8 * k) in
-      let d : length (drop (8 * k) v) ≡ length v - 8 * k = length-drop (8 * k) v in
-      let tail : take (length v - 8 * k) (drop (8 * k) v) ≡ drop (8 * k) v = take-all (length v - 8 * k) (drop (8 * k) v) (omega arith) in
-      let whole : take m (drop (8 * k) v ++ replicate n 0) ≡ drop (8 * k) v ++ replicate n 0 =
-      take-all m (drop (8 * k) v ++ replicate n 0)
-      (omega (arith, length-append (drop (8 * k) v) (replicate n 0), length-replicate {A = ℕ} n 0)) in (
-        rw (sub-zero (8 * k), take-append-le (8 * k) v (replicate (8 * k + m - length v) 0) (omega arith)),
-        rw (e, tail, drop-append-le (8 * k) v (replicate n 0) (omega arith), whole),
+      let e : w * k + m - length v ≡ m - (length v - w * k) = omega arith in
+      let n : ℕ = m - (length v - w * k) in
+      let first : List ℕ = take (w * k) v in
+      let lf : length first ≡ w * k = length-take-le (w * k) v (omega arith) in
+      let zero : w * k - length first ≡ 0 = omega arith in
+      let pieces : v ++ replicate (w * k + m - length v) 0 ≡ first ++ (drop (w * k) v ++ replicate (w * k + m - length v) 0) =
+      ap (λ (u : List ℕ). u ++ replicate (w * k + m - length v) 0) (sym (take-append-drop (w * k) v)) ∙ append-assoc first (drop (w * k) v) (replicate (w * k + m - length v) 0) in
+      let d : length (drop (w * k) v) ≡ length v - w * k = length-drop (w * k) v in
+      let tail : take (length v - w * k) (drop (w * k) v) ≡ drop (w * k) v = take-all (length v - w * k) (drop (w * k) v) (omega arith) in
+      let whole : take m (drop (w * k) v ++ replicate n 0) ≡ drop (w * k) v ++ replicate n 0 =
+      take-all m (drop (w * k) v ++ replicate n 0)
+      (omega (arith, length-append (drop (w * k) v) (replicate n 0), length-replicate {A = ℕ} n 0)) in (
+        ap (splice l g)
+            (rw (sub-zero (w * k), zero) (ap (spread w k) (append-nil first))
+            ∙ sym (ap (spread w k) pieces ∙ spread-take w k first (drop (w * k) v ++ replicate (w * k + m - length v) 0) (omega arith))),
+        rw (e, tail, drop-append-le (w * k) v (replicate n 0) (omega arith), whole),
       )

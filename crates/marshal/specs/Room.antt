@@ -1,5 +1,5 @@
 -- What putting a value asks of the buffers: room for the argument's words and copy. Assumes nothing.
-use Prim.Native.Nat.{ℕ, _+_, _-_, _*_, _%_, _^_, _≤_, _<_}
+use Prim.Native.Nat.{ℕ, _+_, _-_, _*_, _^_, _≤_, _<_}
 use mathlib.Core.Path.{_≡_}
 use mathlib.Core.List.{List, _++_}
 use lib.ListN.{length, replicate}
@@ -8,14 +8,23 @@ use Rattle.places.specs.declared.Span.{Span}
 use Rattle.slots.specs.Placements.{Placement}
 use Rattle.slots.specs.Limits.{Held, Fits}
 
--- v, and zeros to the end of a span's words
-abbrev pub padded : Span → List ℕ → List ℕ
-padded s v = v ++ replicate (8 * s .general .count + s .memory .length - length v) 0
+-- v, and zeros to the end of a span's words of w bytes
+abbrev pub padded : ℕ → Span → List ℕ → List ℕ
+padded w s v = v ++ replicate (w * s .general .count + s .memory .length - length v) 0
 
--- a span's words lie in the image and the area
-abbrev pub WordsFit : Span → List ℕ → List ℕ → Type 0
-WordsFit s image area =
-    (s .general .first + s .general .count ≤ 32) × (length image ≡ 512) × (s .memory .start + s .memory .length ≤ length area) × (s .memory .length % 8 ≡ 0)
+-- a span's words of w bytes lie in the image and the area
+abbrev pub WordsFit : ℕ → Span → List ℕ → List ℕ → Type 0
+WordsFit w s image area =
+    (1 ≤ w)
+    × (w ≤ 8)
+    × (s .general .first + s .general .count ≤ 32)
+    × (length image ≡ 512)
+    × (s .memory .start + s .memory .length ≤ length area)
+    × (0 < s .memory .length → w ≤ s .memory .length)
+
+-- a number of at most eight bytes has no word too many: a doubleword is its only one
+abbrev pub NumberFits : ℕ → Span → Type 0
+NumberFits w s = (w * s .general .count + s .memory .length < w + 8) × (w ≡ 8 → 8 * s .general .count + s .memory .length ≡ 8)
 
 -- an argument, and the lengths of the buffers that it is put in
 pub record Ready (r : Rules) (base i a c : ℕ) (p : Placement) : Type 0 where

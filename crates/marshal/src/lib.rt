@@ -4,28 +4,18 @@ use places::Rules;
 use places::Span;
 use types::ValueType;
 ghost use mathlib.Core.Path.{_≡_};
-ghost use mathlib.Core.List.{_++_};
 ghost use Prim.Native.Nat.{_+_, _*_, _≤_, _<_};
-ghost use lib.ListN.{length, take, replicate};
-ghost use Rattle.words.specs.Splice.{overlay, splice, part};
+ghost use lib.ListN.{length, take};
+ghost use Rattle.words.specs.Splice.{splice, part};
 ghost use Rattle.words.specs.Numbers.{bytesOf};
+ghost use Rattle.registers.specs.Registers.{spread};
 ghost use Rattle.slots.specs.Buffers.{buffers, putAll};
 ghost use Rattle.slots.specs.Placements.{placement, slotsOf};
-ghost use Rattle.marshal.specs.Room.{padded, WordsFit, Ready};
+ghost use Rattle.marshal.specs.Room.{padded, WordsFit, NumberFits, Ready};
 
-// The bytes v at the head of s, and zeros after them.
-fn put_padded(s: &mut [u8], v: &[u8], zeros: usize)
-    requires { ⌜ length (now v) + zeros ≤ length (now s) ⌝ }
-    ensures { λ _. ⌜ now (s .exit) ≡ overlay (now (s .entry)) (now (v .entry) ++ replicate zeros 0) ⌝ }
-{
-    words::put(s, v);
-    let end = v.len();
-    words::put_zeros(&mut s[end..], zeros);
-}
-
-// The eight bytes of x in the only word of a span: a general register or a doubleword of memory.
+// The eight bytes of x in the only word of a span, where a word is a doubleword: a general register or a doubleword of memory.
 fn put_word(image: &mut [u8], area: &mut [u8], s: Span, x: u64)
-    requires { ⌜ WordsFit s (now image) (now area) × (8 * s .general .count + s .memory .length ≡ 8) ⌝ }
+    requires { ⌜ WordsFit 8 s (now image) (now area) × (8 * s .general .count + s .memory .length ≡ 8) ⌝ }
     ensures { λ _. ⌜ (now (image .exit) ≡ splice (now (image .entry)) (8 * s .general .first) (take (8 * s .general .count) (bytesOf 8 x))) × (now (area .exit) ≡ splice (now (area .entry)) (s .memory .start) (part (8 * s .general .count) (s .memory .length) (bytesOf 8 x))) ⌝ }
 {
     let general = s.general;
@@ -39,24 +29,52 @@ fn put_word(image: &mut [u8], area: &mut [u8], s: Span, x: u64)
     words::put_number(&mut area[start..], 8, x);
 }
 
-// The bytes v at the head of a span's words, and zeros after them: the first words in general registers, the others in memory.
-fn put_bytes(image: &mut [u8], area: &mut [u8], s: Span, v: &[u8])
-    requires { ⌜ WordsFit s (now image) (now area) × (length (now v) ≤ 8 * s .general .count + s .memory .length) × (8 * s .general .count + s .memory .length < length (now v) + 8) ⌝ }
-    ensures { λ _. ⌜ (now (image .exit) ≡ splice (now (image .entry)) (8 * s .general .first) (take (8 * s .general .count) (padded s (now (v .entry))))) × (now (area .exit) ≡ splice (now (area .entry)) (s .memory .start) (part (8 * s .general .count) (s .memory .length) (padded s (now (v .entry))))) ⌝ }
+// The lowest bytes of x in a span's words: the first words in general registers, the others in memory.
+fn put_each_word(image: &mut [u8], area: &mut [u8], word: usize, s: Span, x: u64)
+    requires { ⌜ WordsFit word s (now image) (now area) × NumberFits word s ⌝ }
+    ensures { λ _. ⌜ (now (image .exit) ≡ splice (now (image .entry)) (8 * s .general .first) (spread word (s .general .count) (bytesOf (word * s .general .count + s .memory .length) x))) × (now (area .exit) ≡ splice (now (area .entry)) (s .memory .start) (part (word * s .general .count) (s .memory .length) (bytesOf (word * s .general .count + s .memory .length) x))) ⌝ }
 {
     let general = s.general;
     let memory = s.memory;
     let at = 8 * (general.first as usize);
     let start = memory.start as usize;
-    let held = 8 * (general.count as usize);
+    let count = general.count as usize;
     let stored = memory.length as usize;
-    let n = v.len();
-    if n <= held {
-        put_padded(&mut image[at..], v, held - n);
+    registers::put_number_registers(&mut image[at..], word, count, word * count + stored, x);
+    words::put_number(&mut area[start..], stored, x);
+}
+
+// The same in words of any width: a doubleword is put as it is.
+fn put_words(image: &mut [u8], area: &mut [u8], word: usize, s: Span, x: u64)
+    requires { ⌜ WordsFit word s (now image) (now area) × NumberFits word s ⌝ }
+    ensures { λ _. ⌜ (now (image .exit) ≡ splice (now (image .entry)) (8 * s .general .first) (spread word (s .general .count) (bytesOf (word * s .general .count + s .memory .length) x))) × (now (area .exit) ≡ splice (now (area .entry)) (s .memory .start) (part (word * s .general .count) (s .memory .length) (bytesOf (word * s .general .count + s .memory .length) x))) ⌝ }
+{
+    if word == 8 {
+        put_word(image, area, s, x);
         return;
     }
-    words::put(&mut image[at..], &v[0..held]);
-    put_padded(&mut area[start..], &v[held..], stored - (n - held));
+    put_each_word(image, area, word, s, x);
+}
+
+// The bytes v at the head of a span's words, and zeros after them: the first words in general registers, the others in memory.
+fn put_bytes(image: &mut [u8], area: &mut [u8], word: usize, s: Span, v: &[u8])
+    requires { ⌜ WordsFit word s (now image) (now area) × (length (now v) ≤ word * s .general .count + s .memory .length) × (word * s .general .count + s .memory .length < length (now v) + word) ⌝ }
+    ensures { λ _. ⌜ (now (image .exit) ≡ splice (now (image .entry)) (8 * s .general .first) (spread word (s .general .count) (padded word s (now (v .entry))))) × (now (area .exit) ≡ splice (now (area .entry)) (s .memory .start) (part (word * s .general .count) (s .memory .length) (padded word s (now (v .entry))))) ⌝ }
+{
+    let general = s.general;
+    let memory = s.memory;
+    let at = 8 * (general.first as usize);
+    let start = memory.start as usize;
+    let count = general.count as usize;
+    let stored = memory.length as usize;
+    let held = word * count;
+    let n = v.len();
+    if n <= held {
+        registers::put_registers(&mut image[at..], word, count, v);
+        return;
+    }
+    registers::put_registers(&mut image[at..], word, count, &v[0..held]);
+    registers::put_padded(&mut area[start..], &v[held..], stored - (n - held));
 }
 
 // One argument of type t and value v in its span s.
@@ -87,9 +105,10 @@ pub fn put_argument(
         put_word(image, area, s, base + start as u64);
         return;
     }
+    let word = places::word_of(r);
     if slots::starts_at_head(r, t) {
-        put_bytes(image, area, s, v);
+        put_bytes(image, area, word, s, v);
         return;
     }
-    put_word(image, area, s, slots::value_word(t, v));
+    put_words(image, area, word, s, slots::value_word(t, v));
 }

@@ -22,11 +22,13 @@ use Rattle.places.proofs.Shares.{share-room}
 pub rules-lawful : (c : Convention) → Lawful (rulesOf c)
 rules-lawful Convention.Ppc64 = omega arith
 rules-lawful Convention.Z = tt
+rules-lawful Convention.Aix = omega arith
 
 -- a pointer is a word
 pub rules-word : (c : Convention) → wordOf (rulesOf c) ≡ wordBytes c
 rules-word Convention.Ppc64 = refl
 rules-word Convention.Z = refl
+rules-word Convention.Aix = refl
 
 pub returning-lawful : (r : Rules) → Lawful r → Lawful (returning r)
 unfolding returning

@@ -1,8 +1,9 @@
--- Worked examples of the definitions: the results that document 01 lists, and Z's classes. Each computes. Assumes nothing.
+-- Worked examples of the definitions: the results that documents 01 and 02 list, and Z's classes. Each computes. Assumes nothing.
 use mathlib.Core.Path.{_≡_, refl}
 use mathlib.Core.List.{List, [], _∷_, map}
 use Prim.Native.Nat.{ℕ}
 use Rattle.conventions.specs.declared.Convention.{Convention}
+use Rattle.conventions.specs.Numbers.{wordBytes}
 use Rattle.types.specs.declared.Equivalent.{Equivalent}
 use Rattle.types.specs.declared.FloatFormat.{FloatFormat}
 use Rattle.types.specs.declared.IntegerKind.{IntegerKind}
@@ -19,6 +20,9 @@ use Rattle.places.specs.Places.{upFrom, register, registersOf, memoryOf,
 
 abbrev int : ValueType
 int = ValueType.Integer IntegerKind.I32
+
+abbrev long : ValueType
+long = ValueType.Integer IntegerKind.I64
 
 abbrev single : ValueType
 single = ValueType.Float FloatFormat.Single
@@ -44,13 +48,13 @@ pub data Shown : Type 0 where
   value : List Place → Shown
   address : List Place → Shown
 
-abbrev shown : ResultPlaces → Shown
-shown ResultPlaces.Nothing = nothing
-shown (ResultPlaces.Registers s) = value (placesOf 8 s)
-shown (ResultPlaces.Hidden s) = address (placesOf 8 s)
+abbrev shown : ℕ → ResultPlaces → Shown
+shown w ResultPlaces.Nothing = nothing
+shown w (ResultPlaces.Registers s) = value (placesOf w s)
+shown w (ResultPlaces.Hidden s) = address (placesOf w s)
 
 abbrev resultIn : Convention → ValueType → Shown
-resultIn c t = shown (resultOf (rulesOf c) t (sizeOf c t))
+resultIn c t = shown (wordBytes c) (resultOf (rulesOf c) t (sizeOf c t))
 
 -- "whole r3; single or double f1; long double f1, f2"; a struct's address in r3
 pub power-results : map (resultIn Convention.Ppc64) (int ∷ single ∷ double ∷ quad ∷ structOf 3 Equivalent.Nothing ∷ [])
@@ -63,6 +67,12 @@ pub z-results : map (resultIn Convention.Z) (int ∷ single ∷ double ∷ quad 
     ≡ value (r 2 ∷ []) ∷ value (f 0 ∷ []) ∷ value (f 0 ∷ []) ∷ address (r 2 ∷ []) ∷ address (r 2 ∷ []) ∷ []
 unfolding resultOf hiddenFor returning spanOf fresh zClass zSpanOf placesOf registersOf memoryOf upFrom
 z-results = refl
+
+-- "r3, 64-bit wholes r3 and r4, floats f1"; a struct's address in r3
+pub aix-results : map (resultIn Convention.Aix) (int ∷ long ∷ single ∷ double ∷ structOf 3 Equivalent.Nothing ∷ [])
+    ≡ value (r 3 ∷ []) ∷ value (r 3 ∷ r 4 ∷ []) ∷ value (f 1 ∷ []) ∷ value (f 1 ∷ []) ∷ address (r 3 ∷ []) ∷ []
+unfolding resultOf hiddenFor returning spanOf fresh words fprs shareOf powerShare placesOf registersOf memoryOf upFrom
+aix-results = refl
 
 abbrev classOf : ℕ → ZClass
 classOf n = zClass (structOf n Equivalent.Nothing) n

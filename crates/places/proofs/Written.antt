@@ -67,7 +67,7 @@ next-counted f w m k t n =
     let g : 3 + min w 8 + min len (8 - w) ≡ 3 + min (w + len) 8 = omega arith in
     rw (same-covered len w, g, mul-add (f .word) w len)
 
--- "The area is 8 times the larger of 8 and the final w": so many words, in every convention
+-- "The area is 8 times the larger of 8 and the final w", on AIX "4 times the larger of 8 and w": so many words, in every convention
 pub area-written : (c : Convention) (w m k : ℕ) → areaOf c (counted (wordBytes c) w m k) ≡ wordBytes c * max (leastWords c) w
 unfolding areaOf
 area-written c w m k = go (ltb w (leastWords c)) refl
@@ -257,7 +257,7 @@ z-area-written c = omega arith
 -- ---- the results
 
 -- every type, in every convention
-pub result-written : (c : Convention) (t : ValueType) → returned (resultOf (rulesOf c) t (sizeOf c t)) ≡ returnedBy c t
+pub result-written : (c : Convention) (t : ValueType) → returned (wordBytes c) (resultOf (rulesOf c) t (sizeOf c t)) ≡ returnedBy c t
 unfolding resultOf hiddenFor returning spanOf fresh words fprs shareOf powerShare zClass zSpanOf placesOf registersOf memoryOf upFrom
 result-written Convention.Ppc64 (ValueType.Integer IntegerKind.I8) = refl
 result-written Convention.Ppc64 (ValueType.Integer IntegerKind.U8) = refl
@@ -277,3 +277,16 @@ result-written Convention.Z (ValueType.Float FloatFormat.Single) = refl
 result-written Convention.Z (ValueType.Float FloatFormat.Double) = refl
 result-written Convention.Z (ValueType.Float FloatFormat.LongDouble) = refl
 result-written Convention.Z (ValueType.Struct s) = refl
+result-written Convention.Aix (ValueType.Integer IntegerKind.I8) = refl
+result-written Convention.Aix (ValueType.Integer IntegerKind.U8) = refl
+result-written Convention.Aix (ValueType.Integer IntegerKind.I16) = refl
+result-written Convention.Aix (ValueType.Integer IntegerKind.U16) = refl
+result-written Convention.Aix (ValueType.Integer IntegerKind.I32) = refl
+result-written Convention.Aix (ValueType.Integer IntegerKind.U32) = refl
+result-written Convention.Aix (ValueType.Integer IntegerKind.I64) = refl
+result-written Convention.Aix (ValueType.Integer IntegerKind.U64) = refl
+result-written Convention.Aix (ValueType.Integer IntegerKind.Pointer) = refl
+result-written Convention.Aix (ValueType.Float FloatFormat.Single) = refl
+result-written Convention.Aix (ValueType.Float FloatFormat.Double) = refl
+result-written Convention.Aix (ValueType.Float FloatFormat.LongDouble) = refl
+result-written Convention.Aix (ValueType.Struct s) = refl

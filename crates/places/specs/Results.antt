@@ -1,9 +1,14 @@
--- The place of every type as a result, as document 01 writes it. `resultOf` finds it by the step of a first argument, and the law
+-- The place of every type as a result, as documents 01 and 02 write it. `resultOf` finds it by the step of a first argument, and the law
 -- `result-written` says that this is the same. Assumes nothing.
+use Prim.Native.Nat.{ℕ}
 use mathlib.Core.List.{List, [], _∷_}
+use lib.Dec.{ltb}
+use Rattle.words.specs.Basics.{pick}
 use Rattle.conventions.specs.declared.Convention.{Convention}
+use Rattle.conventions.specs.Numbers.{wordBytes}
 use Rattle.types.specs.declared.FloatFormat.{FloatFormat}
 use Rattle.types.specs.declared.ValueType.{ValueType}
+use Rattle.types.specs.Sizes.{integerSize}
 use Rattle.places.specs.declared.Bank.{Bank}
 use Rattle.places.specs.declared.Place.{Place}
 use Rattle.places.specs.declared.ResultPlaces.{ResultPlaces}
@@ -14,11 +19,11 @@ pub data Returned : Type 0 where
   value : List Place → Returned
   address : List Place → Returned
 
--- of a plan, by words of 8 bytes
-abbrev pub returned : ResultPlaces → Returned
-returned ResultPlaces.Nothing = value []
-returned (ResultPlaces.Registers s) = value (placesOf 8 s)
-returned (ResultPlaces.Hidden s) = address (placesOf 8 s)
+-- of a plan, by words of w bytes
+abbrev pub returned : ℕ → ResultPlaces → Returned
+returned w ResultPlaces.Nothing = value []
+returned w (ResultPlaces.Registers s) = value (placesOf w s)
+returned w (ResultPlaces.Hidden s) = address (placesOf w s)
 
 abbrev pub returnedBy : Convention → ValueType → Returned
 -- "Results: whole r3; single or double f1; long double f1, f2", and of a struct "its address is then a hidden first argument in r3"
@@ -33,3 +38,9 @@ returnedBy Convention.Z (ValueType.Float FloatFormat.Single) = value (register B
 returnedBy Convention.Z (ValueType.Float FloatFormat.Double) = value (register Bank.Floating 0 ∷ [])
 returnedBy Convention.Z (ValueType.Float FloatFormat.LongDouble) = address (register Bank.General 2 ∷ [])
 returnedBy Convention.Z (ValueType.Struct s) = address (register Bank.General 2 ∷ [])
+-- 02, No. 1: "Results: r3, 64-bit wholes r3 and r4, floats f1. A struct result is passed by a hidden first word". No signature has a long double (25)
+returnedBy Convention.Aix (ValueType.Integer k) = value (register Bank.General 3 ∷ pick (ltb (wordBytes Convention.Aix) (integerSize Convention.Aix k)) (register Bank.General 4 ∷ []) [])
+returnedBy Convention.Aix (ValueType.Float FloatFormat.Single) = value (register Bank.Floating 1 ∷ [])
+returnedBy Convention.Aix (ValueType.Float FloatFormat.Double) = value (register Bank.Floating 1 ∷ [])
+returnedBy Convention.Aix (ValueType.Float FloatFormat.LongDouble) = value (register Bank.Floating 1 ∷ register Bank.Floating 2 ∷ [])
+returnedBy Convention.Aix (ValueType.Struct s) = address (register Bank.General 3 ∷ [])

@@ -1,5 +1,5 @@
 -- One argument in every convention: its span and the next cursor; the first cursor, the area, and the place of a result.
--- Document 01, "Places on PPC64" and "Places on Z". A convention is a value of `Rules`. All laws hold at every cursor.
+-- Document 01, "Places on PPC64" and "Places on Z"; document 02, No. 1. A convention is a value of `Rules`. All laws hold at every cursor.
 -- Assumes nothing.
 use Prim.Native.Nat.{ℕ, _≤_, max}
 use mathlib.Core.Bool.{Bool, true, false}
@@ -26,9 +26,14 @@ power w e = Rules.Power (record { word = w; edition = e })
 abbrev pub ppc64 : Rules
 ppc64 = power (wordBytes Convention.Ppc64) Edition.Earlier
 
+-- 02, No. 1: "The argument list counts words", "Otherwise all is PPC64's by words"
+abbrev pub aix : Rules
+aix = power (wordBytes Convention.Aix) Edition.Earlier
+
 abbrev pub rulesOf : Convention → Rules
 rulesOf Convention.Ppc64 = ppc64
 rulesOf Convention.Z = Rules.Z
+rulesOf Convention.Aix = aix
 
 -- the bytes of a word of the argument list, and of a pointer
 abbrev pub wordOf : Rules → ℕ
@@ -71,7 +76,8 @@ fresh Rules.Z = cursor 2 0 0 0
 unfoldable pub startOf : Rules → Bool → Cursor
 startOf r hidden = pick hidden (nextOf r (fresh r) pointer (wordOf r)) (fresh r)
 
--- from the last cursor: "The area is 8 times the larger of 8 and the final w"; Z: "The area is the stack bytes used, possibly 0"
+-- from the last cursor: "The area is 8 times the larger of 8 and the final w"; Z: "The area is the stack bytes used, possibly 0";
+-- AIX: "4 times the larger of 8 and w"
 unfoldable pub areaOf : Convention → Cursor → ℕ
 areaOf c e = max (leastArea c) (e .stack)
 

@@ -1,8 +1,10 @@
 // Where a calling convention puts arguments and results: the types of cursors, spans and places. The code of the steps is in the crates above.
 // A convention is a value, `Rules`; its type, with its constants and its starting cursor, is in `abi`.
+use conventions::Convention;
 ghost use mathlib.Core.Path.{_≡_};
 ghost use Prim.Native.Nat.{_<_};
 ghost use lib.ListN.{getD};
+ghost use Rattle.places.specs.Step.{wordOf};
 ghost use Rattle.places.specs.Values.{registers, bytes};
 ghost use Rattle.places.specs.Places.{registersOf, registerCount, Numbered, noPlace};
 
@@ -99,6 +101,16 @@ impl PowerRules {
     pub const PAST_GENERAL: usize = 11;
 
     pub const PAST_FLOATING: usize = 14;
+}
+
+// The bytes of a word of the argument list, and of a pointer.
+pub fn word_of(r: Rules) -> usize
+    ensures { λ n. ⌜ n ≡ wordOf r ⌝ }
+{
+    match r {
+        Rules::Power(f) => f.word,
+        Rules::Z => Convention::Z_WORD,
+    }
 }
 
 pub fn register_range(first: usize, count: usize) -> RegisterRange

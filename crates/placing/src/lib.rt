@@ -3,7 +3,6 @@ ghost use mathlib.Core.Path.{_≡_};
 ghost use Prim.Native.Nat.{_≤_};
 ghost use Rattle.places.specs.Values.{pointer};
 ghost use Rattle.places.specs.Step.{Lawful, Roomy, rulesOf, wordOf, nextOf, placed, fresh, startOf, areaOf, returning, hiddenFor, resultOf};
-use abi::Z;
 use conventions::Convention;
 use places::Cursor;
 use places::Edition;
@@ -14,15 +13,6 @@ use places::Rules;
 use types::FloatFormat;
 use types::IntegerKind;
 use types::ValueType;
-
-fn word_of(r: Rules) -> usize
-    ensures { λ n. ⌜ n ≡ wordOf r ⌝ }
-{
-    match r {
-        Rules::Power(f) => f.word,
-        Rules::Z => Z::WORD,
-    }
-}
 
 // One argument of a type and its size: what belongs to it, and where the next one starts.
 pub fn step(r: Rules, c: Cursor, t: ValueType, size: usize) -> Placed
@@ -52,7 +42,7 @@ fn hidden_step(c: Convention) -> Placed
 {
     let r = abi::call_rules_of(c);
     let k = abi::cursor_of(c);
-    let word = word_of(r);
+    let word = places::word_of(r);
     step(r, k, ValueType::Integer(IntegerKind::Pointer), word)
 }
 

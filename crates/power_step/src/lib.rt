@@ -19,7 +19,7 @@ fn words_of(word: usize, size: usize) -> usize
     requires { ⌜ (4 ≤ word) × (word ≤ 8) × (size ≤ 256) ⌝ }
     ensures { λ r. ⌜ (r ≡ words word size) × (word * r ≤ 264) ⌝ }
 {
-    // The usual width by a shift: a division by a variable is slow.
+    // The usual width by a shift: a division by a variable is slow. One for words of 4 bytes would make the step too long to be compiled in line.
     if word == 8 {
         return (size + 7) / 8;
     }

@@ -15,7 +15,7 @@ use Rattle.types.specs.declared.ValueType.{ValueType}
 use Rattle.types.specs.Sizes.{equivalentOf}
 use Rattle.places.specs.declared.Rules.{Rules}
 use Rattle.places.specs.declared.Cursor.{Cursor}
-use Rattle.places.specs.Step.{spanOf}
+use Rattle.places.specs.Step.{wordOf, spanOf}
 use Rattle.places.specs.ZSeries.{zClass, zFloating, zSpanOf}
 use Rattle.slots.specs.declared.Answer.{Answer}
 use Rattle.slots.specs.Buffers.{Buffers}
@@ -67,7 +67,7 @@ module _ (r : Rules) (base : ℕ) (b : Buffers) where
   readable p ready done = record {
     ready = ready;
     exact = λ some. simp (lt-ltb 0 (p .span .floating .count) some) at done;
-    inside = λ none e. inside-facts (addressAt (p .span) b) base (p .size) (length (b .copies)) (simp (le-ltb 0 (p .span .floating .count) none, e) at done);
+    inside = λ none e. inside-facts (addressAt (wordOf r) (p .span) b) base (p .size) (length (b .copies)) (simp (le-ltb 0 (p .span .floating .count) none, e) at done);
   }
 
   pub all-readable : (ps : List Placement) → All (Ready r (length (b .image)) (length (b .area))) ps → argumentsAnswer r base ps b ≡ Answer.Done

@@ -14,7 +14,7 @@ use Rattle.types.specs.declared.ValueType.{ValueType}
 use Rattle.types.specs.Sizes.{equivalentOf}
 use Rattle.signature.specs.declared.SignatureRead.{SignatureRead}
 use Rattle.places.specs.declared.Rules.{Rules}
-use Rattle.places.specs.Step.{rulesOf}
+use Rattle.places.specs.Step.{rulesOf, wordOf}
 use Rattle.slots.specs.declared.Refusal.{Refusal}
 use Rattle.slots.specs.declared.Answer.{Answer}
 use Rattle.slots.specs.Buffers.{Buffers}
@@ -37,13 +37,13 @@ abbrev pub copyAnswer : Bool → Answer
 copyAnswer true = Answer.Done
 copyAnswer false = Answer.Refused Refusal.OutsideCopies
 
-abbrev pub wordsAnswer : ℕ → Placement → Buffers → Answer
-wordsAnswer base p b =
-    pick (p .span .indirect) (copyAnswer (inCopies (addressAt (p .span) b) base (p .size) (length (b .copies)))) Answer.Done
+abbrev pub wordsAnswer : Rules → ℕ → Placement → Buffers → Answer
+wordsAnswer r base p b =
+    pick (p .span .indirect) (copyAnswer (inCopies (addressAt (wordOf r) (p .span) b) base (p .size) (length (b .copies)))) Answer.Done
 
 unfoldable pub argumentAnswer : Rules → ℕ → Placement → Buffers → Answer
 argumentAnswer r base p b =
-    pick (ltb 0 (p .span .floating .count)) (floatAnswer r (equivalentOf (p .ty)) (valueOf (floatAt (p .span) b))) (wordsAnswer base p b)
+    pick (ltb 0 (p .span .floating .count)) (floatAnswer r (equivalentOf (p .ty)) (valueOf (floatAt (p .span) b))) (wordsAnswer r base p b)
 
 -- the types whose arguments 13 or 14 can refuse: on PowerPC those that go as a single, which has its FPR to be tested; on Z those
 -- that may be passed by pointer to a copy (law `never-refused`)

@@ -15,15 +15,17 @@ use Rattle.words.specs.Splice.{splice, part}
 use Rattle.words.proofs.Splices.{splice-at-other}
 use Rattle.words.specs.Numbers.{valueOf}
 use Rattle.places.specs.declared.Rules.{Rules}
+use Rattle.places.specs.Step.{wordOf}
 use Rattle.places.specs.Spots.{Spot, general, floating, area, copies}
 use Rattle.slots.specs.Buffers.{Buffers, Slot, generalAt, floatingAt, put, putAll, bytesAt}
 use Rattle.slots.specs.Forms.{floatValue, ownStart}
 use Rattle.slots.specs.Placements.{Placement, wordsAt, floatAt, addressAt, wordsValue, valueAt}
 use Rattle.slots.specs.Arguments.{argumentsOf, rulesFor}
 use Rattle.fill.specs.Fill.{filledSlots, fillBuffers}
-use Rattle.home.specs.Home.{homedBytes, homed, homeArea}
+use Rattle.home.specs.Home.{homed, homeArea}
 use Rattle.roundtrip.specs.Places.{Byte, inImage, inArea, inCopies, byteAt, Among, CoversFrom, Touches, FillOnly, ReadOwn}
 use Rattle.roundtrip.specs.Views.{HomeTouches, HomeOnly}
+use Rattle.home_slot.specs.Homes.{homedBytes}
 
 splice-kept : (l : List ℕ) (n : ℕ) (bs : List ℕ) (i : ℕ) → (Among n (length bs) i → ⊥) → getD (splice l n bs) i 0 ≡ getD l i 0
 splice-kept l n bs i h = go (ltb i n) refl
@@ -79,16 +81,19 @@ pub read-own : ReadOwn
 unfolding valueAt wordsValue
 read-own r base p b c h = go (ltb 0 (p .span .floating .count)) refl
   where
+    w : ℕ
+    w = wordOf r
+
     inWords : (i : Bool) → p .span .indirect ≡ i
-        → pick i (bytesAt (copies (addressAt (p .span) b - base)) (p .size) b) (part (ownStart r (p .ty) (p .size)) (p .size) (wordsAt (p .span) b))
-        ≡ pick i (bytesAt (copies (addressAt (p .span) c - base)) (p .size) c) (part (ownStart r (p .ty) (p .size)) (p .size) (wordsAt (p .span) c))
+        → pick i (bytesAt (copies (addressAt w (p .span) b - base)) (p .size) b) (part (ownStart r (p .ty) (p .size)) (p .size) (wordsAt w (p .span) b))
+        ≡ pick i (bytesAt (copies (addressAt w (p .span) c - base)) (p .size) c) (part (ownStart r (p .ty) (p .size)) (p .size) (wordsAt w (p .span) c))
     inWords true q = h .copy q ∙ ap (λ (l : List ℕ). bytesAt (copies (valueOf l - base)) (p .size) c) (h .words)
     inWords false q = ap (part (ownStart r (p .ty) (p .size)) (p .size)) (h .words)
 
     go : (f : Bool) → ltb 0 (p .span .floating .count) ≡ f
         → pick f (floatValue r (p .ty) (floatAt (p .span) b))
-        (pick (p .span .indirect) (bytesAt (copies (addressAt (p .span) b - base)) (p .size) b) (part (ownStart r (p .ty) (p .size)) (p .size) (wordsAt (p .span) b)))
+        (pick (p .span .indirect) (bytesAt (copies (addressAt w (p .span) b - base)) (p .size) b) (part (ownStart r (p .ty) (p .size)) (p .size) (wordsAt w (p .span) b)))
         ≡ pick f (floatValue r (p .ty) (floatAt (p .span) c))
-        (pick (p .span .indirect) (bytesAt (copies (addressAt (p .span) c - base)) (p .size) c) (part (ownStart r (p .ty) (p .size)) (p .size) (wordsAt (p .span) c)))
+        (pick (p .span .indirect) (bytesAt (copies (addressAt w (p .span) c - base)) (p .size) c) (part (ownStart r (p .ty) (p .size)) (p .size) (wordsAt w (p .span) c)))
     go true q = ap (floatValue r (p .ty)) (h .float (ltb-true 0 (p .span .floating .count) q))
     go false q = inWords (p .span .indirect) refl

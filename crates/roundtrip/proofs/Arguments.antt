@@ -6,7 +6,7 @@ use mathlib.Core.Bool.{Bool, true, false}
 use mathlib.Core.List.{List, [], _∷_, _++_}
 use Prim.Native.Nat.{ℕ, _+_, _-_, _*_, _^_, _≤_, _<_}
 use native.Mathlib.Omega.{arith}
-use native.Mathlib.Nat.{add-sub-cancel-left}
+use native.Mathlib.Nat.{add-sub-cancel-left, mul-zero}
 use borrow.Author.Tests.{ltb-true, ltb-false, le-leb}
 use lib.Dec.{ltb}
 use lib.ListN.{length, take, drop}
@@ -19,13 +19,16 @@ use Rattle.words.proofs.Numbers.{length-bytesOf, value-back}
 use Rattle.types.specs.Sizes.{equivalentOf}
 use Rattle.places.specs.declared.Cursor.{Cursor}
 use Rattle.places.specs.declared.Rules.{Rules}
+use Rattle.places.specs.Step.{wordOf}
 use Rattle.places.specs.Spots.{general, floating, area, copies}
 use Rattle.slots.specs.declared.Answer.{Answer}
 use Rattle.slots.specs.Buffers.{Buffers, Slot, put, putAll, bytesAt}
 use Rattle.slots.specs.Forms.{roomOf, homeBytes, ownStart, floatWord, floatBytes, floatValueAs, floatValue}
 use Rattle.slots.specs.Placements.{Placement, standing, copyBytes, slotsOf, wordsAt, floatAt, addressAt, wordsValue, valueAt}
 use Rattle.slots.specs.Limits.{Held, Fits}
-use Rattle.slots.proofs.Limits.{one-word, indirect-end}
+use Rattle.slots.proofs.Limits.{one-word}
+use Rattle.registers.specs.Registers.{spread, gather}
+use Rattle.registers.proofs.Registers.{length-spread, gather-spread}
 use Rattle.slots.proofs.Buffers.{SameLengths}
 use Rattle.slots.specs.Refusals.{floatAnswer}
 use Rattle.read.specs.Read.{inCopies, copyAnswer, argumentAnswer}
@@ -35,9 +38,9 @@ use Rattle.roundtrip.proofs.Forms.{float-back, own-back, length-home}
 -- what the buffers b hold of the argument p, of value v
 pub record Stands (r : Rules) (base : ℕ) (p : Placement) (v : List ℕ) (b : Buffers) : Type 0 where
   pub floats : bytesAt (floating (p .span .floating .first)) (8 * p .span .floating .count) b ≡ take (8 * p .span .floating .count) (floatBytes r (p .ty) v)
-  pub registers : bytesAt (general (p .span .general .first)) (8 * p .span .general .count) b ≡ take (8 * p .span .general .count) (standing r base p v)
+  pub registers : bytesAt (general (p .span .general .first)) (8 * p .span .general .count) b ≡ spread (wordOf r) (p .span .general .count) (standing r base p v)
   pub memory : bytesAt (area (p .span .memory .start)) (p .span .memory .length) b
-      ≡ part (8 * p .span .general .count) (p .span .memory .length) (standing r base p v)
+      ≡ part (wordOf r * p .span .general .count) (p .span .memory .length) (standing r base p v)
   pub copy : bytesAt (copies (p .span .copy .start)) (length (copyBytes p v)) b ≡ copyBytes p v
 
 -- an argument, its value, and the lengths of the buffers
@@ -53,7 +56,7 @@ module _ (r : Rules) (base : ℕ) (p : Placement) (v : List ℕ) (b : Buffers) (
   -- ---- lengths
 
   -- all words of an argument that is in no FPR
-  words-length : p .span .floating .count ≤ 0 → length (standing r base p v) ≡ 8 * p .span .general .count + p .span .memory .length
+  words-length : p .span .floating .count ≤ 0 → length (standing r base p v) ≡ wordOf r * p .span .general .count + p .span .memory .length
   unfolding standing
   words-length none = go (p .span .indirect) refl
     where
@@ -61,11 +64,11 @@ module _ (r : Rules) (base : ℕ) (p : Placement) (v : List ℕ) (b : Buffers) (
       no = omega arith
 
       go : (i : Bool) → p .span .indirect ≡ i
-          → length (pick i (bytesOf 8 (base + p .span .copy .start)) (homeBytes r (p .ty) (p .size) v)) ≡ 8 * p .span .general .count + p .span .memory .length
-      go true q = length-bytesOf 8 (base + p .span .copy .start) ∙ sym (one-word r p (g .held) none (indirect-end r p (g .held) q))
+          → length (pick i (bytesOf (wordOf r) (base + p .span .copy .start)) (homeBytes r (p .ty) (p .size) v)) ≡ wordOf r * p .span .general .count + p .span .memory .length
+      go true q = length-bytesOf (wordOf r) (base + p .span .copy .start) ∙ sym (one-word r p (g .held) none q)
       go false q =
           ap (λ (n : ℕ). length (homeBytes r (p .ty) n v)) (sym (g .size))
-          ∙ length-home r (p .ty) v (λ e. rw (g .size) (g .held .head e .0))
+          ∙ length-home r (p .ty) v (λ e. rw (g .size) (g .held .room q .0))
           ∙ ap (roomOf r) (g .size)
           ∙ sym (g .held .words no)
 
@@ -76,21 +79,22 @@ module _ (r : Rules) (base : ℕ) (p : Placement) (v : List ℕ) (b : Buffers) (
       (omega (arith, g .held .floats, length-bytesOf 8 (floatWord r (equivalentOf (p .ty)) (valueOf v))))
 
   -- an FPR leaves no words
-  word-room : 8 * p .span .general .count + p .span .memory .length ≤ length (standing r base p v)
+  word-room : wordOf r * p .span .general .count + p .span .memory .length ≤ length (standing r base p v)
   word-room = go (ltb 0 (p .span .floating .count)) refl
     where
-      go : (f : Bool) → ltb 0 (p .span .floating .count) ≡ f → 8 * p .span .general .count + p .span .memory .length ≤ length (standing r base p v)
+      go : (f : Bool) → ltb 0 (p .span .floating .count) ≡ f → wordOf r * p .span .general .count + p .span .memory .length ≤ length (standing r base p v)
       go true q =
           let some : 0 < p .span .floating .count = ltb-true 0 (p .span .floating .count) q in
           let one : p .span .floating .count ≡ 1 = omega (arith, g .held .floats) in
-          omega (arith, g .held .alone one)
+          let none = g .held .alone one in
+          omega (arith, none, mul-zero (wordOf r), ap (λ (n : ℕ). wordOf r * n) (none .0))
       go false q = let none : p .span .floating .count ≤ 0 = ltb-false 0 (p .span .floating .count) q in omega (arith, words-length none)
 
-  registers-length : length (take (8 * p .span .general .count) (standing r base p v)) ≡ 8 * p .span .general .count
-  registers-length = length-take-le (8 * p .span .general .count) (standing r base p v) (omega (arith, word-room))
+  registers-length : length (spread (wordOf r) (p .span .general .count) (standing r base p v)) ≡ 8 * p .span .general .count
+  registers-length = length-spread (wordOf r) (p .span .general .count) (standing r base p v) (g .held .word .1) (omega (arith, word-room))
 
-  memory-length : length (part (8 * p .span .general .count) (p .span .memory .length) (standing r base p v)) ≡ p .span .memory .length
-  memory-length = length-part (8 * p .span .general .count) (p .span .memory .length) (standing r base p v) (omega (arith, word-room))
+  memory-length : length (part (wordOf r * p .span .general .count) (p .span .memory .length) (standing r base p v)) ≡ p .span .memory .length
+  memory-length = length-part (wordOf r * p .span .general .count) (p .span .memory .length) (standing r base p v) (omega (arith, word-room))
 
   copy-room : p .span .copy .start + length (copyBytes p v) ≤ length (b .copies)
   copy-room = go (p .span .indirect) refl
@@ -106,8 +110,8 @@ module _ (r : Rules) (base : ℕ) (p : Placement) (v : List ℕ) (b : Buffers) (
       let f : ℕ = 256 + 8 * p .span .floating .first in
       let a : ℕ = 8 * p .span .general .first in
       let fs : List ℕ = take (8 * p .span .floating .count) (floatBytes r (p .ty) v) in
-      let ws : List ℕ = take (8 * p .span .general .count) (standing r base p v) in
-      let ms : List ℕ = part (8 * p .span .general .count) (p .span .memory .length) (standing r base p v) in
+      let ws : List ℕ = spread (wordOf r) (p .span .general .count) (standing r base p v) in
+      let ms : List ℕ = part (wordOf r * p .span .general .count) (p .span .memory .length) (standing r base p v) in
       let i : List ℕ = splice (b .image) f fs in
       let li : length i ≡ length (b .image) = length-splice (b .image) f fs in
       let e = floats-length in
@@ -128,12 +132,15 @@ module _ (r : Rules) (base : ℕ) (p : Placement) (v : List ℕ) (b : Buffers) (
 
   -- ---- read
   module _ (c : Buffers) (s : Stands r base p v c) (l : length (c .copies) ≡ length (b .copies)) where
-    words-back : p .span .floating .count ≤ 0 → wordsAt (p .span) c ≡ standing r base p v
+    words-back : p .span .floating .count ≤ 0 → wordsAt (wordOf r) (p .span) c ≡ standing r base p v
     unfolding wordsAt
     words-back none =
-        ap₂ (λ (x y : List ℕ). x ++ y) (s .registers) (s .memory)
-        ∙ sym (take-add (8 * p .span .general .count) (p .span .memory .length) (standing r base p v))
-        ∙ take-all (8 * p .span .general .count + p .span .memory .length) (standing r base p v) (omega (arith, words-length none))
+        let k : ℕ = p .span .general .count in
+        let ws : List ℕ = standing r base p v in
+        ap₂ (λ (x y : List ℕ). gather (wordOf r) k x ++ y) (s .registers) (s .memory)
+        ∙ ap (λ (x : List ℕ). x ++ part (wordOf r * k) (p .span .memory .length) ws) (gather-spread (wordOf r) k ws (g .held .word .1) (omega (arith, words-length none)))
+        ∙ sym (take-add (wordOf r * k) (p .span .memory .length) ws)
+        ∙ take-all (wordOf r * k + p .span .memory .length) ws (omega (arith, words-length none))
 
     pub float-stands : 0 < p .span .floating .count → floatAt (p .span) c ≡ bytesOf 8 (floatWord r (equivalentOf (p .ty)) (valueOf v))
     unfolding floatBytes
@@ -143,10 +150,10 @@ module _ (r : Rules) (base : ℕ) (p : Placement) (v : List ℕ) (b : Buffers) (
         let x : bytesAt (floating (p .span .floating .first)) 8 c ≡ take 8 w = rw one at (s .floats) in
         x ∙ take-all 8 w (omega (arith, length-bytesOf 8 (floatWord r (equivalentOf (p .ty)) (valueOf v))))
 
-    address-back : p .span .floating .count ≤ 0 → p .span .indirect ≡ true → addressAt (p .span) c ≡ base + p .span .copy .start
+    address-back : p .span .floating .count ≤ 0 → p .span .indirect ≡ true → addressAt (wordOf r) (p .span) c ≡ base + p .span .copy .start
     unfolding standing
     address-back none q =
-        let m : standing r base p v ≡ bytesOf 8 (base + p .span .copy .start) = rw q in
+        let m : standing r base p v ≡ bytesOf 8 (base + p .span .copy .start) = rw (q, g .held .address q .0) in
         ap valueOf (words-back none ∙ m) ∙ value-back 8 (base + p .span .copy .start) (omega (arith, g .low))
 
     copied-back : p .span .indirect ≡ true → bytesAt (copies (p .span .copy .start)) (p .size) c ≡ v
@@ -154,13 +161,13 @@ module _ (r : Rules) (base : ℕ) (p : Placement) (v : List ℕ) (b : Buffers) (
         let x : bytesAt (copies (p .span .copy .start)) (length v) c ≡ v = rw q at (s .copy) in
         ap (λ (n : ℕ). bytesAt (copies (p .span .copy .start)) n c) (sym (g .size)) ∙ x
 
-    pub own-value : p .span .floating .count ≤ 0 → p .span .indirect ≡ false → part (ownStart r (p .ty) (p .size)) (p .size) (wordsAt (p .span) c) ≡ v
+    pub own-value : p .span .floating .count ≤ 0 → p .span .indirect ≡ false → part (ownStart r (p .ty) (p .size)) (p .size) (wordsAt (wordOf r) (p .span) c) ≡ v
     unfolding standing
     own-value none q =
         let m : standing r base p v ≡ homeBytes r (p .ty) (p .size) v = rw q in
         ap (part (ownStart r (p .ty) (p .size)) (p .size)) (words-back none ∙ m)
         ∙ ap (λ (n : ℕ). part (ownStart r (p .ty) n) n (homeBytes r (p .ty) n v)) (sym (g .size))
-        ∙ own-back r (p .ty) v (g .bytes) (λ e. rw (g .size) (g .held .small e q .1, g .held .end e))
+        ∙ own-back r (p .ty) v (g .bytes) (λ e. rw (g .size) (g .held .small e q .1, g .held .room q .0))
 
     in-copies : p .span .indirect ≡ true → inCopies (base + p .span .copy .start) base (p .size) (length (c .copies)) ≡ true
     in-copies q =
@@ -174,14 +181,14 @@ module _ (r : Rules) (base : ℕ) (p : Placement) (v : List ℕ) (b : Buffers) (
     stands-done = go (ltb 0 (p .span .floating .count)) refl
       where
         words : (i : Bool) → p .span .indirect ≡ i → p .span .floating .count ≤ 0
-            → pick i (copyAnswer (inCopies (addressAt (p .span) c) base (p .size) (length (c .copies)))) Answer.Done ≡ Answer.Done
+            → pick i (copyAnswer (inCopies (addressAt (wordOf r) (p .span) c) base (p .size) (length (c .copies)))) Answer.Done ≡ Answer.Done
         words true q none =
             ap (λ (x : ℕ). copyAnswer (inCopies x base (p .size) (length (c .copies)))) (address-back none q) ∙ ap copyAnswer (in-copies q)
         words false q none = refl
 
         go : (f : Bool) → ltb 0 (p .span .floating .count) ≡ f
             → pick f (floatAnswer r (equivalentOf (p .ty)) (valueOf (floatAt (p .span) c)))
-            (pick (p .span .indirect) (copyAnswer (inCopies (addressAt (p .span) c) base (p .size) (length (c .copies)))) Answer.Done)
+            (pick (p .span .indirect) (copyAnswer (inCopies (addressAt (wordOf r) (p .span) c) base (p .size) (length (c .copies)))) Answer.Done)
             ≡ Answer.Done
         go true q =
             let some : 0 < p .span .floating .count = ltb-true 0 (p .span .floating .count) q in
@@ -195,7 +202,7 @@ module _ (r : Rules) (base : ℕ) (p : Placement) (v : List ℕ) (b : Buffers) (
     stands-value = go (ltb 0 (p .span .floating .count)) refl
       where
         words : (i : Bool) → p .span .indirect ≡ i → p .span .floating .count ≤ 0
-            → pick i (bytesAt (copies (addressAt (p .span) c - base)) (p .size) c) (part (ownStart r (p .ty) (p .size)) (p .size) (wordsAt (p .span) c)) ≡ v
+            → pick i (bytesAt (copies (addressAt (wordOf r) (p .span) c - base)) (p .size) c) (part (ownStart r (p .ty) (p .size)) (p .size) (wordsAt (wordOf r) (p .span) c)) ≡ v
         words true q none =
             ap (λ (x : ℕ). bytesAt (copies (x - base)) (p .size) c) (address-back none q)
             ∙ ap (λ (x : ℕ). bytesAt (copies x) (p .size) c) (add-sub-cancel-left base (p .span .copy .start))
@@ -204,8 +211,8 @@ module _ (r : Rules) (base : ℕ) (p : Placement) (v : List ℕ) (b : Buffers) (
 
         go : (f : Bool) → ltb 0 (p .span .floating .count) ≡ f
             → pick f (floatValueAs r (equivalentOf (p .ty)) (floatAt (p .span) c))
-            (pick (p .span .indirect) (bytesAt (copies (addressAt (p .span) c - base)) (p .size) c)
-            (part (ownStart r (p .ty) (p .size)) (p .size) (wordsAt (p .span) c)))
+            (pick (p .span .indirect) (bytesAt (copies (addressAt (wordOf r) (p .span) c - base)) (p .size) c)
+            (part (ownStart r (p .ty) (p .size)) (p .size) (wordsAt (wordOf r) (p .span) c)))
             ≡ v
         go true q =
             let some : 0 < p .span .floating .count = ltb-true 0 (p .span .floating .count) q in

@@ -62,17 +62,17 @@ extended-back t n x h = go (isSigned t)
     go true = bytesOf-signExtended n x h
     go false = bytesOf-zeroExtended n x
 
--- the last n of eight bytes
-end-back : (n y : ℕ) → n ≤ 8 → part (8 - n) n (bytesOf 8 y) ≡ bytesOf n y
-end-back n y h =
-    let e : 8 ≡ 8 - n + n = omega arith in
-    let split : bytesOf 8 y ≡ bytesOf (8 - n) (y / 2 ^ (8 * n)) ++ bytesOf n y = ap (λ (m : ℕ). bytesOf m y) e ∙ bytesOf-append (8 - n) n y in
-    ap (part (8 - n) n) split
-    ∙ ap (take n) (drop-at (bytesOf (8 - n) (y / 2 ^ (8 * n))) (bytesOf n y) (8 - n) (length-bytesOf (8 - n) (y / 2 ^ (8 * n))))
+-- the last n of m bytes
+end-back : (m n y : ℕ) → n ≤ m → part (m - n) n (bytesOf m y) ≡ bytesOf n y
+end-back m n y h =
+    let e : m ≡ m - n + n = omega arith in
+    let split : bytesOf m y ≡ bytesOf (m - n) (y / 2 ^ (8 * n)) ++ bytesOf n y = ap (λ (i : ℕ). bytesOf i y) e ∙ bytesOf-append (m - n) n y in
+    ap (part (m - n) n) split
+    ∙ ap (take n) (drop-at (bytesOf (m - n) (y / 2 ^ (8 * n))) (bytesOf n y) (m - n) (length-bytesOf (m - n) (y / 2 ^ (8 * n))))
     ∙ take-all n (bytesOf n y) (omega (arith, length-bytesOf n y))
 
 pub own-back : (r : Rules) (t : ValueType) (v : List ℕ) → Bytes v
-    → (startsAtHead r t ≡ false → (length v ≤ 8) × (roomOf r (length v) ≡ 8))
+    → (startsAtHead r t ≡ false → (length v ≤ 8) × (length v ≤ roomOf r (length v)))
     → part (ownStart r t (length v)) (length v) (homeBytes r t (length v) v) ≡ v
 unfolding ownStart homeBytes
 own-back r t v h small = go (startsAtHead r t) refl
@@ -85,7 +85,7 @@ own-back r t v h small = go (startsAtHead r t) refl
         take-append-le (length v) v (replicate (roomOf r (length v) - length v) 0) (omega arith) ∙ take-all (length v) v (omega arith)
     go false q =
         let s = small q in
-        rw (s .1) (end-back (length v) (extended t (length v) (valueOf v)) (s .0))
+        end-back (roomOf r (length v)) (length v) (extended t (length v) (valueOf v)) (s .1)
         ∙ extended-back t (length v) (valueOf v) (s .0) ∙ bytesOf-value v h
 
 pub length-home : (r : Rules) (t : ValueType) (v : List ℕ) → (startsAtHead r t ≡ true → length v ≤ roomOf r (length v))

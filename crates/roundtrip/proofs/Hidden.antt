@@ -1,7 +1,7 @@
 -- The hidden address stands in its register after filling (specs/RoundTrip.antt states it): it is put first, and the arguments' slots lie
 -- after it. Assumes nothing.
-use mathlib.Core.Path.{_≡_, sym, ap, _∙_}
-use mathlib.Core.Bool.{true}
+use mathlib.Core.Path.{_≡_, refl, sym, ap, subst, _∙_}
+use mathlib.Core.Bool.{true, false}
 use mathlib.Core.List.{List}
 use Prim.Native.Nat.{ℕ, _*_, _<_}
 use native.Mathlib.Omega.{arith}
@@ -23,18 +23,21 @@ use Rattle.places.specs.Values.{pointer}
 use Rattle.places.specs.ZSeries.{zClass, zSpanOf, zNextOf}
 use Rattle.places.specs.Power.{words, fprs, shareOf, powerShare}
 use Rattle.places.specs.Step.{rulesOf, wordOf, nextOf, spanOf, fresh, startOf}
-use Rattle.places.proofs.Bounds.{named-start}
+use Rattle.places.proofs.Bounds.{named-start, rules-lawful, word-most}
 use Rattle.plan.proofs.Theorems.{hidden-address}
 use Rattle.plan.specs.Plan.{startIn, hiddenIn, resultIn, planAnswer, planIn, typesOf}
+use Rattle.registers.specs.Registers.{spread}
+use Rattle.slots.specs.declared.Answer.{Answer}
 use Rattle.slots.specs.Buffers.{Buffers, buffers, Slot, put, putAll, bytesAt}
 use Rattle.slots.specs.Placements.{slotsOfAll, hiddenSlots}
-use Rattle.slots.specs.Arguments.{argumentsIn, argumentsOf, rulesFor}
+use Rattle.slots.specs.Arguments.{argumentsIn, argumentsOf, planFor, rulesFor}
 use Rattle.slots.proofs.Buffers.{putAll-append}
 use Rattle.slots.proofs.Answered.{arguments-got}
-use Rattle.fill.specs.Fill.{filledSlots, fillBuffers}
+use Rattle.fill.specs.Fill.{highAddress, fillAnswer, filledSlots, fillBuffers}
+use Rattle.fill.proofs.Accepted.{tests-low, low-address}
 use Rattle.roundtrip.specs.RoundTrip.{HiddenStands}
 use Rattle.roundtrip.proofs.Kept.{kept-all, all-later}
-use Rattle.roundtrip.proofs.Theorems.{filled-lent}
+use Rattle.roundtrip.proofs.Theorems.{reading-done, filled-lent}
 
 -- the first argument register, which is of the image's 32
 address-first : (c : Convention)
@@ -43,6 +46,7 @@ address-first : (c : Convention)
 unfolding startOf nextOf spanOf fresh words fprs shareOf powerShare zClass zSpanOf zNextOf
 address-first Convention.Ppc64 = (omega arith, omega arith)
 address-first Convention.Z = (omega arith, omega arith)
+address-first Convention.Aix = (omega arith, omega arith)
 
 -- a hidden address has it, and the arguments have those after it
 register-first : (c : Convention) (r : ResultType) (x : Span) → resultIn c r ≡ ResultPlaces.Hidden x → (x .general .first < startIn c r .general) × (x .general .first < 32)
@@ -59,7 +63,7 @@ hidden-kept (got g next n) base v x b e =
     let f = register-first c r x e in
     rw (arguments-got g next n)
     (kept-all (startIn c r) (general (x .general .first)) 8 _ b (omega (arith, f .0)) (omega (arith, f .1))
-    (all-later c (rulesOf c) base (startIn c r) (typesOf c (g .arguments)) v (named-start (rulesOf c) (hiddenIn c r))))
+    (all-later c (rulesOf c) base (startIn c r) (typesOf c (g .arguments)) v (word-most (rulesOf c) (rules-lawful c)) (named-start (rulesOf c) (hiddenIn c r))))
 hidden-kept (no f) base v x b e = let z : _≡_ {A = ℕ} 0 1 = cc in absurd (omega arith)
 
 register-below : (y : Reading Signature) (x : Span) → planAnswer y .result ≡ ResultPlaces.Hidden x → x .general .first < 32
@@ -68,14 +72,20 @@ register-below (got g next n) x e = register-first (g .convention) (resultType (
 register-below (no f) x e = let z : _≡_ {A = ℕ} 0 1 = cc in absurd (omega arith)
 
 pub hidden-stands : HiddenStands
-unfolding fillBuffers filledSlots argumentsOf putAll put bytesAt planAnswer
+unfolding fillAnswer fillBuffers filledSlots argumentsOf putAll put bytesAt planAnswer
 hidden-stands s values image area copies base hidden x h e =
     let b : Buffers = buffers image area copies in
+    let c : Convention = signatureAnswer (signatureOf s) .convention in
+    let w : ℕ = wordOf (rulesFor s) in
     let ss : List Slot = slotsOfAll (rulesFor s) base (argumentsOf s) values in
     let size : length image ≡ 512 = filled-lent s values image area copies base hidden h .image in
     let below = register-below (signatureOf s) x e in
+    let low = tests-low _ _ _ _ _ _ (reading-done (planFor s .outcome) _ (h .accepted) Answer.Done refl .0) in
+    let word : spread w 1 (bytesOf w hidden) ≡ bytesOf 8 hidden =
+    low-address w hidden x (word-most (rulesOf c) (rules-lawful c)) (subst (λ (q : ResultPlaces). highAddress w q hidden ≡ false) e low) in
     rw e
-    (ap (λ (y : Buffers). bytesAt (general (x .general .first)) 8 y) (putAll-append (hiddenSlots (ResultPlaces.Hidden x) hidden) ss b)
-    ∙ hidden-kept (signatureOf s) base values x (putAll (hiddenSlots (ResultPlaces.Hidden x) hidden) b) e
+    (ap (λ (y : Buffers). bytesAt (general (x .general .first)) 8 y) (putAll-append (hiddenSlots w (ResultPlaces.Hidden x) hidden) ss b)
+    ∙ hidden-kept (signatureOf s) base values x (putAll (hiddenSlots w (ResultPlaces.Hidden x) hidden) b) e
+    ∙ ap (λ (bs : List ℕ). part (8 * x .general .first) 8 (splice image (8 * x .general .first) bs)) word
     ∙ ap (λ (m : ℕ). part (8 * x .general .first) m (splice image (8 * x .general .first) (bytesOf 8 hidden))) (sym (length-bytesOf 8 hidden))
     ∙ splice-same image (8 * x .general .first) (bytesOf 8 hidden) (omega (arith, length-bytesOf 8 hidden, size)))

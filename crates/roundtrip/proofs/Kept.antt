@@ -13,13 +13,14 @@ use Rattle.types.specs.Sizes.{sizeOf}
 use Rattle.places.specs.declared.Cursor.{Cursor}
 use Rattle.places.specs.declared.Rules.{Rules}
 use Rattle.places.specs.Spots.{Spot, general, floating, area, copies}
-use Rattle.places.specs.Step.{spanOf, nextOf}
+use Rattle.places.specs.Step.{wordOf, spanOf, nextOf}
 use Rattle.places.proofs.Bounds.{Named, named-next}
 use Rattle.places.proofs.Between.{From, Forward, from-earlier, step-between, step-forward}
 use Rattle.places.proofs.Registers.{step-numbered}
 use Rattle.plan.specs.Plan.{spansOf}
 use Rattle.slots.specs.Buffers.{Buffers, Slot, put, putAll, bytesAt}
 use Rattle.slots.specs.Forms.{floatBytes}
+use Rattle.registers.proofs.Registers.{spread-short}
 use Rattle.slots.specs.Placements.{Placement, placement, placements, standing, slotsOf, slotsOfAll}
 
 -- m bytes from a spot on end at or before a cursor
@@ -83,10 +84,10 @@ later-earlier f (s ∷ ss) h = (from-earlier f (s .spot) (h .0), h .1, later-ear
 pub take-short : (n : ℕ) (l : List ℕ) → length (take n l) ≤ n
 take-short n l = omega (arith, length-take n l)
 
-pub slots-later : (r : Rules) (base : ℕ) (k : Cursor) (t : ValueType) (n : ℕ) (v : List ℕ) → Named r k
+pub slots-later : (r : Rules) (base : ℕ) (k : Cursor) (t : ValueType) (n : ℕ) (v : List ℕ) → wordOf r ≤ 8 → Named r k
     → AllLater k (slotsOf r base (placement t n (spanOf r k t n)) v)
 unfolding slotsOf AllLater
-slots-later r base k t n v named =
+slots-later r base k t n v most named =
     let b = step-between r k t n in
     let q = step-numbered r k t n named in
     let p : Placement = placement t n (spanOf r k t n) in (
@@ -94,18 +95,18 @@ slots-later r base k t n v named =
       omega (arith, take-short (8 * p .span .floating .count) (floatBytes r t v)),
       (
         b .general-from,
-        omega (arith, take-short (8 * p .span .general .count) (standing r base p v)),
+        omega (arith, spread-short (wordOf r) (p .span .general .count) (standing r base p v) most),
         (omega arith, tt, (b .copy-from, tt, tt)),
       ),
     )
 
-pub all-later : (c : Convention) (r : Rules) (base : ℕ) (k : Cursor) (ts : List ValueType) (v : List ℕ) → Named r k
+pub all-later : (c : Convention) (r : Rules) (base : ℕ) (k : Cursor) (ts : List ValueType) (v : List ℕ) → wordOf r ≤ 8 → Named r k
     → AllLater k (slotsOfAll r base (placements c ts (spansOf c r k ts)) v)
 unfolding placements spansOf slotsOfAll AllLater
-all-later c r base k [] v named = tt
-all-later c r base k (t ∷ ts) v named =
+all-later c r base k [] v most named = tt
+all-later c r base k (t ∷ ts) v most named =
     let n : ℕ = sizeOf c t in
     let d : Cursor = nextOf r k t n in
     later-append k (slotsOf r base (placement t n (spanOf r k t n)) (take n v)) (slotsOfAll r base (placements c ts (spansOf c r d ts)) (drop n v))
-    (slots-later r base k t n (take n v) named)
-    (later-earlier (step-forward r k t n) (slotsOfAll r base (placements c ts (spansOf c r d ts)) (drop n v)) (all-later c r base d ts (drop n v) (named-next r k t n named)))
+    (slots-later r base k t n (take n v) most named)
+    (later-earlier (step-forward r k t n) (slotsOfAll r base (placements c ts (spansOf c r d ts)) (drop n v)) (all-later c r base d ts (drop n v) most (named-next r k t n named)))

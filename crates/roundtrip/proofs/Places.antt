@@ -20,7 +20,7 @@ use Rattle.signature.specs.Answer.{resultType, signatureAnswer}
 use Rattle.places.specs.declared.Cursor.{Cursor}
 use Rattle.places.specs.declared.Rules.{Rules}
 use Rattle.places.specs.Spots.{Spot, general, floating, area, copies}
-use Rattle.places.specs.Step.{rulesOf, spanOf, nextOf}
+use Rattle.places.specs.Step.{rulesOf, wordOf, spanOf, nextOf}
 use Rattle.places.proofs.Bounds.{Named, named-next, named-start}
 use Rattle.places.proofs.Between.{From, step-between}
 use Rattle.places.proofs.Registers.{step-numbered}
@@ -29,6 +29,7 @@ use Rattle.slots.specs.Buffers.{Slot}
 use Rattle.slots.specs.Placements.{Placement, placement, placements, standing, copyBytes, slotsOf, slotsOfAll}
 use Rattle.slots.specs.Limits.{Held, All}
 use Rattle.slots.specs.Forms.{floatBytes}
+use Rattle.registers.proofs.Registers.{spread-short}
 use Rattle.slots.specs.Arguments.{argumentsIn, argumentsOf, rulesFor, Carried}
 use Rattle.slots.proofs.Answered.{arguments-got, carried}
 use Rattle.roundtrip.specs.Places.{Byte, inImage, inArea, inCopies, CoversFrom, Touches, slotLists, SlotsApart}
@@ -119,8 +120,8 @@ slots-before r base k t n v named h l =
     let q = step-numbered r k t n named in
     let p : Placement = placement t n (spanOf r k t n) in
     let f = take-short (8 * p .span .floating .count) (floatBytes r t v) in
-    let g = take-short (8 * p .span .general .count) (standing r base p v) in
-    let m = take-short (p .span .memory .length) (drop (8 * p .span .general .count) (standing r base p v)) in
+    let g = spread-short (wordOf r) (p .span .general .count) (standing r base p v) (h .word .1) in
+    let m = take-short (p .span .memory .length) (drop (wordOf r * p .span .general .count) (standing r base p v)) in
     (omega arith, omega arith, (omega arith, omega arith, (omega arith, tt, (copy-before r p v (nextOf r k t n) h l (b .copy-to), tt, tt))))
 
 ordered-apart : (c : Convention) (r : Rules) (base : ℕ) (k : Cursor) (ts : List ValueType) (v : List ℕ) (i j : ℕ) (x : Byte) → Named r k
@@ -135,7 +136,7 @@ ordered-apart c r base k (y ∷ ts) v zero (suc j) x named h l s t =
     let d : Cursor = nextOf r k y n in
     let ps : List Placement = placements c ts (spansOf c r d ts) in
     touches-apart d (slotsOf r base (placement y n (spanOf r k y n)) (take n v)) (slotsOfAll r base ps (drop n v)) x
-    (slots-before r base k y n (take n v) named (h .0) (take-short n v)) (all-later c r base d ts (drop n v) (named-next r k y n named)) s
+    (slots-before r base k y n (take n v) named (h .0) (take-short n v)) (all-later c r base d ts (drop n v) (h .0 .word .1) (named-next r k y n named)) s
     (touches-some r base ps (drop n v) j x t)
 ordered-apart c r base k (y ∷ ts) v (suc i) zero x named h l s t = omega arith
 ordered-apart c r base k (y ∷ ts) v (suc i) (suc j) x named h l s t =

@@ -21,8 +21,8 @@ use Rattle.slots.specs.Limits.{All}
 use Rattle.slots.specs.Arguments.{argumentsIn, argumentsOf}
 use Rattle.slots.proofs.Answered.{arguments-got}
 use Rattle.slots.proofs.Typed.{AllTyped, all-typed}
-use Rattle.home.specs.View.{viewPart, noArgument}
 use Rattle.roundtrip.specs.Views.{ViewSome}
+use Rattle.views.specs.View.{viewPart, noArgument}
 
 abbrev Some : Placement → Type 0
 Some p = 0 < p .size

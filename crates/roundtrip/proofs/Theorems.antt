@@ -3,7 +3,7 @@
 use mathlib.Core.Path.{_≡_, refl, sym, ap, ap₂, _∙_, subst}
 use mathlib.Core.Bool.{Bool, true, false}
 use mathlib.Core.List.{List, [], _∷_, _++_, append-nil}
-use Prim.Native.Nat.{ℕ, _+_, _-_, _^_, _≤_, _<_}
+use Prim.Native.Nat.{ℕ, _+_, _^_, _≤_, _<_}
 use native.Mathlib.Omega.{arith}
 use borrow.Author.Tests.{eq-eqb, le-ltb}
 use lib.ListN.{length, take, drop, length-drop, drop-of-length-le}
@@ -24,7 +24,7 @@ use Rattle.signature.specs.Read.{signatureOf}
 use Rattle.signature.specs.Answer.{resultType, signatureAnswer}
 use Rattle.places.specs.declared.Cursor.{Cursor}
 use Rattle.places.specs.declared.Rules.{Rules}
-use Rattle.places.specs.Step.{rulesOf, spanOf, nextOf}
+use Rattle.places.specs.Step.{rulesOf, wordOf, spanOf, nextOf}
 use Rattle.places.proofs.Bounds.{Named, named-next, named-start}
 use Rattle.places.proofs.Between.{step-between}
 use Rattle.places.proofs.Registers.{step-numbered}
@@ -118,7 +118,7 @@ all-put c r base a m k (t ∷ ts) v b named h =
     let l1 : SameLengths b b1 = putAll-lengths xs b in
     let l2 : SameLengths b b2 = same-then l1 (putAll-lengths ys b1) in
     let stands : Stands r base p x b2 =
-    stands-kept r base p x b1 d ys (step-behind r k t n x named (h .held .0) size) (all-later c r base d ts y (named-next r k t n named)) (stands-put r base p x b given) in
+    stands-kept r base p x b1 d ys (step-behind r k t n x named (h .held .0) size) (all-later c r base d ts y (h .held .0 .word .1) (named-next r k t n named)) (stands-put r base p x b given) in
     let rest = all-put c r base a m d ts y b1 (named-next r k t n named) (record {
       held = h .held .1;
       fit = h .fit .1;
@@ -206,14 +206,14 @@ pub record Left (s values : List ℕ) (base : ℕ) (b : Buffers) : Type 0 where
 pub filled-lent : (s values image area copies : List ℕ) (base hidden : ℕ) → Filled s values image area copies base hidden → Lent (lengths values image area copies) (planFor s) base
 unfolding fillAnswer
 filled-lent s values image area copies base hidden h =
-    tests-passed (lengths values image area copies) (planFor s) base (h .low) (reading-done (planFor s .outcome) _ (h .accepted) Answer.Done refl .0)
+    tests-passed (lengths values image area copies) (planFor s) base _ (h .low) (reading-done (planFor s .outcome) _ (h .accepted) Answer.Done refl .0)
 
 pub filled-left : (s values image area copies : List ℕ) (base hidden : ℕ) → Filled s values image area copies base hidden → Left s values base (left s values image area copies base hidden)
 unfolding fillBuffers filledSlots
 filled-left s values image area copies base hidden h =
     let p : Plan = planFor s in
     let b : Buffers = buffers image area copies in
-    let hs : List Slot = hiddenSlots (p .result) hidden in
+    let hs : List Slot = hiddenSlots (wordOf (rulesFor s)) (p .result) hidden in
     let ss : List Slot = slotsOfAll (rulesFor s) base (argumentsOf s) values in
     let b0 : Buffers = putAll hs b in
     let l0 : SameLengths b b0 = putAll-lengths hs b in

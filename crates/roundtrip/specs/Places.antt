@@ -8,6 +8,7 @@ use mathlib.Core.Bool.{true}
 use mathlib.Core.List.{List, [], _∷_}
 use lib.ListN.{length, getD, take, drop}
 use Rattle.places.specs.declared.Rules.{Rules}
+use Rattle.places.specs.Step.{wordOf}
 use Rattle.places.specs.Spots.{Spot, general, floating, area, copies}
 use Rattle.slots.specs.declared.Answer.{Answer}
 use Rattle.slots.specs.Buffers.{Buffers, Slot, generalAt, floatingAt, bytesAt}
@@ -73,12 +74,12 @@ FillOnly = (s values : List ℕ) (base hidden : ℕ) (b : Buffers) (x : Byte) �
 -- ---- reading
 
 -- two sets of buffers that agree on the places that an argument has: its FPR, its words in general registers and memory, its copy
-pub record Agree (base : ℕ) (p : Placement) (b c : Buffers) : Type 0 where
+pub record Agree (r : Rules) (base : ℕ) (p : Placement) (b c : Buffers) : Type 0 where
   pub float : 0 < p .span .floating .count → floatAt (p .span) b ≡ floatAt (p .span) c
-  pub words : wordsAt (p .span) b ≡ wordsAt (p .span) c
+  pub words : wordsAt (wordOf r) (p .span) b ≡ wordsAt (wordOf r) (p .span) c
   pub copy : p .span .indirect ≡ true
-      → bytesAt (copies (addressAt (p .span) b - base)) (p .size) b ≡ bytesAt (copies (addressAt (p .span) b - base)) (p .size) c
+      → bytesAt (copies (addressAt (wordOf r) (p .span) b - base)) (p .size) b ≡ bytesAt (copies (addressAt (wordOf r) (p .span) b - base)) (p .size) c
 
 -- the value that is read depends on these bytes alone
 abbrev pub ReadOwn : Type 0
-ReadOwn = (r : Rules) (base : ℕ) (p : Placement) (b c : Buffers) → Agree base p b c → valueAt r base p b ≡ valueAt r base p c
+ReadOwn = (r : Rules) (base : ℕ) (p : Placement) (b c : Buffers) → Agree r base p b c → valueAt r base p b ≡ valueAt r base p c

@@ -19,7 +19,7 @@ use Rattle.read.specs.Read.{sizes, readAnswer, readValues}
 pub record Filled (s values image area copies : List ℕ) (base hidden : ℕ) : Type 0 where
   pub bytes : Bytes values
   pub low : base < 2 ^ 64
-  pub accepted : fillAnswer s (lengths values image area copies) base ≡ Answer.Done
+  pub accepted : fillAnswer s (lengths values image area copies) base hidden ≡ Answer.Done
 
 -- the buffers that it leaves
 abbrev pub left : List ℕ → List ℕ → List ℕ → List ℕ → List ℕ → ℕ → ℕ → Buffers

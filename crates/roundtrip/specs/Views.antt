@@ -1,27 +1,29 @@
--- Home and views: of all inputs that fill accepts on PPC64, home of what fill left accepts, and then each argument has a view, which is the
+-- Home and views: of all inputs that fill accepts on PowerPC, home of what fill left accepts, and then each argument has a view, which is the
 -- value that was handed to fill, byte for byte; of any bytes, each view is the value that read gives. Document 01, "What stands in a
 -- slot": "A view hands back the part of the lent parameter area that is the argument's own bytes". Home changes nothing but homes.
 -- proofs/Views.antt, proofs/Alone.antt and proofs/Some.antt prove it. Assumes nothing.
 use Prim.Native.Nat.{ℕ, _<_}
 use mathlib.Core.Path.{_≡_}
+use mathlib.Core.Bool.{false}
 use mathlib.Core.Logic.{_⊎_}
 use mathlib.Core.List.{List, [], _∷_}
 use lib.ListN.{length, getD, take, drop}
 use Rattle.words.specs.Splice.{part}
 use Rattle.words.specs.Numbers.{Bytes}
-use Rattle.conventions.specs.declared.Convention.{Convention}
 use Rattle.signature.specs.Read.{signatureOf}
 use Rattle.signature.specs.Answer.{signatureAnswer}
 use Rattle.places.specs.declared.Rules.{Rules}
 use Rattle.places.specs.declared.Span.{Span}
 use Rattle.places.specs.declared.ResultPlaces.{ResultPlaces}
+use Rattle.places.specs.Step.{wordOf}
 use Rattle.slots.specs.declared.Answer.{Answer}
 use Rattle.slots.specs.Buffers.{Buffers}
 use Rattle.slots.specs.Placements.{Placement}
 use Rattle.slots.specs.Arguments.{argumentsOf, planFor, rulesFor}
 use Rattle.read.specs.Read.{sizes, readAnswer, readValues}
-use Rattle.home.specs.Home.{homeAnswer, homedBytes, homeArea}
-use Rattle.home.specs.View.{viewAnswer, viewOf, viewPart}
+use Rattle.home_slot.specs.Homes.{homeless, homedBytes}
+use Rattle.home.specs.Home.{homeAnswer, homeArea}
+use Rattle.views.specs.View.{viewAnswer, viewOf, viewPart}
 use Rattle.roundtrip.specs.Places.{Among}
 use Rattle.roundtrip.specs.RoundTrip.{Filled, left}
 
@@ -40,30 +42,30 @@ pub record Viewed (s values : List ℕ) (b : Buffers) : Type 0 where
   pub accepted : (i : ℕ) → i < signatureAnswer (signatureOf s) .count → viewAnswer s (length (homedArea s b)) i ≡ Answer.Done
   pub same : (i : ℕ) → i < signatureAnswer (signatureOf s) .count → viewOf s (homedArea s b) i ≡ getD (valueLists (argumentsOf s) values) i []
 
--- THE VIEWS: for all inputs that fill accepts on PPC64, home of what fill left accepts, and each argument's view is accepted and is its value
+-- THE VIEWS: for all inputs that fill accepts on PowerPC, home of what fill left accepts, and each argument's view is accepted and is its value
 abbrev pub ViewAfterHome : Type 0
 ViewAfterHome = (s values image area copies : List ℕ) (base hidden : ℕ) → Filled s values image area copies base hidden
-    → signatureAnswer (signatureOf s) .convention ≡ Convention.Ppc64 → Viewed s values (left s values image area copies base hidden)
+    → homeless (rulesFor s) ≡ false → Viewed s values (left s values image area copies base hidden)
 
--- The same of any bytes, also where no filling left them: where read accepts on PPC64, home accepts, and each view is the value that read gives
+-- The same of any bytes, also where no filling left them: where read accepts on PowerPC, home accepts, and each view is the value that read gives
 abbrev pub ViewAsRead : Type 0
 ViewAsRead = (s into : List ℕ) (base : ℕ) (b : Buffers) → Bytes (b .image) → readAnswer s (sizes into (b .image) (b .area)) base b ≡ Answer.Done
-    → signatureAnswer (signatureOf s) .convention ≡ Convention.Ppc64 → Viewed s (readValues s base Answer.Done b into) b
+    → homeless (rulesFor s) ≡ false → Viewed s (readValues s base Answer.Done b into) b
 
 -- "an empty part means refused": an accepted view has a byte or more
 abbrev pub ViewSome : Type 0
 ViewSome = (s : List ℕ) (have index : ℕ) → viewAnswer s have index ≡ Answer.Done → 0 < viewPart s have index .length
 
--- a byte of the area that home writes: of an argument's register doublewords, in its home
+-- a byte of the area that home writes: of an argument's register words, in its home
 unfoldable pub HomeTouches : Rules → List Placement → List ℕ → ℕ → Type 0
 HomeTouches r [] image i = ⊥
 HomeTouches r (p ∷ ps) image i = Among (p .span .home .start) (length (homedBytes r p image)) i ⊎ HomeTouches r ps image i
 
--- "all else stay": home changes only the homes of register doublewords
+-- "all else stay": home changes only the homes of register words
 abbrev pub HomeOnly : Type 0
 HomeOnly = (s image area : List ℕ) (i : ℕ) → (HomeTouches (rulesFor s) (argumentsOf s) image i → ⊥) → getD (homeArea s Answer.Done image area) i 0 ≡ getD area i 0
 
--- "The hidden address's doubleword .. stay": where the result has a hidden address, home leaves the first doubleword, whatever it answers
+-- "The hidden address's doubleword .. stay": where the result has a hidden address, home leaves the first word, whatever it answers
 abbrev pub HiddenStays : Type 0
 HiddenStays = (s image area : List ℕ) (x : Span) → planFor s .result ≡ ResultPlaces.Hidden x
-    → part 0 8 (homeArea s (homeAnswer s image (length area)) image area) ≡ part 0 8 area
+    → part 0 (wordOf (rulesFor s)) (homeArea s (homeAnswer s image (length area)) image area) ≡ part 0 (wordOf (rulesFor s)) area

@@ -7,7 +7,7 @@ use mathlib.Core.List.{List, [], _∷_}
 use native.Mathlib.Omega.{arith}
 use lib.Dec.{leb, ltb}
 use borrow.Author.Tests.{ltb-true}
-use Rattle.rules.specs.Rules.{Convention, Ppc64, Z, Span, inSpan, within, Bank, Rules, rules}
+use Rattle.rules.specs.Rules.{Convention, Ppc64, Z, Aix, Span, inSpan, within, Bank, Rules, rules}
 use Rattle.rules.specs.Frames.{writable}
 use Rattle.rules.specs.Lawful.{apart, disjoint, before, BankLaw, Lawful}
 use Rattle.rules.proofs.Facts.{and-yes, or-yes, between}
@@ -50,6 +50,27 @@ lawful Z = record {
   unkept = refl;
   unfree = refl;
   unsaved = inr (omega arith);
+  ends = omega arith;
+  gpr = record { most = omega arith; last = omega arith; free = refl; split = refl; inside = refl };
+  fpr = record { most = omega arith; last = omega arith; free = refl; split = refl; inside = refl };
+  linkage = omega arith;
+}
+lawful Aix = record {
+  word = omega arith;
+  chain = omega arith;
+  head = omega arith;
+  room = omega arith;
+  floor = omega arith;
+  least = omega arith;
+  some = omega arith;
+  alignment = omega arith;
+  end = omega arith;
+  pointer = omega arith;
+  limit = omega arith;
+  memory = omega arith;
+  unkept = refl;
+  unfree = refl;
+  unsaved = inl (omega arith);
   ends = omega arith;
   gpr = record { most = omega arith; last = omega arith; free = refl; split = refl; inside = refl };
   fpr = record { most = omega arith; last = omega arith; free = refl; split = refl; inside = refl };

@@ -1,4 +1,4 @@
--- One frame by the rules k of a convention: what may be asked, its size, what is saved where and given back, and what it may write. Document 01, "Frames"; document 02, No. 9.
+-- One frame by the rules k of a convention: what may be asked, its size, what is saved where and given back, and what it may write. Document 01, "Frames"; document 02, No. 1 and No. 9.
 -- A definition that goes by cases on the linkage takes it as its first argument, and is used at `k .linkage`. Places are offsets in the memory; s is that of the caller's stack pointer S.
 -- Assumes nothing.
 use Prim.Native.Nat.{ℕ, zero, suc, _+_, _-_, _*_, _/_, _%_, _^_, max}
@@ -73,16 +73,17 @@ okRequest k f =
     inSpan (k .gpr .request) (firstGpr f) && (inSpan (k .fpr .request) (firstFpr f)
     && (leb (f .locals) 32000 && (eqb (f .outgoing % 8) 0 && (leb (f .outgoing) maxOutgoing && (okLeaf k f && (hasCondition (k .linkage) || not (savesCr f)))))))
 
--- the length of the outgoing area (the parameter save area): "at least 64 long, on PPC64"
+-- the length of the outgoing area (the parameter save area): "at least 64 long, on PPC64"; 02, No. 1: "at least 32 long"
 abbrev pub outgoingLength : Rules → Frame → ℕ
 outgoingLength k f = max (k .least) (f .outgoing)
 
--- bytes saved below the caller's pointer: f(m) and up, on PPC64 also r(g) and up
+-- bytes saved below the caller's pointer: f(m) and up, on PPC64 and AIX also r(g) and up
 unfoldable pub below : Linkage → Rules → Frame → ℕ
 below (LinkRegister c l) k f = 8 * (k .end - firstFpr f) + k .word * (k .end - firstGpr f)
 below (SaveArea r) k f = 8 * (k .end - firstFpr f)
 
--- "Size: 48 + max(64, P) + L + 8(32 - g) + 8(32 - m), rounded up to 16"; on Z "160 + P + L + 8(16 - m), rounded up to 8"
+-- "Size: 48 + max(64, P) + L + 8(32 - g) + 8(32 - m), rounded up to 16"; on Z "160 + P + L + 8(16 - m), rounded up to 8";
+-- 02, No. 1: "24 + max(32, P) + L and its saves, rounded up to 16"
 unfoldable pub fullSize : Rules → Frame → ℕ
 fullSize k f = roundUp (k .header + outgoingLength k f + f .locals + below (k .linkage) k f) (k .alignment)
 
@@ -109,7 +110,7 @@ flag false = 0
 abbrev pub fprSave : Rules → Frame → ℕ → List ℕ → Save
 fprSave k f s xs = record { values = xs; from = firstFpr f; count = k .end - firstFpr f; at = s - 8 * (k .end - firstFpr f); width = 8 }
 
--- where the first general register saved stands, r(g): "r(n) at S - 8(32 - m) - 8(32 - n)"; on Z "at S + 8n"
+-- where the first general register saved stands, r(g): "r(n) at S - 8(32 - m) - 8(32 - n)", on AIX "r(n) at S - 8(32 - m) - 4(32 - n)"; on Z "at S + 8n"
 unfoldable pub gprAt : Linkage → Rules → Frame → ℕ → ℕ
 gprAt (LinkRegister c l) k f s = s - 8 * (k .end - firstFpr f) - k .word * (k .end - firstGpr f)
 gprAt (SaveArea r) k f s = s + k .word * firstGpr f
@@ -122,7 +123,7 @@ gprSave p k f s xs = record { values = xs; from = firstGpr f; count = k .end - f
 abbrev pub wordSave : ℕ → ℕ → ℕ → ℕ → Save
 wordSave x c at w = record { values = x ∷ []; from = 0; count = c; at = at; width = w }
 
--- all that an enter saves besides the back chain, ascending: "CR in the 4 bytes at S + 8 if saved, LR at S + 16"; 02, No. 9, of a leaf:
+-- all that an enter saves besides the back chain, ascending: "CR in the 4 bytes at S + 8 if saved, LR at S + 16", on AIX "CR at 4, LR at 8"; 02, No. 9, of a leaf:
 -- "saves in the same slots below it", "LR is not saved", "CR is saved as usual"
 unfoldable pub savesBy : Linkage → Rules → Frame → ℕ → Registers → List Save
 savesBy (LinkRegister c l) k f s r =
@@ -193,7 +194,7 @@ unfoldable pub bankOf : ℕ → RegisterBank
 bankOf b = pick (eqb b 0) General (pick (eqb b 1) Floating (pick (eqb b 2) Link (pick (eqb b 3) ConditionField None)))
 
 -- Is a write of v to register n of a bank permitted to the frame f? LR's number is not looked at; LR and CR are not writable on Z;
--- 02, No. 9, of a leaf: "LR is not saved and so may not be written"
+-- 02, No. 1: "a GPR or LR write over 2^32 - 1 gives 20"; No. 9, of a leaf: "LR is not saved and so may not be written"
 unfoldable pub writableRegister : Rules → Frame → RegisterBank → ℕ → ℕ → Bool
 writableRegister k f General n v = writable (k .gpr) (firstGpr f) n && leb v (k .limit)
 writableRegister k f Floating n v = writable (k .fpr) (firstFpr f) n

@@ -1,12 +1,12 @@
--- A convention's frames as a value: its numbers, and the two values; those that calls have too come from `conventions`. Document 01, "Frames"; document 02, No. 8 and No. 9; the
--- published papers are 000 (PPC64) and 001 (Z).
+-- A convention's frames as a value: its numbers, and the three values; those that calls have too come from `conventions`. Document 01, "Frames"; document 02, No. 1, No. 8
+-- and No. 9; the published papers are 000 (PPC64), 001 (Z) and 003 (AIX).
 -- Assumes nothing.
 use Prim.Native.Nat.{ℕ, _-_, _^_}
 use mathlib.Core.Bool.{Bool, false, _&&_, _||_}
 use mathlib.Core.List.{List, [], _∷_}
 use lib.Dec.{leb}
 pub use Rattle.conventions.specs.declared.Convention.{Convention}
-pub use Rattle.conventions.specs.declared.Convention.the-variants.{Ppc64, Z}
+pub use Rattle.conventions.specs.declared.Convention.the-variants.{Ppc64, Z, Aix}
 use Rattle.conventions.specs.Numbers.{wordBytes, headerBytes, stackAlignment, leastArea}
 pub use Rattle.rules.specs.declared.Span.{Span}
 pub use Rattle.rules.specs.declared.Bank.{Bank}
@@ -29,9 +29,16 @@ abbrev pub within : List Span → ℕ → Bool
 within [] n = false
 within (v ∷ vs) n = inSpan v n || within vs n
 
+-- the registers of PPC64 and AIX, where saves start at r(first): "Permitted writes: PPC64 r0, r3 to r12, saved GPRs, f0 to f13, saved FPRs"; "Preserved are r2, r13 to r31, f14 to
+-- f31"; 02, No. 1: "Writes are as PPC64's, with r13 among the saved"
+abbrev pub powerGpr : ℕ → Bank
+powerGpr first = record { request = span first 32; last = 31; volatile = span 0 0 ∷ span 3 12 ∷ []; preserved = span 2 2 ∷ span 13 31 ∷ [] }
+
+abbrev pub powerFpr : Bank
+powerFpr = record { request = span 14 32; last = 31; volatile = span 0 13 ∷ span 0 13 ∷ []; preserved = span 14 31 ∷ span 14 31 ∷ [] }
+
 -- "PPC64 request: saves r(g) to r31, g 14 to 32; f(m) to f31, m 14 to 32"; "CR in the 4 bytes at S + 8 if saved, LR at S + 16";
--- "Permitted writes: PPC64 r0, r3 to r12, saved GPRs, f0 to f13, saved FPRs"; "Outgoing areas start at 48, at least 64 long, on PPC64";
--- "Start .. B + N - 112 (PPC64)"; "Preserved are r2, r13 to r31, f14 to f31"; 02, No. 8: "288 free bytes under the new stack pointer on PPC64"
+-- "Outgoing areas start at 48, at least 64 long, on PPC64"; "Start .. B + N - 112 (PPC64)"; 02, No. 8: "288 free bytes under the new stack pointer on PPC64"
 abbrev pub ppc64 : Rules
 ppc64 = record {
   word = wordBytes Ppc64;
@@ -43,8 +50,8 @@ ppc64 = record {
   pointer = 1;
   end = 32;
   limit = 2 ^ 64 - 1;
-  gpr = record { request = span 14 32; last = 31; volatile = span 0 0 ∷ span 3 12 ∷ []; preserved = span 2 2 ∷ span 13 31 ∷ [] };
-  fpr = record { request = span 14 32; last = 31; volatile = span 0 13 ∷ span 0 13 ∷ []; preserved = span 14 31 ∷ span 14 31 ∷ [] };
+  gpr = powerGpr 14;
+  fpr = powerFpr;
   linkage = LinkRegister 8 16;
 }
 
@@ -67,6 +74,26 @@ z = record {
   linkage = SaveArea 14;
 }
 
+-- 02, No. 1: "Header 24 bytes, CR at 4, LR at 8. Saves start at r13 (g 13 to 32): r(n) at S - 8(32 - m) - 4(32 - n)"; "A frame is 24 + max(32, P) + L and its saves, rounded up
+-- to 16 (ours); start is at B + N - 64"; "B + N over 2^32 - 1 gives 16"; "outgoing areas starting at 24, at least 32 long"; "Otherwise all is PPC64's by words";
+-- No. 8: "220 on AIX"
+abbrev pub aix : Rules
+aix = record {
+  word = wordBytes Aix;
+  header = headerBytes Aix;
+  least = leastArea Aix;
+  alignment = stackAlignment Aix;
+  room = 64;
+  floor = 220;
+  pointer = 1;
+  end = 32;
+  limit = 2 ^ 32 - 1;
+  gpr = powerGpr 13;
+  fpr = powerFpr;
+  linkage = LinkRegister 4 8;
+}
+
 abbrev pub rules : Convention → Rules
 rules Ppc64 = ppc64
 rules Z = z
+rules Aix = aix

@@ -11,7 +11,7 @@ use Rattle.types.specs.Trees.{Tree, Trees, integer, float, struct, none, _▸_,
 use Rattle.items.specs.Refusals.{numberOf}
 use Rattle.items.specs.Reading.{Reading, got, no}
 use Rattle.types.specs.Structs.{withField, shapeOf}
-use Rattle.items.specs.Read.{bodyAt, integerCode, floatCode, integerAt, floatAt, sequence, sizedAt, contentsAt, itemBy, structAt, itemAt}
+use Rattle.items.specs.Read.{bodyAt, integerCode, floatCode, integerAt, floatOf, floatAt, sequence, sizedAt, contentsAt, itemBy, structAt, itemAt}
 use Rattle.items.specs.Encode.{item, encodeTree}
 use Rattle.signature.specs.Signature.{nothing, Signature}
 use Rattle.signature.specs.Read.{conventionAt, resultIn, resultAt, argumentsIn, argumentsAt, afterResult, afterConvention, signatureOf}
@@ -23,7 +23,7 @@ example = 0x01 ∷ 0 ∷ 1 ∷ 1 ∷ 0x02 ∷ 0 ∷ 0 ∷ 0x03 ∷ 0 ∷ 8 ∷ 0
 
 pub example-read : signatureOf example ≡
     got (record { convention = Convention.Ppc64; result = nothing; arguments = none ▸ integer IntegerKind.I32 ▸ float FloatFormat.Double }) 18 5
-unfolding example bodyAt integerCode floatCode integerAt floatAt sequence roundUp withField shapeOf fieldsOf sizedAt contentsAt itemBy structAt itemAt conventionCode conventionAt resultIn resultAt argumentsIn argumentsAt afterResult afterConvention signatureOf
+unfolding example bodyAt integerCode floatCode integerAt floatOf floatAt sequence roundUp withField shapeOf fieldsOf sizedAt contentsAt itemBy structAt itemAt conventionCode conventionAt resultIn resultAt argumentsIn argumentsAt afterResult afterConvention signatureOf
 example-read = refl
 
 -- the answer in document 01's numbers: number, place and count of headers
@@ -42,6 +42,9 @@ several : ℕ → Tree → Trees
 several zero t = none
 several (suc n) t = several n t ▸ t
 
+aix : Tree → List ℕ
+aix t = encode (record { convention = Convention.Aix; result = nothing; arguments = none ▸ t })
+
 -- each row: what is computed, and what it is to be
 pub rows : List (List ℕ × List ℕ)
 rows =
@@ -57,8 +60,16 @@ rows =
     ∷ (answer (signatureOf (1 ∷ 0 ∷ 1 ∷ 2 ∷ 2 ∷ 0 ∷ 0 ∷ 3 ∷ 0 ∷ 0 ∷ 9 ∷ [])), 9 ∷ 10 ∷ 3 ∷ [])
     -- a second field whose length passes its struct's end
     ∷ (answer (signatureOf (1 ∷ 0 ∷ 1 ∷ 2 ∷ 2 ∷ 0 ∷ 0 ∷ 3 ∷ 0 ∷ 10 ∷ 0x12 ∷ 0 ∷ 7 ∷ 0x10 ∷ 0 ∷ 1 ∷ 4 ∷ 0x10 ∷ 0 ∷ 1 ∷ [])), 2 ∷ 17 ∷ 5 ∷ [])
+    -- AIX: a double by itself, "A long double, or a double inside a struct, gives new refusal 25 at that item, tested after 5"
+    ∷ (answer (signatureOf (aix (float FloatFormat.Double))), 0 ∷ 0 ∷ 4 ∷ [])
+    ∷ (answer (signatureOf (aix (float FloatFormat.LongDouble))), 25 ∷ 10 ∷ 3 ∷ [])
+    ∷ (answer (signatureOf (aix (struct (none ▸ float FloatFormat.Double)))), 25 ∷ 13 ∷ 4 ∷ [])
+    ∷ (answer (signatureOf (aix (struct (none ▸ float FloatFormat.LongDouble)))), 5 ∷ 13 ∷ 4 ∷ [])
+    ∷ (answer (signatureOf (aix (struct (none ▸ struct (none ▸ integer IntegerKind.I8 ▸ float FloatFormat.Double))))), 25 ∷ 20 ∷ 6 ∷ [])
+    -- the others have both
+    ∷ (answer (signatureOf (of (none ▸ struct (none ▸ float FloatFormat.Double)))), 0 ∷ 0 ∷ 5 ∷ [])
     ∷ []
 
 pub rows-hold : map (λ (r : List ℕ × List ℕ). r .0) rows ≡ map (λ (r : List ℕ × List ℕ). r .1) rows
-unfolding rows answer nested several of item encodeTree encodeResult encode bodyAt integerCode floatCode integerAt floatAt sequence roundUp withField shapeOf fieldsOf sizedAt contentsAt itemBy structAt itemAt conventionCode conventionAt resultIn resultAt argumentsIn argumentsAt afterResult afterConvention signatureOf
+unfolding rows answer nested several of aix item encodeTree encodeResult encode bodyAt integerCode floatCode integerAt floatOf floatAt sequence roundUp withField shapeOf fieldsOf sizedAt contentsAt itemBy structAt itemAt conventionCode conventionAt resultIn resultAt argumentsIn argumentsAt afterResult afterConvention signatureOf
 rows-hold = refl

@@ -7,8 +7,13 @@ use Rattle.types.specs.declared.FloatFormat.{FloatFormat}
 use Rattle.types.specs.declared.Equivalent.{Equivalent}
 use Rattle.types.specs.declared.ValueType.{ValueType}
 use Rattle.places.specs.declared.Rules.{Rules}
-use Rattle.places.specs.Power.{words}
-use Rattle.places.specs.Step.{ppc64}
+use Rattle.places.specs.Values.{cursor}
+use Rattle.places.specs.Spots.{general, floating, area, copies}
+use Rattle.places.specs.Power.{words, fprs, shareOf, powerShare}
+use Rattle.places.specs.Step.{ppc64, aix, spanOf}
+use Rattle.registers.specs.Registers.{spread, gather}
+use Rattle.slots.specs.Buffers.{slot}
+use Rattle.slots.specs.Placements.{Placement, placement, standing, slotsOf}
 use Rattle.slots.specs.Forms.{startsAtHead, extended, homeBytes, floatBytes}
 
 -- a struct of three bytes
@@ -44,3 +49,33 @@ power-struct = refl
 z-struct : homeBytes Rules.Z (ValueType.Struct (record { size = 2; align = 1; equivalent = Equivalent.Nothing })) 2 (1 ∷ 2 ∷ []) ≡ 0 ∷ 0 ∷ 0 ∷ 0 ∷ 0 ∷ 0 ∷ 1 ∷ 2 ∷ []
 unfolding homeBytes startsAtHead extended bytesOf valueOf zeroExtended
 z-struct = refl
+
+-- ---- AIX, whose words have 4 bytes (No. 1: "Narrow wholes and structs fill 4-byte words as they fill doublewords on PPC64")
+
+-- the i16 -2 is a word; the single 1.0 "is one word"; three bytes are at a word's head
+aix-signed : homeBytes aix (ValueType.Integer IntegerKind.I16) 2 (0xff ∷ 0xfe ∷ []) ≡ 0xff ∷ 0xff ∷ 0xff ∷ 0xfe ∷ []
+unfolding homeBytes startsAtHead extended words bytesOf valueOf signExtended zeroExtended signBit
+aix-signed = refl
+
+aix-single : homeBytes aix (ValueType.Float FloatFormat.Single) 4 (0x3f ∷ 0x80 ∷ 0 ∷ 0 ∷ []) ≡ 0x3f ∷ 0x80 ∷ 0 ∷ 0 ∷ []
+unfolding homeBytes startsAtHead extended words bytesOf valueOf zeroExtended
+aix-single = refl
+
+aix-struct : homeBytes aix three 3 (1 ∷ 2 ∷ 3 ∷ []) ≡ 1 ∷ 2 ∷ 3 ∷ 0 ∷ []
+unfolding homeBytes startsAtHead words three
+aix-struct = refl
+
+-- a u64 whose first word is in r10 and whose second is the first of the excess, at 32: "r3 to r10 take the first eight"
+straddling : Placement
+straddling = placement (ValueType.Integer IntegerKind.U64) 8 (spanOf aix (cursor 10 1 28 0) (ValueType.Integer IntegerKind.U64) 8)
+
+-- "Its image keeps each GPR in the low half of its 8 bytes, high half zero"
+aix-straddles : slotsOf aix 0 straddling (1 ∷ 2 ∷ 3 ∷ 4 ∷ 5 ∷ 6 ∷ 7 ∷ 8 ∷ [])
+    ≡ slot (floating 1) [] ∷ slot (general 10) (0 ∷ 0 ∷ 0 ∷ 0 ∷ 1 ∷ 2 ∷ 3 ∷ 4 ∷ []) ∷ slot (area 32) (5 ∷ 6 ∷ 7 ∷ 8 ∷ []) ∷ slot (copies 0) [] ∷ []
+unfolding slotsOf straddling standing spread spanOf powerShare shareOf fprs words homeBytes startsAtHead extended bytesOf valueOf zeroExtended
+aix-straddles = refl
+
+-- high halves are ignored
+aix-gathered : gather 4 2 (9 ∷ 9 ∷ 9 ∷ 9 ∷ 1 ∷ 2 ∷ 3 ∷ 4 ∷ 9 ∷ 9 ∷ 9 ∷ 9 ∷ 5 ∷ 6 ∷ 7 ∷ 8 ∷ []) ≡ 1 ∷ 2 ∷ 3 ∷ 4 ∷ 5 ∷ 6 ∷ 7 ∷ 8 ∷ []
+unfolding gather
+aix-gathered = refl

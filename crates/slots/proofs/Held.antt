@@ -1,8 +1,9 @@
 -- The span of each argument has room for exactly its form, in each convention. Assumes nothing.
-use mathlib.Core.Path.{_≡_, refl, sym, _∙_}
+use mathlib.Core.Path.{_≡_, refl}
 use mathlib.Core.Bool.{Bool, true, false}
-use Prim.Native.Nat.{ℕ, _-_, _≤_}
+use Prim.Native.Nat.{ℕ, zero, suc, _+_, _-_, _*_, _/_, _≤_, _<_}
 use native.Mathlib.Omega.{arith}
+use native.Mathlib.Nat.{mul-zero, mul-suc, mul-comm, mod-lt, div-add-mod'}
 use borrow.Author.Tests.{eqb-true}
 use lib.Dec.{leb, eqb}
 use Rattle.words.specs.Basics.{pick}
@@ -19,7 +20,9 @@ use Rattle.places.specs.declared.ZClass.{ZClass}
 use Rattle.places.specs.Values.{share}
 use Rattle.places.specs.Power.{words, fprs, covered, shareOf, powerShare, powerSpan}
 use Rattle.places.specs.ZSeries.{zClass, zSpanOf, bySize, byEquivalent}
-use Rattle.places.specs.Step.{ppc64, rulesOf, spanOf}
+use Rattle.places.specs.declared.Edition.{Edition}
+use Rattle.places.specs.Step.{power, rulesOf, spanOf}
+use Rattle.places.proofs.Shares.{words-split}
 use Rattle.slots.specs.Forms.{startsAtHead}
 use Rattle.slots.specs.Placements.{placement}
 use Rattle.slots.specs.Limits.{FloatSized, Held}
@@ -42,68 +45,89 @@ integer-small c IntegerKind.I64 = omega arith
 integer-small c IntegerKind.U64 = omega arith
 integer-small c IntegerKind.Pointer = word-bounds c .1
 
--- ---- PPC64
+-- ---- PowerPC, over the bytes w of a word
 
--- in words, at the head or at the end of one
-power-words : (k : Cursor) (t : ValueType) (n : ℕ) → (startsAtHead ppc64 t ≡ false → (1 ≤ n) × (n ≤ 8))
-    → Held ppc64 (placement t n (powerSpan 8 k (words 8 n) (share (covered k (words 8 n)) 0 (words 8 n - covered k (words 8 n)))))
-unfolding words
-power-words k t n small = record {
-  floats = omega arith;
-  alone = λ e. absurd (omega arith);
-  direct = λ e. refl;
-  float = λ e. absurd (omega arith);
-  words = λ e. omega arith;
-  doublewords = omega arith;
-  head = λ e. (omega arith, omega arith);
-  whole = λ e. refl;
-  end = λ e. let s = small e in omega arith;
-  small = λ e d. small e;
-  copied = λ e. absurd-bool' e;
-}
+module _ (w : ℕ) (least : 4 ≤ w) (most : w ≤ 8) where
+  abbrev rules : Rules
+  rules = power w Edition.Earlier
 
--- a float in an FPR, or in memory once these are used up
-power-float : (k : Cursor) (t : ValueType) (n : ℕ) → startsAtHead ppc64 t ≡ false → FloatSized (equivalentOf t) n → 1 ≤ n → n ≤ 8
-    → (b : Bool) → Held ppc64 (placement t n (powerSpan 8 k (words 8 n) (pick b (share 0 1 0) (share 0 0 (words 8 n)))))
-unfolding words
-power-float k t n end f one eight true = record {
-  floats = omega arith;
-  alone = λ e. (refl, omega arith);
-  direct = λ e. refl;
-  float = λ e. f;
-  words = λ e. absurd (omega arith);
-  doublewords = omega arith;
-  head = λ e. absurd-bool' (sym end ∙ e);
-  whole = λ e. refl;
-  end = λ e. omega arith;
-  small = λ e d. (one, eight);
-  copied = λ e. absurd-bool' e;
-}
-power-float k t n end f one eight false = record {
-  floats = omega arith;
-  alone = λ e. absurd (omega arith);
-  direct = λ e. refl;
-  float = λ e. f;
-  words = λ e. omega arith;
-  doublewords = omega arith;
-  head = λ e. absurd-bool' (sym end ∙ e);
-  whole = λ e. refl;
-  end = λ e. omega arith;
-  small = λ e d. (one, eight);
-  copied = λ e. absurd-bool' e;
-}
+  -- n bytes in words: none too few and none too many
+  pub words-room : (n : ℕ) → (n ≤ w * words w n) × (w * words w n < n + w)
+  unfolding words
+  words-room n =
+      let d = div-add-mod' (n + (w - 1)) w in
+      let some : 0 < w = omega arith in
+      let m = mod-lt (n + (w - 1)) some in
+      (omega (arith, d, m, mul-comm ((n + (w - 1)) / w) w), omega (arith, d, mul-comm ((n + (w - 1)) / w) w))
 
-power-held : (k : Cursor) (t : ValueType) → Typed Convention.Ppc64 t
-    → Held ppc64 (placement t (sizeOf Convention.Ppc64 t) (spanOf ppc64 k t (sizeOf Convention.Ppc64 t)))
-unfolding spanOf powerShare shareOf fprs startsAtHead
-power-held k (ValueType.Integer x) h =
-    power-words k (ValueType.Integer x) (integerSize Convention.Ppc64 x) (λ e. (h .sized .some, integer-small Convention.Ppc64 x))
-power-held k (ValueType.Float FloatFormat.Single) h =
-    power-float k (ValueType.Float FloatFormat.Single) 4 refl refl (omega arith) (omega arith) (leb 1 (14 - k .floating))
-power-held k (ValueType.Float FloatFormat.Double) h =
-    power-float k (ValueType.Float FloatFormat.Double) 8 refl refl (omega arith) (omega arith) (leb 1 (14 - k .floating))
-power-held k (ValueType.Float FloatFormat.LongDouble) h = power-words k (ValueType.Float FloatFormat.LongDouble) 16 (λ e. absurd-bool e)
-power-held k (ValueType.Struct s) h = power-words k (ValueType.Struct s) (s .size) (λ e. absurd-bool e)
+  -- no word of memory is begun and not ended
+  whole-words : (m : ℕ) → 0 < w * m → w ≤ w * m
+  whole-words zero h = absurd (omega (arith, mul-zero w))
+  whole-words (suc m) h = omega (arith, mul-suc w m)
+
+  -- in words, at their head or at their end
+  power-words : (k : Cursor) (t : ValueType) (n : ℕ) → (startsAtHead rules t ≡ false → (1 ≤ n) × (n ≤ 8))
+      → Held rules (placement t n (powerSpan w k (words w n) (share (covered k (words w n)) 0 (words w n - covered k (words w n)))))
+  power-words k t n small =
+      let g : ℕ = covered k (words w n) in
+      let s = words-split w (words w n) g (omega arith) in
+      record {
+        word = (least, most);
+        floats = omega arith;
+        alone = λ e. absurd (omega arith);
+        direct = λ e. refl;
+        float = λ e. absurd (omega arith);
+        words = λ e. omega (arith, s);
+        stored = λ e. whole-words (words w n - g) e;
+        room = λ e. words-room n;
+        whole = λ e. refl;
+        small = λ e d. small e;
+        address = λ e. absurd-bool' e;
+        copied = λ e. absurd-bool' e;
+      }
+
+  -- a float in an FPR, or in memory once these are used up
+  power-float : (k : Cursor) (t : ValueType) (n : ℕ) → FloatSized (equivalentOf t) n → 1 ≤ n → n ≤ 8 → (b : Bool)
+      → Held rules (placement t n (powerSpan w k (words w n) (pick b (share 0 1 0) (share 0 0 (words w n)))))
+  power-float k t n f one eight true = record {
+    word = (least, most);
+    floats = omega arith;
+    alone = λ e. (refl, mul-zero w);
+    direct = λ e. refl;
+    float = λ e. f;
+    words = λ e. absurd (omega arith);
+    stored = λ e. whole-words 0 e;
+    room = λ e. words-room n;
+    whole = λ e. refl;
+    small = λ e d. (one, eight);
+    address = λ e. absurd-bool' e;
+    copied = λ e. absurd-bool' e;
+  }
+  power-float k t n f one eight false = record {
+    word = (least, most);
+    floats = omega arith;
+    alone = λ e. absurd (omega arith);
+    direct = λ e. refl;
+    float = λ e. f;
+    words = λ e. omega (arith, mul-zero w);
+    stored = λ e. whole-words (words w n) e;
+    room = λ e. words-room n;
+    whole = λ e. refl;
+    small = λ e d. (one, eight);
+    address = λ e. absurd-bool' e;
+    copied = λ e. absurd-bool' e;
+  }
+
+  -- at every cursor, for every type and its size in any convention
+  pub power-held : (c : Convention) (k : Cursor) (t : ValueType) → Typed c t → Held rules (placement t (sizeOf c t) (spanOf rules k t (sizeOf c t)))
+  unfolding spanOf powerShare shareOf fprs startsAtHead
+  power-held c k (ValueType.Integer x) h = power-words k (ValueType.Integer x) (integerSize c x) (λ e. (h .sized .some, integer-small c x))
+  power-held c k (ValueType.Float FloatFormat.Single) h =
+      power-float k (ValueType.Float FloatFormat.Single) 4 refl (omega arith) (omega arith) (leb 1 (14 - k .floating))
+  power-held c k (ValueType.Float FloatFormat.Double) h =
+      power-float k (ValueType.Float FloatFormat.Double) 8 refl (omega arith) (omega arith) (leb 1 (14 - k .floating))
+  power-held c k (ValueType.Float FloatFormat.LongDouble) h = power-words k (ValueType.Float FloatFormat.LongDouble) 16 (λ e. absurd-bool e)
+  power-held c k (ValueType.Struct s) h = power-words k (ValueType.Struct s) (s .size) (λ e. absurd-bool e)
 
 -- ---- Z
 
@@ -111,32 +135,34 @@ power-held k (ValueType.Struct s) h = power-words k (ValueType.Struct s) (s .siz
 z-float : (k : Cursor) (t : ValueType) (n : ℕ) → FloatSized (equivalentOf t) n → 1 ≤ n → n ≤ 8 → Held Rules.Z (placement t n (zSpanOf k ZClass.Float n))
 unfolding zSpanOf startsAtHead
 z-float k t n f one eight = record {
+  word = (omega arith, omega arith);
   floats = omega arith;
   alone = λ e. (refl, omega arith);
   direct = λ e. refl;
   float = λ e. f;
   words = λ e. omega arith;
-  doublewords = omega arith;
-  head = λ e. absurd-bool' e;
+  stored = λ e. omega arith;
+  room = λ e. (eight, omega arith);
   whole = λ e. refl;
-  end = λ e. refl;
   small = λ e d. (one, eight);
+  address = λ e. absurd-bool' e;
   copied = λ e. absurd-bool' e;
 }
 
 z-simple : (k : Cursor) (t : ValueType) (n : ℕ) → 1 ≤ n → n ≤ 8 → Held Rules.Z (placement t n (zSpanOf k ZClass.Simple n))
 unfolding zSpanOf startsAtHead
 z-simple k t n one eight = record {
+  word = (omega arith, omega arith);
   floats = omega arith;
   alone = λ e. absurd (omega arith);
   direct = λ e. refl;
   float = λ e. absurd (omega arith);
   words = λ e. omega arith;
-  doublewords = omega arith;
-  head = λ e. absurd-bool' e;
+  stored = λ e. omega arith;
+  room = λ e. (eight, omega arith);
   whole = λ e. refl;
-  end = λ e. refl;
   small = λ e d. (one, eight);
+  address = λ e. absurd-bool' e;
   copied = λ e. absurd-bool' e;
 }
 
@@ -144,16 +170,17 @@ z-simple k t n one eight = record {
 z-reference : (k : Cursor) (t : ValueType) (n : ℕ) → Held Rules.Z (placement t n (zSpanOf k ZClass.Reference n))
 unfolding zSpanOf startsAtHead
 z-reference k t n = record {
+  word = (omega arith, omega arith);
   floats = omega arith;
   alone = λ e. absurd (omega arith);
   direct = λ e. absurd (omega arith);
   float = λ e. absurd (omega arith);
   words = λ e. omega arith;
-  doublewords = omega arith;
-  head = λ e. absurd-bool' e;
+  stored = λ e. omega arith;
+  room = λ e. absurd-bool e;
   whole = λ e. absurd-bool' e;
-  end = λ e. refl;
   small = λ e d. absurd-bool d;
+  address = λ e. (refl, refl);
   copied = λ e. refl;
 }
 
@@ -200,5 +227,6 @@ z-held k (ValueType.Struct s) h = z-struct k (ValueType.Struct s) (s .size) (s .
 -- ---- every convention, at every cursor
 
 pub step-held : (c : Convention) (k : Cursor) (t : ValueType) → Typed c t → Held (rulesOf c) (placement t (sizeOf c t) (spanOf (rulesOf c) k t (sizeOf c t)))
-step-held Convention.Ppc64 k t h = power-held k t h
+step-held Convention.Ppc64 k t h = power-held 8 (omega arith) (omega arith) Convention.Ppc64 k t h
 step-held Convention.Z k t h = z-held k t h
+step-held Convention.Aix k t h = power-held 4 (omega arith) (omega arith) Convention.Aix k t h

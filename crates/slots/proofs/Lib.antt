@@ -9,3 +9,4 @@ pub mod Turns
 pub mod Refusals
 pub mod Examples
 pub mod Limits
+pub mod Doublewords

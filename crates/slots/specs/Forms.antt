@@ -20,7 +20,8 @@ use Rattle.places.specs.declared.Rules.{Rules}
 use Rattle.places.specs.Power.{words}
 use Rattle.places.specs.Step.{wordOf}
 
--- the bytes of the words that a value takes: "Sizes in doublewords .. struct size / 8 rounded up"; Z: "8 stack bytes", or a register
+-- the bytes of the words that a value takes: "Sizes in doublewords .. struct size / 8 rounded up"; AIX: "a double or 64-bit whole uses two words"; Z: "8
+-- stack bytes", or a register
 abbrev pub roomOf : Rules → ℕ → ℕ
 roomOf (Rules.Power f) n = f .word * words (f .word) n
 roomOf Rules.Z n = wordOf Rules.Z
@@ -42,8 +43,8 @@ isSigned (ValueType.Integer k) = signedKind k
 isSigned (ValueType.Float f) = false
 isSigned (ValueType.Struct s) = false
 
--- "On PPC64 every struct starts at its first doubleword's head, zeros at its tail"; a long double fills its words. Every other
--- value stands at the end of its word: an integer, a single in memory ("the second word, the first zero"; Z: "right-justified on
+-- "On PPC64 every struct starts at its first doubleword's head, zeros at its tail", and AIX structs at their first word's; a long double fills its
+-- words. Every other value stands at the end of its words: an integer, a single in memory ("the second word, the first zero"; Z: "right-justified on
 -- the stack"), and on Z a small struct ("right-justified, zeros above")
 abbrev pub headFirst : ValueType → Bool
 headFirst (ValueType.Integer k) = false
@@ -56,7 +57,7 @@ unfoldable pub startsAtHead : Rules → ValueType → Bool
 startsAtHead (Rules.Power f) t = headFirst t
 startsAtHead Rules.Z t = false
 
--- "Wholes are sign- or zero-extended to 64 bits"; of everything else the bytes above are zeros
+-- "Wholes are sign- or zero-extended to 64 bits", of which an AIX word has the lowest 32; of everything else the bytes above are zeros
 unfoldable pub extended : ValueType → ℕ → ℕ → ℕ
 extended t n x = pick (isSigned t) (signExtended n x) (zeroExtended n x)
 

@@ -1,12 +1,13 @@
 -- What holds of each argument of a plan: how its span and its form agree, and that its places lie in the plan's area and
 -- copies. The law `carried` has it of every signature. Assumes nothing.
-use Prim.Native.Nat.{ℕ, _+_, _*_, _%_, _≤_, _<_}
+use Prim.Native.Nat.{ℕ, _+_, _*_, _≤_, _<_}
 use mathlib.Core.Path.{_≡_}
 use mathlib.Core.Bool.{true, false}
 use mathlib.Core.List.{List, [], _∷_}
 use Rattle.types.specs.declared.Equivalent.{Equivalent}
 use Rattle.types.specs.Sizes.{equivalentOf}
 use Rattle.places.specs.declared.Rules.{Rules}
+use Rattle.places.specs.Step.{wordOf}
 use Rattle.slots.specs.Forms.{roomOf, startsAtHead}
 use Rattle.slots.specs.Placements.{Placement}
 
@@ -18,20 +19,22 @@ FloatSized Equivalent.Nothing n = ⊥
 
 -- the span has room for exactly the argument's form
 pub record Held (r : Rules) (p : Placement) : Type 0 where
+  pub word : (4 ≤ wordOf r) × (wordOf r ≤ 8)
   -- an FPR holds a whole float, and then nothing else does
   pub floats : p .span .floating .count ≤ 1
   pub alone : p .span .floating .count ≡ 1 → (p .span .general .count ≡ 0) × (p .span .memory .length ≡ 0)
   pub direct : p .span .floating .count ≡ 1 → p .span .indirect ≡ false
   pub float : p .span .floating .count ≡ 1 → FloatSized (equivalentOf (p .ty)) (p .size)
-  -- else general registers and memory hold all words
-  pub words : p .span .floating .count ≡ 0 → 8 * p .span .general .count + p .span .memory .length ≡ roomOf r (p .size)
-  pub doublewords : p .span .memory .length % 8 ≡ 0
-  -- zeros fill the last of them
-  pub head : startsAtHead r (p .ty) ≡ true → (p .size ≤ roomOf r (p .size)) × (roomOf r (p .size) < p .size + 8)
+  -- else general registers and memory hold all words, memory none or a word at least
+  pub words : p .span .floating .count ≡ 0 → wordOf r * p .span .general .count + p .span .memory .length ≡ roomOf r (p .size)
+  pub stored : 0 < p .span .memory .length → wordOf r ≤ p .span .memory .length
+  -- a value's words have no word too many
+  pub room : p .span .indirect ≡ false → (p .size ≤ roomOf r (p .size)) × (roomOf r (p .size) < p .size + wordOf r)
   pub whole : startsAtHead r (p .ty) ≡ true → p .span .indirect ≡ false
-  -- or there is one word
-  pub end : startsAtHead r (p .ty) ≡ false → roomOf r (p .size) ≡ 8
+  -- what stands at the end of its words has at most 64 bits
   pub small : startsAtHead r (p .ty) ≡ false → p .span .indirect ≡ false → (1 ≤ p .size) × (p .size ≤ 8)
+  -- an address is a doubleword: no convention with smaller words passes copies
+  pub address : p .span .indirect ≡ true → (wordOf r ≡ 8) × (roomOf r (p .size) ≡ 8)
   pub copied : p .span .indirect ≡ true → p .span .copy .length ≡ p .size
 
 -- the places lie in the registers' banks, in an area of a bytes, and in copies of c bytes

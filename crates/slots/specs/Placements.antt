@@ -13,8 +13,10 @@ use Rattle.types.specs.Sizes.{sizeOf}
 use Rattle.places.specs.declared.Rules.{Rules}
 use Rattle.places.specs.declared.Span.{Span}
 use Rattle.places.specs.declared.ResultPlaces.{ResultPlaces}
+use Rattle.places.specs.Step.{wordOf}
 use Rattle.places.specs.Spots.{general, floating, area, copies}
 use Rattle.slots.specs.Buffers.{Buffers, Slot, slot, bytesAt}
+use Rattle.registers.specs.Registers.{spread, gather}
 use Rattle.slots.specs.Forms.{homeBytes, floatBytes, floatValue, ownStart}
 
 pub record Placement : Type 0 where
@@ -33,11 +35,11 @@ placements c (t ∷ ts) (s ∷ ss) = placement t (sizeOf c t) s ∷ placements c
 
 -- ---- the slots of an argument
 
--- what stands in an argument's general registers and memory: the value, or the address of its copy, which is its offset in the copy
--- buffer from the buffer's base on
+-- what stands in an argument's general registers and memory, word after word: the value, or the address of its copy, which is its
+-- offset in the copy buffer from the buffer's base on
 unfoldable pub standing : Rules → ℕ → Placement → List ℕ → List ℕ
 standing r base p v =
-    pick (p .span .indirect) (bytesOf 8 (base + p .span .copy .start)) (homeBytes r (p .ty) (p .size) v)
+    pick (p .span .indirect) (bytesOf (wordOf r) (base + p .span .copy .start)) (homeBytes r (p .ty) (p .size) v)
 
 -- "by pointer to a copy": the copy is the value, byte for byte
 abbrev pub copyBytes : Placement → List ℕ → List ℕ
@@ -48,8 +50,8 @@ copyBytes p v = pick (p .span .indirect) v []
 unfoldable pub slotsOf : Rules → ℕ → Placement → List ℕ → List Slot
 slotsOf r base p v =
     slot (floating (p .span .floating .first)) (take (8 * p .span .floating .count) (floatBytes r (p .ty) v))
-    ∷ slot (general (p .span .general .first)) (take (8 * p .span .general .count) (standing r base p v))
-    ∷ slot (area (p .span .memory .start)) (part (8 * p .span .general .count) (p .span .memory .length) (standing r base p v))
+    ∷ slot (general (p .span .general .first)) (spread (wordOf r) (p .span .general .count) (standing r base p v))
+    ∷ slot (area (p .span .memory .start)) (part (wordOf r * p .span .general .count) (p .span .memory .length) (standing r base p v))
     ∷ slot (copies (p .span .copy .start)) (copyBytes p v)
     ∷ []
 
@@ -58,31 +60,33 @@ unfoldable pub slotsOfAll : Rules → ℕ → List Placement → List ℕ → Li
 slotsOfAll r base [] v = []
 slotsOfAll r base (p ∷ ps) v = slotsOf r base p (take (p .size) v) ++ slotsOfAll r base ps (drop (p .size) v)
 
--- the hidden address in its register; "The hidden address is ignored where none is needed"
-abbrev pub hiddenSlots : ResultPlaces → ℕ → List Slot
-hiddenSlots ResultPlaces.Nothing address = []
-hiddenSlots (ResultPlaces.Registers s) address = []
-hiddenSlots (ResultPlaces.Hidden s) address = slot (general (s .general .first)) (bytesOf 8 address) ∷ []
+-- the hidden address in its register, a word of w bytes; "The hidden address is ignored where none is needed"
+abbrev pub hiddenSlots : ℕ → ResultPlaces → ℕ → List Slot
+hiddenSlots w ResultPlaces.Nothing address = []
+hiddenSlots w (ResultPlaces.Registers s) address = []
+hiddenSlots w (ResultPlaces.Hidden s) address = slot (general (s .general .first)) (spread w 1 (bytesOf w address)) ∷ []
 
 -- ---- a value read back
 
--- the words of an argument, as they stand in its general registers and memory
-unfoldable pub wordsAt : Span → Buffers → List ℕ
-wordsAt s b = bytesAt (general (s .general .first)) (8 * s .general .count) b ++ bytesAt (area (s .memory .start)) (s .memory .length) b
+-- the words of an argument, of w bytes each, as they stand in its general registers and memory
+unfoldable pub wordsAt : ℕ → Span → Buffers → List ℕ
+wordsAt w s b =
+    gather w (s .general .count) (bytesAt (general (s .general .first)) (8 * s .general .count) b)
+    ++ bytesAt (area (s .memory .start)) (s .memory .length) b
 
 -- an FPR's eight bytes
 abbrev pub floatAt : Span → Buffers → List ℕ
 floatAt s b = bytesAt (floating (s .floating .first)) 8 b
 
 -- the address of an argument that is passed by pointer
-abbrev pub addressAt : Span → Buffers → ℕ
-addressAt s b = valueOf (wordsAt s b)
+abbrev pub addressAt : ℕ → Span → Buffers → ℕ
+addressAt w s b = valueOf (wordsAt w s b)
 
 -- "Reading takes a value's own bytes and ignores the slot's padding": of its words; or, by the address in the slot, of the copies
 unfoldable pub wordsValue : Rules → ℕ → Placement → Buffers → List ℕ
 wordsValue r base p b =
-    pick (p .span .indirect) (bytesAt (copies (addressAt (p .span) b - base)) (p .size) b)
-    (part (ownStart r (p .ty) (p .size)) (p .size) (wordsAt (p .span) b))
+    pick (p .span .indirect) (bytesAt (copies (addressAt (wordOf r) (p .span) b - base)) (p .size) b)
+    (part (ownStart r (p .ty) (p .size)) (p .size) (wordsAt (wordOf r) (p .span) b))
 
 -- "it prefers an FPR to memory"
 unfoldable pub valueAt : Rules → ℕ → Placement → Buffers → List ℕ

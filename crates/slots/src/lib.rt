@@ -8,7 +8,6 @@ use types::FloatFormat;
 use types::IntegerKind;
 use types::ValueType;
 ghost use mathlib.Core.Path.{_≡_};
-ghost use mathlib.Core.Bool.{false};
 ghost use Prim.Native.Nat.{_^_, _≤_, _<_};
 ghost use lib.ListN.{length};
 ghost use Rattle.types.specs.declared.Equivalent.{Equivalent};
@@ -139,15 +138,16 @@ pub fn float_word(r: Rules, t: ValueType, v: &[u8]) -> u64
     }
 }
 
-// Where in its words a value's own bytes start: a value of n bytes that stands at the end of its word is in the last n of eight.
-pub fn own_start(r: Rules, t: ValueType, n: usize) -> usize
-    requires { ⌜ (startsAtHead r t ≡ false → (n ≤ 8) × (roomOf r n ≡ 8)) ⌝ }
+// Where in its words, which have `room` bytes, a value's own bytes start: a value of n bytes that stands at the end of its words is in
+// the last n of them.
+pub fn own_start(r: Rules, t: ValueType, n: usize, room: usize) -> usize
+    requires { ⌜ (room ≡ roomOf r n) × (n ≤ room) ⌝ }
     ensures { λ at. ⌜ at ≡ ownStart r t n ⌝ }
 {
     if starts_at_head(r, t) {
         return 0;
     }
-    8 - n
+    room - n
 }
 
 fn narrowed_answer(x: u64) -> Answer

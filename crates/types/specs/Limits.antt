@@ -1,10 +1,11 @@
--- The types that a signature may have: document 01's refusals 4 (empty struct), 5, 6 and 8, said of the tree.
+-- The types that a signature may have: document 01's refusals 4 (empty struct), 5, 6, 8 and 25, said of the tree.
 -- Assumes nothing.
 use Prim.Native.Nat.{ℕ, _+_, _≤_, max}
+use mathlib.Core.Path.{_≡_}
 use mathlib.Core.Bool.{Bool, true, false}
 use Rattle.conventions.specs.declared.Convention.{Convention}
 use Rattle.types.specs.declared.FloatFormat.{FloatFormat}
-use Rattle.types.specs.Sizes.{sizeOf, Sized}
+use Rattle.types.specs.Sizes.{sizeOf, lacksFloat, Sized}
 use Rattle.types.specs.Trees.{Tree, Trees, integer, float, struct, none, _▸_, typeOf}
 
 -- how deep structs stand in each other: "an argument or result struct has depth 1"
@@ -30,11 +31,11 @@ abbrev pub Some : Trees → Type 0
 Some none = ⊥
 Some (ts ▸ t) = Unit {0}
 
--- and 8: no "struct size over 256"; `inside` a struct or not
+-- 25: no float that the convention has not, and 8: no "struct size over 256"; `inside` a struct or not
 unfoldable mutual
   pub Fits : Convention → Bool → Tree → Type 0
   Fits c inside (integer k) = Unit {0}
-  Fits c inside (float f) = FloatFits inside f
+  Fits c inside (float f) = FloatFits inside f × (lacksFloat c inside f ≡ false)
   Fits c inside (struct ts) = Some ts × AllFit c ts × (sizeOf c (typeOf c (struct ts)) ≤ 256)
 
   -- each field of a struct

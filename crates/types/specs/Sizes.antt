@@ -1,6 +1,7 @@
 -- The size and the alignment of a type, and the float that it is equivalent to.
 -- Document 01, "A signature's bytes". Assumes nothing.
 use Prim.Native.Nat.{ℕ, _≤_, _<_}
+use mathlib.Core.Bool.{Bool, true, false}
 use Rattle.conventions.specs.declared.Convention.{Convention}
 use Rattle.conventions.specs.Numbers.{wordBytes}
 use Rattle.types.specs.declared.IntegerKind.{IntegerKind}
@@ -25,6 +26,14 @@ abbrev pub floatSize : FloatFormat → ℕ
 floatSize FloatFormat.Single = 4
 floatSize FloatFormat.Double = 8
 floatSize FloatFormat.LongDouble = 16
+
+-- the floats that a convention has not, inside a struct or not; No. 1: on AIX "A long double, or a double inside a struct"
+abbrev pub lacksFloat : Convention → Bool → FloatFormat → Bool
+lacksFloat Convention.Ppc64 inside f = false
+lacksFloat Convention.Z inside f = false
+lacksFloat Convention.Aix inside FloatFormat.Single = false
+lacksFloat Convention.Aix inside FloatFormat.Double = inside
+lacksFloat Convention.Aix inside FloatFormat.LongDouble = true
 
 abbrev pub sizeOf : Convention → ValueType → ℕ
 sizeOf c (ValueType.Integer k) = integerSize c k

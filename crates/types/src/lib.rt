@@ -1,7 +1,7 @@
 // The types that a signature names: integers, floats and structs, with the size of each. The code of a struct's layout is in the crate above.
 use conventions::Convention;
 ghost use mathlib.Core.Path.{_≡_};
-ghost use Rattle.types.specs.Sizes.{integerSize, floatSize, sizeOf, equivalentOf};
+ghost use Rattle.types.specs.Sizes.{integerSize, floatSize, sizeOf, equivalentOf, lacksFloat};
 
 // An integer type or a pointer. Document 01 calls these whole numbers.
 pub enum IntegerKind {
@@ -41,6 +41,21 @@ pub enum ValueType {
     Integer(IntegerKind),
     Float(FloatFormat),
     Struct(Shape),
+}
+
+// Whether a convention has no such float, inside a struct or not.
+pub fn lacks_float(c: Convention, inside: bool, f: FloatFormat) -> bool
+    ensures { λ b. ⌜ b ≡ lacksFloat c inside f ⌝ }
+{
+    match c {
+        Convention::Ppc64 => false,
+        Convention::Z => false,
+        Convention::Aix => match f {
+            FloatFormat::Single => false,
+            FloatFormat::Double => inside,
+            FloatFormat::LongDouble => true,
+        },
+    }
 }
 
 pub fn integer_size(c: Convention, k: IntegerKind) -> usize

@@ -18,7 +18,10 @@ use Rattle.ieee.specs.Narrowing.{narrow}
 use Rattle.types.specs.declared.Equivalent.{Equivalent}
 use Rattle.types.specs.Sizes.{equivalentOf}
 use Rattle.places.specs.declared.Rules.{Rules}
+use Rattle.places.specs.Step.{wordOf}
 use Rattle.places.specs.Spots.{copies}
+use Rattle.registers.specs.Registers.{gather}
+use Rattle.registers.proofs.Registers.{length-gather}
 use Rattle.slots.specs.declared.Answer.{Answer}
 use Rattle.slots.specs.Buffers.{Buffers, bytesAt}
 use Rattle.slots.specs.Forms.{startsAtHead, ownStart, roomOf, narrowedBytes, floatValueAs, floatValue}
@@ -35,23 +38,35 @@ float-room Equivalent.Nothing n l h k = absurd h
 module _ (r : Rules) (base : ℕ) (p : Placement) (b : Buffers) (h : Readable r base p b) where
   -- the value's own bytes lie in its words
   pub own-within : p .span .floating .count ≤ 0 → p .span .indirect ≡ false
-      → ownStart r (p .ty) (p .size) + p .size ≤ 8 * p .span .general .count + p .span .memory .length
+      → ownStart r (p .ty) (p .size) + p .size ≤ wordOf r * p .span .general .count + p .span .memory .length
   unfolding ownStart
-  own-within none e = go (startsAtHead r (p .ty)) refl
+  own-within none e = go (startsAtHead r (p .ty))
     where
       no : p .span .floating .count ≡ 0
       no = omega arith
 
-      go : (s : Bool) → startsAtHead r (p .ty) ≡ s → pick s 0 (roomOf r (p .size) - p .size) + p .size ≤ 8 * p .span .general .count + p .span .memory .length
-      go true q = omega (arith, h .ready .held .head q, h .ready .held .words no)
-      go false q = omega (arith, h .ready .held .small q e, h .ready .held .end q, h .ready .held .words no)
+      go : (s : Bool) → pick s 0 (roomOf r (p .size) - p .size) + p .size ≤ wordOf r * p .span .general .count + p .span .memory .length
+      go true = omega (arith, h .ready .held .room e, h .ready .held .words no)
+      go false = omega (arith, h .ready .held .room e, h .ready .held .words no)
 
-  length-words : length (wordsAt (p .span) b) ≡ 8 * p .span .general .count + p .span .memory .length
+  -- from the first word on
+  pub own-first : p .span .indirect ≡ false → ownStart r (p .ty) (p .size) < wordOf r
+  unfolding ownStart
+  own-first e = go (startsAtHead r (p .ty))
+    where
+      go : (s : Bool) → pick s 0 (roomOf r (p .size) - p .size) < wordOf r
+      go true = omega (arith, h .ready .held .word)
+      go false = omega (arith, h .ready .held .room e, h .ready .held .word)
+
+  length-words : length (wordsAt (wordOf r) (p .span) b) ≡ wordOf r * p .span .general .count + p .span .memory .length
   unfolding wordsAt bytesAt
   length-words =
-      length-append (part (8 * p .span .general .first) (8 * p .span .general .count) (b .image)) (part (p .span .memory .start) (p .span .memory .length) (b .area))
+      let k : ℕ = p .span .general .count in
+      let bs : List ℕ = part (8 * p .span .general .first) (8 * k) (b .image) in
+      let size : length bs ≡ 8 * k = length-part (8 * p .span .general .first) (8 * k) (b .image) (omega (arith, h .ready)) in
+      length-append (gather (wordOf r) k bs) (part (p .span .memory .start) (p .span .memory .length) (b .area))
       ∙ rw (
-        length-part (8 * p .span .general .first) (8 * p .span .general .count) (b .image) (omega (arith, h .ready)),
+        length-gather (wordOf r) k bs (h .ready .held .word .1) (omega arith),
         length-part (p .span .memory .start) (p .span .memory .length) (b .area) (omega (arith, h .ready)),
       )
 
@@ -82,17 +97,17 @@ value-length r base p b h = go (ltb 0 (p .span .floating .count)) refl
   where
     words : (i : Bool) → p .span .indirect ≡ i → p .span .floating .count ≤ 0
         → length
-        (pick i (bytesAt (copies (addressAt (p .span) b - base)) (p .size) b) (part (ownStart r (p .ty) (p .size)) (p .size) (wordsAt (p .span) b)))
+        (pick i (bytesAt (copies (addressAt (wordOf r) (p .span) b - base)) (p .size) b) (part (ownStart r (p .ty) (p .size)) (p .size) (wordsAt (wordOf r) (p .span) b)))
         ≡ p .size
-    words true q none = copy-length (addressAt (p .span) b - base) (p .size) b (h .inside none q .1)
+    words true q none = copy-length (addressAt (wordOf r) (p .span) b - base) (p .size) b (h .inside none q .1)
     words false q none =
-        length-part (ownStart r (p .ty) (p .size)) (p .size) (wordsAt (p .span) b) (omega (arith, own-within r base p b h none q, length-words r base p b h))
+        length-part (ownStart r (p .ty) (p .size)) (p .size) (wordsAt (wordOf r) (p .span) b) (omega (arith, own-within r base p b h none q, length-words r base p b h))
 
     go : (f : Bool) → ltb 0 (p .span .floating .count) ≡ f
         → length
         (pick f (floatValueAs r (equivalentOf (p .ty)) (floatAt (p .span) b))
-        (pick (p .span .indirect) (bytesAt (copies (addressAt (p .span) b - base)) (p .size) b)
-        (part (ownStart r (p .ty) (p .size)) (p .size) (wordsAt (p .span) b))))
+        (pick (p .span .indirect) (bytesAt (copies (addressAt (wordOf r) (p .span) b - base)) (p .size) b)
+        (part (ownStart r (p .ty) (p .size)) (p .size) (wordsAt (wordOf r) (p .span) b))))
         ≡ p .size
     go true q =
         let some : 0 < p .span .floating .count = ltb-true 0 (p .span .floating .count) q in

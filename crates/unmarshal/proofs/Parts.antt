@@ -7,7 +7,7 @@ use native.Mathlib.Nat.{sub-zero}
 use lib.ListN.{length, take, drop, length-drop}
 use lib.Seq.{take-append-le, drop-append-le, take-all, take-take}
 use Rattle.words.specs.Splice.{part}
-use Rattle.words.proofs.Splices.{length-part, part-part}
+use Rattle.words.proofs.Splices.{part-part}
 
 take-past : (n : ℕ) (a b : List ℕ) → length a ≤ n → take n (a ++ b) ≡ a ++ take (n - length a) b
 take-past n [] b h = rw (sub-zero n)
@@ -33,31 +33,23 @@ part-both a b lo n h k =
     ∙ take-past n (drop lo a) b (omega (arith, length-drop lo a))
     ∙ rw (length-drop lo a)
 
--- ---- the words: k bytes at g of the image, m bytes at s of the area
+-- ---- the words: a in registers, m bytes at s of the area
 
-module _ (image area : List ℕ) (g k s m : ℕ) (room : g + k ≤ length image) where
-  held : length (part g k image) ≡ k
-  held = length-part g k image room
+module _ (a area : List ℕ) (s m : ℕ) where
+  pub own-registers : (lo n : ℕ) → lo + n ≤ length a → part lo n a ≡ part lo n (a ++ part s m area)
+  own-registers lo n h = sym (part-first a (part s m area) lo n h)
 
-  pub own-registers : (lo n : ℕ) → lo + n ≤ k → part (g + lo) n image ≡ part lo n (part g k image ++ part s m area)
-  own-registers lo n h = sym (part-first (part g k image) (part s m area) lo n (omega (arith, held)) ∙ part-part g k lo n image h)
+  pub own-memory : (lo n : ℕ) → length a ≤ lo → lo + n ≤ length a + m → part (s + (lo - length a)) n area ≡ part lo n (a ++ part s m area)
+  own-memory lo n h t = sym (part-second a (part s m area) lo n h ∙ part-part s m (lo - length a) n area (omega arith))
 
-  pub own-memory : (lo n : ℕ) → k ≤ lo → lo + n ≤ k + m → part (s + (lo - k)) n area ≡ part lo n (part g k image ++ part s m area)
-  own-memory lo n h t =
-      sym
-      (part-second (part g k image) (part s m area) lo n (omega (arith, held))
-      ∙ rw held (part-part s m (lo - k) n area (omega arith)))
-
-  pub own-both : (lo n : ℕ) → lo ≤ k → k ≤ lo + n → lo + n ≤ k + m
-      → part (g + lo) (k - lo) image ++ part s (n - (k - lo)) area ≡ part lo n (part g k image ++ part s m area)
+  pub own-both : (lo n : ℕ) → lo ≤ length a → length a ≤ lo + n → lo + n ≤ length a + m
+      → part lo (length a - lo) a ++ part s (n - (length a - lo)) area ≡ part lo n (a ++ part s m area)
   own-both lo n h t u =
-      let rest : take (k - lo) (drop lo (part g k image)) ≡ drop lo (part g k image) =
-      take-all (k - lo) (drop lo (part g k image)) (omega (arith, length-drop lo (part g k image), held)) in
-      let first : part (g + lo) (k - lo) image ≡ drop lo (part g k image) = sym (part-part g k lo (k - lo) image (omega arith)) ∙ rest in
-      let second : take (n - (k - lo)) (part s m area) ≡ part s (n - (k - lo)) area = take-take (n - (k - lo)) m (drop s area) (omega arith) in
-      ap₂ (λ (x y : List ℕ). x ++ y) first (sym second) ∙ sym (part-both (part g k image) (part s m area) lo n (omega (arith, held)) (omega (arith, held)) ∙ rw held)
+      let first : part lo (length a - lo) a ≡ drop lo a = take-all (length a - lo) (drop lo a) (omega (arith, length-drop lo a)) in
+      let second : take (n - (length a - lo)) (part s m area) ≡ part s (n - (length a - lo)) area = take-take (n - (length a - lo)) m (drop s area) (omega arith) in
+      ap₂ (λ (x y : List ℕ). x ++ y) first (sym second) ∙ sym (part-both a (part s m area) lo n h t)
 
--- ---- one word
+-- ---- one doubleword
 
 pub word-registers : (image area : List ℕ) (g s k m : ℕ) → 8 * k + m ≡ 8 → 0 < k → part g 8 image ≡ part g (8 * k) image ++ part s m area
 word-registers image area g s k m e h =

@@ -11,7 +11,7 @@ use Rattle.types.specs.Sizes.{equivalentOf}
 use Rattle.signature.specs.declared.SignatureRead.{SignatureRead}
 use Rattle.places.specs.declared.Rules.{Rules}
 use Rattle.places.specs.declared.Span.{Span}
-use Rattle.places.specs.Step.{rulesOf}
+use Rattle.places.specs.Step.{rulesOf, wordOf}
 use Rattle.slots.specs.declared.Answer.{Answer}
 use Rattle.slots.specs.Buffers.{Buffers}
 use Rattle.slots.specs.Placements.{Placement, floatAt, addressAt}
@@ -20,10 +20,10 @@ use Rattle.slots.specs.Limits.{Held, All, sizesOf}
 use Rattle.plan.specs.Limits.{Plannable}
 use Rattle.arguments.specs.Table.{argumentsFrom}
 
--- a span's words lie in the image and the area
-abbrev pub WordsFit : Span → List ℕ → List ℕ → Type 0
-WordsFit s image area =
-    (s .general .first + s .general .count ≤ 32) × (length image ≡ 512) × (s .memory .start + s .memory .length ≤ length area)
+-- a span's words of w bytes lie in the image and the area
+abbrev pub WordsFit : ℕ → Span → List ℕ → List ℕ → Type 0
+WordsFit w s image area =
+    (1 ≤ w) × (w ≤ 8) × (s .general .first + s .general .count ≤ 32) × (length image ≡ 512) × (s .memory .start + s .memory .length ≤ length area)
 
 -- room for a float
 abbrev pub FloatRoom : Equivalent → ℕ → Type 0
@@ -46,7 +46,7 @@ pub record Readable (r : Rules) (base : ℕ) (p : Placement) (b : Buffers) : Typ
   pub exact : 0 < p .span .floating .count → floatAnswer r (equivalentOf (p .ty)) (valueOf (floatAt (p .span) b)) ≡ Answer.Done
   -- 13 is not given
   pub inside : p .span .floating .count ≤ 0 → p .span .indirect ≡ true
-      → (base ≤ addressAt (p .span) b) × (addressAt (p .span) b - base + p .size ≤ length (b .copies))
+      → (base ≤ addressAt (wordOf r) (p .span) b) × (addressAt (wordOf r) (p .span) b - base + p .size ≤ length (b .copies))
 
 -- all arguments of a signature that was read, into values of v bytes
 pub record AllReadable (g : SignatureRead) (base v : ℕ) (b : Buffers) : Type 0 where

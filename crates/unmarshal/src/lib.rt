@@ -7,7 +7,7 @@ use types::Equivalent;
 use types::ValueType;
 ghost use mathlib.Core.Path.{_≡_};
 ghost use mathlib.Core.List.{[]};
-ghost use Prim.Native.Nat.{_+_, _*_, _≤_};
+ghost use Prim.Native.Nat.{_+_, _*_, _≤_, _<_};
 ghost use lib.ListN.{length};
 ghost use Rattle.words.specs.Splice.{overlay, part};
 ghost use Rattle.ieee.specs.Narrowing.{narrow as narrowOf};
@@ -18,10 +18,10 @@ ghost use Rattle.slots.specs.Placements.{placement, wordsAt, addressAt, valueAt
 ghost use Rattle.arguments.specs.Table.{argumentsFrom};
 ghost use Rattle.unmarshal.specs.Readable.{WordsFit, FloatRoom, Readable, AllReadable};
 
-// The 64 bits of a span's only word.
+// The address in a span's only word, a doubleword: no convention with smaller words passes copies.
 pub fn word_at(image: &[u8], area: &[u8], s: Span) -> u64
-    requires { ⌜ WordsFit s (now image) (now area) × (8 * s .general .count + s .memory .length ≡ 8) ⌝ }
-    ensures { λ x. ⌜ x ≡ addressAt s (buffers (now (image .entry)) (now (area .entry)) []) ⌝ }
+    requires { ⌜ WordsFit 8 s (now image) (now area) × (8 * s .general .count + s .memory .length ≡ 8) ⌝ }
+    ensures { λ x. ⌜ x ≡ addressAt 8 s (buffers (now (image .entry)) (now (area .entry)) []) ⌝ }
 {
     let general = s.general;
     let memory = s.memory;
@@ -31,36 +31,28 @@ pub fn word_at(image: &[u8], area: &[u8], s: Span) -> u64
     words::load(area, memory.start as usize, 8)
 }
 
-// The n bytes of src from `at` on, at the head of out.
-fn take_part(out: &mut [u8], src: &[u8], at: usize, n: usize)
-    requires { ⌜ (at + n ≤ length (now src)) × (n ≤ length (now out)) ⌝ }
-    ensures { λ _. ⌜ now (out .exit) ≡ overlay (now (out .entry)) (part at n (now (src .entry))) ⌝ }
-{
-    let end = at + n;
-    words::put(out, &src[at..end]);
-}
-
-// The bytes of a span's words from lo on, n of them, at the head of out.
-fn take_words(out: &mut [u8], image: &[u8], area: &[u8], s: Span, lo: usize, n: usize)
-    requires { ⌜ WordsFit s (now image) (now area) × (lo + n ≤ 8 * s .general .count + s .memory .length) × (n ≤ length (now out)) ⌝ }
-    ensures { λ _. ⌜ now (out .exit) ≡ overlay (now (out .entry)) (part lo n (wordsAt s (buffers (now (image .entry)) (now (area .entry)) []))) ⌝ }
+// The bytes of a span's words from lo on, which is in the first word, n of them, at the head of out.
+fn take_words(out: &mut [u8], image: &[u8], area: &[u8], word: usize, s: Span, lo: usize, n: usize)
+    requires { ⌜ WordsFit word s (now image) (now area) × (lo < word) × (lo + n ≤ word * s .general .count + s .memory .length) × (n ≤ length (now out)) ⌝ }
+    ensures { λ _. ⌜ now (out .exit) ≡ overlay (now (out .entry)) (part lo n (wordsAt word s (buffers (now (image .entry)) (now (area .entry)) []))) ⌝ }
 {
     let general = s.general;
     let memory = s.memory;
-    let at = 8 * (general.first as usize);
+    let register = general.first as usize;
+    let count = general.count as usize;
     let start = memory.start as usize;
-    let held = 8 * (general.count as usize);
+    let held = word * count;
     if lo + n <= held {
-        take_part(out, image, at + lo, n);
+        registers::take_registers(out, image, word, register, count, lo, n);
         return;
     }
     if held <= lo {
-        take_part(out, area, start + (lo - held), n);
+        registers::take_part(out, area, start + (lo - held), n);
         return;
     }
     let first = held - lo;
-    take_part(out, image, at + lo, first);
-    take_part(&mut out[first..], area, start, n - first);
+    registers::take_registers(out, image, word, register, count, lo, first);
+    registers::take_part(&mut out[first..], area, start, n - first);
 }
 
 // The value of a PPC64 single in an FPR at the head of out.
@@ -83,17 +75,17 @@ fn take_float(out: &mut [u8], image: &[u8], r: Rules, e: Equivalent, at: usize)
 {
     match e {
         Equivalent::Nothing => {
-            take_part(out, image, at, 8);
+            registers::take_part(out, image, at, 8);
         }
         Equivalent::Double => {
-            take_part(out, image, at, 8);
+            registers::take_part(out, image, at, 8);
         }
         Equivalent::Single => match r {
             Rules::Power(_) => {
                 take_narrowed(out, words::load(image, at, 8));
             }
             Rules::Z => {
-                take_part(out, image, at, 4);
+                registers::take_part(out, image, at, 4);
             }
         },
     }
@@ -123,10 +115,22 @@ fn take_argument(
     }
     if indirect {
         let from = (word_at(image, area, s) - base) as usize;
-        take_part(out, copies, from, n);
+        registers::take_part(out, copies, from, n);
         return;
     }
-    take_words(out, image, area, s, slots::own_start(r, t, n), n);
+    let word = places::word_of(r);
+    let general = s.general;
+    let memory = s.memory;
+    let room = word * (general.count as usize) + memory.length as usize;
+    take_words(
+        out,
+        image,
+        area,
+        word,
+        s,
+        slots::own_start(r, t, n, room),
+        n,
+    );
 }
 
 // The values of all arguments of a signature that was read, one after the other.

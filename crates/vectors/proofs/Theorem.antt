@@ -4,7 +4,7 @@ use Rattle.conventions.specs.Numbers.{conventionCode}
 use Rattle.words.specs.Basics.{roundUp}
 use Rattle.types.specs.Structs.{withField, shapeOf}
 use Rattle.types.specs.Trees.{typeOf}
-use Rattle.items.specs.Read.{bodyAt, integerCode, floatCode, integerAt, floatAt, sequence, sizedAt, contentsAt, itemBy, structAt, itemAt}
+use Rattle.items.specs.Read.{bodyAt, integerCode, floatCode, integerAt, floatOf, floatAt, sequence, sizedAt, contentsAt, itemBy, structAt, itemAt}
 use Rattle.signature.specs.Read.{conventionAt, resultIn, resultAt, argumentsIn, argumentsAt, afterResult, afterConvention, signatureOf}
 use Rattle.places.specs.Power.{words, fprs, shareOf, powerShare}
 use Rattle.places.specs.ZSeries.{zClass, zSpanOf, zNextOf}
@@ -19,8 +19,8 @@ use Rattle.ieee.specs.Format.{join, split}
 use Rattle.ieee.specs.Widening.{widenFields, widen}
 use Rattle.ieee.specs.Narrowing.{candidateFields, candidate, narrow}
 use Rattle.rules.specs.Frames.{below, fullSize, frameSize}
-use Rattle.vectors.specs.Vectors.{AllHold, vectors, figure-3-18, figure-3-18-text, table-10, table-10-text, empty-text}
+use Rattle.vectors.specs.Vectors.{AllHold, vectors, figure-3-18, figure-3-18-text, table-10, table-10-text, moo-func, moo-func-text, empty-text}
 
 pub vectors-hold : AllHold vectors
-unfolding vectors figure-3-18 figure-3-18-text table-10 table-10-text empty-text roundUp withField shapeOf typeOf bodyAt integerCode floatCode integerAt floatAt sequence sizedAt contentsAt itemBy structAt itemAt conventionCode conventionAt resultIn resultAt argumentsIn argumentsAt afterResult afterConvention signatureOf words fprs shareOf powerShare zClass zSpanOf zNextOf spanOf nextOf fresh startOf areaOf hiddenFor returning resultOf upFrom registersOf spansOf lastOf tableOf planIn typesOf planAnswer digitsOf decimal placesText lineText linesText headText resultText refusalText acceptedText planText listingOf leadingZeros join split widenFields widen candidateFields candidate narrow below fullSize frameSize
-vectors-hold = (refl, (refl, (refl, (refl, (refl, (refl, (refl, (refl, (refl, (refl, (refl, (refl, tt))))))))))))
+unfolding vectors figure-3-18 figure-3-18-text table-10 table-10-text moo-func moo-func-text empty-text roundUp withField shapeOf typeOf bodyAt integerCode floatCode integerAt floatOf floatAt sequence sizedAt contentsAt itemBy structAt itemAt conventionCode conventionAt resultIn resultAt argumentsIn argumentsAt afterResult afterConvention signatureOf words fprs shareOf powerShare zClass zSpanOf zNextOf spanOf nextOf fresh startOf areaOf hiddenFor returning resultOf upFrom registersOf spansOf lastOf tableOf planIn typesOf planAnswer digitsOf decimal placesText lineText linesText headText resultText refusalText acceptedText planText listingOf leadingZeros join split widenFields widen candidateFields candidate narrow below fullSize frameSize
+vectors-hold = (refl, (refl, (refl, (refl, (refl, (refl, (refl, (refl, (refl, (refl, (refl, (refl, (refl, tt)))))))))))))

@@ -1,4 +1,5 @@
--- The cases that document 01 wants proved ("Sums to check against", the lines marked P), in one table, which is the one place of them.
+-- The cases that document 01 wants proved ("Sums to check against", the lines marked P) and, for AIX, the call that document 004 lays out whole, in one
+-- table, which is the one place of them.
 -- Assumes nothing.
 use Prim.Native.Nat.{ℕ}
 use mathlib.Core.Path.{_≡_}
@@ -149,6 +150,62 @@ table-10-text =
     ∷ 114 ∷ 101 ∷ 115 ∷ 117 ∷ 108 ∷ 116 ∷ 32 ∷ 114 ∷ 50 ∷ 10
     ∷ []
 
+-- 004's mooFunc(i1, f1, d1, s1, d2, c1, s2, f2, i2), on AIX
+unfoldable pub moo-func : List ℕ
+moo-func =
+    -- the convention
+    0x01 ∷ 0 ∷ 1 ∷ 3
+    -- no result
+    ∷ 0x02 ∷ 0 ∷ 0
+    -- the arguments, 36 bytes
+    ∷ 0x03 ∷ 0 ∷ 36
+    -- SInt32 i1
+    ∷ 0x10 ∷ 0 ∷ 1 ∷ 4
+    -- float f1
+    ∷ 0x11 ∷ 0 ∷ 1 ∷ 0
+    -- double d1
+    ∷ 0x11 ∷ 0 ∷ 1 ∷ 1
+    -- SInt16 s1
+    ∷ 0x10 ∷ 0 ∷ 1 ∷ 2
+    -- double d2
+    ∷ 0x11 ∷ 0 ∷ 1 ∷ 1
+    -- UInt8 c1
+    ∷ 0x10 ∷ 0 ∷ 1 ∷ 1
+    -- UInt16 s2
+    ∷ 0x10 ∷ 0 ∷ 1 ∷ 3
+    -- float f2
+    ∷ 0x11 ∷ 0 ∷ 1 ∷ 0
+    -- SInt32 i2
+    ∷ 0x10 ∷ 0 ∷ 1 ∷ 4
+    ∷ []
+
+-- 004, figures 4 and 5: "GPR4 to be skipped", "GPR5 and GPR6 are unused", "GPR8 and GPR9 masked out"
+unfoldable pub moo-func-text : List ℕ
+moo-func-text =
+    -- AIX args 9 area 44
+    65 ∷ 73 ∷ 88 ∷ 32 ∷ 97 ∷ 114 ∷ 103 ∷ 115 ∷ 32 ∷ 57 ∷ 32 ∷ 97 ∷ 114 ∷ 101 ∷ 97 ∷ 32 ∷ 52 ∷ 52 ∷ 10
+    -- 0 r3 @0
+    ∷ 48 ∷ 32 ∷ 114 ∷ 51 ∷ 32 ∷ 64 ∷ 48 ∷ 10
+    -- 1 f1 @4
+    ∷ 49 ∷ 32 ∷ 102 ∷ 49 ∷ 32 ∷ 64 ∷ 52 ∷ 10
+    -- 2 f2 @8
+    ∷ 50 ∷ 32 ∷ 102 ∷ 50 ∷ 32 ∷ 64 ∷ 56 ∷ 10
+    -- 3 r7 @16
+    ∷ 51 ∷ 32 ∷ 114 ∷ 55 ∷ 32 ∷ 64 ∷ 49 ∷ 54 ∷ 10
+    -- 4 f3 @20
+    ∷ 52 ∷ 32 ∷ 102 ∷ 51 ∷ 32 ∷ 64 ∷ 50 ∷ 48 ∷ 10
+    -- 5 r10 @28
+    ∷ 53 ∷ 32 ∷ 114 ∷ 49 ∷ 48 ∷ 32 ∷ 64 ∷ 50 ∷ 56 ∷ 10
+    -- 6 mem @32
+    ∷ 54 ∷ 32 ∷ 109 ∷ 101 ∷ 109 ∷ 32 ∷ 64 ∷ 51 ∷ 50 ∷ 10
+    -- 7 f4 @36
+    ∷ 55 ∷ 32 ∷ 102 ∷ 52 ∷ 32 ∷ 64 ∷ 51 ∷ 54 ∷ 10
+    -- 8 mem @40
+    ∷ 56 ∷ 32 ∷ 109 ∷ 101 ∷ 109 ∷ 32 ∷ 64 ∷ 52 ∷ 48 ∷ 10
+    -- result none
+    ∷ 114 ∷ 101 ∷ 115 ∷ 117 ∷ 108 ∷ 116 ∷ 32 ∷ 110 ∷ 111 ∷ 110 ∷ 101 ∷ 10
+    ∷ []
+
 -- "A refusal prints `refused 2 at 0 after 0`", as for empty input
 unfoldable pub empty-text : List ℕ
 empty-text =
@@ -160,6 +217,7 @@ unfoldable pub vectors : List Vector
 vectors =
     printed figure-3-18 figure-3-18-text
     ∷ printed table-10 table-10-text
+    ∷ printed moo-func moo-func-text
     ∷ printed [] empty-text
     -- "singles 3F800000, 00000001, 007FFFFF, 7F800001 widen to .."
     ∷ widened 0x3f80_0000 0x3ff0_0000_0000_0000

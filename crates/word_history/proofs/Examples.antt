@@ -1,17 +1,17 @@
 -- A list of exported calls of each convention worked on numbers, so that the theorem is seen to speak of something: a start on 640 bytes, a frame entered, a saved register
 -- written, and leaves.
 -- Assumes nothing.
-use Prim.Native.Nat.{ℕ}
+use Prim.Native.Nat.{ℕ, _-_, _^_}
 use mathlib.Core.Path.{_≡_, refl}
 use mathlib.Core.List.{List, [], _∷_}
-use lib.ListN.{replicate}
+use lib.ListN.{replicate, set}
 use Rattle.words.specs.Basics.{roundUp}
 use Rattle.words.specs.Splice.{overlay, splice}
 use Rattle.words.specs.Numbers.{bytesOf, valueOf}
 use Rattle.saves.specs.Saves.{store, load, saveRun, loadRun}
 use Rattle.conventions.specs.declared.Convention.{Convention}
 use Rattle.conventions.specs.Numbers.{conventionCode}
-use Rattle.conventions.specs.declared.Convention.the-variants.{Ppc64, Z}
+use Rattle.conventions.specs.declared.Convention.the-variants.{Ppc64, Z, Aix}
 use Rattle.rules.specs.Frames.{withPointer, allWithin, lowered, okRegisters, cleared, okLeaf, okRequest, below, fullSize, frameSize, chainWidth, gprAt, savesBy, linkAt, mergeFields, restoredLr, restoredCr, restored, bankOf, writableRegister, withRegister}
 use Rattle.machine.specs.declared.Answer.the-variants.{Accepted}
 use Rattle.machine.specs.Answers.{answerNumber, judge}
@@ -56,3 +56,31 @@ pub worked : (startOutcome Ppc64 4096 640 (registersIn (replicate 66 7) 0) .answ
     × (run calls-leaf (start Ppc64) .words ≡ start Ppc64 .words)
 unfolding conventionCode overlay splice bytesOf valueOf store load saveRun loadRun withPointer allWithin lowered okRegisters cleared okLeaf okRequest below roundUp fullSize frameSize chainWidth gprAt savesBy linkAt mergeFields restoredLr restoredCr restored bankOf writableRegister withRegister judge topFrame okFrames sizes okMemory okState startAnswer started startedMemory enterAnswer entered enteredMemory writeRegisterAnswer writtenRegister leaveAnswer left startOutcome startMemory enterOutcome enterMemory writeRegisterOutcome leaveOutcome isMachine depthIn registersIn frameIn framesIn stateIn registerWords frameWords framesWords stateWords changed startWords enterWords writeRegisterWords leaveWords
 worked = (refl, refl, refl, refl, refl, refl, refl, refl)
+
+-- on AIX, with 2^32 in each word of the registers: a frame that saves r13 and up
+abbrev calls-aix : List Call
+calls-aix = calls (13 ∷ 30 ∷ 1 ∷ 20 ∷ 64 ∷ 0 ∷ []) 13
+
+abbrev wide : List ℕ
+wide = replicate 66 (2 ^ 32)
+
+abbrev start-aix : Lent
+start-aix = fresh Aix 4096 (replicate 640 1) wide
+
+-- what a leave answers where word i is 2^32
+abbrev leaveWith : ℕ → Convention → ℕ
+leaveWith i c = answerNumber (answer leave (record { words = set (start c .words) i (2 ^ 32); memory = start c .memory }))
+
+-- A start is accepted up to 2^32 - 1, with 288 bytes and no fewer. After the calls all the words are as the start left them. A state with 2^32 in the first or last general
+-- register or in LR is refused by 23, one with it in a floating register not; on PPC64 none is.
+pub worked-aix : (startOutcome Aix (2 ^ 32 - 656) 640 (registersIn wide 0) .answer ≡ Accepted)
+    × (answerNumber (startOutcome Aix (2 ^ 32 - 640) 640 (registersIn wide 0) .answer) ≡ 16)
+    × (startOutcome Aix 4096 288 (registersIn wide 0) .answer ≡ Accepted)
+    × (answerNumber (startOutcome Aix 4096 272 (registersIn wide 0) .answer) ≡ 16)
+    × (numbers calls-aix start-aix ≡ 22 ∷ 0 ∷ 0 ∷ 0 ∷ 22 ∷ [])
+    × (run calls-aix start-aix .words ≡ start-aix .words)
+    × (numbers calls-leaf start-aix ≡ 22 ∷ 0 ∷ 0 ∷ 0 ∷ 22 ∷ [])
+    × (run calls-leaf start-aix .words ≡ start-aix .words)
+    × ((leaveWith 4 Aix ≡ 23) × (leaveWith 35 Aix ≡ 23) × (leaveWith 68 Aix ≡ 23) × (leaveWith 36 Aix ≡ 22) × (leaveWith 4 Ppc64 ≡ 22) × (leaveWith 68 Ppc64 ≡ 22))
+unfolding conventionCode overlay splice bytesOf valueOf store load saveRun loadRun withPointer allWithin lowered okRegisters cleared okLeaf okRequest below roundUp fullSize frameSize chainWidth gprAt savesBy linkAt mergeFields restoredLr restoredCr restored bankOf writableRegister withRegister judge topFrame okFrames sizes okMemory okState startAnswer started startedMemory enterAnswer entered enteredMemory writeRegisterAnswer writtenRegister leaveAnswer left startOutcome startMemory enterOutcome enterMemory writeRegisterOutcome leaveOutcome isMachine depthIn registersIn frameIn framesIn stateIn registerWords frameWords framesWords stateWords changed startWords enterWords writeRegisterWords leaveWords
+worked-aix = (refl, refl, refl, refl, refl, refl, refl, refl, (refl, refl, refl, refl, refl, refl))

@@ -1,4 +1,4 @@
-//! A call planned, filled and read, for both machines. The function that is called is
+//! A call planned, filled and read, for two machines. The function that is called is
 //!
 //! ```c
 //! long area(int rows, float scale, struct { double x, y; } corner, short border);

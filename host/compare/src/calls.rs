@@ -6,7 +6,7 @@ use crate::generate;
 use crate::plans;
 use crate::random::Random;
 use reference::float_bits::{narrow, widen};
-use reference::{ArgumentPlan, Convention, Float, Place, Plan, Signature, Type};
+use reference::{ArgumentPlan, Convention, Float, Place, Plan, ResultPlan, Signature, Type};
 use std::collections::BTreeSet;
 use std::ops::Range;
 
@@ -40,7 +40,7 @@ pub struct Call {
 /// What is wrong with a call, in the order in which it is tested.
 #[derive(Clone, Copy, Debug, PartialEq, Eq, PartialOrd, Ord)]
 pub enum Fault {
-    /// Refusals 1 to 9.
+    /// Refusals 1 to 9 and 25.
     Signature,
     /// Home or view of Z.
     ForZ,
@@ -54,6 +54,8 @@ pub enum Fault {
     BaseUnaligned,
     /// Copies that end past the last address.
     BaseTooHigh,
+    /// A hidden address on AIX that is needed and has more than 32 bits.
+    HiddenTooHigh,
     /// An address that points outside of the copies.
     OutsideCopies,
     NotWidened,
@@ -68,7 +70,10 @@ impl Fault {
             Fault::ImageSize => 15,
             Fault::ValuesSize => 10,
             Fault::AreaTooShort => 11,
-            Fault::CopiesTooShort | Fault::BaseUnaligned | Fault::BaseTooHigh => 12,
+            Fault::CopiesTooShort
+            | Fault::BaseUnaligned
+            | Fault::BaseTooHigh
+            | Fault::HiddenTooHigh => 12,
             Fault::OutsideCopies => 13,
             Fault::NotWidened => 14,
         })
@@ -94,6 +99,7 @@ impl Operation {
                 Fault::CopiesTooShort,
                 Fault::BaseUnaligned,
                 Fault::BaseTooHigh,
+                Fault::HiddenTooHigh,
             ],
             Operation::Read => &[
                 Fault::Signature,
@@ -156,6 +162,7 @@ pub fn case(random: &mut Random, operation: Operation) -> Case {
         Operation::Fill => {
             note_singles(&mut case);
             make_copies_to_fill(random, &mut case);
+            make_hidden(random, &mut case);
         }
         Operation::Read => {
             make_copies_to_read(random, &mut case);
@@ -180,13 +187,11 @@ fn signature_for(
 ) -> (Signature, Plan) {
     let mut tries = 0;
     loop {
-        let mut signature = match random.below(3) {
-            0 => generate::valid(random),
-            _ => plans::interesting(random),
+        let convention = random.pick(conventions_for(operation, faults));
+        let signature = match random.below(3) {
+            0 => generate::valid_for(random, convention),
+            _ => plans::interesting_for(random, convention),
         };
-        if let Some(convention) = convention_for(operation, faults) {
-            signature.convention = convention;
-        }
         let plan = reference::plan(&signature);
         let cannot = |fault: &Fault| !can_have(*fault, &signature, &plan);
         tries += 1;
@@ -201,8 +206,8 @@ fn signature_for(
     }
 }
 
-/// The convention without which the operation cannot have the faults, or must have others.
-fn convention_for(operation: Operation, faults: &BTreeSet<Fault>) -> Option<Convention> {
+/// The conventions without which the operation cannot have the faults, or must have others.
+fn conventions_for(operation: Operation, faults: &BTreeSet<Fault>) -> &'static [Convention] {
     let of_copies = [
         Fault::CopiesTooShort,
         Fault::BaseUnaligned,
@@ -210,16 +215,21 @@ fn convention_for(operation: Operation, faults: &BTreeSet<Fault>) -> Option<Conv
         Fault::OutsideCopies,
     ];
     if faults.contains(&Fault::ForZ) {
-        return Some(Convention::Z);
+        return &[Convention::Z];
     }
     if matches!(operation, Operation::Home | Operation::View) {
-        return Some(Convention::Ppc64);
+        return &[Convention::Ppc64, Convention::Aix];
     }
     if faults.contains(&Fault::NotWidened) {
-        return Some(Convention::Ppc64);
+        return &[Convention::Ppc64, Convention::Aix];
     }
-    let copies = of_copies.iter().any(|fault| faults.contains(fault));
-    copies.then_some(Convention::Z)
+    if of_copies.iter().any(|fault| faults.contains(fault)) {
+        return &[Convention::Z];
+    }
+    match faults.contains(&Fault::HiddenTooHigh) {
+        true => &[Convention::Aix],
+        false => &Convention::ALL,
+    }
 }
 
 /// Whether a call of this signature can have this fault.
@@ -231,10 +241,15 @@ fn can_have(fault: Fault, signature: &Signature, plan: &Plan) -> bool {
         Fault::CopiesTooShort | Fault::BaseUnaligned | Fault::OutsideCopies => plan.copies > 0,
         // 8 below 2^64 is the highest multiple of 8
         Fault::BaseTooHigh => plan.copies >= 8,
+        Fault::HiddenTooHigh => signature.convention == Convention::Aix && is_hidden(&plan.result),
         Fault::NotWidened => {
-            signature.convention == Convention::Ppc64 && !tested_slots(signature, plan).is_empty()
+            signature.convention != Convention::Z && !tested_slots(signature, plan).is_empty()
         }
     }
+}
+
+fn is_hidden(result: &ResultPlan) -> bool {
+    matches!(result, ResultPlan::Hidden(_))
 }
 
 /// Bytes of no pattern at all.
@@ -251,14 +266,15 @@ pub fn bytes(random: &mut Random, length: usize) -> Vec<u8> {
 pub fn values(random: &mut Random, signature: &Signature) -> Vec<u8> {
     let mut values = Vec::new();
     for argument in &signature.arguments {
+        let size = argument.size(signature.convention);
         let value = match argument {
             Type::Float(Float::Single) => single(random).to_be_bytes().to_vec(),
             Type::Integer(_) if random.once_in(4) => {
-                let mut value = vec![random.pick(&[0x00, 0xff]); argument.size()];
+                let mut value = vec![random.pick(&[0x00, 0xff]); size];
                 value[0] = random.pick(&[0x00, 0x7f, 0x80, 0xff]);
                 value
             }
-            _ => bytes(random, argument.size()),
+            _ => bytes(random, size),
         };
         values.extend(value);
     }
@@ -346,11 +362,46 @@ fn make_base_to_fill(random: &mut Random, case: &mut Case) {
     case.call.base = base;
 }
 
+/// The hidden address: on AIX, where it is needed, of 32 bits.
+fn make_hidden(random: &mut Random, case: &mut Case) {
+    if case.signature.convention != Convention::Aix {
+        return;
+    }
+    if !is_hidden(&case.plan.result) {
+        if case.call.hidden > u64::from(u32::MAX) {
+            let edge = "a hidden address over 32 bits that is not needed";
+            case.edges.insert((None, edge));
+        }
+        return;
+    }
+    let (hidden, edge) = match case.faults.contains(&Fault::HiddenTooHigh) {
+        true => match random.below(3) {
+            0 => {
+                let edge = "the lowest hidden address that is too high";
+                (1 << 32, Some((Some(Fault::HiddenTooHigh), edge)))
+            }
+            1 => (random.number() | 1 << 63, None),
+            _ => (1 << 32 | random.number(), None),
+        },
+        false => match random.below(2) {
+            0 => {
+                let edge = "the highest hidden address";
+                (u64::from(u32::MAX), Some((None, edge)))
+            }
+            _ => (random.number() >> 32, None),
+        },
+    };
+    case.call.hidden = hidden;
+    case.edges.extend(edge);
+}
+
 /// A copy buffer and a base for a call that is read: of any length and at any address.
 fn make_copies_to_read(random: &mut Random, case: &mut Case) {
     let arguments = case.signature.arguments.iter().zip(&case.plan.arguments);
     let by_reference = arguments.filter(|(_, argument)| argument.by_reference());
-    let largest = by_reference.map(|(of, _)| of.size()).max().unwrap_or(0);
+    let convention = case.signature.convention;
+    let sizes = by_reference.map(|(of, _)| of.size(convention));
+    let largest = sizes.max().unwrap_or(0);
     let length = match random.below(4) {
         0 if case.faults.contains(&Fault::OutsideCopies) => random.below(largest),
         0 => largest,
@@ -369,19 +420,19 @@ fn make_copies_to_read(random: &mut Random, case: &mut Case) {
 }
 
 /// The slots whose content is tested, with the sizes of their arguments: the addresses, or the
-/// floating registers with singles on PPC64.
+/// floating registers with singles on PPC64 and AIX.
 fn tested_slots(signature: &Signature, plan: &Plan) -> Vec<(Place, usize)> {
     let arguments = signature.arguments.iter().zip(&plan.arguments);
     let tested = arguments
         .filter(|(of, argument)| argument.by_reference() || is_widened(signature, of, argument));
     tested
-        .map(|(of, argument)| (argument.places[0], of.size()))
+        .map(|(of, argument)| (argument.places[0], of.size(signature.convention)))
         .collect()
 }
 
-/// Whether the argument is a single in a floating register of PPC64.
+/// Whether the argument is a single in a floating register of PPC64 or AIX.
 fn is_widened(signature: &Signature, of: &Type, argument: &ArgumentPlan) -> bool {
-    signature.convention == Convention::Ppc64
+    signature.convention != Convention::Z
         && *of == Type::Float(Float::Single)
         && matches!(argument.places[0], Place::Floating(_))
 }
@@ -397,10 +448,12 @@ fn make_slots_to_read(random: &mut Random, case: &mut Case) {
     for (number, &(place, size)) in tested.iter().enumerate() {
         let faulty = number == chosen || everywhere;
         let bits = match convention {
-            Convention::Ppc64 if faulty && case.faults.contains(&Fault::NotWidened) => {
+            Convention::Ppc64 | Convention::Aix
+                if faulty && case.faults.contains(&Fault::NotWidened) =>
+            {
                 not_widened(random)
             }
-            Convention::Ppc64 => {
+            Convention::Ppc64 | Convention::Aix => {
                 let single = single(random);
                 note_single(case, single);
                 widen(single)
@@ -419,7 +472,7 @@ fn make_slots_to_read(random: &mut Random, case: &mut Case) {
     }
 }
 
-/// Notes the singles that are to be filled into floating registers of PPC64.
+/// Notes the singles that are to be filled into floating registers of PPC64 and AIX.
 fn note_singles(case: &mut Case) {
     let mut start = 0;
     let mut singles = Vec::new();
@@ -428,7 +481,7 @@ fn note_singles(case: &mut Case) {
             let bytes = case.call.values[start..start + 4].try_into();
             singles.push(u32::from_be_bytes(bytes.expect("four bytes")));
         }
-        start += of.size();
+        start += of.size(case.signature.convention);
     }
     for single in singles {
         note_single(case, single);
@@ -494,14 +547,14 @@ fn outside(random: &mut Random, case: &mut Case, size: usize) -> u64 {
     }
 }
 
-/// The bytes of a place.
+/// The 8 bytes of a place whose content is tested: no place of AIX in memory is.
 fn slot(call: &mut Call, convention: Convention, place: Place) -> &mut [u8] {
     let part = |start: usize| -> Range<usize> { start..start + 8 };
     match place {
         Place::General(number) => &mut call.image[part(8 * number)],
         Place::Floating(number) => &mut call.image[part(FLOATING + 8 * number)],
         Place::Memory(offset) => match convention {
-            Convention::Ppc64 => &mut call.area[part(offset)],
+            Convention::Ppc64 | Convention::Aix => &mut call.area[part(offset)],
             Convention::Z => &mut call.area[part(offset - Z_STACK)],
         },
     }
@@ -600,13 +653,21 @@ fn resize(random: &mut Random, buffer: &mut Vec<u8>, lengths: &[usize]) {
 /// Gives the call a signature that is refused: mostly its own with some damage.
 fn break_signature(random: &mut Random, call: &mut Call) {
     loop {
-        let broken = match random.once_in(4) {
-            true => generate::faulty(random),
-            false => generate::damaged(random, &call.signature),
+        let broken = match random.below(8) {
+            0 | 1 => generate::faulty(random),
+            2 => of_another_convention(random, &call.signature),
+            _ => generate::damaged(random, &call.signature),
         };
         if reference::read(&broken).is_err() {
             call.signature = broken;
             return;
         }
     }
+}
+
+/// The same signature with another convention's code: AIX refuses what the others take.
+fn of_another_convention(random: &mut Random, signature: &[u8]) -> Vec<u8> {
+    let mut other = signature.to_vec();
+    other[3] = random.pick(&Convention::ALL).code();
+    other
 }

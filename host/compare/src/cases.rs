@@ -46,6 +46,7 @@ pub enum Operation {
     Home = 14,
     View = 15,
     Plan = 16,
+    StartAix = 17,
     /// No call: the state and the memory that the next calls of the frame machine find.
     SetMachine = 100,
     /// No call: changes of that state and that memory.
@@ -54,7 +55,7 @@ pub enum Operation {
 
 impl Operation {
     /// Those that call the library.
-    pub const CALLS: [Operation; 16] = [
+    pub const CALLS: [Operation; 17] = [
         Operation::ReadSignature,
         Operation::Measure,
         Operation::Listing,
@@ -71,6 +72,7 @@ impl Operation {
         Operation::Home,
         Operation::View,
         Operation::Plan,
+        Operation::StartAix,
     ];
 
     fn is_call(self) -> bool {

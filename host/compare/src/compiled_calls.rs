@@ -6,6 +6,8 @@ use crate::calls::Call;
 const COMPILED: &str = include_str!("../data/compiled-calls.txt");
 const DESCRIBED: &str = include_str!("../data/described-calls.txt");
 const IMAGE: usize = 512;
+/// The image's bytes with the general registers.
+const GENERAL: usize = 256;
 
 /// A call before it is filled and after.
 pub struct CompiledCall {
@@ -34,7 +36,7 @@ fn calls_of(file: &str, text: &str) -> Vec<CompiledCall> {
         }
         let place = format!("{file}, line {}", number + 1);
         if let Some(text) = line.strip_prefix("call ") {
-            calls.push(started(format!("{place}: {text}")));
+            calls.push(started(&place, text));
         } else if calls.last_mut().and_then(|call| take(call, line)).is_none() {
             panic!("{place}: {line:?} is not what the head explains");
         }
@@ -42,12 +44,18 @@ fn calls_of(file: &str, text: &str) -> Vec<CompiledCall> {
     calls
 }
 
-/// A call of which only the name is known.
-fn started(name: String) -> CompiledCall {
-    let call = Call {
+/// A call of which only its text is known, which begins with the convention.
+fn started(place: &str, text: &str) -> CompiledCall {
+    let mut call = Call {
         image: pattern(IMAGE, 7, 3),
         ..Call::default()
     };
+    if text.starts_with("AIX ") {
+        for register in call.image[..GENERAL].chunks_mut(8) {
+            register[..4].fill(0);
+        }
+    }
+    let name = format!("{place}: {text}");
     CompiledCall {
         name,
         before: call.clone(),

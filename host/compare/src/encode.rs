@@ -25,13 +25,6 @@ pub const INTEGERS: [Integer; 9] = [
 /// The float types, each at the index of its code.
 pub const FLOATS: [Float; 3] = [Float::Single, Float::Double, Float::LongDouble];
 
-pub fn convention_code(convention: Convention) -> u8 {
-    match convention {
-        Convention::Ppc64 => 1,
-        Convention::Z => 2,
-    }
-}
-
 pub fn integer_code(integer: Integer) -> u8 {
     let code = INTEGERS.iter().position(|&other| other == integer);
     code.expect("the table has every integer type") as u8
@@ -91,7 +84,7 @@ fn write_type(of: &Type, to: &mut Vec<u8>) {
 /// A signature with these bodies of its result and its arguments, well formed or not.
 pub fn signature_of(convention: Convention, result: &[u8], arguments: &[u8]) -> Vec<u8> {
     [
-        item(CONVENTION, &[convention_code(convention)]),
+        item(CONVENTION, &[convention.code()]),
         item(RESULT, result),
         item(ARGUMENTS, arguments),
     ]

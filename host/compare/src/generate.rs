@@ -20,8 +20,13 @@ const TELLING_BYTES: [u8; 14] = [
 
 /// A signature within all limits.
 pub fn valid(random: &mut Random) -> Signature {
-    let convention = random.pick(&[Convention::Ppc64, Convention::Z]);
-    let result = random.once_in(2).then(|| valid_type(random));
+    let convention = random.pick(&Convention::ALL);
+    valid_for(random, convention)
+}
+
+/// A signature within all limits, of this convention.
+pub fn valid_for(random: &mut Random, convention: Convention) -> Signature {
+    let result = random.once_in(2).then(|| valid_type(random, convention));
     if random.once_in(100) {
         return longest(random, convention, result);
     }
@@ -30,7 +35,7 @@ pub fn valid(random: &mut Random) -> Signature {
         1..=3 => random.below(MOST_ARGUMENTS + 1),
         _ => random.below(9),
     };
-    let arguments = (0..count).map(|_| valid_type(random));
+    let arguments = (0..count).map(|_| valid_type(random, convention));
     fitting(convention, result, arguments)
 }
 
@@ -81,48 +86,69 @@ pub fn fitting(
 }
 
 /// A type that an argument or a result may have.
-pub fn valid_type(random: &mut Random) -> Type {
+pub fn valid_type(random: &mut Random, convention: Convention) -> Type {
     match random.below(16) {
         0..=7 => Type::Integer(random.pick(&INTEGERS)),
-        8..=11 => Type::Float(random.pick(&FLOATS)),
+        8..=11 => Type::Float(random.pick(floats(convention))),
         12 => {
             let levels = 1 + random.below(DEEPEST_STRUCT);
-            nested_struct(random, levels)
+            nested_struct(random, convention, levels)
         }
         13 => {
             let count = 1 + random.below(80);
-            valid_struct(random, count, DEEPEST_STRUCT)
+            valid_struct(random, convention, count, DEEPEST_STRUCT)
         }
         _ => {
             let count = 1 + random.below(5);
-            valid_struct(random, count, DEEPEST_STRUCT)
+            valid_struct(random, convention, count, DEEPEST_STRUCT)
         }
     }
 }
 
+/// The floats that an argument or a result may be: AIX has no long double.
+fn floats(convention: Convention) -> &'static [Float] {
+    match convention {
+        Convention::Ppc64 | Convention::Z => &FLOATS,
+        Convention::Aix => &FLOATS[..2],
+    }
+}
+
+/// The floats that a struct may have: on AIX no double.
+pub fn field_floats(convention: Convention) -> &'static [Float] {
+    match convention {
+        Convention::Ppc64 | Convention::Z => &FLOATS[..2],
+        Convention::Aix => &FLOATS[..1],
+    }
+}
+
 /// Structs within each other, this many, with a field or two beside.
-fn nested_struct(random: &mut Random, levels: usize) -> Type {
+fn nested_struct(random: &mut Random, convention: Convention, levels: usize) -> Type {
     let mut fields = Vec::new();
     if random.once_in(4) {
-        fields.push(scalar_field(random));
+        fields.push(scalar_field(random, convention));
     }
     match levels {
-        1 => fields.push(scalar_field(random)),
-        _ => fields.push(nested_struct(random, levels - 1)),
+        1 => fields.push(scalar_field(random, convention)),
+        _ => fields.push(nested_struct(random, convention, levels - 1)),
     }
     if random.once_in(4) {
-        fields.push(scalar_field(random));
+        fields.push(scalar_field(random, convention));
     }
     Type::Struct(fields)
 }
 
 /// A struct of this many fields, or as many of them as are not too large, with room for `depth`
 /// levels, its own included.
-pub fn valid_struct(random: &mut Random, count: usize, depth: usize) -> Type {
+pub fn valid_struct(
+    random: &mut Random,
+    convention: Convention,
+    count: usize,
+    depth: usize,
+) -> Type {
     let mut fields = Vec::new();
     for _ in 0..count {
-        fields.push(valid_field(random, depth - 1));
-        if struct_size(&fields) > LARGEST_STRUCT {
+        fields.push(valid_field(random, convention, depth - 1));
+        if struct_size(convention, &fields) > LARGEST_STRUCT {
             fields.pop();
             break;
         }
@@ -131,17 +157,17 @@ pub fn valid_struct(random: &mut Random, count: usize, depth: usize) -> Type {
 }
 
 /// A field with room for `depth` levels of structs.
-fn valid_field(random: &mut Random, depth: usize) -> Type {
+fn valid_field(random: &mut Random, convention: Convention, depth: usize) -> Type {
     if depth > 0 && random.once_in(8) {
         let count = 1 + random.below(4);
-        return valid_struct(random, count, depth);
+        return valid_struct(random, convention, count, depth);
     }
-    scalar_field(random)
+    scalar_field(random, convention)
 }
 
-fn scalar_field(random: &mut Random) -> Type {
+fn scalar_field(random: &mut Random, convention: Convention) -> Type {
     match random.below(3) {
-        0 => Type::Float(random.pick(&[Float::Single, Float::Double])),
+        0 => Type::Float(random.pick(field_floats(convention))),
         _ => Type::Integer(random.pick(&INTEGERS)),
     }
 }
@@ -190,7 +216,7 @@ impl Loose {
 
     /// A parent whose own header is never written: its items are the signature's three.
     fn of_signature(of: &Signature) -> Loose {
-        let code = encode::convention_code(of.convention);
+        let code = of.convention.code();
         let result = of.result.iter().map(Loose::of_type).collect();
         let arguments = of.arguments.iter().map(Loose::of_type).collect();
         let items = vec![
@@ -300,7 +326,10 @@ fn break_item(random: &mut Random, item: &mut Loose) {
 fn break_parent(random: &mut Random, item: &mut Loose) {
     let at = random.below(item.items.len());
     match random.below(6) {
-        0 => item.items.insert(at, Loose::leaf(FLOAT, &[2])),
+        // a long double, or a double, which AIX has not inside a struct
+        0 => item
+            .items
+            .insert(at, Loose::leaf(FLOAT, &[random.pick(&[1, 2])])),
         1 | 2 => repeat_items(random, item),
         3 => {
             for _ in 0..1 + random.below(5) {

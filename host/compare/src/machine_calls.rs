@@ -20,11 +20,21 @@ pub enum Style {
 
 pub const STYLES: [Style; 3] = [Style::Climb, Style::Mixed, Style::Writes];
 
-/// The smallest memory that a start takes: 256 bytes, on PPC64 112 and the floor's 288.
+/// The smallest memory that a start takes: 256 bytes; on PPC64 112 and the floor's 288; on AIX 64 and
+/// the floor's 220, rounded up.
 pub fn least_memory(convention: Convention) -> usize {
     match convention {
         Convention::Ppc64 => 400,
         Convention::Z => 256,
+        Convention::Aix => 288,
+    }
+}
+
+/// The largest address that a memory may end at.
+pub fn last_address(convention: Convention) -> u64 {
+    match convention {
+        Convention::Ppc64 | Convention::Z => u64::MAX,
+        Convention::Aix => u64::from(u32::MAX),
     }
 }
 
@@ -44,8 +54,8 @@ pub fn memory_length(random: &mut Random, convention: Convention) -> usize {
 }
 
 /// A base that a start takes with a memory of this length.
-pub fn base(random: &mut Random, length: usize) -> u64 {
-    let highest = u64::MAX - 15 - length as u64;
+pub fn base(random: &mut Random, convention: Convention, length: usize) -> u64 {
+    let highest = last_address(convention) - 15 - length as u64;
     match random.below(8) {
         0 => 0,
         1 => 16,
@@ -60,7 +70,7 @@ pub fn start(random: &mut Random, convention: Convention, length: usize) -> Call
     Call::Start {
         convention,
         registers: Box::new(random_registers(random)),
-        base: base(random, length),
+        base: base(random, convention, length),
     }
 }
 
@@ -68,21 +78,22 @@ pub fn start(random: &mut Random, convention: Convention, length: usize) -> Call
 /// or the base is wrong, by as little as can be where that is so.
 pub fn refused_start(random: &mut Random, convention: Convention, length: usize) -> (Call, usize) {
     let mut lent = length;
-    let mut base = base(random, length);
+    let mut base = base(random, convention, length);
     let least = least_memory(convention);
-    match random.below(7) {
+    match random.below(8) {
         0 => {
             lent = random
                 .pick(&[0, 16, 239, 240, 248, 255, least - 1])
                 .min(length - 1)
         }
-        // one step too short: on PPC64 this lacks the floor alone
+        // one step too short: on PPC64 and AIX this lacks the floor alone
         6 => lent = least - 16,
         1 => lent += 1 + random.below(15),
         2 => base += 1 + random.number() % 15,
-        // base and length are 2^64, or more
-        3 => base = u64::MAX - 15 - length as u64 + 16,
-        4 => base = u64::MAX - 15,
+        // base and length are 2^64, on AIX 2^32, or more
+        3 => base = last_address(convention) - 15 - length as u64 + 16,
+        4 => base = last_address(convention) - 15,
+        5 => base = u64::MAX - 15,
         _ => {
             lent -= 1 + random.below(15);
             base ^= 8;
@@ -102,6 +113,7 @@ fn ranges(convention: Convention) -> ([u64; 2], [u64; 2], u64) {
     match convention {
         Convention::Ppc64 => ([14, 32], [14, 32], 1),
         Convention::Z => ([6, 14], [8, 16], 0),
+        Convention::Aix => ([13, 32], [14, 32], 1),
     }
 }
 
@@ -226,7 +238,7 @@ pub fn broken_request(random: &mut Random, convention: Convention, request: Requ
         // a leaf on Z, or one with locals or an outgoing area
         _ => {
             broken = leaf(broken);
-            if convention == Convention::Ppc64 {
+            if convention != Convention::Z {
                 match random.below(3) {
                     0 => broken.locals = random.pick(&[1, 8, 32_000]),
                     1 => broken.outgoing = random.pick(&[8, 64, 32_776]),
@@ -289,7 +301,7 @@ pub fn call(random: &mut Random, machine: &Machine, style: Style) -> Call {
 
 fn enter(random: &mut Random, machine: &Machine, style: Style) -> Call {
     let Some(convention) = machine.possible() else {
-        let convention = random.pick(&[Convention::Ppc64, Convention::Z]);
+        let convention = random.pick(&Convention::ALL);
         return Call::Enter(request(random, convention));
     };
     let room = room(machine, convention);
@@ -303,7 +315,7 @@ fn enter(random: &mut Random, machine: &Machine, style: Style) -> Call {
         _ if small => small_request(random, convention),
         _ => request(random, convention),
     };
-    if convention == Convention::Ppc64 && random.once_in(6) {
+    if convention != Convention::Z && random.once_in(6) {
         asked = leaf(asked);
     }
     match random.below(16) {
@@ -338,9 +350,14 @@ fn write_register(random: &mut Random, machine: &Machine) -> Call {
             .wrapping_sub(1),
         _ => random.number() % 34,
     };
+    let is_aix = machine.convention == u64::from(Convention::Aix.code());
     let value = match (bank, random.below(8)) {
         (3, 1..=6) => random.number() % 16,
         (3, 7) => 16,
+        // of 32 bits, at their edge, and of more
+        (0 | 2, 1..=5) if is_aix => random.number() >> 32,
+        (0 | 2, 6) if is_aix => u64::from(u32::MAX),
+        (0 | 2, 7) if is_aix => 1 << 32,
         _ => random.number(),
     };
     Call::WriteRegister {
@@ -398,17 +415,18 @@ fn write_memory(random: &mut Random, machine: &Machine) -> Call {
     }
 }
 
-/// The address of a back chain, of a header's doubleword or of a save slot.
+/// The address of a back chain, of a header's doubleword or word, or of a save slot.
 pub fn protected(random: &mut Random, machine: &Machine, convention: Convention) -> u64 {
     let pointer = machine.registers.gpr[pointer_register(convention)];
+    let word = convention.word() as u64;
     if machine.depth == 0 {
-        return pointer + 8 * (random.number() % 6);
+        return pointer + word * (random.number() % 6);
     }
     let top = machine.frames[machine.depth as usize - 1];
     let caller = pointer + frame_size(convention, &top);
     match random.below(4) {
         0 => pointer,
-        1 => caller + 8 * (random.number() % 6),
+        1 => caller + word * (random.number() % 6),
         _ => {
             let slots = save_slots(convention, &top, u128::from(caller));
             match slots.len() {

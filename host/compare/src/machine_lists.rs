@@ -2,12 +2,12 @@
 //! of all that they reach.
 
 use crate::machine_calls::{self as calls, Style, STYLES};
-use crate::machines::{convention_of, random_bytes, stack_pointer, told, Call, Pair, GUARD};
+use crate::machines::{random_bytes, stack_pointer, told, Call, Pair, GUARD};
 use crate::random::Random;
 use crate::Difference;
 use reference::machine::{
-    floor, frame_size, lowest_pointer, pointer_register, request_allowed, save_slots, Area,
-    AreaKind, Machine, Registers, Request, Saved,
+    first_pointer, floor, frame_size, lowest_pointer, pointer_register, request_allowed,
+    save_slots, Area, AreaKind, Machine, Registers, Request,
 };
 use reference::Convention;
 use std::fmt;
@@ -51,6 +51,9 @@ pub struct Reach {
     /// What was refused for the floor alone: starts, enters, and calls of states. Each would have
     /// been accepted, or its state would, if the stack pointer might go down to the base.
     pub floors: [u64; 3],
+    /// What was refused on AIX for more than 32 bits alone: starts whose memory ends too high, writes
+    /// of registers, and calls of states with such a register.
+    pub over_32_bits: [u64; 3],
     /// Leaves entered, at the start, above a frame, as the 32nd, and where no frame would fit.
     pub leaves_entered: [u64; 4],
     /// Leaves left, register writes of a leaf, and calls of states with a leaf below the top.
@@ -111,6 +114,11 @@ impl fmt::Display for Reach {
             "; {} stack full for one byte; for the floor alone {starts} starts, {enters} enters, \
              {states} calls of states; deepest {}, {} times 32",
             self.one_byte_too_many, self.deepest, self.full
+        )?;
+        let [starts, writes, states] = self.over_32_bits;
+        write!(
+            to,
+            "; for more than 32 bits alone {starts} starts, {writes} writes, {states} calls of states"
         )
     }
 }
@@ -151,21 +159,24 @@ impl Counted<'_> {
                         leaf: 0,
                         ..*request
                     };
-                    let room = calls::room(before, Convention::Ppc64);
-                    let fits = frame_size(Convention::Ppc64, &frame) <= room;
+                    let convention = before.possible().expect("it is accepted");
+                    let room = calls::room(before, convention);
+                    let fits = frame_size(convention, &frame) <= room;
                     reach.leaves_entered[3] += u64::from(!fits);
                 }
                 reach.deepest = reach.deepest.max(after.depth);
                 reach.full += u64::from(after.depth == 32);
                 let free = stack_pointer(after) - after.base;
-                let convention = convention_of(after.convention).expect("it is accepted");
-                reach.last_free_byte += u64::from(free == floor(convention));
+                let convention = after.possible().expect("it is accepted");
+                // stack pointers of PPC64 and AIX are multiples of 16, and AIX's floor is none
+                reach.last_free_byte += u64::from(free < floor(convention) + 8);
             }
             Call::WriteRegister { bank, number, .. } => {
                 reach.register_writes[*bank as usize] += 1;
-                let saved = match (convention_of(before.convention), bank) {
-                    (Some(Convention::Ppc64), 0 | 1) => *number >= 14,
-                    (Some(Convention::Ppc64), 3) => (2..=4).contains(number),
+                let saved = match (Convention::of_code(before.convention), bank) {
+                    (Some(Convention::Aix), 0) => *number >= 13,
+                    (Some(Convention::Ppc64 | Convention::Aix), 0 | 1) => *number >= 14,
+                    (Some(Convention::Ppc64 | Convention::Aix), 3) => (2..=4).contains(number),
                     (Some(Convention::Z), 0) => (6..=13).contains(number),
                     (Some(Convention::Z), 1) => *number >= 8,
                     _ => false,
@@ -208,11 +219,27 @@ impl Counted<'_> {
                 },
             ) => {
                 let least = calls::least_memory(*convention);
-                let else_allowed = lent % 16 == 0
-                    && (256..least).contains(&lent)
-                    && base % 16 == 0
-                    && *base <= u64::MAX - lent as u64;
-                reach.floors[0] += u64::from(else_allowed);
+                let multiples = lent % 16 == 0 && base % 16 == 0;
+                let last = calls::last_address(*convention) - lent as u64;
+                let lacks_floor = (256..least).contains(&lent) && *base <= last;
+                reach.floors[0] += u64::from(multiples && lacks_floor);
+                let too_high = *base > last && *base <= u64::MAX - lent as u64;
+                let enough = (least..=65_536).contains(&lent);
+                reach.over_32_bits[0] += u64::from(multiples && too_high && enough);
+            }
+            (
+                20,
+                Call::WriteRegister {
+                    bank,
+                    number,
+                    value,
+                },
+            ) if *value > u64::from(u32::MAX) => {
+                let mut machine = before.clone();
+                let memory = vec![0; lent];
+                let low = machine.write_register(*bank, *number, 0, &memory);
+                let too_high = before.convention == 3 && matches!(bank, 0 | 2) && low.is_ok();
+                reach.over_32_bits[1] += u64::from(too_high);
             }
             (19, Call::Enter(request)) => {
                 let convention = before.possible().expect("23 is tested before 19");
@@ -229,6 +256,7 @@ impl Counted<'_> {
             }
             (23, _) => {
                 reach.floors[2] += u64::from(lacks_the_floor_alone(before));
+                reach.over_32_bits[2] += u64::from(has_too_many_bits_alone(before));
                 let below = 0..before.depth.clamp(1, 32) as usize - 1;
                 reach.leaves_below += u64::from(before.frames[below].iter().any(Request::is_leaf));
             }
@@ -249,10 +277,11 @@ impl Counted<'_> {
 /// Whether a state cannot be that could, if the stack pointer might go down to the base: with as
 /// much more memory under it, it can.
 fn lacks_the_floor_alone(machine: &Machine) -> bool {
-    let Some(convention) = convention_of(machine.convention) else {
+    let Some(convention) = Convention::of_code(machine.convention) else {
         return false;
     };
-    let floor = floor(convention);
+    // bases are multiples of 16
+    let floor = floor(convention).div_ceil(16) * 16;
     let mut roomier = machine.clone();
     roomier.base = machine.base.wrapping_sub(floor);
     roomier.size = machine.size.wrapping_add(floor);
@@ -260,6 +289,20 @@ fn lacks_the_floor_alone(machine: &Machine) -> bool {
         && (256..=65_536 - floor).contains(&machine.size)
         && stack_pointer(machine) >= machine.base
         && roomier.possible().is_some()
+}
+
+/// Whether a state of AIX cannot be that could, if its registers had their low halves alone.
+fn has_too_many_bits_alone(machine: &Machine) -> bool {
+    let mut narrowed = machine.clone();
+    clear_high_halves(&mut narrowed.registers);
+    machine.convention == 3 && narrowed != *machine && narrowed.possible().is_some()
+}
+
+fn clear_high_halves(registers: &mut Registers) {
+    registers.lr &= u64::from(u32::MAX);
+    for gpr in &mut registers.gpr {
+        *gpr &= u64::from(u32::MAX);
+    }
 }
 
 fn areas(machine: &Machine) -> Vec<Area> {
@@ -289,11 +332,12 @@ impl Preserved {
         let from = (pointer - machine.base) as usize;
         let mut open = vec![match convention {
             Convention::Ppc64 => (pointer + 48, pointer + 48 + callers_outgoing.max(64)),
+            Convention::Aix => (pointer + 24, pointer + 24 + callers_outgoing.max(32)),
             Convention::Z => (pointer + 160, pointer + 160 + callers_outgoing),
         }];
         for (saved, at) in save_slots(convention, request, u128::from(pointer)) {
-            let length = if saved == Saved::Cr { 4 } else { 8 };
-            open.push((at as u64, at as u64 + length));
+            let length = saved.width(convention);
+            open.push((at as u64, at as u64 + length as u64));
         }
         Preserved {
             convention,
@@ -309,7 +353,7 @@ impl Preserved {
         let machine = pair.state();
         let (old, new) = (&self.registers, &machine.registers);
         let registers = match self.convention {
-            Convention::Ppc64 => {
+            Convention::Ppc64 | Convention::Aix => {
                 old.gpr[2] == new.gpr[2]
                     && old.gpr[13..] == new.gpr[13..]
                     && old.fpr[14..] == new.fpr[14..]
@@ -537,20 +581,34 @@ fn foreign_state(
 
 /// One change of a state: most make one that cannot be, some one that can.
 pub fn change(random: &mut Random, state: &mut Machine) {
-    let convention = convention_of(state.convention).unwrap_or(Convention::Ppc64);
+    let convention = Convention::of_code(state.convention).unwrap_or(Convention::Ppc64);
     let pointer = &mut state.registers.gpr[pointer_register(convention)];
     let step = random.pick(&[1, 8, 16, 112, 160, 4096]);
     let signed = random.pick(&[step, 0u64.wrapping_sub(step)]);
     let entered = state.depth.clamp(1, 32) as usize;
-    match random.below(14) {
-        0 => state.convention = random.pick(&[0, 1, 2, 3, 257, u64::MAX]),
+    match random.below(15) {
+        0 => state.convention = random.pick(&[0, 1, 2, 3, 4, 257, u64::MAX]),
         1 => state.base = state.base.wrapping_add(signed),
         2 => {
-            let highest = (u64::MAX - 15).wrapping_sub(state.size);
+            let highest = (calls::last_address(convention) - 15).wrapping_sub(state.size);
             state.base = random.pick(&[0, u64::MAX - 15, highest, highest.wrapping_add(16)]);
         }
         3 => state.size = state.size.wrapping_add(signed),
-        4 => state.size = random.pick(&[0, 240, 256, 384, 400, 65_536, 65_552, u64::MAX - 15]),
+        4 => {
+            let sizes = [
+                0,
+                240,
+                256,
+                272,
+                288,
+                384,
+                400,
+                65_536,
+                65_552,
+                u64::MAX - 15,
+            ];
+            state.size = random.pick(&sizes);
+        }
         5 => {
             let deeper = state.depth.wrapping_add(1);
             state.depth = random.pick(&[state.depth.wrapping_sub(1), deeper, 33, 0]);
@@ -580,7 +638,8 @@ pub fn change(random: &mut Random, state: &mut Machine) {
         // a memory that begins further up, with the floor, one step less, or nothing under the
         // stack pointer
         11 => {
-            let under = random.pick(&[288, 272, 0]);
+            let floor = floor(convention).div_ceil(16) * 16;
+            let under = random.pick(&[floor, floor.saturating_sub(16), 0]);
             let cut = pointer.wrapping_sub(under).wrapping_sub(state.base);
             state.base = state.base.wrapping_add(cut);
             state.size = state.size.wrapping_sub(cut);
@@ -594,9 +653,17 @@ pub fn change(random: &mut Random, state: &mut Machine) {
                 *pointer = pointer.wrapping_add(frame_size(convention, &frame));
             }
         }
+        // a bit that AIX's registers have not
+        13 => {
+            let bit = 1 << (32 + random.below(32));
+            match random.below(33) {
+                32 => state.registers.lr |= bit,
+                n => state.registers.gpr[n] |= bit,
+            }
+        }
         // the whole machine at another address
         _ => {
-            let moved = calls::base(random, (state.size % 65_537) as usize);
+            let moved = calls::base(random, convention, (state.size % 65_537) as usize);
             *pointer = pointer.wrapping_sub(state.base).wrapping_add(moved);
             state.base = moved;
         }
@@ -616,7 +683,7 @@ pub fn run_nonsense(seed: u64, states: u64) -> Result<Reach, Difference> {
 }
 
 fn run_state(random: &mut Random, reach: &mut Reach) -> Result<(), Difference> {
-    let convention = random.pick(&[Convention::Ppc64, Convention::Z]);
+    let convention = random.pick(&Convention::ALL);
     let length = calls::memory_length(random, convention);
     let mut pair = Pair::new(random, length);
     // one state in sixteen stays as it is, all by chance
@@ -649,11 +716,8 @@ fn run_state(random: &mut Random, reach: &mut Reach) -> Result<(), Difference> {
 /// A state with records by chance and the stack pointer that they make, which may be out of the
 /// memory.
 pub fn make_up(random: &mut Random, convention: Convention, length: usize, state: &mut Machine) {
-    state.convention = match convention {
-        Convention::Ppc64 => 1,
-        Convention::Z => 2,
-    };
-    state.base = calls::base(random, length);
+    state.convention = u64::from(convention.code());
+    state.base = calls::base(random, convention, length);
     state.size = length as u64;
     state.depth = match random.below(8) {
         0 => 0,
@@ -662,11 +726,10 @@ pub fn make_up(random: &mut Random, convention: Convention, length: usize, state
         _ => 1 + random.number() % 6,
     };
     state.registers.cr &= 0xffff_ffff;
-    let mut pointer = state.base + state.size;
-    pointer -= match convention {
-        Convention::Ppc64 => 112,
-        Convention::Z => 160,
-    };
+    if convention == Convention::Aix && !random.once_in(16) {
+        clear_high_halves(&mut state.registers);
+    }
+    let mut pointer = first_pointer(convention, state.base, state.size) as u64;
     // at times frames that leave no floor stay
     let lowest = match random.once_in(3) {
         true => state.base,
@@ -710,7 +773,7 @@ fn mend(random: &mut Random, pair: &mut Pair) {
 }
 
 /// The bytes that mend the memory of this length, and where they go.
-pub fn mending(random: &mut Random, state: &Machine, length: usize) -> Option<(usize, [u8; 8])> {
+pub fn mending(random: &mut Random, state: &Machine, length: usize) -> Option<(usize, Vec<u8>)> {
     let convention = state.possible()?;
     if state.depth == 0 || state.size != length as u64 || random.once_in(4) {
         return None;
@@ -718,12 +781,13 @@ pub fn mending(random: &mut Random, state: &Machine, length: usize) -> Option<(u
     let pointer = stack_pointer(state);
     let caller = pointer + frame_size(convention, &state.frames[state.depth as usize - 1]);
     let at = match convention {
-        Convention::Ppc64 => pointer,
+        Convention::Ppc64 | Convention::Aix => pointer,
         Convention::Z => caller + 120,
     };
-    let mut bytes = caller.to_be_bytes();
+    let mut bytes = caller.to_be_bytes()[8 - convention.word()..].to_vec();
     if random.once_in(8) {
-        bytes[random.below(8)] ^= 1 << random.below(8);
+        let byte = random.below(bytes.len());
+        bytes[byte] ^= 1 << random.below(8);
     }
     Some(((at - state.base) as usize, bytes))
 }

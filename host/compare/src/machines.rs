@@ -141,6 +141,7 @@ impl Pair {
                 match convention {
                     Convention::Ppc64 => library::start_ppc64(machine, &registers, *base, memory),
                     Convention::Z => library::start_z(machine, &registers, *base, memory),
+                    Convention::Aix => library::start_aix(machine, &registers, *base, memory),
                 }
             }
             Call::Enter(request) => library::enter(machine, &library_frame(request), memory),
@@ -282,17 +283,8 @@ fn same_machine(given: &library::Machine, expected: &Machine) -> bool {
     *given == library_machine(expected)
 }
 
-/// The convention that a code names.
-pub fn convention_of(code: u64) -> Option<Convention> {
-    match code {
-        1 => Some(Convention::Ppc64),
-        2 => Some(Convention::Z),
-        _ => None,
-    }
-}
-
 /// The stack pointer of a state whose convention is one.
 pub fn stack_pointer(machine: &Machine) -> u64 {
-    let convention = convention_of(machine.convention).unwrap_or(Convention::Ppc64);
+    let convention = Convention::of_code(machine.convention).unwrap_or(Convention::Ppc64);
     machine.registers.gpr[pointer_register(convention)]
 }

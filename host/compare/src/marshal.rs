@@ -18,9 +18,9 @@ use std::hint::black_box;
 pub struct Histogram {
     pub operation: Operation,
     /// Yes at 0, each refusal at its number.
-    pub answers: [u64; 25],
+    pub answers: [u64; 26],
     /// How many of each had a count of items.
-    pub counted: [u64; 25],
+    pub counted: [u64; 26],
     /// How often each fault was the one that was answered.
     pub faults: BTreeMap<Fault, u64>,
     /// How often a call had both of these, and the first was answered.
@@ -38,8 +38,8 @@ impl Histogram {
     fn new(operation: Operation) -> Histogram {
         Histogram {
             operation,
-            answers: [0; 25],
-            counted: [0; 25],
+            answers: [0; 26],
+            counted: [0; 26],
             faults: BTreeMap::new(),
             orders: BTreeMap::new(),
             edges: BTreeMap::new(),
@@ -331,7 +331,7 @@ fn compare_case(random: &mut Random, seen: &mut Histogram) -> Result<(), Differe
         None => number == 0,
         Some(fault) => fault
             .number()
-            .map_or((1..=9).contains(&number), |only| only == number),
+            .map_or(matches!(number, 1..=9 | 25), |only| only == number),
     };
     if !right {
         let what = format!("both answer {number} to the faults {:?}", case.faults);
@@ -352,8 +352,8 @@ fn compare_case(random: &mut Random, seen: &mut Histogram) -> Result<(), Differe
     Ok(())
 }
 
-/// Reads back what was filled, and on PPC64 homes it and views each argument: these must be the
-/// values.
+/// Reads back what was filled, and on PPC64 and AIX homes it and views each argument: these must be
+/// the values.
 fn compare_back(case: &Case, filled: &Call, seen: &mut Histogram) -> Result<(), Difference> {
     let mut to_read = filled.clone();
     to_read.values.fill(0xa7);
@@ -381,8 +381,9 @@ fn compare_back(case: &Case, filled: &Call, seen: &mut Histogram) -> Result<(), 
     let some = case.signature.arguments.len().div_ceil(8).max(1);
     let mut value = 0;
     for (index, of) in case.signature.arguments.iter().enumerate() {
-        let own = &filled.values[value..value + of.size()];
-        value += of.size();
+        let size = of.size(case.signature.convention);
+        let own = &filled.values[value..value + size];
+        value += size;
         homed.index = index as u64;
         if index % some == 0
             && flakuzhen::view(&homed.area, &homed.signature, homed.index) != Ok(own)

@@ -4,7 +4,7 @@
 use crate::encode::{self, INTEGERS};
 use crate::generate;
 use crate::random::Random;
-use crate::signatures::{hex, refused, ACCEPTED};
+use crate::signatures::{hex, refused, ACCEPTED, ANSWERS};
 use crate::Difference;
 use flakuzhen::surface::plans::{self as surface, Planned, Sizes};
 use reference::table::{self, Table, ENTRY};
@@ -72,13 +72,39 @@ pub const Z: [&str; 29] = [
     "Z smallest area",
 ];
 
+/// What accepted calls of AIX must have been like.
+pub const AIX: [&str; 22] = [
+    "AIX 128 arguments",
+    "AIX 64-bit integer in GPR",
+    "AIX 64-bit integer in memory",
+    "AIX 64-bit integer straddling",
+    "AIX double in FPR",
+    "AIX double in FPR across r10",
+    "AIX double in FPR past r10",
+    "AIX double in memory",
+    "AIX float-like struct in GPR",
+    "AIX float-like struct in memory",
+    "AIX hidden result",
+    "AIX integer in GPR",
+    "AIX integer in memory",
+    "AIX larger area",
+    "AIX other struct in GPR",
+    "AIX other struct in memory",
+    "AIX other struct straddling",
+    "AIX single in FPR",
+    "AIX single in FPR past r10",
+    "AIX single in memory",
+    "AIX smallest area",
+    "AIX struct that ends within a word",
+];
+
 /// How often each answer was given, and how often each interesting case came.
 #[derive(Clone, Default)]
 pub struct Histogram {
     /// Yes at 0, each refusal at its number.
-    pub answers: [u64; 10],
+    pub answers: [u64; 26],
     /// How many of each had a count of items.
-    pub counted: [u64; 10],
+    pub counted: [u64; 26],
     pub cases: BTreeMap<String, u64>,
     /// The bytes of the longest listing.
     pub longest: usize,
@@ -112,8 +138,9 @@ impl fmt::Display for Histogram {
     fn fmt(&self, to: &mut fmt::Formatter<'_>) -> fmt::Result {
         let (total, accepted) = (self.total(), self.accepted());
         write!(to, "{total} signatures planned: accepted {accepted}")?;
-        for (number, count) in self.answers.iter().enumerate().skip(1) {
-            write!(to, ", {number}: {count} ({} counted)", self.counted[number])?;
+        for &number in &ANSWERS[1..] {
+            let (count, counted) = (self.answers[number], self.counted[number]);
+            write!(to, ", {number}: {count} ({counted} counted)")?;
         }
         write!(to, "; longest listing {} bytes", self.longest)?;
         for (name, count) in &self.cases {
@@ -295,6 +322,7 @@ pub(crate) fn count_cases(signature: &Signature, plan: &Plan, seen: &mut Histogr
     let convention = match plan.convention {
         Convention::Ppc64 => "PPC64",
         Convention::Z => "Z",
+        Convention::Aix => "AIX",
     };
     let mut count = |case: &str| seen.count(&format!("{convention} {case}"));
     count("calls");
@@ -305,6 +333,7 @@ pub(crate) fn count_cases(signature: &Signature, plan: &Plan, seen: &mut Histogr
     }
     count(match &signature.result {
         None => "result none",
+        Some(of) if is_wide(plan.convention, of) => "result 64-bit integer",
         Some(Type::Integer(_)) => "result integer",
         Some(Type::Float(Float::LongDouble)) => "result long double",
         Some(Type::Float(_)) => "result single or double",
@@ -317,6 +346,7 @@ pub(crate) fn count_cases(signature: &Signature, plan: &Plan, seen: &mut Histogr
     let least = match plan.convention {
         Convention::Ppc64 => 64,
         Convention::Z => 0,
+        Convention::Aix => 32,
     };
     count(match plan.area == least {
         true => "smallest area",
@@ -328,18 +358,28 @@ pub(crate) fn count_cases(signature: &Signature, plan: &Plan, seen: &mut Histogr
     let mut copies_end = 0;
     for (argument, of) in plan.arguments.iter().zip(&signature.arguments) {
         count(&argument_case(plan.convention, argument, of));
+        let part_of_a_word = of.size(plan.convention) % plan.convention.word() != 0;
+        if plan.convention == Convention::Aix && matches!(of, Type::Struct(_)) && part_of_a_word {
+            count("struct that ends within a word");
+        }
         if let Some(start) = argument.copy {
             if start > copies_end {
                 count("gap before a copy");
             }
-            copies_end = start + of.size();
+            copies_end = start + of.size(plan.convention);
         }
     }
+}
+
+/// Whether a type is an integer of two words.
+fn is_wide(convention: Convention, of: &Type) -> bool {
+    matches!(of, Type::Integer(_)) && of.size(convention) > convention.word()
 }
 
 /// A name for how an argument stands.
 fn argument_case(convention: Convention, argument: &ArgumentPlan, of: &Type) -> String {
     let kind = match of {
+        Type::Integer(_) if is_wide(convention, of) => "64-bit integer",
         Type::Integer(_) => "integer",
         Type::Float(Float::Single) => "single",
         Type::Float(Float::Double) => "double",
@@ -352,14 +392,25 @@ fn argument_case(convention: Convention, argument: &ArgumentPlan, of: &Type) -> 
     let place = match (first, last) {
         (Place::Memory(_), _) => "in memory",
         (_, Place::Memory(_)) => "straddling",
-        // on PPC64 a float may have a register although its doubleword is not one of the first 8
-        (Place::Floating(_), _) if argument.offset >= Some(64) => "in FPR past r10",
+        // on PPC64 and AIX a float may have a register although its words are not among the first 8
+        (Place::Floating(_), _) if argument.offset >= Some(8 * convention.word()) => {
+            "in FPR past r10"
+        }
+        (Place::Floating(_), _)
+            if convention == Convention::Aix
+                && argument.offset == Some(28)
+                && *of == Type::Float(Float::Double) =>
+        {
+            "in FPR across r10"
+        }
         (Place::Floating(_), _) => "in FPR",
         (Place::General(_), _) => "in GPR",
     };
     let how = match (convention, argument.by_reference()) {
         (Convention::Z, true) => " by reference".to_string(),
-        (Convention::Z, false) if matches!(of, Type::Struct(_)) => format!(" of {}", of.size()),
+        (Convention::Z, false) if matches!(of, Type::Struct(_)) => {
+            format!(" of {}", of.size(convention))
+        }
         _ => String::new(),
     };
     format!("{kind}{how} {place}")
@@ -371,6 +422,7 @@ enum Mostly {
     Anything,
     Integers,
     Floats,
+    /// On AIX 64-bit integers, which take two places there too.
     LongDoubles,
     /// Of 1 to 12 bytes.
     SmallStructs,
@@ -401,11 +453,16 @@ const MIXES: [Mostly; 13] = [
 /// A signature within all limits whose call is of interest: mostly one or two kinds of argument,
 /// in any number.
 pub fn interesting(random: &mut Random) -> Signature {
-    let convention = random.pick(&[Convention::Ppc64, Convention::Z]);
+    let convention = random.pick(&Convention::ALL);
+    interesting_for(random, convention)
+}
+
+/// The same of this convention.
+pub fn interesting_for(random: &mut Random, convention: Convention) -> Signature {
     let mixes = [random.pick(&MIXES), random.pick(&MIXES), Mostly::Anything];
     let result = random.once_in(2).then(|| {
         let mix = random.pick(&mixes);
-        argument(random, mix)
+        argument(random, convention, mix)
     });
     let count = match random.below(8) {
         0 => generate::MOST_ARGUMENTS,
@@ -416,23 +473,25 @@ pub fn interesting(random: &mut Random) -> Signature {
     let arguments = (0..count).map(|_| {
         // the last of the three comes seldom
         let mix = mixes[random.below(9) / 4];
-        argument(random, mix)
+        argument(random, convention, mix)
     });
     generate::fitting(convention, result, arguments)
 }
 
-fn argument(random: &mut Random, mix: Mostly) -> Type {
+fn argument(random: &mut Random, convention: Convention, mix: Mostly) -> Type {
     match mix {
-        Mostly::Anything => generate::valid_type(random),
+        Mostly::Anything => generate::valid_type(random, convention),
         Mostly::Integers => Type::Integer(random.pick(&INTEGERS)),
-        Mostly::Floats => single_or_double(random),
+        Mostly::Floats => Type::Float(random.pick(&[Float::Single, Float::Double])),
+        Mostly::LongDoubles if convention == Convention::Aix => {
+            Type::Integer(random.pick(&[Integer::I64, Integer::U64]))
+        }
         Mostly::LongDoubles => Type::Float(Float::LongDouble),
         Mostly::SmallStructs => small_struct(random),
         Mostly::FloatLikeStructs => {
             let levels = 1 + random.below(8);
-            (0..levels).fold(single_or_double(random), |inner, _| {
-                Type::Struct(vec![inner])
-            })
+            let float = Type::Float(random.pick(generate::field_floats(convention)));
+            (0..levels).fold(float, |inner, _| Type::Struct(vec![inner]))
         }
         Mostly::MiddlingStructs => {
             let count = 1 + random.below(10);
@@ -443,10 +502,6 @@ fn argument(random: &mut Random, mix: Mostly) -> Type {
             struct_of_doublewords(random, count)
         }
     }
-}
-
-fn single_or_double(random: &mut Random) -> Type {
-    Type::Float(random.pick(&[Float::Single, Float::Double]))
 }
 
 /// A struct of 1 to 12 bytes.

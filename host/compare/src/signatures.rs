@@ -9,12 +9,15 @@ use reference::Refusal;
 use std::collections::BTreeSet;
 use std::fmt;
 
+/// The answers that reading a signature can give.
+pub const ANSWERS: [usize; 11] = [0, 1, 2, 3, 4, 5, 6, 7, 8, 9, 25];
+
 /// How often each answer was given: yes at 0, each refusal at its number.
 #[derive(Clone, Default)]
 pub struct Histogram {
-    pub answers: [u64; 10],
+    pub answers: [u64; 26],
     /// The counts of items that came with each.
-    pub items: [BTreeSet<u64>; 10],
+    pub items: [BTreeSet<u64>; 26],
 }
 
 impl Histogram {
@@ -37,12 +40,12 @@ impl fmt::Display for Histogram {
             self.total(),
             self.answers[0]
         )?;
-        for (number, count) in self.answers.iter().enumerate().skip(1) {
-            write!(to, ", {number}: {count}")?;
+        for number in &ANSWERS[1..] {
+            write!(to, ", {number}: {}", self.answers[*number])?;
         }
         write!(to, "; different counts of items")?;
-        for (number, items) in self.items.iter().enumerate() {
-            write!(to, ", {number}: {}", items.len())?;
+        for number in ANSWERS {
+            write!(to, ", {number}: {}", self.items[number].len())?;
         }
         Ok(())
     }

@@ -3,7 +3,7 @@
 use crate::encode::{self, INTEGERS};
 use crate::generate;
 use crate::random::Random;
-use reference::{Convention, Float, Signature, Type};
+use reference::{Convention, Float, Integer, Signature, Type};
 use std::collections::HashSet;
 use std::ops::RangeInclusive;
 
@@ -79,21 +79,23 @@ fn different(
 }
 
 fn signature(random: &mut Random, count: usize) -> Signature {
-    let convention = random.pick(&[Convention::Ppc64, Convention::Z]);
-    let result = random.once_in(2).then(|| usual_type(random));
-    generate::fitting(convention, result, (0..count).map(|_| usual_type(random)))
+    let convention = random.pick(&Convention::ALL);
+    let result = random.once_in(2).then(|| usual_type(random, convention));
+    let arguments = (0..count).map(|_| usual_type(random, convention));
+    generate::fitting(convention, result, arguments)
 }
 
 /// As calls usually have them: mostly integers and pointers, some floats, now and then a struct
 /// of a few fields.
-fn usual_type(random: &mut Random) -> Type {
+fn usual_type(random: &mut Random, convention: Convention) -> Type {
     match random.below(16) {
         0..=8 => Type::Integer(random.pick(&INTEGERS)),
         9..=11 => Type::Float(random.pick(&[Float::Single, Float::Double])),
-        12 => Type::Float(Float::LongDouble),
+        12 if convention != Convention::Aix => Type::Float(Float::LongDouble),
+        12 => Type::Integer(Integer::I64),
         _ => {
             let count = 1 + random.below(6);
-            generate::valid_struct(random, count, 3)
+            generate::valid_struct(random, convention, count, 3)
         }
     }
 }

@@ -55,34 +55,51 @@ fn nested(count: usize, innermost: Type) -> Type {
     (0..count).fold(innermost, |inner, _| Type::Struct(vec![inner]))
 }
 
-/// A signature with these types, for both conventions.
-fn both(result: Option<&Type>, arguments: &[Type]) -> [Vec<u8>; 2] {
-    [Convention::Ppc64, Convention::Z].map(|convention| {
+/// Whether document 01's answer to a type is AIX's too: refusal 25 is for a long double, which gives
+/// 5 inside a struct, and for a double inside one.
+fn as_on_aix(of: &Type, inside: bool) -> bool {
+    match of {
+        Type::Integer(_) | Type::Float(Float::Single) => true,
+        Type::Float(Float::Double) => !inside,
+        Type::Float(Float::LongDouble) => inside,
+        Type::Struct(fields) => fields.iter().all(|field| as_on_aix(field, true)),
+    }
+}
+
+/// A signature with these types, for all conventions; for AIX where its answer is the others'.
+fn every(result: Option<&Type>, arguments: &[Type]) -> Vec<Vec<u8>> {
+    let types = result.into_iter().chain(arguments);
+    let mut conventions = vec![Convention::Ppc64, Convention::Z];
+    if types.into_iter().all(|of| as_on_aix(of, false)) {
+        conventions.push(Convention::Aix);
+    }
+    let of = |convention| {
         encode::signature(&Signature {
             convention,
             result: result.cloned(),
             arguments: arguments.to_vec(),
         })
-    })
+    };
+    conventions.into_iter().map(of).collect()
 }
 
-/// The document's rule for a type as the result and as the first argument, for both conventions:
+/// The document's rule for a type as the result and as the first argument, for all conventions:
 /// accepted with this many items of its own, or refused at an offset from its header after this many
 /// headers of its own.
 fn accepted_as_type(name: &str, of: &Type, items: u64) {
-    for bytes in both(Some(of), &[]) {
+    for bytes in every(Some(of), &[]) {
         accepted(name, &bytes, 3 + items);
     }
-    for bytes in both(None, std::slice::from_ref(of)) {
+    for bytes in every(None, std::slice::from_ref(of)) {
         accepted(name, &bytes, 3 + items);
     }
 }
 
 fn refused_as_type(name: &str, of: &Type, number: u64, offset: usize, items: u64) {
-    for bytes in both(Some(of), &[]) {
+    for bytes in every(Some(of), &[]) {
         refused(name, &bytes, number, RESULT_BODY + offset, 2 + items);
     }
-    for bytes in both(None, std::slice::from_ref(of)) {
+    for bytes in every(None, std::slice::from_ref(of)) {
         refused(name, &bytes, number, ARGUMENTS_BODY + offset, 3 + items);
     }
 }
@@ -100,11 +117,11 @@ fn arguments_127_128_and_129() {
         let items = argument.items() as u64;
         let length = encode::type_item(&argument).len();
         for count in [127, 128] {
-            for bytes in both(None, &vec![argument.clone(); count]) {
+            for bytes in every(None, &vec![argument.clone(); count]) {
                 accepted("up to 128 arguments", &bytes, 3 + count as u64 * items);
             }
         }
-        for bytes in both(None, &vec![argument.clone(); 129]) {
+        for bytes in every(None, &vec![argument.clone(); 129]) {
             let place = ARGUMENTS_BODY + 128 * length;
             refused("129 arguments", &bytes, 7, place, 3 + 128 * items);
         }
@@ -244,14 +261,14 @@ fn structs_of_i8(count: usize, fields: usize, first: usize) -> Vec<Type> {
 fn a_signature_of_16383_bytes_16384_and_16385() {
     // 10 bytes for the convention and the headers of result and arguments, 18 structs' headers of
     // 3 bytes, 4,080 integers of 4 bytes
-    for bytes in both(None, &structs_of_i8(18, 227, 12)) {
+    for bytes in every(None, &structs_of_i8(18, 227, 12)) {
         assert_eq!(bytes.len(), 16_384);
         accepted("16,384 bytes", &bytes, 3 + 18 + 4_080);
         refused("and one more", &[&bytes[..], &[0]].concat(), 1, 0, 0);
         refused("all but one", &bytes[..16_383], 2, 7, 2);
     }
     // 19 structs' headers and 4,079 integers
-    for bytes in both(None, &structs_of_i8(19, 215, 13)) {
+    for bytes in every(None, &structs_of_i8(19, 215, 13)) {
         assert_eq!(bytes.len(), 16_383);
         accepted("16,383 bytes", &bytes, 3 + 19 + 4_079);
         let place = bytes.len();
@@ -264,7 +281,7 @@ fn a_signature_of_16383_bytes_16384_and_16385() {
         );
     }
     // well formed but for the length: 17 structs' headers and 4,081 integers
-    for bytes in both(None, &structs_of_i8(17, 241, 1)) {
+    for bytes in every(None, &structs_of_i8(17, 241, 1)) {
         assert_eq!(bytes.len(), 16_385);
         refused("16,385 bytes", &bytes, 1, 0, 0);
     }
@@ -282,11 +299,11 @@ fn the_most_items() {
     // two of them, and one that takes what is left: 3 and 125 times 25 and 20 times 22 bytes
     let rest = structure(&[vec![nested(7, I8); 125], vec![nested(6, I8); 20]].concat());
     let items = 3 + 2 * (1 + 256 * 8) + (1 + 125 * 8 + 20 * 7);
-    for bytes in both(Some(&longest), &[longest.clone(), rest.clone()]) {
+    for bytes in every(Some(&longest), &[longest.clone(), rest.clone()]) {
         assert_eq!(bytes.len(), 16_384);
         accepted("in the whole signature", &bytes, items);
     }
-    for bytes in both(None, &[rest, longest.clone(), longest]) {
+    for bytes in every(None, &[rest, longest.clone(), longest]) {
         assert_eq!(bytes.len(), 16_384);
         accepted("in the arguments", &bytes, items);
     }
@@ -295,10 +312,10 @@ fn the_most_items() {
 #[test]
 fn structs_of_256_fields_in_the_result_and_the_arguments() {
     let full = structure(&vec![I8; 256]);
-    for bytes in both(Some(&full), &vec![full.clone(); 14]) {
+    for bytes in every(Some(&full), &vec![full.clone(); 14]) {
         accepted("15 full structs", &bytes, 3 + 15 * 257);
     }
-    for bytes in both(Some(&full), &vec![full.clone(); 15]) {
+    for bytes in every(Some(&full), &vec![full.clone(); 15]) {
         assert_eq!(bytes.len(), 10 + 16 * 1027);
         refused("16 full structs", &bytes, 1, 0, 0);
     }
@@ -331,6 +348,122 @@ fn long_doubles_in_structs_and_out_of_them() {
     }
 }
 
+/// For AIX: as the result and as the first argument.
+fn refused_on_aix(name: &str, of: &Type, number: u64, offset: usize, items: u64) {
+    let item = encode::type_item(of);
+    let bytes = signature_of(Convention::Aix, &item, &[]);
+    refused(name, &bytes, number, RESULT_BODY + offset, 2 + items);
+    let bytes = signature_of(Convention::Aix, &[], &item);
+    refused(name, &bytes, number, ARGUMENTS_BODY + offset, 3 + items);
+}
+
+/// 02, No. 1: "A long double, or a double inside a struct, gives new refusal 25 at that item, tested
+/// after 5."
+#[test]
+fn long_doubles_and_doubles_in_structs_on_aix() {
+    refused_on_aix("a long double alone", &LONG_DOUBLE, 25, 0, 0);
+    for depth in 1..=8 {
+        let offset = 3 * depth;
+        refused_on_aix("a double", &nested(depth, DOUBLE), 25, offset, depth as u64);
+        // 5 comes first
+        let long = nested(depth, LONG_DOUBLE);
+        refused_on_aix("a long double", &long, 5, offset, depth as u64);
+        let single = encode::type_item(&nested(depth, SINGLE));
+        let bytes = signature_of(Convention::Aix, &single, &single);
+        accepted("a single", &bytes, 3 + 2 * (1 + depth as u64));
+    }
+    // at depth 9 the struct around it is refused before it is seen
+    refused_on_aix("at depth 9", &nested(9, DOUBLE), 6, 24, 8);
+    refused_on_aix("first field", &structure(&[DOUBLE, I8]), 25, 3, 1);
+    refused_on_aix("last field", &structure(&[I8, SINGLE, DOUBLE]), 25, 11, 3);
+    // from left to right: what comes first is refused first
+    refused_on_aix(
+        "and a long double",
+        &structure(&[DOUBLE, LONG_DOUBLE]),
+        25,
+        3,
+        1,
+    );
+    refused_on_aix(
+        "after a long double",
+        &structure(&[LONG_DOUBLE, DOUBLE]),
+        5,
+        3,
+        1,
+    );
+    // before the size of the struct that it is in
+    refused_on_aix(
+        "in too large a struct",
+        &structure(&vec![DOUBLE; 33]),
+        25,
+        3,
+        1,
+    );
+    let mut large = vec![I64; 33];
+    large.push(DOUBLE);
+    refused_on_aix("and last in it", &structure(&large), 25, 3 + 132, 34);
+    // a body that is not allowed comes first
+    for body in [&[][..], &[1, 1], &[2, 2], &[3]] {
+        let bytes = signature_of(Convention::Aix, &item(FLOAT, body), &[]);
+        refused("with a faulty body", &bytes, 4, RESULT_BODY, 2);
+    }
+    // the 128th argument, and a 129th that is never looked at
+    let full = [
+        &type_items(&vec![I8; 127])[..],
+        &encode::type_item(&LONG_DOUBLE),
+    ]
+    .concat();
+    let bytes = signature_of(Convention::Aix, &[], &full);
+    refused("the 128th", &bytes, 25, ARGUMENTS_BODY + 508, 130);
+    let full = [
+        &type_items(&vec![DOUBLE; 128])[..],
+        &encode::type_item(&LONG_DOUBLE),
+    ]
+    .concat();
+    let bytes = signature_of(Convention::Aix, &[], &full);
+    refused("the 129th", &bytes, 7, ARGUMENTS_BODY + 512, 131);
+}
+
+/// 02, No. 1: "Pointers are 4 bytes", in structs with that alignment; 64-bit integers keep 8.
+#[test]
+fn pointers_in_structs() {
+    let pointer = Type::Integer(Integer::Pointer);
+    for (convention, size) in [
+        (Convention::Ppc64, 8),
+        (Convention::Z, 8),
+        (Convention::Aix, 4),
+    ] {
+        let most = 256 / size;
+        let pairs = vec![vec![I8, pointer.clone()]; most / 2].concat();
+        for (fields, number) in [
+            (vec![pointer.clone(); most], 0),
+            (vec![pointer.clone(); most + 1], 8),
+            // an i8 before each takes as much again
+            (pairs.clone(), 0),
+            ([pairs, vec![I8]].concat(), 8),
+        ] {
+            let items = fields.len() as u64;
+            let bytes = signature_of(convention, &[], &encode::type_item(&structure(&fields)));
+            match number {
+                0 => accepted("pointers", &bytes, 4 + items),
+                _ => refused("pointers", &bytes, number, ARGUMENTS_BODY, 3 + items),
+            }
+        }
+        let arguments = [
+            pointer.clone(),
+            structure(&[I8, pointer.clone()]),
+            structure(&[pointer.clone(), I64]),
+        ];
+        let bytes = signature_of(convention, &[], &type_items(&arguments));
+        let sizes = surface::plans::measure(&bytes);
+        assert_eq!(
+            sizes.values,
+            (size + 2 * size + 16) as u64,
+            "{convention:?}"
+        );
+    }
+}
+
 #[test]
 fn empty_structs() {
     let empty = structure(&[]);
@@ -354,7 +487,7 @@ fn bytes_after_the_third_item() {
         &[0x10, 0, 1, 4],
         &[0xff; 9],
     ] {
-        for bytes in both(None, &[I8, DOUBLE]) {
+        for bytes in every(None, &[I8, DOUBLE]) {
             let place = bytes.len();
             refused(
                 "after the third item",
@@ -421,7 +554,7 @@ fn codes_at_their_limits() {
         }
         let bytes = [1, 0, 1, code, 2, 0, 0, 3, 0, 0];
         match code {
-            1..=2 => accepted("convention", &bytes, 3),
+            1..=3 => accepted("convention", &bytes, 3),
             _ => refused("convention", &bytes, 4, 0, 0),
         }
     }

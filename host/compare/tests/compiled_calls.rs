@@ -1,5 +1,5 @@
 //! Filling and reading on the calls of `data/compiled-calls.txt`, on which code compiled by gcc and
-//! clang agreed: fill makes the registers, area and copies of each byte for byte, read gives its
+//! clang agreed, for AIX by clang alone: fill makes the registers, area and copies of each byte for byte, read gives its
 //! values. Both programs are held to them.
 
 use compare::calls::{Call, Operation};
@@ -74,6 +74,7 @@ fn the_file_has_what_it_is_for() {
     };
     assert_eq!(conventions(Convention::Ppc64), 44);
     assert_eq!(conventions(Convention::Z), 84);
+    assert_eq!(conventions(Convention::Aix), 79);
     let count = |of: fn(&CompiledCall) -> bool| calls.iter().filter(|call| of(call)).count();
     assert_eq!(count(|call| !call.before.copies.is_empty()), 55);
     assert!(count(|call| call.before.hidden != 0) >= 20);

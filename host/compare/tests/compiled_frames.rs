@@ -43,6 +43,7 @@ fn frame(line: &str) -> Frame {
         convention: match convention {
             "ppc64" => Convention::Ppc64,
             "z" => Convention::Z,
+            "aix" => Convention::Aix,
             _ => panic!("{convention:?} is no convention"),
         },
         request: Request {
@@ -69,14 +70,14 @@ fn name(of: Saved) -> String {
 }
 
 #[test]
-fn the_file_has_frames_of_both_conventions() {
+fn the_file_has_frames_of_all_conventions() {
     let count = |convention| {
         frames()
             .iter()
             .filter(|frame| frame.convention == convention)
             .count()
     };
-    assert_eq!((count(Convention::Ppc64), count(Convention::Z)), (30, 18));
+    assert_eq!(Convention::ALL.map(count), [30, 18, 30]);
     let slots: usize = frames().iter().map(|frame| frame.slots.len()).sum();
     assert!(slots > 400, "{slots} slots");
 }
@@ -94,7 +95,7 @@ fn the_second_program_saves_where_compilers_do() {
         match frame.convention {
             // all that is saved, each at its place; the back chain is at the new stack pointer,
             // which is the rule's where the sizes are the same
-            Convention::Ppc64 => {
+            Convention::Ppc64 | Convention::Aix => {
                 let mut slots = frame.slots.clone();
                 assert_eq!(slots.remove("chain"), Some(-(frame.size as i64)));
                 assert_eq!(slots, rule, "{}", frame.line);
@@ -119,28 +120,34 @@ fn floating(slots: &BTreeMap<String, i64>) -> Vec<i64> {
     offsets
 }
 
-/// Registers of which no two hold the same, nor the same as any address here.
+/// Registers of which no two hold the same, nor the same as any address here, and neither do their
+/// low halves.
 fn registers() -> Registers {
     let mut registers = Registers {
         gpr: [0; 32],
         fpr: [0; 32],
-        lr: 0xaaaa_aaaa_0000_0001,
+        lr: 0xaaaa_aaaa_aaaa_0001,
         cr: 0xbbbb_bbbb,
     };
     for n in 0..32 {
-        registers.gpr[n] = 0xcccc_cccc_0000_0000 + n as u64;
+        registers.gpr[n] = 0xcccc_cccc_cccc_0000 + n as u64;
         registers.fpr[n] = 0xdddd_dddd_0000_0000 + n as u64;
     }
     registers
 }
 
+/// A number as a general register's slot has it: on AIX its low half.
+fn word(convention: Convention, number: u64) -> Vec<u8> {
+    number.to_be_bytes()[8 - convention.word()..].to_vec()
+}
+
 /// What the register of this name holds, as the bytes of its slot.
-fn held(registers: &Registers, name: &str) -> Vec<u8> {
+fn held(convention: Convention, registers: &Registers, name: &str) -> Vec<u8> {
     let number = || name[1..].parse::<usize>().expect("a register's number");
     match name.as_bytes()[0] {
-        b'r' => registers.gpr[number()].to_be_bytes().to_vec(),
+        b'r' => word(convention, registers.gpr[number()]),
         b'f' => registers.fpr[number()].to_be_bytes().to_vec(),
-        b'L' => registers.lr.to_be_bytes().to_vec(),
+        b'L' => word(convention, registers.lr),
         b'C' => (registers.cr as u32).to_be_bytes().to_vec(),
         _ => panic!("{name:?} is no register"),
     }
@@ -174,12 +181,12 @@ fn an_enter_of_the_library_saves_where_compilers_do() {
         };
         for (name, &offset) in &frame.slots {
             let held = match name.as_str() {
-                "chain" if frame.size == frame.rule => caller.to_be_bytes().to_vec(),
+                "chain" if frame.size == frame.rule => word(frame.convention, caller),
                 // the compiler's frame is larger than the rule's
                 "chain" => continue,
                 // on Z the order of the floating registers is the rule's own
                 _ if frame.convention == Convention::Z && name.starts_with('f') => continue,
-                name => held(&registers, name),
+                name => held(frame.convention, &registers, name),
             };
             assert_eq!(at(offset, held.len()), held, "{name} of {}", frame.line);
         }

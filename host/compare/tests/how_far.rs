@@ -34,7 +34,7 @@ fn digits(text: &str, to: &mut Vec<u8>) {
 }
 
 /// Number, place and count of items. `%` is the code of the convention.
-const REFUSED: [(&str, u64, u64, u64); 44] = [
+const REFUSED: [(&str, u64, u64, u64); 49] = [
     // 1: "0 for refusal 1", whatever the bytes are
     ("01 0001 % 02 0000 03 3ff7 (00)*16375", 1, 0, 0),
     // 2, no room for a header: what stands before it is counted
@@ -93,7 +93,7 @@ const REFUSED: [(&str, u64, u64, u64); 44] = [
     // 5: the long double's header is not counted, the struct around it is
     ("01 0001 % 02 0007 12 0004 11 0001 02 03 0000", 5, 10, 3),
     (
-        "01 0001 % 02 0000 03 000f 10 0001 00 12 0008 11 0001 01 11 0001 02",
+        "01 0001 % 02 0000 03 000f 10 0001 00 12 0008 10 0001 06 11 0001 02",
         5,
         21,
         6,
@@ -130,27 +130,27 @@ const REFUSED: [(&str, u64, u64, u64); 44] = [
     ),
     // 8: the struct's own header is not counted, its 33 fields are
     (
-        "01 0001 % 02 0087 12 0084 (11 0001 01)*33 03 0000",
+        "01 0001 % 02 0087 12 0084 (10 0001 06)*33 03 0000",
         8,
         7,
         35,
     ),
     (
-        "01 0001 % 02 0000 03 0087 12 0084 (11 0001 01)*33",
+        "01 0001 % 02 0000 03 0087 12 0084 (10 0001 06)*33",
         8,
         10,
         36,
     ),
     // the second field, which is a struct of 33: the one around it and the field before it too
     (
-        "01 0001 % 02 0000 03 008e 12 008b 10 0001 00 12 0084 (11 0001 01)*33",
+        "01 0001 % 02 0000 03 008e 12 008b 10 0001 00 12 0084 (10 0001 06)*33",
         8,
         17,
         38,
     ),
-    // a struct of two, 16 doubles and 17, is too large itself: both headers and 33 fields
+    // a struct of two, 16 integers and 17, is too large itself: both headers and 33 fields
     (
-        "01 0001 % 02 0000 03 008d 12 008a 12 0040 (11 0001 01)*16 12 0044 (11 0001 01)*17",
+        "01 0001 % 02 0000 03 008d 12 008a 12 0040 (10 0001 06)*16 12 0044 (10 0001 06)*17",
         8,
         10,
         38,
@@ -162,6 +162,29 @@ const REFUSED: [(&str, u64, u64, u64); 44] = [
         9,
         22,
         6,
+    ),
+    // 25, of AIX alone: the long double's or double's own header is not counted
+    ("01 0001 03 02 0004 11 0001 02 03 0000", 25, 7, 2),
+    (
+        "01 0001 03 02 0000 03 0008 10 0001 00 11 0001 02",
+        25,
+        14,
+        4,
+    ),
+    // the structs around it are, and the field before it
+    ("01 0001 03 02 0007 12 0004 11 0001 01 03 0000", 25, 10, 3),
+    (
+        "01 0001 03 02 0000 03 000e 12 000b 12 0008 11 0001 00 11 0001 01",
+        25,
+        20,
+        6,
+    ),
+    // and not what follows it: this struct would be too large too
+    (
+        "01 0001 03 02 0000 03 0087 12 0084 (11 0001 01)*33",
+        25,
+        13,
+        4,
     ),
 ];
 
@@ -183,7 +206,7 @@ fn call(signature: &[u8]) -> Call {
 fn every_function_that_reads_a_signature_says_how_far() {
     let mut numbers = std::collections::BTreeSet::new();
     for (text, number, place, items) in REFUSED {
-        for code in ["01", "02"] {
+        for code in ["01", "02", "03"] {
             let bytes = hex(&text.replace('%', code));
             let answer = Answer {
                 number,
@@ -220,7 +243,7 @@ fn every_function_that_reads_a_signature_says_how_far() {
         }
         numbers.insert(number);
     }
-    assert!(numbers.into_iter().eq(1..=9));
+    assert!(numbers.into_iter().eq((1..=9).chain([25])));
 }
 
 /// "Counts are 0" stays for the refusals that come after a reading, and for those without one.
@@ -240,6 +263,10 @@ fn the_other_refusals_have_no_count() {
     let fill = surface::fill(&ppc64, &[0; 4], image, short, &mut [], 0, 0);
     assert_eq!(fill, none(11));
     let fill = surface::fill(&z, &[0; 16], image, area, &mut [0; 15], 0, 0);
+    assert_eq!(fill, none(12));
+    // AIX, a struct of i8 as the result: a hidden address of 33 bits
+    let aix = hex("01 0001 03 02 0007 12 0004 10 0001 00 03 0000");
+    let fill = surface::fill(&aix, &[], image, area, &mut [], 0, 1 << 32);
     assert_eq!(fill, none(12));
     let read = surface::read(&z, &mut [0; 16], image, area, &[0; 15], 0);
     assert_eq!(read, none(13));

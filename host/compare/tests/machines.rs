@@ -80,7 +80,25 @@ fn compare_lists(convention: Convention) -> Reach {
 
 #[test]
 fn lists_of_calls_on_ppc64() {
-    let reach = compare_lists(Convention::Ppc64);
+    let reach = compare_lists_with_leaves(Convention::Ppc64);
+    assert_eq!(reach.over_32_bits, [0; 3]);
+}
+
+#[test]
+fn lists_of_calls_on_aix() {
+    let reach = compare_lists_with_leaves(Convention::Aix);
+    at_least(
+        500,
+        &[
+            ("starts that end past 2^32 - 1", reach.over_32_bits[0]),
+            ("states of over 32 bits", reach.over_32_bits[2]),
+        ],
+    );
+    at_least(10_000, &[("writes of over 32 bits", reach.over_32_bits[1])]);
+}
+
+fn compare_lists_with_leaves(convention: Convention) -> Reach {
+    let reach = compare_lists(convention);
     at_least(
         10_000,
         &[
@@ -114,6 +132,7 @@ fn lists_of_calls_on_ppc64() {
             ("leaves below the top", reach.leaves_below),
         ],
     );
+    reach
 }
 
 #[test]
@@ -121,7 +140,7 @@ fn lists_of_calls_on_z() {
     let reach = compare_lists(Convention::Z);
     // there are none
     assert_eq!(reach.register_writes[2..], [0, 0]);
-    assert_eq!(reach.floors, [0; 3]);
+    assert_eq!((reach.floors, reach.over_32_bits), ([0; 3], [0; 3]));
     assert_eq!((reach.leaves_left, reach.refusals[28]), (0, 0));
 }
 
@@ -143,6 +162,7 @@ fn states_and_memories_that_were_made_up() {
         &[
             ("memories of another length", reach.refusals[16]),
             ("calls of states without the floor", reach.floors[2]),
+            ("calls of states of over 32 bits", reach.over_32_bits[2]),
             ("leaves left", reach.leaves_left),
             ("leaves below the top", reach.leaves_below),
             ("broken chains", reach.refusals[21]),

@@ -2,7 +2,7 @@
 
 use compare::calls::{Fault, Operation};
 use compare::marshal::{self, Histogram};
-use compare::plans::{PPC64, Z};
+use compare::plans::{AIX, PPC64, Z};
 
 /// The calls of each operation.
 const CALLS: u64 = 50_000;
@@ -14,7 +14,7 @@ const ORDERS: u64 = 100;
 const EDGES: u64 = 200;
 const CASES: u64 = 200;
 
-/// What singles in floating registers of PPC64 must have been.
+/// What singles in floating registers of PPC64 and AIX must have been.
 const SINGLES: [&str; 3] = [
     "a signaling NaN in a floating register",
     "a subnormal single in a floating register",
@@ -35,7 +35,7 @@ fn run(operation: Operation, edges: &[&str], cases: &[&str]) -> Histogram {
     for (number, &counted) in seen.counted.iter().enumerate() {
         match number {
             // the reader's refusals, with its counts
-            2..=9 => assert!(counted > 0, "{number} never came with a count of items"),
+            2..=9 | 25 => assert!(counted > 0, "{number} never came with a count of items"),
             _ => assert_eq!(counted, 0, "{number} has no count of items"),
         }
     }
@@ -67,28 +67,40 @@ fn run(operation: Operation, edges: &[&str], cases: &[&str]) -> Histogram {
     seen
 }
 
-/// Whether one call can have both faults: widened singles are of PPC64 alone.
+/// Whether one call can have both faults: copies are of Z alone, widened singles not of Z, and 32
+/// bits of hidden address of AIX.
 fn together(fault: Fault, other: Fault) -> bool {
-    let of_z = [Fault::ForZ, Fault::OutsideCopies];
-    !(of_z.contains(&fault) && other == Fault::NotWidened)
+    let of_z = [
+        Fault::ForZ,
+        Fault::CopiesTooShort,
+        Fault::BaseUnaligned,
+        Fault::BaseTooHigh,
+        Fault::OutsideCopies,
+    ];
+    let not_of_z = [Fault::NotWidened, Fault::HiddenTooHigh];
+    !(of_z.contains(&fault) && not_of_z.contains(&other))
 }
 
 #[test]
 fn fill() {
     let edges = [
+        "a hidden address over 32 bits that is not needed",
         "an area that just fits",
         "an area that is too short by one",
         "base 0",
         "copies that are too short by one",
         "copies that just fit",
         "the highest base",
+        "the highest hidden address",
         "the lowest base that is too high",
+        "the lowest hidden address that is too high",
         "values of one byte too many or too few",
     ];
     let edges = [&edges[..], &SINGLES].concat();
-    let seen = run(Operation::Fill, &edges, &[&PPC64[..], &Z].concat());
+    let seen = run(Operation::Fill, &edges, &[&PPC64[..], &Z, &AIX].concat());
     assert_eq!(seen.read_back, seen.answers[0]);
-    assert_eq!(seen.viewed_back, seen.accepted.case("PPC64 calls"));
+    let viewed = seen.accepted.case("PPC64 calls") + seen.accepted.case("AIX calls");
+    assert_eq!(seen.viewed_back, viewed);
 }
 
 #[test]
@@ -109,14 +121,14 @@ fn read() {
         "values of one byte too many or too few",
     ];
     let edges = [&edges[..], &SINGLES].concat();
-    run(Operation::Read, &edges, &[&PPC64[..], &Z].concat());
+    run(Operation::Read, &edges, &[&PPC64[..], &Z, &AIX].concat());
 }
 
 #[test]
 fn home() {
     let edges = ["an area that just fits", "an area that is too short by one"];
     let edges = [&edges[..], &SINGLES].concat();
-    run(Operation::Home, &edges, &PPC64);
+    run(Operation::Home, &edges, &[&PPC64[..], &AIX].concat());
 }
 
 #[test]
@@ -128,5 +140,5 @@ fn view() {
         "the index after the last argument's",
         "the last argument",
     ];
-    run(Operation::View, &edges, &PPC64);
+    run(Operation::View, &edges, &[&PPC64[..], &AIX].concat());
 }

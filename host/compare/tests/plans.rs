@@ -2,7 +2,8 @@
 //! on the stored examples and on the calls of real compilers.
 
 use compare::encode;
-use compare::plans::{self, Histogram, PPC64, Z};
+use compare::plans::{self, Histogram, AIX, PPC64, Z};
+use compare::signatures::ANSWERS;
 use flakuzhen::surface::plans as surface;
 use reference::{Convention, Float, Integer, Place, ResultPlan, Signature, Type};
 use std::path::{Path, PathBuf};
@@ -13,7 +14,15 @@ const ACCEPTED: u64 = 100_000;
 /// What the largest test must have seen, each at least this often.
 const OFTEN: u64 = 500;
 /// Beside what arguments are like: the conventions and the results.
-const RESULTS: [&str; 15] = [
+const RESULTS: [&str; 23] = [
+    "AIX calls",
+    "AIX no arguments",
+    "AIX result 64-bit integer",
+    "AIX result float-like struct",
+    "AIX result integer",
+    "AIX result none",
+    "AIX result other struct",
+    "AIX result single or double",
     "PPC64 calls",
     "PPC64 no arguments",
     "PPC64 result float-like struct",
@@ -47,7 +56,8 @@ fn generated_signatures() {
     };
     println!("{seen}");
     assert!(seen.accepted() >= ACCEPTED);
-    for (number, &count) in seen.answers.iter().enumerate() {
+    for number in ANSWERS {
+        let count = seen.answers[number];
         assert!(count >= 200, "the answer {number} came only {count} times");
         // `items` is a refused reading's alone
         let counted = seen.counted[number];
@@ -56,7 +66,7 @@ fn generated_signatures() {
             _ => assert!(counted >= 100, "{number} had items only {counted} times"),
         }
     }
-    let cases = [&PPC64[..], &Z, &RESULTS].concat();
+    let cases = [&PPC64[..], &Z, &AIX, &RESULTS].concat();
     for case in &cases {
         let count = seen.case(case);
         assert!(count >= OFTEN, "'{case}' came only {count} times");
@@ -68,24 +78,40 @@ fn generated_signatures() {
 
 const I8: Type = Type::Integer(Integer::I8);
 const I64: Type = Type::Integer(Integer::I64);
+const POINTER: Type = Type::Integer(Integer::Pointer);
 const SINGLE: Type = Type::Float(Float::Single);
 const DOUBLE: Type = Type::Float(Float::Double);
 const LONG_DOUBLE: Type = Type::Float(Float::LongDouble);
 
-/// Every count of integers and floats around the last registers, and up to two arguments of each
+/// Every count of pointers and floats around the last registers, and up to two arguments of each
 /// kind after them.
 #[test]
 fn every_call_at_the_edge_of_the_registers() {
+    let mut seen = Histogram::default();
+    for convention in Convention::ALL {
+        at_the_edge_of_the_registers(convention, &mut seen);
+    }
+    println!("{seen}");
+    assert_eq!(seen.accepted(), 3 * 3 * 10 * 8 * 73);
+    assert_eq!(seen.total(), seen.accepted());
+}
+
+fn at_the_edge_of_the_registers(convention: Convention, seen: &mut Histogram) {
     let of = |fields: &[Type]| Type::Struct(fields.to_vec());
+    // AIX has no long double, and no double inside a struct
+    let (two_places, field) = match convention {
+        Convention::Aix => (I64, SINGLE),
+        _ => (LONG_DOUBLE, DOUBLE),
+    };
     let kinds = [
         I8,
         DOUBLE,
-        LONG_DOUBLE,
+        two_places.clone(),
         of(&[SINGLE]),
         of(&[I8, I8, I8]),
         of(&[I64]),
         of(&[I64, I8]),
-        of(&[DOUBLE, SINGLE, I64, I8]),
+        of(&[field, SINGLE, I64, I8]),
     ];
     let mut ends = vec![vec![]];
     for first in &kinds {
@@ -96,37 +122,35 @@ fn every_call_at_the_edge_of_the_registers() {
                 .map(|second| vec![first.clone(), second.clone()]),
         );
     }
-    let mut seen = Histogram::default();
-    for convention in [Convention::Ppc64, Convention::Z] {
-        for result in [None, Some(LONG_DOUBLE), Some(of(&[SINGLE]))] {
-            for integers in 0..=9 {
-                for floats in [0, 1, 3, 4, 5, 12, 13, 14] {
-                    for end in &ends {
-                        let start = [vec![I64; integers], vec![SINGLE; floats]].concat();
-                        let signature = Signature {
-                            convention,
-                            result: result.clone(),
-                            arguments: [&start[..], end].concat(),
-                        };
-                        compare(&encode::signature(&signature), &mut seen);
-                    }
+    for result in [None, Some(two_places), Some(of(&[SINGLE]))] {
+        for integers in 0..=9 {
+            for floats in [0, 1, 3, 4, 5, 12, 13, 14] {
+                for end in &ends {
+                    let start = [vec![POINTER; integers], vec![SINGLE; floats]].concat();
+                    let signature = Signature {
+                        convention,
+                        result: result.clone(),
+                        arguments: [&start[..], end].concat(),
+                    };
+                    compare(&encode::signature(&signature), seen);
                 }
             }
         }
     }
-    println!("{seen}");
-    assert_eq!(seen.accepted(), 2 * 3 * 10 * 8 * 73);
-    assert_eq!(seen.total(), seen.accepted());
 }
 
 /// The largest numbers that a signature's limits leave: a listing's offsets, sizes and length.
 #[test]
 fn the_largest_calls() {
     let mut seen = Histogram::default();
-    let large = Type::Struct(vec![DOUBLE; 32]);
-    for convention in [Convention::Ppc64, Convention::Z] {
+    let large = Type::Struct(vec![I64; 32]);
+    for convention in Convention::ALL {
+        let two_places = match convention {
+            Convention::Aix => I64,
+            _ => LONG_DOUBLE,
+        };
         for result in [None, Some(large.clone())] {
-            for argument in [I8, DOUBLE, LONG_DOUBLE, large.clone()] {
+            for argument in [I8, DOUBLE, two_places.clone(), large.clone()] {
                 // 124 structs of 131 bytes each fit into a signature
                 for count in [0, 1, 123, 124, 125, 127, 128] {
                     let signature = Signature {
@@ -141,7 +165,7 @@ fn the_largest_calls() {
     }
     println!("{seen}");
     // 125 and more large structs, and 124 of them after a large result
-    assert_eq!((seen.accepted(), seen.answers[1]), (112 - 14, 14));
+    assert_eq!((seen.accepted(), seen.answers[1]), (168 - 21, 21));
 }
 
 fn folder(path: &str) -> PathBuf {
@@ -220,8 +244,9 @@ fn words(places: &[Place]) -> Vec<String> {
     places.iter().map(word).collect()
 }
 
-/// The places that a line of a listing says, as the data has them: as many as `count`.
-fn places_of_line(line: &str, count: usize) -> Vec<String> {
+/// The places that a line of a listing says, as the data has them: as many as `count`, and those in
+/// memory of `width` bytes each.
+fn places_of_line(line: &str, count: usize, width: usize) -> Vec<String> {
     let words: Vec<&str> = line.split(' ').skip(1).collect();
     let offset = words.iter().find_map(|word| word.strip_prefix('@'));
     let mut places = Vec::new();
@@ -229,7 +254,8 @@ fn places_of_line(line: &str, count: usize) -> Vec<String> {
         match word {
             "mem" => {
                 let first: usize = offset.unwrap().parse().unwrap();
-                places.extend((places.len()..count).map(|at| format!("mem@{}", first + 8 * at)));
+                let offsets = (places.len()..count).map(|at| first + width * at);
+                places.extend(offsets.map(|offset| format!("mem@{offset}")));
             }
             "ref" => {}
             word if word.starts_with('@') => {}
@@ -273,7 +299,7 @@ fn the_calls_of_compilers() {
         let lines: Vec<&str> = listing.lines().collect();
         assert_eq!(lines.len(), call.arguments.len() + 2, "{}", call.text);
         for (line, expected) in lines[1..].iter().zip(&call.arguments) {
-            let places = places_of_line(line, expected.len());
+            let places = places_of_line(line, expected.len(), signature.convention.word());
             assert_eq!(&places, expected, "library: {}", call.text);
         }
         let result: Vec<&str> = lines[lines.len() - 1].split(' ').skip(1).collect();
@@ -283,9 +309,14 @@ fn the_calls_of_compilers() {
         assert_eq!(sizes.to_vec(), call.sizes, "library: {}", call.text);
     }
     println!("{seen}");
-    assert_eq!(seen.accepted(), 128);
+    assert_eq!(seen.accepted(), 207);
     assert_eq!(seen.case("PPC64 calls"), 44);
+    assert_eq!(seen.case("AIX calls"), 79);
     for case in [
+        "AIX 64-bit integer straddling",
+        "AIX double in FPR past r10",
+        "AIX other struct straddling",
+        "AIX single in memory",
         "PPC64 other struct straddling",
         "PPC64 single in memory",
         "Z other struct by reference in memory",

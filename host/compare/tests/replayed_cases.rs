@@ -90,16 +90,18 @@ fn the_library_of_this_machine_replays_them_all() {
 /// The refusals of each operation.
 fn refusals(of: Operation) -> Vec<u64> {
     match of {
-        Operation::ReadSignature | Operation::Measure | Operation::Plan => (1..=9).collect(),
+        Operation::ReadSignature | Operation::Measure | Operation::Plan => {
+            (1..=9).chain([25]).collect()
+        }
         Operation::Narrow => vec![14],
-        Operation::StartPpc64 | Operation::StartZ => vec![16],
+        Operation::StartPpc64 | Operation::StartZ | Operation::StartAix => vec![16],
         Operation::Enter => vec![16, 17, 18, 19, 23, 28],
         Operation::WriteRegister | Operation::WriteMemory => vec![16, 20, 23],
         Operation::Leave => vec![16, 21, 22, 23],
-        Operation::Fill => (1..=12).chain([15]).collect(),
-        Operation::Read => (1..=11).chain([13, 14, 15]).collect(),
-        Operation::Home => (1..=9).chain([11, 14, 15, 24]).collect(),
-        Operation::View => (1..=9).chain([11, 24]).collect(),
+        Operation::Fill => (1..=12).chain([15, 25]).collect(),
+        Operation::Read => (1..=11).chain([13, 14, 15, 25]).collect(),
+        Operation::Home => (1..=9).chain([11, 14, 15, 24, 25]).collect(),
+        Operation::View => (1..=9).chain([11, 24, 25]).collect(),
         _ => vec![],
     }
 }
@@ -115,7 +117,8 @@ fn every_operation_gives_every_answer() {
         for number in refusals(operation) {
             // of the signature's refusals these have but a few each
             let of_values = (Operation::Fill..=Operation::View).contains(&operation);
-            let least = match of_values && number <= 9 {
+            let of_signatures = number <= 9 || number == 25;
+            let least = match of_values && of_signatures {
                 true => 0,
                 false => 10,
             };
@@ -144,7 +147,7 @@ fn refused_signatures_come_with_counts() {
     ] {
         let refused = cases
             .iter()
-            .filter(|case| case.operation == operation && (2..=9).contains(&case.answer[0]));
+            .filter(|case| case.operation == operation && matches!(case.answer[0], 2..=9 | 25));
         let counted = refused.filter(|case| case.answer[2] > 0).count();
         assert!(counted >= 100, "{operation:?}: only {counted} counts");
     }
@@ -152,8 +155,11 @@ fn refused_signatures_come_with_counts() {
 
 /// The case of this number with what must be replayed before it.
 fn with_its_machine(cases: &[Case], number: usize) -> Vec<Case> {
-    let of_the_machine = Operation::StartPpc64..=Operation::Leave;
-    let start = match of_the_machine.contains(&cases[number].operation) {
+    let of_the_machine = |operation: Operation| {
+        (Operation::StartPpc64..=Operation::Leave).contains(&operation)
+            || operation == Operation::StartAix
+    };
+    let start = match of_the_machine(cases[number].operation) {
         false => number,
         true => (0..number)
             .rfind(|&at| cases[at].operation == Operation::SetMachine)

@@ -2,7 +2,7 @@
 
 use compare::encode::{item, signature_of, ARGUMENTS, STRUCT};
 use compare::random::Random;
-use compare::signatures::{self, Histogram};
+use compare::signatures::{self, Histogram, ANSWERS};
 use reference::Convention;
 
 /// The signatures of the largest test; the others add to them.
@@ -25,7 +25,8 @@ fn generated_signatures() {
     };
     println!("{histogram}");
     assert!(histogram.total() >= CASES);
-    for (number, &count) in histogram.answers.iter().enumerate() {
+    for number in ANSWERS {
+        let count = histogram.answers[number];
         assert!(
             count >= 1_000,
             "the answer {number} came only {count} times"
@@ -64,12 +65,11 @@ fn every_change_of_one_byte() {
     let mut histogram = Histogram::default();
     let small = [1, 0, 1, 1, 2, 0, 0, 3, 0, 8, 0x10, 0, 1, 4, 0x11, 0, 1, 1];
     let within = item(STRUCT, &item(STRUCT, &[0x10, 0, 1, 2, 0x11, 0, 1, 0]));
-    let nested = signature_of(
-        Convention::Z,
-        &within,
-        &[within.clone(), within.clone()].concat(),
-    );
-    for bytes in [&small[..], &nested] {
+    let nested = |convention| {
+        let arguments = [within.clone(), within.clone()].concat();
+        signature_of(convention, &within, &arguments)
+    };
+    for bytes in [&small[..], &nested(Convention::Z), &nested(Convention::Aix)] {
         for at in 0..bytes.len() {
             let mut changed = bytes.to_vec();
             for value in 0..=255 {
@@ -109,6 +109,8 @@ fn every_short_body_of_the_bytes_that_matter() {
         compare(&result, &mut histogram);
         let field = signature_of(Convention::Z, &[], &item(STRUCT, &body));
         compare(&field, &mut histogram);
+        let on_aix = signature_of(Convention::Aix, &body, &item(STRUCT, &body));
+        compare(&on_aix, &mut histogram);
     }
     println!("{histogram}");
 }

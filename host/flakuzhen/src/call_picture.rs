@@ -1,5 +1,5 @@
-//! A call drawn as tables: each register and each doubleword that its arguments have, and which
-//! argument has each byte.
+//! A call drawn as tables: each register and each doubleword, on AIX each word, that its arguments
+//! have, and which argument has each byte.
 //!
 //! Which registers, doublewords and copies an argument has is the library's plan. Where its value
 //! stands in them, and what fills up, follows from its size and from whether it is a struct: the
@@ -10,6 +10,8 @@ use std::ops::Range;
 
 /// A type item's tag.
 const STRUCT: u8 = 0x12;
+/// The bytes of a register in the image.
+const IN_IMAGE: usize = 8;
 /// On Z offsets count from the stack pointer, and the area starts this far above it.
 const Z_AREA: usize = 160;
 
@@ -35,17 +37,17 @@ impl Call<'_> {
             ..
         } = &self.plan;
         let tables = [
-            ("registers", self.register_rows()),
-            ("area", self.area_rows()),
-            ("copies", self.copy_rows()),
+            ("registers", IN_IMAGE, self.register_rows()),
+            ("area", self.word(), self.area_rows()),
+            ("copies", 8, self.copy_rows()),
         ];
         let mut text = format!(
             "{convention} args {} area {}\n",
             arguments.len(),
             sizes.area
         );
-        for (name, rows) in tables.iter().filter(|(_, rows)| !rows.is_empty()) {
-            let numbers = (0..8).map(|number| number.to_string()).collect();
+        for (name, width, rows) in tables.iter().filter(|(_, _, rows)| !rows.is_empty()) {
+            let numbers = (0..*width).map(|number| number.to_string()).collect();
             text.push('\n');
             text.push_str(&Row::new(name, numbers).line());
             for row in rows {
@@ -53,8 +55,16 @@ impl Call<'_> {
             }
         }
         text.push_str(&format!("\nresult {}\n", self.result()));
-        let rows = tables.iter().flat_map(|(_, rows)| rows);
+        let rows = tables.iter().flat_map(|(_, _, rows)| rows);
         text + &legend(rows.flat_map(|row| &row.marks).collect())
+    }
+
+    /// The bytes of a general register, by which the area is counted.
+    fn word(&self) -> usize {
+        match self.plan.convention {
+            Convention::Ppc64 | Convention::Z => 8,
+            Convention::Aix => 4,
+        }
     }
 
     fn result(&self) -> String {
@@ -79,11 +89,12 @@ impl Call<'_> {
     fn register_rows(&self) -> Vec<Row> {
         let mut rows: Vec<(Register, Row)> = Vec::new();
         if let Some(register) = self.hidden() {
-            rows.push((register, Row::new(&register.to_string(), repeated("h"))));
+            let marks = self.in_general(repeated("h", self.word()));
+            rows.push((register, Row::new(&register.to_string(), marks)));
         }
         for (number, argument) in self.plan.arguments.iter().enumerate() {
             for (at, register) in argument.registers().enumerate() {
-                let marks = self.marks(number, argument, 8 * at);
+                let marks = self.register_marks(number, argument, at);
                 rows.push((register, Row::new(&register.to_string(), marks)));
             }
         }
@@ -93,13 +104,13 @@ impl Call<'_> {
     }
 
     fn area_rows(&self) -> Vec<Row> {
-        let doublewords = (0..self.plan.sizes.area as usize).step_by(8);
-        doublewords.map(|place| self.area_row(place)).collect()
+        let words = (0..self.plan.sizes.area as usize).step_by(self.word());
+        words.map(|place| self.area_row(place)).collect()
     }
 
     fn area_row(&self, place: usize) -> Row {
         let first = match self.plan.convention {
-            Convention::Ppc64 => 0,
+            Convention::Ppc64 | Convention::Aix => 0,
             Convention::Z => Z_AREA,
         };
         let label = format!("@{}", first + place);
@@ -108,15 +119,20 @@ impl Call<'_> {
         let Some((number, argument)) = owner else {
             let hidden = self.hidden().filter(|_| place == 0);
             let note = hidden.map(|name| format!("h is in {name}"));
-            return Row::new(&label, repeated("")).noted(note);
+            return Row::new(&label, repeated("", self.word())).noted(note);
         };
         let at = place - argument.home.start;
         if argument.memory.contains(&place) {
-            return Row::new(&label, self.marks(number, argument, at));
+            return Row::new(&label, self.marks(number, argument, at, self.word()));
         }
-        let register = argument.registers().nth(at / 8);
+        // a floating register has all words of its argument
+        let nth = match argument.floating.is_empty() {
+            true => at / self.word(),
+            false => 0,
+        };
+        let register = argument.registers().nth(nth);
         let note = register.map(|name| format!("{number} is in {name}"));
-        Row::new(&label, repeated("")).noted(note)
+        Row::new(&label, repeated("", self.word())).noted(note)
     }
 
     fn copy_rows(&self) -> Vec<Row> {
@@ -132,17 +148,33 @@ impl Call<'_> {
         rows
     }
 
-    /// The marks of the 8 bytes of an argument that come after `at` others.
-    fn marks(&self, number: usize, argument: &Argument, at: usize) -> Vec<String> {
+    /// The marks of a word as those of a general register's 8 bytes of the image: it is in the last.
+    fn in_general(&self, word: Vec<String>) -> Vec<String> {
+        [repeated(".", IN_IMAGE - word.len()), word].concat()
+    }
+
+    /// The marks of the 8 bytes of an argument's register, of which `nth` come before it.
+    fn register_marks(&self, number: usize, argument: &Argument, nth: usize) -> Vec<String> {
+        match argument.floating.is_empty() {
+            true => {
+                let word = self.word();
+                self.in_general(self.marks(number, argument, word * nth, word))
+            }
+            false => self.marks(number, argument, IN_IMAGE * nth, IN_IMAGE),
+        }
+    }
+
+    /// The marks of `count` bytes of an argument that come after `at` others.
+    fn marks(&self, number: usize, argument: &Argument, at: usize, count: usize) -> Vec<String> {
         if argument.by_reference() {
-            return repeated(&format!("&{number}"));
+            return repeated(&format!("&{number}"), count);
         }
         let own = self.own(argument);
         let mark = |byte| match own.contains(&byte) {
             true => number.to_string(),
             false => ".".to_string(),
         };
-        (at..at + 8).map(mark).collect()
+        (at..at + count).map(mark).collect()
     }
 
     /// Where in its places a value stands.
@@ -150,14 +182,17 @@ impl Call<'_> {
         let size = argument.value.len();
         let in_float = !argument.floating.is_empty();
         let is_struct = self.signature[argument.item] == STRUCT;
-        match self.plan.convention {
+        let is_power = self.plan.convention != Convention::Z;
+        match (in_float, is_power) {
             // a single widened to a double: sign, exponent and fraction have 35 bits
-            Convention::Ppc64 if in_float && size == 4 => 0..5,
-            Convention::Ppc64 if is_struct => 0..size,
-            Convention::Z if in_float => 0..size,
-            // at the end of a doubleword
-            _ if size < 8 => 8 - size..8,
-            _ => 0..size,
+            (true, true) if size == 4 => 0..5,
+            (true, _) => 0..size,
+            (false, true) if is_struct => 0..size,
+            // at the end of its words
+            _ => {
+                let end = size.next_multiple_of(self.word());
+                end - size..end
+            }
         }
     }
 }
@@ -210,8 +245,8 @@ impl Row {
     }
 }
 
-fn repeated(mark: &str) -> Vec<String> {
-    vec![mark.to_string(); 8]
+fn repeated(mark: &str, count: usize) -> Vec<String> {
+    vec![mark.to_string(); count]
 }
 
 #[cfg(test)]
@@ -268,8 +303,11 @@ mod tests {
             types.push([&[0x12, 0, 4][..], &field].concat());
         }
         let mut all = Vec::new();
-        for convention in [1, 2] {
-            for (of, before) in types.iter().flat_map(|of| [(of, 0), (of, 7), (of, 20)]) {
+        // AIX has no long double, and no double in a struct
+        let on_aix = |of: &Vec<u8>| of[..] != [0x11, 0, 1, 2] && !of.ends_with(&[4, 0x11, 0, 1, 1]);
+        for convention in [1, 2, 3] {
+            let types = types.iter().filter(|of| convention != 3 || on_aix(of));
+            for (of, before) in types.flat_map(|of| [(of, 0), (of, 7), (of, 20)]) {
                 let mut arguments = [0x10, 0, 1, 4].repeat(before);
                 arguments.extend([0x11, 0, 1, 1].repeat(before));
                 arguments.extend_from_slice(of);
@@ -297,13 +335,19 @@ mod tests {
                 if argument.by_reference() {
                     continue;
                 }
-                let in_image = argument.registers().map(|register| match register {
-                    Register::General(number) => (0, 8 * usize::from(number)),
-                    Register::Floating(number) => (0, 256 + 8 * usize::from(number)),
+                let in_image = argument.registers().enumerate().map(|(nth, register)| {
+                    let place = match register {
+                        Register::General(number) => 8 * usize::from(number),
+                        Register::Floating(number) => 256 + 8 * usize::from(number),
+                    };
+                    (0, place, call.register_marks(number, argument, nth))
                 });
-                let in_area = argument.memory.clone().step_by(8).map(|place| (1, place));
-                for (word, (buffer, place)) in in_image.chain(in_area).enumerate() {
-                    let marks = call.marks(number, argument, 8 * word);
+                let word = call.word();
+                let in_area = argument.memory.clone().step_by(word).map(|place| {
+                    let at = place - argument.home.start;
+                    (1, place, call.marks(number, argument, at, word))
+                });
+                for (buffer, place, marks) in in_image.chain(in_area) {
                     for (byte, mark) in marks.iter().enumerate() {
                         let at = place + byte;
                         let filled = [&zeros, &values, &ground].map(|of| of[buffer][at]);

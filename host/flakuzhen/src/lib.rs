@@ -36,7 +36,8 @@ pub struct Refusal {
     /// names no place.
     pub place: u64,
     /// How far the reading of the signature had come: the headers that had passed their tests of
-    /// room, tag and length, without that of the faulty item. 0 for refusals 1 and 10 up.
+    /// room, tag and length, without that of the faulty item. 0 for refusal 1, and where the
+    /// signature is accepted.
     pub items: u64,
 }
 
@@ -96,7 +97,7 @@ impl Refusal {
             9 => "bytes after the third item",
             10 => "the buffer of values is not exactly of the arguments' size",
             11 => "the buffer of parameters is shorter than the area",
-            12 => "the copy buffer is too short, or its address is no multiple of 8 or too high",
+            12 => "the copy buffer is too short, or its address is no multiple of 8 or too high, or a hidden address on AIX is over 32 bits",
             13 => "an address that does not lie in the copy buffer with all that it points at",
             14 => "the bits of a double that is no widened single",
             15 => "the image of the registers is not 512 bytes",
@@ -109,6 +110,7 @@ impl Refusal {
             22 => "no frame to leave",
             23 => "a machine state that cannot be",
             24 => "no home or view for this convention, or no argument with this index",
+            25 => "a long double on AIX, or a double inside a struct there",
             28 => "an enter above a leaf",
             _ => "a refusal that this version has no words for",
         }
@@ -124,7 +126,7 @@ impl fmt::Display for Refusal {
         } = self;
         write!(to, "refused {number} at {place}")?;
         // a reading's refusals, which alone have a count
-        if (1..=9).contains(number) {
+        if matches!(number, 1..=9 | 25) {
             write!(to, " after {items}")?;
         }
         write!(to, ": {}", self.message())
@@ -144,7 +146,7 @@ mod tests {
             place: 0,
             items: 0,
         };
-        for number in 1..=24 {
+        for number in (1..=25).chain([28]) {
             let refusal = Refusal {
                 number,
                 place: 3,
@@ -152,7 +154,8 @@ mod tests {
             };
             let message = refusal.message();
             assert_ne!(message, unknown.message());
-            let after = if number < 10 { " after 2" } else { "" };
+            let counted = number < 10 || number == 25;
+            let after = if counted { " after 2" } else { "" };
             let told = format!("refused {number} at 3{after}: {message}");
             assert_eq!(refusal.to_string(), told);
         }

@@ -66,7 +66,8 @@ pub struct Machine {
 
 impl Machine {
     /// Starts a machine whose memory's first byte has the address `base`. It sets the stack pointer
-    /// and writes eight zeros there; the other registers are as handed in.
+    /// and writes a zero there, of eight bytes or on AIX of four; the other registers are as handed
+    /// in, on AIX of general registers and LR the low halves.
     pub fn start(
         convention: Convention,
         registers: &Registers,
@@ -78,6 +79,7 @@ impl Machine {
         let answer = match convention {
             Convention::Ppc64 => surface::machine::start_ppc64(state, registers, base, memory),
             Convention::Z => surface::machine::start_z(state, registers, base, memory),
+            Convention::Aix => surface::machine::start_aix(state, registers, base, memory),
         };
         accepted(answer, machine)
     }
@@ -114,7 +116,7 @@ impl Machine {
         accepted(answer, ())
     }
 
-    /// The register that is the stack pointer: r1 on PPC64, r15 on Z.
+    /// The register that is the stack pointer: r1 on PPC64 and AIX, r15 on Z.
     pub fn stack_pointer(&self) -> u64 {
         match self.state.convention {
             2 => self.state.registers.gpr[15],
@@ -204,6 +206,39 @@ mod tests {
         refused(shorter.leave(), 16);
         let mut nothing = Machine::from_parts(State::default(), memory);
         refused(nothing.leave(), 23);
+    }
+
+    #[test]
+    fn a_machine_of_32_bits() {
+        let mut registers = Registers {
+            lr: 0x1_0000_0007,
+            ..Registers::default()
+        };
+        registers.gpr[31] = u64::MAX;
+        let mut machine =
+            Machine::start(Convention::Aix, &registers, 0x2000, vec![0xee; 1024]).expect("a start");
+        let pointer = 0x2000 + 1024 - 64;
+        assert_eq!(machine.stack_pointer(), pointer);
+        assert_eq!(machine.memory()[1024 - 64..][..5], [0, 0, 0, 0, 0xee]);
+        let registers = machine.state().registers;
+        assert_eq!((registers.lr, registers.gpr[31]), (7, 0xffff_ffff));
+        let frame = Frame {
+            first_gpr: 13,
+            first_fpr: 32,
+            ..FRAME
+        };
+        assert_eq!(machine.enter(&frame), Ok(()));
+        // 24 of header, 32 of outgoing area, 8 of locals and 76 of saves, rounded up
+        assert_eq!(machine.stack_pointer(), pointer - 144);
+        assert_eq!(machine.write(Register::General(13), 0xffff_ffff), Ok(()));
+        refused(machine.write(Register::General(13), 1 << 32), 20);
+        assert_eq!(machine.write(Register::Floating(13), u64::MAX), Ok(()));
+        assert_eq!(machine.leave(), Ok(()));
+        assert_eq!(machine.state().registers.gpr[13], 0);
+        // a memory that ends at 2^32
+        let base = (1 << 32) - 1024;
+        let answer = Machine::start(Convention::Aix, &registers, base, vec![0; 1024]);
+        assert_eq!(answer, Err(refusal(16)));
     }
 
     #[test]

@@ -26,7 +26,7 @@ read      prints a line for each signature with its count of items, 'items N'
           refused: ITEMS is the count of headers that were good until there.
 --hex     the input is hexadecimal text with '#' comments, not the bytes themselves
 --picture draws a table of the registers, the parameter area and the copies instead, a row
-          to a doubleword, with the argument that has each byte
+          to a doubleword (to a word in AIX's area), with the argument that has each byte
 FILE      holds one signature; '-', or no FILE at all, is standard input
 
 replay    makes calls of the frame machine, on registers and memory of zeros, and prints
@@ -35,7 +35,7 @@ replay    makes calls of the frame machine, on registers and memory of zeros, an
 --picture draws the stack too, from the highest address down, after each call that changes
           the drawing: frames, headers, save slots, areas and floor, with addresses and bytes
 FILE      has one call to a line, and '#' comments; '-' is standard input:
-            start ppc64 SIZE BASE       or 'start z SIZE BASE': of the memory, in bytes
+            start ppc64 SIZE BASE       of the memory, in bytes; or 'start z ..', 'start aix ..'
             enter g=29 m=30 cr=1 locals=20 out=64
                                         saves r29 up, f30 up and CR; bytes of locals and
                                         of outgoing arguments (cr, locals, out: else 0)

@@ -4,13 +4,14 @@
 //! An image is the registers, 512 bytes: general register n at 8n, floating register n at
 //! 256 + 8n. An area is what the caller's stack frame has for arguments. Copies are what arguments
 //! that are passed by reference point at; the first byte has the address `copy_base`. All numbers in
-//! them are big-endian.
+//! them are big-endian. On AIX a general register's 4 bytes are the low half of its 8, the high half
+//! zero.
 
 use crate::{accepted, surface, Refusal};
 
 /// Puts the values of a call's arguments where its callee looks for them. `values` has the
-/// arguments in order without gaps. `hidden` is the address for a result in memory, and is not
-/// looked at where the signature has none.
+/// arguments in order without gaps. `hidden` is the address for a result in memory, on AIX of at
+/// most 32 bits, and is not looked at where the signature has none.
 ///
 /// ```
 /// // PPC64, no result, arguments i32 and double
@@ -52,15 +53,15 @@ pub fn read(
     accepted(answer, ())
 }
 
-/// PPC64: copies the arguments that came in registers into the area, each to its own place, so
-/// that all arguments stand there.
+/// PPC64 and AIX: copies the arguments that came in registers into the area, each to its own place,
+/// so that all arguments stand there.
 pub fn home(signature: &[u8], image: &[u8], area: &mut [u8]) -> Result<(), Refusal> {
     let answer = surface::marshal::home(signature, image, area);
     accepted(answer, ())
 }
 
-/// PPC64: the bytes of the argument with this index, counted from 0, in an area that [`home`] has
-/// completed.
+/// PPC64 and AIX: the bytes of the argument with this index, counted from 0, in an area that
+/// [`home`] has completed.
 ///
 /// ```
 /// // PPC64, no result, arguments i32 and double

@@ -22,6 +22,7 @@ pub struct Sizes {
 pub enum Convention {
     Ppc64,
     Z,
+    Aix,
 }
 
 /// A register, which prints as its name: `r3`, `f1`.
@@ -74,6 +75,7 @@ impl fmt::Display for Convention {
         to.write_str(match self {
             Convention::Ppc64 => "PPC64",
             Convention::Z => "Z",
+            Convention::Aix => "AIX",
         })
     }
 }
@@ -168,6 +170,7 @@ fn plan_from(signature: &[u8], room: usize) -> Result<Plan, Refusal> {
         // the library's promise: one of these two
         convention: match planned.convention {
             1 => Convention::Ppc64,
+            3 => Convention::Aix,
             _ => Convention::Z,
         },
         sizes: Sizes {

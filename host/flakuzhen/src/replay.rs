@@ -129,7 +129,7 @@ fn parse_call(word: &str, values: &[&str]) -> Result<(String, Call), String> {
     match (word, values) {
         ("start", &[convention, size, base]) => Ok(named(parse_start(convention, size, base)?)),
         ("start", _) => {
-            Err("a start is 'start ppc64 SIZE BASE' or 'start z SIZE BASE'".to_string())
+            Err("a start is 'start CONVENTION SIZE BASE', of ppc64, z or aix".to_string())
         }
         ("enter", _) => Ok(named(Call::Enter(parse_request(values)?))),
         ("write", &["mem", address, ref bytes @ ..]) => {
@@ -156,7 +156,8 @@ fn parse_start(convention: &str, size: &str, base: &str) -> Result<Call, String>
     let convention = match convention {
         "ppc64" => Convention::Ppc64,
         "z" => Convention::Z,
-        _ => return Err(format!("{convention:?} is no convention: ppc64 or z")),
+        "aix" => Convention::Aix,
+        _ => return Err(format!("{convention:?} is no convention: ppc64, z or aix")),
     };
     let size = parse_number(size)?;
     if size > LARGEST_MEMORY {
@@ -171,7 +172,7 @@ fn parse_start(convention: &str, size: &str, base: &str) -> Result<Call, String>
 }
 
 /// The words of an enter, each at most once and in any order. Only those for the first saved
-/// registers must be there: what they are without any is not the same in both conventions.
+/// registers must be there: what they are without any is not the same in all conventions.
 fn parse_request(words: &[&str]) -> Result<Frame, String> {
     let mut values: [Option<u64>; 5] = [None; 5];
     let mut leaf = 0;
@@ -264,6 +265,14 @@ mod tests {
                 convention: Convention::Z,
                 size: 4096,
                 base: 65_536
+            }
+        );
+        assert_eq!(
+            call("start aix 288 0"),
+            Call::Start {
+                convention: Convention::Aix,
+                size: 288,
+                base: 0
             }
         );
         let request = Frame {

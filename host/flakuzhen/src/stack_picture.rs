@@ -8,7 +8,8 @@
 use flakuzhen::machine::{Convention, Frame, Machine, Registers};
 use std::ops::Range;
 
-/// Bytes that are asked for at a time: CR's save slot is the smallest of all parts.
+/// Bytes that are asked for at a time: CR's save slot is the smallest of all parts, and so are all of
+/// AIX's words.
 const WORD: usize = 4;
 
 #[derive(Clone, PartialEq, Eq)]
@@ -17,6 +18,8 @@ enum Part {
     BackChain,
     Outgoing,
     Locals,
+    /// What the start has above its outgoing area.
+    Unused,
     /// The bytes of the floor that the leaf of this name may write.
     Free(String),
     /// The name of the frame or leaf, the oldest being number 1, and that of the register.
@@ -67,6 +70,7 @@ pub fn draw(machine: &Machine) -> String {
 fn floor(machine: &Machine) -> usize {
     let convention = match machine.state().convention {
         1 => Convention::Ppc64,
+        3 => Convention::Aix,
         _ => Convention::Z,
     };
     let memory = vec![0; 1024];
@@ -133,6 +137,11 @@ fn parts(functions: &[Machine], floor: usize) -> Vec<Part> {
     let size = functions[0].memory().len();
     let start_of = |index: usize| functions.get(index).map_or(size, place_of);
     let mut parts = vec![Part::Header; size / WORD];
+    // a back chain is a doubleword, on AIX a word
+    let chain = match functions[0].state().convention {
+        3 => 1,
+        _ => 2,
+    };
     for (index, function) in functions.iter().enumerate() {
         let mut own = start_of(index)..start_of(index + 1);
         if is_leaf(function) {
@@ -144,8 +153,8 @@ fn parts(functions: &[Machine], floor: usize) -> Vec<Part> {
             let reach = own.start..start_of(index + 2);
             mark_saves(function, caller, reach, &mut parts);
         }
-        // the doubleword at the stack pointer, which is the caller's where a leaf has none
-        parts[start_of(index) / WORD..][..2].fill(Part::BackChain);
+        // at the stack pointer, which is the caller's where a leaf has none
+        parts[start_of(index) / WORD..][..chain].fill(Part::BackChain);
     }
     parts
 }
@@ -154,7 +163,7 @@ fn parts(functions: &[Machine], floor: usize) -> Vec<Part> {
 fn mark_areas(function: &Machine, own: Range<usize>, parts: &mut [Part]) {
     let mut function = function.clone();
     let mut areas: Vec<Range<usize>> = Vec::new();
-    for at in own.step_by(WORD) {
+    for at in own.clone().step_by(WORD) {
         if !may_write(&mut function, at..at + WORD) {
             continue;
         }
@@ -167,6 +176,9 @@ fn mark_areas(function: &Machine, own: Range<usize>, parts: &mut [Part]) {
         }
     }
     let depth = function.state().depth as usize;
+    if let (0, Some(last)) = (depth, areas.last()) {
+        parts[last.end / WORD..own.end / WORD].fill(Part::Unused);
+    }
     let asked = depth > 0 && function.state().frames[depth - 1].locals > 0;
     let names = match areas.len() {
         _ if is_leaf(&function) => vec![Part::Free(name_of(&function))],
@@ -195,8 +207,8 @@ fn mark_saves(function: &Machine, caller: &Machine, reach: Range<usize>, parts: 
         let mut changed = Machine::from_parts(state.clone(), memory);
         let name = match changed.leave() {
             Ok(()) => difference(&caller.state().registers, &changed.state().registers),
-            // the caller's stack pointer is the one thing that a leave tests: on PPC64 the back
-            // chain, which has a name of its own, on Z the slot of r15
+            // the caller's stack pointer is the one thing that a leave tests: on PPC64 and AIX the
+            // back chain, which has a name of its own, on Z the slot of r15
             Err(_) => Some("r15".to_string()),
         };
         if let Some(name) = name {
@@ -247,6 +259,7 @@ fn row(function: &Machine, part: &Part, bytes: &Range<usize>) -> String {
         Part::BackChain => ("back chain".to_string(), true),
         Part::Outgoing => ("outgoing area".to_string(), false),
         Part::Locals => ("locals".to_string(), false),
+        Part::Unused => ("unused".to_string(), false),
         Part::Free(leaf) => (format!("free for {leaf}"), false),
         Part::Saved(owner, register) => (format!("{owner} saved {register}"), true),
     };

@@ -245,6 +245,7 @@ fn calls_of_all_kinds() {
         "enter g=00000000000000000000000000029 m=0x0000000000000000000000000000001e",
         "start z 0x1000 0",
         "start z 256 18446744073709551344",
+        "start aix 288 4294966992",
         "write r0 0xffffffffffffffff",
         "write r012 18446744073709551615",
         "write f13 1",
@@ -267,6 +268,10 @@ fn calls_of_all_kinds() {
         "enter g=0 m=0",
         "enter leaf g=32 m=32 locals=1",
         "start z 4096 0\nenter leaf g=14 m=16",
+        "start aix 272 0",
+        "start aix 288 4294967008",
+        "start aix 4096 0\nenter g=12 m=32",
+        "start aix 4096 0\nwrite r3 0x100000000",
         "enter leaf g=32 m=32\nenter g=32 m=32",
         "enter g=32 m=32 cr=2",
         "enter g=32 m=32 locals=18446744073709551615 out=0xffffffffffffffff",
@@ -303,7 +308,7 @@ fn calls_of_all_kinds() {
 
 #[test]
 fn lines_that_are_wrong() {
-    let lines: [&[u8]; 60] = [
+    let lines: [&[u8]; 62] = [
         b"jump",
         b"Leave",
         b"leaves",
@@ -312,6 +317,8 @@ fn lines_that_are_wrong() {
         b"start z",
         b"start ppc64 4096",
         b"start ppc64 4096 0 0",
+        b"start aix 4096",
+        b"start aix64 4096 0",
         b"start ppc32 4096 0",
         b"start Z 1048577 x",
         b"start z 1048577 x",

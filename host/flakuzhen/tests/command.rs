@@ -44,6 +44,9 @@ fn example(name: &str) -> String {
 #[test]
 fn reads_the_examples() {
     let readings = [
+        ("aix-lseek64.hex", 0, "items 7\n"),
+        ("aix-moofunc.hex", 0, "items 12\n"),
+        ("aix-straddling-struct.hex", 0, "items 21\n"),
         ("limit-128-arguments.hex", 0, "items 131\n"),
         ("limit-129-arguments.hex", 1, "refused 7 at 522 after 131\n"),
         ("limit-depth-8.hex", 0, "items 12\n"),
@@ -59,6 +62,11 @@ fn reads_the_examples() {
         ("ppc64-ldiv.hex", 0, "items 8\n"),
         ("ppc64-straddling-struct.hex", 0, "items 16\n"),
         ("ppc64-two-arguments.hex", 0, "items 5\n"),
+        (
+            "refused-aix-double-field.hex",
+            1,
+            "refused 25 at 17 after 5\n",
+        ),
         (
             "refused-long-double-field.hex",
             1,
@@ -102,6 +110,23 @@ fn stored(file: &Path, ending: &str) -> String {
     std::fs::read_to_string(&path).unwrap_or_else(|fault| panic!("{path:?}: {fault}"))
 }
 
+/// As document 004's figure 5 has it: "i1 is passed in GPR3", "f1 [..] in FPR1", "d1 [..] into FPR2",
+/// "s1 [..] GPR7", "d2 [..] FPR3", "c1 [..] GPR10", "s2 is then passed in the parameter area", "f2 [..]
+/// in FPR4", and "i2 is passed on the stack".
+const MOO_FUNC: &str = "\
+AIX args 9 area 44
+0 r3 @0
+1 f1 @4
+2 f2 @8
+3 r7 @16
+4 f3 @20
+5 r10 @28
+6 mem @32
+7 f4 @36
+8 mem @40
+result none
+";
+
 const FIGURE_3_18: &str = "\
 PPC64 args 9 area 96
 0 r3 @0
@@ -126,6 +151,7 @@ fn lists_the_examples() {
     }
     // as document 01 has it
     assert_eq!(stored_listing("ppc64-figure-3-18.hex"), FIGURE_3_18);
+    assert_eq!(stored_listing("aix-moofunc.hex"), MOO_FUNC);
 }
 
 #[test]
@@ -174,6 +200,29 @@ result hidden r3
   h   the address for the result
 ";
     prints(&run(&["list", "--picture"], &ppc64), 0, picture);
+    let mut aix = ppc64;
+    aix[3] = 3;
+    let picture = "\
+AIX args 0 area 32
+
+registers    0   1   2   3   4   5   6   7
+r3           .   .   .   .   h   h   h   h
+
+area         0   1   2   3
+@0                          h is in r3
+@4
+@8
+@12
+@16
+@20
+@24
+@28
+
+result hidden r3
+  .   fills up: zeros, or an integer's sign
+  h   the address for the result
+";
+    prints(&run(&["list", "--picture"], &aix), 0, picture);
 }
 
 #[test]
@@ -318,7 +367,7 @@ fn replays_the_examples() {
         prints(&run(&["replay", "-"], &text), 1, &stored(&list, "out"));
         replayed += 1;
     }
-    assert_eq!(replayed, 5);
+    assert_eq!(replayed, 6);
 }
 
 #[test]
@@ -333,6 +382,11 @@ fn replays_each_call_and_says_the_stack_pointer_where_it_moves() {
         10 leave: accepted, stack pointer 0x10f90\n";
     prints(&run(&["replay", "-"], list), 0, said);
     prints(&run(&["replay", "-"], b"# nothing\n\n"), 0, "");
+    let list =
+        b"start aix 288 0\nenter leaf g=13 m=14\nwrite r13 4294967295\nwrite r13 4294967296\n";
+    let said = "1 start: accepted, stack pointer 0xe0\n2 enter: accepted, stack pointer 0xe0\n\
+        3 write r13: accepted\n4 write r13: refused 20 at 0\n";
+    prints(&run(&["replay", "-"], list), 1, said);
     let said = "1 start: refused 16 at 0\n2 leave: refused 23 at 0\n";
     prints(
         &run(&["replay", "-"], b"start z 1048576 0\nleave\n"),
@@ -347,10 +401,13 @@ fn a_bad_line_is_told_with_its_number_and_no_call_is_made() {
         (b"jump", "\"jump\" is no call"),
         (b"Leave", "\"Leave\" is no call"),
         (b"leave now", "a leave has no words"),
-        (b"start", "a start is 'start ppc64 SIZE BASE'"),
+        (b"start", "a start is 'start CONVENTION SIZE BASE'"),
         (b"start ppc64 4096", "a start is"),
         (b"start ppc64 4096 0 0", "a start is"),
-        (b"start ppc32 4096 0", "\"ppc32\" is no convention"),
+        (
+            b"start ppc32 4096 0",
+            "\"ppc32\" is no convention: ppc64, z or aix",
+        ),
         (b"start z 1048577 0", "a memory of over 1048576 bytes"),
         (b"start z -16 0", "\"-16\" is no number"),
         (b"enter m=30", "an enter without g="),

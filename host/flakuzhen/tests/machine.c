@@ -161,10 +161,62 @@ static void check_z(void)
     CHECK(answers(fz_enter(&machine, &request, memory, LENGTH), FZ_BAD_MEMORY));
 }
 
+static uint64_t word(uint64_t address)
+{
+    return doubleword(address) >> 32;
+}
+
+/* registers of 32 bits, of which an accepted start takes the low halves */
+static void check_aix(void)
+{
+    static const fz_frame request = {13, 30, 1, 20, 40, 0};
+    static const fz_frame none = {12, 30, 1, 20, 40, 0};
+    static const fz_frame leaf = {13, 14, 0, 0, 0, 1};
+    static const uint8_t bytes[4] = {1, 2, 3, 4};
+    uint64_t s = BASE + LENGTH - 64;
+    fz_machine before;
+
+    hand_in_registers();
+    registers.gpr[13] |= UINT64_C(1) << 32;
+    registers.lr |= UINT64_C(1) << 63;
+    CHECK(answers(fz_start_aix(&machine, &registers, UINT64_C(0x100000000) - LENGTH, memory, LENGTH),
+                  FZ_BAD_MEMORY));
+    CHECK(machine.convention == 3 && machine.base == 0 && machine.size == 0);
+    CHECK(memcmp(&machine.registers, &registers, sizeof registers) == 0);
+    CHECK(answers(fz_start_aix(&machine, &registers, BASE, memory, LENGTH), FZ_ACCEPTED));
+    CHECK(machine.registers.gpr[1] == s && doubleword(s) == UINT64_C(0x00000000eeeeeeee));
+    CHECK(machine.registers.gpr[13] == 113 && machine.registers.lr == 300);
+    before = machine;
+
+    CHECK(answers(fz_enter(&machine, &none, memory, LENGTH), FZ_BAD_REQUEST));
+    CHECK(answers(fz_enter(&machine, &request, memory, LENGTH), FZ_ACCEPTED));
+    /* 24, 40, 20, 19 words and 2 doublewords are 176 */
+    CHECK(machine.depth == 1 && machine.registers.gpr[1] == s - 176);
+    CHECK(doubleword(s - 8) == 231 && word(s - 20) == 131 && word(s - 92) == 113);
+    CHECK(word(s + 4) == UINT64_C(0x12345678) && word(s + 8) == 300 && word(s - 176) == s);
+
+    CHECK(answers(fz_write_register(&machine, 0, 13, UINT64_C(0xffffffff), memory, LENGTH),
+                  FZ_ACCEPTED));
+    CHECK(answers(fz_write_register(&machine, 0, 13, UINT64_C(0x100000000), memory, LENGTH),
+                  FZ_NOT_PERMITTED));
+    CHECK(answers(fz_write_register(&machine, 2, 0, UINT64_MAX, memory, LENGTH), FZ_NOT_PERMITTED));
+    CHECK(answers(fz_write_register(&machine, 1, 30, UINT64_MAX, memory, LENGTH), FZ_ACCEPTED));
+    CHECK(answers(fz_write_memory(&machine, s - 176 + 24, bytes, 4, memory, LENGTH), FZ_ACCEPTED));
+    CHECK(answers(fz_write_memory(&machine, s - 176 + 20, bytes, 4, memory, LENGTH),
+                  FZ_NOT_PERMITTED));
+    CHECK(answers(fz_enter(&machine, &leaf, memory, LENGTH), FZ_ACCEPTED));
+    CHECK(answers(fz_leave(&machine, memory, LENGTH), FZ_ACCEPTED));
+    CHECK(answers(fz_leave(&machine, memory, LENGTH), FZ_ACCEPTED));
+    CHECK(memcmp(&machine, &before, sizeof machine) == 0);
+    machine.registers.gpr[0] |= UINT64_C(1) << 32;
+    CHECK(answers(fz_leave(&machine, memory, LENGTH), FZ_BAD_STATE));
+}
+
 int main(void)
 {
     check_ppc64();
     check_leaf();
     check_z();
+    check_aix();
     return wrong;
 }

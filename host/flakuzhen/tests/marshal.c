@@ -98,9 +98,51 @@ static void check_z(void)
     CHECK(answers(fz_view(area, 64, z, 18, 0).answer, FZ_NO_VIEW));
 }
 
+/* AIX, result struct of i8, arguments i16, i64 and single */
+static const uint8_t aix[29] = {0x01, 0x00, 0x01, 0x03, 0x02, 0x00, 0x07, 0x12, 0x00, 0x04,
+                                0x10, 0x00, 0x01, 0x00, 0x03, 0x00, 0x0c, 0x10, 0x00, 0x01,
+                                0x02, 0x10, 0x00, 0x01, 0x06, 0x11, 0x00, 0x01, 0x00};
+
+static void check_aix(void)
+{
+    /* -2, a number of 64 bits, and 1.0 */
+    static const uint8_t values[14] = {0xff, 0xfe, 1, 2, 3, 4, 5, 6, 7, 8, 0x3f, 0x80, 0, 0};
+    static const uint8_t registers[32] = {0, 0, 0, 0, 0x80, 0, 0x20, 0,       /* the hidden address */
+                                          0, 0, 0, 0, 0xff, 0xff, 0xff, 0xfe, /* r4 */
+                                          0, 0, 0, 0, 1, 2, 3, 4,             /* r5 */
+                                          0, 0, 0, 0, 5, 6, 7, 8};            /* r6 */
+    static const uint8_t f1[8] = {0x3f, 0xf0, 0, 0, 0, 0, 0, 0};
+    static const uint8_t homed[16] = {0xff, 0xff, 0xff, 0xfe, 1, 2,    3,    4,
+                                      5,    6,    7,    8,    0x3f, 0x80, 0, 0};
+    uint8_t back[14];
+    fz_part part;
+
+    start();
+    CHECK(answers(fz_fill(aix, 29, values, 14, image, 512, area, 32, copies, 0, 1, 0x80002000), 0));
+    CHECK(memcmp(image + 8 * 3, registers, 32) == 0);
+    CHECK(memcmp(image + 256 + 8 * 1, f1, 8) == 0);
+    CHECK(image[23] == 0xee && image[8 * 7] == 0xee && area[0] == 0xee);
+    /* what stands in the high half of a register is not looked at */
+    memset(image + 8 * 5, 0xee, 4);
+    CHECK(answers(fz_read(aix, 29, back, 14, image, 512, area, 32, copies, 0, 1), 0));
+    CHECK(memcmp(back, values, 14) == 0);
+    CHECK(answers(fz_home(aix, 29, image, 512, area, 32), 0));
+    CHECK(area[0] == 0xee && memcmp(area + 4, homed, 16) == 0 && area[20] == 0xee);
+    part = fz_view(area, 32, aix, 29, 0);
+    CHECK(answers(part.answer, 0) && part.start == 6 && part.length == 2);
+    part = fz_view(area, 32, aix, 29, 1);
+    CHECK(answers(part.answer, 0) && part.start == 8 && part.length == 8);
+    CHECK(answers(fz_fill(aix, 29, values, 14, image, 512, area, 31, copies, 0, 1, 0),
+                  FZ_AREA_TOO_SHORT));
+    CHECK(answers(fz_fill(aix, 29, values, 14, image, 512, area, 32, copies, 0, 1,
+                          UINT64_C(0x100000000)),
+                  FZ_BAD_COPIES));
+}
+
 int main(void)
 {
     check_ppc64();
     check_z();
+    check_aix();
     return wrong;
 }

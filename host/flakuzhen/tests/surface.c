@@ -21,6 +21,31 @@ static void check_reading(void)
     CHECK(none.number == FZ_TRUNCATED && none.place == 0 && none.items == 0);
 }
 
+/* AIX, arguments i64 and a struct of i8 and a float of the code */
+static void check_aix(void)
+{
+    uint8_t sig[25] = {0x01, 0x00, 0x01, 0x03, 0x02, 0x00, 0x00, 0x03, 0x00, 0x0f, 0x10, 0x00, 0x01,
+                       0x06, 0x12, 0x00, 0x08, 0x10, 0x00, 0x01, 0x00, 0x11, 0x00, 0x01, 0x00};
+    static const char listing[] = "AIX args 2 area 32\n0 r3 r4 @0\n1 r5 r6 @8\nresult none\n";
+    char text[100] = "";
+    fz_sizes sizes = fz_measure(sig, sizeof sig);
+    fz_answer no;
+
+    CHECK(sizes.answer.number == FZ_ACCEPTED);
+    CHECK(sizes.values == 16 && sizes.area == 32 && sizes.copies == 0);
+    CHECK(fz_listing(sig, sizeof sig, text, sizeof text) == sizeof listing - 1);
+    CHECK(strcmp(text, listing) == 0);
+    sig[24] = 1;
+    no = fz_read_signature(sig, sizeof sig);
+    CHECK(no.number == FZ_FLOAT_NOT_CARRIED && no.place == 21 && no.items == 6);
+    sig[24] = 2;
+    no = fz_read_signature(sig, sizeof sig);
+    CHECK(no.number == FZ_LONG_DOUBLE_IN_STRUCT && no.place == 21 && no.items == 6);
+    sig[3] = 4;
+    no = fz_read_signature(sig, sizeof sig);
+    CHECK(no.number == FZ_MALFORMED && no.place == 0 && no.items == 0);
+}
+
 static void check_float_bits(void)
 {
     fz_narrowed yes = fz_narrow(UINT64_C(0x7FF0000020000000));
@@ -120,6 +145,7 @@ int main(void)
 {
     check_version();
     check_reading();
+    check_aix();
     check_float_bits();
     check_measuring();
     check_planning();

@@ -18,11 +18,11 @@ pub struct Registers {
     pub count: u8,
 }
 
-/// Doublewords of memory that follow each other, counted as in [`Place::Memory`].
+/// Doublewords of memory that follow each other, on AIX words, counted as in [`Place::Memory`].
 #[derive(Clone, Copy, Debug, Default, PartialEq, Eq)]
 pub struct Memory {
     pub offset: u16,
-    pub doublewords: u8,
+    pub words: u8,
 }
 
 /// Where an argument stands: first in registers, then in memory.
@@ -31,7 +31,7 @@ pub struct Argument {
     pub general: Registers,
     pub floating: Registers,
     pub memory: Memory,
-    /// The offset that a listing names: on PPC64 of the first doubleword, wherever that stands.
+    /// The offset that a listing names: on PPC64 and AIX of the first word, wherever that stands.
     pub offset: Option<u16>,
     /// Where the copy starts, if the argument is passed by reference.
     pub copy: Option<u16>,
@@ -66,6 +66,8 @@ pub struct Plan {
 pub enum ResultType {
     None,
     Integer,
+    /// Of 64 bits on AIX.
+    WideInteger,
     Float,
     LongDouble,
     Struct,
@@ -91,7 +93,9 @@ struct Shape {
     content: Content,
 }
 
-const INTEGER_SIZES: [usize; 9] = [1, 1, 2, 2, 4, 4, 8, 8, 8];
+/// Of all but pointers.
+const INTEGER_SIZES: [usize; 8] = [1, 1, 2, 2, 4, 4, 8, 8];
+const POINTER: u8 = 8;
 const FLOAT_SIZES: [usize; 3] = [4, 8, 16];
 
 /// The bytes of the parameter area, of all values and of the copies.
@@ -148,10 +152,11 @@ pub fn measure(bytes: &[u8]) -> Result<Sizes, Refusal> {
     place(bytes, &mut Nobody).map(|(_, _, sizes)| sizes)
 }
 
-/// A signature's bytes, and the headers that have passed so far.
+/// A signature's bytes, the headers that have passed so far, and the convention once it is known.
 struct Input<'a> {
     bytes: &'a [u8],
     passed: usize,
+    convention: Convention,
 }
 
 /// Reads a signature and places its arguments.
@@ -159,7 +164,11 @@ fn place(
     bytes: &[u8],
     keeper: &mut impl Keeper,
 ) -> Result<(Convention, ResultType, Sizes), Refusal> {
-    let mut input = Input { bytes, passed: 0 };
+    let mut input = Input {
+        bytes,
+        passed: 0,
+        convention: Convention::Ppc64,
+    };
     if bytes.len() > 16_384 {
         return input.refuse(1, 0);
     }
@@ -167,13 +176,17 @@ fn place(
     let convention = match bytes[3..convention_end] {
         [1] => Convention::Ppc64,
         [2] => Convention::Z,
+        [3] => Convention::Aix,
         _ => return input.refuse_item(4, 0),
     };
+    input.convention = convention;
     let result_end = input.header(convention_end, bytes.len(), |tag| tag == 0x02)?;
     let result = result_type(&mut input, convention_end + 3, result_end)?;
     let end = input.header(result_end, bytes.len(), |tag| tag == 0x03)?;
     let sizes = match convention {
-        Convention::Ppc64 => place_ppc64(&mut input, result_end + 3, end, result, keeper)?,
+        // the width is a constant in each, so that no division is left
+        Convention::Ppc64 => place_powerpc::<8>(&mut input, result_end + 3, end, result, keeper)?,
+        Convention::Aix => place_powerpc::<4>(&mut input, result_end + 3, end, result, keeper)?,
         Convention::Z => place_z(&mut input, result_end + 3, end, result, keeper)?,
     };
     if end < bytes.len() {
@@ -182,7 +195,7 @@ fn place(
     Ok((convention, result, sizes))
 }
 
-fn place_ppc64(
+fn place_powerpc<const WORD: usize>(
     input: &mut Input<'_>,
     body: usize,
     end: usize,
@@ -190,14 +203,14 @@ fn place_ppc64(
     keeper: &mut impl Keeper,
 ) -> Result<Sizes, Refusal> {
     let hidden = result == ResultType::Struct;
-    let mut doublewords = usize::from(hidden);
+    let mut words = usize::from(hidden);
     let mut floats = 0;
     let values = arguments(input, body, end, keeper, |shape| {
-        let first = doublewords;
-        let count = shape.size.div_ceil(8);
-        doublewords += count;
+        let first = words;
+        let count = shape.size.div_ceil(WORD);
+        words += count;
         let mut argument = Argument {
-            offset: Some(8 * first as u16),
+            offset: Some((WORD * first) as u16),
             ..Argument::default()
         };
         let in_registers = if shape.kind == Kind::Float {
@@ -221,14 +234,14 @@ fn place_ppc64(
         }
         if in_registers < count {
             argument.memory = Memory {
-                offset: 8 * (first + in_registers) as u16,
-                doublewords: (count - in_registers) as u8,
+                offset: (WORD * (first + in_registers)) as u16,
+                words: (count - in_registers) as u8,
             };
         }
         argument
     })?;
     Ok(Sizes {
-        area: 8 * doublewords.max(8),
+        area: WORD * words.max(8),
         values,
         copies: 0,
     })
@@ -275,7 +288,7 @@ fn place_z(
             argument.offset = Some(stack);
             argument.memory = Memory {
                 offset: stack,
-                doublewords: 1,
+                words: 1,
             };
             stack += 8;
         }
@@ -329,6 +342,7 @@ fn result_type(input: &mut Input<'_>, body: usize, end: usize) -> Result<ResultT
         return input.refuse(4, after);
     }
     Ok(match shape.kind {
+        Kind::Integer if shape.size > input.convention.word() => ResultType::WideInteger,
         Kind::Integer => ResultType::Integer,
         Kind::Float => ResultType::Float,
         Kind::LongDouble => ResultType::LongDouble,
@@ -346,14 +360,22 @@ fn shape(
     let end = input.header(at, limit, |tag| matches!(tag, 0x10..=0x12))?;
     let body = &input.bytes[at + 3..end];
     let shape = match (input.bytes[at], body) {
-        (0x10, &[code @ 0..=8]) => {
-            let content = match code {
-                0 | 2 | 4 | 6 => Content::SignedInteger,
+        (0x10, &[POINTER]) => {
+            let size = input.convention.word();
+            scalar(Kind::Integer, size, Content::UnsignedInteger)
+        }
+        (0x10, &[code @ 0..=7]) => {
+            let content = match code % 2 {
+                0 => Content::SignedInteger,
                 _ => Content::UnsignedInteger,
             };
             scalar(Kind::Integer, INTEGER_SIZES[usize::from(code)], content)
         }
         (0x11, &[2]) if depth > 1 => return input.refuse_item(5, at),
+        (0x11, &[2]) if input.convention == Convention::Aix => return input.refuse_item(25, at),
+        (0x11, &[1]) if input.convention == Convention::Aix && depth > 1 => {
+            return input.refuse_item(25, at)
+        }
         (0x11, &[2]) => scalar(Kind::LongDouble, 16, Content::Other),
         (0x11, &[code @ 0..=1]) => {
             scalar(Kind::Float, FLOAT_SIZES[usize::from(code)], Content::Float)
@@ -461,7 +483,11 @@ impl From<Plan> for crate::Plan {
     fn from(plan: Plan) -> crate::Plan {
         crate::Plan {
             convention: plan.convention,
-            arguments: plan.arguments.iter().map(argument_plan).collect(),
+            arguments: plan
+                .arguments
+                .iter()
+                .map(|argument| argument_plan(plan.convention, argument))
+                .collect(),
             result: result_plan(plan.convention, plan.result),
             area: plan.area,
             values: plan.values,
@@ -470,13 +496,14 @@ impl From<Plan> for crate::Plan {
     }
 }
 
-fn argument_plan(argument: &Argument) -> crate::ArgumentPlan {
+fn argument_plan(convention: Convention, argument: &Argument) -> crate::ArgumentPlan {
     let numbers = |registers: Registers| {
         let first = usize::from(registers.first);
         first..first + usize::from(registers.count)
     };
     let memory = argument.memory;
-    let offsets = (0..usize::from(memory.doublewords)).map(|n| usize::from(memory.offset) + 8 * n);
+    let word = convention.word();
+    let offsets = (0..usize::from(memory.words)).map(|n| usize::from(memory.offset) + word * n);
     let general = numbers(argument.general).map(Place::General);
     let floating = numbers(argument.floating).map(Place::Floating);
     crate::ArgumentPlan {
@@ -491,14 +518,15 @@ fn argument_plan(argument: &Argument) -> crate::ArgumentPlan {
 
 fn result_plan(convention: Convention, result: ResultType) -> ResultPlan {
     let (general, floating) = match convention {
-        Convention::Ppc64 => (Place::General(3), Place::Floating(1)),
+        Convention::Ppc64 | Convention::Aix => (Place::General(3), Place::Floating(1)),
         Convention::Z => (Place::General(2), Place::Floating(0)),
     };
     match (result, convention) {
         (ResultType::None, _) => ResultPlan::None,
         (ResultType::Integer, _) => ResultPlan::Registers(vec![general]),
+        (ResultType::WideInteger, _) => ResultPlan::Registers(vec![general, Place::General(4)]),
         (ResultType::Float, _) => ResultPlan::Registers(vec![floating]),
-        (ResultType::LongDouble, Convention::Ppc64) => {
+        (ResultType::LongDouble, Convention::Ppc64 | Convention::Aix) => {
             ResultPlan::Registers(vec![floating, Place::Floating(2)])
         }
         (ResultType::LongDouble, Convention::Z) | (ResultType::Struct, _) => {
@@ -512,12 +540,16 @@ mod tests {
     use super::*;
     use crate::read;
 
-    /// The call of figure 3-18, for either convention.
+    /// The call of figure 3-18; for AIX with a 64-bit integer in the place of the long double and of
+    /// each double in a struct, which it has none of.
     fn figure_3_18(convention: u8) -> Vec<u8> {
         let integer = [0x10, 0, 1, 4];
         let double = [0x11, 0, 1, 1];
-        let long_double = [0x11, 0, 1, 2];
-        let structure = [&[0x12, 0, 8][..], &integer, &double].concat();
+        let (long_double, field) = match convention {
+            3 => ([0x10, 0, 1, 6], [0x10, 0, 1, 7]),
+            _ => ([0x11, 0, 1, 2], double),
+        };
+        let structure = [&[0x12, 0, 8][..], &integer, &field].concat();
         let mut bytes = vec![1, 0, 1, convention, 2, 0, 4, 0x10, 0, 1, 4, 3, 0, 50];
         for argument in [
             &integer[..],
@@ -537,7 +569,7 @@ mod tests {
 
     #[test]
     fn plans_as_the_plain_planner() {
-        for convention in [1, 2] {
+        for convention in [1, 2, 3] {
             let bytes = figure_3_18(convention);
             let expected = crate::plan(&read(&bytes).unwrap());
             assert_eq!(crate::Plan::from(plan(&bytes).unwrap()), expected);
@@ -552,16 +584,17 @@ mod tests {
 
     #[test]
     fn refuses_as_the_plain_reader() {
-        let bytes = figure_3_18(1);
-        for length in 0..bytes.len() {
-            let part = &bytes[..length];
-            assert_eq!(plan(part).map(|_| ()), read(part).map(|_| ()));
-        }
-        for at in 0..bytes.len() {
-            for value in [0x00, 0x01, 0x02, 0x03, 0x09, 0x10, 0x11, 0x12, 0x13, 0xff] {
-                let mut changed = bytes.clone();
-                changed[at] = value;
-                assert_eq!(plan(&changed).map(|_| ()), read(&changed).map(|_| ()));
+        for bytes in [1, 3].map(figure_3_18) {
+            for length in 0..bytes.len() {
+                let part = &bytes[..length];
+                assert_eq!(plan(part).map(|_| ()), read(part).map(|_| ()));
+            }
+            for at in 0..bytes.len() {
+                for value in [0x00, 0x01, 0x02, 0x03, 0x09, 0x10, 0x11, 0x12, 0x13, 0xff] {
+                    let mut changed = bytes.clone();
+                    changed[at] = value;
+                    assert_eq!(plan(&changed).map(|_| ()), read(&changed).map(|_| ()));
+                }
             }
         }
     }

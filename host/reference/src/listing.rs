@@ -25,6 +25,7 @@ pub fn listing_of(plan: &Plan) -> String {
     let convention = match plan.convention {
         Convention::Ppc64 => "PPC64",
         Convention::Z => "Z",
+        Convention::Aix => "AIX",
     };
     let count = plan.arguments.len();
     let mut text = format!("{convention} args {count} area {}\n", plan.area);
@@ -52,7 +53,7 @@ pub fn listing_of(plan: &Plan) -> String {
     text
 }
 
-/// The registers, and `mem` once, however many doublewords lie in memory.
+/// The registers, and `mem` once, however many doublewords or words lie in memory.
 fn push_places(places: &[Place], text: &mut String) {
     let mut in_memory = false;
     for place in places {
@@ -185,6 +186,29 @@ result hidden r2
         assert_eq!(last(Convention::Z, None), "result none");
         assert_eq!(last(Convention::Z, Some(DOUBLE)), "result f0");
         assert_eq!(last(Convention::Z, structure()), "result hidden r2");
+    }
+
+    #[test]
+    fn on_aix_by_words() {
+        let arguments = vec![
+            I64,
+            DOUBLE,
+            Type::Struct(vec![I32; 3]),
+            I64,
+            Type::Struct(vec![I32; 2]),
+        ];
+        let expected = "\
+AIX args 5 area 44
+0 r3 r4 @0
+1 f1 @8
+2 r7 r8 r9 @16
+3 r10 mem @28
+4 mem @36
+result r3 r4
+";
+        assert_eq!(printed(Convention::Aix, Some(I64), arguments), expected);
+        let hidden = printed(Convention::Aix, Some(Type::Struct(vec![I32])), vec![I32]);
+        assert_eq!(hidden, "AIX args 1 area 32\n0 r4 @4\nresult hidden r3\n");
     }
 
     #[test]

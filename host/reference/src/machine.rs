@@ -1,7 +1,8 @@
 //! The frame machine: document 01, "Frames" and refusals 16 to 23 of "When the bridge says no", with
-//! what document 02 changes: No. 8, the floor under the stack pointer; No. 9, leaves. The state has the words of the C surface, so that any state at all can be handed in, also one that
-//! no calls lead to. Every function tests first and changes afterwards, so that a refused call
-//! changes nothing. Addresses are computed in 128 bits, where no sum of theirs can wrap.
+//! what document 02 changes: No. 1, AIX; No. 8, the floor under the stack pointer; No. 9, leaves. The
+//! state has the words of the C surface, so that any state at all can be handed in, also one that no
+//! calls lead to. Every function tests first and changes afterwards, so that a refused call changes
+//! nothing. Addresses are computed in 128 bits, where no sum of theirs can wrap.
 
 use crate::{Convention, Refusal};
 
@@ -36,7 +37,7 @@ pub struct Request {
 
 #[derive(Clone, Debug, PartialEq, Eq)]
 pub struct Machine {
-    /// 1 PPC64, 2 Z; no other is a convention.
+    /// 1 PPC64, 2 Z, 3 AIX; no other is a convention.
     pub convention: u64,
     pub base: u64,
     pub size: u64,
@@ -50,9 +51,72 @@ pub struct Machine {
 pub enum Saved {
     Gpr(usize),
     Fpr(usize),
-    /// The one slot of 4 bytes.
     Cr,
     Lr,
+}
+
+impl Saved {
+    /// The slot's bytes: a general register's and LR's are a word of the convention.
+    pub fn width(self, convention: Convention) -> usize {
+        match self {
+            Saved::Gpr(_) | Saved::Lr => convention.word(),
+            Saved::Fpr(_) => 8,
+            Saved::Cr => 4,
+        }
+    }
+}
+
+/// What the frames of PPC64 and AIX differ in, beside the width of a word.
+struct PowerPc {
+    header: u64,
+    least_outgoing: u64,
+    /// Where CR and LR are saved, from the caller's stack pointer.
+    cr: u64,
+    lr: u64,
+    /// The first general register that is saved where asked.
+    first_gpr: u64,
+    floor: u64,
+    /// How far below the memory's end the start's stack pointer is.
+    start: u64,
+}
+
+const PPC64: PowerPc = PowerPc {
+    header: 48,
+    least_outgoing: 64,
+    cr: 8,
+    lr: 16,
+    first_gpr: 14,
+    floor: 288,
+    start: 112,
+};
+
+/// 02, No. 1: "Header 24 bytes, CR at 4, LR at 8. Saves start at r13"; "24 + max(32, P) + L"; "start is
+/// at B + N - 64". No. 8: "220 on AIX".
+const AIX: PowerPc = PowerPc {
+    header: 24,
+    least_outgoing: 32,
+    cr: 4,
+    lr: 8,
+    first_gpr: 13,
+    floor: 220,
+    start: 64,
+};
+
+/// The numbers of a convention that is not Z.
+fn powerpc(convention: Convention) -> Option<&'static PowerPc> {
+    match convention {
+        Convention::Ppc64 => Some(&PPC64),
+        Convention::Aix => Some(&AIX),
+        Convention::Z => None,
+    }
+}
+
+/// The largest number that a general register or LR holds, and that a memory may end at.
+fn largest_word(convention: Convention) -> u64 {
+    match convention {
+        Convention::Ppc64 | Convention::Z => u64::MAX,
+        Convention::Aix => 0xffff_ffff,
+    }
 }
 
 /// The areas that a frame may write.
@@ -74,7 +138,8 @@ pub struct Area {
 }
 
 /// Starts a machine on this memory. A refused start gives a machine all the same: "registers as
-/// handed in, base, size, depth and records 0". Of CR an accepted start takes the low 32 bits.
+/// handed in, base, size, depth and records 0". Of CR an accepted start takes the low 32 bits, on AIX
+/// of general registers and LR too: "Start clears the high halves of GPRs and LR".
 pub fn start(
     convention: Convention,
     registers: &Registers,
@@ -82,10 +147,7 @@ pub fn start(
     memory: &mut [u8],
 ) -> (Machine, Result<(), Refusal>) {
     let mut machine = Machine {
-        convention: match convention {
-            Convention::Ppc64 => 1,
-            Convention::Z => 2,
-        },
+        convention: u64::from(convention.code()),
         base: 0,
         size: 0,
         depth: 0,
@@ -97,11 +159,15 @@ pub fn start(
         return (machine, refuse(16));
     }
     machine.registers.cr &= 0xffff_ffff;
+    machine.registers.lr &= largest_word(convention);
+    for gpr in &mut machine.registers.gpr {
+        *gpr &= largest_word(convention);
+    }
     machine.base = base;
     machine.size = size;
     let pointer = first_pointer(convention, base, size) as u64;
     machine.registers.gpr[pointer_register(convention)] = pointer;
-    machine.put(memory, u128::from(pointer), &[0; 8]);
+    machine.put(memory, u128::from(pointer), 0, convention.word());
     (machine, Ok(()))
 }
 
@@ -127,16 +193,17 @@ impl Machine {
         let pointer = caller - size;
 
         for (saved, at) in save_slots(convention, request, caller) {
-            match saved {
-                Saved::Gpr(n) => self.put(memory, at, &self.registers.gpr[n].to_be_bytes()),
-                Saved::Fpr(n) => self.put(memory, at, &self.registers.fpr[n].to_be_bytes()),
-                Saved::Cr => self.put(memory, at, &(self.registers.cr as u32).to_be_bytes()),
-                Saved::Lr => self.put(memory, at, &self.registers.lr.to_be_bytes()),
-            }
+            let value = match saved {
+                Saved::Gpr(n) => self.registers.gpr[n],
+                Saved::Fpr(n) => self.registers.fpr[n],
+                Saved::Cr => self.registers.cr,
+                Saved::Lr => self.registers.lr,
+            };
+            self.put(memory, at, value, saved.width(convention));
         }
         // the back chain, which a leaf has none of
         if !request.is_leaf() {
-            self.put(memory, pointer, &(caller as u64).to_be_bytes());
+            self.put(memory, pointer, caller as u64, convention.word());
         }
         self.registers.gpr[pointer_register(convention)] = pointer as u64;
         self.frames[self.depth as usize] = *request;
@@ -189,7 +256,8 @@ impl Machine {
         {
             return refuse(20);
         }
-        self.put(memory, start, bytes);
+        let at = (start - u128::from(self.base)) as usize;
+        memory[at..at + bytes.len()].copy_from_slice(bytes);
         Ok(())
     }
 
@@ -201,25 +269,25 @@ impl Machine {
         let pointer = self.pointer(convention);
         let caller = pointer + u128::from(frame_size(convention, &request));
         let chain_at = match convention {
-            Convention::Ppc64 => pointer,
+            Convention::Ppc64 | Convention::Aix => pointer,
             // the slot of r15
             Convention::Z => caller + 8 * 15,
         };
         // "Leave skips the back chain test for a leaf"
-        if !request.is_leaf() && u128::from(self.doubleword(memory, chain_at)) != caller {
+        let chain = self.number(memory, chain_at, convention.word());
+        if !request.is_leaf() && u128::from(chain) != caller {
             return refuse(21);
         }
 
         for (saved, at) in save_slots(convention, &request, caller) {
+            let value = self.number(memory, at, saved.width(convention));
             match saved {
-                Saved::Gpr(n) => self.registers.gpr[n] = self.doubleword(memory, at),
-                Saved::Fpr(n) => self.registers.fpr[n] = self.doubleword(memory, at),
-                Saved::Lr => self.registers.lr = self.doubleword(memory, at),
+                Saved::Gpr(n) => self.registers.gpr[n] = value,
+                Saved::Fpr(n) => self.registers.fpr[n] = value,
+                Saved::Lr => self.registers.lr = value,
                 Saved::Cr => {
-                    // the 4 bytes are the upper half of the 8 that start there
-                    let word = self.doubleword(memory, at) >> 32;
                     let kept = self.registers.cr & !SAVED_CR_FIELDS;
-                    self.registers.cr = kept | word & SAVED_CR_FIELDS;
+                    self.registers.cr = kept | value & SAVED_CR_FIELDS;
                 }
             }
         }
@@ -242,11 +310,12 @@ impl Machine {
 
     /// The convention of a state whose numbers can be; nothing where they cannot.
     pub fn possible(&self) -> Option<Convention> {
-        let convention = match self.convention {
-            1 => Convention::Ppc64,
-            2 => Convention::Z,
-            _ => return None,
-        };
+        let convention = Convention::of_code(self.convention)?;
+        // 02, No. 1: "a state holding one", a GPR or LR over 2^32 - 1, gives 23
+        let largest = largest_word(convention);
+        if self.registers.gpr.iter().any(|&gpr| gpr > largest) || self.registers.lr > largest {
+            return None;
+        }
         if self.registers.cr > 0xffff_ffff
             || self.depth > MOST_FRAMES
             || !memory_allowed(convention, self.base, self.size)
@@ -331,15 +400,17 @@ impl Machine {
         vec![locals, own, callers]
     }
 
-    fn put(&self, memory: &mut [u8], address: u128, bytes: &[u8]) {
+    /// Puts the low bytes of a number, this many, at an address.
+    fn put(&self, memory: &mut [u8], address: u128, value: u64, width: usize) {
         let at = (address - u128::from(self.base)) as usize;
-        memory[at..at + bytes.len()].copy_from_slice(bytes);
+        memory[at..at + width].copy_from_slice(&value.to_be_bytes()[8 - width..]);
     }
 
-    fn doubleword(&self, memory: &[u8], address: u128) -> u64 {
+    /// The number that this many bytes at an address are.
+    fn number(&self, memory: &[u8], address: u128, width: usize) -> u64 {
         let at = (address - u128::from(self.base)) as usize;
-        let bytes = memory[at..at + 8].try_into();
-        u64::from_be_bytes(bytes.expect("eight bytes"))
+        let bytes = memory[at..at + width].iter();
+        bytes.fold(0, |number, &byte| number << 8 | u64::from(byte))
     }
 }
 
@@ -350,21 +421,18 @@ impl Request {
 }
 
 /// Whether refusal 16 has nothing against this base and size. 02, No. 8: "Start gives 16 unless the
-/// start pointer has that room."
+/// start pointer has that room"; No. 1: on AIX "B + N over 2^32 - 1 gives 16".
 fn memory_allowed(convention: Convention, base: u64, size: u64) -> bool {
     size % 16 == 0
         && (256..=65_536).contains(&size)
         && base % 16 == 0
-        && u128::from(base) + u128::from(size) <= u128::from(u64::MAX)
+        && u128::from(base) + u128::from(size) <= u128::from(largest_word(convention))
         && lowest_pointer(convention, base) <= first_pointer(convention, base, size)
 }
 
 /// The free bytes that interrupt code trusts to be under the stack pointer: 02, No. 8.
 pub fn floor(convention: Convention) -> u64 {
-    match convention {
-        Convention::Ppc64 => 288,
-        Convention::Z => 0,
-    }
+    powerpc(convention).map_or(0, |powerpc| powerpc.floor)
 }
 
 /// The lowest stack pointer that has the floor under it in a memory at this base.
@@ -374,13 +442,13 @@ pub fn lowest_pointer(convention: Convention, base: u64) -> u128 {
 
 /// Whether refusal 17 has nothing against this request.
 pub fn request_allowed(convention: Convention, request: &Request) -> bool {
-    let of_the_convention = match convention {
-        Convention::Ppc64 => {
-            (14..=32).contains(&request.first_gpr)
+    let of_the_convention = match powerpc(convention) {
+        Some(powerpc) => {
+            (powerpc.first_gpr..=32).contains(&request.first_gpr)
                 && (14..=32).contains(&request.first_fpr)
                 && request.saves_cr <= 1
         }
-        Convention::Z => {
+        None => {
             (6..=14).contains(&request.first_gpr)
                 && (8..=16).contains(&request.first_fpr)
                 && request.saves_cr == 0
@@ -389,7 +457,7 @@ pub fn request_allowed(convention: Convention, request: &Request) -> bool {
     // 02, No. 9: "PPC64 and AIX only; a leaf request on Z, or with L or P above 0, gives 17"
     let leaf_or_not = match request.leaf {
         0 => true,
-        1 => convention == Convention::Ppc64 && request.locals == 0 && request.outgoing == 0,
+        1 => convention != Convention::Z && request.locals == 0 && request.outgoing == 0,
         _ => false,
     };
     of_the_convention
@@ -405,17 +473,15 @@ pub fn frame_size(convention: Convention, request: &Request) -> u64 {
         return 0;
     }
     let Request {
-        first_gpr: g,
-        first_fpr: m,
-        locals,
-        outgoing,
-        ..
+        locals, outgoing, ..
     } = *request;
-    match convention {
-        Convention::Ppc64 => {
-            (48 + outgoing.max(64) + locals + 8 * (32 - g) + 8 * (32 - m)).div_ceil(16) * 16
+    let saves = saves_below_caller(convention, request);
+    match powerpc(convention) {
+        Some(powerpc) => {
+            let outgoing = outgoing.max(powerpc.least_outgoing);
+            (powerpc.header + outgoing + locals + saves).div_ceil(16) * 16
         }
-        Convention::Z => (160 + outgoing + locals + 8 * (16 - m)).div_ceil(8) * 8,
+        None => (160 + outgoing + locals + saves).div_ceil(8) * 8,
     }
 }
 
@@ -426,24 +492,25 @@ pub fn save_slots(convention: Convention, request: &Request, caller: u128) -> Ve
     let g = request.first_gpr as usize;
     let m = request.first_fpr as usize;
     let mut slots = Vec::new();
-    match convention {
-        Convention::Ppc64 => {
+    match powerpc(convention) {
+        Some(powerpc) => {
             let room_for_fprs = 8 * (32 - m) as u128;
+            let word = convention.word() as u128;
             for n in m..32 {
                 slots.push((Saved::Fpr(n), s - 8 * (32 - n) as u128));
             }
             for n in g..32 {
-                slots.push((Saved::Gpr(n), s - room_for_fprs - 8 * (32 - n) as u128));
+                slots.push((Saved::Gpr(n), s - room_for_fprs - word * (32 - n) as u128));
             }
             if request.saves_cr == 1 {
-                slots.push((Saved::Cr, s + 8));
+                slots.push((Saved::Cr, s + u128::from(powerpc.cr)));
             }
             // "LR is not saved" by a leaf
             if !request.is_leaf() {
-                slots.push((Saved::Lr, s + 16));
+                slots.push((Saved::Lr, s + u128::from(powerpc.lr)));
             }
         }
-        Convention::Z => {
+        None => {
             for n in g..16 {
                 slots.push((Saved::Gpr(n), s + 8 * n as u128));
             }
@@ -457,19 +524,25 @@ pub fn save_slots(convention: Convention, request: &Request, caller: u128) -> Ve
 
 /// The bytes just below the caller's stack pointer that hold saved registers.
 fn saves_below_caller(convention: Convention, request: &Request) -> u64 {
+    let word = convention.word() as u64;
     match convention {
-        Convention::Ppc64 => 8 * (32 - request.first_fpr) + 8 * (32 - request.first_gpr),
+        Convention::Ppc64 | Convention::Aix => {
+            8 * (32 - request.first_fpr) + word * (32 - request.first_gpr)
+        }
         // the general registers are saved above it
         Convention::Z => 8 * (16 - request.first_fpr),
     }
 }
 
 /// The outgoing area of the frame at this stack pointer. "Outgoing areas start at 48, at least 64
-/// long, on PPC64; at 160 on Z."
+/// long, on PPC64; at 160 on Z"; on AIX "at 24, at least 32 long".
 fn outgoing(convention: Convention, kind: AreaKind, pointer: u128, length: u64) -> Area {
-    let (start, length) = match convention {
-        Convention::Ppc64 => (pointer + 48, length.max(64)),
-        Convention::Z => (pointer + 160, length),
+    let (start, length) = match powerpc(convention) {
+        Some(powerpc) => (
+            pointer + u128::from(powerpc.header),
+            length.max(powerpc.least_outgoing),
+        ),
+        None => (pointer + 160, length),
     };
     Area {
         kind,
@@ -481,18 +554,15 @@ fn outgoing(convention: Convention, kind: AreaKind, pointer: u128, length: u64) 
 /// The register that is the stack pointer.
 pub fn pointer_register(convention: Convention) -> usize {
     match convention {
-        Convention::Ppc64 => 1,
+        Convention::Ppc64 | Convention::Aix => 1,
         Convention::Z => 15,
     }
 }
 
 /// The stack pointer that a start sets, for a memory of 256 bytes or more.
-fn first_pointer(convention: Convention, base: u64, size: u64) -> u128 {
-    let end = u128::from(base) + u128::from(size);
-    match convention {
-        Convention::Ppc64 => end - 112,
-        Convention::Z => end - 160,
-    }
+pub fn first_pointer(convention: Convention, base: u64, size: u64) -> u128 {
+    let below_end = powerpc(convention).map_or(160, |powerpc| powerpc.start);
+    u128::from(base) + u128::from(size) - u128::from(below_end)
 }
 
 /// Whether the top frame, or the start where there is none, may write this register.
@@ -507,20 +577,25 @@ fn register_writable(
     let saved_gpr = saves_from(top.map(|request| request.first_gpr));
     let saved_fpr = saves_from(top.map(|request| request.first_fpr));
     let saved_cr = top.is_some_and(|request| request.saves_cr == 1);
-    match (convention, bank) {
-        (Convention::Ppc64, 0) => match number {
+    // 02, No. 1: "a GPR or LR write over 2^32 - 1 gives 20"
+    if matches!(bank, 0 | 2) && value > largest_word(convention) {
+        return false;
+    }
+    match (powerpc(convention), bank) {
+        (Some(powerpc), 0) => match number {
             0 | 3..=12 => true,
-            14..=31 => saved_gpr,
+            // r13 on AIX alone: "with r13 among the saved"
+            13..=31 => number >= powerpc.first_gpr && saved_gpr,
             _ => false,
         },
-        (Convention::Ppc64, 1) => match number {
+        (Some(_), 1) => match number {
             0..=13 => true,
             14..=31 => saved_fpr,
             _ => false,
         },
         // a leaf does not save it "and so may not" write it
-        (Convention::Ppc64, 2) => !top.is_some_and(Request::is_leaf),
-        (Convention::Ppc64, 3) => {
+        (Some(_), 2) => !top.is_some_and(Request::is_leaf),
+        (Some(_), 3) => {
             value <= 15
                 && match number {
                     0 | 1 | 5 | 6 | 7 => true,
@@ -528,12 +603,12 @@ fn register_writable(
                     _ => false,
                 }
         }
-        (Convention::Z, 0) => match number {
+        (None, 0) => match number {
             0..=5 | 14 => true,
             6..=13 => saved_gpr,
             _ => false,
         },
-        (Convention::Z, 1) => match number {
+        (None, 1) => match number {
             0..=7 => true,
             8..=15 => saved_fpr,
             _ => false,
@@ -605,6 +680,19 @@ mod tests {
         started(Convention::Z, 4096)
     }
 
+    fn aix() -> (Machine, Vec<u8>) {
+        started(Convention::Aix, 4096)
+    }
+
+    /// The registers that a start on AIX makes of these, but for the stack pointer.
+    fn low_halves(mut registers: Registers) -> Registers {
+        registers.lr &= 0xffff_ffff;
+        for gpr in &mut registers.gpr {
+            *gpr &= 0xffff_ffff;
+        }
+        registers
+    }
+
     /// The doubleword at an address.
     fn at(memory: &[u8], address: u64) -> u64 {
         let at = (address - BASE) as usize;
@@ -624,23 +712,32 @@ mod tests {
         // the smallest
         assert_eq!(size(Convention::Ppc64, request(32, 32, 1, 0, 0)), 112);
         assert_eq!(size(Convention::Z, request(14, 16, 0, 0, 0)), 160);
+        assert_eq!(size(Convention::Aix, request(32, 32, 1, 0, 0)), 64);
+        // 003's example: szdsa, "8*nfprs+4*ngprs+linkarea+argarea", is 276 and takes 288
+        assert_eq!(size(Convention::Aix, request(13, 14, 1, 0, 32)), 288);
+        assert_eq!(size(Convention::Aix, request(29, 30, 0, 20, 64)), 144);
+        assert_eq!(size(Convention::Aix, request(32, 32, 0, 9, 0)), 80);
     }
 
     #[test]
-    fn start_sets_the_stack_pointer_and_writes_eight_zeros_there() {
+    fn start_sets_the_stack_pointer_and_writes_a_zero_word_there() {
         for (convention, length, below_end, pointer) in [
             (Convention::Ppc64, 400, 112, 1),
             (Convention::Z, 256, 160, 15),
+            (Convention::Aix, 288, 64, 1),
         ] {
             let (machine, memory) = started(convention, length);
             let size = length as u64;
-            let mut expected_registers = registers();
+            let mut expected_registers = match convention {
+                Convention::Aix => low_halves(registers()),
+                _ => registers(),
+            };
             expected_registers.gpr[pointer] = BASE + size - below_end as u64;
             assert_eq!(machine.registers, expected_registers);
             assert_eq!((machine.base, machine.size, machine.depth), (BASE, size, 0));
             assert_eq!(machine.frames, [Request::default(); 32]);
             let mut expected = pattern(length);
-            expected[length - below_end..][..8].fill(0);
+            expected[length - below_end..][..convention.word()].fill(0);
             assert_eq!(memory, expected);
         }
     }
@@ -690,6 +787,38 @@ mod tests {
         );
         assert_eq!(answer, Ok(()));
         assert_eq!(machine.possible(), Some(Convention::Ppc64));
+    }
+
+    #[test]
+    fn on_aix_a_memory_ends_at_2_to_the_32_less_1_at_most() {
+        // the highest end that is a multiple of 16, and 2^32 itself
+        for (end, yes) in [
+            (0xffff_fff0, true),
+            (0x1_0000_0000, false),
+            (1 << 40, false),
+        ] {
+            for length in [288, 4096, 65_536] {
+                let mut memory = pattern(length);
+                let base = end - length as u64;
+                let (machine, answer) = start(Convention::Aix, &registers(), base, &mut memory);
+                assert_eq!(answer.is_ok(), yes);
+                if yes {
+                    assert_eq!(machine.registers.gpr[1], end - 64);
+                    assert_eq!(machine.possible(), Some(Convention::Aix));
+                } else {
+                    refused(answer, 16);
+                    // the registers come back as they were handed in
+                    assert_eq!((machine.convention, machine.registers), (3, registers()));
+                    assert_eq!(memory, pattern(length));
+                }
+            }
+        }
+        // a start needs 220 bytes under its pointer: 288 - 64 is 224, and 272 - 64 is 208
+        for (length, yes) in [(256, false), (272, false), (287, false), (288, true)] {
+            let mut memory = pattern(length);
+            let (_, answer) = start(Convention::Aix, &registers(), BASE, &mut memory);
+            assert_eq!(answer.is_ok(), yes);
+        }
     }
 
     #[test]
@@ -767,10 +896,191 @@ mod tests {
     }
 
     #[test]
+    fn enter_on_aix_saves_where_the_document_says() {
+        let (mut machine, mut memory) = aix();
+        let s = machine.registers.gpr[1];
+        assert_eq!(s, BASE + 4096 - 64);
+        let before = machine.clone();
+        let frame = request(29, 30, 1, 20, 40);
+        assert_eq!(machine.enter(&frame, &mut memory), Ok(()));
+
+        let old = low_halves(registers());
+        let mut expected = pattern(4096);
+        let top = (s - BASE) as usize;
+        expected[top..top + 4].fill(0);
+        for (n, below) in [(31, 8), (30, 16)] {
+            expected[top - below..][..8].copy_from_slice(&old.fpr[n].to_be_bytes());
+        }
+        for (n, below) in [(31, 20), (30, 24), (29, 28)] {
+            expected[top - below..][..4].copy_from_slice(&(old.gpr[n] as u32).to_be_bytes());
+        }
+        expected[top + 4..][..4].copy_from_slice(&(old.cr as u32).to_be_bytes());
+        expected[top + 8..][..4].copy_from_slice(&(old.lr as u32).to_be_bytes());
+        // 24, 40, 20 and 28 are 112
+        expected[top - 112..][..4].copy_from_slice(&(s as u32).to_be_bytes());
+        assert_eq!(memory, expected);
+
+        let mut expected = before;
+        expected.registers.gpr[1] = s - 112;
+        expected.depth = 1;
+        expected.frames[0] = frame;
+        assert_eq!(machine, expected);
+        // every slot of 003's save routines: r13 at -76 and f14 at -144, one below the other
+        let all = save_slots(Convention::Aix, &request(13, 14, 0, 0, 0), 1000);
+        assert!(all.contains(&(Saved::Fpr(14), 1000 - 144)));
+        assert!(all.contains(&(Saved::Gpr(13), 1000 - 144 - 76)));
+        assert!(all.contains(&(Saved::Gpr(31), 1000 - 144 - 4)));
+        assert_eq!(all.len(), 18 + 19 + 1);
+    }
+
+    #[test]
+    fn on_aix_leave_takes_words_and_their_high_halves_are_zero() {
+        let (mut machine, mut memory) = aix();
+        let s = machine.registers.gpr[1];
+        assert_eq!(
+            machine.enter(&request(30, 32, 1, 0, 0), &mut memory),
+            Ok(())
+        );
+        let top = (s - BASE) as usize;
+        memory[top - 8..top - 4].fill(0xaa);
+        memory[top - 4..top].fill(0xbb);
+        memory[top + 4..top + 8].fill(0xcc);
+        memory[top + 8..top + 12].fill(0xdd);
+        assert_eq!(machine.leave(&memory), Ok(()));
+        assert_eq!(machine.registers.gpr[30], 0xaaaa_aaaa);
+        assert_eq!(machine.registers.gpr[31], 0xbbbb_bbbb);
+        assert_eq!(machine.registers.lr, 0xdddd_dddd);
+        assert_eq!(machine.registers.cr, 0x87cc_c321);
+        assert_eq!(machine.registers.gpr[1], s);
+    }
+
+    #[test]
+    fn on_aix_the_back_chain_is_a_word() {
+        let (mut machine, mut memory) = aix();
+        assert_eq!(
+            machine.enter(&request(32, 32, 0, 0, 0), &mut memory),
+            Ok(())
+        );
+        let chain = (machine.registers.gpr[1] - BASE) as usize;
+        for byte in chain..chain + 4 {
+            memory[byte] ^= 1;
+            refused(machine.leave(&memory), 21);
+            memory[byte] ^= 1;
+        }
+        memory[chain + 4..chain + 8].fill(0xff);
+        assert_eq!(machine.leave(&memory), Ok(()));
+    }
+
+    #[test]
+    fn on_aix_a_general_register_and_lr_hold_32_bits() {
+        let (mut machine, mut memory) = aix();
+        for (value, yes) in [
+            (0xffff_ffff, true),
+            (0x1_0000_0000, false),
+            (u64::MAX, false),
+        ] {
+            for bank in [0, 2] {
+                let answer = machine.clone().write_register(bank, 3, value, &memory);
+                assert_eq!(answer.is_ok(), yes);
+                if !yes {
+                    refused(answer, 20);
+                }
+            }
+        }
+        // a floating register holds any 64
+        assert_eq!(machine.write_register(1, 3, u64::MAX, &memory), Ok(()));
+        // and a state with one that holds more cannot be
+        let possible = machine.clone();
+        for n in 0..32 {
+            let mut machine = possible.clone();
+            machine.registers.gpr[n] |= 1 << 32;
+            refuses_all(&machine, &mut memory, 23);
+        }
+        let mut machine = possible.clone();
+        machine.registers.lr |= 1 << 63;
+        refuses_all(&machine, &mut memory, 23);
+        let mut machine = possible;
+        machine.registers.fpr[0] = u64::MAX;
+        machine.registers.gpr[0] = 0xffff_ffff;
+        assert_eq!(machine.possible(), Some(Convention::Aix));
+    }
+
+    #[test]
+    fn the_registers_that_may_be_written_on_aix() {
+        let (mut machine, mut memory) = aix();
+        let volatile: Vec<u64> = [0].into_iter().chain(3..=12).collect();
+        assert_eq!(writable(&machine, &memory, 0), volatile);
+        assert_eq!(writable(&machine, &memory, 1), (0..=13).collect::<Vec<_>>());
+        assert_eq!(writable(&machine, &memory, 3), [0, 1, 5, 6, 7]);
+        assert_eq!(
+            machine.enter(&request(13, 31, 1, 0, 0), &mut memory),
+            Ok(())
+        );
+        // r13 is among the saved
+        let saved: Vec<u64> = (13..=31).collect();
+        assert_eq!(
+            writable(&machine, &memory, 0),
+            [&volatile[..], &saved].concat()
+        );
+        assert_eq!(
+            writable(&machine, &memory, 1),
+            (0..=13).chain([31]).collect::<Vec<_>>()
+        );
+        assert_eq!(writable(&machine, &memory, 3), (0..=7).collect::<Vec<_>>());
+        assert_eq!(
+            machine.enter(&request(14, 32, 0, 0, 0), &mut memory),
+            Ok(())
+        );
+        let saved: Vec<u64> = (14..=31).collect();
+        assert_eq!(
+            writable(&machine, &memory, 0),
+            [&volatile[..], &saved].concat()
+        );
+    }
+
+    #[test]
+    fn the_bytes_that_may_be_written_on_aix() {
+        let (mut machine, mut memory) = aix();
+        let s = machine.registers.gpr[1];
+        assert_eq!(open_bytes(&machine, &mut memory, s), [(24, 56)]);
+        assert_eq!(
+            machine.enter(&request(29, 30, 1, 20, 40), &mut memory),
+            Ok(())
+        );
+        let own = machine.registers.gpr[1];
+        // outgoing 24 to 64, locals 64 to 84, saves to 112, the caller's outgoing area
+        let runs = [(24, 84), (112 + 24, 112 + 56)];
+        assert_eq!(open_bytes(&machine, &mut memory, own), runs);
+        refused(machine.write_memory(own + 63, &[1; 2], &mut memory), 20);
+        // a leaf above it: 220 bytes of floor, of which r13 to r31 take 76
+        assert_eq!(machine.enter(&leaf(13, 32, 0), &mut memory), Ok(()));
+        let runs = [(0, 144), (220 + 24, 220 + 64)];
+        assert_eq!(open_bytes(&machine, &mut memory, own - 220), runs);
+        assert_eq!(machine.leave(&memory), Ok(()));
+        // all that can be saved fills the floor: "18*8 (for FPRs) + 19*4 (for GPRs) = 220"
+        assert_eq!(machine.enter(&leaf(13, 14, 0), &mut memory), Ok(()));
+        let runs = [(220 + 24, 220 + 64)];
+        assert_eq!(open_bytes(&machine, &mut memory, own - 220), runs);
+    }
+
+    #[test]
+    fn on_aix_enter_needs_220_bytes_under_the_new_pointer() {
+        // 368 - 64 is 304: the smallest frame leaves 240, the next 224, and one byte more 208
+        let (mut machine, mut memory) = started(Convention::Aix, 368);
+        refused(machine.enter(&request(32, 32, 0, 25, 0), &mut memory), 19);
+        assert_eq!(
+            machine.enter(&request(32, 32, 0, 24, 0), &mut memory),
+            Ok(())
+        );
+        assert_eq!(machine.registers.gpr[1], BASE + 224);
+    }
+
+    #[test]
     fn leave_gives_back_what_enter_found() {
         for (convention, frame) in [
             (Convention::Ppc64, request(14, 14, 1, 100, 72)),
             (Convention::Z, request(6, 8, 0, 100, 72)),
+            (Convention::Aix, request(13, 14, 1, 100, 72)),
         ] {
             let (mut machine, mut memory) = started(convention, 4096);
             let before = machine.clone();
@@ -778,7 +1088,7 @@ mod tests {
             let pointer = pointer_register(convention);
             for n in 0..32 {
                 if n != pointer {
-                    machine.registers.gpr[n] ^= u64::MAX;
+                    machine.registers.gpr[n] ^= largest_word(convention);
                 }
                 machine.registers.fpr[n] ^= u64::MAX;
             }
@@ -793,13 +1103,14 @@ mod tests {
             let (first, last) = match convention {
                 Convention::Ppc64 => (14, 32),
                 Convention::Z => (6, 16),
+                Convention::Aix => (13, 32),
             };
             let old = expected.registers;
             expected.registers = changed;
             expected.registers.gpr[first..last].copy_from_slice(&old.gpr[first..last]);
             expected.registers.gpr[pointer] = old.gpr[pointer];
             match convention {
-                Convention::Ppc64 => {
+                Convention::Ppc64 | Convention::Aix => {
                     expected.registers.fpr[14..].copy_from_slice(&old.fpr[14..]);
                     expected.registers.lr = old.lr;
                     // fields 2 to 4 of 0x87654321; the others stay as they were changed
@@ -926,12 +1237,21 @@ mod tests {
                 },
             ),
             (Convention::Ppc64, leaf(13, 32, 0)),
+            (Convention::Aix, leaf(12, 32, 0)),
+            (
+                Convention::Aix,
+                Request {
+                    leaf: 1,
+                    ..request(32, 32, 0, 0, 8)
+                },
+            ),
             (Convention::Ppc64, leaf(32, 33, 0)),
             (Convention::Ppc64, leaf(32, 32, 2)),
         ] {
             assert!(!request_allowed(convention, &request));
         }
         assert!(request_allowed(Convention::Ppc64, &leaf(14, 32, 1)));
+        assert!(request_allowed(Convention::Aix, &leaf(13, 32, 1)));
     }
 
     #[test]
@@ -1019,14 +1339,19 @@ mod tests {
             let yes = (14..=32).contains(&g);
             assert_eq!(allowed(Convention::Ppc64, request(g, 32, 0, 0, 0)), yes);
             assert_eq!(allowed(Convention::Ppc64, request(32, g, 0, 0, 0)), yes);
+            assert_eq!(allowed(Convention::Aix, request(32, g, 0, 0, 0)), yes);
+            let yes = (13..=32).contains(&g);
+            assert_eq!(allowed(Convention::Aix, request(g, 32, 0, 0, 0)), yes);
             let yes = (6..=14).contains(&g);
             assert_eq!(allowed(Convention::Z, request(g, 16, 0, 0, 0)), yes);
             let yes = (8..=16).contains(&g);
             assert_eq!(allowed(Convention::Z, request(14, g, 0, 0, 0)), yes);
         }
-        for (convention, g, m, most_cr) in
-            [(Convention::Ppc64, 32, 32, 1), (Convention::Z, 14, 16, 0)]
-        {
+        for (convention, g, m, most_cr) in [
+            (Convention::Ppc64, 32, 32, 1),
+            (Convention::Z, 14, 16, 0),
+            (Convention::Aix, 32, 32, 1),
+        ] {
             assert!(allowed(convention, request(g, m, most_cr, 32_000, 32_776)));
             assert!(!allowed(convention, request(g, m, most_cr + 1, 0, 0)));
             assert!(!allowed(convention, request(g, m, 0, 32_001, 0)));
@@ -1039,7 +1364,11 @@ mod tests {
 
     #[test]
     fn refusal_18_is_a_frame_after_the_32nd() {
-        for (convention, g, m) in [(Convention::Ppc64, 32, 32), (Convention::Z, 14, 16)] {
+        for (convention, g, m) in [
+            (Convention::Ppc64, 32, 32),
+            (Convention::Z, 14, 16),
+            (Convention::Aix, 32, 32),
+        ] {
             let (mut machine, mut memory) = started(convention, 8192);
             for depth in 1..=32 {
                 assert_eq!(machine.enter(&request(g, m, 0, 0, 0), &mut memory), Ok(()));
@@ -1291,9 +1620,11 @@ mod tests {
             Ok(())
         );
         let possible = machine;
-        let changes: [fn(&mut Machine); 17] = [
+        let changes: [fn(&mut Machine); 18] = [
             |machine| machine.convention = 0,
+            // the registers hold more than 32 bits
             |machine| machine.convention = 3,
+            |machine| machine.convention = 4,
             // r15 is no stack pointer of this memory
             |machine| machine.convention = 2,
             |machine| machine.depth = 33,

@@ -1,7 +1,9 @@
 //! Filling, reading, home and view: document 01, "What stands in a slot", with the refusals and
-//! their order of "When the bridge says no". A refusal leaves every buffer as it was.
+//! their order of "When the bridge says no"; on AIX the same by words (document 02, No. 1). A refusal
+//! leaves every buffer as it was.
 
 use crate::float_bits::{narrow, widen};
+use crate::types::round_up;
 use crate::{
     plan, ArgumentPlan, Convention, Float, Integer, Place, Plan, Refusal, ResultPlan, Type,
 };
@@ -12,8 +14,8 @@ const IMAGE: usize = 512;
 const FLOATING: usize = 256;
 /// "The parameter buffer's first byte is stack offset 160" on Z.
 const Z_AREA: usize = 160;
-/// A struct has at most 256 bytes, and all else less.
-const LARGEST_VALUE: usize = 256;
+/// A floating register's bytes in every convention.
+const FLOAT: usize = 8;
 
 const VALUES_SIZE: u64 = 10;
 const AREA_TOO_SHORT: u64 = 11;
@@ -23,12 +25,12 @@ const NOT_WIDENED: u64 = 14;
 const IMAGE_SIZE: u64 = 15;
 const NO_VIEW: u64 = 24;
 
-/// How a value stands in its doublewords.
+/// How a value stands in its doublewords, on AIX in its words.
 #[derive(Clone, Copy, Debug, PartialEq, Eq)]
 enum Form {
     /// From the first byte on, zeros after it.
     Head,
-    /// At the end of its one doubleword, zeros before it.
+    /// At the end, zeros before it.
     Tail,
     /// The same for a signed integer, with copies of its sign before it.
     SignedTail,
@@ -43,8 +45,10 @@ fn form(convention: Convention, of: &Type, argument: &ArgumentPlan) -> Form {
     let in_floating = matches!(argument.places[..], [Place::Floating(_)]);
     match (convention, of) {
         (_, Type::Integer(_)) => memory_form(of),
-        (Convention::Ppc64, Type::Float(Float::Single)) if in_floating => Form::Widened,
-        (Convention::Ppc64, _) => memory_form(of),
+        (Convention::Ppc64 | Convention::Aix, Type::Float(Float::Single)) if in_floating => {
+            Form::Widened
+        }
+        (Convention::Ppc64 | Convention::Aix, _) => memory_form(of),
         (Convention::Z, _) if argument.by_reference() => Form::Address,
         // "in the upper half of its FPR, lower half zero, and right-justified on the stack"
         (Convention::Z, _) if in_floating => Form::Head,
@@ -53,7 +57,8 @@ fn form(convention: Convention, of: &Type, argument: &ArgumentPlan) -> Form {
     }
 }
 
-/// How a value stands in the parameter save area of PPC64.
+/// How a value stands in the parameter save area of PPC64 or AIX, where "narrow wholes and structs
+/// fill 4-byte words as they fill doublewords on PPC64; a single is one word".
 fn memory_form(of: &Type) -> Form {
     match of {
         // "wholes are sign- or zero-extended to 64 bits"
@@ -83,36 +88,47 @@ pub fn fill(
     require(values.len() == plan.values, VALUES_SIZE)?;
     require(area.len() >= plan.area, AREA_TOO_SHORT)?;
     require(copies_fit(&plan, copies.len(), copy_base), BAD_COPIES)?;
+    require(hidden_fits(&plan, hidden), BAD_COPIES)?;
 
     let convention = signature.convention;
     if let ResultPlan::Hidden(place) = plan.result {
-        slot_mut(convention, place, image, area).copy_from_slice(&hidden.to_be_bytes());
+        let address = hidden.to_be_bytes();
+        put(
+            convention,
+            place,
+            &address[8 - convention.word()..],
+            image,
+            area,
+        );
     }
     let mut rest = values;
     for (of, argument) in signature.arguments.iter().zip(&plan.arguments) {
-        let (value, others) = rest.split_at(of.size());
+        let (value, others) = rest.split_at(of.size(convention));
         rest = others;
-        let mut doublewords = [0; LARGEST_VALUE];
-        match form(convention, of, argument) {
-            Form::Head => doublewords[..value.len()].copy_from_slice(value),
-            Form::Tail => doublewords[..8].copy_from_slice(&extended(value, 0)),
+        let length = length(convention, argument);
+        let content = match form(convention, of, argument) {
+            Form::Head => [value, &vec![0; length - value.len()]].concat(),
+            Form::Tail => extended(value, 0, length),
             Form::SignedTail => {
                 let sign = if value[0] >= 0x80 { 0xff } else { 0 };
-                doublewords[..8].copy_from_slice(&extended(value, sign));
+                extended(value, sign, length)
             }
             Form::Widened => {
                 let single = u32::from_be_bytes(value.try_into().expect("a single has 4 bytes"));
-                doublewords[..8].copy_from_slice(&widen(single).to_be_bytes());
+                widen(single).to_be_bytes().to_vec()
             }
             Form::Address => {
                 let start = argument.copy.expect("an argument by reference has a copy");
                 copies[start..start + value.len()].copy_from_slice(value);
                 let address = copy_base + start as u64;
-                doublewords[..8].copy_from_slice(&address.to_be_bytes());
+                address.to_be_bytes().to_vec()
             }
-        }
-        for (&place, doubleword) in argument.places.iter().zip(doublewords.chunks_exact(8)) {
-            slot_mut(convention, place, image, area).copy_from_slice(doubleword);
+        };
+        let mut rest = &content[..];
+        for &place in &argument.places {
+            let (own, others) = rest.split_at(width(convention, place));
+            rest = others;
+            put(convention, place, own, image, area);
         }
     }
     Ok(())
@@ -123,6 +139,12 @@ pub fn fill(
 fn copies_fit(plan: &Plan, length: usize, base: u64) -> bool {
     let end = plan.copies;
     end == 0 || (length >= end && base % 8 == 0 && base.checked_add(end as u64).is_some())
+}
+
+/// Refusal 12 on AIX: "a needed hidden address over" 2^32 - 1.
+fn hidden_fits(plan: &Plan, hidden: u64) -> bool {
+    let needed = matches!(plan.result, ResultPlan::Hidden(_));
+    plan.convention != Convention::Aix || !needed || hidden <= 0xffff_ffff
 }
 
 /// Takes the arguments' values from where the caller put them.
@@ -143,20 +165,19 @@ pub fn read(
     let convention = signature.convention;
     let mut found = Vec::with_capacity(values.len());
     for (of, argument) in signature.arguments.iter().zip(&plan.arguments) {
-        let size = of.size();
-        let first = slot(convention, argument.places[0], image, area);
+        let size = of.size(convention);
+        let mut content = Vec::new();
+        for &place in &argument.places {
+            content.extend_from_slice(slot(convention, place, image, area));
+        }
         match form(convention, of, argument) {
-            Form::Head => {
-                let end = found.len() + size;
-                for &place in &argument.places {
-                    found.extend_from_slice(slot(convention, place, image, area));
-                }
-                found.truncate(end);
+            Form::Head => found.extend_from_slice(&content[..size]),
+            Form::Tail | Form::SignedTail => {
+                found.extend_from_slice(&content[content.len() - size..]);
             }
-            Form::Tail | Form::SignedTail => found.extend_from_slice(&first[8 - size..]),
-            Form::Widened => found.extend_from_slice(&narrowed(first)?),
+            Form::Widened => found.extend_from_slice(&narrowed(&content)?),
             Form::Address => {
-                let copy = pointed_at(number(first), size, copies.len(), copy_base);
+                let copy = pointed_at(number(&content), size, copies.len(), copy_base);
                 found.extend_from_slice(
                     &copies[copy.ok_or(Refusal::without_place(OUTSIDE_COPIES))?],
                 );
@@ -174,63 +195,80 @@ fn pointed_at(address: u64, size: usize, length: usize, base: u64) -> Option<Ran
     (end <= length).then_some(start..end)
 }
 
-/// PPC64: copies the arguments that came in registers into the area, each to its offset, as they
-/// would stand there had they been passed in memory.
+/// PPC64 and AIX: copies the arguments that came in registers into the area, each to its offset, as
+/// they would stand there had they been passed in memory.
 pub fn home(signature: &[u8], image: &[u8], area: &mut [u8]) -> Result<(), Refusal> {
     let signature = crate::read(signature)?;
     let plan = plan(&signature);
-    require(signature.convention == Convention::Ppc64, NO_VIEW)?;
+    let convention = signature.convention;
+    require(convention != Convention::Z, NO_VIEW)?;
     require(image.len() == IMAGE, IMAGE_SIZE)?;
     require(area.len() >= plan.area, AREA_TOO_SHORT)?;
 
     // a copy, since a later argument may be refused
     let mut homed = area.to_vec();
     for (of, argument) in signature.arguments.iter().zip(&plan.arguments) {
-        let offset = ppc64_offset(argument);
-        for (at, &place) in (offset..).step_by(8).zip(&argument.places) {
-            let doubleword = slot(signature.convention, place, image, area);
-            let home = &mut homed[at..at + 8];
-            match place {
-                Place::General(_) => home.copy_from_slice(doubleword),
+        let mut at = powerpc_offset(argument);
+        for &place in &argument.places {
+            let content = slot(convention, place, image, area);
+            let home = match place {
+                Place::General(_) => content.to_vec(),
                 // "an FPR in its memory form"
                 Place::Floating(_) if *of == Type::Float(Float::Single) => {
-                    home.copy_from_slice(&extended(&narrowed(doubleword)?, 0));
+                    extended(&narrowed(content)?, 0, convention.word())
                 }
-                Place::Floating(_) => home.copy_from_slice(doubleword),
-                Place::Memory(_) => {}
-            }
+                Place::Floating(_) => content.to_vec(),
+                Place::Memory(_) => homed[at..at + content.len()].to_vec(),
+            };
+            homed[at..at + home.len()].copy_from_slice(&home);
+            at += home.len();
         }
     }
     area.copy_from_slice(&homed);
     Ok(())
 }
 
-/// PPC64: where an argument's own bytes stand in an area that `home` has completed.
+/// PPC64 and AIX: where an argument's own bytes stand in an area that `home` has completed.
 pub fn view(area: &[u8], signature: &[u8], index: u64) -> Result<Range<usize>, Refusal> {
     let signature = crate::read(signature)?;
     let plan = plan(&signature);
+    let convention = signature.convention;
     let there = index < signature.arguments.len() as u64;
-    require(signature.convention == Convention::Ppc64 && there, NO_VIEW)?;
+    require(convention != Convention::Z && there, NO_VIEW)?;
     require(area.len() >= plan.area, AREA_TOO_SHORT)?;
 
     let of = &signature.arguments[index as usize];
-    let size = of.size();
-    let offset = ppc64_offset(&plan.arguments[index as usize]);
+    let size = of.size(convention);
+    let offset = powerpc_offset(&plan.arguments[index as usize]);
     let start = match memory_form(of) {
-        Form::Tail | Form::SignedTail => offset + 8 - size,
+        Form::Tail | Form::SignedTail => offset + round_up(size, convention.word()) - size,
         _ => offset,
     };
     Ok(start..start + size)
 }
 
 /// An argument's offset in the parameter save area.
-fn ppc64_offset(argument: &ArgumentPlan) -> usize {
+fn powerpc_offset(argument: &ArgumentPlan) -> usize {
     argument
         .offset
-        .expect("on PPC64 every argument has an offset")
+        .expect("on PPC64 and AIX every argument has an offset")
 }
 
-/// Where a doubleword stands: in the image, or else in the parameter buffer.
+/// The bytes of an argument that a place holds.
+fn width(convention: Convention, place: Place) -> usize {
+    match place {
+        Place::Floating(_) => FLOAT,
+        Place::General(_) | Place::Memory(_) => convention.word(),
+    }
+}
+
+/// The bytes that all places of an argument hold.
+fn length(convention: Convention, argument: &ArgumentPlan) -> usize {
+    let places = argument.places.iter();
+    places.map(|&place| width(convention, place)).sum()
+}
+
+/// Where the bytes of a place stand: in the image, or else in the parameter buffer.
 enum Position {
     Image(Range<usize>),
     Area(Range<usize>),
@@ -238,15 +276,17 @@ enum Position {
 
 fn position(convention: Convention, place: Place) -> Position {
     let area = match convention {
-        Convention::Ppc64 => 0,
+        Convention::Ppc64 | Convention::Aix => 0,
         Convention::Z => Z_AREA,
     };
+    let word = convention.word();
     match place {
-        Place::General(number) => Position::Image(8 * number..8 * number + 8),
+        // on AIX "in the low half of its 8 bytes"
+        Place::General(number) => Position::Image(8 * number + 8 - word..8 * number + 8),
         Place::Floating(number) => {
             Position::Image(FLOATING + 8 * number..FLOATING + 8 * number + 8)
         }
-        Place::Memory(offset) => Position::Area(offset - area..offset - area + 8),
+        Place::Memory(offset) => Position::Area(offset - area..offset - area + word),
     }
 }
 
@@ -257,23 +297,23 @@ fn slot<'a>(convention: Convention, place: Place, image: &'a [u8], area: &'a [u8
     }
 }
 
-fn slot_mut<'a>(
-    convention: Convention,
-    place: Place,
-    image: &'a mut [u8],
-    area: &'a mut [u8],
-) -> &'a mut [u8] {
+/// Puts these bytes into a place. A general register's 8 bytes of the image are written whole: on
+/// AIX "high half zero".
+fn put(convention: Convention, place: Place, bytes: &[u8], image: &mut [u8], area: &mut [u8]) {
+    if let Place::General(number) = place {
+        image[8 * number..8 * number + 8].fill(0);
+    }
     match position(convention, place) {
-        Position::Image(bytes) => &mut image[bytes],
-        Position::Area(bytes) => &mut area[bytes],
+        Position::Image(part) => image[part].copy_from_slice(bytes),
+        Position::Area(part) => area[part].copy_from_slice(bytes),
     }
 }
 
-/// A doubleword with the value at its end and `padding` before it.
-fn extended(value: &[u8], padding: u8) -> [u8; 8] {
-    let mut doubleword = [padding; 8];
-    doubleword[8 - value.len()..].copy_from_slice(value);
-    doubleword
+/// This many bytes with the value at their end and `padding` before it.
+fn extended(value: &[u8], padding: u8, length: usize) -> Vec<u8> {
+    let mut bytes = vec![padding; length];
+    bytes[length - value.len()..].copy_from_slice(value);
+    bytes
 }
 
 fn number(doubleword: &[u8]) -> u64 {
@@ -314,6 +354,7 @@ mod tests {
 
     const PPC64: &str = "01";
     const Z: &str = "02";
+    const AIX: &str = "03";
 
     /// The bytes that hexadecimal text says; spaces count for nothing.
     fn hex(text: &str) -> Vec<u8> {
@@ -740,5 +781,177 @@ mod tests {
         for (index, part) in views.into_iter().enumerate() {
             assert_eq!(view(&[0; 72], &of, index as u64), Ok(part));
         }
+    }
+
+    #[test]
+    fn on_aix_narrow_integers_fill_words_and_wide_ones_two() {
+        let arguments = [
+            I8,
+            U8,
+            I16,
+            U16,
+            I32,
+            "10 0001 05",
+            POINTER,
+            I64,
+            "10 0001 07",
+            I8,
+            U16,
+        ];
+        let values = "80 80 8001 8001 80000001 80000002 80000003 8000000000000004 \
+                      8000000000000005 80 8001";
+        let of = signature(AIX, "", &arguments);
+        fills(&of, values, &mut buffers(52, 0, 0), 0, |state| {
+            // each in the low half of its 8 bytes, the high half zero
+            state.set_general(3, "00000000 ffffff80");
+            state.set_general(4, "00000000 00000080");
+            state.set_general(5, "00000000 ffff8001");
+            state.set_general(6, "00000000 00008001");
+            state.set_general(7, "00000000 80000001");
+            state.set_general(8, "00000000 80000002");
+            state.set_general(9, "00000000 80000003");
+            state.set_general(10, "00000000 80000000");
+            let area = "00000004 80000000 00000005 ffffff80 00008001";
+            state.area[32..].copy_from_slice(&hex(area));
+        });
+    }
+
+    #[test]
+    fn on_aix_floats_are_as_on_ppc64_in_registers_and_words_in_memory() {
+        let arguments = [&[SINGLE, DOUBLE][..], &[SINGLE; 11], &[SINGLE, DOUBLE]].concat();
+        let of = signature(AIX, "", &arguments);
+        let values = format!(
+            "7f800001 1112131415161718 {} 00000001 2122232425262728",
+            "3f800000".repeat(11)
+        );
+        fills(&of, &values, &mut buffers(68, 0, 0), 0, |state| {
+            state.set_floating(1, "7ff0000020000000");
+            state.set_floating(2, "1112131415161718");
+            for register in 3..=13 {
+                state.set_floating(register, "3ff0000000000000");
+            }
+            // "a single is one word"
+            state.area[56..60].copy_from_slice(&hex("00000001"));
+            state.area[60..68].copy_from_slice(&hex("2122232425262728"));
+        });
+    }
+
+    #[test]
+    fn on_aix_structs_start_at_the_head_of_their_first_word() {
+        let of = signature(AIX, THREE, &[THREE, &bytes_struct(5), NESTED_SINGLE, I8]);
+        let values = "010203 1112131415 7f800001 ff";
+        fills(&of, values, &mut buffers(33, 0, 0), 0xffff_fffe, |state| {
+            state.set_general(3, "00000000 fffffffe");
+            state.set_general(4, "00000000 01020300");
+            state.set_general(5, "00000000 11121314");
+            state.set_general(6, "00000000 15000000");
+            state.set_general(7, "00000000 7f800001");
+            state.set_general(8, "00000000 ffffffff");
+        });
+        // one that straddles, 8 bytes of it in r10 and memory
+        let seven = bytes_struct(7);
+        let arguments = [&[I8; 7][..], &[&seven, I64]].concat();
+        let of = signature(AIX, "", &arguments);
+        let values = "01 02 03 04 05 06 07 11121314151617 2122232425262728";
+        fills(&of, values, &mut buffers(44, 0, 0), 0, |state| {
+            for register in 3..=9 {
+                state.set_general(register, &format!("00000000000000{:02x}", register - 2));
+            }
+            state.set_general(10, "00000000 11121314");
+            state.area[32..].copy_from_slice(&hex("15161700 2122232425262728"));
+        });
+    }
+
+    #[test]
+    fn on_aix_a_needed_hidden_address_has_32_bits() {
+        let of = signature(AIX, THREE, &[I8]);
+        let good = buffers(32, 0, 0);
+        for (hidden, answer) in [
+            (0xffff_ffff, Ok(())),
+            (0x1_0000_0000, refused(12)),
+            (u64::MAX, refused(12)),
+        ] {
+            let mut call = good.clone();
+            assert_eq!(call.fill(&of, &[1], hidden), answer);
+            assert_eq!(call == good, answer.is_err());
+        }
+        // 15, 10 and 11 come before it
+        let mut call = good.clone();
+        call.area.pop();
+        assert_eq!(call.fill(&of, &[1], u64::MAX), refused(11));
+        assert_eq!(call.fill(&of, &[], u64::MAX), refused(10));
+        call.image.pop();
+        assert_eq!(call.fill(&of, &[], u64::MAX), refused(15));
+        // one that is not needed is ignored
+        for (convention, result) in [(AIX, I64), (AIX, ""), (PPC64, THREE), (Z, THREE)] {
+            let of = signature(convention, result, &[I8]);
+            let mut call = buffers(64, 0, 0);
+            assert_eq!(call.fill(&of, &[1], u64::MAX), Ok(()));
+        }
+    }
+
+    #[test]
+    fn on_aix_reading_ignores_high_halves_and_padding() {
+        let of = signature(AIX, THREE, &[I8, U16, THREE, I64, SINGLE, POINTER]);
+        let mut call = buffers(32, 0, 0);
+        call.set_general(3, "ffffffff 01020304");
+        call.set_general(4, "a1a2a3a4 11121381");
+        call.set_general(5, "b1b2b3b4 21222324");
+        call.set_general(6, "c1c2c3c4 31323334");
+        call.set_general(7, "d1d2d3d4 41424344");
+        call.set_general(8, "e1e2e3e4 51525354");
+        call.set_floating(1, "3ff0000000000000");
+        call.set_general(10, "f1f2f3f4 61626364");
+        let values = "81 2324 313233 4142434451525354 3f800000 61626364";
+        assert_eq!(call.values(&of, 22), hex(values));
+        call.set_floating(1, "3ff0000010000000");
+        assert_eq!(call.read(&of, &mut [0; 22]), refused(14));
+    }
+
+    #[test]
+    fn on_aix_home_copies_low_halves_and_views_are_by_words() {
+        let arguments = [I8, SINGLE, I64, THREE, DOUBLE, I16, I64, SINGLE, DOUBLE, I8];
+        let of = signature(AIX, THREE, &arguments);
+        let mut call = buffers(64, 0, 0);
+        for register in 3..=10 {
+            let low = format!("{:02x}", register).repeat(4);
+            call.set_general(register, &format!("ffffffff {low}"));
+        }
+        call.set_floating(1, "7ff0000020000000");
+        call.set_floating(2, "1122334455667788");
+        call.set_floating(3, "3ff0000000000000");
+        call.set_floating(4, "2122232425262728");
+        let mut area = call.area.clone();
+        assert_eq!(home(&of, &call.image, &mut area), Ok(()));
+        let expected = [
+            // the hidden address's word stays
+            "aaaaaaaa 04040404 7f800001 06060606 07070707 08080808 11223344 55667788",
+            // i16 and i64 stood in memory; the floats behind them come from their registers
+            "aaaaaaaa aaaaaaaa aaaaaaaa 3f800000 21222324 25262728 aaaaaaaa aaaaaaaa",
+        ];
+        assert_eq!(area, hex(&expected.concat()));
+        let views = [
+            7..8,
+            8..12,
+            12..20,
+            20..23,
+            24..32,
+            34..36,
+            36..44,
+            44..48,
+            48..56,
+            59..60,
+        ];
+        for (index, part) in views.into_iter().enumerate() {
+            assert_eq!(view(&area, &of, index as u64), Ok(part));
+        }
+        assert_eq!(view(&area, &of, 10), refused(24));
+        assert_eq!(view(&area[..59], &of, 0), refused(11));
+        assert_eq!(view(&area[..60], &of, 0), Ok(7..8));
+        // a single's register that is no widened single changes nothing
+        call.set_floating(3, "3690000000000000");
+        let before = area.clone();
+        assert_eq!(home(&of, &call.image, &mut area), refused(14));
+        assert_eq!(area, before);
     }
 }

@@ -1,29 +1,30 @@
 //! The planner: where each argument of a call stands, and how large the buffers around the call
-//! are (document 01, "Places on PPC64" and "Places on Z"; 000, 3.2.3; 001, "Parameter passing").
+//! are (document 01, "Places on PPC64" and "Places on Z"; 000, 3.2.3; 001, "Parameter passing";
+//! document 02, No. 1, and 003 for AIX).
 
 use crate::types::round_up;
-use crate::{Convention, Float, Signature, Type};
+use crate::{Convention, Float, Integer, Signature, Type};
 
-/// Where a doubleword stands.
+/// Where a doubleword stands, or on AIX a word. A floating register holds all of a double.
 #[derive(Clone, Copy, Debug, PartialEq, Eq)]
 pub enum Place {
     /// The general register with this number.
     General(usize),
     /// The floating register with this number.
     Floating(usize),
-    /// Memory at this offset: on PPC64 from the start of the parameter save area, on Z from the
-    /// stack pointer, 160 bytes below the parameter area's start.
+    /// Memory at this offset: on PPC64 and AIX from the start of the parameter save area, on Z from
+    /// the stack pointer, 160 bytes below the parameter area's start.
     Memory(usize),
 }
 
 /// Where an argument stands.
 #[derive(Clone, Debug, PartialEq, Eq)]
 pub struct ArgumentPlan {
-    /// The places of its doublewords, in order. On Z there is always one, which holds the address
-    /// of an argument that is passed by reference.
+    /// The places of its doublewords, on AIX of its words, in order. On Z there is always one, which
+    /// holds the address of an argument that is passed by reference.
     pub places: Vec<Place>,
-    /// PPC64: the offset in the parameter save area of its first doubleword, which may be in a
-    /// register nonetheless. Z: its offset on the stack, if it stands there.
+    /// PPC64 and AIX: the offset in the parameter save area of its first doubleword or word, which
+    /// may be in a register nonetheless. Z: its offset on the stack, if it stands there.
     pub offset: Option<usize>,
     /// Where its copy starts in the copy buffer, if it is passed by reference.
     pub copy: Option<usize>,
@@ -61,88 +62,96 @@ impl ArgumentPlan {
 
 pub fn plan(signature: &Signature) -> Plan {
     match signature.convention {
-        Convention::Ppc64 => plan_ppc64(signature),
+        Convention::Ppc64 | Convention::Aix => plan_powerpc(signature),
         Convention::Z => plan_z(signature),
     }
 }
 
 /// "The value buffer holds the arguments in order without gaps."
 fn values(signature: &Signature) -> usize {
-    signature.arguments.iter().map(Type::size).sum()
+    let sizes = signature.arguments.iter();
+    sizes.map(|of| of.size(signature.convention)).sum()
 }
 
-fn plan_ppc64(signature: &Signature) -> Plan {
-    let result = ppc64_result(signature.result.as_ref());
-    // "The doubleword count w starts at 0, or at 1 when the result is a struct."
-    let mut doublewords = match result {
+/// PPC64 by doublewords and AIX by words, which 02's No. 1 counts alike.
+fn plan_powerpc(signature: &Signature) -> Plan {
+    let convention = signature.convention;
+    let word = convention.word();
+    let result = powerpc_result(convention, signature.result.as_ref());
+    // "The doubleword count w starts at 0, or at 1 when the result is a struct"; on AIX "a struct
+    // result is passed by a hidden first word".
+    let mut words = match result {
         ResultPlan::Hidden(_) => 1,
         _ => 0,
     };
     let mut floats = 0;
     let mut arguments = Vec::new();
     for argument in &signature.arguments {
-        let first = doublewords;
-        doublewords += ppc64_doublewords(argument);
-        let places = if is_single_or_double(argument) {
-            floats += 1;
-            vec![ppc64_float_place(floats, first)]
-        } else {
-            (first..doublewords).map(ppc64_place).collect()
+        let first = words;
+        words += powerpc_words(convention, argument);
+        floats += usize::from(is_single_or_double(argument));
+        let places = match floats {
+            // "Singles and doubles take f1 to f13 in order [..]; after f13, memory only."
+            1..=13 if is_single_or_double(argument) => vec![Place::Floating(floats)],
+            _ if is_single_or_double(argument) => {
+                (first..words).map(|w| Place::Memory(word * w)).collect()
+            }
+            _ => (first..words).map(|w| powerpc_place(word, w)).collect(),
         };
         arguments.push(ArgumentPlan {
             places,
-            offset: Some(8 * first),
+            offset: Some(word * first),
             copy: None,
         });
     }
     Plan {
-        convention: Convention::Ppc64,
+        convention,
         arguments,
         result,
-        // "The area is 8 times the larger of 8 and the final w."
-        area: 8 * doublewords.max(8),
+        // "The area is 8 times the larger of 8 and the final w"; on AIX "4 times the larger of 8
+        // and w".
+        area: word * words.max(8),
         values: values(signature),
         copies: 0,
     }
 }
 
-/// "Sizes in doublewords: whole, single, double 1; long double 2; struct size / 8 rounded up."
-fn ppc64_doublewords(of: &Type) -> usize {
-    match of {
-        Type::Integer(_) | Type::Float(Float::Single | Float::Double) => 1,
-        Type::Float(Float::LongDouble) => 2,
-        Type::Struct(_) => of.size().div_ceil(8),
+/// "Sizes in doublewords: whole, single, double 1; long double 2; struct size / 8 rounded up." On
+/// AIX "a double or 64-bit whole uses two words", "a single is one word", and wholes and structs fill
+/// words "as they fill doublewords".
+fn powerpc_words(convention: Convention, of: &Type) -> usize {
+    match (convention, of) {
+        (Convention::Aix, Type::Integer(Integer::I64 | Integer::U64)) => 2,
+        (Convention::Aix, Type::Float(Float::Double)) => 2,
+        (_, Type::Integer(_) | Type::Float(Float::Single | Float::Double)) => 1,
+        (_, Type::Float(Float::LongDouble)) => 2,
+        (_, Type::Struct(_)) => of.size(convention).div_ceil(convention.word()),
     }
 }
 
 /// "Each doubleword of a whole, struct or long double goes to r(3+w) while w < 8, then to memory."
-fn ppc64_place(doubleword: usize) -> Place {
-    match doubleword {
-        0..=7 => Place::General(3 + doubleword),
-        _ => Place::Memory(8 * doubleword),
+fn powerpc_place(word: usize, w: usize) -> Place {
+    match w {
+        0..=7 => Place::General(3 + w),
+        _ => Place::Memory(word * w),
     }
 }
 
-/// "Singles and doubles take f1 to f13 in order [..]; after f13, memory only." `number` counts
-/// them from 1, `doubleword` is where this one lies in the parameter save area.
-fn ppc64_float_place(number: usize, doubleword: usize) -> Place {
-    match number {
-        1..=13 => Place::Floating(number),
-        _ => Place::Memory(8 * doubleword),
-    }
-}
-
-fn ppc64_result(of: Option<&Type>) -> ResultPlan {
-    match of {
-        None => ResultPlan::None,
-        Some(Type::Integer(_)) => ResultPlan::Registers(vec![Place::General(3)]),
-        Some(Type::Float(Float::Single | Float::Double)) => {
-            ResultPlan::Registers(vec![Place::Floating(1)])
+/// "Results: whole r3; single or double f1; long double f1, f2." On AIX "r3, 64-bit wholes r3 and
+/// r4, floats f1".
+fn powerpc_result(convention: Convention, of: Option<&Type>) -> ResultPlan {
+    let registers = |places: &[Place]| ResultPlan::Registers(places.to_vec());
+    match (convention, of) {
+        (_, None) => ResultPlan::None,
+        (Convention::Aix, Some(Type::Integer(Integer::I64 | Integer::U64))) => {
+            registers(&[Place::General(3), Place::General(4)])
         }
-        Some(Type::Float(Float::LongDouble)) => {
-            ResultPlan::Registers(vec![Place::Floating(1), Place::Floating(2)])
+        (_, Some(Type::Integer(_))) => registers(&[Place::General(3)]),
+        (_, Some(Type::Float(Float::Single | Float::Double))) => registers(&[Place::Floating(1)]),
+        (_, Some(Type::Float(Float::LongDouble))) => {
+            registers(&[Place::Floating(1), Place::Floating(2)])
         }
-        Some(Type::Struct(_)) => ResultPlan::Hidden(Place::General(3)),
+        (_, Some(Type::Struct(_))) => ResultPlan::Hidden(Place::General(3)),
     }
 }
 
@@ -191,7 +200,7 @@ fn z_argument(argument: &Type, cursor: &mut ZCursor) -> ArgumentPlan {
     if z_by_reference(argument) {
         // "at the next multiple of 8 in the copy buffer"
         let start = round_up(cursor.copies, 8);
-        cursor.copies = start + argument.size();
+        cursor.copies = start + argument.size(Convention::Z);
         copy = Some(start);
     }
     let place = if float_equivalent(argument).is_some() && cursor.fr <= 6 {
@@ -219,7 +228,7 @@ fn z_argument(argument: &Type, cursor: &mut ZCursor) -> ArgumentPlan {
 /// copy."
 fn z_by_reference(of: &Type) -> bool {
     match of {
-        Type::Struct(_) => !matches!(of.size(), 1 | 2 | 4 | 8),
+        Type::Struct(_) => !matches!(of.size(Convention::Z), 1 | 2 | 4 | 8),
         Type::Float(Float::LongDouble) => true,
         _ => false,
     }
@@ -260,11 +269,15 @@ fn is_single_or_double(of: &Type) -> bool {
 mod tests {
     use super::Place::{Floating, General, Memory};
     use super::*;
-    use crate::Integer;
 
     const I8: Type = Type::Integer(Integer::I8);
     const I32: Type = Type::Integer(Integer::I32);
     const I64: Type = Type::Integer(Integer::I64);
+    const U8: Type = Type::Integer(Integer::U8);
+    const I16: Type = Type::Integer(Integer::I16);
+    const U16: Type = Type::Integer(Integer::U16);
+    const U64: Type = Type::Integer(Integer::U64);
+    const POINTER: Type = Type::Integer(Integer::Pointer);
     const SINGLE: Type = Type::Float(Float::Single);
     const DOUBLE: Type = Type::Float(Float::Double);
     const LONG_DOUBLE: Type = Type::Float(Float::LongDouble);
@@ -287,6 +300,10 @@ mod tests {
 
     fn z(arguments: &[Type]) -> Plan {
         plan_of(Convention::Z, None, arguments)
+    }
+
+    fn aix(arguments: &[Type]) -> Plan {
+        plan_of(Convention::Aix, None, arguments)
     }
 
     /// The places of each argument.
@@ -511,5 +528,109 @@ mod tests {
             assert_eq!(hidden.result, ResultPlan::Hidden(General(2)));
             assert_eq!(only_places(&hidden), [General(3)]);
         }
+    }
+
+    /// 004's worked example, which "passes" c1 in GPR10 and s2 "in the parameter area".
+    #[test]
+    fn on_aix_the_moo_func_of_004() {
+        let arguments = [I32, SINGLE, DOUBLE, I16, DOUBLE, U8, U16, SINGLE, I32];
+        let plan = aix(&arguments);
+        let expected: [&[Place]; 9] = [
+            &[General(3)],
+            &[Floating(1)],
+            &[Floating(2)],
+            &[General(7)],
+            &[Floating(3)],
+            &[General(10)],
+            &[Memory(32)],
+            &[Floating(4)],
+            &[Memory(40)],
+        ];
+        assert_eq!(places(&plan), expected);
+        let offsets: Vec<_> = plan.arguments.iter().map(|one| one.offset).collect();
+        assert_eq!(
+            offsets,
+            [0, 4, 8, 16, 20, 28, 32, 36, 40].map(Some).to_vec()
+        );
+        assert_eq!((plan.area, plan.values, plan.copies), (44, 37, 0));
+    }
+
+    #[test]
+    fn on_aix_a_double_or_a_64_bit_integer_uses_two_words_and_a_pointer_one() {
+        let plan = aix(&[POINTER, I64, DOUBLE, I8, U64, U16]);
+        let expected: [&[Place]; 6] = [
+            &[General(3)],
+            // the next two words, no even pair
+            &[General(4), General(5)],
+            &[Floating(1)],
+            &[General(8)],
+            &[General(9), General(10)],
+            &[Memory(32)],
+        ];
+        assert_eq!(places(&plan), expected);
+        assert_eq!((plan.area, plan.values), (36, 31));
+    }
+
+    #[test]
+    fn on_aix_one_argument_may_straddle() {
+        let plan = aix(&[structure(&[I32; 7]), I64, I8]);
+        let expected: [&[Place]; 3] = [
+            &[
+                General(3),
+                General(4),
+                General(5),
+                General(6),
+                General(7),
+                General(8),
+                General(9),
+            ],
+            &[General(10), Memory(32)],
+            &[Memory(36)],
+        ];
+        assert_eq!(places(&plan), expected);
+        assert_eq!(plan.arguments[1].offset, Some(28));
+        // a struct of 5 bytes takes two words
+        let plan = aix(&[structure(&[I32; 7]), structure(&[I8; 5])]);
+        assert_eq!(plan.arguments[1].places, [General(10), Memory(32)]);
+        assert_eq!((plan.area, plan.values), (36, 33));
+    }
+
+    #[test]
+    fn on_aix_the_fourteenth_float_is_in_memory_alone() {
+        let plan = aix(&[&[SINGLE; 13][..], &[DOUBLE, SINGLE]].concat());
+        assert_eq!(plan.arguments[12].places, [Floating(13)]);
+        assert_eq!(plan.arguments[13].places, [Memory(52), Memory(56)]);
+        assert_eq!(plan.arguments[14].places, [Memory(60)]);
+        assert_eq!(plan.area, 64);
+        // a double that lies on either side of the eighth word has its register
+        let plan = aix(&[structure(&[I32; 7]), DOUBLE, I8]);
+        assert_eq!(plan.arguments[1].places, [Floating(1)]);
+        assert_eq!(plan.arguments[2].places, [Memory(36)]);
+    }
+
+    #[test]
+    fn results_on_aix() {
+        let of = |result| plan_of(Convention::Aix, result, &[I8]);
+        assert_eq!(of(None).result, ResultPlan::None);
+        let registers = |places: &[Place]| ResultPlan::Registers(places.to_vec());
+        for narrow in [I8, I32, POINTER] {
+            assert_eq!(of(Some(narrow)).result, registers(&[General(3)]));
+        }
+        for wide in [I64, U64] {
+            assert_eq!(of(Some(wide)).result, registers(&[General(3), General(4)]));
+        }
+        for float in [SINGLE, DOUBLE] {
+            assert_eq!(of(Some(float)).result, registers(&[Floating(1)]));
+        }
+        let hidden = of(Some(structure(&[SINGLE])));
+        assert_eq!(hidden.result, ResultPlan::Hidden(General(3)));
+        assert_eq!(hidden.arguments[0].places, [General(4)]);
+        assert_eq!(hidden.arguments[0].offset, Some(4));
+        let hidden = plan_of(Convention::Aix, Some(structure(&[I8])), &[I8; 8]);
+        assert_eq!(hidden.arguments[7].places, [Memory(32)]);
+        assert_eq!(
+            (hidden.area, aix(&[]).area, aix(&[I8; 8]).area),
+            (36, 32, 32)
+        );
     }
 }

@@ -1,6 +1,6 @@
 //! The reader of signatures: document 01, "A signature's bytes" and refusals 1 to 9 of "When the
-//! bridge says no", with the counts of document 02's No. 10 and the limits of its No. 6. Offsets count
-//! from the signature's first byte.
+//! bridge says no", with the counts of document 02's No. 10, the limits of its No. 6 and AIX of its
+//! No. 1, refusal 25 with it. Offsets count from the signature's first byte.
 
 use crate::{Convention, Float, Integer, Refusal, Signature, Type};
 
@@ -31,6 +31,15 @@ struct Reader<'a> {
     passed: usize,
 }
 
+/// Where a type's item stands: the end of the body around it, and what its meaning depends on.
+#[derive(Clone, Copy)]
+struct Around {
+    convention: Convention,
+    end: usize,
+    /// Of a struct that stands there; "an argument or result struct has depth 1".
+    depth: usize,
+}
+
 /// Reads a whole signature.
 pub fn read(bytes: &[u8]) -> Result<Signature, Refusal> {
     let mut reader = Reader { bytes, passed: 0 };
@@ -40,19 +49,32 @@ pub fn read(bytes: &[u8]) -> Result<Signature, Refusal> {
     reader.signature()
 }
 
+impl Around {
+    /// Around the type of a result or of an argument.
+    fn top(convention: Convention, item: &Item) -> Around {
+        Around {
+            convention,
+            end: item.end,
+            depth: 1,
+        }
+    }
+}
+
 impl Reader<'_> {
     fn signature(&mut self) -> Result<Signature, Refusal> {
         let end = self.bytes.len();
         let first = self.item(0, end, &[CONVENTION])?;
-        let convention = match self.bytes[first.body..first.end] {
-            [1] => Convention::Ppc64,
-            [2] => Convention::Z,
-            _ => return self.refuse_item(4, &first),
+        let named = match self.bytes[first.body..first.end] {
+            [code] => Convention::of_code(u64::from(code)),
+            _ => None,
+        };
+        let Some(convention) = named else {
+            return self.refuse_item(4, &first);
         };
         let second = self.item(first.end, end, &[RESULT])?;
-        let result = self.result(&second)?;
+        let result = self.result(convention, &second)?;
         let third = self.item(second.end, end, &[ARGUMENTS])?;
-        let arguments = self.arguments(&third)?;
+        let arguments = self.arguments(convention, &third)?;
         if third.end < end {
             return self.refuse(9, third.end);
         }
@@ -64,11 +86,12 @@ impl Reader<'_> {
     }
 
     /// "empty body for none, else one type item"
-    fn result(&mut self, item: &Item) -> Result<Option<Type>, Refusal> {
+    fn result(&mut self, convention: Convention, item: &Item) -> Result<Option<Type>, Refusal> {
         if item.body == item.end {
             return Ok(None);
         }
-        let (result, after) = self.type_item(item.body, item.end, 1)?;
+        let around = Around::top(convention, item);
+        let (result, after) = self.type_item(item.body, around)?;
         if after < item.end {
             return self.refuse(4, after);
         }
@@ -76,33 +99,28 @@ impl Reader<'_> {
     }
 
     /// "0 to 64 type items", raised "to 128"
-    fn arguments(&mut self, item: &Item) -> Result<Vec<Type>, Refusal> {
+    fn arguments(&mut self, convention: Convention, item: &Item) -> Result<Vec<Type>, Refusal> {
+        let around = Around::top(convention, item);
         let mut arguments = Vec::new();
         let mut place = item.body;
         while place < item.end {
             if arguments.len() == MOST_ARGUMENTS {
                 return self.refuse(7, place);
             }
-            let (argument, after) = self.type_item(place, item.end, 1)?;
+            let (argument, after) = self.type_item(place, around)?;
             arguments.push(argument);
             place = after;
         }
         Ok(arguments)
     }
 
-    /// The type whose item stands at `place`, and the offset after that item. A struct that stands
-    /// there has this `depth`; "an argument or result struct has depth 1".
-    fn type_item(
-        &mut self,
-        place: usize,
-        end: usize,
-        depth: usize,
-    ) -> Result<(Type, usize), Refusal> {
-        let item = self.item(place, end, &[INTEGER, FLOAT, STRUCT])?;
+    /// The type whose item stands at `place`, and the offset after that item.
+    fn type_item(&mut self, place: usize, around: Around) -> Result<(Type, usize), Refusal> {
+        let item = self.item(place, around.end, &[INTEGER, FLOAT, STRUCT])?;
         let read = match item.tag {
             INTEGER => self.integer(&item)?,
-            FLOAT => self.float(&item, depth)?,
-            _ => self.structure(&item, depth)?,
+            FLOAT => self.float(&item, around)?,
+            _ => self.structure(&item, around)?,
         };
         Ok((read, item.end))
     }
@@ -123,36 +141,51 @@ impl Reader<'_> {
         Ok(Type::Integer(integer))
     }
 
-    fn float(&self, item: &Item, depth: usize) -> Result<Type, Refusal> {
+    fn float(&self, item: &Item, around: Around) -> Result<Type, Refusal> {
         let float = match self.bytes[item.body..item.end] {
             [0] => Float::Single,
             [1] => Float::Double,
             [2] => Float::LongDouble,
             _ => return self.refuse_item(4, item),
         };
-        let inside_a_struct = depth > 1;
+        let inside_a_struct = around.depth > 1;
         if float == Float::LongDouble && inside_a_struct {
             return self.refuse_item(5, item);
+        }
+        // 02, No. 1: "A long double, or a double inside a struct, gives new refusal 25 at that item,
+        // tested after 5."
+        let not_on_aix = match float {
+            Float::Single => false,
+            Float::Double => inside_a_struct,
+            Float::LongDouble => true,
+        };
+        if around.convention == Convention::Aix && not_on_aix {
+            return self.refuse_item(25, item);
         }
         Ok(Type::Float(float))
     }
 
-    fn structure(&mut self, item: &Item, depth: usize) -> Result<Type, Refusal> {
-        if depth > DEEPEST_STRUCT {
+    fn structure(&mut self, item: &Item, around: Around) -> Result<Type, Refusal> {
+        if around.depth > DEEPEST_STRUCT {
             return self.refuse_item(6, item);
         }
         if item.body == item.end {
             return self.refuse_item(4, item);
         }
+        let within = Around {
+            end: item.end,
+            depth: around.depth + 1,
+            ..around
+        };
         let mut fields = Vec::new();
         let mut place = item.body;
         while place < item.end {
-            let (field, after) = self.type_item(place, item.end, depth + 1)?;
+            let (field, after) = self.type_item(place, within)?;
             fields.push(field);
             place = after;
         }
         let structure = Type::Struct(fields);
-        if structure.size() > LARGEST_STRUCT {
+        if structure.size(around.convention) > LARGEST_STRUCT {
             return self.refuse_item(8, item);
         }
         Ok(structure)
@@ -224,8 +257,12 @@ mod tests {
     }
 
     fn signature(result: &[u8], arguments: &[u8]) -> Vec<u8> {
+        signature_for(Convention::Ppc64, result, arguments)
+    }
+
+    fn signature_for(convention: Convention, result: &[u8], arguments: &[u8]) -> Vec<u8> {
         [
-            item(CONVENTION, &[1]),
+            item(CONVENTION, &[convention.code()]),
             item(RESULT, result),
             item(ARGUMENTS, arguments),
         ]
@@ -293,8 +330,10 @@ mod tests {
             let read = read(&signature(&item(FLOAT, &[code as u8]), &[])).unwrap();
             assert_eq!(read.result, Some(Type::Float(float)));
         }
-        let z = read(&hex("01 0001 02 02 0000 03 0000")).unwrap();
-        assert_eq!((z.convention, z.items()), (Convention::Z, 3));
+        for convention in Convention::ALL {
+            let read = read(&signature_for(convention, &[], &[])).unwrap();
+            assert_eq!((read.convention, read.items()), (convention, 3));
+        }
     }
 
     #[test]
@@ -338,7 +377,7 @@ mod tests {
     #[test]
     fn refusal_4_is_a_length_or_a_code_not_allowed() {
         refused(&hex("01 0001 00 02 0000 03 0000"), 4, 0, 0);
-        refused(&hex("01 0001 03 02 0000 03 0000"), 4, 0, 0);
+        refused(&hex("01 0001 04 02 0000 03 0000"), 4, 0, 0);
         refused(&hex("01 0000 02 0000 03 0000"), 4, 0, 0);
         refused(&hex("01 0002 01 01 02 0000 03 0000"), 4, 0, 0);
         refused(&signature(&item(INTEGER, &[9]), &[]), 4, RESULT_BODY, 2);
@@ -466,6 +505,50 @@ mod tests {
             RESULT_BODY + 3,
             3,
         );
+    }
+
+    #[test]
+    fn refusal_25_is_a_long_double_or_a_double_inside_a_struct_on_aix() {
+        let aix =
+            |result: &[u8], arguments: &[u8]| signature_for(Convention::Aix, result, arguments);
+        // a long double by itself, as the result and as an argument
+        refused(&aix(&LONG_DOUBLE_ITEM, &[]), 25, RESULT_BODY, 2);
+        refused(&aix(&[], &LONG_DOUBLE_ITEM), 25, ARGUMENTS_BODY, 3);
+        // a double at any depth, behind a field too
+        for depth in 1..=8 {
+            let inside = nested(depth, &DOUBLE_ITEM);
+            refused(&aix(&inside, &[]), 25, RESULT_BODY + 3 * depth, 2 + depth);
+            let behind = nested(depth, &[I8_ITEM, DOUBLE_ITEM].concat());
+            let place = ARGUMENTS_BODY + 3 * depth + 4;
+            refused(&aix(&[], &behind), 25, place, 4 + depth);
+        }
+        // inside a struct a long double gives 5, which is tested first
+        let inside = nested(1, &LONG_DOUBLE_ITEM);
+        refused(&aix(&inside, &[]), 5, RESULT_BODY + 3, 3);
+        // the body comes before both, depth before what is inside
+        refused(&aix(&item(FLOAT, &[2, 2]), &[]), 4, RESULT_BODY, 2);
+        refused(&aix(&nested(9, &DOUBLE_ITEM), &[]), 6, RESULT_BODY + 24, 10);
+        // before the size of the struct around it
+        let large = item(STRUCT, &DOUBLE_ITEM.repeat(33));
+        refused(&aix(&large, &[]), 25, RESULT_BODY + 3, 3);
+        // by itself a double is as on PPC64, and so is a single anywhere
+        assert!(read(&aix(&DOUBLE_ITEM, &DOUBLE_ITEM)).is_ok());
+        let single = item(FLOAT, &[0]);
+        assert!(read(&aix(&nested(8, &single), &nested(8, &single))).is_ok());
+        for other in [Convention::Ppc64, Convention::Z] {
+            let both = [&nested(1, &DOUBLE_ITEM)[..], &LONG_DOUBLE_ITEM].concat();
+            assert!(read(&signature_for(other, &LONG_DOUBLE_ITEM, &both)).is_ok());
+        }
+    }
+
+    #[test]
+    fn on_aix_pointers_count_4_bytes_of_a_struct() {
+        let pointers = |count| item(STRUCT, &item(INTEGER, &[8]).repeat(count));
+        for (convention, most) in [(Convention::Ppc64, 32), (Convention::Aix, 64)] {
+            let of = |count| signature_for(convention, &[], &pointers(count));
+            assert!(read(&of(most)).is_ok());
+            refused(&of(most + 1), 8, ARGUMENTS_BODY, 4 + most);
+        }
     }
 
     #[test]

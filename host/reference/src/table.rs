@@ -24,11 +24,12 @@ pub fn table(bytes: &[u8]) -> Result<Table, Refusal> {
     for (number, item) in items(bytes).into_iter().enumerate() {
         let of = &signature.arguments[number];
         entries.push(entry(&plan, number, of, item, value));
-        value += of.size();
+        value += of.size(plan.convention);
     }
     let code = match plan.convention {
         Convention::Ppc64 => 1,
         Convention::Z => 2,
+        Convention::Aix => 3,
     };
     let (result, places) = match &plan.result {
         ResultPlan::None => (0, vec![]),
@@ -72,13 +73,14 @@ fn items(bytes: &[u8]) -> Vec<usize> {
 
 fn entry(plan: &Plan, number: usize, of: &Type, item: usize, value: usize) -> [u64; ENTRY] {
     let argument = &plan.arguments[number];
-    let size = of.size();
+    let size = of.size(plan.convention);
+    let word = plan.convention.word();
     let [gpr, gprs] = general(&argument.places);
     let [fpr, fprs] = floating(&argument.places);
     let [memory, memory_length] = memory(plan.convention, &argument.places);
     let [home, home_length] = match (plan.convention, argument.offset) {
-        // each of its doublewords has its place in the area, wherever it stands
-        (Convention::Ppc64, Some(offset)) => [offset, 8 * argument.places.len()],
+        // each of its words has its place in the area, wherever it stands
+        (Convention::Ppc64 | Convention::Aix, Some(offset)) => [offset, word * size.div_ceil(word)],
         _ => [memory, memory_length],
     };
     let [copy, copy_length] = match argument.copy {
@@ -127,15 +129,15 @@ fn floating(places: &[Place]) -> [usize; 2] {
 /// In bytes of the area, which on Z starts 160 bytes above the stack pointer.
 fn memory(convention: Convention, places: &[Place]) -> [usize; 2] {
     let area = match convention {
-        Convention::Ppc64 => 0,
+        Convention::Ppc64 | Convention::Aix => 0,
         Convention::Z => 160,
     };
     let offset = |place: &Place| match place {
         Place::Memory(offset) => Some(*offset - area),
         _ => None,
     };
-    let [first, doublewords] = range(&places.iter().filter_map(offset).collect::<Vec<_>>());
-    [first, 8 * doublewords]
+    let [first, words] = range(&places.iter().filter_map(offset).collect::<Vec<_>>());
+    [first, convention.word() * words]
 }
 
 #[cfg(test)]

@@ -16,12 +16,31 @@ enum-told-2 c = search needs
 cursor-requires-2 : tie.Need-cursor-requires-2
 cursor-requires-2 c κs = search needs
 
+enum-told-3 : tie.Need-enum-told-3
+enum-told-3 c = search needs
+
+cursor-requires-3 : tie.Need-cursor-requires-3
+cursor-requires-3 c κs = search needs
+
 returns : tie.Need-returns
 returns c = c .cursor .ensures ∙ rw (c .before .enum-told .given .1)
 
 returns-2 : tie.Need-returns-2
 returns-2 c = c .cursor2 .ensures ∙ rw (c .before .enum-told2 .given .1)
 
+returns-3 : tie.Need-returns-3
+returns-3 c = c .cursor3 .ensures ∙ rw (c .before .enum-told3 .given .1)
+
 pub cursor-of-spec : {M : Type 1} → statement M
 cursor-of-spec =
-    tie.close (tie.spec enum-told cursor-requires enum-told-2 cursor-requires-2 returns returns-2)
+    tie.close
+    (tie.spec
+    enum-told
+    cursor-requires
+    enum-told-2
+    cursor-requires-2
+    enum-told-3
+    cursor-requires-3
+    returns
+    returns-2
+    returns-3)

@@ -15,12 +15,31 @@ enum-told-2 c = search needs
 frame-rules-requires-2 : tie.Need-frame-rules-requires-2
 frame-rules-requires-2 c κs = search needs
 
+enum-told-3 : tie.Need-enum-told-3
+enum-told-3 c = search needs
+
+frame-rules-requires-3 : tie.Need-frame-rules-requires-3
+frame-rules-requires-3 c κs = search needs
+
 returns : tie.Need-returns
 returns c = rw (c .before .enum-told .given .1) (c .frame-rules .ensures)
 
 returns-2 : tie.Need-returns-2
 returns-2 c = rw (c .before .enum-told2 .given .1) (c .frame-rules2 .ensures)
 
+returns-3 : tie.Need-returns-3
+returns-3 c = rw (c .before .enum-told3 .given .1) (c .frame-rules3 .ensures)
+
 pub frame-rules-of-spec : {M : Type 1} → statement M
 frame-rules-of-spec =
-    tie.close (tie.spec enum-told frame-rules-requires enum-told-2 frame-rules-requires-2 returns returns-2)
+    tie.close
+    (tie.spec
+    enum-told
+    frame-rules-requires
+    enum-told-2
+    frame-rules-requires-2
+    enum-told-3
+    frame-rules-requires-3
+    returns
+    returns-2
+    returns-3)

@@ -5,19 +5,21 @@ use Prim.Native.Nat.{ℕ, _-_, _*_}
 use native.Mathlib.Omega.{arith}
 use lib.ListN.{length}
 use borrow.Rule.Slice.PartMut.{putMid}
+use Rattle.words.specs.Splice.{splice}
 use Rattle.words.specs.Numbers.{bytesOf}
 use Rattle.words.proofs.Splices.{lent-tail}
 use Rattle.places.specs.declared.ResultPlaces.{ResultPlaces}
 use Rattle.slots.specs.Buffers.{buffers, put, putAll}
 use Rattle.slots.specs.Placements.{hiddenSlots}
 use Rattle.fill.specs.Fill.{HiddenFits}
+use Rattle.fill.proofs.Accepted.{address-word}
 use borrow.Author.Needs.{needs}
 use Rattle.fill.proofs.put_hidden.Statement.{statement}
 use Rattle.fill.proofs.put_hidden.Tie as tie
 
 -- the register lies in the image
 room : (c : tie.After-struct-known) → HiddenFits (ResultPlaces.Hidden (c .before .before .before .result .given .0 .0)) (length (c .before .before .before .before .before .before .args .image .now))
-room c = subst (λ (q : ResultPlaces). HiddenFits q (length (c .before .before .before .before .before .before .args .image .now))) (c .before .before .before .result .given .1) (c .before .before .before .before .before .before .pre)
+room c = subst (λ (q : ResultPlaces). HiddenFits q (length (c .before .before .before .before .before .before .args .image .now))) (c .before .before .before .result .given .1) (c .before .before .before .before .before .before .pre .0)
 
 enum-told : tie.Need-enum-told
 enum-told c = search needs
@@ -43,16 +45,19 @@ part-put-number-start c = omega (arith, room c)
 part-put-number-end : tie.Need-part-put-number-end
 part-put-number-end c = search needs
 
+zero-extend-requires : tie.Need-zero-extend-requires
+zero-extend-requires c κs = search needs
+
 put-number-requires : tie.Need-put-number-requires
-put-number-requires c κs = omega (arith, room (c .before))
+put-number-requires c κs = omega (arith, room (c .before .before))
 
 returns : tie.Need-returns
 unfolding putAll
-returns c = sym (ap (λ (q : ResultPlaces). putAll (hiddenSlots q (c .before .before .before .args .address)) (buffers (c .before .before .before .args .image .now) [] [])) (c .enum-told .given .1))
+returns c = sym (ap (λ (q : ResultPlaces). putAll (hiddenSlots (c .before .before .before .args .word) q (c .before .before .before .args .address)) (buffers (c .before .before .before .args .image .now) [] [])) (c .enum-told .given .1))
 
 returns-2 : tie.Need-returns-2
 unfolding putAll
-returns-2 c = sym (ap (λ (q : ResultPlaces). putAll (hiddenSlots q (c .before .before .before .args .address)) (buffers (c .before .before .before .args .image .now) [] [])) (c .enum-told2 .given .1))
+returns-2 c = sym (ap (λ (q : ResultPlaces). putAll (hiddenSlots (c .before .before .before .args .word) q (c .before .before .before .args .address)) (buffers (c .before .before .before .args .image .now) [] [])) (c .enum-told2 .given .1))
 
 same-length : tie.Need-same-length
 same-length c = search needs
@@ -60,10 +65,14 @@ same-length c = search needs
 returns-3 : tie.Need-returns-3
 unfolding putAll put
 returns-3 c =
-    let l : List ℕ = c .before .before .before .before .before .before .before .before .before .before .args .image .now in
-    let at : ℕ = 8 * c .before .before .before .before .before .before .before .result .given .0 .0 .general .first in
-    ap (λ (i : List ℕ). buffers i [] []) (ap (putMid at (length l - at) l) (c .before .before .put-number .ensures) ∙ lent-tail l at (bytesOf 8 (c .before .before .before .before .before .before .before .before .before .before .args .address)))
-    ∙ sym (ap (λ (q : ResultPlaces). putAll (hiddenSlots q (c .before .before .before .before .before .before .before .before .before .before .args .address)) (buffers l [] [])) (c .before .before .before .before .before .before .before .result .given .1))
+    let args = c .before .before .before .before .before .before .before .before .before .before .before .args in
+    let l : List ℕ = args .image .now in
+    let w : ℕ = args .word in
+    let at : ℕ = 8 * c .before .before .before .before .before .before .before .before .result .given .0 .0 .general .first in
+    ap (λ (i : List ℕ). buffers i [] [])
+    (ap (putMid at (length l - at) l) (c .before .before .put-number .ensures) ∙ lent-tail l at (bytesOf 8 (c .before .before .before .zero-extend .result))
+    ∙ ap (splice l at) (ap (bytesOf 8) (c .before .before .before .zero-extend .ensures) ∙ address-word w (args .address) (c .before .before .before .before .before .before .before .before .before .before .before .pre .1 .1)))
+    ∙ sym (ap (λ (q : ResultPlaces). putAll (hiddenSlots w q (args .address)) (buffers l [] [])) (c .before .before .before .before .before .before .before .before .result .given .1))
 
 pub put-hidden-spec : {M : Type 1} → statement M
 put-hidden-spec =
@@ -77,6 +86,7 @@ put-hidden-spec =
     sub-put-number
     part-put-number-start
     part-put-number-end
+    zero-extend-requires
     put-number-requires
     returns
     returns-2

@@ -28,8 +28,12 @@ returns-4 c = simp (eq-eqb _ _ (c .before .before .before .before .before .befor
 
 returns-5 : tie.Need-returns-5
 unfolding firstOf fillTests
-returns-5 c = simp (eq-eqb _ _ (c .before .before .before .before .before .before .if1 .left), eq-eqb _ _ (c .before .before .before .before .if2 .left), le-ltb _ _ (c .before .before .if3 .left), sym (c .before .bad-copies .ensures) ∙ c .if4 .left)
+returns-5 c = simp (eq-eqb _ _ (c .before .before .before .before .before .before .before .if1 .left), eq-eqb _ _ (c .before .before .before .before .before .if2 .left), le-ltb _ _ (c .before .before .before .if3 .left), sym (c .before .before .bad-copies .ensures) ∙ c .before .if4 .left, c .if5 .taken)
+
+returns-6 : tie.Need-returns-6
+unfolding firstOf fillTests
+returns-6 c = simp (eq-eqb _ _ (c .before .before .before .before .before .before .before .if1 .left), eq-eqb _ _ (c .before .before .before .before .before .if2 .left), le-ltb _ _ (c .before .before .before .if3 .left), sym (c .before .before .bad-copies .ensures) ∙ c .before .if4 .left, c .if5 .left)
 
 pub tested-spec : {M : Type 1} → statement M
 tested-spec =
-    tie.close (tie.spec returns returns-2 returns-3 bad-copies-requires returns-4 returns-5)
+    tie.close (tie.spec returns returns-2 returns-3 bad-copies-requires returns-4 returns-5 returns-6)

@@ -1,4 +1,5 @@
 -- The loop tests one argument a turn; those that are left give what all give (`Checking`).
+use Rattle.home_slot.specs.Homes.{registerAnswer, Registered}
 use borrow.Author.Needs.{needs}
 use mathlib.Core.Path.{_≡_, sym, _∙_}
 use mathlib.Core.List.{_∷_}
@@ -9,13 +10,13 @@ use Rattle.places.specs.Step.{rulesOf}
 use Rattle.slots.specs.Placements.{Placement}
 use Rattle.slots.specs.Arguments.{argumentsIn}
 use Rattle.slots.proofs.Turns.{argumentAt, next-argument, no-argument, Checking, checking-start, checking-ready, checking-refused, checking-more, checking-end}
-use Rattle.home.specs.Home.{registerAnswer, registersAnswer, Registered}
+use Rattle.home.specs.Home.{registersAnswer}
 use Rattle.home.proofs.first_unwidened.Statement.{statement}
 use Rattle.home.proofs.first_unwidened.Tie as tie
 
 abbrev Inv-loop : tie.InvT-loop
 Inv-loop image g p count rules i₀ i =
-    Checking (λ (q : Placement). registerAnswer (rulesOf (g .convention)) (q .ty) (q .span) image) (Registered (p .area) (length image)) (argumentsIn g p) i
+    Checking (λ (q : Placement). registerAnswer (rulesOf (g .convention)) (q .ty) (q .span) image) (Registered (rulesOf (g .convention)) (p .area) (length image)) (argumentsIn g p) i
 
 abbrev μ-loop : tie.MeasureT-loop
 μ-loop image g p count rules i₀ i = count - i

@@ -1,4 +1,6 @@
 -- The loop puts one argument a turn; those that are left give what all give (`Homing`).
+use Rattle.home_slot.specs.Homes.{homedBytes, Registered}
+use Rattle.home_slot.proofs.Forms.{registered-at}
 use borrow.Author.Needs.{needs}
 use mathlib.Core.Path.{_≡_, ap, _∙_}
 use mathlib.Core.List.{List, _∷_}
@@ -8,22 +10,19 @@ use lib.ListN.{length, drop}
 use borrow.Rule.Slice.PartMut.{putMid}
 use Rattle.words.specs.Splice.{splice, part}
 use Rattle.words.proofs.Splices.{lent-tail, length-part}
-use Rattle.conventions.specs.declared.Convention.{Convention}
-use Rattle.types.specs.Sizes.{sizeOf}
-use Rattle.places.specs.Step.{ppc64, rulesOf}
-use Rattle.slots.specs.Placements.{Placement, placement}
+use Rattle.places.specs.Step.{rulesOf}
+use Rattle.slots.specs.Placements.{Placement}
 use Rattle.slots.specs.Arguments.{argumentsIn}
 use Rattle.slots.proofs.Turns.{argumentAt, next-argument, no-argument}
-use Rattle.home.specs.Home.{homedBytes, Registered}
-use Rattle.home.proofs.Registers.{registered-at, homed-same, Homing, homing-start, homing-ready, homing-more, homing-end}
+use Rattle.home.proofs.Registers.{Homing, homing-start, homing-ready, homing-more, homing-end}
 use Rattle.home.proofs.put_homes.Statement.{statement}
 use Rattle.home.proofs.put_homes.Tie as tie
 
 abbrev Inv-loop : tie.InvT-loop
-Inv-loop area₀ image g p count i₀ area i = Homing (p .area) (length image) (rulesOf (g .convention)) (argumentsIn g p) image area₀ area i
+Inv-loop area₀ image g p convention count i₀ area i = Homing (p .area) (length image) (rulesOf (g .convention)) (argumentsIn g p) image area₀ area i
 
 abbrev μ-loop : tie.MeasureT-loop
-μ-loop area₀ image g p count i₀ area i = count - i
+μ-loop area₀ image g p convention count i₀ area i = count - i
 
 -- the argument at hand
 abbrev hand : (c : tie.After-s Inv-loop μ-loop) → Placement
@@ -32,7 +31,7 @@ hand c = argumentAt (c .before .before .before .before .before .before .args .t3
 next : (c : tie.After-s Inv-loop μ-loop) → drop (c .before .before .before .loop .i) (argumentsIn (c .before .before .before .before .before .before .args .t3) (c .before .before .before .before .before .before .args .t4)) ≡ hand c ∷ drop (suc (c .before .before .before .loop .i)) (argumentsIn (c .before .before .before .before .before .before .args .t3) (c .before .before .before .before .before .before .args .t4))
 next c = next-argument (c .before .before .before .before .before .before .args .t3) (c .before .before .before .before .before .before .args .t4) (c .before .before .before .loop .i) (c .before .before .loop-test .taken) (c .before .before .before .before .before .before .pre .0 .types) (c .before .before .before .before .before .before .pre .0 .spans)
 
-ready : (c : tie.After-s Inv-loop μ-loop) → Registered (c .before .before .before .before .before .before .args .t4 .area) (length (c .before .before .before .before .before .before .args .image .now)) (hand c)
+ready : (c : tie.After-s Inv-loop μ-loop) → Registered (rulesOf (c .before .before .before .before .before .before .args .t3 .convention)) (c .before .before .before .before .before .before .args .t4 .area) (length (c .before .before .before .before .before .before .args .image .now)) (hand c)
 ready c = homing-ready _ _ _ _ _ _ _ _ (hand c) (next c) (c .before .before .before .loop .inv)
 
 within : (c : tie.After-s Inv-loop μ-loop) → hand c .span .home .start ≤ length (c .before .before .before .loop .area)
@@ -71,7 +70,7 @@ put-home-requires c κs =
     let l : List ℕ = h .before .before .before .loop .area in
     let start : ℕ = hand h .span .home .start in
     let size : length (part start (length l - start) l) ≡ length l - start = length-part start (length l - start) l (omega (arith, within h)) in
-    registered-at _ _ _ _ _ _ (h .before .before .before .before .before .before .pre .0 .convention) (omega (arith, size, within h, h .before .before .before .before .before .before .pre .1, h .before .before .before .loop .inv .same)) (ready h)
+    registered-at _ _ _ _ _ (omega (arith, size, within h, h .before .before .before .before .before .before .pre .1, h .before .before .before .loop .inv .same)) (ready h)
 
 add-i : tie.Need-add-i Inv-loop μ-loop
 add-i c = omega (arith, c .before .before .before .before .before .before .before .before .before .before .before .before .pre .0 .few, c .before .before .before .before .before .before .before .before .loop-test .taken)
@@ -85,10 +84,8 @@ loop-again c =
     let l : List ℕ = h .before .before .before .loop .area in
     let image : List ℕ = h .before .before .before .before .before .before .args .image .now in
     let start : ℕ = hand h .span .home .start in
-    let x : List ℕ = homedBytes ppc64 (placement (hand h .ty) (sizeOf Convention.Ppc64 (hand h .ty)) (hand h .span)) image in
-    let y : List ℕ = homedBytes (rulesOf (h .before .before .before .before .before .before .args .t3 .convention)) (hand h) image in
-    let same : x ≡ y = homed-same _ (hand h .ty) (hand h .span) image (h .before .before .before .before .before .before .pre .0 .convention) in
-    let e : putMid start (length l - start) l (c .before .before .put-home .last .0) ≡ splice l start y = ap (putMid start (length l - start) l) (c .before .before .put-home .ensures) ∙ lent-tail l start x ∙ ap (splice l start) same in
+    let x : List ℕ = homedBytes (rulesOf (h .before .before .before .before .before .before .args .t3 .convention)) (hand h) image in
+    let e : putMid start (length l - start) l (c .before .before .put-home .last .0) ≡ splice l start x = ap (putMid start (length l - start) l) (c .before .before .put-home .ensures) ∙ lent-tail l start x in
     rw e (homing-more _ _ _ _ _ _ _ _ (hand h) (next h) (h .before .before .before .loop .inv))
 
 same-length : tie.Need-same-length Inv-loop μ-loop

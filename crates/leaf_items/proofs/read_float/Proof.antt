@@ -7,7 +7,6 @@ use native.Mathlib.Omega.{arith}
 use borrow.Author.Tests.{lt-ltb, le-ltb}
 use Rattle.types.specs.declared.FloatFormat.{FloatFormat}
 use Rattle.items.specs.declared.FloatCode.{FloatCode}
-use Rattle.types.specs.Trees.{typeOf}
 use Rattle.items.proofs.Laws.{float-length, float-by, long-double-by}
 use Rattle.leaf_items.proofs.read_float.Tie as tie
 
@@ -35,14 +34,23 @@ enum-known-f c = search needs
 enum-told : tie.Need-enum-told
 enum-told c = search needs
 
+float-item-requires : tie.Need-float-item-requires
+float-item-requires c κs = search needs
+
 enum-told-2 : tie.Need-enum-told-2
 enum-told-2 c = search needs
+
+float-item-requires-2 : tie.Need-float-item-requires-2
+float-item-requires-2 c κs = search needs
 
 enum-told-3 : tie.Need-enum-told-3
 enum-told-3 c = search needs
 
 refused-here-requires-2 : tie.Need-refused-here-requires-2
 refused-here-requires-2 c κs = search needs
+
+float-item-requires-3 : tie.Need-float-item-requires-3
+float-item-requires-3 c κs = search needs
 
 enum-told-4 : tie.Need-enum-told-4
 enum-told-4 c = search needs
@@ -51,19 +59,18 @@ refused-here-requires-3 : tie.Need-refused-here-requires-3
 refused-here-requires-3 c κs = search needs
 
 returns-2 : tie.Need-returns-2
-unfolding typeOf
-returns-2 c = sym (float-by _ _ _ _ _ (omega arith) (FloatCode.Format FloatFormat.Single) (cc))
+returns-2 c = c .float-item .ensures ∙ sym (float-by _ _ _ _ _ (omega arith) (FloatCode.Format FloatFormat.Single) (cc))
 
 returns-3 : tie.Need-returns-3
-unfolding typeOf
-returns-3 c = sym (float-by _ _ _ _ _ (omega arith) (FloatCode.Format FloatFormat.Double) (cc))
+returns-3 c = c .float-item2 .ensures ∙ sym (float-by _ _ _ _ _ (omega arith) (FloatCode.Format FloatFormat.Double) (cc))
 
 returns-4 : tie.Need-returns-4
 returns-4 c = c .refused-here2 .ensures ∙ sym (long-double-by _ _ _ _ _ (omega arith) (cc) true (lt-ltb _ _ (c .before .if2 .taken)))
 
 returns-5 : tie.Need-returns-5
-unfolding typeOf
-returns-5 c = sym (long-double-by _ _ _ _ _ (omega arith) (cc) false (le-ltb _ _ (c .if2 .left)))
+returns-5 c =
+    let outside = le-ltb _ _ (c .before .if2 .left) in
+    rw outside at (c .float-item3 .ensures) ∙ sym (long-double-by _ _ _ _ _ (omega arith) (cc) false outside)
 
 returns-6 : tie.Need-returns-6
 returns-6 c = c .refused-here3 .ensures ∙ sym (float-by _ _ _ _ _ (omega arith) FloatCode.Unknown (cc))
@@ -80,9 +87,12 @@ read-float-spec =
     float-code-requires
     enum-known-f
     enum-told
+    float-item-requires
     enum-told-2
+    float-item-requires-2
     enum-told-3
     refused-here-requires-2
+    float-item-requires-3
     enum-told-4
     refused-here-requires-3
     returns-2

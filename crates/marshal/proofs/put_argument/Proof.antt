@@ -1,7 +1,7 @@
--- By the way that the argument is passed: in an FPR, by a pointer to its copy, from the head of its words on, or at the end of one.
-use mathlib.Core.Path.{refl, sym, ap, _∙_}
+-- By the way that the argument is passed: in an FPR, by a pointer to its copy, from the head of its words on, or at their end.
+use mathlib.Core.Path.{_≡_, refl, sym, ap, subst, _∙_}
 use mathlib.Core.List.{List, _++_}
-use Prim.Native.Nat.{ℕ, _+_, _-_, _*_}
+use Prim.Native.Nat.{ℕ, _+_, _-_, _*_, _≤_, _<_}
 use native.Mathlib.Omega.{arith}
 use lib.ListN.{length, replicate}
 use borrow.Rule.Slice.PartMut.{putMid}
@@ -9,10 +9,12 @@ use Rattle.words.specs.Splice.{splice}
 use Rattle.words.specs.Numbers.{bytesOf}
 use Rattle.words.proofs.Splices.{lent-tail}
 use Rattle.types.specs.Sizes.{equivalentOf}
+use Rattle.places.specs.Step.{wordOf}
 use Rattle.slots.specs.Buffers.{buffers}
 use Rattle.slots.specs.Placements.{Placement, placement}
-use Rattle.marshal.proofs.Arguments.{argument-float, argument-words, stands-address, stands-head, stands-end, copy-none, copy-put}
-use Rattle.slots.proofs.Limits.{float-small, one-word, indirect-end}
+use Rattle.marshal.proofs.Arguments.{argument-float, argument-words, stands-address, stands-head, stands-end, number-fits, copy-none, copy-put}
+use Rattle.marshal.proofs.Pieces.{number-plain}
+use Rattle.slots.proofs.Limits.{float-small, one-address}
 use borrow.Author.Needs.{needs}
 use Rattle.marshal.proofs.put_argument.Statement.{statement}
 use Rattle.marshal.proofs.put_argument.Tie as tie
@@ -83,7 +85,9 @@ put-word-requires : tie.Need-put-word-requires
 put-word-requires c κs =
     let start = c .before .before .before .before .before .before .before .before .before .before .before .before .before .before .before .before in
     let pre = start .pre in
-    ((pre .fits .general, pre .registers, pre .fits .memory, pre .held .doublewords), one-word (start .args .r) (argument start) (pre .held) (c .before .before .before .before .before .before .before .before .if1 .left) (indirect-end (start .args .r) (argument start) (pre .held) (c .before .before .before .before .before .before .before .if2 .taken)))
+    let stored : 0 < start .args .s .memory .length → 8 ≤ start .args .s .memory .length =
+    subst (λ (w : ℕ). 0 < start .args .s .memory .length → w ≤ start .args .s .memory .length) (pre .held .address (c .before .before .before .before .before .before .before .if2 .taken) .0) (pre .held .stored) in
+    ((omega arith, omega arith, pre .fits .general, pre .registers, pre .fits .memory, stored), one-address (start .args .r) (argument start) (pre .held) (c .before .before .before .before .before .before .before .before .if1 .left) (c .before .before .before .before .before .before .before .if2 .taken))
 
 same-length-2 : tie.Need-same-length-2
 same-length-2 c = search needs
@@ -100,24 +104,30 @@ returns-2 c =
     let l : List ℕ = start .args .copies .now in
     let v : List ℕ = start .args .v .now in
     let at : ℕ = start .args .s .copy .start in
+    let s = start .args .s in
+    let pre = start .pre in
+    let put = number-plain _ _ _ _ _ _ _ (wordOf (start .args .r)) _ _ (pre .held .address (c .before .before .before .before .before .before .before .before .before .before .before .before .if2 .taken) .0) (one-address (start .args .r) (argument start) (pre .held) (c .before .before .before .before .before .before .before .before .before .before .before .before .before .if1 .left) (c .before .before .before .before .before .before .before .before .before .before .before .before .if2 .taken)) (c .before .before .before .before .put-word .ensures) in
     let copied = ap (putMid at (length l - at) l) (c .before .before .before .before .before .before .before .before .before .put .ensures) ∙ lent-tail l at v in
-    argument-words (start .args .r) (start .args .base) (argument start) v (start .args .image .now) (start .args .area .now) l (start .pre .held)
-    (bytesOf 8 (start .args .base + at)) _ _ _ (c .before .before .before .before .before .before .before .before .before .before .before .before .before .if1 .left)
-    (stands-address (start .args .r) (start .args .base) (argument start) v (start .pre .held) (c .before .before .before .before .before .before .before .before .before .before .before .before .if2 .taken))
-    (c .before .before .before .before .put-word .ensures .0) (c .before .before .before .before .put-word .ensures .1)
+    argument-words (start .args .r) (start .args .base) (argument start) v (start .args .image .now) (start .args .area .now) l (pre .held)
+    (bytesOf (wordOf (start .args .r) * s .general .count + s .memory .length) (start .args .base + at)) _ _ _ (c .before .before .before .before .before .before .before .before .before .before .before .before .before .if1 .left)
+    (stands-address (start .args .r) (start .args .base) (argument start) v (pre .held) (c .before .before .before .before .before .before .before .before .before .before .before .before .before .if1 .left) (c .before .before .before .before .before .before .before .before .before .before .before .before .if2 .taken))
+    (put .0) (put .1)
     (copied ∙ sym (copy-put (argument start) v l (c .before .before .before .before .before .before .before .before .before .before .before .before .if2 .taken)))
+
+word-of-requires : tie.Need-word-of-requires
+word-of-requires c κs = search needs
 
 starts-at-head-requires : tie.Need-starts-at-head-requires
 starts-at-head-requires c κs = search needs
 
 put-bytes-requires : tie.Need-put-bytes-requires
 put-bytes-requires c κs =
-    let start = c .before .before .before .before .before .before .before .before .before .before .before .before .before in
+    let start = c .before .before .before .before .before .before .before .before .before .before .before .before .before .before in
     let pre = start .pre in
-    let h = sym (c .before .before .before .starts-at-head .ensures) ∙ c .before .before .if3 .taken in
-    let w = pre .held .words (omega (arith, c .before .before .before .before .before .if1 .left)) in
-    let f = pre .held .head h in
-    ((pre .fits .general, pre .registers, pre .fits .memory, pre .held .doublewords), omega (arith, w, f), omega (arith, w, f))
+    let w = pre .held .words (omega (arith, c .before .before .before .before .before .before .if1 .left)) in
+    let f = pre .held .room (c .before .before .before .before .before .if2 .left) in
+    let least : 1 ≤ wordOf (start .args .r) = omega (arith, pre .held .word) in
+    rw (c .before .before .before .before .word-of .ensures) ((least, pre .held .word .1, pre .fits .general, pre .registers, pre .fits .memory, pre .held .stored), omega (arith, w, f), omega (arith, w, f))
 
 same-length-5 : tie.Need-same-length-5
 same-length-5 c = search needs
@@ -127,28 +137,30 @@ same-length-6 c = search needs
 
 returns-3 : tie.Need-returns-3
 returns-3 c =
-    let start = c .before .before .before .before .before .before .before .before .before .before .before .before .before .before .before .before .before .before in
+    let start = c .before .before .before .before .before .before .before .before .before .before .before .before .before .before .before .before .before .before .before in
     let v : List ℕ = start .args .v .now in
     let s = start .args .s in
     let h = sym (c .before .before .before .before .before .before .before .before .starts-at-head .ensures) ∙ c .before .before .before .before .before .before .before .if3 .taken in
+    let put = rw (c .before .before .before .before .before .before .before .before .before .word-of .ensures) at (c .before .before .before .before .put-bytes .ensures) in
     argument-words (start .args .r) (start .args .base) (argument start) v (start .args .image .now) (start .args .area .now) (start .args .copies .now) (start .pre .held)
-    (v ++ replicate (8 * s .general .count + s .memory .length - length v) 0) _ _ _ (c .before .before .before .before .before .before .before .before .before .before .if1 .left)
-    (stands-head (start .args .r) (start .args .base) (argument start) v (start .pre .held) (c .before .before .before .before .before .before .before .before .before .before .if1 .left) (c .before .before .before .before .before .before .before .before .before .if2 .left) h refl)
-    (c .before .before .before .before .put-bytes .ensures .0) (c .before .before .before .before .put-bytes .ensures .1)
-    (copy-none (argument start) v (start .args .copies .now) (c .before .before .before .before .before .before .before .before .before .if2 .left))
+    (v ++ replicate (wordOf (start .args .r) * s .general .count + s .memory .length - length v) 0) _ _ _ (c .before .before .before .before .before .before .before .before .before .before .before .if1 .left)
+    (stands-head (start .args .r) (start .args .base) (argument start) v (start .pre .held) (c .before .before .before .before .before .before .before .before .before .before .before .if1 .left) (c .before .before .before .before .before .before .before .before .before .before .if2 .left) h refl)
+    (put .0) (put .1)
+    (copy-none (argument start) v (start .args .copies .now) (c .before .before .before .before .before .before .before .before .before .before .if2 .left))
 
 value-word-requires : tie.Need-value-word-requires
 value-word-requires c κs =
-    let start = c .before .before .before .before .before .before .before .before .before .before .before .before .before in
-    let h = sym (c .before .before .before .starts-at-head .ensures) ∙ c .before .before .if3 .left in
-    start .pre .held .small h (c .before .before .before .before .if2 .left)
-
-put-word-requires-2 : tie.Need-put-word-requires-2
-put-word-requires-2 c κs =
     let start = c .before .before .before .before .before .before .before .before .before .before .before .before .before .before in
+    let h = sym (c .before .before .before .starts-at-head .ensures) ∙ c .before .before .if3 .left in
+    start .pre .held .small h (c .before .before .before .before .before .if2 .left)
+
+put-words-requires : tie.Need-put-words-requires
+put-words-requires c κs =
+    let start = c .before .before .before .before .before .before .before .before .before .before .before .before .before .before .before in
     let pre = start .pre in
     let h = sym (c .before .before .before .before .starts-at-head .ensures) ∙ c .before .before .before .if3 .left in
-    ((pre .fits .general, pre .registers, pre .fits .memory, pre .held .doublewords), one-word (start .args .r) (argument start) (pre .held) (c .before .before .before .before .before .before .if1 .left) h)
+    let least : 1 ≤ wordOf (start .args .r) = omega (arith, pre .held .word) in
+    rw (c .before .before .before .before .before .word-of .ensures) ((least, pre .held .word .1, pre .fits .general, pre .registers, pre .fits .memory, pre .held .stored), number-fits (start .args .r) (start .args .base) (argument start) (start .args .v .now) (pre .held) (c .before .before .before .before .before .before .before .if1 .left) (λ e. h))
 
 same-length-7 : tie.Need-same-length-7
 same-length-7 c = search needs
@@ -158,14 +170,16 @@ same-length-8 c = search needs
 
 returns-4 : tie.Need-returns-4
 returns-4 c =
-    let start = c .before .before .before .before .before .before .before .before .before .before .before .before .before .before .before .before .before .before .before in
+    let start = c .before .before .before .before .before .before .before .before .before .before .before .before .before .before .before .before .before .before .before .before in
     let v : List ℕ = start .args .v .now in
     let h = sym (c .before .before .before .before .before .before .before .before .before .starts-at-head .ensures) ∙ c .before .before .before .before .before .before .before .before .if3 .left in
+    let room : ℕ = wordOf (start .args .r) * start .args .s .general .count + start .args .s .memory .length in
+    let put = rw (c .before .before .before .before .before .before .before .before .before .before .word-of .ensures) at (c .before .before .before .before .put-words .ensures) in
     argument-words (start .args .r) (start .args .base) (argument start) v (start .args .image .now) (start .args .area .now) (start .args .copies .now) (start .pre .held)
-    (bytesOf 8 (c .before .before .before .before .before .value-word .result)) _ _ _ (c .before .before .before .before .before .before .before .before .before .before .before .if1 .left)
-    (stands-end (start .args .r) (start .args .base) (argument start) v (start .pre .held) (c .before .before .before .before .before .before .before .before .before .before .if2 .left) h refl ∙ ap (bytesOf 8) (sym (c .before .before .before .before .before .value-word .ensures)))
-    (c .before .before .before .before .put-word2 .ensures .0) (c .before .before .before .before .put-word2 .ensures .1)
-    (copy-none (argument start) v (start .args .copies .now) (c .before .before .before .before .before .before .before .before .before .before .if2 .left))
+    (bytesOf room (c .before .before .before .before .before .value-word .result)) _ _ _ (c .before .before .before .before .before .before .before .before .before .before .before .before .if1 .left)
+    (stands-end (start .args .r) (start .args .base) (argument start) v (start .pre .held) (c .before .before .before .before .before .before .before .before .before .before .before .before .if1 .left) (c .before .before .before .before .before .before .before .before .before .before .before .if2 .left) h refl ∙ ap (bytesOf room) (sym (c .before .before .before .before .before .value-word .ensures)))
+    (put .0) (put .1)
+    (copy-none (argument start) v (start .args .copies .now) (c .before .before .before .before .before .before .before .before .before .before .before .if2 .left))
 
 pub put-argument-spec : {M : Type 1} → statement M
 put-argument-spec =
@@ -192,13 +206,14 @@ put-argument-spec =
     same-length-3
     same-length-4
     returns-2
+    word-of-requires
     starts-at-head-requires
     put-bytes-requires
     same-length-5
     same-length-6
     returns-3
     value-word-requires
-    put-word-requires-2
+    put-words-requires
     same-length-7
     same-length-8
     returns-4)

@@ -2,10 +2,12 @@
 use mathlib.Core.Path.{ap, _∙_}
 use mathlib.Core.List.{List, _++_}
 use Prim.Native.Nat.{ℕ, _+_, _-_, _*_}
+use native.Mathlib.Omega.{arith}
 use lib.ListN.{length, replicate}
 use borrow.Rule.Slice.PartMut.{putMid}
 use Rattle.words.specs.Splice.{part}
 use Rattle.words.proofs.Splices.{lent-tail}
+use Rattle.registers.specs.Registers.{spread}
 use Rattle.marshal.proofs.Pieces.{bytes-general, bytes-both}
 use borrow.Author.Needs.{needs}
 use Rattle.marshal.proofs.put_bytes.Statement.{statement}
@@ -20,26 +22,26 @@ mul-at c = search needs
 cast-start : tie.Need-cast-start
 cast-start c = search needs
 
-cast-held : tie.Need-cast-held
-cast-held c = search needs
-
-mul-held : tie.Need-mul-held
-mul-held c = search needs
+cast-count : tie.Need-cast-count
+cast-count c = search needs
 
 cast-stored : tie.Need-cast-stored
 cast-stored c = search needs
 
-sub-put-padded : tie.Need-sub-put-padded
-sub-put-padded c = search needs
+mul-held : tie.Need-mul-held
+mul-held c = search needs
 
-part-put-padded-start : tie.Need-part-put-padded-start
-part-put-padded-start c = search needs
+sub-put-registers : tie.Need-sub-put-registers
+sub-put-registers c = search needs
 
-part-put-padded-end : tie.Need-part-put-padded-end
-part-put-padded-end c = search needs
+part-put-registers-start : tie.Need-part-put-registers-start
+part-put-registers-start c = search needs
 
-put-padded-requires : tie.Need-put-padded-requires
-put-padded-requires c κs = search needs
+part-put-registers-end : tie.Need-part-put-registers-end
+part-put-registers-end c = search needs
+
+put-registers-requires : tie.Need-put-registers-requires
+put-registers-requires c κs = search needs
 
 same-length : tie.Need-same-length
 same-length c = search needs
@@ -49,33 +51,43 @@ returns c =
     let args = c .before .before .before .before .before .before .before .before .before .before .before .before .before .before .args in
     let pre = c .before .before .before .before .before .before .before .before .before .before .before .before .before .before .pre in
     let s = args .s in
+    let w : ℕ = args .word in
     let l : List ℕ = args .image .now in
     let v : List ℕ = args .v .now in
     let at : ℕ = 8 * s .general .first in
     let k : ℕ = s .general .count in
-    let w = bytes-general l (args .area .now) v at (s .memory .start) k (s .memory .length) (pre .2) (pre .1) (pre .0 .3) (c .before .before .before .before .if1 .taken) in
-    (ap (putMid at (length l - at) l) (c .before .before .put-padded .ensures) ∙ lent-tail l at (v ++ replicate (8 * k - length v) 0) ∙ w .0, w .1)
+    let b = bytes-general l (args .area .now) v at (s .memory .start) w k (s .memory .length) (pre .2) (pre .1) (pre .0 .5) (c .before .before .before .before .if1 .taken) in
+    (ap (putMid at (length l - at) l) (c .before .before .put-registers .ensures) ∙ lent-tail l at (spread w k (v ++ replicate (w * k - length v) 0)) ∙ b .0, b .1)
 
-sub-put : tie.Need-sub-put
-sub-put c = search needs
+sub-put-registers-2 : tie.Need-sub-put-registers-2
+sub-put-registers-2 c = search needs
 
-part-put-start : tie.Need-part-put-start
-part-put-start c = search needs
+part-put-registers-start-2 : tie.Need-part-put-registers-start-2
+part-put-registers-start-2 c = search needs
 
-part-put-end : tie.Need-part-put-end
-part-put-end c = search needs
+part-put-registers-end-2 : tie.Need-part-put-registers-end-2
+part-put-registers-end-2 c = search needs
 
-sub-put-2 : tie.Need-sub-put-2
-sub-put-2 c = search needs
+sub-put-registers-3 : tie.Need-sub-put-registers-3
+sub-put-registers-3 c = search needs
 
-part-put-start-2 : tie.Need-part-put-start-2
-part-put-start-2 c = search needs
+part-put-registers-start-3 : tie.Need-part-put-registers-start-3
+part-put-registers-start-3 c = search needs
 
-part-put-end-2 : tie.Need-part-put-end-2
-part-put-end-2 c = search needs
+part-put-registers-end-3 : tie.Need-part-put-registers-end-3
+part-put-registers-end-3 c = search needs
 
-put-requires : tie.Need-put-requires
-put-requires c κs = search needs
+put-registers-requires-2 : tie.Need-put-registers-requires-2
+put-registers-requires-2 c κs = search needs
+
+sub-put-padded : tie.Need-sub-put-padded
+sub-put-padded c = search needs
+
+part-put-padded-start : tie.Need-part-put-padded-start
+part-put-padded-start c = search needs
+
+part-put-padded-end : tie.Need-part-put-padded-end
+part-put-padded-end c = search needs
 
 sub-put-padded-2 : tie.Need-sub-put-padded-2
 sub-put-padded-2 c = search needs
@@ -89,20 +101,11 @@ part-put-padded-end-2 c = search needs
 sub-put-padded-3 : tie.Need-sub-put-padded-3
 sub-put-padded-3 c = search needs
 
-part-put-padded-start-3 : tie.Need-part-put-padded-start-3
-part-put-padded-start-3 c = search needs
-
-part-put-padded-end-3 : tie.Need-part-put-padded-end-3
-part-put-padded-end-3 c = search needs
-
 sub-put-padded-4 : tie.Need-sub-put-padded-4
 sub-put-padded-4 c = search needs
 
-sub-put-padded-5 : tie.Need-sub-put-padded-5
-sub-put-padded-5 c = search needs
-
-put-padded-requires-2 : tie.Need-put-padded-requires-2
-put-padded-requires-2 c κs = search needs
+put-padded-requires : tie.Need-put-padded-requires
+put-padded-requires c κs = search needs
 
 same-length-2 : tie.Need-same-length-2
 same-length-2 c = search needs
@@ -115,6 +118,7 @@ returns-2 c =
     let args = c .before .before .before .before .before .before .before .before .before .before .before .before .before .before .before .before .before .before .before .before .args in
     let pre = c .before .before .before .before .before .before .before .before .before .before .before .before .before .before .before .before .before .before .before .before .pre in
     let s = args .s in
+    let w : ℕ = args .word in
     let l : List ℕ = args .image .now in
     let a : List ℕ = args .area .now in
     let v : List ℕ = args .v .now in
@@ -122,9 +126,10 @@ returns-2 c =
     let start : ℕ = s .memory .start in
     let k : ℕ = s .general .count in
     let m : ℕ = s .memory .length in
-    let w = bytes-both l a v at start k m (pre .2) (pre .1) (pre .0 .3) (c .before .before .before .before .before .before .before .before .before .before .if1 .left) in (
-      ap (putMid at (length l - at) l) (c .before .before .before .before .before .before .before .put .ensures) ∙ lent-tail l at (part 0 (8 * k - 0) v) ∙ w .0,
-      ap (putMid start (length a - start) a) (c .before .before .put-padded2 .ensures) ∙ lent-tail a start (part (8 * k) (length v - 8 * k) v ++ replicate (m - (length v - 8 * k)) 0) ∙ w .1,
+    let first : List ℕ = part 0 (w * k - 0) v in
+    let b = bytes-both l a v at start w k m (pre .2) (pre .1) (pre .0 .5) (c .before .before .before .before .before .before .before .before .before .before .if1 .left) in (
+      ap (putMid at (length l - at) l) (c .before .before .before .before .before .before .before .put-registers2 .ensures) ∙ lent-tail l at (spread w k (first ++ replicate (w * k - length first) 0)) ∙ b .0,
+      ap (putMid start (length a - start) a) (c .before .before .put-padded .ensures) ∙ lent-tail a start (part (w * k) (length v - w * k) v ++ replicate (m - (length v - w * k)) 0) ∙ b .1,
     )
 
 pub put-bytes-spec : {M : Type 1} → statement M
@@ -134,31 +139,31 @@ put-bytes-spec =
     cast-at
     mul-at
     cast-start
-    cast-held
-    mul-held
+    cast-count
     cast-stored
+    mul-held
+    sub-put-registers
+    part-put-registers-start
+    part-put-registers-end
+    put-registers-requires
+    same-length
+    returns
+    sub-put-registers-2
+    part-put-registers-start-2
+    part-put-registers-end-2
+    sub-put-registers-3
+    part-put-registers-start-3
+    part-put-registers-end-3
+    put-registers-requires-2
     sub-put-padded
     part-put-padded-start
     part-put-padded-end
-    put-padded-requires
-    same-length
-    returns
-    sub-put
-    part-put-start
-    part-put-end
-    sub-put-2
-    part-put-start-2
-    part-put-end-2
-    put-requires
     sub-put-padded-2
     part-put-padded-start-2
     part-put-padded-end-2
     sub-put-padded-3
-    part-put-padded-start-3
-    part-put-padded-end-3
     sub-put-padded-4
-    sub-put-padded-5
-    put-padded-requires-2
+    put-padded-requires
     same-length-2
     same-length-3
     returns-2)

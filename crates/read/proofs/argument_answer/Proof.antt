@@ -1,10 +1,11 @@
 -- By the way that the argument is passed.
 use mathlib.Core.Path.{_∙_}
+use native.Mathlib.Omega.{arith}
 use borrow.Author.Tests.{lt-ltb, le-ltb}
 use Rattle.slots.specs.Buffers.{bytesAt}
 use Rattle.slots.specs.Placements.{placement, wordsAt}
 use Rattle.read.specs.Read.{argumentAnswer}
-use Rattle.slots.proofs.Limits.{one-word, indirect-end}
+use Rattle.slots.proofs.Limits.{one-address}
 use borrow.Author.Needs.{needs}
 use Rattle.read.proofs.argument_answer.Statement.{statement}
 use Rattle.read.proofs.argument_answer.Tie as tie
@@ -38,7 +39,7 @@ word-at-requires c κs =
     let start = c .before .before .before .before .before .before .before in
     let pre = start .pre in
     let p = placement (start .args .t) (start .args .n) (start .args .s) in
-    ((pre .general, pre .registers, pre .memory), one-word (start .args .r) p (pre .held) (c .before .if1 .left) (indirect-end (start .args .r) p (pre .held) (c .if2 .taken)))
+    ((omega arith, omega arith, pre .general, pre .registers, pre .memory), one-address (start .args .r) p (pre .held) (c .before .if1 .left) (c .if2 .taken))
 
 in-copies-requires : tie.Need-in-copies-requires
 in-copies-requires c κs = search needs
@@ -48,7 +49,7 @@ copy-answer-requires c κs = search needs
 
 returns-2 : tie.Need-returns-2
 unfolding argumentAnswer wordsAt bytesAt
-returns-2 c = simp (le-ltb _ _ (c .before .before .before .before .if1 .left)) (rw (c .before .before .before .if2 .taken) (c .copy-answer .ensures ∙ rw (c .before .in-copies .ensures, c .before .before .word-at .ensures)))
+returns-2 c = simp (le-ltb _ _ (c .before .before .before .before .if1 .left)) (rw (c .before .before .before .if2 .taken) (c .copy-answer .ensures ∙ rw (c .before .in-copies .ensures, c .before .before .word-at .ensures, c .before .before .before .before .before .before .before .before .before .before .pre .held .address (c .before .before .before .if2 .taken) .0)))
 
 returns-3 : tie.Need-returns-3
 unfolding argumentAnswer

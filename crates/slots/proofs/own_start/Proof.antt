@@ -1,4 +1,4 @@
--- At the head, or in the last n bytes of the only word.
+-- At the head, or in the last n bytes of the words.
 use mathlib.Core.Path.{sym, _∙_}
 use Prim.Native.Nat.{_-_}
 use native.Mathlib.Omega.{arith}
@@ -15,13 +15,13 @@ unfolding ownStart
 returns c = rw (sym (c .before .starts-at-head .ensures) ∙ c .if1 .taken)
 
 sub-result : tie.Need-sub-result
-sub-result c = omega (arith, c .before .before .pre (sym (c .before .starts-at-head .ensures) ∙ c .if1 .left))
+sub-result c = search needs
 
 returns-2 : tie.Need-returns-2
 unfolding ownStart
 returns-2 c =
     let h = sym (c .before .starts-at-head .ensures) ∙ c .if1 .left in
-    rw (h, c .before .before .pre h .1)
+    rw (h, c .before .before .pre .0)
 
 pub own-start-spec : {M : Type 1} → statement M
 own-start-spec = tie.close (tie.spec starts-at-head-requires returns sub-result returns-2)

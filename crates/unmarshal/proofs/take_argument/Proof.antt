@@ -1,17 +1,19 @@
 -- By the way that the argument is passed; a copy lies inside, since it was not refused.
-use mathlib.Core.Path.{_≡_, ap, _∙_}
+use mathlib.Core.Path.{_≡_, sym, ap, _∙_}
 use mathlib.Core.Bool.{true}
 use Prim.Native.Nat.{ℕ, _+_, _-_, _≤_}
 use native.Mathlib.Omega.{arith}
+use native.Mathlib.Nat.{mul-le-mul-right}
 use borrow.Author.Tests.{lt-ltb, le-ltb}
 use lib.ListN.{length}
 use Rattle.words.specs.Splice.{overlay, part}
 use Rattle.types.specs.Sizes.{equivalentOf}
+use Rattle.places.specs.Step.{wordOf}
 use Rattle.slots.specs.Buffers.{Buffers, buffers, bytesAt}
 use Rattle.slots.specs.Forms.{floatValue}
 use Rattle.slots.specs.Placements.{Placement, placement, wordsAt, addressAt, wordsValue, valueAt}
-use Rattle.slots.proofs.Limits.{one-word, indirect-end}
-use Rattle.unmarshal.proofs.Arguments.{float-room, own-within}
+use Rattle.slots.proofs.Limits.{one-address}
+use Rattle.unmarshal.proofs.Arguments.{float-room, own-within, own-first}
 use borrow.Author.Needs.{needs}
 use Rattle.unmarshal.proofs.take_argument.Statement.{statement}
 use Rattle.unmarshal.proofs.take_argument.Tie as tie
@@ -23,12 +25,18 @@ abbrev lent : (c : tie.Start) → Buffers
 lent c = buffers (c .args .image .now) (c .args .area .now) (c .args .copies .now)
 
 inside : (c : tie.Start) → c .args .s .floating .count ≤ 0 → c .args .s .indirect ≡ true
-    → (c .args .base ≤ addressAt (c .args .s) (lent c)) × (addressAt (c .args .s) (lent c) - c .args .base + c .args .n ≤ length (c .args .copies .now))
+    → (c .args .base ≤ addressAt (wordOf (c .args .r)) (c .args .s) (lent c)) × (addressAt (wordOf (c .args .r)) (c .args .s) (lent c) - c .args .base + c .args .n ≤ length (c .args .copies .now))
 inside c none e = c .pre .0 .inside none e
 
-address : (c : tie.After-word-at) → c .word-at .result ≡ addressAt (c .before .before .before .before .before .before .before .before .before .args .s) (lent (c .before .before .before .before .before .before .before .before .before))
+address : (c : tie.After-word-at) → c .word-at .result ≡ addressAt (wordOf (c .before .before .before .before .before .before .before .before .before .args .r)) (c .before .before .before .before .before .before .before .before .before .args .s) (lent (c .before .before .before .before .before .before .before .before .before))
 unfolding wordsAt bytesAt
-address c = c .word-at .ensures
+address c =
+    let start = c .before .before .before .before .before .before .before .before .before in
+    c .word-at .ensures ∙ ap (λ (w : ℕ). addressAt w (start .args .s) (lent start)) (sym (start .pre .0 .ready .held .address (c .before .if2 .taken) .0))
+
+-- the bytes of a word
+least : (c : tie.Start) → 1 ≤ wordOf (c .args .r)
+least c = omega (arith, c .pre .0 .ready .held .word)
 
 cast-at : tie.Need-cast-at
 cast-at c = search needs
@@ -61,7 +69,7 @@ word-at-requires : tie.Need-word-at-requires
 word-at-requires c κs =
     let start = c .before .before .before .before .before .before .before .before in
     let ready = start .pre .0 .ready in
-    ((ready .general, ready .registers, ready .memory), one-word (start .args .r) (argument start) (ready .held) (c .before .if1 .left) (indirect-end (start .args .r) (argument start) (ready .held) (c .if2 .taken)))
+    ((omega arith, omega arith, ready .general, ready .registers, ready .memory), one-address (start .args .r) (argument start) (ready .held) (c .before .if1 .left) (c .if2 .taken))
 
 sub-from : tie.Need-sub-from
 sub-from c =
@@ -86,18 +94,36 @@ returns-2 c =
     (c .before .before .take-part .ensures
     ∙ ap (λ (x : ℕ). overlay (start .args .out .now) (part (x - start .args .base) (start .args .n) (start .args .copies .now))) (address (c .before .before .before .before)))
 
+word-of-requires : tie.Need-word-of-requires
+word-of-requires c κs = search needs
+
+cast-room : tie.Need-cast-room
+cast-room c = search needs
+
+mul-room : tie.Need-mul-room
+mul-room c = rw (c .before .before .before .word-of .ensures) (omega (arith, c .before .before .before .before .before .before .before .before .before .before .before .before .pre .0 .ready .general, mul-le-mul-right (c .before .before .before .before .before .before .before .before .before .before .before .before .args .s .general .count) (c .before .before .before .before .before .before .before .before .before .before .before .before .pre .0 .ready .held .word .1)))
+
+cast-room-2 : tie.Need-cast-room-2
+cast-room-2 c = search needs
+
+add-room : tie.Need-add-room
+add-room c = rw (c .before .before .before .before .word-of .ensures) (omega (arith, c .before .before .before .before .before .before .before .before .before .before .before .before .before .pre .0 .ready .general, mul-le-mul-right (c .before .before .before .before .before .before .before .before .before .before .before .before .before .args .s .general .count) (c .before .before .before .before .before .before .before .before .before .before .before .before .before .pre .0 .ready .held .word .1)))
+
 own-start-requires : tie.Need-own-start-requires
 own-start-requires c κs =
-    let start = c .before .before .before .before .before .before .before .before .before in
+    let start = c .before .before .before .before .before .before .before .before .before .before .before .before .before .before in
     let held = start .pre .0 .ready .held in
-    λ e. (held .small e (c .before .if2 .left) .1, held .end e)
+    let words = held .words (omega (arith, c .before .before .before .before .before .before .before .if1 .left)) in
+    rw (c .before .before .before .before .before .word-of .ensures) (words, omega (arith, words, held .room (c .before .before .before .before .before .before .if2 .left)))
 
 take-words-requires : tie.Need-take-words-requires
 take-words-requires c κs =
-    let start = c .before .before .before .before .before .before .before .before .before .before in
+    let start = c .before .before .before .before .before .before .before .before .before .before .before .before .before .before .before in
     let ready = start .pre .0 .ready in
-    let own = own-within (start .args .r) (start .args .base) (argument start) (lent start) (start .pre .0) (c .before .before .before .if1 .left) (c .before .before .if2 .left) in
-    ((ready .general, ready .registers, ready .memory), rw (c .own-start .ensures) own, start .pre .1)
+    let own = own-within (start .args .r) (start .args .base) (argument start) (lent start) (start .pre .0) (c .before .before .before .before .before .before .before .before .if1 .left) (c .before .before .before .before .before .before .before .if2 .left) in
+    let first = own-first (start .args .r) (start .args .base) (argument start) (lent start) (start .pre .0) (c .before .before .before .before .before .before .before .if2 .left) in
+    rw (c .before .before .before .before .before .before .word-of .ensures, c .own-start .ensures)
+    ((least start, ready .held .word .1, ready .general, ready .registers, ready .memory), first, own, start .pre .1)
 
 same-length-3 : tie.Need-same-length-3
 same-length-3 c = search needs
@@ -105,8 +131,8 @@ same-length-3 c = search needs
 returns-3 : tie.Need-returns-3
 unfolding valueAt wordsValue wordsAt bytesAt
 returns-3 c =
-    let start = c .before .before .before .before .before .before .before .before .before .before .before .before .before in
-    simp (le-ltb _ _ (c .before .before .before .before .before .before .if1 .left), c .before .before .before .before .before .if2 .left) (c .before .before .take-words .ensures ∙ rw (c .before .before .before .own-start .ensures))
+    let start = c .before .before .before .before .before .before .before .before .before .before .before .before .before .before .before .before .before .before in
+    simp (le-ltb _ _ (c .before .before .before .before .before .before .before .before .before .before .before .if1 .left), c .before .before .before .before .before .before .before .before .before .before .if2 .left) (rw (c .before .before .before .before .before .before .before .before .before .word-of .ensures, c .before .before .before .own-start .ensures) at (c .before .before .take-words .ensures))
 
 pub take-argument-spec : {M : Type 1} → statement M
 take-argument-spec =
@@ -124,6 +150,11 @@ take-argument-spec =
     take-part-requires
     same-length-2
     returns-2
+    word-of-requires
+    cast-room
+    mul-room
+    cast-room-2
+    add-room
     own-start-requires
     take-words-requires
     same-length-3

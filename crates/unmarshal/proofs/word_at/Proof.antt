@@ -1,9 +1,10 @@
--- The only word is a general register or eight bytes of memory.
-use mathlib.Core.Path.{ap, _∙_}
+-- The only word is a general register or eight bytes of memory; doublewords stand in registers as they are (`words-doublewords`).
+use mathlib.Core.Path.{sym, ap, _∙_}
+use mathlib.Core.List.{[]}
 use Prim.Native.Nat.{_*_}
 use Rattle.words.specs.Numbers.{valueOf}
-use Rattle.slots.specs.Buffers.{bytesAt}
-use Rattle.slots.specs.Placements.{wordsAt}
+use Rattle.slots.specs.Buffers.{buffers, bytesAt}
+use Rattle.slots.proofs.Doublewords.{words-doublewords}
 use Rattle.unmarshal.proofs.Parts.{word-registers, word-memory}
 use borrow.Author.Needs.{needs}
 use Rattle.unmarshal.proofs.word_at.Statement.{statement}
@@ -19,10 +20,10 @@ load-requires : tie.Need-load-requires
 load-requires c κs = search needs
 
 returns : tie.Need-returns
-unfolding wordsAt bytesAt
+unfolding bytesAt
 returns c =
     let s = c .before .before .before .before .before .before .before .before .args .s in
-    c .load .ensures ∙ ap valueOf (word-registers (c .before .before .before .before .before .before .before .before .args .image .now) (c .before .before .before .before .before .before .before .before .args .area .now) (8 * s .general .first) (s .memory .start) (s .general .count) (s .memory .length) (c .before .before .before .before .before .before .before .before .pre .1) (c .before .before .if1 .taken))
+    c .load .ensures ∙ ap valueOf (word-registers (c .before .before .before .before .before .before .before .before .args .image .now) (c .before .before .before .before .before .before .before .before .args .area .now) (8 * s .general .first) (s .memory .start) (s .general .count) (s .memory .length) (c .before .before .before .before .before .before .before .before .pre .1) (c .before .before .if1 .taken) ∙ sym (words-doublewords s (buffers (c .before .before .before .before .before .before .before .before .args .image .now) (c .before .before .before .before .before .before .before .before .args .area .now) [])))
 
 cast-load-2 : tie.Need-cast-load-2
 cast-load-2 c = search needs
@@ -31,10 +32,10 @@ load-requires-2 : tie.Need-load-requires-2
 load-requires-2 c κs = search needs
 
 returns-2 : tie.Need-returns-2
-unfolding wordsAt bytesAt
+unfolding bytesAt
 returns-2 c =
     let s = c .before .before .before .before .before .before .before .before .args .s in
-    c .load2 .ensures ∙ ap valueOf (word-memory (c .before .before .before .before .before .before .before .before .args .image .now) (c .before .before .before .before .before .before .before .before .args .area .now) (8 * s .general .first) (s .memory .start) (s .general .count) (s .memory .length) (c .before .before .before .before .before .before .before .before .pre .1) (c .before .before .if1 .left))
+    c .load2 .ensures ∙ ap valueOf (word-memory (c .before .before .before .before .before .before .before .before .args .image .now) (c .before .before .before .before .before .before .before .before .args .area .now) (8 * s .general .first) (s .memory .start) (s .general .count) (s .memory .length) (c .before .before .before .before .before .before .before .before .pre .1) (c .before .before .if1 .left) ∙ sym (words-doublewords s (buffers (c .before .before .before .before .before .before .before .before .args .image .now) (c .before .before .before .before .before .before .before .before .args .area .now) [])))
 
 pub word-at-spec : {M : Type 1} → statement M
 word-at-spec =

@@ -70,7 +70,7 @@ fn main() -> ExitCode {
         };
         groups.push((group.counts, calls));
     }
-    println!("Filling and reading a call, over {CALLS} different ones of both conventions:");
+    println!("Filling and reading a call, over {CALLS} different ones of all conventions:");
     println!("medians of {ROUNDS} rounds, in which the two take turns, in nanoseconds a call.");
     println!("\n{SIDES}");
     let side = "library  second program  ratio";
@@ -109,7 +109,8 @@ fn filled(random: &mut Random, group: &Group) -> Option<Vec<RefCell<Call>>> {
             area: vec![0; plan.area],
             copies: vec![0; plan.copies],
             base: BASE,
-            hidden: random.number(),
+            // of 32 bits, which AIX's hidden address has
+            hidden: random.number() >> 32,
             index: 0,
         };
         let mut other = call.clone();

@@ -68,7 +68,7 @@ fn main() -> ExitCode {
         }
     }
     println!(
-        "Measuring a call, over {SIGNATURES} different accepted signatures of both conventions:"
+        "Measuring a call, over {SIGNATURES} different accepted signatures of all conventions:"
     );
     println!(
         "medians of {ROUNDS} rounds, in which the two take turns, in nanoseconds a signature."

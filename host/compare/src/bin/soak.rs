@@ -159,7 +159,7 @@ fn round(seed: u64, done: &mut Cases) -> Result<(), Difference> {
         done.calls += marshal::run(operation, seed, CALLS).map_err(told)?.total();
     }
     done.floats += float_bits::run(seed, SINGLES).map_err(told)?.total();
-    for convention in [Convention::Ppc64, Convention::Z] {
+    for convention in Convention::ALL {
         let reach = machine_lists::run(seed, convention, LISTS).map_err(told)?;
         done.machine_calls += reach.calls;
     }

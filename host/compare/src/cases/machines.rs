@@ -14,7 +14,7 @@ const LONGEST_LIST: usize = 120;
 
 /// A list of calls in each convention, and some made up states.
 pub fn some(random: &mut Random, cases: &mut Vec<Case>) {
-    for convention in [Convention::Ppc64, Convention::Z] {
+    for convention in Convention::ALL {
         if random.once_in(6) {
             list(random, convention, cases);
         }
@@ -104,6 +104,7 @@ fn call_parts(call: &Call) -> (Operation, Vec<u64>, Option<Vec<u8>>) {
             let operation = match convention {
                 Convention::Ppc64 => Operation::StartPpc64,
                 Convention::Z => Operation::StartZ,
+                Convention::Aix => Operation::StartAix,
             };
             let registers = bytes_of(&register_words(registers));
             (operation, vec![*base], Some(registers))
@@ -220,7 +221,7 @@ fn nonsense(random: &mut Random, convention: Convention, cases: &mut Vec<Case>) 
     let mut machine = Recorded::new(state, random_bytes(random, length + GUARD), cases);
     for _ in 0..1 + random.below(4) {
         if let Some((at, bytes)) = mending(random, &machine.state, length) {
-            machine.change(|_, memory| memory[at..at + 8].copy_from_slice(&bytes));
+            machine.change(|_, memory| memory[at..at + bytes.len()].copy_from_slice(&bytes));
         }
         let call = match random.once_in(2) {
             true => calls::call(random, &machine.state, Style::Mixed),

@@ -12,7 +12,7 @@ use reference::{Convention, Integer, Type};
 /// Each limit of a signature with a step on either side of it, and every prefix of a signature.
 pub fn boundaries() -> Vec<Case> {
     let mut signatures = Vec::new();
-    for convention in [Convention::Ppc64, Convention::Z] {
+    for convention in Convention::ALL {
         for count in [0, 127, 128, 129] {
             let arguments = encode::item(INTEGER, &[4]).repeat(count);
             signatures.push(of(convention, &[], &arguments));
@@ -22,11 +22,20 @@ pub fn boundaries() -> Vec<Case> {
             let large = encode::item(STRUCT, &field.repeat(bytes));
             signatures.push(of(convention, &large, &large));
         }
-        for depth in [0, 1, 8, 9] {
-            let nested = (0..depth).fold(encode::item(FLOAT, &[1]), |inner, _| {
+        // of doubles, which AIX has not inside a struct, and of singles
+        for (code, depth) in [0, 1]
+            .into_iter()
+            .flat_map(|code| [0, 1, 8, 9].map(|d| (code, d)))
+        {
+            let nested = (0..depth).fold(encode::item(FLOAT, &[code]), |inner, _| {
                 encode::item(STRUCT, &inner)
             });
             signatures.push(of(convention, &nested, &nested));
+        }
+        // pointers, which on AIX are half as large
+        for count in [32, 33, 64, 65] {
+            let pointers = encode::item(INTEGER, &[8]).repeat(count);
+            signatures.push(of(convention, &[], &encode::item(STRUCT, &pointers)));
         }
         for length in 16_381..=16_385 {
             signatures.push(of(convention, &[], &structs_of_length(length - 10)));
@@ -36,7 +45,7 @@ pub fn boundaries() -> Vec<Case> {
             signatures.push(of(convention, &inside, &inside.repeat(9)));
         }
     }
-    for code in [0, 1, 2, 3, 255] {
+    for code in [0, 1, 2, 3, 4, 255] {
         signatures.push(encode::item(CONVENTION, &[code]));
         for (tag, last) in [(INTEGER, 8), (FLOAT, 2)] {
             for code in [0, last, last + 1] {
@@ -81,7 +90,7 @@ fn structs_of_length(length: usize) -> Vec<u8> {
 
 fn of(convention: Convention, result: &[u8], arguments: &[u8]) -> Vec<u8> {
     [
-        encode::item(CONVENTION, &[encode::convention_code(convention)]),
+        encode::item(CONVENTION, &[convention.code()]),
         encode::item(RESULT, result),
         encode::item(ARGUMENTS, arguments),
     ]

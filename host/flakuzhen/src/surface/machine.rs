@@ -51,6 +51,13 @@ extern "C" {
         memory: *mut u8,
         memory_length: usize,
     ) -> Answer;
+    fn fz_start_aix(
+        machine: *mut Machine,
+        registers: *const Registers,
+        base: u64,
+        memory: *mut u8,
+        memory_length: usize,
+    ) -> Answer;
     fn fz_enter(
         machine: *mut Machine,
         request: *const Frame,
@@ -99,6 +106,16 @@ pub fn start_z(
     memory: &mut [u8],
 ) -> Answer {
     unsafe { fz_start_z(machine, registers, base, memory.as_mut_ptr(), memory.len()) }
+}
+
+/// `fz_start_aix`
+pub fn start_aix(
+    machine: &mut Machine,
+    registers: &Registers,
+    base: u64,
+    memory: &mut [u8],
+) -> Answer {
+    unsafe { fz_start_aix(machine, registers, base, memory.as_mut_ptr(), memory.len()) }
 }
 
 /// `fz_enter`

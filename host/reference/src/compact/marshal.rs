@@ -8,6 +8,8 @@ use std::ops::Range;
 const IMAGE: usize = 512;
 const FLOATING: usize = 256;
 const Z_AREA: usize = 160;
+/// The bytes of a general register on AIX.
+const AIX_WORD: usize = 4;
 
 /// As `marshal::fill`.
 pub fn fill(
@@ -26,7 +28,12 @@ pub fn fill(
     if end > 0 && !(fits && copy_base <= u64::MAX - end) {
         return refuse(12);
     }
-    if let Some(register) = hidden_register(&plan) {
+    let hidden_register = hidden_register(&plan);
+    let is_aix = plan.convention == Convention::Aix;
+    if is_aix && hidden_register.is_some() && hidden > u64::from(u32::MAX) {
+        return refuse(12);
+    }
+    if let Some(register) = hidden_register {
         image[8 * register..8 * register + 8].copy_from_slice(&hidden.to_be_bytes());
     }
     let mut rest = values;
@@ -42,6 +49,8 @@ pub fn fill(
         } else if widened(plan.convention, argument) {
             let single = u32::from_be_bytes([value[0], value[1], value[2], value[3]]);
             image[in_image].copy_from_slice(&widen(single).to_be_bytes());
+        } else if is_aix && argument.floating.count == 0 {
+            fill_words(argument, value, image, area);
         } else if at_the_end(plan.convention, argument) {
             let negative = argument.content == Content::SignedInteger && value[0] >= 0x80;
             let mut doubleword = [if negative { 0xff } else { 0 }; 8];
@@ -91,6 +100,8 @@ pub fn read(
         } else if widened(plan.convention, argument) {
             let single = narrow(number(&image[in_image])).expect("tested above");
             value.copy_from_slice(&single.to_be_bytes());
+        } else if plan.convention == Convention::Aix && argument.floating.count == 0 {
+            read_words(argument, value, image, area);
         } else if at_the_end(plan.convention, argument) {
             let doubleword = one_of(image, area, in_image, in_area);
             value.copy_from_slice(&doubleword[8 - value.len()..]);
@@ -102,6 +113,74 @@ pub fn read(
         }
     }
     Ok(())
+}
+
+/// AIX: puts a value into its words, the first of which may be general registers.
+fn fill_words(argument: &Argument, value: &[u8], image: &mut [u8], area: &mut [u8]) {
+    let Some(before) = padding_before(argument) else {
+        // from the first word's head on, zeros after it
+        for (number, chunk) in value.chunks(AIX_WORD).enumerate() {
+            let mut word = [0; AIX_WORD];
+            word[..chunk.len()].copy_from_slice(chunk);
+            put_word(argument, number, word, image, area);
+        }
+        return;
+    };
+    let negative = argument.content == Content::SignedInteger && value[0] >= 0x80;
+    let mut word = [if negative { 0xff } else { 0 }; AIX_WORD];
+    word[before..].copy_from_slice(value);
+    put_word(argument, 0, word, image, area);
+}
+
+/// AIX: takes a value from its words.
+fn read_words(argument: &Argument, value: &mut [u8], image: &[u8], area: &[u8]) {
+    let before = padding_before(argument).unwrap_or(0);
+    for (number, chunk) in value.chunks_mut(AIX_WORD).enumerate() {
+        let word = match word_place(argument, number) {
+            WordPlace::Image(at) => &image[at + AIX_WORD..at + 2 * AIX_WORD],
+            WordPlace::Area(at) => &area[at..at + AIX_WORD],
+        };
+        chunk.copy_from_slice(&word[before..before + chunk.len()]);
+    }
+}
+
+/// How far into its one word an integer of less than a word begins.
+fn padding_before(argument: &Argument) -> Option<usize> {
+    let is_integer = argument.content != Content::Other && argument.content != Content::Float;
+    let size = usize::from(argument.size);
+    (is_integer && size < AIX_WORD).then(|| AIX_WORD - size)
+}
+
+/// Where a word of an argument begins: a register's 8 bytes of the image, or 4 of the area.
+enum WordPlace {
+    Image(usize),
+    Area(usize),
+}
+
+fn word_place(argument: &Argument, number: usize) -> WordPlace {
+    let registers = usize::from(argument.general.count);
+    if number < registers {
+        return WordPlace::Image(8 * (usize::from(argument.general.first) + number));
+    }
+    let offset = usize::from(argument.memory.offset);
+    WordPlace::Area(offset + AIX_WORD * (number - registers))
+}
+
+/// A register's high half becomes zero.
+fn put_word(
+    argument: &Argument,
+    number: usize,
+    word: [u8; AIX_WORD],
+    image: &mut [u8],
+    area: &mut [u8],
+) {
+    match word_place(argument, number) {
+        WordPlace::Image(at) => {
+            let whole = u64::from(u32::from_be_bytes(word));
+            image[at..at + 8].copy_from_slice(&whole.to_be_bytes());
+        }
+        WordPlace::Area(at) => area[at..at + AIX_WORD].copy_from_slice(&word),
+    }
 }
 
 fn test_lengths(plan: &Plan, values: &[u8], image: &[u8], area: &[u8]) -> Result<(), Refusal> {
@@ -119,7 +198,7 @@ fn test_lengths(plan: &Plan, values: &[u8], image: &[u8], area: &[u8]) -> Result
 
 fn hidden_register(plan: &Plan) -> Option<usize> {
     match (plan.convention, plan.result) {
-        (Convention::Ppc64, ResultType::Struct) => Some(3),
+        (Convention::Ppc64 | Convention::Aix, ResultType::Struct) => Some(3),
         (Convention::Z, ResultType::Struct | ResultType::LongDouble) => Some(2),
         _ => None,
     }
@@ -127,15 +206,17 @@ fn hidden_register(plan: &Plan) -> Option<usize> {
 
 /// Whether a single stands there as a double.
 fn widened(convention: Convention, argument: &Argument) -> bool {
-    convention == Convention::Ppc64
+    convention != Convention::Z
         && argument.content == Content::Float
         && argument.size == 4
         && argument.floating.count > 0
 }
 
-/// Whether a value that is not passed by reference stands at its doubleword's end.
+/// Whether a value that is not passed by reference stands at its doubleword's end. On AIX it is asked
+/// of floating registers alone, which hold all of a double.
 fn at_the_end(convention: Convention, argument: &Argument) -> bool {
     match (convention, argument.content) {
+        (Convention::Aix, _) => false,
         (_, Content::SignedInteger | Content::UnsignedInteger) => true,
         (Convention::Ppc64, Content::Float) => argument.floating.count == 0,
         (Convention::Ppc64, Content::Other) => false,
@@ -143,7 +224,7 @@ fn at_the_end(convention: Convention, argument: &Argument) -> bool {
     }
 }
 
-/// An argument's parts of the image and of the area.
+/// An argument's parts of the image and of the area; on AIX general registers are taken word by word.
 fn ranges(convention: Convention, argument: &Argument) -> (Range<usize>, Range<usize>) {
     let (start, registers) = match argument.floating.count {
         0 => (0, argument.general),
@@ -151,13 +232,13 @@ fn ranges(convention: Convention, argument: &Argument) -> (Range<usize>, Range<u
     };
     let image = start + 8 * usize::from(registers.first);
     let above = match convention {
-        Convention::Z if argument.memory.doublewords > 0 => Z_AREA,
+        Convention::Z if argument.memory.words > 0 => Z_AREA,
         _ => 0,
     };
     let area = usize::from(argument.memory.offset) - above;
     (
         image..image + 8 * usize::from(registers.count),
-        area..area + 8 * usize::from(argument.memory.doublewords),
+        area..area + convention.word() * usize::from(argument.memory.words),
     )
 }
 

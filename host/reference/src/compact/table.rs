@@ -32,6 +32,7 @@ pub fn table(bytes: &[u8], words: &mut [u64]) -> Result<[u64; 11], Refusal> {
 pub fn table_at_once(bytes: &[u8], words: &mut [u64]) -> Result<[u64; 11], Refusal> {
     let convention = match bytes.get(3) {
         Some(1) => Convention::Ppc64,
+        Some(3) => Convention::Aix,
         _ => Convention::Z,
     };
     let mut lent = Lent {
@@ -86,12 +87,12 @@ fn put(entry: &mut [u64], convention: Convention, argument: &Argument, item: usi
         memory,
         ..
     } = argument;
-    let in_memory = 8 * u16::from(memory.doublewords);
+    let word = convention.word() as u16;
+    let in_memory = word * u16::from(memory.words);
     let (start, home, home_length) = match convention {
-        Convention::Ppc64 => {
-            let registers = u16::from(general.count.max(floating.count));
+        Convention::Ppc64 | Convention::Aix => {
             let home = argument.offset.unwrap_or(0);
-            (memory.offset, home, 8 * registers + in_memory)
+            (memory.offset, home, argument.size.next_multiple_of(word))
         }
         Convention::Z => {
             let start = memory.offset.saturating_sub(Z_AREA);
@@ -124,12 +125,14 @@ fn head(convention: Convention, result: ResultType, sizes: Sizes, count: usize) 
     let (code, general, floating) = match convention {
         Convention::Ppc64 => (1, 3, 1),
         Convention::Z => (2, 2, 0),
+        Convention::Aix => (3, 3, 1),
     };
     let [kind, gpr, gprs, fpr, fprs] = match (result, convention) {
         (ResultType::None, _) => [0; 5],
         (ResultType::Integer, _) => [1, general, 1, 0, 0],
+        (ResultType::WideInteger, _) => [1, general, 2, 0, 0],
         (ResultType::Float, _) => [1, 0, 0, floating, 1],
-        (ResultType::LongDouble, Convention::Ppc64) => [1, 0, 0, floating, 2],
+        (ResultType::LongDouble, Convention::Ppc64 | Convention::Aix) => [1, 0, 0, floating, 2],
         (ResultType::LongDouble, Convention::Z) | (ResultType::Struct, _) => [2, general, 1, 0, 0],
     };
     let sizes = [sizes.values, sizes.area, sizes.copies].map(|size| size as u64);

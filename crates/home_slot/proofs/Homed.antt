@@ -1,0 +1,129 @@
+-- The home of each argument on PowerPC holds all its words, and lies in the parameter area. Assumes nothing.
+use mathlib.Core.Path.{_≡_, refl, sym, subst}
+use mathlib.Core.Bool.{Bool, true, false}
+use mathlib.Core.List.{List, [], _∷_}
+use Prim.Native.Nat.{ℕ, zero, suc, _+_, _-_, _*_, _≤_, _<_}
+use native.Mathlib.Omega.{arith}
+use lib.Dec.{leb}
+use lib.ListN.{getD, drop}
+use Rattle.words.specs.Basics.{pick}
+use Rattle.conventions.specs.declared.Convention.{Convention}
+use Rattle.types.specs.declared.FloatFormat.{FloatFormat}
+use Rattle.types.specs.declared.ValueType.{ValueType}
+use Rattle.types.specs.Sizes.{sizeOf}
+use Rattle.items.specs.declared.Fault.{Fault}
+use Rattle.items.specs.Reading.{Reading, got, no}
+use Rattle.signature.specs.declared.ResultType.{ResultType}
+use Rattle.signature.specs.Signature.{Signature}
+use Rattle.signature.specs.Read.{signatureOf}
+use Rattle.signature.specs.Answer.{resultType, signatureAnswer}
+use Rattle.places.specs.declared.Cursor.{Cursor}
+use Rattle.places.specs.declared.Rules.{Rules}
+use Rattle.places.specs.Values.{share}
+use Rattle.places.specs.declared.Edition.{Edition}
+use Rattle.places.specs.Power.{words, fprs, covered, shareOf, powerShare}
+use Rattle.places.specs.Step.{power, rulesOf, spanOf, nextOf}
+use Rattle.places.proofs.Bounds.{area-holds}
+use Rattle.plan.specs.Plan.{spansOf, lastOf, startIn, endIn, planIn, planAnswer, typesOf}
+use Rattle.plan.proofs.Fold.{last-forward}
+use Rattle.slots.specs.Forms.{roomOf, startsAtHead, ownStart}
+use Rattle.slots.specs.Placements.{Placement, placement, placements}
+use Rattle.slots.specs.Limits.{Held, All}
+use Rattle.slots.specs.Arguments.{argumentsIn, argumentsOf, planFor, rulesFor}
+use Rattle.slots.proofs.Answered.{arguments-got}
+use Rattle.home_slot.specs.Homes.{homeless, Homed}
+
+-- ---- each argument, over the bytes w of a word
+
+module _ (w : ℕ) (least : 4 ≤ w) (most : w ≤ 8) where
+  abbrev rules : Rules
+  rules = power w Edition.Earlier
+
+  float-end : (k : Cursor) (t : ValueType) (n : ℕ) → 0 < spanOf rules k t n .floating .count → startsAtHead rules t ≡ false
+  unfolding spanOf powerShare shareOf fprs startsAtHead
+  float-end k (ValueType.Integer x) n h = refl
+  float-end k (ValueType.Float FloatFormat.Single) n h = refl
+  float-end k (ValueType.Float FloatFormat.Double) n h = refl
+  float-end k (ValueType.Float FloatFormat.LongDouble) n h = absurd (omega arith)
+  float-end k (ValueType.Struct s) n h = absurd (omega arith)
+
+  -- words in memory follow those in registers, also those of a float of n words that has no FPR
+  float-follows : (b : Bool) (at n : ℕ) → pick b (share 0 1 0) (share 0 0 n) .floating ≡ 0
+      → at + w * (n - pick b (share 0 1 0) (share 0 0 n) .memory) ≡ at + w * pick b (share 0 1 0) (share 0 0 n) .general
+  float-follows true at n e = absurd (omega arith)
+  float-follows false at n e = let z : n - n ≡ 0 = omega arith in rw z
+
+  -- of n words, those before the last ones, where k have a GPR
+  words-before : (at n k : ℕ) → k ≤ n → at + w * (n - (n - k)) ≡ at + w * k
+  words-before at n k h = let z : n - (n - k) ≡ k = omega arith in rw z
+
+  memory-follows : (k : Cursor) (t : ValueType) (n : ℕ) → spanOf rules k t n .floating .count ≡ 0
+      → spanOf rules k t n .memory .start ≡ k .stack + w * spanOf rules k t n .general .count
+  unfolding spanOf powerShare shareOf fprs
+  memory-follows k (ValueType.Integer x) n h = words-before (k .stack) (words w n) (covered k (words w n)) (omega arith)
+  memory-follows k (ValueType.Float FloatFormat.Single) n h = float-follows (leb 1 (14 - k .floating)) (k .stack) (words w n) h
+  memory-follows k (ValueType.Float FloatFormat.Double) n h = float-follows (leb 1 (14 - k .floating)) (k .stack) (words w n) h
+  memory-follows k (ValueType.Float FloatFormat.LongDouble) n h = words-before (k .stack) (words w n) (covered k (words w n)) (omega arith)
+  memory-follows k (ValueType.Struct s) n h = words-before (k .stack) (words w n) (covered k (words w n)) (omega arith)
+
+  step-homed : (k : Cursor) (t : ValueType) (n a : ℕ) → nextOf rules k t n .stack ≤ a → Homed rules a (placement t n (spanOf rules k t n))
+  unfolding spanOf nextOf
+  step-homed k t n a h = record { homes = refl; direct = refl; room = refl; within = omega arith; float = float-end k t n; follows = memory-follows k t n }
+
+  -- of any convention's sizes
+  all-homed : (c : Convention) (k : Cursor) (ts : List ValueType) (a : ℕ) → lastOf c rules k ts .stack ≤ a → All (Homed rules a) (placements c ts (spansOf c rules k ts))
+  unfolding placements spansOf lastOf All
+  all-homed c k [] a h = tt
+  all-homed c k (t ∷ ts) a h =
+      let d : Cursor = nextOf rules k t (sizeOf c t) in
+      (step-homed k t (sizeOf c t) a (omega (arith, last-forward c rules d ts)), all-homed c d ts a h)
+
+-- ---- a whole signature
+
+plan-homed : (n : ℕ) (c : Convention) (r : ResultType) (ts : List ValueType) → homeless (rulesOf c) ≡ false
+    → All (Homed (rulesOf c) (planIn n c r ts .area)) (placements c ts (spansOf c (rulesOf c) (startIn c r) ts))
+unfolding planIn
+plan-homed n Convention.Ppc64 r ts e =
+    all-homed 8 (omega arith) (omega arith) Convention.Ppc64 (startIn Convention.Ppc64 r) ts _ (area-holds Convention.Ppc64 (endIn Convention.Ppc64 r ts))
+plan-homed n Convention.Z r ts e = let z : _≡_ {A = ℕ} 0 1 = cc in absurd (omega arith)
+plan-homed n Convention.Aix r ts e =
+    all-homed 4 (omega arith) (omega arith) Convention.Aix (startIn Convention.Aix r) ts _ (area-holds Convention.Aix (endIn Convention.Aix r ts))
+
+refused-homed : (r : Rules) (f : Fault) → All (Homed r (planAnswer (no f) .area)) (argumentsIn (signatureAnswer (no f)) (planAnswer (no f)))
+unfolding argumentsIn placements All
+refused-homed r f = tt
+
+pub homed-all : (s : List ℕ) → homeless (rulesFor s) ≡ false → All (Homed (rulesFor s) (planFor s .area)) (argumentsOf s)
+unfolding argumentsOf planAnswer
+homed-all s e = go (signatureOf s) e
+  where
+    go : (x : Reading Signature) → homeless (rulesOf (signatureAnswer x .convention)) ≡ false
+        → All (Homed (rulesOf (signatureAnswer x .convention)) (planAnswer x .area)) (argumentsIn (signatureAnswer x) (planAnswer x))
+    go (got g next n) q =
+        subst (All (Homed (rulesOf (g .convention)) (planAnswer (got g next n) .area))) (sym (arguments-got g next n))
+        (plan-homed n (g .convention) (resultType (g .convention) (g .result)) (typesOf (g .convention) (g .arguments)) q)
+    go (no f) q = refused-homed (rulesOf (signatureAnswer (no f) .convention)) f
+
+-- ---- one of them
+
+pub all-at : (P : Placement → Type 0) (ps : List Placement) (i : ℕ) (p : Placement) (qs : List Placement) → drop i ps ≡ p ∷ qs → All P ps → P p
+unfolding All
+all-at P [] zero p qs e h = let z : _≡_ {A = ℕ} 0 1 = cc in absurd (omega arith)
+all-at P [] (suc i) p qs e h = let z : _≡_ {A = ℕ} 0 1 = cc in absurd (omega arith)
+all-at P (x ∷ ps) zero p qs e h = let q : x ≡ p = cc in subst P q (h .0)
+all-at P (x ∷ ps) (suc i) p qs e h = all-at P ps i p qs e (h .1)
+
+pub getD-at : (ps : List Placement) (i : ℕ) (p none : Placement) (qs : List Placement) → drop i ps ≡ p ∷ qs → getD ps i none ≡ p
+getD-at [] zero p none qs e = let z : _≡_ {A = ℕ} 0 1 = cc in absurd (omega arith)
+getD-at [] (suc i) p none qs e = let z : _≡_ {A = ℕ} 0 1 = cc in absurd (omega arith)
+getD-at (x ∷ ps) zero p none qs e = cc
+getD-at (x ∷ ps) (suc i) p none qs e = getD-at ps i p none qs e
+
+-- the value's own bytes in its home
+pub own-homed : (r : Rules) (p : Placement) (a : ℕ) → Held r p → Homed r a p → p .span .home .start + ownStart r (p .ty) (p .size) + p .size ≤ a
+unfolding ownStart
+own-homed r p a h m = go (startsAtHead r (p .ty))
+  where
+    go : (b : Bool) → p .span .home .start + pick b 0 (roomOf r (p .size) - p .size) + p .size ≤ a
+    go true = omega (arith, m .within, h .room (m .direct))
+    go false = omega (arith, m .within, h .room (m .direct))

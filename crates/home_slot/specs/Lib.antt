@@ -1,0 +1,2 @@
+-- The home of one argument. Assumes nothing.
+pub mod Homes

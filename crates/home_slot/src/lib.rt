@@ -1,0 +1,76 @@
+// The home of one argument of a PowerPC call in the parameter area: what stands there once its registers are copied, and whether they can be.
+use conventions::Convention;
+use ieee::Narrowed;
+use places::Rules;
+use places::Span;
+use slots::Answer;
+use types::Equivalent;
+use types::ValueType;
+ghost use mathlib.Core.Path.{_≡_};
+ghost use Prim.Native.Nat.{_+_};
+ghost use lib.ListN.{length};
+ghost use Rattle.words.specs.Splice.{overlay};
+ghost use Rattle.types.specs.Sizes.{sizeOf};
+ghost use Rattle.places.specs.Step.{rulesOf};
+ghost use Rattle.slots.specs.Placements.{placement};
+ghost use Rattle.home_slot.specs.Homes.{homeless, registerAnswer, homedBytes, memoryWord, FloatFits, Registered};
+
+// Whether a convention has no homes for its register arguments.
+pub fn is_homeless(r: Rules) -> bool
+    ensures { λ b. ⌜ b ≡ homeless r ⌝ }
+{
+    match r {
+        Rules::Power(_) => false,
+        Rules::Z => true,
+    }
+}
+
+// Whether one argument's FPR, if it has one, can be homed.
+pub fn register_answer(image: &[u8], r: Rules, t: ValueType, s: Span) -> Answer
+    requires { ⌜ FloatFits s (length (now image)) ⌝ }
+    ensures { λ a. ⌜ a ≡ registerAnswer r t s (now (image .entry)) ⌝ }
+{
+    let floating = s.floating;
+    if 0 < floating.count {
+        let x = words::load(image, 256 + 8 * (floating.first as usize), 8);
+        return slots::float_answer(r, types::equivalent_of(t), x);
+    }
+    Answer::Done
+}
+
+// The 64 bits in memory of a float whose FPR has the bits x.
+fn memory_word(e: Equivalent, x: u64) -> u64
+    ensures { λ w. ⌜ w ≡ memoryWord e x ⌝ }
+{
+    match e {
+        Equivalent::Nothing => x,
+        Equivalent::Single => match ieee::narrow(x) {
+            Narrowed::Single(bits) => bits as u64,
+            Narrowed::NotWidened => 0,
+        },
+        Equivalent::Double => x,
+    }
+}
+
+// The register words of one argument at the head of its home.
+pub fn put_home(place: &mut [u8], image: &[u8], c: Convention, t: ValueType, s: Span)
+    requires { ⌜ Registered (rulesOf c) (s .home .start + length (now place)) (length (now image)) (placement t (sizeOf c t) s) ⌝ }
+    ensures { λ _. ⌜ now (place .exit) ≡ overlay (now (place .entry)) (homedBytes (rulesOf c) (placement t (sizeOf c t) s) (now (image .entry))) ⌝ }
+{
+    let floating = s.floating;
+    let general = s.general;
+    let home = s.home;
+    if 0 < floating.count {
+        let x = words::load(image, 256 + 8 * (floating.first as usize), 8);
+        words::put_number(
+            place,
+            home.length as usize,
+            memory_word(types::equivalent_of(t), x),
+        );
+        return;
+    }
+    let word = conventions::word_bytes(c);
+    let first = general.first as usize;
+    let count = general.count as usize;
+    registers::take_registers(place, image, word, first, count, 0, word * count);
+}

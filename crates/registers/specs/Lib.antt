@@ -1,0 +1,2 @@
+-- Words in the general registers of an image. Assumes nothing.
+pub mod Registers

@@ -1,0 +1,143 @@
+-- An argument that no test of a view refuses lies in its home, and the part that a view shows. Assumes nothing.
+use mathlib.Core.Path.{_≡_, refl, sym, ap, ap₂, _∙_}
+use mathlib.Core.Bool.{true, false}
+use mathlib.Core.List.{List, []}
+use Prim.Native.Nat.{ℕ, _+_, _-_, _≤_, _<_}
+use native.Mathlib.Omega.{arith}
+use borrow.Author.Tests.{ltb-false, leb-false}
+use native.Mathlib.Nat.{add-sub-cancel-left}
+use lib.ListN.{length, getD, take, drop}
+use Rattle.words.specs.Basics.{pick}
+use Rattle.signature.specs.Limits.{maxArguments}
+use Rattle.signature.specs.declared.Outcome.{Outcome}
+use Rattle.signature.specs.declared.SignatureRead.{SignatureRead}
+use Rattle.signature.specs.Read.{signatureOf}
+use Rattle.signature.specs.Answer.{signatureAnswer}
+use Rattle.places.specs.declared.Rules.{Rules}
+use Rattle.places.specs.Step.{rulesOf}
+use Rattle.plan.specs.declared.Plan.{Plan}
+use Rattle.slots.specs.declared.Answer.{Answer}
+use Rattle.slots.specs.Forms.{ownStart}
+use Rattle.slots.specs.Placements.{Placement}
+use Rattle.slots.specs.Limits.{Held, All}
+use Rattle.slots.specs.Refusals.{firstOf, afterReading, isDone, isRefused}
+use Rattle.slots.specs.Arguments.{argumentsIn, argumentsOf, planFor, rulesFor, Carried}
+use Rattle.slots.proofs.Answered.{carried-same}
+use Rattle.slots.proofs.Turns.{argumentAt, next-argument}
+use Rattle.slots.proofs.Refusals.{first-done}
+use Rattle.home_slot.proofs.Homed.{homed-all, all-at, getD-at, own-homed}
+use Rattle.views.specs.declared.ViewPart.{ViewPart}
+use Rattle.home_slot.specs.Homes.{homeless, Homed}
+use Rattle.views.specs.View.{viewTests, viewAnswer, noArgument, ownBytes, ownPart, viewPart, viewOf}
+
+-- ---- what no test refuses
+
+pub reading-done : (o : Outcome) (x : Answer) → afterReading o x ≡ Answer.Done → x ≡ Answer.Done
+reading-done (Outcome.Accepted n) x e = e
+reading-done (Outcome.Refused f) x e = let z : _≡_ {A = ℕ} 0 1 = cc in absurd (omega arith)
+
+pub record Viewed (r : Rules) (count index have area : ℕ) : Type 0 where
+  pub homes : homeless r ≡ false
+  pub there : index < count
+  pub room : area ≤ have
+
+pub view-passed : (r : Rules) (count index have area : ℕ) → firstOf (viewTests r count index have area) ≡ Answer.Done → Viewed r count index have area
+unfolding viewTests
+view-passed (Rules.Power f) count index have area e =
+    let a = first-done _ _ e in
+    let b = first-done _ _ (a .1) in
+    record { homes = refl; there = leb-false count index (a .0); room = ltb-false have area (b .0) }
+view-passed Rules.Z count index have area e = let a = first-done _ _ e in let q : true ≡ false = a .0 in let z : _≡_ {A = ℕ} 0 1 = cc in absurd (omega arith)
+
+-- ---- the argument that is viewed
+
+pub record Hand (s : List ℕ) (have index : ℕ) (g : SignatureRead) (p : Plan) : Type 0 where
+  pub done : viewAnswer s have index ≡ Answer.Done
+  pub small : index < maxArguments
+  pub room : p .area ≤ have
+  pub held : Held (rulesOf (g .convention)) (argumentAt g p index)
+  pub homed : Homed (rulesOf (g .convention)) (p .area) (argumentAt g p index)
+  pub at : getD (argumentsOf s) index noArgument ≡ argumentAt g p index
+
+pub answer-same : (s : List ℕ) (have index : ℕ) (g : SignatureRead) (p : Plan) (a : Answer) → g ≡ signatureAnswer (signatureOf s) → p ≡ planFor s
+    → a ≡ afterReading (p .outcome) (firstOf (viewTests (rulesOf (g .convention)) (g .count) index have (p .area))) → a ≡ viewAnswer s have index
+unfolding viewAnswer
+answer-same s have index g p a read plan e =
+    e ∙ ap₂ (λ (g : SignatureRead) (p : Plan). afterReading (p .outcome) (firstOf (viewTests (rulesOf (g .convention)) (g .count) index have (p .area)))) read plan
+
+pub hand : (s : List ℕ) (have index : ℕ) (g : SignatureRead) (p : Plan) (a : Answer) → g ≡ signatureAnswer (signatureOf s) → p ≡ planFor s
+    → a ≡ afterReading (p .outcome) (firstOf (viewTests (rulesOf (g .convention)) (g .count) index have (p .area))) → a ≡ Answer.Done → Hand s have index g p
+unfolding argumentsOf
+hand s have index g p a read plan e d =
+    let v = view-passed (rulesOf (g .convention)) (g .count) index have (p .area) (reading-done (p .outcome) _ (sym e ∙ d)) in
+    let c : Carried g p = carried-same s g p read plan in
+    let next = next-argument g p index (v .there) (c .types) (c .spans) in
+    let homes : All (Homed (rulesOf (g .convention)) (p .area)) (argumentsIn g p) =
+    rw (read, plan) (homed-all s (ap (λ (x : SignatureRead). homeless (rulesOf (x .convention))) (sym read) ∙ v .homes)) in
+    record {
+      done = sym (answer-same s have index g p a read plan e) ∙ d;
+      small = omega (arith, v .there, c .few);
+      room = v .room;
+      held = all-at (Held (rulesOf (g .convention))) (argumentsIn g p) index (argumentAt g p index) _ next (c .held);
+      homed = all-at (Homed (rulesOf (g .convention)) (p .area)) (argumentsIn g p) index (argumentAt g p index) _ next homes;
+      at = ap₂ (λ (g : SignatureRead) (p : Plan). getD (argumentsIn g p) index noArgument) (sym read) (sym plan) ∙ getD-at (argumentsIn g p) index (argumentAt g p index) noArgument _ next;
+    }
+
+-- ---- the part that is viewed
+
+refused-part : (a : Answer) (r : Rules) (p : Placement) → isRefused a ≡ true → _≡_ {A = ViewPart} (record { answer = a; start = 0; length = 0 }) (ownPart a r p)
+refused-part Answer.Done r p q = let z : _≡_ {A = ℕ} 0 1 = cc in absurd (omega arith)
+refused-part (Answer.Unread f) r p q = refl
+refused-part (Answer.Refused reason) r p q = refl
+
+pub part-refused : (s : List ℕ) (have index : ℕ) (a : Answer) → a ≡ viewAnswer s have index → isRefused a ≡ true
+    → _≡_ {A = ViewPart} (record { answer = a; start = 0; length = 0 }) (viewPart s have index)
+unfolding viewPart
+part-refused s have index a e q = rw (← e) (refused-part a (rulesFor s) (getD (argumentsOf s) index noArgument) q)
+
+pub part-shown : (s : List ℕ) (have index : ℕ) (g : SignatureRead) (p : Plan) (a : Answer) (own n : ℕ) → Hand s have index g p → g ≡ signatureAnswer (signatureOf s)
+    → a ≡ viewAnswer s have index
+    → own ≡ ownStart (rulesOf (g .convention)) (argumentAt g p index .ty) (argumentAt g p index .size) → n ≡ argumentAt g p index .size
+    → _≡_ {A = ViewPart} (record { answer = a; start = argumentAt g p index .span .home .start + own; length = n }) (viewPart s have index)
+unfolding viewPart
+part-shown s have index g p a own n h read e o z =
+    let done : a ≡ Answer.Done = e ∙ h .done in
+    rw (← e, done, o, z, h .at) (ap (λ (x : SignatureRead). ownPart Answer.Done (rulesOf (x .convention)) (argumentAt g p index)) read)
+
+pub part-answer : (s : List ℕ) (have index : ℕ) → viewPart s have index .answer ≡ viewAnswer s have index
+unfolding viewPart
+part-answer s have index = refl
+
+viewAnswer-is : (s : List ℕ) (have index : ℕ)
+    → viewAnswer s have index
+    ≡ afterReading (planFor s .outcome) (firstOf (viewTests (rulesFor s) (signatureAnswer (signatureOf s) .count) index have (planFor s .area)))
+unfolding viewAnswer
+viewAnswer-is s have index = refl
+
+-- it lies in the area
+pub part-within : (s : List ℕ) (have index : ℕ) → viewPart s have index .start + viewPart s have index .length ≤ have
+unfolding viewPart
+part-within s have index = go (viewAnswer s have index) refl
+  where
+    go : (a : Answer) → a ≡ viewAnswer s have index
+        → ownPart a (rulesFor s) (getD (argumentsOf s) index noArgument) .start + ownPart a (rulesFor s) (getD (argumentsOf s) index noArgument) .length ≤ have
+    go Answer.Done e =
+        let h = hand s have index (signatureAnswer (signatureOf s)) (planFor s) Answer.Done refl refl (e ∙ viewAnswer-is s have index) refl in
+        rw (h .at) (omega (arith, own-homed (rulesFor s) _ _ (h .held) (h .homed), h .room))
+    go (Answer.Unread f) e = omega arith
+    go (Answer.Refused reason) e = omega arith
+
+-- and is the view
+pub part-view : (s area : List ℕ) (index : ℕ) (v : ViewPart) → v ≡ viewPart s (length area) index
+    → take (v .start + v .length - v .start) (drop (v .start) area) ≡ viewOf s area index
+unfolding viewPart viewOf
+part-view s area index v e =
+    ap (λ (m : ℕ). take m (drop (v .start) area)) (add-sub-cancel-left (v .start) (v .length))
+    ∙ ap (λ (v : ViewPart). take (v .length) (drop (v .start) area)) e
+    ∙ go (viewAnswer s (length area) index)
+  where
+    go : (a : Answer) → take (ownPart a (rulesFor s) (getD (argumentsOf s) index noArgument) .length) (drop (ownPart a (rulesFor s) (getD (argumentsOf s) index noArgument) .start) area)
+        ≡ pick (isDone a) (ownBytes (rulesFor s) (getD (argumentsOf s) index noArgument) area) []
+    go Answer.Done = refl
+    go (Answer.Unread f) = refl
+    go (Answer.Refused reason) = refl

@@ -1,0 +1,2 @@
+-- Views of arguments. Assumes nothing.
+pub mod View
