@@ -194,12 +194,12 @@ typedef struct {
     uint64_t copy, copy_length;     /* its copy, where it is passed by reference */
 } fz_place;
 
-/* The words of an fz_place. */
+/* The 64-bit numbers of an fz_place. */
 #define FZ_PLACE_WORDS 13
 
 typedef struct {
     fz_answer answer;                  /* as in fz_sizes */
-    uint64_t convention;               /* 1 PPC64, 2 Z */
+    uint64_t convention;               /* 1 PPC64, 2 Z, 3 AIX */
     uint64_t ellipsis;                 /* 0: no signature has one */
     uint64_t arguments;                /* how many */
     uint64_t values, area, copies;     /* as in fz_sizes */
@@ -208,10 +208,11 @@ typedef struct {
     uint64_t result_fpr, result_fprs;  /* its floating registers */
 } fz_planned;
 
-/* Plans the call and writes where each argument stands to `places`, which has places_length words:
- * an fz_place for each argument, in order, from the first word on. Where that is too short for all
- * arguments nothing is written, not even a part of them, and `arguments` still says how many there
- * are; words past the last argument stay as they are. The table must not overlap the signature. */
+/* Plans the call and writes where each argument stands to `places`, which has places_length 64-bit
+ * numbers: an fz_place for each argument, in order, from the first on. Where that is too short for
+ * all arguments nothing is written, not even a part of them, and `arguments` still says how many
+ * there are; what lies past the last argument stays as it is. The table must not overlap the
+ * signature. */
 fz_planned fz_plan(const uint8_t *sig, size_t sig_length, uint64_t *places, size_t places_length);
 
 /* Prints the plan to the text_length bytes at text and gives the listing's length. A call is never

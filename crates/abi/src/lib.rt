@@ -37,6 +37,7 @@ impl Ppc64 {
     // The bytes from the start's stack pointer to the end of the memory.
     pub const START_ROOM: usize = 112;
 
+    // The bytes under the stack pointer that interrupt code trusts to be free.
     pub const FLOOR: usize = 288;
     // Saves start at this register.
     pub const FIRST_SAVED: usize = 14;

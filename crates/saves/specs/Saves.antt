@@ -1,5 +1,5 @@
 -- Registers in memory. Document 01, "Frames": an enter saves runs of registers in ascending words ("r(g) to r31 .. f(n) at S - 8(32 - n)"), and "Leave restores these" from the lent bytes.
--- Everything is over the width of a word in bytes: 8 for both conventions, 4 in the word that holds CR.
+-- Everything is over the width of a word in bytes: 8 on PPC64 and Z, 4 on AIX and in the word that holds CR.
 -- Assumes nothing.
 use Prim.Native.Nat.{ℕ, zero, suc, _+_, _*_, _<_, _≤_}
 use mathlib.Core.Logic.{_⊎_}
