@@ -1,7 +1,7 @@
 -- The length, then the code, then where a long double stands.
 use borrow.Author.Needs.{needs}
 use Rattle.leaf_items.proofs.read_float.Statement.{statement}
-use mathlib.Core.Path.{sym, _∙_}
+use mathlib.Core.Path.{_≡_, sym, ap, _∙_}
 use mathlib.Core.Bool.{true, false}
 use native.Mathlib.Omega.{arith}
 use borrow.Author.Tests.{lt-ltb, le-ltb}
@@ -9,6 +9,10 @@ use Rattle.types.specs.declared.FloatFormat.{FloatFormat}
 use Rattle.items.specs.declared.FloatCode.{FloatCode}
 use Rattle.items.proofs.Laws.{float-length, float-by, long-double-by}
 use Rattle.leaf_items.proofs.read_float.Tie as tie
+
+-- a code that is a format, and which one
+formatted : {f g : FloatFormat} {r x : FloatCode} → f ≡ g → r ≡ FloatCode.Format f → r ≡ x → FloatCode.Format g ≡ x
+formatted p q e = ap FloatCode.Format (sym p) ∙ sym q ∙ e
 
 sub-if1 : tie.Need-sub-if1
 sub-if1 c = search needs
@@ -59,21 +63,21 @@ refused-here-requires-3 : tie.Need-refused-here-requires-3
 refused-here-requires-3 c κs = search needs
 
 returns-2 : tie.Need-returns-2
-returns-2 c = c .float-item .ensures ∙ sym (float-by _ _ _ _ _ (omega arith) (FloatCode.Format FloatFormat.Single) (cc))
+returns-2 c = c .float-item .ensures ∙ sym (float-by _ _ _ _ _ (omega arith) (FloatCode.Format FloatFormat.Single) (formatted (c .before .enum-told .given .1) (c .before .before .before .before .f .given .1) (c .before .before .before .before .before .before .float-code .ensures)))
 
 returns-3 : tie.Need-returns-3
-returns-3 c = c .float-item2 .ensures ∙ sym (float-by _ _ _ _ _ (omega arith) (FloatCode.Format FloatFormat.Double) (cc))
+returns-3 c = c .float-item2 .ensures ∙ sym (float-by _ _ _ _ _ (omega arith) (FloatCode.Format FloatFormat.Double) (formatted (c .before .enum-told2 .given .1) (c .before .before .before .before .f .given .1) (c .before .before .before .before .before .before .float-code .ensures)))
 
 returns-4 : tie.Need-returns-4
-returns-4 c = c .refused-here2 .ensures ∙ sym (long-double-by _ _ _ _ _ (omega arith) (cc) true (lt-ltb _ _ (c .before .if2 .taken)))
+returns-4 c = c .refused-here2 .ensures ∙ sym (long-double-by _ _ _ _ _ (omega arith) (formatted (c .before .before .enum-told3 .given .1) (c .before .before .before .before .before .f .given .1) (c .before .before .before .before .before .before .before .float-code .ensures)) true (lt-ltb _ _ (c .before .if2 .taken)))
 
 returns-5 : tie.Need-returns-5
 returns-5 c =
     let outside = le-ltb _ _ (c .before .if2 .left) in
-    rw outside at (c .float-item3 .ensures) ∙ sym (long-double-by _ _ _ _ _ (omega arith) (cc) false outside)
+    rw outside at (c .float-item3 .ensures) ∙ sym (long-double-by _ _ _ _ _ (omega arith) (formatted (c .before .before .enum-told3 .given .1) (c .before .before .before .before .before .f .given .1) (c .before .before .before .before .before .before .before .float-code .ensures)) false outside)
 
 returns-6 : tie.Need-returns-6
-returns-6 c = c .refused-here3 .ensures ∙ sym (float-by _ _ _ _ _ (omega arith) FloatCode.Unknown (cc))
+returns-6 c = c .refused-here3 .ensures ∙ sym (float-by _ _ _ _ _ (omega arith) FloatCode.Unknown (sym (c .before .enum-told4 .given .1) ∙ c .before .before .before .float-code .ensures))
 
 pub read-float-spec : {M : Type 1} → statement M
 read-float-spec =

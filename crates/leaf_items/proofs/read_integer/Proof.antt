@@ -37,10 +37,10 @@ refused-here-requires-2 c κs = search needs
 
 returns-2 : tie.Need-returns-2
 unfolding typeOf
-returns-2 c = sym (integer-by _ _ _ _ (omega arith) (IntegerCode.Kind (c .before .k .given .0 .0)) (cc))
+returns-2 c = sym (integer-by _ _ _ _ (omega arith) (IntegerCode.Kind (c .before .k .given .0 .0)) (sym (c .before .k .given .1) ∙ c .before .before .before .integer-code .ensures))
 
 returns-3 : tie.Need-returns-3
-returns-3 c = c .refused-here2 .ensures ∙ sym (integer-by _ _ _ _ (omega arith) IntegerCode.Unknown (cc))
+returns-3 c = c .refused-here2 .ensures ∙ sym (integer-by _ _ _ _ (omega arith) IntegerCode.Unknown (sym (c .before .enum-told .given .1) ∙ c .before .before .before .integer-code .ensures))
 
 pub read-integer-spec : {M : Type 1} → statement M
 read-integer-spec =

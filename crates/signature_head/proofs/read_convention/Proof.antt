@@ -40,10 +40,10 @@ returns-2 : tie.Need-returns-2
 returns-2 c = sym (ap conventionAnswer (convention-no _ _ (sym (c .before .before .before .read-body .ensures) ∙ c .before .reason .given .1)))
 
 returns-3 : tie.Need-returns-3
-returns-3 c = sym (ap conventionAnswer (convention-by _ _ (sym (c .before .before .before .before .before .before .before .before .before .read-body .ensures) ∙ c .before .before .before .before .before .before .before .to .given .1) (c .before .before .before .before .before .if1 .left) (ConventionCode.Known (c .before .c .given .0 .0)) (cc)))
+returns-3 c = sym (ap conventionAnswer (convention-by _ _ (sym (c .before .before .before .before .before .before .before .before .before .read-body .ensures) ∙ c .before .before .before .before .before .before .before .to .given .1) (c .before .before .before .before .before .if1 .left) (ConventionCode.Known (c .before .c .given .0 .0)) (sym (c .before .c .given .1) ∙ c .before .before .before .convention-code .ensures)))
 
 returns-4 : tie.Need-returns-4
-returns-4 c = sym (ap conventionAnswer (convention-by _ _ (sym (c .before .before .before .before .before .before .before .before .read-body .ensures) ∙ c .before .before .before .before .before .before .to .given .1) (c .before .before .before .before .if1 .left) ConventionCode.Unknown (cc)))
+returns-4 c = sym (ap conventionAnswer (convention-by _ _ (sym (c .before .before .before .before .before .before .before .before .read-body .ensures) ∙ c .before .before .before .before .before .before .to .given .1) (c .before .before .before .before .if1 .left) ConventionCode.Unknown (sym (c .enum-told .given .1) ∙ c .before .before .convention-code .ensures)))
 
 pub read-convention-spec : {M : Type 1} → statement M
 read-convention-spec =
