@@ -36,7 +36,8 @@ pub fn groups(seed: u64, signatures: usize) -> Vec<Group> {
         signatures: Vec::new(),
     };
     let mut groups: Vec<Group> = COUNTS.iter().map(group).collect();
-    for (count, bytes) in different(seed, signatures, |random| random.below(ALL.end() + 1)) {
+    let any = |random: &mut Random| (random.below(ALL.end() + 1), any_convention(random));
+    for (count, bytes) in different(seed, signatures, any) {
         let group = groups
             .iter_mut()
             .find(|group| group.counts.contains(&count));
@@ -48,9 +49,22 @@ pub fn groups(seed: u64, signatures: usize) -> Vec<Group> {
 
 /// This many different accepted signatures for each number of arguments that is measured by itself.
 pub fn single_counts(seed: u64, signatures: usize) -> Vec<Group> {
+    of_counts(seed, signatures, any_convention)
+}
+
+/// The same in one convention.
+pub fn single_counts_of(convention: Convention, seed: u64, signatures: usize) -> Vec<Group> {
+    of_counts(seed, signatures, |_| convention)
+}
+
+fn of_counts(
+    seed: u64,
+    signatures: usize,
+    convention: impl Fn(&mut Random) -> Convention,
+) -> Vec<Group> {
     let group = |count: usize| Group {
         counts: count..=count,
-        signatures: different(seed, signatures, |_| count)
+        signatures: different(seed, signatures, |random| (count, convention(random)))
             .into_iter()
             .map(|(_, bytes)| bytes)
             .collect(),
@@ -58,18 +72,23 @@ pub fn single_counts(seed: u64, signatures: usize) -> Vec<Group> {
     SINGLE_COUNTS.map(group).into()
 }
 
-/// This many different accepted signatures with the number of their arguments, which `count` names.
+fn any_convention(random: &mut Random) -> Convention {
+    random.pick(&Convention::ALL)
+}
+
+/// This many different accepted signatures with the number of their arguments, which `kind` names
+/// with their convention.
 fn different(
     seed: u64,
     signatures: usize,
-    count: impl Fn(&mut Random) -> usize,
+    kind: impl Fn(&mut Random) -> (usize, Convention),
 ) -> Vec<(usize, Vec<u8>)> {
     let mut random = Random::new(seed);
     let mut known = HashSet::new();
     let mut all = Vec::new();
     while all.len() < signatures {
-        let count = count(&mut random);
-        let signature = signature(&mut random, count);
+        let (count, convention) = kind(&mut random);
+        let signature = signature(&mut random, convention, count);
         let bytes = encode::signature(&signature);
         if known.insert(bytes.clone()) {
             all.push((signature.arguments.len(), bytes));
@@ -78,8 +97,7 @@ fn different(
     all
 }
 
-fn signature(random: &mut Random, count: usize) -> Signature {
-    let convention = random.pick(&Convention::ALL);
+fn signature(random: &mut Random, convention: Convention, count: usize) -> Signature {
     let result = random.once_in(2).then(|| usual_type(random, convention));
     let arguments = (0..count).map(|_| usual_type(random, convention));
     generate::fitting(convention, result, arguments)

@@ -8,7 +8,7 @@ use compare::random::Random;
 use compare::timing;
 use compare::usual::{self, Group};
 use flakuzhen::surface::marshal as library;
-use reference::compact;
+use reference::{compact, Convention};
 use std::cell::RefCell;
 use std::hint::black_box;
 use std::ops::RangeInclusive;
@@ -61,14 +61,22 @@ fn main() -> ExitCode {
     let seed = compare::seed();
     let mut random = Random::new(seed);
     let mut groups = Vec::new();
-    let single_counts = usual::single_counts(seed, OF_A_COUNT);
-    let all_groups = usual::groups(seed, CALLS).into_iter().chain(single_counts);
-    for group in all_groups {
+    let all_conventions = usual::groups(seed, CALLS)
+        .into_iter()
+        .chain(usual::single_counts(seed, OF_A_COUNT))
+        .map(|group| (None, group));
+    let each_convention = Convention::ALL.into_iter().flat_map(|convention| {
+        let groups = usual::single_counts_of(convention, seed, OF_A_COUNT);
+        groups
+            .into_iter()
+            .map(move |group| (Some(convention), group))
+    });
+    for (convention, group) in all_conventions.chain(each_convention) {
         let Some(calls) = filled(&mut random, &group) else {
             eprintln!("the two differ on a call of seed {seed:#x}: nothing is measured");
             return ExitCode::FAILURE;
         };
-        groups.push((group.counts, calls));
+        groups.push((convention, group.counts, calls));
     }
     println!("Filling and reading a call, over {CALLS} different ones of all conventions:");
     println!("medians of {ROUNDS} rounds, in which the two take turns, in nanoseconds a call.");
@@ -79,8 +87,8 @@ fn main() -> ExitCode {
     let mut all = Sums::default();
     let (mixed, single_counts): (Vec<_>, Vec<_>) = groups
         .iter()
-        .partition(|(counts, _)| counts.start() < counts.end());
-    for (counts, calls) in mixed {
+        .partition(|(_, counts, _)| counts.start() < counts.end());
+    for (_, counts, calls) in mixed {
         let sums = measured(calls);
         print(counts, &sums);
         all.calls += sums.calls;
@@ -89,8 +97,14 @@ fn main() -> ExitCode {
         all.read.add(&sums.read);
     }
     print(&usual::ALL, &all);
-    println!();
-    for (counts, calls) in single_counts {
+    let mut headed = None;
+    for (convention, counts, calls) in single_counts {
+        if headed.replace(*convention) != Some(*convention) {
+            match convention {
+                Some(one) => println!("\n{one:?} alone:"),
+                None => println!(),
+            }
+        }
         print(counts, &measured(calls));
     }
     ExitCode::SUCCESS
