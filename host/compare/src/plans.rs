@@ -533,8 +533,9 @@ fn argument(random: &mut Random, convention: Convention, mix: Mostly) -> Type {
 
 /// A struct of 1 to 12 bytes.
 fn small_struct(random: &mut Random) -> Type {
-    if random.once_in(2) {
-        return Type::Struct(vec![Type::Integer(Integer::U8); 1 + random.below(12)]);
+    // of every size up to one byte more than a doubleword
+    if !random.once_in(4) {
+        return Type::Struct(vec![Type::Integer(Integer::U8); 1 + random.below(9)]);
     }
     let field = |random: &mut Random| match random.below(4) {
         0 => Type::Float(Float::Single),
