@@ -1,7 +1,7 @@
 /* The command `flakuzhen` for machines that Rust's standard library is not at hand for: that of
- * host/flakuzhen but for its pictures and dumps, with the same output, messages and exit statuses. All inputs
- * are read before anything is printed, so that a word, a file or a line that is wrong gives one line
- * on standard error and nothing else. */
+ * host/flakuzhen but for its pictures and dumps, with the same output, messages and exit statuses.
+ * All inputs are read before anything is printed, so that a word, a file or a line that is wrong
+ * gives one line on standard error and nothing else. */
 #include "command.h"
 #include <errno.h>
 #include <signal.h>
@@ -34,8 +34,7 @@ static const char usage[] =
     "            write mem ADDRESS BYTES     the bytes in hexadecimal\n"
     "            leave\n"
     "\n"
-    "Exit status: 0 all accepted; 1 a signature or a call was refused; 2 a word, a file or a line\n"
-    "is wrong.\n"
+    "Exit status: 0 all accepted; 1 something was refused; 2 a word, a file or a line is wrong.\n"
     "\n"
     "Pictures (--picture) are drawn, and dumps walked (dump), by the Rust command alone.\n";
 
