@@ -13,7 +13,8 @@
  *
  * The machine need not be the one that this program runs on: nothing is executed, and addresses are
  * numbers. The frame machine (fz_start_ppc64 to fz_leave) stands apart from this: it keeps a stack
- * on which functions enter and leave frames.
+ * on which functions enter and leave frames. fz_walk_dump_ppc64 and its like find the frames in the
+ * memory of a program that hangs.
  *
  * Installed with this header, in share/doc/flakuzhen: call.c plans, fills and reads a call;
  * COMPILERS.md says in which points compilers of today differ from the conventions, and what to do.
@@ -41,14 +42,14 @@
  *  - The stack that a call takes is bounded. On the largest inputs it was never more than this, on
  *    x86-64, PowerPC and zSeries (make bench and make bench-targets measure it):
  *       1 KiB   fz_version, fz_widen, fz_narrow
- *       4 KiB   fz_read_signature, fz_measure
+ *       4 KiB   fz_read_signature, fz_measure, fz_walk_dump_ppc64, fz_walk_dump_z, fz_walk_dump_aix
  *       8 KiB   fz_plan, fz_fill, fz_read, fz_start_ppc64, fz_start_z, fz_start_aix
  *      12 KiB   fz_listing, fz_write_register
  *      16 KiB   fz_view, fz_write_memory
  *      20 KiB   fz_home, fz_enter, fz_leave
  *  - An answer's `number` is 0 for yes; else it says why not (enum fz_refusal), and `place` says
- *    where: the offset in the signature of the faulty item's header or of the first byte too many.
- *    A refusal that concerns no place has place 0. Where the signature is refused, `items` says how
+ *    where: the offset in the signature of the faulty item's header or of the first byte too many;
+ *    in a dump an address. A refusal that concerns no place has place 0. Where the signature is refused, `items` says how
  *    much of it was good (fz_read_signature). In a refused answer all else is 0.
  *
  * Versions: FZ_VERSION is this header's, fz_version the library's. A version's first number is that
@@ -391,6 +392,44 @@ fz_answer fz_write_memory(const fz_machine *machine, uint64_t address, const uin
  * fields 2 to 4), sets the stack pointer to the caller's and the frame's record to 0. The memory
  * stays as it is. */
 fz_answer fz_leave(fz_machine *machine, const uint8_t *memory, size_t memory_length);
+
+/* ---- Dumps: the frames in a memory ----
+ *
+ * After a hang there are the bytes of a memory, the address of the first (their base) and a stack
+ * pointer. At a frame's address stands its back chain: the address of its caller's frame, above it;
+ * the oldest frame's is zero. A walk follows it from the stack pointer on and lists the frames'
+ * addresses, the latest first. Nothing is asked of the memory: it may be cut or overwritten. */
+
+/* Why a walk is refused. In this order: a base plus length over 2^64 - 1; then, for each frame from
+ * the stack pointer on, 31 and the address; then 32. */
+enum fz_dump_refusal {
+    FZ_BAD_ADDRESS = 30,    /* an address (`place`) that is no frame's: not a multiple of 16, on Z of
+                               8; or not wholly inside the dump with its header, which has 48 bytes
+                               on PPC64, 24 on AIX, 160 on Z; or not above the one before. Also a
+                               base plus memory_length over 2^64 - 1 (place: the base) */
+    FZ_CHAIN_TOO_LONG = 31, /* after 4,096 frames the back chain is not zero */
+    FZ_LIST_TOO_SHORT = 32  /* fewer numbers in the list than frames */
+};
+
+typedef struct {
+    fz_answer answer; /* its items are 0 */
+    uint64_t count;   /* of the frames listed */
+} fz_walked;
+
+/* Walks a dump of memory_length bytes, whose first has the address `base`, from a stack pointer on,
+ * and writes the frames' addresses to `list`, which has list_length numbers. Its numbers past the
+ * last frame's stay. A refused walk leaves all of it as it was. The back chain is 8 bytes, on AIX 4,
+ * big-endian; base and pointer are any numbers of 64 bits, on AIX too. The list must not overlap the
+ * memory.
+ *
+ * For a machine of the calls above that has no leaf these are its entered frames and the start: the
+ * memory and base are the machine's, and the pointer is its register r1, on Z r15. */
+fz_walked fz_walk_dump_ppc64(const uint8_t *memory, size_t memory_length, uint64_t base,
+                             uint64_t pointer, uint64_t *list, size_t list_length);
+fz_walked fz_walk_dump_z(const uint8_t *memory, size_t memory_length, uint64_t base,
+                         uint64_t pointer, uint64_t *list, size_t list_length);
+fz_walked fz_walk_dump_aix(const uint8_t *memory, size_t memory_length, uint64_t base,
+                           uint64_t pointer, uint64_t *list, size_t list_length);
 
 /* ---- Calls: values put into registers and memory, and taken back ----
  *

@@ -26,6 +26,9 @@ enum {
     VIEW,
     PLAN,
     START_AIX,
+    WALK_DUMP_PPC64,
+    WALK_DUMP_Z,
+    WALK_DUMP_AIX,
     OPERATIONS,
     SET_MACHINE = 100,
     CHANGE_MACHINE = 101
@@ -54,6 +57,9 @@ static const struct shape {
     [VIEW] = {"fz_view", 1, 2, 5, 0},
     [PLAN] = {"fz_plan", 0, 2, 14, 0},
     [START_AIX] = {"fz_start_aix", 2, 1, 3, 2},
+    [WALK_DUMP_PPC64] = {"fz_walk_dump_ppc64", 2, 2, 4, 0},
+    [WALK_DUMP_Z] = {"fz_walk_dump_z", 2, 2, 4, 0},
+    [WALK_DUMP_AIX] = {"fz_walk_dump_aix", 2, 2, 4, 0},
 };
 
 #define MOST_NUMBERS 4
@@ -273,27 +279,38 @@ static void call_plain(int operation, const uint64_t *numbers)
     }
 }
 
-/* the most words of a table of places */
-#define MOST_PLACES 2048
+/* the most words of a table of places, or of a list of frames */
+#define MOST_TABLE 4352
 
-/* Plans into a table between words that no call may change. */
-static void call_plan(void)
+/* Plans into a table, or walks a dump into a list, between words that no call may change. */
+static void call_table(int operation, const uint64_t *numbers)
 {
-    static uint64_t table[GUARD + MOST_PLACES + GUARD];
-    size_t words = own[1].length / 8, i;
+    static uint64_t table[GUARD + MOST_TABLE + GUARD];
+    const uint8_t *bytes = lent(&own[0]);
+    size_t length = own[0].length, words = own[1].length / 8, i;
     fz_planned planned;
+    fz_walked walked;
 
-    if (words > MOST_PLACES)
+    if (words > MOST_TABLE)
         fail("a table that is too long");
     for (i = 0; i < sizeof table / sizeof *table; i++)
         table[i] = i;
     words_from(table + GUARD, 8 * words, &own[1]);
-    planned = fz_plan(lent(&own[0]), own[0].length, table + GUARD, words);
+    if (operation == PLAN) {
+        planned = fz_plan(bytes, length, table + GUARD, words);
+        memcpy(answer, &planned, sizeof planned);
+    } else {
+        walked = (operation == WALK_DUMP_PPC64 ? fz_walk_dump_ppc64
+                  : operation == WALK_DUMP_Z   ? fz_walk_dump_z
+                                               : fz_walk_dump_aix)(bytes, length, numbers[0],
+                                                                   numbers[1], table + GUARD,
+                                                                   words);
+        memcpy(answer, &walked, sizeof walked);
+    }
     words_to(table + GUARD, 8 * words, &own[1]);
     for (i = 0; i < sizeof table / sizeof *table; i++)
         if ((i < GUARD || i >= GUARD + words) && table[i] != i)
-            mismatch(PLAN, "word beside the table", i, table[i], i);
-    memcpy(answer, &planned, sizeof planned);
+            mismatch(operation, "word beside the table", i, table[i], i);
 }
 
 /* Calls of one call's values: the buffers are in the order of the function's parameters. */
@@ -412,8 +429,8 @@ static void replay(int operation)
     memset(answer, 0xc5, sizeof answer);
     if (shape->kept)
         call_machine(operation, numbers);
-    else if (operation == PLAN)
-        call_plan();
+    else if (operation == PLAN || operation >= WALK_DUMP_PPC64)
+        call_table(operation, numbers);
     else if (operation >= FILL)
         call_values(operation, numbers);
     else

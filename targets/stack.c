@@ -255,6 +255,27 @@ static void call_leave(void)
     number = fz_leave(&machine, memory, sizeof memory).number;
 }
 
+/* a dump of frames of 16 bytes, as many as a walk finds */
+#define MOST_FRAMES 4096
+
+static uint8_t dump[16 * MOST_FRAMES + 160];
+static uint64_t frames[MOST_FRAMES];
+
+static void call_walk_dump_ppc64(void)
+{
+    number = fz_walk_dump_ppc64(dump, sizeof dump, BASE, BASE, frames, MOST_FRAMES).answer.number;
+}
+
+static void call_walk_dump_z(void)
+{
+    number = fz_walk_dump_z(dump, sizeof dump, BASE, BASE, frames, MOST_FRAMES).answer.number;
+}
+
+static void call_walk_dump_aix(void)
+{
+    number = fz_walk_dump_aix(dump, sizeof dump, BASE, BASE, frames, MOST_FRAMES).answer.number;
+}
+
 enum {
     VERSION,
     READ_SIGNATURE,
@@ -274,6 +295,9 @@ enum {
     WRITE_REGISTER,
     WRITE_MEMORY,
     LEAVE,
+    WALK_DUMP_PPC64,
+    WALK_DUMP_Z,
+    WALK_DUMP_AIX,
     FUNCTIONS
 };
 
@@ -300,6 +324,9 @@ static struct {
     [WRITE_REGISTER] = {"fz_write_register", call_write_register, 0},
     [WRITE_MEMORY] = {"fz_write_memory", call_write_memory, 0},
     [LEAVE] = {"fz_leave", call_leave, 0},
+    [WALK_DUMP_PPC64] = {"fz_walk_dump_ppc64", call_walk_dump_ppc64, 0},
+    [WALK_DUMP_Z] = {"fz_walk_dump_z", call_walk_dump_z, 0},
+    [WALK_DUMP_AIX] = {"fz_walk_dump_aix", call_walk_dump_aix, 0},
 };
 
 static size_t without_library;
@@ -358,6 +385,21 @@ static void measure_machine(int start)
         measure(LEAVE);
 }
 
+/* The longest chain: a back chain of so many bytes in each frame but the last. */
+static void measure_walk(int walk, size_t word)
+{
+    size_t frame, i;
+
+    memset(dump, 0, sizeof dump);
+    for (frame = 0; frame + 1 < MOST_FRAMES; frame++)
+        for (i = 0; i < word; i++)
+            dump[16 * frame + i] = (uint8_t)((BASE + 16 * (frame + 1)) >> 8 * (word - 1 - i));
+    measure(walk);
+    if (frames[MOST_FRAMES - 1] != BASE + 16 * (MOST_FRAMES - 1))
+        fail("a walk that ends early");
+    frames[MOST_FRAMES - 1] = 0;
+}
+
 int main(void)
 {
     uint8_t convention;
@@ -377,7 +419,10 @@ int main(void)
     measure_machine(START_PPC64);
     measure_machine(START_Z);
     measure_machine(START_AIX);
+    measure_walk(WALK_DUMP_PPC64, 8);
+    measure_walk(WALK_DUMP_Z, 8);
+    measure_walk(WALK_DUMP_AIX, 4);
     for (i = 0; i < FUNCTIONS; i++)
-        printf("%-17s %6lu\n", functions[i].name, (unsigned long)functions[i].most);
+        printf("%-18s %6lu\n", functions[i].name, (unsigned long)functions[i].most);
     return 0;
 }

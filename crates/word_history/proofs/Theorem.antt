@@ -42,7 +42,7 @@ reading-after (writeRegister b n v) m h = ap (machineOf (m .memory)) (write-regi
 reading-after (writeMemory a bs) m h = refl
 reading-after leave m h = ap (machineOf (m .memory)) (leave-state (m .words) (m .memory) h)
 
-answer-read : (c : Call) (m : Lent) → answer c m ≡ states.answer (callIn c) (machineIn m)
+pub answer-read : (c : Call) (m : Lent) → answer c m ≡ states.answer (callIn c) (machineIn m)
 answer-read (enter q) m = refl
 answer-read (writeRegister b n v) m = refl
 answer-read (writeMemory a bs) m = refl

@@ -16,6 +16,7 @@
 //! a code of 0.
 
 mod calls;
+mod dumps;
 mod floats;
 mod machines;
 mod signatures;
@@ -47,6 +48,9 @@ pub enum Operation {
     View = 15,
     Plan = 16,
     StartAix = 17,
+    WalkDumpPpc64 = 18,
+    WalkDumpZ = 19,
+    WalkDumpAix = 20,
     /// No call: the state and the memory that the next calls of the frame machine find.
     SetMachine = 100,
     /// No call: changes of that state and that memory.
@@ -55,7 +59,7 @@ pub enum Operation {
 
 impl Operation {
     /// Those that call the library.
-    pub const CALLS: [Operation; 17] = [
+    pub const CALLS: [Operation; 20] = [
         Operation::ReadSignature,
         Operation::Measure,
         Operation::Listing,
@@ -73,6 +77,9 @@ impl Operation {
         Operation::View,
         Operation::Plan,
         Operation::StartAix,
+        Operation::WalkDumpPpc64,
+        Operation::WalkDumpZ,
+        Operation::WalkDumpAix,
     ];
 
     fn is_call(self) -> bool {
@@ -122,11 +129,13 @@ pub fn all(seed: u64, least: usize) -> Vec<Case> {
     let mut random = Random::new(seed);
     let mut cases = signatures::boundaries();
     cases.extend(floats::boundaries(&mut random));
+    cases.extend(dumps::boundaries(&mut random));
     while count_calls(&cases) < least {
         signatures::some(&mut random, &mut cases);
         floats::some(&mut random, &mut cases);
         machines::some(&mut random, &mut cases);
         calls::some(&mut random, &mut cases);
+        dumps::some(&mut random, &mut cases);
     }
     cases
 }

@@ -6,6 +6,7 @@
 pub mod calls;
 pub mod cases;
 pub mod compiled_calls;
+pub mod dumps;
 pub mod encode;
 pub mod float_bits;
 pub mod generate;

@@ -13,12 +13,14 @@
 
 #![deny(unsafe_code)]
 
+mod dump;
 pub mod machine;
 mod marshal;
 mod plans;
 #[allow(unsafe_code)]
 pub mod surface;
 
+pub use dump::walk_dump;
 pub use marshal::{fill, home, read, view};
 pub use plans::{listing, measure, plan, Argument, Convention, Plan, Register, ResultPlace, Sizes};
 
@@ -32,8 +34,8 @@ use std::fmt;
 pub struct Refusal {
     /// The number of document 01's table; never 0.
     pub number: u64,
-    /// The offset of the faulty item's header or byte in the signature, or 0 for a refusal that
-    /// names no place.
+    /// The offset of the faulty item's header or byte in the signature; in a dump the bad address; or
+    /// 0 for a refusal that names no place.
     pub place: u64,
     /// How far the reading of the signature had come: the headers that had passed their tests of
     /// room, tag and length, without that of the faulty item. 0 for refusal 1, and where the
@@ -112,6 +114,9 @@ impl Refusal {
             24 => "no home or view for this convention, or no argument with this index",
             25 => "a long double on AIX, or a double inside a struct there",
             28 => "an enter above a leaf",
+            30 => "an address in a dump that is not aligned, not inside with its header or not above the one before, or a dump that ends past the last address",
+            31 => "a back chain of over 4,096 frames",
+            32 => "a list that is too short for all frames",
             _ => "a refusal that this version has no words for",
         }
     }
@@ -146,7 +151,7 @@ mod tests {
             place: 0,
             items: 0,
         };
-        for number in (1..=25).chain([28]) {
+        for number in (1..=25).chain([28, 30, 31, 32]) {
             let refusal = Refusal {
                 number,
                 place: 3,

@@ -7,6 +7,7 @@ mod call_picture;
 mod hex;
 mod replay;
 mod stack_picture;
+mod walk;
 
 use flakuzhen::Refusal;
 use std::ffi::{OsStr, OsString};
@@ -19,6 +20,7 @@ usage: flakuzhen list [--hex] [FILE..]
        flakuzhen list --picture [--hex] [FILE..]
        flakuzhen read [--hex] [FILE..]
        flakuzhen replay [--picture] FILE
+       flakuzhen dump [--picture] [--hex] CONVENTION BASE POINTER FILE
 
 list      prints where each argument of each signature goes, and its result
 read      prints a line for each signature with its count of items, 'items N'
@@ -44,13 +46,24 @@ FILE      has one call to a line, and '#' comments; '-' is standard input:
             write mem ADDRESS BYTES     the bytes in hexadecimal
             leave
 
-Exit status: 0 all accepted; 1 a signature or a call was refused; 2 a word, a file or a line
-is wrong.
+dump      follows the back chain in a memory from the stack pointer POINTER on and prints each
+          frame with its size, its back chain and the LR saved in it, on Z r14, the latest
+          first, and 'accepted, N frames'; or those before a bad address, and 'refused
+          NUMBER at PLACE'
+--hex     the memory is hexadecimal text
+--picture draws the frames instead, from the highest address down
+FILE      holds the bytes of the memory, the first at the address BASE; '-' is standard input.
+          CONVENTION is ppc64, z or aix
+
+Exit status: 0 all accepted; 1 something was refused; 2 a word, a file or a line is wrong.
 ";
 
 /// The most that is taken of a file, far above the 16,384 bytes that a signature may have and
 /// enough for the most talkative comments.
 const LARGEST_INPUT: u64 = 1 << 20;
+
+/// The same of a dump.
+const LARGEST_DUMP: u64 = 1 << 30;
 
 fn main() -> ExitCode {
     let words: Vec<OsString> = std::env::args_os().skip(1).collect();
@@ -92,6 +105,7 @@ fn run(words: &[OsString]) -> Result<Outcome, String> {
         }
         Some("read") => Ok(read(&Words::of(rest, &["--hex"])?.signatures()?)),
         Some("replay") => replay_file(&Words::of(rest, &["--picture"])?),
+        Some("dump") => dump_file(&Words::of(rest, &["--hex", "--picture"])?),
         Some("--help" | "-h" | "help") => Ok(Outcome {
             text: USAGE.to_string(),
             status: 0,
@@ -139,8 +153,21 @@ fn replay_file(words: &Words) -> Result<Outcome, String> {
     let [file] = words.files[..] else {
         return Err("replay takes one FILE ('-' is standard input)".to_string());
     };
-    let text = input(file, false)?;
+    let text = input(file, false, LARGEST_INPUT)?;
     replay::replay(&text, words.has("--picture")).map_err(|fault| told_of(file, fault))
+}
+
+fn dump_file(words: &Words) -> Result<Outcome, String> {
+    let [convention, base, pointer, file] = words.files[..] else {
+        return Err("dump takes CONVENTION BASE POINTER FILE ('-' is standard input)".to_string());
+    };
+    let dump = walk::Dump {
+        convention: replay::parse_convention(&convention.to_string_lossy())?,
+        base: replay::parse_number(&base.to_string_lossy())?,
+        pointer: replay::parse_number(&pointer.to_string_lossy())?,
+        memory: input(file, words.has("--hex"), LARGEST_DUMP)?,
+    };
+    Ok(walk::print(dump, words.has("--picture")))
 }
 
 /// The words after a command.
@@ -174,9 +201,12 @@ impl<'a> Words<'a> {
     fn signatures(&self) -> Result<Vec<Vec<u8>>, String> {
         let as_hex = self.has("--hex");
         if self.files.is_empty() {
-            return Ok(vec![input(OsStr::new("-"), as_hex)?]);
+            return Ok(vec![input(OsStr::new("-"), as_hex, LARGEST_INPUT)?]);
         }
-        self.files.iter().map(|file| input(file, as_hex)).collect()
+        let files = self.files.iter();
+        files
+            .map(|file| input(file, as_hex, LARGEST_INPUT))
+            .collect()
     }
 }
 
@@ -188,12 +218,12 @@ fn told_of(file: &OsStr, fault: String) -> String {
     }
 }
 
-/// What a file holds.
-fn input(file: &OsStr, as_hex: bool) -> Result<Vec<u8>, String> {
+/// What a file of at most so many bytes holds.
+fn input(file: &OsStr, as_hex: bool, largest: u64) -> Result<Vec<u8>, String> {
     let told = |fault| told_of(file, fault);
-    let bytes = bytes_of(file).map_err(|fault| told(fault.to_string()))?;
-    if bytes.len() as u64 > LARGEST_INPUT {
-        return Err(told(format!("over {LARGEST_INPUT} bytes")));
+    let bytes = bytes_of(file, largest).map_err(|fault| told(fault.to_string()))?;
+    if bytes.len() as u64 > largest {
+        return Err(told(format!("over {largest} bytes")));
     }
     if as_hex {
         return hex::decode(&bytes).map_err(told);
@@ -202,15 +232,13 @@ fn input(file: &OsStr, as_hex: bool) -> Result<Vec<u8>, String> {
 }
 
 /// The file's bytes, cut just above the largest input.
-fn bytes_of(file: &OsStr) -> io::Result<Vec<u8>> {
+fn bytes_of(file: &OsStr, largest: u64) -> io::Result<Vec<u8>> {
     let mut bytes = Vec::new();
     if file == "-" {
-        io::stdin()
-            .take(LARGEST_INPUT + 1)
-            .read_to_end(&mut bytes)?;
+        io::stdin().take(largest + 1).read_to_end(&mut bytes)?;
     } else {
         File::open(file)?
-            .take(LARGEST_INPUT + 1)
+            .take(largest + 1)
             .read_to_end(&mut bytes)?;
     }
     Ok(bytes)

@@ -152,13 +152,17 @@ fn parse_call(word: &str, values: &[&str]) -> Result<(String, Call), String> {
     }
 }
 
+pub fn parse_convention(word: &str) -> Result<Convention, String> {
+    match word {
+        "ppc64" => Ok(Convention::Ppc64),
+        "z" => Ok(Convention::Z),
+        "aix" => Ok(Convention::Aix),
+        _ => Err(format!("{word:?} is no convention: ppc64, z or aix")),
+    }
+}
+
 fn parse_start(convention: &str, size: &str, base: &str) -> Result<Call, String> {
-    let convention = match convention {
-        "ppc64" => Convention::Ppc64,
-        "z" => Convention::Z,
-        "aix" => Convention::Aix,
-        _ => return Err(format!("{convention:?} is no convention: ppc64, z or aix")),
-    };
+    let convention = parse_convention(convention)?;
     let size = parse_number(size)?;
     if size > LARGEST_MEMORY {
         return Err(format!("a memory of over {LARGEST_MEMORY} bytes"));
@@ -234,7 +238,7 @@ fn parse_write_memory(address: &str, groups: &[&str]) -> Result<Call, String> {
 }
 
 /// A number of 64 bits, decimal or from `0x` on hexadecimal.
-fn parse_number(word: &str) -> Result<u64, String> {
+pub fn parse_number(word: &str) -> Result<u64, String> {
     let (digits, radix) = match word.strip_prefix("0x") {
         Some(digits) => (digits, 16),
         None => (word, 10),

@@ -3,6 +3,7 @@
 //! code. Nothing but the tests holds the declarations here to the library's, so they are kept next
 //! to each other.
 
+pub mod dump;
 pub mod machine;
 pub mod marshal;
 pub mod plans;

@@ -1,5 +1,6 @@
 //! The command in C for other machines (`targets/flakuzhen.c`), compiled for this one and held to
-//! the Rust command: the same output, the same messages, the same exit status. It has no pictures.
+//! the Rust command: the same output, the same messages, the same exit status. It has no pictures and
+//! walks no dumps.
 
 mod support;
 
@@ -448,22 +449,38 @@ fn pictures_are_refused_in_one_line() {
 }
 
 #[test]
-fn its_help_is_the_rust_commands_but_for_the_pictures() {
+fn dumps_are_refused_in_one_line() {
+    for words in [&["dump"][..], &["dump", "ppc64", "0", "0", "-"]] {
+        let output = run(in_c(), words, b"");
+        let said = "flakuzhen: dump: dumps are walked by the Rust command alone\n";
+        assert_eq!(String::from_utf8_lossy(&output.stderr), said);
+        assert!(output.stdout.is_empty());
+        assert_eq!(output.status.code(), Some(2));
+    }
+}
+
+#[test]
+fn its_help_is_the_rust_commands_but_for_pictures_and_dumps() {
     for asked in ["--help", "-h", "help"] {
         let rust = run(Path::new(env!("CARGO_BIN_EXE_flakuzhen")), &[asked], b"");
         let known = String::from_utf8(rust.stdout).expect("text");
+        // a dump has its own part
+        let parts = known
+            .split("\n\n")
+            .filter(|part| !part.starts_with("dump "));
+        let known = parts.collect::<Vec<&str>>().join("\n\n");
         let mut expected = String::new();
         let mut lines = known.lines();
         while let Some(line) = lines.next() {
             if line.starts_with("--picture ") {
                 // it has two lines
                 lines.next();
-            } else if !line.contains("list --picture") {
+            } else if !line.contains("list --picture") && !line.contains("flakuzhen dump") {
                 expected += &line.replace("[--picture] ", "");
                 expected += "\n";
             }
         }
-        expected += "\nPictures (--picture) are drawn by the Rust command alone.\n";
+        expected += "\nPictures (--picture) are drawn, and dumps walked (dump), by the Rust command alone.\n";
         let output = run(in_c(), &[asked], b"");
         assert_eq!(String::from_utf8_lossy(&output.stdout), expected);
         assert_eq!(output.status.code(), Some(0));

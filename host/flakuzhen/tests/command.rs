@@ -460,3 +460,99 @@ fn replay_takes_one_file() {
         "over 1048576 bytes",
     );
 }
+
+/// Runs the dump of an example, with the words that its first line has.
+fn run_dump(dump: &Path, more: &[&str]) -> Output {
+    let text = std::fs::read_to_string(dump).expect("the dump");
+    let line = text.lines().next().expect("its first line");
+    let line = line.strip_prefix("# flakuzhen ").expect("a command");
+    let (words, name) = line.rsplit_once(' ').expect("its file");
+    assert_eq!(Some(OsStr::new(name)), dump.file_name());
+    let words = words.split(' ').chain(more.iter().copied());
+    let words: Vec<&OsStr> = words.map(OsStr::new).chain([dump.as_os_str()]).collect();
+    run(&words, b"")
+}
+
+#[test]
+fn walks_the_examples() {
+    let folder = Path::new(env!("CARGO_MANIFEST_DIR")).join("../../examples/dumps");
+    let mut walked = 0;
+    for entry in std::fs::read_dir(folder).expect("the folder of dumps") {
+        let dump = entry.expect("an entry").path();
+        if dump.extension() != Some(OsStr::new("hex")) {
+            continue;
+        }
+        let text = stored(&dump, "out");
+        let status = i32::from(text.contains("\nrefused "));
+        prints(&run_dump(&dump, &[]), status, &text);
+        let picture = stored(&dump, "picture");
+        prints(&run_dump(&dump, &["--picture"]), status, &picture);
+        walked += 1;
+    }
+    assert_eq!(walked, 3);
+}
+
+#[test]
+fn walks_bytes_from_standard_input() {
+    let one = "1 0x0: back chain 0x0, saved lr 0x0\naccepted, 1 frame\n";
+    prints(&run(&["dump", "ppc64", "0", "0", "-"], &[0; 48]), 0, one);
+    let short = "refused 30 at 0x0\n";
+    prints(
+        &run(&["dump", "ppc64", "0", "0x0", "-"], &[0; 47]),
+        1,
+        short,
+    );
+    prints(
+        &run(&["dump", "--picture", "z", "0", "0", "-"], b""),
+        1,
+        short,
+    );
+    let end = "refused 30 at 0xffffffffffffffff\n";
+    let top = "18446744073709551615";
+    prints(&run(&["dump", "aix", top, "0", "-"], b"0"), 1, end);
+    prints(
+        &run(&["dump", "--hex", "aix", top, top, "-"], b"00 # one"),
+        1,
+        end,
+    );
+    // 4,097 frames of 16 bytes: those before the last are shown
+    let chain = (1..=4097u64).flat_map(|n| [16 * n % (16 * 4097), 0]);
+    let memory: Vec<u8> = chain.flat_map(u64::to_be_bytes).chain([0; 32]).collect();
+    let output = run(&["dump", "ppc64", "0", "0", "-"], &memory);
+    let text = String::from_utf8_lossy(&output.stdout);
+    assert!(text.ends_with("\n4096 0xfff0: back chain 0x10000, saved lr 0x0\nrefused 31 at 0x0\n"));
+    assert_eq!(output.status.code(), Some(1));
+    let output = run(&["dump", "ppc64", "0", "16", "-"], &memory);
+    assert!(output.stdout.ends_with(b"\naccepted, 4096 frames\n"));
+}
+
+#[test]
+fn dump_takes_four_words() {
+    let memory = [0; 160];
+    let takes = "dump takes CONVENTION BASE POINTER FILE";
+    complains(&run(&["dump"], &memory), takes);
+    complains(&run(&["dump", "z", "0", "0"], &memory), takes);
+    complains(&run(&["dump", "z", "0", "0", "-", "-"], &memory), takes);
+    let none = "\"Z\" is no convention: ppc64, z or aix";
+    complains(&run(&["dump", "Z", "0", "0", "-"], &memory), none);
+    complains(
+        &run(&["dump", "z", "x", "0", "-"], &memory),
+        "\"x\" is no number",
+    );
+    complains(
+        &run(&["dump", "z", "0", "0x", "-"], &memory),
+        "\"0x\" is no number",
+    );
+    complains(
+        &run(&["dump", "z", "0", "0", "not-there"], b""),
+        "\"not-there\"",
+    );
+    complains(
+        &run(&["dump", "--hax", "z", "0", "0", "-"], b""),
+        "\"--hax\"",
+    );
+    complains(
+        &run(&["dump", "--hex", "z", "0", "0", "-"], b"0"),
+        "half a byte",
+    );
+}

@@ -84,6 +84,10 @@ WORD(fz_machine, depth, 3);
 WORD(fz_machine, registers, 4);
 WORD(fz_machine, frames, 70);
 
+SIZE(fz_walked, 4);
+WORD(fz_walked, answer, 0);
+WORD(fz_walked, count, 3);
+
 int main(void)
 {
     return 0;

@@ -212,11 +212,47 @@ static void check_aix(void)
     CHECK(answers(fz_leave(&machine, memory, LENGTH), FZ_BAD_STATE));
 }
 
+/* the walk of each convention's dump: a frame and the start, on a machine that was just entered */
+static void check_walk(int convention)
+{
+    static const fz_frame request = {32, 32, 0, 0, 0, 0}, request_z = {14, 16, 0, 0, 0, 0};
+    uint64_t list[3] = {1, 2, 3}, pointer;
+    fz_walked (*walk)(const uint8_t *, size_t, uint64_t, uint64_t, uint64_t *, size_t) =
+        convention == 1   ? fz_walk_dump_ppc64
+        : convention == 2 ? fz_walk_dump_z
+                          : fz_walk_dump_aix;
+    fz_walked walked;
+
+    hand_in_registers();
+    CHECK(answers((convention == 1   ? fz_start_ppc64
+                   : convention == 2 ? fz_start_z
+                                     : fz_start_aix)(&machine, &registers, BASE, memory, LENGTH),
+                  FZ_ACCEPTED));
+    CHECK(answers(fz_enter(&machine, convention == 2 ? &request_z : &request, memory, LENGTH),
+                  FZ_ACCEPTED));
+    pointer = machine.registers.gpr[convention == 2 ? 15 : 1];
+
+    walked = walk(memory, LENGTH, BASE, pointer, list, 1);
+    CHECK(answers(walked.answer, FZ_LIST_TOO_SHORT) && walked.count == 0 && list[0] == 1);
+    walked = walk(memory, LENGTH, BASE, pointer, list, 3);
+    CHECK(answers(walked.answer, FZ_ACCEPTED) && walked.count == 2);
+    CHECK(list[0] == pointer && list[2] == 3);
+    CHECK(list[1] == BASE + LENGTH - (convention == 1 ? 112 : convention == 2 ? 160 : 64));
+    walked = walk(memory, LENGTH, BASE, pointer + 4, list, 3);
+    CHECK(walked.answer.number == FZ_BAD_ADDRESS && walked.answer.place == pointer + 4);
+    walked = walk(memory, LENGTH, UINT64_MAX - LENGTH + 1, pointer, list, 3);
+    CHECK(walked.answer.number == FZ_BAD_ADDRESS);
+    CHECK(walked.answer.place == UINT64_MAX - LENGTH + 1 && walked.count == 0);
+}
+
 int main(void)
 {
     check_ppc64();
     check_leaf();
     check_z();
     check_aix();
+    check_walk(1);
+    check_walk(2);
+    check_walk(3);
     return wrong;
 }

@@ -6,6 +6,7 @@
 #![forbid(unsafe_code)]
 
 pub mod compact;
+pub mod dump;
 pub mod float_bits;
 mod listing;
 pub mod machine;

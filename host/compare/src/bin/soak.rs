@@ -6,7 +6,7 @@
 
 use compare::calls::Operation;
 use compare::random::Random;
-use compare::{float_bits, machine_lists, marshal, plans, signatures, Difference};
+use compare::{dumps, float_bits, machine_lists, marshal, plans, signatures, Difference};
 use reference::Convention;
 use std::fmt;
 use std::io::{self, IsTerminal, Write};
@@ -21,6 +21,8 @@ const CALLS: u64 = 2_000;
 const SINGLES: u64 = 50_000;
 const LISTS: u64 = 500;
 const STATES: u64 = 2_000;
+/// Of each convention.
+const DUMPS: u64 = 1_000;
 /// How often it tells how far it is, where that is no terminal.
 const PACE: Duration = Duration::from_secs(60);
 
@@ -61,11 +63,12 @@ struct Cases {
     calls: u64,
     floats: u64,
     machine_calls: u64,
+    walks: u64,
 }
 
 impl Cases {
     fn total(&self) -> u64 {
-        self.signatures + self.plans + self.calls + self.floats + self.machine_calls
+        self.signatures + self.plans + self.calls + self.floats + self.machine_calls + self.walks
     }
 }
 
@@ -77,11 +80,12 @@ impl fmt::Display for Cases {
             calls,
             floats,
             machine_calls,
+            walks,
         } = self;
         write!(
             to,
             "{signatures} signatures, {plans} plans, {calls} calls, {floats} float conversions, \
-             {machine_calls} machine calls"
+             {machine_calls} machine calls, {walks} walks of dumps"
         )
     }
 }
@@ -166,5 +170,6 @@ fn round(seed: u64, done: &mut Cases) -> Result<(), Difference> {
     done.machine_calls += machine_lists::run_nonsense(seed, STATES)
         .map_err(told)?
         .calls;
+    done.walks += dumps::run(seed, DUMPS).map_err(told)?.walks;
     Ok(())
 }

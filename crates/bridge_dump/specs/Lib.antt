@@ -1,0 +1,2 @@
+-- What the exported walks of a dump answer. Assumes nothing.
+pub mod Dump

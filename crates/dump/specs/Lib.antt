@@ -1,0 +1,3 @@
+-- The walk of a dump, and what an accepted one says. Assumes nothing.
+pub mod Walk
+pub mod Chain

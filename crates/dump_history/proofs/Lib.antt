@@ -1,0 +1,4 @@
+pub mod Pointers
+pub mod Chains
+pub mod Walking
+pub mod Theorem

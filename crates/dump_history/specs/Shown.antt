@@ -1,0 +1,51 @@
+-- What the walk of a machine's memory shows. Document 02, No. 13: "For a machine under demand 3's premises, without leaves on it, the walk of its memory from its current
+-- pointer, into a slice long enough, shows exactly its entered frames and the start." `WalkShows` is the claim with all that it asks for, of which `walk-shows` in
+-- proofs/Theorem.antt is a value. The calls are the exported ones, on words and memory (crates/word_history/specs/Calls.antt), and which enters are open is told from them
+-- and their answers, as in demand 3. Assumes nothing.
+use Prim.Native.Nat.{ℕ, suc, _≤_}
+use mathlib.Core.Path.{_≡_}
+use mathlib.Core.Bool.{false}
+use mathlib.Core.List.{List, [], _∷_}
+use lib.ListN.{length}
+use Rattle.conventions.specs.declared.Convention.{Convention}
+use Rattle.rules.specs.declared.Rules.{Rules}
+use Rattle.rules.specs.Rules.{rules}
+use Rattle.machine.specs.declared.Answer.the-variants.{Accepted}
+use Rattle.machine.specs.Machine.{stackPointer, startOutcome}
+use Rattle.word_layout.specs.Words.{registersIn, stateIn}
+use Rattle.history.specs.Calls as states
+use Rattle.history.specs.Preserved.{OpenEnter, openAfter, callerOf, CallsFit}
+use Rattle.word_history.specs.Calls.{Call, Lent, answer, after, fresh}
+use Rattle.word_history.specs.Demand3.{machineIn, callIn, callsIn, WordsFit}
+use Rattle.dump.specs.Walk.{Walked, frames, walkInto}
+
+-- what a list of calls leaves in the words and in the memory
+abbrev pub run : List Call → Lent → Lent
+run [] m = m
+run (c ∷ cs) m = run cs (after c m)
+
+-- the enters that are open after it, with the enters os open before it
+abbrev pub opened : List Call → List OpenEnter → Lent → List OpenEnter
+opened [] os m = os
+opened (c ∷ cs) os m = opened cs (openAfter (callIn c) (answer c m) (machineIn m) os) (after c m)
+
+-- the address of the frame that an enter opened: the stack pointer just after it
+abbrev pub frameAddress : Rules → OpenEnter → ℕ
+frameAddress k o = stackPointer k (states.after (states.enter (o .request)) (o .before) .state)
+
+-- "its entered frames and the start", whose stack pointer is p: the latest first
+abbrev pub shown : Rules → List OpenEnter → ℕ → List ℕ
+shown k [] p = p ∷ []
+shown k (o ∷ os) p = frameAddress k o ∷ shown k os p
+
+-- the stack pointer of a machine
+abbrev pub pointerIn : Rules → Lent → ℕ
+pointerIn k m = stackPointer k (stateIn (m .words))
+
+-- NO. 13. In each convention, from each accepted start, after every list of exported calls; the premises are those of `Demand3`. No enter is accepted above a leaf, so only
+-- the latest open enter can be one of a leaf. n is the length of the slice; what `fz_walk_dump_ppc64`, `_z` and `_aix` answer and write is told by `walkInto`.
+abbrev pub WalkShows : Type 0
+WalkShows = (c : Convention) (b : ℕ) (l rs : List ℕ) → WordsFit 66 rs → startOutcome c b (length l) (registersIn rs 0) .answer ≡ Accepted → (cs : List Call) → CallsFit (callsIn cs)
+    → callerOf (rules c) (opened cs [] (fresh c b l rs)) .leaf ≡ false → (n : ℕ) → suc (length (opened cs [] (fresh c b l rs))) ≤ n
+    → walkInto (rules c) (stateIn (run cs (fresh c b l rs) .words) .base) (run cs (fresh c b l rs) .memory) (pointerIn (rules c) (run cs (fresh c b l rs))) n
+    ≡ frames (shown (rules c) (opened cs [] (fresh c b l rs)) (pointerIn (rules c) (fresh c b l rs)))
