@@ -28,7 +28,7 @@ use Rattle.signature.specs.declared.HeadRead.{HeadRead}
 use Rattle.signature.specs.Signature.{Result, Head}
 use Rattle.signature.specs.Read.{conventionAt, resultAt, argumentsIn, signatureOf, headBy, headAfter, headOf}
 use Rattle.signature.specs.Encode.{encodeResult}
-use Rattle.signature.specs.Answer.{headAnswer}
+use Rattle.signature.specs.Answer.{resultType, headAnswer}
 use Rattle.signature.proofs.Laws.{head-got, thenArguments, afterHead, signature-head}
 use Rattle.signature.proofs.Loop.{Turn, turn-start, turn-last}
 use Rattle.signature.proofs.Sound.{convention-read, result-read}
@@ -55,9 +55,10 @@ head-starts s = by-choose (Got Starts) (ltb maxLength (length s)) _ _ (λ _. tt)
     go c at n first r next m second (Body.To b) = omega (arith, convention-read s c at n first .ends, result-read c s at r next m second .ends)
     go c at n first r next m second (Body.Refused x) = tt
 
--- the whole, from its head on: the result's tree is gone but for the length of its encoding
+-- the whole, from its head on: the result's tree is gone but for its type and the length of its encoding
 pub record Begun (s : List ℕ) (c : Convention) (t : ResultType) (at b n : ℕ) : Type 0 where
   pub result : Result
+  pub same : t ≡ resultType c result
   pub starts : at ≡ 10 + length (encodeResult result)
   pub whole : signatureOf s ≡ thenArguments s c result n (argumentsIn c s at b)
 
@@ -66,6 +67,7 @@ begun s x found c t at b n q =
     let (r, read, same) = head-got (headOf s) c t at b n (sym q ∙ found) in
     record {
       result = r;
+      same = same;
       starts = rw read at (head-starts s);
       whole = signature-head s ∙ ap (λ (y : Reading Head). andThen y (afterHead s)) read;
     }

@@ -204,6 +204,17 @@ impl<'a> Reader<'a> {
     }
 }
 
+// The type item at `at`, by a reader of the part up to `end`: for callers that keep bytes and place themselves.
+pub fn type_of_part(s: &[u8], at: usize, end: usize, c: Convention) -> ItemRead
+    ensures { λ r. ⌜ r ≡ itemAnswer c (typeIn c (now (s .entry)) at end) ⌝ }
+{
+    Reader {
+        signature: s,
+        at,
+        end,
+    }.type_item(c)
+}
+
 // What is known of argument number `index` after argument number `count`, of this type and at this place.
 fn noted(
     found: ArgumentRead,
