@@ -20,13 +20,11 @@ use Rattle.items.specs.Read.{itemAt}
 use Rattle.items.specs.Answer.{itemAnswer}
 use Rattle.items.specs.Encode.{encodeTrees}
 use Rattle.items.proofs.Loop.{item-answered}
-use Rattle.signature.specs.Limits.{maxLength, maxArguments}
+use Rattle.signature.specs.Limits.{maxArguments}
 use Rattle.signature.specs.declared.Outcome.{Outcome}
 use Rattle.signature.specs.declared.ResultType.{ResultType}
 use Rattle.signature.specs.Read.{argumentsIn}
 use Rattle.signature.proofs.Loop.{Turn, turn-start, turn-last}
-use Rattle.reader.specs.Step.{typeIn}
-use Rattle.reader.proofs.Arguments.{type-is}
 use Rattle.reader.proofs.Found.{further}
 use Rattle.places.specs.declared.Cursor.{Cursor}
 use Rattle.places.specs.declared.Span.{Span}
@@ -55,11 +53,6 @@ same-span c p q = cc
 
 same-next : (c : Convention) {k l : Cursor} {t u : ValueType} → k ≡ l → t ≡ u → nextOf (rulesOf c) k t (sizeOf c t) ≡ nextOf (rulesOf c) l u (sizeOf c u)
 same-next c p q = cc
-
--- a reader of the part up to e finds there what the whole reading finds
-pub part-read : (c : Convention) (s : List ℕ) (at e : ℕ) → length s ≤ maxLength → e ≤ length s → (x : ItemRead) → x ≡ itemAnswer c (typeIn c s at e) →
-    x ≡ itemAnswer c (itemAt c 8 s e at)
-part-read c s at e short within x found = found ∙ ap (itemAnswer c) (type-is c s e 0 short within at)
 
 -- reading on from here gives all arguments; the entries of those so far are put over what was there, l
 pub record Keeping (c : Convention) (s : List ℕ) (at e : ℕ) (r : ResultType) (l : List ℕ) (k : Cursor) (kept : List ℕ) (v count next n : ℕ) : Type 0 where

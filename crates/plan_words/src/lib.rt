@@ -80,7 +80,7 @@ fn plan_arguments(
                 passed: earlier + items,
             });
         }
-        match reader::type_of_part(sig, next, end, convention) {
+        match nested_items::read_item(sig, convention, next, end, 8) {
             ItemRead::Item {
                 ty,
                 next: after,

@@ -33,7 +33,9 @@ use Rattle.signature.proofs.Laws.{head-got, thenArguments, afterHead, signature
 use Rattle.signature.proofs.Loop.{Turn, turn-start, turn-last}
 use Rattle.signature.proofs.Sound.{convention-read, result-read}
 use Rattle.reader.specs.declared.ArgumentRead.{ArgumentRead}
+use Rattle.reader.specs.Step.{typeIn}
 use Rattle.reader.specs.Argument.{argumentIn, argumentAnswer, argumentWith, notedAs}
+use Rattle.reader.proofs.Arguments.{type-is}
 
 -- ---- where the arguments' items start
 
@@ -101,6 +103,11 @@ further c s at e ts count next n turn ends h some x found t after j q =
       };
       ends = let r = item-read c 8 s e next tree after j read in omega (arith, ends, r .ends, length-append (encodeTrees ts) (encodeTree tree));
     }
+
+-- a reader of the arguments' part finds what the whole reading finds there
+pub part-read : (c : Convention) (s : List ℕ) (at e : ℕ) → length s ≤ maxLength → e ≤ length s → (x : ItemRead) → x ≡ itemAnswer c (typeIn c s at e) →
+    x ≡ itemAnswer c (itemAt c 8 s e at)
+part-read c s at e short within x found = found ∙ ap (itemAnswer c) (type-is c s e 0 short within at)
 
 -- ---- one of the arguments
 

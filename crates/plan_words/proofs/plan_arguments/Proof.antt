@@ -13,7 +13,7 @@ use Rattle.plan.specs.Plan.{refused}
 use Rattle.plan.proofs.Fold.{reached-roomy}
 use Rattle.plan_entries.specs.Words.{tabled}
 use Rattle.plan_words.specs.Planned.{plannedOf}
-use Rattle.plan_words.proofs.Turns.{part-read, Keeping, keeping-start, keeping-more, keeping-length, plan-no, rows-no, plan-trailing, rows-trailing, plan-end, rows-end, small-end}
+use Rattle.plan_words.proofs.Turns.{Keeping, keeping-start, keeping-more, keeping-length, plan-no, rows-no, plan-trailing, rows-trailing, plan-end, rows-end, small-end}
 use Rattle.plan_words.proofs.plan_arguments.Statement.{statement}
 use Rattle.plan_words.proofs.plan_arguments.Tie as tie
 
@@ -50,8 +50,8 @@ returns c =
     let full = turn-full _ _ _ _ _ _ _ _ (c .before .before .before .loop .inv .turn) (c .before .before .loop-test .taken) (c .before .if1 .taken) in
     (c .no-plan .ensures ∙ plan-no _ _ _ _ _ _ _ full, rows-no _ _ _ _ _ (c .before .before .before .before .before .before .before .before .before .before .args .earlier) _ full _)
 
-type-of-part-requires : tie.Need-type-of-part-requires Inv-loop μ-loop
-type-of-part-requires c κs = search needs
+read-item-requires : tie.Need-read-item-requires Inv-loop μ-loop
+read-item-requires c κs = omega arith
 
 enum-known-ty : tie.Need-enum-known-ty Inv-loop μ-loop
 enum-known-ty c = search needs
@@ -61,8 +61,7 @@ size-of-requires c κs = search needs
 
 step-requires : tie.Need-step-requires Inv-loop μ-loop
 step-requires c κs =
-    let found = part-read _ _ _ _ (c .before .before .before .before .before .before .before .before .before .before .before .before .before .before .pre .2) (c .before .before .before .before .before .before .before .before .before .before .before .before .before .before .pre .1) _ (c .before .before .before .before .type-of-part .ensures) in
-    let a = item-answered _ _ _ _ _ _ _ _ _ (omega arith) found (c .before .before .ty .given .1) in
+    let a = item-answered _ _ _ _ _ _ _ _ _ (omega arith) (c .before .before .before .before .read-item .ensures) (c .before .before .ty .given .1) in
     let m = c .before .before .before .before .before .before .before .loop .inv in (
       rw (c .before .before .before .before .before .before .before .before .before .before .call-rules-of .ensures) (rules-lawful (c .before .before .before .before .before .before .before .before .before .before .before .before .before .before .args .convention)),
       reached-roomy _ _ _ _ (omega (arith, m .turn .few)) (m .reached),
@@ -71,8 +70,7 @@ step-requires c κs =
 
 keep-entry-requires : tie.Need-keep-entry-requires Inv-loop μ-loop
 keep-entry-requires c κs =
-    let found = part-read _ _ _ _ (c .before .before .before .before .before .before .before .before .before .before .before .before .before .before .before .before .before .pre .2) (c .before .before .before .before .before .before .before .before .before .before .before .before .before .before .before .before .before .pre .1) _ (c .before .before .before .before .before .before .before .type-of-part .ensures) in
-    let a = item-answered _ _ _ _ _ _ _ _ _ (omega arith) found (c .before .before .before .before .before .ty .given .1) in
+    let a = item-answered _ _ _ _ _ _ _ _ _ (omega arith) (c .before .before .before .before .before .before .before .read-item .ensures) (c .before .before .before .before .before .ty .given .1) in
     let m = c .before .before .before .before .before .before .before .before .before .before .loop .inv in
     let room = c .before .before .before .before .before .before .before .before .before .before .before .before .before .before .before .before .before .pre .5 (c .before .before .before .before .before .before .before .before .before .before .loop .count + 1) (omega (arith, m .turn .few, c .before .before .before .before .before .before .before .before .if1 .left)) (omega (arith, m .apart, a .on, a .inside)) in (
       omega (arith, room, keeping-length _ _ _ _ _ _ _ _ _ _ _ _ m),
@@ -83,8 +81,7 @@ keep-entry-requires c κs =
 
 add-values : tie.Need-add-values Inv-loop μ-loop
 add-values c =
-    let found = part-read _ _ _ _ (c .before .before .before .before .before .before .before .before .before .before .before .before .before .before .before .before .before .before .before .before .before .pre .2) (c .before .before .before .before .before .before .before .before .before .before .before .before .before .before .before .before .before .before .before .before .before .pre .1) _ (c .before .before .before .before .before .before .before .before .before .before .before .type-of-part .ensures) in
-    let a = item-answered _ _ _ _ _ _ _ _ _ (omega arith) found (c .before .before .before .before .before .before .before .before .before .ty .given .1) in
+    let a = item-answered _ _ _ _ _ _ _ _ _ (omega arith) (c .before .before .before .before .before .before .before .before .before .before .before .read-item .ensures) (c .before .before .before .before .before .before .before .before .before .ty .given .1) in
     let m = c .before .before .before .before .before .before .before .before .before .before .before .before .before .before .loop .inv in
     omega (arith, a .sized .small, m .reached .small, m .turn .few, c .before .before .before .before .before .before .before .size-of .ensures)
 
@@ -93,23 +90,20 @@ add-count c = omega (arith, c .before .before .before .before .before .before .b
 
 add-items : tie.Need-add-items Inv-loop μ-loop
 add-items c =
-    let found = part-read _ _ _ _ (c .before .before .before .before .before .before .before .before .before .before .before .before .before .before .before .before .before .before .before .before .before .pre .2) (c .before .before .before .before .before .before .before .before .before .before .before .before .before .before .before .before .before .before .before .before .before .pre .1) _ (c .before .before .before .before .before .before .before .before .before .before .before .type-of-part .ensures) in
-    let a = item-answered _ _ _ _ _ _ _ _ _ (omega arith) found (c .before .before .before .before .before .before .before .before .before .ty .given .1) in
+    let a = item-answered _ _ _ _ _ _ _ _ _ (omega arith) (c .before .before .before .before .before .before .before .before .before .before .before .read-item .ensures) (c .before .before .before .before .before .before .before .before .before .ty .given .1) in
     let turn = c .before .before .before .before .before .before .before .before .before .before .before .before .before .before .loop .inv .turn in
     omega (arith, turn .third, turn .within, a .third, a .inside, c .before .before .before .before .before .before .before .before .before .before .before .before .before .before .before .before .before .before .before .before .before .pre .1, c .before .before .before .before .before .before .before .before .before .before .before .before .before .before .before .before .before .before .before .before .before .pre .2)
 
 loop-less : tie.Need-loop-less Inv-loop μ-loop
 loop-less c =
-    let found = part-read _ _ _ _ (c .before .before .before .before .before .before .before .before .before .before .before .before .before .before .before .before .before .before .before .before .before .pre .2) (c .before .before .before .before .before .before .before .before .before .before .before .before .before .before .before .before .before .before .before .before .before .pre .1) _ (c .before .before .before .before .before .before .before .before .before .before .before .type-of-part .ensures) in
-    let a = item-answered _ _ _ _ _ _ _ _ _ (omega arith) found (c .before .before .before .before .before .before .before .before .before .ty .given .1) in
+    let a = item-answered _ _ _ _ _ _ _ _ _ (omega arith) (c .before .before .before .before .before .before .before .before .before .before .before .read-item .ensures) (c .before .before .before .before .before .before .before .before .before .ty .given .1) in
     omega (arith, a .on, a .inside)
 
 loop-again : tie.Need-loop-again Inv-loop μ-loop
 unfolding placed
 loop-again c =
-    let found = part-read _ _ _ _ (c .before .before .before .before .before .before .before .before .before .before .before .before .before .before .before .before .before .before .before .before .before .pre .2) (c .before .before .before .before .before .before .before .before .before .before .before .before .before .before .before .before .before .before .before .before .before .pre .1) _ (c .before .before .before .before .before .before .before .before .before .before .before .type-of-part .ensures) in
     rw (c .before .before .before .keep-entry .ensures, c .before .before .before .before .before .before .step .ensures, c .before .before .before .before .before .before .before .size-of .ensures, c .before .before .before .before .before .before .before .before .before .before .before .before .before .before .before .before .before .call-rules-of .ensures)
-    (keeping-more _ _ _ _ _ _ _ _ _ _ _ _ (c .before .before .before .before .before .before .before .before .before .before .before .before .before .before .loop .inv) (c .before .before .before .before .before .before .before .before .before .before .before .before .before .loop-test .taken) (c .before .before .before .before .before .before .before .before .before .before .before .before .if1 .left) _ found _ _ _ (c .before .before .before .before .before .before .before .before .before .ty .given .1))
+    (keeping-more _ _ _ _ _ _ _ _ _ _ _ _ (c .before .before .before .before .before .before .before .before .before .before .before .before .before .before .loop .inv) (c .before .before .before .before .before .before .before .before .before .before .before .before .before .loop-test .taken) (c .before .before .before .before .before .before .before .before .before .before .before .before .if1 .left) _ (c .before .before .before .before .before .before .before .before .before .before .before .read-item .ensures) _ _ _ (c .before .before .before .before .before .before .before .before .before .ty .given .1))
 
 enum-known-fault : tie.Need-enum-known-fault Inv-loop μ-loop
 enum-known-fault c = search needs
@@ -119,8 +113,7 @@ add-later-by c = omega (arith, c .before .before .before .before .before .before
 
 later-by-requires : tie.Need-later-by-requires Inv-loop μ-loop
 later-by-requires c κs =
-    let found = part-read _ _ _ _ (c .before .before .before .before .before .before .before .before .before .before .before .before .before .pre .2) (c .before .before .before .before .before .before .before .before .before .before .before .before .before .pre .1) _ (c .before .before .before .type-of-part .ensures) in
-    let a = fault-answered _ _ _ _ _ _ _ (omega arith) found (c .before .fault .given .1) in
+    let a = fault-answered _ _ _ _ _ _ _ (omega arith) (c .before .before .before .read-item .ensures) (c .before .fault .given .1) in
     omega (arith, a, c .before .before .before .before .before .before .loop .inv .turn .third, c .before .before .before .before .before .before .loop .inv .turn .within)
 
 no-plan-requires-2 : tie.Need-no-plan-requires-2 Inv-loop μ-loop
@@ -131,8 +124,7 @@ same-length-2 c = keeping-length _ _ _ _ _ _ _ _ _ _ _ _ (c .before .before .bef
 
 returns-2 : tie.Need-returns-2 Inv-loop μ-loop
 returns-2 c =
-    let found = part-read _ _ _ _ (c .before .before .before .before .before .before .before .before .before .before .before .before .before .before .before .pre .2) (c .before .before .before .before .before .before .before .before .before .before .before .before .before .before .before .pre .1) _ (c .before .before .before .before .before .type-of-part .ensures) in
-    let stopped = turn-no _ _ _ _ _ _ _ _ (c .before .before .before .before .before .before .before .before .loop .inv .turn) (c .before .before .before .before .before .before .before .loop-test .taken) (c .before .before .before .before .before .before .if1 .left) _ found _ (c .before .before .before .fault .given .1) in (
+    let stopped = turn-no _ _ _ _ _ _ _ _ (c .before .before .before .before .before .before .before .before .loop .inv .turn) (c .before .before .before .before .before .before .before .loop-test .taken) (c .before .before .before .before .before .before .if1 .left) _ (c .before .before .before .before .before .read-item .ensures) _ (c .before .before .before .fault .given .1) in (
       c .no-plan2 .ensures ∙ ap (λ (f : Fault). plannedOf (refused f)) (c .before .later-by .ensures ∙ later-later _ _ _) ∙ plan-no _ _ _ _ _ _ _ stopped,
       rows-no _ _ _ _ _ (c .before .before .before .before .before .before .before .before .before .before .before .before .before .before .before .args .earlier) _ stopped _,
     )
@@ -192,7 +184,7 @@ plan-arguments-spec =
     no-plan-requires
     same-length
     returns
-    type-of-part-requires
+    read-item-requires
     enum-known-ty
     size-of-requires
     step-requires
