@@ -1,7 +1,7 @@
 -- The lesser of the end and the length.
-use Rattle.reader.proofs.end_in.Statement.{statement}
-use Rattle.reader.proofs.Laws.{end-past, end-within}
-use Rattle.reader.proofs.end_in.Tie as tie
+use Rattle.stepping.proofs.end_in.Statement.{statement}
+use Rattle.stepping.proofs.Laws.{end-past, end-within}
+use Rattle.stepping.proofs.end_in.Tie as tie
 
 returns : tie.Need-returns
 returns c = end-past _ _ (c .if1 .taken)

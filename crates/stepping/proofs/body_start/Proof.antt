@@ -1,9 +1,9 @@
 -- Three bytes further, where the header is not refused.
 use borrow.Author.Needs.{needs}
 use mathlib.Core.Path.{sym, _∙_}
-use Rattle.reader.proofs.body_start.Statement.{statement}
-use Rattle.reader.proofs.Laws.{body-inside, start-found, start-refused}
-use Rattle.reader.proofs.body_start.Tie as tie
+use Rattle.stepping.proofs.body_start.Statement.{statement}
+use Rattle.stepping.proofs.Laws.{body-inside, start-found, start-refused}
+use Rattle.stepping.proofs.body_start.Tie as tie
 
 body-in-requires : tie.Need-body-in-requires
 body-in-requires c κs = search needs

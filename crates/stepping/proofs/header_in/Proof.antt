@@ -2,9 +2,9 @@
 use borrow.Author.Needs.{needs}
 use mathlib.Core.Path.{sym, _∙_}
 use native.Mathlib.Omega.{arith}
-use Rattle.reader.proofs.header_in.Statement.{statement}
-use Rattle.reader.proofs.Laws.{body-inside, header-found, header-refused}
-use Rattle.reader.proofs.header_in.Tie as tie
+use Rattle.stepping.proofs.header_in.Statement.{statement}
+use Rattle.stepping.proofs.Laws.{body-inside, header-found, header-refused}
+use Rattle.stepping.proofs.header_in.Tie as tie
 
 body-in-requires : tie.Need-body-in-requires
 body-in-requires c κs = search needs

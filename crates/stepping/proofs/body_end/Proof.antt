@@ -1,8 +1,8 @@
 -- The header's end, where it is not refused.
 use borrow.Author.Needs.{needs}
-use Rattle.reader.proofs.body_end.Statement.{statement}
-use Rattle.reader.proofs.Laws.{end-found, end-refused}
-use Rattle.reader.proofs.body_end.Tie as tie
+use Rattle.stepping.proofs.body_end.Statement.{statement}
+use Rattle.stepping.proofs.Laws.{end-found, end-refused}
+use Rattle.stepping.proofs.body_end.Tie as tie
 
 body-in-requires : tie.Need-body-in-requires
 body-in-requires c κs = search needs

@@ -14,7 +14,7 @@ use Rattle.items.specs.declared.ItemRead.{ItemRead}
 use Rattle.items.specs.Reading.{Reading, fault, no}
 use Rattle.items.specs.Read.{bodyAt, itemAt}
 use Rattle.signature.specs.Limits.{maxLength, maxDepth}
-use Rattle.reader.specs.declared.Header.{Header}
+use Rattle.stepping.specs.declared.Header.{Header}
 
 -- no part goes past the bytes
 unfoldable pub endIn : List ℕ → ℕ → ℕ

@@ -1,9 +1,9 @@
 -- "1 first"; a place past the end is a header with no room; else the covered reader's header.
 use borrow.Author.Needs.{needs}
 use native.Mathlib.Omega.{arith}
-use Rattle.reader.proofs.body_in.Statement.{statement}
-use Rattle.reader.proofs.Laws.{end-inside, body-long, body-past, body-here}
-use Rattle.reader.proofs.body_in.Tie as tie
+use Rattle.stepping.proofs.body_in.Statement.{statement}
+use Rattle.stepping.proofs.Laws.{end-inside, body-long, body-past, body-here}
+use Rattle.stepping.proofs.body_in.Tie as tie
 
 returns : tie.Need-returns
 returns c = body-long _ _ _ (c .if1 .taken)

@@ -2,9 +2,9 @@
 use mathlib.Core.Path.{_∙_}
 use borrow.Author.Needs.{needs}
 use native.Mathlib.Omega.{arith}
-use Rattle.reader.proofs.type_in.Statement.{statement}
-use Rattle.reader.proofs.Laws.{end-inside, type-long, type-past, type-here}
-use Rattle.reader.proofs.type_in.Tie as tie
+use Rattle.stepping.proofs.type_in.Statement.{statement}
+use Rattle.stepping.proofs.Laws.{end-inside, type-long, type-past, type-here}
+use Rattle.stepping.proofs.type_in.Tie as tie
 
 refused-here-requires : tie.Need-refused-here-requires
 refused-here-requires c κs = search needs

@@ -1,8 +1,8 @@
 -- What is from the place to the end.
 use borrow.Author.Needs.{needs}
-use Rattle.reader.proofs.left_at.Statement.{statement}
-use Rattle.reader.proofs.Laws.{left-none, left-some}
-use Rattle.reader.proofs.left_at.Tie as tie
+use Rattle.stepping.proofs.left_at.Statement.{statement}
+use Rattle.stepping.proofs.Laws.{left-none, left-some}
+use Rattle.stepping.proofs.left_at.Tie as tie
 
 end-in-requires : tie.Need-end-in-requires
 end-in-requires c κs = search needs

@@ -16,8 +16,8 @@ use Rattle.items.specs.Answer.{itemAnswer}
 use Rattle.items.proofs.Laws.{body-short, item-refused}
 use Rattle.items.proofs.Sound.{by-pick, body-framed}
 use Rattle.signature.specs.Limits.{maxLength}
-use Rattle.reader.specs.declared.Header.{Header}
-use Rattle.reader.specs.Step.{endIn, leftAt, bodyIn, headerIn, bodyStart, bodyEnd, typeIn}
+use Rattle.stepping.specs.declared.Header.{Header}
+use Rattle.stepping.specs.Step.{endIn, leftAt, bodyIn, headerIn, bodyStart, bodyEnd, typeIn}
 
 -- the end
 

@@ -1,7 +1,7 @@
 -- By the two cases of an item's answer.
 use borrow.Author.Needs.{needs}
-use Rattle.reader.proofs.place_after.Statement.{statement}
-use Rattle.reader.proofs.place_after.Tie as tie
+use Rattle.stepping.proofs.place_after.Statement.{statement}
+use Rattle.stepping.proofs.place_after.Tie as tie
 
 enum-known-item : tie.Need-enum-known-item
 enum-known-item c = search needs
