@@ -45,7 +45,7 @@ fn body_in(s: &[u8], at: usize, end: usize) -> Body
     if to < at {
         return Body::Refused(Refusal::Truncated);
     }
-    leaf_items::read_body(s, 0x00, 0xff, at, to)
+    item_headers::read_body(s, 0x00, 0xff, at, to)
 }
 
 // The same, with the item's tag.
@@ -86,11 +86,11 @@ pub fn type_in(s: &[u8], at: usize, end: usize, c: Convention) -> ItemRead
     ensures { λ r. ⌜ r ≡ itemAnswer c (typeIn c (now (s .entry)) at end) ⌝ }
 {
     if signature_head::MAX_LENGTH < s.len() {
-        return leaf_items::refused_here(Refusal::TooLong, 0);
+        return item_headers::refused_here(Refusal::TooLong, 0);
     }
     let to = end_in(s, end);
     if to < at {
-        return leaf_items::refused_here(Refusal::Truncated, at);
+        return item_headers::refused_here(Refusal::Truncated, at);
     }
     nested_items::read_item(s, c, at, to, 8)
 }

@@ -1,10 +1,10 @@
 -- The tests are the definition's, in its order.
 use borrow.Author.Needs.{needs}
-use Rattle.leaf_items.proofs.read_body.Statement.{statement}
+use Rattle.item_headers.proofs.read_body.Statement.{statement}
 use mathlib.Core.Path.{sym}
 use native.Mathlib.Omega.{arith}
 use Rattle.items.proofs.Laws.{body-short, body-low, body-high, body-past, body-to}
-use Rattle.leaf_items.proofs.read_body.Tie as tie
+use Rattle.item_headers.proofs.read_body.Tie as tie
 
 sub-if1 : tie.Need-sub-if1
 sub-if1 c = search needs
