@@ -26,9 +26,9 @@ use Rattle.signature.specs.Read.{conventionBy, conventionAt, resultIn, resultAt
 use Rattle.signature.specs.Encode.{encodeResult}
 use Rattle.signature.proofs.Sound.{convention-read, result-read}
 use Rattle.reader.specs.declared.ArgumentRead.{ArgumentRead}
-use Rattle.reader.specs.Step.{bodyIn, bodyStart, bodyEnd, typeIn}
+use Rattle.stepping.specs.Step.{bodyIn, bodyStart, bodyEnd, typeIn}
 use Rattle.reader.specs.Argument.{argumentIn, argumentsStart, steppedTo}
-use Rattle.reader.proofs.Laws.{end-within, body-here, start-found, end-found}
+use Rattle.stepping.proofs.Laws.{end-within, body-here, start-found, end-found}
 
 -- readings: what was got is what the reading is, and what follows from what holds of it
 
@@ -55,7 +55,7 @@ module _ (c : Convention) (start : ℕ) where
 -- here is the type with that number.
 
 module _ (c : Convention) (s : List ℕ) (e start : ℕ) (short : length s ≤ maxLength) (within : e ≤ length s) where
-  type-is : (at : ℕ) → typeIn c s at e ≡ itemAt c 8 s e at
+  pub type-is : (at : ℕ) → typeIn c s at e ≡ itemAt c 8 s e at
   unfolding typeIn
   type-is at = rw (le-ltb maxLength (length s) short, ← (end-within s e within))
 

@@ -1,0 +1,17 @@
+-- By the test.
+use borrow.Author.Needs.{needs}
+use borrow.Author.Tests.{eq-eqb, ne-eqb}
+use Rattle.plan_entries.proofs.first_word.Statement.{statement}
+use Rattle.plan_entries.proofs.first_word.Tie as tie
+
+returns : tie.Need-returns
+returns c = rw (eq-eqb _ _ (c .if1 .taken))
+
+cast-result : tie.Need-cast-result
+cast-result c = search needs
+
+returns-2 : tie.Need-returns-2
+returns-2 c = rw (ne-eqb _ _ (c .before .if1 .left))
+
+pub first-word-spec : {M : Type 1} → statement M
+first-word-spec = tie.close (tie.spec returns cast-result returns-2)
