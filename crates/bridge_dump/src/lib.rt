@@ -52,7 +52,7 @@ pub extern "C" fn fz_walk_dump_ppc64(
     ensures { λ _. ⌜ now (list .exit) ≡ listed (walkInto (rules convention.Ppc64) base (now (memory .entry)) pointer (length (now (list .entry)))) (now (list .entry)) ⌝ }
 {
     let k = Ppc64::frame_rules();
-    let f = dump::walk(memory, k, base, pointer, list);
+    let f = dump_walk::walk(memory, k, base, pointer, list);
     walked_of(f)
 }
 
@@ -62,7 +62,7 @@ pub extern "C" fn fz_walk_dump_z(memory: &[u8], base: u64, pointer: u64, list: &
     ensures { λ _. ⌜ now (list .exit) ≡ listed (walkInto (rules convention.Z) base (now (memory .entry)) pointer (length (now (list .entry)))) (now (list .entry)) ⌝ }
 {
     let k = Z::frame_rules();
-    let f = dump::walk(memory, k, base, pointer, list);
+    let f = dump_walk::walk(memory, k, base, pointer, list);
     walked_of(f)
 }
 
@@ -77,6 +77,6 @@ pub extern "C" fn fz_walk_dump_aix(
     ensures { λ _. ⌜ now (list .exit) ≡ listed (walkInto (rules convention.Aix) base (now (memory .entry)) pointer (length (now (list .entry)))) (now (list .entry)) ⌝ }
 {
     let k = Aix::frame_rules();
-    let f = dump::walk(memory, k, base, pointer, list);
+    let f = dump_walk::walk(memory, k, base, pointer, list);
     walked_of(f)
 }

@@ -15,7 +15,7 @@ pub fn enter(s: State, memory: &mut [u8], f: Frame) -> Outcome
     let c = s.convention;
     let k = abi::frame_rules_of(c);
     let n = memory.len();
-    let a = call_checks::judge_enter(k, s, n, f);
+    let a = enter_checks::judge_enter(k, s, n, f);
     match a {
         Answer::Refused(r) => Outcome {
             answer: Answer::Refused(r),

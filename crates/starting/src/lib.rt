@@ -70,7 +70,7 @@ pub fn start(k: Rules, c: Convention, memory: &mut [u8], base: u64, registers: R
         leaf: false,
     };
     let frames = [none; 32];
-    if !state_checks::memory_ok(k, base, n) {
+    if !bounds::memory_ok(k, base, n) {
         return Outcome {
             answer: Answer::Refused(Refusal::BadMemory),
             state: State {

@@ -5,37 +5,12 @@ ghost use Prim.Native.Nat.{_*_, _≤_};
 ghost use Rattle.rules.specs.Lawful.{Lawful};
 ghost use Rattle.rules.specs.Frames.{mostSize};
 ghost use Rattle.machine.specs.Answers.{judge};
-ghost use Rattle.rules.specs.Frames.{allWithin, okRegisters};
-ghost use Rattle.machine.specs.Machine.{stackPointer, topFrame, top, caller, okFrames, sizes, okMemory, okState, stateTests};
+ghost use Rattle.machine.specs.Machine.{stackPointer, topFrame, top, caller, okFrames, sizes, okState, stateTests};
 use machine::Answer;
 use machine::Refusal;
 use machine::State;
 use rules::Frame;
-use rules::Registers;
 use rules::Rules;
-
-// Are a memory's base and length in range? (Refusal 16.)
-pub fn memory_ok(k: Rules, base: u64, n: usize) -> bool
-    requires { ⌜ Lawful k ⌝ }
-    ensures { λ r. ⌜ r ≡ okMemory k base n ⌝ }
-{
-    if n % 16 != 0 {
-        return false;
-    }
-    if n < 256 {
-        return false;
-    }
-    if 65536 < n {
-        return false;
-    }
-    if base % 16 != 0 {
-        return false;
-    }
-    if k.limit - (n as u64) < base {
-        return false;
-    }
-    k.room + k.floor <= n
-}
 
 // The frame entered last of d; the start where there is none.
 fn frame_under(k: Rules, fs: [Frame; 32], d: usize) -> Frame
@@ -67,31 +42,6 @@ fn frames_ok(k: Rules, fs: [Frame; 32], depth: usize) -> bool
     true
 }
 
-// Are all 32 numbers at most m?
-fn all_within(m: u64, xs: [u64; 32]) -> bool
-    ensures { λ r. ⌜ r ≡ allWithin m xs 32 ⌝ }
-{
-    let mut i: usize = 32;
-    while 0 < i {
-        i -= 1;
-        if m < xs[i] {
-            return false;
-        }
-    }
-    true
-}
-
-// Do the general registers and LR fit a word?
-fn registers_ok(k: Rules, r: Registers) -> bool
-    ensures { λ b. ⌜ b ≡ okRegisters k r ⌝ }
-{
-    let gpr = r.gpr;
-    if !all_within(k.limit, gpr) {
-        return false;
-    }
-    r.lr <= k.limit
-}
-
 fn sizes_of(k: Rules, fs: [Frame; 32], depth: usize) -> usize
     requires { ⌜ (Lawful k) × (depth ≤ 32) × (okFrames k fs depth ≡ true) ⌝ }
     ensures { λ r. ⌜ (r ≡ sizes k fs depth) × (r ≤ 32 * mostSize) ⌝ }
@@ -121,7 +71,7 @@ fn state_ok(k: Rules, s: State) -> bool
     ensures { λ r. ⌜ r ≡ okState k s ⌝ }
 {
     let registers = s.registers;
-    if !registers_ok(k, registers) {
+    if !bounds::registers_ok(k, registers) {
         return false;
     }
     let d = s.depth;
@@ -134,7 +84,7 @@ fn state_ok(k: Rules, s: State) -> bool
     }
     let b = s.base;
     let n = s.size;
-    if !memory_ok(k, b, n) {
+    if !bounds::memory_ok(k, b, n) {
         return false;
     }
     let p = stack_pointer(k, s);

@@ -1,6 +1,6 @@
 -- Lists of the exported calls of the frame machine, each lent words and memory as the one before left them. The answer of a call and what it leaves in the words and in
 -- the memory stand here as the contracts of `fz_start_ppc64`, `fz_start_z`, `fz_start_aix`, `fz_enter`, `fz_write_register`, `fz_write_memory` and `fz_leave` give them
--- (crates/bridge_frames/src/lib.rt). What a contract does not speak of is lent for reading only, and stays. Assumes nothing.
+-- (crates/bridge_starts/src/lib.rt, crates/bridge_frames/src/lib.rt). What a contract does not speak of is lent for reading only, and stays. Assumes nothing.
 use Prim.Native.Nat.{ℕ}
 use mathlib.Core.List.{List}
 use lib.ListN.{length}
@@ -22,7 +22,7 @@ pub record Lent : Type 0 where
   pub words : List ℕ
   pub memory : List ℕ
 
--- what a call answers; the number that C gets is 0 for an accepted one and else the refusal's (`frameAnswer`, crates/bridge_frames/specs/Frames.antt)
+-- what a call answers; the number that C gets is 0 for an accepted one and else the refusal's (`frameAnswer`, crates/frame_answers/specs/Frames.antt)
 abbrev pub answer : Call → Lent → Answer
 answer (enter q) m = enterOutcome (stateIn (m .words)) (length (m .memory)) (frameIn q 0) .answer
 answer (writeRegister b n v) m = writeRegisterOutcome (stateIn (m .words)) (length (m .memory)) b n v .answer

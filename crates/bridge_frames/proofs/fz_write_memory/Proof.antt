@@ -1,5 +1,5 @@
 -- By the call of machine_words. Assumes nothing.
-use Rattle.bridge_frames.specs.Frames.{frameAnswer}
+use Rattle.frame_answers.specs.Frames.{frameAnswer}
 use mathlib.Core.Path.{ap, _∙_}
 use borrow.Author.Needs.{needs}
 use Rattle.bridge_frames.proofs.fz_write_memory.Statement.{statement}
