@@ -4,16 +4,24 @@ use mathlib.Core.Bool.{true}
 use mathlib.Core.List.{List}
 use Prim.Native.Nat.{ℕ, _+_, _*_, _≤_}
 use native.Mathlib.Omega.{arith}
+use lib.ListN.{length}
 use Rattle.words.specs.Splice.{part}
 use Rattle.words.specs.Numbers.{valueOf}
+use Rattle.words.proofs.Numbers.{length-bytesOf}
 use Rattle.types.specs.declared.Equivalent.{Equivalent}
 use Rattle.places.specs.declared.Rules.{Rules}
 use Rattle.places.specs.Power.{words}
 use Rattle.places.specs.Step.{wordOf}
-use Rattle.slots.specs.Forms.{roomOf}
+use Rattle.slots.specs.Forms.{roomOf, singleWord, floatForm}
 use Rattle.slots.specs.Placements.{Placement}
 use Rattle.slots.specs.Limits.{FloatSized, Held}
 use Rattle.slots.specs.Refusals.{floatAnswer}
+
+-- a float fills its FPRs
+pub form-length : (r : Rules) (e : Equivalent) (m : ℕ) (v : List ℕ) → FloatSized e m (length v) → length (floatForm r e v) ≡ 8 * m
+form-length r Equivalent.Single m v h = length-bytesOf 8 (singleWord r (valueOf v)) ∙ rw (h .0)
+form-length r Equivalent.Double m v h = h .1 ∙ rw (h .0)
+form-length r Equivalent.Nothing m v h = h
 
 -- 14 looks at a single's one FPR: of a run of m, the first tells
 pub answer-first : (r : Rules) (e : Equivalent) (m n at : ℕ) (l : List ℕ) → FloatSized e m n → floatAnswer r e (valueOf (part at 8 l)) ≡ floatAnswer r e (valueOf (part at (8 * m) l))
