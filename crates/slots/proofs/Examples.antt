@@ -11,7 +11,8 @@ use Rattle.places.specs.declared.Rules.{Rules}
 use Rattle.places.specs.Values.{cursor}
 use Rattle.places.specs.Spots.{general, floating, area, copies}
 use Rattle.places.specs.Power.{words, fprs, shareOf, powerShare}
-use Rattle.places.specs.Step.{ppc64, aix, spanOf}
+use Rattle.places.specs.declared.Edition.{Edition}
+use Rattle.places.specs.Step.{power, ppc64, aix, spanOf}
 use Rattle.registers.specs.Registers.{spread, gather}
 use Rattle.slots.specs.Buffers.{slot}
 use Rattle.slots.specs.Placements.{Placement, placement, standing, slotsOf}
@@ -59,6 +60,15 @@ power-larger = refl
 z-struct : homeBytes Rules.Z (struct 2) 2 (1 ∷ 2 ∷ []) ≡ 0 ∷ 0 ∷ 0 ∷ 0 ∷ 0 ∷ 0 ∷ 1 ∷ 2 ∷ []
 unfolding homeBytes startsAtHead extended bytesOf valueOf zeroExtended struct
 z-struct = refl
+
+-- No. 12: "a long double argument takes two successive FPRs": in the later edition ld of figure 3-18 is in f2 and f3, a doubleword in each
+long-double : Placement
+long-double = placement (ValueType.Float FloatFormat.LongDouble) 16 (spanOf (power 8 Edition.Later) (cursor 8 2 40 0) (ValueType.Float FloatFormat.LongDouble) 16)
+
+long-double-stands : slotsOf (power 8 Edition.Later) 0 long-double (1 ∷ 2 ∷ 3 ∷ 4 ∷ 5 ∷ 6 ∷ 7 ∷ 8 ∷ 9 ∷ 10 ∷ 11 ∷ 12 ∷ 13 ∷ 14 ∷ 15 ∷ 16 ∷ [])
+    ≡ slot (floating 2) (1 ∷ 2 ∷ 3 ∷ 4 ∷ 5 ∷ 6 ∷ 7 ∷ 8 ∷ 9 ∷ 10 ∷ 11 ∷ 12 ∷ 13 ∷ 14 ∷ 15 ∷ 16 ∷ []) ∷ slot (general 8) [] ∷ slot (area 56) [] ∷ slot (copies 0) [] ∷ []
+unfolding slotsOf long-double standing spread spanOf powerShare shareOf fprs words floatBytes
+long-double-stands = refl
 
 -- ---- AIX, whose words have 4 bytes (No. 1: "Narrow wholes and structs fill 4-byte words as they fill doublewords on PPC64")
 
