@@ -1,7 +1,7 @@
 -- One argument in every convention: its span and the next cursor; the first cursor, the area, and the place of a result.
 -- Document 01, "Places on PPC64" and "Places on Z"; document 02, No. 1. A convention is a value of `Rules`. All laws hold at every cursor.
 -- Assumes nothing.
-use Prim.Native.Nat.{ℕ, _≤_, max}
+use Prim.Native.Nat.{ℕ, zero, suc, _≤_, max}
 use mathlib.Core.Bool.{Bool, true, false}
 use Rattle.words.specs.Basics.{pick}
 use Rattle.conventions.specs.declared.Convention.{Convention}
@@ -15,7 +15,7 @@ use Rattle.places.specs.declared.Span.{Span}
 use Rattle.places.specs.declared.Placed.{Placed}
 use Rattle.places.specs.declared.ResultPlaces.{ResultPlaces}
 use Rattle.places.specs.Values.{cursor, pointer}
-use Rattle.places.specs.Power.{words, powerShare, powerSpan, powerNext}
+use Rattle.places.specs.Power.{words, powerShare, powerSpan, powerNext, unclear}
 use Rattle.places.specs.ZSeries.{zClass, zSpanOf, zNextOf}
 
 -- ---- the conventions
@@ -64,6 +64,17 @@ placedAs s d = record { span = s; next = d }
 
 unfoldable pub placed : Rules → Cursor → ValueType → ℕ → Placed
 placed r c t n = placedAs (spanOf r c t n) (nextOf r c t n)
+
+-- 29: whether the papers leave open where an argument of a type goes; Z's never do
+unfoldable pub unclearFor : Rules → Cursor → ValueType → Bool
+unclearFor (Rules.Power f) c t = unclear f c t
+unclearFor Rules.Z c t = false
+
+-- The number of the first unclear argument, counted from 1, or 0 where none is: u of the first i, and after one more.
+unfoldable pub unclearAfter : ℕ → Bool → ℕ → ℕ
+unclearAfter zero true i = suc i
+unclearAfter zero false i = 0
+unclearAfter (suc u) b i = suc u
 
 -- ---- the whole list
 
