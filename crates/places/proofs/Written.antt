@@ -27,7 +27,7 @@ use Rattle.places.specs.declared.ZClass.{ZClass}
 use Rattle.places.specs.Values.{cursor, registers, bytes, share}
 use Rattle.places.specs.Power.{words, fprs, covered, shareOf, powerShare, unclear}
 use Rattle.places.specs.ZSeries.{zClass, zSpanOf, zNextOf}
-use Rattle.places.specs.Step.{rulesOf, spanOf, nextOf, unclearFor, fresh, startOf, areaOf, hiddenFor, returning, resultOf}
+use Rattle.places.specs.Step.{rulesOf, spanOf, nextOf, isEarlier, unclearFor, alwaysClear, fresh, startOf, areaOf, hiddenFor, returning, resultOf}
 use Rattle.places.specs.Places.{upFrom, register, registersOf, memoryOf, placesOf}
 use Rattle.places.specs.Results.{returned, returnedBy}
 use Rattle.places.proofs.Shares.{fprs-most}
@@ -230,6 +230,16 @@ earlier-clear f c t e = rw e (go (ltb 0 (14 - c .floating)) refl)
     go : (b : Bool) → ltb 0 (14 - c .floating) ≡ b → pick b (ltb (14 - c .floating) (fprs Edition.Earlier t)) false ≡ false
     go true q = let h : 0 < 14 - c .floating = ltb-true 0 (14 - c .floating) q in le-ltb (14 - c .floating) (fprs Edition.Earlier t) (omega (arith, fprs-earlier t))
     go false q = refl
+
+-- the rules that are clear everywhere
+pub always-clear : (r : Rules) (c : Cursor) (t : ValueType) → alwaysClear r ≡ true → unclearFor r c t ≡ false
+unfolding alwaysClear unclearFor
+always-clear (Rules.Power f) c t e = earlier-clear f c t (go (f .edition) e)
+  where
+    go : (x : Edition) → isEarlier x ≡ true → x ≡ Edition.Earlier
+    go Edition.Earlier q = refl
+    go Edition.Later q = let z : _≡_ {A = ℕ} 0 1 = cc in absurd (omega arith)
+always-clear Rules.Z c t e = refl
 
 -- ---- Z
 

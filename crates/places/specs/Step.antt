@@ -65,10 +65,19 @@ placedAs s d = record { span = s; next = d }
 unfoldable pub placed : Rules → Cursor → ValueType → ℕ → Placed
 placed r c t n = placedAs (spanOf r c t n) (nextOf r c t n)
 
+abbrev pub isEarlier : Edition → Bool
+isEarlier Edition.Earlier = true
+isEarlier Edition.Later = false
+
 -- 29: whether the papers leave open where an argument of a type goes; Z's never do
 unfoldable pub unclearFor : Rules → Cursor → ValueType → Bool
 unclearFor (Rules.Power f) c t = unclear f c t
 unclearFor Rules.Z c t = false
+
+-- the rules that never do: all but the later edition's
+unfoldable pub alwaysClear : Rules → Bool
+alwaysClear (Rules.Power f) = isEarlier (f .edition)
+alwaysClear Rules.Z = true
 
 -- The number of the first unclear argument, counted from 1, or 0 where none is: u of the first i, and after one more.
 unfoldable pub unclearAfter : ℕ → Bool → ℕ → ℕ

@@ -2,7 +2,7 @@
 ghost use mathlib.Core.Path.{_≡_};
 ghost use Prim.Native.Nat.{_^_, _≤_, _<_};
 ghost use Rattle.places.specs.Values.{pointer};
-ghost use Rattle.places.specs.Step.{Lawful, Roomy, rulesOf, wordOf, nextOf, unclearFor, unclearAfter, placed, fresh, startOf, areaOf, returning, hiddenFor, resultOf};
+ghost use Rattle.places.specs.Step.{Lawful, Roomy, rulesOf, wordOf, nextOf, unclearFor, isEarlier, alwaysClear, unclearAfter, placed, fresh, startOf, areaOf, returning, hiddenFor, resultOf};
 use conventions::Convention;
 use places::Cursor;
 use places::Edition;
@@ -44,6 +44,28 @@ pub fn unclear_for(r: Rules, c: Cursor, t: ValueType) -> bool
     match r {
         Rules::Power(f) => power_step::is_unclear(f, c, t),
         Rules::Z => false,
+    }
+}
+
+fn is_earlier(e: Edition) -> bool
+    ensures { λ b. ⌜ b ≡ isEarlier e ⌝ }
+{
+    match e {
+        Edition::Earlier => true,
+        Edition::Later => false,
+    }
+}
+
+// Whether the rules are clear wherever an argument stands.
+pub fn always_clear(r: Rules) -> bool
+    ensures { λ b. ⌜ b ≡ alwaysClear r ⌝ }
+{
+    match r {
+        Rules::Power(f) => {
+            let edition = f.edition;
+            is_earlier(edition)
+        }
+        Rules::Z => true,
     }
 }
 
