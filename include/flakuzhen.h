@@ -420,8 +420,9 @@ fz_answer fz_leave(fz_machine *machine, const uint8_t *memory, size_t memory_len
  *                   the last 4 of 8 bytes, after 4 zeros
  *   double          its 8 bytes
  *   long double     PPC64: its 16 bytes, in two doublewords; Z: by reference
- *   struct          PPC64: its bytes from the first doubleword's first byte on, zeros after them
- *                   to the last doubleword's end
+ *   struct          PPC64: one of less than 8 bytes at its doubleword's end, after zeros; a larger
+ *                   one from the first doubleword's first byte on, zeros after it to the last
+ *                   doubleword's end
  *                   Z: one with nothing but a single or a double in it, nested or not, as that;
  *                   another of 1, 2, 4 or 8 bytes at the end of 8 bytes, after zeros; any other by
  *                   reference

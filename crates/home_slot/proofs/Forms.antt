@@ -12,14 +12,14 @@ use Rattle.words.proofs.Numbers.{value-bytesOf}
 use Rattle.ieee.specs.declared.Narrowed.{Narrowed}
 use Rattle.ieee.specs.Narrowing.{narrow}
 use Rattle.ieee.proofs.Laws.{widen-narrow}
-use Rattle.types.specs.declared.FloatFormat.{FloatFormat}
+use Rattle.types.specs.declared.Equivalent.{Equivalent}
 use Rattle.types.specs.declared.ValueType.{ValueType}
 use Rattle.types.specs.Sizes.{equivalentOf}
 use Rattle.places.specs.declared.Rules.{Rules}
 use Rattle.places.specs.declared.PowerRules.{PowerRules}
 use Rattle.places.specs.Step.{wordOf}
 use Rattle.registers.specs.Registers.{gather}
-use Rattle.slots.specs.Forms.{roomOf, startsAtHead, extended, homeBytes, narrowedBytes, floatValue}
+use Rattle.slots.specs.Forms.{roomOf, startsAtHead, extended, homeBytes, narrowedBytes, floatValueAs, floatValue}
 use Rattle.slots.specs.Placements.{Placement}
 use Rattle.slots.specs.Limits.{FloatSized}
 use Rattle.home_slot.specs.Homes.{homeless, narrowedWord, memoryWord, fprOf, homedBytes, Registered}
@@ -33,15 +33,20 @@ narrowed-form d (Narrowed.Single x) e =
     omega (arith, low, v)
 narrowed-form d Narrowed.NotWidened e = refl
 
+word-form : (f : PowerRules) (q : Equivalent) (n : ℕ) (bs : List ℕ) → FloatSized q n → valueOf bs < 2 ^ 64
+    → zeroExtended n (valueOf (floatValueAs (Rules.Power f) q bs)) ≡ memoryWord q (valueOf bs)
+unfolding zeroExtended
+word-form f Equivalent.Single n bs s low = rw s (narrowed-form (valueOf bs) (narrow (valueOf bs)) refl)
+word-form f Equivalent.Double n bs s low = rw s (mod-eq-of-lt low)
+word-form f Equivalent.Nothing n bs s low = absurd s
+
+-- of a type that is equivalent to a float and stands at the end of its words
 memory-form : (f : PowerRules) (t : ValueType) (n : ℕ) (bs : List ℕ) → FloatSized (equivalentOf t) n → startsAtHead (Rules.Power f) t ≡ false → valueOf bs < 2 ^ 64
     → homeBytes (Rules.Power f) t n (floatValue (Rules.Power f) t bs) ≡ bytesOf (roomOf (Rules.Power f) n) (memoryWord (equivalentOf t) (valueOf bs))
-unfolding homeBytes floatValue startsAtHead extended zeroExtended
+unfolding homeBytes floatValue extended
 memory-form f (ValueType.Integer k) n bs s e low = absurd s
-memory-form f (ValueType.Float FloatFormat.Single) n bs s e low =
-    rw s (ap (bytesOf (roomOf (Rules.Power f) 4)) (narrowed-form (valueOf bs) (narrow (valueOf bs)) refl))
-memory-form f (ValueType.Float FloatFormat.Double) n bs s e low = rw s (ap (bytesOf (roomOf (Rules.Power f) 8)) (mod-eq-of-lt low))
-memory-form f (ValueType.Float FloatFormat.LongDouble) n bs s e low = absurd s
-memory-form f (ValueType.Struct x) n bs s e low = let z : _≡_ {A = ℕ} 0 1 = cc in absurd (omega arith)
+memory-form f (ValueType.Float x) n bs s e low = rw e (ap (bytesOf (roomOf (Rules.Power f) n)) (word-form f (equivalentOf (ValueType.Float x)) n bs s low))
+memory-form f (ValueType.Struct x) n bs s e low = rw e (ap (bytesOf (roomOf (Rules.Power f) n)) (word-form f (x .equivalent) n bs s low))
 
 module _ (r : Rules) (a i : ℕ) (p : Placement) (image : List ℕ) (h : Registered r a i p) where
   -- a float's home holds its memory form

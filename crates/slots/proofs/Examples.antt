@@ -1,6 +1,7 @@
 -- Worked examples of the forms, for a reader to compare with document 01, "What stands in a slot". Each computes. Assumes nothing.
 use mathlib.Core.Path.{_≡_, refl}
 use mathlib.Core.List.{[], _∷_}
+use Prim.Native.Nat.{ℕ}
 use Rattle.words.specs.Numbers.{bytesOf, valueOf, zeroExtended, signBit, signExtended}
 use Rattle.types.specs.declared.IntegerKind.{IntegerKind}
 use Rattle.types.specs.declared.FloatFormat.{FloatFormat}
@@ -14,11 +15,11 @@ use Rattle.places.specs.Step.{ppc64, aix, spanOf}
 use Rattle.registers.specs.Registers.{spread, gather}
 use Rattle.slots.specs.Buffers.{slot}
 use Rattle.slots.specs.Placements.{Placement, placement, standing, slotsOf}
-use Rattle.slots.specs.Forms.{startsAtHead, extended, homeBytes, floatBytes}
+use Rattle.slots.specs.Forms.{structAtHead, startsAtHead, extended, homeBytes, floatBytes}
 
--- a struct of three bytes
-three : ValueType
-three = ValueType.Struct (record { size = 3; align = 1; equivalent = Equivalent.Nothing })
+-- structs of bytes: three of them, eight, nine
+struct : ℕ → ValueType
+struct n = ValueType.Struct (record { size = n; align = 1; equivalent = Equivalent.Nothing })
 
 -- "Wholes are sign- or zero-extended to 64 bits": the i16 -2, and the u16 65534
 signed : homeBytes ppc64 (ValueType.Integer IntegerKind.I16) 2 (0xff ∷ 0xfe ∷ [])
@@ -40,19 +41,28 @@ z-single : floatBytes Rules.Z (ValueType.Float FloatFormat.Single) (0x3f ∷ 0x8
 unfolding floatBytes bytesOf valueOf
 z-single = refl
 
--- "On PPC64 every struct starts at its first doubleword's head, zeros at its tail"
-power-struct : homeBytes ppc64 three 3 (1 ∷ 2 ∷ 3 ∷ []) ≡ 1 ∷ 2 ∷ 3 ∷ 0 ∷ 0 ∷ 0 ∷ 0 ∷ 0 ∷ []
-unfolding homeBytes startsAtHead words three
+-- No. 2: "a struct smaller than a doubleword in the least significant bytes; only larger ones are padded at the tail"
+power-struct : homeBytes ppc64 (struct 3) 3 (1 ∷ 2 ∷ 3 ∷ []) ≡ 0 ∷ 0 ∷ 0 ∷ 0 ∷ 0 ∷ 1 ∷ 2 ∷ 3 ∷ []
+unfolding homeBytes structAtHead startsAtHead extended words bytesOf valueOf zeroExtended struct
 power-struct = refl
 
+power-doubleword : homeBytes ppc64 (struct 8) 8 (1 ∷ 2 ∷ 3 ∷ 4 ∷ 5 ∷ 6 ∷ 7 ∷ 8 ∷ []) ≡ 1 ∷ 2 ∷ 3 ∷ 4 ∷ 5 ∷ 6 ∷ 7 ∷ 8 ∷ []
+unfolding homeBytes structAtHead startsAtHead words struct
+power-doubleword = refl
+
+power-larger : homeBytes ppc64 (struct 9) 9 (1 ∷ 2 ∷ 3 ∷ 4 ∷ 5 ∷ 6 ∷ 7 ∷ 8 ∷ 9 ∷ [])
+    ≡ 1 ∷ 2 ∷ 3 ∷ 4 ∷ 5 ∷ 6 ∷ 7 ∷ 8 ∷ 9 ∷ 0 ∷ 0 ∷ 0 ∷ 0 ∷ 0 ∷ 0 ∷ 0 ∷ []
+unfolding homeBytes structAtHead startsAtHead words struct
+power-larger = refl
+
 -- on Z "other small ones are right-justified, zeros above"
-z-struct : homeBytes Rules.Z (ValueType.Struct (record { size = 2; align = 1; equivalent = Equivalent.Nothing })) 2 (1 ∷ 2 ∷ []) ≡ 0 ∷ 0 ∷ 0 ∷ 0 ∷ 0 ∷ 0 ∷ 1 ∷ 2 ∷ []
-unfolding homeBytes startsAtHead extended bytesOf valueOf zeroExtended
+z-struct : homeBytes Rules.Z (struct 2) 2 (1 ∷ 2 ∷ []) ≡ 0 ∷ 0 ∷ 0 ∷ 0 ∷ 0 ∷ 0 ∷ 1 ∷ 2 ∷ []
+unfolding homeBytes startsAtHead extended bytesOf valueOf zeroExtended struct
 z-struct = refl
 
 -- ---- AIX, whose words have 4 bytes (No. 1: "Narrow wholes and structs fill 4-byte words as they fill doublewords on PPC64")
 
--- the i16 -2 is a word; the single 1.0 "is one word"; three bytes are at a word's head
+-- the i16 -2 is a word; the single 1.0 "is one word"; three bytes are at a word's head: "AIX structs keep the head rule"
 aix-signed : homeBytes aix (ValueType.Integer IntegerKind.I16) 2 (0xff ∷ 0xfe ∷ []) ≡ 0xff ∷ 0xff ∷ 0xff ∷ 0xfe ∷ []
 unfolding homeBytes startsAtHead extended words bytesOf valueOf signExtended zeroExtended signBit
 aix-signed = refl
@@ -61,8 +71,8 @@ aix-single : homeBytes aix (ValueType.Float FloatFormat.Single) 4 (0x3f ∷ 0x80
 unfolding homeBytes startsAtHead extended words bytesOf valueOf zeroExtended
 aix-single = refl
 
-aix-struct : homeBytes aix three 3 (1 ∷ 2 ∷ 3 ∷ []) ≡ 1 ∷ 2 ∷ 3 ∷ 0 ∷ []
-unfolding homeBytes startsAtHead words three
+aix-struct : homeBytes aix (struct 3) 3 (1 ∷ 2 ∷ 3 ∷ []) ≡ 1 ∷ 2 ∷ 3 ∷ 0 ∷ []
+unfolding homeBytes structAtHead startsAtHead words struct
 aix-struct = refl
 
 -- a u64 whose first word is in r10 and whose second is the first of the excess, at 32: "r3 to r10 take the first eight"

@@ -4,7 +4,7 @@ use mathlib.Core.Bool.{Bool, true, false}
 use Prim.Native.Nat.{ℕ, zero, suc, _+_, _-_, _*_, _/_, _≤_, _<_}
 use native.Mathlib.Omega.{arith}
 use native.Mathlib.Nat.{mul-zero, mul-suc, mul-comm, mod-lt, div-add-mod'}
-use borrow.Author.Tests.{eqb-true}
+use borrow.Author.Tests.{eqb-true, leb-false}
 use lib.Dec.{leb, eqb}
 use Rattle.words.specs.Basics.{pick}
 use Rattle.conventions.specs.declared.Convention.{Convention}
@@ -23,7 +23,7 @@ use Rattle.places.specs.ZSeries.{zClass, zSpanOf, bySize, byEquivalent}
 use Rattle.places.specs.declared.Edition.{Edition}
 use Rattle.places.specs.Step.{power, rulesOf, spanOf}
 use Rattle.places.proofs.Shares.{words-split}
-use Rattle.slots.specs.Forms.{startsAtHead}
+use Rattle.slots.specs.Forms.{structAtHead, startsAtHead}
 use Rattle.slots.specs.Placements.{placement}
 use Rattle.slots.specs.Limits.{FloatSized, Held}
 use Rattle.slots.proofs.Typed.{EquivalentSized, Typed}
@@ -46,6 +46,15 @@ integer-small c IntegerKind.U64 = omega arith
 integer-small c IntegerKind.Pointer = word-bounds c .1
 
 -- ---- PowerPC, over the bytes w of a word
+
+-- a struct at the end of its words is smaller than a doubleword
+struct-end : (w n : ℕ) → structAtHead w n ≡ false → n < 8
+unfolding structAtHead
+struct-end w n = go (eqb w 8)
+  where
+    go : (b : Bool) → pick b (leb 8 n) true ≡ false → n < 8
+    go true e = leb-false 8 n e
+    go false e = absurd-bool e
 
 module _ (w : ℕ) (least : 4 ≤ w) (most : w ≤ 8) where
   abbrev rules : Rules
@@ -127,7 +136,7 @@ module _ (w : ℕ) (least : 4 ≤ w) (most : w ≤ 8) where
   power-held c k (ValueType.Float FloatFormat.Double) h =
       power-float k (ValueType.Float FloatFormat.Double) 8 refl (omega arith) (omega arith) (leb 1 (14 - k .floating))
   power-held c k (ValueType.Float FloatFormat.LongDouble) h = power-words k (ValueType.Float FloatFormat.LongDouble) 16 (λ e. absurd-bool e)
-  power-held c k (ValueType.Struct s) h = power-words k (ValueType.Struct s) (s .size) (λ e. absurd-bool e)
+  power-held c k (ValueType.Struct s) h = power-words k (ValueType.Struct s) (s .size) (λ e. (h .sized .some, omega (arith, struct-end w (s .size) e)))
 
 -- ---- Z
 

@@ -5,6 +5,7 @@
 use Prim.Native.Nat.{ℕ, _+_, _-_, _*_, _^_}
 use mathlib.Core.Bool.{Bool, true, false}
 use mathlib.Core.List.{List, [], _++_}
+use lib.Dec.{eqb, leb}
 use lib.ListN.{take, replicate}
 use Rattle.words.specs.Basics.{pick}
 use Rattle.words.specs.Numbers.{bytesOf, valueOf, zeroExtended, signExtended}
@@ -43,18 +44,23 @@ isSigned (ValueType.Integer k) = signedKind k
 isSigned (ValueType.Float f) = false
 isSigned (ValueType.Struct s) = false
 
--- "On PPC64 every struct starts at its first doubleword's head, zeros at its tail", and AIX structs at their first word's; a long double fills its
--- words. Every other value stands at the end of its words: an integer, a single in memory ("the second word, the first zero"; Z: "right-justified on
--- the stack"), and on Z a small struct ("right-justified, zeros above")
-abbrev pub headFirst : ValueType → Bool
-headFirst (ValueType.Integer k) = false
-headFirst (ValueType.Float FloatFormat.Single) = false
-headFirst (ValueType.Float FloatFormat.Double) = false
-headFirst (ValueType.Float FloatFormat.LongDouble) = true
-headFirst (ValueType.Struct s) = true
+-- whether a PowerPC struct of n bytes starts at the head of its words, which have w bytes. No. 2, where words are doublewords: "a struct smaller
+-- than a doubleword in the least significant bytes; only larger ones are padded at the tail" (one of 8 bytes has no padding); "AIX structs keep the head
+-- rule"
+unfoldable pub structAtHead : ℕ → ℕ → Bool
+structAtHead w n = pick (eqb w 8) (leb 8 n) true
+
+-- by the bytes w of a PowerPC word; a long double fills its words. What doesn't start at their head stands at their end: an integer, a single in memory
+-- ("the second word, the first zero"; Z: "right-justified on the stack"), a small struct ("zeros go above"; Z: "right-justified, zeros above")
+abbrev pub headFirst : ℕ → ValueType → Bool
+headFirst w (ValueType.Integer k) = false
+headFirst w (ValueType.Float FloatFormat.Single) = false
+headFirst w (ValueType.Float FloatFormat.Double) = false
+headFirst w (ValueType.Float FloatFormat.LongDouble) = true
+headFirst w (ValueType.Struct s) = structAtHead w (s .size)
 
 unfoldable pub startsAtHead : Rules → ValueType → Bool
-startsAtHead (Rules.Power f) t = headFirst t
+startsAtHead (Rules.Power f) t = headFirst (f .word) t
 startsAtHead Rules.Z t = false
 
 -- "Wholes are sign- or zero-extended to 64 bits", of which an AIX word has the lowest 32; of everything else the bytes above are zeros

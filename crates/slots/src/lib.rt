@@ -13,7 +13,7 @@ ghost use lib.ListN.{length};
 ghost use Rattle.types.specs.declared.Equivalent.{Equivalent};
 ghost use Rattle.types.specs.Sizes.{equivalentOf};
 ghost use Rattle.words.specs.Numbers.{valueOf};
-ghost use Rattle.slots.specs.Forms.{signedKind, isSigned, headFirst, startsAtHead, extended, roomOf, ownStart, singleWord, floatWord};
+ghost use Rattle.slots.specs.Forms.{signedKind, isSigned, structAtHead, headFirst, startsAtHead, extended, roomOf, ownStart, singleWord, floatWord};
 ghost use Rattle.ieee.specs.Narrowing.{narrow as narrowOf};
 ghost use Rattle.slots.specs.Refusals.{numberOf, isRefused, narrowedAnswer, floatAnswer};
 
@@ -75,8 +75,19 @@ fn is_signed(t: ValueType) -> bool
     }
 }
 
-fn head_first(t: ValueType) -> bool
-    ensures { λ b. ⌜ b ≡ headFirst t ⌝ }
+// Whether a PowerPC struct of n bytes starts at the head of its words of `word` bytes: all do but those smaller than a doubleword where
+// words are doublewords.
+fn struct_at_head(word: usize, n: usize) -> bool
+    ensures { λ b. ⌜ b ≡ structAtHead word n ⌝ }
+{
+    if word == 8 {
+        return 8 <= n;
+    }
+    true
+}
+
+fn head_first(word: usize, t: ValueType) -> bool
+    ensures { λ b. ⌜ b ≡ headFirst word t ⌝ }
 {
     match t {
         ValueType::Integer(_) => false,
@@ -85,16 +96,16 @@ fn head_first(t: ValueType) -> bool
             FloatFormat::Double => false,
             FloatFormat::LongDouble => true,
         },
-        ValueType::Struct(_) => true,
+        ValueType::Struct(s) => struct_at_head(word, s.size as usize),
     }
 }
 
-// Whether a value starts at the head of its first word, and zeros fill the last one; else it stands at the end of its only word.
+// Whether a value starts at the head of its first word, and zeros fill the last one; else it stands at the end of its words.
 pub fn starts_at_head(r: Rules, t: ValueType) -> bool
     ensures { λ b. ⌜ b ≡ startsAtHead r t ⌝ }
 {
     match r {
-        Rules::Power(_) => head_first(t),
+        Rules::Power(f) => head_first(f.word, t),
         Rules::Z => false,
     }
 }

@@ -13,16 +13,18 @@ const GENERAL: usize = 256;
 pub struct CompiledCall {
     /// Its line in the file, and its convention and types in words.
     pub name: String,
+    /// The latter alone: the types that it was compiled for.
+    pub text: String,
     pub before: Call,
     pub after: Call,
 }
 
-/// The calls that document 01 and the compilers pass in the same way.
+/// The calls that documents 01 and 02 and the compilers pass in the same way.
 pub fn all() -> Vec<CompiledCall> {
     calls_of("compiled-calls.txt", COMPILED)
 }
 
-/// The calls that they do not, each described by another signature, with which they do.
+/// Calls with small structs, long doubles or both, each described by a signature without these.
 pub fn described() -> Vec<CompiledCall> {
     calls_of("described-calls.txt", DESCRIBED)
 }
@@ -55,9 +57,9 @@ fn started(place: &str, text: &str) -> CompiledCall {
             register[..4].fill(0);
         }
     }
-    let name = format!("{place}: {text}");
     CompiledCall {
-        name,
+        name: format!("{place}: {text}"),
+        text: text.to_string(),
         before: call.clone(),
         after: call,
     }

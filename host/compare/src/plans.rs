@@ -16,7 +16,7 @@ use std::collections::BTreeMap;
 use std::fmt;
 
 /// What accepted calls of PPC64 must have been like, as a histogram has it.
-pub const PPC64: [&str; 20] = [
+pub const PPC64: [&str; 37] = [
     "PPC64 128 arguments",
     "PPC64 double in FPR",
     "PPC64 double in FPR past r10",
@@ -27,6 +27,7 @@ pub const PPC64: [&str; 20] = [
     "PPC64 integer in GPR",
     "PPC64 integer in memory",
     "PPC64 larger area",
+    "PPC64 larger struct that ends within a doubleword",
     "PPC64 long double in GPR",
     "PPC64 long double in memory",
     "PPC64 long double straddling",
@@ -37,6 +38,22 @@ pub const PPC64: [&str; 20] = [
     "PPC64 single in FPR past r10",
     "PPC64 single in memory",
     "PPC64 smallest area",
+    "PPC64 struct of 1 in GPR",
+    "PPC64 struct of 1 in memory",
+    "PPC64 struct of 2 in GPR",
+    "PPC64 struct of 2 in memory",
+    "PPC64 struct of 3 in GPR",
+    "PPC64 struct of 3 in memory",
+    "PPC64 struct of 4 in GPR",
+    "PPC64 struct of 4 in memory",
+    "PPC64 struct of 5 in GPR",
+    "PPC64 struct of 5 in memory",
+    "PPC64 struct of 6 in GPR",
+    "PPC64 struct of 6 in memory",
+    "PPC64 struct of 7 in GPR",
+    "PPC64 struct of 7 in memory",
+    "PPC64 struct of 8 in GPR",
+    "PPC64 struct of 8 in memory",
 ];
 
 /// What accepted calls of Z must have been like.
@@ -362,6 +379,16 @@ pub(crate) fn count_cases(signature: &Signature, plan: &Plan, seen: &mut Histogr
         if plan.convention == Convention::Aix && matches!(of, Type::Struct(_)) && part_of_a_word {
             count("struct that ends within a word");
         }
+        if plan.convention == Convention::Ppc64 && matches!(of, Type::Struct(_)) {
+            match (of.size(plan.convention), argument.places[0]) {
+                (size @ 1..=8, Place::Memory(_)) => count(&format!("struct of {size} in memory")),
+                (size @ 1..=8, _) => count(&format!("struct of {size} in GPR")),
+                (size, _) if size % 8 != 0 => {
+                    count("larger struct that ends within a doubleword");
+                }
+                _ => {}
+            }
+        }
         if let Some(start) = argument.copy {
             if start > copies_end {
                 count("gap before a copy");
@@ -506,8 +533,9 @@ fn argument(random: &mut Random, convention: Convention, mix: Mostly) -> Type {
 
 /// A struct of 1 to 12 bytes.
 fn small_struct(random: &mut Random) -> Type {
-    if random.once_in(2) {
-        return Type::Struct(vec![Type::Integer(Integer::U8); 1 + random.below(12)]);
+    // of every size up to one byte more than a doubleword
+    if !random.once_in(4) {
+        return Type::Struct(vec![Type::Integer(Integer::U8); 1 + random.below(9)]);
     }
     let field = |random: &mut Random| match random.below(4) {
         0 => Type::Float(Float::Single),

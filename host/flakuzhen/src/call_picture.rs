@@ -177,6 +177,11 @@ impl Call<'_> {
         (at..at + count).map(mark).collect()
     }
 
+    /// Whether a struct of this size is smaller than a doubleword, where words are doublewords.
+    fn is_small(&self, size: usize) -> bool {
+        self.word() == 8 && size < 8
+    }
+
     /// Where in its places a value stands.
     fn own(&self, argument: &Argument) -> Range<usize> {
         let size = argument.value.len();
@@ -187,7 +192,7 @@ impl Call<'_> {
             // a single widened to a double: sign, exponent and fraction have 35 bits
             (true, true) if size == 4 => 0..5,
             (true, _) => 0..size,
-            (false, true) if is_struct => 0..size,
+            (false, true) if is_struct && !self.is_small(size) => 0..size,
             // at the end of its words
             _ => {
                 let end = size.next_multiple_of(self.word());
@@ -295,7 +300,7 @@ mod tests {
             .map(|code| vec![0x10, 0, 1, code])
             .chain((0..3u8).map(|code| vec![0x11, 0, 1, code]));
         let mut types: Vec<Vec<u8>> = scalars.collect();
-        for fields in [1, 2, 3, 4, 5, 8, 12, 17] {
+        for fields in [1, 2, 3, 4, 5, 6, 7, 8, 9, 12, 17] {
             let body = [0x10, 0, 1, 1].repeat(fields);
             types.push([&[0x12, 0, body.len() as u8][..], &body].concat());
         }

@@ -60,6 +60,7 @@ fn reads_the_examples() {
         ("ppc64-dgemm.hex", 0, "items 17\n"),
         ("ppc64-figure-3-18.hex", 0, "items 17\n"),
         ("ppc64-ldiv.hex", 0, "items 8\n"),
+        ("ppc64-small-structs.hex", 0, "items 36\n"),
         ("ppc64-straddling-struct.hex", 0, "items 16\n"),
         ("ppc64-two-arguments.hex", 0, "items 5\n"),
         (

@@ -1,6 +1,6 @@
 //! Filling, reading, home and view: document 01, "What stands in a slot", with the refusals and
-//! their order of "When the bridge says no"; on AIX the same by words (document 02, No. 1). A refusal
-//! leaves every buffer as it was.
+//! their order of "When the bridge says no"; on AIX the same by words (document 02, No. 1), and small
+//! structs of PPC64 as No. 2 mends them. A refusal leaves every buffer as it was.
 
 use crate::float_bits::{narrow, widen};
 use crate::types::round_up;
@@ -9,6 +9,7 @@ use crate::{
 };
 use std::ops::Range;
 
+const DOUBLEWORD: usize = 8;
 /// "GPR n at 8n, FPR n at 256 + 8n", 32 of each.
 const IMAGE: usize = 512;
 const FLOATING: usize = 256;
@@ -44,11 +45,11 @@ enum Form {
 fn form(convention: Convention, of: &Type, argument: &ArgumentPlan) -> Form {
     let in_floating = matches!(argument.places[..], [Place::Floating(_)]);
     match (convention, of) {
-        (_, Type::Integer(_)) => memory_form(of),
+        (_, Type::Integer(_)) => memory_form(convention, of),
         (Convention::Ppc64 | Convention::Aix, Type::Float(Float::Single)) if in_floating => {
             Form::Widened
         }
-        (Convention::Ppc64 | Convention::Aix, _) => memory_form(of),
+        (Convention::Ppc64 | Convention::Aix, _) => memory_form(convention, of),
         (Convention::Z, _) if argument.by_reference() => Form::Address,
         // "in the upper half of its FPR, lower half zero, and right-justified on the stack"
         (Convention::Z, _) if in_floating => Form::Head,
@@ -59,7 +60,7 @@ fn form(convention: Convention, of: &Type, argument: &ArgumentPlan) -> Form {
 
 /// How a value stands in the parameter save area of PPC64 or AIX, where "narrow wholes and structs
 /// fill 4-byte words as they fill doublewords on PPC64; a single is one word".
-fn memory_form(of: &Type) -> Form {
+fn memory_form(convention: Convention, of: &Type) -> Form {
     match of {
         // "wholes are sign- or zero-extended to 64 bits"
         Type::Integer(Integer::I8 | Integer::I16 | Integer::I32 | Integer::I64) => Form::SignedTail,
@@ -67,7 +68,11 @@ fn memory_form(of: &Type) -> Form {
         // "in memory it is the second word, the first zero"
         Type::Float(Float::Single) => Form::Tail,
         Type::Float(_) => Form::Head,
-        // "every struct starts at its first doubleword's head, zeros at its tail"
+        // "AIX structs keep the head rule for now"
+        Type::Struct(_) if convention == Convention::Aix => Form::Head,
+        // "a struct smaller than a doubleword in the least significant bytes; only larger ones are
+        // padded at the tail"
+        Type::Struct(_) if of.size(convention) < DOUBLEWORD => Form::Tail,
         Type::Struct(_) => Form::Head,
     }
 }
@@ -240,7 +245,7 @@ pub fn view(area: &[u8], signature: &[u8], index: u64) -> Result<Range<usize>, R
     let of = &signature.arguments[index as usize];
     let size = of.size(convention);
     let offset = powerpc_offset(&plan.arguments[index as usize]);
-    let start = match memory_form(of) {
+    let start = match memory_form(convention, of) {
         Form::Tail | Form::SignedTail => offset + round_up(size, convention.word()) - size,
         _ => offset,
     };
@@ -523,12 +528,12 @@ mod tests {
     }
 
     #[test]
-    fn structs_start_at_the_head_on_ppc64_and_stand_right_justified_on_z() {
+    fn small_structs_stand_right_justified_on_ppc64_and_on_z() {
         let two = "12 0008 10 0001 00 10 0001 00";
         let of = signature(PPC64, "", &[two, NESTED_SINGLE]);
         fills(&of, "0102 7f800001", &mut buffers(64, 0, 0), 0, |state| {
-            state.set_general(3, "0102000000000000");
-            state.set_general(4, "7f80000100000000");
+            state.set_general(3, "0000000000000102");
+            state.set_general(4, "000000007f800001");
         });
         let of = signature(Z, "", &[two, two, two, two, two, two]);
         let values = "0102 1112 2122 3132 4142 5152";
@@ -540,6 +545,41 @@ mod tests {
             }
             state.area.copy_from_slice(&hex("0000000000005152"));
         });
+    }
+
+    /// Structs of 1 to 17 bytes on PPC64, in registers and in memory: zeros above those of less
+    /// than a doubleword, and after the larger ones.
+    #[test]
+    fn only_structs_of_less_than_a_doubleword_have_zeros_above_on_ppc64() {
+        for size in 1..=17 {
+            let value: String = (1..=size).map(|byte| format!("{byte:02x}")).collect();
+            let zeros = "00".repeat(round_up(size, 8) - size);
+            let slot = match size {
+                1..=7 => format!("{zeros}{value}"),
+                _ => format!("{value}{zeros}"),
+            };
+            let of = bytes_struct(size);
+            let in_registers = signature(PPC64, "", &[&of]);
+            fills(&in_registers, &value, &mut buffers(64, 0, 0), 0, |state| {
+                for (at, doubleword) in slot.as_bytes().chunks(16).enumerate() {
+                    state.set_general(3 + at, std::str::from_utf8(doubleword).unwrap());
+                }
+            });
+            let in_memory = signature(PPC64, "", &[&[I64; 8][..], &[&of]].concat());
+            let values = format!("{}{value}", "11".repeat(64));
+            let end = 64 + round_up(size, 8);
+            fills(&in_memory, &values, &mut buffers(end, 0, 0), 0, |state| {
+                for register in 3..=10 {
+                    state.set_general(register, &"11".repeat(8));
+                }
+                state.area[64..].copy_from_slice(&hex(&slot));
+            });
+            let own = match size {
+                1..=7 => 72 - size..72,
+                _ => 64..64 + size,
+            };
+            assert_eq!(view(&vec![0; end], &in_memory, 8), Ok(own));
+        }
     }
 
     #[test]
@@ -640,7 +680,7 @@ mod tests {
         call.set_general(4, "1112131415161781");
         call.set_general(5, "2122232425262728");
         call.area = vec![0; 64];
-        assert_eq!(call.values(&of, 5), hex("1781 212223"));
+        assert_eq!(call.values(&of, 5), hex("1781 262728"));
     }
 
     #[test]
@@ -777,7 +817,7 @@ mod tests {
             "",
             &[I8, I16, I32, I64, SINGLE, DOUBLE, THREE, LONG_DOUBLE],
         );
-        let views = [7..8, 14..16, 20..24, 24..32, 36..40, 40..48, 48..51, 56..72];
+        let views = [7..8, 14..16, 20..24, 24..32, 36..40, 40..48, 53..56, 56..72];
         for (index, part) in views.into_iter().enumerate() {
             assert_eq!(view(&[0; 72], &of, index as u64), Ok(part));
         }

@@ -5,23 +5,23 @@ use borrow.Author.Needs.{needs}
 use Rattle.slots.proofs.starts_at_head.Statement.{statement}
 use Rattle.slots.proofs.starts_at_head.Tie as tie
 
-enum-told : tie.Need-enum-told
-enum-told c = search needs
+enum-known-r : tie.Need-enum-known-r
+enum-known-r c = search needs
 
 head-first-requires : tie.Need-head-first-requires
 head-first-requires c κs = search needs
 
-enum-told-2 : tie.Need-enum-told-2
-enum-told-2 c = search needs
+enum-told : tie.Need-enum-told
+enum-told c = search needs
 
 returns : tie.Need-returns
 unfolding startsAtHead
-returns c = c .head-first .ensures ∙ rw (c .before .enum-told .given .1)
+returns c = c .head-first .ensures ∙ rw (c .before .before .r .given .1)
 
 returns-2 : tie.Need-returns-2
 unfolding startsAtHead
-returns-2 c = rw (c .enum-told2 .given .1)
+returns-2 c = rw (c .enum-told .given .1)
 
 pub starts-at-head-spec : {M : Type 1} → statement M
 starts-at-head-spec =
-    tie.close (tie.spec enum-told head-first-requires enum-told-2 returns returns-2)
+    tie.close (tie.spec enum-known-r head-first-requires enum-told returns returns-2)

@@ -219,7 +219,8 @@ fn at_the_end(convention: Convention, argument: &Argument) -> bool {
         (Convention::Aix, _) => false,
         (_, Content::SignedInteger | Content::UnsignedInteger) => true,
         (Convention::Ppc64, Content::Float) => argument.floating.count == 0,
-        (Convention::Ppc64, Content::Other) => false,
+        // a struct of less than a doubleword
+        (Convention::Ppc64, Content::Other) => argument.size < 8,
         (Convention::Z, _) => argument.floating.count == 0,
     }
 }
