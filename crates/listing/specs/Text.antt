@@ -6,12 +6,12 @@ use Rattle.conventions.specs.declared.Convention.{Convention}
 use Rattle.items.specs.declared.Fault.{Fault}
 use Rattle.items.specs.Refusals.{numberOf}
 use Rattle.signature.specs.declared.Outcome.{Outcome}
-use Rattle.signature.specs.Read.{signatureOf}
 use Rattle.places.specs.declared.Span.{Span}
 use Rattle.places.specs.declared.ResultPlaces.{ResultPlaces}
 use Rattle.places.specs.Places.{registersOf}
 use Rattle.plan.specs.declared.Plan.{Plan}
 use Rattle.plan.specs.Plan.{planAnswer}
+use Rattle.plan.specs.Call.{callOf}
 use Rattle.text.specs.Decimals.{decimal}
 use Rattle.line.specs.Words.{newline}
 use Rattle.line.specs.Line.{placesText, lineText}
@@ -58,4 +58,4 @@ planText p = planTextBy (p .outcome) p
 
 -- of a signature's bytes
 unfoldable pub listingOf : List ℕ → List ℕ
-listingOf s = planText (planAnswer (signatureOf s))
+listingOf s = planText (planAnswer (callOf s))

@@ -14,6 +14,7 @@ use Rattle.items.specs.declared.Fault.{Fault}
 use Rattle.items.specs.Reading.{Reading, got, no}
 use Rattle.signature.specs.declared.Outcome.{Outcome}
 use Rattle.signature.specs.declared.SignatureRead.{SignatureRead}
+use Rattle.signature.specs.Limits.{maxArguments}
 use Rattle.signature.specs.Signature.{Signature}
 use Rattle.signature.specs.Read.{signatureOf}
 use Rattle.signature.specs.Answer.{resultType, signatureAnswer}
@@ -21,11 +22,12 @@ use Rattle.places.specs.declared.Cursor.{Cursor}
 use Rattle.places.specs.declared.Rules.{Rules}
 use Rattle.places.specs.Step.{Lawful, rulesOf, nextOf, startOf, unclearFor, alwaysClear, unclearAfter}
 use Rattle.places.proofs.Written.{always-clear}
+use Rattle.plan.specs.declared.Plan.{Plan}
 use Rattle.plan.specs.declared.Measured.{Measured}
 use Rattle.plan.specs.Plan.{lastOf, startIn, planIn, refused, planAnswer, planned, measureOf}
 use Rattle.plan.specs.Call.{firstUnclear, unclearIn, unclearOf, unclearFault, clearRead, called, callOf, measuredBy}
 use Rattle.plan.proofs.Fold.{Reached, reached-start, reached-more}
-use Rattle.plan.proofs.Answers.{table-types, planned-answer}
+use Rattle.plan.proofs.Answers.{table-types, planned-answer, outcome-read, answer-few}
 
 -- ---- the fold
 
@@ -178,3 +180,27 @@ pub unclear-measured : (u : ℕ) (m : Measured) (x : Reading Signature) → 0 < 
 unfolding measuredBy
 unclear-measured zero m x h = absurd (omega arith)
 unclear-measured (suc i) m x h = let same : suc i - 1 ≡ i = omega arith in rw same
+
+-- ---- its outcome
+
+pub clear-outcome : (x : Reading Signature) (g : SignatureRead) → g ≡ signatureAnswer x → unclearOf g ≡ 0 → g .outcome ≡ planAnswer (called x) .outcome
+clear-outcome x g e u =
+    ap (λ (y : SignatureRead). y .outcome) e ∙ sym (outcome-read x) ∙ ap (λ (y : Reading Signature). planAnswer y .outcome) (sym (called-clear x (sym (ap unclearOf e) ∙ u)))
+
+pub unclear-outcome : (x : Reading Signature) (g : SignatureRead) (i : ℕ) → g ≡ signatureAnswer x → unclearOf g ≡ suc i
+    → Outcome.Refused (unclearFault i x) ≡ planAnswer (called x) .outcome
+unclear-outcome x g i e u = ap (λ (p : Plan). p .outcome) (unclear-plan x g i e u)
+
+-- ---- its arguments
+
+few : (x : Reading Signature) → planAnswer x .count ≤ maxArguments → planAnswer (called x) .count ≤ maxArguments
+unfolding called planAnswer
+few (got g next n) h = go (unclearIn g)
+  where
+    go : (u : ℕ) → planAnswer (clearRead u g next n) .count ≤ maxArguments
+    go zero = h
+    go (suc i) = omega arith
+few (no f) h = h
+
+pub call-few : (s : List ℕ) → planAnswer (callOf s) .count ≤ maxArguments
+call-few s = few (signatureOf s) (answer-few s)

@@ -11,6 +11,7 @@ use Rattle.types.specs.Trees.{Trees}
 use Rattle.items.specs.declared.Refusal.{Refusal}
 use Rattle.items.specs.declared.Fault.{Fault}
 use Rattle.items.specs.Reading.{Reading, fault, got, no}
+use Rattle.signature.specs.declared.Outcome.{Outcome}
 use Rattle.signature.specs.declared.ResultType.{ResultType}
 use Rattle.signature.specs.declared.SignatureRead.{SignatureRead}
 use Rattle.signature.specs.Signature.{Signature}
@@ -22,7 +23,7 @@ use Rattle.places.specs.declared.Cursor.{Cursor}
 use Rattle.places.specs.declared.Rules.{Rules}
 use Rattle.places.specs.Step.{rulesOf, nextOf, unclearFor}
 use Rattle.plan.specs.declared.Measured.{Measured}
-use Rattle.plan.specs.Plan.{startIn, typesOf, typesIn, refused, measureOf}
+use Rattle.plan.specs.Plan.{startIn, typesOf, typesIn, refused, planAnswer, measureOf}
 
 -- Of the arguments from the cursor k on, i of which came before: the number of the first that is unclear, counted from 1; 0 where none is.
 unfoldable pub firstUnclear : Convention → Rules → Cursor → ℕ → List ValueType → ℕ
@@ -66,6 +67,10 @@ called (no f) = no f
 -- of a signature's bytes: the reading's refusals come first
 abbrev pub callOf : List ℕ → Reading Signature
 callOf s = called (signatureOf s)
+
+-- what a call is accepted or refused with; all else of it is the plan's of its reading
+abbrev pub outcomeFor : List ℕ → Outcome
+outcomeFor s = planAnswer (callOf s) .outcome
 
 -- ---- the sizes alone
 

@@ -17,7 +17,7 @@ ghost use Rattle.signature.specs.Read.{signatureOf};
 ghost use Rattle.plan.specs.Plan.{hiddenIn, resultIn, blankPlan, planned, planAnswer};
 ghost use Rattle.signature.specs.Answer.{signatureAnswer};
 ghost use Rattle.plan.specs.Limits.{SmallResult, Plannable};
-ghost use Rattle.plan.specs.Call.{itemIn, unclearFault, unclearOf, callOf};
+ghost use Rattle.plan.specs.Call.{itemIn, unclearFault, unclearOf, callOf, outcomeFor};
 
 // A plan without spans and sizes.
 fn blank(outcome: Outcome, convention: Convention, result: ResultPlaces, count: usize) -> Plan
@@ -160,8 +160,21 @@ pub fn unclear_fault(sig: &[u8], index: usize) -> Fault
     }
 }
 
-// The plan of a signature's bytes and what was read of them.
-pub fn plan_call(sig: &[u8], g: SignatureRead) -> Plan
+// The outcome of a call, by its signature's bytes and what was read of them.
+pub fn call_outcome(sig: &[u8], g: SignatureRead) -> Outcome
+    requires { ⌜ g ≡ signatureAnswer (signatureOf (now sig)) ⌝ }
+    ensures { λ o. ⌜ o ≡ outcomeFor (now (sig .entry)) ⌝ }
+{
+    let unclear = first_unclear(g);
+    if unclear == 0 {
+        return g.outcome;
+    }
+    let fault = unclear_fault(sig, unclear - 1);
+    Outcome::Refused(fault)
+}
+
+// The plan of a call, by the same.
+fn plan_call(sig: &[u8], g: SignatureRead) -> Plan
     requires { ⌜ g ≡ signatureAnswer (signatureOf (now sig)) ⌝ }
     ensures { λ p. ⌜ p ≡ planAnswer (callOf (now (sig .entry))) ⌝ }
 {

@@ -42,6 +42,7 @@ use Rattle.slots.specs.Forms.{roomOf, startsAtHead, homeBytes, ownStart, narrow
 use Rattle.slots.specs.Placements.{Placement, placements, wordsAt, floatAt, wordsValue, valueAt, valuesAt}
 use Rattle.slots.specs.Limits.{Held, All, sizesOf}
 use Rattle.slots.specs.Refusals.{firstOf, orElse, firstOfAll, floatAnswer, afterReading, isDone}
+use Rattle.plan.specs.Call.{outcomeFor}
 use Rattle.slots.specs.Arguments.{argumentsIn, argumentsOf, planFor, rulesFor, Carried}
 use Rattle.registers.specs.Registers.{gather}
 use Rattle.registers.proofs.Registers.{length-gather}
@@ -411,7 +412,7 @@ arguments-readable s base b image area done =
 
 -- what can be read can be homed, and then each view is the value read
 viewed : (s : List ℕ) (base : ℕ) (b : Buffers) → homeless (rulesFor s) ≡ false
-    → ((y : Answer) → y ≡ Answer.Done → afterReading (planFor s .outcome) y ≡ Answer.Done) → length (b .image) ≡ 512 → planFor s .area ≤ length (b .area)
+    → ((y : Answer) → y ≡ Answer.Done → afterReading (outcomeFor s) y ≡ Answer.Done) → length (b .image) ≡ 512 → planFor s .area ≤ length (b .area)
     → argumentsAnswer (rulesFor s) base (argumentsOf s) b ≡ Answer.Done
     → (All (λ (p : Placement). Readable (rulesFor s) base p b) (argumentsOf s) → All (FloatBytes (rulesFor s) base b) (argumentsOf s))
     → Viewed s (valuesAt (rulesFor s) base (argumentsOf s) b) b
@@ -484,7 +485,7 @@ hidden-stays s image area x e = go (homeAnswer s image (length area)) refl
 
     go : (a : Answer) → homeAnswer s image (length area) ≡ a → part 0 w (pick (isDone a) (homed (rulesFor s) (argumentsOf s) image area) area) ≡ part 0 w area
     go Answer.Done q =
-        let tests = or-done _ _ (reading-done (planFor s .outcome) _ q) .0 in
+        let tests = or-done _ _ (reading-done (outcomeFor s) _ q) .0 in
         let power = home-passed _ _ _ _ tests .homes in
         homed-kept (rulesFor s) (argumentsOf s) w 0 w image area (homes-follow s w power (starts-hidden (signatureOf s) x power e)) (omega arith)
     go (Answer.Unread f) q = refl
