@@ -7,7 +7,8 @@ ghost use lib.ListN.{length};
 ghost use Rattle.listing.specs.Text.{listingOf};
 ghost use Rattle.listing.specs.Writing.{printed};
 ghost use Rattle.signature.specs.Read.{signatureOf};
-ghost use Rattle.plan_words.specs.Entries.{entriesOf, tabled};
+ghost use Rattle.plan_entries.specs.Words.{tabled};
+ghost use Rattle.plan_words.specs.Entries.{entriesOf};
 ghost use Rattle.bridge_plans.specs.Plans.{sizesAnswer, plannedAnswer};
 
 // `fz_sizes`: the bytes that the values, the parameter area and the copies of a call take.
@@ -91,7 +92,7 @@ pub extern "C" fn fz_plan(sig: &[u8], places: &mut [u64]) -> PlanAnswer
         Outcome::Accepted(_) => {
             let convention = p.convention;
             let result = p.result;
-            let r = plan_words::result_words(result);
+            let r = plan_entries::result_words(result);
             PlanAnswer {
                 answer: Answer {
                     number: 0,
