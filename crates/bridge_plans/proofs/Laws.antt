@@ -10,8 +10,9 @@ use Rattle.plan.specs.declared.Measured.{Measured}
 use Rattle.plan.specs.Plan.{planIn, planAnswer, measureOf}
 use Rattle.conventions.specs.Numbers.{codeOf}
 use Rattle.plan_words.specs.declared.Planned.{Planned}
-use Rattle.plan_words.specs.declared.ResultWords.{ResultWords}
-use Rattle.plan_words.specs.Planned.{plannedOf, resultWords}
+use Rattle.plan_entries.specs.declared.ResultWords.{ResultWords}
+use Rattle.plan_words.specs.Planned.{plannedOf}
+use Rattle.plan_entries.specs.Results.{resultWords}
 use Rattle.answers.specs.declared.Answer.{Answer}
 use Rattle.answers.specs.Answers.{yes}
 use Rattle.faults.specs.Faults.{faultAnswer}

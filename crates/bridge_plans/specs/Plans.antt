@@ -4,8 +4,8 @@ use Rattle.items.specs.Reading.{Reading, got, no}
 use Rattle.signature.specs.Signature.{Signature}
 use Rattle.plan.specs.declared.Plan.{Plan}
 use Rattle.plan.specs.Plan.{planAnswer}
-use Rattle.plan_words.specs.declared.ResultWords.{ResultWords}
-use Rattle.plan_words.specs.Planned.{resultWords}
+use Rattle.plan_entries.specs.declared.ResultWords.{ResultWords}
+use Rattle.plan_entries.specs.Results.{resultWords}
 use Rattle.answers.specs.declared.Answer.{Answer}
 use Rattle.answers.specs.Answers.{yes}
 use Rattle.faults.specs.Faults.{faultAnswer}

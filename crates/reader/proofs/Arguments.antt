@@ -55,7 +55,7 @@ module _ (c : Convention) (start : ℕ) where
 -- here is the type with that number.
 
 module _ (c : Convention) (s : List ℕ) (e start : ℕ) (short : length s ≤ maxLength) (within : e ≤ length s) where
-  type-is : (at : ℕ) → typeIn c s at e ≡ itemAt c 8 s e at
+  pub type-is : (at : ℕ) → typeIn c s at e ≡ itemAt c 8 s e at
   unfolding typeIn
   type-is at = rw (le-ltb maxLength (length s) short, ← (end-within s e within))
 

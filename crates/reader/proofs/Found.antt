@@ -28,12 +28,14 @@ use Rattle.signature.specs.declared.HeadRead.{HeadRead}
 use Rattle.signature.specs.Signature.{Result, Head}
 use Rattle.signature.specs.Read.{conventionAt, resultAt, argumentsIn, signatureOf, headBy, headAfter, headOf}
 use Rattle.signature.specs.Encode.{encodeResult}
-use Rattle.signature.specs.Answer.{headAnswer}
+use Rattle.signature.specs.Answer.{resultType, headAnswer}
 use Rattle.signature.proofs.Laws.{head-got, thenArguments, afterHead, signature-head}
 use Rattle.signature.proofs.Loop.{Turn, turn-start, turn-last}
 use Rattle.signature.proofs.Sound.{convention-read, result-read}
 use Rattle.reader.specs.declared.ArgumentRead.{ArgumentRead}
+use Rattle.reader.specs.Step.{typeIn}
 use Rattle.reader.specs.Argument.{argumentIn, argumentAnswer, argumentWith, notedAs}
+use Rattle.reader.proofs.Arguments.{type-is}
 
 -- ---- where the arguments' items start
 
@@ -55,9 +57,10 @@ head-starts s = by-choose (Got Starts) (ltb maxLength (length s)) _ _ (λ _. tt)
     go c at n first r next m second (Body.To b) = omega (arith, convention-read s c at n first .ends, result-read c s at r next m second .ends)
     go c at n first r next m second (Body.Refused x) = tt
 
--- the whole, from its head on: the result's tree is gone but for the length of its encoding
+-- the whole, from its head on: the result's tree is gone but for its type and the length of its encoding
 pub record Begun (s : List ℕ) (c : Convention) (t : ResultType) (at b n : ℕ) : Type 0 where
   pub result : Result
+  pub same : t ≡ resultType c result
   pub starts : at ≡ 10 + length (encodeResult result)
   pub whole : signatureOf s ≡ thenArguments s c result n (argumentsIn c s at b)
 
@@ -66,6 +69,7 @@ begun s x found c t at b n q =
     let (r, read, same) = head-got (headOf s) c t at b n (sym q ∙ found) in
     record {
       result = r;
+      same = same;
       starts = rw read at (head-starts s);
       whole = signature-head s ∙ ap (λ (y : Reading Head). andThen y (afterHead s)) read;
     }
@@ -99,6 +103,11 @@ further c s at e ts count next n turn ends h some x found t after j q =
       };
       ends = let r = item-read c 8 s e next tree after j read in omega (arith, ends, r .ends, length-append (encodeTrees ts) (encodeTree tree));
     }
+
+-- a reader of the arguments' part finds what the whole reading finds there
+pub part-read : (c : Convention) (s : List ℕ) (at e : ℕ) → length s ≤ maxLength → e ≤ length s → (x : ItemRead) → x ≡ itemAnswer c (typeIn c s at e) →
+    x ≡ itemAnswer c (itemAt c 8 s e at)
+part-read c s at e short within x found = found ∙ ap (itemAnswer c) (type-is c s e 0 short within at)
 
 -- ---- one of the arguments
 

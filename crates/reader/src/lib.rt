@@ -1,6 +1,6 @@
 // A reader that keeps a signature's bytes and its place in them together, to step through items one by one; and above it a
-// function over plain bytes, for every other caller. Functions over bytes and numbers do the work: the reader's own only take
-// it apart and put it together.
+// function over plain bytes, for every other caller, which steps with readers. Functions over bytes and numbers do the work: the
+// reader's own only take it apart and put it together.
 use conventions::Convention;
 use items::Body;
 use items::Fault;
@@ -13,6 +13,7 @@ ghost use mathlib.Core.Path.{_≡_};
 ghost use Prim.Native.Nat.{_^_, _≤_};
 ghost use lib.ListN.{length};
 ghost use Rattle.items.specs.Answer.{itemAnswer};
+ghost use Rattle.signature.specs.Limits.{maxLength};
 ghost use Rattle.signature.specs.Read.{argumentsIn, signatureOf};
 ghost use Rattle.reader.specs.Step.{endIn, leftAt, bodyIn, headerIn, bodyStart, bodyEnd, typeIn, placeAfter};
 ghost use Rattle.reader.specs.Reader.{started, skipped, entered, advanced};
@@ -204,6 +205,17 @@ impl<'a> Reader<'a> {
     }
 }
 
+// The type item at `at`, by a reader of the part up to `end`.
+fn type_of_part(s: &[u8], at: usize, end: usize, c: Convention) -> ItemRead
+    ensures { λ r. ⌜ r ≡ itemAnswer c (typeIn c (now (s .entry)) at end) ⌝ }
+{
+    Reader {
+        signature: s,
+        at,
+        end,
+    }.type_item(c)
+}
+
 // What is known of argument number `index` after argument number `count`, of this type and at this place.
 fn noted(
     found: ArgumentRead,
@@ -230,7 +242,7 @@ fn argument_from(
     earlier: usize,
     index: usize,
 ) -> ArgumentRead
-    requires { ⌜ (at ≤ end) × (end ≤ length (now s)) × (end ≤ 2 ^ 16) × (earlier ≤ 2 ^ 16) ⌝ }
+    requires { ⌜ (at ≤ end) × (end ≤ length (now s)) × (length (now s) ≤ maxLength) × (earlier ≤ 2 ^ 16) ⌝ }
     ensures { λ r. ⌜ r ≡ argumentWith c at earlier (length (now (s .entry))) index (argumentsIn c (now (s .entry)) at end) ⌝ }
 {
     let mut found = ArgumentRead::Missing;
@@ -245,7 +257,7 @@ fn argument_from(
                 passed: earlier + items,
             });
         }
-        match nested_items::read_item(s, c, next, end, 8) {
+        match type_of_part(s, next, end, c) {
             ItemRead::Item {
                 ty,
                 next: after,

@@ -1,11 +1,12 @@
 -- The laws of sizes, alignments and layouts: bounds first, then what closing a struct finds. Assumes nothing.
-use mathlib.Core.Path.{_≡_}
+use mathlib.Core.Path.{_≡_, refl}
 use Prim.Native.Nat.{_+_, _≤_, _<_}
 use native.Mathlib.Omega.{arith}
 use borrow.Author.Tests.{lt-ltb, le-ltb}
 use Rattle.words.specs.Basics.{roundUp}
 use Rattle.words.proofs.Basics.{round-up-least, round-up-most}
 use Rattle.conventions.specs.declared.Convention.{Convention}
+use Rattle.conventions.specs.Numbers.{wordBytes}
 use Rattle.conventions.proofs.Laws.{word-bounds}
 use Rattle.types.specs.declared.IntegerKind.{IntegerKind}
 use Rattle.types.specs.declared.FloatFormat.{FloatFormat}
@@ -15,6 +16,18 @@ use Rattle.types.specs.declared.Fields.{Fields}
 use Rattle.types.specs.declared.Closed.{Closed}
 use Rattle.types.specs.Sizes.{integerSize, floatSize, alignOf, Sized}
 use Rattle.types.specs.Structs.{noFields, withField, shapeOf, closed}
+
+-- of a convention, an integer's size knows the word alone
+pub integer-by-word : (c d : Convention) (k : IntegerKind) → wordBytes c ≡ wordBytes d → integerSize c k ≡ integerSize d k
+integer-by-word c d IntegerKind.I8 e = refl
+integer-by-word c d IntegerKind.U8 e = refl
+integer-by-word c d IntegerKind.I16 e = refl
+integer-by-word c d IntegerKind.U16 e = refl
+integer-by-word c d IntegerKind.I32 e = refl
+integer-by-word c d IntegerKind.U32 e = refl
+integer-by-word c d IntegerKind.I64 e = refl
+integer-by-word c d IntegerKind.U64 e = refl
+integer-by-word c d IntegerKind.Pointer e = e
 
 -- a type that is no struct is small
 

@@ -58,8 +58,10 @@ pub fn lacks_float(c: Convention, inside: bool, f: FloatFormat) -> bool
     }
 }
 
-pub fn integer_size(c: Convention, k: IntegerKind) -> usize
-    ensures { λ r. ⌜ r ≡ integerSize c k ⌝ }
+// The size of an integer where a pointer has 8 bytes, and where it has 4. Numbers alone, which are looked up: where a pointer's case asked for
+// the convention, each kind would be a jump, and which one comes next can't be foreseen.
+fn wide_size(k: IntegerKind) -> usize
+    ensures { λ r. ⌜ r ≡ integerSize Convention.Ppc64 k ⌝ }
 {
     match k {
         IntegerKind::I8 => 1,
@@ -70,7 +72,33 @@ pub fn integer_size(c: Convention, k: IntegerKind) -> usize
         IntegerKind::U32 => 4,
         IntegerKind::I64 => 8,
         IntegerKind::U64 => 8,
-        IntegerKind::Pointer => conventions::word_bytes(c),
+        IntegerKind::Pointer => Convention::PPC64_WORD,
+    }
+}
+
+fn narrow_size(k: IntegerKind) -> usize
+    ensures { λ r. ⌜ r ≡ integerSize Convention.Aix k ⌝ }
+{
+    match k {
+        IntegerKind::I8 => wide_size(k),
+        IntegerKind::U8 => wide_size(k),
+        IntegerKind::I16 => wide_size(k),
+        IntegerKind::U16 => wide_size(k),
+        IntegerKind::I32 => wide_size(k),
+        IntegerKind::U32 => wide_size(k),
+        IntegerKind::I64 => wide_size(k),
+        IntegerKind::U64 => wide_size(k),
+        IntegerKind::Pointer => Convention::AIX_WORD,
+    }
+}
+
+pub fn integer_size(c: Convention, k: IntegerKind) -> usize
+    ensures { λ r. ⌜ r ≡ integerSize c k ⌝ }
+{
+    match c {
+        Convention::Ppc64 => wide_size(k),
+        Convention::Z => wide_size(k),
+        Convention::Aix => narrow_size(k),
     }
 }
 

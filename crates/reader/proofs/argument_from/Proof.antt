@@ -7,7 +7,7 @@ use Rattle.items.proofs.Laws.{later-later}
 use Rattle.items.proofs.Loop.{item-answered, fault-answered}
 use Rattle.signature.proofs.Loop.{turn-full, turn-no}
 use Rattle.reader.specs.declared.ArgumentRead.{ArgumentRead}
-use Rattle.reader.proofs.Found.{Noting, noting-start, noting-more, noting-trailing, noting-end, noting-no}
+use Rattle.reader.proofs.Found.{Noting, noting-start, noting-more, noting-trailing, noting-end, noting-no, part-read}
 use Rattle.reader.proofs.argument_from.Statement.{statement}
 use Rattle.reader.proofs.argument_from.Tie as tie
 
@@ -26,8 +26,8 @@ add-t18 c = omega arith
 returns : tie.Need-returns Inv-loop μ-loop
 returns c = noting-no _ _ _ _ _ _ (turn-full _ _ _ _ _ _ _ _ (c .before .before .loop .inv .turn) (c .before .loop-test .taken) (c .if1 .taken)) _ _
 
-read-item-requires : tie.Need-read-item-requires Inv-loop μ-loop
-read-item-requires c κs = omega arith
+type-of-part-requires : tie.Need-type-of-part-requires Inv-loop μ-loop
+type-of-part-requires c κs = search needs
 
 enum-known-ty : tie.Need-enum-known-ty Inv-loop μ-loop
 enum-known-ty c = search needs
@@ -39,13 +39,13 @@ add-count : tie.Need-add-count Inv-loop μ-loop
 add-count c = omega (arith, c .before .before .before .before .before .before .before .loop .inv .turn .few)
 
 add-items : tie.Need-add-items Inv-loop μ-loop
-add-items c = let a = item-answered _ _ _ _ _ _ _ _ _ (omega arith) (c .before .before .before .before .read-item .ensures) (c .before .before .ty .given .1) in let turn = c .before .before .before .before .before .before .before .loop .inv .turn in omega (arith, turn .third, turn .within, a .third, a .inside, c .before .before .before .before .before .before .before .before .before .pre .2)
+add-items c = let a = item-answered _ _ _ _ _ _ _ _ _ (omega arith) (part-read _ _ _ _ (c .before .before .before .before .before .before .before .before .before .pre .2) (c .before .before .before .before .before .before .before .before .before .pre .1) _ (c .before .before .before .before .type-of-part .ensures)) (c .before .before .ty .given .1) in let turn = c .before .before .before .before .before .before .before .loop .inv .turn in omega (arith, turn .third, turn .within, a .third, a .inside, c .before .before .before .before .before .before .before .before .before .pre .2)
 
 loop-less : tie.Need-loop-less Inv-loop μ-loop
-loop-less c = let a = item-answered _ _ _ _ _ _ _ _ _ (omega arith) (c .before .before .before .before .read-item .ensures) (c .before .before .ty .given .1) in omega arith
+loop-less c = let a = item-answered _ _ _ _ _ _ _ _ _ (omega arith) (part-read _ _ _ _ (c .before .before .before .before .before .before .before .before .before .pre .2) (c .before .before .before .before .before .before .before .before .before .pre .1) _ (c .before .before .before .before .type-of-part .ensures)) (c .before .before .ty .given .1) in omega arith
 
 loop-again : tie.Need-loop-again Inv-loop μ-loop
-loop-again c = rw (c .noted .ensures) (noting-more _ _ _ _ _ _ _ _ _ (c .before .before .before .before .before .before .before .loop .inv) (c .before .before .before .before .before .before .loop-test .taken) (c .before .before .before .before .before .if1 .left) _ (c .before .before .before .before .read-item .ensures) _ _ _ (c .before .before .ty .given .1))
+loop-again c = rw (c .noted .ensures) (noting-more _ _ _ _ _ _ _ _ _ (c .before .before .before .before .before .before .before .loop .inv) (c .before .before .before .before .before .before .loop-test .taken) (c .before .before .before .before .before .if1 .left) _ (part-read _ _ _ _ (c .before .before .before .before .before .before .before .before .before .pre .2) (c .before .before .before .before .before .before .before .before .before .pre .1) _ (c .before .before .before .before .type-of-part .ensures)) _ _ _ (c .before .before .ty .given .1))
 
 enum-known-fault : tie.Need-enum-known-fault Inv-loop μ-loop
 enum-known-fault c = search needs
@@ -54,12 +54,12 @@ add-later-by : tie.Need-add-later-by Inv-loop μ-loop
 add-later-by c = omega arith
 
 later-by-requires : tie.Need-later-by-requires Inv-loop μ-loop
-later-by-requires c κs = let a = fault-answered _ _ _ _ _ _ _ (omega arith) (c .before .before .before .read-item .ensures) (c .before .fault .given .1) in omega arith
+later-by-requires c κs = let a = fault-answered _ _ _ _ _ _ _ (omega arith) (part-read _ _ _ _ (c .before .before .before .before .before .before .before .before .pre .2) (c .before .before .before .before .before .before .before .before .pre .1) _ (c .before .before .before .type-of-part .ensures)) (c .before .fault .given .1) in omega arith
 
 returns-2 : tie.Need-returns-2 Inv-loop μ-loop
 returns-2 c =
     ap ArgumentRead.Refused (c .later-by .ensures ∙ later-later _ _ _)
-    ∙ noting-no _ _ _ _ _ _ (turn-no _ _ _ _ _ _ _ _ (c .before .before .before .before .before .before .before .loop .inv .turn) (c .before .before .before .before .before .before .loop-test .taken) (c .before .before .before .before .before .if1 .left) _ (c .before .before .before .before .read-item .ensures) _ (c .before .before .fault .given .1)) _ _
+    ∙ noting-no _ _ _ _ _ _ (turn-no _ _ _ _ _ _ _ _ (c .before .before .before .before .before .before .before .loop .inv .turn) (c .before .before .before .before .before .before .loop-test .taken) (c .before .before .before .before .before .if1 .left) _ (part-read _ _ _ _ (c .before .before .before .before .before .before .before .before .before .pre .2) (c .before .before .before .before .before .before .before .before .before .pre .1) _ (c .before .before .before .before .type-of-part .ensures)) _ (c .before .before .fault .given .1)) _ _
 
 add-counted : tie.Need-add-counted Inv-loop μ-loop
 add-counted c = omega arith
@@ -79,7 +79,7 @@ argument-from-spec =
     loop-holds
     add-t18
     returns
-    read-item-requires
+    type-of-part-requires
     enum-known-ty
     noted-requires
     add-count

@@ -45,6 +45,29 @@ pub fn table_at_once(bytes: &[u8], words: &mut [u64]) -> Result<[u64; 11], Refus
     Ok(head(convention, result, sizes, lent.count))
 }
 
+/// The same promise in two passes: everything is known before the first entry is written, and nothing
+/// is kept.
+pub fn table_in_two_passes(bytes: &[u8], words: &mut [u64]) -> Result<[u64; 11], Refusal> {
+    let mut counted = Counted { count: 0 };
+    let (convention, result, sizes) = place(bytes, &mut counted)?;
+    if words.len() >= ENTRY * counted.count {
+        table_at_once(bytes, words)?;
+    }
+    Ok(head(convention, result, sizes, counted.count))
+}
+
+struct Counted {
+    count: usize,
+}
+
+impl Keeper for Counted {
+    fn expect(&mut self, _most: usize) {}
+
+    fn keep(&mut self, _argument: Argument, _item: usize) {
+        self.count += 1;
+    }
+}
+
 struct Kept {
     /// Each with the place of its item.
     arguments: [(Argument, u16); MOST_ARGUMENTS],

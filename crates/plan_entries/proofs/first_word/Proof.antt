@@ -1,8 +1,8 @@
 -- By the test.
 use borrow.Author.Needs.{needs}
 use borrow.Author.Tests.{eq-eqb, ne-eqb}
-use Rattle.plan_words.proofs.first_word.Statement.{statement}
-use Rattle.plan_words.proofs.first_word.Tie as tie
+use Rattle.plan_entries.proofs.first_word.Statement.{statement}
+use Rattle.plan_entries.proofs.first_word.Tie as tie
 
 returns : tie.Need-returns
 returns c = rw (eq-eqb _ _ (c .if1 .taken))

@@ -1,10 +1,10 @@
 use borrow.Author.Needs.{needs}
 use mathlib.Core.Path.{_∙_}
-use Rattle.plan_words.proofs.result_words.Statement.{statement}
-use Rattle.plan_words.proofs.result_words.Tie as tie
-use Rattle.plan_words.proofs.result_words.Reads as reads
-use Rattle.plan_words.proofs.result_words.Lts as lts
-use Rattle.plan_words.proofs.register_words.Reads as register-words-reads
+use Rattle.plan_entries.proofs.result_words.Statement.{statement}
+use Rattle.plan_entries.proofs.result_words.Tie as tie
+use Rattle.plan_entries.proofs.result_words.Reads as reads
+use Rattle.plan_entries.proofs.result_words.Lts as lts
+use Rattle.plan_entries.proofs.register_words.Reads as register-words-reads
 
 -- src/lib.rt:178:34
 enum-told : tie.Need-enum-told

@@ -1,0 +1,3 @@
+-- The words of a plan. Assumes nothing.
+pub mod Words
+pub mod Results

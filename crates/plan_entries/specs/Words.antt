@@ -1,0 +1,34 @@
+-- One argument's places in 64-bit words, and the table that the caller lends for them (`fz_place` of include/flakuzhen.h). The form is ours;
+-- what stands in it is document 01's. Assumes nothing.
+use Prim.Native.Nat.{ℕ}
+use mathlib.Core.List.{List, [], _∷_}
+use lib.ListN.{length}
+use lib.Dec.{ltb, eqb}
+use Rattle.words.specs.Basics.{pick}
+use Rattle.words.specs.Splice.{overlay}
+use Rattle.places.specs.declared.RegisterRange.{RegisterRange}
+use Rattle.places.specs.declared.ByteRange.{ByteRange}
+use Rattle.places.specs.declared.Span.{Span}
+
+-- where a range starts: 0 for one that is not used
+abbrev pub firstWord : RegisterRange → ℕ
+firstWord r = pick (eqb (r .count) 0) 0 (r .first)
+
+abbrev pub startWord : ByteRange → ℕ
+startWord r = pick (eqb (r .length) 0) 0 (r .start)
+
+-- where the type item stands in the signature; the value's size, and where it starts in the values; the general and the floating
+-- registers; the bytes of the area, used or not, and those of them that hold it; the copy
+unfoldable pub entryWords : ℕ → ℕ → ℕ → Span → List ℕ
+entryWords item size value s =
+    item ∷ size ∷ value
+    ∷ firstWord (s .general) ∷ s .general .count
+    ∷ firstWord (s .floating) ∷ s .floating .count
+    ∷ startWord (s .home) ∷ s .home .length
+    ∷ startWord (s .memory) ∷ s .memory .length
+    ∷ startWord (s .copy) ∷ s .copy .length
+    ∷ []
+
+-- One that is too short for all entries is left as it was, and what lies past the last entry stays (docs/DECISIONS.md).
+abbrev pub tabled : List ℕ → List ℕ → List ℕ
+tabled table ws = pick (ltb (length table) (length ws)) table (overlay table ws)

@@ -1,0 +1,62 @@
+-- The table's words from the arguments on: the same entries as of a whole reading (law `rows-entries`). Assumes nothing.
+use Prim.Native.Nat.{ℕ, zero, suc, _+_, _*_, _≤_}
+use mathlib.Core.List.{List, [], _++_}
+use lib.Dec.{ltb}
+use lib.ListN.{length}
+use Rattle.words.specs.Basics.{pick}
+use Rattle.conventions.specs.declared.Convention.{Convention}
+use Rattle.types.specs.Sizes.{sizeOf}
+use Rattle.types.specs.Trees.{Trees, none, _▸_, typeOf}
+use Rattle.items.specs.Reading.{Reading, got, no}
+use Rattle.items.specs.Encode.{encodeTrees}
+use Rattle.signature.specs.Limits.{maxArguments}
+use Rattle.signature.specs.declared.ResultType.{ResultType}
+use Rattle.signature.specs.Signature.{Signature}
+use Rattle.places.specs.Step.{rulesOf, spanOf}
+use Rattle.plan.specs.Plan.{endIn, valuesOf, typesOf, refused, planWith}
+use Rattle.plan.specs.Call.{unclearWith, unclearFault}
+use Rattle.plan.specs.Limits.{SmallResult}
+use Rattle.plan_entries.specs.Words.{entryWords}
+use Rattle.plan_words.specs.declared.Planned.{Planned}
+use Rattle.plan_words.specs.Planned.{plannedOf}
+
+-- the place of the item after those of the arguments ts, which stand one after the other from `at` on
+abbrev pub itemAfter : ℕ → Trees → ℕ
+itemAfter at ts = at + length (encodeTrees ts)
+
+-- the entries of the arguments ts, whose items stand from `at` on: each stands where the cursor is after those before it, and its value after
+-- theirs
+unfoldable pub rowsOf : Convention → ResultType → ℕ → Trees → List ℕ
+rowsOf c r at none = []
+rowsOf c r at (ts ▸ t) =
+    rowsOf c r at ts
+    ++ entryWords (itemAfter at ts) (sizeOf c (typeOf c t)) (valuesOf c (typesOf c ts)) (spanOf (rulesOf c) (endIn c r (typesOf c ts)) (typeOf c t) (sizeOf c (typeOf c t)))
+
+-- from the arguments on, in a signature of `all` bytes, as `planWith` of the plan
+abbrev pub rowsWith : Convention → ResultType → ℕ → ℕ → Reading Trees → List ℕ
+rowsWith c r at all (got ts next m) = pick (ltb next all) [] (rowsOf c r at ts)
+rowsWith c r at all (no f) = []
+
+-- the same of a call, which the reading x is of: refused by 29 where argument number u, counted from 1, is the first unclear one
+unfoldable pub plannedBy : ℕ → Planned → Reading Signature → Planned
+plannedBy zero p x = p
+plannedBy (suc i) p x = plannedOf (refused (unclearFault i x))
+
+unfoldable pub rowsBy : ℕ → List ℕ → List ℕ
+rowsBy zero rows = rows
+rowsBy (suc i) rows = []
+
+abbrev pub planCalled : Convention → ResultType → ℕ → ℕ → Reading Trees → Reading Signature → Planned
+planCalled c r n all y x = plannedBy (unclearWith c r all y) (plannedOf (planWith c r n all y)) x
+
+abbrev pub rowsCalled : Convention → ResultType → ℕ → ℕ → Reading Trees → List ℕ
+rowsCalled c r at all y = rowsBy (unclearWith c r all y) (rowsWith c r at all y)
+
+-- what the planner asks of the result's type: refusal 8 has passed it wherever the signature is accepted
+abbrev pub SmallWith : Convention → ResultType → ℕ → Reading Trees → Type 0
+SmallWith c r all (got ts next m) = all ≤ next → SmallResult c r
+SmallWith c r all (no f) = Unit {0}
+
+-- and of the room for what is kept: n words for as many arguments as can stand between `at` and e
+abbrev pub KeepsAll : ℕ → ℕ → ℕ → Type 0
+KeepsAll at e n = (i : ℕ) → i ≤ maxArguments → at + 3 * i ≤ e → 13 * i ≤ n
