@@ -1,14 +1,11 @@
-// The header of an item, and the items that have none in them: an integer, a float.
+// The items that have none in them: an integer, a float.
 ghost use mathlib.Core.Path.{_≡_};
-ghost use Prim.Native.Nat.{_+_, _*_, _≤_};
+ghost use Prim.Native.Nat.{_+_, _≤_};
 ghost use lib.Dec.{ltb};
 ghost use lib.ListN.{length};
-ghost use Rattle.items.specs.Read.{bodyAt, integerCode, floatCode, integerAt, floatOf, floatAt};
-ghost use Rattle.items.specs.Reading.{fault};
+ghost use Rattle.items.specs.Read.{integerCode, floatCode, integerAt, floatOf, floatAt};
 ghost use Rattle.items.specs.Answer.{itemAnswer};
 use conventions::Convention;
-use items::Body;
-use items::Fault;
 use items::FloatCode;
 use items::IntegerCode;
 use items::ItemRead;
@@ -45,53 +42,13 @@ fn float_code(code: u8) -> FloatCode
     }
 }
 
-// A big-endian number of two bytes.
-fn two_bytes(high: u8, low: u8) -> usize
-    ensures { λ r. ⌜ r ≡ high * 256 + low ⌝ }
-{
-    (high as usize) * 256 + (low as usize)
-}
-
-// The header of the item at `at`, which stands within `end` and may have the tags `low` to `high`.
-pub fn read_body(s: &[u8], low: u8, high: u8, at: usize, end: usize) -> Body
-    requires { ⌜ (at ≤ end) × (end ≤ length (now s)) ⌝ }
-    ensures { λ r. ⌜ r ≡ bodyAt (now (s .entry)) low high end at ⌝ }
-{
-    if end - at < 3 {
-        return Body::Refused(Refusal::Truncated);
-    }
-    let tag = s[at];
-    if tag < low {
-        return Body::Refused(Refusal::UnexpectedTag);
-    }
-    if high < tag {
-        return Body::Refused(Refusal::UnexpectedTag);
-    }
-    let length = two_bytes(s[at + 1], s[at + 2]);
-    if end - (at + 3) < length {
-        return Body::Refused(Refusal::Truncated);
-    }
-    Body::To(at + 3 + length)
-}
-
-// A fault of the item at `at` itself, whose own header is not counted.
-pub fn refused_here(reason: Refusal, at: usize) -> ItemRead
-    ensures { λ r. ⌜ r ≡ ItemRead.Refused (fault reason at 0) ⌝ }
-{
-    ItemRead::Refused(Fault {
-        reason,
-        place: at,
-        passed: 0,
-    })
-}
-
 // The integer item at `at`, whose body ends at `end`.
 pub fn read_integer(s: &[u8], c: Convention, at: usize, end: usize) -> ItemRead
     requires { ⌜ (at + 3 ≤ end) × (end ≤ length (now s)) ⌝ }
     ensures { λ r. ⌜ r ≡ itemAnswer c (integerAt (now (s .entry)) at end) ⌝ }
 {
     if end - at != 4 {
-        return refused_here(Refusal::Malformed, at);
+        return item_headers::refused_here(Refusal::Malformed, at);
     }
     match integer_code(s[at + 3]) {
         IntegerCode::Kind(k) => ItemRead::Item {
@@ -99,7 +56,7 @@ pub fn read_integer(s: &[u8], c: Convention, at: usize, end: usize) -> ItemRead
             next: end,
             items: 1,
         },
-        IntegerCode::Unknown => refused_here(Refusal::Malformed, at),
+        IntegerCode::Unknown => item_headers::refused_here(Refusal::Malformed, at),
     }
 }
 
@@ -109,7 +66,7 @@ fn float_item(c: Convention, f: FloatFormat, at: usize, end: usize, depth: usize
 {
     let inside = depth < 8;
     if types::lacks_float(c, inside, f) {
-        return refused_here(Refusal::FloatNotCarried, at);
+        return item_headers::refused_here(Refusal::FloatNotCarried, at);
     }
     ItemRead::Item {
         ty: ValueType::Float(f),
@@ -124,7 +81,7 @@ pub fn read_float(s: &[u8], c: Convention, at: usize, end: usize, depth: usize) 
     ensures { λ r. ⌜ r ≡ itemAnswer c (floatAt c (now (s .entry)) (ltb depth 8) at end) ⌝ }
 {
     if end - at != 4 {
-        return refused_here(Refusal::Malformed, at);
+        return item_headers::refused_here(Refusal::Malformed, at);
     }
     match float_code(s[at + 3]) {
         FloatCode::Format(f) => match f {
@@ -132,12 +89,12 @@ pub fn read_float(s: &[u8], c: Convention, at: usize, end: usize, depth: usize) 
             FloatFormat::Double => float_item(c, FloatFormat::Double, at, end, depth),
             FloatFormat::LongDouble => {
                 if depth < 8 {
-                    refused_here(Refusal::LongDoubleInStruct, at)
+                    item_headers::refused_here(Refusal::LongDoubleInStruct, at)
                 } else {
                     float_item(c, FloatFormat::LongDouble, at, end, depth)
                 }
             }
         },
-        FloatCode::Unknown => refused_here(Refusal::Malformed, at),
+        FloatCode::Unknown => item_headers::refused_here(Refusal::Malformed, at),
     }
 }

@@ -38,8 +38,8 @@ pub fn read_item(s: &[u8], c: Convention, at: usize, end: usize, depth: usize) -
     requires { ⌜ (at ≤ end) × (end ≤ length (now s)) × (end ≤ 2 ^ 16) × (depth ≤ 8) ⌝ }
     ensures { λ r. ⌜ r ≡ itemAnswer c (itemAt c depth (now (s .entry)) end at) ⌝ }
 {
-    match leaf_items::read_body(s, 0x10, 0x12, at, end) {
-        Body::Refused(reason) => leaf_items::refused_here(reason, at),
+    match item_headers::read_body(s, 0x10, 0x12, at, end) {
+        Body::Refused(reason) => item_headers::refused_here(reason, at),
         Body::To(to) => {
             let tag = s[at];
             if tag == 0x10 {
@@ -59,10 +59,10 @@ fn read_struct(s: &[u8], c: Convention, at: usize, end: usize, depth: usize) -> 
     ensures { λ r. ⌜ r ≡ itemAnswer c (structAt c depth (now (s .entry)) at end) ⌝ }
 {
     if depth == 0 {
-        return leaf_items::refused_here(Refusal::TooDeep, at);
+        return item_headers::refused_here(Refusal::TooDeep, at);
     }
     if end - at == 3 {
-        return leaf_items::refused_here(Refusal::Malformed, at);
+        return item_headers::refused_here(Refusal::Malformed, at);
     }
     let mut fields = layout::no_fields();
     let mut next = at + 3;

@@ -26,9 +26,9 @@ use Rattle.signature.specs.Read.{conventionBy, conventionAt, resultIn, resultAt
 use Rattle.signature.specs.Encode.{encodeResult}
 use Rattle.signature.proofs.Sound.{convention-read, result-read}
 use Rattle.reader.specs.declared.ArgumentRead.{ArgumentRead}
-use Rattle.reader.specs.Step.{bodyIn, bodyStart, bodyEnd, typeIn}
+use Rattle.stepping.specs.Step.{bodyIn, bodyStart, bodyEnd, typeIn}
 use Rattle.reader.specs.Argument.{argumentIn, argumentsStart, steppedTo}
-use Rattle.reader.proofs.Laws.{end-within, body-here, start-found, end-found}
+use Rattle.stepping.proofs.Laws.{end-within, body-here, start-found, end-found}
 
 -- readings: what was got is what the reading is, and what follows from what holds of it
 

@@ -16,9 +16,9 @@ use Rattle.items.specs.Read.{bodyAt, integerCode, floatCode, integerAt, floatOf
 use Rattle.items.specs.Encode.{item, encodeTree, encodeTrees}
 use Rattle.signature.specs.Encode.{encodeResult}
 use Rattle.signature.specs.Read.{conventionAt, resultIn, resultAt, argumentsIn, argumentsAt, afterResult, afterConvention, signatureOf}
-use Rattle.reader.specs.declared.Header.{Header}
+use Rattle.stepping.specs.declared.Header.{Header}
 use Rattle.reader.specs.declared.ArgumentRead.{ArgumentRead}
-use Rattle.reader.specs.Step.{endIn, bodyIn, headerIn, bodyStart, bodyEnd, typeIn}
+use Rattle.stepping.specs.Step.{endIn, bodyIn, headerIn, bodyStart, bodyEnd, typeIn}
 use Rattle.reader.specs.Argument.{argumentIn, argumentAnswer, argumentsStart, steppedTo}
 
 -- "PPC64, no result, arguments i32 and double: `01 0001 01 02 0000 03 0008 10 0001 04 11 0001 01`"

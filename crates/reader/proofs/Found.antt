@@ -33,7 +33,7 @@ use Rattle.signature.proofs.Laws.{head-got, thenArguments, afterHead, signature
 use Rattle.signature.proofs.Loop.{Turn, turn-start, turn-last}
 use Rattle.signature.proofs.Sound.{convention-read, result-read}
 use Rattle.reader.specs.declared.ArgumentRead.{ArgumentRead}
-use Rattle.reader.specs.Step.{typeIn}
+use Rattle.stepping.specs.Step.{typeIn}
 use Rattle.reader.specs.Argument.{argumentIn, argumentAnswer, argumentWith, notedAs}
 use Rattle.reader.proofs.Arguments.{type-is}
 

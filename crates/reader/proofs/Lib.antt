@@ -1,5 +1,4 @@
 -- Laws that belong to no one function.
-pub mod Laws
 pub mod Arguments
 pub mod Found
 pub mod Numbers

@@ -6,7 +6,7 @@ use Rattle.items.specs.declared.Body.{Body}
 use Rattle.items.specs.Reading.{no}
 use Rattle.items.specs.Refusals.{bodyNumber, readingNumber}
 use Rattle.signature.specs.Signature.{Signature}
-use Rattle.reader.specs.Step.{headerBy}
+use Rattle.stepping.specs.Step.{headerBy}
 use Rattle.reader.specs.Argument.{argumentAnswer}
 use Rattle.reader.specs.Numbers.{headerNumber, argumentNumber}
 

@@ -14,7 +14,7 @@ use Rattle.items.specs.Encode.{encodeTrees}
 use Rattle.signature.specs.Signature.{Signature}
 use Rattle.signature.specs.Encode.{encodeResult}
 use Rattle.reader.specs.declared.ArgumentRead.{ArgumentRead}
-use Rattle.reader.specs.Step.{bodyStart, bodyEnd, typeIn}
+use Rattle.stepping.specs.Step.{bodyStart, bodyEnd, typeIn}
 
 -- Number `index`, counted from 0, of the types ts, whose items stand one after the other from `start` on.
 unfoldable pub argumentIn : Convention → ℕ → ℕ → Trees → ArgumentRead

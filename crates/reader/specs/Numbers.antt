@@ -1,7 +1,7 @@
 -- Document 01's number of each answer of a reader: 0 where nothing is refused. Assumes nothing.
 use Prim.Native.Nat.{ℕ}
 use Rattle.items.specs.Refusals.{numberOf}
-use Rattle.reader.specs.declared.Header.{Header}
+use Rattle.stepping.specs.declared.Header.{Header}
 use Rattle.reader.specs.declared.ArgumentRead.{ArgumentRead}
 
 abbrev pub headerNumber : Header → ℕ

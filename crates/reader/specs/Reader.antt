@@ -6,7 +6,7 @@ use denote.Ref.{RefT, now}
 use Rattle.conventions.specs.declared.Convention.{Convention}
 use Rattle.items.specs.Answer.{itemAnswer}
 use Rattle.reader.specs.declared.Reader.{Reader}
-use Rattle.reader.specs.Step.{bodyStart, bodyEnd, typeIn, placeAfter}
+use Rattle.stepping.specs.Step.{bodyStart, bodyEnd, typeIn, placeAfter}
 
 -- at the first item of the whole signature
 abbrev pub started : RefT (List ℕ) → Reader

@@ -2,12 +2,12 @@
 // function over plain bytes, for every other caller, which steps with readers. Functions over bytes and numbers do the work: the
 // reader's own only take it apart and put it together.
 use conventions::Convention;
-use items::Body;
 use items::Fault;
 use items::ItemRead;
 use items::Refusal;
 use signature::HeadRead;
 use signature::MAX_ARGUMENTS;
+use stepping::Header;
 use types::ValueType;
 ghost use mathlib.Core.Path.{_≡_};
 ghost use Prim.Native.Nat.{_^_, _≤_};
@@ -15,7 +15,7 @@ ghost use lib.ListN.{length};
 ghost use Rattle.items.specs.Answer.{itemAnswer};
 ghost use Rattle.signature.specs.Limits.{maxLength};
 ghost use Rattle.signature.specs.Read.{argumentsIn, signatureOf};
-ghost use Rattle.reader.specs.Step.{endIn, leftAt, bodyIn, headerIn, bodyStart, bodyEnd, typeIn, placeAfter};
+ghost use Rattle.stepping.specs.Step.{leftAt, headerIn, typeIn};
 ghost use Rattle.reader.specs.Reader.{started, skipped, entered, advanced};
 ghost use Rattle.reader.specs.Argument.{argumentAnswer, argumentWith, notedAs};
 
@@ -26,109 +26,11 @@ pub struct Reader<'a> {
     pub end: usize,
 }
 
-// An item's header: its tag and where its body ends; or why it is refused.
-pub enum Header {
-    Found { tag: u8, end: usize },
-    Refused(Refusal),
-}
-
 // An argument's type and the place of its item; or none has that number; or the signature is refused.
 pub enum ArgumentRead {
     Argument { ty: ValueType, place: usize },
     Missing,
     Refused(Fault),
-}
-
-// The end of a part: never past the bytes.
-fn end_in(s: &[u8], end: usize) -> usize
-    ensures { λ r. ⌜ r ≡ endIn (now (s .entry)) end ⌝ }
-{
-    if s.len() < end {
-        return s.len();
-    }
-    end
-}
-
-// How many bytes of a part are left from `at` on.
-fn left_at(s: &[u8], at: usize, end: usize) -> usize
-    ensures { λ r. ⌜ r ≡ leftAt (now (s .entry)) at end ⌝ }
-{
-    let to = end_in(s, end);
-    if to < at {
-        return 0;
-    }
-    to - at
-}
-
-// The header of the item at `at`, whatever its tag.
-fn body_in(s: &[u8], at: usize, end: usize) -> Body
-    ensures { λ r. ⌜ r ≡ bodyIn (now (s .entry)) at end ⌝ }
-{
-    if signature_head::MAX_LENGTH < s.len() {
-        return Body::Refused(Refusal::TooLong);
-    }
-    let to = end_in(s, end);
-    if to < at {
-        return Body::Refused(Refusal::Truncated);
-    }
-    leaf_items::read_body(s, 0x00, 0xff, at, to)
-}
-
-// The same, with the item's tag.
-fn header_in(s: &[u8], at: usize, end: usize) -> Header
-    ensures { λ r. ⌜ r ≡ headerIn (now (s .entry)) at end ⌝ }
-{
-    match body_in(s, at, end) {
-        Body::To(to) => Header::Found {
-            tag: s[at],
-            end: to,
-        },
-        Body::Refused(reason) => Header::Refused(reason),
-    }
-}
-
-// Where the item's body starts; `at` if the header is refused.
-fn body_start(s: &[u8], at: usize, end: usize) -> usize
-    ensures { λ r. ⌜ r ≡ bodyStart (now (s .entry)) at end ⌝ }
-{
-    match body_in(s, at, end) {
-        Body::To(to) => at + 3,
-        Body::Refused(reason) => at,
-    }
-}
-
-// Where the item's body ends; `at` if the header is refused.
-fn body_end(s: &[u8], at: usize, end: usize) -> usize
-    ensures { λ r. ⌜ r ≡ bodyEnd (now (s .entry)) at end ⌝ }
-{
-    match body_in(s, at, end) {
-        Body::To(to) => to,
-        Body::Refused(reason) => at,
-    }
-}
-
-// The type item at `at`, outside any struct.
-fn type_in(s: &[u8], at: usize, end: usize, c: Convention) -> ItemRead
-    ensures { λ r. ⌜ r ≡ itemAnswer c (typeIn c (now (s .entry)) at end) ⌝ }
-{
-    if signature_head::MAX_LENGTH < s.len() {
-        return leaf_items::refused_here(Refusal::TooLong, 0);
-    }
-    let to = end_in(s, end);
-    if to < at {
-        return leaf_items::refused_here(Refusal::Truncated, at);
-    }
-    nested_items::read_item(s, c, at, to, 8)
-}
-
-// The place after an item that was read; a reader stays where it is after a refusal.
-fn place_after(item: ItemRead, at: usize) -> usize
-    ensures { λ r. ⌜ r ≡ placeAfter item at ⌝ }
-{
-    match item {
-        ItemRead::Item { ty, next, items } => next,
-        ItemRead::Refused(fault) => at,
-    }
 }
 
 impl<'a> Reader<'a> {
@@ -147,21 +49,21 @@ impl<'a> Reader<'a> {
     pub fn left(self) -> usize
         ensures { λ n. ⌜ n ≡ leftAt (now (self .entry .signature)) (self .entry .at) (self .entry .end) ⌝ }
     {
-        left_at(self.signature, self.at, self.end)
+        stepping::left_at(self.signature, self.at, self.end)
     }
 
     // The item's header.
     pub fn header(self) -> Header
         ensures { λ h. ⌜ h ≡ headerIn (now (self .entry .signature)) (self .entry .at) (self .entry .end) ⌝ }
     {
-        header_in(self.signature, self.at, self.end)
+        stepping::header_in(self.signature, self.at, self.end)
     }
 
     // Past the item, or where it is if the header is refused.
     pub fn skip(self) -> Reader<'a>
         ensures { λ r. ⌜ r ≡ skipped (self .entry) ⌝ }
     {
-        let at = body_end(self.signature, self.at, self.end);
+        let at = stepping::body_end(self.signature, self.at, self.end);
         Reader {
             signature: self.signature,
             at,
@@ -173,8 +75,8 @@ impl<'a> Reader<'a> {
     pub fn enter(self) -> Reader<'a>
         ensures { λ r. ⌜ r ≡ entered (self .entry) ⌝ }
     {
-        let at = body_start(self.signature, self.at, self.end);
-        let end = body_end(self.signature, self.at, self.end);
+        let at = stepping::body_start(self.signature, self.at, self.end);
+        let end = stepping::body_end(self.signature, self.at, self.end);
         Reader {
             signature: self.signature,
             at,
@@ -186,7 +88,7 @@ impl<'a> Reader<'a> {
     pub fn type_item(self, c: Convention) -> ItemRead
         ensures { λ t. ⌜ t ≡ itemAnswer c (typeIn c (now (self .entry .signature)) (self .entry .at) (self .entry .end)) ⌝ }
     {
-        type_in(self.signature, self.at, self.end, c)
+        stepping::type_in(self.signature, self.at, self.end, c)
     }
 
     // The same, and the reader moves past it; after a refusal it stays where it is.
@@ -198,8 +100,8 @@ impl<'a> Reader<'a> {
             ⌝ }
     {
         let at = self.at;
-        let item = type_in(self.signature, at, self.end, c);
-        let next = place_after(item, at);
+        let item = stepping::type_in(self.signature, at, self.end, c);
+        let next = stepping::place_after(item, at);
         self.at = next;
         item
     }

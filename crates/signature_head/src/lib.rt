@@ -22,7 +22,7 @@ pub const MAX_LENGTH: usize = 16384;
 fn read_convention(s: &[u8]) -> ConventionRead
     ensures { λ r. ⌜ r ≡ conventionAnswer (conventionAt (now (s .entry))) ⌝ }
 {
-    match leaf_items::read_body(s, 0x01, 0x01, 0, s.len()) {
+    match item_headers::read_body(s, 0x01, 0x01, 0, s.len()) {
         Body::Refused(reason) => ConventionRead::Refused(Fault {
             reason,
             place: 0,
@@ -82,7 +82,7 @@ fn read_result(s: &[u8], c: Convention, at: usize) -> ResultRead
     requires { ⌜ (at ≤ length (now s)) × (length (now s) ≤ 2 ^ 16) ⌝ }
     ensures { λ r. ⌜ r ≡ resultAnswer c (resultAt c (now (s .entry)) at) ⌝ }
 {
-    match leaf_items::read_body(s, 0x02, 0x02, at, s.len()) {
+    match item_headers::read_body(s, 0x02, 0x02, at, s.len()) {
         Body::Refused(reason) => ResultRead::Refused(Fault {
             reason,
             place: at,
@@ -105,7 +105,7 @@ fn read_head_after(s: &[u8], c: Convention) -> HeadRead
             items,
         } => {
             let earlier = 1 + items;
-            match leaf_items::read_body(s, 0x03, 0x03, third, s.len()) {
+            match item_headers::read_body(s, 0x03, 0x03, third, s.len()) {
                 Body::Refused(reason) => HeadRead::Refused(Fault {
                     reason,
                     place: third,

@@ -291,12 +291,15 @@ fn compare_tables(bytes: &[u8], longer: usize) -> Result<(), String> {
                 "with room for {room} words the library leaves\n{words:?}\nand not\n{after:?}"
             ));
         }
-        let mut words: Vec<u64> = (0..room + NOT_LENT).map(word_before).collect();
-        let compact = compact::table(bytes, &mut words[..room]);
-        if compact != table.as_ref().map(|table| table.head).map_err(|&no| no) || words != after {
-            return Err(format!(
-                "with room for {room} words the compact planner gives {compact:?} and\n{words:?}\nand not\n{after:?}"
-            ));
+        let head = table.as_ref().map(|table| table.head).map_err(|&no| no);
+        for planner in [compact::table, compact::table_in_two_passes] {
+            let mut words: Vec<u64> = (0..room + NOT_LENT).map(word_before).collect();
+            let compact = planner(bytes, &mut words[..room]);
+            if compact != head || words != after {
+                return Err(format!(
+                    "with room for {room} words a compact planner gives {compact:?} and\n{words:?}\nand not\n{after:?}"
+                ));
+            }
         }
     }
     Ok(())

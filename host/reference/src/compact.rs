@@ -9,7 +9,7 @@ mod marshal;
 mod table;
 
 pub use marshal::{fill, read};
-pub use table::{table, table_at_once, table_in_two_passes};
+pub use table::{table, table_in_two_passes};
 
 /// Registers that follow each other, on Z always one.
 #[derive(Clone, Copy, Debug, Default, PartialEq, Eq)]

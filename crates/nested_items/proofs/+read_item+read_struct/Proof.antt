@@ -21,8 +21,8 @@ use Rattle.nested_items.proofs.read_struct.Kinds as read-struct-kinds
 use Rattle.nested_items.proofs.+read_item+read_struct.Lts-read_struct as read-struct-lts
 use Rattle.nested_items.proofs.closed_item.Reads as closed-item-reads
 use Rattle.items.proofs.later_by.Reads as later-by-reads
-use Rattle.leaf_items.proofs.refused_here.Reads as refused-here-reads
-use Rattle.leaf_items.proofs.read_body.Reads as read-body-reads
+use Rattle.item_headers.proofs.refused_here.Reads as refused-here-reads
+use Rattle.item_headers.proofs.read_body.Reads as read-body-reads
 use Rattle.leaf_items.proofs.read_float.Reads as read-float-reads
 use Rattle.leaf_items.proofs.read_integer.Reads as read-integer-reads
 use Rattle.layout.proofs.no_fields.Reads as no-fields-reads

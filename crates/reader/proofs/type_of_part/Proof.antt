@@ -43,7 +43,7 @@ use denote.Triple.Clauses.{ensured, lasts}
 use Rattle.conventions.specs.declared.Convention.{Convention}
 use Rattle.items.specs.declared.ItemRead.{ItemRead}
 use Rattle.items.specs.Answer.{itemAnswer}
-use Rattle.reader.specs.Step.{typeIn}
+use Rattle.stepping.specs.Step.{typeIn}
 use Rattle.reader.specs.declared.Reader.{Reader}
 use Rattle.conventions.proofs.Convention as Cv
 use Rattle.conventions.proofs.Convention.Laws as Cv′

@@ -30,8 +30,10 @@ with places     compact::plan: the same, and every argument's places kept in one
 const TABLE_SIDES: &str = "\
 library         fz_plan: the same, and every argument's places in a lent table, which stays as it was
                 where the signature is refused or the table is too short
-second program  compact::table: the same from the same bytes, with the same promise
-at once         compact::table_at_once: each entry is written as it comes, without that promise
+kept            compact::table: the same from the same bytes, with the same promise: arguments are kept until
+                all are known
+two passes      compact::table_in_two_passes: the same, read once to know all and once to write
+ratio           to the faster of the two
 ";
 
 /// What all signatures of a group took together.
@@ -90,19 +92,17 @@ fn main() -> ExitCode {
     }
     println!("\nPlanning a call whole, over the same signatures, measured likewise:");
     println!("\n{TABLE_SIDES}");
-    println!(
-        "arguments  signatures  mean bytes  library  second program  ratio      at once  ratio"
-    );
+    println!("arguments  signatures  mean bytes  library            kept   two passes  ratio");
     let mut all = Sums::default();
     for group in &groups {
         let sums = planned(group);
-        print(&group.counts, &sums);
+        print_tables(&group.counts, &sums);
         all.add(&sums);
     }
-    print(&usual::ALL, &all);
+    print_tables(&usual::ALL, &all);
     println!();
     for group in &single_counts {
-        print(&group.counts, &planned(group));
+        print_tables(&group.counts, &planned(group));
     }
     ExitCode::SUCCESS
 }
@@ -124,7 +124,7 @@ fn agree_on_tables(bytes: &[u8]) -> bool {
     let [own, second, other] = &mut tables;
     library::plan(bytes, own).answer.number == 0
         && compact::table(bytes, second).is_ok()
-        && compact::table_at_once(bytes, other).is_ok()
+        && compact::table_in_two_passes(bytes, other).is_ok()
         && own == second
         && own == other
 }
@@ -152,7 +152,7 @@ fn planned(group: &Group) -> Sums {
         let _ = black_box(compact::table(black_box(bytes), &mut *table.borrow_mut()));
     });
     let (_, other) = timing::medians(&group.signatures, ROUNDS, library, |bytes| {
-        let _ = black_box(compact::table_at_once(
+        let _ = black_box(compact::table_in_two_passes(
             black_box(bytes),
             &mut *table.borrow_mut(),
         ));
@@ -184,5 +184,18 @@ fn print(counts: &RangeInclusive<usize>, sums: &Sums) {
         sums.library / sums.second,
         sums.other / sums.signatures,
         sums.library / sums.other
+    );
+}
+
+fn print_tables(counts: &RangeInclusive<usize>, sums: &Sums) {
+    println!(
+        "{:>9}  {:>10}  {:>10.0}  {:>7.0}  {:>14.0}  {:>11.0}  {:>5.2}",
+        usual::told(counts),
+        sums.signatures,
+        sums.bytes / sums.signatures,
+        sums.library / sums.signatures,
+        sums.second / sums.signatures,
+        sums.other / sums.signatures,
+        sums.library / sums.second.min(sums.other)
     );
 }

@@ -27,31 +27,19 @@ pub fn table(bytes: &[u8], words: &mut [u64]) -> Result<[u64; 11], Refusal> {
     Ok(head(convention, result, sizes, kept.count))
 }
 
-/// The same in one pass, with each entry written as it comes: what is refused, or has no room, may
-/// leave some of them.
-pub fn table_at_once(bytes: &[u8], words: &mut [u64]) -> Result<[u64; 11], Refusal> {
-    let convention = match bytes.get(3) {
-        Some(1) => Convention::Ppc64,
-        Some(3) => Convention::Aix,
-        _ => Convention::Z,
-    };
-    let mut lent = Lent {
-        convention,
-        words,
-        count: 0,
-        value: 0,
-    };
-    let (convention, result, sizes) = place(bytes, &mut lent)?;
-    Ok(head(convention, result, sizes, lent.count))
-}
-
-/// The same promise in two passes: everything is known before the first entry is written, and nothing
-/// is kept.
+/// The same in two passes without keeping: the first finds out all that can refuse, the second writes
+/// each entry as it comes.
 pub fn table_in_two_passes(bytes: &[u8], words: &mut [u64]) -> Result<[u64; 11], Refusal> {
     let mut counted = Counted { count: 0 };
     let (convention, result, sizes) = place(bytes, &mut counted)?;
     if words.len() >= ENTRY * counted.count {
-        table_at_once(bytes, words)?;
+        let mut lent = Lent {
+            convention,
+            words,
+            count: 0,
+            value: 0,
+        };
+        place(bytes, &mut lent)?;
     }
     Ok(head(convention, result, sizes, counted.count))
 }

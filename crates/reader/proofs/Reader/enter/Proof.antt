@@ -43,18 +43,18 @@ use denote.Triple.Table as table
 use denote.Triple.Walked.{says, Stays, stay-none, walkOf, goes-none, Walks, ends-at, walked, walk-meets}
 use denote.Exit.{yes}
 use denote.Triple.Clauses.{ensured, lasts}
-use Rattle.reader.specs.Step.{bodyStart, bodyEnd}
+use Rattle.stepping.specs.Step.{bodyStart, bodyEnd}
 use Rattle.reader.specs.declared.Reader.{Reader}
 use Rattle.reader.proofs.Reader as T
 use Rattle.reader.proofs.Reader.Laws as T′
-use Rattle.reader.proofs.body_start as body-start
-use Rattle.reader.proofs.body_start.Symbol as body-start-def
-use Rattle.reader.proofs.body_start.Symbol.{name as #reader·body-start}
-use Rattle.reader.proofs.body_start.Met as body-start-thm
-use Rattle.reader.proofs.body_end as body-end
-use Rattle.reader.proofs.body_end.Symbol as body-end-def
-use Rattle.reader.proofs.body_end.Symbol.{name as #reader·body-end}
-use Rattle.reader.proofs.body_end.Met as body-end-thm
+use Rattle.stepping.proofs.body_start as body-start
+use Rattle.stepping.proofs.body_start.Symbol as body-start-def
+use Rattle.stepping.proofs.body_start.Symbol.{name as #stepping·body-start}
+use Rattle.stepping.proofs.body_start.Met as body-start-thm
+use Rattle.stepping.proofs.body_end as body-end
+use Rattle.stepping.proofs.body_end.Symbol as body-end-def
+use Rattle.stepping.proofs.body_end.Symbol.{name as #stepping·body-end}
+use Rattle.stepping.proofs.body_end.Met as body-end-thm
 use Rattle.reader.proofs.Reader.enter.Key.{name as #reader·enter}
 use Rattle.reader.proofs.Reader.enter as enter′
 use Rattle.reader.proofs.Reader.enter.Statement as stated
@@ -164,7 +164,7 @@ module _ {M : Type 1} (𝓤 : URA M) (H : Heap 𝓤) (A : Atoms 𝓤) (W : Given
       use2 W (‵ (B (κ, tt) .own (moved r₁) (T′.lowered (moved r₁) ∷ []))) (own-put 𝓤 H A W D L 1 vd r₁ mach) $
       owned ! usize (Is usize) (uint-makes 𝓤 H A W w64) r₂ _ (refl, fits₂) $ move ! (1 ∷ 0 ∷ []) $ by ! (own-put 𝓤 H A W D L 2 (d .signature, (r₁, (d .end, tt))) r₂ (T′.lowered (moved r₁)))
 
-  module _ (C : Calls 𝓤 H) (Λ : Loops 𝓤 H) (fm : FmC 𝓤 H (W .laws) C) (known-start : Triple 𝓤 (C #reader·body-start) (Start 𝓤 H A mem run)) (known-end : Triple 𝓤 (C #reader·body-end) (End 𝓤 H A mem run)) where
+  module _ (C : Calls 𝓤 H) (Λ : Loops 𝓤 H) (fm : FmC 𝓤 H (W .laws) C) (known-start : Triple 𝓤 (C #stepping·body-start) (Start 𝓤 H A mem run)) (known-end : Triple 𝓤 (C #stepping·body-end) (End 𝓤 H A mem run)) where
     walk : Holds (hasTy (T′.mir (named 0)) mach) × WT mach → ent 𝓤 (onEntry 𝓤 H A enter′.signature (κ, tt) (q, tt) (d, tt) (mach ∷ [], tt)) (WpFn 𝓤 H C Λ code.function (mach ∷ []) Post)
     walk wt =
         qed W ((‵ (flft κ q) ⊛ ‵ ftrue) ∷ ‵ (owns (B (κ, tt) ∷ []) (d, tt) (mach ∷ [], tt)) ∷ []) ∵ enter ! C Λ code.function (mach ∷ []) _ $
@@ -195,14 +195,14 @@ module _ {M : Type 1} (𝓤 : URA M) (H : Heap 𝓤) (A : Atoms 𝓤) (W : Given
         move ! (22 ∷ 23 ∷ []) $ free1 ! $ move ! (20 ∷ 21 ∷ []) $ free1 ! $ move ! (18 ∷ 19 ∷ []) $ free1 ! $ move ! (16 ∷ 17 ∷ []) $ free1 ! $ move ! (14 ∷ 15 ∷ []) $ free1 ! $ move ! (12 ∷ 13 ∷ []) $ free1 ! $ move ! (10 ∷ 11 ∷ []) $ free1 ! $ move ! (8 ∷ 9 ∷ []) $ free1 ! $ move ! (6 ∷ 7 ∷ []) $ free1 ! $ move ! (4 ∷ 5 ∷ []) $ free1 ! $ move ! (2 ∷ 3 ∷ []) $ free1 ! $ free0 ! $ by ! (exits r₁ r₂ e₁ e₂ (is₁ .1) (is₂ .1)))))))))))))))))))))
 
 module _ {M : Type 1} (𝓤 : URA M) (H : Heap 𝓤) (A : Atoms 𝓤) (W : Given 𝓤 H A) (mem : Memory → SProp 𝓤) (run : Routine → Fun 𝓤) where
-  enter-walks : (C : Calls 𝓤 H) (Λ : Loops 𝓤 H) → FmC 𝓤 H (W .laws) C → Triple 𝓤 (C #reader·body-start) (Start 𝓤 H A mem run) → Triple 𝓤 (C #reader·body-end) (End 𝓤 H A mem run)
+  enter-walks : (C : Calls 𝓤 H) (Λ : Loops 𝓤 H) → FmC 𝓤 H (W .laws) C → Triple 𝓤 (C #stepping·body-start) (Start 𝓤 H A mem run) → Triple 𝓤 (C #stepping·body-end) (End 𝓤 H A mem run)
       → Walks 𝓤 H A enter′.ended stayed (WpFn 𝓤 H C Λ code.function) (enter′.clauses 𝓤 H A mem run)
   enter-walks C Λ fm known-start known-end = walked 𝓤 H A enter′.ended stayed (enter′.clauses 𝓤 H A mem run) (WpFn 𝓤 H C Λ code.function)
       (λ κs. (LL.vals (T.the-type (namedLft 1 0 tt κs)) (T′.the-laws (namedLft 1 0 tt κs)), tt)) (λ κs. (LL.tells (T.the-type (namedLft 1 0 tt κs)) (T′.the-laws (namedLft 1 0 tt κs)), tt))
       (λ κs qs bounds a g are. via 𝓤 _ (fst∗ 𝓤 _ (emp 𝓤)) (walk 𝓤 H A W mem run (κs .0) (qs .0) (a .0) C Λ fm known-start known-end (LL.lawful (T.the-type (namedLft 1 0 tt κs)) (T′.the-laws (namedLft 1 0 tt κs)) 𝓤 H A W .typed (a .0) _ (are .0) .0)))
 
 enter-meets : {M : Type 1} (𝓤 : URA M) (H : Heap 𝓤) (A : Atoms 𝓤) → Given 𝓤 H A → (mem : Memory → SProp 𝓤) (run : Routine → Fun 𝓤) (𝓣 : Tables 𝓤 H)
-    → Triple 𝓤 (𝓣 .C #reader·body-start) (Start 𝓤 H A mem run) → Triple 𝓤 (𝓣 .C #reader·body-end) (End 𝓤 H A mem run) → Meets 𝓤 H A enter′.signature (WpFn 𝓤 H (𝓣 .C) (𝓣 .Λ) code.function) (enter′.spec 𝓤 H A mem run)
+    → Triple 𝓤 (𝓣 .C #stepping·body-start) (Start 𝓤 H A mem run) → Triple 𝓤 (𝓣 .C #stepping·body-end) (End 𝓤 H A mem run) → Meets 𝓤 H A enter′.signature (WpFn 𝓤 H (𝓣 .C) (𝓣 .Λ) code.function) (enter′.spec 𝓤 H A mem run)
 enter-meets 𝓤 H A W mem run 𝓣 known-start known-end =
     walk-meets 𝓤 H A enter′.ended stayed W (goes-none 𝓤 H A W 1 B yes (λ κs x f. refl), tt) (enter′.clauses 𝓤 H A mem run)
     (WpFn 𝓤 H (𝓣 .C) (𝓣 .Λ) code.function) (WpFn-mono 𝓤 H (W .laws) 𝓣 code.function) (enter-walks 𝓤 H A W mem run (𝓣 .C) (𝓣 .Λ) (fmOf 𝓤 H (W .laws) 𝓣) known-start known-end)
@@ -213,5 +213,5 @@ enter-spec 𝓤 H 𝓜 𝓖 𝓡 =
     table.entered 𝓤 H (tripleOf 𝓤 H (𝓖 .A) enter′.signature (enter′.spec 𝓤 H (𝓖 .A) (𝓜 .mem) (𝓡 .run)))
     (tables 𝓤 H 𝓜 𝓡 code.env .C) (tables 𝓤 H 𝓜 𝓡 code.env .Λ) #reader·enter code.function (code.unfolded 𝓤 H 𝓜 𝓡)
     (enter-meets 𝓤 H (𝓖 .A) (givenOf 𝓤 H 𝓜 𝓖) (𝓜 .mem) (𝓡 .run) (tablesOf 𝓤 H 𝓜 (tables 𝓤 H 𝓜 𝓡 code.env))
-    (table.cited 𝓤 H (Start 𝓤 H (𝓖 .A) (𝓜 .mem) (𝓡 .run)) 𝓜 𝓡 code.env #reader·body-start body-start-def.routine code.calls-reader·body-start (body-start-thm.met 𝓤 H 𝓜 𝓖 𝓡))
-    (table.cited 𝓤 H (End 𝓤 H (𝓖 .A) (𝓜 .mem) (𝓡 .run)) 𝓜 𝓡 code.env #reader·body-end body-end-def.routine code.calls-reader·body-end (body-end-thm.met 𝓤 H 𝓜 𝓖 𝓡)))
+    (table.cited 𝓤 H (Start 𝓤 H (𝓖 .A) (𝓜 .mem) (𝓡 .run)) 𝓜 𝓡 code.env #stepping·body-start body-start-def.routine code.calls-stepping·body-start (body-start-thm.met 𝓤 H 𝓜 𝓖 𝓡))
+    (table.cited 𝓤 H (End 𝓤 H (𝓖 .A) (𝓜 .mem) (𝓡 .run)) 𝓜 𝓡 code.env #stepping·body-end body-end-def.routine code.calls-stepping·body-end (body-end-thm.met 𝓤 H 𝓜 𝓖 𝓡)))

@@ -51,7 +51,7 @@ use denote.Exit.{yes}
 use Rattle.conventions.specs.declared.Convention.{Convention}
 use Rattle.items.specs.declared.ItemRead.{ItemRead}
 use Rattle.items.specs.Answer.{itemAnswer}
-use Rattle.reader.specs.Step.{typeIn, placeAfter}
+use Rattle.stepping.specs.Step.{typeIn, placeAfter}
 use Rattle.reader.specs.declared.Reader.{Reader}
 use Rattle.conventions.proofs.Convention as Cv
 use Rattle.conventions.proofs.Convention.Laws as Cv′
@@ -59,14 +59,14 @@ use Rattle.items.proofs.ItemRead as S
 use Rattle.items.proofs.ItemRead.Laws as S′
 use Rattle.reader.proofs.Reader as T
 use Rattle.reader.proofs.Reader.Laws as T′
-use Rattle.reader.proofs.type_in as type-in
-use Rattle.reader.proofs.type_in.Symbol as type-in-def
-use Rattle.reader.proofs.type_in.Symbol.{name as #reader·type-in}
-use Rattle.reader.proofs.type_in.Met as type-in-thm
-use Rattle.reader.proofs.place_after as place-after
-use Rattle.reader.proofs.place_after.Symbol as place-after-def
-use Rattle.reader.proofs.place_after.Symbol.{name as #reader·place-after}
-use Rattle.reader.proofs.place_after.Met as place-after-thm
+use Rattle.stepping.proofs.type_in as type-in
+use Rattle.stepping.proofs.type_in.Symbol as type-in-def
+use Rattle.stepping.proofs.type_in.Symbol.{name as #stepping·type-in}
+use Rattle.stepping.proofs.type_in.Met as type-in-thm
+use Rattle.stepping.proofs.place_after as place-after
+use Rattle.stepping.proofs.place_after.Symbol as place-after-def
+use Rattle.stepping.proofs.place_after.Symbol.{name as #stepping·place-after}
+use Rattle.stepping.proofs.place_after.Met as place-after-thm
 use Rattle.reader.proofs.Reader.next_type.Key.{name as #reader·next-type}
 use Rattle.reader.proofs.Reader.next_type as next-type
 use Rattle.reader.proofs.Reader.next_type.Statement as stated
@@ -197,7 +197,7 @@ module _ {M : Type 1} (𝓤 : URA M) (H : Heap 𝓤) (A : Atoms 𝓤) (W : Given
       says ! (e, ap moved (e′ ∙ ap (λ (y : ItemRead). placeAfter y (h .at)) e)) $
       move ! (2 ∷ 3 ∷ []) $ join ! $ frame ! $ feqI ! (List Val) (vptr b o ∷ []) (vptr b o ∷ []) refl $ fjoin3 ! $ fjoin ! $ done !
 
-  module _ (C : Calls 𝓤 H) (Λ : Loops 𝓤 H) (fm : FmC 𝓤 H (W .laws) C) (known-type : Triple 𝓤 (C #reader·type-in) (TypeIn 𝓤 H A at-mem run)) (known-place : Triple 𝓤 (C #reader·place-after) (PlaceAfter 𝓤 H A at-mem run)) where
+  module _ (C : Calls 𝓤 H) (Λ : Loops 𝓤 H) (fm : FmC 𝓤 H (W .laws) C) (known-type : Triple 𝓤 (C #stepping·type-in) (TypeIn 𝓤 H A at-mem run)) (known-place : Triple 𝓤 (C #stepping·place-after) (PlaceAfter 𝓤 H A at-mem run)) where
     walk : Holds (hasTy Cv′.mir cv) × WT cv → ent 𝓤 (onEntry 𝓤 H A next-type.signature (κ, (κ′, tt)) (q, (q′, tt)) x at) (WpFn 𝓤 H C Λ code.function (vptr b o ∷ cv ∷ []) Post)
     walk cwt =
         qed W ((‵ (flft κ q) ⊛ ‵ (flft κ′ q′) ⊛ ‵ ftrue) ∷ ‵ (owns (MutRef (named 0) κ (B κ′) ∷ Cv.the-row ∷ []) x at) ∷ []) ∵ enter ! C Λ code.function (vptr b o ∷ cv ∷ []) _ $
@@ -237,14 +237,14 @@ module _ {M : Type 1} (𝓤 : URA M) (H : Heap 𝓤) (A : Atoms 𝓤) (W : Given
         move ! (20 ∷ 21 ∷ []) $ free1 ! $ move ! (18 ∷ 19 ∷ []) $ free1 ! $ move ! (16 ∷ 17 ∷ []) $ free1 ! $ move ! (14 ∷ 15 ∷ []) $ free1 ! $ move ! (12 ∷ 13 ∷ []) $ free1 ! $ move ! (10 ∷ 11 ∷ []) $ free1 ! $ move ! (8 ∷ 9 ∷ []) $ free1 ! $ move ! (6 ∷ 7 ∷ []) $ free1 ! $ free0 ! $ keep ! (0 ∷ 1 ∷ 2 ∷ 5 ∷ 3 ∷ 4 ∷ []) $ by ! (exits t u r e e′)))))))))))))))))))
 
 module _ {M : Type 1} (𝓤 : URA M) (H : Heap 𝓤) (A : Atoms 𝓤) (W : Given 𝓤 H A) (mem : Memory → SProp 𝓤) (run : Routine → Fun 𝓤) where
-  next-type-walks : (C : Calls 𝓤 H) (Λ : Loops 𝓤 H) → FmC 𝓤 H (W .laws) C → Triple 𝓤 (C #reader·type-in) (TypeIn 𝓤 H A mem run) → Triple 𝓤 (C #reader·place-after) (PlaceAfter 𝓤 H A mem run)
+  next-type-walks : (C : Calls 𝓤 H) (Λ : Loops 𝓤 H) → FmC 𝓤 H (W .laws) C → Triple 𝓤 (C #stepping·type-in) (TypeIn 𝓤 H A mem run) → Triple 𝓤 (C #stepping·place-after) (PlaceAfter 𝓤 H A mem run)
       → Walks 𝓤 H A next-type.ended stayed (WpFn 𝓤 H C Λ code.function) (next-type.clauses 𝓤 H A mem run)
   next-type-walks C Λ fm known-type known-place = walked 𝓤 H A next-type.ended stayed (next-type.clauses 𝓤 H A mem run) (WpFn 𝓤 H C Λ code.function)
       (λ κs. (ptr-vals, (EL.vals Cv.the-type Cv′.the-laws, tt))) (λ κs. (mut-tells (named 0) (κs .0) (B (κs .1 .0)), (EL.tells Cv.the-type Cv′.the-laws, tt)))
       (λ κs qs bounds a g are. via 𝓤 _ (fst∗ 𝓤 _ (emp 𝓤)) (walk 𝓤 H A W mem run (κs .0) (κs .1 .0) (qs .0) (qs .1 .0) bounds (a .0 .ptr .0) (a .0 .ptr .1) (a .0 .name) (a .0 .now) (a .1 .0) C Λ fm known-type known-place (EL.lawful Cv.the-type Cv′.the-laws 𝓤 H A W tt .typed (a .1 .0) _ (are .1 .0) .0)))
 
 next-type-meets : {M : Type 1} (𝓤 : URA M) (H : Heap 𝓤) (A : Atoms 𝓤) → Given 𝓤 H A → (mem : Memory → SProp 𝓤) (run : Routine → Fun 𝓤) (𝓣 : Tables 𝓤 H)
-    → Triple 𝓤 (𝓣 .C #reader·type-in) (TypeIn 𝓤 H A mem run) → Triple 𝓤 (𝓣 .C #reader·place-after) (PlaceAfter 𝓤 H A mem run)
+    → Triple 𝓤 (𝓣 .C #stepping·type-in) (TypeIn 𝓤 H A mem run) → Triple 𝓤 (𝓣 .C #stepping·place-after) (PlaceAfter 𝓤 H A mem run)
     → Meets 𝓤 H A next-type.signature (WpFn 𝓤 H (𝓣 .C) (𝓣 .Λ) code.function) (next-type.spec 𝓤 H A mem run)
 next-type-meets 𝓤 H A W mem run 𝓣 known-type known-place =
     walk-meets 𝓤 H A next-type.ended stayed W (goes-ref 𝓤 H A W 2 0 tt behind, (goes-none 𝓤 H A W 2 (λ _. Cv.the-row) yes (λ κs x f. refl), tt)) (next-type.clauses 𝓤 H A mem run)
@@ -256,5 +256,5 @@ next-type-spec 𝓤 H 𝓜 𝓖 𝓡 =
     entered 𝓤 H (tripleOf 𝓤 H (𝓖 .A) next-type.signature (next-type.spec 𝓤 H (𝓖 .A) (𝓜 .mem) (𝓡 .run)))
     (tables 𝓤 H 𝓜 𝓡 code.env .C) (tables 𝓤 H 𝓜 𝓡 code.env .Λ) #reader·next-type code.function (code.unfolded 𝓤 H 𝓜 𝓡)
     (next-type-meets 𝓤 H (𝓖 .A) (givenOf 𝓤 H 𝓜 𝓖) (𝓜 .mem) (𝓡 .run) (tablesOf 𝓤 H 𝓜 (tables 𝓤 H 𝓜 𝓡 code.env))
-    (cited 𝓤 H (TypeIn 𝓤 H (𝓖 .A) (𝓜 .mem) (𝓡 .run)) 𝓜 𝓡 code.env #reader·type-in type-in-def.routine code.calls-reader·type-in (type-in-thm.met 𝓤 H 𝓜 𝓖 𝓡))
-    (cited 𝓤 H (PlaceAfter 𝓤 H (𝓖 .A) (𝓜 .mem) (𝓡 .run)) 𝓜 𝓡 code.env #reader·place-after place-after-def.routine code.calls-reader·place-after (place-after-thm.met 𝓤 H 𝓜 𝓖 𝓡)))
+    (cited 𝓤 H (TypeIn 𝓤 H (𝓖 .A) (𝓜 .mem) (𝓡 .run)) 𝓜 𝓡 code.env #stepping·type-in type-in-def.routine code.calls-stepping·type-in (type-in-thm.met 𝓤 H 𝓜 𝓖 𝓡))
+    (cited 𝓤 H (PlaceAfter 𝓤 H (𝓖 .A) (𝓜 .mem) (𝓡 .run)) 𝓜 𝓡 code.env #stepping·place-after place-after-def.routine code.calls-stepping·place-after (place-after-thm.met 𝓤 H 𝓜 𝓖 𝓡)))

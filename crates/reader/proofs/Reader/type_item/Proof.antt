@@ -46,7 +46,7 @@ use denote.Exit.{yes}
 use denote.Triple.Clauses.{ensured, lasts}
 use Rattle.conventions.specs.declared.Convention.{Convention}
 use Rattle.items.specs.Answer.{itemAnswer}
-use Rattle.reader.specs.Step.{typeIn}
+use Rattle.stepping.specs.Step.{typeIn}
 use Rattle.reader.specs.declared.Reader.{Reader}
 use Rattle.items.specs.declared.ItemRead.{ItemRead}
 use Rattle.conventions.proofs.Convention as Cv
@@ -55,10 +55,10 @@ use Rattle.items.proofs.ItemRead as S
 use Rattle.items.proofs.ItemRead.Laws as S′
 use Rattle.reader.proofs.Reader as T
 use Rattle.reader.proofs.Reader.Laws as T′
-use Rattle.reader.proofs.type_in as callee
-use Rattle.reader.proofs.type_in.Symbol as callee-def
-use Rattle.reader.proofs.type_in.Symbol.{name as #reader·type-in}
-use Rattle.reader.proofs.type_in.Met as callee-thm
+use Rattle.stepping.proofs.type_in as callee
+use Rattle.stepping.proofs.type_in.Symbol as callee-def
+use Rattle.stepping.proofs.type_in.Symbol.{name as #stepping·type-in}
+use Rattle.stepping.proofs.type_in.Met as callee-thm
 use Rattle.reader.proofs.Reader.type_item.Key.{name as #reader·type-item}
 use Rattle.reader.proofs.Reader.type_item as type-item
 use Rattle.reader.proofs.Reader.type_item.Statement as stated
@@ -144,7 +144,7 @@ module _ {M : Type 1} (𝓤 : URA M) (H : Heap 𝓤) (A : Atoms 𝓤) (W : Given
       suffices ! _ (ends-at 𝓤 H A type-item.ended stayed (type-item.clauses 𝓤 H A mem run) W (((κ, tt), (q, tt), tt, (d, (c, tt)), (mach ∷ [], (cv ∷ [], tt))), tt) u r (tt, (tt, tt)) (tt, (tt, tt))) $ says ! e $
       move ! (1 ∷ []) $ frame ! $ move ! (1 ∷ 0 ∷ []) $ frame ! $ done !
 
-  module _ (C : Calls 𝓤 H) (Λ : Loops 𝓤 H) (fm : FmC 𝓤 H (W .laws) C) (known : Triple 𝓤 (C #reader·type-in) (Callee 𝓤 H A mem run)) where
+  module _ (C : Calls 𝓤 H) (Λ : Loops 𝓤 H) (fm : FmC 𝓤 H (W .laws) C) (known : Triple 𝓤 (C #stepping·type-in) (Callee 𝓤 H A mem run)) where
     walk : Holds (hasTy (T′.mir (named 0)) mach) × WT mach → Holds (hasTy Cv′.mir cv) × WT cv → ent 𝓤 (onEntry 𝓤 H A type-item.signature (κ, tt) (q, tt) (d, (c, tt)) (mach ∷ [], (cv ∷ [], tt))) (WpFn 𝓤 H C Λ code.function (mach ∷ cv ∷ []) Post)
     walk wt cwt =
         qed W (raw (onEntry 𝓤 H A type-item.signature (κ, tt) (q, tt) (d, (c, tt)) (mach ∷ [], (cv ∷ [], tt))) ∷ []) ∵ enter ! C Λ code.function (mach ∷ cv ∷ []) _ $
@@ -163,14 +163,14 @@ module _ {M : Type 1} (𝓤 : URA M) (H : Heap 𝓤) (A : Atoms 𝓤) (W : Given
         move ! (13 ∷ 14 ∷ []) $ free1 ! $ move ! (11 ∷ 12 ∷ []) $ free1 ! $ move ! (9 ∷ 10 ∷ []) $ free1 ! $ move ! (7 ∷ 8 ∷ []) $ free1 ! $ move ! (5 ∷ 6 ∷ []) $ free1 ! $ move ! (3 ∷ 4 ∷ []) $ free1 ! $ free0 ! $ by ! (exits r u e)))))))))))
 
 module _ {M : Type 1} (𝓤 : URA M) (H : Heap 𝓤) (A : Atoms 𝓤) (W : Given 𝓤 H A) (mem : Memory → SProp 𝓤) (run : Routine → Fun 𝓤) where
-  type-item-walks : (C : Calls 𝓤 H) (Λ : Loops 𝓤 H) → FmC 𝓤 H (W .laws) C → Triple 𝓤 (C #reader·type-in) (Callee 𝓤 H A mem run)
+  type-item-walks : (C : Calls 𝓤 H) (Λ : Loops 𝓤 H) → FmC 𝓤 H (W .laws) C → Triple 𝓤 (C #stepping·type-in) (Callee 𝓤 H A mem run)
       → Walks 𝓤 H A type-item.ended stayed (WpFn 𝓤 H C Λ code.function) (type-item.clauses 𝓤 H A mem run)
   type-item-walks C Λ fm known = walked 𝓤 H A type-item.ended stayed (type-item.clauses 𝓤 H A mem run) (WpFn 𝓤 H C Λ code.function)
       (λ κs. (LL.vals (T.the-type (namedLft 1 0 tt κs)) (T′.the-laws (namedLft 1 0 tt κs)), (EL.vals Cv.the-type Cv′.the-laws, tt))) (λ κs. (LL.tells (T.the-type (namedLft 1 0 tt κs)) (T′.the-laws (namedLft 1 0 tt κs)), (EL.tells Cv.the-type Cv′.the-laws, tt)))
       (λ κs qs bounds a g are. via 𝓤 _ (fst∗ 𝓤 _ (emp 𝓤)) (walk 𝓤 H A W mem run (κs .0) (qs .0) (a .0) (a .1 .0) C Λ fm known (LL.lawful (T.the-type (namedLft 1 0 tt κs)) (T′.the-laws (namedLft 1 0 tt κs)) 𝓤 H A W .typed (a .0) _ (are .0) .0) (EL.lawful Cv.the-type Cv′.the-laws 𝓤 H A W tt .typed (a .1 .0) _ (are .1 .0) .0)))
 
 type-item-meets : {M : Type 1} (𝓤 : URA M) (H : Heap 𝓤) (A : Atoms 𝓤) → Given 𝓤 H A → (mem : Memory → SProp 𝓤) (run : Routine → Fun 𝓤) (𝓣 : Tables 𝓤 H)
-    → Triple 𝓤 (𝓣 .C #reader·type-in) (Callee 𝓤 H A mem run) → Meets 𝓤 H A type-item.signature (WpFn 𝓤 H (𝓣 .C) (𝓣 .Λ) code.function) (type-item.spec 𝓤 H A mem run)
+    → Triple 𝓤 (𝓣 .C #stepping·type-in) (Callee 𝓤 H A mem run) → Meets 𝓤 H A type-item.signature (WpFn 𝓤 H (𝓣 .C) (𝓣 .Λ) code.function) (type-item.spec 𝓤 H A mem run)
 type-item-meets 𝓤 H A W mem run 𝓣 known =
     walk-meets 𝓤 H A type-item.ended stayed W (goes-none 𝓤 H A W 1 B yes (λ κs x f. refl), (goes-none 𝓤 H A W 1 (λ _. Cv.the-row) yes (λ κs x f. refl), tt)) (type-item.clauses 𝓤 H A mem run)
     (WpFn 𝓤 H (𝓣 .C) (𝓣 .Λ) code.function) (WpFn-mono 𝓤 H (W .laws) 𝓣 code.function) (type-item-walks 𝓤 H A W mem run (𝓣 .C) (𝓣 .Λ) (fmOf 𝓤 H (W .laws) 𝓣) known)
@@ -181,4 +181,4 @@ type-item-spec 𝓤 H 𝓜 𝓖 𝓡 =
     entered 𝓤 H (tripleOf 𝓤 H (𝓖 .A) type-item.signature (type-item.spec 𝓤 H (𝓖 .A) (𝓜 .mem) (𝓡 .run)))
     (tables 𝓤 H 𝓜 𝓡 code.env .C) (tables 𝓤 H 𝓜 𝓡 code.env .Λ) #reader·type-item code.function (code.unfolded 𝓤 H 𝓜 𝓡)
     (type-item-meets 𝓤 H (𝓖 .A) (givenOf 𝓤 H 𝓜 𝓖) (𝓜 .mem) (𝓡 .run) (tablesOf 𝓤 H 𝓜 (tables 𝓤 H 𝓜 𝓡 code.env))
-    (cited 𝓤 H (Callee 𝓤 H (𝓖 .A) (𝓜 .mem) (𝓡 .run)) 𝓜 𝓡 code.env #reader·type-in callee-def.routine code.calls-reader·type-in (callee-thm.met 𝓤 H 𝓜 𝓖 𝓡)))
+    (cited 𝓤 H (Callee 𝓤 H (𝓖 .A) (𝓜 .mem) (𝓡 .run)) 𝓜 𝓡 code.env #stepping·type-in callee-def.routine code.calls-stepping·type-in (callee-thm.met 𝓤 H 𝓜 𝓖 𝓡)))

@@ -1,0 +1,2 @@
+-- What stands at a place of any bytes. Assumes nothing.
+pub mod Step
