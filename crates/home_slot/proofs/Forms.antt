@@ -1,11 +1,13 @@
 -- An argument's registers as memory holds them. Assumes nothing.
 use mathlib.Core.Path.{_≡_, refl, sym, ap, _∙_}
 use mathlib.Core.Bool.{false}
-use mathlib.Core.List.{List}
-use Prim.Native.Nat.{ℕ, _+_, _*_, _%_, _^_, _≤_, _<_}
+use mathlib.Core.List.{List, _++_}
+use Prim.Native.Nat.{ℕ, _+_, _-_, _*_, _%_, _^_, _≤_, _<_}
 use native.Mathlib.Omega.{arith}
 use native.Mathlib.Nat.{mod-eq-of-lt}
 use borrow.Author.Tests.{lt-ltb, le-ltb}
+use lib.ListN.{replicate}
+use Rattle.words.specs.Basics.{pick}
 use Rattle.words.specs.Splice.{part}
 use Rattle.words.specs.Numbers.{bytesOf, valueOf, zeroExtended}
 use Rattle.words.proofs.Numbers.{value-bytesOf}
@@ -22,7 +24,7 @@ use Rattle.registers.specs.Registers.{gather}
 use Rattle.slots.specs.Forms.{roomOf, startsAtHead, extended, homeBytes, narrowedBytes, floatValueAs, floatValue}
 use Rattle.slots.specs.Placements.{Placement}
 use Rattle.slots.specs.Limits.{FloatSized}
-use Rattle.home_slot.specs.Homes.{homeless, narrowedWord, memoryWord, fprOf, homedBytes, Registered}
+use Rattle.home_slot.specs.Homes.{homeless, narrowedWord, memoryWord, floatHome, HomeSized, fillsWords, fprsOf, homedBytes, Registered}
 
 -- ---- the memory form
 narrowed-form : (d : ℕ) (q : Narrowed) → narrow d ≡ q → zeroExtended 4 (valueOf (narrowedBytes q)) ≡ narrowedWord q
@@ -33,37 +35,53 @@ narrowed-form d (Narrowed.Single x) e =
     omega (arith, low, v)
 narrowed-form d Narrowed.NotWidened e = refl
 
-word-form : (f : PowerRules) (q : Equivalent) (n : ℕ) (bs : List ℕ) → FloatSized q n → valueOf bs < 2 ^ 64
-    → zeroExtended n (valueOf (floatValueAs (Rules.Power f) q bs)) ≡ memoryWord q (valueOf bs)
-unfolding zeroExtended
-word-form f Equivalent.Single n bs s low = rw s (narrowed-form (valueOf bs) (narrow (valueOf bs)) refl)
-word-form f Equivalent.Double n bs s low = rw s (mod-eq-of-lt low)
-word-form f Equivalent.Nothing n bs s low = absurd s
+-- of a single and of a double
+single-form : (f : PowerRules) (n : ℕ) (bs : List ℕ) → n ≡ 4 → zeroExtended n (valueOf (floatValueAs (Rules.Power f) Equivalent.Single bs)) ≡ memoryWord Equivalent.Single (valueOf bs)
+single-form f n bs s = rw s (narrowed-form (valueOf bs) (narrow (valueOf bs)) refl)
 
--- of a type that is equivalent to a float and stands at the end of its words
-memory-form : (f : PowerRules) (t : ValueType) (n : ℕ) (bs : List ℕ) → FloatSized (equivalentOf t) n → startsAtHead (Rules.Power f) t ≡ false → valueOf bs < 2 ^ 64
-    → homeBytes (Rules.Power f) t n (floatValue (Rules.Power f) t bs) ≡ bytesOf (roomOf (Rules.Power f) n) (memoryWord (equivalentOf t) (valueOf bs))
+double-form : (n : ℕ) (bs : List ℕ) → n ≡ 8 → valueOf bs < 2 ^ 64 → zeroExtended n (valueOf bs) ≡ valueOf bs
+unfolding zeroExtended
+double-form n bs s low = rw s (mod-eq-of-lt low)
+
+-- of a float in m FPRs
+form-as : (f : PowerRules) (q : Equivalent) (m n : ℕ) (bs : List ℕ) → FloatSized q m n → (m ≡ 1 → valueOf bs < 2 ^ 64)
+    → pick (fillsWords q) (floatValueAs (Rules.Power f) q bs ++ replicate (roomOf (Rules.Power f) n - n) 0)
+    (bytesOf (roomOf (Rules.Power f) n) (zeroExtended n (valueOf (floatValueAs (Rules.Power f) q bs))))
+    ≡ floatHome (roomOf (Rules.Power f) n) (8 * m) q bs
+form-as f Equivalent.Single m n bs s low = ap (bytesOf (roomOf (Rules.Power f) n)) (single-form f n bs (s .1))
+form-as f Equivalent.Double m n bs s low = ap (bytesOf (roomOf (Rules.Power f) n)) (double-form n bs (s .1) (low (s .0)))
+form-as f Equivalent.Nothing m n bs s low = ap (λ (k : ℕ). bs ++ replicate (roomOf (Rules.Power f) n - k) 0) s
+
+memory-form : (f : PowerRules) (t : ValueType) (m n : ℕ) (bs : List ℕ) → FloatSized (equivalentOf t) m n → startsAtHead (Rules.Power f) t ≡ fillsWords (equivalentOf t)
+    → (m ≡ 1 → valueOf bs < 2 ^ 64)
+    → homeBytes (Rules.Power f) t n (floatValue (Rules.Power f) t bs) ≡ floatHome (roomOf (Rules.Power f) n) (8 * m) (equivalentOf t) bs
 unfolding homeBytes floatValue extended
-memory-form f (ValueType.Integer k) n bs s e low = absurd s
-memory-form f (ValueType.Float x) n bs s e low = rw e (ap (bytesOf (roomOf (Rules.Power f) n)) (word-form f (equivalentOf (ValueType.Float x)) n bs s low))
-memory-form f (ValueType.Struct x) n bs s e low = rw e (ap (bytesOf (roomOf (Rules.Power f) n)) (word-form f (x .equivalent) n bs s low))
+memory-form f (ValueType.Integer k) m n bs s e low = rw e (form-as f Equivalent.Nothing m n bs s low)
+memory-form f (ValueType.Float x) m n bs s e low = rw e (form-as f (equivalentOf (ValueType.Float x)) m n bs s low)
+memory-form f (ValueType.Struct x) m n bs s e low = rw e (form-as f (x .equivalent) m n bs s low)
 
 module _ (r : Rules) (a i : ℕ) (p : Placement) (image : List ℕ) (h : Registered r a i p) where
   -- a float's home holds its memory form
-  pub homed-float : 0 < p .span .floating .count → valueOf (fprOf (p .span) image) < 2 ^ 64
-      → homedBytes r p image ≡ bytesOf (p .span .home .length) (memoryWord (equivalentOf (p .ty)) (valueOf (fprOf (p .span) image)))
+  pub homed-float : 0 < p .span .floating .count → (p .span .floating .count ≡ 1 → valueOf (fprsOf (p .span) image) < 2 ^ 64)
+      → homedBytes r p image ≡ floatHome (p .span .home .length) (8 * p .span .floating .count) (equivalentOf (p .ty)) (fprsOf (p .span) image)
   unfolding homedBytes
   homed-float some low =
       simp (lt-ltb 0 (p .span .floating .count) some)
-      (go r (h .homed .homes) (h .homed .float some) ∙ ap (λ (n : ℕ). bytesOf n (memoryWord (equivalentOf (p .ty)) (valueOf (fprOf (p .span) image)))) (sym (h .homed .room)))
+      (go r (h .homed .homes) (h .homed .float some) ∙ ap (λ (n : ℕ). floatHome n (8 * p .span .floating .count) (equivalentOf (p .ty)) (fprsOf (p .span) image)) (sym (h .homed .room)))
     where
-      one : p .span .floating .count ≡ 1
-      one = omega (arith, h .held .floats)
-
-      go : (r : Rules) → homeless r ≡ false → startsAtHead r (p .ty) ≡ false
-          → homeBytes r (p .ty) (p .size) (floatValue r (p .ty) (fprOf (p .span) image)) ≡ bytesOf (roomOf r (p .size)) (memoryWord (equivalentOf (p .ty)) (valueOf (fprOf (p .span) image)))
-      go (Rules.Power f) e q = memory-form f (p .ty) (p .size) (fprOf (p .span) image) (h .held .float one) q low
+      go : (r : Rules) → homeless r ≡ false → startsAtHead r (p .ty) ≡ fillsWords (equivalentOf (p .ty))
+          → homeBytes r (p .ty) (p .size) (floatValue r (p .ty) (fprsOf (p .span) image)) ≡ floatHome (roomOf r (p .size)) (8 * p .span .floating .count) (equivalentOf (p .ty)) (fprsOf (p .span) image)
+      go (Rules.Power f) e q = memory-form f (p .ty) (p .span .floating .count) (p .size) (fprsOf (p .span) image) (h .held .float some) q low
       go Rules.Z e q = let z : _≡_ {A = ℕ} 0 1 = cc in absurd (omega arith)
+
+  -- which it has room for
+  pub float-sized : 0 < p .span .floating .count → HomeSized (equivalentOf (p .ty)) (8 * p .span .floating .count) (p .span .home .length)
+  float-sized some = go (equivalentOf (p .ty)) (h .held .float some)
+    where
+      go : (e : Equivalent) → FloatSized e (p .span .floating .count) (p .size) → HomeSized e (8 * p .span .floating .count) (p .span .home .length)
+      go Equivalent.Single s = omega (arith, s .0)
+      go Equivalent.Double s = omega (arith, s .0)
+      go Equivalent.Nothing s = omega (arith, s, h .homed .room, h .held .room (h .homed .direct))
 
   pub float-room : p .span .home .start + p .span .home .length ≤ a
   float-room = omega (arith, h .homed .within, h .homed .room)

@@ -10,7 +10,7 @@ use Rattle.words.specs.Basics.{pick}
 use Rattle.conventions.specs.declared.Convention.{Convention}
 use Rattle.types.specs.declared.FloatFormat.{FloatFormat}
 use Rattle.types.specs.declared.ValueType.{ValueType}
-use Rattle.types.specs.Sizes.{sizeOf}
+use Rattle.types.specs.Sizes.{sizeOf, equivalentOf}
 use Rattle.items.specs.declared.Fault.{Fault}
 use Rattle.items.specs.Reading.{Reading, got, no}
 use Rattle.signature.specs.declared.ResultType.{ResultType}
@@ -31,44 +31,42 @@ use Rattle.slots.specs.Placements.{Placement, placement, placements}
 use Rattle.slots.specs.Limits.{Held, All}
 use Rattle.slots.specs.Arguments.{argumentsIn, argumentsOf, planFor, rulesFor}
 use Rattle.slots.proofs.Answered.{arguments-got}
-use Rattle.home_slot.specs.Homes.{homeless, Homed}
+use Rattle.home_slot.specs.Homes.{homeless, fillsWords, Homed}
 
--- ---- each argument, over the bytes w of a word
+-- ---- each argument, over the bytes w of a word and the edition
 
-module _ (w : ℕ) (least : 4 ≤ w) (most : w ≤ 8) where
+module _ (w : ℕ) (least : 4 ≤ w) (most : w ≤ 8) (e : Edition) where
   abbrev rules : Rules
-  rules = power w Edition.Earlier
+  rules = power w e
 
-  float-end : (k : Cursor) (t : ValueType) (n : ℕ) → 0 < spanOf rules k t n .floating .count → startsAtHead rules t ≡ false
+  float-fills : (k : Cursor) (t : ValueType) (n : ℕ) → 0 < spanOf rules k t n .floating .count → startsAtHead rules t ≡ fillsWords (equivalentOf t)
   unfolding spanOf powerShare shareOf fprs startsAtHead
-  float-end k (ValueType.Integer x) n h = refl
-  float-end k (ValueType.Float FloatFormat.Single) n h = refl
-  float-end k (ValueType.Float FloatFormat.Double) n h = refl
-  float-end k (ValueType.Float FloatFormat.LongDouble) n h = absurd (omega arith)
-  float-end k (ValueType.Struct s) n h = absurd (omega arith)
+  float-fills k (ValueType.Integer x) n h = absurd (omega arith)
+  float-fills k (ValueType.Float FloatFormat.Single) n h = refl
+  float-fills k (ValueType.Float FloatFormat.Double) n h = refl
+  float-fills k (ValueType.Float FloatFormat.LongDouble) n h = refl
+  float-fills k (ValueType.Struct s) n h = absurd (omega arith)
 
   -- words in memory follow those in registers, also those of a float of n words that has no FPR
-  float-follows : (b : Bool) (at n : ℕ) → pick b (share 0 1 0) (share 0 0 n) .floating ≡ 0
-      → at + w * (n - pick b (share 0 1 0) (share 0 0 n) .memory) ≡ at + w * pick b (share 0 1 0) (share 0 0 n) .general
-  float-follows true at n e = absurd (omega arith)
-  float-follows false at n e = let z : n - n ≡ 0 = omega arith in rw z
-
-  -- of n words, those before the last ones, where k have a GPR
-  words-before : (at n k : ℕ) → k ≤ n → at + w * (n - (n - k)) ≡ at + w * k
-  words-before at n k h = let z : n - (n - k) ≡ k = omega arith in rw z
+  share-follows : (m room at n k : ℕ) → k ≤ n → shareOf m room n k .floating ≡ 0
+      → at + w * (n - shareOf m room n k .memory) ≡ at + w * shareOf m room n k .general
+  unfolding shareOf
+  share-follows zero room at n k l q = let z : n - (n - k) ≡ k = omega arith in rw z
+  share-follows (suc m) room at n k l q = go (leb (suc m) room) q
+    where
+      go : (b : Bool) → pick b (share 0 (suc m) 0) (share 0 0 n) .floating ≡ 0
+          → at + w * (n - pick b (share 0 (suc m) 0) (share 0 0 n) .memory) ≡ at + w * pick b (share 0 (suc m) 0) (share 0 0 n) .general
+      go true q = absurd (omega arith)
+      go false q = let z : n - n ≡ 0 = omega arith in rw z
 
   memory-follows : (k : Cursor) (t : ValueType) (n : ℕ) → spanOf rules k t n .floating .count ≡ 0
       → spanOf rules k t n .memory .start ≡ k .stack + w * spanOf rules k t n .general .count
-  unfolding spanOf powerShare shareOf fprs
-  memory-follows k (ValueType.Integer x) n h = words-before (k .stack) (words w n) (covered k (words w n)) (omega arith)
-  memory-follows k (ValueType.Float FloatFormat.Single) n h = float-follows (leb 1 (14 - k .floating)) (k .stack) (words w n) h
-  memory-follows k (ValueType.Float FloatFormat.Double) n h = float-follows (leb 1 (14 - k .floating)) (k .stack) (words w n) h
-  memory-follows k (ValueType.Float FloatFormat.LongDouble) n h = words-before (k .stack) (words w n) (covered k (words w n)) (omega arith)
-  memory-follows k (ValueType.Struct s) n h = words-before (k .stack) (words w n) (covered k (words w n)) (omega arith)
+  unfolding spanOf powerShare
+  memory-follows k t n h = share-follows (fprs e t) (14 - k .floating) (k .stack) (words w n) (covered k (words w n)) (omega arith) h
 
   step-homed : (k : Cursor) (t : ValueType) (n a : ℕ) → nextOf rules k t n .stack ≤ a → Homed rules a (placement t n (spanOf rules k t n))
   unfolding spanOf nextOf
-  step-homed k t n a h = record { homes = refl; direct = refl; room = refl; within = omega arith; float = float-end k t n; follows = memory-follows k t n }
+  step-homed k t n a h = record { homes = refl; direct = refl; room = refl; within = omega arith; float = float-fills k t n; follows = memory-follows k t n }
 
   -- of any convention's sizes
   all-homed : (c : Convention) (k : Cursor) (ts : List ValueType) (a : ℕ) → lastOf c rules k ts .stack ≤ a → All (Homed rules a) (placements c ts (spansOf c rules k ts))
@@ -84,10 +82,10 @@ plan-homed : (n : ℕ) (c : Convention) (r : ResultType) (ts : List ValueType) �
     → All (Homed (rulesOf c) (planIn n c r ts .area)) (placements c ts (spansOf c (rulesOf c) (startIn c r) ts))
 unfolding planIn
 plan-homed n Convention.Ppc64 r ts e =
-    all-homed 8 (omega arith) (omega arith) Convention.Ppc64 (startIn Convention.Ppc64 r) ts _ (area-holds Convention.Ppc64 (endIn Convention.Ppc64 r ts))
+    all-homed 8 (omega arith) (omega arith) Edition.Earlier Convention.Ppc64 (startIn Convention.Ppc64 r) ts _ (area-holds Convention.Ppc64 (endIn Convention.Ppc64 r ts))
 plan-homed n Convention.Z r ts e = let z : _≡_ {A = ℕ} 0 1 = cc in absurd (omega arith)
 plan-homed n Convention.Aix r ts e =
-    all-homed 4 (omega arith) (omega arith) Convention.Aix (startIn Convention.Aix r) ts _ (area-holds Convention.Aix (endIn Convention.Aix r ts))
+    all-homed 4 (omega arith) (omega arith) Edition.Earlier Convention.Aix (startIn Convention.Aix r) ts _ (area-holds Convention.Aix (endIn Convention.Aix r ts))
 
 refused-homed : (r : Rules) (f : Fault) → All (Homed r (planAnswer (no f) .area)) (argumentsIn (signatureAnswer (no f)) (planAnswer (no f)))
 unfolding argumentsIn placements All

@@ -1,13 +1,14 @@
 -- The home of one argument in the parameter area. Document 01, "What stands in a slot": "Home (PPC64) copies each argument's register doublewords
 -- into the area at its offset: GPRs as they stand, an FPR in its memory form (14 possible)". Assumes nothing.
-use Prim.Native.Nat.{ℕ, _+_, _*_, _≤_, _<_}
+use Prim.Native.Nat.{ℕ, _+_, _-_, _*_, _≤_, _<_}
 use mathlib.Core.Path.{_≡_}
 use mathlib.Core.Bool.{Bool, true, false}
-use mathlib.Core.List.{List}
+use mathlib.Core.List.{List, _++_}
 use lib.Dec.{ltb}
+use lib.ListN.{replicate}
 use Rattle.words.specs.Basics.{pick}
 use Rattle.words.specs.Splice.{part}
-use Rattle.words.specs.Numbers.{valueOf}
+use Rattle.words.specs.Numbers.{bytesOf, valueOf}
 use Rattle.ieee.specs.declared.Narrowed.{Narrowed}
 use Rattle.ieee.specs.Narrowing.{narrow}
 use Rattle.types.specs.declared.Equivalent.{Equivalent}
@@ -21,7 +22,7 @@ use Rattle.slots.specs.Buffers.{generalAt, floatingAt}
 use Rattle.registers.specs.Registers.{gather}
 use Rattle.slots.specs.Forms.{roomOf, startsAtHead, homeBytes, floatValue}
 use Rattle.slots.specs.Placements.{Placement}
-use Rattle.slots.specs.Limits.{Held}
+use Rattle.slots.specs.Limits.{FloatSized, Held}
 use Rattle.slots.specs.Refusals.{floatAnswer}
 
 -- "asked of Z": only PowerPC has homes for its register arguments
@@ -29,25 +30,25 @@ abbrev pub homeless : Rules → Bool
 homeless (Rules.Power f) = false
 homeless Rules.Z = true
 
--- the eight bytes of an argument's FPR
-abbrev pub fprOf : Span → List ℕ → List ℕ
-fprOf s image = part (floatingAt (s .floating .first)) 8 image
+-- the bytes of an argument's FPRs, eight of each
+abbrev pub fprsOf : Span → List ℕ → List ℕ
+fprsOf s image = part (floatingAt (s .floating .first)) (8 * s .floating .count) image
 
 -- 14, of one argument: general registers hold anything
 unfoldable pub registerAnswer : Rules → ValueType → Span → List ℕ → Answer
-registerAnswer r t s image = pick (ltb 0 (s .floating .count)) (floatAnswer r (equivalentOf t) (valueOf (fprOf s image))) Answer.Done
+registerAnswer r t s image = pick (ltb 0 (s .floating .count)) (floatAnswer r (equivalentOf t) (valueOf (fprsOf s image))) Answer.Done
 
 -- ---- the bytes
 
 -- an argument's register words, as memory holds them: "GPRs as they stand", on AIX their low halves; "an FPR in its memory form"
 unfoldable pub homedBytes : Rules → Placement → List ℕ → List ℕ
 homedBytes r p image =
-    pick (ltb 0 (p .span .floating .count)) (homeBytes r (p .ty) (p .size) (floatValue r (p .ty) (fprOf (p .span) image)))
+    pick (ltb 0 (p .span .floating .count)) (homeBytes r (p .ty) (p .size) (floatValue r (p .ty) (fprsOf (p .span) image)))
     (gather (wordOf r) (p .span .general .count) (part (generalAt (p .span .general .first)) (8 * p .span .general .count) image))
 
 -- ---- what the code asks and answers
 
--- the 64 bits in memory of a float whose FPR has the bits x; 0 of a single that is none
+-- the 64 bits in memory of a single or a double whose FPR has the bits x; 0 of a single that is none
 abbrev pub narrowedWord : Narrowed → ℕ
 narrowedWord (Narrowed.Single x) = x
 narrowedWord Narrowed.NotWidened = 0
@@ -57,19 +58,38 @@ memoryWord Equivalent.Single x = narrowedWord (narrow x)
 memoryWord Equivalent.Double x = x
 memoryWord Equivalent.Nothing x = x
 
+-- the memory form of a float in a home of `room` bytes, from the n bytes of its FPRs: a long double stands in memory as in its FPRs
+abbrev pub floatHome : ℕ → ℕ → Equivalent → List ℕ → List ℕ
+floatHome room n Equivalent.Single bs = bytesOf room (memoryWord Equivalent.Single (valueOf bs))
+floatHome room n Equivalent.Double bs = bytesOf room (memoryWord Equivalent.Double (valueOf bs))
+floatHome room n Equivalent.Nothing bs = bs ++ replicate (room - n) 0
+
+-- a single and a double have one FPR, and the home of another float has room for all of its FPRs
+abbrev pub HomeSized : Equivalent → ℕ → ℕ → Type 0
+HomeSized Equivalent.Single n room = n ≡ 8
+HomeSized Equivalent.Double n room = n ≡ 8
+HomeSized Equivalent.Nothing n room = n ≤ room
+
+-- of the types that have FPRs, only a long double starts at the head of its words
+abbrev pub fillsWords : Equivalent → Bool
+fillsWords Equivalent.Single = false
+fillsWords Equivalent.Double = false
+fillsWords Equivalent.Nothing = true
+
 -- What holds of each argument on PowerPC in an area of a bytes (law `homed-all`): it is passed by value, its home holds all its words
--- and lies in the area, only a single or a double has an FPR, and the words in memory follow those in general registers.
+-- and lies in the area, only a single, a double or a long double has FPRs, and the words in memory follow those in general registers.
 pub record Homed (r : Rules) (a : ℕ) (p : Placement) : Type 0 where
   pub homes : homeless r ≡ false
   pub direct : p .span .indirect ≡ false
   pub room : p .span .home .length ≡ roomOf r (p .size)
   pub within : p .span .home .start + roomOf r (p .size) ≤ a
-  pub float : 0 < p .span .floating .count → startsAtHead r (p .ty) ≡ false
+  pub float : 0 < p .span .floating .count → startsAtHead r (p .ty) ≡ fillsWords (equivalentOf (p .ty))
   pub follows : p .span .floating .count ≡ 0 → p .span .memory .start ≡ p .span .home .start + wordOf r * p .span .general .count
 
--- an FPR lies in an image of i bytes
-abbrev pub FloatFits : Span → ℕ → Type 0
-FloatFits s i = (s .floating .first + s .floating .count ≤ 32) × (i ≡ 512)
+-- a type's FPRs lie in an image of i bytes, and hold a value of some size
+abbrev pub FloatFits : ValueType → Span → ℕ → Type 0
+FloatFits t s i =
+    (s .floating .first + s .floating .count ≤ 32) × (i ≡ 512) × (0 < s .floating .count → (n : ℕ) × FloatSized (equivalentOf t) (s .floating .count) n)
 
 -- such an argument, and that its registers lie in an image of i bytes
 pub record Registered (r : Rules) (a i : ℕ) (p : Placement) : Type 0 where

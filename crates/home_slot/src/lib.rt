@@ -7,13 +7,13 @@ use slots::Answer;
 use types::Equivalent;
 use types::ValueType;
 ghost use mathlib.Core.Path.{_≡_};
-ghost use Prim.Native.Nat.{_+_};
+ghost use Prim.Native.Nat.{_+_, _≤_};
 ghost use lib.ListN.{length};
-ghost use Rattle.words.specs.Splice.{overlay};
+ghost use Rattle.words.specs.Splice.{overlay, part};
 ghost use Rattle.types.specs.Sizes.{sizeOf};
 ghost use Rattle.places.specs.Step.{rulesOf};
 ghost use Rattle.slots.specs.Placements.{placement};
-ghost use Rattle.home_slot.specs.Homes.{homeless, registerAnswer, homedBytes, memoryWord, FloatFits, Registered};
+ghost use Rattle.home_slot.specs.Homes.{homeless, registerAnswer, homedBytes, memoryWord, floatHome, HomeSized, FloatFits, Registered};
 
 // Whether a convention has no homes for its register arguments.
 pub fn is_homeless(r: Rules) -> bool
@@ -25,9 +25,9 @@ pub fn is_homeless(r: Rules) -> bool
     }
 }
 
-// Whether one argument's FPR, if it has one, can be homed.
+// Whether one argument's FPRs, if it has any, can be homed.
 pub fn register_answer(image: &[u8], r: Rules, t: ValueType, s: Span) -> Answer
-    requires { ⌜ FloatFits s (length (now image)) ⌝ }
+    requires { ⌜ FloatFits t s (length (now image)) ⌝ }
     ensures { λ a. ⌜ a ≡ registerAnswer r t s (now (image .entry)) ⌝ }
 {
     let floating = s.floating;
@@ -52,6 +52,25 @@ fn memory_word(e: Equivalent, x: u64) -> u64
     }
 }
 
+// A float in its memory form, at the head of its home of `room` bytes; its FPRs' n bytes start at `at` of the image.
+fn home_float(place: &mut [u8], image: &[u8], e: Equivalent, at: usize, n: usize, room: usize)
+    requires { ⌜ (at + n ≤ length (now image)) × (room ≤ length (now place)) × HomeSized e n room ⌝ }
+    ensures { λ _. ⌜ now (place .exit) ≡ overlay (now (place .entry)) (floatHome room n e (part at n (now (image .entry)))) ⌝ }
+{
+    match e {
+        Equivalent::Nothing => {
+            let end = at + n;
+            registers::put_padded(place, &image[at..end], room - n);
+        }
+        Equivalent::Single => {
+            words::put_number(place, room, memory_word(e, words::load(image, at, 8)));
+        }
+        Equivalent::Double => {
+            words::put_number(place, room, memory_word(e, words::load(image, at, 8)));
+        }
+    }
+}
+
 // The register words of one argument at the head of its home.
 pub fn put_home(place: &mut [u8], image: &[u8], c: Convention, t: ValueType, s: Span)
     requires { ⌜ Registered (rulesOf c) (s .home .start + length (now place)) (length (now image)) (placement t (sizeOf c t) s) ⌝ }
@@ -61,12 +80,10 @@ pub fn put_home(place: &mut [u8], image: &[u8], c: Convention, t: ValueType, s: 
     let general = s.general;
     let home = s.home;
     if 0 < floating.count {
-        let x = words::load(image, 256 + 8 * (floating.first as usize), 8);
-        words::put_number(
-            place,
-            home.length as usize,
-            memory_word(types::equivalent_of(t), x),
-        );
+        let at = 256 + 8 * (floating.first as usize);
+        let held = 8 * (floating.count as usize);
+        let room = home.length as usize;
+        home_float(place, image, types::equivalent_of(t), at, held, room);
         return;
     }
     let word = conventions::word_bytes(c);

@@ -9,32 +9,39 @@ use lib.Seq.{take-all}
 use Rattle.words.specs.Splice.{splice, part}
 use Rattle.words.specs.Numbers.{bytesOf, valueOf}
 use Rattle.words.proofs.Splices.{splice-nothing}
-use Rattle.words.proofs.Numbers.{length-bytesOf}
+use Rattle.types.specs.declared.Equivalent.{Equivalent}
 use Rattle.types.specs.Sizes.{equivalentOf}
 use Rattle.places.specs.declared.Rules.{Rules}
 use Rattle.places.specs.Step.{wordOf}
 use Rattle.registers.specs.Registers.{spread}
 use Rattle.slots.specs.Buffers.{buffers, generalAt, floatingAt, put, putAll}
-use Rattle.slots.specs.Forms.{startsAtHead, extended, homeBytes, floatWord, floatBytes}
+use Rattle.slots.specs.Forms.{startsAtHead, extended, homeBytes, floatForm, floatBytes}
 use Rattle.slots.specs.Placements.{Placement, standing, copyBytes, slotsOf}
-use Rattle.slots.specs.Limits.{Held}
-use Rattle.marshal.specs.Room.{NumberFits}
-use Rattle.slots.proofs.Limits.{one-word, one-address, one-doubleword}
+use Rattle.slots.specs.Limits.{FloatSized, Held}
+use Rattle.marshal.specs.Room.{NumberFits, FloatRoom}
+use Rattle.slots.proofs.Limits.{form-length, one-word, one-address, one-doubleword}
+
+-- FPRs have room for their float
+pub float-room : (e : Equivalent) (m n l : ℕ) → FloatSized e m n → 8 * m ≤ l → FloatRoom e n l
+float-room Equivalent.Single m n l h k = (h .1, omega (arith, h .0))
+float-room Equivalent.Double m n l h k = omega (arith, h .0, h .1)
+float-room Equivalent.Nothing m n l h k = omega (arith, h)
 
 module _ (r : Rules) (base : ℕ) (p : Placement) (v image area copies : List ℕ) (h : Held r p) where
-  -- in an FPR
-  pub argument-float : 0 < p .span .floating .count
-      → buffers (splice image (floatingAt (p .span .floating .first)) (bytesOf 8 (floatWord r (equivalentOf (p .ty)) (valueOf v)))) area copies
+  -- in FPRs
+  pub argument-float : 0 < p .span .floating .count → length v ≡ p .size
+      → buffers (splice image (floatingAt (p .span .floating .first)) (floatForm r (equivalentOf (p .ty)) v)) area copies
       ≡ putAll (slotsOf r base p v) (buffers image area copies)
   unfolding slotsOf putAll put floatBytes spread
-  argument-float some =
-      let one : p .span .floating .count ≡ 1 = omega (arith, h .floats) in
-      let none : p .span .general .count ≡ 0 = h .alone one .0 in
-      let empty : p .span .memory .length ≡ 0 = h .alone one .1 in
-      let direct : p .span .indirect ≡ false = h .direct one in
-      let f : List ℕ = bytesOf 8 (floatWord r (equivalentOf (p .ty)) (valueOf v)) in
-      let all : take 8 f ≡ f = take-all 8 f (omega (arith, length-bytesOf 8 (floatWord r (equivalentOf (p .ty)) (valueOf v)))) in
-      rw (one, none, empty, direct, all, splice-nothing, splice-nothing, splice-nothing)
+  argument-float some size =
+      let none : p .span .general .count ≡ 0 = h .alone some .0 in
+      let empty : p .span .memory .length ≡ 0 = h .alone some .1 in
+      let direct : p .span .indirect ≡ false = h .direct some in
+      let k : ℕ = p .span .floating .count in
+      let f : List ℕ = floatForm r (equivalentOf (p .ty)) v in
+      let sized : FloatSized (equivalentOf (p .ty)) k (length v) = rw size (h .float some) in
+      let all : take (8 * k) f ≡ f = take-all (8 * k) f (omega (arith, form-length r (equivalentOf (p .ty)) k v sized)) in
+      rw (none, empty, direct, all, splice-nothing, splice-nothing, splice-nothing)
 
   -- in general registers and memory, where the words bs stand there
   pub argument-words : (bs i a c : List ℕ) → p .span .floating .count ≤ 0 → standing r base p v ≡ bs

@@ -3,6 +3,7 @@ use Prim.Native.Nat.{ℕ, _+_, _-_, _*_, _^_, _≤_, _<_}
 use mathlib.Core.Path.{_≡_}
 use mathlib.Core.List.{List, _++_}
 use lib.ListN.{length, replicate}
+use Rattle.types.specs.declared.Equivalent.{Equivalent}
 use Rattle.places.specs.declared.Rules.{Rules}
 use Rattle.places.specs.declared.Span.{Span}
 use Rattle.slots.specs.Placements.{Placement}
@@ -25,6 +26,12 @@ WordsFit w s image area =
 -- a number of at most eight bytes has no word too many: a doubleword is its only one
 abbrev pub NumberFits : ℕ → Span → Type 0
 NumberFits w s = (w * s .general .count + s .memory .length < w + 8) × (w ≡ 8 → 8 * s .general .count + s .memory .length ≡ 8)
+
+-- room for a float of n bytes in FPRs, of which l bytes are there
+abbrev pub FloatRoom : Equivalent → ℕ → ℕ → Type 0
+FloatRoom Equivalent.Single n l = (n ≡ 4) × (8 ≤ l)
+FloatRoom Equivalent.Double n l = n ≤ l
+FloatRoom Equivalent.Nothing n l = n ≤ l
 
 -- an argument, and the lengths of the buffers that it is put in
 pub record Ready (r : Rules) (base i a c : ℕ) (p : Placement) : Type 0 where

@@ -2,16 +2,18 @@
 // buffer that starts at its offset.
 use places::Rules;
 use places::Span;
+use types::Equivalent;
 use types::ValueType;
 ghost use mathlib.Core.Path.{_≡_};
 ghost use Prim.Native.Nat.{_+_, _*_, _≤_, _<_};
 ghost use lib.ListN.{length, take};
-ghost use Rattle.words.specs.Splice.{splice, part};
+ghost use Rattle.words.specs.Splice.{overlay, splice, part};
 ghost use Rattle.words.specs.Numbers.{bytesOf};
 ghost use Rattle.registers.specs.Registers.{spread};
 ghost use Rattle.slots.specs.Buffers.{buffers, putAll};
+ghost use Rattle.slots.specs.Forms.{floatForm};
 ghost use Rattle.slots.specs.Placements.{placement, slotsOf};
-ghost use Rattle.marshal.specs.Room.{padded, WordsFit, NumberFits, Ready};
+ghost use Rattle.marshal.specs.Room.{padded, WordsFit, NumberFits, FloatRoom, Ready};
 
 // The eight bytes of x in the only word of a span, where a word is a doubleword: a general register or a doubleword of memory.
 fn put_word(image: &mut [u8], area: &mut [u8], s: Span, x: u64)
@@ -77,6 +79,24 @@ fn put_bytes(image: &mut [u8], area: &mut [u8], word: usize, s: Span, v: &[u8])
     registers::put_padded(&mut area[start..], &v[held..], stored - (n - held));
 }
 
+// A float's form in its FPRs, at the head of `place`.
+fn put_float(place: &mut [u8], r: Rules, e: Equivalent, v: &[u8])
+    requires { ⌜ FloatRoom e (length (now v)) (length (now place)) ⌝ }
+    ensures { λ _. ⌜ now (place .exit) ≡ overlay (now (place .entry)) (floatForm r e (now (v .entry))) ⌝ }
+{
+    match e {
+        Equivalent::Nothing => {
+            words::put(place, v);
+        }
+        Equivalent::Double => {
+            words::put(place, v);
+        }
+        Equivalent::Single => {
+            words::put_number(place, 8, slots::single_word(r, words::load(v, 0, 4)));
+        }
+    }
+}
+
 // One argument of type t and value v in its span s.
 pub fn put_argument(
     image: &mut [u8],
@@ -96,7 +116,7 @@ pub fn put_argument(
     let indirect = s.indirect;
     if 0 < floating.count {
         let at = 256 + 8 * (floating.first as usize);
-        words::put_number(&mut image[at..], 8, slots::float_word(r, t, v));
+        put_float(&mut image[at..], r, types::equivalent_of(t), v);
         return;
     }
     if indirect {

@@ -23,10 +23,10 @@ use Rattle.places.specs.Step.{wordOf}
 use Rattle.places.specs.Spots.{general, floating, area, copies}
 use Rattle.slots.specs.declared.Answer.{Answer}
 use Rattle.slots.specs.Buffers.{Buffers, Slot, put, putAll, bytesAt}
-use Rattle.slots.specs.Forms.{roomOf, homeBytes, ownStart, floatWord, floatBytes, floatValueAs, floatValue}
+use Rattle.slots.specs.Forms.{roomOf, homeBytes, ownStart, floatForm, floatBytes, floatValueAs, floatValue}
 use Rattle.slots.specs.Placements.{Placement, standing, copyBytes, slotsOf, wordsAt, floatAt, addressAt, wordsValue, valueAt}
-use Rattle.slots.specs.Limits.{Held, Fits}
-use Rattle.slots.proofs.Limits.{one-word}
+use Rattle.slots.specs.Limits.{FloatSized, Held, Fits}
+use Rattle.slots.proofs.Limits.{form-length, one-word}
 use Rattle.registers.specs.Registers.{spread, gather}
 use Rattle.registers.proofs.Registers.{length-spread, gather-spread}
 use Rattle.slots.proofs.Buffers.{SameLengths}
@@ -72,21 +72,31 @@ module _ (r : Rules) (base : ℕ) (p : Placement) (v : List ℕ) (b : Buffers) (
           ∙ ap (roomOf r) (g .size)
           ∙ sym (g .held .words no)
 
+  sized : 0 < p .span .floating .count → FloatSized (equivalentOf (p .ty)) (p .span .floating .count) (length v)
+  sized some = rw (g .size) (g .held .float some)
+
+  run-length : 0 < p .span .floating .count → length (floatForm r (equivalentOf (p .ty)) v) ≡ 8 * p .span .floating .count
+  run-length some = form-length r (equivalentOf (p .ty)) (p .span .floating .count) v (sized some)
+
   floats-length : length (take (8 * p .span .floating .count) (floatBytes r (p .ty) v)) ≡ 8 * p .span .floating .count
   unfolding floatBytes
-  floats-length =
-      length-take-le (8 * p .span .floating .count) (bytesOf 8 (floatWord r (equivalentOf (p .ty)) (valueOf v)))
-      (omega (arith, g .held .floats, length-bytesOf 8 (floatWord r (equivalentOf (p .ty)) (valueOf v))))
+  floats-length = go (ltb 0 (p .span .floating .count)) refl
+    where
+      go : (f : Bool) → ltb 0 (p .span .floating .count) ≡ f → length (take (8 * p .span .floating .count) (floatForm r (equivalentOf (p .ty)) v)) ≡ 8 * p .span .floating .count
+      go true q =
+          length-take-le (8 * p .span .floating .count) (floatForm r (equivalentOf (p .ty)) v) (omega (arith, run-length (ltb-true 0 (p .span .floating .count) q)))
+      go false q =
+          let none : p .span .floating .count ≤ 0 = ltb-false 0 (p .span .floating .count) q in
+          let no : p .span .floating .count ≡ 0 = omega arith in
+          rw no
 
-  -- an FPR leaves no words
+  -- FPRs leave no words
   word-room : wordOf r * p .span .general .count + p .span .memory .length ≤ length (standing r base p v)
   word-room = go (ltb 0 (p .span .floating .count)) refl
     where
       go : (f : Bool) → ltb 0 (p .span .floating .count) ≡ f → wordOf r * p .span .general .count + p .span .memory .length ≤ length (standing r base p v)
       go true q =
-          let some : 0 < p .span .floating .count = ltb-true 0 (p .span .floating .count) q in
-          let one : p .span .floating .count ≡ 1 = omega (arith, g .held .floats) in
-          let none = g .held .alone one in
+          let none = g .held .alone (ltb-true 0 (p .span .floating .count) q) in
           omega (arith, none, mul-zero (wordOf r), ap (λ (n : ℕ). wordOf r * n) (none .0))
       go false q = let none : p .span .floating .count ≤ 0 = ltb-false 0 (p .span .floating .count) q in omega (arith, words-length none)
 
@@ -142,13 +152,9 @@ module _ (r : Rules) (base : ℕ) (p : Placement) (v : List ℕ) (b : Buffers) (
         ∙ sym (take-add (wordOf r * k) (p .span .memory .length) ws)
         ∙ take-all (wordOf r * k + p .span .memory .length) ws (omega (arith, words-length none))
 
-    pub float-stands : 0 < p .span .floating .count → floatAt (p .span) c ≡ bytesOf 8 (floatWord r (equivalentOf (p .ty)) (valueOf v))
+    pub float-stands : 0 < p .span .floating .count → floatAt (p .span) c ≡ floatForm r (equivalentOf (p .ty)) v
     unfolding floatBytes
-    float-stands some =
-        let one : p .span .floating .count ≡ 1 = omega (arith, g .held .floats) in
-        let w : List ℕ = bytesOf 8 (floatWord r (equivalentOf (p .ty)) (valueOf v)) in
-        let x : bytesAt (floating (p .span .floating .first)) 8 c ≡ take 8 w = rw one at (s .floats) in
-        x ∙ take-all 8 w (omega (arith, length-bytesOf 8 (floatWord r (equivalentOf (p .ty)) (valueOf v))))
+    float-stands some = s .floats ∙ take-all (8 * p .span .floating .count) (floatForm r (equivalentOf (p .ty)) v) (omega (arith, run-length some))
 
     address-back : p .span .floating .count ≤ 0 → p .span .indirect ≡ true → addressAt (wordOf r) (p .span) c ≡ base + p .span .copy .start
     unfolding standing
@@ -192,9 +198,8 @@ module _ (r : Rules) (base : ℕ) (p : Placement) (v : List ℕ) (b : Buffers) (
             ≡ Answer.Done
         go true q =
             let some : 0 < p .span .floating .count = ltb-true 0 (p .span .floating .count) q in
-            let one : p .span .floating .count ≡ 1 = omega (arith, g .held .floats) in
             ap (λ (l : List ℕ). floatAnswer r (equivalentOf (p .ty)) (valueOf l)) (float-stands some)
-            ∙ float-back r (equivalentOf (p .ty)) v (rw (g .size) (g .held .float one)) (g .bytes) .0
+            ∙ float-back r (equivalentOf (p .ty)) (p .span .floating .count) v (sized some) (g .bytes) .0
         go false q = words (p .span .indirect) refl (ltb-false 0 (p .span .floating .count) q)
 
     pub stands-value : valueAt r base p c ≡ v
@@ -216,9 +221,8 @@ module _ (r : Rules) (base : ℕ) (p : Placement) (v : List ℕ) (b : Buffers) (
             ≡ v
         go true q =
             let some : 0 < p .span .floating .count = ltb-true 0 (p .span .floating .count) q in
-            let one : p .span .floating .count ≡ 1 = omega (arith, g .held .floats) in
             ap (floatValueAs r (equivalentOf (p .ty))) (float-stands some)
-            ∙ float-back r (equivalentOf (p .ty)) v (rw (g .size) (g .held .float one)) (g .bytes) .1
+            ∙ float-back r (equivalentOf (p .ty)) (p .span .floating .count) v (sized some) (g .bytes) .1
         go false q = words (p .span .indirect) refl (ltb-false 0 (p .span .floating .count) q)
 
 -- ---- kept

@@ -18,7 +18,7 @@ use Rattle.types.specs.declared.Equivalent.{Equivalent}
 use Rattle.types.specs.declared.ValueType.{ValueType}
 use Rattle.places.specs.declared.Rules.{Rules}
 use Rattle.slots.specs.declared.Answer.{Answer}
-use Rattle.slots.specs.Forms.{roomOf, isSigned, startsAtHead, extended, homeBytes, ownStart, floatWord, narrowedBytes, floatValueAs}
+use Rattle.slots.specs.Forms.{roomOf, isSigned, startsAtHead, extended, homeBytes, ownStart, floatForm, narrowedBytes, floatValueAs}
 use Rattle.slots.specs.Limits.{FloatSized}
 use Rattle.slots.specs.Refusals.{narrowedAnswer, floatAnswer}
 
@@ -29,16 +29,16 @@ own-number v n e h = ap (λ (m : ℕ). bytesOf m (valueOf v)) (sym e) ∙ bytesO
 value-four : (v : List ℕ) → length v ≡ 4 → Bytes v → valueOf v < 2 ^ 32
 value-four v e h = let l : valueOf v < 2 ^ (8 * length v) = value-below v h in rw e at l
 
--- ---- in an FPR
+-- ---- in FPRs
 
-pub float-back : (r : Rules) (e : Equivalent) (v : List ℕ) → FloatSized e (length v) → Bytes v
-    → (floatAnswer r e (valueOf (bytesOf 8 (floatWord r e (valueOf v)))) ≡ Answer.Done) × (floatValueAs r e (bytesOf 8 (floatWord r e (valueOf v))) ≡ v)
-float-back (Rules.Power f) Equivalent.Single v s h =
+pub float-back : (r : Rules) (e : Equivalent) (m : ℕ) (v : List ℕ) → FloatSized e m (length v) → Bytes v
+    → (floatAnswer r e (valueOf (floatForm r e v)) ≡ Answer.Done) × (floatValueAs r e (floatForm r e v) ≡ v)
+float-back (Rules.Power f) Equivalent.Single m v s h =
     let x : ℕ = valueOf v in
     let bits : valueOf (bytesOf 8 (widen x)) ≡ widen x = value-back 8 (widen x) (widen-below x) in
-    let single : narrow (valueOf (bytesOf 8 (widen x))) ≡ Narrowed.Single x = ap narrow bits ∙ narrow-widen x (value-four v s h) in
-    (ap narrowedAnswer single, ap narrowedBytes single ∙ own-number v 4 s h)
-float-back Rules.Z Equivalent.Single v s h =
+    let single : narrow (valueOf (bytesOf 8 (widen x))) ≡ Narrowed.Single x = ap narrow bits ∙ narrow-widen x (value-four v (s .1) h) in
+    (ap narrowedAnswer single, ap narrowedBytes single ∙ own-number v 4 (s .1) h)
+float-back Rules.Z Equivalent.Single m v s h =
     let x : ℕ = valueOf v in
     let split : bytesOf 8 (x * 2 ^ 32) ≡ bytesOf 4 (x * 2 ^ 32 / 2 ^ 32) ++ bytesOf 4 (x * 2 ^ 32) = bytesOf-append 4 4 (x * 2 ^ 32) in
     let high : x * 2 ^ 32 / 2 ^ 32 ≡ x = omega arith in (
@@ -46,11 +46,12 @@ float-back Rules.Z Equivalent.Single v s h =
       ap (take 4) split
           ∙ take-at (bytesOf 4 (x * 2 ^ 32 / 2 ^ 32)) (bytesOf 4 (x * 2 ^ 32)) 4 (length-bytesOf 4 (x * 2 ^ 32 / 2 ^ 32))
           ∙ ap (bytesOf 4) high
-          ∙ own-number v 4 s h,
+          ∙ own-number v 4 (s .1) h,
     )
-float-back (Rules.Power f) Equivalent.Double v s h = (refl, own-number v 8 s h)
-float-back Rules.Z Equivalent.Double v s h = (refl, own-number v 8 s h)
-float-back r Equivalent.Nothing v s h = absurd s
+float-back (Rules.Power f) Equivalent.Double m v s h = (refl, refl)
+float-back (Rules.Power f) Equivalent.Nothing m v s h = (refl, refl)
+float-back Rules.Z Equivalent.Double m v s h = (refl, refl)
+float-back Rules.Z Equivalent.Nothing m v s h = (refl, refl)
 
 -- ---- in general registers and memory
 

@@ -193,8 +193,7 @@ module _ (r : Rules) (base : ℕ) (p : Placement) (v : List ℕ) (b : Buffers) (
           → part (p .span .memory .start) (p .span .memory .length) (splice (b .area) n bs) ≡ part (p .span .memory .start) (p .span .memory .length) (b .area)
       go true q =
           let some : 0 < p .span .floating .count = ltb-true 0 (p .span .floating .count) q in
-          let one : p .span .floating .count ≡ 1 = omega (arith, h .held .floats) in
-          rw (h .held .alone one .1)
+          rw (h .held .alone some .1)
       go false q =
           let none : p .span .floating .count ≤ 0 = ltb-false 0 (p .span .floating .count) q in
           let no : p .span .floating .count ≡ 0 = omega arith in
@@ -310,8 +309,8 @@ register-done : (r : Rules) (base : ℕ) (p : Placement) (b : Buffers) → argum
 unfolding argumentAnswer registerAnswer bytesAt
 register-done r base p b = go (wordsAnswer r base p b) (ltb 0 (p .span .floating .count))
   where
-    go : (x : Answer) (f : Bool) → pick f (floatAnswer r (equivalentOf (p .ty)) (valueOf (part (256 + 8 * p .span .floating .first) 8 (b .image)))) x ≡ Answer.Done
-        → pick f (floatAnswer r (equivalentOf (p .ty)) (valueOf (part (256 + 8 * p .span .floating .first) 8 (b .image)))) Answer.Done ≡ Answer.Done
+    go : (x : Answer) (f : Bool) → pick f (floatAnswer r (equivalentOf (p .ty)) (valueOf (part (256 + 8 * p .span .floating .first) (8 * p .span .floating .count) (b .image)))) x ≡ Answer.Done
+        → pick f (floatAnswer r (equivalentOf (p .ty)) (valueOf (part (256 + 8 * p .span .floating .first) (8 * p .span .floating .count) (b .image)))) Answer.Done ≡ Answer.Done
     go x true e = e
     go x false e = refl
 
@@ -394,7 +393,7 @@ image-bytes : (r : Rules) (base : ℕ) (ps : List Placement) (b : Buffers) → B
 unfolding All valueAt floatValue bytesAt
 image-bytes r base [] b h = tt
 image-bytes r base (p ∷ ps) b h = (
-  λ some. rw (lt-ltb 0 (p .span .floating .count) some) (float-bytes r (equivalentOf (p .ty)) _ (bytes-part (256 + 8 * p .span .floating .first) 8 (b .image) h)),
+  λ some. rw (lt-ltb 0 (p .span .floating .count) some) (float-bytes r (equivalentOf (p .ty)) _ (bytes-part (256 + 8 * p .span .floating .first) (8 * p .span .floating .count) (b .image) h)),
   image-bytes r base ps b h,
 )
 
@@ -458,14 +457,14 @@ view-after-home s values image area copies base hidden h power =
 -- ---- the hidden address
 
 -- it takes a word at least
-address-power : (w : ℕ) → 4 ≤ w → w ≤ 8 → w ≤ startOf (power w Edition.Earlier) true .stack
+address-power : (w : ℕ) (e : Edition) → 4 ≤ w → w ≤ 8 → w ≤ startOf (power w e) true .stack
 unfolding startOf nextOf fresh
-address-power w least most = omega (arith, words-room w least most w)
+address-power w e least most = omega (arith, words-room w least most w)
 
 address-word : (c : Convention) → homeless (rulesOf c) ≡ false → wordOf (rulesOf c) ≤ startOf (rulesOf c) true .stack
-address-word Convention.Ppc64 q = address-power 8 (omega arith) (omega arith)
+address-word Convention.Ppc64 q = address-power 8 Edition.Earlier (omega arith) (omega arith)
 address-word Convention.Z q = let z : _≡_ {A = ℕ} 0 1 = cc in absurd (omega arith)
-address-word Convention.Aix q = address-power 4 (omega arith) (omega arith)
+address-word Convention.Aix q = address-power 4 Edition.Earlier (omega arith) (omega arith)
 
 hidden-start : (c : Convention) (r : ResultType) (x : Span) → homeless (rulesOf c) ≡ false → resultIn c r ≡ ResultPlaces.Hidden x → wordOf (rulesOf c) ≤ startIn c r .stack
 hidden-start c r x q e = rw (hidden-address c r x e .1) (address-word c q)

@@ -1,5 +1,5 @@
 -- The span of each argument has room for exactly its form, in each convention. Assumes nothing.
-use mathlib.Core.Path.{_≡_, refl}
+use mathlib.Core.Path.{_≡_, refl, subst}
 use mathlib.Core.Bool.{Bool, true, false}
 use Prim.Native.Nat.{ℕ, zero, suc, _+_, _-_, _*_, _/_, _≤_, _<_}
 use native.Mathlib.Omega.{arith}
@@ -19,7 +19,7 @@ use Rattle.places.specs.declared.Rules.{Rules}
 use Rattle.places.specs.declared.ZClass.{ZClass}
 use Rattle.places.specs.Values.{share}
 use Rattle.places.specs.Power.{words, fprs, covered, shareOf, powerShare, powerSpan}
-use Rattle.places.specs.ZSeries.{zClass, zSpanOf, bySize, byEquivalent}
+use Rattle.places.specs.ZSeries.{zClass, zFloating, zSpanOf, bySize, byEquivalent}
 use Rattle.places.specs.declared.Edition.{Edition}
 use Rattle.places.specs.Step.{power, rulesOf, spanOf}
 use Rattle.places.proofs.Shares.{words-split}
@@ -57,8 +57,8 @@ struct-end w n = go (eqb w 8)
     go false e = absurd-bool e
 
 module _ (w : ℕ) (least : 4 ≤ w) (most : w ≤ 8) where
-  abbrev rules : Rules
-  rules = power w Edition.Earlier
+  abbrev rules : Edition → Rules
+  rules e = power w e
 
   -- n bytes in words: none too few and none too many
   pub words-room : (n : ℕ) → (n ≤ w * words w n) × (w * words w n < n + w)
@@ -75,14 +75,13 @@ module _ (w : ℕ) (least : 4 ≤ w) (most : w ≤ 8) where
   whole-words (suc m) h = omega (arith, mul-suc w m)
 
   -- in words, at their head or at their end
-  power-words : (k : Cursor) (t : ValueType) (n : ℕ) → (startsAtHead rules t ≡ false → (1 ≤ n) × (n ≤ 8))
-      → Held rules (placement t n (powerSpan w k (words w n) (share (covered k (words w n)) 0 (words w n - covered k (words w n)))))
-  power-words k t n small =
+  power-words : (e : Edition) (k : Cursor) (t : ValueType) (n : ℕ) → (startsAtHead (rules e) t ≡ false → (1 ≤ n) × (n ≤ 8))
+      → Held (rules e) (placement t n (powerSpan w k (words w n) (share (covered k (words w n)) 0 (words w n - covered k (words w n)))))
+  power-words e k t n small =
       let g : ℕ = covered k (words w n) in
       let s = words-split w (words w n) g (omega arith) in
       record {
         word = (least, most);
-        floats = omega arith;
         alone = λ e. absurd (omega arith);
         direct = λ e. refl;
         float = λ e. absurd (omega arith);
@@ -95,12 +94,12 @@ module _ (w : ℕ) (least : 4 ≤ w) (most : w ≤ 8) where
         copied = λ e. absurd-bool' e;
       }
 
-  -- a float in an FPR, or in memory once these are used up
-  power-float : (k : Cursor) (t : ValueType) (n : ℕ) → FloatSized (equivalentOf t) n → 1 ≤ n → n ≤ 8 → (b : Bool)
-      → Held rules (placement t n (powerSpan w k (words w n) (pick b (share 0 1 0) (share 0 0 (words w n)))))
-  power-float k t n f one eight true = record {
+  -- a float in m FPRs, or in memory once these are used up
+  power-float : (e : Edition) (k : Cursor) (t : ValueType) (n m : ℕ) → 0 < m → FloatSized (equivalentOf t) m n
+      → (startsAtHead (rules e) t ≡ false → (1 ≤ n) × (n ≤ 8)) → (b : Bool)
+      → Held (rules e) (placement t n (powerSpan w k (words w n) (pick b (share 0 m 0) (share 0 0 (words w n)))))
+  power-float e k t n m some f small true = record {
     word = (least, most);
-    floats = omega arith;
     alone = λ e. (refl, mul-zero w);
     direct = λ e. refl;
     float = λ e. f;
@@ -108,47 +107,49 @@ module _ (w : ℕ) (least : 4 ≤ w) (most : w ≤ 8) where
     stored = λ e. whole-words 0 e;
     room = λ e. words-room n;
     whole = λ e. refl;
-    small = λ e d. (one, eight);
+    small = λ e d. small e;
     address = λ e. absurd-bool' e;
     copied = λ e. absurd-bool' e;
   }
-  power-float k t n f one eight false = record {
+  power-float e k t n m some f small false = record {
     word = (least, most);
-    floats = omega arith;
     alone = λ e. absurd (omega arith);
     direct = λ e. refl;
-    float = λ e. f;
+    float = λ e. absurd (omega arith);
     words = λ e. omega (arith, mul-zero w);
     stored = λ e. whole-words (words w n) e;
     room = λ e. words-room n;
     whole = λ e. refl;
-    small = λ e d. (one, eight);
+    small = λ e d. small e;
     address = λ e. absurd-bool' e;
     copied = λ e. absurd-bool' e;
   }
 
-  -- at every cursor, for every type and its size in any convention
-  pub power-held : (c : Convention) (k : Cursor) (t : ValueType) → Typed c t → Held rules (placement t (sizeOf c t) (spanOf rules k t (sizeOf c t)))
+  -- at every cursor, for every type and its size in any convention, in each edition
+  pub power-held : (e : Edition) (c : Convention) (k : Cursor) (t : ValueType) → Typed c t
+      → Held (rules e) (placement t (sizeOf c t) (spanOf (rules e) k t (sizeOf c t)))
   unfolding spanOf powerShare shareOf fprs startsAtHead
-  power-held c k (ValueType.Integer x) h = power-words k (ValueType.Integer x) (integerSize c x) (λ e. (h .sized .some, integer-small c x))
-  power-held c k (ValueType.Float FloatFormat.Single) h =
-      power-float k (ValueType.Float FloatFormat.Single) 4 refl (omega arith) (omega arith) (leb 1 (14 - k .floating))
-  power-held c k (ValueType.Float FloatFormat.Double) h =
-      power-float k (ValueType.Float FloatFormat.Double) 8 refl (omega arith) (omega arith) (leb 1 (14 - k .floating))
-  power-held c k (ValueType.Float FloatFormat.LongDouble) h = power-words k (ValueType.Float FloatFormat.LongDouble) 16 (λ e. absurd-bool e)
-  power-held c k (ValueType.Struct s) h = power-words k (ValueType.Struct s) (s .size) (λ e. (h .sized .some, omega (arith, struct-end w (s .size) e)))
+  power-held e c k (ValueType.Integer x) h = power-words e k (ValueType.Integer x) (integerSize c x) (λ q. (h .sized .some, integer-small c x))
+  power-held e c k (ValueType.Float FloatFormat.Single) h =
+      power-float e k (ValueType.Float FloatFormat.Single) 4 1 (omega arith) (refl, refl) (λ q. (omega arith, omega arith)) (leb 1 (14 - k .floating))
+  power-held e c k (ValueType.Float FloatFormat.Double) h =
+      power-float e k (ValueType.Float FloatFormat.Double) 8 1 (omega arith) (refl, refl) (λ q. (omega arith, omega arith)) (leb 1 (14 - k .floating))
+  power-held Edition.Earlier c k (ValueType.Float FloatFormat.LongDouble) h =
+      power-words Edition.Earlier k (ValueType.Float FloatFormat.LongDouble) 16 (λ q. absurd-bool q)
+  power-held Edition.Later c k (ValueType.Float FloatFormat.LongDouble) h =
+      power-float Edition.Later k (ValueType.Float FloatFormat.LongDouble) 16 2 (omega arith) refl (λ q. absurd-bool q) (leb 2 (14 - k .floating))
+  power-held e c k (ValueType.Struct s) h = power-words e k (ValueType.Struct s) (s .size) (λ q. (h .sized .some, omega (arith, struct-end w (s .size) q)))
 
 -- ---- Z
 
 -- an FPR or eight bytes of the stack
-z-float : (k : Cursor) (t : ValueType) (n : ℕ) → FloatSized (equivalentOf t) n → 1 ≤ n → n ≤ 8 → Held Rules.Z (placement t n (zSpanOf k ZClass.Float n))
+z-float : (k : Cursor) (t : ValueType) (n : ℕ) → FloatSized (equivalentOf t) 1 n → 1 ≤ n → n ≤ 8 → Held Rules.Z (placement t n (zSpanOf k ZClass.Float n))
 unfolding zSpanOf startsAtHead
 z-float k t n f one eight = record {
   word = (omega arith, omega arith);
-  floats = omega arith;
   alone = λ e. (refl, omega arith);
   direct = λ e. refl;
-  float = λ e. f;
+  float = λ e. let m : 1 ≡ zFloating k = omega arith in subst (λ (m : ℕ). FloatSized (equivalentOf t) m n) m f;
   words = λ e. omega arith;
   stored = λ e. omega arith;
   room = λ e. (eight, omega arith);
@@ -162,7 +163,6 @@ z-simple : (k : Cursor) (t : ValueType) (n : ℕ) → 1 ≤ n → n ≤ 8 → He
 unfolding zSpanOf startsAtHead
 z-simple k t n one eight = record {
   word = (omega arith, omega arith);
-  floats = omega arith;
   alone = λ e. absurd (omega arith);
   direct = λ e. refl;
   float = λ e. absurd (omega arith);
@@ -180,7 +180,6 @@ z-reference : (k : Cursor) (t : ValueType) (n : ℕ) → Held Rules.Z (placement
 unfolding zSpanOf startsAtHead
 z-reference k t n = record {
   word = (omega arith, omega arith);
-  floats = omega arith;
   alone = λ e. absurd (omega arith);
   direct = λ e. absurd (omega arith);
   float = λ e. absurd (omega arith);
@@ -222,20 +221,20 @@ z-sized k t n = one (eqb n 1) refl
 z-struct : (k : Cursor) (t : ValueType) (n : ℕ) (e : Equivalent) → equivalentOf t ≡ e → EquivalentSized e n
     → Held Rules.Z (placement t n (zSpanOf k (byEquivalent e n) n))
 z-struct k t n Equivalent.Nothing q f = z-sized k t n
-z-struct k t n Equivalent.Single q f = z-float k t n (rw q f) (omega arith) (omega arith)
-z-struct k t n Equivalent.Double q f = z-float k t n (rw q f) (omega arith) (omega arith)
+z-struct k t n Equivalent.Single q f = z-float k t n (rw q (refl, f)) (omega arith) (omega arith)
+z-struct k t n Equivalent.Double q f = z-float k t n (rw q (refl, f)) (omega arith) (omega arith)
 
 z-held : (k : Cursor) (t : ValueType) → Typed Convention.Z t → Held Rules.Z (placement t (sizeOf Convention.Z t) (spanOf Rules.Z k t (sizeOf Convention.Z t)))
 unfolding spanOf zClass
 z-held k (ValueType.Integer x) h = z-simple k (ValueType.Integer x) (integerSize Convention.Z x) (h .sized .some) (integer-small Convention.Z x)
-z-held k (ValueType.Float FloatFormat.Single) h = z-float k (ValueType.Float FloatFormat.Single) 4 refl (omega arith) (omega arith)
-z-held k (ValueType.Float FloatFormat.Double) h = z-float k (ValueType.Float FloatFormat.Double) 8 refl (omega arith) (omega arith)
+z-held k (ValueType.Float FloatFormat.Single) h = z-float k (ValueType.Float FloatFormat.Single) 4 (refl, refl) (omega arith) (omega arith)
+z-held k (ValueType.Float FloatFormat.Double) h = z-float k (ValueType.Float FloatFormat.Double) 8 (refl, refl) (omega arith) (omega arith)
 z-held k (ValueType.Float FloatFormat.LongDouble) h = z-reference k (ValueType.Float FloatFormat.LongDouble) 16
 z-held k (ValueType.Struct s) h = z-struct k (ValueType.Struct s) (s .size) (s .equivalent) refl (h .float)
 
 -- ---- every convention, at every cursor
 
 pub step-held : (c : Convention) (k : Cursor) (t : ValueType) → Typed c t → Held (rulesOf c) (placement t (sizeOf c t) (spanOf (rulesOf c) k t (sizeOf c t)))
-step-held Convention.Ppc64 k t h = power-held 8 (omega arith) (omega arith) Convention.Ppc64 k t h
+step-held Convention.Ppc64 k t h = power-held 8 (omega arith) (omega arith) Edition.Earlier Convention.Ppc64 k t h
 step-held Convention.Z k t h = z-held k t h
-step-held Convention.Aix k t h = power-held 4 (omega arith) (omega arith) Convention.Aix k t h
+step-held Convention.Aix k t h = power-held 4 (omega arith) (omega arith) Edition.Earlier Convention.Aix k t h

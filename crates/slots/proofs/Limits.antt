@@ -1,20 +1,34 @@
--- The sizes of arguments that have one word. Assumes nothing.
+-- Runs of FPRs, and the sizes of arguments that have one word. Assumes nothing.
 use mathlib.Core.Path.{_≡_, refl, sym, subst, _∙_}
 use mathlib.Core.Bool.{true}
+use mathlib.Core.List.{List}
 use Prim.Native.Nat.{ℕ, _+_, _*_, _≤_}
 use native.Mathlib.Omega.{arith}
+use lib.ListN.{length}
+use Rattle.words.specs.Splice.{part}
+use Rattle.words.specs.Numbers.{valueOf}
+use Rattle.words.proofs.Numbers.{length-bytesOf}
 use Rattle.types.specs.declared.Equivalent.{Equivalent}
 use Rattle.places.specs.declared.Rules.{Rules}
 use Rattle.places.specs.Power.{words}
 use Rattle.places.specs.Step.{wordOf}
-use Rattle.slots.specs.Forms.{roomOf}
+use Rattle.slots.specs.Forms.{roomOf, singleWord, floatForm}
 use Rattle.slots.specs.Placements.{Placement}
 use Rattle.slots.specs.Limits.{FloatSized, Held}
+use Rattle.slots.specs.Refusals.{floatAnswer}
 
-pub float-small : (e : Equivalent) (n : ℕ) → FloatSized e n → (n ≤ 8) × (e ≡ Equivalent.Single → n ≡ 4)
-float-small Equivalent.Single n h = (omega arith, λ e. h)
-float-small Equivalent.Double n h = (omega arith, λ e. let z : _≡_ {A = ℕ} 0 1 = cc in absurd (omega arith))
-float-small Equivalent.Nothing n h = absurd h
+-- a float fills its FPRs
+pub form-length : (r : Rules) (e : Equivalent) (m : ℕ) (v : List ℕ) → FloatSized e m (length v) → length (floatForm r e v) ≡ 8 * m
+form-length r Equivalent.Single m v h = length-bytesOf 8 (singleWord r (valueOf v)) ∙ rw (h .0)
+form-length r Equivalent.Double m v h = h .1 ∙ rw (h .0)
+form-length r Equivalent.Nothing m v h = h
+
+-- 14 looks at a single's one FPR: of a run of m, the first tells
+pub answer-first : (r : Rules) (e : Equivalent) (m n at : ℕ) (l : List ℕ) → FloatSized e m n → floatAnswer r e (valueOf (part at 8 l)) ≡ floatAnswer r e (valueOf (part at (8 * m) l))
+answer-first (Rules.Power f) Equivalent.Single m n at l h = rw (h .0)
+answer-first (Rules.Power f) Equivalent.Double m n at l h = refl
+answer-first (Rules.Power f) Equivalent.Nothing m n at l h = refl
+answer-first Rules.Z e m n at l h = refl
 
 -- an argument that is passed by pointer has one word
 pub one-word : (r : Rules) (p : Placement) → Held r p → p .span .floating .count ≤ 0 → p .span .indirect ≡ true

@@ -1,5 +1,5 @@
 -- The form of a value in its place. Document 01, "What stands in a slot". A form is a list of bytes: that of a value in general
--- registers and memory, word after word, and that of a float in an FPR. n is the value's size in bytes, v its bytes.
+-- registers and memory, word after word, and that of a float in FPRs. n is the value's size in bytes, v its bytes.
 -- Assumes nothing.
 -- ---- in general registers and memory
 use Prim.Native.Nat.{ℕ, _+_, _-_, _*_, _^_}
@@ -76,7 +76,7 @@ homeBytes r t n v =
 unfoldable pub ownStart : Rules → ValueType → ℕ → ℕ
 ownStart r t n = pick (startsAtHead r t) 0 (roomOf r n - n)
 
--- ---- in a floating register
+-- ---- in floating registers
 
 -- a single's bits x as the 64 bits of its FPR: "A PPC64 single is widened bit for bit in an FPR, never quieted"; "A Z single stands
 -- in the upper half of its FPR, lower half zero (ours)"
@@ -84,17 +84,18 @@ abbrev pub singleWord : Rules → ℕ → ℕ
 singleWord (Rules.Power f) x = widen x
 singleWord Rules.Z x = x * 2 ^ 32
 
--- "On Z, a struct placed as a float stands as that float": it is told by the float that the type is equivalent to
-abbrev pub floatWord : Rules → Equivalent → ℕ → ℕ
-floatWord r Equivalent.Single x = singleWord r x
-floatWord r Equivalent.Double x = x
-floatWord r Equivalent.Nothing x = x
+-- "On Z, a struct placed as a float stands as that float": it is told by the float that the type is equivalent to. A double stands as
+-- it is; so does a long double in "two successive FPRs" (No. 12), a doubleword in each
+abbrev pub floatForm : Rules → Equivalent → List ℕ → List ℕ
+floatForm r Equivalent.Single v = bytesOf 8 (singleWord r (valueOf v))
+floatForm r Equivalent.Double v = v
+floatForm r Equivalent.Nothing v = v
 
--- the form of a value in an FPR
+-- the form of a value in FPRs, one after the other
 unfoldable pub floatBytes : Rules → ValueType → List ℕ → List ℕ
-floatBytes r t v = bytesOf 8 (floatWord r (equivalentOf t) (valueOf v))
+floatBytes r t v = floatForm r (equivalentOf t) v
 
--- the value's own bytes in an FPR's eight: a single's four, of which there are none where the FPR is no widened single (14)
+-- the value's own bytes in those of its FPRs: a single's four, of which there are none where the FPR is no widened single (14)
 abbrev pub narrowedBytes : Narrowed → List ℕ
 narrowedBytes (Narrowed.Single x) = bytesOf 4 x
 narrowedBytes Narrowed.NotWidened = []

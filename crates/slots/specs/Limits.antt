@@ -11,20 +11,19 @@ use Rattle.places.specs.Step.{wordOf}
 use Rattle.slots.specs.Forms.{roomOf, startsAtHead}
 use Rattle.slots.specs.Placements.{Placement}
 
--- the size of the float that a type is equivalent to
-abbrev pub FloatSized : Equivalent → ℕ → Type 0
-FloatSized Equivalent.Single n = n ≡ 4
-FloatSized Equivalent.Double n = n ≡ 8
-FloatSized Equivalent.Nothing n = ⊥
+-- m FPRs hold a float of n bytes: a single and a double have one, a long double, which a type is not equivalent to, one for each doubleword
+abbrev pub FloatSized : Equivalent → ℕ → ℕ → Type 0
+FloatSized Equivalent.Single m n = (m ≡ 1) × (n ≡ 4)
+FloatSized Equivalent.Double m n = (m ≡ 1) × (n ≡ 8)
+FloatSized Equivalent.Nothing m n = n ≡ 8 * m
 
 -- the span has room for exactly the argument's form
 pub record Held (r : Rules) (p : Placement) : Type 0 where
   pub word : (4 ≤ wordOf r) × (wordOf r ≤ 8)
-  -- an FPR holds a whole float, and then nothing else does
-  pub floats : p .span .floating .count ≤ 1
-  pub alone : p .span .floating .count ≡ 1 → (p .span .general .count ≡ 0) × (p .span .memory .length ≡ 0)
-  pub direct : p .span .floating .count ≡ 1 → p .span .indirect ≡ false
-  pub float : p .span .floating .count ≡ 1 → FloatSized (equivalentOf (p .ty)) (p .size)
+  -- FPRs hold a whole float, and then nothing else does
+  pub alone : 0 < p .span .floating .count → (p .span .general .count ≡ 0) × (p .span .memory .length ≡ 0)
+  pub direct : 0 < p .span .floating .count → p .span .indirect ≡ false
+  pub float : 0 < p .span .floating .count → FloatSized (equivalentOf (p .ty)) (p .span .floating .count) (p .size)
   -- else general registers and memory hold all words, memory none or a word at least
   pub words : p .span .floating .count ≡ 0 → wordOf r * p .span .general .count + p .span .memory .length ≡ roomOf r (p .size)
   pub stored : 0 < p .span .memory .length → wordOf r ≤ p .span .memory .length

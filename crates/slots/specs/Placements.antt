@@ -74,9 +74,9 @@ wordsAt w s b =
     gather w (s .general .count) (bytesAt (general (s .general .first)) (8 * s .general .count) b)
     ++ bytesAt (area (s .memory .start)) (s .memory .length) b
 
--- an FPR's eight bytes
+-- its FPRs' bytes, eight of each
 abbrev pub floatAt : Span → Buffers → List ℕ
-floatAt s b = bytesAt (floating (s .floating .first)) 8 b
+floatAt s b = bytesAt (floating (s .floating .first)) (8 * s .floating .count) b
 
 -- the address of an argument that is passed by pointer
 abbrev pub addressAt : ℕ → Span → Buffers → ℕ

@@ -85,7 +85,7 @@ abbrev pub narrowedAnswer : Narrowed → Answer
 narrowedAnswer (Narrowed.Single x) = Answer.Done
 narrowedAnswer Narrowed.NotWidened = Answer.Refused Refusal.NotWidened
 
--- 14: "a single's PPC64 FPR that is no widened single"; x are the FPR's 64 bits
+-- 14: "a single's PPC64 FPR that is no widened single"; x are the bits of a float's FPRs, which for a single are one FPR's 64
 abbrev pub floatAnswer : Rules → Equivalent → ℕ → Answer
 floatAnswer (Rules.Power f) Equivalent.Single x = narrowedAnswer (narrow x)
 floatAnswer (Rules.Power f) Equivalent.Double x = Answer.Done

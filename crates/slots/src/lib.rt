@@ -10,10 +10,8 @@ use types::ValueType;
 ghost use mathlib.Core.Path.{_≡_};
 ghost use Prim.Native.Nat.{_^_, _≤_, _<_};
 ghost use lib.ListN.{length};
-ghost use Rattle.types.specs.declared.Equivalent.{Equivalent};
-ghost use Rattle.types.specs.Sizes.{equivalentOf};
 ghost use Rattle.words.specs.Numbers.{valueOf};
-ghost use Rattle.slots.specs.Forms.{signedKind, isSigned, structAtHead, headFirst, startsAtHead, extended, roomOf, ownStart, singleWord, floatWord};
+ghost use Rattle.slots.specs.Forms.{signedKind, isSigned, structAtHead, headFirst, startsAtHead, extended, roomOf, ownStart, singleWord};
 ghost use Rattle.ieee.specs.Narrowing.{narrow as narrowOf};
 ghost use Rattle.slots.specs.Refusals.{numberOf, isRefused, narrowedAnswer, floatAnswer};
 
@@ -123,29 +121,14 @@ pub fn value_word(t: ValueType, v: &[u8]) -> u64
     words::zero_extend(x, n)
 }
 
-// The 64 bits of an FPR that holds a single.
-fn single_word(r: Rules, x: u64) -> u64
+// The 64 bits of an FPR that holds a single, or on Z a struct that is placed as one.
+pub fn single_word(r: Rules, x: u64) -> u64
     requires { ⌜ x < 2 ^ 32 ⌝ }
     ensures { λ d. ⌜ d ≡ singleWord r x ⌝ }
 {
     match r {
         Rules::Power(_) => ieee::widen(x as u32),
         Rules::Z => x * 0x1_0000_0000,
-    }
-}
-
-// The 64 bits of an FPR that holds a float, or on Z a struct that is placed as one.
-pub fn float_word(r: Rules, t: ValueType, v: &[u8]) -> u64
-    requires { ⌜ (length (now v) ≤ 8) × (equivalentOf t ≡ Equivalent.Single → length (now v) ≡ 4) ⌝ }
-    ensures { λ d. ⌜ d ≡ floatWord r (equivalentOf t) (valueOf (now (v .entry))) ⌝ }
-{
-    let n = v.len();
-    let x = words::load(v, 0, n);
-    let e = types::equivalent_of(t);
-    match e {
-        Equivalent::Nothing => x,
-        Equivalent::Single => single_word(r, x),
-        Equivalent::Double => x,
     }
 }
 

@@ -30,10 +30,10 @@ use Rattle.slots.specs.Limits.{FloatSized}
 use Rattle.slots.specs.Refusals.{narrowedAnswer, floatAnswer}
 use Rattle.unmarshal.specs.Readable.{FloatRoom, Readable}
 
-pub float-room : (e : Equivalent) (n l : ℕ) → FloatSized e n → n ≤ l → FloatRoom e l
-float-room Equivalent.Single n l h k = omega arith
-float-room Equivalent.Double n l h k = omega arith
-float-room Equivalent.Nothing n l h k = absurd h
+pub float-room : (e : Equivalent) (m n l : ℕ) → FloatSized e m n → n ≤ l → FloatRoom e (8 * m) l
+float-room Equivalent.Single m n l h k = (omega (arith, h .0), omega (arith, h .1))
+float-room Equivalent.Double m n l h k = (omega (arith, h .0), omega (arith, h .1))
+float-room Equivalent.Nothing m n l h k = omega (arith, h)
 
 module _ (r : Rules) (base : ℕ) (p : Placement) (b : Buffers) (h : Readable r base p b) where
   -- the value's own bytes lie in its words
@@ -70,21 +70,21 @@ module _ (r : Rules) (base : ℕ) (p : Placement) (b : Buffers) (h : Readable r 
         length-part (p .span .memory .start) (p .span .memory .length) (b .area) (omega (arith, h .ready)),
       )
 
-  length-fpr : 0 < p .span .floating .count → length (floatAt (p .span) b) ≡ 8
+  length-fprs : length (floatAt (p .span) b) ≡ 8 * p .span .floating .count
   unfolding bytesAt
-  length-fpr some = length-part (256 + 8 * p .span .floating .first) 8 (b .image) (omega (arith, h .ready))
+  length-fprs = length-part (256 + 8 * p .span .floating .first) (8 * p .span .floating .count) (b .image) (omega (arith, h .ready))
 
--- a value in an FPR
+-- a value in FPRs
 narrowed-length : (q : Narrowed) → narrowedAnswer q ≡ Answer.Done → length (narrowedBytes q) ≡ 4
 narrowed-length (Narrowed.Single x) e = length-bytesOf 4 x
 narrowed-length Narrowed.NotWidened e = let z : _≡_ {A = ℕ} 0 1 = cc in absurd (omega arith)
 
-float-length : (r : Rules) (e : Equivalent) (bs : List ℕ) (n : ℕ) → FloatSized e n → length bs ≡ 8 → floatAnswer r e (valueOf bs) ≡ Answer.Done
+float-length : (r : Rules) (e : Equivalent) (bs : List ℕ) (m n : ℕ) → FloatSized e m n → length bs ≡ 8 * m → floatAnswer r e (valueOf bs) ≡ Answer.Done
     → length (floatValueAs r e bs) ≡ n
-float-length (Rules.Power f) Equivalent.Single bs n s l d = narrowed-length (narrow (valueOf bs)) d ∙ sym s
-float-length Rules.Z Equivalent.Single bs n s l d = length-take-le 4 bs (omega arith) ∙ sym s
-float-length r Equivalent.Double bs n s l d = l ∙ sym s
-float-length r Equivalent.Nothing bs n s l d = absurd s
+float-length (Rules.Power f) Equivalent.Single bs m n s l d = narrowed-length (narrow (valueOf bs)) d ∙ sym (s .1)
+float-length Rules.Z Equivalent.Single bs m n s l d = length-take-le 4 bs (omega (arith, s .0)) ∙ sym (s .1)
+float-length r Equivalent.Double bs m n s l d = omega (arith, s .0, s .1)
+float-length r Equivalent.Nothing bs m n s l d = l ∙ sym s
 
 copy-length : (at n : ℕ) (b : Buffers) → at + n ≤ length (b .copies) → length (bytesAt (copies at) n b) ≡ n
 unfolding bytesAt
@@ -111,6 +111,6 @@ value-length r base p b h = go (ltb 0 (p .span .floating .count)) refl
         ≡ p .size
     go true q =
         let some : 0 < p .span .floating .count = ltb-true 0 (p .span .floating .count) q in
-        float-length r (equivalentOf (p .ty)) (floatAt (p .span) b) (p .size) (h .ready .held .float (omega (arith, h .ready .held .floats))) (length-fpr r base p b h some)
+        float-length r (equivalentOf (p .ty)) (floatAt (p .span) b) (p .span .floating .count) (p .size) (h .ready .held .float some) (length-fprs r base p b h)
         (h .exact some)
     go false q = words (p .span .indirect) refl (ltb-false 0 (p .span .floating .count) q)

@@ -25,11 +25,11 @@ abbrev pub WordsFit : ℕ → Span → List ℕ → List ℕ → Type 0
 WordsFit w s image area =
     (1 ≤ w) × (w ≤ 8) × (s .general .first + s .general .count ≤ 32) × (length image ≡ 512) × (s .memory .start + s .memory .length ≤ length area)
 
--- room for a float
-abbrev pub FloatRoom : Equivalent → ℕ → Type 0
-FloatRoom Equivalent.Single n = 4 ≤ n
-FloatRoom Equivalent.Double n = 8 ≤ n
-FloatRoom Equivalent.Nothing n = 8 ≤ n
+-- room of l bytes for a float whose FPRs have n bytes
+abbrev pub FloatRoom : Equivalent → ℕ → ℕ → Type 0
+FloatRoom Equivalent.Single n l = (n ≡ 8) × (4 ≤ l)
+FloatRoom Equivalent.Double n l = (n ≡ 8) × (8 ≤ l)
+FloatRoom Equivalent.Nothing n l = n ≤ l
 
 -- an argument, and the lengths of the image and the area
 pub record Ready (r : Rules) (i a : ℕ) (p : Placement) : Type 0 where

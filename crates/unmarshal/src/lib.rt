@@ -68,14 +68,14 @@ fn take_narrowed(out: &mut [u8], x: u64)
     }
 }
 
-// The value in an FPR, whose eight bytes start at `at` of the image, at the head of out.
-fn take_float(out: &mut [u8], image: &[u8], r: Rules, e: Equivalent, at: usize)
-    requires { ⌜ (at + 8 ≤ length (now image)) × (FloatRoom e (length (now out))) ⌝ }
-    ensures { λ _. ⌜ now (out .exit) ≡ overlay (now (out .entry)) (floatValueAs r e (part at 8 (now (image .entry)))) ⌝ }
+// The value in FPRs, whose n bytes start at `at` of the image, at the head of out.
+fn take_float(out: &mut [u8], image: &[u8], r: Rules, e: Equivalent, at: usize, n: usize)
+    requires { ⌜ (at + n ≤ length (now image)) × (FloatRoom e n (length (now out))) ⌝ }
+    ensures { λ _. ⌜ now (out .exit) ≡ overlay (now (out .entry)) (floatValueAs r e (part at n (now (image .entry)))) ⌝ }
 {
     match e {
         Equivalent::Nothing => {
-            registers::take_part(out, image, at, 8);
+            registers::take_part(out, image, at, n);
         }
         Equivalent::Double => {
             registers::take_part(out, image, at, 8);
@@ -110,7 +110,8 @@ fn take_argument(
     let indirect = s.indirect;
     if 0 < fpr.count {
         let at = 256 + 8 * (fpr.first as usize);
-        take_float(out, image, r, types::equivalent_of(t), at);
+        let held = 8 * (fpr.count as usize);
+        take_float(out, image, r, types::equivalent_of(t), at, held);
         return;
     }
     if indirect {

@@ -1,5 +1,5 @@
 -- A float in its memory form, or the words of general registers as they stand.
-use mathlib.Core.Path.{_≡_, sym, ap, _∙_}
+use mathlib.Core.Path.{_≡_, sym, ap, subst, _∙_}
 use mathlib.Core.List.{List, []}
 use Prim.Native.Nat.{ℕ, _+_, _*_, _^_, _<_}
 use native.Mathlib.Omega.{arith}
@@ -7,14 +7,16 @@ use native.Mathlib.Nat.{mul-le-mul-right}
 use lib.ListN.{length}
 use lib.Seq.{take-all}
 use Rattle.words.specs.Splice.{overlay, part}
-use Rattle.words.specs.Numbers.{bytesOf, valueOf}
+use Rattle.words.specs.Numbers.{valueOf}
 use Rattle.words.proofs.Splices.{length-part}
 use Rattle.words.proofs.Numbers.{value-below, bytes-part}
+use Rattle.types.specs.declared.Equivalent.{Equivalent}
 use Rattle.places.specs.Step.{rulesOf, wordOf}
 use Rattle.places.proofs.Bounds.{rules-word}
 use Rattle.registers.specs.Registers.{gather}
 use Rattle.registers.proofs.Registers.{length-gather}
-use Rattle.home_slot.proofs.Forms.{homed-float, homed-general, float-room, general-room}
+use Rattle.home_slot.proofs.Forms.{homed-float, float-sized, homed-general, float-room, general-room}
+use Rattle.home_slot.specs.Homes.{floatHome}
 use borrow.Author.Needs.{needs}
 use Rattle.home_slot.proofs.put_home.Statement.{statement}
 use Rattle.home_slot.proofs.put_home.Tie as tie
@@ -23,45 +25,50 @@ use Rattle.home_slot.proofs.put_home.Tie as tie
 word : (c : tie.After-take-registers-arg) → c .before .before .before .word-bytes .result ≡ wordOf (rulesOf (c .before .before .before .before .before .before .before .before .before .before .before .args .c))
 word c = c .before .before .before .word-bytes .ensures ∙ sym (rules-word (c .before .before .before .before .before .before .before .before .before .before .before .args .c))
 
-cast-load : tie.Need-cast-load
-cast-load c = search needs
+cast-at : tie.Need-cast-at
+cast-at c = search needs
 
-mul-load : tie.Need-mul-load
-mul-load c = search needs
+mul-at : tie.Need-mul-at
+mul-at c = search needs
 
-add-load : tie.Need-add-load
-add-load c = search needs
+add-at : tie.Need-add-at
+add-at c = search needs
 
-load-requires : tie.Need-load-requires
-load-requires c κs = search needs
+cast-held : tie.Need-cast-held
+cast-held c = search needs
 
-cast-put-number : tie.Need-cast-put-number
-cast-put-number c = search needs
+mul-held : tie.Need-mul-held
+mul-held c = search needs
+
+cast-room : tie.Need-cast-room
+cast-room c = search needs
 
 equivalent-of-requires : tie.Need-equivalent-of-requires
 equivalent-of-requires c κs = search needs
 
-memory-word-requires : tie.Need-memory-word-requires
-memory-word-requires c κs = search needs
-
-put-number-requires : tie.Need-put-number-requires
-put-number-requires c κs = omega (arith, float-room _ _ _ _ [] (c .before .before .before .before .before .before .before .before .before .before .before .before .before .pre))
+home-float-requires : tie.Need-home-float-requires
+home-float-requires c κs =
+    let start = c .before .before .before .before .before .before .before .before .before .before .before .before in
+    let h = start .pre in
+    (omega (arith, h .floating, h .image), omega (arith, float-room _ _ _ _ [] h), rw (c .equivalent-of .ensures) (float-sized _ _ _ _ [] h (c .before .before .before .before .before .if1 .taken)))
 
 same-length : tie.Need-same-length
 same-length c = search needs
 
 returns : tie.Need-returns
 returns c =
-    let start = c .before .before .before .before .before .before .before .before .before .before .before .before .before .before .before .before in
+    let start = c .before .before .before .before .before .before .before .before .before .before .before .before .before .before .before in
     let s = start .args .s in
     let image : List ℕ = start .args .image .now in
     let at : ℕ = 256 + 8 * s .floating .first in
-    let bs : List ℕ = part at 8 image in
-    let size : length bs ≡ 8 = length-part at 8 image (omega (arith, start .pre, c .before .before .before .before .before .before .before .before .before .if1 .taken)) in
-    let low : valueOf bs < 2 ^ (8 * length bs) = value-below bs (bytes-part at 8 image (λ i. c .before .before .before .before .before .before .before .before .before .before .before .before .before .before .shared-slice-known .given i .fits)) in
-    c .before .before .put-number .ensures
-    ∙ ap (λ (x : ℕ). overlay (start .args .place .now) (bytesOf (s .home .length) x)) (c .before .before .before .memory-word .ensures ∙ rw (c .before .before .before .before .equivalent-of .ensures, c .before .before .before .before .before .before .before .load .ensures))
-    ∙ ap (overlay (start .args .place .now)) (sym (homed-float _ _ _ _ image (start .pre) (c .before .before .before .before .before .before .before .before .before .if1 .taken) (rw size at low)))
+    let k : ℕ = s .floating .count in
+    let bs : List ℕ = part at (8 * k) image in
+    let size : length bs ≡ 8 * k = length-part at (8 * k) image (omega (arith, start .pre .floating, start .pre .image)) in
+    let low : valueOf bs < 2 ^ (8 * length bs) = value-below bs (bytes-part at (8 * k) image (λ i. c .before .before .before .before .before .before .before .before .before .before .before .before .before .shared-slice-known .given i .fits)) in
+    let one : k ≡ 1 → valueOf bs < 2 ^ 64 = λ e. subst (λ (n : ℕ). valueOf bs < 2 ^ (8 * n)) (size ∙ ap (λ (m : ℕ). 8 * m) e) low in
+    c .before .before .home-float .ensures
+    ∙ ap (λ (e : Equivalent). overlay (start .args .place .now) (floatHome (s .home .length) (8 * k) e bs)) (c .before .before .before .equivalent-of .ensures)
+    ∙ ap (overlay (start .args .place .now)) (sym (homed-float _ _ _ _ image (start .pre) (c .before .before .before .before .before .before .before .before .if1 .taken) one))
 
 word-bytes-requires : tie.Need-word-bytes-requires
 word-bytes-requires c κs = search needs
@@ -102,14 +109,14 @@ pub put-home-spec : {M : Type 1} → statement M
 put-home-spec =
     tie.close
     (tie.spec
-    cast-load
-    mul-load
-    add-load
-    load-requires
-    cast-put-number
+    cast-at
+    mul-at
+    add-at
+    cast-held
+    mul-held
+    cast-room
     equivalent-of-requires
-    memory-word-requires
-    put-number-requires
+    home-float-requires
     same-length
     returns
     word-bytes-requires

@@ -1,5 +1,8 @@
--- Only an FPR is tested.
+-- Only FPRs are tested, and of these only a single's.
 use mathlib.Core.Path.{_∙_}
+use Prim.Native.Nat.{_+_, _*_}
+use Rattle.types.specs.Sizes.{equivalentOf}
+use Rattle.slots.proofs.Limits.{answer-first}
 use borrow.Author.Tests.{lt-ltb, le-ltb}
 use Rattle.home_slot.specs.Homes.{registerAnswer}
 use borrow.Author.Needs.{needs}
@@ -26,7 +29,15 @@ float-answer-requires c κs = search needs
 
 returns : tie.Need-returns
 unfolding registerAnswer
-returns c = simp (lt-ltb _ _ (c .before .before .before .before .if1 .taken)) (c .float-answer .ensures ∙ rw (c .before .equivalent-of .ensures, c .before .before .load .ensures))
+returns c =
+    let start = c .before .before .before .before .before .before .before .before in
+    let s = start .args .s in
+    let some = c .before .before .before .before .if1 .taken in
+    let sized = start .pre .2 some in
+    simp (lt-ltb _ _ some)
+    (c .float-answer .ensures
+    ∙ rw (c .before .equivalent-of .ensures, c .before .before .load .ensures)
+    (answer-first (start .args .r) (equivalentOf (start .args .t)) (s .floating .count) (sized .0) (256 + 8 * s .floating .first) (start .args .image .now) (sized .1)))
 
 returns-2 : tie.Need-returns-2
 unfolding registerAnswer

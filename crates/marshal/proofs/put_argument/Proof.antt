@@ -3,18 +3,21 @@ use mathlib.Core.Path.{_≡_, refl, sym, ap, subst, _∙_}
 use mathlib.Core.List.{List, _++_}
 use Prim.Native.Nat.{ℕ, _+_, _-_, _*_, _≤_, _<_}
 use native.Mathlib.Omega.{arith}
-use lib.ListN.{length, replicate}
+use lib.ListN.{length, take, drop, replicate, length-take, length-drop}
 use borrow.Rule.Slice.PartMut.{putMid}
 use Rattle.words.specs.Splice.{splice}
 use Rattle.words.specs.Numbers.{bytesOf}
 use Rattle.words.proofs.Splices.{lent-tail}
+use Rattle.types.specs.declared.Equivalent.{Equivalent}
 use Rattle.types.specs.Sizes.{equivalentOf}
 use Rattle.places.specs.Step.{wordOf}
 use Rattle.slots.specs.Buffers.{buffers}
+use Rattle.slots.specs.Forms.{floatForm}
 use Rattle.slots.specs.Placements.{Placement, placement}
-use Rattle.marshal.proofs.Arguments.{argument-float, argument-words, stands-address, stands-head, stands-end, number-fits, copy-none, copy-put}
+use Rattle.marshal.specs.Room.{FloatRoom}
+use Rattle.marshal.proofs.Arguments.{float-room, argument-float, argument-words, stands-address, stands-head, stands-end, number-fits, copy-none, copy-put}
 use Rattle.marshal.proofs.Pieces.{number-plain}
-use Rattle.slots.proofs.Limits.{float-small, one-address}
+use Rattle.slots.proofs.Limits.{one-address}
 use borrow.Author.Needs.{needs}
 use Rattle.marshal.proofs.put_argument.Statement.{statement}
 use Rattle.marshal.proofs.put_argument.Tie as tie
@@ -32,23 +35,27 @@ mul-at c = search needs
 add-at : tie.Need-add-at
 add-at c = search needs
 
-sub-put-number : tie.Need-sub-put-number
-sub-put-number c = search needs
+sub-put-float : tie.Need-sub-put-float
+sub-put-float c = search needs
 
-part-put-number-start : tie.Need-part-put-number-start
-part-put-number-start c = search needs
+part-put-float-start : tie.Need-part-put-float-start
+part-put-float-start c = search needs
 
-part-put-number-end : tie.Need-part-put-number-end
-part-put-number-end c = search needs
+part-put-float-end : tie.Need-part-put-float-end
+part-put-float-end c = search needs
 
-float-word-requires : tie.Need-float-word-requires
-float-word-requires c κs =
-    let start = c .before .before .before .before .before .before .before .before .before .before in
-    let held = start .pre .held in
-    float-small (equivalentOf (start .args .t)) (length (start .args .v .now)) (held .float (omega (arith, held .floats, c .before .before .if1 .taken)))
+equivalent-of-requires : tie.Need-equivalent-of-requires
+equivalent-of-requires c κs = search needs
 
-put-number-requires : tie.Need-put-number-requires
-put-number-requires c κs = search needs
+put-float-requires : tie.Need-put-float-requires
+put-float-requires c κs =
+    let start = c .before .before .before .before .before .before .before .before .before .before .before in
+    let l : List ℕ = start .args .image .now in
+    let at : ℕ = 256 + 8 * start .args .s .floating .first in
+    let pre = start .pre in
+    let room : 8 * start .args .s .floating .count ≤ length (take (length l - at) (drop at l)) = omega (arith, pre .fits .floating, pre .registers, length-take (length l - at) (drop at l), length-drop at l) in
+    subst (λ (e : Equivalent). FloatRoom e (length (start .args .v .now)) (length (take (length l - at) (drop at l)))) (sym (c .equivalent-of .ensures))
+    (float-room (equivalentOf (start .args .t)) (start .args .s .floating .count) (length (start .args .v .now)) _ (pre .held .float (c .before .before .before .if1 .taken)) room)
 
 same-length : tie.Need-same-length
 same-length c = search needs
@@ -57,9 +64,11 @@ returns : tie.Need-returns
 returns c =
     let start = c .before .before .before .before .before .before .before .before .before .before .before .before .before .before in
     let l : List ℕ = start .args .image .now in
+    let v : List ℕ = start .args .v .now in
+    let r = start .args .r in
     let at : ℕ = 256 + 8 * start .args .s .floating .first in
-    ap (λ (i : List ℕ). buffers i (start .args .area .now) (start .args .copies .now)) (ap (putMid at (length l - at) l) (c .before .before .put-number .ensures) ∙ lent-tail l at (bytesOf 8 (c .before .before .before .float-word .result)) ∙ ap (λ (x : ℕ). splice l at (bytesOf 8 x)) (c .before .before .before .float-word .ensures))
-    ∙ argument-float (start .args .r) (start .args .base) (argument start) (start .args .v .now) l (start .args .area .now) (start .args .copies .now) (start .pre .held) (c .before .before .before .before .before .before .if1 .taken)
+    ap (λ (i : List ℕ). buffers i (start .args .area .now) (start .args .copies .now)) (ap (putMid at (length l - at) l) (c .before .before .put-float .ensures) ∙ lent-tail l at (floatForm r (c .before .before .before .equivalent-of .result) v) ∙ ap (λ (e : Equivalent). splice l at (floatForm r e v)) (c .before .before .before .equivalent-of .ensures))
+    ∙ argument-float r (start .args .base) (argument start) v l (start .args .area .now) (start .args .copies .now) (start .pre .held) (c .before .before .before .before .before .before .if1 .taken) refl
 
 cast-start : tie.Need-cast-start
 cast-start c = search needs
@@ -188,11 +197,11 @@ put-argument-spec =
     cast-at
     mul-at
     add-at
-    sub-put-number
-    part-put-number-start
-    part-put-number-end
-    float-word-requires
-    put-number-requires
+    sub-put-float
+    part-put-float-start
+    part-put-float-end
+    equivalent-of-requires
+    put-float-requires
     same-length
     returns
     cast-start

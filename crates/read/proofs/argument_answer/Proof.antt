@@ -2,10 +2,12 @@
 use mathlib.Core.Path.{_∙_}
 use native.Mathlib.Omega.{arith}
 use borrow.Author.Tests.{lt-ltb, le-ltb}
+use Prim.Native.Nat.{_+_, _*_}
+use Rattle.types.specs.Sizes.{equivalentOf}
 use Rattle.slots.specs.Buffers.{bytesAt}
 use Rattle.slots.specs.Placements.{placement, wordsAt}
 use Rattle.read.specs.Read.{argumentAnswer}
-use Rattle.slots.proofs.Limits.{one-address}
+use Rattle.slots.proofs.Limits.{answer-first, one-address}
 use borrow.Author.Needs.{needs}
 use Rattle.read.proofs.argument_answer.Statement.{statement}
 use Rattle.read.proofs.argument_answer.Tie as tie
@@ -32,7 +34,12 @@ returns : tie.Need-returns
 unfolding argumentAnswer bytesAt
 returns c =
     let start = c .before .before .before .before .before .before .before .before .before .before in
-    simp (lt-ltb _ _ (c .before .before .before .before .if1 .taken)) (c .float-answer .ensures ∙ rw (c .before .equivalent-of .ensures, c .before .before .load .ensures))
+    let s = start .args .s in
+    let some = c .before .before .before .before .if1 .taken in
+    simp (lt-ltb _ _ some)
+    (c .float-answer .ensures
+    ∙ rw (c .before .equivalent-of .ensures, c .before .before .load .ensures)
+    (answer-first (start .args .r) (equivalentOf (start .args .t)) (s .floating .count) (start .args .n) (256 + 8 * s .floating .first) (start .args .image .now) (start .pre .held .float some)))
 
 word-at-requires : tie.Need-word-at-requires
 word-at-requires c κs =

@@ -47,14 +47,20 @@ mul-at c = search needs
 add-at : tie.Need-add-at
 add-at c = search needs
 
+cast-held : tie.Need-cast-held
+cast-held c = search needs
+
+mul-held : tie.Need-mul-held
+mul-held c = search needs
+
 equivalent-of-requires : tie.Need-equivalent-of-requires
 equivalent-of-requires c κs = search needs
 
 take-float-requires : tie.Need-take-float-requires
 take-float-requires c κs =
-    let start = c .before .before .before .before .before .before .before .before .before .before in
+    let start = c .before .before .before .before .before .before .before .before .before .before .before in
     let ready = start .pre .0 .ready in
-    (omega (arith, ready), rw (c .equivalent-of .ensures) (float-room (equivalentOf (start .args .t)) (start .args .n) (length (start .args .out .now)) (ready .held .float (omega (arith, ready .held .floats, c .before .before .before .if1 .taken))) (start .pre .1)))
+    (omega (arith, ready), rw (c .equivalent-of .ensures) (float-room (equivalentOf (start .args .t)) (start .args .s .floating .count) (start .args .n) (length (start .args .out .now)) (ready .held .float (c .before .before .before .before .if1 .taken)) (start .pre .1)))
 
 same-length : tie.Need-same-length
 same-length c = search needs
@@ -62,8 +68,8 @@ same-length c = search needs
 returns : tie.Need-returns
 unfolding valueAt floatValue bytesAt
 returns c =
-    let start = c .before .before .before .before .before .before .before .before .before .before .before .before .before in
-    simp (lt-ltb 0 (start .args .s .floating .count) (omega (arith, c .before .before .before .before .before .before .if1 .taken))) (c .before .before .take-float .ensures ∙ rw (c .before .before .before .equivalent-of .ensures))
+    let start = c .before .before .before .before .before .before .before .before .before .before .before .before .before .before in
+    simp (lt-ltb 0 (start .args .s .floating .count) (omega (arith, c .before .before .before .before .before .before .before .if1 .taken))) (c .before .before .take-float .ensures ∙ rw (c .before .before .before .equivalent-of .ensures))
 
 word-at-requires : tie.Need-word-at-requires
 word-at-requires c κs =
@@ -141,6 +147,8 @@ take-argument-spec =
     cast-at
     mul-at
     add-at
+    cast-held
+    mul-held
     equivalent-of-requires
     take-float-requires
     same-length

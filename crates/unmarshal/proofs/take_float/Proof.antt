@@ -5,6 +5,7 @@ use native.Mathlib.Omega.{arith}
 use lib.ListN.{length, drop}
 use lib.Seq.{take-take}
 use Rattle.words.specs.Splice.{overlay, part}
+use Rattle.words.specs.Numbers.{valueOf}
 use Rattle.types.specs.declared.Equivalent.{Equivalent}
 use Rattle.places.specs.declared.Rules.{Rules}
 use Rattle.slots.specs.Forms.{floatValueAs, narrowedBytes}
@@ -20,7 +21,7 @@ enum-told c = search needs
 take-part-requires : tie.Need-take-part-requires
 take-part-requires c κs =
     let start = c .before .before .before .before .before in
-    let room = subst (λ (e : Equivalent). FloatRoom e (length (start .args .out .now))) (c .before .enum-told .given .1) (start .pre .1) in
+    let room = subst (λ (e : Equivalent). FloatRoom e (start .args .n) (length (start .args .out .now))) (c .before .enum-told .given .1) (start .pre .1) in
     (start .pre .0, room)
 
 enum-told-2 : tie.Need-enum-told-2
@@ -29,8 +30,8 @@ enum-told-2 c = search needs
 take-part-requires-2 : tie.Need-take-part-requires-2
 take-part-requires-2 c κs =
     let start = c .before .before .before .before .before in
-    let room = subst (λ (e : Equivalent). FloatRoom e (length (start .args .out .now))) (c .before .enum-told2 .given .1) (start .pre .1) in
-    (start .pre .0, room)
+    let room = subst (λ (e : Equivalent). FloatRoom e (start .args .n) (length (start .args .out .now))) (c .before .enum-told2 .given .1) (start .pre .1) in
+    (omega (arith, start .pre .0, room), room .1)
 
 enum-told-3 : tie.Need-enum-told-3
 enum-told-3 c = search needs
@@ -39,12 +40,15 @@ enum-told-4 : tie.Need-enum-told-4
 enum-told-4 c = search needs
 
 load-requires : tie.Need-load-requires
-load-requires c κs = search needs
+load-requires c κs =
+    let start = c .before .before .before .before .before .before .before in
+    let room = subst (λ (e : Equivalent). FloatRoom e (start .args .n) (length (start .args .out .now))) (c .before .before .before .enum-told3 .given .1) (start .pre .1) in
+    omega (arith, start .pre .0, room)
 
 take-narrowed-requires : tie.Need-take-narrowed-requires
 take-narrowed-requires c κs =
     let start = c .before .before .before .before .before .before .before .before in
-    subst (λ (e : Equivalent). FloatRoom e (length (start .args .out .now))) (c .before .before .before .before .enum-told3 .given .1) (start .pre .1)
+    subst (λ (e : Equivalent). FloatRoom e (start .args .n) (length (start .args .out .now))) (c .before .before .before .before .enum-told3 .given .1) (start .pre .1) .1
 
 enum-told-5 : tie.Need-enum-told-5
 enum-told-5 c = search needs
@@ -52,8 +56,8 @@ enum-told-5 c = search needs
 take-part-requires-3 : tie.Need-take-part-requires-3
 take-part-requires-3 c κs =
     let start = c .before .before .before .before .before .before .before in
-    let room = subst (λ (e : Equivalent). FloatRoom e (length (start .args .out .now))) (c .before .before .before .enum-told3 .given .1) (start .pre .1) in
-    (omega (arith, start .pre .0), room)
+    let room = subst (λ (e : Equivalent). FloatRoom e (start .args .n) (length (start .args .out .now))) (c .before .before .before .enum-told3 .given .1) (start .pre .1) in
+    (omega (arith, start .pre .0, room), room .1)
 
 same-length : tie.Need-same-length
 same-length c = search needs
@@ -62,7 +66,7 @@ returns : tie.Need-returns
 returns c =
     let a = c .before .before .before .before .before .before .before .before .args in
     c .before .before .take-part .ensures
-    ∙ ap (λ (e : Equivalent). overlay (a .out .now) (floatValueAs (a .r) e (part (a .at) 8 (a .image .now)))) (sym (c .before .before .before .before .enum-told .given .1))
+    ∙ ap (λ (e : Equivalent). overlay (a .out .now) (floatValueAs (a .r) e (part (a .at) (a .n) (a .image .now)))) (sym (c .before .before .before .before .enum-told .given .1))
 
 same-length-2 : tie.Need-same-length-2
 same-length-2 c = search needs
@@ -70,8 +74,9 @@ same-length-2 c = search needs
 returns-2 : tie.Need-returns-2
 returns-2 c =
     let a = c .before .before .before .before .before .before .before .before .args in
-    c .before .before .take-part2 .ensures
-    ∙ ap (λ (e : Equivalent). overlay (a .out .now) (floatValueAs (a .r) e (part (a .at) 8 (a .image .now)))) (sym (c .before .before .before .before .enum-told2 .given .1))
+    let room = subst (λ (e : Equivalent). FloatRoom e (a .n) (length (a .out .now))) (c .before .before .before .before .enum-told2 .given .1) (c .before .before .before .before .before .before .before .before .pre .1) in
+    c .before .before .take-part2 .ensures ∙ ap (λ (n : ℕ). overlay (a .out .now) (part (a .at) n (a .image .now))) (sym (room .0))
+    ∙ ap (λ (e : Equivalent). overlay (a .out .now) (floatValueAs (a .r) e (part (a .at) (a .n) (a .image .now)))) (sym (c .before .before .before .before .enum-told2 .given .1))
 
 same-length-3 : tie.Need-same-length-3
 same-length-3 c = search needs
@@ -79,9 +84,10 @@ same-length-3 c = search needs
 returns-3 : tie.Need-returns-3
 returns-3 c =
     let a = c .before .before .before .before .before .before .before .before .before .before .before .args in
-    c .before .before .take-narrowed .ensures ∙ ap (λ (x : ℕ). overlay (a .out .now) (narrowedBytes (narrow x))) (c .before .before .before .load .ensures)
-    ∙ ap (λ (e : Equivalent). overlay (a .out .now) (floatValueAs (Rules.Power (c .before .before .before .before .before .enum-told4 .given .0 .0)) e (part (a .at) 8 (a .image .now)))) (sym (c .before .before .before .before .before .before .before .enum-told3 .given .1))
-    ∙ ap (λ (r : Rules). overlay (a .out .now) (floatValueAs r (a .e) (part (a .at) 8 (a .image .now)))) (sym (c .before .before .before .before .before .enum-told4 .given .1))
+    let room = subst (λ (e : Equivalent). FloatRoom e (a .n) (length (a .out .now))) (c .before .before .before .before .before .before .before .enum-told3 .given .1) (c .before .before .before .before .before .before .before .before .before .before .before .pre .1) in
+    c .before .before .take-narrowed .ensures ∙ ap (λ (x : ℕ). overlay (a .out .now) (narrowedBytes (narrow x))) (c .before .before .before .load .ensures ∙ ap (λ (n : ℕ). valueOf (part (a .at) n (a .image .now))) (sym (room .0)))
+    ∙ ap (λ (e : Equivalent). overlay (a .out .now) (floatValueAs (Rules.Power (c .before .before .before .before .before .enum-told4 .given .0 .0)) e (part (a .at) (a .n) (a .image .now)))) (sym (c .before .before .before .before .before .before .before .enum-told3 .given .1))
+    ∙ ap (λ (r : Rules). overlay (a .out .now) (floatValueAs r (a .e) (part (a .at) (a .n) (a .image .now)))) (sym (c .before .before .before .before .before .enum-told4 .given .1))
 
 same-length-4 : tie.Need-same-length-4
 same-length-4 c = search needs
@@ -89,10 +95,11 @@ same-length-4 c = search needs
 returns-4 : tie.Need-returns-4
 returns-4 c =
     let a = c .before .before .before .before .before .before .before .before .before .before .args in
+    let room = subst (λ (e : Equivalent). FloatRoom e (a .n) (length (a .out .now))) (c .before .before .before .before .before .before .enum-told3 .given .1) (c .before .before .before .before .before .before .before .before .before .before .pre .1) in
     c .before .before .take-part3 .ensures
-    ∙ ap (overlay (a .out .now)) (sym (take-take 4 8 (drop (a .at) (a .image .now)) (omega arith)))
-    ∙ ap (λ (e : Equivalent). overlay (a .out .now) (floatValueAs Rules.Z e (part (a .at) 8 (a .image .now)))) (sym (c .before .before .before .before .before .before .enum-told3 .given .1))
-    ∙ ap (λ (r : Rules). overlay (a .out .now) (floatValueAs r (a .e) (part (a .at) 8 (a .image .now)))) (sym (c .before .before .before .before .enum-told5 .given .1))
+    ∙ ap (overlay (a .out .now)) (sym (take-take 4 (a .n) (drop (a .at) (a .image .now)) (omega (arith, room))))
+    ∙ ap (λ (e : Equivalent). overlay (a .out .now) (floatValueAs Rules.Z e (part (a .at) (a .n) (a .image .now)))) (sym (c .before .before .before .before .before .before .enum-told3 .given .1))
+    ∙ ap (λ (r : Rules). overlay (a .out .now) (floatValueAs r (a .e) (part (a .at) (a .n) (a .image .now)))) (sym (c .before .before .before .before .enum-told5 .given .1))
 
 pub take-float-spec : {M : Type 1} → statement M
 take-float-spec =
