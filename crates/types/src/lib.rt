@@ -50,6 +50,7 @@ pub fn lacks_float(c: Convention, inside: bool, f: FloatFormat) -> bool
     match c {
         Convention::Ppc64 => false,
         Convention::Z => false,
+        Convention::Ppc64b => false,
         Convention::Aix => match f {
             FloatFormat::Single => false,
             FloatFormat::Double => inside,
