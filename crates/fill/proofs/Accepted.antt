@@ -143,6 +143,7 @@ unfolding spanOf fresh zClass zSpanOf
 address-first Convention.Ppc64 = omega arith
 address-first Convention.Z = omega arith
 address-first Convention.Aix = omega arith
+address-first Convention.Ppc64b = omega arith
 
 result-fits : (c : Convention) (r : ResultType) → HiddenFits (resultIn c r) 512
 unfolding resultOf

@@ -15,12 +15,13 @@ use Rattle.plan.specs.Call.{callOf}
 use Rattle.text.specs.Decimals.{decimal}
 use Rattle.line.specs.Words.{newline}
 use Rattle.line.specs.Line.{placesText, lineText}
-use Rattle.listing.specs.Words.{ppc64Name, zName, aixName, argsWord, areaWord, resultWord, noneWord, hiddenWord, refusedWord, atWord, afterWord}
+use Rattle.listing.specs.Words.{ppc64Name, zName, aixName, ppc64bName, argsWord, areaWord, resultWord, noneWord, hiddenWord, refusedWord, atWord, afterWord}
 
 abbrev pub nameOf : Convention → List ℕ
 nameOf Convention.Ppc64 = ppc64Name
 nameOf Convention.Z = zName
 nameOf Convention.Aix = aixName
+nameOf Convention.Ppc64b = ppc64bName
 
 -- the lines of the arguments from i on
 unfoldable pub linesText : Convention → ℕ → List Span → List ℕ

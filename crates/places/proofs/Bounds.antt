@@ -23,12 +23,14 @@ pub rules-lawful : (c : Convention) → Lawful (rulesOf c)
 rules-lawful Convention.Ppc64 = omega arith
 rules-lawful Convention.Z = tt
 rules-lawful Convention.Aix = omega arith
+rules-lawful Convention.Ppc64b = omega arith
 
 -- a pointer is a word
 pub rules-word : (c : Convention) → wordOf (rulesOf c) ≡ wordBytes c
 rules-word Convention.Ppc64 = refl
 rules-word Convention.Z = refl
 rules-word Convention.Aix = refl
+rules-word Convention.Ppc64b = refl
 
 pub returning-lawful : (r : Rules) → Lawful r → Lawful (returning r)
 unfolding returning

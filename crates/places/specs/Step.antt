@@ -30,10 +30,15 @@ ppc64 = power (wordBytes Convention.Ppc64) Edition.Earlier
 abbrev pub aix : Rules
 aix = power (wordBytes Convention.Aix) Edition.Earlier
 
+-- 02, No. 12: "PPC64 with that rule"
+abbrev pub ppc64b : Rules
+ppc64b = power (wordBytes Convention.Ppc64b) Edition.Later
+
 abbrev pub rulesOf : Convention → Rules
 rulesOf Convention.Ppc64 = ppc64
 rulesOf Convention.Z = Rules.Z
 rulesOf Convention.Aix = aix
+rulesOf Convention.Ppc64b = ppc64b
 
 -- the bytes of a word of the argument list, and of a pointer
 abbrev pub wordOf : Rules → ℕ

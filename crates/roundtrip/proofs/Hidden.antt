@@ -48,6 +48,7 @@ unfolding startOf nextOf spanOf fresh words fprs shareOf powerShare zClass zSpan
 address-first Convention.Ppc64 = (omega arith, omega arith)
 address-first Convention.Z = (omega arith, omega arith)
 address-first Convention.Aix = (omega arith, omega arith)
+address-first Convention.Ppc64b = (omega arith, omega arith)
 
 -- a hidden address has it, and the arguments have those after it
 register-first : (c : Convention) (r : ResultType) (x : Span) → resultIn c r ≡ ResultPlaces.Hidden x → (x .general .first < startIn c r .general) × (x .general .first < 32)

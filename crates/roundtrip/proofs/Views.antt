@@ -465,6 +465,7 @@ address-word : (c : Convention) → homeless (rulesOf c) ≡ false → wordOf (r
 address-word Convention.Ppc64 q = address-power 8 Edition.Earlier (omega arith) (omega arith)
 address-word Convention.Z q = let z : _≡_ {A = ℕ} 0 1 = cc in absurd (omega arith)
 address-word Convention.Aix q = address-power 4 Edition.Earlier (omega arith) (omega arith)
+address-word Convention.Ppc64b q = address-power 8 Edition.Later (omega arith) (omega arith)
 
 hidden-start : (c : Convention) (r : ResultType) (x : Span) → homeless (rulesOf c) ≡ false → resultIn c r ≡ ResultPlaces.Hidden x → wordOf (rulesOf c) ≤ startIn c r .stack
 hidden-start c r x q e = rw (hidden-address c r x e .1) (address-word c q)
