@@ -7,6 +7,9 @@ use signature::Outcome;
 use signature::ResultType;
 use signature::SignatureRead;
 ghost use mathlib.Core.Path.{_≡_};
+ghost use Rattle.signature.specs.Read.{signatureOf};
+ghost use Rattle.signature.specs.Answer.{signatureAnswer};
+ghost use Rattle.slots.specs.Arguments.{sizesFor};
 ghost use Rattle.plan.specs.Plan.{startIn, planned, measureOf};
 ghost use Rattle.plan.specs.Limits.{Plannable};
 
@@ -16,6 +19,21 @@ pub fn first_cursor(c: Convention, result: ResultType) -> Cursor
 {
     let hidden = planning::hidden_in(c, result);
     placing::start(c, hidden)
+}
+
+// The sizes of the plan of a signature's bytes and what was read of them, with the outcome of the call.
+pub fn measure_call(sig: &[u8], g: SignatureRead) -> Measured
+    requires { ⌜ g ≡ signatureAnswer (signatureOf (now sig)) ⌝ }
+    ensures { λ m. ⌜ m ≡ sizesFor (now (sig .entry)) ⌝ }
+{
+    let m = measure_table(g);
+    let outcome = planning::call_outcome(sig, g);
+    Measured {
+        outcome,
+        area: m.area,
+        values: m.values,
+        copies: m.copies,
+    }
 }
 
 // The outcome and the sizes of the plan of a signature that was read: each argument of its table is passed and let go.
