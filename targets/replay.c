@@ -26,6 +26,7 @@ enum {
     VIEW,
     PLAN,
     START_AIX,
+    START_PPC64B,
     OPERATIONS,
     SET_MACHINE = 100,
     CHANGE_MACHINE = 101
@@ -54,6 +55,7 @@ static const struct shape {
     [VIEW] = {"fz_view", 1, 2, 5, 0},
     [PLAN] = {"fz_plan", 0, 2, 14, 0},
     [START_AIX] = {"fz_start_aix", 2, 1, 3, 2},
+    [START_PPC64B] = {"fz_start_ppc64b", 2, 1, 3, 2},
 };
 
 #define MOST_NUMBERS 4
@@ -363,11 +365,13 @@ static void call_machine(int operation, const uint64_t *numbers)
     case START_PPC64:
     case START_Z:
     case START_AIX:
+    case START_PPC64B:
         words_from(&registers, sizeof registers, &own[0]);
         set_answer((operation == START_PPC64 ? fz_start_ppc64
                     : operation == START_Z   ? fz_start_z
-                                             : fz_start_aix)(machine, &registers, numbers[0],
-                                                             bytes, length));
+                    : operation == START_AIX ? fz_start_aix
+                                             : fz_start_ppc64b)(machine, &registers, numbers[0],
+                                                                bytes, length));
         words_to(&registers, sizeof registers, &own[0]);
         break;
     case ENTER:

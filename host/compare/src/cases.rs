@@ -47,6 +47,7 @@ pub enum Operation {
     View = 15,
     Plan = 16,
     StartAix = 17,
+    StartPpc64b = 18,
     /// No call: the state and the memory that the next calls of the frame machine find.
     SetMachine = 100,
     /// No call: changes of that state and that memory.
@@ -55,7 +56,7 @@ pub enum Operation {
 
 impl Operation {
     /// Those that call the library.
-    pub const CALLS: [Operation; 17] = [
+    pub const CALLS: [Operation; 18] = [
         Operation::ReadSignature,
         Operation::Measure,
         Operation::Listing,
@@ -73,6 +74,7 @@ impl Operation {
         Operation::View,
         Operation::Plan,
         Operation::StartAix,
+        Operation::StartPpc64b,
     ];
 
     fn is_call(self) -> bool {

@@ -343,6 +343,7 @@ pub(crate) fn count_cases(signature: &Signature, plan: &Plan, seen: &mut Histogr
         Convention::Ppc64 => "PPC64",
         Convention::Z => "Z",
         Convention::Aix => "AIX",
+        Convention::Ppc64b => "PPC64B",
     };
     let mut count = |case: &str| seen.count(&format!("{convention} {case}"));
     count("calls");
@@ -364,7 +365,7 @@ pub(crate) fn count_cases(signature: &Signature, plan: &Plan, seen: &mut Histogr
         count("hidden result");
     }
     let least = match plan.convention {
-        Convention::Ppc64 => 64,
+        Convention::Ppc64 | Convention::Ppc64b => 64,
         Convention::Z => 0,
         Convention::Aix => 32,
     };

@@ -35,7 +35,7 @@ replay    makes calls of the frame machine, on registers and memory of zeros, an
 --picture draws the stack too, from the highest address down, after each call that changes
           the drawing: frames, headers, save slots, areas and floor, with addresses and bytes
 FILE      has one call to a line, and '#' comments; '-' is standard input:
-            start ppc64 SIZE BASE       of the memory, in bytes; or 'start z ..', 'start aix ..'
+            start ppc64 SIZE BASE       of the memory, in bytes; or 'start z ..', 'aix', 'ppc64b'
             enter g=29 m=30 cr=1 locals=20 out=64
                                         saves r29 up, f30 up and CR; bytes of locals and
                                         of outgoing arguments (cr, locals, out: else 0)

@@ -129,7 +129,7 @@ fn parse_call(word: &str, values: &[&str]) -> Result<(String, Call), String> {
     match (word, values) {
         ("start", &[convention, size, base]) => Ok(named(parse_start(convention, size, base)?)),
         ("start", _) => {
-            Err("a start is 'start CONVENTION SIZE BASE', of ppc64, z or aix".to_string())
+            Err("a start is 'start CONVENTION SIZE BASE', of ppc64, z, aix or ppc64b".to_string())
         }
         ("enter", _) => Ok(named(Call::Enter(parse_request(values)?))),
         ("write", &["mem", address, ref bytes @ ..]) => {
@@ -157,7 +157,12 @@ fn parse_start(convention: &str, size: &str, base: &str) -> Result<Call, String>
         "ppc64" => Convention::Ppc64,
         "z" => Convention::Z,
         "aix" => Convention::Aix,
-        _ => return Err(format!("{convention:?} is no convention: ppc64, z or aix")),
+        "ppc64b" => Convention::Ppc64b,
+        _ => {
+            return Err(format!(
+                "{convention:?} is no convention: ppc64, z, aix or ppc64b"
+            ))
+        }
     };
     let size = parse_number(size)?;
     if size > LARGEST_MEMORY {
