@@ -212,11 +212,29 @@ static void check_aix(void)
     CHECK(answers(fz_leave(&machine, memory, LENGTH), FZ_BAD_STATE));
 }
 
+/* PPC64's frames under another code */
+static void check_ppc64b(void)
+{
+    static const fz_frame request = {29, 30, 1, 20, 64, 0};
+    fz_machine other;
+
+    hand_in_registers();
+    CHECK(answers(fz_start_ppc64(&other, &registers, BASE, memory, LENGTH), FZ_ACCEPTED));
+    CHECK(answers(fz_start_ppc64b(&machine, &registers, BASE, memory, LENGTH), FZ_ACCEPTED));
+    CHECK(other.convention == 1 && machine.convention == 4);
+    CHECK(answers(fz_enter(&other, &request, memory, LENGTH), FZ_ACCEPTED));
+    CHECK(answers(fz_enter(&machine, &request, memory, LENGTH), FZ_ACCEPTED));
+    CHECK(machine.registers.gpr[1] == BASE + LENGTH - 112 - 176);
+    other.convention = 4;
+    CHECK(memcmp(&machine, &other, sizeof machine) == 0);
+}
+
 int main(void)
 {
     check_ppc64();
     check_leaf();
     check_z();
     check_aix();
+    check_ppc64b();
     return wrong;
 }
