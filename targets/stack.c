@@ -230,6 +230,11 @@ static void call_start_aix(void)
     number = fz_start_aix(&machine, &registers, BASE, memory, sizeof memory).number;
 }
 
+static void call_start_ppc64b(void)
+{
+    number = fz_start_ppc64b(&machine, &registers, BASE, memory, sizeof memory).number;
+}
+
 static void call_enter(void)
 {
     number = fz_enter(&machine, &request, memory, sizeof memory).number;
@@ -291,6 +296,7 @@ enum {
     START_PPC64,
     START_Z,
     START_AIX,
+    START_PPC64B,
     ENTER,
     WRITE_REGISTER,
     WRITE_MEMORY,
@@ -320,6 +326,7 @@ static struct {
     [START_PPC64] = {"fz_start_ppc64", call_start_ppc64, 0},
     [START_Z] = {"fz_start_z", call_start_z, 0},
     [START_AIX] = {"fz_start_aix", call_start_aix, 0},
+    [START_PPC64B] = {"fz_start_ppc64b", call_start_ppc64b, 0},
     [ENTER] = {"fz_enter", call_enter, 0},
     [WRITE_REGISTER] = {"fz_write_register", call_write_register, 0},
     [WRITE_MEMORY] = {"fz_write_memory", call_write_memory, 0},
@@ -409,7 +416,7 @@ int main(void)
     if (stack == NULL)
         fail("no memory");
     without_library = written(call_nothing);
-    for (convention = 1; convention <= 3; convention++)
+    for (convention = 1; convention <= 4; convention++)
         for (i = 0; i < sizeof types / sizeof *types; i++)
             if (convention != 3 || !not_on_aix(&types[i]))
                 measure_signature(convention, &types[i]);
@@ -422,6 +429,7 @@ int main(void)
     measure_walk(WALK_DUMP_PPC64, 8);
     measure_walk(WALK_DUMP_Z, 8);
     measure_walk(WALK_DUMP_AIX, 4);
+    measure_machine(START_PPC64B);
     for (i = 0; i < FUNCTIONS; i++)
         printf("%-18s %6lu\n", functions[i].name, (unsigned long)functions[i].most);
     return 0;

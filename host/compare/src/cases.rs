@@ -51,6 +51,7 @@ pub enum Operation {
     WalkDumpPpc64 = 18,
     WalkDumpZ = 19,
     WalkDumpAix = 20,
+    StartPpc64b = 21,
     /// No call: the state and the memory that the next calls of the frame machine find.
     SetMachine = 100,
     /// No call: changes of that state and that memory.
@@ -59,7 +60,7 @@ pub enum Operation {
 
 impl Operation {
     /// Those that call the library.
-    pub const CALLS: [Operation; 20] = [
+    pub const CALLS: [Operation; 21] = [
         Operation::ReadSignature,
         Operation::Measure,
         Operation::Listing,
@@ -80,6 +81,7 @@ impl Operation {
         Operation::WalkDumpPpc64,
         Operation::WalkDumpZ,
         Operation::WalkDumpAix,
+        Operation::StartPpc64b,
     ];
 
     fn is_call(self) -> bool {

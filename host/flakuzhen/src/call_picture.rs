@@ -62,7 +62,7 @@ impl Call<'_> {
     /// The bytes of a general register, by which the area is counted.
     fn word(&self) -> usize {
         match self.plan.convention {
-            Convention::Ppc64 | Convention::Z => 8,
+            Convention::Ppc64 | Convention::Z | Convention::Ppc64b => 8,
             Convention::Aix => 4,
         }
     }
@@ -110,7 +110,7 @@ impl Call<'_> {
 
     fn area_row(&self, place: usize) -> Row {
         let first = match self.plan.convention {
-            Convention::Ppc64 | Convention::Aix => 0,
+            Convention::Ppc64 | Convention::Aix | Convention::Ppc64b => 0,
             Convention::Z => Z_AREA,
         };
         let label = format!("@{}", first + place);

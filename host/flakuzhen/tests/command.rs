@@ -407,7 +407,7 @@ fn a_bad_line_is_told_with_its_number_and_no_call_is_made() {
         (b"start ppc64 4096 0 0", "a start is"),
         (
             b"start ppc32 4096 0",
-            "\"ppc32\" is no convention: ppc64, z or aix",
+            "\"ppc32\" is no convention: ppc64, z, aix or ppc64b",
         ),
         (b"start z 1048577 0", "a memory of over 1048576 bytes"),
         (b"start z -16 0", "\"-16\" is no number"),
@@ -533,7 +533,7 @@ fn dump_takes_four_words() {
     complains(&run(&["dump"], &memory), takes);
     complains(&run(&["dump", "z", "0", "0"], &memory), takes);
     complains(&run(&["dump", "z", "0", "0", "-", "-"], &memory), takes);
-    let none = "\"Z\" is no convention: ppc64, z or aix";
+    let none = "\"Z\" is no convention: ppc64, z, aix or ppc64b";
     complains(&run(&["dump", "Z", "0", "0", "-"], &memory), none);
     complains(
         &run(&["dump", "z", "x", "0", "-"], &memory),
