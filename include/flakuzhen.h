@@ -432,8 +432,8 @@ typedef struct {
 /* Walks a dump of memory_length bytes, whose first has the address `base`, from a stack pointer on,
  * and writes the frames' addresses to `list`, which has list_length numbers. Its numbers past the
  * last frame's stay. A refused walk leaves all of it as it was. The back chain is 8 bytes, on AIX 4,
- * big-endian; base and pointer are any numbers of 64 bits, on AIX too. The list must not overlap the
- * memory.
+ * big-endian; base and pointer are any numbers of 64 bits, on AIX too. A dump of code 4 is one of
+ * PPC64. The list must not overlap the memory.
  *
  * For a machine of the calls above that has no leaf these are its entered frames and the start: the
  * memory and base are the machine's, and the pointer is its register r1, on Z r15. */
