@@ -100,6 +100,7 @@ module _ (c : Convention) (s : List ℕ) (at e : ℕ) (r : ResultType) (l : List
         let w : ValueType = typeOf c (more .tree) in
         let rows : List ℕ = rowsOf c r at (m .ts) in
         let here : List ℕ = entryWords (itemAfter at (m .ts)) (sizeOf c w) (valuesOf c so-far) (spanOf (rulesOf c) (endIn c r so-far) w (sizeOf c w)) in
+        let many : count ≡ 0 + length so-far = omega (arith, m .turn .many, length-of-types c (m .ts)) in
         let place : 13 * count ≡ length rows = omega (arith, length-rows c r at (m .ts), m .turn .many) in
         record {
           ts = m .ts ▸ more .tree;
@@ -108,7 +109,7 @@ module _ (c : Convention) (s : List ℕ) (at e : ℕ) (r : ResultType) (l : List
           apart = omega (arith, m .apart, a .on);
           last = same-next c (m .last) (more .same) ∙ sym (last-more c (rulesOf c) (startIn c r) so-far w);
           total = omega (arith, m .total, ap (sizeOf c) (more .same), values-more c so-far w);
-          unclear = same-unclear (rulesOf c) (m .unclear) (m .last) (more .same) (m .turn .many ∙ sym (length-of-types c (m .ts))) ∙ sym (unclear-more c (rulesOf c) (startIn c r) 0 so-far w);
+          unclear = same-unclear (rulesOf c) (m .unclear) (m .last) (more .same) many ∙ sym (unclear-more c (rulesOf c) (startIn c r) 0 so-far w);
           reached = reached-more (rulesOf c) k v count t (sizeOf c t) (rules-lawful c) (a .sized .small) (m .reached);
           entries =
               ap (λ (y : List ℕ). splice y (13 * count) (entryWords next (sizeOf c t) v (spanOf (rulesOf c) k t (sizeOf c t)))) (m .entries)

@@ -36,8 +36,8 @@ start-requires c κs = search needs
 loop-holds : tie.Need-loop-holds Inv-loop μ-loop
 loop-holds c = keeping-start _ _ _ _ _ _ _ (c .start .ensures ∙ rw (c .before .hidden-in .ensures) refl) (omega arith)
 
-add-t28 : tie.Need-add-t28 Inv-loop μ-loop
-add-t28 c = omega (arith, c .before .before .loop .inv .turn .third, c .before .before .loop .inv .turn .within)
+add-t29 : tie.Need-add-t29 Inv-loop μ-loop
+add-t29 c = omega (arith, c .before .before .loop .inv .turn .third, c .before .before .loop .inv .turn .within)
 
 no-plan-requires : tie.Need-no-plan-requires Inv-loop μ-loop
 no-plan-requires c κs = search needs
@@ -207,7 +207,7 @@ plan-arguments-spec =
     hidden-in-requires
     start-requires
     loop-holds
-    add-t28
+    add-t29
     no-plan-requires
     same-length
     returns
@@ -241,6 +241,6 @@ plan-arguments-spec =
     write-table-requires
     result-in-requires
     area-of-requires
-    same-length-4
     same-length-5
+    same-length-6
     returns-5)
