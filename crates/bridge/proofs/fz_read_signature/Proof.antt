@@ -1,4 +1,4 @@
--- By the outcome: that of a plan is its reading's.
+-- By the outcome.
 use mathlib.Core.Path.{_∙_}
 use borrow.Author.Needs.{needs}
 use Rattle.bridge.proofs.fz_read_signature.Statement.{statement}
