@@ -125,10 +125,10 @@ impl Call<'_> {
         if argument.memory.contains(&place) {
             return Row::new(&label, self.marks(number, argument, at, self.word()));
         }
-        // a floating register has all words of its argument
+        // a floating register has 8 bytes of its argument, on AIX both words of a double
         let nth = match argument.floating.is_empty() {
             true => at / self.word(),
-            false => 0,
+            false => at / IN_IMAGE,
         };
         let register = argument.registers().nth(nth);
         let note = register.map(|name| format!("{number} is in {name}"));

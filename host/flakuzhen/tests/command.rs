@@ -63,6 +63,7 @@ fn reads_the_examples() {
         ("ppc64-small-structs.hex", 0, "items 36\n"),
         ("ppc64-straddling-struct.hex", 0, "items 16\n"),
         ("ppc64-two-arguments.hex", 0, "items 5\n"),
+        ("ppc64b-figure-3-18.hex", 0, "items 17\n"),
         (
             "refused-aix-double-field.hex",
             1,
@@ -73,6 +74,7 @@ fn reads_the_examples() {
             1,
             "refused 5 at 17 after 5\n",
         ),
+        ("refused-unclear-long-double.hex", 0, "items 10\n"),
         ("z-powl.hex", 0, "items 6\n"),
         ("z-small-structs.hex", 0, "items 27\n"),
         ("z-table-10.hex", 0, "items 13\n"),
