@@ -69,6 +69,7 @@ static fz_registers registers;
 static fz_machine machine;
 static fz_frame request;
 static volatile uint64_t number; /* of the last answer */
+static uint64_t expected;        /* what it must be */
 
 static void put(uint8_t byte)
 {
@@ -115,6 +116,13 @@ static void put_type(const type *of)
         put_header(0x12, length_of(of) - 3 * level);
     for (field = 0; field < of->fields; field++)
         put_scalar(of->tag, of->code);
+}
+
+/* Whether it is refused by 29 where there are many of it: code 4's long doubles, of which the seventh
+   finds f13 alone. The call that is refused takes stack too. */
+static int unclear(uint8_t convention, const type *of)
+{
+    return convention == 4 && of->tag == 0x11 && of->code == 2;
 }
 
 /* A signature of as many arguments of the type as there can be, with it as its result. */
@@ -248,7 +256,7 @@ static void call_write_register(void)
 static void call_write_memory(void)
 {
     /* the locals' first bytes: on PPC64 the outgoing area has at least 64, on AIX 32 */
-    static const uint64_t headers[] = {48 + 64, 160, 24 + 32};
+    static const uint64_t headers[] = {48 + 64, 160, 24 + 32, 48 + 64};
     uint64_t header = headers[machine.convention - 1];
     uint64_t pointer = machine.registers.gpr[machine.convention == 2 ? 15 : 1];
 
@@ -343,7 +351,7 @@ static void measure(int function)
 {
     size_t bytes = written(functions[function].call) - without_library;
 
-    if (number != 0)
+    if (number != expected)
         fail(functions[function].name);
     if (bytes > functions[function].most)
         functions[function].most = bytes;
@@ -359,9 +367,10 @@ static void measure_signature(uint8_t convention, const type *of)
     memset(image, 0, sizeof image);
     memset(area, 0, sizeof area);
     measure(READ_SIGNATURE);
+    measure(LISTING);
+    expected = unclear(convention, of) ? FZ_UNCLEAR_PLACE : 0;
     measure(MEASURE);
     measure(PLAN);
-    measure(LISTING);
     measure(FILL);
     measure(READ);
     if (convention != 2) {
@@ -369,6 +378,7 @@ static void measure_signature(uint8_t convention, const type *of)
         view_index = 0;
         measure(VIEW);
     }
+    expected = 0;
 }
 
 /* Frames to the most: the last with all registers saved. */

@@ -5,7 +5,7 @@ use compare::Difference;
 use reference::Convention;
 
 const LISTS: u64 = 20_000;
-const STATES: u64 = 20_000;
+const STATES: u64 = 27_000;
 
 fn told(seed: u64, result: Result<Reach, Difference>) -> Reach {
     println!("seed {seed:#x}");

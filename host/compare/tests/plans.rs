@@ -9,7 +9,7 @@ use reference::{Convention, Float, Integer, Place, ResultPlan, Signature, Type};
 use std::path::{Path, PathBuf};
 
 /// The accepted signatures of the largest test; the others add to them.
-const ACCEPTED: u64 = 100_000;
+const ACCEPTED: u64 = 130_000;
 
 /// What the largest test must have seen, each at least this often.
 const OFTEN: u64 = 500;
