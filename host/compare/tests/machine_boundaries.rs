@@ -974,7 +974,7 @@ fn states_that_cannot_be() {
             Ppc64 | Aix | Ppc64b => 16,
             Z => 8,
         };
-        for code in [0, 4, 256, 257, 1 << 32, (1 << 32) + 1, u64::MAX] {
+        for code in [0, 5, 256, 257, 1 << 32, (1 << 32) + 1, u64::MAX] {
             refuses_all(&mut pair, |state| state.convention = code);
         }
         // another convention has another stack pointer, other frames or shorter registers
