@@ -255,7 +255,7 @@ static void call_write_register(void)
 static void call_write_memory(void)
 {
     /* the locals' first bytes: on PPC64 the outgoing area has at least 64, on AIX 32 */
-    static const uint64_t headers[] = {48 + 64, 160, 24 + 32};
+    static const uint64_t headers[] = {48 + 64, 160, 24 + 32, 48 + 64};
     uint64_t header = headers[machine.convention - 1];
     uint64_t pointer = machine.registers.gpr[machine.convention == 2 ? 15 : 1];
 
