@@ -258,8 +258,7 @@ fn every_first_register_of_a_request() {
             }
         }
     }
-    let ppc64 = 19 * 19 * 2 * 3;
-    assert_eq!(accepted, 2 * ppc64 + 9 * 9 * 2 + 20 * 19 * 2 * 3);
+    assert_eq!(accepted, 2 * 19 * 19 * 2 * 3 + 9 * 9 * 2 + 20 * 19 * 2 * 3);
 }
 
 #[test]
@@ -979,12 +978,12 @@ fn states_that_cannot_be() {
             refuses_all(&mut pair, |state| state.convention = code);
         }
         // another convention has another stack pointer, other frames or shorter registers, but for
-        // code 4, whose frames are PPC64's
-        let alike = |one| matches!(one, Ppc64 | Ppc64b);
-        for other in Convention::ALL
-            .into_iter()
-            .filter(|&other| other != convention && !(alike(other) && alike(convention)))
-        {
+        // codes 1 and 4, which have the same frames
+        let has_other_frames = |other: &Convention| {
+            *other != convention
+                && !matches!((convention, other), (Ppc64, Ppc64b) | (Ppc64b, Ppc64))
+        };
+        for other in Convention::ALL.into_iter().filter(has_other_frames) {
             refuses_all(&mut pair, |state| state.convention = other.code().into());
         }
         // 02, No. 1: a state holding a GPR or LR over 2^32 - 1
