@@ -108,13 +108,6 @@ static int not_on_aix(const type *of)
     return of->tag == 0x11 && (of->code == 2 || (of->code == 1 && of->structs > 0));
 }
 
-/* Whether so many of it are refused: what AIX has not, and by code 4 more than six long doubles. */
-static int refused(uint8_t convention, const type *of)
-{
-    return (convention == 3 && not_on_aix(of)) ||
-           (convention == 4 && of->tag == 0x11 && of->code == 2);
-}
-
 static void put_type(const type *of)
 {
     size_t level, field;
@@ -353,7 +346,7 @@ static struct {
 
 static size_t without_library;
 
-/* Measures a call, which must be accepted. */
+/* Measures a call, which must give the expected answer. */
 static void measure(int function)
 {
     size_t bytes = written(functions[function].call) - without_library;
@@ -435,7 +428,7 @@ int main(void)
     without_library = written(call_nothing);
     for (convention = 1; convention <= 4; convention++)
         for (i = 0; i < sizeof types / sizeof *types; i++)
-            if (!refused(convention, &types[i]))
+            if (convention != 3 || !not_on_aix(&types[i]))
                 measure_signature(convention, &types[i]);
     measure(VERSION);
     measure(WIDEN);
