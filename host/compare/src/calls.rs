@@ -660,7 +660,7 @@ fn break_signature(random: &mut Random, call: &mut Call) {
             2 => of_another_convention(random, &call.signature),
             _ => generate::damaged(random, &call.signature),
         };
-        if reference::call(&broken).is_err() {
+        if reference::read(&broken).is_err() {
             call.signature = broken;
             return;
         }
