@@ -69,8 +69,8 @@ pub fn always_clear(r: Rules) -> bool
     }
 }
 
-// The number of the first unclear argument, counted from 1, or 0: `unclear` is that of the first `count`, and one more of this type comes at the cursor.
-pub fn unclear_after(unclear: usize, r: Rules, c: Cursor, t: ValueType, count: usize) -> usize
+// The same as below.
+fn unclear_in(unclear: usize, r: Rules, c: Cursor, t: ValueType, count: usize) -> usize
     requires { ⌜ Roomy c × (count < 2 ^ 16) ⌝ }
     ensures { λ n. ⌜ n ≡ unclearAfter unclear (unclearFor r c t) count ⌝ }
 {
@@ -81,6 +81,18 @@ pub fn unclear_after(unclear: usize, r: Rules, c: Cursor, t: ValueType, count: u
         return count + 1;
     }
     0
+}
+
+// The number of the first unclear argument, counted from 1, or 0: `unclear` is that of the first `count`, and one more of this type comes at the cursor.
+// The test that all conventions but one end with comes first, and alone, so that it is compiled in line.
+pub fn unclear_after(unclear: usize, r: Rules, c: Cursor, t: ValueType, count: usize) -> usize
+    requires { ⌜ Roomy c × (count < 2 ^ 16) ⌝ }
+    ensures { λ n. ⌜ n ≡ unclearAfter unclear (unclearFor r c t) count ⌝ }
+{
+    if always_clear(r) {
+        return unclear;
+    }
+    unclear_in(unclear, r, c, t, count)
 }
 
 // The hidden address of a result, placed as a first argument.

@@ -160,8 +160,8 @@ pub fn unclear_fault(sig: &[u8], index: usize) -> Fault
     }
 }
 
-// The outcome of a call, by its signature's bytes and what was read of them.
-pub fn call_outcome(sig: &[u8], g: SignatureRead) -> Outcome
+// The same as below, where the rules leave something open.
+fn later_outcome(sig: &[u8], g: SignatureRead) -> Outcome
     requires { ⌜ g ≡ signatureAnswer (signatureOf (now sig)) ⌝ }
     ensures { λ o. ⌜ o ≡ outcomeFor (now (sig .entry)) ⌝ }
 {
@@ -171,6 +171,19 @@ pub fn call_outcome(sig: &[u8], g: SignatureRead) -> Outcome
     }
     let fault = unclear_fault(sig, unclear - 1);
     Outcome::Refused(fault)
+}
+
+// The outcome of a call, by its signature's bytes and what was read of them.
+pub fn call_outcome(sig: &[u8], g: SignatureRead) -> Outcome
+    requires { ⌜ g ≡ signatureAnswer (signatureOf (now sig)) ⌝ }
+    ensures { λ o. ⌜ o ≡ outcomeFor (now (sig .entry)) ⌝ }
+{
+    let convention = g.convention;
+    let rules = abi::call_rules_of(convention);
+    if placing::always_clear(rules) {
+        return g.outcome;
+    }
+    later_outcome(sig, g)
 }
 
 // The plan of a call, by the same.

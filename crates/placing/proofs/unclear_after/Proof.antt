@@ -1,25 +1,29 @@
--- The first that was found stays; else this one is it, or there is none yet.
-use native.Mathlib.Omega.{arith}
-use mathlib.Core.Path.{sym, _∙_}
-use Rattle.places.proofs.Bounds.{unclear-kept, unclear-found, unclear-none}
+-- Where the rules are always clear the first that was found stays, or none.
+use Prim.Native.Nat.{ℕ, zero, suc}
+use mathlib.Core.Bool.{Bool, false}
+use mathlib.Core.Path.{_≡_, refl, sym, _∙_}
+use Rattle.places.specs.Step.{unclearAfter}
+use Rattle.places.proofs.Written.{always-clear}
 use borrow.Author.Needs.{needs}
 use Rattle.placing.proofs.unclear_after.Statement.{statement}
 use Rattle.placing.proofs.unclear_after.Tie as tie
 
+stays : (u i : ℕ) (b : Bool) → b ≡ false → u ≡ unclearAfter u b i
+unfolding unclearAfter
+stays zero i b e = rw e
+stays (suc u) i b e = refl
+
+always-clear-requires : tie.Need-always-clear-requires
+always-clear-requires c κs = search needs
+
 returns : tie.Need-returns
-returns c = unclear-kept _ _ _ (omega arith)
+returns c = stays _ _ _ (always-clear _ _ _ (sym (c .before .always-clear .ensures) ∙ c .if1 .taken))
 
-unclear-for-requires : tie.Need-unclear-for-requires
-unclear-for-requires c κs = search needs
-
-add-result : tie.Need-add-result
-add-result c = search needs
+unclear-in-requires : tie.Need-unclear-in-requires
+unclear-in-requires c κs = search needs
 
 returns-2 : tie.Need-returns-2
-returns-2 c = unclear-found _ _ _ (omega arith) (sym (c .before .unclear-for .ensures) ∙ c .if2 .taken)
-
-returns-3 : tie.Need-returns-3
-returns-3 c = unclear-none _ _ _ (omega arith) (sym (c .before .unclear-for .ensures) ∙ c .if2 .left)
+returns-2 c = search needs
 
 pub unclear-after-spec : {M : Type 1} → statement M
-unclear-after-spec = tie.close (tie.spec returns unclear-for-requires add-result returns-2 returns-3)
+unclear-after-spec = tie.close (tie.spec always-clear-requires returns unclear-in-requires returns-2)
