@@ -21,12 +21,11 @@ pub fn first_cursor(c: Convention, result: ResultType) -> Cursor
     placing::start(c, hidden)
 }
 
-// The sizes of the plan of a signature's bytes and what was read of them, with the outcome of the call.
-pub fn measure_call(sig: &[u8], g: SignatureRead) -> Measured
-    requires { ⌜ g ≡ signatureAnswer (signatureOf (now sig)) ⌝ }
-    ensures { λ m. ⌜ m ≡ sizesFor (now (sig .entry)) ⌝ }
+// The same as below, where the rules leave something open; m are the sizes by the reading alone.
+fn later_sizes(sig: &[u8], g: SignatureRead, m: Measured) -> Measured
+    requires { ⌜ (g ≡ signatureAnswer (signatureOf (now sig))) × (m ≡ measureOf (planned g)) ⌝ }
+    ensures { λ n. ⌜ n ≡ sizesFor (now (sig .entry)) ⌝ }
 {
-    let m = measure_table(g);
     let outcome = planning::call_outcome(sig, g);
     Measured {
         outcome,
@@ -34,6 +33,20 @@ pub fn measure_call(sig: &[u8], g: SignatureRead) -> Measured
         values: m.values,
         copies: m.copies,
     }
+}
+
+// The sizes of the plan of a signature's bytes and what was read of them, with the outcome of the call. What was read is handed on only where it must be.
+pub fn measure_call(sig: &[u8], g: SignatureRead) -> Measured
+    requires { ⌜ g ≡ signatureAnswer (signatureOf (now sig)) ⌝ }
+    ensures { λ m. ⌜ m ≡ sizesFor (now (sig .entry)) ⌝ }
+{
+    let convention = g.convention;
+    let m = measure_table(g);
+    let rules = abi::call_rules_of(convention);
+    if placing::always_clear(rules) {
+        return m;
+    }
+    later_sizes(sig, g, m)
 }
 
 // The outcome and the sizes of the plan of a signature that was read: each argument of its table is passed and let go.
