@@ -43,14 +43,16 @@
  *    x86-64, PowerPC and zSeries (make bench and make bench-targets measure it):
  *       1 KiB   fz_version, fz_widen, fz_narrow
  *       4 KiB   fz_read_signature, fz_measure, fz_walk_dump_ppc64, fz_walk_dump_z, fz_walk_dump_aix
- *       8 KiB   fz_plan, fz_fill, fz_read, fz_start_ppc64, fz_start_z, fz_start_aix
+ *       8 KiB   fz_plan, fz_fill, fz_read
+ *       8 KiB   fz_start_ppc64, fz_start_z, fz_start_aix, fz_start_ppc64b
  *      12 KiB   fz_listing, fz_write_register
  *      16 KiB   fz_view, fz_write_memory
  *      20 KiB   fz_home, fz_enter, fz_leave
  *  - An answer's `number` is 0 for yes; else it says why not (enum fz_refusal), and `place` says
  *    where: the offset in the signature of the faulty item's header or of the first byte too many;
- *    in a dump an address. A refusal that concerns no place has place 0. Where the signature is refused, `items` says how
- *    much of it was good (fz_read_signature). In a refused answer all else is 0.
+ *    in a dump an address. A refusal that concerns no place has place 0. Where the signature is
+ *    refused, `items` says how much of it was good (fz_read_signature). In a refused answer all else
+ *    is 0.
  *
  * Versions: FZ_VERSION is this header's, fz_version the library's. A version's first number is that
  * of the shared library's name, libflakuzhen.so.1, and of its functions' symbol versions. It changes
@@ -79,7 +81,8 @@ uint64_t fz_version(void);
  * signature is these three items in this order, and nothing after:
  *
  *   tag  body
- *   01   the convention, one byte: 1 PPC64, 2 Z, 3 AIX
+ *   01   the convention, one byte: 1 PPC64, 2 Z, 3 AIX, 4 PPC64 by the later edition of its
+ *        supplement
  *   02   the result: nothing for a function that gives none, else one type
  *   03   the arguments: 0 to 128 types
  *
@@ -116,7 +119,10 @@ enum fz_refusal {
     FZ_STRUCT_TOO_LARGE = 8,      /* a struct of over 256 bytes */
     FZ_TRAILING_BYTES = 9,        /* bytes after the third item (place: the first) */
     FZ_NOT_WIDENED = 14,          /* the bits of a double that is no widened single; place 0 */
-    FZ_FLOAT_NOT_CARRIED = 25     /* on AIX a long double, or a double inside a struct */
+    FZ_FLOAT_NOT_CARRIED = 25,    /* on AIX a long double, or a double inside a struct */
+    FZ_UNCLEAR_PLACE = 29         /* by the later edition a long double for which only f13 is left;
+                                     no refusal of fz_read_signature: it is tested after the whole
+                                     signature, and `items` is 0 */
 };
 
 typedef struct {
@@ -156,6 +162,10 @@ fz_narrowed fz_narrow(uint64_t bits);
  * thirteen singles and doubles are in f1 to f13 instead, and their doublewords stay unused; later
  * ones are in memory. Results: integers in r3, singles and doubles in f1, long doubles in f1 and
  * f2, structs in the caller's memory.
+ *
+ * By the later edition a long double takes the next two of f1 to f13, as a single or a double takes
+ * one, and is in memory where none is left. Where only f13 is left the papers say nothing, and a
+ * plan is refused (FZ_UNCLEAR_PLACE). All else is as on PPC64, in all that follows.
  *
  * On AIX all this is so by words (4 bytes each): a double and a 64-bit integer take two of them, a
  * single, a pointer and any other integer one, a struct as many as it fills or begins to fill. The
@@ -200,7 +210,7 @@ typedef struct {
 
 typedef struct {
     fz_answer answer;                  /* as in fz_sizes */
-    uint64_t convention;               /* 1 PPC64, 2 Z, 3 AIX */
+    uint64_t convention;               /* 1 PPC64, 2 Z, 3 AIX, 4 PPC64 by the later edition */
     uint64_t ellipsis;                 /* 0: no signature has one */
     uint64_t arguments;                /* how many */
     uint64_t values, area, copies;     /* as in fz_sizes */
@@ -227,7 +237,8 @@ fz_planned fz_plan(const uint8_t *sig, size_t sig_length, uint64_t *places, size
  *   2 f1 @72
  *   result f1 f2                   also: none, or hidden and the register with its address
  *
- * On AIX it is the same by words, and the result of a 64-bit integer is r3 r4.
+ * On AIX it is the same by words, and the result of a 64-bit integer is r3 r4. The later edition is
+ * named PPC64B.
  *
  * On Z only what lies on the stack has an offset, which counts from the stack pointer, and ref
  * marks an argument that is passed by reference:
@@ -339,7 +350,7 @@ typedef struct {
 
 /* The state. 262 numbers. */
 typedef struct {
-    uint64_t convention; /* 1 PPC64, 2 Z, 3 AIX */
+    uint64_t convention; /* 1 PPC64, 2 Z, 3 AIX, 4 PPC64 by the later edition */
     uint64_t base;       /* the address of the memory's first byte */
     uint64_t size;       /* the memory's length */
     uint64_t depth;      /* frames entered and not left */
@@ -359,6 +370,8 @@ fz_answer fz_start_z(fz_machine *machine, const fz_registers *registers, uint64_
                      uint8_t *memory, size_t memory_length);
 fz_answer fz_start_aix(fz_machine *machine, const fz_registers *registers, uint64_t base,
                        uint8_t *memory, size_t memory_length);
+fz_answer fz_start_ppc64b(fz_machine *machine, const fz_registers *registers, uint64_t base,
+                          uint8_t *memory, size_t memory_length);
 
 /* Enters a frame: saves the registers that the request names (on PPC64 and AIX LR too), stores the
  * caller's stack pointer at the new one, and keeps the request in the state. No register but the stack
@@ -419,8 +432,8 @@ typedef struct {
 /* Walks a dump of memory_length bytes, whose first has the address `base`, from a stack pointer on,
  * and writes the frames' addresses to `list`, which has list_length numbers. Its numbers past the
  * last frame's stay. A refused walk leaves all of it as it was. The back chain is 8 bytes, on AIX 4,
- * big-endian; base and pointer are any numbers of 64 bits, on AIX too. The list must not overlap the
- * memory.
+ * big-endian; base and pointer are any numbers of 64 bits, on AIX too. A dump of code 4 is one of
+ * PPC64. The list must not overlap the memory.
  *
  * For a machine of the calls above that has no leaf these are its entered frames and the start: the
  * memory and base are the machine's, and the pointer is its register r1, on Z r15. */
@@ -458,7 +471,8 @@ fz_walked fz_walk_dump_aix(const uint8_t *memory, size_t memory_length, uint64_t
  *                   Z: in a floating register the first 4 bytes, 4 zeros after them; in the area
  *                   the last 4 of 8 bytes, after 4 zeros
  *   double          its 8 bytes
- *   long double     PPC64: its 16 bytes, in two doublewords; Z: by reference
+ *   long double     PPC64: its 16 bytes, in two doublewords or two floating registers; Z: by
+ *                   reference
  *   struct          PPC64: one of less than 8 bytes at its doubleword's end, after zeros; a larger
  *                   one from the first doubleword's first byte on, zeros after it to the last
  *                   doubleword's end

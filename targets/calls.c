@@ -69,17 +69,20 @@ static fz_answer start(const place *where, span line, machine *on)
     static const struct {
         const char *name;
         fz_answer (*start)(fz_machine *, const fz_registers *, uint64_t, uint8_t *, size_t);
-    } conventions[] = {{"ppc64", fz_start_ppc64}, {"z", fz_start_z}, {"aix", fz_start_aix}};
+    } conventions[] = {{"ppc64", fz_start_ppc64},
+                       {"z", fz_start_z},
+                       {"aix", fz_start_aix},
+                       {"ppc64b", fz_start_ppc64b}};
     span convention = next_word(&line), size = next_word(&line), base = next_word(&line);
     uint64_t length, address;
     int of;
 
     if (base.length == 0 || next_word(&line).length != 0)
-        fail(where, "a start is 'start CONVENTION SIZE BASE', of ppc64, z or aix");
-    for (of = 0; of < 2 && !is(convention, conventions[of].name); of++)
+        fail(where, "a start is 'start CONVENTION SIZE BASE', of ppc64, z, aix or ppc64b");
+    for (of = 0; of < 3 && !is(convention, conventions[of].name); of++)
         ;
     if (!is(convention, conventions[of].name))
-        fail_at_word(where, "", convention, " is no convention: ppc64, z or aix");
+        fail_at_word(where, "", convention, " is no convention: ppc64, z, aix or ppc64b");
     length = read_number(where, size);
     if (length > LARGEST_MEMORY)
         fail(where, "a memory of over %d bytes", LARGEST_MEMORY);

@@ -25,7 +25,7 @@ static const char usage[] =
     "          each answer with the number of its line: 'accepted' or 'refused NUMBER at PLACE',\n"
     "          and the stack pointer where the call moves it\n"
     "FILE      has one call to a line, and '#' comments; '-' is standard input:\n"
-    "            start ppc64 SIZE BASE       of the memory, in bytes; or 'start z ..', 'start aix ..'\n"
+    "            start ppc64 SIZE BASE       of the memory, in bytes; or 'start z ..', 'aix', 'ppc64b'\n"
     "            enter g=29 m=30 cr=1 locals=20 out=64\n"
     "                                        saves r29 up, f30 up and CR; bytes of locals and\n"
     "                                        of outgoing arguments (cr, locals, out: else 0)\n"

@@ -26,6 +26,7 @@ enum {
     VIEW,
     PLAN,
     START_AIX,
+    START_PPC64B,
     WALK_DUMP_PPC64,
     WALK_DUMP_Z,
     WALK_DUMP_AIX,
@@ -60,6 +61,7 @@ static const struct shape {
     [WALK_DUMP_PPC64] = {"fz_walk_dump_ppc64", 2, 2, 4, 0},
     [WALK_DUMP_Z] = {"fz_walk_dump_z", 2, 2, 4, 0},
     [WALK_DUMP_AIX] = {"fz_walk_dump_aix", 2, 2, 4, 0},
+    [START_PPC64B] = {"fz_start_ppc64b", 2, 1, 3, 2},
 };
 
 #define MOST_NUMBERS 4
@@ -380,11 +382,13 @@ static void call_machine(int operation, const uint64_t *numbers)
     case START_PPC64:
     case START_Z:
     case START_AIX:
+    case START_PPC64B:
         words_from(&registers, sizeof registers, &own[0]);
         set_answer((operation == START_PPC64 ? fz_start_ppc64
                     : operation == START_Z   ? fz_start_z
-                                             : fz_start_aix)(machine, &registers, numbers[0],
-                                                             bytes, length));
+                    : operation == START_AIX ? fz_start_aix
+                                             : fz_start_ppc64b)(machine, &registers, numbers[0],
+                                                                bytes, length));
         words_to(&registers, sizeof registers, &own[0]);
         break;
     case ENTER:

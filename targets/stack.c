@@ -69,6 +69,7 @@ static fz_registers registers;
 static fz_machine machine;
 static fz_frame request;
 static volatile uint64_t number; /* of the last answer */
+static uint64_t expected;        /* what it must be */
 
 static void put(uint8_t byte)
 {
@@ -115,6 +116,13 @@ static void put_type(const type *of)
         put_header(0x12, length_of(of) - 3 * level);
     for (field = 0; field < of->fields; field++)
         put_scalar(of->tag, of->code);
+}
+
+/* Whether it is refused by 29 where there are many of it: code 4's long doubles, of which the seventh
+   finds f13 alone. The call that is refused takes stack too. */
+static int unclear(uint8_t convention, const type *of)
+{
+    return convention == 4 && of->tag == 0x11 && of->code == 2;
 }
 
 /* A signature of as many arguments of the type as there can be, with it as its result. */
@@ -230,6 +238,11 @@ static void call_start_aix(void)
     number = fz_start_aix(&machine, &registers, BASE, memory, sizeof memory).number;
 }
 
+static void call_start_ppc64b(void)
+{
+    number = fz_start_ppc64b(&machine, &registers, BASE, memory, sizeof memory).number;
+}
+
 static void call_enter(void)
 {
     number = fz_enter(&machine, &request, memory, sizeof memory).number;
@@ -243,7 +256,7 @@ static void call_write_register(void)
 static void call_write_memory(void)
 {
     /* the locals' first bytes: on PPC64 the outgoing area has at least 64, on AIX 32 */
-    static const uint64_t headers[] = {48 + 64, 160, 24 + 32};
+    static const uint64_t headers[] = {48 + 64, 160, 24 + 32, 48 + 64};
     uint64_t header = headers[machine.convention - 1];
     uint64_t pointer = machine.registers.gpr[machine.convention == 2 ? 15 : 1];
 
@@ -291,6 +304,7 @@ enum {
     START_PPC64,
     START_Z,
     START_AIX,
+    START_PPC64B,
     ENTER,
     WRITE_REGISTER,
     WRITE_MEMORY,
@@ -320,6 +334,7 @@ static struct {
     [START_PPC64] = {"fz_start_ppc64", call_start_ppc64, 0},
     [START_Z] = {"fz_start_z", call_start_z, 0},
     [START_AIX] = {"fz_start_aix", call_start_aix, 0},
+    [START_PPC64B] = {"fz_start_ppc64b", call_start_ppc64b, 0},
     [ENTER] = {"fz_enter", call_enter, 0},
     [WRITE_REGISTER] = {"fz_write_register", call_write_register, 0},
     [WRITE_MEMORY] = {"fz_write_memory", call_write_memory, 0},
@@ -331,12 +346,12 @@ static struct {
 
 static size_t without_library;
 
-/* Measures a call, which must be accepted. */
+/* Measures a call, which must give the expected answer. */
 static void measure(int function)
 {
     size_t bytes = written(functions[function].call) - without_library;
 
-    if (number != 0)
+    if (number != expected)
         fail(functions[function].name);
     if (bytes > functions[function].most)
         functions[function].most = bytes;
@@ -352,9 +367,10 @@ static void measure_signature(uint8_t convention, const type *of)
     memset(image, 0, sizeof image);
     memset(area, 0, sizeof area);
     measure(READ_SIGNATURE);
+    measure(LISTING);
+    expected = unclear(convention, of) ? FZ_UNCLEAR_PLACE : 0;
     measure(MEASURE);
     measure(PLAN);
-    measure(LISTING);
     measure(FILL);
     measure(READ);
     if (convention != 2) {
@@ -362,6 +378,7 @@ static void measure_signature(uint8_t convention, const type *of)
         view_index = 0;
         measure(VIEW);
     }
+    expected = 0;
 }
 
 /* Frames to the most: the last with all registers saved. */
@@ -409,7 +426,7 @@ int main(void)
     if (stack == NULL)
         fail("no memory");
     without_library = written(call_nothing);
-    for (convention = 1; convention <= 3; convention++)
+    for (convention = 1; convention <= 4; convention++)
         for (i = 0; i < sizeof types / sizeof *types; i++)
             if (convention != 3 || !not_on_aix(&types[i]))
                 measure_signature(convention, &types[i]);
@@ -422,6 +439,7 @@ int main(void)
     measure_walk(WALK_DUMP_PPC64, 8);
     measure_walk(WALK_DUMP_Z, 8);
     measure_walk(WALK_DUMP_AIX, 4);
+    measure_machine(START_PPC64B);
     for (i = 0; i < FUNCTIONS; i++)
         printf("%-18s %6lu\n", functions[i].name, (unsigned long)functions[i].most);
     return 0;

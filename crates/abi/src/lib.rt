@@ -266,6 +266,63 @@ impl Aix {
     }
 }
 
+// PPC64 by the later edition of its supplement: its own rule is the edition, all numbers are PPC64's.
+pub struct Ppc64b {}
+
+impl Ppc64b {
+    pub const WORD: usize = Convention::PPC64B_WORD;
+
+    pub const HEADER: usize = Ppc64::HEADER;
+
+    pub const ALIGNMENT: usize = Ppc64::ALIGNMENT;
+
+    pub const LEAST_WORDS: usize = Ppc64::LEAST_WORDS;
+
+    pub const FIRST_GENERAL: usize = Ppc64::FIRST_GENERAL;
+
+    pub const FIRST_FLOATING: usize = Ppc64::FIRST_FLOATING;
+
+    pub fn call_rules() -> places::Rules
+        ensures { λ r. ⌜ r ≡ rulesOf Convention.Ppc64b ⌝ }
+    {
+        places::Rules::Power(PowerRules {
+            word: Self::WORD,
+            edition: Edition::Later,
+        })
+    }
+
+    pub fn cursor() -> Cursor
+        ensures { λ r. ⌜ r ≡ fresh (rulesOf Convention.Ppc64b) ⌝ }
+    {
+        Cursor {
+            general: Self::FIRST_GENERAL,
+            floating: Self::FIRST_FLOATING,
+            stack: 0,
+            copies: 0,
+        }
+    }
+
+    // The edition says nothing of frames.
+    pub fn frame_rules() -> Rules
+        ensures { λ r. ⌜ r ≡ rules Convention.Ppc64b ⌝ }
+    {
+        Ppc64::frame_rules()
+    }
+
+    pub fn start(memory: &mut [u8], base: u64, registers: Registers) -> Outcome
+        ensures { λ r. ⌜ r ≡ startOutcome Convention.Ppc64b base (length (now (memory .entry))) registers ⌝ }
+        ensures { λ _. ⌜ now (memory .exit) ≡ startMemory Convention.Ppc64b base (now (memory .entry)) ⌝ }
+    {
+        starting::start(
+            Ppc64b::frame_rules(),
+            Convention::Ppc64b,
+            memory,
+            base,
+            registers,
+        )
+    }
+}
+
 // ---- what PPC64 and AIX share
 
 // The rules of calls by words of so many bytes, in the earlier edition.
@@ -337,6 +394,7 @@ pub fn call_rules_of(c: Convention) -> places::Rules
         Convention::Ppc64 => Ppc64::call_rules(),
         Convention::Z => Z::call_rules(),
         Convention::Aix => Aix::call_rules(),
+        Convention::Ppc64b => Ppc64b::call_rules(),
     }
 }
 
@@ -348,6 +406,7 @@ pub fn cursor_of(c: Convention) -> Cursor
         Convention::Ppc64 => Ppc64::cursor(),
         Convention::Z => Z::cursor(),
         Convention::Aix => Aix::cursor(),
+        Convention::Ppc64b => Ppc64b::cursor(),
     }
 }
 
@@ -359,6 +418,7 @@ pub fn least_area_of(c: Convention) -> usize
         Convention::Ppc64 => Ppc64::WORD * Ppc64::LEAST_WORDS,
         Convention::Z => Z::WORD * Z::LEAST_WORDS,
         Convention::Aix => Aix::WORD * Aix::LEAST_WORDS,
+        Convention::Ppc64b => Ppc64b::WORD * Ppc64b::LEAST_WORDS,
     }
 }
 
@@ -370,5 +430,6 @@ pub fn frame_rules_of(c: Convention) -> Rules
         Convention::Ppc64 => Ppc64::frame_rules(),
         Convention::Z => Z::frame_rules(),
         Convention::Aix => Aix::frame_rules(),
+        Convention::Ppc64b => Ppc64b::frame_rules(),
     }
 }

@@ -10,6 +10,7 @@ use lib.Seq.{drop-drop}
 use Rattle.types.specs.declared.ValueType.{ValueType}
 use Rattle.types.specs.Sizes.{sizeOf}
 use Rattle.items.specs.Reading.{Reading, got, no}
+use Rattle.signature.specs.declared.Outcome.{Outcome}
 use Rattle.signature.specs.declared.SignatureRead.{SignatureRead}
 use Rattle.signature.specs.Signature.{Signature}
 use Rattle.signature.specs.Read.{signatureOf}
@@ -19,12 +20,14 @@ use Rattle.places.specs.Step.{Roomy, rulesOf, spanOf, nextOf}
 use Rattle.places.proofs.Bounds.{rules-lawful}
 use Rattle.plan.specs.declared.Measured.{Measured}
 use Rattle.plan.specs.Plan.{spansOf, lastOf, valuesOf, hiddenIn, startIn, endIn, resultIn, typesIn, planIn, planAnswer, planned, measureOf}
+use Rattle.plan.specs.Call.{unclearOf}
 use Rattle.plan.specs.Limits.{Plannable, typeAt}
 use Rattle.plan.proofs.Fold.{Reached, reached-start, reached-more, reached-roomy}
 use Rattle.plan.proofs.Turns.{length-types, types-drop}
-use Rattle.plan.proofs.Answers.{table-types, planned-answer}
+use Rattle.plan.proofs.Answers.{table-types, planned-answer, outcome-read}
+use Rattle.plan.proofs.Calls.{clear-outcome}
 use Rattle.slots.specs.Placements.{Placement, placement, placements}
-use Rattle.slots.specs.Arguments.{argumentsIn, argumentsOf, planFor}
+use Rattle.slots.specs.Arguments.{argumentsIn, argumentsOf, planFor, sizesFor}
 use Rattle.slots.proofs.Answered.{arguments-got}
 use Rattle.arguments.specs.Table.{argumentsFrom}
 
@@ -52,6 +55,15 @@ result-read s g e = rw e (result-same (signatureOf s))
 -- and the sizes
 pub measured-read : (s : List ℕ) (g : SignatureRead) (m : Measured) → g ≡ signatureAnswer (signatureOf s) → m ≡ measureOf (planned g) → m ≡ measureOf (planFor s)
 measured-read s g m e q = q ∙ ap measureOf (ap planned e ∙ planned-answer (signatureOf s))
+
+-- where no argument is unclear the call's outcome is the reading's
+abbrev with-outcome : List ℕ → Outcome → Measured
+with-outcome s o = record { outcome = o; area = planFor s .area; values = planFor s .values; copies = planFor s .copies }
+
+pub measured-clear : (s : List ℕ) (g : SignatureRead) (m : Measured) → g ≡ signatureAnswer (signatureOf s) → m ≡ measureOf (planned g) → unclearOf g ≡ 0 → m ≡ sizesFor s
+measured-clear s g m e q u =
+    measured-read s g m e q
+    ∙ ap (with-outcome s) (outcome-read (signatureOf s) ∙ ap (λ (x : SignatureRead). x .outcome) (sym e) ∙ clear-outcome (signatureOf s) g e u)
 
 drop-next : {A : Type 0} (l : List A) (i : ℕ) (x : A) (xs : List A) → drop i l ≡ x ∷ xs → drop (suc i) l ≡ xs
 drop-next l i x xs e = let q : suc i ≡ i + 1 = omega arith in ap (λ (n : ℕ). drop n l) q ∙ sym (drop-drop 1 i l) ∙ ap (drop 1) e

@@ -7,6 +7,9 @@ use signature::Outcome;
 use signature::ResultType;
 use signature::SignatureRead;
 ghost use mathlib.Core.Path.{_≡_};
+ghost use Rattle.signature.specs.Read.{signatureOf};
+ghost use Rattle.signature.specs.Answer.{signatureAnswer};
+ghost use Rattle.slots.specs.Arguments.{sizesFor};
 ghost use Rattle.plan.specs.Plan.{startIn, planned, measureOf};
 ghost use Rattle.plan.specs.Limits.{Plannable};
 
@@ -16,6 +19,34 @@ pub fn first_cursor(c: Convention, result: ResultType) -> Cursor
 {
     let hidden = planning::hidden_in(c, result);
     placing::start(c, hidden)
+}
+
+// The same as below, where the rules leave something open; m are the sizes by the reading alone.
+fn later_sizes(sig: &[u8], g: SignatureRead, m: Measured) -> Measured
+    requires { ⌜ (g ≡ signatureAnswer (signatureOf (now sig))) × (m ≡ measureOf (planned g)) ⌝ }
+    ensures { λ n. ⌜ n ≡ sizesFor (now (sig .entry)) ⌝ }
+{
+    let outcome = planning::call_outcome(sig, g);
+    Measured {
+        outcome,
+        area: m.area,
+        values: m.values,
+        copies: m.copies,
+    }
+}
+
+// The sizes of the plan of a signature's bytes and what was read of them, with the outcome of the call. What was read is handed on only where it must be.
+pub fn measure_call(sig: &[u8], g: SignatureRead) -> Measured
+    requires { ⌜ g ≡ signatureAnswer (signatureOf (now sig)) ⌝ }
+    ensures { λ m. ⌜ m ≡ sizesFor (now (sig .entry)) ⌝ }
+{
+    let convention = g.convention;
+    let m = measure_table(g);
+    let rules = abi::call_rules_of(convention);
+    if placing::always_clear(rules) {
+        return m;
+    }
+    later_sizes(sig, g, m)
 }
 
 // The outcome and the sizes of the plan of a signature that was read: each argument of its table is passed and let go.

@@ -30,9 +30,7 @@ pub extern "C" fn fz_version() -> u64
 pub extern "C" fn fz_read_signature(sig: &[u8]) -> Answer
     ensures { λ r. ⌜ r ≡ readingAnswer (signatureOf (now (sig .entry))) ⌝ }
 {
-    let m = measuring::measure(sig);
-    let outcome = m.outcome;
-    match outcome {
+    match measuring::outcome_of(sig) {
         Outcome::Accepted(items) => Answer {
             number: 0,
             place: 0,

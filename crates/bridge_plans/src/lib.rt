@@ -6,7 +6,7 @@ ghost use mathlib.Core.Path.{_≡_};
 ghost use lib.ListN.{length};
 ghost use Rattle.listing.specs.Text.{listingOf};
 ghost use Rattle.listing.specs.Writing.{printed};
-ghost use Rattle.signature.specs.Read.{signatureOf};
+ghost use Rattle.plan.specs.Call.{callOf};
 ghost use Rattle.plan_entries.specs.Words.{tabled};
 ghost use Rattle.plan_words.specs.Entries.{entriesOf};
 ghost use Rattle.bridge_plans.specs.Plans.{sizesAnswer, plannedAnswer};
@@ -40,7 +40,7 @@ pub struct PlanAnswer {
 
 #[no_mangle]
 pub extern "C" fn fz_measure(sig: &[u8]) -> Sizes
-    ensures { λ r. ⌜ r ≡ sizesAnswer (signatureOf (now (sig .entry))) ⌝ }
+    ensures { λ r. ⌜ r ≡ sizesAnswer (callOf (now (sig .entry))) ⌝ }
 {
     let m = measuring::measure(sig);
     let values = m.values as u64;
@@ -70,7 +70,7 @@ pub extern "C" fn fz_measure(sig: &[u8]) -> Sizes
 // The plan, with an entry for each argument at the head of the table where there is room for all of them.
 #[no_mangle]
 pub extern "C" fn fz_plan(sig: &[u8], places: &mut [u64]) -> PlanAnswer
-    ensures { λ r. ⌜ (r ≡ plannedAnswer (signatureOf (now (sig .entry)))) × (now (places .exit) ≡ tabled (now (places .entry)) (entriesOf (signatureOf (now (sig .entry))))) ⌝ }
+    ensures { λ r. ⌜ (r ≡ plannedAnswer (callOf (now (sig .entry)))) × (now (places .exit) ≡ tabled (now (places .entry)) (entriesOf (callOf (now (sig .entry))))) ⌝ }
 {
     let p = plan_words::plan_words(sig, places);
     let outcome = p.outcome;

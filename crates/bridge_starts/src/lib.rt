@@ -3,7 +3,7 @@
 use answers::Answer;
 ghost use mathlib.Core.Path.{_≡_};
 ghost use lib.ListN.{length};
-ghost use Rattle.conventions.specs.declared.Convention.the-variants.{Ppc64, Z, Aix};
+ghost use Rattle.conventions.specs.declared.Convention.the-variants.{Ppc64, Z, Aix, Ppc64b};
 ghost use Rattle.machine.specs.Machine.{startOutcome, startMemory};
 ghost use Rattle.word_layout.specs.Words.{registersIn};
 ghost use Rattle.word_layout.specs.Calls.{startWords};
@@ -53,5 +53,21 @@ pub extern "C" fn fz_start_aix(
     ensures { λ _. ⌜ now (memory .exit) ≡ startMemory Aix base (now (memory .entry)) ⌝ }
 {
     let a = word_starts::start_aix(machine, registers, base, memory);
+    frame_answers::answer_of(a)
+}
+
+// As fz_start_ppc64's, but for the convention's code.
+#[no_mangle]
+pub extern "C" fn fz_start_ppc64b(
+    machine: &mut [u64; 262],
+    registers: &[u64; 66],
+    base: u64,
+    memory: &mut [u8],
+) -> Answer
+    ensures { λ r. ⌜ r ≡ frameAnswer (startOutcome Ppc64b base (length (now (memory .entry))) (registersIn (now (registers .entry)) 0) .answer) ⌝ }
+    ensures { λ _. ⌜ now (machine .exit) ≡ startWords Ppc64b (now (registers .entry)) base (length (now (memory .entry))) ⌝ }
+    ensures { λ _. ⌜ now (memory .exit) ≡ startMemory Ppc64b base (now (memory .entry)) ⌝ }
+{
+    let a = word_starts::start_ppc64b(machine, registers, base, memory);
     frame_answers::answer_of(a)
 }

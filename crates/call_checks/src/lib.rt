@@ -63,7 +63,7 @@ pub fn judge_leave(k: Rules, s: State, memory: &[u8]) -> Answer
             if f.leaf {
                 return Answer::Accepted;
             }
-            let z = rules::frame_size(k, f);
+            let z = requests::frame_size(k, f);
             let p = state_checks::stack_pointer(k, s);
             let b = s.base;
             let o = (p - b) as usize;

@@ -14,12 +14,14 @@ pub word-bounds : (c : Convention) → (4 ≤ wordBytes c) × (wordBytes c ≤ 8
 word-bounds Convention.Ppc64 = omega arith
 word-bounds Convention.Z = omega arith
 word-bounds Convention.Aix = omega arith
+word-bounds Convention.Ppc64b = omega arith
 
 -- a code is a byte
 pub code-byte : (c : Convention) → codeOf c < 256
 code-byte Convention.Ppc64 = omega arith
 code-byte Convention.Z = omega arith
 code-byte Convention.Aix = omega arith
+code-byte Convention.Ppc64b = omega arith
 
 -- the code of a convention is read as it
 pub code-back : (c : Convention) → conventionCode (codeOf c) ≡ ConventionCode.Known c
@@ -27,6 +29,7 @@ unfolding conventionCode
 code-back Convention.Ppc64 = refl
 code-back Convention.Z = refl
 code-back Convention.Aix = refl
+code-back Convention.Ppc64b = refl
 
 -- what is read as a convention is its code
 abbrev pub CodeIs : ℕ → ConventionCode → Type 0
@@ -42,4 +45,5 @@ unfolding conventionCode
 code-is x =
     by-test (CodeIs x) (eqb x (codeOf Convention.Ppc64)) _ _ (eqb-true x (codeOf Convention.Ppc64))
     (by-test (CodeIs x) (eqb x (codeOf Convention.Z)) _ _ (eqb-true x (codeOf Convention.Z))
-    (by-test (CodeIs x) (eqb x (codeOf Convention.Aix)) _ _ (eqb-true x (codeOf Convention.Aix)) tt))
+    (by-test (CodeIs x) (eqb x (codeOf Convention.Aix)) _ _ (eqb-true x (codeOf Convention.Aix))
+    (by-test (CodeIs x) (eqb x (codeOf Convention.Ppc64b)) _ _ (eqb-true x (codeOf Convention.Ppc64b)) tt)))

@@ -7,6 +7,7 @@ pub enum Convention {
     Ppc64,
     Z,
     Aix,
+    Ppc64b,
 }
 
 // What a code says.
@@ -23,11 +24,15 @@ impl Convention {
 
     pub const AIX_WORD: usize = 4;
 
+    pub const PPC64B_WORD: usize = Self::PPC64_WORD;
+
     pub const PPC64_CODE: u64 = 1;
 
     pub const Z_CODE: u64 = 2;
 
     pub const AIX_CODE: u64 = 3;
+
+    pub const PPC64B_CODE: u64 = 4;
 }
 
 // The bytes of a word.
@@ -38,6 +43,7 @@ pub fn word_bytes(c: Convention) -> usize
         Convention::Ppc64 => Convention::PPC64_WORD,
         Convention::Z => Convention::Z_WORD,
         Convention::Aix => Convention::AIX_WORD,
+        Convention::Ppc64b => Convention::PPC64B_WORD,
     }
 }
 
@@ -49,6 +55,7 @@ pub fn code_of(c: Convention) -> u64
         Convention::Ppc64 => Convention::PPC64_CODE,
         Convention::Z => Convention::Z_CODE,
         Convention::Aix => Convention::AIX_CODE,
+        Convention::Ppc64b => Convention::PPC64B_CODE,
     }
 }
 
@@ -64,6 +71,9 @@ pub fn convention_code(code: u64) -> ConventionCode
     }
     if code == Convention::AIX_CODE {
         return ConventionCode::Known(Convention::Aix);
+    }
+    if code == Convention::PPC64B_CODE {
+        return ConventionCode::Known(Convention::Ppc64b);
     }
     ConventionCode::Unknown
 }

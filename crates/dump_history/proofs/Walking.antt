@@ -12,7 +12,7 @@ use borrow.Author.Tests.{le-leb, eq-eqb, ne-eqb, eqb-true}
 use Rattle.words.specs.Basics.{roundUp}
 use Rattle.saves.specs.Saves.{load}
 use Rattle.conventions.specs.declared.Convention.{Convention}
-use Rattle.conventions.specs.declared.Convention.the-variants.{Ppc64, Z, Aix}
+use Rattle.conventions.specs.declared.Convention.the-variants.{Ppc64, Z, Aix, Ppc64b}
 use Rattle.rules.specs.declared.Rules.{Rules}
 use Rattle.rules.specs.declared.Frame.{Frame}
 use Rattle.rules.specs.Rules.{rules}
@@ -40,6 +40,7 @@ pub aligned : (c : Convention) → Aligned (rules c)
 aligned Ppc64 = record { divides = refl; room = refl }
 aligned Z = record { divides = refl; room = refl }
 aligned Aix = record { divides = refl; room = refl }
+aligned Ppc64b = record { divides = refl; room = refl }
 
 -- ---- alignment
 

@@ -16,7 +16,7 @@ pub fn judge_enter(k: Rules, s: State, n: usize, f: Frame) -> Answer
     match a {
         Answer::Refused(r) => Answer::Refused(r),
         Answer::Accepted => {
-            if !rules::request_ok(k, f) {
+            if !requests::request_ok(k, f) {
                 return Answer::Refused(Refusal::BadRequest);
             }
             let u = state_checks::top_frame(k, s);
@@ -27,7 +27,7 @@ pub fn judge_enter(k: Rules, s: State, n: usize, f: Frame) -> Answer
                 return Answer::Refused(Refusal::TooManyFrames);
             }
             let p = state_checks::stack_pointer(k, s);
-            let z = rules::frame_size(k, f);
+            let z = requests::frame_size(k, f);
             if p - s.base < (z + k.floor) as u64 {
                 return Answer::Refused(Refusal::NoRoom);
             }

@@ -32,7 +32,7 @@ use Rattle.places.specs.Step.{rulesOf, wordOf, spanOf, fresh, hiddenFor, return
 use Rattle.places.specs.ZSeries.{zClass, zSpanOf}
 use Rattle.plan.specs.declared.Plan.{Plan}
 use Rattle.plan.specs.declared.Measured.{Measured}
-use Rattle.plan.specs.Plan.{resultIn, measureOf}
+use Rattle.plan.specs.Plan.{resultIn}
 use Rattle.plan.proofs.Answers.{answer-plannable}
 use Rattle.slots.specs.declared.Answer.{Answer}
 use Rattle.slots.specs.declared.Refusal.{Refusal}
@@ -40,7 +40,7 @@ use Rattle.slots.specs.Buffers.{Buffers, buffers, Slot, put, putAll}
 use Rattle.slots.specs.Placements.{Placement, hiddenSlots, slotsOfAll}
 use Rattle.slots.specs.Limits.{Held, Fits, All, sizesOf}
 use Rattle.slots.specs.Refusals.{test, differ, firstOf, isRefused}
-use Rattle.slots.specs.Arguments.{argumentsOf, planFor, rulesFor}
+use Rattle.slots.specs.Arguments.{argumentsOf, planFor, sizesFor, rulesFor}
 use Rattle.slots.proofs.Answered.{carried}
 use Rattle.arguments.specs.Table.{argumentsFrom}
 use Rattle.arguments.proofs.Table.{arguments-read}
@@ -108,7 +108,7 @@ tests-low have values area copies base high e =
     first-done _ _ (d .1) .0
 
 -- the same of sizes m that were measured
-pub tests-lent : (s : List ℕ) (have : Lengths) (base : ℕ) (m : Measured) (high : Bool) → base < 2 ^ 64 → m ≡ measureOf (planFor s)
+pub tests-lent : (s : List ℕ) (have : Lengths) (base : ℕ) (m : Measured) (high : Bool) → base < 2 ^ 64 → m ≡ sizesFor s
     → firstOf (fillTests have (m .values) (m .area) (m .copies) base high) ≡ Answer.Done → Lent have (planFor s) base
 tests-lent s have base m high low p e = tests-passed have (planFor s) base high low (rw p at e)
 
@@ -143,6 +143,7 @@ unfolding spanOf fresh zClass zSpanOf
 address-first Convention.Ppc64 = omega arith
 address-first Convention.Z = omega arith
 address-first Convention.Aix = omega arith
+address-first Convention.Ppc64b = omega arith
 
 result-fits : (c : Convention) (r : ResultType) → HiddenFits (resultIn c r) 512
 unfolding resultOf
@@ -163,13 +164,13 @@ hidden-fits c t q i p e = rw (p, e) (result-fits c t)
 -- ---- the answer and the buffers
 
 module _ (s : List ℕ) where
-  pub answer-refused : (have : Lengths) (base hidden : ℕ) (m : Measured) (f : Fault) → m ≡ measureOf (planFor s) → m .outcome ≡ Outcome.Refused f
+  pub answer-refused : (have : Lengths) (base hidden : ℕ) (m : Measured) (f : Fault) → m ≡ sizesFor s → m .outcome ≡ Outcome.Refused f
       → Answer.Unread f ≡ fillAnswer s have base hidden
   unfolding fillAnswer
   answer-refused have base hidden m f p e = rw (rw p at e)
 
   pub answer-tested : (have : Lengths) (base hidden n w : ℕ) (m : Measured) (q : ResultPlaces) (high : Bool) (a : Answer)
-      → m ≡ measureOf (planFor s) → w ≡ wordOf (rulesFor s) → q ≡ planFor s .result → high ≡ highAddress w q hidden → m .outcome ≡ Outcome.Accepted n
+      → m ≡ sizesFor s → w ≡ wordOf (rulesFor s) → q ≡ planFor s .result → high ≡ highAddress w q hidden → m .outcome ≡ Outcome.Accepted n
       → a ≡ firstOf (fillTests have (m .values) (m .area) (m .copies) base high) → a ≡ fillAnswer s have base hidden
   unfolding fillAnswer
   answer-tested have base hidden n w m q high a p x y z e t = rw (rw p at e) (rw (p, z, x, y) at t)

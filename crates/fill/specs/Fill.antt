@@ -16,6 +16,7 @@ use Rattle.slots.specs.Buffers.{Buffers, Slot, putAll}
 use Rattle.slots.specs.Placements.{slotsOfAll, hiddenSlots}
 use Rattle.slots.specs.Refusals.{Test, test, differ, firstOf, afterReading, isDone}
 use Rattle.slots.specs.Limits.{All, sizesOf}
+use Rattle.plan.specs.Call.{outcomeFor}
 use Rattle.slots.specs.Arguments.{argumentsOf, planFor, rulesFor}
 use Rattle.plan.specs.Limits.{Plannable}
 use Rattle.arguments.specs.Table.{argumentsFrom}
@@ -53,7 +54,7 @@ fillTests have values area copies base high =
 -- "1 first, then left to right .. After reading: ..": the answer for a signature's bytes s
 unfoldable pub fillAnswer : List ℕ → Lengths → ℕ → ℕ → Answer
 fillAnswer s have base hidden =
-    afterReading (planFor s .outcome)
+    afterReading (outcomeFor s)
     (firstOf
     (fillTests have (planFor s .values) (planFor s .area) (planFor s .copies) base (highAddress (wordOf (rulesFor s)) (planFor s .result) hidden)))
 

@@ -136,7 +136,7 @@ pub fn fill(
     ensures { λ a. ⌜ buffers (now (image .exit)) (now (area .exit)) (now (copies .exit)) ≡ fillBuffers (now (sig .entry)) (now (values .entry)) base hidden a (buffers (now (image .entry)) (now (area .entry)) (now (copies .entry))) ⌝ }
 {
     let g = whole_signature::read_signature(sig);
-    let m = arguments::measure_table(g);
+    let m = arguments::measure_call(sig, g);
     let outcome = m.outcome;
     match outcome {
         Outcome::Refused(fault) => Answer::Unread(fault),

@@ -14,7 +14,7 @@ pub fn push(k: Rules, s: State, f: Frame) -> State
     ensures { λ r. ⌜ r ≡ entered k s f ⌝ }
 {
     let p = state_checks::stack_pointer(k, s);
-    let z = rules::frame_size(k, f);
+    let z = requests::frame_size(k, f);
     let d = s.depth;
     let registers = s.registers;
     let r = rules::with_pointer(k, registers, p - z as u64);
@@ -31,11 +31,11 @@ pub fn save_frame(memory: &mut [u8], k: Rules, s: State, f: Frame)
     ensures { λ _. ⌜ now (memory .exit) ≡ enteredMemory k s (now (memory .entry)) f ⌝ }
 {
     let p = state_checks::stack_pointer(k, s);
-    let z = rules::frame_size(k, f);
+    let z = requests::frame_size(k, f);
     let b = s.base;
     let o = (p - b) as usize;
     let registers = s.registers;
-    words::store(memory, o - z, rules::chain_width(k, f), p);
+    words::store(memory, o - z, requests::chain_width(k, f), p);
     saving::save_registers(memory, k, f, registers, o);
 }
 
@@ -45,7 +45,7 @@ pub fn pop(k: Rules, s: State, memory: &[u8]) -> State
     ensures { λ r. ⌜ r ≡ left k s (now (memory .entry)) ⌝ }
 {
     let f = state_checks::top_frame(k, s);
-    let z = rules::frame_size(k, f);
+    let z = requests::frame_size(k, f);
     let p = state_checks::stack_pointer(k, s);
     let b = s.base;
     let o = (p - b) as usize;

@@ -22,6 +22,7 @@ use Rattle.items.specs.declared.Fault.{Fault}
 use Rattle.slots.specs.Placements.{Placement}
 use Rattle.slots.specs.Limits.{Held, Fits, All}
 use Rattle.slots.specs.Refusals.{firstOf, orElse, afterReading, isRefused}
+use Rattle.plan.specs.Call.{outcomeFor}
 use Rattle.slots.specs.Arguments.{argumentsIn, argumentsOf, planFor, rulesFor, Carried}
 use Rattle.slots.proofs.Planned.{all-with}
 use Rattle.slots.proofs.Refusals.{first-done, differ-false, or-refused, not-refused}
@@ -103,12 +104,12 @@ all-registered s g p i read plan power image =
 -- ---- the answer and the area
 
 module _ (s image : List ℕ) (have : ℕ) where
-  pub home-refused : (f : Fault) → planFor s .outcome ≡ Outcome.Refused f
+  pub home-refused : (f : Fault) → outcomeFor s ≡ Outcome.Refused f
       → Answer.Unread f ≡ homeAnswer s image have
   unfolding homeAnswer
   home-refused f e = rw e
 
-  module _ (g : SignatureRead) (p : Plan) (n : ℕ) (read : g ≡ signatureAnswer (signatureOf s)) (plan : p ≡ planFor s) (e : planFor s .outcome ≡ Outcome.Accepted n) where
+  module _ (g : SignatureRead) (p : Plan) (n : ℕ) (read : g ≡ signatureAnswer (signatureOf s)) (plan : p ≡ planFor s) (e : outcomeFor s ≡ Outcome.Accepted n) where
     -- of the lengths l and the registers a
     whole : (l a : Answer) → l ≡ firstOf (homeTests (rulesOf (g .convention)) (length image) have (p .area))
         → a ≡ registersAnswer (rulesOf (g .convention)) (argumentsIn g p) image → orElse l a ≡ homeAnswer s image have

@@ -17,6 +17,7 @@ use Rattle.slots.specs.declared.Answer.{Answer}
 use Rattle.slots.specs.Placements.{Placement}
 use Rattle.slots.specs.Limits.{All}
 use Rattle.slots.specs.Refusals.{Test, test, differ, firstOf, afterReading, orElse, firstOfAll, isDone}
+use Rattle.plan.specs.Call.{outcomeFor}
 use Rattle.slots.specs.Arguments.{argumentsIn, argumentsOf, planFor, rulesFor}
 use Rattle.home_slot.specs.Homes.{homeless, registerAnswer, homedBytes, Registered}
 
@@ -34,7 +35,7 @@ homeTests r i have area =
 -- of a signature's bytes s, an image, and an area of `have` bytes
 unfoldable pub homeAnswer : List ℕ → List ℕ → ℕ → Answer
 homeAnswer s image have =
-    afterReading (planFor s .outcome)
+    afterReading (outcomeFor s)
     (orElse (firstOf (homeTests (rulesFor s) (length image) have (planFor s .area)))
     (registersAnswer (rulesFor s) (argumentsOf s) image))
 

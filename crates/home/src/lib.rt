@@ -78,7 +78,7 @@ pub fn home(sig: &[u8], image: &[u8], area: &mut [u8]) -> Answer
 {
     let g = whole_signature::read_signature(sig);
     let p = planning::plan_signature(g);
-    let outcome = p.outcome;
+    let outcome = planning::call_outcome(sig, g);
     match outcome {
         Outcome::Refused(fault) => Answer::Unread(fault),
         Outcome::Accepted(_) => {

@@ -86,6 +86,8 @@ plan-homed n Convention.Ppc64 r ts e =
 plan-homed n Convention.Z r ts e = let z : _≡_ {A = ℕ} 0 1 = cc in absurd (omega arith)
 plan-homed n Convention.Aix r ts e =
     all-homed 4 (omega arith) (omega arith) Edition.Earlier Convention.Aix (startIn Convention.Aix r) ts _ (area-holds Convention.Aix (endIn Convention.Aix r ts))
+plan-homed n Convention.Ppc64b r ts e =
+    all-homed 8 (omega arith) (omega arith) Edition.Later Convention.Ppc64b (startIn Convention.Ppc64b r) ts _ (area-holds Convention.Ppc64b (endIn Convention.Ppc64b r ts))
 
 refused-homed : (r : Rules) (f : Fault) → All (Homed r (planAnswer (no f) .area)) (argumentsIn (signatureAnswer (no f)) (planAnswer (no f)))
 unfolding argumentsIn placements All

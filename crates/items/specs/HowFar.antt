@@ -39,6 +39,7 @@ isLarge Refusal.TooManyArguments = false
 isLarge Refusal.StructTooLarge = true
 isLarge Refusal.TrailingBytes = false
 isLarge Refusal.FloatNotCarried = false
+isLarge Refusal.UnclearPlace = false
 
 -- where the reading stopped: at the fault's place; for 8 at the end of the struct's body
 abbrev pub stopOf : List ℕ → Fault → ℕ

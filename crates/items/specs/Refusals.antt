@@ -26,6 +26,8 @@ numberOf Refusal.StructTooLarge = 8
 numberOf Refusal.TrailingBytes = 9
 -- No. 1: "A long double, or a double inside a struct, gives new refusal 25 at that item"
 numberOf Refusal.FloatNotCarried = 25
+-- No. 12: "When only f13 is left the editions we hold aren't clear, so give new refusal 29"; no reading gives it
+numberOf Refusal.UnclearPlace = 29
 
 -- ---- the number of each answer: 0 where nothing is refused
 

@@ -7,7 +7,7 @@ ghost use Prim.Native.Nat.{_+_, _^_, _<_};
 ghost use Rattle.items.specs.Refusals.{numberOf};
 ghost use Rattle.items.specs.Reading.{later};
 
-// Why a signature is refused; `number_of` gives document 01's number.
+// Why a signature is refused, by its reading or, the last, by its plan; `number_of` gives the papers' number.
 pub enum Refusal {
     TooLong,
     Truncated,
@@ -19,6 +19,7 @@ pub enum Refusal {
     StructTooLarge,
     TrailingBytes,
     FloatNotCarried,
+    UnclearPlace,
 }
 
 pub fn number_of(r: Refusal) -> u64
@@ -35,6 +36,7 @@ pub fn number_of(r: Refusal) -> u64
         Refusal::StructTooLarge => 8,
         Refusal::TrailingBytes => 9,
         Refusal::FloatNotCarried => 25,
+        Refusal::UnclearPlace => 29,
     }
 }
 

@@ -40,6 +40,7 @@ memoryText s = pick (stored s) (placeText (Place.Memory (s .memory .start))) []
 abbrev pub offsetText : Convention → Span → List ℕ
 offsetText Convention.Ppc64 s = offsetMark ++ decimal (s .home .start)
 offsetText Convention.Aix s = offsetMark ++ decimal (s .home .start)
+offsetText Convention.Ppc64b s = offsetMark ++ decimal (s .home .start)
 offsetText Convention.Z s = pick (stored s) (offsetMark ++ decimal (headerBytes Convention.Z + s .home .start)) []
 
 -- "` ref` at the line's end for an argument passed by pointer to a copy"

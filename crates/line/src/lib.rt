@@ -84,6 +84,7 @@ fn put_offset(text: &mut [u8], at: usize, c: Convention, s: Span) -> usize
     match c {
         Convention::Ppc64 => put_at(text, at, home.start as usize),
         Convention::Aix => put_at(text, at, home.start as usize),
+        Convention::Ppc64b => put_at(text, at, home.start as usize),
         Convention::Z => {
             if 0 < memory.length {
                 return put_at(text, at, abi::Z::HEADER + home.start as usize);

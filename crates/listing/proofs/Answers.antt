@@ -6,13 +6,14 @@ use Rattle.types.specs.Sizes.{sizeOf}
 use Rattle.items.specs.Reading.{Reading, got, no}
 use Rattle.signature.specs.declared.ResultType.{ResultType}
 use Rattle.signature.specs.Signature.{Signature}
-use Rattle.signature.specs.Read.{signatureOf}
 use Rattle.signature.specs.Answer.{resultType}
 use Rattle.places.specs.Step.{rulesOf}
 use Rattle.places.specs.Places.{ResultNumbered}
 use Rattle.places.proofs.Registers.{result-numbered}
 use Rattle.plan.specs.Plan.{resultIn, planIn, planAnswer}
-use Rattle.plan.proofs.Answers.{answer-few, answer-table}
+use Rattle.plan.specs.Call.{callOf}
+use Rattle.plan.proofs.Answers.{answer-table}
+use Rattle.plan.proofs.Calls.{call-few}
 use Rattle.plan.proofs.Theorems.{within}
 use Rattle.listing.specs.Writing.{Printable}
 
@@ -25,10 +26,10 @@ unfolding planAnswer planIn
 result-in (got g next n) = result-of (g .convention) (resultType (g .convention) (g .result))
 result-in (no f) = tt
 
-pub answer-printable : (s : List ℕ) → Printable (planAnswer (signatureOf s))
+pub answer-printable : (s : List ℕ) → Printable (planAnswer (callOf s))
 answer-printable s = record {
-  few = answer-few s;
-  room = answer-table (signatureOf s);
-  spans = λ i. within (signatureOf s) .arguments i .numbered;
-  result = result-in (signatureOf s);
+  few = call-few s;
+  room = answer-table (callOf s);
+  spans = λ i. within (callOf s) .arguments i .numbered;
+  result = result-in (callOf s);
 }

@@ -6,21 +6,22 @@ use Rattle.conventions.specs.declared.Convention.{Convention}
 use Rattle.items.specs.declared.Fault.{Fault}
 use Rattle.items.specs.Refusals.{numberOf}
 use Rattle.signature.specs.declared.Outcome.{Outcome}
-use Rattle.signature.specs.Read.{signatureOf}
 use Rattle.places.specs.declared.Span.{Span}
 use Rattle.places.specs.declared.ResultPlaces.{ResultPlaces}
 use Rattle.places.specs.Places.{registersOf}
 use Rattle.plan.specs.declared.Plan.{Plan}
 use Rattle.plan.specs.Plan.{planAnswer}
+use Rattle.plan.specs.Call.{callOf}
 use Rattle.text.specs.Decimals.{decimal}
 use Rattle.line.specs.Words.{newline}
 use Rattle.line.specs.Line.{placesText, lineText}
-use Rattle.listing.specs.Words.{ppc64Name, zName, aixName, argsWord, areaWord, resultWord, noneWord, hiddenWord, refusedWord, atWord, afterWord}
+use Rattle.listing.specs.Words.{ppc64Name, zName, aixName, ppc64bName, argsWord, areaWord, resultWord, noneWord, hiddenWord, refusedWord, atWord, afterWord}
 
 abbrev pub nameOf : Convention → List ℕ
 nameOf Convention.Ppc64 = ppc64Name
 nameOf Convention.Z = zName
 nameOf Convention.Aix = aixName
+nameOf Convention.Ppc64b = ppc64bName
 
 -- the lines of the arguments from i on
 unfoldable pub linesText : Convention → ℕ → List Span → List ℕ
@@ -58,4 +59,4 @@ planText p = planTextBy (p .outcome) p
 
 -- of a signature's bytes
 unfoldable pub listingOf : List ℕ → List ℕ
-listingOf s = planText (planAnswer (signatureOf s))
+listingOf s = planText (planAnswer (callOf s))

@@ -7,6 +7,10 @@ use mathlib.Core.List.{List, [], _∷_}
 abbrev pub ppc64Name : List ℕ
 ppc64Name = 80 ∷ 80 ∷ 67 ∷ 54 ∷ 52 ∷ []
 
+-- "PPC64B"
+abbrev pub ppc64bName : List ℕ
+ppc64bName = 80 ∷ 80 ∷ 67 ∷ 54 ∷ 52 ∷ 66 ∷ []
+
 -- "Z"
 abbrev pub zName : List ℕ
 zName = 90 ∷ []

@@ -20,12 +20,13 @@ ghost use Rattle.listing.specs.Writing.{printed, Printable};
 
 fn put_name(text: &mut [u8], at: usize, c: Convention) -> usize
     requires { ⌜ at < 2 ^ 31 ⌝ }
-    ensures { λ r. ⌜ Wrote (now (text .entry)) (now (text .exit)) at r (nameOf c) × (r ≤ at + 5) ⌝ }
+    ensures { λ r. ⌜ Wrote (now (text .entry)) (now (text .exit)) at r (nameOf c) × (r ≤ at + 6) ⌝ }
 {
     match c {
         Convention::Ppc64 => put_bytes(text, at, b"PPC64"),
         Convention::Z => put_bytes(text, at, b"Z"),
         Convention::Aix => put_bytes(text, at, b"AIX"),
+        Convention::Ppc64b => put_bytes(text, at, b"PPC64B"),
     }
 }
 

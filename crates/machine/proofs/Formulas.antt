@@ -7,7 +7,7 @@ use lib.ListN.{length}
 use lib.Seq.{getD-set-same}
 use lib.Dec.{leb, eqb}
 use Rattle.conventions.specs.declared.Convention.{Convention}
-use Rattle.conventions.specs.declared.Convention.the-variants.{Ppc64, Z, Aix}
+use Rattle.conventions.specs.declared.Convention.the-variants.{Ppc64, Z, Aix, Ppc64b}
 use Rattle.rules.specs.declared.Registers.{Registers}
 use Rattle.rules.specs.Rules.{ppc64, z, aix, rules}
 use Rattle.rules.specs.Frames.{withPointer, lowered, cleared}
@@ -20,6 +20,7 @@ abbrev last : Convention → ℕ
 last Ppc64 = 2 ^ 64 - 1
 last Z = 2 ^ 64 - 1
 last Aix = 2 ^ 32 - 1
+last Ppc64b = 2 ^ 64 - 1
 
 -- "N not a multiple of 16, under 256, over 65,536, base B not a multiple of 16, B + N over 2^64 - 1"; 02, No. 8: the start pointer has the floor under it
 memory-formula : (c : Convention) (b n : ℕ)
@@ -28,6 +29,7 @@ unfolding okMemory
 memory-formula Ppc64 b n = refl
 memory-formula Z b n = refl
 memory-formula Aix b n = refl
+memory-formula Ppc64b b n = refl
 
 -- that is N of at least 400 on PPC64, 288 (the next multiple of 16) on AIX; on Z 256 is more
 least-memory : (ppc64 .room + ppc64 .floor ≡ 400) × (z .room + z .floor ≡ 160) × (aix .room + aix .floor ≡ 284)
@@ -38,11 +40,13 @@ abbrev startRoom : Convention → ℕ
 startRoom Ppc64 = 112
 startRoom Z = 160
 startRoom Aix = 64
+startRoom Ppc64b = 112
 
 room-formula : (c : Convention) → rules c .room ≡ startRoom c
 room-formula Ppc64 = refl
 room-formula Z = refl
 room-formula Aix = refl
+room-formula Ppc64b = refl
 
 start-formula : (c : Convention) (b n : ℕ) (r : Registers) → length (r .gpr) ≡ 32 → stackPointer (rules c) (started c b n r) ≡ b + n - startRoom c
 unfolding started withPointer cleared

@@ -12,7 +12,9 @@ ghost use mathlib.Core.Path.{_≡_};
 ghost use Prim.Native.Nat.{_^_, _≤_};
 ghost use lib.ListN.{length};
 ghost use Rattle.signature.specs.Read.{argumentsIn, signatureOf};
+ghost use Rattle.signature.specs.Answer.{signatureAnswer};
 ghost use Rattle.plan.specs.Plan.{refused, planAnswer, measureOf, planWith};
+ghost use Rattle.plan.specs.Call.{unclearWith, measuredBy, callOf};
 ghost use Rattle.plan.specs.Limits.{SmallResult};
 
 fn no_measure(fault: Fault) -> Measured
@@ -26,6 +28,21 @@ fn no_measure(fault: Fault) -> Measured
     }
 }
 
+// The sizes of a plan by the reading alone, and the number of its first unclear argument, counted from 1; 0 where none is.
+struct Passed {
+    measured: Measured,
+    unclear: usize,
+}
+
+fn not_passed(fault: Fault) -> Passed
+    ensures { λ a. ⌜ (a .measured ≡ measureOf (refused fault)) × (a .unclear ≡ 0) ⌝ }
+{
+    Passed {
+        measured: no_measure(fault),
+        unclear: 0,
+    }
+}
+
 // The sizes from the arguments on, which stand from `at` to `end`; `earlier` items came before theirs. Each is read, placed and
 // let go: no table is made.
 fn measure_arguments(
@@ -35,20 +52,21 @@ fn measure_arguments(
     at: usize,
     end: usize,
     earlier: usize,
-) -> Measured
+) -> Passed
     requires { ⌜ (at ≤ end) × (end ≤ length (now s)) × (end ≤ 2 ^ 16) × (earlier ≤ 2 ^ 16) ⌝ }
-    ensures { λ m. ⌜ m ≡ measureOf (planWith convention returned earlier (length (now (s .entry))) (argumentsIn convention (now (s .entry)) at end)) ⌝ }
+    ensures { λ a. ⌜ (a .measured ≡ measureOf (planWith convention returned earlier (length (now (s .entry))) (argumentsIn convention (now (s .entry)) at end))) × (a .unclear ≡ unclearWith convention returned (length (now (s .entry))) (argumentsIn convention (now (s .entry)) at end)) ⌝ }
 {
     let rules = abi::call_rules_of(convention);
     let hidden = planning::hidden_in(convention, returned);
     let mut c = placing::start(convention, hidden);
     let mut values: usize = 0;
+    let mut unclear: usize = 0;
     let mut count: usize = 0;
     let mut next = at;
     let mut items: usize = 1;
     while next < end {
         if count == MAX_ARGUMENTS {
-            return no_measure(Fault {
+            return not_passed(Fault {
                 reason: Refusal::TooManyArguments,
                 place: next,
                 passed: earlier + items,
@@ -61,6 +79,7 @@ fn measure_arguments(
                 items: more,
             } => {
                 let bytes = types::size_of(convention, ty);
+                unclear = placing::unclear_after(unclear, rules, c, ty, count);
                 c = placing::advance(rules, c, ty, bytes);
                 values = values + bytes;
                 count = count + 1;
@@ -68,30 +87,44 @@ fn measure_arguments(
                 items = items + more;
             }
             ItemRead::Refused(fault) => {
-                return no_measure(items::later_by(earlier + items, fault));
+                return not_passed(items::later_by(earlier + items, fault));
             }
         }
     }
     let counted = earlier + items;
     if next < s.len() {
-        return no_measure(Fault {
+        return not_passed(Fault {
             reason: Refusal::TrailingBytes,
             place: next,
             passed: counted,
         });
     }
     let area = placing::area_of(convention, c);
-    Measured {
-        outcome: Outcome::Accepted(counted),
-        area,
-        values,
-        copies: c.copies,
+    Passed {
+        measured: Measured {
+            outcome: Outcome::Accepted(counted),
+            area,
+            values,
+            copies: c.copies,
+        },
+        unclear,
     }
+}
+
+// The answer of a call that was passed, where an unclear argument refuses it.
+fn judged(s: &[u8], a: Passed) -> Measured
+    ensures { λ m. ⌜ m ≡ measuredBy (a .unclear) (a .measured) (signatureOf (now (s .entry))) ⌝ }
+{
+    let unclear = a.unclear;
+    if unclear == 0 {
+        return a.measured;
+    }
+    no_measure(planning::unclear_fault(s, unclear - 1))
 }
 
 // The sizes of the plan of a signature's bytes: any bytes at all.
 pub fn measure(s: &[u8]) -> Measured
-    ensures { λ m. ⌜ m ≡ measureOf (planAnswer (signatureOf (now (s .entry)))) ⌝ }
+    ensures { λ m. ⌜ m ≡ measureOf (planAnswer (callOf (now (s .entry)))) ⌝ }
 {
     match signature_head::read_head(s) {
         HeadRead::Refused(fault) => no_measure(fault),
@@ -101,6 +134,29 @@ pub fn measure(s: &[u8]) -> Measured
             at,
             end,
             earlier,
-        } => measure_arguments(s, convention, result, at, end, earlier),
+        } => {
+            let a = measure_arguments(s, convention, result, at, end, earlier);
+            judged(s, a)
+        }
+    }
+}
+
+// The outcome of reading a signature's bytes: any bytes at all. No place refuses it.
+pub fn outcome_of(s: &[u8]) -> Outcome
+    ensures { λ o. ⌜ o ≡ signatureAnswer (signatureOf (now (s .entry))) .outcome ⌝ }
+{
+    match signature_head::read_head(s) {
+        HeadRead::Refused(fault) => Outcome::Refused(fault),
+        HeadRead::Head {
+            convention,
+            result,
+            at,
+            end,
+            earlier,
+        } => {
+            let a = measure_arguments(s, convention, result, at, end, earlier);
+            let m = a.measured;
+            m.outcome
+        }
     }
 }

@@ -1,7 +1,7 @@
 -- The bounds of a cursor: the registers that a convention names, and how far one argument moves the bytes. Assumes nothing.
 use mathlib.Core.Path.{_≡_, refl}
 use mathlib.Core.Bool.{Bool, true, false}
-use Prim.Native.Nat.{ℕ, _+_, _-_, _*_, _/_, _%_, _≤_, _<_}
+use Prim.Native.Nat.{ℕ, zero, suc, _+_, _-_, _*_, _/_, _%_, _≤_, _<_}
 use native.Mathlib.Omega.{arith}
 use native.Mathlib.Nat.{div-mul-le-self, mul-comm}
 use Rattle.words.specs.Basics.{roundUp}
@@ -14,7 +14,7 @@ use Rattle.places.specs.declared.ZClass.{ZClass}
 use Rattle.places.specs.Values.{pointer}
 use Rattle.places.specs.Power.{words, fprs, covered, powerShare}
 use Rattle.places.specs.ZSeries.{zClass, zNextOf}
-use Rattle.places.specs.Step.{Lawful, Roomy, rulesOf, wordOf, nextOf, fresh, startOf, areaOf, returning}
+use Rattle.places.specs.Step.{Lawful, Roomy, rulesOf, wordOf, nextOf, unclearAfter, fresh, startOf, areaOf, returning}
 use Rattle.places.proofs.Shares.{share-room}
 
 -- ---- the conventions
@@ -23,12 +23,14 @@ pub rules-lawful : (c : Convention) → Lawful (rulesOf c)
 rules-lawful Convention.Ppc64 = omega arith
 rules-lawful Convention.Z = tt
 rules-lawful Convention.Aix = omega arith
+rules-lawful Convention.Ppc64b = omega arith
 
 -- a pointer is a word
 pub rules-word : (c : Convention) → wordOf (rulesOf c) ≡ wordBytes c
 rules-word Convention.Ppc64 = refl
 rules-word Convention.Z = refl
 rules-word Convention.Aix = refl
+rules-word Convention.Ppc64b = refl
 
 pub returning-lawful : (r : Rules) → Lawful r → Lawful (returning r)
 unfolding returning
@@ -122,3 +124,18 @@ least-area c e = omega arith
 pub area-holds : (c : Convention) (e : Cursor) → e .stack ≤ areaOf c e
 unfolding areaOf
 area-holds c e = omega arith
+
+-- ---- the first unclear argument
+
+pub unclear-kept : (u : ℕ) (b : Bool) (i : ℕ) → 0 < u → u ≡ unclearAfter u b i
+unfolding unclearAfter
+unclear-kept zero b i h = absurd (omega arith)
+unclear-kept (suc u) b i h = refl
+
+pub unclear-found : (u : ℕ) (b : Bool) (i : ℕ) → u ≡ 0 → b ≡ true → i + 1 ≡ unclearAfter u b i
+unfolding unclearAfter
+unclear-found u b i e q = rw (e, q) (omega arith)
+
+pub unclear-none : (u : ℕ) (b : Bool) (i : ℕ) → u ≡ 0 → b ≡ false → 0 ≡ unclearAfter u b i
+unfolding unclearAfter
+unclear-none u b i e q = rw (e, q)

@@ -2,11 +2,12 @@
 -- the count w of words so far and the next FPR; they hold for every word width and edition. Assumes nothing.
 use mathlib.Core.Path.{_≡_, refl, ap, ap₂, _∙_}
 use mathlib.Core.Bool.{Bool, true, false}
-use mathlib.Core.List.{List, [], _∷_, _++_, map}
+use mathlib.Core.List.{List, [], _∷_, _++_, map, append-nil}
 use Prim.Native.Nat.{ℕ, zero, suc, _+_, _-_, _*_, _/_, _≤_, _<_, min, max}
 use native.Mathlib.Omega.{arith}
 use native.Mathlib.Nat.{mul-add, mul-suc, mul-zero, mul-div-cancel-left, add-zero, zero-add, add-div-left, div-eq-of-lt, mul-le-mul-left}
-use borrow.Author.Tests.{ltb-true, ltb-false}
+use mathlib.Core.Logic.{_⊎_, inl, inr}
+use borrow.Author.Tests.{ltb-true, ltb-false, le-ltb, le-leb}
 use lib.Dec.{ltb, leb}
 use Rattle.words.specs.Basics.{pick, roundUp}
 use Rattle.conventions.specs.declared.Convention.{Convention}
@@ -19,15 +20,17 @@ use Rattle.places.specs.declared.Bank.{Bank}
 use Rattle.places.specs.declared.Place.{Place}
 use Rattle.places.specs.declared.Cursor.{Cursor}
 use Rattle.places.specs.declared.Share.{Share}
+use Rattle.places.specs.declared.Edition.{Edition}
 use Rattle.places.specs.declared.PowerRules.{PowerRules}
 use Rattle.places.specs.declared.Rules.{Rules}
 use Rattle.places.specs.declared.ZClass.{ZClass}
 use Rattle.places.specs.Values.{cursor, registers, bytes, share}
-use Rattle.places.specs.Power.{words, fprs, shareOf, powerShare}
+use Rattle.places.specs.Power.{words, fprs, covered, shareOf, powerShare, unclear}
 use Rattle.places.specs.ZSeries.{zClass, zSpanOf, zNextOf}
-use Rattle.places.specs.Step.{rulesOf, spanOf, nextOf, fresh, startOf, areaOf, hiddenFor, returning, resultOf}
+use Rattle.places.specs.Step.{rulesOf, spanOf, nextOf, isEarlier, unclearFor, alwaysClear, fresh, startOf, areaOf, hiddenFor, returning, resultOf}
 use Rattle.places.specs.Places.{upFrom, register, registersOf, memoryOf, placesOf}
 use Rattle.places.specs.Results.{returned, returnedBy}
+use Rattle.places.proofs.Shares.{fprs-most}
 
 -- ---- PowerPC: the count of words
 
@@ -146,30 +149,97 @@ words-written f w m k t n h z =
     let a : len - (len - min len (8 - w)) ≡ min len (8 - w) = omega arith in
     rw (same-covered len w, z, a, ← mul-add (f .word) w (min len (8 - w)), mul-div-cancel-left (len - min len (8 - w)) h) (straddle (f .word) len w)
 
--- ---- PowerPC: singles and doubles
+-- ---- PowerPC: floats in FPRs
 
--- "Singles and doubles take f1 to f13 in order, skip their GPR, and aren't stored in memory; after f13, memory only"
-pub float-written : (f : PowerRules) (w m k : ℕ) (t : ValueType) (n : ℕ) → 0 < f .word → fprs (f .edition) t ≡ 1
+-- an argument that asks for FPRs, one or more: the next ones, where so many are left; else memory alone. 02, No. 12: "a long double argument
+-- takes two successive FPRs instead of GPRs", "With no FPR left it is memory only"
+pub floats-written : (f : PowerRules) (w m k : ℕ) (t : ValueType) (n j : ℕ) → 0 < f .word → fprs (f .edition) t ≡ suc j
     → placesOf (f .word) (spanOf (Rules.Power f) (counted (f .word) w m k) t n)
-    ≡ pick (leb 1 (14 - m)) (register Bank.Floating m ∷ []) (map Place.Memory (upFrom (f .word * w) (f .word) (words (f .word) n)))
+    ≡ pick (leb (suc j) (14 - m)) (map (register Bank.Floating) (upFrom m 1 (suc j))) (map Place.Memory (upFrom (f .word * w) (f .word) (words (f .word) n)))
 unfolding spanOf powerShare shareOf placesOf registersOf memoryOf upFrom
-float-written f w m k t n h z = rw z (go (leb 1 (14 - m)))
+floats-written f w m k t n j h z = rw z (go (leb (suc j) (14 - m)))
   where
     len : ℕ
     len = words (f .word) n
 
     go : (b : Bool) → placesOf (f .word) (record {
-      general = registers (3 + min w 8) (pick b (share 0 1 0) (share 0 0 len) .general);
-      floating = registers m (pick b (share 0 1 0) (share 0 0 len) .floating);
+      general = registers (3 + min w 8) (pick b (share 0 (suc j) 0) (share 0 0 len) .general);
+      floating = registers m (pick b (share 0 (suc j) 0) (share 0 0 len) .floating);
       home = bytes (f .word * w) (f .word * len);
-      memory = bytes (f .word * w + f .word * (len - pick b (share 0 1 0) (share 0 0 len) .memory)) (f .word * pick b (share 0 1 0) (share 0 0 len) .memory);
+      memory = bytes (f .word * w + f .word * (len - pick b (share 0 (suc j) 0) (share 0 0 len) .memory)) (f .word * pick b (share 0 (suc j) 0) (share 0 0 len) .memory);
       copy = bytes k 0;
       indirect = false;
-    }) ≡ pick b (register Bank.Floating m ∷ []) (map Place.Memory (upFrom (f .word * w) (f .word) len))
-    go true = rw (mul-div-cancel-left 0 h)
+    }) ≡ pick b (map (register Bank.Floating) (upFrom m 1 (suc j))) (map Place.Memory (upFrom (f .word * w) (f .word) len))
+    go true = rw (mul-div-cancel-left 0 h, append-nil (map (register Bank.Floating) (upFrom (m + 1) 1 j)), append-nil (map (register Bank.Floating) (upFrom (m + 1) 1 j)))
     go false =
         let a : len - len ≡ 0 = omega arith in
         rw (a, mul-div-cancel-left len h, mul-zero (f .word), add-zero (f .word * w))
+
+-- "Singles and doubles take f1 to f13 in order, skip their GPR, and aren't stored in memory; after f13, memory only"
+pub float-written : (f : PowerRules) (w m k : ℕ) (t : ValueType) (n : ℕ) → 0 < f .word → fprs (f .edition) t ≡ 1
+    → placesOf (f .word) (spanOf (Rules.Power f) (counted (f .word) w m k) t n)
+    ≡ pick (leb 1 (14 - m)) (register Bank.Floating m ∷ []) (map Place.Memory (upFrom (f .word * w) (f .word) (words (f .word) n)))
+unfolding upFrom
+float-written f w m k t n h z = floats-written f w m k t n 0 h z
+
+-- 29: where the rules are clear, a float is in all FPRs that it asks for, or none is left
+pub clear-written : (f : PowerRules) (c : Cursor) (t : ValueType) (n : ℕ) → unclear f c t ≡ false
+    → (powerShare f c t n .floating ≡ fprs (f .edition) t) ⊎ (14 ≤ c .floating)
+unfolding unclear powerShare shareOf
+clear-written f c t n = go (ltb 0 (14 - c .floating)) refl
+  where
+    k : ℕ
+    k = covered c (words (f .word) n)
+
+    all : (m : ℕ) → m ≤ 14 - c .floating → shareOf m (14 - c .floating) (words (f .word) n) k .floating ≡ m
+    all zero h = refl
+    all (suc m) h = simp (le-leb (suc m) (14 - c .floating) h)
+
+    go : (b : Bool) → ltb 0 (14 - c .floating) ≡ b → pick b (ltb (14 - c .floating) (fprs (f .edition) t)) false ≡ false
+        → (shareOf (fprs (f .edition) t) (14 - c .floating) (words (f .word) n) k .floating ≡ fprs (f .edition) t) ⊎ (14 ≤ c .floating)
+    go true q e = inl (all (fprs (f .edition) t) (ltb-false (14 - c .floating) (fprs (f .edition) t) e))
+    go false q e = let z : 14 - c .floating ≤ 0 = ltb-false 0 (14 - c .floating) q in inr (omega arith)
+
+-- "When only f13 is left": at no other FPR, and of no type but a long double's two
+pub unclear-written : (f : PowerRules) (c : Cursor) (t : ValueType) → c .floating ≤ 14 → unclear f c t ≡ true → (c .floating ≡ 13) × (fprs (f .edition) t ≡ 2)
+unfolding unclear
+unclear-written f c t h = go (ltb 0 (14 - c .floating)) refl
+  where
+    go : (b : Bool) → ltb 0 (14 - c .floating) ≡ b → pick b (ltb (14 - c .floating) (fprs (f .edition) t)) false ≡ true
+        → (c .floating ≡ 13) × (fprs (f .edition) t ≡ 2)
+    go true q e =
+        let some : 0 < 14 - c .floating = ltb-true 0 (14 - c .floating) q in
+        let less : 14 - c .floating < fprs (f .edition) t = ltb-true (14 - c .floating) (fprs (f .edition) t) e in
+        let most : fprs (f .edition) t ≤ 2 = fprs-most (f .edition) t in
+        (omega arith, omega arith)
+    go false q e = let z : _≡_ {A = ℕ} 0 1 = cc in absurd (omega arith)
+
+fprs-earlier : (t : ValueType) → fprs Edition.Earlier t ≤ 1
+unfolding fprs
+fprs-earlier (ValueType.Integer k) = omega arith
+fprs-earlier (ValueType.Float FloatFormat.Single) = omega arith
+fprs-earlier (ValueType.Float FloatFormat.Double) = omega arith
+fprs-earlier (ValueType.Float FloatFormat.LongDouble) = omega arith
+fprs-earlier (ValueType.Struct s) = omega arith
+
+-- the earlier edition is clear everywhere
+pub earlier-clear : (f : PowerRules) (c : Cursor) (t : ValueType) → f .edition ≡ Edition.Earlier → unclear f c t ≡ false
+unfolding unclear
+earlier-clear f c t e = rw e (go (ltb 0 (14 - c .floating)) refl)
+  where
+    go : (b : Bool) → ltb 0 (14 - c .floating) ≡ b → pick b (ltb (14 - c .floating) (fprs Edition.Earlier t)) false ≡ false
+    go true q = let h : 0 < 14 - c .floating = ltb-true 0 (14 - c .floating) q in le-ltb (14 - c .floating) (fprs Edition.Earlier t) (omega (arith, fprs-earlier t))
+    go false q = refl
+
+-- the rules that are clear everywhere
+pub always-clear : (r : Rules) (c : Cursor) (t : ValueType) → alwaysClear r ≡ true → unclearFor r c t ≡ false
+unfolding alwaysClear unclearFor
+always-clear (Rules.Power f) c t e = earlier-clear f c t (go (f .edition) e)
+  where
+    go : (x : Edition) → isEarlier x ≡ true → x ≡ Edition.Earlier
+    go Edition.Earlier q = refl
+    go Edition.Later q = let z : _≡_ {A = ℕ} 0 1 = cc in absurd (omega arith)
+always-clear Rules.Z c t e = refl
 
 -- ---- Z
 
@@ -290,3 +360,16 @@ result-written Convention.Aix (ValueType.Float FloatFormat.Single) = refl
 result-written Convention.Aix (ValueType.Float FloatFormat.Double) = refl
 result-written Convention.Aix (ValueType.Float FloatFormat.LongDouble) = refl
 result-written Convention.Aix (ValueType.Struct s) = refl
+result-written Convention.Ppc64b (ValueType.Integer IntegerKind.I8) = refl
+result-written Convention.Ppc64b (ValueType.Integer IntegerKind.U8) = refl
+result-written Convention.Ppc64b (ValueType.Integer IntegerKind.I16) = refl
+result-written Convention.Ppc64b (ValueType.Integer IntegerKind.U16) = refl
+result-written Convention.Ppc64b (ValueType.Integer IntegerKind.I32) = refl
+result-written Convention.Ppc64b (ValueType.Integer IntegerKind.U32) = refl
+result-written Convention.Ppc64b (ValueType.Integer IntegerKind.I64) = refl
+result-written Convention.Ppc64b (ValueType.Integer IntegerKind.U64) = refl
+result-written Convention.Ppc64b (ValueType.Integer IntegerKind.Pointer) = refl
+result-written Convention.Ppc64b (ValueType.Float FloatFormat.Single) = refl
+result-written Convention.Ppc64b (ValueType.Float FloatFormat.Double) = refl
+result-written Convention.Ppc64b (ValueType.Float FloatFormat.LongDouble) = refl
+result-written Convention.Ppc64b (ValueType.Struct s) = refl

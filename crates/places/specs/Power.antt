@@ -3,8 +3,8 @@
 -- `words-written`, `float-written` and `next-counted` say that this is the same. A word of the argument list that has a GPR is
 -- one of the first eight. Assumes nothing.
 use Prim.Native.Nat.{ℕ, zero, suc, _+_, _-_, _*_, _/_, _≤_, min}
-use mathlib.Core.Bool.{false}
-use lib.Dec.{leb}
+use mathlib.Core.Bool.{Bool, false}
+use lib.Dec.{ltb, leb}
 use Rattle.words.specs.Basics.{pick}
 use Rattle.types.specs.declared.FloatFormat.{FloatFormat}
 use Rattle.types.specs.declared.ValueType.{ValueType}
@@ -35,7 +35,7 @@ covered c n = min n (11 - c .general)
 
 -- An argument of n words, k of which have a GPR, that asks for m FPRs where `room` are left. "Each doubleword of a whole,
 -- struct or long double goes to r(3+w) while w < 8, then to memory". Singles and doubles "skip their GPR, and aren't stored
--- in memory; after f13, memory only".
+-- in memory; after f13, memory only"; 02, No. 12: a long double "takes two successive FPRs", and "with no FPR left it is memory only".
 unfoldable pub shareOf : ℕ → ℕ → ℕ → ℕ → Share
 shareOf zero room n k = share k 0 (n - k)
 shareOf (suc m) room n k = pick (leb (suc m) room) (share 0 (suc m) 0) (share 0 0 n)
@@ -43,6 +43,10 @@ shareOf (suc m) room n k = pick (leb (suc m) room) (share 0 (suc m) 0) (share 0 
 -- FPRs are left up to f13
 unfoldable pub powerShare : PowerRules → Cursor → ValueType → ℕ → Share
 powerShare f c t n = shareOf (fprs (f .edition) t) (14 - c .floating) (words (f .word) n) (covered c (words (f .word) n))
+
+-- 29, 02, No. 12: "When only f13 is left the editions we hold aren't clear": some FPRs are left, but fewer than the type asks for
+unfoldable pub unclear : PowerRules → Cursor → ValueType → Bool
+unclear f c t = pick (ltb 0 (14 - c .floating)) (ltb (14 - c .floating) (fprs (f .edition) t)) false
 
 -- what a share is of: at most k words in GPRs, at most n in memory, at most two FPRs
 pub record Shared (s : Share) (n k : ℕ) : Type 0 where

@@ -25,13 +25,18 @@ returned w ResultPlaces.Nothing = value []
 returned w (ResultPlaces.Registers s) = value (placesOf w s)
 returned w (ResultPlaces.Hidden s) = address (placesOf w s)
 
-abbrev pub returnedBy : Convention → ValueType → Returned
 -- "Results: whole r3; single or double f1; long double f1, f2", and of a struct "its address is then a hidden first argument in r3"
-returnedBy Convention.Ppc64 (ValueType.Integer k) = value (register Bank.General 3 ∷ [])
-returnedBy Convention.Ppc64 (ValueType.Float FloatFormat.Single) = value (register Bank.Floating 1 ∷ [])
-returnedBy Convention.Ppc64 (ValueType.Float FloatFormat.Double) = value (register Bank.Floating 1 ∷ [])
-returnedBy Convention.Ppc64 (ValueType.Float FloatFormat.LongDouble) = value (register Bank.Floating 1 ∷ register Bank.Floating 2 ∷ [])
-returnedBy Convention.Ppc64 (ValueType.Struct s) = address (register Bank.General 3 ∷ [])
+abbrev pub ppc64Returned : ValueType → Returned
+ppc64Returned (ValueType.Integer k) = value (register Bank.General 3 ∷ [])
+ppc64Returned (ValueType.Float FloatFormat.Single) = value (register Bank.Floating 1 ∷ [])
+ppc64Returned (ValueType.Float FloatFormat.Double) = value (register Bank.Floating 1 ∷ [])
+ppc64Returned (ValueType.Float FloatFormat.LongDouble) = value (register Bank.Floating 1 ∷ register Bank.Floating 2 ∷ [])
+ppc64Returned (ValueType.Struct s) = address (register Bank.General 3 ∷ [])
+
+abbrev pub returnedBy : Convention → ValueType → Returned
+returnedBy Convention.Ppc64 t = ppc64Returned t
+-- 02, No. 12: "PPC64 with that rule", which is of arguments
+returnedBy Convention.Ppc64b t = ppc64Returned t
 -- "Results: whole r2; single or double f0", and "a hidden result address in r2, for struct or long double"
 returnedBy Convention.Z (ValueType.Integer k) = value (register Bank.General 2 ∷ [])
 returnedBy Convention.Z (ValueType.Float FloatFormat.Single) = value (register Bank.Floating 0 ∷ [])

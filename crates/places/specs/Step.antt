@@ -1,7 +1,7 @@
 -- One argument in every convention: its span and the next cursor; the first cursor, the area, and the place of a result.
 -- Document 01, "Places on PPC64" and "Places on Z"; document 02, No. 1. A convention is a value of `Rules`. All laws hold at every cursor.
 -- Assumes nothing.
-use Prim.Native.Nat.{ℕ, _≤_, max}
+use Prim.Native.Nat.{ℕ, zero, suc, _≤_, max}
 use mathlib.Core.Bool.{Bool, true, false}
 use Rattle.words.specs.Basics.{pick}
 use Rattle.conventions.specs.declared.Convention.{Convention}
@@ -15,7 +15,7 @@ use Rattle.places.specs.declared.Span.{Span}
 use Rattle.places.specs.declared.Placed.{Placed}
 use Rattle.places.specs.declared.ResultPlaces.{ResultPlaces}
 use Rattle.places.specs.Values.{cursor, pointer}
-use Rattle.places.specs.Power.{words, powerShare, powerSpan, powerNext}
+use Rattle.places.specs.Power.{words, powerShare, powerSpan, powerNext, unclear}
 use Rattle.places.specs.ZSeries.{zClass, zSpanOf, zNextOf}
 
 -- ---- the conventions
@@ -30,10 +30,15 @@ ppc64 = power (wordBytes Convention.Ppc64) Edition.Earlier
 abbrev pub aix : Rules
 aix = power (wordBytes Convention.Aix) Edition.Earlier
 
+-- 02, No. 12: "PPC64 with that rule"
+abbrev pub ppc64b : Rules
+ppc64b = power (wordBytes Convention.Ppc64b) Edition.Later
+
 abbrev pub rulesOf : Convention → Rules
 rulesOf Convention.Ppc64 = ppc64
 rulesOf Convention.Z = Rules.Z
 rulesOf Convention.Aix = aix
+rulesOf Convention.Ppc64b = ppc64b
 
 -- the bytes of a word of the argument list, and of a pointer
 abbrev pub wordOf : Rules → ℕ
@@ -64,6 +69,26 @@ placedAs s d = record { span = s; next = d }
 
 unfoldable pub placed : Rules → Cursor → ValueType → ℕ → Placed
 placed r c t n = placedAs (spanOf r c t n) (nextOf r c t n)
+
+abbrev pub isEarlier : Edition → Bool
+isEarlier Edition.Earlier = true
+isEarlier Edition.Later = false
+
+-- 29: whether the papers leave open where an argument of a type goes; Z's never do
+unfoldable pub unclearFor : Rules → Cursor → ValueType → Bool
+unclearFor (Rules.Power f) c t = unclear f c t
+unclearFor Rules.Z c t = false
+
+-- the rules that never do: all but the later edition's
+unfoldable pub alwaysClear : Rules → Bool
+alwaysClear (Rules.Power f) = isEarlier (f .edition)
+alwaysClear Rules.Z = true
+
+-- The number of the first unclear argument, counted from 1, or 0 where none is: u of the first i, and after one more.
+unfoldable pub unclearAfter : ℕ → Bool → ℕ → ℕ
+unclearAfter zero true i = suc i
+unclearAfter zero false i = 0
+unclearAfter (suc u) b i = suc u
 
 -- ---- the whole list
 

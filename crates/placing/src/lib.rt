@@ -1,8 +1,8 @@
 // The places of arguments and of a result in every convention: the step of its cursor, where the first argument starts, and the size of the area.
 ghost use mathlib.Core.Path.{_≡_};
-ghost use Prim.Native.Nat.{_≤_};
+ghost use Prim.Native.Nat.{_^_, _≤_, _<_};
 ghost use Rattle.places.specs.Values.{pointer};
-ghost use Rattle.places.specs.Step.{Lawful, Roomy, rulesOf, wordOf, nextOf, placed, fresh, startOf, areaOf, returning, hiddenFor, resultOf};
+ghost use Rattle.places.specs.Step.{Lawful, Roomy, rulesOf, wordOf, nextOf, unclearFor, isEarlier, alwaysClear, unclearAfter, placed, fresh, startOf, areaOf, returning, hiddenFor, resultOf};
 use conventions::Convention;
 use places::Cursor;
 use places::Edition;
@@ -34,6 +34,65 @@ pub fn advance(r: Rules, c: Cursor, t: ValueType, size: usize) -> Cursor
         Rules::Power(f) => power_step::advance(f, c, t, size),
         Rules::Z => z_step::advance(c, t, size),
     }
+}
+
+// Whether the papers leave open where an argument of this type goes (29).
+pub fn unclear_for(r: Rules, c: Cursor, t: ValueType) -> bool
+    requires { ⌜ Roomy c ⌝ }
+    ensures { λ b. ⌜ b ≡ unclearFor r c t ⌝ }
+{
+    match r {
+        Rules::Power(f) => power_step::is_unclear(f, c, t),
+        Rules::Z => false,
+    }
+}
+
+fn is_earlier(e: Edition) -> bool
+    ensures { λ b. ⌜ b ≡ isEarlier e ⌝ }
+{
+    match e {
+        Edition::Earlier => true,
+        Edition::Later => false,
+    }
+}
+
+// Whether the rules are clear wherever an argument stands.
+pub fn always_clear(r: Rules) -> bool
+    ensures { λ b. ⌜ b ≡ alwaysClear r ⌝ }
+{
+    match r {
+        Rules::Power(f) => {
+            let edition = f.edition;
+            is_earlier(edition)
+        }
+        Rules::Z => true,
+    }
+}
+
+// The same as below.
+fn unclear_in(unclear: usize, r: Rules, c: Cursor, t: ValueType, count: usize) -> usize
+    requires { ⌜ Roomy c × (count < 2 ^ 16) ⌝ }
+    ensures { λ n. ⌜ n ≡ unclearAfter unclear (unclearFor r c t) count ⌝ }
+{
+    if unclear != 0 {
+        return unclear;
+    }
+    if unclear_for(r, c, t) {
+        return count + 1;
+    }
+    0
+}
+
+// The number of the first unclear argument, counted from 1, or 0: `unclear` is that of the first `count`, and one more of this type comes at the cursor.
+// The test that all conventions but one end with comes first, and alone, so that it is compiled in line.
+pub fn unclear_after(unclear: usize, r: Rules, c: Cursor, t: ValueType, count: usize) -> usize
+    requires { ⌜ Roomy c × (count < 2 ^ 16) ⌝ }
+    ensures { λ n. ⌜ n ≡ unclearAfter unclear (unclearFor r c t) count ⌝ }
+{
+    if always_clear(r) {
+        return unclear;
+    }
+    unclear_in(unclear, r, c, t, count)
 }
 
 // The hidden address of a result, placed as a first argument.

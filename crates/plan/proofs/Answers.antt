@@ -14,6 +14,7 @@ use Rattle.types.specs.Limits.{AllSized}
 use Rattle.items.specs.declared.Fault.{Fault}
 use Rattle.items.specs.Reading.{Reading, got, no}
 use Rattle.signature.specs.declared.Argument.{Argument}
+use Rattle.signature.specs.declared.Outcome.{Outcome}
 use Rattle.signature.specs.Signature.{Result, nothing, value, Signature}
 use Rattle.signature.specs.Limits.{maxArguments}
 use Rattle.signature.specs.Read.{signatureOf}
@@ -132,3 +133,14 @@ answer-table (got g next n) =
     let k = startIn c (resultType c (g .result)) in
     simp length-append (omega (arith, length-spans c (rulesOf c) k (typesOf c (g .arguments))))
 answer-table (no f) = omega arith
+
+-- ---- the outcome
+
+-- a plan has the reading's
+pub outcome-read : (x : Reading Signature) → planAnswer x .outcome ≡ signatureAnswer x .outcome
+unfolding planAnswer planIn
+outcome-read (got g next n) = refl
+outcome-read (no f) = refl
+
+pub outcome-refused : (x : Reading Signature) (f : Fault) → x ≡ no f → Outcome.Refused f ≡ signatureAnswer x .outcome
+outcome-refused x f e = rw e

@@ -3,5 +3,6 @@ pub mod Fold
 pub mod Turns
 pub mod Measures
 pub mod Answers
+pub mod Calls
 pub mod Apart
 pub mod Theorems

@@ -23,50 +23,63 @@ use Rattle.signature.specs.Limits.{maxArguments}
 use Rattle.signature.specs.declared.Outcome.{Outcome}
 use Rattle.signature.specs.declared.ResultType.{ResultType}
 use Rattle.signature.specs.declared.HeadRead.{HeadRead}
-use Rattle.signature.specs.Signature.{Result}
+use Rattle.signature.specs.Signature.{Result, Signature}
 use Rattle.signature.specs.Read.{argumentsIn, signatureOf, headOf}
-use Rattle.signature.specs.Answer.{resultType, headAnswer}
+use Rattle.signature.specs.Answer.{resultType, headAnswer, signatureAnswer}
 use Rattle.signature.proofs.Laws.{thenArguments, signature-then}
 use Rattle.signature.proofs.Loop.{Turn, turn-start, turn-more, turn-last}
 use Rattle.places.specs.declared.Cursor.{Cursor}
 use Rattle.places.specs.declared.Rules.{Rules}
-use Rattle.places.specs.Step.{Lawful, rulesOf, nextOf, startOf, areaOf}
+use Rattle.places.specs.Step.{Lawful, rulesOf, nextOf, unclearFor, unclearAfter, startOf, areaOf}
 use Rattle.plan.specs.declared.Measured.{Measured}
 use Rattle.plan.specs.Plan.{lastOf, valuesOf, typesOf, startIn, planIn, refused, planAnswer, measureOf, planWith}
+use Rattle.plan.specs.Call.{firstUnclear, unclearOf, unclearWith}
+use Rattle.plan.proofs.Calls.{unclear-more}
+use Rattle.plan.proofs.Answers.{table-types, length-of-types}
 use Rattle.plan.proofs.Fold.{last-more, values-more, Reached, reached-start, reached-more}
 
 -- ---- the loop
 
--- reading on from here gives all arguments; the cursor k and the v bytes of values are those of the arguments so far
-pub record Measuring (c : Convention) (s : List ℕ) (at e : ℕ) (r : Rules) (start : Cursor) (k : Cursor) (v count next n : ℕ) : Type 0 where
+-- reading on from here gives all arguments; the cursor k, the v bytes of values and the first unclear one, number u, are those of the arguments so far
+pub record Measuring (c : Convention) (s : List ℕ) (at e : ℕ) (r : Rules) (start : Cursor) (k : Cursor) (v u count next n : ℕ) : Type 0 where
   pub ts : Trees
   pub turn : Turn c s at e ts count next n
   pub last : k ≡ lastOf c r start (typesOf c ts)
   pub total : v ≡ valuesOf c (typesOf c ts)
+  pub unclear : u ≡ firstUnclear c r start 0 (typesOf c ts)
   pub reached : Reached r k v count
 
 same-next : (c : Convention) (r : Rules) {k l : Cursor} {t u : ValueType} → k ≡ l → t ≡ u → nextOf r k t (sizeOf c t) ≡ nextOf r l u (sizeOf c u)
 same-next c r p q = cc
 
-module _ (c : Convention) (s : List ℕ) (at e : ℕ) (r : Rules) where
-  pub measuring-start : (hidden : Bool) → Lawful r → at ≤ e → Measuring c s at e r (startOf r hidden) (startOf r hidden) 0 0 at 1
-  unfolding typesOf lastOf valuesOf
-  measuring-start hidden l h = record { ts = none; turn = turn-start c s at e h; last = refl; total = refl; reached = reached-start r hidden l }
+same-unclear : (r : Rules) {u x : ℕ} {k l : Cursor} {t w : ValueType} {i j : ℕ} → u ≡ x → k ≡ l → t ≡ w → i ≡ j
+    → unclearAfter u (unclearFor r k t) i ≡ unclearAfter x (unclearFor r l w) j
+same-unclear r p q h e = cc
 
-  module _ (start k : Cursor) (v count next n : ℕ) (m : Measuring c s at e r start k v count next n) where
+-- so many arguments are read
+count-types : (c : Convention) (s : List ℕ) (at e : ℕ) (ts : Trees) (count next n : ℕ) → Turn c s at e ts count next n → count ≡ 0 + length (typesOf c ts)
+count-types c s at e ts count next n t = omega (arith, t .many, length-of-types c ts)
+
+module _ (c : Convention) (s : List ℕ) (at e : ℕ) (r : Rules) where
+  pub measuring-start : (hidden : Bool) → Lawful r → at ≤ e → Measuring c s at e r (startOf r hidden) (startOf r hidden) 0 0 0 at 1
+  unfolding typesOf lastOf valuesOf firstUnclear
+  measuring-start hidden l h = record { ts = none; turn = turn-start c s at e h; last = refl; total = refl; unclear = refl; reached = reached-start r hidden l }
+
+  module _ (start k : Cursor) (v u count next n : ℕ) (m : Measuring c s at e r start k v u count next n) where
     pub measuring-more : Lawful r → next < e → (count ≡ maxArguments → ⊥) → (x : ItemRead) → x ≡ itemAnswer c (itemAt c 8 s e next) → (t : ValueType) (after j : ℕ) →
-        x ≡ ItemRead.Item t after j → Measuring c s at e r start (nextOf r k t (sizeOf c t)) (v + sizeOf c t) (count + 1) after (n + j)
+        x ≡ ItemRead.Item t after j → Measuring c s at e r start (nextOf r k t (sizeOf c t)) (v + sizeOf c t) (unclearAfter u (unclearFor r k t) count) (count + 1) after (n + j)
     unfolding typesOf
     measuring-more l h some x found t after j q =
         let a = item-answered c 8 s e next x t after j (omega arith) found q in
         let more = turn-more c s at e (m .ts) count next n (m .turn) h some x found t after j q in
         let so-far : List ValueType = typesOf c (m .ts) in
-        let u : ValueType = typeOf c (more .tree) in
+        let w : ValueType = typeOf c (more .tree) in
         record {
           ts = m .ts ▸ more .tree;
           turn = more .turn;
-          last = same-next c r (m .last) (more .same) ∙ sym (last-more c r start so-far u);
-          total = omega (arith, m .total, ap (sizeOf c) (more .same), values-more c so-far u);
+          last = same-next c r (m .last) (more .same) ∙ sym (last-more c r start so-far w);
+          total = omega (arith, m .total, ap (sizeOf c) (more .same), values-more c so-far w);
+          unclear = same-unclear r (m .unclear) (m .last) (more .same) (count-types c s at e (m .ts) count next n (m .turn)) ∙ sym (unclear-more c r start 0 so-far w);
           reached = reached-more r k v count t (sizeOf c t) l (a .sized .small) (m .reached);
         }
 
@@ -77,7 +90,10 @@ module _ (c : Convention) (s : List ℕ) (at e : ℕ) (result : ResultType) (ear
       measureOf (refused (later earlier f)) ≡ measureOf (planWith c result earlier (length s) (argumentsIn c s at e))
   measure-no f q = rw q
 
-  module _ (k : Cursor) (v count next n : ℕ) (m : Measuring c s at e (rulesOf c) (startIn c result) k v count next n) (last : e ≤ next) where
+  pub unclear-no : (f : Fault) → argumentsIn c s at e ≡ no f → 0 ≡ unclearWith c result (length s) (argumentsIn c s at e)
+  unclear-no f q = rw q
+
+  module _ (k : Cursor) (v u count next n : ℕ) (m : Measuring c s at e (rulesOf c) (startIn c result) k v u count next n) (last : e ≤ next) where
     pub measure-trailing : next < length s →
         measureOf (refused (fault Refusal.TrailingBytes next (earlier + n))) ≡ measureOf (planWith c result earlier (length s) (argumentsIn c s at e))
     measure-trailing h = rw (turn-last c s at e (m .ts) count next n (m .turn) last, lt-ltb next (length s) h)
@@ -87,6 +103,12 @@ module _ (c : Convention) (s : List ℕ) (at e : ℕ) (result : ResultType) (ear
         (measureOf (planWith c result earlier (length s) (argumentsIn c s at e)))
     unfolding planIn
     measure-end h = rw (turn-last c s at e (m .ts) count next n (m .turn) last, le-ltb next (length s) h) (cc (m .last, m .total))
+
+    pub unclear-trailing : next < length s → 0 ≡ unclearWith c result (length s) (argumentsIn c s at e)
+    unclear-trailing h = rw (turn-last c s at e (m .ts) count next n (m .turn) last, lt-ltb next (length s) h)
+
+    pub unclear-end : length s ≤ next → u ≡ unclearWith c result (length s) (argumentsIn c s at e)
+    unclear-end h = rw (turn-last c s at e (m .ts) count next n (m .turn) last, le-ltb next (length s) h) (m .unclear)
 
 -- the plan of what is read from the arguments on
 plan-then : (s : List ℕ) (c : Convention) (r : Result) (n : ℕ) (x : Reading Trees) →
@@ -101,10 +123,6 @@ plan-then s c r n (got ts next m) = go (ltb next (length s))
     go false = refl
 plan-then s c r n (no f) = refl
 
-pub measured-refused : (s : List ℕ) (f : Fault) → signatureOf s ≡ no f → measureOf (refused f) ≡ measureOf (planAnswer (signatureOf s))
-unfolding planAnswer
-measured-refused s f q = rw q
-
 pub plan-arguments : (s : List ℕ) (x : HeadRead) → x ≡ headAnswer (headOf s) → (c : Convention) (t : ResultType) (at b n : ℕ) → x ≡ HeadRead.Head c t at b n →
     planAnswer (signatureOf s) ≡ planWith c t n (length s) (argumentsIn c s at b)
 plan-arguments s x found c t at b n q =
@@ -112,3 +130,24 @@ plan-arguments s x found c t at b n q =
     ap planAnswer read
     ∙ plan-then s c r n (argumentsIn c s at b)
     ∙ ap (λ (u : ResultType). planWith c u n (length s) (argumentsIn c s at b)) (sym same)
+
+-- the first unclear argument of what is read from the arguments on
+unclear-then : (s : List ℕ) (c : Convention) (r : Result) (n : ℕ) (x : Reading Trees) →
+    unclearOf (signatureAnswer (thenArguments s c r n x)) ≡ unclearWith c (resultType c r) (length s) x
+unfolding firstUnclear
+unclear-then s c r n (got ts next m) = go (ltb next (length s))
+  where
+    go : (more : Bool) →
+        unclearOf (signatureAnswer (pick more (no (fault Refusal.TrailingBytes next (n + m))) (got (record { convention = c; result = r; arguments = ts }) next (n + m))))
+        ≡ pick more 0 (firstUnclear c (rulesOf c) (startIn c (resultType c r)) 0 (typesOf c ts))
+    go true = refl
+    go false = ap (firstUnclear c (rulesOf c) (startIn c (resultType c r)) 0) (table-types c ts)
+unclear-then s c r n (no f) = refl
+
+pub unclear-arguments : (s : List ℕ) (x : HeadRead) → x ≡ headAnswer (headOf s) → (c : Convention) (t : ResultType) (at b n : ℕ) → x ≡ HeadRead.Head c t at b n →
+    unclearOf (signatureAnswer (signatureOf s)) ≡ unclearWith c t (length s) (argumentsIn c s at b)
+unclear-arguments s x found c t at b n q =
+    let (r, read, same) = signature-then s x found c t at b n q in
+    ap (λ (y : Reading Signature). unclearOf (signatureAnswer y)) read
+    ∙ unclear-then s c r n (argumentsIn c s at b)
+    ∙ ap (λ (u : ResultType). unclearWith c u (length s) (argumentsIn c s at b)) (sym same)

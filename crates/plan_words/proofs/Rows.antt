@@ -38,8 +38,12 @@ use Rattle.plan.specs.Disjoint.{spanAt}
 use Rattle.plan.proofs.Fold.{length-spans, values-more}
 use Rattle.plan.specs.Limits.{SmallResult}
 use Rattle.plan.proofs.Answers.{length-of-types, answer-plannable}
-use Rattle.plan_words.specs.Entries.{itemIn, sizeIn, sizeAt, valueAt, entriesUpTo, entriesOf}
-use Rattle.plan_words.specs.Rows.{itemAfter, rowsOf, rowsWith, SmallWith}
+use Rattle.plan.specs.Call.{itemIn, unclearOf, unclearFault, called, callOf}
+use Rattle.plan.proofs.Calls.{called-clear, unclear-plan}
+use Rattle.plan_words.specs.declared.Planned.{Planned}
+use Rattle.plan_words.specs.Planned.{plannedOf}
+use Rattle.plan_words.specs.Entries.{sizeIn, sizeAt, valueAt, entriesUpTo, entriesOf}
+use Rattle.plan_words.specs.Rows.{itemAfter, rowsOf, rowsWith, plannedBy, rowsBy, SmallWith}
 use Rattle.plan_words.proofs.Turns.{same-words}
 
 same-append : {a b x y : List ℕ} → a ≡ b → x ≡ y → a ++ x ≡ b ++ y
@@ -172,9 +176,22 @@ rows-entries s x found c t at b n q =
     ∙ rows-of s c (g .result) n y
     ∙ ap entriesOf (sym (g .whole))
 
-pub no-entries : (s : List ℕ) (f : Fault) → signatureOf s ≡ no f → [] ≡ entriesOf (signatureOf s)
-unfolding planAnswer
-no-entries s f q = refused-rows (signatureOf s) f (rw q)
+pub no-entries : (s : List ℕ) (f : Fault) → signatureOf s ≡ no f → [] ≡ entriesOf (callOf s)
+unfolding called planAnswer
+no-entries s f q = refused-rows (callOf s) f (rw q)
+
+-- ---- a call
+
+pub planned-called : (x : Reading Signature) (m : Planned) (u : ℕ) → m ≡ plannedOf (planAnswer x) → u ≡ unclearOf (signatureAnswer x)
+    → plannedBy u m x ≡ plannedOf (planAnswer (called x))
+unfolding plannedBy
+planned-called x m zero e q = e ∙ ap (λ (y : Reading Signature). plannedOf (planAnswer y)) (sym (called-clear x (sym q)))
+planned-called x m (suc i) e q = ap plannedOf (unclear-plan x (signatureAnswer x) i refl (sym q))
+
+pub rows-called : (x : Reading Signature) (rows : List ℕ) (u : ℕ) → rows ≡ entriesOf x → u ≡ unclearOf (signatureAnswer x) → rowsBy u rows ≡ entriesOf (called x)
+unfolding rowsBy
+rows-called x rows zero e q = e ∙ ap entriesOf (sym (called-clear x (sym q)))
+rows-called x rows (suc i) e q = refused-rows (called x) (unclearFault i x) (sym (unclear-plan x (signatureAnswer x) i refl (sym q)))
 
 -- the result's type of an accepted signature is small
 small-of : (g : SignatureRead) (c : Convention) (r : ResultType) (n all : ℕ) (x : Reading Trees) → SmallResult (g .convention) (g .result) →

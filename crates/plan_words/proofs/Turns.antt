@@ -1,7 +1,7 @@
 -- The loop: the arguments that are read so far, whose entries are kept, and what each way out of it gives. Assumes nothing.
 use mathlib.Core.Path.{_≡_, refl, sym, ap, _∙_}
 use mathlib.Core.List.{List, [], _++_}
-use Prim.Native.Nat.{ℕ, _+_, _*_, _≤_, _<_}
+use Prim.Native.Nat.{ℕ, suc, _+_, _-_, _*_, _≤_, _<_}
 use native.Mathlib.Omega.{arith}
 use lib.ListN.{length, take, drop, length-append}
 use lib.Seq.{take-at}
@@ -23,14 +23,17 @@ use Rattle.items.proofs.Loop.{item-answered}
 use Rattle.signature.specs.Limits.{maxArguments}
 use Rattle.signature.specs.declared.Outcome.{Outcome}
 use Rattle.signature.specs.declared.ResultType.{ResultType}
-use Rattle.signature.specs.Read.{argumentsIn}
+use Rattle.signature.specs.Read.{argumentsIn, signatureOf}
 use Rattle.signature.proofs.Loop.{Turn, turn-start, turn-last}
 use Rattle.reader.proofs.Found.{further}
 use Rattle.places.specs.declared.Cursor.{Cursor}
 use Rattle.places.specs.declared.Span.{Span}
-use Rattle.places.specs.Step.{rulesOf, spanOf, nextOf, areaOf}
+use Rattle.places.specs.declared.Rules.{Rules}
+use Rattle.places.specs.Step.{rulesOf, spanOf, nextOf, unclearFor, unclearAfter, areaOf}
 use Rattle.places.proofs.Bounds.{rules-lawful}
-use Rattle.plan.specs.Plan.{lastOf, valuesOf, hiddenIn, startIn, endIn, resultIn, typesOf, planIn, refused, planWith}
+use Rattle.plan.specs.Plan.{lastOf, valuesOf, hiddenIn, startIn, endIn, resultIn, typesOf, planIn, refused}
+use Rattle.plan.specs.Call.{firstUnclear, unclearFault}
+use Rattle.plan.proofs.Calls.{unclear-more}
 use Rattle.plan.specs.Limits.{SmallResult}
 use Rattle.plan.proofs.Fold.{last-more, values-more, Reached, reached-start, reached-more}
 use Rattle.plan.proofs.Answers.{length-of-types}
@@ -38,7 +41,7 @@ use Rattle.plan_entries.specs.Words.{entryWords, tabled}
 use Rattle.plan_entries.proofs.Copies.{overlay-nothing, tabled-nothing}
 use Rattle.plan_words.specs.declared.Planned.{Planned}
 use Rattle.plan_words.specs.Planned.{plannedOf}
-use Rattle.plan_words.specs.Rows.{itemAfter, rowsOf, rowsWith, SmallWith}
+use Rattle.plan_words.specs.Rows.{itemAfter, rowsOf, rowsBy, plannedBy, planCalled, rowsCalled, SmallWith}
 
 length-rows : (c : Convention) (r : ResultType) (at : ℕ) (ts : Trees) → length (rowsOf c r at ts) ≡ 13 * countOf ts
 unfolding rowsOf countOf entryWords
@@ -54,20 +57,25 @@ same-span c p q = cc
 same-next : (c : Convention) {k l : Cursor} {t u : ValueType} → k ≡ l → t ≡ u → nextOf (rulesOf c) k t (sizeOf c t) ≡ nextOf (rulesOf c) l u (sizeOf c u)
 same-next c p q = cc
 
+same-unclear : (r : Rules) {u x : ℕ} {k l : Cursor} {t w : ValueType} {i j : ℕ} → u ≡ x → k ≡ l → t ≡ w → i ≡ j
+    → unclearAfter u (unclearFor r k t) i ≡ unclearAfter x (unclearFor r l w) j
+same-unclear r p q h e = cc
+
 -- reading on from here gives all arguments; the entries of those so far are put over what was there, l
-pub record Keeping (c : Convention) (s : List ℕ) (at e : ℕ) (r : ResultType) (l : List ℕ) (k : Cursor) (kept : List ℕ) (v count next n : ℕ) : Type 0 where
+pub record Keeping (c : Convention) (s : List ℕ) (at e : ℕ) (r : ResultType) (l : List ℕ) (k : Cursor) (kept : List ℕ) (v u count next n : ℕ) : Type 0 where
   pub ts : Trees
   pub turn : Turn c s at e ts count next n
   pub ends : next ≡ itemAfter at ts
   pub apart : at + 3 * count ≤ next
   pub last : k ≡ endIn c r (typesOf c ts)
   pub total : v ≡ valuesOf c (typesOf c ts)
+  pub unclear : u ≡ firstUnclear c (rulesOf c) (startIn c r) 0 (typesOf c ts)
   pub reached : Reached (rulesOf c) k v count
   pub entries : kept ≡ overlay l (rowsOf c r at ts)
 
 module _ (c : Convention) (s : List ℕ) (at e : ℕ) (r : ResultType) (l : List ℕ) where
-  pub keeping-start : (k : Cursor) → k ≡ startIn c r → at ≤ e → Keeping c s at e r l k l 0 0 at 1
-  unfolding typesOf lastOf valuesOf rowsOf encodeTrees
+  pub keeping-start : (k : Cursor) → k ≡ startIn c r → at ≤ e → Keeping c s at e r l k l 0 0 0 at 1
+  unfolding typesOf lastOf valuesOf firstUnclear rowsOf encodeTrees
   keeping-start k p h = rw p (record {
     ts = none;
     turn = turn-start c s at e h;
@@ -75,30 +83,33 @@ module _ (c : Convention) (s : List ℕ) (at e : ℕ) (r : ResultType) (l : List
     apart = omega arith;
     last = refl;
     total = refl;
+    unclear = refl;
     reached = reached-start (rulesOf c) (hiddenIn c r) (rules-lawful c);
     entries = overlay-nothing l;
   })
 
-  module _ (k : Cursor) (kept : List ℕ) (v count next n : ℕ) (m : Keeping c s at e r l k kept v count next n) where
+  module _ (k : Cursor) (kept : List ℕ) (v u count next n : ℕ) (m : Keeping c s at e r l k kept v u count next n) where
     pub keeping-more : next < e → (count ≡ maxArguments → ⊥) → (x : ItemRead) → x ≡ itemAnswer c (itemAt c 8 s e next) → (t : ValueType) (after j : ℕ) →
         x ≡ ItemRead.Item t after j →
-        Keeping c s at e r l (nextOf (rulesOf c) k t (sizeOf c t)) (splice kept (13 * count) (entryWords next (sizeOf c t) v (spanOf (rulesOf c) k t (sizeOf c t)))) (v + sizeOf c t) (count + 1) after (n + j)
+        Keeping c s at e r l (nextOf (rulesOf c) k t (sizeOf c t)) (splice kept (13 * count) (entryWords next (sizeOf c t) v (spanOf (rulesOf c) k t (sizeOf c t)))) (v + sizeOf c t) (unclearAfter u (unclearFor (rulesOf c) k t) count) (count + 1) after (n + j)
     unfolding typesOf rowsOf
     keeping-more h some x found t after j q =
         let a = item-answered c 8 s e next x t after j (omega arith) found q in
         let more = further c s at e (m .ts) count next n (m .turn) (m .ends) h some x found t after j q in
         let so-far : List ValueType = typesOf c (m .ts) in
-        let u : ValueType = typeOf c (more .tree) in
+        let w : ValueType = typeOf c (more .tree) in
         let rows : List ℕ = rowsOf c r at (m .ts) in
-        let here : List ℕ = entryWords (itemAfter at (m .ts)) (sizeOf c u) (valuesOf c so-far) (spanOf (rulesOf c) (endIn c r so-far) u (sizeOf c u)) in
+        let here : List ℕ = entryWords (itemAfter at (m .ts)) (sizeOf c w) (valuesOf c so-far) (spanOf (rulesOf c) (endIn c r so-far) w (sizeOf c w)) in
+        let many : count ≡ 0 + length so-far = omega (arith, m .turn .many, length-of-types c (m .ts)) in
         let place : 13 * count ≡ length rows = omega (arith, length-rows c r at (m .ts), m .turn .many) in
         record {
           ts = m .ts ▸ more .tree;
           turn = more .turn;
           ends = more .ends;
           apart = omega (arith, m .apart, a .on);
-          last = same-next c (m .last) (more .same) ∙ sym (last-more c (rulesOf c) (startIn c r) so-far u);
-          total = omega (arith, m .total, ap (sizeOf c) (more .same), values-more c so-far u);
+          last = same-next c (m .last) (more .same) ∙ sym (last-more c (rulesOf c) (startIn c r) so-far w);
+          total = omega (arith, m .total, ap (sizeOf c) (more .same), values-more c so-far w);
+          unclear = same-unclear (rulesOf c) (m .unclear) (m .last) (more .same) many ∙ sym (unclear-more c (rulesOf c) (startIn c r) 0 so-far w);
           reached = reached-more (rulesOf c) k v count t (sizeOf c t) (rules-lawful c) (a .sized .small) (m .reached);
           entries =
               ap (λ (y : List ℕ). splice y (13 * count) (entryWords next (sizeOf c t) v (spanOf (rulesOf c) k t (sizeOf c t)))) (m .entries)
@@ -120,31 +131,48 @@ module _ (c : Convention) (s : List ℕ) (at e : ℕ) (r : ResultType) (l : List
 
 module _ (c : Convention) (s : List ℕ) (at e : ℕ) (r : ResultType) (earlier : ℕ) where
   pub plan-no : (f : Fault) → argumentsIn c s at e ≡ no f →
-      plannedOf (refused (later earlier f)) ≡ plannedOf (planWith c r earlier (length s) (argumentsIn c s at e))
+      plannedOf (refused (later earlier f)) ≡ planCalled c r earlier (length s) (argumentsIn c s at e) (signatureOf s)
+  unfolding plannedBy
   plan-no f q = rw q
 
-  pub rows-no : (f : Fault) → argumentsIn c s at e ≡ no f → (table : List ℕ) → table ≡ tabled table (rowsWith c r at (length s) (argumentsIn c s at e))
+  pub rows-no : (f : Fault) → argumentsIn c s at e ≡ no f → (table : List ℕ) → table ≡ tabled table (rowsCalled c r at (length s) (argumentsIn c s at e))
+  unfolding rowsBy
   rows-no f q table = rw q (tabled-nothing table)
 
-  module _ (l : List ℕ) (k : Cursor) (kept : List ℕ) (v count next n : ℕ) (m : Keeping c s at e r l k kept v count next n) (last : e ≤ next) where
+  module _ (l : List ℕ) (k : Cursor) (kept : List ℕ) (v u count next n : ℕ) (m : Keeping c s at e r l k kept v u count next n) (last : e ≤ next) where
     pub plan-trailing : next < length s →
-        plannedOf (refused (fault Refusal.TrailingBytes next (earlier + n))) ≡ plannedOf (planWith c r earlier (length s) (argumentsIn c s at e))
+        plannedOf (refused (fault Refusal.TrailingBytes next (earlier + n))) ≡ planCalled c r earlier (length s) (argumentsIn c s at e) (signatureOf s)
+    unfolding plannedBy
     plan-trailing h = rw (turn-last c s at e (m .ts) count next n (m .turn) last, lt-ltb next (length s) h)
 
-    pub rows-trailing : next < length s → (table : List ℕ) → table ≡ tabled table (rowsWith c r at (length s) (argumentsIn c s at e))
+    pub rows-trailing : next < length s → (table : List ℕ) → table ≡ tabled table (rowsCalled c r at (length s) (argumentsIn c s at e))
+    unfolding rowsBy
     rows-trailing h table = rw (turn-last c s at e (m .ts) count next n (m .turn) last, lt-ltb next (length s) h) (tabled-nothing table)
 
-    pub plan-end : length s ≤ next →
+    pub plan-end : length s ≤ next → u ≡ 0 →
         _≡_ {A = Planned}
         (record { outcome = Outcome.Accepted (earlier + n); convention = c; result = resultIn c r; count = count; area = areaOf c k; values = v; copies = k .copies })
-        (plannedOf (planWith c r earlier (length s) (argumentsIn c s at e)))
-    unfolding planIn
-    plan-end h =
+        (planCalled c r earlier (length s) (argumentsIn c s at e) (signatureOf s))
+    unfolding planIn plannedBy
+    plan-end h z =
         let many : count ≡ length (typesOf c (m .ts)) = m .turn .many ∙ sym (length-of-types c (m .ts)) in
-        rw (turn-last c s at e (m .ts) count next n (m .turn) last, le-ltb next (length s) h) (cc (m .last, m .total, many))
+        rw (turn-last c s at e (m .ts) count next n (m .turn) last, le-ltb next (length s) h, sym (m .unclear) ∙ z) (cc (m .last, m .total, many))
 
-    pub rows-end : length s ≤ next → 13 * count ≤ length l → take (13 * count) kept ≡ rowsWith c r at (length s) (argumentsIn c s at e)
-    rows-end h room = rw (turn-last c s at e (m .ts) count next n (m .turn) last, le-ltb next (length s) h) (keeping-all c s at e r l k kept v count next n m room)
+    pub rows-end : length s ≤ next → u ≡ 0 → 13 * count ≤ length l → take (13 * count) kept ≡ rowsCalled c r at (length s) (argumentsIn c s at e)
+    unfolding rowsBy
+    rows-end h z room = rw (turn-last c s at e (m .ts) count next n (m .turn) last, le-ltb next (length s) h, sym (m .unclear) ∙ z) (keeping-all c s at e r l k kept v u count next n m room)
+
+    pub plan-unclear : length s ≤ next → 0 < u → plannedOf (refused (unclearFault (u - 1) (signatureOf s))) ≡ planCalled c r earlier (length s) (argumentsIn c s at e) (signatureOf s)
+    unfolding plannedBy
+    plan-unclear h z =
+        let some : u ≡ suc (u - 1) = omega arith in
+        rw (turn-last c s at e (m .ts) count next n (m .turn) last, le-ltb next (length s) h, sym (m .unclear) ∙ some)
+
+    pub rows-unclear : length s ≤ next → 0 < u → (table : List ℕ) → table ≡ tabled table (rowsCalled c r at (length s) (argumentsIn c s at e))
+    unfolding rowsBy
+    rows-unclear h z table =
+        let some : u ≡ suc (u - 1) = omega arith in
+        rw (turn-last c s at e (m .ts) count next n (m .turn) last, le-ltb next (length s) h, sym (m .unclear) ∙ some) (tabled-nothing table)
 
     pub small-end : length s ≤ next → SmallWith c r (length s) (argumentsIn c s at e) → SmallResult c r
     small-end h w = (rw (turn-last c s at e (m .ts) count next n (m .turn) last) at w) h

@@ -11,14 +11,10 @@ use Rattle.reader.specs.declared.ArgumentRead.{ArgumentRead}
 use Rattle.reader.specs.Argument.{argumentAnswer}
 use Rattle.plan.specs.Plan.{planAnswer}
 use Rattle.plan.specs.Disjoint.{spanAt}
+use Rattle.plan.specs.Call.{itemIn}
 use Rattle.plan_entries.specs.Words.{entryWords}
 
 -- of what the reader says of an argument
-abbrev pub itemIn : ArgumentRead → ℕ
-itemIn (ArgumentRead.Argument t place) = place
-itemIn ArgumentRead.Missing = 0
-itemIn (ArgumentRead.Refused f) = 0
-
 abbrev pub sizeIn : Convention → ArgumentRead → ℕ
 sizeIn c (ArgumentRead.Argument t place) = sizeOf c t
 sizeIn c ArgumentRead.Missing = 0

@@ -1,5 +1,5 @@
 -- The table's words from the arguments on: the same entries as of a whole reading (law `rows-entries`). Assumes nothing.
-use Prim.Native.Nat.{ℕ, _+_, _*_, _≤_}
+use Prim.Native.Nat.{ℕ, zero, suc, _+_, _*_, _≤_}
 use mathlib.Core.List.{List, [], _++_}
 use lib.Dec.{ltb}
 use lib.ListN.{length}
@@ -11,10 +11,14 @@ use Rattle.items.specs.Reading.{Reading, got, no}
 use Rattle.items.specs.Encode.{encodeTrees}
 use Rattle.signature.specs.Limits.{maxArguments}
 use Rattle.signature.specs.declared.ResultType.{ResultType}
+use Rattle.signature.specs.Signature.{Signature}
 use Rattle.places.specs.Step.{rulesOf, spanOf}
-use Rattle.plan.specs.Plan.{endIn, valuesOf, typesOf}
+use Rattle.plan.specs.Plan.{endIn, valuesOf, typesOf, refused, planWith}
+use Rattle.plan.specs.Call.{unclearWith, unclearFault}
 use Rattle.plan.specs.Limits.{SmallResult}
 use Rattle.plan_entries.specs.Words.{entryWords}
+use Rattle.plan_words.specs.declared.Planned.{Planned}
+use Rattle.plan_words.specs.Planned.{plannedOf}
 
 -- the place of the item after those of the arguments ts, which stand one after the other from `at` on
 abbrev pub itemAfter : ℕ → Trees → ℕ
@@ -32,6 +36,21 @@ rowsOf c r at (ts ▸ t) =
 abbrev pub rowsWith : Convention → ResultType → ℕ → ℕ → Reading Trees → List ℕ
 rowsWith c r at all (got ts next m) = pick (ltb next all) [] (rowsOf c r at ts)
 rowsWith c r at all (no f) = []
+
+-- the same of a call, which the reading x is of: refused by 29 where argument number u, counted from 1, is the first unclear one
+unfoldable pub plannedBy : ℕ → Planned → Reading Signature → Planned
+plannedBy zero p x = p
+plannedBy (suc i) p x = plannedOf (refused (unclearFault i x))
+
+unfoldable pub rowsBy : ℕ → List ℕ → List ℕ
+rowsBy zero rows = rows
+rowsBy (suc i) rows = []
+
+abbrev pub planCalled : Convention → ResultType → ℕ → ℕ → Reading Trees → Reading Signature → Planned
+planCalled c r n all y x = plannedBy (unclearWith c r all y) (plannedOf (planWith c r n all y)) x
+
+abbrev pub rowsCalled : Convention → ResultType → ℕ → ℕ → Reading Trees → List ℕ
+rowsCalled c r at all y = rowsBy (unclearWith c r all y) (rowsWith c r at all y)
 
 -- what the planner asks of the result's type: refusal 8 has passed it wherever the signature is accepted
 abbrev pub SmallWith : Convention → ResultType → ℕ → Reading Trees → Type 0

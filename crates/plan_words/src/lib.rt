@@ -15,10 +15,11 @@ ghost use Prim.Native.Nat.{_^_, _≤_, _<_};
 ghost use lib.ListN.{length};
 ghost use Rattle.signature.specs.Limits.{maxLength};
 ghost use Rattle.signature.specs.Read.{argumentsIn, signatureOf};
-ghost use Rattle.plan.specs.Plan.{refused, planAnswer, planWith};
+ghost use Rattle.plan.specs.Plan.{refused, planAnswer};
+ghost use Rattle.plan.specs.Call.{callOf};
 ghost use Rattle.plan_entries.specs.Words.{tabled};
 ghost use Rattle.plan_words.specs.Entries.{entriesOf};
-ghost use Rattle.plan_words.specs.Rows.{rowsWith, SmallWith, KeepsAll};
+ghost use Rattle.plan_words.specs.Rows.{planCalled, rowsCalled, SmallWith, KeepsAll};
 ghost use Rattle.plan_words.specs.Planned.{plannedOf};
 
 // A plan without the places of its arguments.
@@ -62,13 +63,14 @@ fn plan_arguments(
     places: &mut [u64],
 ) -> Planned
     requires { ⌜ (at ≤ end) × (end ≤ length (now sig)) × (length (now sig) ≤ maxLength) × (earlier ≤ 2 ^ 16) × SmallWith convention returned (length (now sig)) (argumentsIn convention (now sig) at end) × KeepsAll at end (length (now kept)) ⌝ }
-    ensures { λ p. ⌜ p ≡ plannedOf (planWith convention returned earlier (length (now (sig .entry))) (argumentsIn convention (now (sig .entry)) at end)) ⌝ }
-    ensures { λ p. ⌜ now (places .exit) ≡ tabled (now (places .entry)) (rowsWith convention returned at (length (now (sig .entry))) (argumentsIn convention (now (sig .entry)) at end)) ⌝ }
+    ensures { λ p. ⌜ p ≡ planCalled convention returned earlier (length (now (sig .entry))) (argumentsIn convention (now (sig .entry)) at end) (signatureOf (now (sig .entry))) ⌝ }
+    ensures { λ p. ⌜ now (places .exit) ≡ tabled (now (places .entry)) (rowsCalled convention returned at (length (now (sig .entry))) (argumentsIn convention (now (sig .entry)) at end)) ⌝ }
 {
     let rules = abi::call_rules_of(convention);
     let hidden = planning::hidden_in(convention, returned);
     let mut c = placing::start(convention, hidden);
     let mut values: usize = 0;
+    let mut unclear: usize = 0;
     let mut count: usize = 0;
     let mut next = at;
     let mut items: usize = 1;
@@ -87,6 +89,7 @@ fn plan_arguments(
                 items: more,
             } => {
                 let size = types::size_of(convention, ty);
+                unclear = placing::unclear_after(unclear, rules, c, ty, count);
                 let p = placing::step(rules, c, ty, size);
                 let s = p.span;
                 plan_entries::keep_entry(kept, count, next, size, values, s);
@@ -108,6 +111,9 @@ fn plan_arguments(
             place: next,
             passed: counted,
         });
+    }
+    if unclear != 0 {
+        return no_plan(planning::unclear_fault(sig, unclear - 1));
     }
     plan_entries::write_table(places, kept, ENTRY * count);
     let result = planning::result_in(convention, returned);
@@ -134,8 +140,8 @@ fn plan_part(
     places: &mut [u64],
 ) -> Planned
     requires { ⌜ (at ≤ end) × (end ≤ length (now sig)) × (length (now sig) ≤ maxLength) × (earlier ≤ 2 ^ 16) × SmallWith convention returned (length (now sig)) (argumentsIn convention (now sig) at end) ⌝ }
-    ensures { λ p. ⌜ p ≡ plannedOf (planWith convention returned earlier (length (now (sig .entry))) (argumentsIn convention (now (sig .entry)) at end)) ⌝ }
-    ensures { λ p. ⌜ now (places .exit) ≡ tabled (now (places .entry)) (rowsWith convention returned at (length (now (sig .entry))) (argumentsIn convention (now (sig .entry)) at end)) ⌝ }
+    ensures { λ p. ⌜ p ≡ planCalled convention returned earlier (length (now (sig .entry))) (argumentsIn convention (now (sig .entry)) at end) (signatureOf (now (sig .entry))) ⌝ }
+    ensures { λ p. ⌜ now (places .exit) ≡ tabled (now (places .entry)) (rowsCalled convention returned at (length (now (sig .entry))) (argumentsIn convention (now (sig .entry)) at end)) ⌝ }
 {
     if end - at <= FEW_BYTES {
         let mut few = [0u16; 156];
@@ -165,8 +171,8 @@ fn plan_part(
 
 // The plan of a signature's bytes, any bytes at all. A table that is too short for all arguments is left as it was.
 pub fn plan_words(sig: &[u8], places: &mut [u64]) -> Planned
-    ensures { λ p. ⌜ p ≡ plannedOf (planAnswer (signatureOf (now (sig .entry)))) ⌝ }
-    ensures { λ p. ⌜ now (places .exit) ≡ tabled (now (places .entry)) (entriesOf (signatureOf (now (sig .entry)))) ⌝ }
+    ensures { λ p. ⌜ p ≡ plannedOf (planAnswer (callOf (now (sig .entry)))) ⌝ }
+    ensures { λ p. ⌜ now (places .exit) ≡ tabled (now (places .entry)) (entriesOf (callOf (now (sig .entry)))) ⌝ }
 {
     match signature_head::read_head(sig) {
         HeadRead::Refused(fault) => no_plan(fault),

@@ -1,10 +1,13 @@
 // The plan of a signature: the code.
 use conventions::Convention;
+use items::Fault;
+use items::Refusal;
 use places::ByteRange;
 use places::RegisterRange;
 use places::ResultPlaces;
 use places::Span;
 use plan::Plan;
+use reader::ArgumentRead;
 use signature::MAX_ARGUMENTS;
 use signature::Outcome;
 use signature::ResultType;
@@ -12,7 +15,9 @@ use signature::SignatureRead;
 ghost use mathlib.Core.Path.{_≡_};
 ghost use Rattle.signature.specs.Read.{signatureOf};
 ghost use Rattle.plan.specs.Plan.{hiddenIn, resultIn, blankPlan, planned, planAnswer};
+ghost use Rattle.signature.specs.Answer.{signatureAnswer};
 ghost use Rattle.plan.specs.Limits.{SmallResult, Plannable};
+ghost use Rattle.plan.specs.Call.{itemIn, unclearFault, unclearOf, callOf, outcomeFor};
 
 // A plan without spans and sizes.
 fn blank(outcome: Outcome, convention: Convention, result: ResultPlaces, count: usize) -> Plan
@@ -103,9 +108,105 @@ pub fn plan_signature(g: SignatureRead) -> Plan
     }
 }
 
+// The number of the first unclear argument of a signature that was read, counted from 1; 0 where none is. Only the later edition's rules are looked
+// through.
+pub fn first_unclear(g: SignatureRead) -> usize
+    requires { ⌜ Plannable g ⌝ }
+    ensures { λ n. ⌜ n ≡ unclearOf g ⌝ }
+{
+    let convention = g.convention;
+    let returned = g.result;
+    let count = g.count;
+    let rules = abi::call_rules_of(convention);
+    if placing::always_clear(rules) {
+        return 0;
+    }
+    let hidden = hidden_in(convention, returned);
+    let mut c = placing::start(convention, hidden);
+    let mut unclear: usize = 0;
+    let mut i: usize = 0;
+    while i < count {
+        let a = g.arguments[i];
+        let t = a.ty;
+        let size = types::size_of(convention, t);
+        unclear = placing::unclear_after(unclear, rules, c, t, i);
+        c = placing::advance(rules, c, t, size);
+        i = i + 1;
+    }
+    unclear
+}
+
+// The place of an argument's item.
+fn item_in(a: ArgumentRead) -> usize
+    ensures { λ n. ⌜ n ≡ itemIn a ⌝ }
+{
+    match a {
+        ArgumentRead::Argument { ty, place } => place,
+        ArgumentRead::Missing => 0,
+        ArgumentRead::Refused(_) => 0,
+    }
+}
+
+// 29 of argument number `index`, counted from 0. The signature is read again to find its place: nothing else asks for that.
+pub fn unclear_fault(sig: &[u8], index: usize) -> Fault
+    ensures { λ f. ⌜ f ≡ unclearFault index (signatureOf (now (sig .entry))) ⌝ }
+{
+    let a = reader::argument_at(sig, index);
+    let place = item_in(a);
+    Fault {
+        reason: Refusal::UnclearPlace,
+        place,
+        passed: 0,
+    }
+}
+
+// The same as below, where the rules leave something open.
+fn later_outcome(sig: &[u8], g: SignatureRead) -> Outcome
+    requires { ⌜ g ≡ signatureAnswer (signatureOf (now sig)) ⌝ }
+    ensures { λ o. ⌜ o ≡ outcomeFor (now (sig .entry)) ⌝ }
+{
+    let unclear = first_unclear(g);
+    if unclear == 0 {
+        return g.outcome;
+    }
+    let fault = unclear_fault(sig, unclear - 1);
+    Outcome::Refused(fault)
+}
+
+// The outcome of a call, by its signature's bytes and what was read of them.
+pub fn call_outcome(sig: &[u8], g: SignatureRead) -> Outcome
+    requires { ⌜ g ≡ signatureAnswer (signatureOf (now sig)) ⌝ }
+    ensures { λ o. ⌜ o ≡ outcomeFor (now (sig .entry)) ⌝ }
+{
+    let convention = g.convention;
+    let rules = abi::call_rules_of(convention);
+    if placing::always_clear(rules) {
+        return g.outcome;
+    }
+    later_outcome(sig, g)
+}
+
+// The plan of a call, by the same.
+fn plan_call(sig: &[u8], g: SignatureRead) -> Plan
+    requires { ⌜ g ≡ signatureAnswer (signatureOf (now sig)) ⌝ }
+    ensures { λ p. ⌜ p ≡ planAnswer (callOf (now (sig .entry))) ⌝ }
+{
+    let unclear = first_unclear(g);
+    if unclear == 0 {
+        return plan_signature(g);
+    }
+    let fault = unclear_fault(sig, unclear - 1);
+    blank(
+        Outcome::Refused(fault),
+        Convention::Ppc64,
+        ResultPlaces::Nothing,
+        0,
+    )
+}
+
 // The plan of a signature's bytes: any bytes at all.
 pub fn plan_of(s: &[u8]) -> Plan
-    ensures { λ p. ⌜ p ≡ planAnswer (signatureOf (now (s .entry))) ⌝ }
+    ensures { λ p. ⌜ p ≡ planAnswer (callOf (now (s .entry))) ⌝ }
 {
-    plan_signature(whole_signature::read_signature(s))
+    plan_call(s, whole_signature::read_signature(s))
 }

@@ -2,7 +2,7 @@
 ghost use mathlib.Core.Path.{_≡_};
 ghost use Prim.Native.Nat.{_*_, _≤_};
 ghost use Rattle.places.specs.declared.Rules.{Rules};
-ghost use Rattle.places.specs.Power.{words, fprs, shareOf, powerShare, powerSpan, powerNext};
+ghost use Rattle.places.specs.Power.{words, fprs, unclear, shareOf, powerShare, powerSpan, powerNext};
 ghost use Rattle.places.specs.Step.{Roomy, placedAs, nextOf, placed};
 ghost use Rattle.power_step.specs.Counted.{Counted};
 use places::Cursor;
@@ -154,4 +154,22 @@ pub fn advance(f: PowerRules, c: Cursor, t: ValueType, size: usize) -> Cursor
 {
     let word = f.word;
     next_of(word, c, taken_of(f, c, t, size))
+}
+
+// Whether the papers leave open where the argument goes: some FPRs are left, but fewer than its type asks for. Only the later edition's rules do.
+pub fn is_unclear(f: PowerRules, c: Cursor, t: ValueType) -> bool
+    requires { ⌜ Roomy c ⌝ }
+    ensures { λ b. ⌜ b ≡ unclear f c t ⌝ }
+{
+    let edition = f.edition;
+    match edition {
+        Edition::Earlier => false,
+        Edition::Later => {
+            let left = PowerRules::PAST_FLOATING - c.floating;
+            if left == 0 {
+                return false;
+            }
+            left < fprs_of(edition, t)
+        }
+    }
 }

@@ -14,7 +14,6 @@ use Rattle.signature.specs.Answer.{signatureAnswer}
 use Rattle.places.specs.Step.{rulesOf}
 use Rattle.plan.specs.declared.Plan.{Plan}
 use Rattle.plan.specs.declared.Measured.{Measured}
-use Rattle.plan.specs.Plan.{measureOf}
 use Rattle.plan.proofs.Answers.{answer-plannable}
 use Rattle.slots.specs.declared.Answer.{Answer}
 use Rattle.items.specs.declared.Fault.{Fault}
@@ -22,7 +21,7 @@ use Rattle.slots.specs.Buffers.{Buffers}
 use Rattle.slots.specs.Placements.{Placement, valuesAt}
 use Rattle.slots.specs.Limits.{Held, Fits, All, sizesOf}
 use Rattle.slots.specs.Refusals.{firstOf, orElse, isRefused}
-use Rattle.slots.specs.Arguments.{argumentsOf, planFor}
+use Rattle.slots.specs.Arguments.{argumentsOf, planFor, sizesFor}
 use Rattle.slots.proofs.Answered.{carried}
 use Rattle.arguments.specs.Table.{argumentsFrom}
 use Rattle.arguments.proofs.Table.{arguments-read}
@@ -51,7 +50,7 @@ tests-passed have p e =
     }
 
 -- the same of sizes m that were measured
-pub tests-lent : (s : List ℕ) (have : Sizes) (m : Measured) → m ≡ measureOf (planFor s)
+pub tests-lent : (s : List ℕ) (have : Sizes) (m : Measured) → m ≡ sizesFor s
     → firstOf (readTests have (m .values) (m .area)) ≡ Answer.Done → Lent have (planFor s)
 tests-lent s have m p e = tests-passed have (planFor s) (rw p at e)
 
@@ -80,7 +79,7 @@ all-sizes s g same = ap sizesOf (arguments-read s g same) ∙ carried s .total
 
 -- ---- the answer
 
-module _ (s : List ℕ) (have : Sizes) (base : ℕ) (b : Buffers) (m : Measured) (p : m ≡ measureOf (planFor s)) where
+module _ (s : List ℕ) (have : Sizes) (base : ℕ) (b : Buffers) (m : Measured) (p : m ≡ sizesFor s) where
   pub answer-refused : (f : Fault) → m .outcome ≡ Outcome.Refused f → Answer.Unread f ≡ readAnswer s have base b
   unfolding readAnswer
   answer-refused f e = rw (rw p at e)

@@ -21,6 +21,7 @@ use Rattle.slots.specs.Buffers.{Buffers}
 use Rattle.slots.specs.Placements.{Placement, floatAt, addressAt, valuesAt}
 use Rattle.slots.specs.Refusals.{Test, test, differ, firstOf, afterReading, orElse, firstOfAll, isDone, floatAnswer}
 use Rattle.slots.specs.Limits.{All}
+use Rattle.plan.specs.Call.{outcomeFor}
 use Rattle.slots.specs.Arguments.{argumentsOf, planFor, rulesFor}
 use Rattle.plan.specs.Limits.{Plannable}
 use Rattle.arguments.specs.Table.{argumentsFrom}
@@ -76,7 +77,7 @@ readTests have values area =
 
 unfoldable pub readAnswer : List ℕ → Sizes → ℕ → Buffers → Answer
 readAnswer s have base b =
-    afterReading (planFor s .outcome)
+    afterReading (outcomeFor s)
     (orElse (firstOf (readTests have (planFor s .values) (planFor s .area))) (argumentsAnswer (rulesFor s) base (argumentsOf s) b))
 
 -- "Every refusal leaves all buffers .. untouched"

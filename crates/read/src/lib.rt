@@ -182,7 +182,7 @@ pub fn read(
     ensures { λ a. ⌜ now (values .exit) ≡ readValues (now (sig .entry)) base a (buffers (now (image .entry)) (now (area .entry)) (now (copies .entry))) (now (values .entry)) ⌝ }
 {
     let g = whole_signature::read_signature(sig);
-    let m = arguments::measure_table(g);
+    let m = arguments::measure_call(sig, g);
     let outcome = m.outcome;
     match outcome {
         Outcome::Refused(fault) => Answer::Unread(fault),

@@ -30,6 +30,7 @@ use Rattle.registers.specs.Registers.{spread}
 use Rattle.slots.specs.declared.Answer.{Answer}
 use Rattle.slots.specs.Buffers.{Buffers, buffers, Slot, put, putAll, bytesAt}
 use Rattle.slots.specs.Placements.{slotsOfAll, hiddenSlots}
+use Rattle.plan.specs.Call.{outcomeFor}
 use Rattle.slots.specs.Arguments.{argumentsIn, argumentsOf, planFor, rulesFor}
 use Rattle.slots.proofs.Buffers.{putAll-append}
 use Rattle.slots.proofs.Answered.{arguments-got}
@@ -47,6 +48,7 @@ unfolding startOf nextOf spanOf fresh words fprs shareOf powerShare zClass zSpan
 address-first Convention.Ppc64 = (omega arith, omega arith)
 address-first Convention.Z = (omega arith, omega arith)
 address-first Convention.Aix = (omega arith, omega arith)
+address-first Convention.Ppc64b = (omega arith, omega arith)
 
 -- a hidden address has it, and the arguments have those after it
 register-first : (c : Convention) (r : ResultType) (x : Span) → resultIn c r ≡ ResultPlaces.Hidden x → (x .general .first < startIn c r .general) × (x .general .first < 32)
@@ -80,7 +82,7 @@ hidden-stands s values image area copies base hidden x h e =
     let ss : List Slot = slotsOfAll (rulesFor s) base (argumentsOf s) values in
     let size : length image ≡ 512 = filled-lent s values image area copies base hidden h .image in
     let below = register-below (signatureOf s) x e in
-    let low = tests-low _ _ _ _ _ _ (reading-done (planFor s .outcome) _ (h .accepted) Answer.Done refl .0) in
+    let low = tests-low _ _ _ _ _ _ (reading-done (outcomeFor s) _ (h .accepted) Answer.Done refl .0) in
     let word : spread w 1 (bytesOf w hidden) ≡ bytesOf 8 hidden =
     low-address w hidden x (word-most (rulesOf c) (rules-lawful c)) (subst (λ (q : ResultPlaces). highAddress w q hidden ≡ false) e low) in
     rw e

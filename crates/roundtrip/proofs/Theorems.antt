@@ -35,6 +35,7 @@ use Rattle.slots.specs.Buffers.{Buffers, buffers, Slot, putAll}
 use Rattle.slots.specs.Placements.{Placement, placement, placements, copyBytes, slotsOf, slotsOfAll, hiddenSlots, valuesAt}
 use Rattle.slots.specs.Limits.{Held, Fits, All, sizesOf}
 use Rattle.slots.specs.Refusals.{firstOf, orElse, firstOfAll, afterReading}
+use Rattle.plan.specs.Call.{outcomeFor}
 use Rattle.slots.specs.Arguments.{argumentsIn, argumentsOf, planFor, rulesFor, Carried}
 use Rattle.slots.proofs.Buffers.{SameLengths, same-then, putAll-lengths, putAll-append}
 use Rattle.slots.proofs.Answered.{carried, arguments-got}
@@ -206,7 +207,7 @@ pub record Left (s values : List ℕ) (base : ℕ) (b : Buffers) : Type 0 where
 pub filled-lent : (s values image area copies : List ℕ) (base hidden : ℕ) → Filled s values image area copies base hidden → Lent (lengths values image area copies) (planFor s) base
 unfolding fillAnswer
 filled-lent s values image area copies base hidden h =
-    tests-passed (lengths values image area copies) (planFor s) base _ (h .low) (reading-done (planFor s .outcome) _ (h .accepted) Answer.Done refl .0)
+    tests-passed (lengths values image area copies) (planFor s) base _ (h .low) (reading-done (outcomeFor s) _ (h .accepted) Answer.Done refl .0)
 
 pub filled-left : (s values image area copies : List ℕ) (base hidden : ℕ) → Filled s values image area copies base hidden → Left s values base (left s values image area copies base hidden)
 unfolding fillBuffers filledSlots
@@ -229,9 +230,9 @@ filled-left s values image area copies base hidden h =
 
 -- an accepted filling's signature is read, and a later answer decides
 pub filled-answer : (s values image area copies : List ℕ) (base hidden : ℕ) → Filled s values image area copies base hidden → (y : Answer) → y ≡ Answer.Done
-    → afterReading (planFor s .outcome) y ≡ Answer.Done
+    → afterReading (outcomeFor s) y ≡ Answer.Done
 unfolding fillAnswer
-filled-answer s values image area copies base hidden h y q = reading-done (planFor s .outcome) _ (h .accepted) y q .1
+filled-answer s values image area copies base hidden h y q = reading-done (outcomeFor s) _ (h .accepted) y q .1
 
 pub values-total : (s : List ℕ) → sizesOf (argumentsOf s) ≡ planFor s .values
 unfolding argumentsOf

@@ -42,6 +42,7 @@ use Rattle.slots.specs.Forms.{roomOf, startsAtHead, homeBytes, ownStart, narrow
 use Rattle.slots.specs.Placements.{Placement, placements, wordsAt, floatAt, wordsValue, valueAt, valuesAt}
 use Rattle.slots.specs.Limits.{Held, All, sizesOf}
 use Rattle.slots.specs.Refusals.{firstOf, orElse, firstOfAll, floatAnswer, afterReading, isDone}
+use Rattle.plan.specs.Call.{outcomeFor}
 use Rattle.slots.specs.Arguments.{argumentsIn, argumentsOf, planFor, rulesFor, Carried}
 use Rattle.registers.specs.Registers.{gather}
 use Rattle.registers.proofs.Registers.{length-gather}
@@ -410,7 +411,7 @@ arguments-readable s base b image area done =
 
 -- what can be read can be homed, and then each view is the value read
 viewed : (s : List ℕ) (base : ℕ) (b : Buffers) → homeless (rulesFor s) ≡ false
-    → ((y : Answer) → y ≡ Answer.Done → afterReading (planFor s .outcome) y ≡ Answer.Done) → length (b .image) ≡ 512 → planFor s .area ≤ length (b .area)
+    → ((y : Answer) → y ≡ Answer.Done → afterReading (outcomeFor s) y ≡ Answer.Done) → length (b .image) ≡ 512 → planFor s .area ≤ length (b .area)
     → argumentsAnswer (rulesFor s) base (argumentsOf s) b ≡ Answer.Done
     → (All (λ (p : Placement). Readable (rulesFor s) base p b) (argumentsOf s) → All (FloatBytes (rulesFor s) base b) (argumentsOf s))
     → Viewed s (valuesAt (rulesFor s) base (argumentsOf s) b) b
@@ -436,11 +437,11 @@ unfolding readAnswer readValues
 view-as-read s into base b bytes accepted power =
     let p : Plan = planFor s in
     let have : Sizes = sizes into (b .image) (b .area) in
-    let passed = answer-passed (p .outcome) _ accepted Answer.Done refl .0 in
+    let passed = answer-passed (outcomeFor s) _ accepted Answer.Done refl .0 in
     let both = or-done (firstOf (readTests have (p .values) (p .area))) (argumentsAnswer (rulesFor s) base (argumentsOf s) b) passed in
     let lent = tests-passed have p (both .0) in
     let back : Viewed s (valuesAt (rulesFor s) base (argumentsOf s) b) b =
-    viewed s base b power (λ y q. answer-passed (p .outcome) _ accepted y q .1) (lent .image) (lent .area) (both .1) (λ readable. image-bytes (rulesFor s) base (argumentsOf s) b bytes) in
+    viewed s base b power (λ y q. answer-passed (outcomeFor s) _ accepted y q .1) (lent .image) (lent .area) (both .1) (λ readable. image-bytes (rulesFor s) base (argumentsOf s) b bytes) in
     let total = length-values (rulesFor s) base (argumentsOf s) b (arguments-readable s base b (lent .image) (lent .area) (both .1)) in
     subst (λ (v : List ℕ). Viewed s v b) (sym (overlay-whole into _ (lent .values ∙ sym (values-total s) ∙ sym total))) back
 
@@ -464,6 +465,7 @@ address-word : (c : Convention) → homeless (rulesOf c) ≡ false → wordOf (r
 address-word Convention.Ppc64 q = address-power 8 Edition.Earlier (omega arith) (omega arith)
 address-word Convention.Z q = let z : _≡_ {A = ℕ} 0 1 = cc in absurd (omega arith)
 address-word Convention.Aix q = address-power 4 Edition.Earlier (omega arith) (omega arith)
+address-word Convention.Ppc64b q = address-power 8 Edition.Later (omega arith) (omega arith)
 
 hidden-start : (c : Convention) (r : ResultType) (x : Span) → homeless (rulesOf c) ≡ false → resultIn c r ≡ ResultPlaces.Hidden x → wordOf (rulesOf c) ≤ startIn c r .stack
 hidden-start c r x q e = rw (hidden-address c r x e .1) (address-word c q)
@@ -483,7 +485,7 @@ hidden-stays s image area x e = go (homeAnswer s image (length area)) refl
 
     go : (a : Answer) → homeAnswer s image (length area) ≡ a → part 0 w (pick (isDone a) (homed (rulesFor s) (argumentsOf s) image area) area) ≡ part 0 w area
     go Answer.Done q =
-        let tests = or-done _ _ (reading-done (planFor s .outcome) _ q) .0 in
+        let tests = or-done _ _ (reading-done (outcomeFor s) _ q) .0 in
         let power = home-passed _ _ _ _ tests .homes in
         homed-kept (rulesFor s) (argumentsOf s) w 0 w image area (homes-follow s w power (starts-hidden (signatureOf s) x power e)) (omega arith)
     go (Answer.Unread f) q = refl

@@ -7,13 +7,14 @@ use mathlib.Core.List.{List, [], _∷_}
 use native.Mathlib.Omega.{arith}
 use lib.Dec.{leb, ltb}
 use borrow.Author.Tests.{ltb-true}
-use Rattle.rules.specs.Rules.{Convention, Ppc64, Z, Aix, Span, inSpan, within, Bank, Rules, rules}
+use Rattle.rules.specs.Rules.{Convention, Ppc64, Z, Aix, Ppc64b, Span, inSpan, within, Bank, Rules, ppc64, rules}
 use Rattle.rules.specs.Frames.{writable}
 use Rattle.rules.specs.Lawful.{apart, disjoint, before, BankLaw, Lawful}
 use Rattle.rules.proofs.Facts.{and-yes, or-yes, between}
 
-pub lawful : (c : Convention) → Lawful (rules c)
-lawful Ppc64 = record {
+-- of codes 1 and 4
+ppc64-lawful : Lawful ppc64
+ppc64-lawful = record {
   word = omega arith;
   chain = omega arith;
   head = omega arith;
@@ -34,6 +35,9 @@ lawful Ppc64 = record {
   fpr = record { most = omega arith; last = omega arith; free = refl; split = refl; inside = refl };
   linkage = omega arith;
 }
+
+pub lawful : (c : Convention) → Lawful (rules c)
+lawful Ppc64 = ppc64-lawful
 lawful Z = record {
   word = omega arith;
   chain = omega arith;
@@ -76,6 +80,7 @@ lawful Aix = record {
   fpr = record { most = omega arith; last = omega arith; free = refl; split = refl; inside = refl };
   linkage = omega arith;
 }
+lawful Ppc64b = ppc64-lawful
 
 apart-no : (v : Span) (ws : List Span) (n : ℕ) → apart v ws ≡ true → inSpan v n ≡ true → within ws n ≡ true → ⊥
 apart-no v [] n a p q = false≢true q

@@ -1,12 +1,12 @@
--- A convention's frames as a value: its numbers, and the three values; those that calls have too come from `conventions`. Document 01, "Frames"; document 02, No. 1, No. 8
--- and No. 9; the published papers are 000 (PPC64), 001 (Z) and 003 (AIX).
+-- A convention's frames as a value: its numbers, and the three values; those that calls have too come from `conventions`. Document 01, "Frames"; document 02, No. 1, No. 8,
+-- No. 9 and No. 12; the published papers are 000 (PPC64), 001 (Z) and 003 (AIX).
 -- Assumes nothing.
 use Prim.Native.Nat.{ℕ, _-_, _^_}
 use mathlib.Core.Bool.{Bool, false, _&&_, _||_}
 use mathlib.Core.List.{List, [], _∷_}
 use lib.Dec.{leb}
 pub use Rattle.conventions.specs.declared.Convention.{Convention}
-pub use Rattle.conventions.specs.declared.Convention.the-variants.{Ppc64, Z, Aix}
+pub use Rattle.conventions.specs.declared.Convention.the-variants.{Ppc64, Z, Aix, Ppc64b}
 use Rattle.conventions.specs.Numbers.{wordBytes, headerBytes, stackAlignment, leastArea}
 pub use Rattle.rules.specs.declared.Span.{Span}
 pub use Rattle.rules.specs.declared.Bank.{Bank}
@@ -97,3 +97,5 @@ abbrev pub rules : Convention → Rules
 rules Ppc64 = ppc64
 rules Z = z
 rules Aix = aix
+-- 02, No. 12: code 4 is "PPC64 with that rule", which is none of frames
+rules Ppc64b = ppc64

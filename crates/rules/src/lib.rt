@@ -1,12 +1,10 @@
-// The rules of a convention's stack frames as numbers: what a request may ask, and how large its frame is. The definitions of what is saved where and of what
-// may be written stand here too; `saving`, `restoring` and `writing` have their code. Every function is written once over a `Rules`, so a convention is a value and no code.
+// The rules of a convention's stack frames as numbers. The definitions of what a request may ask, of its frame's size, of what is saved where and of what may be
+// written stand here too; `requests`, `saving`, `restoring` and `writing` have their code. Every function is written once over a `Rules`, so a convention is a value and no code.
 
 ghost use mathlib.Core.Path.{_≡_};
-ghost use mathlib.Core.Bool.{true};
 ghost use Prim.Native.Nat.{_<_};
 ghost use Rattle.rules.specs.Rules.{inSpan};
-ghost use Rattle.rules.specs.Frames.{startFrame, withPointer, okLeaf, okRequest, hasCondition, outgoingLength, below, fullSize, frameSize, chainWidth};
-ghost use Rattle.rules.specs.Lawful.{Lawful};
+ghost use Rattle.rules.specs.Frames.{startFrame, withPointer, hasCondition};
 
 // The registers `first` to `last`.
 pub struct Span {
@@ -118,115 +116,6 @@ pub fn has_condition(p: Linkage) -> bool
         Linkage::LinkRegister(_, _) => true,
         Linkage::SaveArea(_) => false,
     }
-}
-
-// Is a request that asks for a leaf one that may?
-fn leaf_ok(k: Rules, f: Frame) -> bool
-    ensures { λ r. ⌜ r ≡ okLeaf k f ⌝ }
-{
-    if !f.leaf {
-        return true;
-    }
-    let linkage = k.linkage;
-    if !has_condition(linkage) {
-        return false;
-    }
-    if f.locals != 0 {
-        return false;
-    }
-    f.outgoing == 0
-}
-
-// The largest outgoing area that a request may ask for: `maxOutgoing` of specs/Frames.antt.
-pub const MAX_OUTGOING: usize = 32776;
-
-// Is a request in range?
-pub fn request_ok(k: Rules, f: Frame) -> bool
-    ensures { λ r. ⌜ r ≡ okRequest k f ⌝ }
-{
-    let g = k.gpr.request;
-    if !in_span(g, f.first_gpr) {
-        return false;
-    }
-    let m = k.fpr.request;
-    if !in_span(m, f.first_fpr) {
-        return false;
-    }
-    if 32000 < f.locals {
-        return false;
-    }
-    let p = f.outgoing;
-    if p % 8 != 0 {
-        return false;
-    }
-    if MAX_OUTGOING < p {
-        return false;
-    }
-    if !leaf_ok(k, f) {
-        return false;
-    }
-    let linkage = k.linkage;
-    if has_condition(linkage) {
-        return true;
-    }
-    !f.saves_cr
-}
-
-// The length of a frame's outgoing area.
-pub fn outgoing_length(k: Rules, f: Frame) -> usize
-    ensures { λ r. ⌜ r ≡ outgoingLength k f ⌝ }
-{
-    words::larger(k.least, f.outgoing)
-}
-
-// The bytes that a frame saves below its caller's pointer.
-pub fn below_size(k: Rules, f: Frame) -> usize
-    requires { ⌜ Lawful k ⌝ }
-    requires { ⌜ okRequest k f ≡ true ⌝ }
-    ensures { λ r. ⌜ r ≡ below (k .linkage) k f ⌝ }
-{
-    let e = k.end;
-    let w = k.word;
-    let g = f.first_gpr;
-    let m = f.first_fpr;
-    let linkage = k.linkage;
-    match linkage {
-        Linkage::LinkRegister(_, _) => 8 * (e - m) + w * (e - g),
-        Linkage::SaveArea(_) => 8 * (e - m),
-    }
-}
-
-// The size of a frame that is no leaf.
-fn full_size(k: Rules, f: Frame) -> usize
-    requires { ⌜ Lawful k ⌝ }
-    requires { ⌜ okRequest k f ≡ true ⌝ }
-    ensures { λ r. ⌜ r ≡ fullSize k f ⌝ }
-{
-    let b = below_size(k, f);
-    let p = outgoing_length(k, f);
-    words::round_up(k.header + p + f.locals + b, k.alignment)
-}
-
-// How far an enter moves the stack pointer.
-pub fn frame_size(k: Rules, f: Frame) -> usize
-    requires { ⌜ Lawful k ⌝ }
-    requires { ⌜ okRequest k f ≡ true ⌝ }
-    ensures { λ r. ⌜ r ≡ frameSize k f ⌝ }
-{
-    if f.leaf {
-        return 0;
-    }
-    full_size(k, f)
-}
-
-// The bytes of a frame's back chain.
-pub fn chain_width(k: Rules, f: Frame) -> usize
-    ensures { λ r. ⌜ r ≡ chainWidth k f ⌝ }
-{
-    if f.leaf {
-        return 0;
-    }
-    k.word
 }
 
 // The registers with the stack pointer at p.

@@ -238,3 +238,4 @@ pub step-held : (c : Convention) (k : Cursor) (t : ValueType) → Typed c t → 
 step-held Convention.Ppc64 k t h = power-held 8 (omega arith) (omega arith) Edition.Earlier Convention.Ppc64 k t h
 step-held Convention.Z k t h = z-held k t h
 step-held Convention.Aix k t h = power-held 4 (omega arith) (omega arith) Edition.Earlier Convention.Aix k t h
+step-held Convention.Ppc64b k t h = power-held 8 (omega arith) (omega arith) Edition.Later Convention.Ppc64b k t h

@@ -10,7 +10,9 @@ use Rattle.signature.specs.Answer.{signatureAnswer}
 use Rattle.places.specs.declared.Rules.{Rules}
 use Rattle.places.specs.Step.{rulesOf}
 use Rattle.plan.specs.declared.Plan.{Plan}
+use Rattle.plan.specs.declared.Measured.{Measured}
 use Rattle.plan.specs.Plan.{planAnswer, typesIn}
+use Rattle.plan.specs.Call.{outcomeFor}
 use Rattle.slots.specs.Placements.{Placement, placements}
 use Rattle.slots.specs.Limits.{Held, Fits, All, sizesOf}
 
@@ -22,10 +24,15 @@ argumentsIn g p = placements (g .convention) (typesIn g) (p .spans)
 unfoldable pub argumentsOf : List ℕ → List Placement
 argumentsOf s = argumentsIn (signatureAnswer (signatureOf s)) (planAnswer (signatureOf s))
 
--- the plan of a signature's bytes, and the rules of its convention
+-- the plan of a signature's bytes
 abbrev pub planFor : List ℕ → Plan
 planFor s = planAnswer (signatureOf s)
 
+-- the sizes of that plan, with the outcome of the call
+abbrev pub sizesFor : List ℕ → Measured
+sizesFor s = record { outcome = outcomeFor s; area = planFor s .area; values = planFor s .values; copies = planFor s .copies }
+
+-- the rules of its convention
 abbrev pub rulesFor : List ℕ → Rules
 rulesFor s = rulesOf (signatureAnswer (signatureOf s) .convention)
 

@@ -31,7 +31,7 @@ fn frames_ok(k: Rules, fs: [Frame; 32], depth: usize) -> bool
     while 0 < d {
         d -= 1;
         let f = fs[d];
-        if !rules::request_ok(k, f) {
+        if !requests::request_ok(k, f) {
             return false;
         }
         let u = frame_under(k, fs, d);
@@ -51,7 +51,7 @@ fn sizes_of(k: Rules, fs: [Frame; 32], depth: usize) -> usize
     while 0 < d {
         d -= 1;
         let f = fs[d];
-        sum += rules::frame_size(k, f);
+        sum += requests::frame_size(k, f);
     }
     sum
 }

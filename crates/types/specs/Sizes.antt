@@ -31,6 +31,7 @@ floatSize FloatFormat.LongDouble = 16
 abbrev pub lacksFloat : Convention → Bool → FloatFormat → Bool
 lacksFloat Convention.Ppc64 inside f = false
 lacksFloat Convention.Z inside f = false
+lacksFloat Convention.Ppc64b inside f = false
 lacksFloat Convention.Aix inside FloatFormat.Single = false
 lacksFloat Convention.Aix inside FloatFormat.Double = inside
 lacksFloat Convention.Aix inside FloatFormat.LongDouble = true

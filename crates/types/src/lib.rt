@@ -50,6 +50,7 @@ pub fn lacks_float(c: Convention, inside: bool, f: FloatFormat) -> bool
     match c {
         Convention::Ppc64 => false,
         Convention::Z => false,
+        Convention::Ppc64b => false,
         Convention::Aix => match f {
             FloatFormat::Single => false,
             FloatFormat::Double => inside,
@@ -99,6 +100,7 @@ pub fn integer_size(c: Convention, k: IntegerKind) -> usize
         Convention::Ppc64 => wide_size(k),
         Convention::Z => wide_size(k),
         Convention::Aix => narrow_size(k),
+        Convention::Ppc64b => wide_size(k),
     }
 }
 

@@ -1,5 +1,5 @@
--- The cases that document 01 wants proved ("Sums to check against", the lines marked P) and, for AIX, the call that document 004 lays out whole, in one
--- table, which is the one place of them.
+-- The cases that document 01 wants proved ("Sums to check against", the lines marked P), figure 3-18 by document 02's No. 12 with its refusal 29, and, for AIX,
+-- the call that document 004 lays out whole, in one table, which is the one place of them.
 -- Assumes nothing.
 use Prim.Native.Nat.{ℕ}
 use mathlib.Core.Path.{_≡_}
@@ -39,11 +39,11 @@ abbrev pub AllHold : List Vector → Type 0
 AllHold [] = Unit {0}
 AllHold (v ∷ vs) = Holds v × AllHold vs
 
--- 000's figure 3-18, func(c, ff, d, ld, s, gg, t, e, hh)
-unfoldable pub figure-3-18 : List ℕ
-figure-3-18 =
+-- 000's figure 3-18, func(c, ff, d, ld, s, gg, t, e, hh), by the convention of a code
+unfoldable pub figureBy : ℕ → List ℕ
+figureBy code =
     -- the convention
-    0x01 ∷ 0 ∷ 1 ∷ 1
+    0x01 ∷ 0 ∷ 1 ∷ code
     -- the result, an int
     ∷ 0x02 ∷ 0 ∷ 4 ∷ 0x10 ∷ 0 ∷ 1 ∷ 4
     -- the arguments, 50 bytes
@@ -67,6 +67,9 @@ figure-3-18 =
     -- double hh
     ∷ 0x11 ∷ 0 ∷ 1 ∷ 1
     ∷ []
+
+unfoldable pub figure-3-18 : List ℕ
+figure-3-18 = figureBy 1
 
 -- "Printed whole, result int, newline after each line"
 unfoldable pub figure-3-18-text : List ℕ
@@ -93,6 +96,58 @@ figure-3-18-text =
     ∷ 56 ∷ 32 ∷ 102 ∷ 51 ∷ 32 ∷ 64 ∷ 56 ∷ 56 ∷ 10
     -- result r3
     ∷ 114 ∷ 101 ∷ 115 ∷ 117 ∷ 108 ∷ 116 ∷ 32 ∷ 114 ∷ 51 ∷ 10
+    ∷ []
+
+-- 02, No. 12: "In figure 3-18, ld is then in f2 and f3, gg in f4, hh in f5. Its listing is named `PPC64B`"
+unfoldable pub figure-3-18b : List ℕ
+figure-3-18b = figureBy 4
+
+unfoldable pub figure-3-18b-text : List ℕ
+figure-3-18b-text =
+    -- PPC64B args 9 area 96
+    80 ∷ 80 ∷ 67 ∷ 54 ∷ 52 ∷ 66 ∷ 32 ∷ 97 ∷ 114 ∷ 103 ∷ 115 ∷ 32 ∷ 57 ∷ 32 ∷ 97 ∷ 114 ∷ 101 ∷ 97 ∷ 32 ∷ 57 ∷ 54 ∷ 10
+    -- 0 r3 @0
+    ∷ 48 ∷ 32 ∷ 114 ∷ 51 ∷ 32 ∷ 64 ∷ 48 ∷ 10
+    -- 1 f1 @8
+    ∷ 49 ∷ 32 ∷ 102 ∷ 49 ∷ 32 ∷ 64 ∷ 56 ∷ 10
+    -- 2 r5 @16
+    ∷ 50 ∷ 32 ∷ 114 ∷ 53 ∷ 32 ∷ 64 ∷ 49 ∷ 54 ∷ 10
+    -- 3 f2 f3 @24
+    ∷ 51 ∷ 32 ∷ 102 ∷ 50 ∷ 32 ∷ 102 ∷ 51 ∷ 32 ∷ 64 ∷ 50 ∷ 52 ∷ 10
+    -- 4 r8 r9 @40
+    ∷ 52 ∷ 32 ∷ 114 ∷ 56 ∷ 32 ∷ 114 ∷ 57 ∷ 32 ∷ 64 ∷ 52 ∷ 48 ∷ 10
+    -- 5 f4 @56
+    ∷ 53 ∷ 32 ∷ 102 ∷ 52 ∷ 32 ∷ 64 ∷ 53 ∷ 54 ∷ 10
+    -- 6 mem @64
+    ∷ 54 ∷ 32 ∷ 109 ∷ 101 ∷ 109 ∷ 32 ∷ 64 ∷ 54 ∷ 52 ∷ 10
+    -- 7 mem @80
+    ∷ 55 ∷ 32 ∷ 109 ∷ 101 ∷ 109 ∷ 32 ∷ 64 ∷ 56 ∷ 48 ∷ 10
+    -- 8 f5 @88
+    ∷ 56 ∷ 32 ∷ 102 ∷ 53 ∷ 32 ∷ 64 ∷ 56 ∷ 56 ∷ 10
+    -- result r3
+    ∷ 114 ∷ 101 ∷ 115 ∷ 117 ∷ 108 ∷ 116 ∷ 32 ∷ 114 ∷ 51 ∷ 10
+    ∷ []
+
+-- No. 12: "When only f13 is left .. new refusal 29 at that argument's header": seven long doubles, of which six take f1 to f12
+unfoldable pub seven-long-doubles : List ℕ
+seven-long-doubles =
+    0x01 ∷ 0 ∷ 1 ∷ 4
+    ∷ 0x02 ∷ 0 ∷ 0
+    -- the arguments, 28 bytes
+    ∷ 0x03 ∷ 0 ∷ 28
+    ∷ 0x11 ∷ 0 ∷ 1 ∷ 2
+    ∷ 0x11 ∷ 0 ∷ 1 ∷ 2
+    ∷ 0x11 ∷ 0 ∷ 1 ∷ 2
+    ∷ 0x11 ∷ 0 ∷ 1 ∷ 2
+    ∷ 0x11 ∷ 0 ∷ 1 ∷ 2
+    ∷ 0x11 ∷ 0 ∷ 1 ∷ 2
+    ∷ 0x11 ∷ 0 ∷ 1 ∷ 2
+    ∷ []
+
+unfoldable pub seven-long-doubles-text : List ℕ
+seven-long-doubles-text =
+    -- refused 29 at 34 after 0
+    114 ∷ 101 ∷ 102 ∷ 117 ∷ 115 ∷ 101 ∷ 100 ∷ 32 ∷ 50 ∷ 57 ∷ 32 ∷ 97 ∷ 116 ∷ 32 ∷ 51 ∷ 52 ∷ 32 ∷ 97 ∷ 102 ∷ 116 ∷ 101 ∷ 114 ∷ 32 ∷ 48 ∷ 10
     ∷ []
 
 -- 001's table 10, func(i, j, g, k, l, ll, f, h, m)
@@ -216,6 +271,8 @@ empty-text =
 unfoldable pub vectors : List Vector
 vectors =
     printed figure-3-18 figure-3-18-text
+    ∷ printed figure-3-18b figure-3-18b-text
+    ∷ printed seven-long-doubles seven-long-doubles-text
     ∷ printed table-10 table-10-text
     ∷ printed moo-func moo-func-text
     ∷ printed [] empty-text

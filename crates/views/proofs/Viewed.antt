@@ -21,6 +21,7 @@ use Rattle.slots.specs.Forms.{ownStart}
 use Rattle.slots.specs.Placements.{Placement}
 use Rattle.slots.specs.Limits.{Held, All}
 use Rattle.slots.specs.Refusals.{firstOf, afterReading, isDone, isRefused}
+use Rattle.plan.specs.Call.{outcomeFor}
 use Rattle.slots.specs.Arguments.{argumentsIn, argumentsOf, planFor, rulesFor, Carried}
 use Rattle.slots.proofs.Answered.{carried-same}
 use Rattle.slots.proofs.Turns.{argumentAt, next-argument}
@@ -60,16 +61,16 @@ pub record Hand (s : List ℕ) (have index : ℕ) (g : SignatureRead) (p : Plan)
   pub at : getD (argumentsOf s) index noArgument ≡ argumentAt g p index
 
 pub answer-same : (s : List ℕ) (have index : ℕ) (g : SignatureRead) (p : Plan) (a : Answer) → g ≡ signatureAnswer (signatureOf s) → p ≡ planFor s
-    → a ≡ afterReading (p .outcome) (firstOf (viewTests (rulesOf (g .convention)) (g .count) index have (p .area))) → a ≡ viewAnswer s have index
+    → a ≡ afterReading (outcomeFor s) (firstOf (viewTests (rulesOf (g .convention)) (g .count) index have (p .area))) → a ≡ viewAnswer s have index
 unfolding viewAnswer
 answer-same s have index g p a read plan e =
-    e ∙ ap₂ (λ (g : SignatureRead) (p : Plan). afterReading (p .outcome) (firstOf (viewTests (rulesOf (g .convention)) (g .count) index have (p .area)))) read plan
+    e ∙ ap₂ (λ (g : SignatureRead) (p : Plan). afterReading (outcomeFor s) (firstOf (viewTests (rulesOf (g .convention)) (g .count) index have (p .area)))) read plan
 
 pub hand : (s : List ℕ) (have index : ℕ) (g : SignatureRead) (p : Plan) (a : Answer) → g ≡ signatureAnswer (signatureOf s) → p ≡ planFor s
-    → a ≡ afterReading (p .outcome) (firstOf (viewTests (rulesOf (g .convention)) (g .count) index have (p .area))) → a ≡ Answer.Done → Hand s have index g p
+    → a ≡ afterReading (outcomeFor s) (firstOf (viewTests (rulesOf (g .convention)) (g .count) index have (p .area))) → a ≡ Answer.Done → Hand s have index g p
 unfolding argumentsOf
 hand s have index g p a read plan e d =
-    let v = view-passed (rulesOf (g .convention)) (g .count) index have (p .area) (reading-done (p .outcome) _ (sym e ∙ d)) in
+    let v = view-passed (rulesOf (g .convention)) (g .count) index have (p .area) (reading-done (outcomeFor s) _ (sym e ∙ d)) in
     let c : Carried g p = carried-same s g p read plan in
     let next = next-argument g p index (v .there) (c .types) (c .spans) in
     let homes : All (Homed (rulesOf (g .convention)) (p .area)) (argumentsIn g p) =
@@ -110,7 +111,7 @@ part-answer s have index = refl
 
 viewAnswer-is : (s : List ℕ) (have index : ℕ)
     → viewAnswer s have index
-    ≡ afterReading (planFor s .outcome) (firstOf (viewTests (rulesFor s) (signatureAnswer (signatureOf s) .count) index have (planFor s .area)))
+    ≡ afterReading (outcomeFor s) (firstOf (viewTests (rulesFor s) (signatureAnswer (signatureOf s) .count) index have (planFor s .area)))
 unfolding viewAnswer
 viewAnswer-is s have index = refl
 

@@ -18,6 +18,7 @@ use Rattle.slots.specs.declared.Answer.{Answer}
 use Rattle.slots.specs.Forms.{ownStart}
 use Rattle.slots.specs.Placements.{Placement, placement}
 use Rattle.slots.specs.Refusals.{Test, test, firstOf, afterReading, isDone}
+use Rattle.plan.specs.Call.{outcomeFor}
 use Rattle.slots.specs.Arguments.{argumentsOf, planFor, rulesFor}
 use Rattle.views.specs.declared.ViewPart.{ViewPart}
 use Rattle.home_slot.specs.Homes.{homeless}
@@ -32,7 +33,7 @@ viewTests r count index have area = test (noView r count index) Refusal.NoView �
 
 unfoldable pub viewAnswer : List ℕ → ℕ → ℕ → Answer
 viewAnswer s have index =
-    afterReading (planFor s .outcome)
+    afterReading (outcomeFor s)
     (firstOf (viewTests (rulesFor s) (signatureAnswer (signatureOf s) .count) index have (planFor s .area)))
 
 abbrev pub noArgument : Placement

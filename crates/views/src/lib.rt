@@ -53,7 +53,7 @@ pub fn view_part(sig: &[u8], index: usize, have: usize) -> ViewPart
 {
     let g = whole_signature::read_signature(sig);
     let p = planning::plan_signature(g);
-    let outcome = p.outcome;
+    let outcome = planning::call_outcome(sig, g);
     let convention = g.convention;
     let rules = abi::call_rules_of(convention);
     let answer = view_answer(outcome, rules, g.count, index, have, p.area);

@@ -1,5 +1,5 @@
 -- Lists of the exported calls of the frame machine, each lent words and memory as the one before left them. The answer of a call and what it leaves in the words and in
--- the memory stand here as the contracts of `fz_start_ppc64`, `fz_start_z`, `fz_start_aix`, `fz_enter`, `fz_write_register`, `fz_write_memory` and `fz_leave` give them
+-- the memory stand here as the contracts of `fz_start_ppc64`, `fz_start_z`, `fz_start_aix`, `fz_start_ppc64b`, `fz_enter`, `fz_write_register`, `fz_write_memory` and `fz_leave` give them
 -- (crates/bridge_starts/src/lib.rt, crates/bridge_frames/src/lib.rt). What a contract does not speak of is lent for reading only, and stays. Assumes nothing.
 use Prim.Native.Nat.{ℕ}
 use mathlib.Core.List.{List}

@@ -8,7 +8,7 @@ use lib.ListN.{getD}
 use lib.Dec.{leb}
 use borrow.Author.Tests.{lt-leb}
 use Rattle.conventions.specs.declared.Convention.{Convention}
-use Rattle.conventions.specs.declared.Convention.the-variants.{Ppc64, Z, Aix}
+use Rattle.conventions.specs.declared.Convention.the-variants.{Ppc64, Z, Aix, Ppc64b}
 use Rattle.rules.specs.declared.Rules.{Rules}
 use Rattle.rules.specs.Rules.{rules}
 use Rattle.rules.specs.Frames.{noFrame, okRegisters, okRequest}
@@ -45,6 +45,7 @@ unfolding okRequest
 no-frame Ppc64 = refl
 no-frame Z = refl
 no-frame Aix = refl
+no-frame Ppc64b = refl
 
 pub no-flag : (c : Convention) (ws : List ℕ) (at : ℕ) → 1 < getD ws (at + 2) 0 → okRequest (rules c) (frameIn ws at) ≡ false
 unfolding frameIn

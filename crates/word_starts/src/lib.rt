@@ -7,6 +7,7 @@ ghost use Rattle.word_layout.specs.Words.{registersIn, stateWords};
 ghost use Rattle.word_layout.specs.Calls.{startWords};
 use abi::Aix;
 use abi::Ppc64;
+use abi::Ppc64b;
 use abi::Z;
 use conventions::Convention;
 use machine::Answer;
@@ -71,5 +72,20 @@ pub fn start_aix(
     ensures { λ _. ⌜ now (memory .exit) ≡ startMemory Convention.Aix base (now (memory .entry)) ⌝ }
 {
     let o = Aix::start(memory, base, state_words::registers_in(registers, 0));
+    put_start(words, registers, o)
+}
+
+// The fresh start on PPC64 by the later edition.
+pub fn start_ppc64b(
+    words: &mut [u64; 262],
+    registers: &[u64; 66],
+    base: u64,
+    memory: &mut [u8],
+) -> Answer
+    ensures { λ r. ⌜ r ≡ startOutcome Convention.Ppc64b base (length (now (memory .entry))) (registersIn (now (registers .entry)) 0) .answer ⌝ }
+    ensures { λ _. ⌜ now (words .exit) ≡ startWords Convention.Ppc64b (now (registers .entry)) base (length (now (memory .entry))) ⌝ }
+    ensures { λ _. ⌜ now (memory .exit) ≡ startMemory Convention.Ppc64b base (now (memory .entry)) ⌝ }
+{
+    let o = Ppc64b::start(memory, base, state_words::registers_in(registers, 0));
     put_start(words, registers, o)
 }

@@ -40,7 +40,7 @@ fn locals_from(k: Rules, f: Frame, o: usize) -> usize
     if f.leaf {
         return o - k.floor;
     }
-    o + k.header + rules::outgoing_length(k, f)
+    o + k.header + requests::outgoing_length(k, f)
 }
 
 // May the n bytes from offset a be written?
@@ -66,14 +66,14 @@ fn bytes_writable(k: Rules, s: State, a: usize, n: usize, len: usize) -> bool
     if d == 0 {
         return false;
     }
-    let c = o + rules::frame_size(k, f);
-    let saves = c - rules::below_size(k, f);
+    let c = o + requests::frame_size(k, f);
+    let saves = c - requests::below_size(k, f);
     if lies_inside(a, n, locals, saves) {
         return true;
     }
     let g = state_checks::caller_frame(k, s);
     let callers = c + k.header;
-    lies_inside(a, n, callers, callers + rules::outgoing_length(k, g))
+    lies_inside(a, n, callers, callers + requests::outgoing_length(k, g))
 }
 
 // The same of n bytes at an address.

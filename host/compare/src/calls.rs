@@ -218,10 +218,10 @@ fn conventions_for(operation: Operation, faults: &BTreeSet<Fault>) -> &'static [
         return &[Convention::Z];
     }
     if matches!(operation, Operation::Home | Operation::View) {
-        return &[Convention::Ppc64, Convention::Aix];
+        return &[Convention::Ppc64, Convention::Aix, Convention::Ppc64b];
     }
     if faults.contains(&Fault::NotWidened) {
-        return &[Convention::Ppc64, Convention::Aix];
+        return &[Convention::Ppc64, Convention::Aix, Convention::Ppc64b];
     }
     if of_copies.iter().any(|fault| faults.contains(fault)) {
         return &[Convention::Z];
@@ -448,12 +448,12 @@ fn make_slots_to_read(random: &mut Random, case: &mut Case) {
     for (number, &(place, size)) in tested.iter().enumerate() {
         let faulty = number == chosen || everywhere;
         let bits = match convention {
-            Convention::Ppc64 | Convention::Aix
+            Convention::Ppc64 | Convention::Aix | Convention::Ppc64b
                 if faulty && case.faults.contains(&Fault::NotWidened) =>
             {
                 not_widened(random)
             }
-            Convention::Ppc64 | Convention::Aix => {
+            Convention::Ppc64 | Convention::Aix | Convention::Ppc64b => {
                 let single = single(random);
                 note_single(case, single);
                 widen(single)
@@ -554,7 +554,9 @@ fn slot(call: &mut Call, convention: Convention, place: Place) -> &mut [u8] {
         Place::General(number) => &mut call.image[part(8 * number)],
         Place::Floating(number) => &mut call.image[part(FLOATING + 8 * number)],
         Place::Memory(offset) => match convention {
-            Convention::Ppc64 | Convention::Aix => &mut call.area[part(offset)],
+            Convention::Ppc64 | Convention::Aix | Convention::Ppc64b => {
+                &mut call.area[part(offset)]
+            }
             Convention::Z => &mut call.area[part(offset - Z_STACK)],
         },
     }

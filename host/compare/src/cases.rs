@@ -48,9 +48,10 @@ pub enum Operation {
     View = 15,
     Plan = 16,
     StartAix = 17,
-    WalkDumpPpc64 = 18,
-    WalkDumpZ = 19,
-    WalkDumpAix = 20,
+    StartPpc64b = 18,
+    WalkDumpPpc64 = 19,
+    WalkDumpZ = 20,
+    WalkDumpAix = 21,
     /// No call: the state and the memory that the next calls of the frame machine find.
     SetMachine = 100,
     /// No call: changes of that state and that memory.
@@ -59,7 +60,7 @@ pub enum Operation {
 
 impl Operation {
     /// Those that call the library.
-    pub const CALLS: [Operation; 20] = [
+    pub const CALLS: [Operation; 21] = [
         Operation::ReadSignature,
         Operation::Measure,
         Operation::Listing,
@@ -77,6 +78,7 @@ impl Operation {
         Operation::View,
         Operation::Plan,
         Operation::StartAix,
+        Operation::StartPpc64b,
         Operation::WalkDumpPpc64,
         Operation::WalkDumpZ,
         Operation::WalkDumpAix,

@@ -119,7 +119,7 @@ pub fn compare(dump: &Dump, counts: &mut Counts) -> Result<Walked, Difference> {
     let mut list = [&guard, &dump.list[..], &guard].concat();
     let lent = &mut list[GUARD..GUARD + dump.list.len()];
     let walk = match dump.convention {
-        Convention::Ppc64 => surface::walk_dump_ppc64,
+        Convention::Ppc64 | Convention::Ppc64b => surface::walk_dump_ppc64,
         Convention::Z => surface::walk_dump_z,
         Convention::Aix => surface::walk_dump_aix,
     };

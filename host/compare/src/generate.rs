@@ -4,7 +4,7 @@ use crate::encode::{
     self, ARGUMENTS, CONVENTION, FLOAT, FLOATS, INTEGER, INTEGERS, RESULT, STRUCT,
 };
 use crate::random::Random;
-use reference::{struct_size, Convention, Float, Integer, Signature, Type};
+use reference::{first_unclear, struct_size, Convention, Float, Integer, Signature, Type};
 
 const LONGEST_SIGNATURE: usize = 16_384;
 pub const MOST_ARGUMENTS: usize = 128;
@@ -78,11 +78,16 @@ pub fn fitting(
         room = rest.unwrap_or(room);
         rest.is_some()
     };
-    Signature {
+    let mut signature = Signature {
         convention,
         result,
         arguments: arguments.take_while(fits).collect(),
+    };
+    // up to the first argument that refusal 29 is for
+    if let Some(number) = first_unclear(&signature) {
+        signature.arguments.truncate(number);
     }
+    signature
 }
 
 /// A type that an argument or a result may have.
@@ -108,7 +113,7 @@ pub fn valid_type(random: &mut Random, convention: Convention) -> Type {
 /// The floats that an argument or a result may be: AIX has no long double.
 fn floats(convention: Convention) -> &'static [Float] {
     match convention {
-        Convention::Ppc64 | Convention::Z => &FLOATS,
+        Convention::Ppc64 | Convention::Z | Convention::Ppc64b => &FLOATS,
         Convention::Aix => &FLOATS[..2],
     }
 }
@@ -116,7 +121,7 @@ fn floats(convention: Convention) -> &'static [Float] {
 /// The floats that a struct may have: on AIX no double.
 pub fn field_floats(convention: Convention) -> &'static [Float] {
     match convention {
-        Convention::Ppc64 | Convention::Z => &FLOATS[..2],
+        Convention::Ppc64 | Convention::Z | Convention::Ppc64b => &FLOATS[..2],
         Convention::Aix => &FLOATS[..1],
     }
 }

@@ -24,7 +24,7 @@ pub const STYLES: [Style; 3] = [Style::Climb, Style::Mixed, Style::Writes];
 /// the floor's 220, rounded up.
 pub fn least_memory(convention: Convention) -> usize {
     match convention {
-        Convention::Ppc64 => 400,
+        Convention::Ppc64 | Convention::Ppc64b => 400,
         Convention::Z => 256,
         Convention::Aix => 288,
     }
@@ -33,7 +33,7 @@ pub fn least_memory(convention: Convention) -> usize {
 /// The largest address that a memory may end at.
 pub fn last_address(convention: Convention) -> u64 {
     match convention {
-        Convention::Ppc64 | Convention::Z => u64::MAX,
+        Convention::Ppc64 | Convention::Z | Convention::Ppc64b => u64::MAX,
         Convention::Aix => u64::from(u32::MAX),
     }
 }
@@ -111,7 +111,7 @@ pub fn refused_start(random: &mut Random, convention: Convention, length: usize)
 /// for the floating ones, and the most that `saves_cr` may be.
 fn ranges(convention: Convention) -> ([u64; 2], [u64; 2], u64) {
     match convention {
-        Convention::Ppc64 => ([14, 32], [14, 32], 1),
+        Convention::Ppc64 | Convention::Ppc64b => ([14, 32], [14, 32], 1),
         Convention::Z => ([6, 14], [8, 16], 0),
         Convention::Aix => ([13, 32], [14, 32], 1),
     }

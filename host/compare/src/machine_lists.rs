@@ -175,8 +175,12 @@ impl Counted<'_> {
                 reach.register_writes[*bank as usize] += 1;
                 let saved = match (Convention::of_code(before.convention), bank) {
                     (Some(Convention::Aix), 0) => *number >= 13,
-                    (Some(Convention::Ppc64 | Convention::Aix), 0 | 1) => *number >= 14,
-                    (Some(Convention::Ppc64 | Convention::Aix), 3) => (2..=4).contains(number),
+                    (Some(Convention::Ppc64 | Convention::Aix | Convention::Ppc64b), 0 | 1) => {
+                        *number >= 14
+                    }
+                    (Some(Convention::Ppc64 | Convention::Aix | Convention::Ppc64b), 3) => {
+                        (2..=4).contains(number)
+                    }
                     (Some(Convention::Z), 0) => (6..=13).contains(number),
                     (Some(Convention::Z), 1) => *number >= 8,
                     _ => false,
@@ -331,7 +335,9 @@ impl Preserved {
         let pointer = machine.registers.gpr[pointer_register(convention)];
         let from = (pointer - machine.base) as usize;
         let mut open = vec![match convention {
-            Convention::Ppc64 => (pointer + 48, pointer + 48 + callers_outgoing.max(64)),
+            Convention::Ppc64 | Convention::Ppc64b => {
+                (pointer + 48, pointer + 48 + callers_outgoing.max(64))
+            }
             Convention::Aix => (pointer + 24, pointer + 24 + callers_outgoing.max(32)),
             Convention::Z => (pointer + 160, pointer + 160 + callers_outgoing),
         }];
@@ -353,7 +359,7 @@ impl Preserved {
         let machine = pair.state();
         let (old, new) = (&self.registers, &machine.registers);
         let registers = match self.convention {
-            Convention::Ppc64 | Convention::Aix => {
+            Convention::Ppc64 | Convention::Aix | Convention::Ppc64b => {
                 old.gpr[2] == new.gpr[2]
                     && old.gpr[13..] == new.gpr[13..]
                     && old.fpr[14..] == new.fpr[14..]
@@ -781,7 +787,7 @@ pub fn mending(random: &mut Random, state: &Machine, length: usize) -> Option<(u
     let pointer = stack_pointer(state);
     let caller = pointer + frame_size(convention, &state.frames[state.depth as usize - 1]);
     let at = match convention {
-        Convention::Ppc64 | Convention::Aix => pointer,
+        Convention::Ppc64 | Convention::Aix | Convention::Ppc64b => pointer,
         Convention::Z => caller + 120,
     };
     let mut bytes = caller.to_be_bytes()[8 - convention.word()..].to_vec();

@@ -142,6 +142,7 @@ impl Pair {
                     Convention::Ppc64 => library::start_ppc64(machine, &registers, *base, memory),
                     Convention::Z => library::start_z(machine, &registers, *base, memory),
                     Convention::Aix => library::start_aix(machine, &registers, *base, memory),
+                    Convention::Ppc64b => library::start_ppc64b(machine, &registers, *base, memory),
                 }
             }
             Call::Enter(request) => library::enter(machine, &library_frame(request), memory),

@@ -18,9 +18,9 @@ use std::hint::black_box;
 pub struct Histogram {
     pub operation: Operation,
     /// Yes at 0, each refusal at its number.
-    pub answers: [u64; 26],
+    pub answers: [u64; 30],
     /// How many of each had a count of items.
-    pub counted: [u64; 26],
+    pub counted: [u64; 30],
     /// How often each fault was the one that was answered.
     pub faults: BTreeMap<Fault, u64>,
     /// How often a call had both of these, and the first was answered.
@@ -38,8 +38,8 @@ impl Histogram {
     fn new(operation: Operation) -> Histogram {
         Histogram {
             operation,
-            answers: [0; 26],
-            counted: [0; 26],
+            answers: [0; 30],
+            counted: [0; 30],
             faults: BTreeMap::new(),
             orders: BTreeMap::new(),
             edges: BTreeMap::new(),
@@ -331,7 +331,7 @@ fn compare_case(random: &mut Random, seen: &mut Histogram) -> Result<(), Differe
         None => number == 0,
         Some(fault) => fault
             .number()
-            .map_or(matches!(number, 1..=9 | 25), |only| only == number),
+            .map_or(matches!(number, 1..=9 | 25 | 29), |only| only == number),
     };
     if !right {
         let what = format!("both answer {number} to the faults {:?}", case.faults);

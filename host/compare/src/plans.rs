@@ -115,13 +115,39 @@ pub const AIX: [&str; 22] = [
     "AIX struct that ends within a word",
 ];
 
+/// What accepted calls of code 4 must have been like.
+pub const PPC64B: [&str; 22] = [
+    "PPC64B 128 arguments",
+    "PPC64B double in FPR",
+    "PPC64B double in FPR past r10",
+    "PPC64B double in memory",
+    "PPC64B float-like struct in GPR",
+    "PPC64B float-like struct in memory",
+    "PPC64B hidden result",
+    "PPC64B integer in GPR",
+    "PPC64B integer in memory",
+    "PPC64B larger area",
+    "PPC64B long double in FPR",
+    "PPC64B long double in FPR past r10",
+    "PPC64B long double in memory",
+    "PPC64B other struct in GPR",
+    "PPC64B other struct in memory",
+    "PPC64B other struct straddling",
+    "PPC64B single in FPR",
+    "PPC64B single in FPR past r10",
+    "PPC64B single in memory",
+    "PPC64B smallest area",
+    "PPC64B struct at a doubleword's end in GPR",
+    "PPC64B struct at a doubleword's end in memory",
+];
+
 /// How often each answer was given, and how often each interesting case came.
 #[derive(Clone, Default)]
 pub struct Histogram {
     /// Yes at 0, each refusal at its number.
-    pub answers: [u64; 26],
+    pub answers: [u64; 30],
     /// How many of each had a count of items.
-    pub counted: [u64; 26],
+    pub counted: [u64; 30],
     pub cases: BTreeMap<String, u64>,
     /// The bytes of the longest listing.
     pub longest: usize,
@@ -233,11 +259,11 @@ pub fn compare(bytes: &[u8], longer: usize, seen: &mut Histogram) -> Result<(), 
             hex(bytes)
         )))
     };
-    let signature = reference::read(bytes);
-    let plan = signature
-        .as_ref()
-        .map(reference::plan)
-        .map_err(|&refusal| refusal);
+    let call = reference::call(bytes);
+    let plan = match &call {
+        Ok((_, plan)) => Ok(plan.clone()),
+        Err(refusal) => Err(*refusal),
+    };
 
     let expected = expected_sizes(&plan);
     let given = surface::measure(bytes);
@@ -263,7 +289,7 @@ pub fn compare(bytes: &[u8], longer: usize, seen: &mut Histogram) -> Result<(), 
     seen.answers[number] += 1;
     seen.counted[number] += u64::from(expected.answer.items > 0);
     seen.longest = seen.longest.max(listing.len());
-    if let (Ok(signature), Ok(plan)) = (&signature, &plan) {
+    if let Ok((signature, plan)) = &call {
         count_cases(signature, plan, seen);
     }
     Ok(())
@@ -343,6 +369,7 @@ pub(crate) fn count_cases(signature: &Signature, plan: &Plan, seen: &mut Histogr
         Convention::Ppc64 => "PPC64",
         Convention::Z => "Z",
         Convention::Aix => "AIX",
+        Convention::Ppc64b => "PPC64B",
     };
     let mut count = |case: &str| seen.count(&format!("{convention} {case}"));
     count("calls");
@@ -364,7 +391,7 @@ pub(crate) fn count_cases(signature: &Signature, plan: &Plan, seen: &mut Histogr
         count("hidden result");
     }
     let least = match plan.convention {
-        Convention::Ppc64 => 64,
+        Convention::Ppc64 | Convention::Ppc64b => 64,
         Convention::Z => 0,
         Convention::Aix => 32,
     };
@@ -389,6 +416,13 @@ pub(crate) fn count_cases(signature: &Signature, plan: &Plan, seen: &mut Histogr
                 (size, _) if size % 8 != 0 => {
                     count("larger struct that ends within a doubleword");
                 }
+                _ => {}
+            }
+        }
+        if plan.convention == Convention::Ppc64b && matches!(of, Type::Struct(_)) {
+            match (of.size(plan.convention), argument.places[0]) {
+                (1..=7, Place::Memory(_)) => count("struct at a doubleword's end in memory"),
+                (1..=7, _) => count("struct at a doubleword's end in GPR"),
                 _ => {}
             }
         }

@@ -15,9 +15,9 @@ pub const ANSWERS: [usize; 11] = [0, 1, 2, 3, 4, 5, 6, 7, 8, 9, 25];
 /// How often each answer was given: yes at 0, each refusal at its number.
 #[derive(Clone, Default)]
 pub struct Histogram {
-    pub answers: [u64; 26],
+    pub answers: [u64; 30],
     /// The counts of items that came with each.
-    pub items: [BTreeSet<u64>; 26],
+    pub items: [BTreeSet<u64>; 30],
 }
 
 impl Histogram {

@@ -554,7 +554,7 @@ fn codes_at_their_limits() {
         }
         let bytes = [1, 0, 1, code, 2, 0, 0, 3, 0, 0];
         match code {
-            1..=3 => accepted("convention", &bytes, 3),
+            1..=4 => accepted("convention", &bytes, 3),
             _ => refused("convention", &bytes, 4, 0, 0),
         }
     }

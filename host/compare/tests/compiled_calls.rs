@@ -151,6 +151,7 @@ fn the_file_has_what_it_is_for() {
     assert_eq!(conventions(Convention::Ppc64), 44 + 19);
     assert_eq!(conventions(Convention::Z), 84);
     assert_eq!(conventions(Convention::Aix), 79);
+    assert_eq!(conventions(Convention::Ppc64b), 51 + 22);
     let count = |of: fn(&CompiledCall) -> bool| calls.iter().filter(|call| of(call)).count();
     assert_eq!(count(|call| !call.before.copies.is_empty()), 55);
     assert!(count(|call| call.before.hidden != 0) >= 20);

@@ -6,7 +6,7 @@ use compare::machine_calls;
 use compare::machines::{random_registers, stack_pointer, Call, Pair};
 use compare::random::Random;
 use reference::machine::{Machine, Registers, Request};
-use reference::Convention::{self, Aix, Ppc64, Z};
+use reference::Convention::{self, Aix, Ppc64, Ppc64b, Z};
 
 const BASE: u64 = 0x4000;
 /// Those with a floor and leaves.
@@ -57,7 +57,7 @@ fn leaf(g: u64, m: u64, saves_cr: u64) -> Request {
 /// The request that saves and keeps the least.
 fn smallest(convention: Convention) -> Request {
     match convention {
-        Ppc64 | Aix => request(32, 32, 0, 0, 0),
+        Ppc64 | Aix | Ppc64b => request(32, 32, 0, 0, 0),
         Z => request(14, 16, 0, 0, 0),
     }
 }
@@ -65,7 +65,7 @@ fn smallest(convention: Convention) -> Request {
 /// The request that saves the most.
 fn all_saved(convention: Convention) -> Request {
     match convention {
-        Ppc64 => request(14, 14, 1, 0, 0),
+        Ppc64 | Ppc64b => request(14, 14, 1, 0, 0),
         Z => request(6, 8, 0, 0, 0),
         Aix => request(13, 14, 1, 0, 0),
     }
@@ -74,7 +74,7 @@ fn all_saved(convention: Convention) -> Request {
 /// How far below the memory's end a start's stack pointer is.
 fn below_end(convention: Convention) -> usize {
     match convention {
-        Ppc64 => 112,
+        Ppc64 | Ppc64b => 112,
         Z => 160,
         Aix => 64,
     }
@@ -83,7 +83,7 @@ fn below_end(convention: Convention) -> usize {
 /// The stack pointer's register.
 fn pointer_of(convention: Convention) -> usize {
     match convention {
-        Ppc64 | Aix => 1,
+        Ppc64 | Aix | Ppc64b => 1,
         Z => 15,
     }
 }
@@ -91,7 +91,7 @@ fn pointer_of(convention: Convention) -> usize {
 /// The largest number that a general register holds and that a memory may end at.
 fn largest(convention: Convention) -> u64 {
     match convention {
-        Ppc64 | Z => u64::MAX,
+        Ppc64 | Z | Ppc64b => u64::MAX,
         Aix => 0xffff_ffff,
     }
 }
@@ -100,7 +100,7 @@ fn largest(convention: Convention) -> u64 {
 /// multiple of 16.
 fn lowest(convention: Convention) -> u64 {
     match convention {
-        Ppc64 => 288,
+        Ppc64 | Ppc64b => 288,
         Z => 0,
         Aix => 224,
     }
@@ -110,7 +110,7 @@ fn lowest(convention: Convention) -> u64 {
 /// rounded up.
 fn least_memory(convention: Convention) -> usize {
     match convention {
-        Ppc64 => 400,
+        Ppc64 | Ppc64b => 400,
         Z => 256,
         Aix => 288,
     }
@@ -214,7 +214,7 @@ fn stated_size(convention: Convention, of: &Request) -> Option<u64> {
         return None;
     }
     match convention {
-        Ppc64 if (14..=32).contains(&g) && (14..=32).contains(&m) && cr <= 1 => {
+        Ppc64 | Ppc64b if (14..=32).contains(&g) && (14..=32).contains(&m) && cr <= 1 => {
             let size = 48 + of.outgoing.max(64) + of.locals + 8 * (32 - g) + 8 * (32 - m);
             Some(size.div_ceil(16) * 16)
         }
@@ -258,7 +258,7 @@ fn every_first_register_of_a_request() {
             }
         }
     }
-    assert_eq!(accepted, 19 * 19 * 2 * 3 + 9 * 9 * 2 + 20 * 19 * 2 * 3);
+    assert_eq!(accepted, 2 * 19 * 19 * 2 * 3 + 9 * 9 * 2 + 20 * 19 * 2 * 3);
 }
 
 #[test]
@@ -343,7 +343,7 @@ fn thirty_two_frames_and_a_thirty_third() {
             answers(&mut pair, &Call::Leave, 0);
             let (old, new) = (&found[depth], pair.state().registers);
             match convention {
-                Ppc64 | Aix => {
+                Ppc64 | Aix | Ppc64b => {
                     assert_eq!((old.gpr[1], &old.gpr[13..]), (new.gpr[1], &new.gpr[13..]));
                     assert_eq!((&old.fpr[14..], old.lr), (&new.fpr[14..], new.lr));
                     assert_eq!(old.cr & 0x00ff_f000, new.cr & 0x00ff_f000);
@@ -394,7 +394,7 @@ fn frames_down_to_the_last_free_byte() {
 fn the_floor_and_one_step_less() {
     for convention in Convention::ALL {
         let floor = match convention {
-            Ppc64 | Z => 288,
+            Ppc64 | Z | Ppc64b => 288,
             Aix => 224,
         };
         let (below_end, pointer) = (below_end(convention), pointer_of(convention));
@@ -496,7 +496,7 @@ fn a_leaf_at_the_last_byte() {
         let least = least_memory(convention);
         let pointer = lowest(convention);
         let (floor, header, outgoing) = match convention {
-            Ppc64 => (288, 48, 64),
+            Ppc64 | Ppc64b => (288, 48, 64),
             _ => (220, 24, 32),
         };
         let first = all_saved(convention).first_gpr;
@@ -608,7 +608,7 @@ fn states_with_leaves_anywhere() {
 fn writable(convention: Convention, top: &Request) -> Vec<(u64, Vec<u64>)> {
     let (g, m) = (top.first_gpr, top.first_fpr);
     match convention {
-        Ppc64 | Aix => vec![
+        Ppc64 | Aix | Ppc64b => vec![
             (0, [0].into_iter().chain(3..=12).chain(g..=31).collect()),
             (1, (0..=13).chain(m..=31).collect()),
             // a leaf does not save LR, and so may not write it
@@ -664,14 +664,14 @@ fn every_register(pair: &mut Pair, convention: Convention, top: &Request) {
 fn every_register_of_every_frame() {
     for convention in Convention::ALL {
         let none = match convention {
-            Ppc64 | Aix => request(32, 32, 0, 0, 0),
+            Ppc64 | Aix | Ppc64b => request(32, 32, 0, 0, 0),
             // r15 is above all that could be saved and written
             Z => request(16, 16, 0, 0, 0),
         };
         let mut pair = started(convention, 1024);
         every_register(&mut pair, convention, &none);
         let (gprs, fprs, most_cr) = match convention {
-            Ppc64 => (14..=32, 14..=32, 1),
+            Ppc64 | Ppc64b => (14..=32, 14..=32, 1),
             Z => (6..=14, 8..=16, 0),
             Aix => (13..=32, 14..=32, 1),
         };
@@ -736,7 +736,7 @@ fn every_value_of_every_field(convention: Convention) {
 fn two_frames(convention: Convention) -> (Pair, Vec<(u64, u64)>) {
     let mut pair = started(convention, 2048);
     let (outer, inner) = match convention {
-        Ppc64 => (request(31, 30, 1, 5, 80), request(29, 31, 0, 30, 72)),
+        Ppc64 | Ppc64b => (request(31, 30, 1, 5, 80), request(29, 31, 0, 30, 72)),
         Z => (request(6, 14, 0, 5, 24), request(13, 15, 0, 30, 16)),
         Aix => (request(31, 30, 1, 5, 40), request(29, 31, 0, 30, 48)),
     };
@@ -745,7 +745,7 @@ fn two_frames(convention: Convention) -> (Pair, Vec<(u64, u64)>) {
     answers(&mut pair, &Call::Enter(inner), 0);
     let own = stack_pointer(pair.state()) - BASE;
     let areas = match convention {
-        Ppc64 => vec![
+        Ppc64 | Ppc64b => vec![
             (own + 48, own + 48 + 72),
             // 48 + 72 + 30 + 24 + 8 is 182, rounded up to 192
             (own + 120, own + 192 - 32),
@@ -809,7 +809,7 @@ fn the_start_writes_its_own_outgoing_area() {
                 // 64 bytes on PPC64, which are the memory's last; 32 on AIX, 8 bytes below its end;
                 // none on Z
                 let area = match convention {
-                    Ppc64 => size - 64..size,
+                    Ppc64 | Ppc64b => size - 64..size,
                     Aix => size - 40..size - 8,
                     Z => 0..0,
                 };
@@ -869,7 +869,7 @@ fn memory_writes_of_every_length() {
         };
         answers(&mut pair, &Call::Enter(frame), 0);
         let header_and_outgoing = match convention {
-            Ppc64 => 112,
+            Ppc64 | Ppc64b => 112,
             Z => 160,
             Aix => 56,
         };
@@ -890,18 +890,18 @@ fn a_leave_with_every_byte_of_the_memory_changed() {
         let memory = pair.memory().to_vec();
         let own = (stack_pointer(&entered) - BASE) as usize;
         let caller = match convention {
-            Ppc64 => own + 192,
+            Ppc64 | Ppc64b => own + 192,
             Z => own + 216,
             Aix => own + 128,
         };
         let chain = match convention {
-            Ppc64 => own..own + 8,
+            Ppc64 | Ppc64b => own..own + 8,
             Z => caller + 120..caller + 128,
             Aix => own..own + 4,
         };
         // r29 to r31, f31 and LR; r13, r14 and f15
         let slots = match convention {
-            Ppc64 => vec![caller - 32..caller, caller + 16..caller + 24],
+            Ppc64 | Ppc64b => vec![caller - 32..caller, caller + 16..caller + 24],
             Z => vec![caller + 104..caller + 120, caller - 8..caller],
             Aix => vec![caller - 20..caller, caller + 8..caller + 12],
         };
@@ -971,17 +971,19 @@ fn states_that_cannot_be() {
         let (mut pair, _) = two_frames(convention);
         let pointer = pointer_of(convention);
         let step = match convention {
-            Ppc64 | Aix => 16,
+            Ppc64 | Aix | Ppc64b => 16,
             Z => 8,
         };
-        for code in [0, 4, 256, 257, 1 << 32, (1 << 32) + 1, u64::MAX] {
+        for code in [0, 5, 256, 257, 1 << 32, (1 << 32) + 1, u64::MAX] {
             refuses_all(&mut pair, |state| state.convention = code);
         }
-        // another convention has another stack pointer, other frames or shorter registers
-        for other in Convention::ALL
-            .into_iter()
-            .filter(|&other| other != convention)
-        {
+        // another convention has another stack pointer, other frames or shorter registers, but for
+        // codes 1 and 4, which have the same frames
+        let has_other_frames = |other: &Convention| {
+            *other != convention
+                && !matches!((convention, other), (Ppc64, Ppc64b) | (Ppc64b, Ppc64))
+        };
+        for other in Convention::ALL.into_iter().filter(has_other_frames) {
             refuses_all(&mut pair, |state| state.convention = other.code().into());
         }
         // 02, No. 1: a state holding a GPR or LR over 2^32 - 1
@@ -1035,7 +1037,7 @@ fn stack_pointers_below_the_floor() {
             let mut pair = Pair::new(&mut Random::new(8), 1024);
             answers(&mut pair, &start(convention, base), 0);
             let floor = match convention {
-                Ppc64 => 288,
+                Ppc64 | Ppc64b => 288,
                 Z => 0,
                 Aix => 220,
             };

@@ -2,10 +2,10 @@
 
 use compare::calls::{Fault, Operation};
 use compare::marshal::{self, Histogram};
-use compare::plans::{AIX, PPC64, Z};
+use compare::plans::{AIX, PPC64, PPC64B, Z};
 
 /// The calls of each operation.
-const CALLS: u64 = 50_000;
+const CALLS: u64 = 65_000;
 
 /// How often each fault must have been the one that was answered, each fault before each later
 /// one, each edge, and each of what accepted calls may be like.
@@ -97,10 +97,15 @@ fn fill() {
         "values of one byte too many or too few",
     ];
     let edges = [&edges[..], &SINGLES].concat();
-    let seen = run(Operation::Fill, &edges, &[&PPC64[..], &Z, &AIX].concat());
+    let seen = run(
+        Operation::Fill,
+        &edges,
+        &[&PPC64[..], &Z, &AIX, &PPC64B].concat(),
+    );
     assert_eq!(seen.read_back, seen.answers[0]);
-    let viewed = seen.accepted.case("PPC64 calls") + seen.accepted.case("AIX calls");
-    assert_eq!(seen.viewed_back, viewed);
+    let viewed =
+        ["PPC64 calls", "AIX calls", "PPC64B calls"].map(|calls| seen.accepted.case(calls));
+    assert_eq!(seen.viewed_back, viewed.iter().sum::<u64>());
 }
 
 #[test]
@@ -121,14 +126,22 @@ fn read() {
         "values of one byte too many or too few",
     ];
     let edges = [&edges[..], &SINGLES].concat();
-    run(Operation::Read, &edges, &[&PPC64[..], &Z, &AIX].concat());
+    run(
+        Operation::Read,
+        &edges,
+        &[&PPC64[..], &Z, &AIX, &PPC64B].concat(),
+    );
 }
 
 #[test]
 fn home() {
     let edges = ["an area that just fits", "an area that is too short by one"];
     let edges = [&edges[..], &SINGLES].concat();
-    run(Operation::Home, &edges, &[&PPC64[..], &AIX].concat());
+    run(
+        Operation::Home,
+        &edges,
+        &[&PPC64[..], &AIX, &PPC64B].concat(),
+    );
 }
 
 #[test]
@@ -140,5 +153,9 @@ fn view() {
         "the index after the last argument's",
         "the last argument",
     ];
-    run(Operation::View, &edges, &[&PPC64[..], &AIX].concat());
+    run(
+        Operation::View,
+        &edges,
+        &[&PPC64[..], &AIX, &PPC64B].concat(),
+    );
 }

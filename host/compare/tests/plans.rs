@@ -2,19 +2,19 @@
 //! on the stored examples and on the calls of real compilers.
 
 use compare::encode;
-use compare::plans::{self, Histogram, AIX, PPC64, Z};
+use compare::plans::{self, Histogram, AIX, PPC64, PPC64B, Z};
 use compare::signatures::ANSWERS;
 use flakuzhen::surface::plans as surface;
 use reference::{Convention, Float, Integer, Place, ResultPlan, Signature, Type};
 use std::path::{Path, PathBuf};
 
 /// The accepted signatures of the largest test; the others add to them.
-const ACCEPTED: u64 = 100_000;
+const ACCEPTED: u64 = 130_000;
 
 /// What the largest test must have seen, each at least this often.
-const OFTEN: u64 = 500;
+const OFTEN: u64 = 400;
 /// Beside what arguments are like: the conventions and the results.
-const RESULTS: [&str; 23] = [
+const RESULTS: [&str; 31] = [
     "AIX calls",
     "AIX no arguments",
     "AIX result 64-bit integer",
@@ -31,6 +31,14 @@ const RESULTS: [&str; 23] = [
     "PPC64 result none",
     "PPC64 result other struct",
     "PPC64 result single or double",
+    "PPC64B calls",
+    "PPC64B no arguments",
+    "PPC64B result float-like struct",
+    "PPC64B result integer",
+    "PPC64B result long double",
+    "PPC64B result none",
+    "PPC64B result other struct",
+    "PPC64B result single or double",
     "Z calls",
     "Z result float-like struct",
     "Z result integer",
@@ -66,7 +74,7 @@ fn generated_signatures() {
             _ => assert!(counted >= 100, "{number} had items only {counted} times"),
         }
     }
-    let cases = [&PPC64[..], &Z, &AIX, &RESULTS].concat();
+    let cases = [&PPC64[..], &Z, &AIX, &PPC64B, &RESULTS].concat();
     for case in &cases {
         let count = seen.case(case);
         assert!(count >= OFTEN, "'{case}' came only {count} times");
@@ -92,8 +100,11 @@ fn every_call_at_the_edge_of_the_registers() {
         at_the_edge_of_the_registers(convention, &mut seen);
     }
     println!("{seen}");
-    assert_eq!(seen.accepted(), 3 * 3 * 10 * 8 * 73);
-    assert_eq!(seen.total(), seen.accepted());
+    // by code 4 a long double after twelve singles, or after these and no float
+    let unclear = 3 * 10 * (1 + 8 + 6);
+    assert_eq!(seen.answers[29], unclear);
+    assert_eq!(seen.accepted(), 4 * 3 * 10 * 8 * 73 - unclear);
+    assert_eq!(seen.total(), seen.accepted() + unclear);
 }
 
 fn at_the_edge_of_the_registers(convention: Convention, seen: &mut Histogram) {
@@ -146,7 +157,8 @@ fn the_largest_calls() {
     let large = Type::Struct(vec![I64; 32]);
     for convention in Convention::ALL {
         let two_places = match convention {
-            Convention::Aix => I64,
+            // and by code 4 seven long doubles give 29
+            Convention::Aix | Convention::Ppc64b => I64,
             _ => LONG_DOUBLE,
         };
         for result in [None, Some(large.clone())] {
@@ -165,7 +177,7 @@ fn the_largest_calls() {
     }
     println!("{seen}");
     // 125 and more large structs, and 124 of them after a large result
-    assert_eq!((seen.accepted(), seen.answers[1]), (168 - 21, 21));
+    assert_eq!((seen.accepted(), seen.answers[1]), (224 - 28, 28));
 }
 
 fn folder(path: &str) -> PathBuf {
@@ -309,9 +321,10 @@ fn the_calls_of_compilers() {
         assert_eq!(sizes.to_vec(), call.sizes, "library: {}", call.text);
     }
     println!("{seen}");
-    assert_eq!(seen.accepted(), 226);
+    assert_eq!(seen.accepted(), 299);
     assert_eq!(seen.case("PPC64 calls"), 44 + 19);
     assert_eq!(seen.case("AIX calls"), 79);
+    assert_eq!(seen.case("PPC64B calls"), 51 + 22);
     for case in [
         "AIX 64-bit integer straddling",
         "AIX double in FPR past r10",

@@ -90,18 +90,20 @@ fn the_library_of_this_machine_replays_them_all() {
 /// The refusals of each operation.
 fn refusals(of: Operation) -> Vec<u64> {
     match of {
-        Operation::ReadSignature | Operation::Measure | Operation::Plan => {
-            (1..=9).chain([25]).collect()
-        }
+        Operation::ReadSignature => (1..=9).chain([25]).collect(),
+        Operation::Measure | Operation::Plan => (1..=9).chain([25, 29]).collect(),
         Operation::Narrow => vec![14],
-        Operation::StartPpc64 | Operation::StartZ | Operation::StartAix => vec![16],
+        Operation::StartPpc64
+        | Operation::StartZ
+        | Operation::StartAix
+        | Operation::StartPpc64b => vec![16],
         Operation::Enter => vec![16, 17, 18, 19, 23, 28],
         Operation::WriteRegister | Operation::WriteMemory => vec![16, 20, 23],
         Operation::Leave => vec![16, 21, 22, 23],
-        Operation::Fill => (1..=12).chain([15, 25]).collect(),
-        Operation::Read => (1..=11).chain([13, 14, 15, 25]).collect(),
-        Operation::Home => (1..=9).chain([11, 14, 15, 24, 25]).collect(),
-        Operation::View => (1..=9).chain([11, 24, 25]).collect(),
+        Operation::Fill => (1..=12).chain([15, 25, 29]).collect(),
+        Operation::Read => (1..=11).chain([13, 14, 15, 25, 29]).collect(),
+        Operation::Home => (1..=9).chain([11, 14, 15, 24, 25, 29]).collect(),
+        Operation::View => (1..=9).chain([11, 24, 25, 29]).collect(),
         Operation::WalkDumpPpc64 | Operation::WalkDumpZ | Operation::WalkDumpAix => {
             vec![30, 31, 32]
         }
@@ -120,11 +122,14 @@ fn every_operation_gives_every_answer() {
         for number in refusals(operation) {
             // of the signature's refusals these have but a few each
             let of_values = (Operation::Fill..=Operation::View).contains(&operation);
-            let of_signatures = number <= 9 || number == 25;
+            let of_signatures = number <= 9 || number == 25 || number == 29;
             let least = match number {
                 _ if of_values && of_signatures => 0,
                 // a dump of over 4,096 frames is large
                 31 => 3,
+                // of one convention alone, and the last also of few types
+                25 => 5,
+                29 => 2,
                 _ => 10,
             };
             let refused = answers.count(operation, number);
@@ -162,7 +167,7 @@ fn refused_signatures_come_with_counts() {
 fn with_its_machine(cases: &[Case], number: usize) -> Vec<Case> {
     let of_the_machine = |operation: Operation| {
         (Operation::StartPpc64..=Operation::Leave).contains(&operation)
-            || operation == Operation::StartAix
+            || matches!(operation, Operation::StartAix | Operation::StartPpc64b)
     };
     let start = match of_the_machine(cases[number].operation) {
         false => number,

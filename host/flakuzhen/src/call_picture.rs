@@ -62,7 +62,7 @@ impl Call<'_> {
     /// The bytes of a general register, by which the area is counted.
     fn word(&self) -> usize {
         match self.plan.convention {
-            Convention::Ppc64 | Convention::Z => 8,
+            Convention::Ppc64 | Convention::Z | Convention::Ppc64b => 8,
             Convention::Aix => 4,
         }
     }
@@ -110,7 +110,7 @@ impl Call<'_> {
 
     fn area_row(&self, place: usize) -> Row {
         let first = match self.plan.convention {
-            Convention::Ppc64 | Convention::Aix => 0,
+            Convention::Ppc64 | Convention::Aix | Convention::Ppc64b => 0,
             Convention::Z => Z_AREA,
         };
         let label = format!("@{}", first + place);
@@ -125,10 +125,10 @@ impl Call<'_> {
         if argument.memory.contains(&place) {
             return Row::new(&label, self.marks(number, argument, at, self.word()));
         }
-        // a floating register has all words of its argument
+        // a floating register has 8 bytes of its argument, on AIX both words of a double
         let nth = match argument.floating.is_empty() {
             true => at / self.word(),
-            false => 0,
+            false => at / IN_IMAGE,
         };
         let register = argument.registers().nth(nth);
         let note = register.map(|name| format!("{number} is in {name}"));

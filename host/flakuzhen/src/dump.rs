@@ -36,7 +36,8 @@ pub fn walk_dump(
 ) -> Result<Vec<u64>, Refusal> {
     let mut list = vec![0; MOST_FRAMES];
     let walk = match convention {
-        Convention::Ppc64 => surface::walk_dump_ppc64,
+        // the later edition changes no frame
+        Convention::Ppc64 | Convention::Ppc64b => surface::walk_dump_ppc64,
         Convention::Z => surface::walk_dump_z,
         Convention::Aix => surface::walk_dump_aix,
     };

@@ -80,6 +80,7 @@ impl Machine {
             Convention::Ppc64 => surface::machine::start_ppc64(state, registers, base, memory),
             Convention::Z => surface::machine::start_z(state, registers, base, memory),
             Convention::Aix => surface::machine::start_aix(state, registers, base, memory),
+            Convention::Ppc64b => surface::machine::start_ppc64b(state, registers, base, memory),
         };
         accepted(answer, machine)
     }

@@ -37,7 +37,7 @@ replay    makes calls of the frame machine, on registers and memory of zeros, an
 --picture draws the stack too, from the highest address down, after each call that changes
           the drawing: frames, headers, save slots, areas and floor, with addresses and bytes
 FILE      has one call to a line, and '#' comments; '-' is standard input:
-            start ppc64 SIZE BASE       of the memory, in bytes; or 'start z ..', 'start aix ..'
+            start ppc64 SIZE BASE       of the memory, in bytes; or 'start z ..', 'aix', 'ppc64b'
             enter g=29 m=30 cr=1 locals=20 out=64
                                         saves r29 up, f30 up and CR; bytes of locals and
                                         of outgoing arguments (cr, locals, out: else 0)
@@ -53,7 +53,7 @@ dump      follows the back chain in a memory from the stack pointer POINTER on a
 --hex     the memory is hexadecimal text
 --picture draws the frames instead, from the highest address down
 FILE      holds the bytes of the memory, the first at the address BASE; '-' is standard input.
-          CONVENTION is ppc64, z or aix
+          CONVENTION is ppc64, z, aix or ppc64b
 
 Exit status: 0 all accepted; 1 something was refused; 2 a word, a file or a line is wrong.
 ";

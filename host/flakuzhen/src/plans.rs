@@ -23,6 +23,8 @@ pub enum Convention {
     Ppc64,
     Z,
     Aix,
+    /// PPC64 by the later edition of its supplement: a long double takes two FPRs.
+    Ppc64b,
 }
 
 /// A register, which prints as its name: `r3`, `f1`.
@@ -76,6 +78,7 @@ impl fmt::Display for Convention {
             Convention::Ppc64 => "PPC64",
             Convention::Z => "Z",
             Convention::Aix => "AIX",
+            Convention::Ppc64b => "PPC64B",
         })
     }
 }
@@ -167,10 +170,11 @@ fn plan_from(signature: &[u8], room: usize) -> Result<Plan, Refusal> {
     let entries = places.chunks_exact(PLACE_WORDS);
     let argument = |entry: &[u64]| Argument::of(entry.try_into().expect("the words of an entry"));
     Ok(Plan {
-        // the library's promise: one of these two
+        // the library's promise: one of these
         convention: match planned.convention {
             1 => Convention::Ppc64,
             3 => Convention::Aix,
+            4 => Convention::Ppc64b,
             _ => Convention::Z,
         },
         sizes: Sizes {

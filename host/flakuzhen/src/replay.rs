@@ -129,7 +129,7 @@ fn parse_call(word: &str, values: &[&str]) -> Result<(String, Call), String> {
     match (word, values) {
         ("start", &[convention, size, base]) => Ok(named(parse_start(convention, size, base)?)),
         ("start", _) => {
-            Err("a start is 'start CONVENTION SIZE BASE', of ppc64, z or aix".to_string())
+            Err("a start is 'start CONVENTION SIZE BASE', of ppc64, z, aix or ppc64b".to_string())
         }
         ("enter", _) => Ok(named(Call::Enter(parse_request(values)?))),
         ("write", &["mem", address, ref bytes @ ..]) => {
@@ -157,7 +157,10 @@ pub fn parse_convention(word: &str) -> Result<Convention, String> {
         "ppc64" => Ok(Convention::Ppc64),
         "z" => Ok(Convention::Z),
         "aix" => Ok(Convention::Aix),
-        _ => Err(format!("{word:?} is no convention: ppc64, z or aix")),
+        "ppc64b" => Ok(Convention::Ppc64b),
+        _ => Err(format!(
+            "{word:?} is no convention: ppc64, z, aix or ppc64b"
+        )),
     }
 }
 

@@ -71,6 +71,7 @@ fn floor(machine: &Machine) -> usize {
     let convention = match machine.state().convention {
         1 => Convention::Ppc64,
         3 => Convention::Aix,
+        4 => Convention::Ppc64b,
         _ => Convention::Z,
     };
     let memory = vec![0; 1024];

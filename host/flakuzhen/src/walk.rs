@@ -30,7 +30,7 @@ struct Header {
 
 fn header(convention: Convention) -> Header {
     match convention {
-        Convention::Ppc64 => Header {
+        Convention::Ppc64 | Convention::Ppc64b => Header {
             length: 48,
             word: 8,
             saved: 16,
@@ -191,7 +191,12 @@ mod tests {
     use super::*;
     use flakuzhen::machine::{Frame, Machine, Registers};
 
-    const CONVENTIONS: [Convention; 3] = [Convention::Ppc64, Convention::Z, Convention::Aix];
+    const CONVENTIONS: [Convention; 4] = [
+        Convention::Ppc64,
+        Convention::Z,
+        Convention::Aix,
+        Convention::Ppc64b,
+    ];
 
     fn started(convention: Convention) -> Machine {
         let mut registers = Registers {

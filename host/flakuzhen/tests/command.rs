@@ -63,6 +63,7 @@ fn reads_the_examples() {
         ("ppc64-small-structs.hex", 0, "items 36\n"),
         ("ppc64-straddling-struct.hex", 0, "items 16\n"),
         ("ppc64-two-arguments.hex", 0, "items 5\n"),
+        ("ppc64b-figure-3-18.hex", 0, "items 17\n"),
         (
             "refused-aix-double-field.hex",
             1,
@@ -73,6 +74,7 @@ fn reads_the_examples() {
             1,
             "refused 5 at 17 after 5\n",
         ),
+        ("refused-unclear-long-double.hex", 0, "items 10\n"),
         ("z-powl.hex", 0, "items 6\n"),
         ("z-small-structs.hex", 0, "items 27\n"),
         ("z-table-10.hex", 0, "items 13\n"),
@@ -407,7 +409,7 @@ fn a_bad_line_is_told_with_its_number_and_no_call_is_made() {
         (b"start ppc64 4096 0 0", "a start is"),
         (
             b"start ppc32 4096 0",
-            "\"ppc32\" is no convention: ppc64, z or aix",
+            "\"ppc32\" is no convention: ppc64, z, aix or ppc64b",
         ),
         (b"start z 1048577 0", "a memory of over 1048576 bytes"),
         (b"start z -16 0", "\"-16\" is no number"),
@@ -533,7 +535,7 @@ fn dump_takes_four_words() {
     complains(&run(&["dump"], &memory), takes);
     complains(&run(&["dump", "z", "0", "0"], &memory), takes);
     complains(&run(&["dump", "z", "0", "0", "-", "-"], &memory), takes);
-    let none = "\"Z\" is no convention: ppc64, z or aix";
+    let none = "\"Z\" is no convention: ppc64, z, aix or ppc64b";
     complains(&run(&["dump", "Z", "0", "0", "-"], &memory), none);
     complains(
         &run(&["dump", "z", "x", "0", "-"], &memory),

@@ -245,6 +245,23 @@ static void check_walk(int convention)
     CHECK(walked.answer.place == UINT64_MAX - LENGTH + 1 && walked.count == 0);
 }
 
+/* PPC64's frames under another code */
+static void check_ppc64b(void)
+{
+    static const fz_frame request = {29, 30, 1, 20, 64, 0};
+    fz_machine other;
+
+    hand_in_registers();
+    CHECK(answers(fz_start_ppc64(&other, &registers, BASE, memory, LENGTH), FZ_ACCEPTED));
+    CHECK(answers(fz_start_ppc64b(&machine, &registers, BASE, memory, LENGTH), FZ_ACCEPTED));
+    CHECK(other.convention == 1 && machine.convention == 4);
+    CHECK(answers(fz_enter(&other, &request, memory, LENGTH), FZ_ACCEPTED));
+    CHECK(answers(fz_enter(&machine, &request, memory, LENGTH), FZ_ACCEPTED));
+    CHECK(machine.registers.gpr[1] == BASE + LENGTH - 112 - 176);
+    other.convention = 4;
+    CHECK(memcmp(&machine, &other, sizeof machine) == 0);
+}
+
 int main(void)
 {
     check_ppc64();
@@ -254,5 +271,6 @@ int main(void)
     check_walk(1);
     check_walk(2);
     check_walk(3);
+    check_ppc64b();
     return wrong;
 }

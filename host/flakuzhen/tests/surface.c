@@ -41,7 +41,7 @@ static void check_aix(void)
     sig[24] = 2;
     no = fz_read_signature(sig, sizeof sig);
     CHECK(no.number == FZ_LONG_DOUBLE_IN_STRUCT && no.place == 21 && no.items == 6);
-    sig[3] = 4;
+    sig[3] = 5;
     no = fz_read_signature(sig, sizeof sig);
     CHECK(no.number == FZ_MALFORMED && no.place == 0 && no.items == 0);
 }

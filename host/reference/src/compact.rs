@@ -157,6 +157,8 @@ struct Input<'a> {
     bytes: &'a [u8],
     passed: usize,
     convention: Convention,
+    /// Where the first argument's item stands that refusal 29 is for.
+    unclear: Option<usize>,
 }
 
 /// Reads a signature and places its arguments.
@@ -168,6 +170,7 @@ fn place(
         bytes,
         passed: 0,
         convention: Convention::Ppc64,
+        unclear: None,
     };
     if bytes.len() > 16_384 {
         return input.refuse(1, 0);
@@ -177,6 +180,7 @@ fn place(
         [1] => Convention::Ppc64,
         [2] => Convention::Z,
         [3] => Convention::Aix,
+        [4] => Convention::Ppc64b,
         _ => return input.refuse_item(4, 0),
     };
     input.convention = convention;
@@ -185,17 +189,31 @@ fn place(
     let end = input.header(result_end, bytes.len(), |tag| tag == 0x03)?;
     let sizes = match convention {
         // the width is a constant in each, so that no division is left
-        Convention::Ppc64 => place_powerpc::<8>(&mut input, result_end + 3, end, result, keeper)?,
-        Convention::Aix => place_powerpc::<4>(&mut input, result_end + 3, end, result, keeper)?,
+        Convention::Ppc64 => {
+            place_powerpc::<8, 0>(&mut input, result_end + 3, end, result, keeper)?
+        }
+        Convention::Aix => place_powerpc::<4, 0>(&mut input, result_end + 3, end, result, keeper)?,
+        Convention::Ppc64b => {
+            place_powerpc::<8, 2>(&mut input, result_end + 3, end, result, keeper)?
+        }
         Convention::Z => place_z(&mut input, result_end + 3, end, result, keeper)?,
     };
     if end < bytes.len() {
         return input.refuse(9, end);
     }
+    if let Some(place) = input.unclear {
+        return Err(Refusal {
+            number: 29,
+            place,
+            items: 0,
+        });
+    }
     Ok((convention, result, sizes))
 }
 
-fn place_powerpc<const WORD: usize>(
+/// By words of so many bytes; a long double takes this many floating registers, or none and words
+/// as an integer does.
+fn place_powerpc<const WORD: usize, const LONG_DOUBLE: u8>(
     input: &mut Input<'_>,
     body: usize,
     end: usize,
@@ -205,7 +223,8 @@ fn place_powerpc<const WORD: usize>(
     let hidden = result == ResultType::Struct;
     let mut words = usize::from(hidden);
     let mut floats = 0;
-    let values = arguments(input, body, end, keeper, |shape| {
+    let mut unclear = None;
+    let values = arguments(input, body, end, keeper, |shape, at| {
         let first = words;
         let count = shape.size.div_ceil(WORD);
         words += count;
@@ -213,14 +232,22 @@ fn place_powerpc<const WORD: usize>(
             offset: Some((WORD * first) as u16),
             ..Argument::default()
         };
-        let in_registers = if shape.kind == Kind::Float {
-            if floats < 13 {
-                floats += 1;
+        let wanted = match shape.kind {
+            Kind::Float => 1,
+            Kind::LongDouble => LONG_DOUBLE,
+            _ => 0,
+        };
+        let in_registers = if wanted > 0 {
+            if floats + wanted <= 13 {
                 argument.floating = Registers {
-                    first: floats,
-                    count: 1,
+                    first: floats + 1,
+                    count: wanted,
                 };
+                floats += wanted;
                 return argument;
+            }
+            if floats < 13 && unclear.is_none() {
+                unclear = Some(at);
             }
             0
         } else {
@@ -240,6 +267,7 @@ fn place_powerpc<const WORD: usize>(
         }
         argument
     })?;
+    input.unclear = unclear;
     Ok(Sizes {
         area: WORD * words.max(8),
         values,
@@ -259,7 +287,7 @@ fn place_z(
     let mut floating = 0;
     let mut stack: u16 = 160;
     let mut copies = 0;
-    let values = arguments(input, body, end, keeper, |shape| {
+    let values = arguments(input, body, end, keeper, |shape, _| {
         let mut argument = Argument::default();
         let by_reference = match shape.kind {
             Kind::LongDouble => true,
@@ -308,7 +336,7 @@ fn arguments(
     body: usize,
     end: usize,
     keeper: &mut impl Keeper,
-    mut place: impl FnMut(Shape) -> Argument,
+    mut place: impl FnMut(Shape, usize) -> Argument,
 ) -> Result<usize, Refusal> {
     // each takes at least four bytes
     keeper.expect(((end - body) / 4).min(128));
@@ -325,7 +353,7 @@ fn arguments(
         let argument = Argument {
             size: shape.size as u16,
             content: shape.content,
-            ..place(shape)
+            ..place(shape, at)
         };
         keeper.keep(argument, at);
         at = after;
@@ -518,7 +546,9 @@ fn argument_plan(convention: Convention, argument: &Argument) -> crate::Argument
 
 fn result_plan(convention: Convention, result: ResultType) -> ResultPlan {
     let (general, floating) = match convention {
-        Convention::Ppc64 | Convention::Aix => (Place::General(3), Place::Floating(1)),
+        Convention::Ppc64 | Convention::Aix | Convention::Ppc64b => {
+            (Place::General(3), Place::Floating(1))
+        }
         Convention::Z => (Place::General(2), Place::Floating(0)),
     };
     match (result, convention) {
@@ -526,7 +556,7 @@ fn result_plan(convention: Convention, result: ResultType) -> ResultPlan {
         (ResultType::Integer, _) => ResultPlan::Registers(vec![general]),
         (ResultType::WideInteger, _) => ResultPlan::Registers(vec![general, Place::General(4)]),
         (ResultType::Float, _) => ResultPlan::Registers(vec![floating]),
-        (ResultType::LongDouble, Convention::Ppc64 | Convention::Aix) => {
+        (ResultType::LongDouble, Convention::Ppc64 | Convention::Aix | Convention::Ppc64b) => {
             ResultPlan::Registers(vec![floating, Place::Floating(2)])
         }
         (ResultType::LongDouble, Convention::Z) | (ResultType::Struct, _) => {

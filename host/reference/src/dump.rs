@@ -9,7 +9,8 @@ pub const MOST_FRAMES: usize = 4096;
 /// "wholly inside the dump with its header (48 bytes, AIX 24, Z 160)"
 pub fn header(convention: Convention) -> usize {
     match convention {
-        Convention::Ppc64 => 48,
+        // code 4's dumps are PPC64's
+        Convention::Ppc64 | Convention::Ppc64b => 48,
         Convention::Aix => 24,
         Convention::Z => 160,
     }
@@ -18,7 +19,7 @@ pub fn header(convention: Convention) -> usize {
 /// "aligned (to 16, on Z to 8)"
 pub fn alignment(convention: Convention) -> u64 {
     match convention {
-        Convention::Ppc64 | Convention::Aix => 16,
+        Convention::Ppc64 | Convention::Aix | Convention::Ppc64b => 16,
         Convention::Z => 8,
     }
 }

@@ -17,7 +17,9 @@ pub mod table;
 mod types;
 
 pub use listing::{listing, listing_of, refusal_line};
-pub use planner::{float_equivalent, plan, ArgumentPlan, Place, Plan, ResultPlan};
+pub use planner::{
+    call, first_unclear, float_equivalent, plan, ArgumentPlan, Place, Plan, ResultPlan,
+};
 pub use reader::read;
 pub use types::{struct_size, Convention, Float, Integer, Signature, Type};
 

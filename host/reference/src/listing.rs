@@ -1,11 +1,11 @@
 //! A plan in print (document 01, "Sums to check against").
 
-use crate::{plan, read, Convention, Place, Plan, Refusal, ResultPlan};
+use crate::{call, Convention, Place, Plan, Refusal, ResultPlan};
 
 /// The listing of a signature's plan, or the line that says why it is refused.
 pub fn listing(bytes: &[u8]) -> String {
-    match read(bytes) {
-        Ok(signature) => listing_of(&plan(&signature)),
+    match call(bytes) {
+        Ok((_, plan)) => listing_of(&plan),
         Err(refusal) => refusal_line(&refusal),
     }
 }
@@ -26,6 +26,7 @@ pub fn listing_of(plan: &Plan) -> String {
         Convention::Ppc64 => "PPC64",
         Convention::Z => "Z",
         Convention::Aix => "AIX",
+        Convention::Ppc64b => "PPC64B",
     };
     let count = plan.arguments.len();
     let mut text = format!("{convention} args {count} area {}\n", plan.area);
@@ -80,7 +81,7 @@ mod tests {
     const LONG_DOUBLE: Type = Type::Float(Float::LongDouble);
 
     fn printed(convention: Convention, result: Option<Type>, arguments: Vec<Type>) -> String {
-        listing_of(&plan(&Signature {
+        listing_of(&crate::plan(&Signature {
             convention,
             result,
             arguments,

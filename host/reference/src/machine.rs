@@ -105,7 +105,8 @@ const AIX: PowerPc = PowerPc {
 /// The numbers of a convention that is not Z.
 fn powerpc(convention: Convention) -> Option<&'static PowerPc> {
     match convention {
-        Convention::Ppc64 => Some(&PPC64),
+        // 02, No. 12: code 4 is "PPC64 with that rule", which is none of frames
+        Convention::Ppc64 | Convention::Ppc64b => Some(&PPC64),
         Convention::Aix => Some(&AIX),
         Convention::Z => None,
     }
@@ -114,7 +115,7 @@ fn powerpc(convention: Convention) -> Option<&'static PowerPc> {
 /// The largest number that a general register or LR holds, and that a memory may end at.
 fn largest_word(convention: Convention) -> u64 {
     match convention {
-        Convention::Ppc64 | Convention::Z => u64::MAX,
+        Convention::Ppc64 | Convention::Z | Convention::Ppc64b => u64::MAX,
         Convention::Aix => 0xffff_ffff,
     }
 }
@@ -269,7 +270,7 @@ impl Machine {
         let pointer = self.pointer(convention);
         let caller = pointer + u128::from(frame_size(convention, &request));
         let chain_at = match convention {
-            Convention::Ppc64 | Convention::Aix => pointer,
+            Convention::Ppc64 | Convention::Aix | Convention::Ppc64b => pointer,
             // the slot of r15
             Convention::Z => caller + 8 * 15,
         };
@@ -526,7 +527,7 @@ pub fn save_slots(convention: Convention, request: &Request, caller: u128) -> Ve
 fn saves_below_caller(convention: Convention, request: &Request) -> u64 {
     let word = convention.word() as u64;
     match convention {
-        Convention::Ppc64 | Convention::Aix => {
+        Convention::Ppc64 | Convention::Aix | Convention::Ppc64b => {
             8 * (32 - request.first_fpr) + word * (32 - request.first_gpr)
         }
         // the general registers are saved above it
@@ -554,7 +555,7 @@ fn outgoing(convention: Convention, kind: AreaKind, pointer: u128, length: u64) 
 /// The register that is the stack pointer.
 pub fn pointer_register(convention: Convention) -> usize {
     match convention {
-        Convention::Ppc64 | Convention::Aix => 1,
+        Convention::Ppc64 | Convention::Aix | Convention::Ppc64b => 1,
         Convention::Z => 15,
     }
 }
@@ -1101,7 +1102,7 @@ mod tests {
 
             let mut expected = before;
             let (first, last) = match convention {
-                Convention::Ppc64 => (14, 32),
+                Convention::Ppc64 | Convention::Ppc64b => (14, 32),
                 Convention::Z => (6, 16),
                 Convention::Aix => (13, 32),
             };
@@ -1110,7 +1111,7 @@ mod tests {
             expected.registers.gpr[first..last].copy_from_slice(&old.gpr[first..last]);
             expected.registers.gpr[pointer] = old.gpr[pointer];
             match convention {
-                Convention::Ppc64 | Convention::Aix => {
+                Convention::Ppc64 | Convention::Aix | Convention::Ppc64b => {
                     expected.registers.fpr[14..].copy_from_slice(&old.fpr[14..]);
                     expected.registers.lr = old.lr;
                     // fields 2 to 4 of 0x87654321; the others stay as they were changed
@@ -1624,7 +1625,7 @@ mod tests {
             |machine| machine.convention = 0,
             // the registers hold more than 32 bits
             |machine| machine.convention = 3,
-            |machine| machine.convention = 4,
+            |machine| machine.convention = 5,
             // r15 is no stack pointer of this memory
             |machine| machine.convention = 2,
             |machine| machine.depth = 33,

@@ -5,7 +5,7 @@
 use crate::float_bits::{narrow, widen};
 use crate::types::round_up;
 use crate::{
-    plan, ArgumentPlan, Convention, Float, Integer, Place, Plan, Refusal, ResultPlan, Type,
+    call, ArgumentPlan, Convention, Float, Integer, Place, Plan, Refusal, ResultPlan, Type,
 };
 use std::ops::Range;
 
@@ -46,10 +46,14 @@ fn form(convention: Convention, of: &Type, argument: &ArgumentPlan) -> Form {
     let in_floating = matches!(argument.places[..], [Place::Floating(_)]);
     match (convention, of) {
         (_, Type::Integer(_)) => memory_form(convention, of),
-        (Convention::Ppc64 | Convention::Aix, Type::Float(Float::Single)) if in_floating => {
+        (Convention::Ppc64 | Convention::Aix | Convention::Ppc64b, Type::Float(Float::Single))
+            if in_floating =>
+        {
             Form::Widened
         }
-        (Convention::Ppc64 | Convention::Aix, _) => memory_form(convention, of),
+        (Convention::Ppc64 | Convention::Aix | Convention::Ppc64b, _) => {
+            memory_form(convention, of)
+        }
         (Convention::Z, _) if argument.by_reference() => Form::Address,
         // "in the upper half of its FPR, lower half zero, and right-justified on the stack"
         (Convention::Z, _) if in_floating => Form::Head,
@@ -87,8 +91,7 @@ pub fn fill(
     copy_base: u64,
     hidden: u64,
 ) -> Result<(), Refusal> {
-    let signature = crate::read(signature)?;
-    let plan = plan(&signature);
+    let (signature, plan) = call(signature)?;
     require(image.len() == IMAGE, IMAGE_SIZE)?;
     require(values.len() == plan.values, VALUES_SIZE)?;
     require(area.len() >= plan.area, AREA_TOO_SHORT)?;
@@ -161,8 +164,7 @@ pub fn read(
     copies: &[u8],
     copy_base: u64,
 ) -> Result<(), Refusal> {
-    let signature = crate::read(signature)?;
-    let plan = plan(&signature);
+    let (signature, plan) = call(signature)?;
     require(image.len() == IMAGE, IMAGE_SIZE)?;
     require(values.len() == plan.values, VALUES_SIZE)?;
     require(area.len() >= plan.area, AREA_TOO_SHORT)?;
@@ -203,8 +205,7 @@ fn pointed_at(address: u64, size: usize, length: usize, base: u64) -> Option<Ran
 /// PPC64 and AIX: copies the arguments that came in registers into the area, each to its offset, as
 /// they would stand there had they been passed in memory.
 pub fn home(signature: &[u8], image: &[u8], area: &mut [u8]) -> Result<(), Refusal> {
-    let signature = crate::read(signature)?;
-    let plan = plan(&signature);
+    let (signature, plan) = call(signature)?;
     let convention = signature.convention;
     require(convention != Convention::Z, NO_VIEW)?;
     require(image.len() == IMAGE, IMAGE_SIZE)?;
@@ -235,8 +236,7 @@ pub fn home(signature: &[u8], image: &[u8], area: &mut [u8]) -> Result<(), Refus
 
 /// PPC64 and AIX: where an argument's own bytes stand in an area that `home` has completed.
 pub fn view(area: &[u8], signature: &[u8], index: u64) -> Result<Range<usize>, Refusal> {
-    let signature = crate::read(signature)?;
-    let plan = plan(&signature);
+    let (signature, plan) = call(signature)?;
     let convention = signature.convention;
     let there = index < signature.arguments.len() as u64;
     require(convention != Convention::Z && there, NO_VIEW)?;
@@ -281,7 +281,7 @@ enum Position {
 
 fn position(convention: Convention, place: Place) -> Position {
     let area = match convention {
-        Convention::Ppc64 | Convention::Aix => 0,
+        Convention::Ppc64 | Convention::Aix | Convention::Ppc64b => 0,
         Convention::Z => Z_AREA,
     };
     let word = convention.word();

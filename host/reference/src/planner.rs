@@ -1,9 +1,13 @@
 //! The planner: where each argument of a call stands, and how large the buffers around the call
 //! are (document 01, "Places on PPC64" and "Places on Z"; 000, 3.2.3; 001, "Parameter passing";
-//! document 02, No. 1, and 003 for AIX).
+//! document 02, No. 1, and 003 for AIX; No. 12 for the later edition).
 
+use crate::table::items;
 use crate::types::round_up;
-use crate::{Convention, Float, Integer, Signature, Type};
+use crate::{read, Convention, Float, Integer, Refusal, Signature, Type};
+
+/// 02, No. 12: "when only f13 is left the editions we hold aren't clear".
+const UNCLEAR: u64 = 29;
 
 /// Where a doubleword stands, or on AIX a word. A floating register holds all of a double.
 #[derive(Clone, Copy, Debug, PartialEq, Eq)]
@@ -60,10 +64,53 @@ impl ArgumentPlan {
     }
 }
 
+/// A signature's bytes, read and planned. Refusal 29 is given "at that argument's header, after
+/// reading"; it has count 0.
+pub fn call(bytes: &[u8]) -> Result<(Signature, Plan), Refusal> {
+    let signature = read(bytes)?;
+    if let Some(number) = first_unclear(&signature) {
+        return Err(Refusal {
+            number: UNCLEAR,
+            place: items(bytes)[number],
+            items: 0,
+        });
+    }
+    let plan = plan(&signature);
+    Ok((signature, plan))
+}
+
+/// The first long double for which only f13 is left, by the later edition.
+pub fn first_unclear(signature: &Signature) -> Option<usize> {
+    let mut left = 13;
+    for (number, argument) in signature.arguments.iter().enumerate() {
+        let wanted = fprs(signature.convention, argument);
+        if 0 < left && left < wanted {
+            return Some(number);
+        }
+        if wanted <= left {
+            left -= wanted;
+        }
+    }
+    None
+}
+
+/// Where everything of a call stands that is not refused.
 pub fn plan(signature: &Signature) -> Plan {
     match signature.convention {
-        Convention::Ppc64 | Convention::Aix => plan_powerpc(signature),
+        Convention::Ppc64 | Convention::Aix | Convention::Ppc64b => plan_powerpc(signature),
         Convention::Z => plan_z(signature),
+    }
+}
+
+/// The floating registers that an argument asks for on PowerPC: "singles and doubles take f1 to f13
+/// in order"; by the later edition "a long double argument takes two successive FPRs instead of
+/// GPRs".
+fn fprs(convention: Convention, of: &Type) -> usize {
+    match (convention, of) {
+        (Convention::Z, _) => 0,
+        (_, Type::Float(Float::Single | Float::Double)) => 1,
+        (Convention::Ppc64b, Type::Float(Float::LongDouble)) => 2,
+        _ => 0,
     }
 }
 
@@ -89,14 +136,15 @@ fn plan_powerpc(signature: &Signature) -> Plan {
     for argument in &signature.arguments {
         let first = words;
         words += powerpc_words(convention, argument);
-        floats += usize::from(is_single_or_double(argument));
-        let places = match floats {
+        let places = match fprs(convention, argument) {
+            0 => (first..words).map(|w| powerpc_place(word, w)).collect(),
             // "Singles and doubles take f1 to f13 in order [..]; after f13, memory only."
-            1..=13 if is_single_or_double(argument) => vec![Place::Floating(floats)],
-            _ if is_single_or_double(argument) => {
-                (first..words).map(|w| Place::Memory(word * w)).collect()
+            wanted if floats + wanted <= 13 => {
+                floats += wanted;
+                let registers = floats - wanted + 1..=floats;
+                registers.map(Place::Floating).collect()
             }
-            _ => (first..words).map(|w| powerpc_place(word, w)).collect(),
+            _ => (first..words).map(|w| Place::Memory(word * w)).collect(),
         };
         arguments.push(ArgumentPlan {
             places,
@@ -259,10 +307,6 @@ fn z_result(of: Option<&Type>) -> ResultPlan {
             ResultPlan::Hidden(Place::General(2))
         }
     }
-}
-
-fn is_single_or_double(of: &Type) -> bool {
-    matches!(of, Type::Float(Float::Single | Float::Double))
 }
 
 #[cfg(test)]
@@ -632,5 +676,49 @@ mod tests {
             (hidden.area, aix(&[]).area, aix(&[I8; 8]).area),
             (36, 32, 32)
         );
+    }
+
+    #[test]
+    fn figure_3_18_by_the_later_edition() {
+        let sparm = || structure(&[I32, DOUBLE]);
+        let arguments = [
+            I32,
+            DOUBLE,
+            I32,
+            LONG_DOUBLE,
+            sparm(),
+            DOUBLE,
+            sparm(),
+            I32,
+            DOUBLE,
+        ];
+        let plan = plan_of(Convention::Ppc64b, Some(I32), &arguments);
+        // "ld is then in f2 and f3, gg in f4, hh in f5"
+        let places = |number: usize| &plan.arguments[number].places[..];
+        assert_eq!(places(3), [Floating(2), Floating(3)]);
+        assert_eq!(places(4), [General(8), General(9)]);
+        assert_eq!(places(5), [Floating(4)]);
+        assert_eq!(places(8), [Floating(5)]);
+        assert_eq!(plan.area, 96);
+    }
+
+    #[test]
+    fn only_f13_left_for_a_long_double() {
+        let signature = |floats: usize| Signature {
+            convention: Convention::Ppc64b,
+            result: None,
+            arguments: [&vec![DOUBLE; floats][..], &[LONG_DOUBLE, DOUBLE]].concat(),
+        };
+        assert_eq!(first_unclear(&signature(11)), None);
+        assert_eq!(first_unclear(&signature(12)), Some(12));
+        assert_eq!(first_unclear(&signature(13)), None);
+        // "with no FPR left it is memory only"
+        let plan = plan(&signature(13));
+        assert_eq!(plan.arguments[13].places, [Memory(8 * 13), Memory(8 * 14)]);
+        let earlier = Signature {
+            convention: Convention::Ppc64,
+            ..signature(12)
+        };
+        assert_eq!(first_unclear(&earlier), None);
     }
 }

@@ -377,7 +377,7 @@ mod tests {
     #[test]
     fn refusal_4_is_a_length_or_a_code_not_allowed() {
         refused(&hex("01 0001 00 02 0000 03 0000"), 4, 0, 0);
-        refused(&hex("01 0001 04 02 0000 03 0000"), 4, 0, 0);
+        refused(&hex("01 0001 05 02 0000 03 0000"), 4, 0, 0);
         refused(&hex("01 0000 02 0000 03 0000"), 4, 0, 0);
         refused(&hex("01 0002 01 01 02 0000 03 0000"), 4, 0, 0);
         refused(&signature(&item(INTEGER, &[9]), &[]), 4, RESULT_BODY, 2);

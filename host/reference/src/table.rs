@@ -1,7 +1,7 @@
 //! The whole plan in 64-bit words, as the C surface tells it: what stands in `fz_planned` after its
 //! answer, and an `fz_place` for each argument.
 
-use crate::{plan, read, Convention, Place, Plan, Refusal, ResultPlan, Type};
+use crate::{call, Convention, Place, Plan, Refusal, ResultPlan, Type};
 
 /// The words of an argument's entry.
 pub const ENTRY: usize = 13;
@@ -17,8 +17,7 @@ pub struct Table {
 
 /// Reads a signature and plans its call.
 pub fn table(bytes: &[u8]) -> Result<Table, Refusal> {
-    let signature = read(bytes)?;
-    let plan = plan(&signature);
+    let (signature, plan) = call(bytes)?;
     let mut entries = Vec::new();
     let mut value = 0;
     for (number, item) in items(bytes).into_iter().enumerate() {
@@ -26,11 +25,7 @@ pub fn table(bytes: &[u8]) -> Result<Table, Refusal> {
         entries.push(entry(&plan, number, of, item, value));
         value += of.size(plan.convention);
     }
-    let code = match plan.convention {
-        Convention::Ppc64 => 1,
-        Convention::Z => 2,
-        Convention::Aix => 3,
-    };
+    let code = usize::from(plan.convention.code());
     let (result, places) = match &plan.result {
         ResultPlan::None => (0, vec![]),
         ResultPlan::Registers(places) => (1, places.clone()),
@@ -59,7 +54,7 @@ pub fn table(bytes: &[u8]) -> Result<Table, Refusal> {
 }
 
 /// Where the arguments' items stand in an accepted signature: in the third item, one after the other.
-fn items(bytes: &[u8]) -> Vec<usize> {
+pub fn items(bytes: &[u8]) -> Vec<usize> {
     let end = |at: usize| at + 3 + usize::from(u16::from_be_bytes([bytes[at + 1], bytes[at + 2]]));
     let third = end(end(0));
     let mut items = Vec::new();
@@ -80,7 +75,9 @@ fn entry(plan: &Plan, number: usize, of: &Type, item: usize, value: usize) -> [u
     let [memory, memory_length] = memory(plan.convention, &argument.places);
     let [home, home_length] = match (plan.convention, argument.offset) {
         // each of its words has its place in the area, wherever it stands
-        (Convention::Ppc64 | Convention::Aix, Some(offset)) => [offset, word * size.div_ceil(word)],
+        (Convention::Ppc64 | Convention::Aix | Convention::Ppc64b, Some(offset)) => {
+            [offset, word * size.div_ceil(word)]
+        }
         _ => [memory, memory_length],
     };
     let [copy, copy_length] = match argument.copy {
@@ -129,7 +126,7 @@ fn floating(places: &[Place]) -> [usize; 2] {
 /// In bytes of the area, which on Z starts 160 bytes above the stack pointer.
 fn memory(convention: Convention, places: &[Place]) -> [usize; 2] {
     let area = match convention {
-        Convention::Ppc64 | Convention::Aix => 0,
+        Convention::Ppc64 | Convention::Aix | Convention::Ppc64b => 0,
         Convention::Z => 160,
     };
     let offset = |place: &Place| match place {

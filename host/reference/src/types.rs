@@ -8,10 +8,17 @@ pub enum Convention {
     Z,
     /// 02, No. 1: "32-bit AIX, source document 003".
     Aix,
+    /// 02, No. 12: "PPC64 with that rule", by which a long double argument takes two FPRs.
+    Ppc64b,
 }
 
 impl Convention {
-    pub const ALL: [Convention; 3] = [Convention::Ppc64, Convention::Z, Convention::Aix];
+    pub const ALL: [Convention; 4] = [
+        Convention::Ppc64,
+        Convention::Z,
+        Convention::Aix,
+        Convention::Ppc64b,
+    ];
 
     /// The number that a signature and a machine name it by.
     pub fn code(self) -> u8 {
@@ -19,6 +26,7 @@ impl Convention {
             Convention::Ppc64 => 1,
             Convention::Z => 2,
             Convention::Aix => 3,
+            Convention::Ppc64b => 4,
         }
     }
 
@@ -32,7 +40,7 @@ impl Convention {
     /// and on AIX words ("registers are 4 bytes wide").
     pub fn word(self) -> usize {
         match self {
-            Convention::Ppc64 | Convention::Z => 8,
+            Convention::Ppc64 | Convention::Z | Convention::Ppc64b => 8,
             Convention::Aix => 4,
         }
     }
@@ -206,7 +214,7 @@ mod tests {
             assert_eq!(usize::from(convention.code()), code + 1);
             assert_eq!(Convention::of_code(code as u64 + 1), Some(convention));
         }
-        for none in [0, 4, 257, u64::MAX] {
+        for none in [0, 5, 257, u64::MAX] {
             assert_eq!(Convention::of_code(none), None);
         }
     }

@@ -21,6 +21,12 @@ enum-told-3 c = search needs
 frame-rules-requires-3 : tie.Need-frame-rules-requires-3
 frame-rules-requires-3 c κs = search needs
 
+enum-told-4 : tie.Need-enum-told-4
+enum-told-4 c = search needs
+
+frame-rules-requires-4 : tie.Need-frame-rules-requires-4
+frame-rules-requires-4 c κs = search needs
+
 returns : tie.Need-returns
 returns c = rw (c .before .enum-told .given .1) (c .frame-rules .ensures)
 
@@ -29,6 +35,9 @@ returns-2 c = rw (c .before .enum-told2 .given .1) (c .frame-rules2 .ensures)
 
 returns-3 : tie.Need-returns-3
 returns-3 c = rw (c .before .enum-told3 .given .1) (c .frame-rules3 .ensures)
+
+returns-4 : tie.Need-returns-4
+returns-4 c = rw (c .before .enum-told4 .given .1) (c .frame-rules4 .ensures)
 
 pub frame-rules-of-spec : {M : Type 1} → statement M
 frame-rules-of-spec =
@@ -40,6 +49,9 @@ frame-rules-of-spec =
     frame-rules-requires-2
     enum-told-3
     frame-rules-requires-3
+    enum-told-4
+    frame-rules-requires-4
     returns
     returns-2
-    returns-3)
+    returns-3
+    returns-4)

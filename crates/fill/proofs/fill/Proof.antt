@@ -2,12 +2,11 @@
 -- address and then the arguments are put.
 use mathlib.Core.Path.{_≡_, refl, sym, _∙_}
 use lib.ListN.{length}
-use Rattle.plan.specs.Plan.{measureOf}
 use Rattle.plan.proofs.Answers.{answer-plannable}
 use Rattle.places.specs.Step.{wordOf}
-use Rattle.slots.specs.Arguments.{planFor, rulesFor}
+use Rattle.slots.specs.Arguments.{planFor, sizesFor, rulesFor}
 use Rattle.slots.proofs.Refusals.{not-refused}
-use Rattle.arguments.proofs.Table.{measured-read, result-read}
+use Rattle.arguments.proofs.Table.{result-read}
 use Rattle.fill.specs.Fill.{lengths, fillAnswer, fillBuffers}
 use Rattle.fill.proofs.Accepted.{tests-lent, all-ready, hidden-fits, word-size, word-read, answer-refused, answer-tested, hidden-length, buffers-kept, buffers-done}
 use borrow.Author.Needs.{needs}
@@ -17,12 +16,12 @@ use Rattle.fill.proofs.fill.Tie as tie
 read-signature-requires : tie.Need-read-signature-requires
 read-signature-requires c κs = search needs
 
-measure-table-requires : tie.Need-measure-table-requires
-measure-table-requires c κs = rw (c .read-signature .ensures) (answer-plannable (c .before .before .before .before .before .before .args .sig .now))
+measure-call-requires : tie.Need-measure-call-requires
+measure-call-requires c κs = c .read-signature .ensures
 
 -- what is measured are the sizes of the plan
-sizes : (c : tie.After-measure-table) → c .measure-table .result ≡ measureOf (planFor (c .before .before .before .before .before .before .before .args .sig .now))
-sizes c = measured-read _ _ _ (c .before .read-signature .ensures) (c .measure-table .ensures)
+sizes : (c : tie.After-measure-call) → c .measure-call .result ≡ sizesFor (c .before .before .before .before .before .before .before .args .sig .now)
+sizes c = c .measure-call .ensures
 
 enum-known-outcome : tie.Need-enum-known-outcome
 enum-known-outcome c = search needs
@@ -108,7 +107,7 @@ fill-spec =
     tie.close
     (tie.spec
     read-signature-requires
-    measure-table-requires
+    measure-call-requires
     enum-known-outcome
     enum-told
     word-bytes-requires

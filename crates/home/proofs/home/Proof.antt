@@ -1,5 +1,5 @@
 -- The signature is read and planned, the lengths are tested, every FPR is tested, and only then is anything written.
-use mathlib.Core.Path.{refl, sym, ap, _∙_}
+use mathlib.Core.Path.{refl, sym, _∙_}
 use Prim.Native.Nat.{_≤_}
 use lib.ListN.{length}
 use Rattle.plan.specs.declared.Plan.{Plan}
@@ -14,18 +14,21 @@ use Rattle.home.proofs.home.Statement.{statement}
 use Rattle.home.proofs.home.Tie as tie
 
 -- what the tests of the lengths leave
-passed : (c : tie.Else1) → AllRegistered (c .before .before .before .before .before .before .before .read-signature .result) (c .before .before .before .before .before .before .plan-signature .result) (length (c .before .before .before .before .before .before .before .before .before .before .before .args .image .now)) × (c .before .before .before .before .before .before .plan-signature .result .area ≤ length (c .before .before .before .before .before .before .before .before .before .before .before .args .area .now))
+passed : (c : tie.Else1) → AllRegistered (c .before .before .before .before .before .before .before .before .read-signature .result) (c .before .before .before .before .before .before .before .plan-signature .result) (length (c .before .before .before .before .before .before .before .before .before .before .before .before .args .image .now)) × (c .before .before .before .before .before .before .before .plan-signature .result .area ≤ length (c .before .before .before .before .before .before .before .before .before .before .before .before .args .area .now))
 passed c =
-    let s = c .before .before .before .before .before .before .before .before .before .before .before .args .sig .now in
-    let read = c .before .before .before .before .before .before .before .read-signature .ensures in
+    let s = c .before .before .before .before .before .before .before .before .before .before .before .before .args .sig .now in
+    let read = c .before .before .before .before .before .before .before .before .read-signature .ensures in
     let lent = home-passed _ _ _ _ (sym (rw (c .before .before .before .call-rules-of .ensures) at (c .before .before .home-tested .ensures)) ∙ not-refused _ (sym (c .before .is-refused .ensures) ∙ c .if1 .left)) in
-    (all-registered s _ _ _ read (plan-same s _ _ read (c .before .before .before .before .before .before .plan-signature .ensures)) (lent .homes) (lent .image), lent .room)
+    (all-registered s _ _ _ read (plan-same s _ _ read (c .before .before .before .before .before .before .before .plan-signature .ensures)) (lent .homes) (lent .image), lent .room)
 
 read-signature-requires : tie.Need-read-signature-requires
 read-signature-requires c κs = search needs
 
 plan-signature-requires : tie.Need-plan-signature-requires
 plan-signature-requires c κs = rw (c .read-signature .ensures) (answer-plannable (c .before .before .before .before .args .sig .now))
+
+call-outcome-requires : tie.Need-call-outcome-requires
+call-outcome-requires c κs = c .before .read-signature .ensures
 
 enum-known-outcome : tie.Need-enum-known-outcome
 enum-known-outcome c = search needs
@@ -44,12 +47,12 @@ is-refused-requires c κs = search needs
 
 returns : tie.Need-returns
 returns c =
-    let start = c .before .before .before .before .before .before .before .before .before .before .before in
-    let p : Plan = c .before .before .before .before .before .before .plan-signature .result in
-    let read = c .before .before .before .before .before .before .before .read-signature .ensures in
-    let same = plan-same (start .args .sig .now) _ p read (c .before .before .before .before .before .before .plan-signature .ensures) in
+    let start = c .before .before .before .before .before .before .before .before .before .before .before .before in
+    let p : Plan = c .before .before .before .before .before .before .before .plan-signature .result in
+    let read = c .before .before .before .before .before .before .before .before .read-signature .ensures in
+    let same = plan-same (start .args .sig .now) _ p read (c .before .before .before .before .before .before .before .plan-signature .ensures) in
     let refused = sym (c .before .is-refused .ensures) ∙ c .if1 .taken in (
-      home-lengths (start .args .sig .now) (start .args .image .now) _ _ p _ read same (ap (λ (p : Plan). p .outcome) (sym same) ∙ c .before .before .before .before .enum-told .given .1) _ (rw (c .before .before .before .call-rules-of .ensures) at (c .before .before .home-tested .ensures)) refused,
+      home-lengths (start .args .sig .now) (start .args .image .now) _ _ p _ read same (sym (c .before .before .before .before .before .before .call-outcome .ensures) ∙ c .before .before .before .before .enum-told .given .1) _ (rw (c .before .before .before .call-rules-of .ensures) at (c .before .before .home-tested .ensures)) refused,
       area-kept (start .args .sig .now) _ (start .args .image .now) (start .args .area .now) refused,
     )
 
@@ -61,11 +64,11 @@ is-refused-requires-2 c κs = search needs
 
 returns-2 : tie.Need-returns-2
 returns-2 c =
-    let start = c .before .before .before .before .before .before .before .before .before .before .before .before .before .before in
-    let p : Plan = c .before .before .before .before .before .before .before .before .before .plan-signature .result in
-    let read = c .before .before .before .before .before .before .before .before .before .before .read-signature .ensures in
-    let same = plan-same (start .args .sig .now) _ p read (c .before .before .before .before .before .before .before .before .before .plan-signature .ensures) in (
-      home-registers (start .args .sig .now) (start .args .image .now) _ _ p _ read same (ap (λ (p : Plan). p .outcome) (sym same) ∙ c .before .before .before .before .before .before .before .enum-told .given .1) _ _ (rw (c .before .before .before .before .before .before .call-rules-of .ensures) at (c .before .before .before .before .before .home-tested .ensures)) (sym (c .before .before .before .before .is-refused .ensures) ∙ c .before .before .before .if1 .left) (c .before .before .first-unwidened .ensures),
+    let start = c .before .before .before .before .before .before .before .before .before .before .before .before .before .before .before in
+    let p : Plan = c .before .before .before .before .before .before .before .before .before .before .plan-signature .result in
+    let read = c .before .before .before .before .before .before .before .before .before .before .before .read-signature .ensures in
+    let same = plan-same (start .args .sig .now) _ p read (c .before .before .before .before .before .before .before .before .before .before .plan-signature .ensures) in (
+      home-registers (start .args .sig .now) (start .args .image .now) _ _ p _ read same (sym (c .before .before .before .before .before .before .before .before .before .call-outcome .ensures) ∙ c .before .before .before .before .before .before .before .enum-told .given .1) _ _ (rw (c .before .before .before .before .before .before .call-rules-of .ensures) at (c .before .before .before .before .before .home-tested .ensures)) (sym (c .before .before .before .before .is-refused .ensures) ∙ c .before .before .before .if1 .left) (c .before .before .first-unwidened .ensures),
       area-kept (start .args .sig .now) _ (start .args .image .now) (start .args .area .now) (sym (c .before .is-refused2 .ensures) ∙ c .if2 .taken),
     )
 
@@ -75,21 +78,20 @@ put-homes-requires c κs = passed (c .before .before .before .before)
 returns-3 : tie.Need-returns-3
 unfolding homeArea
 returns-3 c =
-    let start = c .before .before .before .before .before .before .before .before in
-    let same = plan-same (start .args .sig .now) _ (c .before .before .before .plan-signature .result) (c .before .before .before .before .read-signature .ensures) (c .before .before .before .plan-signature .ensures) in
-    (home-refused (start .args .sig .now) (start .args .image .now) _ _ (ap (λ (p : Plan). p .outcome) (sym same) ∙ c .before .outcome .given .1), refl)
+    let start = c .before .before .before .before .before .before .before .before .before in
+    (home-refused (start .args .sig .now) (start .args .image .now) _ _ (sym (c .before .before .before .call-outcome .ensures) ∙ c .before .outcome .given .1), refl)
 
 same-length : tie.Need-same-length
 same-length c = search needs
 
 returns-4 : tie.Need-returns-4
 returns-4 c =
-    let start = c .before .before .before .before .before .before .before .before .before .before .before .before .before .before .before .before .before .before in
-    let p : Plan = c .before .before .before .before .before .before .before .before .before .before .before .before .before .plan-signature .result in
-    let read = c .before .before .before .before .before .before .before .before .before .before .before .before .before .before .read-signature .ensures in
-    let same = plan-same (start .args .sig .now) _ p read (c .before .before .before .before .before .before .before .before .before .before .before .before .before .plan-signature .ensures) in
+    let start = c .before .before .before .before .before .before .before .before .before .before .before .before .before .before .before .before .before .before .before in
+    let p : Plan = c .before .before .before .before .before .before .before .before .before .before .before .before .before .before .plan-signature .result in
+    let read = c .before .before .before .before .before .before .before .before .before .before .before .before .before .before .before .read-signature .ensures in
+    let same = plan-same (start .args .sig .now) _ p read (c .before .before .before .before .before .before .before .before .before .before .before .before .before .before .plan-signature .ensures) in
     let done = not-refused _ (sym (c .before .before .before .before .before .is-refused2 .ensures) ∙ c .before .before .before .before .if2 .left) in (
-      home-registers (start .args .sig .now) (start .args .image .now) _ _ p _ read same (ap (λ (p : Plan). p .outcome) (sym same) ∙ c .before .before .before .before .before .before .before .before .before .before .before .enum-told .given .1) _ Answer.Done (rw (c .before .before .before .before .before .before .before .before .before .before .call-rules-of .ensures) at (c .before .before .before .before .before .before .before .before .before .home-tested .ensures)) (sym (c .before .before .before .before .before .before .before .before .is-refused .ensures) ∙ c .before .before .before .before .before .before .before .if1 .left) (sym done ∙ c .before .before .before .before .before .before .first-unwidened .ensures),
+      home-registers (start .args .sig .now) (start .args .image .now) _ _ p _ read same (sym (c .before .before .before .before .before .before .before .before .before .before .before .before .before .call-outcome .ensures) ∙ c .before .before .before .before .before .before .before .before .before .before .before .enum-told .given .1) _ Answer.Done (rw (c .before .before .before .before .before .before .before .before .before .before .call-rules-of .ensures) at (c .before .before .before .before .before .before .before .before .before .home-tested .ensures)) (sym (c .before .before .before .before .before .before .before .before .is-refused .ensures) ∙ c .before .before .before .before .before .before .before .if1 .left) (sym done ∙ c .before .before .before .before .before .before .first-unwidened .ensures),
       area-homed (start .args .sig .now) (start .args .image .now) (start .args .area .now) _ _ p read same (c .before .before .put-homes .ensures),
     )
 
@@ -99,6 +101,7 @@ home-spec =
     (tie.spec
     read-signature-requires
     plan-signature-requires
+    call-outcome-requires
     enum-known-outcome
     enum-told
     call-rules-of-requires

@@ -31,6 +31,15 @@ slice-aggregate-put-bytes-3 c = search needs
 put-bytes-requires-3 : tie.Need-put-bytes-requires-3
 put-bytes-requires-3 c κs = search needs
 
+enum-told-4 : tie.Need-enum-told-4
+enum-told-4 c = search needs
+
+slice-aggregate-put-bytes-4 : tie.Need-slice-aggregate-put-bytes-4
+slice-aggregate-put-bytes-4 c = search needs
+
+put-bytes-requires-4 : tie.Need-put-bytes-requires-4
+put-bytes-requires-4 c κs = search needs
+
 same-length : tie.Need-same-length
 same-length c = search needs
 
@@ -49,6 +58,12 @@ same-length-3 c = search needs
 returns-3 : tie.Need-returns-3
 returns-3 c = let w = c .before .before .put-bytes3 .ensures in (rw (c .before .before .before .before .before .enum-told3 .given .1) w, omega (arith, w .end))
 
+same-length-4 : tie.Need-same-length-4
+same-length-4 c = search needs
+
+returns-4 : tie.Need-returns-4
+returns-4 c = let w = c .before .before .put-bytes4 .ensures in (rw (c .before .before .before .before .before .enum-told4 .given .1) w, omega (arith, w .end))
+
 pub put-name-spec : {M : Type 1} → statement M
 put-name-spec =
     tie.close
@@ -62,9 +77,14 @@ put-name-spec =
     enum-told-3
     slice-aggregate-put-bytes-3
     put-bytes-requires-3
+    enum-told-4
+    slice-aggregate-put-bytes-4
+    put-bytes-requires-4
     same-length
     returns
     same-length-2
     returns-2
     same-length-3
-    returns-3)
+    returns-3
+    same-length-4
+    returns-4)

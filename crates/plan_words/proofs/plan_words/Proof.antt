@@ -5,11 +5,12 @@ use native.Mathlib.Omega.{arith}
 use Rattle.signature.proofs.Laws.{signature-refused}
 use Rattle.signature.proofs.Sound.{head-bounded}
 use Rattle.plan.specs.Plan.{planAnswer}
-use Rattle.plan.proofs.Measures.{plan-arguments}
+use Rattle.plan.specs.Call.{called}
+use Rattle.plan.proofs.Measures.{plan-arguments, unclear-arguments}
 use Rattle.plan_words.specs.Planned.{plannedOf}
 use Rattle.plan_entries.specs.Words.{tabled}
 use Rattle.plan_entries.proofs.Copies.{tabled-nothing}
-use Rattle.plan_words.proofs.Rows.{rows-entries, no-entries, small-result}
+use Rattle.plan_words.proofs.Rows.{rows-entries, no-entries, planned-called, rows-called, small-result}
 use Rattle.plan_words.proofs.plan_words.Statement.{statement}
 use Rattle.plan_words.proofs.plan_words.Tie as tie
 
@@ -33,7 +34,7 @@ plan-part-requires c κs =
     (omega arith, omega arith, k .short, omega arith, small-result _ _ found _ _ _ _ _ is)
 
 returns : tie.Need-returns
-unfolding planAnswer
+unfolding called planAnswer
 returns c =
     let none = signature-refused _ _ (c .before .before .before .before .read-head .ensures) _ (c .before .before .fault .given .1) in
     let table = c .before .before .before .before .before .before .before .args .places .now in
@@ -45,9 +46,10 @@ same-length c = search needs
 returns-2 : tie.Need-returns-2
 returns-2 c =
     let found = c .before .before .before .before .before .before .before .read-head .ensures in
-    let is = c .before .before .before .before .before .convention .given .1 in (
-      c .before .before .plan-part .ensures .0 ∙ sym (ap plannedOf (plan-arguments _ _ found _ _ _ _ _ is)),
-      c .before .before .plan-part .ensures .1 ∙ ap (tabled (c .before .before .before .before .before .before .before .before .before .before .args .places .now)) (rows-entries _ _ found _ _ _ _ _ is),
+    let is = c .before .before .before .before .before .convention .given .1 in
+    let unclear = sym (unclear-arguments _ _ found _ _ _ _ _ is) in (
+      c .before .before .plan-part .ensures .0 ∙ planned-called _ _ _ (sym (ap plannedOf (plan-arguments _ _ found _ _ _ _ _ is))) unclear,
+      c .before .before .plan-part .ensures .1 ∙ ap (tabled (c .before .before .before .before .before .before .before .before .before .before .args .places .now)) (rows-called _ _ _ (rows-entries _ _ found _ _ _ _ _ is) unclear),
     )
 
 pub plan-words-spec : {M : Type 1} → statement M

@@ -1,6 +1,4 @@
--- The reader's answer can be planned, and its plan is that of what it reads.
-use Rattle.plan.proofs.Answers.{answer-plannable, planned-answer}
-use Rattle.plan.specs.Plan.{planned}
+-- The reader's answer, planned.
 use mathlib.Core.Path.{ap, _∙_}
 use borrow.Author.Needs.{needs}
 use Rattle.planning.proofs.plan_of.Statement.{statement}
@@ -9,11 +7,11 @@ use Rattle.planning.proofs.plan_of.Tie as tie
 read-signature-requires : tie.Need-read-signature-requires
 read-signature-requires c κs = search needs
 
-plan-signature-requires : tie.Need-plan-signature-requires
-plan-signature-requires c κs = rw (c .read-signature .ensures) (answer-plannable _)
+plan-call-requires : tie.Need-plan-call-requires
+plan-call-requires c κs = c .read-signature .ensures
 
 returns : tie.Need-returns
-returns c = c .plan-signature .ensures ∙ ap planned (c .before .read-signature .ensures) ∙ planned-answer _
+returns c = c .plan-call .ensures
 
 pub plan-of-spec : {M : Type 1} → statement M
-plan-of-spec = tie.close (tie.spec read-signature-requires plan-signature-requires returns)
+plan-of-spec = tie.close (tie.spec read-signature-requires plan-call-requires returns)

@@ -1,12 +1,9 @@
 -- The signature is read and its table measured, the lengths are tested, every argument is checked, and only then are the values taken.
 use mathlib.Core.Path.{_≡_, refl, sym, _∙_}
-use Rattle.plan.specs.Plan.{measureOf}
-use Rattle.plan.proofs.Answers.{answer-plannable}
 use Rattle.slots.specs.declared.Answer.{Answer}
 use Rattle.slots.specs.Buffers.{buffers}
-use Rattle.slots.specs.Arguments.{planFor}
+use Rattle.slots.specs.Arguments.{sizesFor}
 use Rattle.slots.proofs.Refusals.{not-refused}
-use Rattle.arguments.proofs.Table.{measured-read}
 use Rattle.read.specs.Read.{readValues}
 use Rattle.read.proofs.Arguments.{all-readable}
 use Rattle.read.proofs.Accepted.{tests-lent, all-ready, all-sizes, answer-refused, answer-lengths, answer-arguments, values-kept, values-taken}
@@ -17,12 +14,12 @@ use Rattle.read.proofs.read.Tie as tie
 read-signature-requires : tie.Need-read-signature-requires
 read-signature-requires c κs = search needs
 
-measure-table-requires : tie.Need-measure-table-requires
-measure-table-requires c κs = rw (c .read-signature .ensures) (answer-plannable (c .before .before .before .before .before .before .args .sig .now))
+measure-call-requires : tie.Need-measure-call-requires
+measure-call-requires c κs = c .read-signature .ensures
 
 -- what is measured are the sizes of the plan
-sizes : (c : tie.After-measure-table) → c .measure-table .result ≡ measureOf (planFor (c .before .before .before .before .before .before .before .args .sig .now))
-sizes c = measured-read _ _ _ (c .before .read-signature .ensures) (c .measure-table .ensures)
+sizes : (c : tie.After-measure-call) → c .measure-call .result ≡ sizesFor (c .before .before .before .before .before .before .before .args .sig .now)
+sizes c = c .measure-call .ensures
 
 enum-known-outcome : tie.Need-enum-known-outcome
 enum-known-outcome c = search needs
@@ -99,7 +96,7 @@ read-spec =
     tie.close
     (tie.spec
     read-signature-requires
-    measure-table-requires
+    measure-call-requires
     enum-known-outcome
     enum-told
     tested-requires

@@ -24,6 +24,12 @@ enum-told-3 c = search needs
 narrow-size-requires : tie.Need-narrow-size-requires
 narrow-size-requires c κs = search needs
 
+enum-told-4 : tie.Need-enum-told-4
+enum-told-4 c = search needs
+
+wide-size-requires-3 : tie.Need-wide-size-requires-3
+wide-size-requires-3 c κs = search needs
+
 returns : tie.Need-returns
 returns c = c .wide-size .ensures ∙ rw (c .before .enum-told .given .1)
 
@@ -32,6 +38,9 @@ returns-2 c = c .wide-size2 .ensures ∙ rw (c .before .enum-told2 .given .1) (i
 
 returns-3 : tie.Need-returns-3
 returns-3 c = c .narrow-size .ensures ∙ rw (c .before .enum-told3 .given .1)
+
+returns-4 : tie.Need-returns-4
+returns-4 c = c .wide-size3 .ensures ∙ rw (c .before .enum-told4 .given .1) (integer-by-word Convention.Ppc64 Convention.Ppc64b (c .before .before .before .args .k) refl)
 
 pub integer-size-spec : {M : Type 1} → statement M
 integer-size-spec =
@@ -43,6 +52,9 @@ integer-size-spec =
     wide-size-requires-2
     enum-told-3
     narrow-size-requires
+    enum-told-4
+    wide-size-requires-3
     returns
     returns-2
-    returns-3)
+    returns-3
+    returns-4)

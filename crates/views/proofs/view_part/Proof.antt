@@ -13,13 +13,13 @@ use borrow.Author.Needs.{needs}
 use Rattle.views.proofs.view_part.Statement.{statement}
 use Rattle.views.proofs.view_part.Tie as tie
 
-viewed : (c : tie.Else1) → Hand (c .before .before .before .before .before .before .before .args .sig .now) (c .before .before .before .before .before .before .before .args .have) (c .before .before .before .before .before .before .before .args .index) (c .before .before .before .before .before .read-signature .result) (c .before .before .before .before .plan-signature .result)
+viewed : (c : tie.Else1) → Hand (c .before .before .before .before .before .before .before .before .args .sig .now) (c .before .before .before .before .before .before .before .before .args .have) (c .before .before .before .before .before .before .before .before .args .index) (c .before .before .before .before .before .before .read-signature .result) (c .before .before .before .before .before .plan-signature .result)
 viewed c =
-    hand (c .before .before .before .before .before .before .before .args .sig .now) (c .before .before .before .before .before .before .before .args .have) (c .before .before .before .before .before .before .before .args .index) _ _ (c .before .before .view-answer .result) (c .before .before .before .before .before .read-signature .ensures)
-    (plan-same (c .before .before .before .before .before .before .before .args .sig .now) _ _ (c .before .before .before .before .before .read-signature .ensures) (c .before .before .before .before .plan-signature .ensures)) (rw (c .before .before .before .call-rules-of .ensures) at (c .before .before .view-answer .ensures)) (not-refused _ (sym (c .before .is-refused .ensures) ∙ c .if1 .left))
+    hand (c .before .before .before .before .before .before .before .before .args .sig .now) (c .before .before .before .before .before .before .before .before .args .have) (c .before .before .before .before .before .before .before .before .args .index) _ _ (c .before .before .view-answer .result) (c .before .before .before .before .before .before .read-signature .ensures)
+    (plan-same (c .before .before .before .before .before .before .before .before .args .sig .now) _ _ (c .before .before .before .before .before .before .read-signature .ensures) (c .before .before .before .before .before .plan-signature .ensures)) (rw (c .before .before .before .call-rules-of .ensures, c .before .before .before .before .call-outcome .ensures) at (c .before .before .view-answer .ensures)) (not-refused _ (sym (c .before .is-refused .ensures) ∙ c .if1 .left))
 
 -- where the value's own bytes start
-own : (c : tie.After-own-start) → c .own-start .result ≡ ownStart (rulesOf (c .before .before .before .before .before .before .before .before .before .before .before .before .read-signature .result .convention)) (argumentAt (c .before .before .before .before .before .before .before .before .before .before .before .before .read-signature .result) (c .before .before .before .before .before .before .before .before .before .before .before .plan-signature .result) (c .before .before .before .before .before .before .before .before .before .before .before .before .before .before .args .index) .ty) (argumentAt (c .before .before .before .before .before .before .before .before .before .before .before .before .read-signature .result) (c .before .before .before .before .before .before .before .before .before .before .before .plan-signature .result) (c .before .before .before .before .before .before .before .before .before .before .before .before .before .before .args .index) .size)
+own : (c : tie.After-own-start) → c .own-start .result ≡ ownStart (rulesOf (c .before .before .before .before .before .before .before .before .before .before .before .before .before .read-signature .result .convention)) (argumentAt (c .before .before .before .before .before .before .before .before .before .before .before .before .before .read-signature .result) (c .before .before .before .before .before .before .before .before .before .before .before .before .plan-signature .result) (c .before .before .before .before .before .before .before .before .before .before .before .before .before .before .before .args .index) .ty) (argumentAt (c .before .before .before .before .before .before .before .before .before .before .before .before .before .read-signature .result) (c .before .before .before .before .before .before .before .before .before .before .before .before .plan-signature .result) (c .before .before .before .before .before .before .before .before .before .before .before .before .before .before .before .args .index) .size)
 own c = c .own-start .ensures ∙ rw (c .before .before .before .before .before .before .before .before .before .before .call-rules-of .ensures, c .before .before .before .size-of .ensures)
 
 read-signature-requires : tie.Need-read-signature-requires
@@ -27,6 +27,9 @@ read-signature-requires c κs = search needs
 
 plan-signature-requires : tie.Need-plan-signature-requires
 plan-signature-requires c κs = rw (c .read-signature .ensures) (answer-plannable (c .before .before .args .sig .now))
+
+call-outcome-requires : tie.Need-call-outcome-requires
+call-outcome-requires c κs = c .before .read-signature .ensures
 
 call-rules-of-requires : tie.Need-call-rules-of-requires
 call-rules-of-requires c κs = search needs
@@ -39,9 +42,9 @@ is-refused-requires c κs = search needs
 
 returns : tie.Need-returns
 returns c =
-    let start = c .before .before .before .before .before .before .before in
-    let same = plan-same (start .args .sig .now) _ _ (c .before .before .before .before .before .read-signature .ensures) (c .before .before .before .before .plan-signature .ensures) in
-    part-refused (start .args .sig .now) (start .args .have) (start .args .index) _ (answer-same (start .args .sig .now) _ (start .args .index) _ _ _ (c .before .before .before .before .before .read-signature .ensures) same (rw (c .before .before .before .call-rules-of .ensures) at (c .before .before .view-answer .ensures))) (sym (c .before .is-refused .ensures) ∙ c .if1 .taken)
+    let start = c .before .before .before .before .before .before .before .before in
+    let same = plan-same (start .args .sig .now) _ _ (c .before .before .before .before .before .before .read-signature .ensures) (c .before .before .before .before .before .plan-signature .ensures) in
+    part-refused (start .args .sig .now) (start .args .have) (start .args .index) _ (answer-same (start .args .sig .now) _ (start .args .index) _ _ _ (c .before .before .before .before .before .before .read-signature .ensures) same (rw (c .before .before .before .call-rules-of .ensures, c .before .before .before .before .call-outcome .ensures) at (c .before .before .view-answer .ensures))) (sym (c .before .is-refused .ensures) ∙ c .if1 .taken)
 
 mul-a : tie.Need-mul-a
 mul-a c = omega (arith, viewed c .small)
@@ -77,12 +80,12 @@ add-start c =
 
 returns-2 : tie.Need-returns-2
 returns-2 c =
-    let start = c .before .before .before .before .before .before .before .before .before .before .before .before .before .before in
+    let start = c .before .before .before .before .before .before .before .before .before .before .before .before .before .before .before in
     let h = viewed (c .before .before .before .before .before .before .before) in
-    let read = c .before .before .before .before .before .before .before .before .before .before .before .before .read-signature .ensures in
-    let same = plan-same (start .args .sig .now) _ _ read (c .before .before .before .before .before .before .before .before .before .before .before .plan-signature .ensures) in
+    let read = c .before .before .before .before .before .before .before .before .before .before .before .before .before .read-signature .ensures in
+    let same = plan-same (start .args .sig .now) _ _ read (c .before .before .before .before .before .before .before .before .before .before .before .before .plan-signature .ensures) in
     part-shown (start .args .sig .now) (start .args .have) (start .args .index) _ _ _ _ _ h read
-    (answer-same (start .args .sig .now) _ (start .args .index) _ _ _ read same (rw (c .before .before .before .before .before .before .before .before .before .before .call-rules-of .ensures) at (c .before .before .before .before .before .before .before .before .before .view-answer .ensures))) (own c) (c .before .before .before .size-of .ensures)
+    (answer-same (start .args .sig .now) _ (start .args .index) _ _ _ read same (rw (c .before .before .before .before .before .before .before .before .before .before .call-rules-of .ensures, c .before .before .before .before .before .before .before .before .before .before .before .call-outcome .ensures) at (c .before .before .before .before .before .before .before .before .before .view-answer .ensures))) (own c) (c .before .before .before .size-of .ensures)
 
 pub view-part-spec : {M : Type 1} → statement M
 view-part-spec =
@@ -90,6 +93,7 @@ view-part-spec =
     (tie.spec
     read-signature-requires
     plan-signature-requires
+    call-outcome-requires
     call-rules-of-requires
     view-answer-requires
     is-refused-requires

@@ -42,7 +42,7 @@ fn case(before: &Dump) -> Case {
     };
     Case {
         operation: match before.convention {
-            Convention::Ppc64 => Operation::WalkDumpPpc64,
+            Convention::Ppc64 | Convention::Ppc64b => Operation::WalkDumpPpc64,
             Convention::Z => Operation::WalkDumpZ,
             Convention::Aix => Operation::WalkDumpAix,
         },

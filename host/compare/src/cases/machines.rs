@@ -105,6 +105,7 @@ fn call_parts(call: &Call) -> (Operation, Vec<u64>, Option<Vec<u8>>) {
                 Convention::Ppc64 => Operation::StartPpc64,
                 Convention::Z => Operation::StartZ,
                 Convention::Aix => Operation::StartAix,
+                Convention::Ppc64b => Operation::StartPpc64b,
             };
             let registers = bytes_of(&register_words(registers));
             (operation, vec![*base], Some(registers))

@@ -133,7 +133,7 @@ fn reading(signature: &[u8]) -> Case {
 }
 
 fn measuring(signature: &[u8]) -> Case {
-    let plan = reference::read(signature).map(|signature| reference::plan(&signature));
+    let plan = reference::call(signature).map(|(_, plan)| plan);
     let sizes = plans::expected_sizes(&plan);
     let answer = sizes.answer;
     Case {

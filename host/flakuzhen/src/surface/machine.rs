@@ -58,6 +58,13 @@ extern "C" {
         memory: *mut u8,
         memory_length: usize,
     ) -> Answer;
+    fn fz_start_ppc64b(
+        machine: *mut Machine,
+        registers: *const Registers,
+        base: u64,
+        memory: *mut u8,
+        memory_length: usize,
+    ) -> Answer;
     fn fz_enter(
         machine: *mut Machine,
         request: *const Frame,
@@ -116,6 +123,16 @@ pub fn start_aix(
     memory: &mut [u8],
 ) -> Answer {
     unsafe { fz_start_aix(machine, registers, base, memory.as_mut_ptr(), memory.len()) }
+}
+
+/// `fz_start_ppc64b`
+pub fn start_ppc64b(
+    machine: &mut Machine,
+    registers: &Registers,
+    base: u64,
+    memory: &mut [u8],
+) -> Answer {
+    unsafe { fz_start_ppc64b(machine, registers, base, memory.as_mut_ptr(), memory.len()) }
 }
 
 /// `fz_enter`

@@ -198,7 +198,7 @@ fn test_lengths(plan: &Plan, values: &[u8], image: &[u8], area: &[u8]) -> Result
 
 fn hidden_register(plan: &Plan) -> Option<usize> {
     match (plan.convention, plan.result) {
-        (Convention::Ppc64 | Convention::Aix, ResultType::Struct) => Some(3),
+        (Convention::Ppc64 | Convention::Aix | Convention::Ppc64b, ResultType::Struct) => Some(3),
         (Convention::Z, ResultType::Struct | ResultType::LongDouble) => Some(2),
         _ => None,
     }
@@ -218,9 +218,9 @@ fn at_the_end(convention: Convention, argument: &Argument) -> bool {
     match (convention, argument.content) {
         (Convention::Aix, _) => false,
         (_, Content::SignedInteger | Content::UnsignedInteger) => true,
-        (Convention::Ppc64, Content::Float) => argument.floating.count == 0,
+        (Convention::Ppc64 | Convention::Ppc64b, Content::Float) => argument.floating.count == 0,
         // a struct of less than a doubleword
-        (Convention::Ppc64, Content::Other) => argument.size < 8,
+        (Convention::Ppc64 | Convention::Ppc64b, Content::Other) => argument.size < 8,
         (Convention::Z, _) => argument.floating.count == 0,
     }
 }

@@ -101,7 +101,7 @@ fn put(entry: &mut [u64], convention: Convention, argument: &Argument, item: usi
     let word = convention.word() as u16;
     let in_memory = word * u16::from(memory.words);
     let (start, home, home_length) = match convention {
-        Convention::Ppc64 | Convention::Aix => {
+        Convention::Ppc64 | Convention::Aix | Convention::Ppc64b => {
             let home = argument.offset.unwrap_or(0);
             (memory.offset, home, argument.size.next_multiple_of(word))
         }
@@ -137,13 +137,16 @@ fn head(convention: Convention, result: ResultType, sizes: Sizes, count: usize) 
         Convention::Ppc64 => (1, 3, 1),
         Convention::Z => (2, 2, 0),
         Convention::Aix => (3, 3, 1),
+        Convention::Ppc64b => (4, 3, 1),
     };
     let [kind, gpr, gprs, fpr, fprs] = match (result, convention) {
         (ResultType::None, _) => [0; 5],
         (ResultType::Integer, _) => [1, general, 1, 0, 0],
         (ResultType::WideInteger, _) => [1, general, 2, 0, 0],
         (ResultType::Float, _) => [1, 0, 0, floating, 1],
-        (ResultType::LongDouble, Convention::Ppc64 | Convention::Aix) => [1, 0, 0, floating, 2],
+        (ResultType::LongDouble, Convention::Ppc64 | Convention::Aix | Convention::Ppc64b) => {
+            [1, 0, 0, floating, 2]
+        }
         (ResultType::LongDouble, Convention::Z) | (ResultType::Struct, _) => [2, general, 1, 0, 0],
     };
     let sizes = [sizes.values, sizes.area, sizes.copies].map(|size| size as u64);

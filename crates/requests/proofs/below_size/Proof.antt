@@ -1,13 +1,13 @@
 -- By the linkage, the definition's own sum; it stays small. Assumes nothing.
 use Rattle.rules.proofs.Places.{gpr-end, fpr-end, words-small}
-use Rattle.rules.specs.Rules.{Linkage}
+use Rattle.rules.specs.declared.Linkage.{Linkage}
 use Rattle.rules.specs.Frames.{below}
 use Prim.Native.Nat.{_-_}
 use native.Mathlib.Omega.{arith}
 use mathlib.Core.Path.{sym, ap}
 use borrow.Author.Needs.{needs}
-use Rattle.rules.proofs.below_size.Statement.{statement}
-use Rattle.rules.proofs.below_size.Tie as tie
+use Rattle.requests.proofs.below_size.Statement.{statement}
+use Rattle.requests.proofs.below_size.Tie as tie
 
 enum-told : tie.Need-enum-told
 enum-told c = search needs

@@ -1,10 +1,10 @@
 -- The parts of a lawful frame stay small, and their sum is the definition's. Assumes nothing.
 use Rattle.rules.proofs.Places.{full-small, full-parts}
 use Rattle.rules.specs.Frames.{fullSize}
 use native.Mathlib.Omega.{arith}
 use borrow.Author.Needs.{needs}
-use Rattle.rules.proofs.full_size.Statement.{statement}
-use Rattle.rules.proofs.full_size.Tie as tie
+use Rattle.requests.proofs.full_size.Statement.{statement}
+use Rattle.requests.proofs.full_size.Tie as tie
 
 below-size-requires : tie.Need-below-size-requires
 below-size-requires c κs = search needs

@@ -1,11 +1,11 @@
 -- The definition's tests in their order. Assumes nothing.
 use Rattle.rules.specs.Frames.{okLeaf}
 use borrow.Author.Tests.{eq-eqb, ne-eqb, not-true, not-false}
 use native.Mathlib.Omega.{arith}
 use mathlib.Core.Path.{sym, _∙_}
 use borrow.Author.Needs.{needs}
-use Rattle.rules.proofs.leaf_ok.Statement.{statement}
-use Rattle.rules.proofs.leaf_ok.Tie as tie
+use Rattle.requests.proofs.leaf_ok.Statement.{statement}
+use Rattle.requests.proofs.leaf_ok.Tie as tie
 
 returns : tie.Need-returns
 unfolding okLeaf

@@ -1,12 +1,12 @@
 -- The definition's tests in their order. Assumes nothing.
 use Rattle.rules.specs.Frames.{maxOutgoing, okRequest}
 use Prim.Native.Nat.{_%_}
 use borrow.Author.Tests.{lt-leb, le-leb, eq-eqb, ne-eqb, not-true, not-false}
 use native.Mathlib.Omega.{arith}
 use mathlib.Core.Path.{sym, _∙_}
 use borrow.Author.Needs.{needs}
-use Rattle.rules.proofs.request_ok.Statement.{statement}
-use Rattle.rules.proofs.request_ok.Tie as tie
+use Rattle.requests.proofs.request_ok.Statement.{statement}
+use Rattle.requests.proofs.request_ok.Tie as tie
 
 in-span-requires : tie.Need-in-span-requires
 in-span-requires c κs = search needs

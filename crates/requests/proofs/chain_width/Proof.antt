@@ -1,8 +1,8 @@
 -- Nothing for a leaf, else a word. Assumes nothing.
 use Rattle.rules.proofs.Places.{leaf-chain, solid-chain}
 use mathlib.Core.Path.{sym}
-use Rattle.rules.proofs.chain_width.Statement.{statement}
-use Rattle.rules.proofs.chain_width.Tie as tie
+use Rattle.requests.proofs.chain_width.Statement.{statement}
+use Rattle.requests.proofs.chain_width.Tie as tie
 
 returns : tie.Need-returns
 returns c = let z = c .before in sym (leaf-chain (z .args .k) (z .args .f) (c .if1 .taken))

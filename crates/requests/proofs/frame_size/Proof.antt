@@ -1,9 +1,9 @@
 -- Nothing for a leaf, else the full size. Assumes nothing.
 use mathlib.Core.Path.{sym, _∙_}
 use borrow.Author.Needs.{needs}
 use Rattle.rules.proofs.Places.{leaf-size, solid-size}
-use Rattle.rules.proofs.frame_size.Statement.{statement}
-use Rattle.rules.proofs.frame_size.Tie as tie
+use Rattle.requests.proofs.frame_size.Statement.{statement}
+use Rattle.requests.proofs.frame_size.Tie as tie
 
 returns : tie.Need-returns
 returns c = let z = c .before in sym (leaf-size (z .args .k) (z .args .f) (c .if1 .taken))
