@@ -12,7 +12,7 @@ use std::path::{Path, PathBuf};
 const ACCEPTED: u64 = 130_000;
 
 /// What the largest test must have seen, each at least this often.
-const OFTEN: u64 = 400;
+const OFTEN: u64 = 500;
 /// Beside what arguments are like: the conventions and the results.
 const RESULTS: [&str; 31] = [
     "AIX calls",
