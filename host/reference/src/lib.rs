@@ -15,6 +15,7 @@ mod planner;
 mod reader;
 pub mod table;
 mod types;
+pub mod walker;
 
 pub use listing::{listing, listing_of, refusal_line};
 pub use planner::{
