@@ -6,7 +6,7 @@ use crate::marshal::{memory_end, require, Caller, AREA_TOO_SHORT, IMAGE, IMAGE_S
 use crate::planner::{
     is_unclear, powerpc_argument, z_argument, PowerCursor, ZCursor, UNCLEAR, Z_STACK,
 };
-use crate::{plan, read, reader, ArgumentPlan, Convention, Refusal, ResultPlan, Type};
+use crate::{plan, read, read_type, ArgumentPlan, Convention, Refusal, ResultPlan, Type};
 
 const LOST: u64 = 23;
 /// "Counters over 2^32 [..] give 23."
@@ -27,6 +27,38 @@ pub struct Walker {
     pub floating: u64,
     /// PowerPC: 0. Z: the next stack offset.
     pub stack: u64,
+}
+
+impl Walker {
+    /// The six words, in their order.
+    pub fn words(&self) -> [u64; 6] {
+        [
+            self.convention,
+            self.ellipsis,
+            self.hidden,
+            self.general,
+            self.floating,
+            self.stack,
+        ]
+    }
+
+    pub fn of_words(words: [u64; 6]) -> Walker {
+        let [convention, ellipsis, hidden, general, floating, stack] = words;
+        Walker {
+            convention,
+            ellipsis,
+            hidden,
+            general,
+            floating,
+            stack,
+        }
+    }
+
+    /// Where an argument of this type would stand next; nothing where 23 or 29 is given.
+    pub fn next(&self, of: &Type) -> Option<ArgumentPlan> {
+        let (convention, mut cursor) = cursor(self)?;
+        step(convention, self.ellipsis == 1, of, &mut cursor).ok()
+    }
 }
 
 /// What the counters of a walker mean.
@@ -66,7 +98,7 @@ pub fn walk(
     copy_base: u64,
 ) -> Result<(), Refusal> {
     let (convention, mut cursor) = cursor(walker).ok_or(Refusal::without_place(LOST))?;
-    let of = reader::read_type(convention, item)?;
+    let of = read_type(convention, item)?;
     let argument = step(convention, walker.ellipsis == 1, &of, &mut cursor)?;
     require(image.len() == IMAGE, IMAGE_SIZE)?;
     require(value.len() == of.size(convention), VALUES_SIZE)?;
@@ -174,29 +206,6 @@ mod tests {
         bytes
     }
 
-    fn words(walker: &Walker) -> [u64; 6] {
-        [
-            walker.convention,
-            walker.ellipsis,
-            walker.hidden,
-            walker.general,
-            walker.floating,
-            walker.stack,
-        ]
-    }
-
-    fn walker(words: [u64; 6]) -> Walker {
-        let [convention, ellipsis, hidden, general, floating, stack] = words;
-        Walker {
-            convention,
-            ellipsis,
-            hidden,
-            general,
-            floating,
-            stack,
-        }
-    }
-
     fn started(signature: &[u8]) -> Walker {
         let mut walker = Walker::default();
         walk_start(&mut walker, signature).unwrap();
@@ -213,7 +222,7 @@ mod tests {
         item: &[u8],
         size: usize,
     ) -> (Result<(), Refusal>, [u64; 6]) {
-        let mut walker = walker(words_before);
+        let mut walker = Walker::of_words(words_before);
         let mut value = vec![0; size];
         let area = vec![0; 4096];
         let answer = walk(
@@ -225,13 +234,13 @@ mod tests {
             &[0; 256],
             0,
         );
-        (answer, words(&walker))
+        (answer, walker.words())
     }
 
     #[test]
     fn a_start_is_where_the_arguments_are() {
         let start = |code, ellipsis, result: &[u8]| {
-            words(&started(&signature(code, ellipsis, result, &[&I8])))
+            started(&signature(code, ellipsis, result, &[&I8])).words()
         };
         assert_eq!(start(1, false, &[]), [1, 0, 0, 0, 0, 0]);
         assert_eq!(start(1, true, &DOUBLE), [1, 1, 0, 0, 0, 0]);
@@ -240,14 +249,14 @@ mod tests {
         assert_eq!(start(2, true, &[]), [2, 1, 0, 2, 0, 160]);
         assert_eq!(start(2, false, &LONG_DOUBLE), [2, 0, 1, 3, 0, 160]);
         // a refused one leaves the walker
-        let mut walker = walker([9; 6]);
+        let mut walker = Walker::of_words([9; 6]);
         let refusal = walk_start(&mut walker, &[1]).unwrap_err();
-        assert_eq!((refusal.number, words(&walker)), (2, [9; 6]));
+        assert_eq!((refusal.number, walker.words()), (2, [9; 6]));
         // "29 is no matter of its start"
         let doubles = [&DOUBLE[..]; 12];
         let unclear = signature(4, true, &[], &[&doubles[..], &[&LONG_DOUBLE]].concat());
         assert_eq!(crate::call(&unclear).unwrap_err().number, 29);
-        assert_eq!(words(&started(&unclear)), [4, 1, 0, 0, 0, 0]);
+        assert_eq!(started(&unclear).words(), [4, 1, 0, 0, 0, 0]);
     }
 
     #[test]
@@ -371,7 +380,7 @@ mod tests {
 
     #[test]
     fn the_item_is_read_after_23_and_before_all_else() {
-        let mut at = walker([1, 1, 0, 0, 0, 0]);
+        let mut at = Walker::of_words([1, 1, 0, 0, 0, 0]);
         let mut ask = |item: &[u8]| {
             let refusal = walk(&mut at, item, &mut [], &[], &[], &[], 0).unwrap_err();
             (refusal.number, refusal.place, refusal.items)
@@ -387,10 +396,10 @@ mod tests {
 
     #[test]
     fn the_order_is_29_15_10_11_then_the_contents() {
-        let mut at = walker([4, 1, 0, 12, 12, 0]);
+        let mut at = Walker::of_words([4, 1, 0, 12, 12, 0]);
         let item = LONG_DOUBLE;
         assert_eq!(walk(&mut at, &item, &mut [], &[], &[], &[], 0), refused(29));
-        assert_eq!(words(&at), [4, 1, 0, 12, 12, 0]);
+        assert_eq!(at.words(), [4, 1, 0, 12, 12, 0]);
         at.floating = 11;
         assert_eq!(walk(&mut at, &item, &mut [], &[], &[], &[], 0), refused(15));
         let image = [0; 512];
@@ -402,7 +411,7 @@ mod tests {
         assert_eq!(ask(&mut value, &[0; 111]), refused(11));
         assert_eq!(ask(&mut value, &[0; 112]), Ok(()));
         // without an ellipsis it is in registers alone
-        let mut at = walker([4, 0, 0, 12, 11, 0]);
+        let mut at = Walker::of_words([4, 0, 0, 12, 11, 0]);
         assert_eq!(
             walk(&mut at, &item, &mut value, &image, &[], &[], 0),
             Ok(())
@@ -411,7 +420,7 @@ mod tests {
         let mut image = image;
         image[264..272].copy_from_slice(&0x3ff0_0000_1000_0000u64.to_be_bytes());
         let ask = |image: &[u8]| {
-            let mut at = walker([1, 1, 0, 0, 0, 0]);
+            let mut at = Walker::of_words([1, 1, 0, 0, 0, 0]);
             walk(&mut at, &SINGLE, &mut [0; 4], image, &[], &[], 0)
         };
         assert_eq!(ask(&image), refused(14));
@@ -420,7 +429,7 @@ mod tests {
         image[28..32].copy_from_slice(&0x3f80_0000u32.to_be_bytes());
         assert_eq!(ask(&image), Ok(()));
         // 13
-        let mut at = walker([2, 0, 0, 2, 0, 160]);
+        let mut at = Walker::of_words([2, 0, 0, 2, 0, 160]);
         let copies = [0; 15];
         assert_eq!(
             walk(&mut at, &item, &mut value, &image, &[], &copies, 0),
