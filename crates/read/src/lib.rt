@@ -50,8 +50,8 @@ fn copy_answer(inside: bool) -> Answer
     Answer::Refused(Refusal::OutsideCopies)
 }
 
-// Whether one argument can be read, of a type and its size, where there are `length` bytes of copies.
-fn argument_answer(
+// Whether one argument can be read, of a type and its size.
+pub fn argument_answer(
     image: &[u8],
     area: &[u8],
     copies: &[u8],

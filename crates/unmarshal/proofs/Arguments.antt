@@ -2,7 +2,7 @@
 use mathlib.Core.Path.{_≡_, refl, sym, _∙_}
 use mathlib.Core.Bool.{Bool, true, false}
 use mathlib.Core.List.{List}
-use Prim.Native.Nat.{ℕ, _+_, _-_, _*_, _≤_, _<_}
+use Prim.Native.Nat.{ℕ, zero, suc, _+_, _-_, _*_, _≤_, _<_}
 use native.Mathlib.Omega.{arith}
 use borrow.Author.Tests.{ltb-true, ltb-false}
 use lib.Dec.{ltb}
@@ -28,12 +28,16 @@ use Rattle.slots.specs.Forms.{startsAtHead, ownStart, roomOf, narrowedBytes, fl
 use Rattle.slots.specs.Placements.{Placement, wordsAt, floatAt, addressAt, wordsValue, valueAt}
 use Rattle.slots.specs.Limits.{FloatSized}
 use Rattle.slots.specs.Refusals.{narrowedAnswer, floatAnswer}
-use Rattle.unmarshal.specs.Readable.{FloatRoom, Readable}
+use Rattle.unmarshal.specs.Readable.{Stored, FloatRoom, Readable}
 
 pub float-room : (e : Equivalent) (m n l : ℕ) → FloatSized e m n → n ≤ l → FloatRoom e (8 * m) l
 float-room Equivalent.Single m n l h k = (omega (arith, h .0), omega (arith, h .1))
 float-room Equivalent.Double m n l h k = (omega (arith, h .0), omega (arith, h .1))
 float-room Equivalent.Nothing m n l h k = omega (arith, h)
+
+stored-length : (s m : ℕ) (l : List ℕ) → Stored s m (length l) → length (part s m l) ≡ m
+stored-length s zero l h = refl
+stored-length s (suc m) l h = length-part s (suc m) l (h (omega arith))
 
 module _ (r : Rules) (base : ℕ) (p : Placement) (b : Buffers) (h : Readable r base p b) where
   -- the value's own bytes lie in its words
@@ -67,7 +71,7 @@ module _ (r : Rules) (base : ℕ) (p : Placement) (b : Buffers) (h : Readable r 
       length-append (gather (wordOf r) k bs) (part (p .span .memory .start) (p .span .memory .length) (b .area))
       ∙ rw (
         length-gather (wordOf r) k bs (h .ready .held .word .1) (omega arith),
-        length-part (p .span .memory .start) (p .span .memory .length) (b .area) (omega (arith, h .ready)),
+        stored-length (p .span .memory .start) (p .span .memory .length) (b .area) (h .ready .memory),
       )
 
   length-fprs : length (floatAt (p .span) b) ≡ 8 * p .span .floating .count

@@ -92,7 +92,7 @@ fn take_float(out: &mut [u8], image: &[u8], r: Rules, e: Equivalent, at: usize, 
 }
 
 // The value of one argument, of a type and its size, at the head of out.
-fn take_argument(
+pub fn take_argument(
     out: &mut [u8],
     image: &[u8],
     area: &[u8],
