@@ -82,10 +82,10 @@ module _ (w : ℕ) (least : 4 ≤ w) (most : w ≤ 8) where
       let s = words-split w (words w n) g (omega arith) in
       record {
         word = (least, most);
-        alone = λ e. absurd (omega arith);
         direct = λ e. refl;
         float = λ e. absurd (omega arith);
         words = λ e. omega (arith, s);
+        also = λ e. omega (arith, s);
         stored = λ e. whole-words (words w n - g) e;
         room = λ e. words-room n;
         whole = λ e. refl;
@@ -100,10 +100,10 @@ module _ (w : ℕ) (least : 4 ≤ w) (most : w ≤ 8) where
       → Held (rules e) (placement t n (powerSpan w k (words w n) (pick b (share 0 m 0) (share 0 0 (words w n)))))
   power-float e k t n m some f small true = record {
     word = (least, most);
-    alone = λ e. (refl, mul-zero w);
     direct = λ e. refl;
     float = λ e. f;
     words = λ e. absurd (omega arith);
+    also = λ e. absurd (omega (arith, mul-zero w));
     stored = λ e. whole-words 0 e;
     room = λ e. words-room n;
     whole = λ e. refl;
@@ -113,10 +113,10 @@ module _ (w : ℕ) (least : 4 ≤ w) (most : w ≤ 8) where
   }
   power-float e k t n m some f small false = record {
     word = (least, most);
-    alone = λ e. absurd (omega arith);
     direct = λ e. refl;
     float = λ e. absurd (omega arith);
     words = λ e. omega (arith, mul-zero w);
+    also = λ e. omega (arith, mul-zero w);
     stored = λ e. whole-words (words w n) e;
     room = λ e. words-room n;
     whole = λ e. refl;
@@ -147,10 +147,10 @@ z-float : (k : Cursor) (t : ValueType) (n : ℕ) → FloatSized (equivalentOf t)
 unfolding zSpanOf startsAtHead
 z-float k t n f one eight = record {
   word = (omega arith, omega arith);
-  alone = λ e. (refl, omega arith);
   direct = λ e. refl;
   float = λ e. let m : 1 ≡ zFloating k = omega arith in subst (λ (m : ℕ). FloatSized (equivalentOf t) m n) m f;
   words = λ e. omega arith;
+  also = λ e. omega arith;
   stored = λ e. omega arith;
   room = λ e. (eight, omega arith);
   whole = λ e. refl;
@@ -163,10 +163,10 @@ z-simple : (k : Cursor) (t : ValueType) (n : ℕ) → 1 ≤ n → n ≤ 8 → He
 unfolding zSpanOf startsAtHead
 z-simple k t n one eight = record {
   word = (omega arith, omega arith);
-  alone = λ e. absurd (omega arith);
   direct = λ e. refl;
   float = λ e. absurd (omega arith);
   words = λ e. omega arith;
+  also = λ e. omega arith;
   stored = λ e. omega arith;
   room = λ e. (eight, omega arith);
   whole = λ e. refl;
@@ -180,10 +180,10 @@ z-reference : (k : Cursor) (t : ValueType) (n : ℕ) → Held Rules.Z (placement
 unfolding zSpanOf startsAtHead
 z-reference k t n = record {
   word = (omega arith, omega arith);
-  alone = λ e. absurd (omega arith);
   direct = λ e. absurd (omega arith);
   float = λ e. absurd (omega arith);
   words = λ e. omega arith;
+  also = λ e. omega arith;
   stored = λ e. omega arith;
   room = λ e. absurd-bool e;
   whole = λ e. absurd-bool' e;

@@ -20,12 +20,13 @@ FloatSized Equivalent.Nothing m n = n ≡ 8 * m
 -- the span has room for exactly the argument's form
 pub record Held (r : Rules) (p : Placement) : Type 0 where
   pub word : (4 ≤ wordOf r) × (wordOf r ≤ 8)
-  -- FPRs hold a whole float, and then nothing else does
-  pub alone : 0 < p .span .floating .count → (p .span .general .count ≡ 0) × (p .span .memory .length ≡ 0)
+  -- FPRs hold a whole float
   pub direct : 0 < p .span .floating .count → p .span .indirect ≡ false
   pub float : 0 < p .span .floating .count → FloatSized (equivalentOf (p .ty)) (p .span .floating .count) (p .size)
-  -- else general registers and memory hold all words, memory none or a word at least
+  -- else general registers and memory hold all words; beside FPRs they hold all or none; memory holds none or a word at least
   pub words : p .span .floating .count ≡ 0 → wordOf r * p .span .general .count + p .span .memory .length ≡ roomOf r (p .size)
+  pub also : 0 < wordOf r * p .span .general .count + p .span .memory .length
+      → wordOf r * p .span .general .count + p .span .memory .length ≡ roomOf r (p .size)
   pub stored : 0 < p .span .memory .length → wordOf r ≤ p .span .memory .length
   -- a value's words have no word too many
   pub room : p .span .indirect ≡ false → (p .size ≤ roomOf r (p .size)) × (roomOf r (p .size) < p .size + wordOf r)
