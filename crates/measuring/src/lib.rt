@@ -131,6 +131,7 @@ pub fn measure(s: &[u8]) -> Measured
         HeadRead::Head {
             convention,
             result,
+            ellipsis,
             at,
             end,
             earlier,
@@ -150,6 +151,7 @@ pub fn outcome_of(s: &[u8]) -> Outcome
         HeadRead::Head {
             convention,
             result,
+            ellipsis,
             at,
             end,
             earlier,

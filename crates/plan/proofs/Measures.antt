@@ -111,43 +111,43 @@ module _ (c : Convention) (s : List ℕ) (at e : ℕ) (result : ResultType) (ear
     unclear-end h = rw (turn-last c s at e (m .ts) count next n (m .turn) last, le-ltb next (length s) h) (m .unclear)
 
 -- the plan of what is read from the arguments on
-plan-then : (s : List ℕ) (c : Convention) (r : Result) (n : ℕ) (x : Reading Trees) →
-    planAnswer (thenArguments s c r n x) ≡ planWith c (resultType c r) n (length s) x
+plan-then : (s : List ℕ) (c : Convention) (r : Result) (v : Bool) (n : ℕ) (x : Reading Trees) →
+    planAnswer (thenArguments s c r v n x) ≡ planWith c (resultType c r) n (length s) x
 unfolding planAnswer
-plan-then s c r n (got ts next m) = go (ltb next (length s))
+plan-then s c r v n (got ts next m) = go (ltb next (length s))
   where
     go : (more : Bool) →
-        planAnswer (pick more (no (fault Refusal.TrailingBytes next (n + m))) (got (record { convention = c; result = r; arguments = ts }) next (n + m)))
+        planAnswer (pick more (no (fault Refusal.TrailingBytes next (n + m))) (got (record { convention = c; result = r; ellipsis = v; arguments = ts }) next (n + m)))
         ≡ pick more (refused (fault Refusal.TrailingBytes next (n + m))) (planIn (n + m) c (resultType c r) (typesOf c ts))
     go true = refl
     go false = refl
-plan-then s c r n (no f) = refl
+plan-then s c r v n (no f) = refl
 
-pub plan-arguments : (s : List ℕ) (x : HeadRead) → x ≡ headAnswer (headOf s) → (c : Convention) (t : ResultType) (at b n : ℕ) → x ≡ HeadRead.Head c t at b n →
+pub plan-arguments : (s : List ℕ) (x : HeadRead) → x ≡ headAnswer (headOf s) → (c : Convention) (t : ResultType) (v : Bool) (at b n : ℕ) → x ≡ HeadRead.Head c t v at b n →
     planAnswer (signatureOf s) ≡ planWith c t n (length s) (argumentsIn c s at b)
-plan-arguments s x found c t at b n q =
-    let (r, read, same) = signature-then s x found c t at b n q in
+plan-arguments s x found c t v at b n q =
+    let (r, read, same) = signature-then s x found c t v at b n q in
     ap planAnswer read
-    ∙ plan-then s c r n (argumentsIn c s at b)
+    ∙ plan-then s c r v n (argumentsIn c s at b)
     ∙ ap (λ (u : ResultType). planWith c u n (length s) (argumentsIn c s at b)) (sym same)
 
 -- the first unclear argument of what is read from the arguments on
-unclear-then : (s : List ℕ) (c : Convention) (r : Result) (n : ℕ) (x : Reading Trees) →
-    unclearOf (signatureAnswer (thenArguments s c r n x)) ≡ unclearWith c (resultType c r) (length s) x
+unclear-then : (s : List ℕ) (c : Convention) (r : Result) (v : Bool) (n : ℕ) (x : Reading Trees) →
+    unclearOf (signatureAnswer (thenArguments s c r v n x)) ≡ unclearWith c (resultType c r) (length s) x
 unfolding firstUnclear
-unclear-then s c r n (got ts next m) = go (ltb next (length s))
+unclear-then s c r v n (got ts next m) = go (ltb next (length s))
   where
     go : (more : Bool) →
-        unclearOf (signatureAnswer (pick more (no (fault Refusal.TrailingBytes next (n + m))) (got (record { convention = c; result = r; arguments = ts }) next (n + m))))
+        unclearOf (signatureAnswer (pick more (no (fault Refusal.TrailingBytes next (n + m))) (got (record { convention = c; result = r; ellipsis = v; arguments = ts }) next (n + m))))
         ≡ pick more 0 (firstUnclear c (rulesOf c) (startIn c (resultType c r)) 0 (typesOf c ts))
     go true = refl
     go false = ap (firstUnclear c (rulesOf c) (startIn c (resultType c r)) 0) (table-types c ts)
-unclear-then s c r n (no f) = refl
+unclear-then s c r v n (no f) = refl
 
-pub unclear-arguments : (s : List ℕ) (x : HeadRead) → x ≡ headAnswer (headOf s) → (c : Convention) (t : ResultType) (at b n : ℕ) → x ≡ HeadRead.Head c t at b n →
+pub unclear-arguments : (s : List ℕ) (x : HeadRead) → x ≡ headAnswer (headOf s) → (c : Convention) (t : ResultType) (v : Bool) (at b n : ℕ) → x ≡ HeadRead.Head c t v at b n →
     unclearOf (signatureAnswer (signatureOf s)) ≡ unclearWith c t (length s) (argumentsIn c s at b)
-unclear-arguments s x found c t at b n q =
-    let (r, read, same) = signature-then s x found c t at b n q in
+unclear-arguments s x found c t v at b n q =
+    let (r, read, same) = signature-then s x found c t v at b n q in
     ap (λ (y : Reading Signature). unclearOf (signatureAnswer y)) read
-    ∙ unclear-then s c r n (argumentsIn c s at b)
+    ∙ unclear-then s c r v n (argumentsIn c s at b)
     ∙ ap (λ (u : ResultType). unclearWith c u (length s) (argumentsIn c s at b)) (sym same)

@@ -179,6 +179,7 @@ pub fn plan_words(sig: &[u8], places: &mut [u64]) -> Planned
         HeadRead::Head {
             convention,
             result,
+            ellipsis,
             at,
             end,
             earlier,

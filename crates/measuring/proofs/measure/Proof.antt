@@ -23,7 +23,7 @@ enum-known-convention : tie.Need-enum-known-convention
 enum-known-convention c = search needs
 
 measure-arguments-requires : tie.Need-measure-arguments-requires
-measure-arguments-requires c κs = let k = head-bounded _ _ _ _ _ _ _ (c .before .before .before .read-head .ensures) (c .before .convention .given .1) in omega arith
+measure-arguments-requires c κs = let k = head-bounded _ _ _ _ _ _ _ _ (c .before .before .before .read-head .ensures) (c .before .convention .given .1) in omega arith
 
 judged-requires : tie.Need-judged-requires
 judged-requires c κs = search needs
@@ -37,7 +37,7 @@ returns-2 c =
     let given = c .before .before .before .convention .given .1 in
     let a = c .before .measure-arguments .ensures in
     c .judged .ensures
-    ∙ measured-called _ _ _ (a .0 ∙ sym (ap measureOf (plan-arguments _ _ head _ _ _ _ _ given))) (a .1 ∙ sym (unclear-arguments _ _ head _ _ _ _ _ given))
+    ∙ measured-called _ _ _ (a .0 ∙ sym (ap measureOf (plan-arguments _ _ head _ _ _ _ _ _ given))) (a .1 ∙ sym (unclear-arguments _ _ head _ _ _ _ _ _ given))
 
 pub measure-spec : {M : Type 1} → statement M
 measure-spec =

@@ -21,7 +21,7 @@ enum-known-convention : tie.Need-enum-known-convention
 enum-known-convention c = search needs
 
 measure-arguments-requires : tie.Need-measure-arguments-requires
-measure-arguments-requires c κs = let k = head-bounded _ _ _ _ _ _ _ (c .before .before .before .read-head .ensures) (c .before .convention .given .1) in omega arith
+measure-arguments-requires c κs = let k = head-bounded _ _ _ _ _ _ _ _ (c .before .before .before .read-head .ensures) (c .before .convention .given .1) in omega arith
 
 returns : tie.Need-returns
 returns c = outcome-refused _ _ (signature-refused _ _ (c .before .before .before .read-head .ensures) _ (c .before .fault .given .1))
@@ -31,7 +31,7 @@ returns-2 c =
     let head = c .before .before .before .before .before .read-head .ensures in
     let given = c .before .before .before .convention .given .1 in
     ap (λ (m : Measured). m .outcome) (c .before .measure-arguments .ensures .0)
-    ∙ sym (ap (λ (p : Plan). p .outcome) (plan-arguments _ _ head _ _ _ _ _ given))
+    ∙ sym (ap (λ (p : Plan). p .outcome) (plan-arguments _ _ head _ _ _ _ _ _ given))
     ∙ outcome-read _
 
 pub outcome-of-spec : {M : Type 1} → statement M
