@@ -29,7 +29,7 @@ use Rattle.slots.proofs.Limits.{form-length, one-word, one-address, one-doublew
 pub float-room : (e : Equivalent) (m n l : ℕ) → FloatSized e m n → 8 * m ≤ l → FloatRoom e n l
 float-room Equivalent.Single m n l h k = (h .1, omega (arith, h .0))
 float-room Equivalent.Double m n l h k = omega (arith, h .0, h .1)
-float-room Equivalent.Nothing m n l h k = omega (arith, h)
+float-room Equivalent.Nothing m n l h k = omega (arith, h .0, h .1)
 
 module _ (r : Rules) (base : ℕ) (p : Placement) (v image area copies : List ℕ) (h : Held r p) where
   -- in FPRs, and as well in words, which are those of the value

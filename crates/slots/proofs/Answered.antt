@@ -1,5 +1,6 @@
 -- Whatever bytes a signature has, its arguments are carried: each is held by its span and lies in its buffers. Assumes nothing.
 use mathlib.Core.Path.{_≡_, refl, sym, ap, _∙_, subst}
+use mathlib.Core.Bool.{false}
 use mathlib.Core.List.{List, [], _++_}
 use Prim.Native.Nat.{ℕ, _+_, _-_, _≤_}
 use native.Mathlib.Omega.{arith}
@@ -16,8 +17,10 @@ use Rattle.signature.specs.Read.{signatureOf}
 use Rattle.signature.specs.Answer.{resultType, signatureAnswer}
 use Rattle.signature.proofs.Theorems.{accepted}
 use Rattle.places.specs.declared.Cursor.{Cursor}
+use Rattle.places.specs.declared.Rules.{Rules}
 use Rattle.places.specs.declared.Span.{Span}
 use Rattle.places.specs.Step.{rulesOf}
+use Rattle.places.proofs.Marked.{rules-plain}
 use Rattle.places.proofs.Bounds.{named-start, area-holds}
 use Rattle.plan.specs.declared.Plan.{Plan}
 use Rattle.plan.specs.Plan.{spansOf, valuesOf, noSpan, tableOf, hiddenIn, startIn, endIn, planIn, planAnswer, typesOf, planned}
@@ -27,7 +30,7 @@ use Rattle.plan.proofs.Answers.{table-types, answer-plannable, planned-answer, 
 use Rattle.slots.specs.Placements.{Placement, placements}
 use Rattle.slots.specs.Limits.{Held, Fits, All, sizesOf}
 use Rattle.slots.specs.Arguments.{argumentsIn, planFor, Carried}
-use Rattle.slots.proofs.Typed.{all-typed}
+use Rattle.slots.proofs.Typed.{AllTyped, all-typed}
 use Rattle.slots.proofs.Planned.{placements-table, placements-sizes, all-held, all-fit}
 
 -- the arguments of an accepted signature are those of its plan's fold
@@ -61,6 +64,9 @@ planned-values : (n : ℕ) (c : Convention) (r : ResultType) (ts : List ValueTyp
 unfolding planIn
 planned-values n c r ts = refl
 
+plain-held : (c : Convention) (k : Cursor) (ts : List ValueType) → AllTyped c ts → All (Held (rulesOf c)) (placements c ts (spansOf c (rulesOf c) k ts))
+plain-held c k ts h = subst (λ (r : Rules). All (Held r) (placements c ts (spansOf c r k ts))) (rules-plain c) (all-held c false k ts h)
+
 -- a refused signature has no arguments
 none-all : (P : Placement → Type 0) → All P []
 unfolding All
@@ -83,7 +89,7 @@ carried s = go (signatureOf s) refl
           few = a .within .few;
           types = plan .room;
           spans = planned-room n c r ts (countOf (g .arguments)) (length-of-types c (g .arguments)) (a .within .few);
-          held = subst (All (Held (rulesOf c))) (sym same) (all-held c k ts (all-typed c (g .arguments) (a .arguments)));
+          held = subst (All (Held (rulesOf c))) (sym same) (plain-held c k ts (all-typed c (g .arguments) (a .arguments)));
           fit = subst (All (Fits (planIn n c r ts .area) (planIn n c r ts .copies))) (sym same) (planned-fit n c r ts);
           total = ap sizesOf same ∙ placements-sizes c (rulesOf c) k ts ∙ planned-values n c r ts;
         }

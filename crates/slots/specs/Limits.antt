@@ -11,11 +11,11 @@ use Rattle.places.specs.Step.{wordOf}
 use Rattle.slots.specs.Forms.{roomOf, startsAtHead}
 use Rattle.slots.specs.Placements.{Placement}
 
--- m FPRs hold a float of n bytes: a single and a double have one, a long double, which a type is not equivalent to, one for each doubleword
+-- m FPRs hold a float of n bytes: a single and a double have one; a long double, which no struct is equivalent to, has "two successive FPRs" (No. 12)
 abbrev pub FloatSized : Equivalent → ℕ → ℕ → Type 0
 FloatSized Equivalent.Single m n = (m ≡ 1) × (n ≡ 4)
 FloatSized Equivalent.Double m n = (m ≡ 1) × (n ≡ 8)
-FloatSized Equivalent.Nothing m n = n ≡ 8 * m
+FloatSized Equivalent.Nothing m n = (m ≡ 2) × (n ≡ 16)
 
 -- the span has room for exactly the argument's form
 pub record Held (r : Rules) (p : Placement) : Type 0 where
