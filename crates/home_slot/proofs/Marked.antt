@@ -46,7 +46,7 @@ unfolding withEllipsis homedBytes homeBytes startsAtHead floatValue
 bytes-marked v (Rules.Power f) p image = rw (value-marked v f (equivalentOf (p .ty)) (fprsOf (p .span) image))
 bytes-marked v Rules.Z p image = refl
 
-homed-marked : (v : Bool) (r : Rules) (a : ℕ) (p : Placement) → Homed (withEllipsis v r) a p → Homed r a p
+pub homed-marked : (v : Bool) (r : Rules) (a : ℕ) (p : Placement) → Homed (withEllipsis v r) a p → Homed r a p
 unfolding withEllipsis startsAtHead
 homed-marked v (Rules.Power f) a p h = record { homes = refl; direct = h .direct; room = h .room; within = h .within; float = h .float; follows = h .follows }
 homed-marked v Rules.Z a p h = h
