@@ -1,0 +1,4 @@
+-- Laws and theorems of the walker. Assumes nothing.
+pub mod Shifted
+pub mod Reached
+pub mod Exactly
