@@ -2,3 +2,6 @@
 pub mod Shifted
 pub mod Reached
 pub mod Exactly
+pub mod Words
+pub mod Steps
+pub mod Walks
