@@ -14,7 +14,7 @@ use Rattle.plan.specs.Plan.{typesOf}
 use Rattle.slots.proofs.Typed.{all-typed}
 use Rattle.walker.specs.declared.Counters.{Counters}
 use Rattle.walker.specs.declared.Walker.{Walker}
-use Rattle.walker.specs.Walker.{countersOf, mark, possible, inRange, lost}
+use Rattle.walker.specs.Walker.{countersOf, mark, powerPossible, zPossible, possible, inRange, lost}
 use Rattle.walker.specs.Walks.{Led, Small, LostExactly}
 use Rattle.walker.proofs.Reached.{Possible, reached-start, reached-last, reached-possible, counters-back, possible-led}
 
@@ -56,7 +56,7 @@ ways-back s g f (inr (inl x)) = either-right (leb s 160) (leb 7 g || leb 8 f) (e
 ways-back s g f (inr (inr x)) = either-right (leb s 160) (leb 7 g || leb 8 f) (either-right (leb 7 g) (leb 8 f) (le-leb 8 f x))
 
 tested-possible : (r : Rules) (hidden : Bool) (k : Counters) → possible r hidden k ≡ true → Possible r hidden k
-unfolding possible
+unfolding possible powerPossible zPossible
 tested-possible (Rules.Power f) hidden k e =
     let a = both-true _ _ e in
     let b = both-true _ _ (a .1) in
@@ -78,7 +78,7 @@ tested-possible Rules.Z hidden k e =
     )
 
 possible-tested : (r : Rules) (hidden : Bool) (k : Counters) → Possible r hidden k → possible r hidden k ≡ true
-unfolding possible
+unfolding possible powerPossible zPossible
 possible-tested (Rules.Power f) hidden k h = both-of _ _ (le-leb _ _ (h .0)) (both-of _ _ (le-leb _ _ (h .1)) (eq-eqb _ _ (h .2)))
 possible-tested Rules.Z hidden k h =
     both-of _ _ (le-leb _ _ (h .0))

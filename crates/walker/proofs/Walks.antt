@@ -60,7 +60,7 @@ use Rattle.walker.specs.declared.Walker.{Walker}
 use Rattle.walker.specs.declared.WalkerRead.{WalkerRead}
 use Rattle.walker.specs.Walker.{countersOf, walker, walkerOf, ellipsisOf, lost}
 use Rattle.walker.specs.Step.{rulesBy, typeItem, stepAnswer, stepValue, stepOn}
-use Rattle.walker.specs.Words.{Walked, walked, walkerWords, stepBy, itemBy, walkBy, walk, startWords}
+use Rattle.walker.specs.Words.{Walked, walked, walkerWords, stepBy, stepFor, itemBy, walkBy, walk, startWords}
 use Rattle.walker.specs.Walks.{Small, inOrder, followedBy, walkOver, walkWhole, SameWalk, WalksAlike}
 use Rattle.walker.proofs.Reached.{Possible, Reached, reached-start, reached-next, reached-possible}
 use Rattle.walker.proofs.Exactly.{possible-found}
@@ -80,7 +80,7 @@ walk-step : (w : Walker) (t : Tree) (s : List ℕ) (next n base : ℕ) (b : Buff
     → stepAnswer w (typeOf (w .convention) t) (length v) base b ≡ call.Answer.Done
     → walk (walkerWords w) s base b v
     ≡ walked (Answer.Called call.Answer.Done) (walkerWords (stepOn w (typeOf (w .convention) t))) (overlay v (stepValue w (typeOf (w .convention) t) base b))
-unfolding walk
+unfolding walk stepFor
 walk-step w t s next n base b v found read done =
     ap (λ (x : WalkerRead). walkBy x (walkerWords w) s base b v) (words-back w found)
     ∙ ap (λ (x : Reading Tree). itemBy x (walkerWords w) w base b v) read

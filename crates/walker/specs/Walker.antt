@@ -55,14 +55,20 @@ mark false = 0
 
 -- Counters that some arguments lead to from the walker's start (`LostExactly` says that these are they). PowerPC: at most 13 FPRs are used, each has taken a word, and so has
 -- a hidden address. Z: of r2 to r6 a hidden address has the first; FPRs go by two; the stack, in doublewords from 160 on, is used only where no register of a bank is left.
-unfoldable pub possible : Rules → Bool → Counters → Bool
-possible (Rules.Power f) hidden k = leb (k .floating) 13 && (leb (k .floating + mark hidden) (k .general) && eqb (k .stack) 0)
-possible Rules.Z hidden k =
-    leb (2 + mark hidden) (k .general)
+unfoldable pub powerPossible : ℕ → Counters → Bool
+powerPossible hidden k = leb (k .floating) 13 && (leb (k .floating + hidden) (k .general) && eqb (k .stack) 0)
+
+unfoldable pub zPossible : ℕ → Counters → Bool
+zPossible hidden k =
+    leb (2 + hidden) (k .general)
     && (leb (k .general) 7
     && (leb (k .floating) 8
     && (eqb (k .floating % 2) 0
     && (leb 160 (k .stack) && (eqb (k .stack % 8) 0 && (leb (k .stack) 160 || (leb 7 (k .general) || leb 8 (k .floating))))))))
+
+unfoldable pub possible : Rules → Bool → Counters → Bool
+possible (Rules.Power f) hidden k = powerPossible (mark hidden) k
+possible Rules.Z hidden k = zPossible (mark hidden) k
 
 -- none is "over 2^32"
 unfoldable pub inRange : Counters → Bool

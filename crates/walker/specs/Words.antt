@@ -69,10 +69,13 @@ stepBy call.Answer.Done ws w t base b v = walked (Answer.Called call.Answer.Done
 stepBy (call.Answer.Unread f) ws w t base b v = walked (Answer.Called (call.Answer.Unread f)) ws v
 stepBy (call.Answer.Refused r) ws w t base b v = walked (Answer.Called (call.Answer.Refused r)) ws v
 
+-- a walker w, in the words ws, that is asked for a type
+unfoldable pub stepFor : List ℕ → Walker → ValueType → ℕ → Buffers → List ℕ → Walked
+stepFor ws w t base b v = stepBy (stepAnswer w t (length v) base b) ws w t base b v
+
 -- by what was read of the item
 abbrev pub itemBy : Reading Tree → List ℕ → Walker → ℕ → Buffers → List ℕ → Walked
-itemBy (got t next n) ws w base b v =
-    stepBy (stepAnswer w (typeOf (w .convention) t) (length v) base b) ws w (typeOf (w .convention) t) base b v
+itemBy (got t next n) ws w base b v = stepFor ws w (typeOf (w .convention) t) base b v
 itemBy (no f) ws w base b v = walked (Answer.Called (call.Answer.Unread f)) ws v
 
 -- by what the words are: 23 comes "first"
