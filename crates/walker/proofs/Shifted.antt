@@ -81,6 +81,6 @@ module _ (t : ValueType) (n d : ℕ) (s s′ : Span) (b : Buffers) (h : Shifted 
   unfolding argumentAnswer bytesAt
   answer-shift r base = rw (words-shift, h .floating, h .indirect)
 
-  pub tests-shift : (v : ℕ) → firstOf (stepTests (placement t n s) v b) ≡ firstOf (stepTests (placement t n s′) v (areaFrom d b))
+  pub tests-shift : (v : ℕ) → firstOf (stepTests n s v (length (b .image)) (length (b .area))) ≡ firstOf (stepTests n s′ v (length (b .image)) (length (drop d (b .area))))
   unfolding stepTests firstOf
   tests-shift v = rw (passes-shift d s s′ (b .area) h)

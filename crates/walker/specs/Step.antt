@@ -52,19 +52,16 @@ asked w t = placement t (sizeBy w t) (spanOf (rulesBy w) (cursorOf w) t (sizeBy 
 unfoldable pub passes : Span → ℕ → Bool
 passes s l = ltb 0 (s .memory .length) && ltb l (s .memory .start + s .memory .length)
 
--- 15, 10 and 11, of a value buffer of v bytes
-unfoldable pub stepTests : Placement → ℕ → Buffers → List Test
-stepTests p v b =
-    test (differ (length (b .image)) 512) Refusal.ImageSize
-    ∷ test (differ v (p .size)) Refusal.ValuesSize
-    ∷ test (passes (p .span) (length (b .area))) Refusal.AreaTooShort
-    ∷ []
+-- 15, 10 and 11: of a type of n bytes with its span, where the value buffer, the image and the area have these lengths
+unfoldable pub stepTests : ℕ → Span → ℕ → ℕ → ℕ → List Test
+stepTests n s value image area =
+    test (differ image 512) Refusal.ImageSize ∷ test (differ value n) Refusal.ValuesSize ∷ test (passes s area) Refusal.AreaTooShort ∷ []
 
 -- No. 12: "give new refusal 29 .. a walker stays put on it", at place 0; then 15, 10 and 11; "13, 14 and 26 are as in reading"
 unfoldable pub stepAnswer : Walker → ValueType → ℕ → ℕ → Buffers → Answer
 stepAnswer w t v base b =
     pick (unclearFor (rulesOf (w .convention)) (cursorOf w) t) (Answer.Unread (fault item.Refusal.UnclearPlace 0 0))
-    (orElse (firstOf (stepTests (asked w t) v b)) (argumentAnswer (rulesBy w) base (asked w t) b))
+    (orElse (firstOf (stepTests (sizeBy w t) (asked w t .span) v (length (b .image)) (length (b .area)))) (argumentAnswer (rulesBy w) base (asked w t) b))
 
 -- what it fills the value buffer with
 abbrev pub stepValue : Walker → ValueType → ℕ → Buffers → List ℕ
