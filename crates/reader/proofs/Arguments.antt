@@ -3,6 +3,7 @@
 -- Assumes nothing.
 use Prim.Native.Nat.{ℕ, zero, suc, _+_, _≤_, _<_}
 use mathlib.Core.Path.{_≡_, refl, sym, ap, _∙_}
+use mathlib.Core.Bool.{false}
 use mathlib.Core.List.{List}
 use lib.ListN.{length, getD, length-append}
 use lib.Dec.{ltb, eqb}
@@ -23,11 +24,11 @@ use Rattle.conventions.specs.declared.ConventionCode.{ConventionCode}
 use Rattle.conventions.specs.Numbers.{conventionCode}
 use Rattle.signature.specs.Signature.{Result, Signature}
 use Rattle.signature.specs.Read.{conventionBy, conventionAt, resultIn, resultAt, argumentsIn, argumentsAt, afterResult, afterConvention, signatureOf}
-use Rattle.signature.specs.Encode.{encodeResult}
+use Rattle.signature.specs.Encode.{encodeResult, ellipsisItem}
 use Rattle.signature.proofs.Sound.{convention-read, result-read}
 use Rattle.reader.specs.declared.ArgumentRead.{ArgumentRead}
 use Rattle.stepping.specs.Step.{bodyIn, bodyStart, bodyEnd, typeIn}
-use Rattle.reader.specs.Argument.{argumentIn, argumentsStart, steppedTo}
+use Rattle.reader.specs.Argument.{argumentIn, argumentsPlace, argumentsStart, steppedTo}
 use Rattle.stepping.proofs.Laws.{end-within, body-here, start-found, end-found}
 
 -- readings: what was got is what the reading is, and what follows from what holds of it
@@ -157,10 +158,10 @@ any-tag s short tag at b small q =
 -- of an accepted signature: the first argument's place, by stepping and by the encoder, and what is read from there
 pub record Placed (s : List ℕ) (g : Signature) : Type 0 where
   pub short : length s ≤ maxLength
-  pub start : argumentsStart s ≡ 10 + length (encodeResult (g .result))
+  pub start : argumentsStart s ≡ argumentsPlace (g .result) (g .ellipsis)
   pub next : ℕ
   pub count : ℕ
-  pub read : argumentsIn (g .convention) s (10 + length (encodeResult (g .result))) (length s) ≡ got (g .arguments) next count
+  pub read : argumentsIn (g .convention) s (argumentsPlace (g .result) (g .ellipsis)) (length s) ≡ got (g .arguments) next count
 
 module _ (s : List ℕ) (short : length s ≤ maxLength) (c : Convention) (at₁ n₁ : ℕ) (first : conventionAt s ≡ got c at₁ n₁) (r : Result) (at₂ n₂ : ℕ)
     (second : resultAt c s at₁ ≡ got r at₂ n₂) (ts : Trees) (next m : ℕ) (third : Third c s at₂ ts next m) (last : length s ≤ next) where
@@ -184,11 +185,12 @@ module _ (s : List ℕ) (short : length s ≤ maxLength) (c : Convention) (at₁
   into-third : at₂ + 3 ≡ bodyStart s at₂ (length s)
   into-third = start-found s at₂ (length s) (Body.To (third .end)) (any-tag s short 0x03 at₂ (third .end) (omega arith) (third .body)) (third .end) refl
 
-  started : argumentsStart s ≡ 10 + length (encodeResult r)
-  unfolding argumentsStart
+  started : argumentsStart s ≡ argumentsPlace r false
+  unfolding argumentsStart ellipsisItem
   started = rw (← past-first, ← past-second, ← into-third) (let t = there in omega arith)
 
-  placed : Placed s (record { convention = c; result = r; arguments = ts })
+  placed : Placed s (record { convention = c; result = r; ellipsis = false; arguments = ts })
+  unfolding ellipsisItem
   placed = record {
     short = short;
     start = started;
@@ -197,7 +199,7 @@ module _ (s : List ℕ) (short : length s ≤ maxLength) (c : Convention) (at₁
     read = rw (ends, the-start) at (third .read);
   }
     where
-      the-start : at₂ + 3 ≡ 10 + length (encodeResult r)
+      the-start : at₂ + 3 ≡ argumentsPlace r false
       the-start = let t = there in omega arith
 
 signature-placed : (s : List ℕ) → Got (λ g next n. Placed s g) (signatureOf s)
@@ -211,19 +213,19 @@ signature-placed s = by-choose (Got (λ g next n. Placed s g)) (ltb maxLength (l
 
 -- an accepted signature's arguments, one after the other
 arguments-stepped : (s : List ℕ) (g : Signature) → Placed s g → (index : ℕ) → index < countOf (g .arguments) →
-    steppedTo (g .convention) s (argumentsStart s) (length s) index ≡ argumentIn (g .convention) (10 + length (encodeResult (g .result))) index (g .arguments)
+    steppedTo (g .convention) s (argumentsStart s) (length s) index ≡ argumentIn (g .convention) (argumentsPlace (g .result) (g .ellipsis)) index (g .arguments)
 unfolding argumentsIn encodeTrees countOf
 arguments-stepped s g p index h =
-    let start = 10 + length (encodeResult (g .result)) in
+    let start = argumentsPlace (g .result) (g .ellipsis) in
     let all = all-stepped (g .convention) s (length s) start (p .short) (omega arith) maxArguments start 1 none (omega arith) in
     rw (p .start) (got-of s g p all .steps index (omega arith) ∙ ap (λ (i : ℕ). argumentIn (g .convention) start i (g .arguments)) (omega arith))
   where
     got-of : (s : List ℕ) (g : Signature) (p : Placed s g) →
-        Got (Stepped (g .convention) s (length s) (10 + length (encodeResult (g .result))) (p .short) (omega arith) none (10 + length (encodeResult (g .result))))
-        (argumentsIn (g .convention) s (10 + length (encodeResult (g .result))) (length s)) →
-        Stepped (g .convention) s (length s) (10 + length (encodeResult (g .result))) (p .short) (omega arith) none (10 + length (encodeResult (g .result))) (g .arguments) (p .next) (p .count)
+        Got (Stepped (g .convention) s (length s) (argumentsPlace (g .result) (g .ellipsis)) (p .short) (omega arith) none (argumentsPlace (g .result) (g .ellipsis)))
+        (argumentsIn (g .convention) s (argumentsPlace (g .result) (g .ellipsis)) (length s)) →
+        Stepped (g .convention) s (length s) (argumentsPlace (g .result) (g .ellipsis)) (p .short) (omega arith) none (argumentsPlace (g .result) (g .ellipsis)) (g .arguments) (p .next) (p .count)
     got-of s g p all = rw (p .read) at all
 
 pub arguments-in-order : (s : List ℕ) (g : Signature) (next n : ℕ) → signatureOf s ≡ got g next n → (index : ℕ) → index < countOf (g .arguments) →
-    steppedTo (g .convention) s (argumentsStart s) (length s) index ≡ argumentIn (g .convention) (10 + length (encodeResult (g .result))) index (g .arguments)
+    steppedTo (g .convention) s (argumentsStart s) (length s) index ≡ argumentIn (g .convention) (argumentsPlace (g .result) (g .ellipsis)) index (g .arguments)
 arguments-in-order s g next n q index h = arguments-stepped s g (rw q at (signature-placed s)) index h

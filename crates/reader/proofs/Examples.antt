@@ -14,7 +14,7 @@ use Rattle.types.specs.Trees.{typeOf, fieldsOf, countOf}
 use Rattle.items.specs.declared.Refusal.{Refusal}
 use Rattle.items.specs.Read.{bodyAt, integerCode, floatCode, integerAt, floatOf, floatAt, sequence, sizedAt, contentsAt, itemBy, structAt, itemAt}
 use Rattle.items.specs.Encode.{item, encodeTree, encodeTrees}
-use Rattle.signature.specs.Encode.{encodeResult}
+use Rattle.signature.specs.Encode.{encodeResult, ellipsisItem}
 use Rattle.signature.specs.Read.{conventionAt, resultIn, resultAt, argumentsIn, argumentsAt, afterResult, afterConvention, signatureOf}
 use Rattle.stepping.specs.declared.Header.{Header}
 use Rattle.reader.specs.declared.ArgumentRead.{ArgumentRead}
@@ -34,7 +34,7 @@ headers = refl
 -- "arguments i32 and double", at 10 and 14
 pub arguments : map (λ (index : ℕ). argumentAnswer index (signatureOf example)) (0 ∷ 1 ∷ 2 ∷ [])
     ≡ ArgumentRead.Argument (ValueType.Integer IntegerKind.I32) 10 ∷ ArgumentRead.Argument (ValueType.Float FloatFormat.Double) 14 ∷ ArgumentRead.Missing ∷ []
-unfolding example bodyAt integerCode floatCode integerAt floatOf floatAt sequence roundUp withField shapeOf fieldsOf sizedAt contentsAt itemBy structAt itemAt conventionCode conventionAt resultIn resultAt argumentsIn argumentsAt afterResult afterConvention signatureOf item encodeTree encodeTrees encodeResult typeOf countOf argumentIn
+unfolding example bodyAt integerCode floatCode integerAt floatOf floatAt sequence roundUp withField shapeOf fieldsOf sizedAt contentsAt itemBy structAt itemAt conventionCode conventionAt resultIn resultAt argumentsIn argumentsAt afterResult afterConvention signatureOf item encodeTree encodeTrees encodeResult ellipsisItem typeOf countOf argumentIn
 arguments = refl
 
 -- the same by stepping

@@ -1,6 +1,7 @@
 -- Every encoding of a signature within the limits is read, and gives the signature back. Assumes nothing.
 use Prim.Native.Nat.{ℕ, _+_, _-_, _≤_}
 use mathlib.Core.Path.{_≡_, refl, sym, ap, _∙_}
+use mathlib.Core.Bool.{false}
 use mathlib.Core.List.{List, [], _∷_, _++_}
 use lib.ListN.{length}
 use native.Mathlib.Omega.{arith}
@@ -64,13 +65,17 @@ module _ (s : List ℕ) where
         left next (1 + itemsIn ts) refl q refl in
         arguments-to c s at next to ∙ sequence-done (itemAt c maxDepth s next) next _ left next (1 + itemsIn ts) ts rest (omega arith)
 
+  same-plain : (g : Signature) (next n : ℕ) → g .ellipsis ≡ false →
+      got (record { convention = g .convention; result = g .result; ellipsis = false; arguments = g .arguments }) next n ≡ got g next n
+  same-plain g next n plain = rw plain refl
+
   -- the whole, from its three items
-  all-reads : (g : Signature) (at n : ℕ) → length s ≤ maxLength → conventionAt s ≡ got (g .convention) 4 1 → resultAt (g .convention) s 4 ≡ got (g .result) at n →
+  all-reads : (g : Signature) (at n : ℕ) → g .ellipsis ≡ false → length s ≤ maxLength → conventionAt s ≡ got (g .convention) 4 1 → resultAt (g .convention) s 4 ≡ got (g .result) at n →
       (m : ℕ) → argumentsAt (g .convention) s at ≡ got (g .arguments) (length s) m → signatureOf s ≡ got g (length s) (1 + n + m)
   unfolding signatureOf afterConvention afterResult
-  all-reads g at n short first second m third =
+  all-reads g at n plain short first second m third =
       let last : length s ≤ length s = omega arith in
-      rw (le-ltb maxLength (length s) short, first, second, third, le-ltb (length s) (length s) last)
+      rw (le-ltb maxLength (length s) short, first, second, third, le-ltb (length s) (length s) last) (same-plain g (length s) (1 + n + m) plain)
 
 pub encode-reads : (g : Signature) → Within g → signatureOf (encode g) ≡ got g (length (encode g)) (signatureItems g)
 unfolding encode signatureItems
@@ -89,7 +94,7 @@ encode-reads g w =
     let third : Has s at three = has-move s three (4 + length two) at (omega arith) (has-right s two three 4 second) in
     let n = resultItems (g .result) + 1 in
     let m = 1 + itemsIn (g .arguments) in
-    all-reads s g at n (w .short) (convention-reads s c (has-left s one (two ++ three) 0 all) (omega arith))
+    all-reads s g at n (w .plain) (w .short) (convention-reads s c (has-left s one (two ++ three) 0 all) (omega arith))
     (result-reads s c (g .result) 4 at (w .result) (has-left s two three 4 second) refl (omega arith)) m
     (arguments-read s c (g .arguments) at (length s) (w .arguments) (w .few) third (omega arith) (omega arith))
     ∙ ap (got g (length s)) (omega arith)

@@ -1,6 +1,7 @@
 -- Worked readings, computed by the definitions: document 01's example, the empty signature, and the depth at its limit and one past it. Assumes nothing.
 use Prim.Native.Nat.{ℕ, zero, suc}
 use mathlib.Core.Path.{_≡_, refl}
+use mathlib.Core.Bool.{false}
 use mathlib.Core.List.{List, [], _∷_, map}
 use Rattle.words.specs.Basics.{roundUp}
 use Rattle.conventions.specs.declared.Convention.{Convention}
@@ -22,7 +23,7 @@ pub example : List ℕ
 example = 0x01 ∷ 0 ∷ 1 ∷ 1 ∷ 0x02 ∷ 0 ∷ 0 ∷ 0x03 ∷ 0 ∷ 8 ∷ 0x10 ∷ 0 ∷ 1 ∷ 4 ∷ 0x11 ∷ 0 ∷ 1 ∷ 1 ∷ []
 
 pub example-read : signatureOf example ≡
-    got (record { convention = Convention.Ppc64; result = nothing; arguments = none ▸ integer IntegerKind.I32 ▸ float FloatFormat.Double }) 18 5
+    got (record { convention = Convention.Ppc64; result = nothing; ellipsis = false; arguments = none ▸ integer IntegerKind.I32 ▸ float FloatFormat.Double }) 18 5
 unfolding example bodyAt integerCode floatCode integerAt floatOf floatAt sequence roundUp withField shapeOf fieldsOf sizedAt contentsAt itemBy structAt itemAt conventionCode conventionAt resultIn resultAt argumentsIn argumentsAt afterResult afterConvention signatureOf
 example-read = refl
 
@@ -36,14 +37,14 @@ nested zero = integer IntegerKind.I8
 nested (suc n) = struct (none ▸ nested n)
 
 of : Trees → List ℕ
-of ts = encode (record { convention = Convention.Z; result = nothing; arguments = ts })
+of ts = encode (record { convention = Convention.Z; result = nothing; ellipsis = false; arguments = ts })
 
 several : ℕ → Tree → Trees
 several zero t = none
 several (suc n) t = several n t ▸ t
 
 aix : Tree → List ℕ
-aix t = encode (record { convention = Convention.Aix; result = nothing; arguments = none ▸ t })
+aix t = encode (record { convention = Convention.Aix; result = nothing; ellipsis = false; arguments = none ▸ t })
 
 -- each row: what is computed, and what it is to be
 pub rows : List (List ℕ × List ℕ)

@@ -139,11 +139,11 @@ module _ (s : List ℕ) (c : Convention) (at n : ℕ) (x : ResultRead) (found : 
     unfolding headAfter
     head-no-arguments r body = let (tree, read, same) = result-got c (resultAt c s at) t next m (sym q ∙ found) in rw (read, body)
 
-    pub head-to : (b : ℕ) → bodyAt s 0x03 0x03 (length s) next ≡ Body.To b → headAnswer (headAfter s c at n) ≡ HeadRead.Head c t (next + 3) b (n + m)
+    pub head-to : (b : ℕ) → bodyAt s 0x03 0x03 (length s) next ≡ Body.To b → headAnswer (headAfter s c at n) ≡ HeadRead.Head c t false (next + 3) b (n + m)
     unfolding headAfter
     head-to b body =
         let (tree, read, same) = result-got c (resultAt c s at) t next m (sym q ∙ found) in
-        rw (read, body) (ap (λ (u : ResultType). HeadRead.Head c u (next + 3) b (n + m)) (sym same))
+        rw (read, body) (ap (λ (u : ResultType). HeadRead.Head c u false (next + 3) b (n + m)) (sym same))
 
 module _ (s : List ℕ) where
   pub head-long : maxLength < length s → headOf s ≡ no (fault Refusal.TooLong 0 0)
@@ -161,14 +161,14 @@ module _ (s : List ℕ) where
 
 -- what a program's answer says of it
 
-same-head : {c k : Convention} (r : Result) {b d at next n m : ℕ} → c ≡ k → b ≡ d → at ≡ next → n ≡ m →
-    _≡_ {A = Reading Head} (got (record { convention = k; result = r; end = d }) next m) (got (record { convention = c; result = r; end = b }) at n)
-same-head r p q u v = cc
+same-head : {c k : Convention} (r : Result) {v w : Bool} {b d at next n m : ℕ} → c ≡ k → v ≡ w → b ≡ d → at ≡ next → n ≡ m →
+    _≡_ {A = Reading Head} (got (record { convention = k; result = r; ellipsis = w; end = d }) next m) (got (record { convention = c; result = r; ellipsis = v; end = b }) at n)
+same-head r p z q u v = cc
 
-pub head-got : (x : Reading Head) (c : Convention) (t : ResultType) (at b n : ℕ) → HeadRead.Head c t at b n ≡ headAnswer x →
-    (r : Result) × (x ≡ got (record { convention = c; result = r; end = b }) at n) × (t ≡ resultType c r)
-head-got (got h next m) c t at b n q = (h .result, same-head (h .result) (cc) (cc) (cc) (cc), cc)
-head-got (no f) c t at b n q = let z : _≡_ {A = ℕ} 0 1 = cc in absurd (omega arith)
+pub head-got : (x : Reading Head) (c : Convention) (t : ResultType) (v : Bool) (at b n : ℕ) → HeadRead.Head c t v at b n ≡ headAnswer x →
+    (r : Result) × (x ≡ got (record { convention = c; result = r; ellipsis = v; end = b }) at n) × (t ≡ resultType c r)
+head-got (got h next m) c t v at b n q = (h .result, same-head (h .result) (cc) (cc) (cc) (cc) (cc), cc)
+head-got (no f) c t v at b n q = let z : _≡_ {A = ℕ} 0 1 = cc in absurd (omega arith)
 
 pub head-was-refused : (x : Reading Head) (f : Fault) → HeadRead.Refused f ≡ headAnswer x → x ≡ no f
 head-was-refused (got h next m) f q = let z : _≡_ {A = ℕ} 0 1 = cc in absurd (omega arith)
@@ -178,27 +178,27 @@ head-was-refused (no x) f q = cc
 
 module _ (s : List ℕ) where
   -- a signature from its arguments on, where n items came before theirs
-  abbrev pub thenArguments : Convention → Result → ℕ → Reading Trees → Reading Signature
-  thenArguments c r n x =
+  abbrev pub thenArguments : Convention → Result → Bool → ℕ → Reading Trees → Reading Signature
+  thenArguments c r v n x =
       andThen (after n x) (λ ts next m.
-      pick (ltb next (length s)) (no (fault Refusal.TrailingBytes next m)) (got (record { convention = c; result = r; arguments = ts }) next m))
+      pick (ltb next (length s)) (no (fault Refusal.TrailingBytes next m)) (got (record { convention = c; result = r; ellipsis = v; arguments = ts }) next m))
 
   abbrev pub afterHead : Head → ℕ → ℕ → Reading Signature
-  afterHead h at n = thenArguments (h .convention) (h .result) n (argumentsIn (h .convention) s at (h .end))
+  afterHead h at n = thenArguments (h .convention) (h .result) (h .ellipsis) n (argumentsIn (h .convention) s at (h .end))
 
   pub signature-head : signatureOf s ≡ andThen (headOf s) afterHead
   unfolding signatureOf headOf afterConvention headAfter afterResult argumentsAt
   signature-head = whole (ltb maxLength (length s))
     where
       third : (c : Convention) (r : Result) (at n : ℕ) (x : Body) →
-          thenArguments c r n (inBody x at (λ b. argumentsIn c s (at + 3) b))
-          ≡ andThen (headBy c r at n x) afterHead
+          thenArguments c r false n (inBody x at (λ b. argumentsIn c s (at + 3) b))
+          ≡ andThen (headBy c r false at n x) afterHead
       third c r at n (Body.To b) = refl
       third c r at n (Body.Refused x) = let same : n + 0 ≡ n = omega arith in ap (λ (k : ℕ). no (fault x at k)) same
 
       second : (c : Convention) (n : ℕ) (x : Reading Result) →
           andThen (after n x) (afterResult s c)
-          ≡ andThen (andThen (after n x) (λ r next m. headBy c r next m (bodyAt s 0x03 0x03 (length s) next))) afterHead
+          ≡ andThen (andThen (after n x) (λ r next m. headBy c r false next m (bodyAt s 0x03 0x03 (length s) next))) afterHead
       second c n (got r next m) = third c r next (n + m) (bodyAt s 0x03 0x03 (length s) next)
       second c n (no f) = refl
 
@@ -213,32 +213,32 @@ module _ (s : List ℕ) where
       whole false = first (conventionAt s)
 
   -- the arguments' answer is the signature's
-  arguments-answer : (c : Convention) (r : Result) (n : ℕ) (x : Reading Trees) →
-      signatureAnswer (thenArguments c r n x) ≡ withArguments c (resultType c r) n (length s) x
-  arguments-answer c r n (got ts next m) = go (ltb next (length s))
+  arguments-answer : (c : Convention) (r : Result) (v : Bool) (n : ℕ) (x : Reading Trees) →
+      signatureAnswer (thenArguments c r v n x) ≡ withArguments c (resultType c r) v n (length s) x
+  arguments-answer c r v n (got ts next m) = go (ltb next (length s))
     where
       go : (more : Bool) →
-          signatureAnswer (pick more (no (fault Refusal.TrailingBytes next (n + m))) (got (record { convention = c; result = r; arguments = ts }) next (n + m)))
-          ≡ pick more (refused (fault Refusal.TrailingBytes next (n + m))) (accepted c (resultType c r) ts (n + m))
+          signatureAnswer (pick more (no (fault Refusal.TrailingBytes next (n + m))) (got (record { convention = c; result = r; ellipsis = v; arguments = ts }) next (n + m)))
+          ≡ pick more (refused (fault Refusal.TrailingBytes next (n + m))) (accepted c (resultType c r) v ts (n + m))
       go true = refl
       go false = refl
-  arguments-answer c r n (no f) = refl
+  arguments-answer c r v n (no f) = refl
 
   module _ (x : HeadRead) (found : x ≡ headAnswer (headOf s)) where
     pub signature-refused : (f : Fault) → x ≡ HeadRead.Refused f → signatureOf s ≡ no f
     signature-refused f q = signature-head ∙ ap (λ (y : Reading Head). andThen y afterHead) (head-was-refused (headOf s) f (sym q ∙ found))
 
     -- the result's tree is gone, its type is there
-    pub signature-then : (c : Convention) (t : ResultType) (at b n : ℕ) → x ≡ HeadRead.Head c t at b n →
-        (r : Result) × (signatureOf s ≡ thenArguments c r n (argumentsIn c s at b)) × (t ≡ resultType c r)
-    signature-then c t at b n q =
-        let (r, read, same) = head-got (headOf s) c t at b n (sym q ∙ found) in
+    pub signature-then : (c : Convention) (t : ResultType) (v : Bool) (at b n : ℕ) → x ≡ HeadRead.Head c t v at b n →
+        (r : Result) × (signatureOf s ≡ thenArguments c r v n (argumentsIn c s at b)) × (t ≡ resultType c r)
+    signature-then c t v at b n q =
+        let (r, read, same) = head-got (headOf s) c t v at b n (sym q ∙ found) in
         (r, signature-head ∙ ap (λ (y : Reading Head). andThen y afterHead) read, same)
 
-    pub signature-arguments : (c : Convention) (t : ResultType) (at b n : ℕ) → x ≡ HeadRead.Head c t at b n →
-        signatureAnswer (signatureOf s) ≡ withArguments c t n (length s) (argumentsIn c s at b)
-    signature-arguments c t at b n q =
-        let (r, read, same) = signature-then c t at b n q in
+    pub signature-arguments : (c : Convention) (t : ResultType) (v : Bool) (at b n : ℕ) → x ≡ HeadRead.Head c t v at b n →
+        signatureAnswer (signatureOf s) ≡ withArguments c t v n (length s) (argumentsIn c s at b)
+    signature-arguments c t v at b n q =
+        let (r, read, same) = signature-then c t v at b n q in
         ap signatureAnswer read
-        ∙ arguments-answer c r n (argumentsIn c s at b)
-        ∙ ap (λ (u : ResultType). withArguments c u n (length s) (argumentsIn c s at b)) (sym same)
+        ∙ arguments-answer c r v n (argumentsIn c s at b)
+        ∙ ap (λ (u : ResultType). withArguments c u v n (length s) (argumentsIn c s at b)) (sym same)

@@ -1,6 +1,7 @@
 -- What is read is an encoding of a signature within the limits. Assumes nothing.
 use Prim.Native.Nat.{ℕ, _+_, _*_, _≤_}
 use mathlib.Core.Path.{_≡_, refl, sym, _∙_}
+use mathlib.Core.Bool.{Bool, false}
 use mathlib.Core.List.{List, [], _∷_, _++_}
 use lib.ListN.{length, getD, length-append}
 use lib.Dec.{ltb, eqb}
@@ -174,14 +175,14 @@ pub record SignatureSound (s : List ℕ) (g : Signature) (next n : ℕ) : Type 0
 module _ (s : List ℕ) (short : length s ≤ maxLength) (c : Convention) (at₁ n₁ : ℕ) (first : ConventionSound s c at₁ n₁) (r : Result) (at₂ n₂ : ℕ)
     (second : ResultSound c s at₁ r at₂ n₂) where
   all-sound : (ts : Trees) (next m : ℕ) → ArgumentsSound c s at₂ ts next m → length s ≤ next →
-      SignatureSound s (record { convention = c; result = r; arguments = ts }) next (n₁ + n₂ + m)
+      SignatureSound s (record { convention = c; result = r; ellipsis = false; arguments = ts }) next (n₁ + n₂ + m)
   unfolding signatureItems
   all-sound ts next m third last =
-      let g : Signature = record { convention = c; result = r; arguments = ts } in
+      let g : Signature = record { convention = c; result = r; ellipsis = false; arguments = ts } in
       let size = length-encode g in
       let two = item 0x02 (encodeResult r) in
       record {
-        within = record { result = second .within; arguments = third .within; few = third .few; short = omega arith };
+        within = record { result = second .within; arguments = third .within; few = third .few; plain = refl; short = omega arith };
         here = λ bytes. has-same s (encode g) (omega arith)
             (has-encode s g at₂ (first .here bytes) (has-move s two at₁ 4 (first .ends) (second .here bytes)) (omega arith) (third .here bytes));
         size = omega arith;
@@ -235,7 +236,7 @@ unfolding headAfter
 head-after-sound s short c at n first = by-next (ResultSound c s at) (HeadSound s) n (resultAt c s at) _ (result-sound c s at)
     (λ r next m second. go r next m second (bodyAt s 0x03 0x03 (length s) next) (body-is s 0x03 0x03 (length s) next))
   where
-    go : (r : Result) (next m : ℕ) → ResultSound c s at r next m → (x : Body) → BodyIs s 0x03 0x03 (length s) next x → Got (HeadSound s) (headBy c r next (n + m) x)
+    go : (r : Result) (next m : ℕ) → ResultSound c s at r next m → (x : Body) → BodyIs s 0x03 0x03 (length s) next x → Got (HeadSound s) (headBy c r false next (n + m) x)
     go r next m second (Body.To b) framed =
         let third = result-third r in
         let ends = framed .ends in
@@ -247,9 +248,9 @@ unfolding headOf
 head-sound s = by-choose (Got (HeadSound s)) (ltb maxLength (length s)) _ _ (λ _. tt)
     (λ l. by-then (ConventionSound s) (HeadSound s) (conventionAt s) _ (convention-sound s) (head-after-sound s (ltb-false maxLength (length s) l)))
 
-pub head-bounded : (s : List ℕ) (x : HeadRead) (c : Convention) (t : ResultType) (at b n : ℕ) → x ≡ headAnswer (headOf s) →
-    x ≡ HeadRead.Head c t at b n → HeadBounded s at b n
-head-bounded s x c t at b n found q = let (r, read, same) = head-got (headOf s) c t at b n (sym q ∙ found) in rw read at (head-sound s)
+pub head-bounded : (s : List ℕ) (x : HeadRead) (c : Convention) (t : ResultType) (v : Bool) (at b n : ℕ) → x ≡ headAnswer (headOf s) →
+    x ≡ HeadRead.Head c t v at b n → HeadBounded s at b n
+head-bounded s x c t v at b n found q = let (r, read, same) = head-got (headOf s) c t v at b n (sym q ∙ found) in rw read at (head-sound s)
 
 -- what a program's answer says of the result's item: it ends within the signature, three bytes or more for each item in it
 pub record Bounded (s : List ℕ) (at next n : ℕ) : Type 0 where

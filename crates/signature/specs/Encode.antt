@@ -1,6 +1,8 @@
 -- The bytes of a signature, and the signatures that the bridge carries: document 01, "A signature's bytes", from a signature
 -- to its bytes. Assumes nothing.
 use Prim.Native.Nat.{ℕ, _+_, _≤_}
+use mathlib.Core.Path.{_≡_}
+use mathlib.Core.Bool.{Bool, true, false}
 use mathlib.Core.List.{List, [], _∷_, _++_}
 use lib.ListN.{length}
 use Rattle.conventions.specs.declared.Convention.{Convention}
@@ -14,6 +16,11 @@ use Rattle.signature.specs.Signature.{Result, nothing, value, Signature}
 unfoldable pub encodeResult : Result → List ℕ
 encodeResult nothing = []
 encodeResult (value t) = encodeTree t
+
+-- "an optional tag 0x04, empty body .. meaning an ellipsis" (document 02, No. 5)
+unfoldable pub ellipsisItem : Bool → List ℕ
+ellipsisItem true = item 0x04 []
+ellipsisItem false = []
 
 -- "A signature is three items in this order, and nothing after"
 unfoldable pub encode : Signature → List ℕ
@@ -37,4 +44,5 @@ pub record Within (g : Signature) : Type 0 where
   pub result : ResultWithin (g .convention) (g .result)
   pub arguments : types.AllWithin (g .convention) (g .arguments)
   pub few : countOf (g .arguments) ≤ maxArguments
+  pub plain : g .ellipsis ≡ false
   pub short : length (encode g) ≤ maxLength

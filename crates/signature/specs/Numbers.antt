@@ -19,5 +19,5 @@ resultReadNumber (ResultRead.Result t next n) = 0
 resultReadNumber (ResultRead.Refused f) = numberOf (f .reason)
 
 abbrev pub headReadNumber : HeadRead → ℕ
-headReadNumber (HeadRead.Head c t at e n) = 0
+headReadNumber (HeadRead.Head c t v at e n) = 0
 headReadNumber (HeadRead.Refused f) = numberOf (f .reason)

@@ -1,6 +1,7 @@
 -- What reading a signature finds: document 01, "A signature's bytes" and the refusals 1 to 9 of "When the bridge says no",
 -- "Order: 1 first, then left to right". The list s is the signature, `at` the place of an item's header. Assumes nothing.
 use Prim.Native.Nat.{ℕ, _+_}
+use mathlib.Core.Bool.{Bool, false}
 use mathlib.Core.List.{List}
 use lib.ListN.{length, getD}
 use lib.Dec.{ltb, eqb}
@@ -49,7 +50,7 @@ argumentsAt c s at = inBody (bodyAt s 0x03 0x03 (length s) at) at (λ b. argumen
 unfoldable pub afterResult : List ℕ → Convention → Result → ℕ → ℕ → Reading Signature
 afterResult s c r at n =
     andThen (after n (argumentsAt c s at)) (λ ts next m.
-    pick (ltb next (length s)) (no (fault Refusal.TrailingBytes next m)) (got (record { convention = c; result = r; arguments = ts }) next m))
+    pick (ltb next (length s)) (no (fault Refusal.TrailingBytes next m)) (got (record { convention = c; result = r; ellipsis = false; arguments = ts }) next m))
 
 unfoldable pub afterConvention : List ℕ → Convention → ℕ → ℕ → Reading Signature
 afterConvention s c at n = andThen (after n (resultAt c s at)) (afterResult s c)
@@ -60,12 +61,12 @@ signatureOf s = choose (ltb maxLength (length s)) (λ _. no (fault Refusal.TooLo
 
 -- The same items, read up to the arguments: `next` is where the third item's body starts. The law `signature-head` says that
 -- reading a signature is reading its head and then the arguments.
-abbrev pub headBy : Convention → Result → ℕ → ℕ → Body → Reading Head
-headBy c r at n (Body.To b) = got (record { convention = c; result = r; end = b }) (at + 3) n
-headBy c r at n (Body.Refused x) = no (fault x at n)
+abbrev pub headBy : Convention → Result → Bool → ℕ → ℕ → Body → Reading Head
+headBy c r v at n (Body.To b) = got (record { convention = c; result = r; ellipsis = v; end = b }) (at + 3) n
+headBy c r v at n (Body.Refused x) = no (fault x at n)
 
 unfoldable pub headAfter : List ℕ → Convention → ℕ → ℕ → Reading Head
-headAfter s c at n = andThen (after n (resultAt c s at)) (λ r next m. headBy c r next m (bodyAt s 0x03 0x03 (length s) next))
+headAfter s c at n = andThen (after n (resultAt c s at)) (λ r next m. headBy c r false next m (bodyAt s 0x03 0x03 (length s) next))
 
 unfoldable pub headOf : List ℕ → Reading Head
 headOf s = choose (ltb maxLength (length s)) (λ _. no (fault Refusal.TooLong 0 0)) (λ _. andThen (conventionAt s) (headAfter s))

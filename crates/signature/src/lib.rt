@@ -29,6 +29,7 @@ pub struct SignatureRead {
     pub outcome: Outcome,
     pub convention: Convention,
     pub result: ResultType,
+    pub ellipsis: bool,
     pub count: usize,
     pub arguments: [Argument; MAX_ARGUMENTS],
 }
@@ -49,12 +50,13 @@ pub enum ResultRead {
     Refused(Fault),
 }
 
-// What stands before the arguments: the convention and the result's type; the arguments' bytes are those from `at` to `end`,
+// What stands before the arguments: the convention, the result's type and whether there is an ellipsis; the arguments' bytes are those from `at` to `end`,
 // and `earlier` items came before theirs.
 pub enum HeadRead {
     Head {
         convention: Convention,
         result: ResultType,
+        ellipsis: bool,
         at: usize,
         end: usize,
         earlier: usize,

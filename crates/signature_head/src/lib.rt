@@ -114,6 +114,7 @@ fn read_head_after(s: &[u8], c: Convention) -> HeadRead
                 Body::To(to) => HeadRead::Head {
                     convention: c,
                     result: ty,
+                    ellipsis: false,
                     at: third + 3,
                     end: to,
                     earlier,

@@ -25,7 +25,7 @@ use Rattle.places.specs.Values.{cursor, share}
 use Rattle.places.specs.Power.{words, fprs, covered, shareOf, powerShare}
 use Rattle.places.specs.ZSeries.{zClass, zNextOf}
 use Rattle.places.specs.Step.{Lawful, nextOf, startOf}
-use Rattle.places.proofs.Shares.{share-room}
+use Rattle.places.proofs.Shares.{share-marked, share-room}
 use Rattle.places.proofs.Written.{counted, next-counted, start-written, hidden-written, z-start-written, z-hidden-written}
 use Rattle.plan.specs.Plan.{lastOf, typesOf}
 use Rattle.plan.proofs.Fold.{last-more}
@@ -80,14 +80,17 @@ fprs-words c Edition.Earlier w (ValueType.Float FloatFormat.LongDouble) h l s = 
 fprs-words c Edition.Later w (ValueType.Float FloatFormat.LongDouble) h l s = words-two w 16 h (omega arith)
 fprs-words c e w (ValueType.Struct x) h l s = omega arith
 
-share-asked : (m room n k : ℕ) → shareOf m room n k .floating ≤ m
+share-plain : (m room n k : ℕ) → shareOf false m room n k .floating ≤ m
 unfolding shareOf
-share-asked zero room n k = omega arith
-share-asked (suc m) room n k = go (leb (suc m) room)
+share-plain zero room n k = omega arith
+share-plain (suc m) room n k = go (leb (suc m) room)
   where
     go : (b : Bool) → pick b (share 0 (suc m) 0) (share 0 0 n) .floating ≤ suc m
     go true = omega arith
     go false = omega arith
+
+share-asked : (v : Bool) (m room n k : ℕ) → shareOf v m room n k .floating ≤ m
+share-asked v m room n k = omega (arith, share-marked v m room n k, share-plain m room n k)
 
 pub reached-start : (r : Rules) (hidden : Bool) → Lawful r → Reached r hidden (startOf r hidden)
 reached-start (Rules.Power f) false l = rw (start-written f) (0, refl, omega arith, omega arith, omega arith, omega arith)
@@ -139,8 +142,8 @@ unfolding nextOf powerShare
 reached-next c (Rules.Power f) hidden d t l s h =
     let n : ℕ = words (f .word) (sizeOf c t) in
     let w : ℕ = h .0 in
-    let room = share-room (fprs (f .edition) t) (14 - d .floating) n (covered d n) in
-    let few = share-asked (fprs (f .edition) t) (14 - d .floating) n (covered d n) in
+    let room = share-room (f .ellipsis) (fprs (f .edition) t) (14 - d .floating) n (covered d n) in
+    let few = share-asked (f .ellipsis) (fprs (f .edition) t) (14 - d .floating) n (covered d n) in
     let most = fprs-words c (f .edition) (f .word) t (omega arith) (omega arith) s in (
       w + n,
       ap (λ (x : ℕ). x + f .word * n) (h .1) ∙ sym (mul-add (f .word) w n),
@@ -244,13 +247,16 @@ lead-more c r hidden d e t w q h = record {
 
 -- PowerPC: one word each, and an FPR for a single while one is left
 module _ (c : Convention) (f : PowerRules) (hidden : Bool) (l : Lawful (Rules.Power f)) where
-  no-fprs : (m n k : ℕ) → m + shareOf (fprs (f .edition) (typeOf c int)) (14 - m) n k .floating ≡ m
+  no-fprs : (m n k : ℕ) → m + shareOf (f .ellipsis) (fprs (f .edition) (typeOf c int)) (14 - m) n k .floating ≡ m
   unfolding fprs shareOf typeOf
   no-fprs m n k = omega arith
 
-  one-fpr : (m n k : ℕ) → m ≤ 13 → m + shareOf (fprs (f .edition) (typeOf c single)) (14 - m) n k .floating ≡ m + 1
+  single-fpr : (m n k : ℕ) → m ≤ 13 → shareOf false (fprs (f .edition) (typeOf c single)) (14 - m) n k .floating ≡ 1
   unfolding fprs shareOf typeOf
-  one-fpr m n k h = let x : 1 ≤ 14 - m = omega arith in simp (le-leb 1 (14 - m) x)
+  single-fpr m n k h = let x : 1 ≤ 14 - m = omega arith in simp (le-leb 1 (14 - m) x)
+
+  one-fpr : (m n k : ℕ) → m ≤ 13 → m + shareOf (f .ellipsis) (fprs (f .edition) (typeOf c single)) (14 - m) n k .floating ≡ m + 1
+  one-fpr m n k h = ap (λ (x : ℕ). m + x) (share-marked (f .ellipsis) (fprs (f .edition) (typeOf c single)) (14 - m) n k ∙ single-fpr m n k h)
 
   power-int : (w m : ℕ) → nextOf (Rules.Power f) (counted (f .word) w m 0) (typeOf c int) (sizeOf c (typeOf c int)) ≡ counted (f .word) (w + 1) m 0
   unfolding typeOf

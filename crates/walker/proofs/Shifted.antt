@@ -21,7 +21,7 @@ use Rattle.slots.specs.declared.Answer.{Answer}
 use Rattle.slots.specs.Buffers.{Buffers, buffers, bytesAt}
 use Rattle.slots.specs.Placements.{placement, wordsAt, floatAt, wordsValue, valueAt}
 use Rattle.slots.specs.Refusals.{firstOf}
-use Rattle.read.specs.Read.{argumentAnswer}
+use Rattle.read.specs.Read.{ownHeld, agrees, argumentAnswer}
 use Rattle.walker.specs.Step.{passes, stepTests}
 use Rattle.walker.specs.Walks.{local, Shifted, SpansShift}
 
@@ -73,13 +73,17 @@ module _ (t : ValueType) (n d : ℕ) (s s′ : Span) (b : Buffers) (h : Shifted 
   unfolding wordsAt bytesAt
   words-shift w = rw (h .general, h .memory-start, h .memory-length, part-from d (s′ .memory .start) (s′ .memory .length) (b .area))
 
+  own-shift : (r : Rules) → ownHeld r (placement t n s) b ≡ ownHeld r (placement t n s′) (areaFrom d b)
+  unfolding ownHeld bytesAt
+  own-shift r = rw (h .general)
+
   pub value-shift : (r : Rules) (base : ℕ) → valueAt r base (placement t n s) b ≡ valueAt r base (placement t n s′) (areaFrom d b)
   unfolding valueAt wordsValue bytesAt
   value-shift r base = rw (words-shift, h .floating, h .indirect)
 
   pub answer-shift : (r : Rules) (base : ℕ) → argumentAnswer r base (placement t n s) b ≡ argumentAnswer r base (placement t n s′) (areaFrom d b)
-  unfolding argumentAnswer bytesAt
-  answer-shift r base = rw (words-shift, h .floating, h .indirect)
+  unfolding argumentAnswer agrees bytesAt
+  answer-shift r base = rw (words-shift, own-shift r, h .floating, h .indirect)
 
   pub tests-shift : (v : ℕ) → firstOf (stepTests n s v (length (b .image)) (length (b .area))) ≡ firstOf (stepTests n s′ v (length (b .image)) (length (drop d (b .area))))
   unfolding stepTests firstOf

@@ -22,6 +22,7 @@ use Rattle.places.specs.Power.{powerShare, unclear}
 use Rattle.places.specs.ZSeries.{zClass, zNextOf}
 use Rattle.places.specs.Step.{Lawful, rulesOf, spanOf, nextOf, unclearFor}
 use Rattle.places.proofs.Between.{step-between}
+use Rattle.places.proofs.Marked.{next-marked}
 use Rattle.plan.specs.Plan.{typesOf}
 use Rattle.slots.specs.declared.Answer.{Answer}
 use Rattle.slots.specs.Buffers.{Buffers}
@@ -110,7 +111,7 @@ module _ (c : Convention) (v hidden : Bool) (d : Cursor) (h : Reached (rulesOf c
       → (m : ℕ) → m ≡ sizeOf c t → stepAnswer here t m base b ≡ Answer.Done
   unfolding stepAnswer stepTests firstOf asked
   step-done clear image area done m size =
-      let inside = inside-passes (rulesBy here) (uncopied d) t (sizeOf c t) (length (b .area)) (omega (arith, next-stack (rulesBy here) d t (sizeOf c t))) in
+      let inside = inside-passes (rulesBy here) (uncopied d) t (sizeOf c t) (length (b .area)) (omega (arith, next-stack (rulesBy here) d t (sizeOf c t), ap (λ (k : Cursor). k .stack) (next-marked v (rulesOf c) d t (sizeOf c t)))) in
       rw (at-cursor, clear-uncopied (rulesOf c) d t ∙ clear, eq-eqb (length (b .image)) 512 image, eq-eqb m (sizeOf c t) size, inside) (answer-uncopied (rulesBy here) base d t (sizeOf c t) b ∙ done)
 
   pub step-value : stepValue here t base b ≡ valueAt (rulesBy here) base (placement t (sizeOf c t) (spanOf (rulesBy here) d t (sizeOf c t))) b

@@ -32,7 +32,7 @@ use Rattle.places.specs.declared.Cursor.{Cursor}
 use Rattle.places.specs.declared.Rules.{Rules}
 use Rattle.places.specs.Step.{Lawful, Roomy, rulesOf, spanOf, nextOf, unclearFor, startOf}
 use Rattle.places.proofs.Bounds.{rules-lawful, area-holds}
-use Rattle.places.proofs.Registers.{step-numbered}
+use Rattle.places.proofs.Marked.{next-marked}
 use Rattle.plan.specs.declared.Plan.{Plan}
 use Rattle.plan.specs.Plan.{spansOf, lastOf, valuesOf, hiddenIn, startIn, endIn, planIn, planAnswer, typesOf}
 use Rattle.plan.specs.Call.{firstUnclear, unclearIn, clearRead, called, outcomeFor}
@@ -43,7 +43,7 @@ use Rattle.slots.specs.Buffers.{Buffers}
 use Rattle.slots.specs.Placements.{Placement, placement, placements, valueAt, valuesAt}
 use Rattle.slots.specs.Limits.{All, sizesOf}
 use Rattle.slots.specs.Refusals.{firstOf, orElse, firstOfAll, afterReading}
-use Rattle.slots.specs.Arguments.{argumentsIn, argumentsOf, planFor, rulesFor}
+use Rattle.slots.specs.Arguments.{rulesIn, argumentsIn, argumentsOf}
 use Rattle.slots.proofs.Typed.{Typed, AllTyped, all-typed}
 use Rattle.slots.proofs.Answered.{arguments-got}
 use Rattle.slots.proofs.Planned.{placements-sizes}
@@ -58,7 +58,7 @@ use Rattle.walker.specs.declared.Answer.{Answer}
 use Rattle.walker.specs.declared.Counters.{Counters}
 use Rattle.walker.specs.declared.Walker.{Walker}
 use Rattle.walker.specs.declared.WalkerRead.{WalkerRead}
-use Rattle.walker.specs.Walker.{countersOf, walker, walkerOf, ellipsisOf, lost}
+use Rattle.walker.specs.Walker.{countersOf, walker, walkerOf, lost}
 use Rattle.walker.specs.Step.{rulesBy, typeItem, stepAnswer, stepValue, stepOn}
 use Rattle.walker.specs.Words.{Walked, walked, walkerWords, stepBy, stepFor, itemBy, walkBy, walk, startWords}
 use Rattle.walker.specs.Walks.{Small, inOrder, followedBy, walkOver, walkWhole, SameWalk, WalksAlike}
@@ -127,7 +127,7 @@ module _ (c : Convention) (e hidden : Bool) (base : ℕ) (b : Buffers) (image : 
   marked = rulesBy (at (startOf r hidden))
 
   next-same : (d : Cursor) (t : ValueType) → nextOf marked d t (sizeOf c t) ≡ nextOf r d t (sizeOf c t)
-  next-same d t = refl
+  next-same d t = next-marked e r d t (sizeOf c t)
 
   abbrev typesIn : List Tree → List ValueType
   typesIn ts = map (typeOf c) ts
@@ -219,13 +219,13 @@ accepted-read : (f : _) (x : call.Answer) → afterReading (planAnswer (called (
 unfolding called planAnswer
 accepted-read f x e = let z : _≡_ {A = ℕ} 0 1 = cc in omega arith
 
-plan-area : (n : ℕ) (c : Convention) (q : ResultType) (ts : List ValueType) → endIn c q ts .stack ≤ planIn n c q ts .area
+plan-area : (n : ℕ) (c : Convention) (e : Bool) (q : ResultType) (ts : List ValueType) → endIn c q ts .stack ≤ planIn n c e q ts .area
 unfolding planIn
-plan-area n c q ts = area-holds c (endIn c q ts)
+plan-area n c e q ts = area-holds c (endIn c q ts)
 
-plan-values : (n : ℕ) (c : Convention) (q : ResultType) (ts : List ValueType) → planIn n c q ts .values ≡ valuesOf c ts
+plan-values : (n : ℕ) (c : Convention) (e : Bool) (q : ResultType) (ts : List ValueType) → planIn n c e q ts .values ≡ valuesOf c ts
 unfolding planIn
-plan-values n c q ts = refl
+plan-values n c e q ts = refl
 
 values-length : (r : Rules) (base : ℕ) (ps : List Placement) (b : Buffers) → AllSizes r base ps b → length (valuesAt r base ps b) ≡ sizesOf ps
 unfolding valuesAt sizesOf AllSizes
@@ -242,14 +242,14 @@ walks-alike s ws base b v accept = go (signatureOf s) refl accept
     go : (x : Reading Signature) → signatureOf s ≡ x
         → afterReading (planAnswer (called x) .outcome)
         (orElse (firstOf (readTests have (planAnswer x .values) (planAnswer x .area)))
-        (argumentsAnswer (rulesOf (signatureAnswer x .convention)) base (argumentsIn (signatureAnswer x) (planAnswer x)) b)) ≡ call.Answer.Done
+        (argumentsAnswer (rulesIn (signatureAnswer x)) base (argumentsIn (signatureAnswer x) (planAnswer x)) b)) ≡ call.Answer.Done
         → SameWalk s ws base b v
     go (no f) e y = absurd (accepted-read f _ y)
     go (got g next n) e y =
         let c : Convention = g .convention in
         let q : ResultType = resultType c (g .result) in
         let hidden : Bool = hiddenIn c q in
-        let mark : Bool = ellipsisOf g in
+        let mark : Bool = g .ellipsis in
         let r : Rules = rulesBy (walkerOf g) in
         let l = rules-lawful c in
         let k : Cursor = startIn c q in
@@ -265,9 +265,9 @@ walks-alike s ws base b v accept = go (signatureOf s) refl accept
         arguments-got g next n ∙ ap (λ (z : List ValueType). placements c z (spansOf c r k z)) (sym order) in
         let whole : argumentsOf s ≡ ps = ap (λ (z : Reading Signature). argumentsIn (signatureAnswer z) (planAnswer z)) e ∙ same in
         let done : argumentsAnswer r base ps b ≡ call.Answer.Done = subst (λ (z : List Placement). argumentsAnswer r base z b ≡ call.Answer.Done) same (both .1) in
-        let ready = each-ready s c (length (b .image)) (length (b .area)) (ap (λ (z : Reading Signature). signatureAnswer z .convention) e) (lent .image) (rw e (lent .area)) in
+        let ready = each-ready s (signatureAnswer (got g next n)) (length (b .image)) (length (b .area)) (sym (ap signatureAnswer e)) (lent .image) (rw e (lent .area)) in
         let sized = all-sizes r base ps b (all-readable r base b ps (subst (All (Ready r (length (b .image)) (length (b .area)))) whole ready) done) in
-        let size : length v ≡ valuesOf c types = lent .values ∙ (plan-values n c q (typesOf c (g .arguments)) ∙ ap (valuesOf c) (sym order)) in
+        let size : length v ≡ valuesOf c types = lent .values ∙ (plan-values n c mark q (typesOf c (g .arguments)) ∙ ap (valuesOf c) (sym order)) in
         let short = length-encode g in
         let asked = all-asked c (g .arguments) (a .within .arguments) (omega (arith, short, a .within .short)) in
         let clear : firstUnclear c (rulesOf c) k 0 types ≡ 0 = ap (firstUnclear c (rulesOf c) k 0) order ∙ read .0 in
@@ -276,7 +276,7 @@ walks-alike s ws base b v accept = go (signatureOf s) refl accept
         let bounds = last-reached c (rulesOf c) k (typesOf c (g .arguments)) 0 0 l typed (fold.reached-start (rulesOf c) hidden l) in
         let few = a .within .few in
         let small : endIn c q (typesOf c (g .arguments)) .stack ≤ 60000 = omega (arith, bounds .stack, length-of-types c (g .arguments), few) in
-        let room : endIn c q (typesOf c (g .arguments)) .stack ≤ length (b .area) = omega (arith, plan-area n c q (typesOf c (g .arguments)), lent .area) in
+        let room : endIn c q (typesOf c (g .arguments)) .stack ≤ length (b .area) = omega (arith, plan-area n c mark q (typesOf c (g .arguments)), lent .area) in
         let walk = walk-fold c mark hidden base b (lent .image) ts k 0 v asked (reached-start (rulesOf c) hidden l) clear (rw last small) (rw last room) done sized size in
         let total : length v ≡ length (valuesAt r base ps b) = size ∙ sym (values-length r base ps b sized ∙ placements-sizes c r k types) in
         record {

@@ -16,7 +16,7 @@ use Rattle.items.specs.Read.{itemAt}
 use Rattle.signature.specs.Limits.{maxLength, maxDepth}
 use Rattle.places.specs.declared.Rules.{Rules}
 use Rattle.places.specs.declared.Span.{Span}
-use Rattle.places.specs.Step.{rulesOf, spanOf, nextOf, unclearFor}
+use Rattle.places.specs.Step.{rulesOf, withEllipsis, spanOf, nextOf, unclearFor}
 use Rattle.slots.specs.declared.Refusal.{Refusal}
 use Rattle.slots.specs.declared.Answer.{Answer}
 use Rattle.slots.specs.Buffers.{Buffers}
@@ -40,9 +40,9 @@ typeItem c s =
 abbrev pub sizeBy : Walker → ValueType → ℕ
 sizeBy w t = sizeOf (w .convention) t
 
--- the rules that spans and values go by: those of its convention
+-- the rules that spans and values go by; an ellipsis moves no cursor, so that cursors go by those without one
 abbrev pub rulesBy : Walker → Rules
-rulesBy w = rulesOf (w .convention)
+rulesBy w = withEllipsis (w .ellipsis) (rulesOf (w .convention))
 
 -- an argument of its type, where the walker is
 unfoldable pub asked : Walker → ValueType → Placement

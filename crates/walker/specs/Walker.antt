@@ -37,15 +37,11 @@ walker c v hidden k = record { convention = c; ellipsis = v; hidden = hidden; at
 abbrev pub cursorOf : Walker → Cursor
 cursorOf w = cursorAt (rulesOf (w .convention)) (w .at)
 
--- until signatures have a mark
-abbrev pub ellipsisOf : Signature → Bool
-ellipsisOf g = false
-
 -- "it starts where the signature's arguments do"
 unfoldable pub walkerOf : Signature → Walker
 walkerOf g =
     let result = resultType (g .convention) (g .result) in
-    walker (g .convention) (ellipsisOf g) (hiddenIn (g .convention) result) (countersOf (rulesOf (g .convention)) (startIn (g .convention) result))
+    walker (g .convention) (g .ellipsis) (hiddenIn (g .convention) result) (countersOf (rulesOf (g .convention)) (startIn (g .convention) result))
 
 -- ---- 23
 

@@ -148,7 +148,7 @@ module _ (ws s : List ℕ) (base : ℕ) (b : Buffers) (v : List ℕ) where
 
 -- the walker of what the reader answers
 abbrev pub walkerRead : SignatureRead → Walker
-walkerRead g = walker (g .convention) false (hiddenIn (g .convention) (g .result)) (countersOf (rulesOf (g .convention)) (startIn (g .convention) (g .result)))
+walkerRead g = walker (g .convention) (g .ellipsis) (hiddenIn (g .convention) (g .result)) (countersOf (rulesOf (g .convention)) (startIn (g .convention) (g .result)))
 
 read-walker : (g : Signature) (next n : ℕ) → walkerRead (signatureAnswer (got g next n)) ≡ walkerOf g
 unfolding walkerOf

@@ -20,6 +20,7 @@ use Rattle.places.specs.declared.Rules.{Rules}
 use Rattle.places.specs.declared.Span.{Span}
 use Rattle.places.specs.Step.{Lawful, rulesOf, spanOf, nextOf, unclearFor}
 use Rattle.places.proofs.Bounds.{rules-lawful}
+use Rattle.places.proofs.Marked.{next-marked, named-marked}
 use Rattle.places.proofs.Registers.{step-numbered}
 use Rattle.slots.specs.declared.Answer as call
 use Rattle.slots.specs.Buffers.{Buffers, buffers}
@@ -142,7 +143,9 @@ module _ (w : Walker) (t : ValueType) (base : ℕ) (b : Buffers) where
     -- "and moves on"
     pub step-moves : stepOn w t ≡ walker (w .convention) (w .ellipsis) (w .hidden) (countersAfter (rulesOf (w .convention)) (w .at) (nextOf (rulesBy w) near t (sizeBy w t)))
     unfolding stepOn
-    step-moves = ap (walker (w .convention) (w .ellipsis) (w .hidden)) (sym (next-after (rulesOf (w .convention)) (w .hidden) (w .at) t (sizeBy w t) lawful (found-possible w found)))
+    step-moves =
+        ap (walker (w .convention) (w .ellipsis) (w .hidden))
+        (sym (ap (countersAfter (rulesOf (w .convention)) (w .at)) (next-marked (w .ellipsis) (rulesOf (w .convention)) near t (sizeBy w t)) ∙ next-after (rulesOf (w .convention)) (w .hidden) (w .at) t (sizeBy w t) lawful (found-possible w found)))
 
     is-typed : Typed (w .convention) t
     is-typed =
@@ -152,9 +155,9 @@ module _ (w : Walker) (t : ValueType) (base : ℕ) (b : Buffers) where
     -- the argument can be looked at
     pub step-ready : length (b .image) ≡ 512 → passes span (length part) ≡ false → Ready (rulesBy w) (length (b .image)) (length part) (placement t (sizeBy w t) span)
     step-ready image inside =
-        let q = step-numbered (rulesBy w) near t (sizeBy w t) (local-named (rulesOf (w .convention)) (w .hidden) (w .at) (found-possible w found)) in
+        let q = step-numbered (rulesBy w) near t (sizeBy w t) (named-marked (w .ellipsis) (rulesOf (w .convention)) near (local-named (rulesOf (w .convention)) (w .hidden) (w .at) (found-possible w found))) in
         record {
-          held = step-held (w .convention) near t is-typed;
+          held = step-held (w .convention) (w .ellipsis) near t is-typed;
           general = q .1;
           floating = q .0;
           memory = stored span (length part) inside;

@@ -15,6 +15,7 @@ use Rattle.places.specs.declared.Rules.{Rules}
 use Rattle.places.specs.declared.Span.{Span}
 use Rattle.places.specs.Step.{Lawful, Roomy, rulesOf, nextOf, unclearFor, placed}
 use Rattle.places.proofs.Bounds.{rules-lawful}
+use Rattle.places.proofs.Marked.{lawful-marked, next-marked}
 use Rattle.slots.specs.declared.Answer as call
 use Rattle.slots.specs.Buffers.{Buffers, buffers}
 use Rattle.slots.specs.Placements.{placement, valueAt}
@@ -62,7 +63,7 @@ module _ (w : Walker) (t : ValueType) (plain r : Rules) (d : Cursor) (n : ℕ) (
     went-roomy = rw at-near (local-roomy (rulesOf (w .convention)) (w .hidden) (w .at) (found-possible w found))
 
     pub went-lawful : Lawful r
-    went-lawful = rw (g .rules-is) (rules-lawful (w .convention))
+    went-lawful = rw (g .rules-is) (lawful-marked (w .ellipsis) (rulesOf (w .convention)) (rules-lawful (w .convention)))
 
     pub went-size : n ≤ 256
     went-size = omega (arith, g .size-is, known .sized .small)
@@ -108,7 +109,7 @@ module _ (w : Walker) (t : ValueType) (plain r : Rules) (d : Cursor) (n : ℕ) (
     module _ (found : lost w ≡ false) (known : Declared (w .convention) t) where
       pub went-countable : Countable plain (p .next)
       went-countable =
-          rw (next-is, g .plain-is)
+          rw (next-is, next-marked (w .ellipsis) (rulesOf (w .convention)) (near w t base b) t (sizeBy w t), g .plain-is)
           (next-countable (rulesOf (w .convention)) (w .hidden) (w .at) t (sizeBy w t) (rules-lawful (w .convention)) (found-possible w found) (known .sized .small))
 
       module _ (v : ℕ) (l : call.Answer) (e : l ≡ firstOf (stepTests n (p .span) v (length image) (length area - m))) (yes : isRefused l ≡ false) where

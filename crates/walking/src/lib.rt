@@ -26,7 +26,7 @@ ghost use Rattle.plan.specs.Plan.{hiddenIn, startIn};
 ghost use Rattle.slots.specs.Buffers.{buffers};
 ghost use Rattle.slots.specs.Refusals.{firstOf};
 ghost use Rattle.walker.specs.Walker.{walker as walkerAt, counters, countersOf, cursorAt, lost};
-ghost use Rattle.walker.specs.Step.{rulesBy, typeItem, passes, stepTests};
+ghost use Rattle.walker.specs.Step.{typeItem, passes, stepTests};
 ghost use Rattle.walker.specs.Words.{startAnswer, startWords, stepFor, walk as walkOf};
 ghost use Rattle.walker.specs.Walks.{Small, local};
 ghost use Rattle.walking.specs.Part.{Declared, Offset, Countable, countersAfter};
@@ -118,7 +118,8 @@ pub fn start(words: &mut [u64; 6], sig: &[u8]) -> Answer
         Outcome::Accepted(_) => {
             let convention = g.convention;
             let result = g.result;
-            let w = walker_of(convention, false, result);
+            let ellipsis = g.ellipsis;
+            let w = walker_of(convention, ellipsis, result);
             walker_words::put_walker(words, w);
             Answer::Called(slots::Answer::Done)
         }
@@ -180,14 +181,6 @@ fn tested(n: usize, s: Span, value: usize, image: usize, area: usize) -> slots::
     slots::Answer::Done
 }
 
-// The rules that spans and values go by.
-fn rules_by(w: Walker) -> Rules
-    ensures { λ r. ⌜ r ≡ rulesBy w ⌝ }
-{
-    let c = w.convention;
-    abi::call_rules_of(c)
-}
-
 // A step of a walker, once its item is read.
 fn step(
     words: &mut [u64; 6],
@@ -210,7 +203,7 @@ fn step(
     let hidden = w.hidden;
     let n = types::size_of(c, t);
     let plain = abi::call_rules_of(c);
-    let r = rules_by(w);
+    let r = arguments::rules_in(c, ellipsis);
     let d = local_cursor(plain, k);
     if placing::unclear_for(plain, d, t) {
         return Answer::Called(slots::Answer::Unread(Fault {
