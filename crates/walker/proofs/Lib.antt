@@ -5,3 +5,4 @@ pub mod Exactly
 pub mod Words
 pub mod Steps
 pub mod Walks
+pub mod Examples
