@@ -1,9 +1,9 @@
 -- A refusal's number and place, in the surface's words.
-use Rattle.bridge_values.proofs.Laws.{done-answer, unread-answer, refused-answer}
+use Rattle.call_answers.proofs.Laws.{done-answer, unread-answer, refused-answer}
 use mathlib.Core.Path.{_∙_}
 use borrow.Author.Needs.{needs}
-use Rattle.bridge_values.proofs.answer_of.Statement.{statement}
-use Rattle.bridge_values.proofs.answer_of.Tie as tie
+use Rattle.call_answers.proofs.answer_of.Statement.{statement}
+use Rattle.call_answers.proofs.answer_of.Tie as tie
 
 enum-told : tie.Need-enum-told
 enum-told c = search needs
