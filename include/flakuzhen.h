@@ -18,8 +18,8 @@
  * memory of a program that hangs.
  *
  * Installed with this header, in share/doc/flakuzhen: call.c plans, fills and reads a call, and
- * variable.c walks one as printf does; COMPILERS.md says in which points compilers of today differ from
- * the conventions, and what to do.
+ * variable.c walks one as printf does; COMPILERS.md says in which points compilers of today differ
+ * from the conventions, and what to do.
  *
  * Words that come up everywhere:
  *
@@ -143,8 +143,8 @@ typedef struct {
     uint64_t bits;
 } fz_narrowed;
 
-/* Reads the signature of sig_length bytes at sig. `items` is its count of items: the three or four and
- * all that are nested in them, 5 in the example above. Of a refused signature it is the count of the
+/* Reads the signature of sig_length bytes at sig. `items` is its count of items: the three or four
+ * and all that are nested in them, 5 in the example above. Of a refused signature it is the count of the
  * headers that had passed header room, tag and length room when reading stopped, those around the
  * place and nested ones alike: without the faulty item's own, and for FZ_STRUCT_TOO_LARGE with those
  * in the struct; 0 for FZ_TOO_LONG. It is never more than a third of sig_length. */
@@ -597,11 +597,11 @@ typedef struct {
  * ellipsis. Refuses what fz_read_signature refuses, and then leaves *walker as it was. */
 fz_answer fz_walk_start(fz_walker *walker, const uint8_t *sig, size_t sig_length);
 
-/* Takes the next argument of a call, as the type whose item is given, and moves on. The item is read as
- * one of a signature's arguments, of at most 16,384 bytes, and nothing may come after it. The value is
- * written to `value`, which has exactly the type's size. Image, area, copies and copy_base are as for
- * fz_read, but that the area need only have the memory of this argument: for one in registers it may
- * be empty.
+/* Takes the next argument of a call, as the type whose item is given, and moves on. The item is read
+ * as one of a signature's arguments, of at most 16,384 bytes, and nothing may come after it. The value
+ * is written to `value`, which has exactly the type's size. Image, area, copies and copy_base are as
+ * for fz_read, but that the area need only have the memory of this argument: for one in registers it
+ * may be empty.
  * Asked for the types that the signature declares, in order, it gives the values that fz_read gives
  * where that accepts. What it is asked for beyond them is up to the caller: nothing in registers or
  * memory says how many arguments there are.
