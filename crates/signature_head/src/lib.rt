@@ -1,4 +1,4 @@
-// Reads what stands before a signature's arguments: the convention and the result's type.
+// Reads what stands before a signature's arguments: the convention, the result's type and the ellipsis.
 use conventions::Convention;
 use conventions::ConventionCode;
 use items::Body;
@@ -6,14 +6,15 @@ use items::Fault;
 use items::ItemRead;
 use items::Refusal;
 use signature::ConventionRead;
+use signature::EllipsisRead;
 use signature::HeadRead;
 use signature::ResultRead;
 use signature::ResultType;
 ghost use mathlib.Core.Path.{_≡_};
 ghost use Prim.Native.Nat.{_+_, _^_, _≤_, _<_};
 ghost use lib.ListN.{length};
-ghost use Rattle.signature.specs.Read.{conventionAt, resultIn, resultAt, headAfter, headOf};
-ghost use Rattle.signature.specs.Answer.{conventionAnswer, resultAnswer, headAnswer};
+ghost use Rattle.signature.specs.Read.{conventionAt, resultIn, resultAt, ellipsisAt, headAfter, headOf};
+ghost use Rattle.signature.specs.Answer.{conventionAnswer, resultAnswer, ellipsisAnswer, headAnswer};
 
 // The most bytes that a signature may have: `maxLength` of crates/signature/specs/Limits.antt.
 pub const MAX_LENGTH: usize = 16384;
@@ -92,7 +93,46 @@ fn read_result(s: &[u8], c: Convention, at: usize) -> ResultRead
     }
 }
 
-// The second item and the third one's header.
+// The ellipsis's item, at `at`: mostly there is none, which one byte says.
+fn read_ellipsis(s: &[u8], at: usize) -> EllipsisRead
+    requires { ⌜ (at ≤ length (now s)) × (length (now s) ≤ 2 ^ 16) ⌝ }
+    ensures { λ r. ⌜ r ≡ ellipsisAnswer (ellipsisAt (now (s .entry)) at) ⌝ }
+{
+    let absent = EllipsisRead::Ellipsis {
+        present: false,
+        next: at,
+        items: 0,
+    };
+    if at == s.len() {
+        return absent;
+    }
+    if s[at] != 0x04 {
+        return absent;
+    }
+    match item_headers::read_body(s, 0x04, 0x04, at, s.len()) {
+        Body::Refused(reason) => EllipsisRead::Refused(Fault {
+            reason,
+            place: at,
+            passed: 0,
+        }),
+        Body::To(to) => {
+            if to != at + 3 {
+                return EllipsisRead::Refused(Fault {
+                    reason: Refusal::Malformed,
+                    place: at,
+                    passed: 0,
+                });
+            }
+            EllipsisRead::Ellipsis {
+                present: true,
+                next: to,
+                items: 1,
+            }
+        }
+    }
+}
+
+// The second item, the ellipsis and the last item's header.
 fn read_head_after(s: &[u8], c: Convention) -> HeadRead
     requires { ⌜ (4 ≤ length (now s)) × (length (now s) ≤ 2 ^ 16) ⌝ }
     ensures { λ r. ⌜ r ≡ headAnswer (headAfter (now (s .entry)) c 4 1) ⌝ }
@@ -104,20 +144,31 @@ fn read_head_after(s: &[u8], c: Convention) -> HeadRead
             next: third,
             items,
         } => {
-            let earlier = 1 + items;
-            match item_headers::read_body(s, 0x03, 0x03, third, s.len()) {
-                Body::Refused(reason) => HeadRead::Refused(Fault {
-                    reason,
-                    place: third,
-                    passed: earlier,
-                }),
-                Body::To(to) => HeadRead::Head {
-                    convention: c,
-                    result: ty,
-                    at: third + 3,
-                    end: to,
-                    earlier,
-                },
+            let counted = 1 + items;
+            match read_ellipsis(s, third) {
+                EllipsisRead::Refused(fault) => HeadRead::Refused(items::later_by(counted, fault)),
+                EllipsisRead::Ellipsis {
+                    present,
+                    next: last,
+                    items: more,
+                } => {
+                    let earlier = counted + more;
+                    match item_headers::read_body(s, 0x03, 0x03, last, s.len()) {
+                        Body::Refused(reason) => HeadRead::Refused(Fault {
+                            reason,
+                            place: last,
+                            passed: earlier,
+                        }),
+                        Body::To(to) => HeadRead::Head {
+                            convention: c,
+                            result: ty,
+                            ellipsis: present,
+                            at: last + 3,
+                            end: to,
+                            earlier,
+                        },
+                    }
+                }
             }
         }
     }

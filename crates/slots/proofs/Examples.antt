@@ -1,8 +1,12 @@
 -- Worked examples of the forms, for a reader to compare with document 01, "What stands in a slot". Each computes. Assumes nothing.
 use mathlib.Core.Path.{_≡_, refl}
+use mathlib.Core.Bool.{true}
 use mathlib.Core.List.{[], _∷_}
 use Prim.Native.Nat.{ℕ}
+use lib.Count.{leadingZeros}
 use Rattle.words.specs.Numbers.{bytesOf, valueOf, zeroExtended, signBit, signExtended}
+use Rattle.ieee.specs.Format.{join, split}
+use Rattle.ieee.specs.Widening.{widen, widenFields}
 use Rattle.types.specs.declared.IntegerKind.{IntegerKind}
 use Rattle.types.specs.declared.FloatFormat.{FloatFormat}
 use Rattle.types.specs.declared.Equivalent.{Equivalent}
@@ -12,7 +16,7 @@ use Rattle.places.specs.Values.{cursor}
 use Rattle.places.specs.Spots.{general, floating, area, copies}
 use Rattle.places.specs.Power.{words, fprs, shareOf, powerShare}
 use Rattle.places.specs.declared.Edition.{Edition}
-use Rattle.places.specs.Step.{power, ppc64, aix, spanOf}
+use Rattle.places.specs.Step.{power, ppc64, aix, withEllipsis, spanOf}
 use Rattle.registers.specs.Registers.{spread, gather}
 use Rattle.slots.specs.Buffers.{slot}
 use Rattle.slots.specs.Placements.{Placement, placement, standing, slotsOf}
@@ -70,6 +74,15 @@ long-double-stands : slotsOf (power 8 Edition.Later) 0 long-double (1 ∷ 2 ∷ 
 unfolding slotsOf long-double standing spread spanOf powerShare shareOf fprs words floatBytes
 long-double-stands = refl
 
+-- No. 5, with an ellipsis: the single 1.0 in f1, and as well in r3, where "a single's GPR image is as in memory"
+variadic-single : Placement
+variadic-single = placement (ValueType.Float FloatFormat.Single) 4 (spanOf (withEllipsis true ppc64) (cursor 3 1 0 0) (ValueType.Float FloatFormat.Single) 4)
+
+variadic-single-stands : slotsOf (withEllipsis true ppc64) 0 variadic-single (0x3f ∷ 0x80 ∷ 0 ∷ 0 ∷ [])
+    ≡ slot (floating 1) (0x3f ∷ 0xf0 ∷ 0 ∷ 0 ∷ 0 ∷ 0 ∷ 0 ∷ 0 ∷ []) ∷ slot (general 3) (0 ∷ 0 ∷ 0 ∷ 0 ∷ 0x3f ∷ 0x80 ∷ 0 ∷ 0 ∷ []) ∷ slot (area 8) [] ∷ slot (copies 0) [] ∷ []
+unfolding slotsOf variadic-single standing spread withEllipsis spanOf powerShare shareOf fprs words homeBytes startsAtHead extended bytesOf valueOf zeroExtended floatBytes widen widenFields join split leadingZeros
+variadic-single-stands = refl
+
 -- ---- AIX, whose words have 4 bytes (No. 1: "Narrow wholes and structs fill 4-byte words as they fill doublewords on PPC64")
 
 -- the i16 -2 is a word; the single 1.0 "is one word"; three bytes are at a word's head: "AIX structs keep the head rule"
@@ -94,6 +107,19 @@ aix-straddles : slotsOf aix 0 straddling (1 ∷ 2 ∷ 3 ∷ 4 ∷ 5 ∷ 6 ∷ 7 
     ≡ slot (floating 1) [] ∷ slot (general 10) (0 ∷ 0 ∷ 0 ∷ 0 ∷ 1 ∷ 2 ∷ 3 ∷ 4 ∷ []) ∷ slot (area 32) (5 ∷ 6 ∷ 7 ∷ 8 ∷ []) ∷ slot (copies 0) [] ∷ []
 unfolding slotsOf straddling standing spread spanOf powerShare shareOf fprs words homeBytes startsAtHead extended bytesOf valueOf zeroExtended
 aix-straddles = refl
+
+-- "AIX does the same by words": with an ellipsis a double is in f1, in r10 and in the first word of the excess
+variadic-double : Placement
+variadic-double = placement (ValueType.Float FloatFormat.Double) 8 (spanOf (withEllipsis true aix) (cursor 10 1 28 0) (ValueType.Float FloatFormat.Double) 8)
+
+variadic-double-stands : slotsOf (withEllipsis true aix) 0 variadic-double (1 ∷ 2 ∷ 3 ∷ 4 ∷ 5 ∷ 6 ∷ 7 ∷ 8 ∷ [])
+    ≡ slot (floating 1) (1 ∷ 2 ∷ 3 ∷ 4 ∷ 5 ∷ 6 ∷ 7 ∷ 8 ∷ [])
+    ∷ slot (general 10) (0 ∷ 0 ∷ 0 ∷ 0 ∷ 1 ∷ 2 ∷ 3 ∷ 4 ∷ [])
+    ∷ slot (area 32) (5 ∷ 6 ∷ 7 ∷ 8 ∷ [])
+    ∷ slot (copies 0) []
+    ∷ []
+unfolding slotsOf variadic-double standing spread withEllipsis spanOf powerShare shareOf fprs words homeBytes startsAtHead extended bytesOf valueOf zeroExtended floatBytes
+variadic-double-stands = refl
 
 -- high halves are ignored
 aix-gathered : gather 4 2 (9 ∷ 9 ∷ 9 ∷ 9 ∷ 1 ∷ 2 ∷ 3 ∷ 4 ∷ 9 ∷ 9 ∷ 9 ∷ 9 ∷ 5 ∷ 6 ∷ 7 ∷ 8 ∷ []) ≡ 1 ∷ 2 ∷ 3 ∷ 4 ∷ 5 ∷ 6 ∷ 7 ∷ 8 ∷ []
