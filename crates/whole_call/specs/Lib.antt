@@ -1,0 +1,3 @@
+-- What a whole call through the frame machine is. Assumes nothing.
+pub mod Put
+pub mod WholeCall
