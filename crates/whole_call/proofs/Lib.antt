@@ -11,3 +11,5 @@ pub mod Callee
 pub mod Putting
 pub mod Words
 pub mod Theorem
+pub mod Caller
+pub mod Examples

@@ -1,5 +1,5 @@
 -- The registers that a plan names: argument registers of its convention, which a frame may write but for r6 on Z. Assumes nothing.
-use mathlib.Core.Path.{_≡_, refl}
+use mathlib.Core.Path.{_≡_, refl, ap}
 use mathlib.Core.Logic.{⊎-elim}
 use mathlib.Core.Bool.{Bool, true, _&&_}
 use mathlib.Core.List.{List, [], _∷_, _++_, map}
@@ -32,7 +32,8 @@ use Rattle.rules.specs.Frames.{firstGpr, firstFpr}
 use Rattle.meeting.proofs.Theorem.{agree, or-left, or-right}
 use Rattle.whole_call.specs.Put.{Register, register, registersIn, registersOf, hiddenSpans, named}
 use Rattle.whole_call.specs.WholeCall.{Each, Free}
-use Rattle.whole_call.proofs.Lists.{each-both, each-left, each-right, each-more, each-at}
+use Rattle.whole_call.specs.Caller.{SavedSix}
+use Rattle.whole_call.proofs.Lists.{each-both, each-left, each-right, each-with, each-at}
 
 -- ---- registers of spans
 
@@ -119,22 +120,34 @@ hidden-one (no f) x e = let z : _≡_ {A = ℕ} 0 1 = cc in absurd (omega arith)
 
 -- ---- a frame may write them
 
-free : (c : Convention) (f : Frame) → (c ≡ Convention.Z → firstGpr f ≤ 6) → (b : Bank) (n : ℕ) → ArgumentRegister (rulesOf c) (spotOf b n) → Free (rules c) f (register b n)
-free c f saved Bank.Floating n a =
-    or-left (within (rules c .fpr .volatile) n) (leb (firstFpr f) n && leb n (rules c .fpr .last)) (agree c .floating-free n a)
-free c f saved Bank.General n a = ⊎-elim (λ v. or-left volatile own v) (λ v. or-right volatile own (six v)) (agree c .general-free n a)
+-- r6 on Z is f's to write where f saved it
+abbrev Six : Convention → Frame → Register → Type 0
+Six c f x = c ≡ Convention.Z → x ≡ register Bank.General 6 → firstGpr f ≤ 6
+
+free : (c : Convention) (f : Frame) (x : Register) → Argument c x → Six c f x → Free (rules c) f x
+free c f x a saved = go (x .bank) a (λ z e. saved z e)
   where
-    volatile : Bool
-    volatile = within (rules c .gpr .volatile) n
+    go : (b : Bank) → Argument c (register b (x .number)) → Six c f (register b (x .number)) → Free (rules c) f (register b (x .number))
+    go Bank.Floating a saved =
+        or-left (within (rules c .fpr .volatile) (x .number)) (leb (firstFpr f) (x .number) && leb (x .number) (rules c .fpr .last)) (agree c .floating-free (x .number) a)
+    go Bank.General a saved = ⊎-elim (λ v. or-left volatile own v) (λ v. or-right volatile own (six v)) (agree c .general-free (x .number) a)
+      where
+        volatile : Bool
+        volatile = within (rules c .gpr .volatile) (x .number)
 
-    own : Bool
-    own = leb (firstGpr f) n && leb n (rules c .gpr .last)
+        own : Bool
+        own = leb (firstGpr f) (x .number) && leb (x .number) (rules c .gpr .last)
 
-    six : (c ≡ Convention.Z) × (n ≡ 6) → own ≡ true
-    six v = rw (v .0, v .1, le-leb (firstGpr f) 6 (saved (v .0)))
+        six : (c ≡ Convention.Z) × (x .number ≡ 6) → own ≡ true
+        six v = rw (v .0, v .1, le-leb (firstGpr f) 6 (saved (v .0) (ap (register Bank.General) (v .1))))
 
--- "saved r6": a frame may write all registers that a plan names, on PPC64 always, and on Z where it saved r6
-pub named-free : (s : List ℕ) (f : Frame) → (planFor s .convention ≡ Convention.Z → firstGpr f ≤ 6) → Each (Free (rules (planFor s .convention)) f) (named (planFor s))
+sixes : (c : Convention) (f : Frame) (xs : List Register) → (c ≡ Convention.Z → Each (λ (x : Register). x ≡ register Bank.General 6 → firstGpr f ≤ 6) xs) → Each (Six c f) xs
+unfolding Each
+sixes c f [] h = tt
+sixes c f (x ∷ xs) h = (λ z e. h z .0 e, sixes c f xs (λ z. h z .1))
+
+-- a frame may write all registers that a plan names, but on Z for r6, which it must have saved
+pub named-free : (s : List ℕ) (f : Frame) → SavedSix (planFor s) f → Each (Free (rules (planFor s .convention)) f) (named (planFor s))
 named-free s f saved =
-    each-more (Argument (planFor s .convention)) (Free (rules (planFor s .convention)) f) (λ x a. free (planFor s .convention) f saved (x .bank) (x .number) a)
-    (named (planFor s)) (named-arguments s)
+    let c : Convention = planFor s .convention in
+    each-with (Argument c) (Six c f) (Free (rules c) f) (λ x a z. free c f x a z) (named (planFor s)) (named-arguments s) (sixes c f (named (planFor s)) saved)
