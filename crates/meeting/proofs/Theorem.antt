@@ -183,7 +183,7 @@ requested-in g next n sized few =
     record {
       whole = a .whole;
       holds = up .0;
-      most = up .1;
+      most = omega (arith, up .1);
       accepted = λ f solid e. ask (rules c) f (roundUp (areaOf c d) 8) solid (up .2) (up .1) e;
       exact = λ f. rw (agree c .least) (a .exact);
     }

@@ -3,6 +3,7 @@ use mathlib.Core.Path.{_≡_, refl, sym, ap, ap₂, _∙_, subst}
 use mathlib.Core.Bool.{false}
 use mathlib.Core.List.{List, [], _∷_, _++_, map}
 use Prim.Native.Nat.{ℕ, _+_}
+use native.Mathlib.Omega.{arith}
 use lib.ListN.{length}
 use Rattle.conventions.specs.declared.Convention.{Convention}
 use Rattle.plan.specs.declared.Plan.{Plan}
@@ -139,7 +140,7 @@ module _ (c : Convention) (os : List OpenEnter) (m : Lent) (h : Reached c os m) 
   }
 
 pub able : (p : Plan) (os : List OpenEnter) (m : Lent) → CanCall p os m → callee.Able p os (machineIn m)
-able p os m can = record { invariant = reached-keeps (p .convention) os m (can .reached); solid = can .solid; room = can .room; free = can .free }
+able p os m can = record { invariant = reached-keeps (p .convention) os m (can .reached); solid = can .solid; room = omega (arith, can .room); free = can .free }
 
 -- ---- the claims
 
