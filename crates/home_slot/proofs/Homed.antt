@@ -4,6 +4,7 @@ use mathlib.Core.Bool.{Bool, true, false}
 use mathlib.Core.List.{List, [], _∷_}
 use Prim.Native.Nat.{ℕ, zero, suc, _+_, _-_, _*_, _≤_, _<_}
 use native.Mathlib.Omega.{arith}
+use native.Mathlib.Nat.{mul-zero}
 use lib.Dec.{leb}
 use lib.ListN.{getD, drop}
 use Rattle.words.specs.Basics.{pick}
@@ -22,22 +23,22 @@ use Rattle.places.specs.declared.Rules.{Rules}
 use Rattle.places.specs.Values.{share}
 use Rattle.places.specs.declared.Edition.{Edition}
 use Rattle.places.specs.Power.{words, fprs, covered, shareOf, powerShare}
-use Rattle.places.specs.Step.{power, rulesOf, spanOf, nextOf}
+use Rattle.places.specs.Step.{rulesOf, withEllipsis, spanOf, nextOf}
 use Rattle.places.proofs.Bounds.{area-holds}
 use Rattle.plan.specs.Plan.{spansOf, lastOf, startIn, endIn, planIn, planAnswer, typesOf}
-use Rattle.plan.proofs.Fold.{last-forward}
+use Rattle.plan.proofs.Fold.{last-forward, last-marked}
 use Rattle.slots.specs.Forms.{roomOf, startsAtHead, ownStart}
 use Rattle.slots.specs.Placements.{Placement, placement, placements}
 use Rattle.slots.specs.Limits.{Held, All}
-use Rattle.slots.specs.Arguments.{argumentsIn, argumentsOf, planFor, rulesFor}
+use Rattle.slots.specs.Arguments.{argumentsIn, argumentsOf, planFor, rulesIn, rulesFor}
 use Rattle.slots.proofs.Answered.{arguments-got}
 use Rattle.home_slot.specs.Homes.{homeless, fillsWords, Homed}
 
--- ---- each argument, over the bytes w of a word and the edition
+-- ---- each argument, over the bytes w of a word, the edition and the ellipsis
 
-module _ (w : ℕ) (least : 4 ≤ w) (most : w ≤ 8) (e : Edition) where
+module _ (w : ℕ) (least : 4 ≤ w) (most : w ≤ 8) (e : Edition) (v : Bool) where
   abbrev rules : Rules
-  rules = power w e
+  rules = Rules.Power (record { word = w; edition = e; ellipsis = v })
 
   float-fills : (k : Cursor) (t : ValueType) (n : ℕ) → 0 < spanOf rules k t n .floating .count → startsAtHead rules t ≡ fillsWords (equivalentOf t)
   unfolding spanOf powerShare shareOf fprs startsAtHead
@@ -47,22 +48,23 @@ module _ (w : ℕ) (least : 4 ≤ w) (most : w ≤ 8) (e : Edition) where
   float-fills k (ValueType.Float FloatFormat.LongDouble) n h = refl
   float-fills k (ValueType.Struct s) n h = absurd (omega arith)
 
-  -- words in memory follow those in registers, also those of a float of n words that has no FPR
-  share-follows : (m room at n k : ℕ) → k ≤ n → shareOf m room n k .floating ≡ 0
-      → at + w * (n - shareOf m room n k .memory) ≡ at + w * shareOf m room n k .general
+  -- words in memory follow those in registers
+  share-follows : (x : Bool) (m room at n k : ℕ) → k ≤ n → 0 < w * shareOf x m room n k .memory
+      → at + w * (n - shareOf x m room n k .memory) ≡ at + w * shareOf x m room n k .general
   unfolding shareOf
-  share-follows zero room at n k l q = let z : n - (n - k) ≡ k = omega arith in rw z
-  share-follows (suc m) room at n k l q = go (leb (suc m) room) q
+  share-follows x zero room at n k l q = let z : n - (n - k) ≡ k = omega arith in rw z
+  share-follows true (suc m) room at n k l q = let z : n - (n - k) ≡ k = omega arith in rw z
+  share-follows false (suc m) room at n k l q = go (leb (suc m) room) q
     where
-      go : (b : Bool) → pick b (share 0 (suc m) 0) (share 0 0 n) .floating ≡ 0
+      go : (b : Bool) → 0 < w * pick b (share 0 (suc m) 0) (share 0 0 n) .memory
           → at + w * (n - pick b (share 0 (suc m) 0) (share 0 0 n) .memory) ≡ at + w * pick b (share 0 (suc m) 0) (share 0 0 n) .general
-      go true q = absurd (omega arith)
+      go true q = absurd (omega (arith, mul-zero w))
       go false q = let z : n - n ≡ 0 = omega arith in rw z
 
-  memory-follows : (k : Cursor) (t : ValueType) (n : ℕ) → spanOf rules k t n .floating .count ≡ 0
+  memory-follows : (k : Cursor) (t : ValueType) (n : ℕ) → 0 < spanOf rules k t n .memory .length
       → spanOf rules k t n .memory .start ≡ k .stack + w * spanOf rules k t n .general .count
   unfolding spanOf powerShare
-  memory-follows k t n h = share-follows (fprs e t) (14 - k .floating) (k .stack) (words w n) (covered k (words w n)) (omega arith) h
+  memory-follows k t n h = share-follows v (fprs e t) (14 - k .floating) (k .stack) (words w n) (covered k (words w n)) (omega arith) h
 
   step-homed : (k : Cursor) (t : ValueType) (n a : ℕ) → nextOf rules k t n .stack ≤ a → Homed rules a (placement t n (spanOf rules k t n))
   unfolding spanOf nextOf
@@ -76,18 +78,20 @@ module _ (w : ℕ) (least : 4 ≤ w) (most : w ≤ 8) (e : Edition) where
       let d : Cursor = nextOf rules k t (sizeOf c t) in
       (step-homed k t (sizeOf c t) a (omega (arith, last-forward c rules d ts)), all-homed c d ts a h)
 
+rules-homed : (c : Convention) (v : Bool) (k : Cursor) (ts : List ValueType) (a : ℕ) → homeless (withEllipsis v (rulesOf c)) ≡ false
+    → lastOf c (withEllipsis v (rulesOf c)) k ts .stack ≤ a → All (Homed (withEllipsis v (rulesOf c)) a) (placements c ts (spansOf c (withEllipsis v (rulesOf c)) k ts))
+unfolding withEllipsis
+rules-homed Convention.Ppc64 v k ts a e h = all-homed 8 (omega arith) (omega arith) Edition.Earlier v Convention.Ppc64 k ts a h
+rules-homed Convention.Z v k ts a e h = let z : _≡_ {A = ℕ} 0 1 = cc in absurd (omega arith)
+rules-homed Convention.Aix v k ts a e h = all-homed 4 (omega arith) (omega arith) Edition.Earlier v Convention.Aix k ts a h
+rules-homed Convention.Ppc64b v k ts a e h = all-homed 8 (omega arith) (omega arith) Edition.Later v Convention.Ppc64b k ts a h
+
 -- ---- a whole signature
 
-plan-homed : (n : ℕ) (c : Convention) (r : ResultType) (ts : List ValueType) → homeless (rulesOf c) ≡ false
-    → All (Homed (rulesOf c) (planIn n c r ts .area)) (placements c ts (spansOf c (rulesOf c) (startIn c r) ts))
+plan-homed : (n : ℕ) (c : Convention) (v : Bool) (r : ResultType) (ts : List ValueType) → homeless (withEllipsis v (rulesOf c)) ≡ false
+    → All (Homed (withEllipsis v (rulesOf c)) (planIn n c v r ts .area)) (placements c ts (spansOf c (withEllipsis v (rulesOf c)) (startIn c r) ts))
 unfolding planIn
-plan-homed n Convention.Ppc64 r ts e =
-    all-homed 8 (omega arith) (omega arith) Edition.Earlier Convention.Ppc64 (startIn Convention.Ppc64 r) ts _ (area-holds Convention.Ppc64 (endIn Convention.Ppc64 r ts))
-plan-homed n Convention.Z r ts e = let z : _≡_ {A = ℕ} 0 1 = cc in absurd (omega arith)
-plan-homed n Convention.Aix r ts e =
-    all-homed 4 (omega arith) (omega arith) Edition.Earlier Convention.Aix (startIn Convention.Aix r) ts _ (area-holds Convention.Aix (endIn Convention.Aix r ts))
-plan-homed n Convention.Ppc64b r ts e =
-    all-homed 8 (omega arith) (omega arith) Edition.Later Convention.Ppc64b (startIn Convention.Ppc64b r) ts _ (area-holds Convention.Ppc64b (endIn Convention.Ppc64b r ts))
+plan-homed n c v r ts e = rules-homed c v (startIn c r) ts _ e (rw (last-marked c v (rulesOf c) (startIn c r) ts) (area-holds c (endIn c r ts)))
 
 refused-homed : (r : Rules) (f : Fault) → All (Homed r (planAnswer (no f) .area)) (argumentsIn (signatureAnswer (no f)) (planAnswer (no f)))
 unfolding argumentsIn placements All
@@ -97,12 +101,12 @@ pub homed-all : (s : List ℕ) → homeless (rulesFor s) ≡ false → All (Home
 unfolding argumentsOf planAnswer
 homed-all s e = go (signatureOf s) e
   where
-    go : (x : Reading Signature) → homeless (rulesOf (signatureAnswer x .convention)) ≡ false
-        → All (Homed (rulesOf (signatureAnswer x .convention)) (planAnswer x .area)) (argumentsIn (signatureAnswer x) (planAnswer x))
+    go : (x : Reading Signature) → homeless (rulesIn (signatureAnswer x)) ≡ false
+        → All (Homed (rulesIn (signatureAnswer x)) (planAnswer x .area)) (argumentsIn (signatureAnswer x) (planAnswer x))
     go (got g next n) q =
-        subst (All (Homed (rulesOf (g .convention)) (planAnswer (got g next n) .area))) (sym (arguments-got g next n))
-        (plan-homed n (g .convention) (resultType (g .convention) (g .result)) (typesOf (g .convention) (g .arguments)) q)
-    go (no f) q = refused-homed (rulesOf (signatureAnswer (no f) .convention)) f
+        subst (All (Homed (withEllipsis (g .ellipsis) (rulesOf (g .convention))) (planAnswer (got g next n) .area))) (sym (arguments-got g next n))
+        (plan-homed n (g .convention) (g .ellipsis) (resultType (g .convention) (g .result)) (typesOf (g .convention) (g .arguments)) q)
+    go (no f) q = refused-homed (rulesIn (signatureAnswer (no f))) f
 
 -- ---- one of them
 

@@ -26,47 +26,49 @@ use Rattle.signature.specs.Limits.{maxLength, maxArguments}
 use Rattle.signature.specs.declared.ResultType.{ResultType}
 use Rattle.signature.specs.declared.HeadRead.{HeadRead}
 use Rattle.signature.specs.Signature.{Result, Head}
-use Rattle.signature.specs.Read.{conventionAt, resultAt, argumentsIn, signatureOf, headBy, headAfter, headOf}
-use Rattle.signature.specs.Encode.{encodeResult}
+use Rattle.signature.specs.Read.{conventionAt, resultAt, ellipsisAt, argumentsIn, signatureOf, headBy, headThen, headAfter, headOf}
 use Rattle.signature.specs.Answer.{resultType, headAnswer}
 use Rattle.signature.proofs.Laws.{head-got, thenArguments, afterHead, signature-head}
 use Rattle.signature.proofs.Loop.{Turn, turn-start, turn-last}
-use Rattle.signature.proofs.Sound.{convention-read, result-read}
+use Rattle.signature.proofs.Sound.{convention-read, result-read, ellipsis-read}
 use Rattle.reader.specs.declared.ArgumentRead.{ArgumentRead}
 use Rattle.stepping.specs.Step.{typeIn}
-use Rattle.reader.specs.Argument.{argumentIn, argumentAnswer, argumentWith, notedAs}
+use Rattle.reader.specs.Argument.{argumentIn, argumentsPlace, argumentAnswer, argumentWith, notedAs}
 use Rattle.reader.proofs.Arguments.{type-is}
 
 -- ---- where the arguments' items start
 
-pub head-starts : (s : List ℕ) → Got (λ h next n. next ≡ 10 + length (encodeResult (h .result))) (headOf s)
-unfolding headOf headAfter
+pub head-starts : (s : List ℕ) → Got (λ h next n. next ≡ argumentsPlace (h .result) (h .ellipsis)) (headOf s)
+unfolding headOf headAfter headThen
 head-starts s = by-choose (Got Starts) (ltb maxLength (length s)) _ _ (λ _. tt)
     (λ _. by-then (λ c at n. conventionAt s ≡ got c at n) Starts (conventionAt s) _ (got-self (conventionAt s))
     (λ c at n first. by-next (λ r next m. resultAt c s at ≡ got r next m) Starts n (resultAt c s at) _ (got-self (resultAt c s at))
-    (λ r next m second. go c at n first r next m second (bodyAt s 0x03 0x03 (length s) next))))
+    (λ r next m second. by-next (λ v last k. ellipsisAt s next ≡ got v last k) Starts (n + m) (ellipsisAt s next) _ (got-self (ellipsisAt s next))
+    (λ v last k mark. go c at n first r next m second v last k mark (bodyAt s 0x03 0x03 (length s) last)))))
   where
     Starts : Head → ℕ → ℕ → Type 0
-    Starts h next n = next ≡ 10 + length (encodeResult (h .result))
+    Starts h next n = next ≡ argumentsPlace (h .result) (h .ellipsis)
 
     got-self : {A : Type 0} (x : Reading A) → Got (λ a next n. x ≡ got a next n) x
     got-self (got a next n) = refl
     got-self (no f) = tt
 
-    go : (c : Convention) (at n : ℕ) → conventionAt s ≡ got c at n → (r : Result) (next m : ℕ) → resultAt c s at ≡ got r next m → (x : Body) → Got Starts (headBy c r next (n + m) x)
-    go c at n first r next m second (Body.To b) = omega (arith, convention-read s c at n first .ends, result-read c s at r next m second .ends)
-    go c at n first r next m second (Body.Refused x) = tt
+    go : (c : Convention) (at n : ℕ) → conventionAt s ≡ got c at n → (r : Result) (next m : ℕ) → resultAt c s at ≡ got r next m →
+        (v : Bool) (last k : ℕ) → ellipsisAt s next ≡ got v last k → (x : Body) → Got Starts (headBy c r v last (n + m + k) x)
+    go c at n first r next m second v last k mark (Body.To b) =
+        omega (arith, convention-read s c at n first .ends, result-read c s at r next m second .ends, ellipsis-read s next v last k mark .ends)
+    go c at n first r next m second v last k mark (Body.Refused x) = tt
 
 -- the whole, from its head on: the result's tree is gone but for its type and the length of its encoding
-pub record Begun (s : List ℕ) (c : Convention) (t : ResultType) (at b n : ℕ) : Type 0 where
+pub record Begun (s : List ℕ) (c : Convention) (t : ResultType) (v : Bool) (at b n : ℕ) : Type 0 where
   pub result : Result
   pub same : t ≡ resultType c result
-  pub starts : at ≡ 10 + length (encodeResult result)
-  pub whole : signatureOf s ≡ thenArguments s c result n (argumentsIn c s at b)
+  pub starts : at ≡ argumentsPlace result v
+  pub whole : signatureOf s ≡ thenArguments s c result v n (argumentsIn c s at b)
 
-pub begun : (s : List ℕ) (x : HeadRead) → x ≡ headAnswer (headOf s) → (c : Convention) (t : ResultType) (at b n : ℕ) → x ≡ HeadRead.Head c t at b n → Begun s c t at b n
-begun s x found c t at b n q =
-    let (r, read, same) = head-got (headOf s) c t at b n (sym q ∙ found) in
+pub begun : (s : List ℕ) (x : HeadRead) → x ≡ headAnswer (headOf s) → (c : Convention) (t : ResultType) (v : Bool) (at b n : ℕ) → x ≡ HeadRead.Head c t v at b n → Begun s c t v at b n
+begun s x found c t v at b n q =
+    let (r, read, same) = head-got (headOf s) c t v at b n (sym q ∙ found) in
     record {
       result = r;
       same = same;
@@ -151,20 +153,20 @@ module _ (c : Convention) (s : List ℕ) (at e index : ℕ) where
 
 -- ---- the whole
 
-argument-then : (s : List ℕ) (c : Convention) (r : Result) (n index : ℕ) (x : Reading Trees) →
-    argumentAnswer index (thenArguments s c r n x) ≡ argumentWith c (10 + length (encodeResult r)) n (length s) index x
-argument-then s c r n index (got ts next m) = go (ltb next (length s))
+argument-then : (s : List ℕ) (c : Convention) (r : Result) (v : Bool) (n index : ℕ) (x : Reading Trees) →
+    argumentAnswer index (thenArguments s c r v n x) ≡ argumentWith c (argumentsPlace r v) n (length s) index x
+argument-then s c r v n index (got ts next m) = go (ltb next (length s))
   where
     go : (more : Bool) →
-        argumentAnswer index (pick more (no (fault Refusal.TrailingBytes next (n + m))) (got (record { convention = c; result = r; arguments = ts }) next (n + m)))
-        ≡ pick more (ArgumentRead.Refused (fault Refusal.TrailingBytes next (n + m))) (argumentIn c (10 + length (encodeResult r)) index ts)
+        argumentAnswer index (pick more (no (fault Refusal.TrailingBytes next (n + m))) (got (record { convention = c; result = r; ellipsis = v; arguments = ts }) next (n + m)))
+        ≡ pick more (ArgumentRead.Refused (fault Refusal.TrailingBytes next (n + m))) (argumentIn c (argumentsPlace r v) index ts)
     go true = refl
     go false = refl
-argument-then s c r n index (no f) = refl
+argument-then s c r v n index (no f) = refl
 
-pub argument-begun : (s : List ℕ) (c : Convention) (t : ResultType) (at b n index : ℕ) → Begun s c t at b n →
+pub argument-begun : (s : List ℕ) (c : Convention) (t : ResultType) (v : Bool) (at b n index : ℕ) → Begun s c t v at b n →
     argumentAnswer index (signatureOf s) ≡ argumentWith c at n (length s) index (argumentsIn c s at b)
-argument-begun s c t at b n index g =
+argument-begun s c t v at b n index g =
     ap (argumentAnswer index) (g .whole)
-    ∙ argument-then s c (g .result) n index (argumentsIn c s at b)
+    ∙ argument-then s c (g .result) v n index (argumentsIn c s at b)
     ∙ ap (λ (k : ℕ). argumentWith c k n (length s) index (argumentsIn c s at b)) (sym (g .starts))

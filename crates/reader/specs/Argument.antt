@@ -1,8 +1,9 @@
 -- One argument of a signature: its type, and the place of its item by the encoder. Below it, the same by stepping.
 -- Assumes nothing.
 use Prim.Native.Nat.{ℕ, zero, suc, _+_}
+use mathlib.Core.Bool.{Bool}
 use mathlib.Core.List.{List}
-use lib.ListN.{length}
+use lib.ListN.{length, getD}
 use lib.Dec.{ltb, eqb}
 use Rattle.words.specs.Basics.{pick}
 use Rattle.conventions.specs.declared.Convention.{Convention}
@@ -11,8 +12,8 @@ use Rattle.types.specs.Trees.{Tree, Trees, none, _▸_, typeOf, countOf}
 use Rattle.items.specs.declared.Refusal.{Refusal}
 use Rattle.items.specs.Reading.{Reading, fault, got, no, later}
 use Rattle.items.specs.Encode.{encodeTrees}
-use Rattle.signature.specs.Signature.{Signature}
-use Rattle.signature.specs.Encode.{encodeResult}
+use Rattle.signature.specs.Signature.{Result, Signature}
+use Rattle.signature.specs.Encode.{encodeResult, ellipsisItem}
 use Rattle.reader.specs.declared.ArgumentRead.{ArgumentRead}
 use Rattle.stepping.specs.Step.{bodyStart, bodyEnd, typeIn}
 
@@ -22,9 +23,14 @@ argumentIn c start index none = ArgumentRead.Missing
 argumentIn c start index (ts ▸ t) =
     pick (eqb index (countOf ts)) (ArgumentRead.Argument (typeOf c t) (start + length (encodeTrees ts))) (argumentIn c start index ts)
 
--- of a whole reading: the convention's item is 4 bytes, the other two have a header of 3 each
+-- where the arguments' first item stands: the convention's item is 4 bytes, the result's and the arguments' have a header of 3
+-- each, and an ellipsis's item stands between the two
+abbrev pub argumentsPlace : Result → Bool → ℕ
+argumentsPlace r v = 10 + length (encodeResult r) + length (ellipsisItem v)
+
+-- of a whole reading
 abbrev pub argumentAnswer : ℕ → Reading Signature → ArgumentRead
-argumentAnswer index (got g next n) = argumentIn (g .convention) (10 + length (encodeResult (g .result))) index (g .arguments)
+argumentAnswer index (got g next n) = argumentIn (g .convention) (argumentsPlace (g .result) (g .ellipsis)) index (g .arguments)
 argumentAnswer index (no f) = ArgumentRead.Refused f
 
 -- found, unless argument number `count` is the one that is asked for
@@ -37,9 +43,13 @@ argumentWith c at n all index (got ts next m) =
     pick (ltb next all) (ArgumentRead.Refused (fault Refusal.TrailingBytes next (n + m))) (argumentIn c at index ts)
 argumentWith c at n all index (no f) = ArgumentRead.Refused (later n f)
 
--- the arguments' first item: past two items, and into the third
+-- past an ellipsis's item, where its tag stands
+unfoldable pub pastEllipsis : List ℕ → ℕ → ℕ
+pastEllipsis s at = pick (eqb (getD s at 0) 0x04) (bodyEnd s at (length s)) at
+
+-- the arguments' first item: past two items and the ellipsis, and into the last
 unfoldable pub argumentsStart : List ℕ → ℕ
-argumentsStart s = bodyStart s (bodyEnd s (bodyEnd s 0 (length s)) (length s)) (length s)
+argumentsStart s = bodyStart s (pastEllipsis s (bodyEnd s (bodyEnd s 0 (length s)) (length s))) (length s)
 
 abbrev pub onward : Reading Tree → (ℕ → ArgumentRead) → ArgumentRead
 onward (got t next n) g = g next

@@ -195,6 +195,7 @@ pub fn argument_at(s: &[u8], index: usize) -> ArgumentRead
         HeadRead::Head {
             convention,
             result,
+            ellipsis,
             at,
             end,
             earlier,

@@ -1,6 +1,7 @@
 -- The loop over the arguments: its invariant, and what each way out of a turn gives. Assumes nothing.
 use Prim.Native.Nat.{ℕ, suc, _+_, _-_, _*_, _≤_, _<_}
 use mathlib.Core.Path.{_≡_, refl, sym, _∙_}
+use mathlib.Core.Bool.{Bool}
 use mathlib.Core.List.{List, [], _∷_, append-assoc}
 use lib.ListN.{length, set, replicate, length-append}
 use lib.Seq.{set-at}
@@ -122,15 +123,15 @@ module _ (c : Convention) (s : List ℕ) (start e : ℕ) where
           types = same-set (tabled .types) (turn .many) (more .same) ∙ table-more c (tabled .ts) (more .tree) (omega (arith, turn .few, turn .many));
         }
 
-    module _ (last : e ≤ next) (result : ResultType) (before : ℕ) where
-      pub tabled-trailing : next < length s → refused (fault Refusal.TrailingBytes next (before + n)) ≡ withArguments c result before (length s) (argumentsIn c s start e)
+    module _ (last : e ≤ next) (result : ResultType) (v : Bool) (before : ℕ) where
+      pub tabled-trailing : next < length s → refused (fault Refusal.TrailingBytes next (before + n)) ≡ withArguments c result v before (length s) (argumentsIn c s start e)
       tabled-trailing h = rw (turn-last c s start e (tabled .ts) count next n (tabled .turn) last, lt-ltb next (length s) h)
 
       pub tabled-end : length s ≤ next →
-          _≡_ {A = SignatureRead} (record { outcome = Outcome.Accepted (before + n); convention = c; result = result; count = count; arguments = l })
-          (withArguments c result before (length s) (argumentsIn c s start e))
+          _≡_ {A = SignatureRead} (record { outcome = Outcome.Accepted (before + n); convention = c; result = result; ellipsis = v; count = count; arguments = l })
+          (withArguments c result v before (length s) (argumentsIn c s start e))
       tabled-end h = rw (turn-last c s start e (tabled .ts) count next n (tabled .turn) last, le-ltb next (length s) h) (cc (tabled .turn .many, tabled .types))
 
-  pub arguments-no : (f : Fault) → argumentsIn c s start e ≡ no f → (result : ResultType) (before all : ℕ) →
-      refused (later before f) ≡ withArguments c result before all (argumentsIn c s start e)
-  arguments-no f q result before all = rw q
+  pub arguments-no : (f : Fault) → argumentsIn c s start e ≡ no f → (result : ResultType) (v : Bool) (before all : ℕ) →
+      refused (later before f) ≡ withArguments c result v before all (argumentsIn c s start e)
+  arguments-no f q result v before all = rw q

@@ -1,5 +1,6 @@
 -- The program's answer for each reading. Assumes nothing.
 use Prim.Native.Nat.{ℕ, _+_, _-_}
+use mathlib.Core.Bool.{Bool, true, false}
 use mathlib.Core.List.{List, [], _∷_, _++_}
 use lib.ListN.{replicate}
 use lib.Dec.{ltb}
@@ -10,6 +11,7 @@ use Rattle.types.specs.declared.ValueType.{ValueType}
 use Rattle.types.specs.Trees.{Trees, none, _▸_, typeOf, countOf}
 use Rattle.items.specs.declared.Refusal.{Refusal}
 use Rattle.items.specs.declared.Fault.{Fault}
+use Rattle.items.specs.declared.Body.{Body}
 use Rattle.items.specs.Reading.{Reading, fault, got, no, later}
 use Rattle.signature.specs.declared.ResultType.{ResultType}
 use Rattle.signature.specs.declared.Argument.{Argument}
@@ -17,6 +19,7 @@ use Rattle.signature.specs.declared.Outcome.{Outcome}
 use Rattle.signature.specs.declared.SignatureRead.{SignatureRead}
 use Rattle.signature.specs.declared.ConventionRead.{ConventionRead}
 use Rattle.signature.specs.declared.ResultRead.{ResultRead}
+use Rattle.signature.specs.declared.EllipsisRead.{EllipsisRead}
 use Rattle.signature.specs.declared.HeadRead.{HeadRead}
 use Rattle.signature.specs.Signature.{Result, nothing, value, Signature, Head}
 use Rattle.signature.specs.Limits.{maxArguments}
@@ -33,8 +36,18 @@ abbrev pub resultAnswer : Convention → Reading Result → ResultRead
 resultAnswer c (got r next n) = ResultRead.Result (resultType c r) next n
 resultAnswer c (no f) = ResultRead.Refused f
 
+abbrev pub ellipsisAnswer : Reading Bool → EllipsisRead
+ellipsisAnswer (got true next n) = EllipsisRead.Present
+ellipsisAnswer (got false next n) = EllipsisRead.Absent
+ellipsisAnswer (no f) = EllipsisRead.Refused (f .reason)
+
+-- a head from the last item's header on, which stands at `at`, where n items came before it
+abbrev pub headWith : Convention → ResultType → Bool → ℕ → ℕ → Body → HeadRead
+headWith c r v at n (Body.To b) = HeadRead.Head c r v (at + 3) b n
+headWith c r v at n (Body.Refused x) = HeadRead.Refused (fault x at n)
+
 abbrev pub headAnswer : Reading Head → HeadRead
-headAnswer (got h next n) = HeadRead.Head (h .convention) (resultType (h .convention) (h .result)) next (h .end) n
+headAnswer (got h next n) = HeadRead.Head (h .convention) (resultType (h .convention) (h .result)) (h .ellipsis) next (h .end) n
 headAnswer (no f) = HeadRead.Refused f
 
 -- the table of arguments: their types in order, and an i8 in each place after them
@@ -58,18 +71,19 @@ refused f = record {
   outcome = Outcome.Refused f;
   convention = Convention.Ppc64;
   result = ResultType.Nothing;
+  ellipsis = false;
   count = 0;
   arguments = noArguments;
 }
 
-abbrev pub accepted : Convention → ResultType → Trees → ℕ → SignatureRead
-accepted c r ts n = record { outcome = Outcome.Accepted n; convention = c; result = r; count = countOf ts; arguments = table c ts }
+abbrev pub accepted : Convention → ResultType → Bool → Trees → ℕ → SignatureRead
+accepted c r v ts n = record { outcome = Outcome.Accepted n; convention = c; result = r; ellipsis = v; count = countOf ts; arguments = table c ts }
 
 abbrev pub signatureAnswer : Reading Signature → SignatureRead
-signatureAnswer (got g next n) = accepted (g .convention) (resultType (g .convention) (g .result)) (g .arguments) n
+signatureAnswer (got g next n) = accepted (g .convention) (resultType (g .convention) (g .result)) (g .ellipsis) (g .arguments) n
 signatureAnswer (no f) = refused f
 
 -- from the arguments on, in a signature of `all` bytes, where the convention and the result's type took n items
-abbrev pub withArguments : Convention → ResultType → ℕ → ℕ → Reading Trees → SignatureRead
-withArguments c r n all (got ts next m) = pick (ltb next all) (refused (fault Refusal.TrailingBytes next (n + m))) (accepted c r ts (n + m))
-withArguments c r n all (no f) = refused (later n f)
+abbrev pub withArguments : Convention → ResultType → Bool → ℕ → ℕ → Reading Trees → SignatureRead
+withArguments c r v n all (got ts next m) = pick (ltb next all) (refused (fault Refusal.TrailingBytes next (n + m))) (accepted c r v ts (n + m))
+withArguments c r v n all (no f) = refused (later n f)

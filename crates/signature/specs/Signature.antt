@@ -1,5 +1,7 @@
--- A signature: a calling convention, a result's type or none, and the arguments' types in order. Assumes nothing.
+-- A signature: a calling convention, a result's type or none, whether it has an ellipsis (a variable argument list: document 02,
+-- No. 5), and the arguments' types in order. Assumes nothing.
 use Prim.Native.Nat.{ℕ}
+use mathlib.Core.Bool.{Bool}
 use Rattle.conventions.specs.declared.Convention.{Convention}
 use Rattle.types.specs.Trees.{Tree, Trees}
 
@@ -10,10 +12,12 @@ pub data Result : Type 0 where
 pub record Signature : Type 0 where
   pub convention : Convention
   pub result : Result
+  pub ellipsis : Bool
   pub arguments : Trees
 
 -- what stands before the arguments, whose item's body ends at `end`
 pub record Head : Type 0 where
   pub convention : Convention
   pub result : Result
+  pub ellipsis : Bool
   pub end : ℕ

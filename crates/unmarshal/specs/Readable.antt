@@ -11,19 +11,24 @@ use Rattle.types.specs.Sizes.{equivalentOf}
 use Rattle.signature.specs.declared.SignatureRead.{SignatureRead}
 use Rattle.places.specs.declared.Rules.{Rules}
 use Rattle.places.specs.declared.Span.{Span}
-use Rattle.places.specs.Step.{rulesOf, wordOf}
+use Rattle.places.specs.Step.{wordOf}
 use Rattle.slots.specs.declared.Answer.{Answer}
 use Rattle.slots.specs.Buffers.{Buffers}
 use Rattle.slots.specs.Placements.{Placement, floatAt, addressAt}
 use Rattle.slots.specs.Refusals.{floatAnswer}
 use Rattle.slots.specs.Limits.{Held, All, sizesOf}
+use Rattle.slots.specs.Arguments.{rulesIn}
 use Rattle.plan.specs.Limits.{Plannable}
 use Rattle.arguments.specs.Table.{argumentsFrom}
+
+-- m bytes at s lie in an area of a bytes; none may start anywhere: an argument in registers asks nothing of the area
+abbrev pub Stored : ℕ → ℕ → ℕ → Type 0
+Stored s m a = 0 < m → s + m ≤ a
 
 -- a span's words of w bytes lie in the image and the area
 abbrev pub WordsFit : ℕ → Span → List ℕ → List ℕ → Type 0
 WordsFit w s image area =
-    (1 ≤ w) × (w ≤ 8) × (s .general .first + s .general .count ≤ 32) × (length image ≡ 512) × (s .memory .start + s .memory .length ≤ length area)
+    (1 ≤ w) × (w ≤ 8) × (s .general .first + s .general .count ≤ 32) × (length image ≡ 512) × Stored (s .memory .start) (s .memory .length) (length area)
 
 -- room of l bytes for a float whose FPRs have n bytes
 abbrev pub FloatRoom : Equivalent → ℕ → ℕ → Type 0
@@ -36,7 +41,7 @@ pub record Ready (r : Rules) (i a : ℕ) (p : Placement) : Type 0 where
   pub held : Held r p
   pub general : p .span .general .first + p .span .general .count ≤ 32
   pub floating : p .span .floating .first + p .span .floating .count ≤ 32
-  pub memory : p .span .memory .start + p .span .memory .length ≤ a
+  pub memory : Stored (p .span .memory .start) (p .span .memory .length) a
   pub registers : i ≡ 512
 
 -- an argument that can be read
@@ -51,5 +56,5 @@ pub record Readable (r : Rules) (base : ℕ) (p : Placement) (b : Buffers) : Typ
 -- all arguments of a signature that was read, into values of v bytes
 pub record AllReadable (g : SignatureRead) (base v : ℕ) (b : Buffers) : Type 0 where
   pub plannable : Plannable g
-  pub each : All (λ (q : Placement). Readable (rulesOf (g .convention)) base q b) (argumentsFrom g)
+  pub each : All (λ (q : Placement). Readable (rulesIn g) base q b) (argumentsFrom g)
   pub total : sizesOf (argumentsFrom g) ≡ v

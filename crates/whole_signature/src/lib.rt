@@ -23,22 +23,24 @@ fn refuse(fault: Fault) -> SignatureRead
         outcome: Outcome::Refused(fault),
         convention: Convention::Ppc64,
         result: ResultType::Nothing,
+        ellipsis: false,
         count: 0,
         arguments,
     }
 }
 
-// The arguments, in the third item's body from `at` to `end`, and the signature's end; `earlier` items came before this one.
+// The arguments, in the last item's body from `at` to `end`, and the signature's end; `earlier` items came before this one.
 fn read_arguments(
     s: &[u8],
     c: Convention,
     result: ResultType,
+    ellipsis: bool,
     at: usize,
     end: usize,
     earlier: usize,
 ) -> SignatureRead
     requires { ⌜ (at ≤ end) × (end ≤ length (now s)) × (end ≤ 2 ^ 16) × (earlier ≤ 2 ^ 16) ⌝ }
-    ensures { λ r. ⌜ r ≡ withArguments c result earlier (length (now (s .entry))) (argumentsIn c (now (s .entry)) at end) ⌝ }
+    ensures { λ r. ⌜ r ≡ withArguments c result ellipsis earlier (length (now (s .entry))) (argumentsIn c (now (s .entry)) at end) ⌝ }
 {
     let mut arguments = signature::no_arguments();
     let mut count: usize = 0;
@@ -80,6 +82,7 @@ fn read_arguments(
         outcome: Outcome::Accepted(counted),
         convention: c,
         result,
+        ellipsis,
         count,
         arguments,
     }
@@ -94,9 +97,10 @@ pub fn read_signature(s: &[u8]) -> SignatureRead
         HeadRead::Head {
             convention,
             result,
+            ellipsis,
             at,
             end,
             earlier,
-        } => read_arguments(s, convention, result, at, end, earlier),
+        } => read_arguments(s, convention, result, ellipsis, at, end, earlier),
     }
 }

@@ -30,8 +30,8 @@ plan-part-requires : tie.Need-plan-part-requires
 plan-part-requires c κs =
     let found = c .before .before .before .before .read-head .ensures in
     let is = c .before .before .convention .given .1 in
-    let k = head-bounded _ _ _ _ _ _ _ found is in
-    (omega arith, omega arith, k .short, omega arith, small-result _ _ found _ _ _ _ _ is)
+    let k = head-bounded _ _ _ _ _ _ _ _ found is in
+    (omega arith, omega arith, k .short, omega arith, small-result _ _ found _ _ _ _ _ _ is)
 
 returns : tie.Need-returns
 unfolding called planAnswer
@@ -47,9 +47,9 @@ returns-2 : tie.Need-returns-2
 returns-2 c =
     let found = c .before .before .before .before .before .before .before .read-head .ensures in
     let is = c .before .before .before .before .before .convention .given .1 in
-    let unclear = sym (unclear-arguments _ _ found _ _ _ _ _ is) in (
-      c .before .before .plan-part .ensures .0 ∙ planned-called _ _ _ (sym (ap plannedOf (plan-arguments _ _ found _ _ _ _ _ is))) unclear,
-      c .before .before .plan-part .ensures .1 ∙ ap (tabled (c .before .before .before .before .before .before .before .before .before .before .args .places .now)) (rows-called _ _ _ (rows-entries _ _ found _ _ _ _ _ is) unclear),
+    let unclear = sym (unclear-arguments _ _ found _ _ _ _ _ _ is) in (
+      c .before .before .plan-part .ensures .0 ∙ planned-called _ _ _ (sym (ap plannedOf (plan-arguments _ _ found _ _ _ _ _ _ is))) unclear,
+      c .before .before .plan-part .ensures .1 ∙ ap (tabled (c .before .before .before .before .before .before .before .before .before .before .args .places .now)) (rows-called _ _ _ (rows-entries _ _ found _ _ _ _ _ _ is) unclear),
     )
 
 pub plan-words-spec : {M : Type 1} → statement M

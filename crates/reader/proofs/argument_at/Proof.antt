@@ -19,13 +19,13 @@ enum-known-convention : tie.Need-enum-known-convention
 enum-known-convention c = search needs
 
 argument-from-requires : tie.Need-argument-from-requires
-argument-from-requires c κs = let k = head-bounded _ _ _ _ _ _ _ (c .before .before .before .read-head .ensures) (c .before .convention .given .1) in omega arith
+argument-from-requires c κs = let k = head-bounded _ _ _ _ _ _ _ _ (c .before .before .before .read-head .ensures) (c .before .convention .given .1) in omega arith
 
 returns : tie.Need-returns
 returns c = sym (ap (argumentAnswer (c .before .before .before .before .before .args .index)) (signature-refused _ _ (c .before .before .before .read-head .ensures) _ (c .before .fault .given .1)))
 
 returns-2 : tie.Need-returns-2
-returns-2 c = c .argument-from .ensures ∙ sym (argument-begun _ _ _ _ _ _ _ (begun _ _ (c .before .before .before .before .read-head .ensures) _ _ _ _ _ (c .before .before .convention .given .1)))
+returns-2 c = c .argument-from .ensures ∙ sym (argument-begun _ _ _ _ _ _ _ _ (begun _ _ (c .before .before .before .before .read-head .ensures) _ _ _ _ _ _ (c .before .before .convention .given .1)))
 
 pub argument-at-spec : {M : Type 1} → statement M
 argument-at-spec =

@@ -11,10 +11,10 @@ use Rattle.signature.proofs.Loop.{Tabled, turn-full, turn-no, tabled-start, tab
 use Rattle.whole_signature.proofs.read_arguments.Tie as tie
 
 abbrev Inv-loop : tie.InvT-loop
-Inv-loop s c result at end earlier arguments₀ count₀ next₀ items₀ arguments count next items = Tabled c s at end arguments count next items
+Inv-loop s c result ellipsis at end earlier arguments₀ count₀ next₀ items₀ arguments count next items = Tabled c s at end arguments count next items
 
 abbrev μ-loop : tie.MeasureT-loop
-μ-loop s c result at end earlier arguments₀ count₀ next₀ items₀ arguments count next items = end - next
+μ-loop s c result ellipsis at end earlier arguments₀ count₀ next₀ items₀ arguments count next items = end - next
 
 no-arguments-requires : tie.Need-no-arguments-requires Inv-loop μ-loop
 no-arguments-requires c κs = search needs
@@ -22,14 +22,14 @@ no-arguments-requires c κs = search needs
 loop-holds : tie.Need-loop-holds Inv-loop μ-loop
 loop-holds c = tabled-start _ _ _ _ _ (c .no-arguments .ensures) (omega arith)
 
-add-t19 : tie.Need-add-t19 Inv-loop μ-loop
-add-t19 c = omega arith
+add-t20 : tie.Need-add-t20 Inv-loop μ-loop
+add-t20 c = omega arith
 
 refuse-requires : tie.Need-refuse-requires Inv-loop μ-loop
 refuse-requires c κs = search needs
 
 returns : tie.Need-returns Inv-loop μ-loop
-returns c = c .refuse .ensures ∙ arguments-no _ _ _ _ _ (turn-full _ _ _ _ _ _ _ _ (c .before .before .before .loop .inv .turn) (c .before .before .loop-test .taken) (c .before .if1 .taken)) _ _ _
+returns c = c .refuse .ensures ∙ arguments-no _ _ _ _ _ (turn-full _ _ _ _ _ _ _ _ (c .before .before .before .loop .inv .turn) (c .before .before .loop-test .taken) (c .before .if1 .taken)) _ _ _ _
 
 read-item-requires : tie.Need-read-item-requires Inv-loop μ-loop
 read-item-requires c κs = omega arith
@@ -68,7 +68,7 @@ refuse-requires-2 : tie.Need-refuse-requires-2 Inv-loop μ-loop
 refuse-requires-2 c κs = search needs
 
 returns-2 : tie.Need-returns-2 Inv-loop μ-loop
-returns-2 c = c .refuse2 .ensures ∙ ap refused (c .before .later-by .ensures ∙ later-later _ _ _) ∙ arguments-no _ _ _ _ _ (turn-no _ _ _ _ _ _ _ _ (c .before .before .before .before .before .before .before .before .loop .inv .turn) (c .before .before .before .before .before .before .before .loop-test .taken) (c .before .before .before .before .before .before .if1 .left) _ (c .before .before .before .before .before .read-item .ensures) _ (c .before .before .before .fault .given .1)) _ _ _
+returns-2 c = c .refuse2 .ensures ∙ ap refused (c .before .later-by .ensures ∙ later-later _ _ _) ∙ arguments-no _ _ _ _ _ (turn-no _ _ _ _ _ _ _ _ (c .before .before .before .before .before .before .before .before .loop .inv .turn) (c .before .before .before .before .before .before .before .loop-test .taken) (c .before .before .before .before .before .before .if1 .left) _ (c .before .before .before .before .before .read-item .ensures) _ (c .before .before .before .fault .given .1)) _ _ _ _
 
 add-counted : tie.Need-add-counted Inv-loop μ-loop
 add-counted c = omega arith
@@ -77,10 +77,10 @@ refuse-requires-3 : tie.Need-refuse-requires-3 Inv-loop μ-loop
 refuse-requires-3 c κs = search needs
 
 returns-3 : tie.Need-returns-3 Inv-loop μ-loop
-returns-3 c = c .refuse3 .ensures ∙ tabled-trailing _ _ _ _ _ _ _ _ (c .before .before .before .loop .inv) (c .before .before .loop-test .left) _ _ (c .before .if2 .taken)
+returns-3 c = c .refuse3 .ensures ∙ tabled-trailing _ _ _ _ _ _ _ _ (c .before .before .before .loop .inv) (c .before .before .loop-test .left) _ _ _ (c .before .if2 .taken)
 
 returns-4 : tie.Need-returns-4 Inv-loop μ-loop
-returns-4 c = tabled-end _ _ _ _ _ _ _ _ (c .before .before .loop .inv) (c .before .loop-test .left) _ _ (c .if2 .left)
+returns-4 c = tabled-end _ _ _ _ _ _ _ _ (c .before .before .loop .inv) (c .before .loop-test .left) _ _ _ (c .if2 .left)
 
 pub read-arguments-spec : {M : Type 1} → statement M
 read-arguments-spec =
@@ -90,7 +90,7 @@ read-arguments-spec =
     μ-loop
     no-arguments-requires
     loop-holds
-    add-t19
+    add-t20
     refuse-requires
     returns
     read-item-requires

@@ -21,13 +21,13 @@ enum-known-convention : tie.Need-enum-known-convention
 enum-known-convention c = search needs
 
 read-arguments-requires : tie.Need-read-arguments-requires
-read-arguments-requires c κs = let k = head-bounded _ _ _ _ _ _ _ (c .before .before .before .read-head .ensures) (c .before .convention .given .1) in omega arith
+read-arguments-requires c κs = let k = head-bounded _ _ _ _ _ _ _ _ (c .before .before .before .read-head .ensures) (c .before .convention .given .1) in omega arith
 
 returns : tie.Need-returns
 returns c = c .refuse .ensures ∙ sym (ap signatureAnswer (signature-refused _ _ (c .before .before .before .before .read-head .ensures) _ (c .before .before .fault .given .1)))
 
 returns-2 : tie.Need-returns-2
-returns-2 c = c .read-arguments .ensures ∙ sym (signature-arguments _ _ (c .before .before .before .before .read-head .ensures) _ _ _ _ _ (c .before .before .convention .given .1))
+returns-2 c = c .read-arguments .ensures ∙ sym (signature-arguments _ _ (c .before .before .before .before .read-head .ensures) _ _ _ _ _ _ (c .before .before .convention .given .1))
 
 pub read-signature-spec : {M : Type 1} → statement M
 read-signature-spec =
