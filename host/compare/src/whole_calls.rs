@@ -279,7 +279,10 @@ impl Program<'_> {
         let room = locals.filter(|(start, end)| start.saturating_add(plan.copies as u64) <= *end);
         let (base, inside) = match room {
             Some((start, _)) if plan.copies > 0 => (start, true),
-            _ => (base(self.random, self.convention, copies.len()), false),
+            _ => {
+                let length = copies.len().div_ceil(16) * 16;
+                (base(self.random, self.convention, length), false)
+            }
         };
         let largest = machine_calls::last_address(self.convention);
         let hidden = self.random.number() & largest;
