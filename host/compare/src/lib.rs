@@ -19,6 +19,7 @@ pub mod random;
 pub mod signatures;
 pub mod timing;
 pub mod usual;
+pub mod walks;
 pub mod whole_calls;
 
 use std::fmt;
