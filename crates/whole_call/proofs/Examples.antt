@@ -17,12 +17,12 @@ use Rattle.conventions.specs.Numbers.{conventionCode}
 use Rattle.types.specs.Structs.{withField, shapeOf}
 use Rattle.types.specs.Trees.{typeOf, countOf}
 use Rattle.items.specs.Read.{bodyAt, integerCode, floatCode, integerAt, floatOf, floatAt, sequence, sizedAt, contentsAt, itemBy, structAt, itemAt}
-use Rattle.signature.specs.Read.{conventionAt, resultIn, resultAt, argumentsIn, argumentsAt, afterResult, afterConvention, signatureOf}
+use Rattle.signature.specs.Read.{conventionAt, resultIn, resultAt, argumentsIn, argumentsAt, ellipsisAt, afterEllipsis, afterResult, afterConvention, signatureOf}
 use Rattle.signature.specs.Answer.{listed, table}
 use Rattle.places.specs.declared.Bank.{Bank}
 use Rattle.places.specs.Power.{words, fprs, shareOf, powerShare, unclear}
 use Rattle.places.specs.ZSeries.{zClass, zSpanOf, zNextOf}
-use Rattle.places.specs.Step.{spanOf, nextOf, unclearFor, fresh, startOf, areaOf, hiddenFor, returning, resultOf}
+use Rattle.places.specs.Step.{withEllipsis, spanOf, nextOf, unclearFor, fresh, startOf, areaOf, hiddenFor, returning, resultOf}
 use Rattle.places.specs.Places.{upFrom}
 use Rattle.plan.specs.Plan.{spansOf, lastOf, valuesOf, tableOf, planIn, typesOf, planAnswer}
 use Rattle.plan.specs.Call.{firstUnclear, called}
@@ -190,7 +190,7 @@ ppc64 = record {
 
 ppc64-filled : (fillAnswer (ppc64 .signature) (lengths (ppc64 .values) (replicate 512 7) (ppc64 .area) (ppc64 .copies)) (ppc64 .base) (ppc64 .hidden) ≡ Answer.Done)
     × (planFor (ppc64 .signature) .convention ≡ Convention.Ppc64) × (planFor (ppc64 .signature) .area ≡ 64)
-unfolding roundUp withField shapeOf typeOf countOf listed table bodyAt integerCode floatCode integerAt floatOf floatAt sequence sizedAt contentsAt itemBy structAt itemAt conventionCode conventionAt resultIn resultAt argumentsIn argumentsAt afterResult afterConvention signatureOf words fprs shareOf powerShare unclear zClass zSpanOf zNextOf spanOf nextOf unclearFor fresh startOf areaOf hiddenFor returning resultOf upFrom spansOf lastOf valuesOf tableOf planIn typesOf planAnswer firstUnclear called badCopies fillTests firstOf fillAnswer
+unfolding roundUp withField shapeOf typeOf countOf listed table bodyAt integerCode floatCode integerAt floatOf floatAt sequence sizedAt contentsAt itemBy structAt itemAt conventionCode conventionAt resultIn resultAt argumentsIn argumentsAt ellipsisAt afterEllipsis afterResult afterConvention signatureOf withEllipsis words fprs shareOf powerShare unclear zClass zSpanOf zNextOf spanOf nextOf unclearFor fresh startOf areaOf hiddenFor returning resultOf upFrom spansOf lastOf valuesOf tableOf planIn typesOf planAnswer firstUnclear called badCopies fillTests firstOf fillAnswer
 ppc64-filled = (refl, refl, refl)
 
 ppc64-at : ownArea (rules Convention.Ppc64) (machineIn (ppc64 .m)) ≡ 4672
@@ -198,7 +198,7 @@ unfolding roundUp overlay splice bytesOf valueOf conventionCode store load saveR
 ppc64-at = refl
 
 ppc64-calls : putCalls (planFor (ppc64 .signature)) (leftBy ppc64 .image) 4672 (take 64 (leftBy ppc64 .area) ∷ []) ≡ ppc64 .puts
-unfolding roundUp withField shapeOf typeOf countOf listed table bodyAt integerCode floatCode integerAt floatOf floatAt sequence sizedAt contentsAt itemBy structAt itemAt conventionCode conventionAt resultIn resultAt argumentsIn argumentsAt afterResult afterConvention signatureOf words fprs shareOf powerShare unclear zClass zSpanOf zNextOf spanOf nextOf unclearFor fresh startOf areaOf hiddenFor returning resultOf upFrom spansOf lastOf valuesOf tableOf planIn typesOf planAnswer firstUnclear called overlay splice bytesOf valueOf zeroExtended signBit signExtended spread put putAll bytesAt structAtHead startsAtHead extended homeBytes floatBytes standing slotsOf slotsOfAll placements slots.argumentsIn argumentsOf fillBuffers filledSlots registersIn registersOf putPieces putCalls
+unfolding roundUp withField shapeOf typeOf countOf listed table bodyAt integerCode floatCode integerAt floatOf floatAt sequence sizedAt contentsAt itemBy structAt itemAt conventionCode conventionAt resultIn resultAt argumentsIn argumentsAt ellipsisAt afterEllipsis afterResult afterConvention signatureOf withEllipsis words fprs shareOf powerShare unclear zClass zSpanOf zNextOf spanOf nextOf unclearFor fresh startOf areaOf hiddenFor returning resultOf upFrom spansOf lastOf valuesOf tableOf planIn typesOf planAnswer firstUnclear called overlay splice bytesOf valueOf zeroExtended signBit signExtended spread put putAll bytesAt structAtHead startsAtHead extended homeBytes floatBytes standing slotsOf slotsOfAll placements slots.argumentsIn argumentsOf fillBuffers filledSlots registersIn registersOf putPieces putCalls
 ppc64-calls = refl
 
 ppc64-length : length (leftBy ppc64 .area) ≡ length (ppc64 .area)
@@ -238,7 +238,7 @@ z = record {
 
 z-filled : (fillAnswer (z .signature) (lengths (z .values) (replicate 512 7) (z .area) (z .copies)) (z .base) (z .hidden) ≡ Answer.Done)
     × (planFor (z .signature) .convention ≡ Convention.Z) × (planFor (z .signature) .area ≡ 8)
-unfolding roundUp withField shapeOf typeOf countOf listed table bodyAt integerCode floatCode integerAt floatOf floatAt sequence sizedAt contentsAt itemBy structAt itemAt conventionCode conventionAt resultIn resultAt argumentsIn argumentsAt afterResult afterConvention signatureOf words fprs shareOf powerShare unclear zClass zSpanOf zNextOf spanOf nextOf unclearFor fresh startOf areaOf hiddenFor returning resultOf upFrom spansOf lastOf valuesOf tableOf planIn typesOf planAnswer firstUnclear called badCopies fillTests firstOf fillAnswer
+unfolding roundUp withField shapeOf typeOf countOf listed table bodyAt integerCode floatCode integerAt floatOf floatAt sequence sizedAt contentsAt itemBy structAt itemAt conventionCode conventionAt resultIn resultAt argumentsIn argumentsAt ellipsisAt afterEllipsis afterResult afterConvention signatureOf withEllipsis words fprs shareOf powerShare unclear zClass zSpanOf zNextOf spanOf nextOf unclearFor fresh startOf areaOf hiddenFor returning resultOf upFrom spansOf lastOf valuesOf tableOf planIn typesOf planAnswer firstUnclear called badCopies fillTests firstOf fillAnswer
 z-filled = (refl, refl, refl)
 
 z-at : ownArea (rules Convention.Z) (machineIn (z .m)) ≡ 4552
@@ -246,7 +246,7 @@ unfolding roundUp overlay splice bytesOf valueOf conventionCode store load saveR
 z-at = refl
 
 z-calls : putCalls (planFor (z .signature)) (leftBy z .image) 4552 (take 8 (leftBy z .area) ∷ []) ≡ z .puts
-unfolding roundUp withField shapeOf typeOf countOf listed table bodyAt integerCode floatCode integerAt floatOf floatAt sequence sizedAt contentsAt itemBy structAt itemAt conventionCode conventionAt resultIn resultAt argumentsIn argumentsAt afterResult afterConvention signatureOf words fprs shareOf powerShare unclear zClass zSpanOf zNextOf spanOf nextOf unclearFor fresh startOf areaOf hiddenFor returning resultOf upFrom spansOf lastOf valuesOf tableOf planIn typesOf planAnswer firstUnclear called overlay splice bytesOf valueOf zeroExtended signBit signExtended spread put putAll bytesAt structAtHead startsAtHead extended homeBytes floatBytes standing slotsOf slotsOfAll placements slots.argumentsIn argumentsOf fillBuffers filledSlots registersIn registersOf putPieces putCalls
+unfolding roundUp withField shapeOf typeOf countOf listed table bodyAt integerCode floatCode integerAt floatOf floatAt sequence sizedAt contentsAt itemBy structAt itemAt conventionCode conventionAt resultIn resultAt argumentsIn argumentsAt ellipsisAt afterEllipsis afterResult afterConvention signatureOf withEllipsis words fprs shareOf powerShare unclear zClass zSpanOf zNextOf spanOf nextOf unclearFor fresh startOf areaOf hiddenFor returning resultOf upFrom spansOf lastOf valuesOf tableOf planIn typesOf planAnswer firstUnclear called overlay splice bytesOf valueOf zeroExtended signBit signExtended spread put putAll bytesAt structAtHead startsAtHead extended homeBytes floatBytes standing slotsOf slotsOfAll placements slots.argumentsIn argumentsOf fillBuffers filledSlots registersIn registersOf putPieces putCalls
 z-calls = refl
 
 z-length : length (leftBy z .area) ≡ length (z .area)
@@ -286,7 +286,7 @@ aix = record {
 
 aix-filled : (fillAnswer (aix .signature) (lengths (aix .values) (replicate 512 7) (aix .area) (aix .copies)) (aix .base) (aix .hidden) ≡ Answer.Done)
     × (planFor (aix .signature) .convention ≡ Convention.Aix) × (planFor (aix .signature) .area ≡ 36)
-unfolding roundUp withField shapeOf typeOf countOf listed table bodyAt integerCode floatCode integerAt floatOf floatAt sequence sizedAt contentsAt itemBy structAt itemAt conventionCode conventionAt resultIn resultAt argumentsIn argumentsAt afterResult afterConvention signatureOf words fprs shareOf powerShare unclear zClass zSpanOf zNextOf spanOf nextOf unclearFor fresh startOf areaOf hiddenFor returning resultOf upFrom spansOf lastOf valuesOf tableOf planIn typesOf planAnswer firstUnclear called badCopies fillTests firstOf fillAnswer
+unfolding roundUp withField shapeOf typeOf countOf listed table bodyAt integerCode floatCode integerAt floatOf floatAt sequence sizedAt contentsAt itemBy structAt itemAt conventionCode conventionAt resultIn resultAt argumentsIn argumentsAt ellipsisAt afterEllipsis afterResult afterConvention signatureOf withEllipsis words fprs shareOf powerShare unclear zClass zSpanOf zNextOf spanOf nextOf unclearFor fresh startOf areaOf hiddenFor returning resultOf upFrom spansOf lastOf valuesOf tableOf planIn typesOf planAnswer firstUnclear called badCopies fillTests firstOf fillAnswer
 aix-filled = (refl, refl, refl)
 
 aix-at : ownArea (rules Convention.Aix) (machineIn (aix .m)) ≡ 4632
@@ -294,7 +294,7 @@ unfolding roundUp overlay splice bytesOf valueOf conventionCode store load saveR
 aix-at = refl
 
 aix-calls : putCalls (planFor (aix .signature)) (leftBy aix .image) 4632 (take 36 (leftBy aix .area) ∷ []) ≡ aix .puts
-unfolding roundUp withField shapeOf typeOf countOf listed table bodyAt integerCode floatCode integerAt floatOf floatAt sequence sizedAt contentsAt itemBy structAt itemAt conventionCode conventionAt resultIn resultAt argumentsIn argumentsAt afterResult afterConvention signatureOf words fprs shareOf powerShare unclear zClass zSpanOf zNextOf spanOf nextOf unclearFor fresh startOf areaOf hiddenFor returning resultOf upFrom spansOf lastOf valuesOf tableOf planIn typesOf planAnswer firstUnclear called overlay splice bytesOf valueOf zeroExtended signBit signExtended spread put putAll bytesAt structAtHead startsAtHead extended homeBytes floatBytes standing slotsOf slotsOfAll placements slots.argumentsIn argumentsOf fillBuffers filledSlots registersIn registersOf putPieces putCalls
+unfolding roundUp withField shapeOf typeOf countOf listed table bodyAt integerCode floatCode integerAt floatOf floatAt sequence sizedAt contentsAt itemBy structAt itemAt conventionCode conventionAt resultIn resultAt argumentsIn argumentsAt ellipsisAt afterEllipsis afterResult afterConvention signatureOf withEllipsis words fprs shareOf powerShare unclear zClass zSpanOf zNextOf spanOf nextOf unclearFor fresh startOf areaOf hiddenFor returning resultOf upFrom spansOf lastOf valuesOf tableOf planIn typesOf planAnswer firstUnclear called overlay splice bytesOf valueOf zeroExtended signBit signExtended spread put putAll bytesAt structAtHead startsAtHead extended homeBytes floatBytes standing slotsOf slotsOfAll placements slots.argumentsIn argumentsOf fillBuffers filledSlots registersIn registersOf putPieces putCalls
 aix-calls = refl
 
 aix-length : length (leftBy aix .area) ≡ length (aix .area)
@@ -334,7 +334,7 @@ ppc64b = record {
 
 ppc64b-filled : (fillAnswer (ppc64b .signature) (lengths (ppc64b .values) (replicate 512 7) (ppc64b .area) (ppc64b .copies)) (ppc64b .base) (ppc64b .hidden) ≡ Answer.Done)
     × (planFor (ppc64b .signature) .convention ≡ Convention.Ppc64b) × (planFor (ppc64b .signature) .area ≡ 64)
-unfolding roundUp withField shapeOf typeOf countOf listed table bodyAt integerCode floatCode integerAt floatOf floatAt sequence sizedAt contentsAt itemBy structAt itemAt conventionCode conventionAt resultIn resultAt argumentsIn argumentsAt afterResult afterConvention signatureOf words fprs shareOf powerShare unclear zClass zSpanOf zNextOf spanOf nextOf unclearFor fresh startOf areaOf hiddenFor returning resultOf upFrom spansOf lastOf valuesOf tableOf planIn typesOf planAnswer firstUnclear called badCopies fillTests firstOf fillAnswer
+unfolding roundUp withField shapeOf typeOf countOf listed table bodyAt integerCode floatCode integerAt floatOf floatAt sequence sizedAt contentsAt itemBy structAt itemAt conventionCode conventionAt resultIn resultAt argumentsIn argumentsAt ellipsisAt afterEllipsis afterResult afterConvention signatureOf withEllipsis words fprs shareOf powerShare unclear zClass zSpanOf zNextOf spanOf nextOf unclearFor fresh startOf areaOf hiddenFor returning resultOf upFrom spansOf lastOf valuesOf tableOf planIn typesOf planAnswer firstUnclear called badCopies fillTests firstOf fillAnswer
 ppc64b-filled = (refl, refl, refl)
 
 ppc64b-at : ownArea (rules Convention.Ppc64b) (machineIn (ppc64b .m)) ≡ 4672
@@ -342,7 +342,7 @@ unfolding roundUp overlay splice bytesOf valueOf conventionCode store load saveR
 ppc64b-at = refl
 
 ppc64b-calls : putCalls (planFor (ppc64b .signature)) (leftBy ppc64b .image) 4672 (take 64 (leftBy ppc64b .area) ∷ []) ≡ ppc64b .puts
-unfolding roundUp withField shapeOf typeOf countOf listed table bodyAt integerCode floatCode integerAt floatOf floatAt sequence sizedAt contentsAt itemBy structAt itemAt conventionCode conventionAt resultIn resultAt argumentsIn argumentsAt afterResult afterConvention signatureOf words fprs shareOf powerShare unclear zClass zSpanOf zNextOf spanOf nextOf unclearFor fresh startOf areaOf hiddenFor returning resultOf upFrom spansOf lastOf valuesOf tableOf planIn typesOf planAnswer firstUnclear called overlay splice bytesOf valueOf zeroExtended signBit signExtended spread put putAll bytesAt structAtHead startsAtHead extended homeBytes floatBytes standing slotsOf slotsOfAll placements slots.argumentsIn argumentsOf fillBuffers filledSlots registersIn registersOf putPieces putCalls
+unfolding roundUp withField shapeOf typeOf countOf listed table bodyAt integerCode floatCode integerAt floatOf floatAt sequence sizedAt contentsAt itemBy structAt itemAt conventionCode conventionAt resultIn resultAt argumentsIn argumentsAt ellipsisAt afterEllipsis afterResult afterConvention signatureOf withEllipsis words fprs shareOf powerShare unclear zClass zSpanOf zNextOf spanOf nextOf unclearFor fresh startOf areaOf hiddenFor returning resultOf upFrom spansOf lastOf valuesOf tableOf planIn typesOf planAnswer firstUnclear called overlay splice bytesOf valueOf zeroExtended signBit signExtended spread put putAll bytesAt structAtHead startsAtHead extended homeBytes floatBytes standing slotsOf slotsOfAll placements slots.argumentsIn argumentsOf fillBuffers filledSlots registersIn registersOf putPieces putCalls
 ppc64b-calls = refl
 
 ppc64b-length : length (leftBy ppc64b .area) ≡ length (ppc64b .area)
@@ -360,6 +360,54 @@ ppc64b-computed =
       room = ppc64b-filled .2;
       some = (omega (arith, size), omega (arith, size));
       calls = ap (λ (a : ℕ). putCalls (planFor (ppc64b .signature)) (leftBy ppc64b .image) a (take 64 (leftBy ppc64b .area) ∷ [])) ppc64b-at ∙ ppc64b-calls;
+    }
+
+-- ---- AIX with an ellipsis, from a function that asked for 40 bytes: arguments seven i32 and a double, which is in three places
+
+abbrev ellipsis : Example
+ellipsis = record {
+  convention = Convention.Aix;
+  signature = 1 ∷ 0 ∷ 1 ∷ 3 ∷ 2 ∷ 0 ∷ 0 ∷ 4 ∷ 0 ∷ 0 ∷ 3 ∷ 0 ∷ 32 ∷ 16 ∷ 0 ∷ 1 ∷ 4 ∷ 16 ∷ 0 ∷ 1 ∷ 4 ∷ 16 ∷ 0 ∷ 1 ∷ 4 ∷ 16 ∷ 0 ∷ 1 ∷ 4 ∷ 16 ∷ 0 ∷ 1 ∷ 4 ∷ 16 ∷ 0 ∷ 1 ∷ 4 ∷ 16 ∷ 0 ∷ 1 ∷ 4 ∷ 17 ∷ 0 ∷ 1 ∷ 1 ∷ [];
+  values = 0 ∷ 0 ∷ 0 ∷ 1 ∷ 0 ∷ 0 ∷ 0 ∷ 2 ∷ 0 ∷ 0 ∷ 0 ∷ 3 ∷ 0 ∷ 0 ∷ 0 ∷ 4 ∷ 0 ∷ 0 ∷ 0 ∷ 5 ∷ 0 ∷ 0 ∷ 0 ∷ 6 ∷ 0 ∷ 0 ∷ 0 ∷ 7 ∷ 64 ∷ 9 ∷ 33 ∷ 251 ∷ 84 ∷ 68 ∷ 45 ∷ 24 ∷ [];
+  area = replicate 36 9;
+  copies = [];
+  base = 0;
+  hidden = 0;
+  size = 36;
+  os = entering Convention.Aix (32 ∷ 32 ∷ 0 ∷ 0 ∷ 40 ∷ 0 ∷ []) ∷ [];
+  m = calls.after (enter (32 ∷ 32 ∷ 0 ∷ 0 ∷ 40 ∷ 0 ∷ [])) (start Convention.Aix);
+  -- r3 to r9 get the integers; the double stands in f1, and its two words in r10 and in memory
+  puts = writeRegister 0 3 1 ∷ writeRegister 0 4 2 ∷ writeRegister 0 5 3 ∷ writeRegister 0 6 4 ∷ writeRegister 0 7 5 ∷ writeRegister 0 8 6 ∷ writeRegister 0 9 7 ∷ writeRegister 1 1 4614256656552045848 ∷ writeRegister 0 10 1074340347 ∷ writeMemory 4632 (replicate 32 9 ++ (84 ∷ 68 ∷ 45 ∷ 24 ∷ [])) ∷ [];
+}
+
+ellipsis-filled : (fillAnswer (ellipsis .signature) (lengths (ellipsis .values) (replicate 512 7) (ellipsis .area) (ellipsis .copies)) (ellipsis .base) (ellipsis .hidden) ≡ Answer.Done)
+    × (planFor (ellipsis .signature) .convention ≡ Convention.Aix) × (planFor (ellipsis .signature) .area ≡ 36)
+unfolding roundUp withField shapeOf typeOf countOf listed table bodyAt integerCode floatCode integerAt floatOf floatAt sequence sizedAt contentsAt itemBy structAt itemAt conventionCode conventionAt resultIn resultAt argumentsIn argumentsAt ellipsisAt afterEllipsis afterResult afterConvention signatureOf withEllipsis words fprs shareOf powerShare unclear zClass zSpanOf zNextOf spanOf nextOf unclearFor fresh startOf areaOf hiddenFor returning resultOf upFrom spansOf lastOf valuesOf tableOf planIn typesOf planAnswer firstUnclear called badCopies fillTests firstOf fillAnswer
+ellipsis-filled = (refl, refl, refl)
+
+ellipsis-at : ownArea (rules Convention.Aix) (machineIn (ellipsis .m)) ≡ 4632
+unfolding roundUp overlay splice bytesOf valueOf conventionCode store load saveRun withPointer allWithin lowered okRegisters cleared okLeaf okRequest below fullSize frameSize chainWidth gprAt savesBy bankOf writableRegister withRegister judge topFrame callerFrame okFrames sizes okMemory okState startAnswer started startedMemory enterAnswer entered enteredMemory writableBytes writableAddress writeRegisterAnswer writeMemoryAnswer writtenRegister writtenMemory startOutcome startMemory enterOutcome enterMemory writeRegisterOutcome writeMemoryOutcome writeMemoryMemory isMachine depthIn layout.registersIn frameIn framesIn stateIn registerWords frameWords framesWords stateWords changed startWords enterWords writeRegisterWords run
+ellipsis-at = refl
+
+ellipsis-calls : putCalls (planFor (ellipsis .signature)) (leftBy ellipsis .image) 4632 (take 36 (leftBy ellipsis .area) ∷ []) ≡ ellipsis .puts
+unfolding roundUp withField shapeOf typeOf countOf listed table bodyAt integerCode floatCode integerAt floatOf floatAt sequence sizedAt contentsAt itemBy structAt itemAt conventionCode conventionAt resultIn resultAt argumentsIn argumentsAt ellipsisAt afterEllipsis afterResult afterConvention signatureOf withEllipsis words fprs shareOf powerShare unclear zClass zSpanOf zNextOf spanOf nextOf unclearFor fresh startOf areaOf hiddenFor returning resultOf upFrom spansOf lastOf valuesOf tableOf planIn typesOf planAnswer firstUnclear called overlay splice bytesOf valueOf zeroExtended signBit signExtended spread put putAll bytesAt structAtHead startsAtHead extended homeBytes floatBytes standing slotsOf slotsOfAll placements slots.argumentsIn argumentsOf fillBuffers filledSlots registersIn registersOf putPieces putCalls
+ellipsis-calls = refl
+
+ellipsis-length : length (leftBy ellipsis .area) ≡ length (ellipsis .area)
+unfolding fillBuffers
+ellipsis-length = putAll-lengths (filledSlots (ellipsis .signature) (ellipsis .values) (ellipsis .base) (ellipsis .hidden)) (buffers (replicate 512 7) (ellipsis .area) (ellipsis .copies)) .area
+
+ellipsis-computed : Computed ellipsis
+ellipsis-computed =
+    let size = length-take-le 36 (leftBy ellipsis .area) (omega (arith, ellipsis-length)) in
+    record {
+      bytes = refl;
+      low = omega arith;
+      accepted = ellipsis-filled .0;
+      by = ellipsis-filled .1;
+      room = ellipsis-filled .2;
+      some = (omega (arith, size), omega (arith, size));
+      calls = ap (λ (a : ℕ). putCalls (planFor (ellipsis .signature)) (leftBy ellipsis .image) a (take 36 (leftBy ellipsis .area) ∷ [])) ellipsis-at ∙ ellipsis-calls;
     }
 
 -- ---- what the theorem says of them
@@ -392,9 +440,10 @@ enters-are : (answer (enter frame) (run (ppc64 .puts) (ppc64 .m)) ≡ Accepted)
     × (answer (enter frame) (run (aix .puts) (aix .m)) ≡ Accepted)
     × (answer (enter leaf) (run (aix .puts) (aix .m)) ≡ Accepted)
     × (answer (enter leaf) (run (ppc64b .puts) (ppc64b .m)) ≡ Accepted)
+    × (answer (enter leaf) (run (ellipsis .puts) (ellipsis .m)) ≡ Accepted)
     × (answer (enter z-frame) (run z-puts (z .m)) ≡ Accepted)
 unfolding roundUp overlay splice bytesOf valueOf conventionCode store load saveRun withPointer allWithin lowered okRegisters cleared okLeaf okRequest below fullSize frameSize chainWidth gprAt savesBy bankOf writableRegister withRegister judge topFrame callerFrame okFrames sizes okMemory okState startAnswer started startedMemory enterAnswer entered enteredMemory writableBytes writableAddress writeRegisterAnswer writeMemoryAnswer writtenRegister writtenMemory startOutcome startMemory enterOutcome enterMemory writeRegisterOutcome writeMemoryOutcome writeMemoryMemory isMachine depthIn layout.registersIn frameIn framesIn stateIn registerWords frameWords framesWords stateWords changed startWords enterWords writeRegisterWords run
-enters-are = (refl, refl, refl, refl, refl, refl)
+enters-are = (refl, refl, refl, refl, refl, refl, refl)
 
 -- what `CanCall` asks, on numbers
 can : (x : Example) → Computed x → Reached (x .convention) (x .os) (x .m) → callerOf (rules (x .convention)) (x .os) .leaf ≡ false
@@ -428,6 +477,13 @@ aix-claims =
     (can aix aix-computed (from-caller Convention.Aix (32 ∷ 32 ∷ 0 ∷ 0 ∷ 40 ∷ 0 ∷ []) (starts-are .2) (starts-are .5)) refl (omega arith)
     (not-z (aix .signature) (callerOf (rules Convention.Aix) (aix .os)) Convention.Aix (aix-filled .1) (λ e. let z : _≡_ {A = ℕ} 0 1 = cc in omega arith)))
 
+ellipsis-claims : Claims (ellipsis .signature) (ellipsis .values) (λ _. leftBy ellipsis .copies) 0 0 (ellipsis .os) (ellipsis .m) (ellipsis .puts)
+unfolding frameIn
+ellipsis-claims =
+    worked ellipsis ellipsis-computed
+    (can ellipsis ellipsis-computed (from-caller Convention.Aix (32 ∷ 32 ∷ 0 ∷ 0 ∷ 40 ∷ 0 ∷ []) (starts-are .2) (starts-are .5)) refl (omega arith)
+    (not-z (ellipsis .signature) (callerOf (rules Convention.Aix) (ellipsis .os)) Convention.Aix (ellipsis-filled .1) (λ e. let z : _≡_ {A = ℕ} 0 1 = cc in omega arith)))
+
 ppc64b-claims : Claims (ppc64b .signature) (ppc64b .values) (λ _. leftBy ppc64b .copies) 0 0 [] (ppc64b .m) (ppc64b .puts)
 ppc64b-claims =
     worked ppc64b ppc64b-computed
@@ -436,7 +492,7 @@ ppc64b-claims =
 
 -- Z's copy lies in all of the locals
 z-copies : (planFor (z .signature) .copies ≡ 16) × (take 16 (leftBy z .copies) ≡ 101 ∷ 102 ∷ 103 ∷ 104 ∷ 105 ∷ 106 ∷ 107 ∷ 108 ∷ 109 ∷ 110 ∷ 111 ∷ 112 ∷ 113 ∷ 114 ∷ 115 ∷ 116 ∷ [])
-unfolding roundUp withField shapeOf typeOf countOf listed table bodyAt integerCode floatCode integerAt floatOf floatAt sequence sizedAt contentsAt itemBy structAt itemAt conventionCode conventionAt resultIn resultAt argumentsIn argumentsAt afterResult afterConvention signatureOf words fprs shareOf powerShare unclear zClass zSpanOf zNextOf spanOf nextOf unclearFor fresh startOf areaOf hiddenFor returning resultOf upFrom spansOf lastOf valuesOf tableOf planIn typesOf planAnswer firstUnclear called overlay splice bytesOf valueOf zeroExtended signBit signExtended spread put putAll bytesAt structAtHead startsAtHead extended homeBytes floatBytes standing slotsOf slotsOfAll placements slots.argumentsIn argumentsOf fillBuffers filledSlots registersIn registersOf putPieces putCalls
+unfolding roundUp withField shapeOf typeOf countOf listed table bodyAt integerCode floatCode integerAt floatOf floatAt sequence sizedAt contentsAt itemBy structAt itemAt conventionCode conventionAt resultIn resultAt argumentsIn argumentsAt ellipsisAt afterEllipsis afterResult afterConvention signatureOf withEllipsis words fprs shareOf powerShare unclear zClass zSpanOf zNextOf spanOf nextOf unclearFor fresh startOf areaOf hiddenFor returning resultOf upFrom spansOf lastOf valuesOf tableOf planIn typesOf planAnswer firstUnclear called overlay splice bytesOf valueOf zeroExtended signBit signExtended spread put putAll bytesAt structAtHead startsAtHead extended homeBytes floatBytes standing slotsOf slotsOfAll placements slots.argumentsIn argumentsOf fillBuffers filledSlots registersIn registersOf putPieces putCalls
 z-copies = (refl, refl)
 
 z-locals : InLocals (rules Convention.Z) (frameIn (6 ∷ 16 ∷ 0 ∷ 16 ∷ 8 ∷ 0 ∷ []) 0) (machineIn (z .m)) 4560 16
@@ -458,10 +514,11 @@ z-claims =
     (whole-call .inside s (z .values) (replicate 512 7) (z .area) (z .copies) 4560 0 (filling z z-computed) (entering Convention.Z (6 ∷ 16 ∷ 0 ∷ 16 ∷ 8 ∷ 0 ∷ [])) [] (z .m) able local
     (take 8 (leftBy z .area) ∷ []) (piece z z-computed) _ copied)
 
--- In every convention the callee reads the values, of the frames and of the leaves; on Z it has the copy from the machine's memory.
+-- In every convention the callee reads the values, frames and leaves do, and of a call with an ellipsis too; on Z it has the copy from the machine's memory.
 pub worked-calls : Reads ppc64 (ppc64 .puts) (leftBy ppc64 .copies) frame × Reads ppc64 (ppc64 .puts) (leftBy ppc64 .copies) leaf
     × Reads aix (aix .puts) (leftBy aix .copies) frame × Reads aix (aix .puts) (leftBy aix .copies) leaf
     × Reads ppc64b (ppc64b .puts) (leftBy ppc64b .copies) leaf
+    × Reads ellipsis (ellipsis .puts) (leftBy ellipsis .copies) leaf
     × Reads z z-puts (bytesIn 4560 (planFor (z .signature) .copies) (machineIn (inCallee z-puts (z .m) z-frame))) z-frame
 worked-calls = (
   ppc64-claims .passed frame (enters-are .0) .read (ppc64 .values) refl,
@@ -469,5 +526,6 @@ worked-calls = (
   aix-claims .passed frame (enters-are .2) .read (aix .values) refl,
   aix-claims .passed leaf (enters-are .3) .read (aix .values) refl,
   ppc64b-claims .passed leaf (enters-are .4) .read (ppc64b .values) refl,
-  z-claims .passed z-frame (enters-are .5) .read (z .values) refl,
+  ellipsis-claims .passed leaf (enters-are .5) .read (ellipsis .values) refl,
+  z-claims .passed z-frame (enters-are .6) .read (z .values) refl,
 )

@@ -28,7 +28,8 @@ use Rattle.places.specs.declared.Cursor.{Cursor}
 use Rattle.places.specs.declared.Rules.{Rules}
 use Rattle.places.specs.declared.Span.{Span}
 use Rattle.places.specs.declared.ResultPlaces.{ResultPlaces}
-use Rattle.places.specs.Step.{rulesOf, wordOf}
+use Rattle.places.specs.Step.{rulesOf, withEllipsis, wordOf}
+use Rattle.places.proofs.Marked.{word-marked}
 use Rattle.plan.specs.declared.Plan.{Plan}
 use Rattle.plan.specs.Plan.{spansOf, noSpan, tableOf, startIn, planIn, typesOf, planAnswer}
 use Rattle.plan.specs.Call.{outcomeFor}
@@ -39,7 +40,7 @@ use Rattle.slots.specs.Buffers.{Buffers, bytesAt}
 use Rattle.slots.specs.Forms.{startsAtHead, extended, roomOf, homeBytes, singleWord, floatForm, floatBytes}
 use Rattle.slots.specs.Placements.{Placement, placements, standing}
 use Rattle.slots.specs.Limits.{All}
-use Rattle.slots.specs.Arguments.{argumentsIn, argumentsOf, planFor, rulesFor}
+use Rattle.slots.specs.Arguments.{argumentsIn, argumentsOf, planFor, rulesIn, rulesFor}
 use Rattle.slots.proofs.Answered.{arguments-got}
 use Rattle.fill.specs.Fill.{highAddress, fillAnswer}
 use Rattle.fill.proofs.Accepted.{tests-low}
@@ -202,8 +203,9 @@ module _ (P : Register → Type 0) where
       let c : Convention = g .convention in
       let ts : List ValueType = typesOf c (g .arguments) in
       let k : Cursor = startIn c (resultType c (g .result)) in
-      let ss : List Span = spansOf c (rulesOf c) k ts in
-      each-both (OfSpan P) ss (replicate (maxArguments - length ss) noSpan) (fold-each c (rulesOf c) k ts (subst (All (λ (p : Placement). OfSpan P (p .span))) (arguments-got g next n) h))
+      let r : Rules = withEllipsis (g .ellipsis) (rulesOf c) in
+      let ss : List Span = spansOf c r k ts in
+      each-both (OfSpan P) ss (replicate (maxArguments - length ss) noSpan) (fold-each c r k ts (subst (All (λ (p : Placement). OfSpan P (p .span))) (arguments-got g next n) h))
       (none-each (maxArguments - length ss))
   table-each (no f) h = none-each maxArguments
 
@@ -218,9 +220,9 @@ hidden-low s values image area copies base hidden x h e =
     omega (arith, pow-pos (8 * w))
 
 -- the word of a signature's calls is that of its frames
-read-word : (x : Reading Signature) → wordOf (rulesOf (signatureAnswer x .convention)) ≡ rules (planAnswer x .convention) .word
-unfolding planAnswer planIn
-read-word (got g next n) = sym (agree (g .convention) .word)
+read-word : (x : Reading Signature) → wordOf (rulesIn (signatureAnswer x)) ≡ rules (planAnswer x .convention) .word
+unfolding planAnswer planIn withEllipsis
+read-word (got g next n) = word-marked (g .ellipsis) (rulesOf (g .convention)) ∙ sym (agree (g .convention) .word)
 read-word (no f) = refl
 
 pub word-is : (s : List ℕ) → wordOf (rulesFor s) ≡ rules (planFor s .convention) .word
