@@ -16,8 +16,8 @@ use crate::Difference;
 use flakuzhen::surface::marshal as library;
 use flakuzhen::surface::Answer;
 use reference::dump::header;
-use reference::machine::{frame_size, Registers, Request};
-use reference::{marshal as second, Convention, Place, Plan, Refusal, ResultPlan};
+use reference::machine::{floor, frame_size, Registers, Request};
+use reference::{marshal as second, ArgumentPlan, Convention, Place, Plan, Refusal, ResultPlan};
 use std::fmt;
 
 /// What was reached.
@@ -42,6 +42,8 @@ pub struct Reach {
     /// With r6 on Z; with an area that is no multiple of 8.
     pub sixes: u64,
     pub odd_areas: u64,
+    /// With an ellipsis and a float that is in a floating register and elsewhere too.
+    pub doubled: u64,
     /// Homed, and views taken.
     pub homed: u64,
     pub views: u64,
@@ -55,8 +57,8 @@ impl fmt::Display for Reach {
             to,
             "{} whole calls: {} nested (up to {} open), {} later ones of a function, {} from the start, {} to a \
              leaf, {} with just the room; {} with a hidden address, {} results in registers, {} with memory, \
-             copies of {} outside and {} inside the machine, {} with r6, {} areas that are no multiple of 8; {} \
-             homed, with {} views",
+             copies of {} outside and {} inside the machine, {} with r6, {} areas that are no multiple of 8, {} \
+             with a float in several places; {} homed, with {} views",
             self.calls,
             self.nested,
             self.deepest,
@@ -71,6 +73,7 @@ impl fmt::Display for Reach {
             self.copies_inside,
             self.sixes,
             self.odd_areas,
+            self.doubled,
             self.homed,
             self.views
         )
@@ -162,8 +165,7 @@ impl Program<'_> {
             }
             let caller = self.caller(&plan);
             let callers = running.map_or(0, |own| own.outgoing);
-            let kept = Preserved::new(&self.pair, self.convention, &caller, callers);
-            if self.enter(&caller)? {
+            if let Some(kept) = self.enter(&caller, callers)? {
                 self.whole_call(signature, plan, Some(&caller))?;
                 expect(&mut self.pair, &Call::Leave, "a leave")?;
                 if !kept.holds(&self.pair) {
@@ -201,12 +203,17 @@ impl Program<'_> {
         caller
     }
 
-    /// Enters, or not where there is no room for it (19) or no record (18).
-    fn enter(&mut self, request: &Request) -> Result<bool, Difference> {
+    /// Enters, and gives what the caller, which asked for an outgoing area of `callers` bytes, must find again; or
+    /// nothing where there is no room for the frame (19) or no record (18).
+    fn enter(&mut self, request: &Request, callers: u64) -> Result<Option<Preserved>, Difference> {
+        let machine = self.pair.state();
+        let needed = frame_size(self.convention, request) + floor(self.convention);
+        let fits = stack_pointer(machine) - machine.base >= needed;
+        let kept = fits.then(|| Preserved::new(&self.pair, self.convention, request, callers));
         match self.pair.call(&Call::Enter(*request))? {
-            0 => Ok(true),
-            18 | 19 => Ok(false),
-            number => Err(Difference(format!("{request:?} is refused with {number}"))),
+            0 if fits => Ok(kept),
+            18 | 19 => Ok(None),
+            number => Err(Difference(format!("{request:?} is answered {number}"))),
         }
     }
 
@@ -220,15 +227,10 @@ impl Program<'_> {
         let filled = self.fill(signature, plan, running)?;
         self.put(&filled)?;
         let callee = self.callee();
-        let kept = Preserved::new(
-            &self.pair,
-            self.convention,
-            &callee,
-            running.map_or(0, |own| own.outgoing),
-        );
-        if !self.enter(&callee)? {
+        let callers = running.map_or(0, |own| own.outgoing);
+        let Some(kept) = self.enter(&callee, callers)? else {
             return Ok(false);
-        }
+        };
         self.open += 1;
         self.reach.deepest = self.reach.deepest.max(self.open);
         self.find(&filled, &callee)?;
@@ -507,6 +509,11 @@ impl Program<'_> {
         reach.copies_inside += some(*inside);
         reach.sixes += some(uses_six(plan));
         reach.odd_areas += some(plan.area % 8 != 0);
+        let doubled = |argument: &ArgumentPlan| {
+            let floating = |place: &Place| matches!(place, Place::Floating(_));
+            argument.places.iter().any(floating) && !argument.places.iter().all(floating)
+        };
+        reach.doubled += some(plan.arguments.iter().any(doubled));
     }
 }
 

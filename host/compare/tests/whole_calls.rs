@@ -35,6 +35,8 @@ fn on_powerpc(reach: &Reach) {
     assert_eq!(reach.homed, reach.calls, "every callee homes");
     assert!(reach.views >= 30_000, "only {} views", reach.views);
     assert_eq!(reach.copies_inside + reach.copies_outside + reach.sixes, 0);
+    let doubled = reach.doubled;
+    assert!(doubled >= 1_000, "only {doubled} in several places");
 }
 
 #[test]
