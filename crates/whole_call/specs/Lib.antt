@@ -1,0 +1,4 @@
+-- What a whole call through the frame machine is. Assumes nothing.
+pub mod Put
+pub mod WholeCall
+pub mod Caller
