@@ -144,8 +144,8 @@ typedef struct {
 } fz_narrowed;
 
 /* Reads the signature of sig_length bytes at sig. `items` is its count of items: the three or four
- * and all that are nested in them, 5 in the example above. Of a refused signature it is the count of the
- * headers that had passed header room, tag and length room when reading stopped, those around the
+ * and all that are nested in them, 5 in the example above. Of a refused signature it is the count of
+ * the headers that had passed header room, tag and length room when reading stopped, those around the
  * place and nested ones alike: without the faulty item's own, and for FZ_STRUCT_TOO_LARGE with those
  * in the struct; 0 for FZ_TOO_LONG. It is never more than a third of sig_length. */
 fz_answer fz_read_signature(const uint8_t *sig, size_t sig_length);

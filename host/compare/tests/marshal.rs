@@ -5,7 +5,7 @@ use compare::marshal::{self, Histogram};
 use compare::plans::{AIX, PPC64, PPC64B, Z};
 
 /// The calls of each operation.
-const CALLS: u64 = 65_000;
+const CALLS: u64 = 75_000;
 
 /// How often each fault must have been the one that was answered, each fault before each later
 /// one, each edge, and each of what accepted calls may be like.
