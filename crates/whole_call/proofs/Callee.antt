@@ -48,7 +48,8 @@ use Rattle.history.specs.Preserved.{OpenEnter, openAfter, callerOf, Preserved, 
 use Rattle.history.proofs.Invariant.{Invariant, base-of}
 use Rattle.meeting.proofs.Theorem.{agree}
 use Rattle.whole_call.specs.Put.{bytesIn, ownArea, callersArea, imageOf, joined, Cut, Register, heldIn, registersOf, hiddenSpans, resultSpans, named}
-use Rattle.whole_call.specs.WholeCall.{Each, firstSaved, Free, framesFor, seen, Passed}
+use Rattle.whole_call.specs.Caller.{Each, firstSaved, Free}
+use Rattle.whole_call.specs.WholeCall.{framesFor, seen, Passed}
 use Rattle.whole_call.proofs.Lists.{each-left, each-right, each-more, each-with, each-three}
 use Rattle.whole_call.proofs.Steps.{run, AllAccepted, openedBy, call-keeps, calls-keep, leave-holds}
 use Rattle.whole_call.proofs.Registers.{Holds, free-below}

@@ -53,8 +53,9 @@ use Rattle.word_history.specs.Calls as calls
 use Rattle.word_history.specs.Calls.{Call, enter, writeRegister, writeMemory, Lent, answer}
 use Rattle.word_history.specs.Demand3.{machineIn, WordsFit}
 use Rattle.whole_call.specs.Put.{bytesIn, ownArea, register, registersIn, registersOf, named, putPieces, putCalls, joined, Short, Cut}
-use Rattle.whole_call.specs.WholeCall.{run, openedBy, Reached, Each, Free, CanCall, InLocals, seen, inCallee, Claims, putFilled}
-use Rattle.whole_call.specs.Caller.{SavedSix}
+use Rattle.whole_call.specs.Reached.{run, openedBy, Reached}
+use Rattle.whole_call.specs.Caller.{Each, Free, CanCall, InLocals, SavedSix}
+use Rattle.whole_call.specs.WholeCall.{seen, inCallee, Claims, putFilled}
 use Rattle.whole_call.proofs.Lists.{each-at}
 use Rattle.whole_call.proofs.Named.{named-free}
 use Rattle.whole_call.proofs.Theorem.{whole-call}

@@ -52,7 +52,7 @@ use Rattle.rules.specs.Rules.{rules}
 use Rattle.rules.proofs.Conventions.{lawful}
 use Rattle.meeting.proofs.Theorem.{agree}
 use Rattle.whole_call.specs.Put.{Register, imageAt, inImage, hiddenSpans, named}
-use Rattle.whole_call.specs.WholeCall.{Each}
+use Rattle.whole_call.specs.Caller.{Each}
 use Rattle.whole_call.proofs.Lists.{each-both}
 use Rattle.whole_call.proofs.Named.{OfSpan, in-spans, hidden-one}
 

@@ -10,7 +10,7 @@ use Rattle.words.specs.Numbers.{bytesOf}
 use Rattle.words.proofs.Splices.{part-at}
 use Rattle.words.proofs.Numbers.{length-bytesOf}
 use Rattle.whole_call.specs.Put.{wordsOf}
-use Rattle.whole_call.specs.WholeCall.{Each}
+use Rattle.whole_call.specs.Caller.{Each}
 
 -- ---- each of several
 

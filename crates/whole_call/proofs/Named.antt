@@ -31,8 +31,7 @@ use Rattle.rules.specs.Rules.{within, rules}
 use Rattle.rules.specs.Frames.{firstGpr, firstFpr}
 use Rattle.meeting.proofs.Theorem.{agree, or-left, or-right}
 use Rattle.whole_call.specs.Put.{Register, register, registersIn, registersOf, hiddenSpans, named}
-use Rattle.whole_call.specs.WholeCall.{Each, Free}
-use Rattle.whole_call.specs.Caller.{SavedSix}
+use Rattle.whole_call.specs.Caller.{Each, Free, SavedSix}
 use Rattle.whole_call.proofs.Lists.{each-both, each-left, each-right, each-with, each-at}
 
 -- ---- registers of spans

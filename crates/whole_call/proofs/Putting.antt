@@ -29,7 +29,7 @@ use Rattle.history.specs.Calls.{Call, enter, Machine, answer}
 use Rattle.history.specs.Preserved.{OpenEnter, callerOf, CallsFit}
 use Rattle.history.proofs.Invariant.{Invariant, base-of}
 use Rattle.whole_call.specs.Put.{bytesIn, ownArea, Register, named, joined, Cut}
-use Rattle.whole_call.specs.WholeCall.{Each, firstSaved, Free, InLocals}
+use Rattle.whole_call.specs.Caller.{Each, firstSaved, Free, InLocals}
 use Rattle.whole_call.proofs.Lists.{each-with}
 use Rattle.whole_call.proofs.Steps.{run, AllAccepted, openedBy, run-both, opened-both, accepted-both, fit-both}
 use Rattle.whole_call.proofs.Registers.{Holds, writeOf, free-below, Putable, AfterPut, after-put, registers-fit}

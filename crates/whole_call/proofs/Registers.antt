@@ -29,7 +29,7 @@ use Rattle.history.specs.Calls.{Call, writeRegister, Machine, answer, after}
 use Rattle.history.specs.Preserved.{OpenEnter, callerOf, CallsFit}
 use Rattle.history.proofs.Invariant.{Base, Invariant, base-of, top-is}
 use Rattle.whole_call.specs.Put.{Register, fileOf, heldIn, bankNumber, inImage}
-use Rattle.whole_call.specs.WholeCall.{Each, bankIn, firstSaved, Free}
+use Rattle.whole_call.specs.Caller.{Each, bankIn, firstSaved, Free}
 use Rattle.whole_call.proofs.Steps.{run, AllAccepted, openedBy, call-keeps}
 
 -- register x holds what the image has for it

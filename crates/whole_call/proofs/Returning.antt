@@ -42,7 +42,7 @@ use Rattle.history.specs.Calls.{leave, Machine, answer, after}
 use Rattle.history.specs.Preserved.{OpenEnter}
 use Rattle.history.proofs.Invariant.{Invariant, top-is}
 use Rattle.whole_call.specs.Put.{Register, register, heldIn, registersOf, resultSpans}
-use Rattle.whole_call.specs.WholeCall.{Each, bankIn, firstSaved}
+use Rattle.whole_call.specs.Caller.{Each, bankIn, firstSaved}
 use Rattle.whole_call.proofs.Named.{OfSpan, in-spans}
 
 -- a register below those that a request may save, and not the stack pointer

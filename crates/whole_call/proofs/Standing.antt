@@ -24,7 +24,7 @@ use Rattle.rules.specs.declared.Rules as frames
 use Rattle.rules.specs.declared.Registers.{Registers}
 use Rattle.rules.specs.Lawful.{Lawful}
 use Rattle.whole_call.specs.Put.{Register, register, fileOf, wordsOf, imageOf, imageAt, inImage}
-use Rattle.whole_call.specs.WholeCall.{Each}
+use Rattle.whole_call.specs.Caller.{Each}
 use Rattle.whole_call.proofs.Lists.{words-length, words-at}
 use Rattle.whole_call.proofs.Registers.{Holds, mostIn}
 use Rattle.whole_call.proofs.Named.{OfSpan}

@@ -25,7 +25,9 @@ use Rattle.word_history.specs.Calls.{Call, enter, leave, Lent, answer, after, f
 use Rattle.word_history.specs.Demand3.{machineIn, callIn, callsIn}
 use Rattle.word_history.proofs.Theorem.{reading-after, answer-read, words-length, start-length, registers-fit}
 use Rattle.whole_call.specs.Put.{bytesIn, ownArea, callersArea, Register, heldIn, registersOf, resultSpans, named, putRegister, putPieces, putCalls}
-use Rattle.whole_call.specs.WholeCall.{run, AllAccepted, openedBy, Reached, Each, CanCall, framesFor, Passed, Homed, Returned, calling, inCallee, Claims, putFilled}
+use Rattle.whole_call.specs.Reached.{run, AllAccepted, openedBy, Reached}
+use Rattle.whole_call.specs.Caller.{Each, CanCall}
+use Rattle.whole_call.specs.WholeCall.{framesFor, Passed, Homed, Returned, calling, inCallee, Claims, putFilled}
 use Rattle.whole_call.proofs.Steps as steps
 use Rattle.whole_call.proofs.Registers.{writeOf}
 use Rattle.whole_call.proofs.Memory as memory

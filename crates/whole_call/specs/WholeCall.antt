@@ -1,13 +1,11 @@
 -- A whole call: what the caller fills is what the callee reads, through the frame machine, and once the callee has left all that must be kept is kept. `WholeCall` is the claim,
 -- of the exported calls; `whole-call` in proofs/Theorem.antt is a value of it. The machine is what C lends, 262 words and a memory; the state is what the words are read as. The
 -- buffers are those of `fz_fill`, `fz_read`, `fz_home` and `fz_view`. Assumes nothing.
-use Prim.Native.Nat.{ℕ, _+_, _≤_}
+use Prim.Native.Nat.{ℕ}
 use mathlib.Core.Path.{_≡_}
-use mathlib.Core.Bool.{true, false}
+use mathlib.Core.Bool.{false}
 use mathlib.Core.List.{List, [], _∷_, _++_}
 use lib.ListN.{length, getD, take}
-use Rattle.conventions.specs.declared.Convention.{Convention}
-use Rattle.places.specs.declared.Bank.{Bank}
 use Rattle.places.specs.declared.Span.{Span}
 use Rattle.places.specs.declared.ResultPlaces.{ResultPlaces}
 use Rattle.plan.specs.declared.Plan.{Plan}
@@ -16,82 +14,18 @@ use Rattle.slots.specs.Arguments.{planFor, rulesFor}
 use Rattle.home_slot.specs.Homes.{homeless}
 use Rattle.roundtrip.specs.RoundTrip.{Filled, left, ReadBack}
 use Rattle.roundtrip.specs.Views.{homedArea, Viewed}
-use Rattle.rules.specs.declared.Bank as frames
 use Rattle.rules.specs.declared.Rules.{Rules}
 use Rattle.rules.specs.declared.Frame.{Frame}
 use Rattle.rules.specs.Rules.{rules}
-use Rattle.rules.specs.Frames.{firstGpr, firstFpr, outgoingLength, below, frameSize, writable}
 use Rattle.machine.specs.declared.Answer.the-variants.{Accepted}
-use Rattle.machine.specs.Machine.{stackPointer, startOutcome}
-use Rattle.word_layout.specs.Words.{registersIn, frameIn}
+use Rattle.word_layout.specs.Words.{frameIn}
 use Rattle.history.specs.Calls.{Machine}
-use Rattle.history.specs.Preserved.{OpenEnter, openAfter, callerOf, Preserved, CallsFit}
-use Rattle.word_history.specs.Calls.{Call, enter, leave, Lent, answer, after, fresh}
-use Rattle.word_history.specs.Demand3.{machineIn, callIn, callsIn, WordsFit}
-use Rattle.whole_call.specs.Put.{bytesIn, ownArea, callersArea, found, Register, heldIn, registersOf, resultSpans, named, putPieces, putCalls, Cut}
-
--- ---- lists of exported calls
-
--- what is lent after a list of calls
-unfoldable pub run : List Call → Lent → Lent
-run [] m = m
-run (c ∷ cs) m = run cs (after c m)
-
--- every call of a list is accepted
-unfoldable pub AllAccepted : List Call → Lent → Type 0
-AllAccepted [] m = Unit {0}
-AllAccepted (c ∷ cs) m = (answer c m ≡ Accepted) × AllAccepted cs (after c m)
-
--- the enters that are open after a list of calls, of which os were open before it
-unfoldable pub openedBy : List Call → Lent → List OpenEnter → List OpenEnter
-openedBy [] m os = os
-openedBy (c ∷ cs) m os = openedBy cs (after c m) (openAfter (callIn c) (answer c m) (machineIn m) os)
-
--- m, with the enters os open, was reached by a list of calls from an accepted start: what `Demand3` asks for, and no more
-pub record Reached (c : Convention) (os : List OpenEnter) (m : Lent) : Type 0 where
-  pub base : ℕ
-  pub memory : List ℕ
-  pub registers : List ℕ
-  pub calls : List Call
-  pub registers-fit : WordsFit 66 registers
-  pub started : startOutcome c base (length memory) (registersIn registers 0) .answer ≡ Accepted
-  pub calls-fit : CallsFit (callsIn calls)
-  pub lent : run calls (fresh c base memory registers) ≡ m
-  pub opened : openedBy calls (fresh c base memory registers) [] ≡ os
-
--- ---- the caller
-
--- each of several
-unfoldable pub Each : {A : Type 0} → (A → Type 0) → List A → Type 0
-Each P [] = Unit {0}
-Each P (x ∷ xs) = P x × Each P xs
-
--- the frames' rules for a bank, and the first register of it that a frame saved
-abbrev pub bankIn : Rules → Bank → frames.Bank
-bankIn k Bank.General = k .gpr
-bankIn k Bank.Floating = k .fpr
-
-abbrev pub firstSaved : Bank → Frame → ℕ
-firstSaved Bank.General f = firstGpr f
-firstSaved Bank.Floating f = firstFpr f
-
--- the frame f may write a register: it is volatile, or f saved it
-abbrev pub Free : Rules → Frame → Register → Type 0
-Free k f x = writable (bankIn k (x .bank)) (firstSaved (x .bank) f) (x .number) ≡ true
-
--- The running function, which is the latest open enter or the start, can call by the plan p: it is no leaf ("Enter above a leaf gives new refusal 28"), its outgoing area has
--- room for the plan's, and it may write the registers that the plan names. That last it always may, but on Z for r6, which it must have saved (law `named-free`); and a function
--- that asked for the plan's area, rounded up to 8, has the room (law `can-call`).
-pub record CanCall (p : Plan) (os : List OpenEnter) (m : Lent) : Type 0 where
-  pub reached : Reached (p .convention) os m
-  pub solid : callerOf (rules (p .convention)) os .leaf ≡ false
-  pub room : p .area ≤ outgoingLength (rules (p .convention)) (callerOf (rules (p .convention)) os)
-  pub free : Each (Free (rules (p .convention)) (callerOf (rules (p .convention)) os)) (named p)
-
--- n bytes at the address a lie in the locals of the frame f, which is running: "own locals (all between the outgoing area and the saves)"
-pub record InLocals (k : Rules) (f : Frame) (m : Machine) (a n : ℕ) : Type 0 where
-  pub from : ownArea k m + outgoingLength k f ≤ a
-  pub to : a + n + below (k .linkage) k f ≤ stackPointer k (m .state) + frameSize k f
+use Rattle.history.specs.Preserved.{OpenEnter, Preserved, CallsFit}
+use Rattle.word_history.specs.Calls.{Call, enter, leave, Lent, answer, after}
+use Rattle.word_history.specs.Demand3.{machineIn, callsIn}
+use Rattle.whole_call.specs.Reached.{run, AllAccepted, openedBy, Reached}
+use Rattle.whole_call.specs.Caller.{Each, CanCall, InLocals}
+use Rattle.whole_call.specs.Put.{bytesIn, ownArea, callersArea, found, Register, heldIn, registersOf, resultSpans, putPieces, putCalls, Cut}
 
 -- ---- what is claimed of the callee
 
