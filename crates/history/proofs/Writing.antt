@@ -30,7 +30,7 @@ use Rattle.history.specs.Calls.{Machine}
 use Rattle.history.specs.Preserved.{OpenEnter, callerOf}
 use Rattle.history.proofs.Invariant.{Fit, fit-small, Base, Invariant, base-of, top-is, RestsAll, Keeps, room-below, invariant-keeps}
 
-caller-is : (k : Rules) (o : OpenEnter) (os : List OpenEnter) (m : Machine) → Invariant k (o ∷ os) m → callerFrame k (m .state .frames) (m .state .depth) ≡ callerOf k os
+pub caller-is : (k : Rules) (o : OpenEnter) (os : List OpenEnter) (m : Machine) → Invariant k (o ∷ os) m → callerFrame k (m .state .frames) (m .state .depth) ≡ callerOf k os
 unfolding topFrame callerFrame
 caller-is k o [] m i = rw (i .1 .deep, i .2 .1)
 caller-is k o (p ∷ ps) m i =

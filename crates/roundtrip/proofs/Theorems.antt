@@ -44,7 +44,7 @@ use Rattle.fill.specs.Fill.{lengths, fillAnswer, filledSlots, fillBuffers}
 use Rattle.fill.proofs.Accepted.{Lent, tests-passed}
 use Rattle.read.specs.declared.Sizes.{Sizes}
 use Rattle.read.specs.Read.{sizes, argumentAnswer, argumentsAnswer, readTests, readAnswer, readValues}
-use Rattle.roundtrip.specs.RoundTrip.{Filled, left, ReadAfterFill}
+use Rattle.roundtrip.specs.RoundTrip.{Filled, left, ReadBack, ReadAfterFill}
 use Rattle.roundtrip.proofs.Kept.{all-later}
 use Rattle.roundtrip.proofs.Arguments.{Stands, Given, stands-put, stands-done, stands-value, Behind, stands-kept, AllPut, given-same}
 
@@ -204,6 +204,7 @@ pub record Left (s values : List ℕ) (base : ℕ) (b : Buffers) : Type 0 where
   pub image : length (b .image) ≡ 512
   pub total : length values ≡ planFor s .values
   pub area : planFor s .area ≤ length (b .area)
+  pub copies : planFor s .copies ≤ length (b .copies)
 
 -- the lent buffers have the lengths that the plan asks for
 pub filled-lent : (s values image area copies : List ℕ) (base hidden : ℕ) → Filled s values image area copies base hidden → Lent (lengths values image area copies) (planFor s) base
@@ -228,6 +229,7 @@ filled-left s values image area copies base hidden h =
       image = l .image ∙ lent .image;
       total = lent .values;
       area = omega (arith, lent .area, l .area);
+      copies = omega (arith, lent .copies, l .copies);
     }
 
 -- an accepted filling's signature is read, and a later answer decides
@@ -240,17 +242,22 @@ pub values-total : (s : List ℕ) → sizesOf (argumentsOf s) ≡ planFor s .val
 unfolding argumentsOf
 values-total s = carried s .total
 
-pub read-after-fill : ReadAfterFill
+-- reading any buffers in which every argument stands, of a call that is accepted
+pub read-left : (s values into : List ℕ) (base : ℕ) (b : Buffers) → ((y : Answer) → y ≡ Answer.Done → afterReading (outcomeFor s) y ≡ Answer.Done)
+    → Left s values base b → length into ≡ length values → ReadBack s values base b into
 unfolding readAnswer readValues
-read-after-fill s values image area copies into base hidden h size =
+read-left s values into base b answer l size =
     let p : Plan = planFor s in
-    let after : Buffers = left s values image area copies base hidden in
-    let l : Left s values base after = filled-left s values image area copies base hidden h in
     let total : length values ≡ sizesOf (argumentsOf s) = l .total ∙ sym (values-total s) in
-    let back = put-back (rulesFor s) base (argumentsOf s) values after (l .all) total in
-    let good : firstOf (readTests (sizes into (after .image) (after .area)) (p .values) (p .area)) ≡ Answer.Done =
-    read-tests (sizes into (after .image) (after .area)) (p .values) (p .area) (l .image) (size ∙ l .total) (l .area) in
+    let back = put-back (rulesFor s) base (argumentsOf s) values b (l .all) total in
+    let good : firstOf (readTests (sizes into (b .image) (b .area)) (p .values) (p .area)) ≡ Answer.Done =
+    read-tests (sizes into (b .image) (b .area)) (p .values) (p .area) (l .image) (size ∙ l .total) (l .area) in
     record {
-      accepted = filled-answer s values image area copies base hidden h _ (ap₂ orElse good (back .0));
+      accepted = answer _ (ap₂ orElse good (back .0));
       same = ap (overlay into) (back .1) ∙ overlay-whole into values size;
     }
+
+pub read-after-fill : ReadAfterFill
+read-after-fill s values image area copies into base hidden h size =
+    read-left s values into base (left s values image area copies base hidden) (filled-answer s values image area copies base hidden h)
+    (filled-left s values image area copies base hidden h) size

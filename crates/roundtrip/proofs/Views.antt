@@ -331,7 +331,7 @@ view-tests : (r : Rules) (count index have area : ℕ) → homeless r ≡ false 
 unfolding firstOf viewTests
 view-tests r count index have area e x y = simp (e, lt-leb _ _ x, le-ltb _ _ y)
 
-length-homed : (r : Rules) (ps : List Placement) (image l : List ℕ) → length (homed r ps image l) ≡ length l
+pub length-homed : (r : Rules) (ps : List Placement) (image l : List ℕ) → length (homed r ps image l) ≡ length l
 unfolding homed
 length-homed r [] image l = refl
 length-homed r (p ∷ ps) image l =

@@ -20,6 +20,7 @@ pub mod signatures;
 pub mod timing;
 pub mod usual;
 pub mod walks;
+pub mod whole_calls;
 
 use std::fmt;
 

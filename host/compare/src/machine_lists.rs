@@ -318,7 +318,7 @@ fn areas(machine: &Machine) -> Vec<Area> {
 
 /// What a caller relies on, told from the calls and their answers alone: what it finds again after
 /// a matching leave, whatever the calls between were.
-struct Preserved {
+pub(crate) struct Preserved {
     convention: Convention,
     registers: Registers,
     /// The caller's stack pointer, and the memory from there up.
@@ -330,7 +330,12 @@ struct Preserved {
 
 impl Preserved {
     /// Just before an enter; `callers_outgoing` is what the caller itself asked for.
-    fn new(pair: &Pair, convention: Convention, request: &Request, callers_outgoing: u64) -> Self {
+    pub(crate) fn new(
+        pair: &Pair,
+        convention: Convention,
+        request: &Request,
+        callers_outgoing: u64,
+    ) -> Self {
         let machine = pair.state();
         let pointer = machine.registers.gpr[pointer_register(convention)];
         let from = (pointer - machine.base) as usize;
@@ -355,7 +360,7 @@ impl Preserved {
     }
 
     /// Whether it is all there just after the matching leave.
-    fn holds(&self, pair: &Pair) -> bool {
+    pub(crate) fn holds(&self, pair: &Pair) -> bool {
         let machine = pair.state();
         let (old, new) = (&self.registers, &machine.registers);
         let registers = match self.convention {

@@ -1,0 +1,2 @@
+-- What arguments and frames are to each other. Assumes nothing.
+pub mod Meeting

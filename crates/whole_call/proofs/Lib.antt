@@ -1,0 +1,15 @@
+pub mod Steps
+pub mod Lists
+pub mod Registers
+pub mod Memory
+pub mod Entering
+pub mod Named
+pub mod Filled
+pub mod Standing
+pub mod Returning
+pub mod Callee
+pub mod Putting
+pub mod Words
+pub mod Theorem
+pub mod Caller
+pub mod Examples

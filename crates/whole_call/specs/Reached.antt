@@ -1,0 +1,40 @@
+-- Lists of the exported calls of the frame machine: what they leave lent, whether all are accepted, which enters they leave open, and what is reached by them from an accepted
+-- start. Assumes nothing.
+use Prim.Native.Nat.{ℕ}
+use mathlib.Core.Path.{_≡_}
+use mathlib.Core.List.{List, [], _∷_}
+use lib.ListN.{length}
+use Rattle.conventions.specs.declared.Convention.{Convention}
+use Rattle.machine.specs.declared.Answer.the-variants.{Accepted}
+use Rattle.machine.specs.Machine.{startOutcome}
+use Rattle.word_layout.specs.Words.{registersIn}
+use Rattle.history.specs.Preserved.{OpenEnter, openAfter, CallsFit}
+use Rattle.word_history.specs.Calls.{Call, Lent, answer, after, fresh}
+use Rattle.word_history.specs.Demand3.{machineIn, callIn, callsIn, WordsFit}
+
+-- what is lent after a list of calls
+unfoldable pub run : List Call → Lent → Lent
+run [] m = m
+run (c ∷ cs) m = run cs (after c m)
+
+-- every call of a list is accepted
+unfoldable pub AllAccepted : List Call → Lent → Type 0
+AllAccepted [] m = Unit {0}
+AllAccepted (c ∷ cs) m = (answer c m ≡ Accepted) × AllAccepted cs (after c m)
+
+-- the enters that are open after a list of calls, of which os were open before it
+unfoldable pub openedBy : List Call → Lent → List OpenEnter → List OpenEnter
+openedBy [] m os = os
+openedBy (c ∷ cs) m os = openedBy cs (after c m) (openAfter (callIn c) (answer c m) (machineIn m) os)
+
+-- m, with the enters os open, was reached by a list of calls from an accepted start: what `Demand3` asks for, and no more
+pub record Reached (c : Convention) (os : List OpenEnter) (m : Lent) : Type 0 where
+  pub base : ℕ
+  pub memory : List ℕ
+  pub registers : List ℕ
+  pub calls : List Call
+  pub registers-fit : WordsFit 66 registers
+  pub started : startOutcome c base (length memory) (registersIn registers 0) .answer ≡ Accepted
+  pub calls-fit : CallsFit (callsIn calls)
+  pub lent : run calls (fresh c base memory registers) ≡ m
+  pub opened : openedBy calls (fresh c base memory registers) [] ≡ os
