@@ -288,6 +288,7 @@ impl Ppc64b {
         places::Rules::Power(PowerRules {
             word: Self::WORD,
             edition: Edition::Later,
+            ellipsis: false,
         })
     }
 
@@ -332,6 +333,7 @@ fn earlier(word: usize) -> places::Rules
     places::Rules::Power(PowerRules {
         word: word,
         edition: Edition::Earlier,
+        ellipsis: false,
     })
 }
 

@@ -53,7 +53,7 @@ z-between c ZClass.Reference n = omega arith
 -- at every cursor, for every type and size
 pub step-between : (r : Rules) (c : Cursor) (t : ValueType) (n : ℕ) → Between c (spanOf r c t n) (nextOf r c t n)
 unfolding spanOf nextOf powerShare
-step-between (Rules.Power f) c t n = power-between (f .word) c (words (f .word) n) (powerShare f c t n) (share-shared _ _ _ _ (fprs-most (f .edition) t))
+step-between (Rules.Power f) c t n = power-between (f .word) c (words (f .word) n) (powerShare f c t n) (share-shared _ _ _ _ _ (fprs-most (f .edition) t))
 step-between Rules.Z c t n = z-between c (zClass t n) n
 
 -- ---- what a span owns lies from its cursor on and before the next

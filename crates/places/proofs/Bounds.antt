@@ -66,7 +66,7 @@ z-named c ZClass.Reference n h = omega arith
 pub named-next : (r : Rules) (c : Cursor) (t : ValueType) (n : ℕ) → Named r c → Named r (nextOf r c t n)
 unfolding nextOf powerShare
 named-next (Rules.Power f) c t n h =
-    let room : powerShare f c t n .floating ≤ 14 - c .floating = share-room (fprs (f .edition) t) (14 - c .floating) (words (f .word) n) (covered c (words (f .word) n)) in
+    let room : powerShare f c t n .floating ≤ 14 - c .floating = share-room (f .ellipsis) (fprs (f .edition) t) (14 - c .floating) (words (f .word) n) (covered c (words (f .word) n)) in
     omega arith
 named-next Rules.Z c t n h = z-named c (zClass t n) n h
 

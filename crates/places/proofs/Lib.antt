@@ -5,3 +5,4 @@ pub mod Between
 pub mod Registers
 pub mod Written
 pub mod Examples
+pub mod Marked

@@ -1,8 +1,8 @@
 -- The rules as the papers write them: document 01's sentences, each an equation on the definitions by cursors. PowerPC's are by
--- the count w of words so far and the next FPR; they hold for every word width and edition. Assumes nothing.
+-- the count w of words so far and the next FPR; they hold for every word width and edition, and each says of which arguments, with an ellipsis and without. Assumes nothing.
 use mathlib.Core.Path.{_≡_, refl, ap, ap₂, _∙_}
 use mathlib.Core.Bool.{Bool, true, false}
-use mathlib.Core.List.{List, [], _∷_, _++_, map, append-nil}
+use mathlib.Core.List.{List, [], _∷_, _++_, map, append-nil, append-assoc}
 use Prim.Native.Nat.{ℕ, zero, suc, _+_, _-_, _*_, _/_, _≤_, _<_, min, max}
 use native.Mathlib.Omega.{arith}
 use native.Mathlib.Nat.{mul-add, mul-suc, mul-zero, mul-div-cancel-left, add-zero, zero-add, add-div-left, div-eq-of-lt, mul-le-mul-left}
@@ -30,7 +30,7 @@ use Rattle.places.specs.ZSeries.{zClass, zSpanOf, zNextOf}
 use Rattle.places.specs.Step.{rulesOf, spanOf, nextOf, isEarlier, unclearFor, alwaysClear, fresh, startOf, areaOf, hiddenFor, returning, resultOf}
 use Rattle.places.specs.Places.{upFrom, register, registersOf, memoryOf, placesOf}
 use Rattle.places.specs.Results.{returned, returnedBy}
-use Rattle.places.proofs.Shares.{fprs-most}
+use Rattle.places.proofs.Shares.{share-whole, fprs-most}
 
 -- ---- PowerPC: the count of words
 
@@ -59,7 +59,7 @@ same-covered n w = omega arith
 
 -- an argument at word w: how many of its words have a GPR, and what share it takes
 abbrev pub shareAt : PowerRules → ℕ → ℕ → ValueType → ℕ → Share
-shareAt f w m t n = shareOf (fprs (f .edition) t) (14 - m) (words (f .word) n) (min (words (f .word) n) (8 - w))
+shareAt f w m t n = shareOf (f .ellipsis) (fprs (f .edition) t) (14 - m) (words (f .word) n) (min (words (f .word) n) (8 - w))
 
 -- every argument, a float too, moves w by its words
 pub next-counted : (f : PowerRules) (w m k : ℕ) (t : ValueType) (n : ℕ)
@@ -153,11 +153,11 @@ words-written f w m k t n h z =
 
 -- an argument that asks for FPRs, one or more: the next ones, where so many are left; else memory alone. 02, No. 12: "a long double argument
 -- takes two successive FPRs instead of GPRs", "With no FPR left it is memory only"
-pub floats-written : (f : PowerRules) (w m k : ℕ) (t : ValueType) (n j : ℕ) → 0 < f .word → fprs (f .edition) t ≡ suc j
+pub floats-written : (f : PowerRules) (w m k : ℕ) (t : ValueType) (n j : ℕ) → 0 < f .word → f .ellipsis ≡ false → fprs (f .edition) t ≡ suc j
     → placesOf (f .word) (spanOf (Rules.Power f) (counted (f .word) w m k) t n)
     ≡ pick (leb (suc j) (14 - m)) (map (register Bank.Floating) (upFrom m 1 (suc j))) (map Place.Memory (upFrom (f .word * w) (f .word) (words (f .word) n)))
 unfolding spanOf powerShare shareOf placesOf registersOf memoryOf upFrom
-floats-written f w m k t n j h z = rw z (go (leb (suc j) (14 - m)))
+floats-written f w m k t n j h e z = rw (z, e) (go (leb (suc j) (14 - m)))
   where
     len : ℕ
     len = words (f .word) n
@@ -176,11 +176,28 @@ floats-written f w m k t n j h z = rw z (go (leb (suc j) (14 - m)))
         rw (a, mul-div-cancel-left len h, mul-zero (f .word), add-zero (f .word * w))
 
 -- "Singles and doubles take f1 to f13 in order, skip their GPR, and aren't stored in memory; after f13, memory only"
-pub float-written : (f : PowerRules) (w m k : ℕ) (t : ValueType) (n : ℕ) → 0 < f .word → fprs (f .edition) t ≡ 1
+pub float-written : (f : PowerRules) (w m k : ℕ) (t : ValueType) (n : ℕ) → 0 < f .word → f .ellipsis ≡ false → fprs (f .edition) t ≡ 1
     → placesOf (f .word) (spanOf (Rules.Power f) (counted (f .word) w m k) t n)
     ≡ pick (leb 1 (14 - m)) (register Bank.Floating m ∷ []) (map Place.Memory (upFrom (f .word * w) (f .word) (words (f .word) n)))
 unfolding upFrom
-float-written f w m k t n h z = floats-written f w m k t n 0 h z
+float-written f w m k t n h e z = floats-written f w m k t n 0 h e z
+
+-- with an ellipsis, 02, No. 5: "in its FPR, and as well in its GPR while w < 8 and in memory from w 8 on"; No. 12: "each doubleword also goes in
+-- its GPR while its own w is below 8, then in memory". Every type: the FPRs that it asks for, where so many are left, and its words where those
+-- of an integer or a struct would be, also where no FPR is left
+pub ellipsis-written : (f : PowerRules) (w m k : ℕ) (t : ValueType) (n : ℕ) → 0 < f .word → f .ellipsis ≡ true
+    → placesOf (f .word) (spanOf (Rules.Power f) (counted (f .word) w m k) t n)
+    ≡ map (register Bank.Floating) (upFrom m 1 (pick (leb (fprs (f .edition) t) (14 - m)) (fprs (f .edition) t) 0)) ++ map (wordPlace (f .word)) (upFrom w 1 (words (f .word) n))
+unfolding spanOf powerShare placesOf registersOf memoryOf
+ellipsis-written f w m k t n h e =
+    let len : ℕ = words (f .word) n in
+    let g : ℕ = min len (8 - w) in
+    let fs : List Place = map (register Bank.Floating) (upFrom m 1 (pick (leb (fprs (f .edition) t) (14 - m)) (fprs (f .edition) t) 0)) in
+    let gs : List Place = map (register Bank.General) (upFrom (3 + min w 8) 1 g) in
+    let ms : List Place = map Place.Memory (upFrom (f .word * (w + g)) (f .word) (len - g)) in
+    let a : len - (len - g) ≡ g = omega arith in
+    rw (e, same-covered len w, share-whole (fprs (f .edition) t) (14 - m) len (min len (8 - w)), a, ← mul-add (f .word) w (min len (8 - w)), mul-div-cancel-left (len - min len (8 - w)) h)
+    (append-assoc fs gs ms ∙ ap (λ (l : List Place). fs ++ l) (straddle (f .word) len w))
 
 -- 29: where the rules are clear, a float is in all FPRs that it asks for, or none is left
 pub clear-written : (f : PowerRules) (c : Cursor) (t : ValueType) (n : ℕ) → unclear f c t ≡ false
@@ -191,13 +208,14 @@ clear-written f c t n = go (ltb 0 (14 - c .floating)) refl
     k : ℕ
     k = covered c (words (f .word) n)
 
-    all : (m : ℕ) → m ≤ 14 - c .floating → shareOf m (14 - c .floating) (words (f .word) n) k .floating ≡ m
-    all zero h = refl
-    all (suc m) h = simp (le-leb (suc m) (14 - c .floating) h)
+    all : (v : Bool) (m : ℕ) → m ≤ 14 - c .floating → shareOf v m (14 - c .floating) (words (f .word) n) k .floating ≡ m
+    all v zero h = refl
+    all true (suc m) h = simp (le-leb (suc m) (14 - c .floating) h)
+    all false (suc m) h = simp (le-leb (suc m) (14 - c .floating) h)
 
     go : (b : Bool) → ltb 0 (14 - c .floating) ≡ b → pick b (ltb (14 - c .floating) (fprs (f .edition) t)) false ≡ false
-        → (shareOf (fprs (f .edition) t) (14 - c .floating) (words (f .word) n) k .floating ≡ fprs (f .edition) t) ⊎ (14 ≤ c .floating)
-    go true q e = inl (all (fprs (f .edition) t) (ltb-false (14 - c .floating) (fprs (f .edition) t) e))
+        → (shareOf (f .ellipsis) (fprs (f .edition) t) (14 - c .floating) (words (f .word) n) k .floating ≡ fprs (f .edition) t) ⊎ (14 ≤ c .floating)
+    go true q e = inl (all (f .ellipsis) (fprs (f .edition) t) (ltb-false (14 - c .floating) (fprs (f .edition) t) e))
     go false q e = let z : 14 - c .floating ≤ 0 = ltb-false 0 (14 - c .floating) q in inr (omega arith)
 
 -- "When only f13 is left": at no other FPR, and of no type but a long double's two

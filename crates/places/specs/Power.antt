@@ -1,9 +1,9 @@
 -- One argument on PowerPC. Document 01, "Places on PPC64" (000, 3.2.3), over the bytes w of a word: 8 on PPC64, where a word is a
 -- doubleword. 01 counts words by one number; here the cursor holds the next GPR and the next byte of the area, and the laws
--- `words-written`, `float-written` and `next-counted` say that this is the same. A word of the argument list that has a GPR is
+-- `words-written`, `float-written`, `ellipsis-written` and `next-counted` say that this is the same. A word of the argument list that has a GPR is
 -- one of the first eight. Assumes nothing.
 use Prim.Native.Nat.{ℕ, zero, suc, _+_, _-_, _*_, _/_, _≤_, min}
-use mathlib.Core.Bool.{Bool, false}
+use mathlib.Core.Bool.{Bool, true, false}
 use lib.Dec.{ltb, leb}
 use Rattle.words.specs.Basics.{pick}
 use Rattle.types.specs.declared.FloatFormat.{FloatFormat}
@@ -36,13 +36,16 @@ covered c n = min n (11 - c .general)
 -- An argument of n words, k of which have a GPR, that asks for m FPRs where `room` are left. "Each doubleword of a whole,
 -- struct or long double goes to r(3+w) while w < 8, then to memory". Singles and doubles "skip their GPR, and aren't stored
 -- in memory; after f13, memory only"; 02, No. 12: a long double "takes two successive FPRs", and "with no FPR left it is memory only".
-unfoldable pub shareOf : ℕ → ℕ → ℕ → ℕ → Share
-shareOf zero room n k = share k 0 (n - k)
-shareOf (suc m) room n k = pick (leb (suc m) room) (share 0 (suc m) 0) (share 0 0 n)
+-- With an ellipsis, 02, No. 5: "every single or double then goes in its FPR, and as well in its GPR while w < 8 and in memory from w 8 on";
+-- No. 12: "each doubleword also goes in its GPR while its own w is below 8, then in memory". Its words go there where no FPR is left, too.
+unfoldable pub shareOf : Bool → ℕ → ℕ → ℕ → ℕ → Share
+shareOf v zero room n k = share k 0 (n - k)
+shareOf false (suc m) room n k = pick (leb (suc m) room) (share 0 (suc m) 0) (share 0 0 n)
+shareOf true (suc m) room n k = share k (pick (leb (suc m) room) (suc m) 0) (n - k)
 
 -- FPRs are left up to f13
 unfoldable pub powerShare : PowerRules → Cursor → ValueType → ℕ → Share
-powerShare f c t n = shareOf (fprs (f .edition) t) (14 - c .floating) (words (f .word) n) (covered c (words (f .word) n))
+powerShare f c t n = shareOf (f .ellipsis) (fprs (f .edition) t) (14 - c .floating) (words (f .word) n) (covered c (words (f .word) n))
 
 -- 29, 02, No. 12: "When only f13 is left the editions we hold aren't clear": some FPRs are left, but fewer than the type asks for
 unfoldable pub unclear : PowerRules → Cursor → ValueType → Bool

@@ -20,8 +20,9 @@ use Rattle.places.specs.ZSeries.{zClass, zSpanOf, zNextOf}
 
 -- ---- the conventions
 
+-- without an ellipsis
 abbrev pub power : ℕ → Edition → Rules
-power w e = Rules.Power (record { word = w; edition = e })
+power w e = Rules.Power (record { word = w; edition = e; ellipsis = false })
 
 abbrev pub ppc64 : Rules
 ppc64 = power (wordBytes Convention.Ppc64) Edition.Earlier
@@ -39,6 +40,12 @@ rulesOf Convention.Ppc64 = ppc64
 rulesOf Convention.Z = Rules.Z
 rulesOf Convention.Aix = aix
 rulesOf Convention.Ppc64b = ppc64b
+
+-- the rules of a call with an ellipsis, or of one without: 02, No. 5, "On PPC64 every single or double then goes in its FPR, and as well ..",
+-- "AIX does the same by words. Z's places stay"
+unfoldable pub withEllipsis : Bool → Rules → Rules
+withEllipsis v (Rules.Power f) = Rules.Power (record { word = f .word; edition = f .edition; ellipsis = v })
+withEllipsis v Rules.Z = Rules.Z
 
 -- the bytes of a word of the argument list, and of a pointer
 abbrev pub wordOf : Rules → ℕ
@@ -118,7 +125,7 @@ hiddenFor Rules.Z (ValueType.Float FloatFormat.Double) = false
 hiddenFor Rules.Z (ValueType.Float FloatFormat.LongDouble) = true
 
 -- "whole r3; single or double f1; long double f1, f2"; Z: "whole r2; single or double f0". Each is where a first argument of
--- its type would be, by the later edition's rule for a long double
+-- its type would be, by the later edition's rule for a long double, and without an ellipsis
 unfoldable pub returning : Rules → Rules
 returning (Rules.Power f) = power (f .word) Edition.Later
 returning Rules.Z = Rules.Z

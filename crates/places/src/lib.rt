@@ -4,7 +4,7 @@ use conventions::Convention;
 ghost use mathlib.Core.Path.{_≡_};
 ghost use Prim.Native.Nat.{_<_};
 ghost use lib.ListN.{getD};
-ghost use Rattle.places.specs.Step.{wordOf};
+ghost use Rattle.places.specs.Step.{withEllipsis, wordOf};
 ghost use Rattle.places.specs.Values.{registers, bytes};
 ghost use Rattle.places.specs.Places.{registersOf, registerCount, Numbered, noPlace};
 
@@ -14,10 +14,11 @@ pub enum Edition {
     Later,
 }
 
-// What the PowerPC conventions differ in: the bytes of a word of the argument list, and the edition.
+// What calls on PowerPC differ in: the bytes of a word of the argument list, the edition, and whether an ellipsis stands before the arguments.
 pub struct PowerRules {
     pub word: usize,
     pub edition: Edition,
+    pub ellipsis: bool,
 }
 
 // A convention's rules for arguments and results.
@@ -110,6 +111,23 @@ pub fn word_of(r: Rules) -> usize
     match r {
         Rules::Power(f) => f.word,
         Rules::Z => Convention::Z_WORD,
+    }
+}
+
+// The rules of a call with an ellipsis, or of one without.
+pub fn with_ellipsis(r: Rules, ellipsis: bool) -> Rules
+    ensures { λ q. ⌜ q ≡ withEllipsis ellipsis r ⌝ }
+{
+    match r {
+        Rules::Power(f) => {
+            let edition = f.edition;
+            Rules::Power(PowerRules {
+                word: f.word,
+                edition: edition,
+                ellipsis: ellipsis,
+            })
+        }
+        Rules::Z => Rules::Z,
     }
 }
 

@@ -148,6 +148,7 @@ fn returning_of(r: Rules) -> Rules
         Rules::Power(f) => Rules::Power(PowerRules {
             word: f.word,
             edition: Edition::Later,
+            ellipsis: false,
         }),
         Rules::Z => Rules::Z,
     }

@@ -1,5 +1,6 @@
 // One argument on PowerPC: how many of its words have a GPR, an FPR or memory, and where they stand.
 ghost use mathlib.Core.Path.{_≡_};
+ghost use mathlib.Core.Bool.{true};
 ghost use Prim.Native.Nat.{_*_, _≤_};
 ghost use Rattle.places.specs.declared.Rules.{Rules};
 ghost use Rattle.places.specs.Power.{words, fprs, unclear, shareOf, powerShare, powerSpan, powerNext};
@@ -44,10 +45,30 @@ fn fprs_of(edition: Edition, t: ValueType) -> usize
     }
 }
 
-// An argument of n words, k of which have a GPR, that asks for m FPRs where `room` are left.
-fn share_of(m: usize, room: usize, n: usize, k: usize) -> Share
+// With an ellipsis: in FPRs where they are left, and in words.
+fn both_of(m: usize, room: usize, n: usize, k: usize) -> Share
     requires { ⌜ k ≤ n ⌝ }
-    ensures { λ r. ⌜ r ≡ shareOf m room n k ⌝ }
+    ensures { λ r. ⌜ r ≡ shareOf true m room n k ⌝ }
+{
+    if room < m {
+        return Share {
+            general: k,
+            floating: 0,
+            memory: n - k,
+        };
+    }
+    Share {
+        general: k,
+        floating: m,
+        memory: n - k,
+    }
+}
+
+// An argument of n words, k of which have a GPR, that asks for m FPRs where `room` are left. Only of a float is it asked whether an ellipsis stands
+// before it.
+fn share_of(ellipsis: bool, m: usize, room: usize, n: usize, k: usize) -> Share
+    requires { ⌜ k ≤ n ⌝ }
+    ensures { λ r. ⌜ r ≡ shareOf ellipsis m room n k ⌝ }
 {
     if m == 0 {
         return Share {
@@ -55,6 +76,9 @@ fn share_of(m: usize, room: usize, n: usize, k: usize) -> Share
             floating: 0,
             memory: n - k,
         };
+    }
+    if ellipsis {
+        return both_of(m, room, n, k);
     }
     if room < m {
         return Share {
@@ -86,6 +110,7 @@ fn taken_of(f: PowerRules, c: Cursor, t: ValueType, size: usize) -> Taken
     let n = words_of(word, size);
     let k = words::smaller(n, PowerRules::PAST_GENERAL - c.general);
     let s = share_of(
+        f.ellipsis,
         fprs_of(edition, t),
         PowerRules::PAST_FLOATING - c.floating,
         n,
@@ -147,13 +172,19 @@ pub fn step(f: PowerRules, c: Cursor, t: ValueType, size: usize) -> Placed
     place(word, c, taken_of(f, c, t, size))
 }
 
-// The next cursor of the step, without the span.
+// The next cursor of the step, without the span. An ellipsis moves no cursor, so that none is looked for.
 pub fn advance(f: PowerRules, c: Cursor, t: ValueType, size: usize) -> Cursor
     requires { ⌜ (4 ≤ f .word) × (f .word ≤ 8) × Roomy c × (size ≤ 256) ⌝ }
     ensures { λ k. ⌜ k ≡ nextOf (Rules.Power f) c t size ⌝ }
 {
     let word = f.word;
-    next_of(word, c, taken_of(f, c, t, size))
+    let edition = f.edition;
+    let plain = PowerRules {
+        word: word,
+        edition: edition,
+        ellipsis: false,
+    };
+    next_of(word, c, taken_of(plain, c, t, size))
 }
 
 // Whether the papers leave open where the argument goes: some FPRs are left, but fewer than its type asks for. Only the later edition's rules do.

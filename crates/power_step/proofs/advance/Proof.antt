@@ -1,6 +1,7 @@
--- The next cursor of what the argument takes.
-use Rattle.places.specs.Step.{nextOf}
+-- The next cursor of what the argument takes without an ellipsis, which moves none.
+use mathlib.Core.Path.{_∙_}
 use borrow.Author.Needs.{needs}
+use Rattle.places.proofs.Marked.{next-plain}
 use Rattle.power_step.proofs.advance.Statement.{statement}
 use Rattle.power_step.proofs.advance.Tie as tie
 
@@ -11,8 +12,7 @@ next-of-requires : tie.Need-next-of-requires
 next-of-requires c κs = search needs
 
 returns : tie.Need-returns
-unfolding nextOf
-returns c = simp (c .before .taken-of .ensures .0, c .before .taken-of .ensures .1) at (c .next-of .ensures)
+returns c = (simp (c .before .taken-of .ensures .0, c .before .taken-of .ensures .1) at (c .next-of .ensures)) ∙ next-plain _ _ _ _
 
 pub advance-spec : {M : Type 1} → statement M
 advance-spec = tie.close (tie.spec taken-of-requires next-of-requires returns)

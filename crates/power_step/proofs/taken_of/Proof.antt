@@ -28,7 +28,7 @@ share-of-requires c κs = search needs
 returns : tie.Need-returns
 unfolding powerShare
 returns c =
-    let s = share-shared (c .before .before .fprs-of .result) (14 - c .before .before .before .before .before .before .args .c .floating) (c .before .before .before .before .before .words-of .result) (c .before .before .before .smaller .result) (omega arith) in (
+    let s = share-shared (c .before .before .before .before .before .before .args .f .ellipsis) (c .before .before .fprs-of .result) (14 - c .before .before .before .before .before .before .args .c .floating) (c .before .before .before .before .before .words-of .result) (c .before .before .before .smaller .result) (omega arith) in (
       c .before .before .before .before .before .words-of .ensures .0,
       simp (c .before .before .fprs-of .ensures .0, c .before .before .before .smaller .ensures, c .before .before .before .before .before .words-of .ensures .0) at (c .share-of .ensures),
       record { whole = omega arith; held = c .before .before .before .smaller .ensures; shared = rw (c .share-of .ensures) s },

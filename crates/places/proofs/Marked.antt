@@ -1,0 +1,87 @@
+-- What an ellipsis leaves alone: the rules' numbers, every cursor, what is unclear, and the places of a result. Assumes nothing.
+use mathlib.Core.Path.{_≡_, refl, sym, _∙_}
+use mathlib.Core.Bool.{Bool, true, false}
+use Prim.Native.Nat.{ℕ, _-_}
+use Rattle.conventions.specs.declared.Convention.{Convention}
+use Rattle.types.specs.declared.ValueType.{ValueType}
+use Rattle.places.specs.declared.Cursor.{Cursor}
+use Rattle.places.specs.declared.PowerRules.{PowerRules}
+use Rattle.places.specs.declared.Rules.{Rules}
+use Rattle.places.specs.Values.{pointer}
+use Rattle.places.specs.Power.{words, fprs, covered, shareOf, powerShare, powerNext, unclear}
+use Rattle.places.specs.Step.{rulesOf, withEllipsis, wordOf, Lawful, spanOf, nextOf, unclearFor, alwaysClear, fresh, startOf, hiddenFor, returning, resultOf}
+use Rattle.places.proofs.Shares.{share-marked}
+
+-- ---- the rules
+
+pub lawful-marked : (v : Bool) (r : Rules) → Lawful r → Lawful (withEllipsis v r)
+unfolding withEllipsis
+lawful-marked v (Rules.Power f) h = h
+lawful-marked v Rules.Z h = tt
+
+pub word-marked : (v : Bool) (r : Rules) → wordOf (withEllipsis v r) ≡ wordOf r
+unfolding withEllipsis
+word-marked v (Rules.Power f) = refl
+word-marked v Rules.Z = refl
+
+-- a convention's own rules are those without one
+pub rules-plain : (c : Convention) → withEllipsis false (rulesOf c) ≡ rulesOf c
+unfolding withEllipsis
+rules-plain Convention.Ppc64 = refl
+rules-plain Convention.Z = refl
+rules-plain Convention.Aix = refl
+rules-plain Convention.Ppc64b = refl
+
+-- ---- the cursor: the next argument starts where it would without one
+
+-- so that it can be found without looking for one
+pub next-plain : (f : PowerRules) (c : Cursor) (t : ValueType) (n : ℕ)
+    → powerNext (f .word) c (words (f .word) n) (powerShare (record { word = f .word; edition = f .edition; ellipsis = false }) c t n) ≡ nextOf (Rules.Power f) c t n
+unfolding nextOf powerShare
+next-plain f c t n =
+    let len : ℕ = words (f .word) n in
+    rw (share-marked (f .ellipsis) (fprs (f .edition) t) (14 - c .floating) len (covered c len))
+
+pub next-marked : (v : Bool) (r : Rules) (c : Cursor) (t : ValueType) (n : ℕ) → nextOf (withEllipsis v r) c t n ≡ nextOf r c t n
+unfolding withEllipsis
+next-marked v (Rules.Power f) c t n = sym (next-plain (record { word = f .word; edition = f .edition; ellipsis = v }) c t n) ∙ next-plain f c t n
+next-marked v Rules.Z c t n = refl
+
+pub fresh-marked : (v : Bool) (r : Rules) → fresh (withEllipsis v r) ≡ fresh r
+unfolding withEllipsis fresh
+fresh-marked v (Rules.Power f) = refl
+fresh-marked v Rules.Z = refl
+
+pub start-marked : (v : Bool) (r : Rules) (hidden : Bool) → startOf (withEllipsis v r) hidden ≡ startOf r hidden
+unfolding startOf
+start-marked v r true = rw (word-marked v r, fresh-marked v r) (next-marked v r (fresh r) pointer (wordOf r))
+start-marked v r false = fresh-marked v r
+
+-- ---- 29
+
+pub unclear-marked : (v : Bool) (r : Rules) (c : Cursor) (t : ValueType) → unclearFor (withEllipsis v r) c t ≡ unclearFor r c t
+unfolding withEllipsis unclearFor unclear
+unclear-marked v (Rules.Power f) c t = refl
+unclear-marked v Rules.Z c t = refl
+
+pub always-marked : (v : Bool) (r : Rules) → alwaysClear (withEllipsis v r) ≡ alwaysClear r
+unfolding withEllipsis alwaysClear
+always-marked v (Rules.Power f) = refl
+always-marked v Rules.Z = refl
+
+-- ---- the result
+
+pub hidden-marked : (v : Bool) (r : Rules) (t : ValueType) → hiddenFor (withEllipsis v r) t ≡ hiddenFor r t
+unfolding withEllipsis hiddenFor
+hidden-marked v (Rules.Power f) (ValueType.Integer k) = refl
+hidden-marked v (Rules.Power f) (ValueType.Float x) = refl
+hidden-marked v (Rules.Power f) (ValueType.Struct s) = refl
+hidden-marked v Rules.Z t = refl
+
+-- a float result is in its FPRs alone
+pub result-marked : (v : Bool) (r : Rules) (t : ValueType) (n : ℕ) → resultOf (withEllipsis v r) t n ≡ resultOf r t n
+unfolding withEllipsis resultOf hiddenFor returning spanOf fresh powerShare shareOf fprs
+result-marked v (Rules.Power f) (ValueType.Integer k) n = refl
+result-marked v (Rules.Power f) (ValueType.Float x) n = refl
+result-marked v (Rules.Power f) (ValueType.Struct s) n = refl
+result-marked v Rules.Z t n = refl
