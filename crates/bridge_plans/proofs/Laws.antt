@@ -18,7 +18,7 @@ use Rattle.answers.specs.Answers.{yes}
 use Rattle.faults.specs.Faults.{faultAnswer}
 use Rattle.bridge_plans.specs.declared.Sizes.{Sizes}
 use Rattle.bridge_plans.specs.declared.PlanAnswer.{PlanAnswer}
-use Rattle.bridge_plans.specs.Plans.{sizesAnswer, plannedAnswer}
+use Rattle.bridge_plans.specs.Plans.{sizesAnswer, markWord, plannedAnswer}
 
 module _ (m : Measured) where
   pub accepted-sizes : (x : Reading Signature) → m ≡ measureOf (planAnswer x) → (n : ℕ) → m .outcome ≡ Outcome.Accepted n →
@@ -40,12 +40,12 @@ module _ (m : Measured) where
 
 module _ (m : Planned) where
   pub accepted-plan : (x : Reading Signature) → m ≡ plannedOf (planAnswer x) → (n : ℕ) → m .outcome ≡ Outcome.Accepted n →
-      (r : ResultWords) → r ≡ resultWords (m .result) → (code : ℕ) → code ≡ codeOf (m .convention) →
+      (r : ResultWords) → r ≡ resultWords (m .result) → (code : ℕ) → code ≡ codeOf (m .convention) → (mark : ℕ) → mark ≡ markWord (m .ellipsis) →
       _≡_ {A = PlanAnswer}
       (record {
         answer = yes;
         convention = code;
-        ellipsis = 0;
+        ellipsis = mark;
         arguments = m .count;
         values = m .values;
         area = m .area;
@@ -58,8 +58,8 @@ module _ (m : Planned) where
       })
       (plannedAnswer x)
   unfolding plannedAnswer planAnswer planIn
-  accepted-plan (got g next k) e n q r words code is = rw (words, is, e)
-  accepted-plan (no f) e n q r words code is = let z : _≡_ {A = ℕ} 0 1 = cc (ap (λ (y : Planned). y .outcome) e) in absurd (omega arith)
+  accepted-plan (got g next k) e n q r words code is mark same = rw (words, is, same, e)
+  accepted-plan (no f) e n q r words code is mark same = let z : _≡_ {A = ℕ} 0 1 = cc (ap (λ (y : Planned). y .outcome) e) in absurd (omega arith)
 
   pub refused-plan : (x : Reading Signature) → m ≡ plannedOf (planAnswer x) → (f : Fault) → m .outcome ≡ Outcome.Refused f → (a : Answer) → a ≡ faultAnswer f →
       _≡_ {A = PlanAnswer}

@@ -1,4 +1,7 @@
 -- The words of the answers on plans. Assumes nothing.
+use Prim.Native.Nat.{ℕ}
+use mathlib.Core.Bool.{Bool}
+use Rattle.words.specs.Basics.{pick}
 use Rattle.conventions.specs.Numbers.{codeOf}
 use Rattle.items.specs.Reading.{Reading, got, no}
 use Rattle.signature.specs.Signature.{Signature}
@@ -20,12 +23,16 @@ unfoldable pub sizesAnswer : Reading Signature → Sizes
 sizesAnswer (got g next n) = planSizes yes (planAnswer (got g next n))
 sizesAnswer (no f) = record { answer = faultAnswer f; values = 0; area = 0; copies = 0 }
 
--- of a plan without its arguments' places: what is known of the call, and its result's places in words; no signature has an ellipsis
+-- 02, No. 5: whether a signature has an ellipsis
+abbrev pub markWord : Bool → ℕ
+markWord v = pick v 1 0
+
+-- of a plan without its arguments' places: what is known of the call, and its result's places in words
 abbrev pub planWords : Answer → Plan → ResultWords → PlanAnswer
 planWords a p r = record {
   answer = a;
   convention = codeOf (p .convention);
-  ellipsis = 0;
+  ellipsis = markWord (p .ellipsis);
   arguments = p .count;
   values = p .values;
   area = p .area;

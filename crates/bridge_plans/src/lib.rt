@@ -9,7 +9,7 @@ ghost use Rattle.listing.specs.Writing.{printed};
 ghost use Rattle.plan.specs.Call.{callOf};
 ghost use Rattle.plan_entries.specs.Words.{tabled};
 ghost use Rattle.plan_words.specs.Entries.{entriesOf};
-ghost use Rattle.bridge_plans.specs.Plans.{sizesAnswer, plannedAnswer};
+ghost use Rattle.bridge_plans.specs.Plans.{sizesAnswer, markWord, plannedAnswer};
 
 // `fz_sizes`: the bytes that the values, the parameter area and the copies of a call take.
 #[repr(C)]
@@ -21,7 +21,7 @@ pub struct Sizes {
 }
 
 // `fz_planned`: the plan without its arguments' places. `result` is 0 for none, 1 in registers, 2 in memory, and after it come the
-// result's registers, or the one with its address. No signature has an ellipsis.
+// result's registers, or the one with its address. `ellipsis` is 1 for a signature with one, else 0.
 #[repr(C)]
 pub struct PlanAnswer {
     pub answer: Answer,
@@ -36,6 +36,15 @@ pub struct PlanAnswer {
     pub result_gprs: u64,
     pub result_fpr: u64,
     pub result_fprs: u64,
+}
+
+fn mark_word(mark: bool) -> u64
+    ensures { λ n. ⌜ n ≡ markWord mark ⌝ }
+{
+    if mark {
+        return 1;
+    }
+    0
 }
 
 #[no_mangle]
@@ -100,7 +109,7 @@ pub extern "C" fn fz_plan(sig: &[u8], places: &mut [u64]) -> PlanAnswer
                     items: 0,
                 },
                 convention: conventions::code_of(convention),
-                ellipsis: 0,
+                ellipsis: mark_word(p.ellipsis),
                 arguments: p.count as u64,
                 values: p.values as u64,
                 area: p.area as u64,

@@ -50,9 +50,9 @@ stopOf s f = pick (isLarge (f .reason)) (f .place + 3 + lengthAt s (f .place)) (
 abbrev pub metBy : Fault → ℕ
 metBy f = pick (isLarge (f .reason)) (f .passed + 1) (f .passed)
 
--- the tags of a signature's three items and of types
+-- the tags of a signature's own items, an ellipsis's among them, and of types
 abbrev pub IsTag : ℕ → Type 0
-IsTag tag = ((0x01 ≤ tag) × (tag ≤ 0x03)) ⊎ ((0x10 ≤ tag) × (tag ≤ 0x12))
+IsTag tag = ((0x01 ≤ tag) × (tag ≤ 0x04)) ⊎ ((0x10 ≤ tag) × (tag ≤ 0x12))
 
 -- a header that passed: "header room, tag and length room", before the end e
 pub record Header (s : List ℕ) (e at : ℕ) : Type 0 where

@@ -22,7 +22,7 @@ numberOf Refusal.TooDeep = 6
 numberOf Refusal.TooManyArguments = 7
 -- "struct size over 256"
 numberOf Refusal.StructTooLarge = 8
--- "bytes after the third item"
+-- "bytes after tag 0x03's item" (document 02, No. 5)
 numberOf Refusal.TrailingBytes = 9
 -- No. 1: "A long double, or a double inside a struct, gives new refusal 25 at that item"
 numberOf Refusal.FloatNotCarried = 25

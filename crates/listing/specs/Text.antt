@@ -1,7 +1,9 @@
 -- The printed plan of a signature, line by line. Document 01, "Sums to check against". Assumes nothing.
 use Prim.Native.Nat.{ℕ, suc}
+use mathlib.Core.Bool.{Bool}
 use mathlib.Core.List.{List, [], _∷_, _++_}
 use lib.ListN.{take}
+use Rattle.words.specs.Basics.{pick}
 use Rattle.conventions.specs.declared.Convention.{Convention}
 use Rattle.items.specs.declared.Fault.{Fault}
 use Rattle.items.specs.Refusals.{numberOf}
@@ -15,7 +17,7 @@ use Rattle.plan.specs.Call.{callOf}
 use Rattle.text.specs.Decimals.{decimal}
 use Rattle.line.specs.Words.{newline}
 use Rattle.line.specs.Line.{placesText, lineText}
-use Rattle.listing.specs.Words.{ppc64Name, zName, aixName, ppc64bName, argsWord, areaWord, resultWord, noneWord, hiddenWord, refusedWord, atWord, afterWord}
+use Rattle.listing.specs.Words.{ppc64Name, zName, aixName, ppc64bName, argsWord, areaWord, varWord, resultWord, noneWord, hiddenWord, refusedWord, atWord, afterWord}
 
 abbrev pub nameOf : Convention → List ℕ
 nameOf Convention.Ppc64 = ppc64Name
@@ -28,8 +30,12 @@ unfoldable pub linesText : Convention → ℕ → List Span → List ℕ
 linesText c i [] = []
 linesText c i (s ∷ ss) = lineText c i s ++ linesText c (suc i) ss
 
-unfoldable pub headText : Convention → ℕ → ℕ → List ℕ
-headText c args area = nameOf c ++ (argsWord ++ (decimal args ++ (areaWord ++ (decimal area ++ newline))))
+-- 02, No. 5: "The printed listing adds ` var` at the end of its first line"
+abbrev pub ellipsisText : Bool → List ℕ
+ellipsisText v = pick v varWord []
+
+unfoldable pub headText : Convention → Bool → ℕ → ℕ → List ℕ
+headText c v args area = nameOf c ++ (argsWord ++ (decimal args ++ (areaWord ++ (decimal area ++ (ellipsisText v ++ newline)))))
 
 -- "Other results: `none`, `f1 f2`, `hidden r3`"
 abbrev pub resultPlacesText : ResultPlaces → List ℕ
@@ -47,7 +53,7 @@ refusalText f =
 
 unfoldable pub acceptedText : Plan → List ℕ
 acceptedText p =
-    headText (p .convention) (p .count) (p .area)
+    headText (p .convention) (p .ellipsis) (p .count) (p .area)
     ++ (linesText (p .convention) 0 (take (p .count) (p .spans)) ++ resultText (p .result))
 
 abbrev pub planTextBy : Outcome → Plan → List ℕ

@@ -27,6 +27,10 @@ argsWord = 32 ∷ 97 ∷ 114 ∷ 103 ∷ 115 ∷ 32 ∷ []
 abbrev pub areaWord : List ℕ
 areaWord = 32 ∷ 97 ∷ 114 ∷ 101 ∷ 97 ∷ 32 ∷ []
 
+-- " var"
+abbrev pub varWord : List ℕ
+varWord = 32 ∷ 118 ∷ 97 ∷ 114 ∷ []
+
 -- "result"
 abbrev pub resultWord : List ℕ
 resultWord = 114 ∷ 101 ∷ 115 ∷ 117 ∷ 108 ∷ 116 ∷ []

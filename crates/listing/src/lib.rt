@@ -15,7 +15,7 @@ ghost use Prim.Native.Nat.{_+_, _^_, _≤_, _<_};
 ghost use lib.ListN.{length};
 ghost use Rattle.places.specs.Places.{ResultNumbered};
 ghost use Rattle.text.specs.Writing.{Wrote};
-ghost use Rattle.listing.specs.Text.{nameOf, headText, resultPlacesText, resultText, refusalText, acceptedText, planText, listingOf};
+ghost use Rattle.listing.specs.Text.{nameOf, ellipsisText, headText, resultPlacesText, resultText, refusalText, acceptedText, planText, listingOf};
 ghost use Rattle.listing.specs.Writing.{printed, Printable};
 
 fn put_name(text: &mut [u8], at: usize, c: Convention) -> usize
@@ -30,15 +30,33 @@ fn put_name(text: &mut [u8], at: usize, c: Convention) -> usize
     }
 }
 
+fn put_ellipsis(text: &mut [u8], at: usize, ellipsis: bool) -> usize
+    requires { ⌜ at < 2 ^ 31 ⌝ }
+    ensures { λ r. ⌜ Wrote (now (text .entry)) (now (text .exit)) at r (ellipsisText ellipsis) × (r ≤ at + 4) ⌝ }
+{
+    if ellipsis {
+        return put_bytes(text, at, b" var");
+    }
+    at
+}
+
 // The first line.
-fn put_head(text: &mut [u8], at: usize, c: Convention, args: usize, area: usize) -> usize
+fn put_head(
+    text: &mut [u8],
+    at: usize,
+    c: Convention,
+    ellipsis: bool,
+    args: usize,
+    area: usize,
+) -> usize
     requires { ⌜ at < 2 ^ 30 ⌝ }
-    ensures { λ r. ⌜ Wrote (now (text .entry)) (now (text .exit)) at r (headText c args area) × (r ≤ at + 60) ⌝ }
+    ensures { λ r. ⌜ Wrote (now (text .entry)) (now (text .exit)) at r (headText c ellipsis args area) × (r ≤ at + 64) ⌝ }
 {
     let a = put_name(text, at, c);
     let b = put_labelled(text, a, b" args ", args);
     let d = put_labelled(text, b, b" area ", area);
-    put_byte(text, d, 10)
+    let e = put_ellipsis(text, d, ellipsis);
+    put_byte(text, e, 10)
 }
 
 fn put_result_places(text: &mut [u8], at: usize, r: ResultPlaces) -> usize
@@ -84,7 +102,7 @@ fn put_lines(text: &mut [u8], p: Plan) -> usize
     let c = p.convention;
     let count = p.count;
     let result = p.result;
-    let mut next = put_head(text, 0, c, count, p.area);
+    let mut next = put_head(text, 0, c, p.ellipsis, count, p.area);
     let mut i: usize = 0;
     while i < count {
         let s = p.spans[i];

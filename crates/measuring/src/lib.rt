@@ -9,6 +9,7 @@ use signature::MAX_ARGUMENTS;
 use signature::Outcome;
 use signature::ResultType;
 ghost use mathlib.Core.Path.{_≡_};
+ghost use mathlib.Core.Bool.{false};
 ghost use Prim.Native.Nat.{_^_, _≤_};
 ghost use lib.ListN.{length};
 ghost use Rattle.signature.specs.Read.{argumentsIn, signatureOf};
@@ -44,7 +45,7 @@ fn not_passed(fault: Fault) -> Passed
 }
 
 // The sizes from the arguments on, which stand from `at` to `end`; `earlier` items came before theirs. Each is read, placed and
-// let go: no table is made.
+// let go: no table is made. No size depends on an ellipsis, so that none is asked for.
 fn measure_arguments(
     s: &[u8],
     convention: Convention,
@@ -54,7 +55,7 @@ fn measure_arguments(
     earlier: usize,
 ) -> Passed
     requires { ⌜ (at ≤ end) × (end ≤ length (now s)) × (end ≤ 2 ^ 16) × (earlier ≤ 2 ^ 16) ⌝ }
-    ensures { λ a. ⌜ (a .measured ≡ measureOf (planWith convention returned earlier (length (now (s .entry))) (argumentsIn convention (now (s .entry)) at end))) × (a .unclear ≡ unclearWith convention returned (length (now (s .entry))) (argumentsIn convention (now (s .entry)) at end)) ⌝ }
+    ensures { λ a. ⌜ (a .measured ≡ measureOf (planWith convention false returned earlier (length (now (s .entry))) (argumentsIn convention (now (s .entry)) at end))) × (a .unclear ≡ unclearWith convention returned (length (now (s .entry))) (argumentsIn convention (now (s .entry)) at end)) ⌝ }
 {
     let rules = abi::call_rules_of(convention);
     let hidden = planning::hidden_in(convention, returned);

@@ -1,4 +1,4 @@
--- What an ellipsis leaves alone: the rules' numbers, every cursor, what is unclear, and the places of a result. Assumes nothing.
+-- What an ellipsis leaves alone: the rules' numbers, every cursor, the registers that may be used, what is unclear, and the places of a result. Assumes nothing.
 use mathlib.Core.Path.{_≡_, refl, sym, _∙_}
 use mathlib.Core.Bool.{Bool, true, false}
 use Prim.Native.Nat.{ℕ, _-_}
@@ -10,7 +10,9 @@ use Rattle.places.specs.declared.Rules.{Rules}
 use Rattle.places.specs.Values.{pointer}
 use Rattle.places.specs.Power.{words, fprs, covered, shareOf, powerShare, powerNext, unclear}
 use Rattle.places.specs.Step.{rulesOf, withEllipsis, wordOf, Lawful, spanOf, nextOf, unclearFor, alwaysClear, fresh, startOf, hiddenFor, returning, resultOf}
+use Rattle.places.specs.Spots.{Spot, general, floating, area, copies, ArgumentRegister}
 use Rattle.places.proofs.Shares.{share-marked}
+use Rattle.places.proofs.Bounds.{Named}
 
 -- ---- the rules
 
@@ -56,6 +58,21 @@ pub start-marked : (v : Bool) (r : Rules) (hidden : Bool) → startOf (withEllip
 unfolding startOf
 start-marked v r true = rw (word-marked v r, fresh-marked v r) (next-marked v r (fresh r) pointer (wordOf r))
 start-marked v r false = fresh-marked v r
+
+-- ---- the registers are those of any argument
+
+pub named-marked : (v : Bool) (r : Rules) (c : Cursor) → Named r c → Named (withEllipsis v r) c
+unfolding withEllipsis
+named-marked v (Rules.Power f) c h = h
+named-marked v Rules.Z c h = h
+
+pub register-marked : (v : Bool) (r : Rules) (x : Spot) → ArgumentRegister (withEllipsis v r) x → ArgumentRegister r x
+unfolding withEllipsis
+register-marked v (Rules.Power f) (general n) h = h
+register-marked v (Rules.Power f) (floating n) h = h
+register-marked v (Rules.Power f) (area n) h = tt
+register-marked v (Rules.Power f) (copies n) h = tt
+register-marked v Rules.Z x h = h
 
 -- ---- 29
 

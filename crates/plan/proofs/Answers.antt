@@ -21,7 +21,7 @@ use Rattle.signature.specs.Read.{signatureOf}
 use Rattle.signature.specs.Answer.{argument, listed, table, resultType, signatureAnswer}
 use Rattle.signature.specs.Exact.{ResultSized}
 use Rattle.signature.proofs.Theorems.{accepted}
-use Rattle.places.specs.Step.{rulesOf}
+use Rattle.places.specs.Step.{rulesOf, withEllipsis}
 use Rattle.plan.specs.Plan.{tableOf, startIn, planIn, typesOf, planAnswer, typeIn, planned}
 use Rattle.plan.specs.Limits.{SmallResult, Plannable}
 use Rattle.plan.proofs.Fold.{length-spans}
@@ -97,7 +97,7 @@ answer-plannable s = go (signatureOf s) refl
 
 pub planned-answer : (x : Reading Signature) → planned (signatureAnswer x) ≡ planAnswer x
 unfolding planned planAnswer
-planned-answer (got g next n) = ap (planIn n (g .convention) (resultType (g .convention) (g .result))) (table-types (g .convention) (g .arguments))
+planned-answer (got g next n) = ap (planIn n (g .convention) (g .ellipsis) (resultType (g .convention) (g .result))) (table-types (g .convention) (g .arguments))
 planned-answer (no f) = refl
 
 -- ---- its counts
@@ -131,7 +131,7 @@ unfolding planAnswer planIn tableOf
 answer-table (got g next n) =
     let c = g .convention in
     let k = startIn c (resultType c (g .result)) in
-    simp length-append (omega (arith, length-spans c (rulesOf c) k (typesOf c (g .arguments))))
+    simp length-append (omega (arith, length-spans c (withEllipsis (g .ellipsis) (rulesOf c)) k (typesOf c (g .arguments))))
 answer-table (no f) = omega arith
 
 -- ---- the outcome

@@ -10,8 +10,9 @@ use Rattle.types.specs.declared.ValueType.{ValueType}
 use Rattle.types.specs.Sizes.{sizeOf}
 use Rattle.places.specs.declared.Cursor.{Cursor}
 use Rattle.places.specs.declared.Rules.{Rules}
-use Rattle.places.specs.Step.{Lawful, Roomy, nextOf, startOf}
+use Rattle.places.specs.Step.{Lawful, Roomy, withEllipsis, nextOf, startOf}
 use Rattle.places.proofs.Bounds.{Named, named-start, named-next, named-roomy, near-next, start-bytes}
+use Rattle.places.proofs.Marked.{next-marked}
 use Rattle.places.proofs.Between.{Forward, forward-same, forward-then, step-forward}
 use Rattle.signature.specs.Limits.{maxArguments}
 use Rattle.plan.specs.Plan.{spansOf, lastOf, valuesOf}
@@ -30,6 +31,12 @@ pub last-forward : (c : Convention) (r : Rules) (k : Cursor) (ts : List ValueTyp
 unfolding lastOf
 last-forward c r k [] = forward-same k
 last-forward c r k (t ∷ ts) = forward-then (step-forward r k t (sizeOf c t)) (last-forward c r (nextOf r k t (sizeOf c t)) ts)
+
+-- an ellipsis moves no cursor
+pub last-marked : (c : Convention) (v : Bool) (r : Rules) (k : Cursor) (ts : List ValueType) → lastOf c (withEllipsis v r) k ts ≡ lastOf c r k ts
+unfolding lastOf
+last-marked c v r k [] = refl
+last-marked c v r k (t ∷ ts) = rw (next-marked v r k t (sizeOf c t)) (last-marked c v r (nextOf r k t (sizeOf c t)) ts)
 
 -- one argument more
 

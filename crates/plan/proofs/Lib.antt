@@ -6,3 +6,4 @@ pub mod Answers
 pub mod Calls
 pub mod Apart
 pub mod Theorems
+pub mod Examples

@@ -87,7 +87,7 @@ module _ (c : Convention) (s : List ℕ) (at e : ℕ) (r : Rules) where
 
 module _ (c : Convention) (s : List ℕ) (at e : ℕ) (result : ResultType) (earlier : ℕ) where
   pub measure-no : (f : Fault) → argumentsIn c s at e ≡ no f →
-      measureOf (refused (later earlier f)) ≡ measureOf (planWith c result earlier (length s) (argumentsIn c s at e))
+      measureOf (refused (later earlier f)) ≡ measureOf (planWith c false result earlier (length s) (argumentsIn c s at e))
   measure-no f q = rw q
 
   pub unclear-no : (f : Fault) → argumentsIn c s at e ≡ no f → 0 ≡ unclearWith c result (length s) (argumentsIn c s at e)
@@ -95,12 +95,12 @@ module _ (c : Convention) (s : List ℕ) (at e : ℕ) (result : ResultType) (ear
 
   module _ (k : Cursor) (v u count next n : ℕ) (m : Measuring c s at e (rulesOf c) (startIn c result) k v u count next n) (last : e ≤ next) where
     pub measure-trailing : next < length s →
-        measureOf (refused (fault Refusal.TrailingBytes next (earlier + n))) ≡ measureOf (planWith c result earlier (length s) (argumentsIn c s at e))
+        measureOf (refused (fault Refusal.TrailingBytes next (earlier + n))) ≡ measureOf (planWith c false result earlier (length s) (argumentsIn c s at e))
     measure-trailing h = rw (turn-last c s at e (m .ts) count next n (m .turn) last, lt-ltb next (length s) h)
 
     pub measure-end : length s ≤ next →
         _≡_ {A = Measured} (record { outcome = Outcome.Accepted (earlier + n); area = areaOf c k; values = v; copies = k .copies })
-        (measureOf (planWith c result earlier (length s) (argumentsIn c s at e)))
+        (measureOf (planWith c false result earlier (length s) (argumentsIn c s at e)))
     unfolding planIn
     measure-end h = rw (turn-last c s at e (m .ts) count next n (m .turn) last, le-ltb next (length s) h) (cc (m .last, m .total))
 
@@ -110,26 +110,43 @@ module _ (c : Convention) (s : List ℕ) (at e : ℕ) (result : ResultType) (ear
     pub unclear-end : length s ≤ next → u ≡ unclearWith c result (length s) (argumentsIn c s at e)
     unclear-end h = rw (turn-last c s at e (m .ts) count next n (m .turn) last, le-ltb next (length s) h) (m .unclear)
 
+-- no size depends on an ellipsis
+measured-marked : (c : Convention) (v : Bool) (r : ResultType) (n all : ℕ) (x : Reading Trees) → measureOf (planWith c false r n all x) ≡ measureOf (planWith c v r n all x)
+unfolding planIn
+measured-marked c v r n all (got ts next m) = go (ltb next all)
+  where
+    go : (more : Bool) → measureOf (pick more (refused (fault Refusal.TrailingBytes next (n + m))) (planIn (n + m) c false r (typesOf c ts)))
+        ≡ measureOf (pick more (refused (fault Refusal.TrailingBytes next (n + m))) (planIn (n + m) c v r (typesOf c ts)))
+    go true = refl
+    go false = refl
+measured-marked c v r n all (no f) = refl
+
 -- the plan of what is read from the arguments on
 plan-then : (s : List ℕ) (c : Convention) (r : Result) (v : Bool) (n : ℕ) (x : Reading Trees) →
-    planAnswer (thenArguments s c r v n x) ≡ planWith c (resultType c r) n (length s) x
+    planAnswer (thenArguments s c r v n x) ≡ planWith c v (resultType c r) n (length s) x
 unfolding planAnswer
 plan-then s c r v n (got ts next m) = go (ltb next (length s))
   where
     go : (more : Bool) →
         planAnswer (pick more (no (fault Refusal.TrailingBytes next (n + m))) (got (record { convention = c; result = r; ellipsis = v; arguments = ts }) next (n + m)))
-        ≡ pick more (refused (fault Refusal.TrailingBytes next (n + m))) (planIn (n + m) c (resultType c r) (typesOf c ts))
+        ≡ pick more (refused (fault Refusal.TrailingBytes next (n + m))) (planIn (n + m) c v (resultType c r) (typesOf c ts))
     go true = refl
     go false = refl
 plan-then s c r v n (no f) = refl
 
 pub plan-arguments : (s : List ℕ) (x : HeadRead) → x ≡ headAnswer (headOf s) → (c : Convention) (t : ResultType) (v : Bool) (at b n : ℕ) → x ≡ HeadRead.Head c t v at b n →
-    planAnswer (signatureOf s) ≡ planWith c t n (length s) (argumentsIn c s at b)
+    planAnswer (signatureOf s) ≡ planWith c v t n (length s) (argumentsIn c s at b)
 plan-arguments s x found c t v at b n q =
     let (r, read, same) = signature-then s x found c t v at b n q in
     ap planAnswer read
     ∙ plan-then s c r v n (argumentsIn c s at b)
-    ∙ ap (λ (u : ResultType). planWith c u n (length s) (argumentsIn c s at b)) (sym same)
+    ∙ ap (λ (u : ResultType). planWith c v u n (length s) (argumentsIn c s at b)) (sym same)
+
+-- the sizes alone: whatever the mark is
+pub measured-arguments : (s : List ℕ) (x : HeadRead) → x ≡ headAnswer (headOf s) → (c : Convention) (t : ResultType) (v : Bool) (at b n : ℕ) → x ≡ HeadRead.Head c t v at b n →
+    measureOf (planWith c false t n (length s) (argumentsIn c s at b)) ≡ measureOf (planAnswer (signatureOf s))
+measured-arguments s x found c t v at b n q =
+    measured-marked c v t n (length s) (argumentsIn c s at b) ∙ sym (ap measureOf (plan-arguments s x found c t v at b n q))
 
 -- the first unclear argument of what is read from the arguments on
 unclear-then : (s : List ℕ) (c : Convention) (r : Result) (v : Bool) (n : ℕ) (x : Reading Trees) →

@@ -17,37 +17,43 @@ use Rattle.signature.specs.Answer.{resultType}
 use Rattle.places.specs.declared.Cursor.{Cursor}
 use Rattle.places.specs.declared.Span.{Span}
 use Rattle.places.specs.declared.ResultPlaces.{ResultPlaces}
+use Rattle.places.specs.declared.Rules.{Rules}
 use Rattle.places.specs.Values.{pointer}
-use Rattle.places.specs.Step.{rulesOf, wordOf, spanOf, fresh, startOf, hiddenFor, returning, resultOf}
+use Rattle.places.specs.Step.{rulesOf, withEllipsis, wordOf, spanOf, fresh, startOf, hiddenFor, returning, resultOf}
 use Rattle.places.specs.Places.{Numbered}
 use Rattle.places.specs.Spots.{Spot, area, copies, Owns, imageSpot}
 use Rattle.places.proofs.Bounds.{named-fresh, named-start, area-holds, least-area}
+use Rattle.places.proofs.Marked.{named-marked, register-marked}
 use Rattle.places.proofs.Between.{Before, before-from, before-later, step-between, owns-before}
 use Rattle.places.proofs.Registers.{step-numbered, step-registers}
 use Rattle.plan.specs.Plan.{spansOf, noSpan, hiddenIn, resultIn, startIn, endIn, planIn, refused, typesOf, planAnswer}
 use Rattle.plan.specs.Disjoint.{spanAt, Disjoint, PlansDisjoint, SpanWithin, Within, PlansWithin}
-use Rattle.plan.proofs.Fold.{last-forward}
+use Rattle.plan.proofs.Fold.{last-forward, last-marked}
 use Rattle.plan.proofs.Apart.{in-table, getD-blanks, spanIn, none-owned, owned-from, owned-before, owned-register, owned-apart, span-numbered, span-homed, Homed}
 
 -- ---- an accepted signature
 
-module _ (n : ℕ) (c : Convention) (r : ResultType) (ts : List ValueType) where
-  -- the table's span is the fold's
-  in-plan : (i : ℕ) → spanAt (planIn n c r ts) i ≡ spanIn c (rulesOf c) (startIn c r) ts i
-  unfolding planIn
-  in-plan i = in-table (spansOf c (rulesOf c) (startIn c r) ts) i
+-- the rules of its spans
+abbrev rulesFor : Convention → Bool → Rules
+rulesFor c v = withEllipsis v (rulesOf c)
 
-  owned : (i : ℕ) (x : Spot) → Owns (spanAt (planIn n c r ts) i) x → Owns (spanIn c (rulesOf c) (startIn c r) ts i) x
+module _ (n : ℕ) (c : Convention) (v : Bool) (r : ResultType) (ts : List ValueType) where
+  -- the table's span is the fold's
+  in-plan : (i : ℕ) → spanAt (planIn n c v r ts) i ≡ spanIn c (rulesFor c v) (startIn c r) ts i
+  unfolding planIn
+  in-plan i = in-table (spansOf c (rulesFor c v) (startIn c r) ts) i
+
+  owned : (i : ℕ) (x : Spot) → Owns (spanAt (planIn n c v r ts) i) x → Owns (spanIn c (rulesFor c v) (startIn c r) ts i) x
   owned i x o = subst (λ (s : Span). Owns s x) (in-plan i) o
 
 -- a hidden address comes before the first argument
-hidden-from : (c : Convention) (ts : List ValueType) (i : ℕ) (x : Spot)
-    → Owns (spanOf (rulesOf c) (fresh (rulesOf c)) pointer (wordOf (rulesOf c))) x → Owns (spanIn c (rulesOf c) (startOf (rulesOf c) true) ts i) x → ⊥
+hidden-from : (c : Convention) (v : Bool) (ts : List ValueType) (i : ℕ) (x : Spot)
+    → Owns (spanOf (rulesOf c) (fresh (rulesOf c)) pointer (wordOf (rulesOf c))) x → Owns (spanIn c (rulesFor c v) (startOf (rulesOf c) true) ts i) x → ⊥
 unfolding startOf
-hidden-from c ts i x a b =
+hidden-from c v ts i x a b =
     before-from (startOf (rulesOf c) true) x
     (owns-before (rulesOf c) (fresh (rulesOf c)) pointer (wordOf (rulesOf c)) x a)
-    (owned-from c (rulesOf c) (startOf (rulesOf c) true) ts i x b)
+    (owned-from c (rulesFor c v) (startOf (rulesOf c) true) ts i x b)
 
 -- a hidden address is placed as a first argument that is a pointer, and the arguments start after it
 pub hidden-address : (c : Convention) (r : ResultType) (s : Span) → resultIn c r ≡ ResultPlaces.Hidden s
@@ -67,35 +73,40 @@ hidden-address c (ResultType.Value t) s e = go (hiddenFor (rulesOf c) t) e
     go true q = let same : s ≡ address = cc in (same, refl)
     go false q = let z : _≡_ {A = ℕ} 0 1 = cc in absurd (omega arith)
 
-hidden-apart : (c : Convention) (r : ResultType) (ts : List ValueType) (s : Span) (i : ℕ) (x : Spot)
-    → resultIn c r ≡ ResultPlaces.Hidden s → Owns s x → Owns (spanIn c (rulesOf c) (startIn c r) ts i) x → ⊥
-hidden-apart c r ts s i x e a b =
+hidden-apart : (c : Convention) (v : Bool) (r : ResultType) (ts : List ValueType) (s : Span) (i : ℕ) (x : Spot)
+    → resultIn c r ≡ ResultPlaces.Hidden s → Owns s x → Owns (spanIn c (rulesFor c v) (startIn c r) ts i) x → ⊥
+hidden-apart c v r ts s i x e a b =
     let h = hidden-address c r s e in
-    hidden-from c ts i x (subst (λ (y : Span). Owns y x) (h .0) a) (subst (λ (k : Cursor). Owns (spanIn c (rulesOf c) k ts i) x) (h .1) b)
+    hidden-from c v ts i x (subst (λ (y : Span). Owns y x) (h .0) a) (subst (λ (k : Cursor). Owns (spanIn c (rulesFor c v) k ts i) x) (h .1) b)
 
-plan-disjoint : (n : ℕ) (c : Convention) (r : ResultType) (ts : List ValueType) → Disjoint (planIn n c r ts)
+plan-disjoint : (n : ℕ) (c : Convention) (v : Bool) (r : ResultType) (ts : List ValueType) → Disjoint (planIn n c v r ts)
 unfolding planIn
-plan-disjoint n c r ts =
+plan-disjoint n c v r ts =
     let k : Cursor = startIn c r in
     record {
-      apart = λ i j x h a b. owned-apart c (rulesOf c) k ts i j x h (owned n c r ts i x a) (owned n c r ts j x b);
-      image = λ i j b h x y. owned-apart c (rulesOf c) k ts i j (imageSpot b) h (owned n c r ts i (imageSpot b) x) (owned n c r ts j (imageSpot b) y);
-      hidden = λ s i x e a b. hidden-apart c r ts s i x e a (owned n c r ts i x b);
+      apart = λ i j x h a b. owned-apart c (rulesFor c v) k ts i j x h (owned n c v r ts i x a) (owned n c v r ts j x b);
+      image = λ i j b h x y. owned-apart c (rulesFor c v) k ts i j (imageSpot b) h (owned n c v r ts i (imageSpot b) x) (owned n c v r ts j (imageSpot b) y);
+      hidden = λ s i x e a b. hidden-apart c v r ts s i x e a (owned n c v r ts i x b);
     }
 
-module _ (n : ℕ) (c : Convention) (r : ResultType) (ts : List ValueType) where
-  argument-within : (i : ℕ) → SpanWithin (planIn n c r ts) (spanAt (planIn n c r ts) i)
+module _ (n : ℕ) (c : Convention) (v : Bool) (r : ResultType) (ts : List ValueType) where
+  -- what an argument owns is before the end, which an ellipsis doesn't move
+  owned-within : (i : ℕ) (x : Spot) → Owns (spanAt (planIn n c v r ts) i) x → Before (endIn c r ts) x
+  owned-within i x o =
+      subst (λ (e : Cursor). Before e x) (last-marked c v (rulesOf c) (startIn c r) ts) (owned-before c (rulesFor c v) (startIn c r) ts i x (owned n c v r ts i x o))
+
+  argument-within : (i : ℕ) → SpanWithin (planIn n c v r ts) (spanAt (planIn n c v r ts) i)
   unfolding planIn
   argument-within i =
       let k : Cursor = startIn c r in
       let e : Cursor = endIn c r ts in
-      let named = named-start (rulesOf c) (hiddenIn c r) in
-      let homed : Homed (spanAt (planIn n c r ts) i) = subst Homed (sym (in-plan n c r ts i)) (span-homed c (rulesOf c) k ts i) in
+      let named = named-marked v (rulesOf c) k (named-start (rulesOf c) (hiddenIn c r)) in
+      let homed : Homed (spanAt (planIn n c v r ts) i) = subst Homed (sym (in-plan n c v r ts i)) (span-homed c (rulesFor c v) k ts i) in
       record {
-        registers = λ x o. owned-register c (rulesOf c) k ts i x named (owned n c r ts i x o);
-        numbered = subst Numbered (sym (in-plan n c r ts i)) (span-numbered c (rulesOf c) k ts i named);
-        area = λ b o. let l : b < e .stack = owned-before c (rulesOf c) k ts i (area b) (owned n c r ts i (area b) o) in omega (arith, area-holds c e);
-        copies = λ b o. owned-before c (rulesOf c) k ts i (copies b) (owned n c r ts i (copies b) o);
+        registers = λ x o. register-marked v (rulesOf c) x (owned-register c (rulesFor c v) k ts i x named (owned n c v r ts i x o));
+        numbered = subst Numbered (sym (in-plan n c v r ts i)) (span-numbered c (rulesFor c v) k ts i named);
+        area = λ b o. let l : b < e .stack = owned-within i (area b) o in omega (arith, area-holds c e);
+        copies = λ b o. owned-within i (copies b) o;
         memory-from = homed .from;
         memory-to = homed .to;
       }
@@ -107,7 +118,7 @@ module _ (n : ℕ) (c : Convention) (r : ResultType) (ts : List ValueType) where
       before-later (last-forward c (rulesOf c) (startIn c r) ts) x
       (subst (λ (k : Cursor). Before k x) (sym e) (owns-before (rulesOf c) (fresh (rulesOf c)) pointer (wordOf (rulesOf c)) x o))
 
-  address-within : startIn c r ≡ startOf (rulesOf c) true → SpanWithin (planIn n c r ts) (spanOf (rulesOf c) (fresh (rulesOf c)) pointer (wordOf (rulesOf c)))
+  address-within : startIn c r ≡ startOf (rulesOf c) true → SpanWithin (planIn n c v r ts) (spanOf (rulesOf c) (fresh (rulesOf c)) pointer (wordOf (rulesOf c)))
   unfolding planIn
   address-within q =
       let e : Cursor = endIn c r ts in
@@ -121,11 +132,11 @@ module _ (n : ℕ) (c : Convention) (r : ResultType) (ts : List ValueType) where
         memory-to = between .memory-to;
       }
 
-  plan-within : Within (planIn n c r ts)
+  plan-within : Within (planIn n c v r ts)
   unfolding planIn
   plan-within = record {
     arguments = argument-within;
-    hidden = λ s e. let h = hidden-address c r s e in subst (SpanWithin (planIn n c r ts)) (sym (h .0)) (address-within (h .1));
+    hidden = λ s e. let h = hidden-address c r s e in subst (SpanWithin (planIn n c v r ts)) (sym (h .0)) (address-within (h .1));
     least = λ m a. least-area c (endIn c r ts);
   }
 
@@ -165,10 +176,10 @@ refused-within f =
 
 pub disjoint : PlansDisjoint
 unfolding planAnswer
-disjoint (got g next n) = plan-disjoint n (g .convention) (resultType (g .convention) (g .result)) (typesOf (g .convention) (g .arguments))
+disjoint (got g next n) = plan-disjoint n (g .convention) (g .ellipsis) (resultType (g .convention) (g .result)) (typesOf (g .convention) (g .arguments))
 disjoint (no f) = refused-disjoint f
 
 pub within : PlansWithin
 unfolding planAnswer
-within (got g next n) = plan-within n (g .convention) (resultType (g .convention) (g .result)) (typesOf (g .convention) (g .arguments))
+within (got g next n) = plan-within n (g .convention) (g .ellipsis) (resultType (g .convention) (g .result)) (typesOf (g .convention) (g .arguments))
 within (no f) = refused-within f

@@ -1,5 +1,5 @@
 -- A turn of the planner's loop: what is planned so far and what is left make up the whole fold. Assumes nothing.
-use mathlib.Core.Path.{_≡_, refl, sym, ap, _∙_}
+use mathlib.Core.Path.{_≡_, refl, sym, ap, subst, _∙_}
 use mathlib.Core.Bool.{Bool}
 use mathlib.Core.List.{List, [], _∷_, _++_, map, append-assoc, append-nil}
 use Prim.Native.Nat.{ℕ, zero, suc, _+_, _-_, _≤_, _<_}
@@ -11,14 +11,18 @@ use Rattle.conventions.specs.declared.Convention.{Convention}
 use Rattle.types.specs.declared.ValueType.{ValueType}
 use Rattle.types.specs.Sizes.{sizeOf}
 use Rattle.signature.specs.declared.Argument.{Argument}
+use Rattle.signature.specs.declared.Outcome.{Outcome}
+use Rattle.signature.specs.declared.ResultType.{ResultType}
 use Rattle.signature.specs.Limits.{maxArguments}
 use Rattle.places.specs.declared.Cursor.{Cursor}
 use Rattle.places.specs.declared.Span.{Span}
 use Rattle.places.specs.declared.Rules.{Rules}
-use Rattle.places.specs.Step.{Lawful, spanOf, nextOf, startOf}
+use Rattle.places.specs.Step.{Lawful, rulesOf, withEllipsis, spanOf, nextOf, startOf, areaOf}
+use Rattle.places.proofs.Bounds.{rules-lawful}
+use Rattle.places.proofs.Marked.{lawful-marked, start-marked}
 use Rattle.plan.specs.declared.Plan.{Plan}
-use Rattle.plan.specs.Plan.{spansOf, lastOf, valuesOf, noSpan, tableOf, typeIn}
-use Rattle.plan.proofs.Fold.{length-spans, Reached, reached-start, reached-more}
+use Rattle.plan.specs.Plan.{spansOf, lastOf, valuesOf, resultIn, noSpan, tableOf, startIn, endIn, planIn, typeIn}
+use Rattle.plan.proofs.Fold.{length-spans, last-marked, Reached, reached-start, reached-more}
 use Rattle.plan.proofs.Answers.{blank}
 
 -- ---- the types of the reader's table
@@ -62,6 +66,14 @@ going-start c r hidden ts l = record {
   total = omega arith;
   reached = reached-start r hidden l;
 }
+
+-- with an ellipsis too the arguments start where the convention says
+pub going-marked : (c : Convention) (v hidden : Bool) (ts : List ValueType)
+    → Going c (withEllipsis v (rulesOf c)) (startOf (rulesOf c) hidden) ts (replicate maxArguments noSpan) (startOf (rulesOf c) hidden) 0 0
+going-marked c v hidden ts =
+    let r : Rules = withEllipsis v (rulesOf c) in
+    subst (λ (k : Cursor). Going c r k ts (replicate maxArguments noSpan) k 0 0) (start-marked v (rulesOf c) hidden)
+    (going-start c r hidden ts (lawful-marked v (rulesOf c) (rules-lawful c)))
 
 pub going-more : (c : Convention) (r : Rules) (start : Cursor) (ts : List ValueType) (ss : List Span) (k : Cursor) (v i : ℕ) (t : ValueType)
     → Lawful r → i < length ts → length ts ≤ maxArguments → sizeOf c t ≤ 256 → drop i ts ≡ t ∷ drop (suc i) ts
@@ -111,9 +123,31 @@ going-end c r start ts ss k v i h g =
       total = omega arith;
     }
 
+-- so that they make up the plan: p is what the loop leaves of it, by rules and from a cursor that are the plan's
+pub gone-plan : (n : ℕ) (c : Convention) (v : Bool) (q : ResultType) (ts : List ValueType) (r : Rules) (start k : Cursor) (p : Plan) (values area : ℕ)
+    → r ≡ withEllipsis v (rulesOf c) → start ≡ startIn c q → Gone c r start ts (p .spans) k values
+    → p .outcome ≡ Outcome.Accepted n → p .convention ≡ c → p .ellipsis ≡ v → p .result ≡ resultIn c q → p .count ≡ length ts → area ≡ areaOf c k
+    → _≡_ {A = Plan} (record {
+      outcome = p .outcome;
+      convention = p .convention;
+      ellipsis = p .ellipsis;
+      result = p .result;
+      count = p .count;
+      area = area;
+      values = values;
+      copies = k .copies;
+      spans = p .spans;
+    }) (planIn n c v q ts)
+unfolding planIn
+gone-plan n c v q ts r start k p values area rules from gone outcome convention ellipsis result count size =
+    let last : k ≡ endIn c q ts = gone .last ∙ rw (rules, from) (last-marked c v (rulesOf c) (startIn c q) ts) in
+    let table : p .spans ≡ tableOf (spansOf c (withEllipsis v (rulesOf c)) (startIn c q) ts) = gone .table ∙ rw (rules, from) in
+    cc (gone .total)
+
 -- what the loop leaves of the plan
 pub record Kept (p q : Plan) : Type 0 where
   pub outcome : q .outcome ≡ p .outcome
   pub convention : q .convention ≡ p .convention
+  pub ellipsis : q .ellipsis ≡ p .ellipsis
   pub result : q .result ≡ p .result
   pub count : q .count ≡ p .count

@@ -25,7 +25,7 @@ use Rattle.places.specs.declared.Span.{Span}
 use Rattle.places.specs.declared.ResultPlaces.{ResultPlaces}
 use Rattle.places.specs.declared.Rules.{Rules}
 use Rattle.places.specs.Values.{registers, bytes}
-use Rattle.places.specs.Step.{rulesOf, spanOf, nextOf, startOf, areaOf, hiddenFor, resultOf}
+use Rattle.places.specs.Step.{rulesOf, withEllipsis, spanOf, nextOf, startOf, areaOf, hiddenFor, resultOf}
 use Rattle.plan.specs.declared.Plan.{Plan}
 use Rattle.plan.specs.declared.Measured.{Measured}
 
@@ -72,24 +72,27 @@ startIn c r = startOf (rulesOf c) (hiddenIn c r)
 abbrev pub endIn : Convention → ResultType → List ValueType → Cursor
 endIn c r ts = lastOf c (rulesOf c) (startIn c r) ts
 
--- a signature of n items: its convention, its result and its arguments' types
-unfoldable pub planIn : ℕ → Convention → ResultType → List ValueType → Plan
-planIn n c r ts = record {
+-- a signature of n items: its convention, whether it has an ellipsis, its result and its arguments' types. 02, No. 5: an ellipsis puts floats in
+-- more places, and moves none, so that the cursors and the sizes are by the convention's own rules
+unfoldable pub planIn : ℕ → Convention → Bool → ResultType → List ValueType → Plan
+planIn n c v r ts = record {
   outcome = Outcome.Accepted n;
   convention = c;
+  ellipsis = v;
   result = resultIn c r;
   count = length ts;
   area = areaOf c (endIn c r ts);
   values = valuesOf c ts;
   copies = endIn c r ts .copies;
-  spans = tableOf (spansOf c (rulesOf c) (startIn c r) ts);
+  spans = tableOf (spansOf c (withEllipsis v (rulesOf c)) (startIn c r) ts);
 }
 
 -- a plan without spans and sizes
-abbrev pub blankPlan : Outcome → Convention → ResultPlaces → ℕ → Plan
-blankPlan o c r n = record {
+abbrev pub blankPlan : Outcome → Convention → Bool → ResultPlaces → ℕ → Plan
+blankPlan o c v r n = record {
   outcome = o;
   convention = c;
+  ellipsis = v;
   result = r;
   count = n;
   area = 0;
@@ -100,7 +103,7 @@ blankPlan o c r n = record {
 
 -- "Every refusal leaves all buffers and the state untouched"
 abbrev pub refused : Fault → Plan
-refused f = blankPlan (Outcome.Refused f) Convention.Ppc64 ResultPlaces.Nothing 0
+refused f = blankPlan (Outcome.Refused f) Convention.Ppc64 false ResultPlaces.Nothing 0
 
 -- the arguments' types in order
 unfoldable pub typesOf : Convention → Trees → List ValueType
@@ -109,7 +112,7 @@ typesOf c (ts ▸ t) = typesOf c ts ++ typeOf c t ∷ []
 
 -- of what the reader finds in a signature's bytes
 unfoldable pub planAnswer : Reading Signature → Plan
-planAnswer (got g next n) = planIn n (g .convention) (resultType (g .convention) (g .result)) (typesOf (g .convention) (g .arguments))
+planAnswer (got g next n) = planIn n (g .convention) (g .ellipsis) (resultType (g .convention) (g .result)) (typesOf (g .convention) (g .arguments))
 planAnswer (no f) = refused f
 
 -- ---- the same of the reader's answer
@@ -121,7 +124,7 @@ abbrev pub typesIn : SignatureRead → List ValueType
 typesIn g = map typeIn (take (g .count) (g .arguments))
 
 abbrev pub plannedAs : Outcome → SignatureRead → Plan
-plannedAs (Outcome.Accepted n) g = planIn n (g .convention) (g .result) (typesIn g)
+plannedAs (Outcome.Accepted n) g = planIn n (g .convention) (g .ellipsis) (g .result) (typesIn g)
 plannedAs (Outcome.Refused f) g = refused f
 
 unfoldable pub planned : SignatureRead → Plan
@@ -134,6 +137,6 @@ abbrev pub measureOf : Plan → Measured
 measureOf p = record { outcome = p .outcome; area = p .area; values = p .values; copies = p .copies }
 
 -- from the arguments on, in a signature of `all` bytes, where n items came before theirs: as `withArguments` of the reader
-abbrev pub planWith : Convention → ResultType → ℕ → ℕ → Reading Trees → Plan
-planWith c r n all (got ts next m) = pick (ltb next all) (refused (fault Refusal.TrailingBytes next (n + m))) (planIn (n + m) c r (typesOf c ts))
-planWith c r n all (no f) = refused (later n f)
+abbrev pub planWith : Convention → Bool → ResultType → ℕ → ℕ → Reading Trees → Plan
+planWith c v r n all (got ts next m) = pick (ltb next all) (refused (fault Refusal.TrailingBytes next (n + m))) (planIn (n + m) c v r (typesOf c ts))
+planWith c v r n all (no f) = refused (later n f)

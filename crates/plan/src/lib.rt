@@ -12,6 +12,7 @@ use signature::Outcome;
 pub struct Plan {
     pub outcome: Outcome,
     pub convention: Convention,
+    pub ellipsis: bool,
     pub result: ResultPlaces,
     pub count: usize,
     pub area: usize,

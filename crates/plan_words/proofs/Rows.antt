@@ -31,10 +31,10 @@ use Rattle.reader.proofs.Found.{begun}
 use Rattle.places.specs.declared.Cursor.{Cursor}
 use Rattle.places.specs.declared.Span.{Span}
 use Rattle.places.specs.declared.Rules.{Rules}
-use Rattle.places.specs.Step.{rulesOf, spanOf, nextOf}
+use Rattle.places.specs.Step.{rulesOf, withEllipsis, spanOf, nextOf}
 use Rattle.plan.specs.Plan.{spansOf, lastOf, valuesOf, noSpan, tableOf, startIn, endIn, typesOf, planIn, refused, planAnswer}
 use Rattle.plan.specs.Disjoint.{spanAt}
-use Rattle.plan.proofs.Fold.{length-spans, values-more}
+use Rattle.plan.proofs.Fold.{length-spans, last-marked, values-more}
 use Rattle.plan.specs.Limits.{SmallResult}
 use Rattle.plan.proofs.Answers.{length-of-types, answer-plannable}
 use Rattle.plan.specs.Call.{itemIn, unclearOf, unclearFault, called, callOf}
@@ -67,10 +67,10 @@ module _ (c : Convention) (g : Result) (v : Bool) (next n : ℕ) where
   read ts = got (record { convention = c; result = g; ellipsis = v; arguments = ts }) next n
 
   abbrev spans : Trees → List Span
-  spans ts = spansOf c (rulesOf c) (startIn c r) (typesOf c ts)
+  spans ts = spansOf c (withEllipsis v (rulesOf c)) (startIn c r) (typesOf c ts)
 
   length-of-spans : (ts : Trees) → length (spans ts) ≡ countOf ts
-  length-of-spans ts = length-spans c (rulesOf c) (startIn c r) (typesOf c ts) ∙ length-of-types c ts
+  length-of-spans ts = length-spans c (withEllipsis v (rulesOf c)) (startIn c r) (typesOf c ts) ∙ length-of-types c ts
 
   span-in : (ts : Trees) (i : ℕ) → i < countOf ts → spanAt (planAnswer (read ts)) i ≡ getD (spans ts) i noSpan
   unfolding planAnswer planIn tableOf
@@ -80,11 +80,13 @@ module _ (c : Convention) (g : Result) (v : Bool) (next n : ℕ) where
 
   module _ (ts : Trees) (t : Tree) where
     abbrev here : Span
-    here = spanOf (rulesOf c) (endIn c r (typesOf c ts)) (typeOf c t) (sizeOf c (typeOf c t))
+    here = spanOf (withEllipsis v (rulesOf c)) (endIn c r (typesOf c ts)) (typeOf c t) (sizeOf c (typeOf c t))
 
     spans-then : spans (ts ▸ t) ≡ spans ts ++ here ∷ []
     unfolding typesOf
-    spans-then = spans-more c (rulesOf c) (startIn c r) (typesOf c ts) (typeOf c t)
+    spans-then =
+        spans-more c (withEllipsis v (rulesOf c)) (startIn c r) (typesOf c ts) (typeOf c t)
+        ∙ ap (λ (k : Cursor). spans ts ++ spanOf (withEllipsis v (rulesOf c)) k (typeOf c t) (sizeOf c (typeOf c t)) ∷ []) (last-marked c v (rulesOf c) (startIn c r) (typesOf c ts))
 
     argument-same : (i : ℕ) → i < countOf ts → argumentAnswer i (read (ts ▸ t)) ≡ argumentAnswer i (read ts)
     unfolding argumentIn
@@ -137,7 +139,7 @@ module _ (c : Convention) (g : Result) (v : Bool) (next n : ℕ) where
   value-all (ts ▸ t) =
       rw add-one (omega (arith, value-same ts t (countOf ts) (omega arith), value-all ts, size-last ts t, values-more c (typesOf c ts) (typeOf c t)))
 
-  entries-all : (ts : Trees) → rowsOf c r start ts ≡ entriesUpTo (read ts) (countOf ts)
+  entries-all : (ts : Trees) → rowsOf c v r start ts ≡ entriesUpTo (read ts) (countOf ts)
   unfolding rowsOf entriesUpTo countOf
   entries-all none = refl
   entries-all (ts ▸ t) =
@@ -145,7 +147,7 @@ module _ (c : Convention) (g : Result) (v : Bool) (next n : ℕ) where
       (same-append (entries-all ts ∙ sym (entries-same ts t (countOf ts) (omega arith)))
       (same-words (sym (ap itemIn (argument-last ts t))) (sym (size-last ts t)) (sym (value-same ts t (countOf ts) (omega arith) ∙ value-all ts)) (sym (span-last ts t))))
 
-  accepted-rows : (ts : Trees) → rowsOf c r start ts ≡ entriesOf (read ts)
+  accepted-rows : (ts : Trees) → rowsOf c v r start ts ≡ entriesOf (read ts)
   unfolding entriesOf planAnswer planIn
   accepted-rows ts = entries-all ts ∙ ap (entriesUpTo (read ts)) (sym (length-of-types c ts))
 
@@ -155,23 +157,23 @@ unfolding entriesOf entriesUpTo
 refused-rows y f plan = rw plan
 
 rows-of : (s : List ℕ) (c : Convention) (g : Result) (v : Bool) (n : ℕ) (x : Reading Trees) →
-    rowsWith c (resultType c g) (argumentsPlace g v) (length s) x ≡ entriesOf (thenArguments s c g v n x)
+    rowsWith c v (resultType c g) (argumentsPlace g v) (length s) x ≡ entriesOf (thenArguments s c g v n x)
 unfolding planAnswer
 rows-of s c g v n (no f) = refused-rows (no (later n f)) (later n f) refl
 rows-of s c g v n (got ts next m) = go (ltb next (length s))
   where
-    go : (more : Bool) → pick more [] (rowsOf c (resultType c g) (argumentsPlace g v) ts)
+    go : (more : Bool) → pick more [] (rowsOf c v (resultType c g) (argumentsPlace g v) ts)
         ≡ entriesOf (pick more (no (fault Refusal.TrailingBytes next (n + m))) (got (record { convention = c; result = g; ellipsis = v; arguments = ts }) next (n + m)))
     go true = refused-rows (no (fault Refusal.TrailingBytes next (n + m))) (fault Refusal.TrailingBytes next (n + m)) refl
     go false = accepted-rows c g v next (n + m) ts
 
 pub rows-entries : (s : List ℕ) (x : HeadRead) → x ≡ headAnswer (headOf s) → (c : Convention) (t : ResultType) (v : Bool) (at b n : ℕ) → x ≡ HeadRead.Head c t v at b n →
-    rowsWith c t at (length s) (argumentsIn c s at b) ≡ entriesOf (signatureOf s)
+    rowsWith c v t at (length s) (argumentsIn c s at b) ≡ entriesOf (signatureOf s)
 rows-entries s x found c t v at b n q =
     let g = begun s x found c t v at b n q in
     let y : Reading Trees = argumentsIn c s at b in
-    ap (λ (u : ResultType). rowsWith c u at (length s) y) (g .same)
-    ∙ ap (λ (k : ℕ). rowsWith c (resultType c (g .result)) k (length s) y) (g .starts)
+    ap (λ (u : ResultType). rowsWith c v u at (length s) y) (g .same)
+    ∙ ap (λ (k : ℕ). rowsWith c v (resultType c (g .result)) k (length s) y) (g .starts)
     ∙ rows-of s c (g .result) v n y
     ∙ ap entriesOf (sym (g .whole))
 

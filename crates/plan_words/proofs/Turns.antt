@@ -1,5 +1,6 @@
 -- The loop: the arguments that are read so far, whose entries are kept, and what each way out of it gives. Assumes nothing.
 use mathlib.Core.Path.{_≡_, refl, sym, ap, _∙_}
+use mathlib.Core.Bool.{Bool}
 use mathlib.Core.List.{List, [], _++_}
 use Prim.Native.Nat.{ℕ, suc, _+_, _-_, _*_, _≤_, _<_}
 use native.Mathlib.Omega.{arith}
@@ -29,8 +30,9 @@ use Rattle.reader.proofs.Found.{further}
 use Rattle.places.specs.declared.Cursor.{Cursor}
 use Rattle.places.specs.declared.Span.{Span}
 use Rattle.places.specs.declared.Rules.{Rules}
-use Rattle.places.specs.Step.{rulesOf, spanOf, nextOf, unclearFor, unclearAfter, areaOf}
+use Rattle.places.specs.Step.{rulesOf, withEllipsis, spanOf, nextOf, unclearFor, unclearAfter, areaOf}
 use Rattle.places.proofs.Bounds.{rules-lawful}
+use Rattle.places.proofs.Marked.{next-marked, unclear-marked}
 use Rattle.plan.specs.Plan.{lastOf, valuesOf, hiddenIn, startIn, endIn, resultIn, typesOf, planIn, refused}
 use Rattle.plan.specs.Call.{firstUnclear, unclearFault}
 use Rattle.plan.proofs.Calls.{unclear-more}
@@ -43,16 +45,16 @@ use Rattle.plan_words.specs.declared.Planned.{Planned}
 use Rattle.plan_words.specs.Planned.{plannedOf}
 use Rattle.plan_words.specs.Rows.{itemAfter, rowsOf, rowsBy, plannedBy, planCalled, rowsCalled, SmallWith}
 
-length-rows : (c : Convention) (r : ResultType) (at : ℕ) (ts : Trees) → length (rowsOf c r at ts) ≡ 13 * countOf ts
+length-rows : (c : Convention) (mark : Bool) (r : ResultType) (at : ℕ) (ts : Trees) → length (rowsOf c mark r at ts) ≡ 13 * countOf ts
 unfolding rowsOf countOf entryWords
-length-rows c r at none = refl
-length-rows c r at (ts ▸ t) = simp length-append (omega (arith, length-rows c r at ts))
+length-rows c mark r at none = refl
+length-rows c mark r at (ts ▸ t) = simp length-append (omega (arith, length-rows c mark r at ts))
 
 pub same-words : {i j n m v w : ℕ} {s u : Span} → i ≡ j → n ≡ m → v ≡ w → s ≡ u → entryWords i n v s ≡ entryWords j m w u
 same-words p q x y = cc
 
-same-span : (c : Convention) {k l : Cursor} {t u : ValueType} → k ≡ l → t ≡ u → spanOf (rulesOf c) k t (sizeOf c t) ≡ spanOf (rulesOf c) l u (sizeOf c u)
-same-span c p q = cc
+same-span : (c : Convention) (r : Rules) {k l : Cursor} {t u : ValueType} → k ≡ l → t ≡ u → spanOf r k t (sizeOf c t) ≡ spanOf r l u (sizeOf c u)
+same-span c r p q = cc
 
 same-next : (c : Convention) {k l : Cursor} {t u : ValueType} → k ≡ l → t ≡ u → nextOf (rulesOf c) k t (sizeOf c t) ≡ nextOf (rulesOf c) l u (sizeOf c u)
 same-next c p q = cc
@@ -61,8 +63,8 @@ same-unclear : (r : Rules) {u x : ℕ} {k l : Cursor} {t w : ValueType} {i j : �
     → unclearAfter u (unclearFor r k t) i ≡ unclearAfter x (unclearFor r l w) j
 same-unclear r p q h e = cc
 
--- reading on from here gives all arguments; the entries of those so far are put over what was there, l
-pub record Keeping (c : Convention) (s : List ℕ) (at e : ℕ) (r : ResultType) (l : List ℕ) (k : Cursor) (kept : List ℕ) (v u count next n : ℕ) : Type 0 where
+-- reading on from here gives all arguments; the entries of those so far, by the mark of an ellipsis, are put over what was there, l
+pub record Keeping (c : Convention) (mark : Bool) (s : List ℕ) (at e : ℕ) (r : ResultType) (l : List ℕ) (k : Cursor) (kept : List ℕ) (v u count next n : ℕ) : Type 0 where
   pub ts : Trees
   pub turn : Turn c s at e ts count next n
   pub ends : next ≡ itemAfter at ts
@@ -71,10 +73,10 @@ pub record Keeping (c : Convention) (s : List ℕ) (at e : ℕ) (r : ResultType)
   pub total : v ≡ valuesOf c (typesOf c ts)
   pub unclear : u ≡ firstUnclear c (rulesOf c) (startIn c r) 0 (typesOf c ts)
   pub reached : Reached (rulesOf c) k v count
-  pub entries : kept ≡ overlay l (rowsOf c r at ts)
+  pub entries : kept ≡ overlay l (rowsOf c mark r at ts)
 
-module _ (c : Convention) (s : List ℕ) (at e : ℕ) (r : ResultType) (l : List ℕ) where
-  pub keeping-start : (k : Cursor) → k ≡ startIn c r → at ≤ e → Keeping c s at e r l k l 0 0 0 at 1
+module _ (c : Convention) (mark : Bool) (s : List ℕ) (at e : ℕ) (r : ResultType) (l : List ℕ) where
+  pub keeping-start : (k : Cursor) → k ≡ startIn c r → at ≤ e → Keeping c mark s at e r l k l 0 0 0 at 1
   unfolding typesOf lastOf valuesOf firstUnclear rowsOf encodeTrees
   keeping-start k p h = rw p (record {
     ts = none;
@@ -88,87 +90,92 @@ module _ (c : Convention) (s : List ℕ) (at e : ℕ) (r : ResultType) (l : List
     entries = overlay-nothing l;
   })
 
-  module _ (k : Cursor) (kept : List ℕ) (v u count next n : ℕ) (m : Keeping c s at e r l k kept v u count next n) where
+  module _ (k : Cursor) (kept : List ℕ) (v u count next n : ℕ) (m : Keeping c mark s at e r l k kept v u count next n) where
     pub keeping-more : next < e → (count ≡ maxArguments → ⊥) → (x : ItemRead) → x ≡ itemAnswer c (itemAt c 8 s e next) → (t : ValueType) (after j : ℕ) →
         x ≡ ItemRead.Item t after j →
-        Keeping c s at e r l (nextOf (rulesOf c) k t (sizeOf c t)) (splice kept (13 * count) (entryWords next (sizeOf c t) v (spanOf (rulesOf c) k t (sizeOf c t)))) (v + sizeOf c t) (unclearAfter u (unclearFor (rulesOf c) k t) count) (count + 1) after (n + j)
+        Keeping c mark s at e r l (nextOf (withEllipsis mark (rulesOf c)) k t (sizeOf c t)) (splice kept (13 * count) (entryWords next (sizeOf c t) v (spanOf (withEllipsis mark (rulesOf c)) k t (sizeOf c t)))) (v + sizeOf c t) (unclearAfter u (unclearFor (withEllipsis mark (rulesOf c)) k t) count) (count + 1) after (n + j)
     unfolding typesOf rowsOf
     keeping-more h some x found t after j q =
         let a = item-answered c 8 s e next x t after j (omega arith) found q in
         let more = further c s at e (m .ts) count next n (m .turn) (m .ends) h some x found t after j q in
         let so-far : List ValueType = typesOf c (m .ts) in
         let w : ValueType = typeOf c (more .tree) in
-        let rows : List ℕ = rowsOf c r at (m .ts) in
-        let here : List ℕ = entryWords (itemAfter at (m .ts)) (sizeOf c w) (valuesOf c so-far) (spanOf (rulesOf c) (endIn c r so-far) w (sizeOf c w)) in
+        let rows : List ℕ = rowsOf c mark r at (m .ts) in
+        let rules : Rules = withEllipsis mark (rulesOf c) in
+        let next-same : nextOf rules k t (sizeOf c t) ≡ nextOf (rulesOf c) k t (sizeOf c t) = next-marked mark (rulesOf c) k t (sizeOf c t) in
+        let here : List ℕ = entryWords (itemAfter at (m .ts)) (sizeOf c w) (valuesOf c so-far) (spanOf rules (endIn c r so-far) w (sizeOf c w)) in
         let many : count ≡ 0 + length so-far = omega (arith, m .turn .many, length-of-types c (m .ts)) in
-        let place : 13 * count ≡ length rows = omega (arith, length-rows c r at (m .ts), m .turn .many) in
+        let place : 13 * count ≡ length rows = omega (arith, length-rows c mark r at (m .ts), m .turn .many) in
         record {
           ts = m .ts ▸ more .tree;
           turn = more .turn;
           ends = more .ends;
           apart = omega (arith, m .apart, a .on);
-          last = same-next c (m .last) (more .same) ∙ sym (last-more c (rulesOf c) (startIn c r) so-far w);
+          last = next-same ∙ same-next c (m .last) (more .same) ∙ sym (last-more c (rulesOf c) (startIn c r) so-far w);
           total = omega (arith, m .total, ap (sizeOf c) (more .same), values-more c so-far w);
-          unclear = same-unclear (rulesOf c) (m .unclear) (m .last) (more .same) many ∙ sym (unclear-more c (rulesOf c) (startIn c r) 0 so-far w);
-          reached = reached-more (rulesOf c) k v count t (sizeOf c t) (rules-lawful c) (a .sized .small) (m .reached);
+          unclear =
+              ap (λ (b : Bool). unclearAfter u b count) (unclear-marked mark (rulesOf c) k t)
+              ∙ same-unclear (rulesOf c) (m .unclear) (m .last) (more .same) many
+              ∙ sym (unclear-more c (rulesOf c) (startIn c r) 0 so-far w);
+          reached = rw next-same (reached-more (rulesOf c) k v count t (sizeOf c t) (rules-lawful c) (a .sized .small) (m .reached));
           entries =
-              ap (λ (y : List ℕ). splice y (13 * count) (entryWords next (sizeOf c t) v (spanOf (rulesOf c) k t (sizeOf c t)))) (m .entries)
-              ∙ ap (splice (overlay l rows) (13 * count)) (same-words (m .ends) (ap (sizeOf c) (more .same)) (m .total) (same-span c (m .last) (more .same)))
+              ap (λ (y : List ℕ). splice y (13 * count) (entryWords next (sizeOf c t) v (spanOf rules k t (sizeOf c t)))) (m .entries)
+              ∙ ap (splice (overlay l rows) (13 * count)) (same-words (m .ends) (ap (sizeOf c) (more .same)) (m .total) (same-span c rules (m .last) (more .same)))
               ∙ ap (λ (i : ℕ). splice (overlay l rows) i here) place
               ∙ sym (overlay-append l rows here);
         }
 
     pub keeping-length : length kept ≡ length l
-    keeping-length = ap length (m .entries) ∙ length-overlay l (rowsOf c r at (m .ts))
+    keeping-length = ap length (m .entries) ∙ length-overlay l (rowsOf c mark r at (m .ts))
 
-    pub keeping-all : 13 * count ≤ length l → take (13 * count) kept ≡ rowsOf c r at (m .ts)
+    pub keeping-all : 13 * count ≤ length l → take (13 * count) kept ≡ rowsOf c mark r at (m .ts)
     keeping-all room =
-        let rows : List ℕ = rowsOf c r at (m .ts) in
-        let many : length rows ≡ 13 * count = omega (arith, length-rows c r at (m .ts), m .turn .many) in
+        let rows : List ℕ = rowsOf c mark r at (m .ts) in
+        let many : length rows ≡ 13 * count = omega (arith, length-rows c mark r at (m .ts), m .turn .many) in
         ap (take (13 * count)) (m .entries ∙ overlay-is l rows (omega arith)) ∙ take-at rows (drop (length rows) l) (13 * count) many
 
 -- ---- the answers
 
-module _ (c : Convention) (s : List ℕ) (at e : ℕ) (r : ResultType) (earlier : ℕ) where
+module _ (c : Convention) (mark : Bool) (s : List ℕ) (at e : ℕ) (r : ResultType) (earlier : ℕ) where
   pub plan-no : (f : Fault) → argumentsIn c s at e ≡ no f →
-      plannedOf (refused (later earlier f)) ≡ planCalled c r earlier (length s) (argumentsIn c s at e) (signatureOf s)
+      plannedOf (refused (later earlier f)) ≡ planCalled c mark r earlier (length s) (argumentsIn c s at e) (signatureOf s)
   unfolding plannedBy
   plan-no f q = rw q
 
-  pub rows-no : (f : Fault) → argumentsIn c s at e ≡ no f → (table : List ℕ) → table ≡ tabled table (rowsCalled c r at (length s) (argumentsIn c s at e))
+  pub rows-no : (f : Fault) → argumentsIn c s at e ≡ no f → (table : List ℕ) → table ≡ tabled table (rowsCalled c mark r at (length s) (argumentsIn c s at e))
   unfolding rowsBy
   rows-no f q table = rw q (tabled-nothing table)
 
-  module _ (l : List ℕ) (k : Cursor) (kept : List ℕ) (v u count next n : ℕ) (m : Keeping c s at e r l k kept v u count next n) (last : e ≤ next) where
+  module _ (l : List ℕ) (k : Cursor) (kept : List ℕ) (v u count next n : ℕ) (m : Keeping c mark s at e r l k kept v u count next n) (last : e ≤ next) where
     pub plan-trailing : next < length s →
-        plannedOf (refused (fault Refusal.TrailingBytes next (earlier + n))) ≡ planCalled c r earlier (length s) (argumentsIn c s at e) (signatureOf s)
+        plannedOf (refused (fault Refusal.TrailingBytes next (earlier + n))) ≡ planCalled c mark r earlier (length s) (argumentsIn c s at e) (signatureOf s)
     unfolding plannedBy
     plan-trailing h = rw (turn-last c s at e (m .ts) count next n (m .turn) last, lt-ltb next (length s) h)
 
-    pub rows-trailing : next < length s → (table : List ℕ) → table ≡ tabled table (rowsCalled c r at (length s) (argumentsIn c s at e))
+    pub rows-trailing : next < length s → (table : List ℕ) → table ≡ tabled table (rowsCalled c mark r at (length s) (argumentsIn c s at e))
     unfolding rowsBy
     rows-trailing h table = rw (turn-last c s at e (m .ts) count next n (m .turn) last, lt-ltb next (length s) h) (tabled-nothing table)
 
     pub plan-end : length s ≤ next → u ≡ 0 →
         _≡_ {A = Planned}
-        (record { outcome = Outcome.Accepted (earlier + n); convention = c; result = resultIn c r; count = count; area = areaOf c k; values = v; copies = k .copies })
-        (planCalled c r earlier (length s) (argumentsIn c s at e) (signatureOf s))
+        (record { outcome = Outcome.Accepted (earlier + n); convention = c; ellipsis = mark; result = resultIn c r; count = count; area = areaOf c k; values = v; copies = k .copies })
+        (planCalled c mark r earlier (length s) (argumentsIn c s at e) (signatureOf s))
     unfolding planIn plannedBy
     plan-end h z =
         let many : count ≡ length (typesOf c (m .ts)) = m .turn .many ∙ sym (length-of-types c (m .ts)) in
         rw (turn-last c s at e (m .ts) count next n (m .turn) last, le-ltb next (length s) h, sym (m .unclear) ∙ z) (cc (m .last, m .total, many))
 
-    pub rows-end : length s ≤ next → u ≡ 0 → 13 * count ≤ length l → take (13 * count) kept ≡ rowsCalled c r at (length s) (argumentsIn c s at e)
+    pub rows-end : length s ≤ next → u ≡ 0 → 13 * count ≤ length l → take (13 * count) kept ≡ rowsCalled c mark r at (length s) (argumentsIn c s at e)
     unfolding rowsBy
-    rows-end h z room = rw (turn-last c s at e (m .ts) count next n (m .turn) last, le-ltb next (length s) h, sym (m .unclear) ∙ z) (keeping-all c s at e r l k kept v u count next n m room)
+    rows-end h z room = rw (turn-last c s at e (m .ts) count next n (m .turn) last, le-ltb next (length s) h, sym (m .unclear) ∙ z) (keeping-all c mark s at e r l k kept v u count next n m room)
 
-    pub plan-unclear : length s ≤ next → 0 < u → plannedOf (refused (unclearFault (u - 1) (signatureOf s))) ≡ planCalled c r earlier (length s) (argumentsIn c s at e) (signatureOf s)
+    pub plan-unclear : length s ≤ next → 0 < u → plannedOf (refused (unclearFault (u - 1) (signatureOf s))) ≡ planCalled c mark r earlier (length s) (argumentsIn c s at e) (signatureOf s)
     unfolding plannedBy
     plan-unclear h z =
         let some : u ≡ suc (u - 1) = omega arith in
         rw (turn-last c s at e (m .ts) count next n (m .turn) last, le-ltb next (length s) h, sym (m .unclear) ∙ some)
 
-    pub rows-unclear : length s ≤ next → 0 < u → (table : List ℕ) → table ≡ tabled table (rowsCalled c r at (length s) (argumentsIn c s at e))
+    pub rows-unclear : length s ≤ next → 0 < u → (table : List ℕ) → table ≡ tabled table (rowsCalled c mark r at (length s) (argumentsIn c s at e))
     unfolding rowsBy
     rows-unclear h z table =
         let some : u ≡ suc (u - 1) = omega arith in

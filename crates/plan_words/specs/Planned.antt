@@ -7,6 +7,7 @@ abbrev pub plannedOf : Plan → Planned
 plannedOf p = record {
   outcome = p .outcome;
   convention = p .convention;
+  ellipsis = p .ellipsis;
   result = p .result;
   count = p .count;
   area = p .area;

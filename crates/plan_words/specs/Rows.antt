@@ -1,5 +1,6 @@
 -- The table's words from the arguments on: the same entries as of a whole reading (law `rows-entries`). Assumes nothing.
 use Prim.Native.Nat.{ℕ, zero, suc, _+_, _*_, _≤_}
+use mathlib.Core.Bool.{Bool}
 use mathlib.Core.List.{List, [], _++_}
 use lib.Dec.{ltb}
 use lib.ListN.{length}
@@ -12,7 +13,7 @@ use Rattle.items.specs.Encode.{encodeTrees}
 use Rattle.signature.specs.Limits.{maxArguments}
 use Rattle.signature.specs.declared.ResultType.{ResultType}
 use Rattle.signature.specs.Signature.{Signature}
-use Rattle.places.specs.Step.{rulesOf, spanOf}
+use Rattle.places.specs.Step.{rulesOf, withEllipsis, spanOf}
 use Rattle.plan.specs.Plan.{endIn, valuesOf, typesOf, refused, planWith}
 use Rattle.plan.specs.Call.{unclearWith, unclearFault}
 use Rattle.plan.specs.Limits.{SmallResult}
@@ -24,18 +25,18 @@ use Rattle.plan_words.specs.Planned.{plannedOf}
 abbrev pub itemAfter : ℕ → Trees → ℕ
 itemAfter at ts = at + length (encodeTrees ts)
 
--- the entries of the arguments ts, whose items stand from `at` on: each stands where the cursor is after those before it, and its value after
--- theirs
-unfoldable pub rowsOf : Convention → ResultType → ℕ → Trees → List ℕ
-rowsOf c r at none = []
-rowsOf c r at (ts ▸ t) =
-    rowsOf c r at ts
-    ++ entryWords (itemAfter at ts) (sizeOf c (typeOf c t)) (valuesOf c (typesOf c ts)) (spanOf (rulesOf c) (endIn c r (typesOf c ts)) (typeOf c t) (sizeOf c (typeOf c t)))
+-- the entries of the arguments ts, whose items stand from `at` on, with an ellipsis or without: each stands where the cursor is after those before
+-- it, and its value after theirs
+unfoldable pub rowsOf : Convention → Bool → ResultType → ℕ → Trees → List ℕ
+rowsOf c v r at none = []
+rowsOf c v r at (ts ▸ t) =
+    rowsOf c v r at ts
+    ++ entryWords (itemAfter at ts) (sizeOf c (typeOf c t)) (valuesOf c (typesOf c ts)) (spanOf (withEllipsis v (rulesOf c)) (endIn c r (typesOf c ts)) (typeOf c t) (sizeOf c (typeOf c t)))
 
 -- from the arguments on, in a signature of `all` bytes, as `planWith` of the plan
-abbrev pub rowsWith : Convention → ResultType → ℕ → ℕ → Reading Trees → List ℕ
-rowsWith c r at all (got ts next m) = pick (ltb next all) [] (rowsOf c r at ts)
-rowsWith c r at all (no f) = []
+abbrev pub rowsWith : Convention → Bool → ResultType → ℕ → ℕ → Reading Trees → List ℕ
+rowsWith c v r at all (got ts next m) = pick (ltb next all) [] (rowsOf c v r at ts)
+rowsWith c v r at all (no f) = []
 
 -- the same of a call, which the reading x is of: refused by 29 where argument number u, counted from 1, is the first unclear one
 unfoldable pub plannedBy : ℕ → Planned → Reading Signature → Planned
@@ -46,11 +47,11 @@ unfoldable pub rowsBy : ℕ → List ℕ → List ℕ
 rowsBy zero rows = rows
 rowsBy (suc i) rows = []
 
-abbrev pub planCalled : Convention → ResultType → ℕ → ℕ → Reading Trees → Reading Signature → Planned
-planCalled c r n all y x = plannedBy (unclearWith c r all y) (plannedOf (planWith c r n all y)) x
+abbrev pub planCalled : Convention → Bool → ResultType → ℕ → ℕ → Reading Trees → Reading Signature → Planned
+planCalled c v r n all y x = plannedBy (unclearWith c r all y) (plannedOf (planWith c v r n all y)) x
 
-abbrev pub rowsCalled : Convention → ResultType → ℕ → ℕ → Reading Trees → List ℕ
-rowsCalled c r at all y = rowsBy (unclearWith c r all y) (rowsWith c r at all y)
+abbrev pub rowsCalled : Convention → Bool → ResultType → ℕ → ℕ → Reading Trees → List ℕ
+rowsCalled c v r at all y = rowsBy (unclearWith c r all y) (rowsWith c v r at all y)
 
 -- what the planner asks of the result's type: refusal 8 has passed it wherever the signature is accepted
 abbrev pub SmallWith : Convention → ResultType → ℕ → Reading Trees → Type 0

@@ -26,6 +26,7 @@ ghost use Rattle.plan_words.specs.Planned.{plannedOf};
 pub struct Planned {
     pub outcome: Outcome,
     pub convention: Convention,
+    pub ellipsis: bool,
     pub result: ResultPlaces,
     pub count: usize,
     pub area: usize,
@@ -42,6 +43,7 @@ fn no_plan(fault: Fault) -> Planned
     Planned {
         outcome: Outcome::Refused(fault),
         convention: Convention::Ppc64,
+        ellipsis: false,
         result: ResultPlaces::Nothing,
         count: 0,
         area: 0,
@@ -55,6 +57,7 @@ fn no_plan(fault: Fault) -> Planned
 fn plan_arguments(
     sig: &[u8],
     convention: Convention,
+    ellipsis: bool,
     returned: ResultType,
     at: usize,
     end: usize,
@@ -63,10 +66,10 @@ fn plan_arguments(
     places: &mut [u64],
 ) -> Planned
     requires { ⌜ (at ≤ end) × (end ≤ length (now sig)) × (length (now sig) ≤ maxLength) × (earlier ≤ 2 ^ 16) × SmallWith convention returned (length (now sig)) (argumentsIn convention (now sig) at end) × KeepsAll at end (length (now kept)) ⌝ }
-    ensures { λ p. ⌜ p ≡ planCalled convention returned earlier (length (now (sig .entry))) (argumentsIn convention (now (sig .entry)) at end) (signatureOf (now (sig .entry))) ⌝ }
-    ensures { λ p. ⌜ now (places .exit) ≡ tabled (now (places .entry)) (rowsCalled convention returned at (length (now (sig .entry))) (argumentsIn convention (now (sig .entry)) at end)) ⌝ }
+    ensures { λ p. ⌜ p ≡ planCalled convention ellipsis returned earlier (length (now (sig .entry))) (argumentsIn convention (now (sig .entry)) at end) (signatureOf (now (sig .entry))) ⌝ }
+    ensures { λ p. ⌜ now (places .exit) ≡ tabled (now (places .entry)) (rowsCalled convention ellipsis returned at (length (now (sig .entry))) (argumentsIn convention (now (sig .entry)) at end)) ⌝ }
 {
-    let rules = abi::call_rules_of(convention);
+    let rules = places::with_ellipsis(abi::call_rules_of(convention), ellipsis);
     let hidden = planning::hidden_in(convention, returned);
     let mut c = placing::start(convention, hidden);
     let mut values: usize = 0;
@@ -121,6 +124,7 @@ fn plan_arguments(
     Planned {
         outcome: Outcome::Accepted(counted),
         convention,
+        ellipsis,
         result,
         count,
         area,
@@ -133,6 +137,7 @@ fn plan_arguments(
 fn plan_part(
     sig: &[u8],
     convention: Convention,
+    ellipsis: bool,
     returned: ResultType,
     at: usize,
     end: usize,
@@ -140,14 +145,15 @@ fn plan_part(
     places: &mut [u64],
 ) -> Planned
     requires { ⌜ (at ≤ end) × (end ≤ length (now sig)) × (length (now sig) ≤ maxLength) × (earlier ≤ 2 ^ 16) × SmallWith convention returned (length (now sig)) (argumentsIn convention (now sig) at end) ⌝ }
-    ensures { λ p. ⌜ p ≡ planCalled convention returned earlier (length (now (sig .entry))) (argumentsIn convention (now (sig .entry)) at end) (signatureOf (now (sig .entry))) ⌝ }
-    ensures { λ p. ⌜ now (places .exit) ≡ tabled (now (places .entry)) (rowsCalled convention returned at (length (now (sig .entry))) (argumentsIn convention (now (sig .entry)) at end)) ⌝ }
+    ensures { λ p. ⌜ p ≡ planCalled convention ellipsis returned earlier (length (now (sig .entry))) (argumentsIn convention (now (sig .entry)) at end) (signatureOf (now (sig .entry))) ⌝ }
+    ensures { λ p. ⌜ now (places .exit) ≡ tabled (now (places .entry)) (rowsCalled convention ellipsis returned at (length (now (sig .entry))) (argumentsIn convention (now (sig .entry)) at end)) ⌝ }
 {
     if end - at <= FEW_BYTES {
         let mut few = [0u16; 156];
         return plan_arguments(
             sig,
             convention,
+            ellipsis,
             returned,
             at,
             end,
@@ -160,6 +166,7 @@ fn plan_part(
     plan_arguments(
         sig,
         convention,
+        ellipsis,
         returned,
         at,
         end,
@@ -183,6 +190,6 @@ pub fn plan_words(sig: &[u8], places: &mut [u64]) -> Planned
             at,
             end,
             earlier,
-        } => plan_part(sig, convention, result, at, end, earlier, places),
+        } => plan_part(sig, convention, ellipsis, result, at, end, earlier, places),
     }
 }

@@ -20,8 +20,14 @@ ghost use Rattle.plan.specs.Limits.{SmallResult, Plannable};
 ghost use Rattle.plan.specs.Call.{itemIn, unclearFault, unclearOf, callOf, outcomeFor};
 
 // A plan without spans and sizes.
-fn blank(outcome: Outcome, convention: Convention, result: ResultPlaces, count: usize) -> Plan
-    ensures { λ p. ⌜ p ≡ blankPlan outcome convention result count ⌝ }
+fn blank(
+    outcome: Outcome,
+    convention: Convention,
+    ellipsis: bool,
+    result: ResultPlaces,
+    count: usize,
+) -> Plan
+    ensures { λ p. ⌜ p ≡ blankPlan outcome convention ellipsis result count ⌝ }
 {
     let none = RegisterRange { first: 0, count: 0 };
     let empty = ByteRange {
@@ -31,6 +37,7 @@ fn blank(outcome: Outcome, convention: Convention, result: ResultPlaces, count: 
     Plan {
         outcome,
         convention,
+        ellipsis,
         result,
         count,
         area: 0,
@@ -77,16 +84,17 @@ pub fn plan_signature(g: SignatureRead) -> Plan
 {
     let outcome = g.outcome;
     match outcome {
-        Outcome::Refused(_) => blank(outcome, Convention::Ppc64, ResultPlaces::Nothing, 0),
+        Outcome::Refused(_) => blank(outcome, Convention::Ppc64, false, ResultPlaces::Nothing, 0),
         Outcome::Accepted(_) => {
             let convention = g.convention;
             let returned = g.result;
+            let ellipsis = g.ellipsis;
             let count = g.count;
-            let rules = abi::call_rules_of(convention);
+            let rules = places::with_ellipsis(abi::call_rules_of(convention), ellipsis);
             let hidden = hidden_in(convention, returned);
             let result = result_in(convention, returned);
             let mut c = placing::start(convention, hidden);
-            let mut plan = blank(outcome, convention, result, count);
+            let mut plan = blank(outcome, convention, ellipsis, result, count);
             let mut values: usize = 0;
             let mut i: usize = 0;
             while i < count {
@@ -199,6 +207,7 @@ fn plan_call(sig: &[u8], g: SignatureRead) -> Plan
     blank(
         Outcome::Refused(fault),
         Convention::Ppc64,
+        false,
         ResultPlaces::Nothing,
         0,
     )

@@ -1,9 +1,9 @@
--- Stepping through an accepted signature gives its arguments in order: past two items and into the third stands the first
--- argument's item, and the item after k others is the k-th argument's, of its type and at its place in the encoding.
+-- Stepping through an accepted signature gives its arguments in order: past two items and the ellipsis, and into the last, stands the
+-- first argument's item, and the item after k others is the k-th argument's, of its type and at its place in the encoding.
 -- Assumes nothing.
 use Prim.Native.Nat.{ℕ, zero, suc, _+_, _≤_, _<_}
 use mathlib.Core.Path.{_≡_, refl, sym, ap, _∙_}
-use mathlib.Core.Bool.{false}
+use mathlib.Core.Bool.{Bool, true, false}
 use mathlib.Core.List.{List}
 use lib.ListN.{length, getD, length-append}
 use lib.Dec.{ltb, eqb}
@@ -14,7 +14,7 @@ use Rattle.conventions.specs.declared.Convention.{Convention}
 use Rattle.types.specs.Trees.{Tree, Trees, none, _▸_, typeOf, countOf}
 use Rattle.items.specs.declared.Refusal.{Refusal}
 use Rattle.items.specs.declared.Body.{Body}
-use Rattle.items.specs.Reading.{Reading, fault, got, no, inBody}
+use Rattle.items.specs.Reading.{Reading, fault, got, no, choose, inBody}
 use Rattle.items.specs.Read.{lengthAt, bodyAt, sequence, itemAt}
 use Rattle.items.specs.Encode.{encodeTree, encodeTrees}
 use Rattle.items.proofs.Laws.{body-to}
@@ -23,12 +23,12 @@ use Rattle.signature.specs.Limits.{maxLength, maxArguments}
 use Rattle.conventions.specs.declared.ConventionCode.{ConventionCode}
 use Rattle.conventions.specs.Numbers.{conventionCode}
 use Rattle.signature.specs.Signature.{Result, Signature}
-use Rattle.signature.specs.Read.{conventionBy, conventionAt, resultIn, resultAt, argumentsIn, argumentsAt, afterResult, afterConvention, signatureOf}
+use Rattle.signature.specs.Read.{conventionBy, conventionAt, resultIn, resultAt, ellipsisAt, argumentsIn, argumentsAt, afterEllipsis, afterResult, afterConvention, signatureOf}
 use Rattle.signature.specs.Encode.{encodeResult, ellipsisItem}
-use Rattle.signature.proofs.Sound.{convention-read, result-read}
+use Rattle.signature.proofs.Sound.{convention-read, result-read, ellipsis-read}
 use Rattle.reader.specs.declared.ArgumentRead.{ArgumentRead}
 use Rattle.stepping.specs.Step.{bodyIn, bodyStart, bodyEnd, typeIn}
-use Rattle.reader.specs.Argument.{argumentIn, argumentsPlace, argumentsStart, steppedTo}
+use Rattle.reader.specs.Argument.{argumentIn, argumentsPlace, pastEllipsis, argumentsStart, steppedTo}
 use Rattle.stepping.proofs.Laws.{end-within, body-here, start-found, end-found}
 
 -- readings: what was got is what the reading is, and what follows from what holds of it
@@ -98,7 +98,7 @@ module _ (c : Convention) (s : List ℕ) (e start : ℕ) (short : length s ≤ m
       (one-more ts at place t after m read) (all-stepped most after (n + m) (ts ▸ t) (next-place ts at place t after m read))))
       (λ _. stepped-end ts at at n)
 
--- the headers of the three items, and what is read in the third
+-- the headers of the items, and what is read in the last
 
 convention-body : (s : List ℕ) → Got (λ c next n. bodyAt s 0x01 0x01 (length s) 0 ≡ Body.To 4) (conventionAt s)
 unfolding conventionAt
@@ -125,7 +125,7 @@ result-body c s at = go (bodyAt s 0x02 0x02 (length s) at) refl
         (λ t next n _. by-pick (Got (λ r next n. bodyAt s 0x02 0x02 (length s) at ≡ Body.To next)) (ltb next b) _ _ (λ _. tt) (λ _. q)))
     go (Body.Refused r) q = tt
 
--- the third item's body, up to `end`, where the arguments ts are read
+-- the last item's body, up to `end`, where the arguments ts are read
 record Third (c : Convention) (s : List ℕ) (at : ℕ) (ts : Trees) (next n : ℕ) : Type 0 where
   pub end : ℕ
   pub body : bodyAt s 0x03 0x03 (length s) at ≡ Body.To end
@@ -155,6 +155,21 @@ any-tag s short tag at b small q =
     body-here s at (length s) short (length s) (end-within s (length s) (omega arith)) (Body.To b)
     (ap Body.To (framed .ends) ∙ sym (body-to s 0x00 0xff (length s) at (omega arith) (omega arith) (omega arith) (lengthAt s at) refl (omega arith)))
 
+ellipsis-passed : (s : List ℕ) → length s ≤ maxLength → (at : ℕ) → Got (λ v next n. next ≡ pastEllipsis s at) (ellipsisAt s at)
+unfolding ellipsisAt pastEllipsis
+ellipsis-passed s short at = go (eqb (getD s at 0) 0x04)
+  where
+    item : (x : Body) → bodyAt s 0x04 0x04 (length s) at ≡ x →
+        Got (λ v next n. next ≡ bodyEnd s at (length s)) (inBody x at (λ b. pick (eqb b (at + 3)) (got true b 1) (no (fault Refusal.Malformed at 0))))
+    item (Body.To b) q = by-pick (Got (λ v next n. next ≡ bodyEnd s at (length s))) (eqb b (at + 3)) _ _
+        (λ _. end-found s at (length s) (Body.To b) (any-tag s short 0x04 at b (omega arith) q) b refl) (λ _. tt)
+    item (Body.Refused r) q = tt
+
+    go : (tag : Bool) → Got (λ v next n. next ≡ pick tag (bodyEnd s at (length s)) at)
+        (choose tag (λ _. inBody (bodyAt s 0x04 0x04 (length s) at) at (λ b. pick (eqb b (at + 3)) (got true b 1) (no (fault Refusal.Malformed at 0)))) (λ _. got false at 0))
+    go true = item (bodyAt s 0x04 0x04 (length s) at) refl
+    go false = refl
+
 -- of an accepted signature: the first argument's place, by stepping and by the encoder, and what is read from there
 pub record Placed (s : List ℕ) (g : Signature) : Type 0 where
   pub short : length s ≤ maxLength
@@ -164,16 +179,17 @@ pub record Placed (s : List ℕ) (g : Signature) : Type 0 where
   pub read : argumentsIn (g .convention) s (argumentsPlace (g .result) (g .ellipsis)) (length s) ≡ got (g .arguments) next count
 
 module _ (s : List ℕ) (short : length s ≤ maxLength) (c : Convention) (at₁ n₁ : ℕ) (first : conventionAt s ≡ got c at₁ n₁) (r : Result) (at₂ n₂ : ℕ)
-    (second : resultAt c s at₁ ≡ got r at₂ n₂) (ts : Trees) (next m : ℕ) (third : Third c s at₂ ts next m) (last : length s ≤ next) where
+    (second : resultAt c s at₁ ≡ got r at₂ n₂) (v : Bool) (at₃ n₃ : ℕ) (mark : ellipsisAt s at₂ ≡ got v at₃ n₃) (ts : Trees) (next m : ℕ)
+    (third : Third c s at₃ ts next m) (last : length s ≤ next) where
   here : at₁ ≡ 4
   here = convention-read s c at₁ n₁ first .ends
 
-  -- the third item's header
-  there : at₂ ≡ 7 + length (encodeResult r)
-  there = let e = result-read c s at₁ r at₂ n₂ second .ends in let f = here in omega arith
+  -- the last item's header
+  there : at₃ ≡ 7 + length (encodeResult r) + length (ellipsisItem v)
+  there = let e = result-read c s at₁ r at₂ n₂ second .ends in let g = ellipsis-read s at₂ v at₃ n₃ mark .ends in let f = here in omega arith
 
   ends : third .end ≡ length s
-  ends = let f = body-framed s 0x03 0x03 (length s) at₂ (third .end) (third .body) in let i = third .inside in omega arith
+  ends = let f = body-framed s 0x03 0x03 (length s) at₃ (third .end) (third .body) in let i = third .inside in omega arith
 
   past-first : 4 ≡ bodyEnd s 0 (length s)
   past-first = end-found s 0 (length s) (Body.To 4) (any-tag s short 0x01 0 4 (omega arith) (rw first at (convention-body s))) 4 refl
@@ -182,15 +198,17 @@ module _ (s : List ℕ) (short : length s ≤ maxLength) (c : Convention) (at₁
   past-second = end-found s 4 (length s) (Body.To at₂)
       (any-tag s short 0x02 4 at₂ (omega arith) (rw here at (rw second at (result-body c s at₁)))) at₂ refl
 
-  into-third : at₂ + 3 ≡ bodyStart s at₂ (length s)
-  into-third = start-found s at₂ (length s) (Body.To (third .end)) (any-tag s short 0x03 at₂ (third .end) (omega arith) (third .body)) (third .end) refl
+  past-mark : at₃ ≡ pastEllipsis s at₂
+  past-mark = rw mark at (ellipsis-passed s short at₂)
 
-  started : argumentsStart s ≡ argumentsPlace r false
-  unfolding argumentsStart ellipsisItem
-  started = rw (← past-first, ← past-second, ← into-third) (let t = there in omega arith)
+  into-last : at₃ + 3 ≡ bodyStart s at₃ (length s)
+  into-last = start-found s at₃ (length s) (Body.To (third .end)) (any-tag s short 0x03 at₃ (third .end) (omega arith) (third .body)) (third .end) refl
 
-  placed : Placed s (record { convention = c; result = r; ellipsis = false; arguments = ts })
-  unfolding ellipsisItem
+  started : argumentsStart s ≡ argumentsPlace r v
+  unfolding argumentsStart
+  started = rw (← past-first, ← past-second, ← past-mark, ← into-last) (let t = there in omega arith)
+
+  placed : Placed s (record { convention = c; result = r; ellipsis = v; arguments = ts })
   placed = record {
     short = short;
     start = started;
@@ -199,17 +217,18 @@ module _ (s : List ℕ) (short : length s ≤ maxLength) (c : Convention) (at₁
     read = rw (ends, the-start) at (third .read);
   }
     where
-      the-start : at₂ + 3 ≡ argumentsPlace r false
+      the-start : at₃ + 3 ≡ argumentsPlace r v
       the-start = let t = there in omega arith
 
 signature-placed : (s : List ℕ) → Got (λ g next n. Placed s g) (signatureOf s)
-unfolding signatureOf afterConvention afterResult
+unfolding signatureOf afterConvention afterResult afterEllipsis
 signature-placed s = by-choose (Got (λ g next n. Placed s g)) (ltb maxLength (length s)) _ _ (λ _. tt)
     (λ l. by-then (λ c at n. conventionAt s ≡ got c at n) (λ g next n. Placed s g) (conventionAt s) _ (got-self (conventionAt s))
     (λ c at₁ n₁ first. by-next (λ r next m. resultAt c s at₁ ≡ got r next m) (λ g next n. Placed s g) n₁ (resultAt c s at₁) _ (got-self (resultAt c s at₁))
-    (λ r at₂ n₂ second. by-next (Third c s at₂) (λ g next n. Placed s g) (n₁ + n₂) (argumentsAt c s at₂) _ (arguments-body c s at₂)
+    (λ r at₂ n₂ second. by-next (λ v next k. ellipsisAt s at₂ ≡ got v next k) (λ g next n. Placed s g) (n₁ + n₂) (ellipsisAt s at₂) _ (got-self (ellipsisAt s at₂))
+    (λ v at₃ n₃ mark. by-next (Third c s at₃) (λ g next n. Placed s g) (n₁ + n₂ + n₃) (argumentsAt c s at₃) _ (arguments-body c s at₃)
     (λ ts next m third. by-pick (Got (λ g next n. Placed s g)) (ltb next (length s)) _ _ (λ _. tt)
-    (λ last. placed s (ltb-false maxLength (length s) l) c at₁ n₁ first r at₂ n₂ second ts next m third (ltb-false next (length s) last))))))
+    (λ last. placed s (ltb-false maxLength (length s) l) c at₁ n₁ first r at₂ n₂ second v at₃ n₃ mark ts next m third (ltb-false next (length s) last)))))))
 
 -- an accepted signature's arguments, one after the other
 arguments-stepped : (s : List ℕ) (g : Signature) → Placed s g → (index : ℕ) → index < countOf (g .arguments) →

@@ -26,12 +26,11 @@ use Rattle.signature.specs.Limits.{maxLength, maxArguments}
 use Rattle.signature.specs.declared.ResultType.{ResultType}
 use Rattle.signature.specs.declared.HeadRead.{HeadRead}
 use Rattle.signature.specs.Signature.{Result, Head}
-use Rattle.signature.specs.Read.{conventionAt, resultAt, argumentsIn, signatureOf, headBy, headAfter, headOf}
-use Rattle.signature.specs.Encode.{ellipsisItem}
+use Rattle.signature.specs.Read.{conventionAt, resultAt, ellipsisAt, argumentsIn, signatureOf, headBy, headThen, headAfter, headOf}
 use Rattle.signature.specs.Answer.{resultType, headAnswer}
 use Rattle.signature.proofs.Laws.{head-got, thenArguments, afterHead, signature-head}
 use Rattle.signature.proofs.Loop.{Turn, turn-start, turn-last}
-use Rattle.signature.proofs.Sound.{convention-read, result-read}
+use Rattle.signature.proofs.Sound.{convention-read, result-read, ellipsis-read}
 use Rattle.reader.specs.declared.ArgumentRead.{ArgumentRead}
 use Rattle.stepping.specs.Step.{typeIn}
 use Rattle.reader.specs.Argument.{argumentIn, argumentsPlace, argumentAnswer, argumentWith, notedAs}
@@ -40,11 +39,12 @@ use Rattle.reader.proofs.Arguments.{type-is}
 -- ---- where the arguments' items start
 
 pub head-starts : (s : List ℕ) → Got (λ h next n. next ≡ argumentsPlace (h .result) (h .ellipsis)) (headOf s)
-unfolding headOf headAfter ellipsisItem
+unfolding headOf headAfter headThen
 head-starts s = by-choose (Got Starts) (ltb maxLength (length s)) _ _ (λ _. tt)
     (λ _. by-then (λ c at n. conventionAt s ≡ got c at n) Starts (conventionAt s) _ (got-self (conventionAt s))
     (λ c at n first. by-next (λ r next m. resultAt c s at ≡ got r next m) Starts n (resultAt c s at) _ (got-self (resultAt c s at))
-    (λ r next m second. go c at n first r next m second (bodyAt s 0x03 0x03 (length s) next))))
+    (λ r next m second. by-next (λ v last k. ellipsisAt s next ≡ got v last k) Starts (n + m) (ellipsisAt s next) _ (got-self (ellipsisAt s next))
+    (λ v last k mark. go c at n first r next m second v last k mark (bodyAt s 0x03 0x03 (length s) last)))))
   where
     Starts : Head → ℕ → ℕ → Type 0
     Starts h next n = next ≡ argumentsPlace (h .result) (h .ellipsis)
@@ -53,9 +53,11 @@ head-starts s = by-choose (Got Starts) (ltb maxLength (length s)) _ _ (λ _. tt)
     got-self (got a next n) = refl
     got-self (no f) = tt
 
-    go : (c : Convention) (at n : ℕ) → conventionAt s ≡ got c at n → (r : Result) (next m : ℕ) → resultAt c s at ≡ got r next m → (x : Body) → Got Starts (headBy c r false next (n + m) x)
-    go c at n first r next m second (Body.To b) = omega (arith, convention-read s c at n first .ends, result-read c s at r next m second .ends)
-    go c at n first r next m second (Body.Refused x) = tt
+    go : (c : Convention) (at n : ℕ) → conventionAt s ≡ got c at n → (r : Result) (next m : ℕ) → resultAt c s at ≡ got r next m →
+        (v : Bool) (last k : ℕ) → ellipsisAt s next ≡ got v last k → (x : Body) → Got Starts (headBy c r v last (n + m + k) x)
+    go c at n first r next m second v last k mark (Body.To b) =
+        omega (arith, convention-read s c at n first .ends, result-read c s at r next m second .ends, ellipsis-read s next v last k mark .ends)
+    go c at n first r next m second v last k mark (Body.Refused x) = tt
 
 -- the whole, from its head on: the result's tree is gone but for its type and the length of its encoding
 pub record Begun (s : List ℕ) (c : Convention) (t : ResultType) (v : Bool) (at b n : ℕ) : Type 0 where

@@ -3,7 +3,7 @@
 use Prim.Native.Nat.{ℕ, zero, suc, _+_}
 use mathlib.Core.Bool.{Bool}
 use mathlib.Core.List.{List}
-use lib.ListN.{length}
+use lib.ListN.{length, getD}
 use lib.Dec.{ltb, eqb}
 use Rattle.words.specs.Basics.{pick}
 use Rattle.conventions.specs.declared.Convention.{Convention}
@@ -43,9 +43,13 @@ argumentWith c at n all index (got ts next m) =
     pick (ltb next all) (ArgumentRead.Refused (fault Refusal.TrailingBytes next (n + m))) (argumentIn c at index ts)
 argumentWith c at n all index (no f) = ArgumentRead.Refused (later n f)
 
--- the arguments' first item: past two items, and into the third
+-- past an ellipsis's item, where its tag stands
+unfoldable pub pastEllipsis : List ℕ → ℕ → ℕ
+pastEllipsis s at = pick (eqb (getD s at 0) 0x04) (bodyEnd s at (length s)) at
+
+-- the arguments' first item: past two items and the ellipsis, and into the last
 unfoldable pub argumentsStart : List ℕ → ℕ
-argumentsStart s = bodyStart s (bodyEnd s (bodyEnd s 0 (length s)) (length s)) (length s)
+argumentsStart s = bodyStart s (pastEllipsis s (bodyEnd s (bodyEnd s 0 (length s)) (length s))) (length s)
 
 abbrev pub onward : Reading Tree → (ℕ → ArgumentRead) → ArgumentRead
 onward (got t next n) g = g next

@@ -1,7 +1,7 @@
 -- Every encoding of a signature within the limits is read, and gives the signature back. Assumes nothing.
 use Prim.Native.Nat.{ℕ, _+_, _-_, _≤_}
 use mathlib.Core.Path.{_≡_, refl, sym, ap, _∙_}
-use mathlib.Core.Bool.{false}
+use mathlib.Core.Bool.{Bool, true, false}
 use mathlib.Core.List.{List, [], _∷_, _++_}
 use lib.ListN.{length}
 use native.Mathlib.Omega.{arith}
@@ -14,7 +14,7 @@ use Rattle.items.specs.Read.{itemAt}
 use Rattle.items.specs.Encode.{item, encodeTree, encodeTrees, itemsOf, itemsIn}
 use Rattle.items.proofs.Laws.{sequence-done}
 use Rattle.items.proofs.Levels.{within-left, all-within-left}
-use Rattle.items.proofs.Has.{Has, has-move, has-left, has-right, has-all, item-body, item-byte, length-item}
+use Rattle.items.proofs.Has.{Has, has-move, has-left, has-right, has-all, item-tag, item-body, item-byte, length-item}
 use Rattle.items.proofs.Trees.{tree-long}
 use Rattle.items.proofs.Complete.{header-reads, tree-reads, trees-read}
 use Rattle.conventions.specs.declared.ConventionCode.{ConventionCode}
@@ -22,9 +22,9 @@ use Rattle.conventions.specs.Numbers.{conventionCode, codeOf}
 use Rattle.conventions.proofs.Laws.{code-back}
 use Rattle.signature.specs.Signature.{Result, nothing, value, Signature}
 use Rattle.signature.specs.Limits.{maxLength, maxArguments, maxDepth}
-use Rattle.signature.specs.Read.{conventionAt, resultIn, resultAt, argumentsIn, argumentsAt, afterResult, afterConvention, signatureOf}
-use Rattle.signature.specs.Encode.{encodeResult, encode, resultItems, signatureItems, ResultWithin, Within}
-use Rattle.signature.proofs.Laws.{convention-by, result-none, result-to, arguments-to}
+use Rattle.signature.specs.Read.{conventionAt, resultIn, resultAt, ellipsisAt, argumentsIn, argumentsAt, afterEllipsis, afterResult, afterConvention, signatureOf}
+use Rattle.signature.specs.Encode.{encodeResult, ellipsisItem, encode, resultItems, ellipsisItems, signatureItems, ResultWithin, Within}
+use Rattle.signature.proofs.Laws.{convention-by, result-none, result-to, ellipsis-none, ellipsis-one, arguments-to}
 use Rattle.signature.proofs.Sound.{length-encode}
 
 module _ (s : List ℕ) where
@@ -65,17 +65,27 @@ module _ (s : List ℕ) where
         left next (1 + itemsIn ts) refl q refl in
         arguments-to c s at next to ∙ sequence-done (itemAt c maxDepth s next) next _ left next (1 + itemsIn ts) ts rest (omega arith)
 
-  same-plain : (g : Signature) (next n : ℕ) → g .ellipsis ≡ false →
-      got (record { convention = g .convention; result = g .result; ellipsis = false; arguments = g .arguments }) next n ≡ got g next n
-  same-plain g next n plain = rw plain refl
+  -- the arguments' item follows, whose tag is another
+  ellipsis-reads : (c : Convention) (v : Bool) (body : List ℕ) (at next : ℕ) → Has s at (ellipsisItem v ++ item 0x03 body) → next ≡ at + length (ellipsisItem v) →
+      next ≤ length s → ellipsisAt s at ≡ got v next (ellipsisItems v)
+  unfolding ellipsisItem ellipsisItems
+  ellipsis-reads c true body at next h q room =
+      let mark = has-left s (item 0x04 []) (item 0x03 body) at h in
+      let size = length-item 0x04 [] in
+      ellipsis-one s at (item-tag s 0x04 [] at mark) next (header-reads c s 0x04 0x04 0x04 [] (length s) at next (omega arith) (omega arith) mark (omega arith) room) (omega arith)
+  ellipsis-reads c false body at next h q room =
+      let tag = item-tag s 0x03 body at h in
+      let same : at ≡ next = omega arith in
+      ellipsis-none s at (λ z. omega arith) ∙ ap (λ (k : ℕ). got false k 0) same
 
-  -- the whole, from its three items
-  all-reads : (g : Signature) (at n : ℕ) → g .ellipsis ≡ false → length s ≤ maxLength → conventionAt s ≡ got (g .convention) 4 1 → resultAt (g .convention) s 4 ≡ got (g .result) at n →
-      (m : ℕ) → argumentsAt (g .convention) s at ≡ got (g .arguments) (length s) m → signatureOf s ≡ got g (length s) (1 + n + m)
-  unfolding signatureOf afterConvention afterResult
-  all-reads g at n plain short first second m third =
-      let last : length s ≤ length s = omega arith in
-      rw (le-ltb maxLength (length s) short, first, second, third, le-ltb (length s) (length s) last) (same-plain g (length s) (1 + n + m) plain)
+  -- the whole, from its items
+  all-reads : (g : Signature) (at n : ℕ) → length s ≤ maxLength → conventionAt s ≡ got (g .convention) 4 1 → resultAt (g .convention) s 4 ≡ got (g .result) at n →
+      (last k : ℕ) → ellipsisAt s at ≡ got (g .ellipsis) last k →
+      (m : ℕ) → argumentsAt (g .convention) s last ≡ got (g .arguments) (length s) m → signatureOf s ≡ got g (length s) (1 + n + k + m)
+  unfolding signatureOf afterConvention afterResult afterEllipsis
+  all-reads g at n short first second last k mark m third =
+      let end : length s ≤ length s = omega arith in
+      rw (le-ltb maxLength (length s) short, first, second, mark, third, le-ltb (length s) (length s) end)
 
 pub encode-reads : (g : Signature) → Within g → signatureOf (encode g) ≡ got g (length (encode g)) (signatureItems g)
 unfolding encode signatureItems
@@ -84,17 +94,21 @@ encode-reads g w =
     let s = encode g in
     let one = item 0x01 (codeOf c ∷ []) in
     let two = item 0x02 (encodeResult (g .result)) in
+    let mark = ellipsisItem (g .ellipsis) in
     let three = item 0x03 (encodeTrees (g .arguments)) in
     let size = length-encode g in
     let size₁ : length one ≡ 4 = length-item 0x01 (codeOf c ∷ []) in
     let size₂ = length-item 0x02 (encodeResult (g .result)) in
-    let all : Has s 0 (one ++ (two ++ three)) = has-all s in
-    let second : Has s 4 (two ++ three) = has-move s (two ++ three) (0 + length one) 4 (omega arith) (has-right s one (two ++ three) 0 all) in
+    let all : Has s 0 (one ++ (two ++ (mark ++ three))) = has-all s in
+    let second : Has s 4 (two ++ (mark ++ three)) =
+    has-move s (two ++ (mark ++ three)) (0 + length one) 4 (omega arith) (has-right s one (two ++ (mark ++ three)) 0 all) in
     let at = 7 + length (encodeResult (g .result)) in
-    let third : Has s at three = has-move s three (4 + length two) at (omega arith) (has-right s two three 4 second) in
+    let marked : Has s at (mark ++ three) = has-move s (mark ++ three) (4 + length two) at (omega arith) (has-right s two (mark ++ three) 4 second) in
+    let third : Has s (at + length mark) three = has-right s mark three at marked in
     let n = resultItems (g .result) + 1 in
     let m = 1 + itemsIn (g .arguments) in
-    all-reads s g at n (w .plain) (w .short) (convention-reads s c (has-left s one (two ++ three) 0 all) (omega arith))
-    (result-reads s c (g .result) 4 at (w .result) (has-left s two three 4 second) refl (omega arith)) m
-    (arguments-read s c (g .arguments) at (length s) (w .arguments) (w .few) third (omega arith) (omega arith))
+    all-reads s g at n (w .short) (convention-reads s c (has-left s one (two ++ (mark ++ three)) 0 all) (omega arith))
+    (result-reads s c (g .result) 4 at (w .result) (has-left s two (mark ++ three) 4 second) refl (omega arith))
+    (at + length mark) (ellipsisItems (g .ellipsis)) (ellipsis-reads s c (g .ellipsis) (encodeTrees (g .arguments)) at (at + length mark) marked refl (omega arith)) m
+    (arguments-read s c (g .arguments) (at + length mark) (length s) (w .arguments) (w .few) third (omega arith) (omega arith))
     ∙ ap (got g (length s)) (omega arith)

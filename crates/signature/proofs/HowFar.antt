@@ -2,6 +2,7 @@
 use Prim.Native.Nat.{ℕ, _+_, _*_, _≤_}
 use mathlib.Core.Path.{_≡_, refl, sym, _∙_}
 use mathlib.Core.Logic.{inl}
+use mathlib.Core.Bool.{Bool}
 use mathlib.Core.List.{List}
 use lib.ListN.{length, getD}
 use lib.Dec.{ltb, eqb}
@@ -15,13 +16,13 @@ use Rattle.items.specs.Reading.{Reading, got, no, after}
 use Rattle.items.specs.Read.{itemAt}
 use Rattle.items.specs.HowFar.{walked, Passed, HowFar}
 use Rattle.items.proofs.Sound.{by-pick, by-choose, Framed}
-use Rattle.items.proofs.HowFar.{Goes, walked-over, walked-into, passed-one, framed-here, stops, stops-here, goes-after, goes-within, fills-goes, goes-then, goes-body, sequence-goes, item-goes, walked-ascends, far-before, far-third, far-unique}
+use Rattle.items.proofs.HowFar.{Goes, walked-over, walked-into, passed-none, passed-one, framed-here, stops, stops-here, goes-after, goes-within, fills-goes, goes-then, goes-body, sequence-goes, item-goes, walked-ascends, far-before, far-third, far-unique}
 use Rattle.conventions.specs.declared.ConventionCode.{ConventionCode}
 use Rattle.conventions.specs.Numbers.{conventionCode}
 use Rattle.signature.specs.declared.ResultRead.{ResultRead}
 use Rattle.signature.specs.Signature.{Result, Signature}
 use Rattle.signature.specs.Limits.{maxLength, maxDepth, maxArguments}
-use Rattle.signature.specs.Read.{conventionBy, conventionAt, resultIn, resultAt, argumentsIn, argumentsAt, afterResult, afterConvention, signatureOf}
+use Rattle.signature.specs.Read.{conventionBy, conventionAt, resultIn, resultAt, ellipsisAt, argumentsIn, argumentsAt, afterEllipsis, afterResult, afterConvention, signatureOf}
 use Rattle.signature.specs.Answer.{resultAnswer}
 use Rattle.signature.specs.Exact.{SaysHowFar}
 use Rattle.signature.proofs.Laws.{result-was-refused}
@@ -69,13 +70,31 @@ module _ (s : List ℕ) where
         fills-goes s (length s) at b (argumentsIn c s (at + 3) b) (framed .inside)
         (sequence-goes s b at (itemAt c maxDepth s b) (λ k h. item-goes c maxDepth s b k h) maxArguments (at + 3) 1 none (walked-into s at (rw tag)) (omega arith) (passed-one s 0x03 0x03 b at b (inl (omega arith, omega arith)) (framed-here framed))))
 
+  -- an ellipsis's item has none in it
+  ellipsis-goes : (at : ℕ) → at ≤ length s → Goes s (length s) at (ellipsisAt s at)
+  unfolding ellipsisAt walked
+  ellipsis-goes at room = by-choose (Goes s (length s) at) (eqb (getD s at 0) 0x04) _ _
+      (λ q. goes-body s 0x04 0x04 (length s) at _ room (λ b framed.
+      let tag = eqb-true (getD s at 0) 0x04 q in
+      by-pick (Goes s (length s) at) (eqb b (at + 3)) _ _
+      (λ _. (walked-over s at b (rw tag) (framed .ends), framed .inside, passed-one s 0x04 0x04 (length s) at b (inl (omega arith, omega arith)) framed))
+      (λ _. stops-here s (length s) at Refusal.Malformed refl room)))
+      (λ _. (refl, room, passed-none s (length s) at))
+
   module _ (c : Convention) where
-    after-result-goes : (r : Result) (at n : ℕ) → walked s 0 n ≡ at → at ≤ length s → Passed s (length s) 0 n → Goes s (length s) 0 (afterResult s c r at n)
-    unfolding afterResult
-    after-result-goes r at n w h p =
+    after-ellipsis-goes : (r : Result) (v : Bool) (at n : ℕ) → walked s 0 n ≡ at → at ≤ length s → Passed s (length s) 0 n → Goes s (length s) 0 (afterEllipsis s c r v at n)
+    unfolding afterEllipsis
+    after-ellipsis-goes r v at n w h p =
         goes-then s (length s) 0 (Goes s (length s) 0) (after n (argumentsAt c s at)) _
         (goes-after s (length s) 0 n at (argumentsAt c s at) w p (arguments-goes c at h)) (λ f k. k)
         (λ ts next m v k q. by-pick (Goes s (length s) 0) (ltb next (length s)) _ _ (λ _. stops s (length s) 0 Refusal.TrailingBytes next m refl v k q) (λ _. (v, k, q)))
+
+    after-result-goes : (r : Result) (at n : ℕ) → walked s 0 n ≡ at → at ≤ length s → Passed s (length s) 0 n → Goes s (length s) 0 (afterResult s c r at n)
+    unfolding afterResult
+    after-result-goes r at n w h p =
+        goes-then s (length s) 0 (Goes s (length s) 0) (after n (ellipsisAt s at)) _
+        (goes-after s (length s) 0 n at (ellipsisAt s at) w p (ellipsis-goes at h)) (λ f k. k)
+        (λ v next m u k q. after-ellipsis-goes r v next m u k q)
 
     after-convention-goes : (at n : ℕ) → walked s 0 n ≡ at → at ≤ length s → Passed s (length s) 0 n → Goes s (length s) 0 (afterConvention s c at n)
     unfolding afterConvention

@@ -1,13 +1,13 @@
--- The signature's definitions, a law for each way through them: the convention, the result, the arguments, the whole.
+-- The signature's definitions, a law for each way through them: the convention, the result, the ellipsis, the arguments, the whole.
 -- Assumes nothing.
 use Prim.Native.Nat.{ℕ, _+_, _≤_, _<_}
 use mathlib.Core.Path.{_≡_, refl, sym, ap, _∙_}
 use mathlib.Core.Bool.{Bool, true, false}
 use mathlib.Core.List.{List}
-use lib.ListN.{length, getD}
+use lib.ListN.{length, getD, List·getD-eq-default}
 use lib.Dec.{ltb, eqb}
 use native.Mathlib.Omega.{arith}
-use borrow.Author.Tests.{lt-ltb, le-ltb, eq-eqb, ne-eqb}
+use borrow.Author.Tests.{lt-ltb, le-ltb, eq-eqb, ne-eqb, eqb-true}
 use Rattle.words.specs.Basics.{pick}
 use Rattle.conventions.specs.declared.Convention.{Convention}
 use Rattle.types.specs.declared.ValueType.{ValueType}
@@ -20,17 +20,18 @@ use Rattle.items.specs.Reading.{Reading, fault, got, no, later, after, choose, 
 use Rattle.items.specs.Read.{bodyAt, itemAt}
 use Rattle.items.specs.Answer.{itemAnswer}
 use Rattle.items.proofs.Laws.{item-got, item-no}
-use Rattle.items.proofs.Sound.{by-pick}
+use Rattle.items.proofs.Sound.{by-pick, by-choose}
 use Rattle.conventions.specs.declared.ConventionCode.{ConventionCode}
 use Rattle.conventions.specs.Numbers.{conventionCode}
 use Rattle.signature.specs.declared.ConventionRead.{ConventionRead}
 use Rattle.signature.specs.declared.ResultType.{ResultType}
 use Rattle.signature.specs.declared.ResultRead.{ResultRead}
+use Rattle.signature.specs.declared.EllipsisRead.{EllipsisRead}
 use Rattle.signature.specs.declared.HeadRead.{HeadRead}
 use Rattle.signature.specs.Signature.{Result, nothing, Signature, Head}
 use Rattle.signature.specs.Limits.{maxLength, maxDepth}
-use Rattle.signature.specs.Read.{conventionBy, conventionAt, resultIn, resultAt, argumentsIn, argumentsAt, afterResult, afterConvention, signatureOf, headBy, headAfter, headOf}
-use Rattle.signature.specs.Answer.{conventionAnswer, resultType, resultAnswer, headAnswer, refused, accepted, withArguments, signatureAnswer}
+use Rattle.signature.specs.Read.{conventionBy, conventionAt, resultIn, resultAt, ellipsisAt, argumentsIn, argumentsAt, afterEllipsis, afterResult, afterConvention, signatureOf, headBy, headThen, headAfter, headOf}
+use Rattle.signature.specs.Answer.{conventionAnswer, resultType, resultAnswer, ellipsisAnswer, headWith, headAnswer, refused, accepted, withArguments, signatureAnswer}
 
 -- the convention
 
@@ -127,7 +128,77 @@ pub result-was-refused : (c : Convention) (x : Reading Result) (f : Fault) → R
 result-was-refused c (got y a m) f q = let z : _≡_ {A = ℕ} 0 1 = cc in absurd (omega arith)
 result-was-refused c (no x) f q = cc
 
+-- the ellipsis
+
+module _ (s : List ℕ) (at : ℕ) where
+  pub ellipsis-none : (getD s at 0 ≡ 0x04 → ⊥) → ellipsisAt s at ≡ got false at 0
+  unfolding ellipsisAt
+  ellipsis-none h = rw (ne-eqb (getD s at 0) 0x04 h)
+
+  pub ellipsis-end : length s ≤ at → ellipsisAt s at ≡ got false at 0
+  ellipsis-end h = let z = List·getD-eq-default s 0 {n = at} h in ellipsis-none (λ q. omega arith)
+
+  module _ (tag : getD s at 0 ≡ 0x04) where
+    pub ellipsis-no : (r : Refusal) → bodyAt s 0x04 0x04 (length s) at ≡ Body.Refused r → ellipsisAt s at ≡ no (fault r at 0)
+    unfolding ellipsisAt
+    ellipsis-no r q = rw (eq-eqb (getD s at 0) 0x04 tag, q)
+
+    module _ (b : ℕ) (body : bodyAt s 0x04 0x04 (length s) at ≡ Body.To b) where
+      pub ellipsis-more : (b ≡ at + 3 → ⊥) → ellipsisAt s at ≡ no (fault Refusal.Malformed at 0)
+      unfolding ellipsisAt
+      ellipsis-more h = rw (eq-eqb (getD s at 0) 0x04 tag, body, ne-eqb b (at + 3) h)
+
+      pub ellipsis-one : b ≡ at + 3 → ellipsisAt s at ≡ got true b 1
+      unfolding ellipsisAt
+      ellipsis-one h = rw (eq-eqb (getD s at 0) 0x04 tag, body, eq-eqb b (at + 3) h)
+
+-- where there is none nothing is passed, and else three bytes and one header; its fault is at its header
+
+abbrev Lone : ℕ → Reading Bool → Type 0
+Lone at (got true next n) = (next ≡ at + 3) × (n ≡ 1)
+Lone at (got false next n) = (next ≡ at) × (n ≡ 0)
+Lone at (no f) = (f .place ≡ at) × (f .passed ≡ 0)
+
+ellipsis-lone : (s : List ℕ) (at : ℕ) → Lone at (ellipsisAt s at)
+unfolding ellipsisAt
+ellipsis-lone s at = by-choose (Lone at) (eqb (getD s at 0) 0x04) _ _ (λ _. go (bodyAt s 0x04 0x04 (length s) at)) (λ _. (refl, refl))
+  where
+    go : (x : Body) → Lone at (inBody x at (λ b. pick (eqb b (at + 3)) (got true b 1) (no (fault Refusal.Malformed at 0))))
+    go (Body.To b) = by-pick (Lone at) (eqb b (at + 3)) _ _ (λ q. (eqb-true b (at + 3) q, refl)) (λ _. (refl, refl))
+    go (Body.Refused r) = (refl, refl)
+
+-- so the program's answer says what was read
+
+absent-read : (at : ℕ) (x : Reading Bool) → Lone at x → EllipsisRead.Absent ≡ ellipsisAnswer x → x ≡ got false at 0
+absent-read at (got true next n) l q = let z : _≡_ {A = ℕ} 0 1 = cc in absurd (omega arith)
+absent-read at (got false next n) l q = cc (l .0, l .1)
+absent-read at (no f) l q = let z : _≡_ {A = ℕ} 0 1 = cc in absurd (omega arith)
+
+present-read : (at : ℕ) (x : Reading Bool) → Lone at x → EllipsisRead.Present ≡ ellipsisAnswer x → x ≡ got true (at + 3) 1
+present-read at (got true next n) l q = cc (l .0, l .1)
+present-read at (got false next n) l q = let z : _≡_ {A = ℕ} 0 1 = cc in absurd (omega arith)
+present-read at (no f) l q = let z : _≡_ {A = ℕ} 0 1 = cc in absurd (omega arith)
+
+refused-read : (at : ℕ) (r : Refusal) (x : Reading Bool) → Lone at x → EllipsisRead.Refused r ≡ ellipsisAnswer x → x ≡ no (fault r at 0)
+refused-read at r (got true next n) l q = let z : _≡_ {A = ℕ} 0 1 = cc in absurd (omega arith)
+refused-read at r (got false next n) l q = let z : _≡_ {A = ℕ} 0 1 = cc in absurd (omega arith)
+refused-read at r (no f) l q = let whole : f ≡ fault (f .reason) (f .place) (f .passed) = refl in cc (whole, l .0, l .1)
+
+module _ (s : List ℕ) (at : ℕ) (x : EllipsisRead) (found : x ≡ ellipsisAnswer (ellipsisAt s at)) where
+  pub ellipsis-absent : x ≡ EllipsisRead.Absent → ellipsisAt s at ≡ got false at 0
+  ellipsis-absent q = absent-read at (ellipsisAt s at) (ellipsis-lone s at) (sym q ∙ found)
+
+  pub ellipsis-present : x ≡ EllipsisRead.Present → ellipsisAt s at ≡ got true (at + 3) 1
+  ellipsis-present q = present-read at (ellipsisAt s at) (ellipsis-lone s at) (sym q ∙ found)
+
+  pub ellipsis-refused : (r : Refusal) → x ≡ EllipsisRead.Refused r → ellipsisAt s at ≡ no (fault r at 0)
+  ellipsis-refused r q = refused-read at r (ellipsisAt s at) (ellipsis-lone s at) (sym q ∙ found)
+
 -- what comes before the arguments
+
+head-answer : (c : Convention) (r : Result) (v : Bool) (at n : ℕ) (x : Body) → headAnswer (headBy c r v at n x) ≡ headWith c (resultType c r) v at n x
+head-answer c r v at n (Body.To b) = refl
+head-answer c r v at n (Body.Refused x) = refl
 
 module _ (s : List ℕ) (c : Convention) (at n : ℕ) (x : ResultRead) (found : x ≡ resultAnswer c (resultAt c s at)) where
   pub head-no-result : (f : Fault) → x ≡ ResultRead.Refused f → headAfter s c at n ≡ no (later n f)
@@ -135,15 +206,31 @@ module _ (s : List ℕ) (c : Convention) (at n : ℕ) (x : ResultRead) (found : 
   head-no-result f q = rw (result-was-refused c (resultAt c s at) f (sym q ∙ found))
 
   module _ (t : ResultType) (next m : ℕ) (q : x ≡ ResultRead.Result t next m) where
-    pub head-no-arguments : (r : Refusal) → bodyAt s 0x03 0x03 (length s) next ≡ Body.Refused r → headAfter s c at n ≡ no (fault r next (n + m))
-    unfolding headAfter
-    head-no-arguments r body = let (tree, read, same) = result-got c (resultAt c s at) t next m (sym q ∙ found) in rw (read, body)
-
-    pub head-to : (b : ℕ) → bodyAt s 0x03 0x03 (length s) next ≡ Body.To b → headAnswer (headAfter s c at n) ≡ HeadRead.Head c t false (next + 3) b (n + m)
-    unfolding headAfter
-    head-to b body =
+    pub head-no-ellipsis : (r : Refusal) → ellipsisAt s next ≡ no (fault r next 0) → headAfter s c at n ≡ no (fault r next (n + m))
+    unfolding headAfter headThen
+    head-no-ellipsis r e =
         let (tree, read, same) = result-got c (resultAt c s at) t next m (sym q ∙ found) in
-        rw (read, body) (ap (λ (u : ResultType). HeadRead.Head c u false (next + 3) b (n + m)) (sym same))
+        let sum : n + m + 0 ≡ n + m = omega arith in
+        rw (read, e) (ap (λ (k : ℕ). no (fault r next k)) sum)
+
+    -- from the last item's header on
+    head-from : (v : Bool) (third k : ℕ) → ellipsisAt s next ≡ got v third k →
+        headAnswer (headAfter s c at n) ≡ headWith c t v third (n + m + k) (bodyAt s 0x03 0x03 (length s) third)
+    unfolding headAfter headThen
+    head-from v third k e =
+        let (tree, read, same) = result-got c (resultAt c s at) t next m (sym q ∙ found) in
+        let body = bodyAt s 0x03 0x03 (length s) third in
+        rw (read, e) (head-answer c tree v third (n + m + k) body ∙ ap (λ (u : ResultType). headWith c u v third (n + m + k) body) (sym same))
+
+    pub head-plain : ellipsisAt s next ≡ got false next 0 →
+        headAnswer (headAfter s c at n) ≡ headWith c t false next (n + m) (bodyAt s 0x03 0x03 (length s) next)
+    head-plain e =
+        let sum : n + m + 0 ≡ n + m = omega arith in
+        head-from false next 0 e ∙ ap (λ (k : ℕ). headWith c t false next k (bodyAt s 0x03 0x03 (length s) next)) sum
+
+    pub head-marked : ellipsisAt s next ≡ got true (next + 3) 1 →
+        headAnswer (headAfter s c at n) ≡ headWith c t true (next + 3) (n + m + 1) (bodyAt s 0x03 0x03 (length s) (next + 3))
+    head-marked e = head-from true (next + 3) 1 e
 
 module _ (s : List ℕ) where
   pub head-long : maxLength < length s → headOf s ≡ no (fault Refusal.TooLong 0 0)
@@ -187,19 +274,24 @@ module _ (s : List ℕ) where
   afterHead h at n = thenArguments (h .convention) (h .result) (h .ellipsis) n (argumentsIn (h .convention) s at (h .end))
 
   pub signature-head : signatureOf s ≡ andThen (headOf s) afterHead
-  unfolding signatureOf headOf afterConvention headAfter afterResult argumentsAt
+  unfolding signatureOf headOf afterConvention headAfter afterResult headThen afterEllipsis argumentsAt
   signature-head = whole (ltb maxLength (length s))
     where
-      third : (c : Convention) (r : Result) (at n : ℕ) (x : Body) →
-          thenArguments c r false n (inBody x at (λ b. argumentsIn c s (at + 3) b))
-          ≡ andThen (headBy c r false at n x) afterHead
-      third c r at n (Body.To b) = refl
-      third c r at n (Body.Refused x) = let same : n + 0 ≡ n = omega arith in ap (λ (k : ℕ). no (fault x at k)) same
+      last : (c : Convention) (r : Result) (v : Bool) (at n : ℕ) (x : Body) →
+          thenArguments c r v n (inBody x at (λ b. argumentsIn c s (at + 3) b))
+          ≡ andThen (headBy c r v at n x) afterHead
+      last c r v at n (Body.To b) = refl
+      last c r v at n (Body.Refused x) = let same : n + 0 ≡ n = omega arith in ap (λ (k : ℕ). no (fault x at k)) same
+
+      third : (c : Convention) (r : Result) (n : ℕ) (x : Reading Bool) →
+          andThen (after n x) (afterEllipsis s c r)
+          ≡ andThen (andThen (after n x) (λ v next m. headBy c r v next m (bodyAt s 0x03 0x03 (length s) next))) afterHead
+      third c r n (got v next m) = last c r v next (n + m) (bodyAt s 0x03 0x03 (length s) next)
+      third c r n (no f) = refl
 
       second : (c : Convention) (n : ℕ) (x : Reading Result) →
-          andThen (after n x) (afterResult s c)
-          ≡ andThen (andThen (after n x) (λ r next m. headBy c r false next m (bodyAt s 0x03 0x03 (length s) next))) afterHead
-      second c n (got r next m) = third c r next (n + m) (bodyAt s 0x03 0x03 (length s) next)
+          andThen (after n x) (afterResult s c) ≡ andThen (andThen (after n x) (headThen s c)) afterHead
+      second c n (got r next m) = third c r (n + m) (ellipsisAt s next)
       second c n (no f) = refl
 
       first : (x : Reading Convention) → andThen x (afterConvention s) ≡ andThen (andThen x (headAfter s)) afterHead

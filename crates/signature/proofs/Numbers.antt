@@ -1,11 +1,12 @@
 -- Each answer has the number of its reading. Assumes nothing.
 use mathlib.Core.Path.{_≡_, refl}
+use mathlib.Core.Bool.{Bool, true, false}
 use Rattle.conventions.specs.declared.Convention.{Convention}
 use Rattle.items.specs.Reading.{Reading, got, no}
 use Rattle.items.specs.Refusals.{readingNumber}
 use Rattle.signature.specs.Signature.{Result, Signature, Head}
-use Rattle.signature.specs.Answer.{conventionAnswer, resultAnswer, headAnswer, signatureAnswer}
-use Rattle.signature.specs.Numbers.{outcomeNumber, conventionReadNumber, resultReadNumber, headReadNumber}
+use Rattle.signature.specs.Answer.{conventionAnswer, resultAnswer, ellipsisAnswer, headAnswer, signatureAnswer}
+use Rattle.signature.specs.Numbers.{outcomeNumber, conventionReadNumber, resultReadNumber, ellipsisReadNumber, headReadNumber}
 
 pub outcome-number : (x : Reading Signature) → outcomeNumber (signatureAnswer x .outcome) ≡ readingNumber x
 outcome-number (got g next n) = refl
@@ -18,6 +19,11 @@ convention-number (no f) = refl
 pub result-number : (c : Convention) (x : Reading Result) → resultReadNumber (resultAnswer c x) ≡ readingNumber x
 result-number c (got r next n) = refl
 result-number c (no f) = refl
+
+pub ellipsis-number : (x : Reading Bool) → ellipsisReadNumber (ellipsisAnswer x) ≡ readingNumber x
+ellipsis-number (got true next n) = refl
+ellipsis-number (got false next n) = refl
+ellipsis-number (no f) = refl
 
 pub head-number : (x : Reading Head) → headReadNumber (headAnswer x) ≡ readingNumber x
 head-number (got h next n) = refl

@@ -1,7 +1,7 @@
 -- What is read is an encoding of a signature within the limits. Assumes nothing.
 use Prim.Native.Nat.{ℕ, _+_, _*_, _≤_}
 use mathlib.Core.Path.{_≡_, refl, sym, _∙_}
-use mathlib.Core.Bool.{Bool, false}
+use mathlib.Core.Bool.{Bool, true, false}
 use mathlib.Core.List.{List, [], _∷_, _++_}
 use lib.ListN.{length, getD, length-append}
 use lib.Dec.{ltb, eqb}
@@ -28,9 +28,9 @@ use Rattle.signature.specs.declared.HeadRead.{HeadRead}
 use Rattle.signature.specs.Answer.{resultAnswer, headAnswer}
 use Rattle.signature.specs.Signature.{Result, nothing, value, Signature, Head}
 use Rattle.signature.specs.Limits.{maxLength, maxArguments, maxDepth}
-use Rattle.signature.specs.Read.{conventionBy, conventionAt, resultIn, resultAt, argumentsIn, argumentsAt, afterResult, afterConvention, signatureOf, headBy, headAfter, headOf}
+use Rattle.signature.specs.Read.{conventionBy, conventionAt, resultIn, resultAt, ellipsisAt, argumentsIn, argumentsAt, afterEllipsis, afterResult, afterConvention, signatureOf, headBy, headThen, headAfter, headOf}
 use Rattle.signature.proofs.Laws.{result-got, head-got}
-use Rattle.signature.specs.Encode.{encodeResult, encode, resultItems, signatureItems, ResultWithin, Within}
+use Rattle.signature.specs.Encode.{encodeResult, ellipsisItem, encode, resultItems, ellipsisItems, signatureItems, ResultWithin, Within}
 
 -- an item of the signature that ends the item's framing
 pub framed-item : (s : List ℕ) (tag at b : ℕ) (body : List ℕ) → Framed s tag tag (length s) at b → b ≡ at + 3 + length body → Bytes s →
@@ -100,6 +100,31 @@ pub result-sound : (c : Convention) (s : List ℕ) (at : ℕ) → Got (ResultSou
 unfolding resultAt
 result-sound c s at = by-body (ResultSound c s at) s 0x02 0x02 (length s) at _ (λ b framed. result-in-sound c s at b framed)
 
+-- the ellipsis
+
+pub record EllipsisSound (s : List ℕ) (at : ℕ) (v : Bool) (next n : ℕ) : Type 0 where
+  pub here : Bytes s → Has s at (ellipsisItem v)
+  pub ends : next ≡ at + length (ellipsisItem v)
+  pub inside : at ≤ length s → next ≤ length s
+  pub count : n ≡ ellipsisItems v
+
+ellipsis-one-sound : (s : List ℕ) (at b : ℕ) → Framed s 0x04 0x04 (length s) at b → b ≡ at + 3 → EllipsisSound s at true b 1
+unfolding ellipsisItem ellipsisItems Has
+ellipsis-one-sound s at b framed q =
+    let size = length-item 0x04 [] in
+    record { here = λ bytes. framed-item s 0x04 at b [] framed (omega arith) bytes tt; ends = omega arith; inside = λ _. framed .inside; count = refl }
+
+ellipsis-none-sound : (s : List ℕ) (at : ℕ) → EllipsisSound s at false at 0
+unfolding ellipsisItem ellipsisItems Has
+ellipsis-none-sound s at = record { here = λ _. tt; ends = omega arith; inside = λ room. room; count = refl }
+
+pub ellipsis-sound : (s : List ℕ) (at : ℕ) → Got (EllipsisSound s at) (ellipsisAt s at)
+unfolding ellipsisAt
+ellipsis-sound s at = by-choose (Got (EllipsisSound s at)) (eqb (getD s at 0) 0x04) _ _
+    (λ _. by-body (EllipsisSound s at) s 0x04 0x04 (length s) at _ (λ b framed.
+    by-pick (Got (EllipsisSound s at)) (eqb b (at + 3)) _ _ (λ q. ellipsis-one-sound s at b framed (eqb-true b (at + 3) q)) (λ _. tt)))
+    (λ _. ellipsis-none-sound s at)
+
 -- the arguments
 
 pub record ArgumentsSound (c : Convention) (s : List ℕ) (at : ℕ) (ts : Trees) (next n : ℕ) : Type 0 where
@@ -139,30 +164,36 @@ arguments-sound c s at = by-body (ArgumentsSound c s at) s 0x03 0x03 (length s) 
 
 -- the whole
 
-pub length-encode : (g : Signature) → length (encode g) ≡ 10 + length (encodeResult (g .result)) + length (encodeTrees (g .arguments))
+pub length-encode : (g : Signature) →
+    length (encode g) ≡ 10 + length (encodeResult (g .result)) + length (ellipsisItem (g .ellipsis)) + length (encodeTrees (g .arguments))
 unfolding encode
 length-encode g =
     let one = item 0x01 (codeOf (g .convention) ∷ []) in
     let two = item 0x02 (encodeResult (g .result)) in
+    let mark = ellipsisItem (g .ellipsis) in
     let three = item 0x03 (encodeTrees (g .arguments)) in
     let size₁ : length one ≡ 4 = length-item 0x01 (codeOf (g .convention) ∷ []) in
     let size₂ = length-item 0x02 (encodeResult (g .result)) in
     let size₃ = length-item 0x03 (encodeTrees (g .arguments)) in
-    let sum = length-append one (two ++ three) in
-    let sum′ = length-append two three in
+    let sum = length-append one (two ++ (mark ++ three)) in
+    let sum′ = length-append two (mark ++ three) in
+    let sum″ = length-append mark three in
     omega arith
 
-has-encode : (s : List ℕ) (g : Signature) (at : ℕ) → Has s 0 (item 0x01 (codeOf (g .convention) ∷ [])) → Has s 4 (item 0x02 (encodeResult (g .result))) →
-    at ≡ 7 + length (encodeResult (g .result)) → Has s at (item 0x03 (encodeTrees (g .arguments))) → Has s 0 (encode g)
+has-encode : (s : List ℕ) (g : Signature) (at last : ℕ) → Has s 0 (item 0x01 (codeOf (g .convention) ∷ [])) → Has s 4 (item 0x02 (encodeResult (g .result))) →
+    at ≡ 7 + length (encodeResult (g .result)) → Has s at (ellipsisItem (g .ellipsis)) → last ≡ at + length (ellipsisItem (g .ellipsis)) →
+    Has s last (item 0x03 (encodeTrees (g .arguments))) → Has s 0 (encode g)
 unfolding encode
-has-encode s g at first second q third =
+has-encode s g at last first second q mark-here u third =
     let one = item 0x01 (codeOf (g .convention) ∷ []) in
     let two = item 0x02 (encodeResult (g .result)) in
+    let mark = ellipsisItem (g .ellipsis) in
     let three = item 0x03 (encodeTrees (g .arguments)) in
     let size₁ : length one ≡ 4 = length-item 0x01 (codeOf (g .convention) ∷ []) in
     let size₂ = length-item 0x02 (encodeResult (g .result)) in
-    has-append s one (two ++ three) 0 first (has-move s (two ++ three) 4 (0 + length one) (omega arith)
-    (has-append s two three 4 second (has-move s three at (4 + length two) (omega arith) third)))
+    let marked = has-append s mark three at mark-here (has-move s three last (at + length mark) u third) in
+    has-append s one (two ++ (mark ++ three)) 0 first (has-move s (two ++ (mark ++ three)) 4 (0 + length one) (omega arith)
+    (has-append s two (mark ++ three) 4 second (has-move s (mark ++ three) at (4 + length two) (omega arith) marked)))
 
 -- what is got of a signature; only that it has the encoding's bytes needs that it has bytes
 pub record SignatureSound (s : List ℕ) (g : Signature) (next n : ℕ) : Type 0 where
@@ -174,26 +205,33 @@ pub record SignatureSound (s : List ℕ) (g : Signature) (next n : ℕ) : Type 0
 
 module _ (s : List ℕ) (short : length s ≤ maxLength) (c : Convention) (at₁ n₁ : ℕ) (first : ConventionSound s c at₁ n₁) (r : Result) (at₂ n₂ : ℕ)
     (second : ResultSound c s at₁ r at₂ n₂) where
-  all-sound : (ts : Trees) (next m : ℕ) → ArgumentsSound c s at₂ ts next m → length s ≤ next →
-      SignatureSound s (record { convention = c; result = r; ellipsis = false; arguments = ts }) next (n₁ + n₂ + m)
-  unfolding signatureItems
-  all-sound ts next m third last =
-      let g : Signature = record { convention = c; result = r; ellipsis = false; arguments = ts } in
-      let size = length-encode g in
-      let two = item 0x02 (encodeResult r) in
-      record {
-        within = record { result = second .within; arguments = third .within; few = third .few; plain = refl; short = omega arith };
-        here = λ bytes. has-same s (encode g) (omega arith)
-            (has-encode s g at₂ (first .here bytes) (has-move s two at₁ 4 (first .ends) (second .here bytes)) (omega arith) (third .here bytes));
-        size = omega arith;
-        ends = omega arith;
-        items = omega arith;
-      }
+  module _ (v : Bool) (at₃ n₃ : ℕ) (mark : EllipsisSound s at₂ v at₃ n₃) where
+    all-sound : (ts : Trees) (next m : ℕ) → ArgumentsSound c s at₃ ts next m → length s ≤ next →
+        SignatureSound s (record { convention = c; result = r; ellipsis = v; arguments = ts }) next (n₁ + n₂ + n₃ + m)
+    unfolding signatureItems
+    all-sound ts next m third last =
+        let g : Signature = record { convention = c; result = r; ellipsis = v; arguments = ts } in
+        let size = length-encode g in
+        let two = item 0x02 (encodeResult r) in
+        record {
+          within = record { result = second .within; arguments = third .within; few = third .few; short = omega arith };
+          here = λ bytes. has-same s (encode g) (omega arith)
+              (has-encode s g at₂ at₃ (first .here bytes) (has-move s two at₁ 4 (first .ends) (second .here bytes)) (omega arith) (mark .here bytes)
+              (mark .ends) (third .here bytes));
+          size = omega arith;
+          ends = omega arith;
+          items = omega arith;
+        }
+
+    after-ellipsis-sound : Got (SignatureSound s) (afterEllipsis s c r v at₃ (n₁ + n₂ + n₃))
+    unfolding afterEllipsis
+    after-ellipsis-sound = by-next (ArgumentsSound c s at₃) (SignatureSound s) (n₁ + n₂ + n₃) (argumentsAt c s at₃) _ (arguments-sound c s at₃)
+        (λ ts next m third. by-pick (Got (SignatureSound s)) (ltb next (length s)) _ _ (λ _. tt) (λ l. all-sound ts next m third (ltb-false next (length s) l)))
 
   after-result-sound : Got (SignatureSound s) (afterResult s c r at₂ (n₁ + n₂))
   unfolding afterResult
-  after-result-sound = by-next (ArgumentsSound c s at₂) (SignatureSound s) (n₁ + n₂) (argumentsAt c s at₂) _ (arguments-sound c s at₂)
-      (λ ts next m third. by-pick (Got (SignatureSound s)) (ltb next (length s)) _ _ (λ _. tt) (λ l. all-sound ts next m third (ltb-false next (length s) l)))
+  after-result-sound = by-next (EllipsisSound s at₂) (SignatureSound s) (n₁ + n₂) (ellipsisAt s at₂) _ (ellipsis-sound s at₂)
+      (λ v next m mark. after-ellipsis-sound v next m mark)
 
 after-convention-sound : (s : List ℕ) → length s ≤ maxLength → (c : Convention) (at n : ℕ) → ConventionSound s c at n → Got (SignatureSound s) (afterConvention s c at n)
 unfolding afterConvention
@@ -213,6 +251,9 @@ convention-read s c next n q = rw q at (convention-sound s)
 pub result-read : (c : Convention) (s : List ℕ) (at : ℕ) (r : Result) (next n : ℕ) → resultAt c s at ≡ got r next n → ResultSound c s at r next n
 result-read c s at r next n q = rw q at (result-sound c s at)
 
+pub ellipsis-read : (s : List ℕ) (at : ℕ) (v : Bool) (next n : ℕ) → ellipsisAt s at ≡ got v next n → EllipsisSound s at v next n
+ellipsis-read s at v next n q = rw q at (ellipsis-sound s at)
+
 pub signature-read : (s : List ℕ) (g : Signature) (next n : ℕ) → signatureOf s ≡ got g next n → SignatureSound s g next n
 signature-read s g next n q = rw q at (signature-sound s)
 
@@ -220,6 +261,11 @@ pub result-third : (r : Result) → 3 * resultItems r ≤ length (encodeResult r
 unfolding resultItems encodeResult
 result-third nothing = omega arith
 result-third (value t) = tree-third t
+
+pub ellipsis-third : (v : Bool) → 3 * ellipsisItems v ≤ length (ellipsisItem v)
+unfolding ellipsisItems ellipsisItem
+ellipsis-third true = let size = length-item 0x04 [] in omega arith
+ellipsis-third false = omega arith
 
 -- what comes before the arguments: they stand within the signature, after three bytes or more for each item
 pub record HeadBounded (s : List ℕ) (at b n : ℕ) : Type 0 where
@@ -231,17 +277,23 @@ pub record HeadBounded (s : List ℕ) (at b n : ℕ) : Type 0 where
 abbrev HeadSound : List ℕ → Head → ℕ → ℕ → Type 0
 HeadSound s h next n = HeadBounded s next (h .end) n
 
+head-then-sound : (s : List ℕ) → length s ≤ maxLength → (c : Convention) (r : Result) (at n : ℕ) → at ≤ length s → 3 * n ≤ at →
+    Got (HeadSound s) (headThen s c r at n)
+unfolding headThen
+head-then-sound s short c r at n room few = by-next (EllipsisSound s at) (HeadSound s) n (ellipsisAt s at) _ (ellipsis-sound s at)
+    (λ v next m mark. go v next m mark (bodyAt s 0x03 0x03 (length s) next) (body-is s 0x03 0x03 (length s) next))
+  where
+    go : (v : Bool) (next m : ℕ) → EllipsisSound s at v next m → (x : Body) → BodyIs s 0x03 0x03 (length s) next x → Got (HeadSound s) (headBy c r v next (n + m) x)
+    go v next m mark (Body.To b) framed =
+        let third = ellipsis-third v in
+        let ends = framed .ends in
+        record { inside = omega arith; within = framed .inside; short = short; third = omega arith }
+    go v next m mark (Body.Refused x) framed = tt
+
 head-after-sound : (s : List ℕ) → length s ≤ maxLength → (c : Convention) (at n : ℕ) → ConventionSound s c at n → Got (HeadSound s) (headAfter s c at n)
 unfolding headAfter
 head-after-sound s short c at n first = by-next (ResultSound c s at) (HeadSound s) n (resultAt c s at) _ (result-sound c s at)
-    (λ r next m second. go r next m second (bodyAt s 0x03 0x03 (length s) next) (body-is s 0x03 0x03 (length s) next))
-  where
-    go : (r : Result) (next m : ℕ) → ResultSound c s at r next m → (x : Body) → BodyIs s 0x03 0x03 (length s) next x → Got (HeadSound s) (headBy c r false next (n + m) x)
-    go r next m second (Body.To b) framed =
-        let third = result-third r in
-        let ends = framed .ends in
-        record { inside = omega arith; within = framed .inside; short = short; third = omega arith }
-    go r next m second (Body.Refused x) framed = tt
+    (λ r next m second. let third = result-third r in head-then-sound s short c r next (n + m) (second .inside) (omega arith))
 
 head-sound : (s : List ℕ) → Got (HeadSound s) (headOf s)
 unfolding headOf
@@ -269,4 +321,4 @@ result-bounded c s at x t next n found q =
 
 pub encode-third : (g : Signature) → 3 * signatureItems g ≤ length (encode g)
 unfolding signatureItems
-encode-third g = omega (arith, length-encode g, result-third (g .result), trees-third (g .arguments))
+encode-third g = omega (arith, length-encode g, result-third (g .result), ellipsis-third (g .ellipsis), trees-third (g .arguments))

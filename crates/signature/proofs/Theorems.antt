@@ -2,6 +2,7 @@
 -- Assumes nothing.
 use Prim.Native.Nat.{ℕ, _<_}
 use mathlib.Core.Path.{_≡_, sym, ap, _∙_}
+use mathlib.Core.Bool.{Bool, true, false}
 use mathlib.Core.List.{List, [], _∷_, _++_}
 use lib.ListN.{length}
 use native.Mathlib.Omega.{arith}
@@ -17,7 +18,7 @@ use Rattle.items.specs.Encode.{item, encodeTrees}
 use Rattle.items.proofs.Trees.{bytes-none, bytes-cons, bytes-item, tree-bytes, trees-bytes}
 use Rattle.signature.specs.Signature.{Result, nothing, value, Signature}
 use Rattle.signature.specs.Read.{signatureOf}
-use Rattle.signature.specs.Encode.{encodeResult, encode, signatureItems, ResultWithin, Within}
+use Rattle.signature.specs.Encode.{encodeResult, ellipsisItem, encode, signatureItems, ResultWithin, Within}
 use Rattle.signature.specs.Exact.{ReadsExactly, ResultSized, Accepted}
 use Rattle.signature.proofs.Sound.{signature-read, length-encode, encode-third}
 use Rattle.signature.proofs.Complete.{encode-reads}
@@ -70,14 +71,23 @@ unfolding encodeResult
 result-bytes nothing l = bytes-none
 result-bytes (value t) l = tree-bytes t l
 
+ellipsis-bytes : (v : Bool) → Bytes (ellipsisItem v)
+unfolding ellipsisItem
+ellipsis-bytes true = bytes-item 0x04 [] (omega arith) (omega arith) bytes-none
+ellipsis-bytes false = bytes-none
+
 pub encode-bytes : (g : Signature) → Within g → Bytes (encode g)
 unfolding encode
 encode-bytes g w =
     let size = length-encode g in
     let short = w .short in
     let c = codeOf (g .convention) in
-    bytes-append (item 0x01 (c ∷ [])) (item 0x02 (encodeResult (g .result)) ++ item 0x03 (encodeTrees (g .arguments)))
+    let one = item 0x01 (c ∷ []) in
+    let two = item 0x02 (encodeResult (g .result)) in
+    let mark = ellipsisItem (g .ellipsis) in
+    let three = item 0x03 (encodeTrees (g .arguments)) in
+    bytes-append one (two ++ (mark ++ three))
     (bytes-item 0x01 (c ∷ []) (omega arith) (omega arith) (bytes-cons c [] (code-byte (g .convention)) bytes-none))
-    (bytes-append (item 0x02 (encodeResult (g .result))) (item 0x03 (encodeTrees (g .arguments)))
-    (bytes-item 0x02 (encodeResult (g .result)) (omega arith) (omega arith) (result-bytes (g .result) (omega arith)))
-    (bytes-item 0x03 (encodeTrees (g .arguments)) (omega arith) (omega arith) (trees-bytes (g .arguments) (omega arith))))
+    (bytes-append two (mark ++ three) (bytes-item 0x02 (encodeResult (g .result)) (omega arith) (omega arith) (result-bytes (g .result) (omega arith)))
+    (bytes-append mark three (ellipsis-bytes (g .ellipsis))
+    (bytes-item 0x03 (encodeTrees (g .arguments)) (omega arith) (omega arith) (trees-bytes (g .arguments) (omega arith)))))

@@ -1,7 +1,6 @@
 -- The bytes of a signature, and the signatures that the bridge carries: document 01, "A signature's bytes", from a signature
 -- to its bytes. Assumes nothing.
 use Prim.Native.Nat.{ℕ, _+_, _≤_}
-use mathlib.Core.Path.{_≡_}
 use mathlib.Core.Bool.{Bool, true, false}
 use mathlib.Core.List.{List, [], _∷_, _++_}
 use lib.ListN.{length}
@@ -22,18 +21,23 @@ unfoldable pub ellipsisItem : Bool → List ℕ
 ellipsisItem true = item 0x04 []
 ellipsisItem false = []
 
--- "A signature is three items in this order, and nothing after"
+-- "A signature is three items in this order, and nothing after", but for the ellipsis
 unfoldable pub encode : Signature → List ℕ
 encode g =
-    item 0x01 (codeOf (g .convention) ∷ []) ++ (item 0x02 (encodeResult (g .result)) ++ item 0x03 (encodeTrees (g .arguments)))
+    item 0x01 (codeOf (g .convention) ∷ [])
+    ++ (item 0x02 (encodeResult (g .result)) ++ (ellipsisItem (g .ellipsis) ++ item 0x03 (encodeTrees (g .arguments))))
 
 unfoldable pub resultItems : Result → ℕ
 resultItems nothing = 0
 resultItems (value t) = itemsOf t
 
+unfoldable pub ellipsisItems : Bool → ℕ
+ellipsisItems true = 1
+ellipsisItems false = 0
+
 -- "its count of items, headers of nested ones included"
 unfoldable pub signatureItems : Signature → ℕ
-signatureItems g = 3 + resultItems (g .result) + itemsIn (g .arguments)
+signatureItems g = 3 + resultItems (g .result) + ellipsisItems (g .ellipsis) + itemsIn (g .arguments)
 
 unfoldable pub ResultWithin : Convention → Result → Type 0
 ResultWithin c nothing = Unit {0}
@@ -44,5 +48,4 @@ pub record Within (g : Signature) : Type 0 where
   pub result : ResultWithin (g .convention) (g .result)
   pub arguments : types.AllWithin (g .convention) (g .arguments)
   pub few : countOf (g .arguments) ≤ maxArguments
-  pub plain : g .ellipsis ≡ false
   pub short : length (encode g) ≤ maxLength

@@ -4,6 +4,7 @@ use Rattle.items.specs.Refusals.{numberOf}
 use Rattle.signature.specs.declared.Outcome.{Outcome}
 use Rattle.signature.specs.declared.ConventionRead.{ConventionRead}
 use Rattle.signature.specs.declared.ResultRead.{ResultRead}
+use Rattle.signature.specs.declared.EllipsisRead.{EllipsisRead}
 use Rattle.signature.specs.declared.HeadRead.{HeadRead}
 
 abbrev pub outcomeNumber : Outcome → ℕ
@@ -17,6 +18,11 @@ conventionReadNumber (ConventionRead.Refused f) = numberOf (f .reason)
 abbrev pub resultReadNumber : ResultRead → ℕ
 resultReadNumber (ResultRead.Result t next n) = 0
 resultReadNumber (ResultRead.Refused f) = numberOf (f .reason)
+
+abbrev pub ellipsisReadNumber : EllipsisRead → ℕ
+ellipsisReadNumber EllipsisRead.Absent = 0
+ellipsisReadNumber EllipsisRead.Present = 0
+ellipsisReadNumber (EllipsisRead.Refused r) = numberOf r
 
 abbrev pub headReadNumber : HeadRead → ℕ
 headReadNumber (HeadRead.Head c t v at e n) = 0

@@ -1,4 +1,5 @@
--- A signature: a calling convention, a result's type or none, and the arguments' types in order. Assumes nothing.
+-- A signature: a calling convention, a result's type or none, whether it has an ellipsis (a variable argument list: document 02,
+-- No. 5), and the arguments' types in order. Assumes nothing.
 use Prim.Native.Nat.{ℕ}
 use mathlib.Core.Bool.{Bool}
 use Rattle.conventions.specs.declared.Convention.{Convention}

@@ -1,6 +1,7 @@
-// What a signature says: the convention, the result's type and the types of 0 to 128 arguments.
+// What a signature says: the convention, the result's type, whether it has an ellipsis, and the types of 0 to 128 arguments.
 use conventions::Convention;
 use items::Fault;
+use items::Refusal;
 use types::IntegerKind;
 use types::ValueType;
 ghost use mathlib.Core.Path.{_≡_};
@@ -24,7 +25,7 @@ pub enum Outcome {
     Refused(Fault),
 }
 
-// The answer on a signature. A refused one has no result and no arguments; the places of the table past `count` hold an i8.
+// The answer on a signature. A refused one has no result, no ellipsis and no arguments; the places of the table past `count` hold an i8.
 pub struct SignatureRead {
     pub outcome: Outcome,
     pub convention: Convention,
@@ -40,7 +41,7 @@ pub enum ConventionRead {
     Refused(Fault),
 }
 
-// The second item, with the place of the third and the count of its items.
+// The second item, with the place after it and the count of its items.
 pub enum ResultRead {
     Result {
         ty: ResultType,
@@ -48,6 +49,13 @@ pub enum ResultRead {
         items: usize,
     },
     Refused(Fault),
+}
+
+// An ellipsis's item, which stands at the place after the result's: three bytes long where it is there.
+pub enum EllipsisRead {
+    Absent,
+    Present,
+    Refused(Refusal),
 }
 
 // What stands before the arguments: the convention, the result's type and whether there is an ellipsis; the arguments' bytes are those from `at` to `end`,

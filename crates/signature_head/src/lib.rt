@@ -1,4 +1,4 @@
-// Reads what stands before a signature's arguments: the convention and the result's type.
+// Reads what stands before a signature's arguments: the convention, the result's type and the ellipsis.
 use conventions::Convention;
 use conventions::ConventionCode;
 use items::Body;
@@ -6,14 +6,16 @@ use items::Fault;
 use items::ItemRead;
 use items::Refusal;
 use signature::ConventionRead;
+use signature::EllipsisRead;
 use signature::HeadRead;
 use signature::ResultRead;
 use signature::ResultType;
 ghost use mathlib.Core.Path.{_≡_};
 ghost use Prim.Native.Nat.{_+_, _^_, _≤_, _<_};
 ghost use lib.ListN.{length};
-ghost use Rattle.signature.specs.Read.{conventionAt, resultIn, resultAt, headAfter, headOf};
-ghost use Rattle.signature.specs.Answer.{conventionAnswer, resultAnswer, headAnswer};
+ghost use Rattle.items.specs.Read.{bodyAt};
+ghost use Rattle.signature.specs.Read.{conventionAt, resultIn, resultAt, ellipsisAt, headAfter, headOf};
+ghost use Rattle.signature.specs.Answer.{conventionAnswer, resultAnswer, ellipsisAnswer, headWith, headAnswer};
 
 // The most bytes that a signature may have: `maxLength` of crates/signature/specs/Limits.antt.
 pub const MAX_LENGTH: usize = 16384;
@@ -92,7 +94,58 @@ fn read_result(s: &[u8], c: Convention, at: usize) -> ResultRead
     }
 }
 
-// The second item and the third one's header.
+// The ellipsis's item, at `at`: mostly there is none, which one byte says.
+fn read_ellipsis(s: &[u8], at: usize) -> EllipsisRead
+    requires { ⌜ (at ≤ length (now s)) × (length (now s) ≤ 2 ^ 16) ⌝ }
+    ensures { λ r. ⌜ r ≡ ellipsisAnswer (ellipsisAt (now (s .entry)) at) ⌝ }
+{
+    if at == s.len() {
+        return EllipsisRead::Absent;
+    }
+    if s[at] != 0x04 {
+        return EllipsisRead::Absent;
+    }
+    match item_headers::read_body(s, 0x04, 0x04, at, s.len()) {
+        Body::Refused(reason) => EllipsisRead::Refused(reason),
+        Body::To(to) => {
+            if to != at + 3 {
+                return EllipsisRead::Refused(Refusal::Malformed);
+            }
+            EllipsisRead::Present
+        }
+    }
+}
+
+// The header of the arguments' item, at `at`; `earlier` items came before it.
+fn read_last(
+    s: &[u8],
+    c: Convention,
+    result: ResultType,
+    ellipsis: bool,
+    at: usize,
+    earlier: usize,
+) -> HeadRead
+    requires { ⌜ (at ≤ length (now s)) × (length (now s) ≤ 2 ^ 16) ⌝ }
+    ensures { λ r. ⌜ r ≡ headWith c result ellipsis at earlier (bodyAt (now (s .entry)) 0x03 0x03 (length (now (s .entry))) at) ⌝ }
+{
+    match item_headers::read_body(s, 0x03, 0x03, at, s.len()) {
+        Body::Refused(reason) => HeadRead::Refused(Fault {
+            reason,
+            place: at,
+            passed: earlier,
+        }),
+        Body::To(to) => HeadRead::Head {
+            convention: c,
+            result,
+            ellipsis,
+            at: at + 3,
+            end: to,
+            earlier,
+        },
+    }
+}
+
+// The second item, the ellipsis and the last item's header.
 fn read_head_after(s: &[u8], c: Convention) -> HeadRead
     requires { ⌜ (4 ≤ length (now s)) × (length (now s) ≤ 2 ^ 16) ⌝ }
     ensures { λ r. ⌜ r ≡ headAnswer (headAfter (now (s .entry)) c 4 1) ⌝ }
@@ -105,20 +158,14 @@ fn read_head_after(s: &[u8], c: Convention) -> HeadRead
             items,
         } => {
             let earlier = 1 + items;
-            match item_headers::read_body(s, 0x03, 0x03, third, s.len()) {
-                Body::Refused(reason) => HeadRead::Refused(Fault {
+            match read_ellipsis(s, third) {
+                EllipsisRead::Refused(reason) => HeadRead::Refused(Fault {
                     reason,
                     place: third,
                     passed: earlier,
                 }),
-                Body::To(to) => HeadRead::Head {
-                    convention: c,
-                    result: ty,
-                    ellipsis: false,
-                    at: third + 3,
-                    end: to,
-                    earlier,
-                },
+                EllipsisRead::Absent => read_last(s, c, ty, false, third, earlier),
+                EllipsisRead::Present => read_last(s, c, ty, true, third + 3, earlier + 1),
             }
         }
     }

@@ -29,7 +29,7 @@ fn refuse(fault: Fault) -> SignatureRead
     }
 }
 
-// The arguments, in the third item's body from `at` to `end`, and the signature's end; `earlier` items came before this one.
+// The arguments, in the last item's body from `at` to `end`, and the signature's end; `earlier` items came before this one.
 fn read_arguments(
     s: &[u8],
     c: Convention,

@@ -22,6 +22,9 @@ result-words-requires c κs = search needs
 code-of-requires : tie.Need-code-of-requires
 code-of-requires c κs = search needs
 
+mark-word-requires : tie.Need-mark-word-requires
+mark-word-requires c κs = search needs
+
 same-length : tie.Need-same-length
 same-length c = search needs
 
@@ -33,7 +36,8 @@ same-length-2 c = search needs
 
 returns-2 : tie.Need-returns-2
 returns-2 c =
-    (accepted-plan _ _ (c .before .before .before .before .before .before .plan-words .ensures .0) _ (c .before .before .enum-told .given .1) _ (c .before .result-words .ensures) _ (c .code-of .ensures), c .before .before .before .before .before .before .plan-words .ensures .1)
+    let plan = c .before .before .before .before .before .before .before .plan-words .ensures in
+    (accepted-plan _ _ (plan .0) _ (c .before .before .before .enum-told .given .1) _ (c .before .before .result-words .ensures) _ (c .before .code-of .ensures) _ (c .mark-word .ensures), plan .1)
 
 pub fz-plan-spec : {M : Type 1} → statement M
 fz-plan-spec =
@@ -45,6 +49,7 @@ fz-plan-spec =
     enum-told
     result-words-requires
     code-of-requires
+    mark-word-requires
     same-length
     returns
     same-length-2

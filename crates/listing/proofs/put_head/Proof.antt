@@ -21,6 +21,9 @@ slice-aggregate-put-labelled-2 c = search needs
 put-labelled-requires-2 : tie.Need-put-labelled-requires-2
 put-labelled-requires-2 c κs = search needs
 
+put-ellipsis-requires : tie.Need-put-ellipsis-requires
+put-ellipsis-requires c κs = search needs
+
 put-byte-requires : tie.Need-put-byte-requires
 put-byte-requires c κs = search needs
 
@@ -30,11 +33,12 @@ same-length c = search needs
 returns : tie.Need-returns
 unfolding headText
 returns c =
-    let name = c .before .before .before .before .before .before .before .before .before .before .before .before .before .before .before .before .put-name .ensures in
-    let count = c .before .before .before .before .before .before .before .before .before .before .before .put-labelled .ensures in
-    let area = c .before .before .before .before .before .before .put-labelled2 .ensures in
+    let name = c .before .before .before .before .before .before .before .before .before .before .before .before .before .before .before .before .before .before .before .before .put-name .ensures in
+    let count = c .before .before .before .before .before .before .before .before .before .before .before .before .before .before .before .put-labelled .ensures in
+    let area = c .before .before .before .before .before .before .before .before .before .before .put-labelled2 .ensures in
+    let mark = c .before .before .before .before .before .before .put-ellipsis .ensures in
     let end = c .before .before .put-byte .ensures in
-    (wrote-then (name .0) (wrote-then (count .0) (wrote-then (area .0) end)), omega (arith, name .1, count .1, area .1, end .end))
+    (wrote-then (name .0) (wrote-then (count .0) (wrote-then (area .0) (wrote-then (mark .0) end))), omega (arith, name .1, count .1, area .1, mark .1, end .end))
 
 pub put-head-spec : {M : Type 1} → statement M
 put-head-spec =
@@ -45,6 +49,7 @@ put-head-spec =
     put-labelled-requires
     slice-aggregate-put-labelled-2
     put-labelled-requires-2
+    put-ellipsis-requires
     put-byte-requires
     same-length
     returns)

@@ -13,7 +13,7 @@ use Rattle.listing.proofs.put_lines.Statement.{statement}
 use Rattle.listing.proofs.put_lines.Tie as tie
 
 abbrev Inv-loop : tie.InvT-loop
-Inv-loop text₀ p c count result next₀ i₀ text next i = Wrote text₀ text next₀ next (linesText c 0 (take i (take count (p .spans)))) × (i ≤ count) × (next ≤ 60 + 2100 * i)
+Inv-loop text₀ p c count result next₀ i₀ text next i = Wrote text₀ text next₀ next (linesText c 0 (take i (take count (p .spans)))) × (i ≤ count) × (next ≤ 64 + 2100 * i)
 
 abbrev μ-loop : tie.MeasureT-loop
 μ-loop text₀ p c count result next₀ i₀ text next i = count - i

@@ -1,11 +1,10 @@
 -- What comes before the arguments, then the arguments, and then the first unclear one.
 use borrow.Author.Needs.{needs}
 use native.Mathlib.Omega.{arith}
-use mathlib.Core.Path.{sym, ap, _∙_}
+use mathlib.Core.Path.{sym, _∙_}
 use Rattle.signature.proofs.Laws.{signature-refused}
 use Rattle.signature.proofs.Sound.{head-bounded}
-use Rattle.plan.specs.Plan.{measureOf}
-use Rattle.plan.proofs.Measures.{plan-arguments, unclear-arguments}
+use Rattle.plan.proofs.Measures.{measured-arguments, unclear-arguments}
 use Rattle.plan.proofs.Calls.{measured-refused, measured-called}
 use Rattle.measuring.proofs.measure.Statement.{statement}
 use Rattle.measuring.proofs.measure.Tie as tie
@@ -37,7 +36,7 @@ returns-2 c =
     let given = c .before .before .before .convention .given .1 in
     let a = c .before .measure-arguments .ensures in
     c .judged .ensures
-    ∙ measured-called _ _ _ (a .0 ∙ sym (ap measureOf (plan-arguments _ _ head _ _ _ _ _ _ given))) (a .1 ∙ sym (unclear-arguments _ _ head _ _ _ _ _ _ given))
+    ∙ measured-called _ _ _ (a .0 ∙ measured-arguments _ _ head _ _ _ _ _ _ given) (a .1 ∙ sym (unclear-arguments _ _ head _ _ _ _ _ _ given))
 
 pub measure-spec : {M : Type 1} → statement M
 measure-spec =

@@ -1,12 +1,11 @@
 -- The sizes by the reading alone have its outcome.
 use borrow.Author.Needs.{needs}
 use native.Mathlib.Omega.{arith}
-use mathlib.Core.Path.{sym, ap, _∙_}
+use mathlib.Core.Path.{ap, _∙_}
 use Rattle.signature.proofs.Laws.{signature-refused}
 use Rattle.signature.proofs.Sound.{head-bounded}
 use Rattle.plan.specs.declared.Measured.{Measured}
-use Rattle.plan.specs.declared.Plan.{Plan}
-use Rattle.plan.proofs.Measures.{plan-arguments}
+use Rattle.plan.proofs.Measures.{measured-arguments}
 use Rattle.plan.proofs.Answers.{outcome-refused, outcome-read}
 use Rattle.measuring.proofs.outcome_of.Statement.{statement}
 use Rattle.measuring.proofs.outcome_of.Tie as tie
@@ -30,9 +29,7 @@ returns-2 : tie.Need-returns-2
 returns-2 c =
     let head = c .before .before .before .before .before .read-head .ensures in
     let given = c .before .before .before .convention .given .1 in
-    ap (λ (m : Measured). m .outcome) (c .before .measure-arguments .ensures .0)
-    ∙ sym (ap (λ (p : Plan). p .outcome) (plan-arguments _ _ head _ _ _ _ _ _ given))
-    ∙ outcome-read _
+    ap (λ (m : Measured). m .outcome) (c .before .measure-arguments .ensures .0 ∙ measured-arguments _ _ head _ _ _ _ _ _ given) ∙ outcome-read _
 
 pub outcome-of-spec : {M : Type 1} → statement M
 outcome-of-spec =

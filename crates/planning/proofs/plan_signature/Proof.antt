@@ -1,22 +1,23 @@
 -- The loop plans one argument a turn; what it has planned and what is left make up the whole fold (`Going`).
-use Rattle.plan.proofs.Turns.{Going, Kept, length-types, types-drop, going-start, going-more, going-end}
-use Rattle.plan.specs.Plan.{planned, planIn, typesIn}
+use Rattle.plan.proofs.Turns.{Going, Kept, length-types, types-drop, going-marked, going-more, going-end, gone-plan}
+use Rattle.plan.specs.Plan.{planned, typesIn}
 use Rattle.plan.specs.declared.Plan.{Plan}
 use Rattle.plan.proofs.Fold.{reached-roomy}
 use Rattle.places.proofs.Bounds.{rules-lawful}
-use Rattle.places.specs.Step.{placed}
+use Rattle.places.proofs.Marked.{lawful-marked}
+use Rattle.places.specs.Step.{rulesOf, withEllipsis, startOf, placed}
 use borrow.Author.Needs.{needs}
 use native.Mathlib.Omega.{arith}
 use Prim.Native.Nat.{_-_}
-use mathlib.Core.Path.{refl, ap, _∙_}
+use mathlib.Core.Path.{refl, sym, ap, _∙_}
 use Rattle.planning.proofs.plan_signature.Statement.{statement}
 use Rattle.planning.proofs.plan_signature.Tie as tie
 
 abbrev Inv-loop : tie.InvT-loop
-Inv-loop g convention count rules hidden c₀ plan₀ values₀ i₀ c plan values i = Going convention rules c₀ (typesIn g) (plan .spans) c values i × Kept plan₀ plan
+Inv-loop g convention ellipsis count rules hidden c₀ plan₀ values₀ i₀ c plan values i = Going convention rules c₀ (typesIn g) (plan .spans) c values i × Kept plan₀ plan
 
 abbrev μ-loop : tie.MeasureT-loop
-μ-loop g convention count rules hidden c₀ plan₀ values₀ i₀ c plan values i = count - i
+μ-loop g convention ellipsis count rules hidden c₀ plan₀ values₀ i₀ c plan values i = count - i
 
 enum-told : tie.Need-enum-told Inv-loop μ-loop
 enum-told c = search needs
@@ -30,11 +31,14 @@ enum-told-2 c = search needs
 call-rules-of-requires : tie.Need-call-rules-of-requires Inv-loop μ-loop
 call-rules-of-requires c κs = search needs
 
+with-ellipsis-requires : tie.Need-with-ellipsis-requires Inv-loop μ-loop
+with-ellipsis-requires c κs = search needs
+
 hidden-in-requires : tie.Need-hidden-in-requires Inv-loop μ-loop
 hidden-in-requires c κs = search needs
 
 result-in-requires : tie.Need-result-in-requires Inv-loop μ-loop
-result-in-requires c κs = c .before .before .before .before .pre .result
+result-in-requires c κs = c .before .before .before .before .before .pre .result
 
 start-requires : tie.Need-start-requires Inv-loop μ-loop
 start-requires c κs = search needs
@@ -44,15 +48,15 @@ blank-requires-2 c κs = search needs
 
 loop-holds : tie.Need-loop-holds Inv-loop μ-loop
 loop-holds c = (
-  rw (ap (λ (p : Plan). p .spans) (c .blank2 .ensures), c .before .start .ensures, c .before .before .before .before .call-rules-of .ensures) (going-start _ _ _ _ (rules-lawful (c .before .before .before .before .before .before .before .args .t1 .convention))),
-  record { outcome = refl; convention = refl; result = refl; count = refl },
+  rw (ap (λ (p : Plan). p .spans) (c .blank2 .ensures), c .before .start .ensures, c .before .before .before .before .with-ellipsis .ensures, c .before .before .before .before .before .call-rules-of .ensures) (going-marked _ _ _ _),
+  record { outcome = refl; convention = refl; ellipsis = refl; result = refl; count = refl },
 )
 
 mul-a : tie.Need-mul-a Inv-loop μ-loop
-mul-a c = omega (arith, c .before .before .before .before .before .before .before .before .before .pre .few)
+mul-a c = omega (arith, c .before .before .before .before .before .before .before .before .before .before .pre .few)
 
 element-copy-out-a : tie.Need-element-copy-out-a Inv-loop μ-loop
-element-copy-out-a c = omega (arith, c .before .before .before .before .before .before .before .before .before .pre .few)
+element-copy-out-a c = omega (arith, c .before .before .before .before .before .before .before .before .before .before .pre .few)
 
 size-of-requires : tie.Need-size-of-requires Inv-loop μ-loop
 size-of-requires c κs = search needs
@@ -60,33 +64,34 @@ size-of-requires c κs = search needs
 step-requires : tie.Need-step-requires Inv-loop μ-loop
 step-requires c κs =
     let turn = c .before .before .before in
-    let start = turn .before .before .before .before .before .before .before .before in
+    let start = turn .before .before .before .before .before .before .before .before .before in
     let pre = start .pre in
     let g = turn .loop .inv .0 in
-    let rules = turn .before .before .before .before .before .call-rules-of in
+    let v = turn .before .before .before .before .before .with-ellipsis in
+    let rules = turn .before .before .before .before .before .before .call-rules-of in
     let many = length-types (start .args .t1 .count) (start .args .t1 .arguments) (pre .room) in (
-      rw (rules .ensures) (rules-lawful (start .args .t1 .convention)),
+      rw (v .ensures, rules .ensures) (lawful-marked _ _ (rules-lawful (start .args .t1 .convention))),
       reached-roomy _ _ _ _ (omega (arith, g .within, pre .few)) (g .reached),
       rw (c .size-of .ensures) (pre .small (turn .loop .i) (omega arith)),
     )
 
 mul-s : tie.Need-mul-s Inv-loop μ-loop
-mul-s c = omega (arith, c .before .before .before .before .before .before .before .before .before .before .before .before .before .pre .few, c .before .before .before .before .loop-test)
+mul-s c = omega (arith, c .before .before .before .before .before .before .before .before .before .before .before .before .before .before .pre .few, c .before .before .before .before .loop-test)
 
 element-set-from-s : tie.Need-element-set-from-s Inv-loop μ-loop
-element-set-from-s c = omega (arith, c .before .before .before .before .before .before .before .before .before .before .before .before .before .pre .few, c .before .before .before .before .loop-test)
+element-set-from-s c = omega (arith, c .before .before .before .before .before .before .before .before .before .before .before .before .before .before .pre .few, c .before .before .before .before .loop-test)
 
 add-values : tie.Need-add-values Inv-loop μ-loop
 add-values c =
     let turn = c .before .before .before .before .before .before in
-    let start = turn .before .before .before .before .before .before .before .before in
+    let start = turn .before .before .before .before .before .before .before .before .before in
     let pre = start .pre in
     let g = turn .loop .inv .0 in
     let many = length-types (start .args .t1 .count) (start .args .t1 .arguments) (pre .room) in
     omega (arith, pre .small (turn .loop .i) (omega arith), g .reached .small, g .within, pre .few, c .before .before .before .size-of .ensures)
 
 add-i : tie.Need-add-i Inv-loop μ-loop
-add-i c = omega (arith, c .before .before .before .before .before .before .before .before .before .before .before .before .before .before .pre .few, c .before .before .before .before .before .loop-test)
+add-i c = omega (arith, c .before .before .before .before .before .before .before .before .before .before .before .before .before .before .before .pre .few, c .before .before .before .before .before .loop-test)
 
 loop-less : tie.Need-loop-less Inv-loop μ-loop
 loop-less c = omega arith
@@ -95,18 +100,18 @@ loop-again : tie.Need-loop-again Inv-loop μ-loop
 unfolding placed
 loop-again c =
     let turn = c .before .before .before .before .before .before in
-    let start = turn .before .before .before .before .before .before .before .before in
+    let start = turn .before .before .before .before .before .before .before .before .before in
     let pre = start .pre in
     let i = turn .loop .i in
     let kept = turn .loop .inv .1 in
-    let rules = turn .before .before .before .before .before .call-rules-of .ensures in
+    let rules = turn .before .before .before .before .before .with-ellipsis .ensures ∙ ap (withEllipsis (start .args .t1 .ellipsis)) (turn .before .before .before .before .before .before .call-rules-of .ensures) in
     let n = start .args .t1 .count in
     let l = start .args .t1 .arguments in
     let many = length-types n l (pre .room) in (
       rw (c .before .before .step .ensures, c .before .before .before .size-of .ensures, rules)
-          (going-more _ _ _ _ _ _ _ _ _ (rules-lawful (start .args .t1 .convention)) (omega arith) (omega arith) (pre .small i (omega arith))
+          (going-more _ _ _ _ _ _ _ _ _ (lawful-marked _ _ (rules-lawful (start .args .t1 .convention))) (omega arith) (omega arith) (pre .small i (omega arith))
           (types-drop n l i (omega arith) (pre .room)) (rw rules at (turn .loop .inv .0))),
-      record { outcome = kept .outcome; convention = kept .convention; result = kept .result; count = kept .count },
+      record { outcome = kept .outcome; convention = kept .convention; ellipsis = kept .ellipsis; result = kept .result; count = kept .count },
     )
 
 area-of-requires : tie.Need-area-of-requires Inv-loop μ-loop
@@ -117,21 +122,24 @@ unfolding planned
 returns c = c .blank .ensures ∙ rw (c .before .enum-told .given .1)
 
 returns-2 : tie.Need-returns-2 Inv-loop μ-loop
-unfolding planned planIn
+unfolding planned
 returns-2 c =
-    let many = length-types (c .before .before .before .before .before .before .before .before .before .before .args .t1 .count) (c .before .before .before .before .before .before .before .before .before .before .args .t1 .arguments) (c .before .before .before .before .before .before .before .before .before .before .pre .room) in
-    let gone = going-end _ _ _ _ _ _ _ _ (omega arith) (c .before .before .loop .inv .0) in
+    let start = c .before .before .before .before .before .before .before .before .before .before .before in
+    let g = start .args .t1 in
+    let many = length-types (g .count) (g .arguments) (start .pre .room) in
     let kept = c .before .before .loop .inv .1 in
     let blank = c .before .before .before .blank2 .ensures in
-    let outcome = kept .outcome ∙ ap (λ (p : Plan). p .outcome) blank in
-    let convention = kept .convention ∙ ap (λ (p : Plan). p .convention) blank in
-    let result = kept .result ∙ ap (λ (p : Plan). p .result) blank ∙ c .before .before .before .before .before .result-in .ensures in
-    let count = kept .count ∙ ap (λ (p : Plan). p .count) blank in
-    let rules = c .before .before .before .before .before .before .before .call-rules-of .ensures in
-    let hidden = c .before .before .before .before .before .before .hidden-in .ensures in
-    let first = c .before .before .before .before .start .ensures in
-    let area = c .area-of .ensures in
-    rw (c .before .before .before .before .before .before .before .before .enum-told2 .given .1) (cc)
+    rw (c .before .before .before .before .before .before .before .before .before .enum-told2 .given .1)
+    (gone-plan _ (g .convention) (g .ellipsis) (g .result) (typesIn g) _ _ _ (c .before .before .loop .plan) _ _
+    (c .before .before .before .before .before .before .before .with-ellipsis .ensures ∙ ap (withEllipsis (g .ellipsis)) (c .before .before .before .before .before .before .before .before .call-rules-of .ensures))
+    (c .before .before .before .before .start .ensures ∙ ap (startOf (rulesOf (g .convention))) (c .before .before .before .before .before .before .hidden-in .ensures))
+    (going-end _ _ _ _ _ _ _ _ (omega arith) (c .before .before .loop .inv .0))
+    (kept .outcome ∙ ap (λ (p : Plan). p .outcome) blank ∙ c .before .before .before .before .before .before .before .before .before .enum-told2 .given .1)
+    (kept .convention ∙ ap (λ (p : Plan). p .convention) blank)
+    (kept .ellipsis ∙ ap (λ (p : Plan). p .ellipsis) blank)
+    (kept .result ∙ ap (λ (p : Plan). p .result) blank ∙ c .before .before .before .before .before .result-in .ensures)
+    (kept .count ∙ ap (λ (p : Plan). p .count) blank ∙ sym many)
+    (c .area-of .ensures))
 
 pub plan-signature-spec : {M : Type 1} → statement M
 plan-signature-spec =
@@ -143,6 +151,7 @@ plan-signature-spec =
     blank-requires
     enum-told-2
     call-rules-of-requires
+    with-ellipsis-requires
     hidden-in-requires
     result-in-requires
     start-requires
