@@ -1,0 +1,3 @@
+-- What it means that appended arguments move nothing. Assumes nothing.
+pub mod Appending
+pub mod Printed
