@@ -1,6 +1,6 @@
 -- A walk over the table of a signature that was read: the argument at hand, those after it, and what is reached at the end.
 -- Assumes nothing.
-use mathlib.Core.Path.{_≡_, refl, sym, ap, _∙_}
+use mathlib.Core.Path.{_≡_, refl, sym, ap, subst, _∙_}
 use mathlib.Core.List.{List, [], _∷_}
 use Prim.Native.Nat.{ℕ, suc, _+_, _≤_, _<_}
 use native.Mathlib.Omega.{arith}
@@ -16,18 +16,19 @@ use Rattle.signature.specs.Signature.{Signature}
 use Rattle.signature.specs.Read.{signatureOf}
 use Rattle.signature.specs.Answer.{resultType, signatureAnswer}
 use Rattle.places.specs.declared.Cursor.{Cursor}
-use Rattle.places.specs.Step.{Roomy, rulesOf, spanOf, nextOf}
+use Rattle.places.specs.Step.{Lawful, Roomy, rulesOf, withEllipsis, spanOf, nextOf}
 use Rattle.places.proofs.Bounds.{rules-lawful}
+use Rattle.places.proofs.Marked.{lawful-marked, next-marked, start-marked}
 use Rattle.plan.specs.declared.Measured.{Measured}
 use Rattle.plan.specs.Plan.{spansOf, lastOf, valuesOf, hiddenIn, startIn, endIn, resultIn, typesIn, planIn, planAnswer, planned, measureOf}
 use Rattle.plan.specs.Call.{unclearOf}
 use Rattle.plan.specs.Limits.{Plannable, typeAt}
-use Rattle.plan.proofs.Fold.{Reached, reached-start, reached-more, reached-roomy}
+use Rattle.plan.proofs.Fold.{last-marked, Reached, reached-start, reached-more, reached-roomy}
 use Rattle.plan.proofs.Turns.{length-types, types-drop}
 use Rattle.plan.proofs.Answers.{table-types, planned-answer, outcome-read}
 use Rattle.plan.proofs.Calls.{clear-outcome}
 use Rattle.slots.specs.Placements.{Placement, placement, placements}
-use Rattle.slots.specs.Arguments.{argumentsIn, argumentsOf, planFor, sizesFor}
+use Rattle.slots.specs.Arguments.{argumentsIn, argumentsOf, planFor, rulesIn, sizesFor}
 use Rattle.slots.proofs.Answered.{arguments-got}
 use Rattle.arguments.specs.Table.{argumentsFrom}
 
@@ -35,7 +36,7 @@ use Rattle.arguments.specs.Table.{argumentsFrom}
 arguments-same : (x : Reading Signature) → argumentsFrom (signatureAnswer x) ≡ argumentsIn (signatureAnswer x) (planAnswer x)
 unfolding argumentsFrom argumentsIn planAnswer placements
 arguments-same (got g next n) =
-    ap (λ (ts : List ValueType). placements (g .convention) ts (spansOf (g .convention) (rulesOf (g .convention)) (startIn (g .convention) (resultType (g .convention) (g .result))) ts)) (table-types (g .convention) (g .arguments))
+    ap (λ (ts : List ValueType). placements (g .convention) ts (spansOf (g .convention) (withEllipsis (g .ellipsis) (rulesOf (g .convention))) (startIn (g .convention) (resultType (g .convention) (g .result))) ts)) (table-types (g .convention) (g .arguments))
     ∙ sym (arguments-got g next n)
 arguments-same (no f) = refl
 
@@ -71,27 +72,31 @@ drop-next l i x xs e = let q : suc i ≡ i + 1 = omega arith in ap (λ (n : ℕ)
 -- ---- the walk
 
 module _ (g : SignatureRead) where
+  pub lawful-in : Lawful (rulesIn g)
+  lawful-in = lawful-marked (g .ellipsis) (rulesOf (g .convention)) (rules-lawful (g .convention))
+
   -- i arguments are passed, whose values have v bytes; the next one's cursor is k
   pub record Walking (k : Cursor) (v i : ℕ) : Type 0 where
     pub within : i ≤ g .count
-    pub rest : drop i (argumentsFrom g) ≡ placements (g .convention) (drop i (typesIn g)) (spansOf (g .convention) (rulesOf (g .convention)) k (drop i (typesIn g)))
-    pub last : lastOf (g .convention) (rulesOf (g .convention)) k (drop i (typesIn g)) ≡ endIn (g .convention) (g .result) (typesIn g)
+    pub rest : drop i (argumentsFrom g) ≡ placements (g .convention) (drop i (typesIn g)) (spansOf (g .convention) (rulesIn g) k (drop i (typesIn g)))
+    pub last : lastOf (g .convention) (rulesIn g) k (drop i (typesIn g)) ≡ endIn (g .convention) (g .result) (typesIn g)
     pub total : v + valuesOf (g .convention) (drop i (typesIn g)) ≡ valuesOf (g .convention) (typesIn g)
-    pub reached : Reached (rulesOf (g .convention)) k v i
+    pub reached : Reached (rulesIn g) k v i
 
   pub walking-start : (k : Cursor) → k ≡ startIn (g .convention) (g .result) → Walking k 0 0
   unfolding argumentsFrom
   walking-start k e = rw e (record {
     within = omega arith;
     rest = refl;
-    last = refl;
+    last = last-marked (g .convention) (g .ellipsis) (rulesOf (g .convention)) (startIn (g .convention) (g .result)) (typesIn g);
     total = omega arith;
-    reached = reached-start (rulesOf (g .convention)) (hiddenIn (g .convention) (g .result)) (rules-lawful (g .convention));
+    reached = subst (λ (k : Cursor). Reached (rulesIn g) k 0 0) (start-marked (g .ellipsis) (rulesOf (g .convention)) (hiddenIn (g .convention) (g .result)))
+        (reached-start (rulesIn g) (hiddenIn (g .convention) (g .result)) lawful-in);
   })
 
   module _ (plannable : Plannable g) (k : Cursor) (v i : ℕ) (w : Walking k v i) where
     pub walking-roomy : Roomy k
-    walking-roomy = reached-roomy (rulesOf (g .convention)) k v i (omega (arith, w .within, plannable .few)) (w .reached)
+    walking-roomy = reached-roomy (rulesIn g) k v i (omega (arith, w .within, plannable .few)) (w .reached)
 
     -- past the last argument
     pub record Ended : Type 0 where
@@ -110,19 +115,19 @@ module _ (g : SignatureRead) where
     module _ (h : i < g .count) where
       -- the argument at hand
       abbrev pub hand : Placement
-      hand = placement (typeAt g i) (sizeOf (g .convention) (typeAt g i)) (spanOf (rulesOf (g .convention)) k (typeAt g i) (sizeOf (g .convention) (typeAt g i)))
+      hand = placement (typeAt g i) (sizeOf (g .convention) (typeAt g i)) (spanOf (rulesIn g) k (typeAt g i) (sizeOf (g .convention) (typeAt g i)))
 
       types-next : drop i (typesIn g) ≡ typeAt g i ∷ drop (suc i) (typesIn g)
       types-next = types-drop (g .count) (g .arguments) i h (plannable .room)
 
-      rest-next : drop i (argumentsFrom g) ≡ hand ∷ placements (g .convention) (drop (suc i) (typesIn g)) (spansOf (g .convention) (rulesOf (g .convention)) (nextOf (rulesOf (g .convention)) k (typeAt g i) (sizeOf (g .convention) (typeAt g i))) (drop (suc i) (typesIn g)))
+      rest-next : drop i (argumentsFrom g) ≡ hand ∷ placements (g .convention) (drop (suc i) (typesIn g)) (spansOf (g .convention) (rulesIn g) (nextOf (rulesIn g) k (typeAt g i) (sizeOf (g .convention) (typeAt g i))) (drop (suc i) (typesIn g)))
       unfolding placements spansOf
       rest-next = rw types-next at (w .rest)
 
       pub walking-hand : drop i (argumentsFrom g) ≡ hand ∷ drop (suc i) (argumentsFrom g)
       walking-hand = rest-next ∙ ap (λ (l : List Placement). hand ∷ l) (sym (drop-next (argumentsFrom g) i _ _ rest-next))
 
-      pub walking-more : Walking (nextOf (rulesOf (g .convention)) k (typeAt g i) (sizeOf (g .convention) (typeAt g i))) (v + sizeOf (g .convention) (typeAt g i)) (i + 1)
+      pub walking-more : Walking (nextOf (rulesIn g) k (typeAt g i) (sizeOf (g .convention) (typeAt g i))) (v + sizeOf (g .convention) (typeAt g i)) (i + 1)
       unfolding lastOf valuesOf
       walking-more =
           let total : v + (sizeOf (g .convention) (typeAt g i) + valuesOf (g .convention) (drop (suc i) (typesIn g))) ≡ valuesOf (g .convention) (typesIn g) = rw types-next at (w .total) in
@@ -131,5 +136,10 @@ module _ (g : SignatureRead) where
             rest = rw add-one (drop-next (argumentsFrom g) i _ _ rest-next);
             last = rw add-one (rw types-next at (w .last));
             total = rw add-one (omega arith);
-            reached = reached-more (rulesOf (g .convention)) k v i (typeAt g i) (sizeOf (g .convention) (typeAt g i)) (rules-lawful (g .convention)) (plannable .small i h) (w .reached);
+            reached = reached-more (rulesIn g) k v i (typeAt g i) (sizeOf (g .convention) (typeAt g i)) lawful-in (plannable .small i h) (w .reached);
           }
+
+      -- the next cursor is found without the ellipsis too
+      pub walking-plain : Walking (nextOf (rulesOf (g .convention)) k (typeAt g i) (sizeOf (g .convention) (typeAt g i))) (v + sizeOf (g .convention) (typeAt g i)) (i + 1)
+      walking-plain =
+          subst (λ (d : Cursor). Walking d (v + sizeOf (g .convention) (typeAt g i)) (i + 1)) (next-marked (g .ellipsis) (rulesOf (g .convention)) k (typeAt g i) (sizeOf (g .convention) (typeAt g i))) walking-more

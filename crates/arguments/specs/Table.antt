@@ -1,11 +1,11 @@
 -- The arguments of a signature that was read, each with its place: of its table of types alone. Assumes nothing.
 use mathlib.Core.List.{List}
 use Rattle.signature.specs.declared.SignatureRead.{SignatureRead}
-use Rattle.places.specs.Step.{rulesOf}
 use Rattle.plan.specs.Plan.{spansOf, startIn, typesIn}
 use Rattle.slots.specs.Placements.{Placement, placements}
+use Rattle.slots.specs.Arguments.{rulesIn}
 
 -- those of a signature's bytes, where the reader answers g of them (law `arguments-read`)
 unfoldable pub argumentsFrom : SignatureRead → List Placement
 argumentsFrom g =
-    placements (g .convention) (typesIn g) (spansOf (g .convention) (rulesOf (g .convention)) (startIn (g .convention) (g .result)) (typesIn g))
+    placements (g .convention) (typesIn g) (spansOf (g .convention) (rulesIn g) (startIn (g .convention) (g .result)) (typesIn g))

@@ -2,6 +2,7 @@
 // them places each with a cursor of its own, so that there is no table of spans.
 use conventions::Convention;
 use places::Cursor;
+use places::Rules;
 use plan::Measured;
 use signature::Outcome;
 use signature::ResultType;
@@ -9,6 +10,7 @@ use signature::SignatureRead;
 ghost use mathlib.Core.Path.{_≡_};
 ghost use Rattle.signature.specs.Read.{signatureOf};
 ghost use Rattle.signature.specs.Answer.{signatureAnswer};
+ghost use Rattle.places.specs.Step.{rulesOf, withEllipsis};
 ghost use Rattle.slots.specs.Arguments.{sizesFor};
 ghost use Rattle.plan.specs.Plan.{startIn, planned, measureOf};
 ghost use Rattle.plan.specs.Limits.{Plannable};
@@ -19,6 +21,13 @@ pub fn first_cursor(c: Convention, result: ResultType) -> Cursor
 {
     let hidden = planning::hidden_in(c, result);
     placing::start(c, hidden)
+}
+
+// The rules of the arguments of a convention, with an ellipsis or without.
+pub fn rules_in(c: Convention, ellipsis: bool) -> Rules
+    ensures { λ r. ⌜ r ≡ withEllipsis ellipsis (rulesOf c) ⌝ }
+{
+    places::with_ellipsis(abi::call_rules_of(c), ellipsis)
 }
 
 // The same as below, where the rules leave something open; m are the sizes by the reading alone.

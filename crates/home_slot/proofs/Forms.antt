@@ -50,7 +50,7 @@ form-as : (f : PowerRules) (q : Equivalent) (m n : ℕ) (bs : List ℕ) → Floa
     ≡ floatHome (roomOf (Rules.Power f) n) (8 * m) q bs
 form-as f Equivalent.Single m n bs s low = ap (bytesOf (roomOf (Rules.Power f) n)) (single-form f n bs (s .1))
 form-as f Equivalent.Double m n bs s low = ap (bytesOf (roomOf (Rules.Power f) n)) (double-form n bs (s .1) (low (s .0)))
-form-as f Equivalent.Nothing m n bs s low = ap (λ (k : ℕ). bs ++ replicate (roomOf (Rules.Power f) n - k) 0) s
+form-as f Equivalent.Nothing m n bs s low = let e : n ≡ 8 * m = omega (arith, s .0, s .1) in ap (λ (k : ℕ). bs ++ replicate (roomOf (Rules.Power f) n - k) 0) e
 
 memory-form : (f : PowerRules) (t : ValueType) (m n : ℕ) (bs : List ℕ) → FloatSized (equivalentOf t) m n → startsAtHead (Rules.Power f) t ≡ fillsWords (equivalentOf t)
     → (m ≡ 1 → valueOf bs < 2 ^ 64)
@@ -81,7 +81,7 @@ module _ (r : Rules) (a i : ℕ) (p : Placement) (image : List ℕ) (h : Registe
       go : (e : Equivalent) → FloatSized e (p .span .floating .count) (p .size) → HomeSized e (8 * p .span .floating .count) (p .span .home .length)
       go Equivalent.Single s = omega (arith, s .0)
       go Equivalent.Double s = omega (arith, s .0)
-      go Equivalent.Nothing s = omega (arith, s, h .homed .room, h .held .room (h .homed .direct))
+      go Equivalent.Nothing s = omega (arith, s .0, s .1, h .homed .room, h .held .room (h .homed .direct))
 
   pub float-room : p .span .home .start + p .span .home .length ≤ a
   float-room = omega (arith, h .homed .within, h .homed .room)

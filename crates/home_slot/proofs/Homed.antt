@@ -4,6 +4,7 @@ use mathlib.Core.Bool.{Bool, true, false}
 use mathlib.Core.List.{List, [], _∷_}
 use Prim.Native.Nat.{ℕ, zero, suc, _+_, _-_, _*_, _≤_, _<_}
 use native.Mathlib.Omega.{arith}
+use native.Mathlib.Nat.{mul-zero}
 use lib.Dec.{leb}
 use lib.ListN.{getD, drop}
 use Rattle.words.specs.Basics.{pick}
@@ -22,7 +23,7 @@ use Rattle.places.specs.declared.Rules.{Rules}
 use Rattle.places.specs.Values.{share}
 use Rattle.places.specs.declared.Edition.{Edition}
 use Rattle.places.specs.Power.{words, fprs, covered, shareOf, powerShare}
-use Rattle.places.specs.Step.{power, rulesOf, spanOf, nextOf}
+use Rattle.places.specs.Step.{rulesOf, spanOf, nextOf}
 use Rattle.places.proofs.Bounds.{area-holds}
 use Rattle.plan.specs.Plan.{spansOf, lastOf, startIn, endIn, planIn, planAnswer, typesOf}
 use Rattle.plan.proofs.Fold.{last-forward}
@@ -33,11 +34,11 @@ use Rattle.slots.specs.Arguments.{argumentsIn, argumentsOf, planFor, rulesFor}
 use Rattle.slots.proofs.Answered.{arguments-got}
 use Rattle.home_slot.specs.Homes.{homeless, fillsWords, Homed}
 
--- ---- each argument, over the bytes w of a word and the edition
+-- ---- each argument, over the bytes w of a word, the edition and the ellipsis
 
-module _ (w : ℕ) (least : 4 ≤ w) (most : w ≤ 8) (e : Edition) where
+module _ (w : ℕ) (least : 4 ≤ w) (most : w ≤ 8) (e : Edition) (v : Bool) where
   abbrev rules : Rules
-  rules = power w e
+  rules = Rules.Power (record { word = w; edition = e; ellipsis = v })
 
   float-fills : (k : Cursor) (t : ValueType) (n : ℕ) → 0 < spanOf rules k t n .floating .count → startsAtHead rules t ≡ fillsWords (equivalentOf t)
   unfolding spanOf powerShare shareOf fprs startsAtHead
@@ -47,22 +48,23 @@ module _ (w : ℕ) (least : 4 ≤ w) (most : w ≤ 8) (e : Edition) where
   float-fills k (ValueType.Float FloatFormat.LongDouble) n h = refl
   float-fills k (ValueType.Struct s) n h = absurd (omega arith)
 
-  -- words in memory follow those in registers, also those of a float of n words that has no FPR
-  share-follows : (m room at n k : ℕ) → k ≤ n → shareOf m room n k .floating ≡ 0
-      → at + w * (n - shareOf m room n k .memory) ≡ at + w * shareOf m room n k .general
+  -- words in memory follow those in registers
+  share-follows : (x : Bool) (m room at n k : ℕ) → k ≤ n → 0 < w * shareOf x m room n k .memory
+      → at + w * (n - shareOf x m room n k .memory) ≡ at + w * shareOf x m room n k .general
   unfolding shareOf
-  share-follows zero room at n k l q = let z : n - (n - k) ≡ k = omega arith in rw z
-  share-follows (suc m) room at n k l q = go (leb (suc m) room) q
+  share-follows x zero room at n k l q = let z : n - (n - k) ≡ k = omega arith in rw z
+  share-follows true (suc m) room at n k l q = let z : n - (n - k) ≡ k = omega arith in rw z
+  share-follows false (suc m) room at n k l q = go (leb (suc m) room) q
     where
-      go : (b : Bool) → pick b (share 0 (suc m) 0) (share 0 0 n) .floating ≡ 0
+      go : (b : Bool) → 0 < w * pick b (share 0 (suc m) 0) (share 0 0 n) .memory
           → at + w * (n - pick b (share 0 (suc m) 0) (share 0 0 n) .memory) ≡ at + w * pick b (share 0 (suc m) 0) (share 0 0 n) .general
-      go true q = absurd (omega arith)
+      go true q = absurd (omega (arith, mul-zero w))
       go false q = let z : n - n ≡ 0 = omega arith in rw z
 
-  memory-follows : (k : Cursor) (t : ValueType) (n : ℕ) → spanOf rules k t n .floating .count ≡ 0
+  memory-follows : (k : Cursor) (t : ValueType) (n : ℕ) → 0 < spanOf rules k t n .memory .length
       → spanOf rules k t n .memory .start ≡ k .stack + w * spanOf rules k t n .general .count
   unfolding spanOf powerShare
-  memory-follows k t n h = share-follows (fprs e t) (14 - k .floating) (k .stack) (words w n) (covered k (words w n)) (omega arith) h
+  memory-follows k t n h = share-follows v (fprs e t) (14 - k .floating) (k .stack) (words w n) (covered k (words w n)) (omega arith) h
 
   step-homed : (k : Cursor) (t : ValueType) (n a : ℕ) → nextOf rules k t n .stack ≤ a → Homed rules a (placement t n (spanOf rules k t n))
   unfolding spanOf nextOf
@@ -82,12 +84,12 @@ plan-homed : (n : ℕ) (c : Convention) (r : ResultType) (ts : List ValueType) �
     → All (Homed (rulesOf c) (planIn n c r ts .area)) (placements c ts (spansOf c (rulesOf c) (startIn c r) ts))
 unfolding planIn
 plan-homed n Convention.Ppc64 r ts e =
-    all-homed 8 (omega arith) (omega arith) Edition.Earlier Convention.Ppc64 (startIn Convention.Ppc64 r) ts _ (area-holds Convention.Ppc64 (endIn Convention.Ppc64 r ts))
+    all-homed 8 (omega arith) (omega arith) Edition.Earlier false Convention.Ppc64 (startIn Convention.Ppc64 r) ts _ (area-holds Convention.Ppc64 (endIn Convention.Ppc64 r ts))
 plan-homed n Convention.Z r ts e = let z : _≡_ {A = ℕ} 0 1 = cc in absurd (omega arith)
 plan-homed n Convention.Aix r ts e =
-    all-homed 4 (omega arith) (omega arith) Edition.Earlier Convention.Aix (startIn Convention.Aix r) ts _ (area-holds Convention.Aix (endIn Convention.Aix r ts))
+    all-homed 4 (omega arith) (omega arith) Edition.Earlier false Convention.Aix (startIn Convention.Aix r) ts _ (area-holds Convention.Aix (endIn Convention.Aix r ts))
 plan-homed n Convention.Ppc64b r ts e =
-    all-homed 8 (omega arith) (omega arith) Edition.Later Convention.Ppc64b (startIn Convention.Ppc64b r) ts _ (area-holds Convention.Ppc64b (endIn Convention.Ppc64b r ts))
+    all-homed 8 (omega arith) (omega arith) Edition.Later false Convention.Ppc64b (startIn Convention.Ppc64b r) ts _ (area-holds Convention.Ppc64b (endIn Convention.Ppc64b r ts))
 
 refused-homed : (r : Rules) (f : Fault) → All (Homed r (planAnswer (no f) .area)) (argumentsIn (signatureAnswer (no f)) (planAnswer (no f)))
 unfolding argumentsIn placements All

@@ -40,7 +40,8 @@ registerAnswer r t s image = pick (ltb 0 (s .floating .count)) (floatAnswer r (e
 
 -- ---- the bytes
 
--- an argument's register words, as memory holds them: "GPRs as they stand", on AIX their low halves; "an FPR in its memory form"
+-- an argument's register words, as memory holds them: "GPRs as they stand", on AIX their low halves; "an FPR in its memory form". Of a float that
+-- is in both, with an ellipsis, "home uses the FPR" (02, No. 5): all its words, whatever memory held of them
 unfoldable pub homedBytes : Rules → Placement → List ℕ → List ℕ
 homedBytes r p image =
     pick (ltb 0 (p .span .floating .count)) (homeBytes r (p .ty) (p .size) (floatValue r (p .ty) (fprsOf (p .span) image)))
@@ -84,7 +85,7 @@ pub record Homed (r : Rules) (a : ℕ) (p : Placement) : Type 0 where
   pub room : p .span .home .length ≡ roomOf r (p .size)
   pub within : p .span .home .start + roomOf r (p .size) ≤ a
   pub float : 0 < p .span .floating .count → startsAtHead r (p .ty) ≡ fillsWords (equivalentOf (p .ty))
-  pub follows : p .span .floating .count ≡ 0 → p .span .memory .start ≡ p .span .home .start + wordOf r * p .span .general .count
+  pub follows : 0 < p .span .memory .length → p .span .memory .start ≡ p .span .home .start + wordOf r * p .span .general .count
 
 -- a type's FPRs lie in an image of i bytes, and hold a value of some size
 abbrev pub FloatFits : ValueType → Span → ℕ → Type 0

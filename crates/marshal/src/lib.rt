@@ -5,14 +5,18 @@ use places::Span;
 use types::Equivalent;
 use types::ValueType;
 ghost use mathlib.Core.Path.{_≡_};
+ghost use mathlib.Core.Bool.{false};
+ghost use lib.Dec.{eqb};
 ghost use Prim.Native.Nat.{_+_, _*_, _≤_, _<_};
 ghost use lib.ListN.{length, take};
 ghost use Rattle.words.specs.Splice.{overlay, splice, part};
 ghost use Rattle.words.specs.Numbers.{bytesOf};
+ghost use Rattle.places.specs.Step.{wordOf};
 ghost use Rattle.registers.specs.Registers.{spread};
 ghost use Rattle.slots.specs.Buffers.{buffers, putAll};
-ghost use Rattle.slots.specs.Forms.{floatForm};
+ghost use Rattle.slots.specs.Forms.{homeBytes, floatForm};
 ghost use Rattle.slots.specs.Placements.{placement, slotsOf};
+ghost use Rattle.slots.specs.Limits.{Held};
 ghost use Rattle.marshal.specs.Room.{padded, WordsFit, NumberFits, FloatRoom, Ready};
 
 // The eight bytes of x in the only word of a span, where a word is a doubleword: a general register or a doubleword of memory.
@@ -97,7 +101,32 @@ fn put_float(place: &mut [u8], r: Rules, e: Equivalent, v: &[u8])
     }
 }
 
-// One argument of type t and value v in its span s.
+// Whether a span has neither general registers nor memory.
+fn no_words(s: Span) -> bool
+    ensures { λ b. ⌜ b ≡ eqb (s .general .count + s .memory .length) 0 ⌝ }
+{
+    let general = s.general;
+    let memory = s.memory;
+    general.count as usize + memory.length as usize == 0
+}
+
+// A value v of type t in the general registers and the memory of its span, where it has any.
+fn put_value(image: &mut [u8], area: &mut [u8], r: Rules, t: ValueType, s: Span, v: &[u8])
+    requires { ⌜ WordsFit (wordOf r) s (now image) (now area) × Held r (placement t (length (now v)) s) × (s .indirect ≡ false) ⌝ }
+    ensures { λ _. ⌜ (now (image .exit) ≡ splice (now (image .entry)) (8 * s .general .first) (spread (wordOf r) (s .general .count) (homeBytes r t (length (now (v .entry))) (now (v .entry))))) × (now (area .exit) ≡ splice (now (area .entry)) (s .memory .start) (part (wordOf r * s .general .count) (s .memory .length) (homeBytes r t (length (now (v .entry))) (now (v .entry))))) ⌝ }
+{
+    if no_words(s) {
+        return;
+    }
+    let word = places::word_of(r);
+    if slots::starts_at_head(r, t) {
+        put_bytes(image, area, word, s, v);
+        return;
+    }
+    put_words(image, area, word, s, slots::value_word(t, v));
+}
+
+// One argument of type t and value v in its span s: a float in its FPRs, and as well in the words that its span has.
 pub fn put_argument(
     image: &mut [u8],
     area: &mut [u8],
@@ -117,6 +146,7 @@ pub fn put_argument(
     if 0 < floating.count {
         let at = 256 + 8 * (floating.first as usize);
         put_float(&mut image[at..], r, types::equivalent_of(t), v);
+        put_value(image, area, r, t, s, v);
         return;
     }
     if indirect {
@@ -125,10 +155,5 @@ pub fn put_argument(
         put_word(image, area, s, base + start as u64);
         return;
     }
-    let word = places::word_of(r);
-    if slots::starts_at_head(r, t) {
-        put_bytes(image, area, word, s, v);
-        return;
-    }
-    put_words(image, area, word, s, slots::value_word(t, v));
+    put_value(image, area, r, t, s, v);
 }

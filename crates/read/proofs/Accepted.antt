@@ -64,7 +64,7 @@ each-ready s c i a same image area =
     (subst (λ (d : Convention). All (Held (rulesOf d)) (argumentsOf s)) same (h .held)) (h .fit)
   where
     ready : (q : Placement) → Held (rulesOf c) q → Fits (planFor s .area) (planFor s .copies) q → Ready (rulesOf c) i a q
-    ready q x y = record { held = x; general = y .general; floating = y .floating; memory = omega (arith, y .memory); registers = image }
+    ready q x y = record { held = x; general = y .general; floating = y .floating; memory = λ _. omega (arith, y .memory); registers = image }
 
 pub all-ready : (s : List ℕ) (g : SignatureRead) (i a : ℕ) → g ≡ signatureAnswer (signatureOf s) → i ≡ 512 → planFor s .area ≤ a → AllReady g i a
 all-ready s g i a same image area = record {

@@ -1,15 +1,15 @@
 -- Reading: its answer, and what the value buffer holds afterwards. Document 01, "When the bridge says no" and "What stands in a slot".
 -- The values themselves are `valuesAt`, of the crate slots. Assumes nothing.
-use Prim.Native.Nat.{ℕ, _+_, _-_, _≤_}
+use Prim.Native.Nat.{ℕ, _+_, _-_, _*_, _≤_, _<_}
+use mathlib.Core.Path.{_≡_}
 use mathlib.Core.Bool.{Bool, true, false}
 use mathlib.Core.List.{List, [], _∷_}
-use lib.Dec.{ltb, leb}
-use lib.ListN.{length}
+use lib.Dec.{eqb, ltb, leb}
+use lib.ListN.{length, take}
 use Rattle.words.specs.Basics.{pick}
-use Rattle.words.specs.Splice.{overlay}
+use Rattle.words.specs.Splice.{overlay, part}
 use Rattle.words.specs.Numbers.{valueOf}
 use Rattle.types.specs.declared.FloatFormat.{FloatFormat}
-use Rattle.types.specs.declared.Equivalent.{Equivalent}
 use Rattle.types.specs.declared.ValueType.{ValueType}
 use Rattle.types.specs.Sizes.{equivalentOf}
 use Rattle.signature.specs.declared.SignatureRead.{SignatureRead}
@@ -17,10 +17,13 @@ use Rattle.places.specs.declared.Rules.{Rules}
 use Rattle.places.specs.Step.{rulesOf, wordOf}
 use Rattle.slots.specs.declared.Refusal.{Refusal}
 use Rattle.slots.specs.declared.Answer.{Answer}
-use Rattle.slots.specs.Buffers.{Buffers}
+use Rattle.places.specs.Spots.{general}
+use Rattle.registers.specs.Registers.{gather}
+use Rattle.slots.specs.Buffers.{Buffers, bytesAt}
+use Rattle.slots.specs.Forms.{ownStart, floatValue}
 use Rattle.slots.specs.Placements.{Placement, floatAt, addressAt, valuesAt}
 use Rattle.slots.specs.Refusals.{Test, test, differ, firstOf, afterReading, orElse, firstOfAll, isDone, floatAnswer}
-use Rattle.slots.specs.Limits.{All}
+use Rattle.slots.specs.Limits.{Held, All}
 use Rattle.plan.specs.Call.{outcomeFor}
 use Rattle.slots.specs.Arguments.{argumentsOf, planFor, rulesFor}
 use Rattle.plan.specs.Limits.{Plannable}
@@ -42,26 +45,50 @@ abbrev pub wordsAnswer : Rules → ℕ → Placement → Buffers → Answer
 wordsAnswer r base p b =
     pick (p .span .indirect) (copyAnswer (inCopies (addressAt (wordOf r) (p .span) b) base (p .size) (length (b .copies)))) Answer.Done
 
+-- the bytes of one list are those of another
+unfoldable pub sameBytes : List ℕ → List ℕ → Bool
+sameBytes [] [] = true
+sameBytes [] (y ∷ ys) = false
+sameBytes (x ∷ xs) [] = false
+sameBytes (x ∷ xs) (y ∷ ys) = pick (eqb x y) (sameBytes xs ys) false
+
+-- a value's own bytes that stand in general registers: neither padding nor what is in memory
+unfoldable pub ownHeld : Rules → Placement → Buffers → List ℕ
+ownHeld r p b =
+    part (ownStart r (p .ty) (p .size)) (p .size)
+    (gather (wordOf r) (p .span .general .count) (bytesAt (general (p .span .general .first)) (8 * p .span .general .count) b))
+
+-- they are the first bytes of the value in its FPRs
+unfoldable pub agrees : Rules → Placement → Buffers → Bool
+agrees r p b = sameBytes (ownHeld r p b) (take (length (ownHeld r p b)) (floatValue r (p .ty) (floatAt (p .span) b)))
+
+-- 26, 02, No. 5: "when the GPRs of a float argument hold other value bytes than its FPR"
+abbrev pub agreeAnswer : Bool → Answer
+agreeAnswer true = Answer.Done
+agreeAnswer false = Answer.Refused Refusal.FloatsDiffer
+
+-- "Reading refuses with 26 .., right after 14 at each argument"
 unfoldable pub argumentAnswer : Rules → ℕ → Placement → Buffers → Answer
 argumentAnswer r base p b =
-    pick (ltb 0 (p .span .floating .count)) (floatAnswer r (equivalentOf (p .ty)) (valueOf (floatAt (p .span) b))) (wordsAnswer r base p b)
+    pick (ltb 0 (p .span .floating .count))
+    (orElse (floatAnswer r (equivalentOf (p .ty)) (valueOf (floatAt (p .span) b))) (agreeAnswer (agrees r p b)))
+    (wordsAnswer r base p b)
 
--- the types whose arguments 13 or 14 can refuse: on PowerPC those that go as a single, which has its FPR to be tested; on Z those
+-- the types whose arguments 13, 14 or 26 can refuse: on PowerPC a single, whose FPR is tested, and with an ellipsis every float; on Z those
 -- that may be passed by pointer to a copy (law `never-refused`)
-abbrev pub isSingle : Equivalent → Bool
-isSingle Equivalent.Nothing = false
-isSingle Equivalent.Single = true
-isSingle Equivalent.Double = false
-
 abbrev pub canRefuse : Rules → ValueType → Bool
-canRefuse (Rules.Power f) t = isSingle (equivalentOf t)
+canRefuse (Rules.Power f) (ValueType.Integer k) = false
+canRefuse (Rules.Power f) (ValueType.Float FloatFormat.Single) = true
+canRefuse (Rules.Power f) (ValueType.Float FloatFormat.Double) = f .ellipsis
+canRefuse (Rules.Power f) (ValueType.Float FloatFormat.LongDouble) = f .ellipsis
+canRefuse (Rules.Power f) (ValueType.Struct s) = false
 canRefuse Rules.Z (ValueType.Integer k) = false
 canRefuse Rules.Z (ValueType.Float FloatFormat.Single) = false
 canRefuse Rules.Z (ValueType.Float FloatFormat.Double) = false
 canRefuse Rules.Z (ValueType.Float FloatFormat.LongDouble) = true
 canRefuse Rules.Z (ValueType.Struct s) = true
 
--- "13 and 14 by argument, left to right"
+-- "13 and 14 by argument, left to right", and 26
 unfoldable pub argumentsAnswer : Rules → ℕ → List Placement → Buffers → Answer
 argumentsAnswer r base ps b = firstOfAll (λ (p : Placement). argumentAnswer r base p b) ps
 
@@ -86,6 +113,16 @@ readValues s base answer b values = pick (isDone answer) (overlay values (values
 
 abbrev pub sizes : List ℕ → List ℕ → List ℕ → Sizes
 sizes values image area = record { values = length values; image = length image; area = length area }
+
+-- what comparing asks: a float in FPRs that 14 doesn't refuse, and in general registers, all of an image of 512 bytes
+pub record Compared (r : Rules) (p : Placement) (b : Buffers) : Type 0 where
+  pub held : Held r p
+  pub float : 0 < p .span .floating .count
+  pub also : 0 < p .span .general .count
+  pub general : p .span .general .first + p .span .general .count ≤ 32
+  pub floating : p .span .floating .first + p .span .floating .count ≤ 32
+  pub registers : length (b .image) ≡ 512
+  pub exact : floatAnswer r (equivalentOf (p .ty)) (valueOf (floatAt (p .span) b)) ≡ Answer.Done
 
 -- what the first pass asks: all arguments of a signature that was read, and the lengths of the image and the area
 pub record AllReady (g : SignatureRead) (i a : ℕ) : Type 0 where

@@ -7,19 +7,19 @@ use signature::Outcome;
 use signature::SignatureRead;
 use slots::Answer;
 use slots::Refusal;
-use types::Equivalent;
 use types::FloatFormat;
 use types::ValueType;
 ghost use mathlib.Core.Path.{_≡_};
+ghost use mathlib.Core.List.{[]};
 ghost use Prim.Native.Nat.{_≤_};
-ghost use lib.ListN.{length};
+ghost use lib.ListN.{length, take};
 ghost use Rattle.places.specs.Step.{Lawful, Roomy, rulesOf, spanOf};
 ghost use Rattle.slots.specs.Buffers.{buffers};
 ghost use Rattle.slots.specs.Placements.{placement};
 ghost use Rattle.slots.specs.Refusals.{firstOf};
 ghost use Rattle.arguments.specs.Table.{argumentsFrom};
 ghost use Rattle.unmarshal.specs.Readable.{Ready};
-ghost use Rattle.read.specs.Read.{inCopies, copyAnswer, argumentAnswer, canRefuse, argumentsAnswer, readTests, readAnswer, readValues, sizes, AllReady};
+ghost use Rattle.read.specs.Read.{inCopies, copyAnswer, sameBytes, agrees, agreeAnswer, Compared, argumentAnswer, canRefuse, argumentsAnswer, readTests, readAnswer, readValues, sizes, AllReady};
 
 // The lengths of the lent buffers that are tested.
 pub struct Sizes {
@@ -50,8 +50,60 @@ fn copy_answer(inside: bool) -> Answer
     Answer::Refused(Refusal::OutsideCopies)
 }
 
-// Whether one argument can be read, of a type and its size, where there are `length` bytes of copies.
-fn argument_answer(
+// Whether the first n bytes of a and of b are the same.
+fn same_bytes(a: &[u8], b: &[u8], n: usize) -> bool
+    requires { ⌜ (n ≤ length (now a)) × (n ≤ length (now b)) ⌝ }
+    ensures { λ r. ⌜ r ≡ sameBytes (take n (now (a .entry))) (take n (now (b .entry))) ⌝ }
+{
+    let mut i: usize = 0;
+    while i < n {
+        if a[i] != b[i] {
+            return false;
+        }
+        i = i + 1;
+    }
+    true
+}
+
+// Whether a float's own bytes in general registers are those in its FPRs.
+fn floats_agree(image: &[u8], r: Rules, t: ValueType, n: usize, s: Span) -> bool
+    requires { ⌜ Compared r (placement t n s) (buffers (now image) [] []) ⌝ }
+    ensures { λ b. ⌜ b ≡ agrees r (placement t n s) (buffers (now (image .entry)) [] []) ⌝ }
+{
+    let general = s.general;
+    let floating = s.floating;
+    let memory = s.memory;
+    let word = places::word_of(r);
+    let count = general.count as usize;
+    let held = word * count;
+    let lo = slots::own_start(r, t, n, held + memory.length as usize);
+    let m = words::smaller(n, held - lo);
+    let mut own = [0u8; 16];
+    registers::take_registers(&mut own, image, word, general.first as usize, count, lo, m);
+    let mut value = [0u8; 16];
+    let at = 256 + 8 * (floating.first as usize);
+    unmarshal::take_float(
+        &mut value,
+        image,
+        r,
+        types::equivalent_of(t),
+        at,
+        8 * (floating.count as usize),
+    );
+    same_bytes(&own, &value, m)
+}
+
+fn agree_answer(same: bool) -> Answer
+    ensures { λ a. ⌜ a ≡ agreeAnswer same ⌝ }
+{
+    if same {
+        return Answer::Done;
+    }
+    Answer::Refused(Refusal::FloatsDiffer)
+}
+
+// Whether one argument can be read, of a type and its size. Most floats have no general registers, and then 14 is all that is asked.
+pub fn argument_answer(
     image: &[u8],
     area: &[u8],
     copies: &[u8],
@@ -64,11 +116,19 @@ fn argument_answer(
     requires { ⌜ Ready r (length (now image)) (length (now area)) (placement t n s) ⌝ }
     ensures { λ a. ⌜ a ≡ argumentAnswer r base (placement t n s) (buffers (now (image .entry)) (now (area .entry)) (now (copies .entry))) ⌝ }
 {
+    let general = s.general;
     let floating = s.floating;
     let indirect = s.indirect;
     if 0 < floating.count {
         let x = words::load(image, 256 + 8 * (floating.first as usize), 8);
-        return slots::float_answer(r, types::equivalent_of(t), x);
+        let answer = slots::float_answer(r, types::equivalent_of(t), x);
+        if general.count == 0 {
+            return answer;
+        }
+        if slots::is_refused(answer) {
+            return answer;
+        }
+        return agree_answer(floats_agree(image, r, t, n, s));
     }
     if indirect {
         let address = unmarshal::word_at(image, area, s);
@@ -82,10 +142,14 @@ fn can_refuse(r: Rules, t: ValueType) -> bool
     ensures { λ b. ⌜ b ≡ canRefuse r t ⌝ }
 {
     match r {
-        Rules::Power(_) => match types::equivalent_of(t) {
-            Equivalent::Nothing => false,
-            Equivalent::Single => true,
-            Equivalent::Double => false,
+        Rules::Power(f) => match t {
+            ValueType::Integer(_) => false,
+            ValueType::Float(x) => match x {
+                FloatFormat::Single => true,
+                FloatFormat::Double => f.ellipsis,
+                FloatFormat::LongDouble => f.ellipsis,
+            },
+            ValueType::Struct(_) => false,
         },
         Rules::Z => match t {
             ValueType::Integer(_) => false,

@@ -1,5 +1,6 @@
 -- Whatever bytes a signature has, its arguments are carried: each is held by its span and lies in its buffers. Assumes nothing.
 use mathlib.Core.Path.{_≡_, refl, sym, ap, _∙_, subst}
+use mathlib.Core.Bool.{Bool}
 use mathlib.Core.List.{List, [], _++_}
 use Prim.Native.Nat.{ℕ, _+_, _-_, _≤_}
 use native.Mathlib.Omega.{arith}
@@ -16,13 +17,15 @@ use Rattle.signature.specs.Read.{signatureOf}
 use Rattle.signature.specs.Answer.{resultType, signatureAnswer}
 use Rattle.signature.proofs.Theorems.{accepted}
 use Rattle.places.specs.declared.Cursor.{Cursor}
+use Rattle.places.specs.declared.Rules.{Rules}
 use Rattle.places.specs.declared.Span.{Span}
-use Rattle.places.specs.Step.{rulesOf}
+use Rattle.places.specs.Step.{rulesOf, withEllipsis}
+use Rattle.places.proofs.Marked.{named-marked}
 use Rattle.places.proofs.Bounds.{named-start, area-holds}
 use Rattle.plan.specs.declared.Plan.{Plan}
-use Rattle.plan.specs.Plan.{spansOf, valuesOf, noSpan, tableOf, hiddenIn, startIn, endIn, planIn, planAnswer, typesOf, planned}
+use Rattle.plan.specs.Plan.{spansOf, lastOf, valuesOf, noSpan, tableOf, hiddenIn, startIn, endIn, planIn, planAnswer, typesOf, planned}
 use Rattle.plan.specs.Limits.{Plannable}
-use Rattle.plan.proofs.Fold.{length-spans}
+use Rattle.plan.proofs.Fold.{length-spans, last-marked}
 use Rattle.plan.proofs.Answers.{table-types, answer-plannable, planned-answer, length-of-types}
 use Rattle.slots.specs.Placements.{Placement, placements}
 use Rattle.slots.specs.Limits.{Held, Fits, All, sizesOf}
@@ -34,32 +37,37 @@ use Rattle.slots.proofs.Planned.{placements-table, placements-sizes, al
 pub arguments-got : (g : Signature) (next n : ℕ)
     → argumentsIn (signatureAnswer (got g next n)) (planAnswer (got g next n))
     ≡ placements (g .convention) (typesOf (g .convention) (g .arguments))
-    (spansOf (g .convention) (rulesOf (g .convention)) (startIn (g .convention) (resultType (g .convention) (g .result))) (typesOf (g .convention) (g .arguments)))
+    (spansOf (g .convention) (withEllipsis (g .ellipsis) (rulesOf (g .convention))) (startIn (g .convention) (resultType (g .convention) (g .result))) (typesOf (g .convention) (g .arguments)))
 unfolding argumentsIn planAnswer planIn tableOf
 arguments-got g next n =
     let c : Convention = g .convention in
+    let r : Rules = withEllipsis (g .ellipsis) (rulesOf c) in
     let k : Cursor = startIn c (resultType c (g .result)) in
     let ts : List ValueType = typesOf c (g .arguments) in
-    let ss : List Span = spansOf c (rulesOf c) k ts in
+    let ss : List Span = spansOf c r k ts in
     ap (λ (l : List ValueType). placements c l (ss ++ replicate (maxArguments - length ss) noSpan)) (table-types c (g .arguments))
-    ∙ placements-table c (rulesOf c) k ts (replicate (maxArguments - length ss) noSpan)
+    ∙ placements-table c r k ts (replicate (maxArguments - length ss) noSpan)
 
 -- every slot of the plan's table is there
-planned-room : (n : ℕ) (c : Convention) (r : ResultType) (ts : List ValueType) (m : ℕ) → length ts ≡ m → m ≤ maxArguments → m ≤ length (planIn n c r ts .spans)
+planned-room : (n : ℕ) (c : Convention) (v : Bool) (r : ResultType) (ts : List ValueType) (m : ℕ) → length ts ≡ m → m ≤ maxArguments → m ≤ length (planIn n c v r ts .spans)
 unfolding planIn tableOf
-planned-room n c r ts m e h =
-    let ss : List Span = spansOf c (rulesOf c) (startIn c r) ts in
-    omega (arith, length-spans c (rulesOf c) (startIn c r) ts, length-append ss (replicate (maxArguments - length ss) noSpan))
+planned-room n c v r ts m e h =
+    let q : Rules = withEllipsis v (rulesOf c) in
+    let ss : List Span = spansOf c q (startIn c r) ts in
+    omega (arith, length-spans c q (startIn c r) ts, length-append ss (replicate (maxArguments - length ss) noSpan))
 
-planned-fit : (n : ℕ) (c : Convention) (r : ResultType) (ts : List ValueType)
-    → All (Fits (planIn n c r ts .area) (planIn n c r ts .copies)) (placements c ts (spansOf c (rulesOf c) (startIn c r) ts))
+-- an ellipsis moves no cursor: the plan's sizes are those without one
+planned-fit : (n : ℕ) (c : Convention) (v : Bool) (r : ResultType) (ts : List ValueType)
+    → All (Fits (planIn n c v r ts .area) (planIn n c v r ts .copies)) (placements c ts (spansOf c (withEllipsis v (rulesOf c)) (startIn c r) ts))
 unfolding planIn
-planned-fit n c r ts =
-    all-fit c (rulesOf c) (startIn c r) ts _ _ (named-start (rulesOf c) (hiddenIn c r)) (area-holds c (endIn c r ts)) (omega arith)
+planned-fit n c v r ts =
+    let last : lastOf c (withEllipsis v (rulesOf c)) (startIn c r) ts ≡ endIn c r ts = last-marked c v (rulesOf c) (startIn c r) ts in
+    all-fit c (withEllipsis v (rulesOf c)) (startIn c r) ts _ _ (named-marked v (rulesOf c) (startIn c r) (named-start (rulesOf c) (hiddenIn c r)))
+    (rw last (area-holds c (endIn c r ts))) (rw last (omega arith))
 
-planned-values : (n : ℕ) (c : Convention) (r : ResultType) (ts : List ValueType) → valuesOf c ts ≡ planIn n c r ts .values
+planned-values : (n : ℕ) (c : Convention) (v : Bool) (r : ResultType) (ts : List ValueType) → valuesOf c ts ≡ planIn n c v r ts .values
 unfolding planIn
-planned-values n c r ts = refl
+planned-values n c v r ts = refl
 
 -- a refused signature has no arguments
 none-all : (P : Placement → Type 0) → All P []
@@ -74,6 +82,7 @@ carried s = go (signatureOf s) refl
     go (got g next n) e =
         let c : Convention = g .convention in
         let r : ResultType = resultType c (g .result) in
+        let v : Bool = g .ellipsis in
         let ts : List ValueType = typesOf c (g .arguments) in
         let k : Cursor = startIn c r in
         let a = accepted s g next n e in
@@ -82,10 +91,10 @@ carried s = go (signatureOf s) refl
         record {
           few = a .within .few;
           types = plan .room;
-          spans = planned-room n c r ts (countOf (g .arguments)) (length-of-types c (g .arguments)) (a .within .few);
-          held = subst (All (Held (rulesOf c))) (sym same) (all-held c k ts (all-typed c (g .arguments) (a .arguments)));
-          fit = subst (All (Fits (planIn n c r ts .area) (planIn n c r ts .copies))) (sym same) (planned-fit n c r ts);
-          total = ap sizesOf same ∙ placements-sizes c (rulesOf c) k ts ∙ planned-values n c r ts;
+          spans = planned-room n c v r ts (countOf (g .arguments)) (length-of-types c (g .arguments)) (a .within .few);
+          held = subst (All (Held (withEllipsis v (rulesOf c)))) (sym same) (all-held c v k ts (all-typed c (g .arguments) (a .arguments)));
+          fit = subst (All (Fits (planIn n c v r ts .area) (planIn n c v r ts .copies))) (sym same) (planned-fit n c v r ts);
+          total = ap sizesOf same ∙ placements-sizes c (withEllipsis v (rulesOf c)) k ts ∙ planned-values n c v r ts;
         }
     go (no f) e = record { few = omega arith; types = omega arith; spans = omega arith; held = none-all _; fit = none-all _; total = refl }
 

@@ -21,7 +21,7 @@ use Rattle.places.specs.Values.{share}
 use Rattle.places.specs.Power.{words, fprs, covered, shareOf, powerShare, powerSpan}
 use Rattle.places.specs.ZSeries.{zClass, zFloating, zSpanOf, bySize, byEquivalent}
 use Rattle.places.specs.declared.Edition.{Edition}
-use Rattle.places.specs.Step.{power, rulesOf, spanOf}
+use Rattle.places.specs.Step.{rulesOf, withEllipsis, spanOf}
 use Rattle.places.proofs.Shares.{words-split}
 use Rattle.slots.specs.Forms.{structAtHead, startsAtHead}
 use Rattle.slots.specs.Placements.{placement}
@@ -56,10 +56,17 @@ struct-end w n = go (eqb w 8)
     go true e = leb-false 8 n e
     go false e = absurd-bool e
 
-module _ (w : ℕ) (least : 4 ≤ w) (most : w ≤ 8) where
-  abbrev rules : Edition → Rules
-  rules e = power w e
+-- the FPRs that a type asks for hold a value of it, in any convention
+fprs-sized : (e : Edition) (c : Convention) (t : ValueType) → 0 < fprs e t → FloatSized (equivalentOf t) (fprs e t) (sizeOf c t)
+unfolding fprs
+fprs-sized e c (ValueType.Integer x) h = absurd (omega arith)
+fprs-sized e c (ValueType.Float FloatFormat.Single) h = (refl, refl)
+fprs-sized e c (ValueType.Float FloatFormat.Double) h = (refl, refl)
+fprs-sized Edition.Earlier c (ValueType.Float FloatFormat.LongDouble) h = absurd (omega arith)
+fprs-sized Edition.Later c (ValueType.Float FloatFormat.LongDouble) h = (refl, refl)
+fprs-sized e c (ValueType.Struct s) h = absurd (omega arith)
 
+module _ (w : ℕ) (least : 4 ≤ w) (most : w ≤ 8) where
   -- n bytes in words: none too few and none too many
   pub words-room : (n : ℕ) → (n ≤ w * words w n) × (w * words w n < n + w)
   unfolding words
@@ -74,71 +81,87 @@ module _ (w : ℕ) (least : 4 ≤ w) (most : w ≤ 8) where
   whole-words zero h = absurd (omega (arith, mul-zero w))
   whole-words (suc m) h = omega (arith, mul-suc w m)
 
-  -- in words, at their head or at their end
-  power-words : (e : Edition) (k : Cursor) (t : ValueType) (n : ℕ) → (startsAtHead (rules e) t ≡ false → (1 ≤ n) × (n ≤ 8))
-      → Held (rules e) (placement t n (powerSpan w k (words w n) (share (covered k (words w n)) 0 (words w n - covered k (words w n)))))
-  power-words e k t n small =
-      let g : ℕ = covered k (words w n) in
-      let s = words-split w (words w n) g (omega arith) in
-      record {
+  module _ (e : Edition) (v : Bool) where
+    abbrev rules : Rules
+    rules = Rules.Power (record { word = w; edition = e; ellipsis = v })
+
+    -- what stands at the end of its words has at most 64 bits
+    end-small : (c : Convention) (t : ValueType) → Typed c t → startsAtHead rules t ≡ false → (1 ≤ sizeOf c t) × (sizeOf c t ≤ 8)
+    unfolding startsAtHead
+    end-small c (ValueType.Integer x) h q = (h .sized .some, integer-small c x)
+    end-small c (ValueType.Float FloatFormat.Single) h q = (omega arith, omega arith)
+    end-small c (ValueType.Float FloatFormat.Double) h q = (omega arith, omega arith)
+    end-small c (ValueType.Float FloatFormat.LongDouble) h q = absurd-bool q
+    end-small c (ValueType.Struct s) h q = (h .sized .some, omega (arith, struct-end w (s .size) q))
+
+    module _ (k : Cursor) (t : ValueType) (n : ℕ) (small : startsAtHead rules t ≡ false → (1 ≤ n) × (n ≤ 8)) where
+      -- in words, and in m FPRs or none
+      power-words : (m : ℕ) → (0 < m → FloatSized (equivalentOf t) m n)
+          → Held rules (placement t n (powerSpan w k (words w n) (share (covered k (words w n)) m (words w n - covered k (words w n)))))
+      power-words m f =
+          let g : ℕ = covered k (words w n) in
+          let s = words-split w (words w n) g (omega arith) in
+          record {
+            word = (least, most);
+            direct = λ q. refl;
+            float = f;
+            words = λ q. omega (arith, s);
+            also = λ q. omega (arith, s);
+            stored = λ q. whole-words (words w n - g) q;
+            room = λ q. words-room n;
+            whole = λ q. refl;
+            small = λ q d. small q;
+            address = λ q. absurd-bool' q;
+            copied = λ q. absurd-bool' q;
+          }
+
+      -- in m FPRs alone, or in memory alone once these are used up
+      power-float : (m : ℕ) → 0 < m → FloatSized (equivalentOf t) m n → (b : Bool)
+          → Held rules (placement t n (powerSpan w k (words w n) (pick b (share 0 m 0) (share 0 0 (words w n)))))
+      power-float m some f true = record {
         word = (least, most);
-        alone = λ e. absurd (omega arith);
-        direct = λ e. refl;
-        float = λ e. absurd (omega arith);
-        words = λ e. omega (arith, s);
-        stored = λ e. whole-words (words w n - g) e;
-        room = λ e. words-room n;
-        whole = λ e. refl;
-        small = λ e d. small e;
-        address = λ e. absurd-bool' e;
-        copied = λ e. absurd-bool' e;
+        direct = λ q. refl;
+        float = λ q. f;
+        words = λ q. absurd (omega arith);
+        also = λ q. absurd (omega (arith, mul-zero w));
+        stored = λ q. whole-words 0 q;
+        room = λ q. words-room n;
+        whole = λ q. refl;
+        small = λ q d. small q;
+        address = λ q. absurd-bool' q;
+        copied = λ q. absurd-bool' q;
+      }
+      power-float m some f false = record {
+        word = (least, most);
+        direct = λ q. refl;
+        float = λ q. absurd (omega arith);
+        words = λ q. omega (arith, mul-zero w);
+        also = λ q. omega (arith, mul-zero w);
+        stored = λ q. whole-words (words w n) q;
+        room = λ q. words-room n;
+        whole = λ q. refl;
+        small = λ q d. small q;
+        address = λ q. absurd-bool' q;
+        copied = λ q. absurd-bool' q;
       }
 
-  -- a float in m FPRs, or in memory once these are used up
-  power-float : (e : Edition) (k : Cursor) (t : ValueType) (n m : ℕ) → 0 < m → FloatSized (equivalentOf t) m n
-      → (startsAtHead (rules e) t ≡ false → (1 ≤ n) × (n ≤ 8)) → (b : Bool)
-      → Held (rules e) (placement t n (powerSpan w k (words w n) (pick b (share 0 m 0) (share 0 0 (words w n)))))
-  power-float e k t n m some f small true = record {
-    word = (least, most);
-    alone = λ e. (refl, mul-zero w);
-    direct = λ e. refl;
-    float = λ e. f;
-    words = λ e. absurd (omega arith);
-    stored = λ e. whole-words 0 e;
-    room = λ e. words-room n;
-    whole = λ e. refl;
-    small = λ e d. small e;
-    address = λ e. absurd-bool' e;
-    copied = λ e. absurd-bool' e;
-  }
-  power-float e k t n m some f small false = record {
-    word = (least, most);
-    alone = λ e. absurd (omega arith);
-    direct = λ e. refl;
-    float = λ e. absurd (omega arith);
-    words = λ e. omega (arith, mul-zero w);
-    stored = λ e. whole-words (words w n) e;
-    room = λ e. words-room n;
-    whole = λ e. refl;
-    small = λ e d. small e;
-    address = λ e. absurd-bool' e;
-    copied = λ e. absurd-bool' e;
-  }
+      -- where it asks for m FPRs, by the ways through `shareOf`
+      power-share : (x : Bool) (m room : ℕ) → (0 < m → FloatSized (equivalentOf t) m n)
+          → Held rules (placement t n (powerSpan w k (words w n) (shareOf x m room (words w n) (covered k (words w n)))))
+      unfolding shareOf
+      power-share x zero room f = power-words 0 (λ h. absurd (omega arith))
+      power-share false (suc m) room f = power-float (suc m) (omega arith) (f (omega arith)) (leb (suc m) room)
+      power-share true (suc m) room f = go (leb (suc m) room)
+        where
+          go : (b : Bool)
+              → Held rules (placement t n (powerSpan w k (words w n) (share (covered k (words w n)) (pick b (suc m) 0) (words w n - covered k (words w n)))))
+          go true = power-words (suc m) f
+          go false = power-words 0 (λ h. absurd (omega arith))
 
-  -- at every cursor, for every type and its size in any convention, in each edition
-  pub power-held : (e : Edition) (c : Convention) (k : Cursor) (t : ValueType) → Typed c t
-      → Held (rules e) (placement t (sizeOf c t) (spanOf (rules e) k t (sizeOf c t)))
-  unfolding spanOf powerShare shareOf fprs startsAtHead
-  power-held e c k (ValueType.Integer x) h = power-words e k (ValueType.Integer x) (integerSize c x) (λ q. (h .sized .some, integer-small c x))
-  power-held e c k (ValueType.Float FloatFormat.Single) h =
-      power-float e k (ValueType.Float FloatFormat.Single) 4 1 (omega arith) (refl, refl) (λ q. (omega arith, omega arith)) (leb 1 (14 - k .floating))
-  power-held e c k (ValueType.Float FloatFormat.Double) h =
-      power-float e k (ValueType.Float FloatFormat.Double) 8 1 (omega arith) (refl, refl) (λ q. (omega arith, omega arith)) (leb 1 (14 - k .floating))
-  power-held Edition.Earlier c k (ValueType.Float FloatFormat.LongDouble) h =
-      power-words Edition.Earlier k (ValueType.Float FloatFormat.LongDouble) 16 (λ q. absurd-bool q)
-  power-held Edition.Later c k (ValueType.Float FloatFormat.LongDouble) h =
-      power-float Edition.Later k (ValueType.Float FloatFormat.LongDouble) 16 2 (omega arith) refl (λ q. absurd-bool q) (leb 2 (14 - k .floating))
-  power-held e c k (ValueType.Struct s) h = power-words e k (ValueType.Struct s) (s .size) (λ q. (h .sized .some, omega (arith, struct-end w (s .size) q)))
+    -- at every cursor, for every type and its size in any convention, in each edition, with an ellipsis or without
+    pub power-held : (c : Convention) (k : Cursor) (t : ValueType) → Typed c t → Held rules (placement t (sizeOf c t) (spanOf rules k t (sizeOf c t)))
+    unfolding spanOf powerShare
+    power-held c k t h = power-share k t (sizeOf c t) (end-small c t h) v (fprs e t) (14 - k .floating) (fprs-sized e c t)
 
 -- ---- Z
 
@@ -147,10 +170,10 @@ z-float : (k : Cursor) (t : ValueType) (n : ℕ) → FloatSized (equivalentOf t)
 unfolding zSpanOf startsAtHead
 z-float k t n f one eight = record {
   word = (omega arith, omega arith);
-  alone = λ e. (refl, omega arith);
   direct = λ e. refl;
   float = λ e. let m : 1 ≡ zFloating k = omega arith in subst (λ (m : ℕ). FloatSized (equivalentOf t) m n) m f;
   words = λ e. omega arith;
+  also = λ e. omega arith;
   stored = λ e. omega arith;
   room = λ e. (eight, omega arith);
   whole = λ e. refl;
@@ -163,10 +186,10 @@ z-simple : (k : Cursor) (t : ValueType) (n : ℕ) → 1 ≤ n → n ≤ 8 → He
 unfolding zSpanOf startsAtHead
 z-simple k t n one eight = record {
   word = (omega arith, omega arith);
-  alone = λ e. absurd (omega arith);
   direct = λ e. refl;
   float = λ e. absurd (omega arith);
   words = λ e. omega arith;
+  also = λ e. omega arith;
   stored = λ e. omega arith;
   room = λ e. (eight, omega arith);
   whole = λ e. refl;
@@ -180,10 +203,10 @@ z-reference : (k : Cursor) (t : ValueType) (n : ℕ) → Held Rules.Z (placement
 unfolding zSpanOf startsAtHead
 z-reference k t n = record {
   word = (omega arith, omega arith);
-  alone = λ e. absurd (omega arith);
   direct = λ e. absurd (omega arith);
   float = λ e. absurd (omega arith);
   words = λ e. omega arith;
+  also = λ e. omega arith;
   stored = λ e. omega arith;
   room = λ e. absurd-bool e;
   whole = λ e. absurd-bool' e;
@@ -234,8 +257,10 @@ z-held k (ValueType.Struct s) h = z-struct k (ValueType.Struct s) (s .size) (s .
 
 -- ---- every convention, at every cursor
 
-pub step-held : (c : Convention) (k : Cursor) (t : ValueType) → Typed c t → Held (rulesOf c) (placement t (sizeOf c t) (spanOf (rulesOf c) k t (sizeOf c t)))
-step-held Convention.Ppc64 k t h = power-held 8 (omega arith) (omega arith) Edition.Earlier Convention.Ppc64 k t h
-step-held Convention.Z k t h = z-held k t h
-step-held Convention.Aix k t h = power-held 4 (omega arith) (omega arith) Edition.Earlier Convention.Aix k t h
-step-held Convention.Ppc64b k t h = power-held 8 (omega arith) (omega arith) Edition.Later Convention.Ppc64b k t h
+pub step-held : (c : Convention) (v : Bool) (k : Cursor) (t : ValueType) → Typed c t
+    → Held (withEllipsis v (rulesOf c)) (placement t (sizeOf c t) (spanOf (withEllipsis v (rulesOf c)) k t (sizeOf c t)))
+unfolding withEllipsis
+step-held Convention.Ppc64 v k t h = power-held 8 (omega arith) (omega arith) Edition.Earlier v Convention.Ppc64 k t h
+step-held Convention.Z v k t h = z-held k t h
+step-held Convention.Aix v k t h = power-held 4 (omega arith) (omega arith) Edition.Earlier v Convention.Aix k t h
+step-held Convention.Ppc64b v k t h = power-held 8 (omega arith) (omega arith) Edition.Later v Convention.Ppc64b k t h

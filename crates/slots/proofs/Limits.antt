@@ -21,7 +21,7 @@ use Rattle.slots.specs.Refusals.{floatAnswer}
 pub form-length : (r : Rules) (e : Equivalent) (m : ℕ) (v : List ℕ) → FloatSized e m (length v) → length (floatForm r e v) ≡ 8 * m
 form-length r Equivalent.Single m v h = length-bytesOf 8 (singleWord r (valueOf v)) ∙ rw (h .0)
 form-length r Equivalent.Double m v h = h .1 ∙ rw (h .0)
-form-length r Equivalent.Nothing m v h = h
+form-length r Equivalent.Nothing m v h = h .1 ∙ rw (h .0)
 
 -- 14 looks at a single's one FPR: of a run of m, the first tells
 pub answer-first : (r : Rules) (e : Equivalent) (m n at : ℕ) (l : List ℕ) → FloatSized e m n → floatAnswer r e (valueOf (part at 8 l)) ≡ floatAnswer r e (valueOf (part at (8 * m) l))

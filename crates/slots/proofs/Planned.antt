@@ -1,6 +1,7 @@
 -- The arguments of a whole plan: each is held by its span, and its places lie in the buffers. Assumes nothing.
 -- ---- shape
 use mathlib.Core.Path.{_≡_, refl, ap}
+use mathlib.Core.Bool.{Bool}
 use mathlib.Core.List.{List, [], _∷_, _++_}
 use Prim.Native.Nat.{ℕ, _+_, _≤_}
 use native.Mathlib.Omega.{arith}
@@ -10,7 +11,7 @@ use Rattle.types.specs.Sizes.{sizeOf}
 use Rattle.places.specs.declared.Cursor.{Cursor}
 use Rattle.places.specs.declared.Rules.{Rules}
 use Rattle.places.specs.declared.Span.{Span}
-use Rattle.places.specs.Step.{rulesOf, spanOf, nextOf}
+use Rattle.places.specs.Step.{rulesOf, withEllipsis, spanOf, nextOf}
 use Rattle.places.proofs.Bounds.{Named, named-next}
 use Rattle.places.proofs.Between.{step-between}
 use Rattle.places.proofs.Registers.{step-numbered}
@@ -37,10 +38,11 @@ placements-sizes c r k (t ∷ ts) = ap (λ (n : ℕ). sizeOf c t + n) (placement
 
 -- ---- each argument
 
-pub all-held : (c : Convention) (k : Cursor) (ts : List ValueType) → AllTyped c ts → All (Held (rulesOf c)) (placements c ts (spansOf c (rulesOf c) k ts))
+pub all-held : (c : Convention) (v : Bool) (k : Cursor) (ts : List ValueType) → AllTyped c ts
+    → All (Held (withEllipsis v (rulesOf c))) (placements c ts (spansOf c (withEllipsis v (rulesOf c)) k ts))
 unfolding placements spansOf All AllTyped
-all-held c k [] h = tt
-all-held c k (t ∷ ts) h = (step-held c k t (h .0), all-held c (nextOf (rulesOf c) k t (sizeOf c t)) ts (h .1))
+all-held c v k [] h = tt
+all-held c v k (t ∷ ts) h = (step-held c v k t (h .0), all-held c v (nextOf (withEllipsis v (rulesOf c)) k t (sizeOf c t)) ts (h .1))
 
 -- one that ends at or before the last cursor
 step-fits : (r : Rules) (k : Cursor) (t : ValueType) (n a m : ℕ) → Named r k → nextOf r k t n .stack ≤ a → nextOf r k t n .copies ≤ m

@@ -8,7 +8,7 @@ use Rattle.signature.specs.declared.SignatureRead.{SignatureRead}
 use Rattle.signature.specs.Read.{signatureOf}
 use Rattle.signature.specs.Answer.{signatureAnswer}
 use Rattle.places.specs.declared.Rules.{Rules}
-use Rattle.places.specs.Step.{rulesOf}
+use Rattle.places.specs.Step.{rulesOf, withEllipsis}
 use Rattle.plan.specs.declared.Plan.{Plan}
 use Rattle.plan.specs.declared.Measured.{Measured}
 use Rattle.plan.specs.Plan.{planAnswer, typesIn}
@@ -32,9 +32,12 @@ planFor s = planAnswer (signatureOf s)
 abbrev pub sizesFor : List ℕ → Measured
 sizesFor s = record { outcome = outcomeFor s; area = planFor s .area; values = planFor s .values; copies = planFor s .copies }
 
--- the rules of its convention
+-- the rules of a signature's arguments: its convention's, and whether it has an ellipsis
+abbrev pub rulesIn : SignatureRead → Rules
+rulesIn g = withEllipsis (g .ellipsis) (rulesOf (g .convention))
+
 abbrev pub rulesFor : List ℕ → Rules
-rulesFor s = rulesOf (signatureAnswer (signatureOf s) .convention)
+rulesFor s = rulesIn (signatureAnswer (signatureOf s))
 
 -- What holds of every signature's arguments, whatever its bytes (law `carried`): there are at most 128; each is held by its span, and
 -- lies in the area and the copies of its plan; their sizes are those of the values.
@@ -42,6 +45,6 @@ pub record Carried (g : SignatureRead) (p : Plan) : Type 0 where
   pub few : g .count ≤ maxArguments
   pub types : g .count ≤ length (g .arguments)
   pub spans : g .count ≤ length (p .spans)
-  pub held : All (Held (rulesOf (g .convention))) (argumentsIn g p)
+  pub held : All (Held (rulesIn g)) (argumentsIn g p)
   pub fit : All (Fits (p .area) (p .copies)) (argumentsIn g p)
   pub total : sizesOf (argumentsIn g p) ≡ p .values

@@ -11,21 +11,22 @@ use Rattle.places.specs.Step.{wordOf}
 use Rattle.slots.specs.Forms.{roomOf, startsAtHead}
 use Rattle.slots.specs.Placements.{Placement}
 
--- m FPRs hold a float of n bytes: a single and a double have one, a long double, which a type is not equivalent to, one for each doubleword
+-- m FPRs hold a float of n bytes: a single and a double have one; a long double, which no struct is equivalent to, has "two successive FPRs" (No. 12)
 abbrev pub FloatSized : Equivalent → ℕ → ℕ → Type 0
 FloatSized Equivalent.Single m n = (m ≡ 1) × (n ≡ 4)
 FloatSized Equivalent.Double m n = (m ≡ 1) × (n ≡ 8)
-FloatSized Equivalent.Nothing m n = n ≡ 8 * m
+FloatSized Equivalent.Nothing m n = (m ≡ 2) × (n ≡ 16)
 
 -- the span has room for exactly the argument's form
 pub record Held (r : Rules) (p : Placement) : Type 0 where
   pub word : (4 ≤ wordOf r) × (wordOf r ≤ 8)
-  -- FPRs hold a whole float, and then nothing else does
-  pub alone : 0 < p .span .floating .count → (p .span .general .count ≡ 0) × (p .span .memory .length ≡ 0)
+  -- FPRs hold a whole float
   pub direct : 0 < p .span .floating .count → p .span .indirect ≡ false
   pub float : 0 < p .span .floating .count → FloatSized (equivalentOf (p .ty)) (p .span .floating .count) (p .size)
-  -- else general registers and memory hold all words, memory none or a word at least
+  -- else general registers and memory hold all words; beside FPRs they hold all or none; memory holds none or a word at least
   pub words : p .span .floating .count ≡ 0 → wordOf r * p .span .general .count + p .span .memory .length ≡ roomOf r (p .size)
+  pub also : 0 < wordOf r * p .span .general .count + p .span .memory .length
+      → wordOf r * p .span .general .count + p .span .memory .length ≡ roomOf r (p .size)
   pub stored : 0 < p .span .memory .length → wordOf r ≤ p .span .memory .length
   -- a value's words have no word too many
   pub room : p .span .indirect ≡ false → (p .size ≤ roomOf r (p .size)) × (roomOf r (p .size) < p .size + wordOf r)

@@ -27,6 +27,8 @@ numberOf Refusal.OutsideCopies = 13
 numberOf Refusal.NotWidened = 14
 -- "register image not 512 bytes"
 numberOf Refusal.ImageSize = 15
+-- 02, No. 5: "when the GPRs of a float argument hold other value bytes than its FPR"
+numberOf Refusal.FloatsDiffer = 26
 -- "home or view asked of Z, or a view of an argument that isn't there"
 numberOf Refusal.NoView = 24
 

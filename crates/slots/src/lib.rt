@@ -23,6 +23,7 @@ pub enum Refusal {
     OutsideCopies,
     NotWidened,
     ImageSize,
+    FloatsDiffer,
     NoView,
 }
 
@@ -43,6 +44,7 @@ pub fn number_of(r: Refusal) -> u64
         Refusal::OutsideCopies => 13,
         Refusal::NotWidened => 14,
         Refusal::ImageSize => 15,
+        Refusal::FloatsDiffer => 26,
         Refusal::NoView => 24,
     }
 }

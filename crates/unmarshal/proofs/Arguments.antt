@@ -2,7 +2,7 @@
 use mathlib.Core.Path.{_≡_, refl, sym, _∙_}
 use mathlib.Core.Bool.{Bool, true, false}
 use mathlib.Core.List.{List}
-use Prim.Native.Nat.{ℕ, _+_, _-_, _*_, _≤_, _<_}
+use Prim.Native.Nat.{ℕ, zero, suc, _+_, _-_, _*_, _≤_, _<_}
 use native.Mathlib.Omega.{arith}
 use borrow.Author.Tests.{ltb-true, ltb-false}
 use lib.Dec.{ltb}
@@ -26,14 +26,27 @@ use Rattle.slots.specs.declared.Answer.{Answer}
 use Rattle.slots.specs.Buffers.{Buffers, bytesAt}
 use Rattle.slots.specs.Forms.{startsAtHead, ownStart, roomOf, narrowedBytes, floatValueAs, floatValue}
 use Rattle.slots.specs.Placements.{Placement, wordsAt, floatAt, addressAt, wordsValue, valueAt}
-use Rattle.slots.specs.Limits.{FloatSized}
+use Rattle.slots.specs.Limits.{FloatSized, Held}
 use Rattle.slots.specs.Refusals.{narrowedAnswer, floatAnswer}
-use Rattle.unmarshal.specs.Readable.{FloatRoom, Readable}
+use Rattle.unmarshal.specs.Readable.{Stored, FloatRoom, Readable}
 
 pub float-room : (e : Equivalent) (m n l : ℕ) → FloatSized e m n → n ≤ l → FloatRoom e (8 * m) l
 float-room Equivalent.Single m n l h k = (omega (arith, h .0), omega (arith, h .1))
 float-room Equivalent.Double m n l h k = (omega (arith, h .0), omega (arith, h .1))
-float-room Equivalent.Nothing m n l h k = omega (arith, h)
+float-room Equivalent.Nothing m n l h k = omega (arith, h .0, h .1)
+
+-- a value's own bytes start in its first word
+pub own-first : (r : Rules) (p : Placement) → Held r p → p .span .indirect ≡ false → ownStart r (p .ty) (p .size) < wordOf r
+unfolding ownStart
+own-first r p h e = go (startsAtHead r (p .ty))
+  where
+    go : (s : Bool) → pick s 0 (roomOf r (p .size) - p .size) < wordOf r
+    go true = omega (arith, h .word)
+    go false = omega (arith, h .room e, h .word)
+
+stored-length : (s m : ℕ) (l : List ℕ) → Stored s m (length l) → length (part s m l) ≡ m
+stored-length s zero l h = refl
+stored-length s (suc m) l h = length-part s (suc m) l (h (omega arith))
 
 module _ (r : Rules) (base : ℕ) (p : Placement) (b : Buffers) (h : Readable r base p b) where
   -- the value's own bytes lie in its words
@@ -49,15 +62,6 @@ module _ (r : Rules) (base : ℕ) (p : Placement) (b : Buffers) (h : Readable r 
       go true = omega (arith, h .ready .held .room e, h .ready .held .words no)
       go false = omega (arith, h .ready .held .room e, h .ready .held .words no)
 
-  -- from the first word on
-  pub own-first : p .span .indirect ≡ false → ownStart r (p .ty) (p .size) < wordOf r
-  unfolding ownStart
-  own-first e = go (startsAtHead r (p .ty))
-    where
-      go : (s : Bool) → pick s 0 (roomOf r (p .size) - p .size) < wordOf r
-      go true = omega (arith, h .ready .held .word)
-      go false = omega (arith, h .ready .held .room e, h .ready .held .word)
-
   length-words : length (wordsAt (wordOf r) (p .span) b) ≡ wordOf r * p .span .general .count + p .span .memory .length
   unfolding wordsAt bytesAt
   length-words =
@@ -67,7 +71,7 @@ module _ (r : Rules) (base : ℕ) (p : Placement) (b : Buffers) (h : Readable r 
       length-append (gather (wordOf r) k bs) (part (p .span .memory .start) (p .span .memory .length) (b .area))
       ∙ rw (
         length-gather (wordOf r) k bs (h .ready .held .word .1) (omega arith),
-        length-part (p .span .memory .start) (p .span .memory .length) (b .area) (omega (arith, h .ready)),
+        stored-length (p .span .memory .start) (p .span .memory .length) (b .area) (h .ready .memory),
       )
 
   length-fprs : length (floatAt (p .span) b) ≡ 8 * p .span .floating .count
@@ -79,12 +83,12 @@ narrowed-length : (q : Narrowed) → narrowedAnswer q ≡ Answer.Done → length
 narrowed-length (Narrowed.Single x) e = length-bytesOf 4 x
 narrowed-length Narrowed.NotWidened e = let z : _≡_ {A = ℕ} 0 1 = cc in absurd (omega arith)
 
-float-length : (r : Rules) (e : Equivalent) (bs : List ℕ) (m n : ℕ) → FloatSized e m n → length bs ≡ 8 * m → floatAnswer r e (valueOf bs) ≡ Answer.Done
+pub float-length : (r : Rules) (e : Equivalent) (bs : List ℕ) (m n : ℕ) → FloatSized e m n → length bs ≡ 8 * m → floatAnswer r e (valueOf bs) ≡ Answer.Done
     → length (floatValueAs r e bs) ≡ n
 float-length (Rules.Power f) Equivalent.Single bs m n s l d = narrowed-length (narrow (valueOf bs)) d ∙ sym (s .1)
 float-length Rules.Z Equivalent.Single bs m n s l d = length-take-le 4 bs (omega (arith, s .0)) ∙ sym (s .1)
 float-length r Equivalent.Double bs m n s l d = omega (arith, s .0, s .1)
-float-length r Equivalent.Nothing bs m n s l d = l ∙ sym s
+float-length r Equivalent.Nothing bs m n s l d = omega (arith, s .0, s .1)
 
 copy-length : (at n : ℕ) (b : Buffers) → at + n ≤ length (b .copies) → length (bytesAt (copies at) n b) ≡ n
 unfolding bytesAt

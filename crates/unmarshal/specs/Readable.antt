@@ -20,10 +20,14 @@ use Rattle.slots.specs.Limits.{Held, All, sizesOf}
 use Rattle.plan.specs.Limits.{Plannable}
 use Rattle.arguments.specs.Table.{argumentsFrom}
 
+-- m bytes at s lie in an area of a bytes; none may start anywhere: an argument in registers asks nothing of the area
+abbrev pub Stored : ℕ → ℕ → ℕ → Type 0
+Stored s m a = 0 < m → s + m ≤ a
+
 -- a span's words of w bytes lie in the image and the area
 abbrev pub WordsFit : ℕ → Span → List ℕ → List ℕ → Type 0
 WordsFit w s image area =
-    (1 ≤ w) × (w ≤ 8) × (s .general .first + s .general .count ≤ 32) × (length image ≡ 512) × (s .memory .start + s .memory .length ≤ length area)
+    (1 ≤ w) × (w ≤ 8) × (s .general .first + s .general .count ≤ 32) × (length image ≡ 512) × Stored (s .memory .start) (s .memory .length) (length area)
 
 -- room of l bytes for a float whose FPRs have n bytes
 abbrev pub FloatRoom : Equivalent → ℕ → ℕ → Type 0
@@ -36,7 +40,7 @@ pub record Ready (r : Rules) (i a : ℕ) (p : Placement) : Type 0 where
   pub held : Held r p
   pub general : p .span .general .first + p .span .general .count ≤ 32
   pub floating : p .span .floating .first + p .span .floating .count ≤ 32
-  pub memory : p .span .memory .start + p .span .memory .length ≤ a
+  pub memory : Stored (p .span .memory .start) (p .span .memory .length) a
   pub registers : i ≡ 512
 
 -- an argument that can be read

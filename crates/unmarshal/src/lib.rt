@@ -69,7 +69,7 @@ fn take_narrowed(out: &mut [u8], x: u64)
 }
 
 // The value in FPRs, whose n bytes start at `at` of the image, at the head of out.
-fn take_float(out: &mut [u8], image: &[u8], r: Rules, e: Equivalent, at: usize, n: usize)
+pub fn take_float(out: &mut [u8], image: &[u8], r: Rules, e: Equivalent, at: usize, n: usize)
     requires { ⌜ (at + n ≤ length (now image)) × (FloatRoom e n (length (now out))) ⌝ }
     ensures { λ _. ⌜ now (out .exit) ≡ overlay (now (out .entry)) (floatValueAs r e (part at n (now (image .entry)))) ⌝ }
 {
@@ -92,7 +92,7 @@ fn take_float(out: &mut [u8], image: &[u8], r: Rules, e: Equivalent, at: usize, 
 }
 
 // The value of one argument, of a type and its size, at the head of out.
-fn take_argument(
+pub fn take_argument(
     out: &mut [u8],
     image: &[u8],
     area: &[u8],

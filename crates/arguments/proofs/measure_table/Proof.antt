@@ -1,5 +1,5 @@
 -- The loop places one argument of the table a turn (`Walking`); at its end the cursor and the bytes of the values are the plan's.
-use Rattle.arguments.proofs.Table.{Walking, walking-start, walking-roomy, walking-more, walking-end}
+use Rattle.arguments.proofs.Table.{Walking, walking-start, walking-roomy, walking-plain, walking-end}
 use Rattle.plan.specs.Plan.{planned, planIn}
 use Rattle.places.proofs.Bounds.{rules-lawful}
 use borrow.Author.Needs.{needs}
@@ -62,7 +62,7 @@ loop-again : tie.Need-loop-again Inv-loop μ-loop
 loop-again c =
     let start = c .before .before .before .before .before .before .before .before .before in
     rw (c .advance .ensures, c .before .size-of .ensures, c .before .before .before .before .before .before .call-rules-of .ensures)
-    (walking-more (start .args .t1) (start .pre) _ _ _ (c .before .before .before .before .loop .inv) (c .before .before .before .loop-test .taken))
+    (walking-plain (start .args .t1) (start .pre) _ _ _ (c .before .before .before .before .loop .inv) (c .before .before .before .loop-test .taken))
 
 area-of-requires : tie.Need-area-of-requires Inv-loop μ-loop
 area-of-requires c κs = search needs

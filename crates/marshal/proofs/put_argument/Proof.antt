@@ -1,4 +1,4 @@
--- By the way that the argument is passed: in an FPR, by a pointer to its copy, from the head of its words on, or at their end.
+-- By the way that the argument is passed: in FPRs, and as well in words where its span has any; by a pointer to its copy; or in words alone.
 use mathlib.Core.Path.{_≡_, refl, sym, ap, subst, _∙_}
 use mathlib.Core.List.{List, _++_}
 use Prim.Native.Nat.{ℕ, _+_, _-_, _*_, _≤_, _<_}
@@ -7,7 +7,7 @@ use lib.ListN.{length, take, drop, replicate, length-take, length-drop}
 use borrow.Rule.Slice.PartMut.{putMid}
 use Rattle.words.specs.Splice.{splice}
 use Rattle.words.specs.Numbers.{bytesOf}
-use Rattle.words.proofs.Splices.{lent-tail}
+use Rattle.words.proofs.Splices.{lent-tail, length-splice}
 use Rattle.types.specs.declared.Equivalent.{Equivalent}
 use Rattle.types.specs.Sizes.{equivalentOf}
 use Rattle.places.specs.Step.{wordOf}
@@ -15,7 +15,7 @@ use Rattle.slots.specs.Buffers.{buffers}
 use Rattle.slots.specs.Forms.{floatForm}
 use Rattle.slots.specs.Placements.{Placement, placement}
 use Rattle.marshal.specs.Room.{FloatRoom}
-use Rattle.marshal.proofs.Arguments.{float-room, argument-float, argument-words, stands-address, stands-head, stands-end, number-fits, copy-none, copy-put}
+use Rattle.marshal.proofs.Arguments.{float-room, argument-float, argument-words, stands-address, stands-value, copy-none, copy-put}
 use Rattle.marshal.proofs.Pieces.{number-plain}
 use Rattle.slots.proofs.Limits.{one-address}
 use borrow.Author.Needs.{needs}
@@ -57,18 +57,31 @@ put-float-requires c κs =
     subst (λ (e : Equivalent). FloatRoom e (length (start .args .v .now)) (length (take (length l - at) (drop at l)))) (sym (c .equivalent-of .ensures))
     (float-room (equivalentOf (start .args .t)) (start .args .s .floating .count) (length (start .args .v .now)) _ (pre .held .float (c .before .before .before .if1 .taken)) room)
 
+put-value-requires : tie.Need-put-value-requires
+put-value-requires c κs =
+    let start = c .before .before .before .before .before .before .before .before .before .before .before .before .before .before .before .before in
+    let l : List ℕ = start .args .image .now in
+    let at : ℕ = 256 + 8 * start .args .s .floating .first in
+    let pre = start .pre in
+    let least : 1 ≤ wordOf (start .args .r) = omega (arith, pre .held .word) in
+    let put = ap (putMid at (length l - at) l) (c .before .before .before .before .put-float .ensures) ∙ lent-tail l at _ in
+    ((least, pre .held .word .1, pre .fits .general, ap length put ∙ length-splice l at _ ∙ pre .registers, pre .fits .memory, pre .held .stored), pre .held, pre .held .direct (c .before .before .before .before .before .before .before .before .if1 .taken))
+
 same-length : tie.Need-same-length
 same-length c = search needs
 
+same-length-2 : tie.Need-same-length-2
+same-length-2 c = search needs
+
 returns : tie.Need-returns
 returns c =
-    let start = c .before .before .before .before .before .before .before .before .before .before .before .before .before .before in
+    let start = c .before .before .before .before .before .before .before .before .before .before .before .before .before .before .before .before .before .before .before .before .before in
     let l : List ℕ = start .args .image .now in
     let v : List ℕ = start .args .v .now in
-    let r = start .args .r in
     let at : ℕ = 256 + 8 * start .args .s .floating .first in
-    ap (λ (i : List ℕ). buffers i (start .args .area .now) (start .args .copies .now)) (ap (putMid at (length l - at) l) (c .before .before .put-float .ensures) ∙ lent-tail l at (floatForm r (c .before .before .before .equivalent-of .result) v) ∙ ap (λ (e : Equivalent). splice l at (floatForm r e v)) (c .before .before .before .equivalent-of .ensures))
-    ∙ argument-float r (start .args .base) (argument start) v l (start .args .area .now) (start .args .copies .now) (start .pre .held) (c .before .before .before .before .before .before .if1 .taken) refl
+    let put = ap (putMid at (length l - at) l) (c .before .before .before .before .before .before .before .before .before .put-float .ensures) ∙ lent-tail l at _ ∙ ap (λ (e : Equivalent). splice l at (floatForm (start .args .r) e v)) (c .before .before .before .before .before .before .before .before .before .before .equivalent-of .ensures) in
+    argument-float (start .args .r) (start .args .base) (argument start) v l (start .args .area .now) (start .args .copies .now) (start .pre .held)
+    _ _ _ (c .before .before .before .before .before .before .before .before .before .before .before .before .before .if1 .taken) refl put (c .before .before .before .before .put-value .ensures .0) (c .before .before .before .before .put-value .ensures .1)
 
 cast-start : tie.Need-cast-start
 cast-start c = search needs
@@ -98,14 +111,14 @@ put-word-requires c κs =
     subst (λ (w : ℕ). 0 < start .args .s .memory .length → w ≤ start .args .s .memory .length) (pre .held .address (c .before .before .before .before .before .before .before .if2 .taken) .0) (pre .held .stored) in
     ((omega arith, omega arith, pre .fits .general, pre .registers, pre .fits .memory, stored), one-address (start .args .r) (argument start) (pre .held) (c .before .before .before .before .before .before .before .before .if1 .left) (c .before .before .before .before .before .before .before .if2 .taken))
 
-same-length-2 : tie.Need-same-length-2
-same-length-2 c = search needs
-
 same-length-3 : tie.Need-same-length-3
 same-length-3 c = search needs
 
 same-length-4 : tie.Need-same-length-4
 same-length-4 c = search needs
+
+same-length-5 : tie.Need-same-length-5
+same-length-5 c = search needs
 
 returns-2 : tie.Need-returns-2
 returns-2 c =
@@ -123,72 +136,27 @@ returns-2 c =
     (put .0) (put .1)
     (copied ∙ sym (copy-put (argument start) v l (c .before .before .before .before .before .before .before .before .before .before .before .before .if2 .taken)))
 
-word-of-requires : tie.Need-word-of-requires
-word-of-requires c κs = search needs
-
-starts-at-head-requires : tie.Need-starts-at-head-requires
-starts-at-head-requires c κs = search needs
-
-put-bytes-requires : tie.Need-put-bytes-requires
-put-bytes-requires c κs =
-    let start = c .before .before .before .before .before .before .before .before .before .before .before .before .before .before in
-    let pre = start .pre in
-    let w = pre .held .words (omega (arith, c .before .before .before .before .before .before .if1 .left)) in
-    let f = pre .held .room (c .before .before .before .before .before .if2 .left) in
-    let least : 1 ≤ wordOf (start .args .r) = omega (arith, pre .held .word) in
-    rw (c .before .before .before .before .word-of .ensures) ((least, pre .held .word .1, pre .fits .general, pre .registers, pre .fits .memory, pre .held .stored), omega (arith, w, f), omega (arith, w, f))
-
-same-length-5 : tie.Need-same-length-5
-same-length-5 c = search needs
+put-value-requires-2 : tie.Need-put-value-requires-2
+put-value-requires-2 c κs =
+    let pre = c .before .before .before .before .before .before .before .before .before .before .before .pre in
+    let least : 1 ≤ wordOf (c .before .before .before .before .before .before .before .before .before .before .before .args .r) = omega (arith, pre .held .word) in
+    ((least, pre .held .word .1, pre .fits .general, pre .registers, pre .fits .memory, pre .held .stored), pre .held, c .before .before .if2 .left)
 
 same-length-6 : tie.Need-same-length-6
 same-length-6 c = search needs
 
-returns-3 : tie.Need-returns-3
-returns-3 c =
-    let start = c .before .before .before .before .before .before .before .before .before .before .before .before .before .before .before .before .before .before .before in
-    let v : List ℕ = start .args .v .now in
-    let s = start .args .s in
-    let h = sym (c .before .before .before .before .before .before .before .before .starts-at-head .ensures) ∙ c .before .before .before .before .before .before .before .if3 .taken in
-    let put = rw (c .before .before .before .before .before .before .before .before .before .word-of .ensures) at (c .before .before .before .before .put-bytes .ensures) in
-    argument-words (start .args .r) (start .args .base) (argument start) v (start .args .image .now) (start .args .area .now) (start .args .copies .now) (start .pre .held)
-    (v ++ replicate (wordOf (start .args .r) * s .general .count + s .memory .length - length v) 0) _ _ _ (c .before .before .before .before .before .before .before .before .before .before .before .if1 .left)
-    (stands-head (start .args .r) (start .args .base) (argument start) v (start .pre .held) (c .before .before .before .before .before .before .before .before .before .before .before .if1 .left) (c .before .before .before .before .before .before .before .before .before .before .if2 .left) h refl)
-    (put .0) (put .1)
-    (copy-none (argument start) v (start .args .copies .now) (c .before .before .before .before .before .before .before .before .before .before .if2 .left))
-
-value-word-requires : tie.Need-value-word-requires
-value-word-requires c κs =
-    let start = c .before .before .before .before .before .before .before .before .before .before .before .before .before .before in
-    let h = sym (c .before .before .before .starts-at-head .ensures) ∙ c .before .before .if3 .left in
-    start .pre .held .small h (c .before .before .before .before .before .if2 .left)
-
-put-words-requires : tie.Need-put-words-requires
-put-words-requires c κs =
-    let start = c .before .before .before .before .before .before .before .before .before .before .before .before .before .before .before in
-    let pre = start .pre in
-    let h = sym (c .before .before .before .before .starts-at-head .ensures) ∙ c .before .before .before .if3 .left in
-    let least : 1 ≤ wordOf (start .args .r) = omega (arith, pre .held .word) in
-    rw (c .before .before .before .before .before .word-of .ensures) ((least, pre .held .word .1, pre .fits .general, pre .registers, pre .fits .memory, pre .held .stored), number-fits (start .args .r) (start .args .base) (argument start) (start .args .v .now) (pre .held) (c .before .before .before .before .before .before .before .if1 .left) (λ e. h))
-
 same-length-7 : tie.Need-same-length-7
 same-length-7 c = search needs
 
-same-length-8 : tie.Need-same-length-8
-same-length-8 c = search needs
-
-returns-4 : tie.Need-returns-4
-returns-4 c =
-    let start = c .before .before .before .before .before .before .before .before .before .before .before .before .before .before .before .before .before .before .before .before in
+returns-3 : tie.Need-returns-3
+returns-3 c =
+    let start = c .before .before .before .before .before .before .before .before .before .before .before .before .before .before .before .before in
     let v : List ℕ = start .args .v .now in
-    let h = sym (c .before .before .before .before .before .before .before .before .before .starts-at-head .ensures) ∙ c .before .before .before .before .before .before .before .before .if3 .left in
-    let room : ℕ = wordOf (start .args .r) * start .args .s .general .count + start .args .s .memory .length in
-    let put = rw (c .before .before .before .before .before .before .before .before .before .before .word-of .ensures) at (c .before .before .before .before .put-words .ensures) in
     argument-words (start .args .r) (start .args .base) (argument start) v (start .args .image .now) (start .args .area .now) (start .args .copies .now) (start .pre .held)
-    (bytesOf room (c .before .before .before .before .before .value-word .result)) _ _ _ (c .before .before .before .before .before .before .before .before .before .before .before .before .if1 .left)
-    (stands-end (start .args .r) (start .args .base) (argument start) v (start .pre .held) (c .before .before .before .before .before .before .before .before .before .before .before .before .if1 .left) (c .before .before .before .before .before .before .before .before .before .before .before .if2 .left) h refl ∙ ap (bytesOf room) (sym (c .before .before .before .before .before .value-word .ensures)))
-    (put .0) (put .1)
-    (copy-none (argument start) v (start .args .copies .now) (c .before .before .before .before .before .before .before .before .before .before .before .if2 .left))
+    _ _ _ _ (c .before .before .before .before .before .before .before .before .if1 .left)
+    (stands-value (start .args .r) (start .args .base) (argument start) v (c .before .before .before .before .before .before .before .if2 .left) refl)
+    (c .before .before .before .before .put-value2 .ensures .0) (c .before .before .before .before .put-value2 .ensures .1)
+    (copy-none (argument start) v (start .args .copies .now) (c .before .before .before .before .before .before .before .if2 .left))
 
 pub put-argument-spec : {M : Type 1} → statement M
 put-argument-spec =
@@ -202,7 +170,9 @@ put-argument-spec =
     part-put-float-end
     equivalent-of-requires
     put-float-requires
+    put-value-requires
     same-length
+    same-length-2
     returns
     cast-start
     sub-put
@@ -211,18 +181,11 @@ put-argument-spec =
     put-requires
     add-put-word
     put-word-requires
-    same-length-2
     same-length-3
     same-length-4
-    returns-2
-    word-of-requires
-    starts-at-head-requires
-    put-bytes-requires
     same-length-5
+    returns-2
+    put-value-requires-2
     same-length-6
-    returns-3
-    value-word-requires
-    put-words-requires
     same-length-7
-    same-length-8
-    returns-4)
+    returns-3)

@@ -127,7 +127,7 @@ take-words-requires c κs =
     let start = c .before .before .before .before .before .before .before .before .before .before .before .before .before .before .before in
     let ready = start .pre .0 .ready in
     let own = own-within (start .args .r) (start .args .base) (argument start) (lent start) (start .pre .0) (c .before .before .before .before .before .before .before .before .if1 .left) (c .before .before .before .before .before .before .before .if2 .left) in
-    let first = own-first (start .args .r) (start .args .base) (argument start) (lent start) (start .pre .0) (c .before .before .before .before .before .before .before .if2 .left) in
+    let first = own-first (start .args .r) (argument start) (ready .held) (c .before .before .before .before .before .before .before .if2 .left) in
     rw (c .before .before .before .before .before .before .word-of .ensures, c .own-start .ensures)
     ((least start, ready .held .word .1, ready .general, ready .registers, ready .memory), first, own, start .pre .1)
 

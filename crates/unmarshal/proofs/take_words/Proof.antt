@@ -55,7 +55,10 @@ add-take-part : tie.Need-add-take-part
 add-take-part c = search needs
 
 take-part-requires : tie.Need-take-part-requires
-take-part-requires c κs = search needs
+take-part-requires c κs =
+    let start = c .before .before .before .before .before .before .before .before .before .before .before in
+    let area = start .pre .0 .4 (omega (arith, start .pre .2, c .before .before .if1 .left, c .before .if2 .taken)) in
+    (omega (arith, area, start .pre .2, c .before .if2 .taken), start .pre .3)
 
 same-length-2 : tie.Need-same-length-2
 same-length-2 c = search needs
@@ -93,7 +96,10 @@ sub-take-part-2 : tie.Need-sub-take-part-2
 sub-take-part-2 c = search needs
 
 take-part-requires-2 : tie.Need-take-part-requires-2
-take-part-requires-2 c κs = search needs
+take-part-requires-2 c κs =
+    let start = c .before .before .before .before .before .before .before .before .before .before .before .before .before .before .before in
+    let area = start .pre .0 .4 (omega (arith, start .pre .2, c .before .before .before .before .before .before .if1 .left)) in
+    (omega (arith, area, start .pre .2, c .before .before .before .before .before .if2 .left), search needs)
 
 same-length-3 : tie.Need-same-length-3
 same-length-3 c = search needs

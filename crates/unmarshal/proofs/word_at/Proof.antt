@@ -2,6 +2,7 @@
 use mathlib.Core.Path.{sym, ap, _∙_}
 use mathlib.Core.List.{[]}
 use Prim.Native.Nat.{_*_}
+use native.Mathlib.Omega.{arith}
 use Rattle.words.specs.Numbers.{valueOf}
 use Rattle.slots.specs.Buffers.{buffers, bytesAt}
 use Rattle.slots.proofs.Doublewords.{words-doublewords}
@@ -29,7 +30,10 @@ cast-load-2 : tie.Need-cast-load-2
 cast-load-2 c = search needs
 
 load-requires-2 : tie.Need-load-requires-2
-load-requires-2 c κs = search needs
+load-requires-2 c κs =
+    let start = c .before .before .before .before .before .before .before in
+    let none = c .before .if1 .left in
+    omega (arith, start .pre .1, start .pre .0 .4 (omega (arith, start .pre .1)))
 
 returns-2 : tie.Need-returns-2
 unfolding bytesAt
