@@ -14,6 +14,7 @@ use Rattle.words.proofs.Numbers.{length-bytesOf}
 use Rattle.conventions.specs.Numbers.{wordBytes}
 use Rattle.conventions.proofs.Laws.{word-bounds}
 use Rattle.places.proofs.Bounds.{rules-word}
+use Rattle.places.proofs.Marked.{word-marked}
 use Rattle.registers.specs.Registers.{spread}
 use Rattle.registers.proofs.Registers.{register-number, spread-one}
 use Rattle.conventions.specs.declared.Convention.{Convention}
@@ -40,7 +41,7 @@ use Rattle.slots.specs.Buffers.{Buffers, buffers, Slot, put, putAll}
 use Rattle.slots.specs.Placements.{Placement, hiddenSlots, slotsOfAll}
 use Rattle.slots.specs.Limits.{Held, Fits, All, sizesOf}
 use Rattle.slots.specs.Refusals.{test, differ, firstOf, isRefused}
-use Rattle.slots.specs.Arguments.{argumentsOf, planFor, sizesFor, rulesFor}
+use Rattle.slots.specs.Arguments.{argumentsOf, planFor, sizesFor, rulesIn, rulesFor}
 use Rattle.slots.proofs.Answered.{carried}
 use Rattle.arguments.specs.Table.{argumentsFrom}
 use Rattle.arguments.proofs.Table.{arguments-read}
@@ -123,12 +124,12 @@ all-ready s g base v i a k same values image area copies low =
       plannable = rw same (answer-plannable s);
       each =
           rw (arguments-read s g same)
-          (all-with (Held (rulesOf (g .convention))) (Fits (planFor s .area) (planFor s .copies)) (Ready (rulesOf (g .convention)) base i a k) ready (argumentsOf s)
-          (subst (λ (x : SignatureRead). All (Held (rulesOf (x .convention))) (argumentsOf s)) (sym same) (h .held)) (h .fit));
+          (all-with (Held (rulesIn g)) (Fits (planFor s .area) (planFor s .copies)) (Ready (rulesIn g) base i a k) ready (argumentsOf s)
+          (subst (λ (x : SignatureRead). All (Held (rulesIn x)) (argumentsOf s)) (sym same) (h .held)) (h .fit));
       total = ap sizesOf (arguments-read s g same) ∙ h .total ∙ sym values;
     }
   where
-    ready : (q : Placement) → Held (rulesOf (g .convention)) q → Fits (planFor s .area) (planFor s .copies) q → Ready (rulesOf (g .convention)) base i a k q
+    ready : (q : Placement) → Held (rulesIn g) q → Fits (planFor s .area) (planFor s .copies) q → Ready (rulesIn g) base i a k q
     ready q x y = record {
       held = x;
       fits = record { general = y .general; floating = y .floating; memory = omega (arith, y .memory); copies = omega (arith, y .copies) };
@@ -177,7 +178,7 @@ module _ (s : List ℕ) where
 
   -- the word of the signature's convention
   pub word-read : (g : SignatureRead) (w : ℕ) → g ≡ signatureAnswer (signatureOf s) → w ≡ wordBytes (g .convention) → w ≡ wordOf (rulesFor s)
-  word-read g w e q = q ∙ sym (rules-word (g .convention)) ∙ ap (λ (x : SignatureRead). wordOf (rulesOf (x .convention))) e
+  word-read g w e q = q ∙ sym (word-marked (g .ellipsis) (rulesOf (g .convention)) ∙ rules-word (g .convention)) ∙ ap (λ (x : SignatureRead). wordOf (rulesIn x)) e
 
 -- ---- the hidden address
 
@@ -237,10 +238,10 @@ buffers-kept s values base hidden (Answer.Refused reason) b e = refl
 pub buffers-done : (s values image area copies i : List ℕ) (base hidden w : ℕ) (g : SignatureRead) (q : ResultPlaces) (b : Buffers)
     → g ≡ signatureAnswer (signatureOf s) → w ≡ wordOf (rulesFor s) → planFor s .result ≡ q
     → buffers i [] [] ≡ putAll (hiddenSlots w q hidden) (buffers image [] [])
-    → b ≡ putAll (slotsOfAll (rulesOf (g .convention)) base (argumentsFrom g) values) (buffers i area copies)
+    → b ≡ putAll (slotsOfAll (rulesIn g) base (argumentsFrom g) values) (buffers i area copies)
     → b ≡ fillBuffers s values base hidden Answer.Done (buffers image area copies)
 unfolding fillBuffers filledSlots
 buffers-done s values image area copies i base hidden w g q b e n p x y =
-    let slots : List Slot = slotsOfAll (rulesOf (g .convention)) base (argumentsFrom g) values in
+    let slots : List Slot = slotsOfAll (rulesIn g) base (argumentsFrom g) values in
     let whole = hidden-whole w q hidden image area copies i x in
     rw (← n, ← e, ← arguments-read s g e, p) (y ∙ ap (putAll slots) whole ∙ sym (putAll-append (hiddenSlots w q hidden) slots (buffers image area copies)))

@@ -9,7 +9,7 @@ use lib.ListN.{length}
 use Rattle.words.specs.Basics.{pick}
 use Rattle.signature.specs.declared.SignatureRead.{SignatureRead}
 use Rattle.places.specs.declared.ResultPlaces.{ResultPlaces}
-use Rattle.places.specs.Step.{rulesOf, wordOf}
+use Rattle.places.specs.Step.{wordOf}
 use Rattle.slots.specs.declared.Refusal.{Refusal}
 use Rattle.slots.specs.declared.Answer.{Answer}
 use Rattle.slots.specs.Buffers.{Buffers, Slot, putAll}
@@ -17,7 +17,7 @@ use Rattle.slots.specs.Placements.{slotsOfAll, hiddenSlots}
 use Rattle.slots.specs.Refusals.{Test, test, differ, firstOf, afterReading, isDone}
 use Rattle.slots.specs.Limits.{All, sizesOf}
 use Rattle.plan.specs.Call.{outcomeFor}
-use Rattle.slots.specs.Arguments.{argumentsOf, planFor, rulesFor}
+use Rattle.slots.specs.Arguments.{argumentsOf, planFor, rulesIn, rulesFor}
 use Rattle.plan.specs.Limits.{Plannable}
 use Rattle.arguments.specs.Table.{argumentsFrom}
 use Rattle.marshal.specs.Room.{Ready}
@@ -84,5 +84,5 @@ WordSize w = (1 ≤ w) × (w ≤ 8)
 -- all arguments of a signature that was read, of values of v bytes
 pub record AllReady (g : SignatureRead) (base v i a c : ℕ) : Type 0 where
   pub plannable : Plannable g
-  pub each : All (Ready (rulesOf (g .convention)) base i a c) (argumentsFrom g)
+  pub each : All (Ready (rulesIn g) base i a c) (argumentsFrom g)
   pub total : sizesOf (argumentsFrom g) ≡ v

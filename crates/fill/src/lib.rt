@@ -7,10 +7,10 @@ use slots::Refusal;
 ghost use mathlib.Core.Path.{_≡_};
 ghost use mathlib.Core.List.{[]};
 ghost use lib.ListN.{length};
-ghost use Rattle.places.specs.Step.{rulesOf};
 ghost use Rattle.slots.specs.Buffers.{buffers, putAll};
 ghost use Rattle.slots.specs.Placements.{slotsOfAll, hiddenSlots};
 ghost use Rattle.slots.specs.Refusals.{firstOf};
+ghost use Rattle.slots.specs.Arguments.{rulesIn};
 ghost use Rattle.arguments.specs.Table.{argumentsFrom};
 ghost use Rattle.fill.specs.Fill.{badCopies, highAddress, fillTests, fillAnswer, fillBuffers, lengths, HiddenFits, WordSize, AllReady};
 
@@ -32,12 +32,12 @@ fn put_arguments(
     base: u64,
 )
     requires { ⌜ AllReady g base (length (now values)) (length (now image)) (length (now area)) (length (now copies)) ⌝ }
-    ensures { λ _. ⌜ buffers (now (image .exit)) (now (area .exit)) (now (copies .exit)) ≡ putAll (slotsOfAll (rulesOf (g .convention)) base (argumentsFrom g) (now (values .entry))) (buffers (now (image .entry)) (now (area .entry)) (now (copies .entry))) ⌝ }
+    ensures { λ _. ⌜ buffers (now (image .exit)) (now (area .exit)) (now (copies .exit)) ≡ putAll (slotsOfAll (rulesIn g) base (argumentsFrom g) (now (values .entry))) (buffers (now (image .entry)) (now (area .entry)) (now (copies .entry))) ⌝ }
 {
     let convention = g.convention;
     let result = g.result;
     let count = g.count;
-    let rules = abi::call_rules_of(convention);
+    let rules = arguments::rules_in(convention, g.ellipsis);
     let mut c = arguments::first_cursor(convention, result);
     let mut v: usize = 0;
     let mut i: usize = 0;

@@ -6,12 +6,10 @@ use Prim.Native.Nat.{ℕ, _≤_}
 use native.Mathlib.Omega.{arith}
 use borrow.Author.Tests.{ltb-false}
 use Rattle.words.specs.Splice.{overlay}
-use Rattle.conventions.specs.declared.Convention.{Convention}
 use Rattle.signature.specs.declared.Outcome.{Outcome}
 use Rattle.signature.specs.declared.SignatureRead.{SignatureRead}
 use Rattle.signature.specs.Read.{signatureOf}
 use Rattle.signature.specs.Answer.{signatureAnswer}
-use Rattle.places.specs.Step.{rulesOf}
 use Rattle.plan.specs.declared.Plan.{Plan}
 use Rattle.plan.specs.declared.Measured.{Measured}
 use Rattle.plan.proofs.Answers.{answer-plannable}
@@ -21,7 +19,7 @@ use Rattle.slots.specs.Buffers.{Buffers}
 use Rattle.slots.specs.Placements.{Placement, valuesAt}
 use Rattle.slots.specs.Limits.{Held, Fits, All, sizesOf}
 use Rattle.slots.specs.Refusals.{firstOf, orElse, isRefused}
-use Rattle.slots.specs.Arguments.{argumentsOf, planFor, sizesFor}
+use Rattle.slots.specs.Arguments.{argumentsOf, planFor, rulesIn, sizesFor}
 use Rattle.slots.proofs.Answered.{carried}
 use Rattle.arguments.specs.Table.{argumentsFrom}
 use Rattle.arguments.proofs.Table.{arguments-read}
@@ -55,21 +53,21 @@ pub tests-lent : (s : List ℕ) (have : Sizes) (m : Measured) → m ≡ sizesFor
 tests-lent s have m p e = tests-passed have (planFor s) (rw p at e)
 
 -- each argument is then one that the first pass can look at
-pub each-ready : (s : List ℕ) (c : Convention) (i a : ℕ) → signatureAnswer (signatureOf s) .convention ≡ c → i ≡ 512 → planFor s .area ≤ a
-    → All (Ready (rulesOf c) i a) (argumentsOf s)
+pub each-ready : (s : List ℕ) (g : SignatureRead) (i a : ℕ) → g ≡ signatureAnswer (signatureOf s) → i ≡ 512 → planFor s .area ≤ a
+    → All (Ready (rulesIn g) i a) (argumentsOf s)
 unfolding argumentsOf
-each-ready s c i a same image area =
+each-ready s g i a same image area =
     let h = carried s in
-    all-with (Held (rulesOf c)) (Fits (planFor s .area) (planFor s .copies)) (Ready (rulesOf c) i a) ready (argumentsOf s)
-    (subst (λ (d : Convention). All (Held (rulesOf d)) (argumentsOf s)) same (h .held)) (h .fit)
+    all-with (Held (rulesIn g)) (Fits (planFor s .area) (planFor s .copies)) (Ready (rulesIn g) i a) ready (argumentsOf s)
+    (subst (λ (x : SignatureRead). All (Held (rulesIn x)) (argumentsOf s)) (sym same) (h .held)) (h .fit)
   where
-    ready : (q : Placement) → Held (rulesOf c) q → Fits (planFor s .area) (planFor s .copies) q → Ready (rulesOf c) i a q
+    ready : (q : Placement) → Held (rulesIn g) q → Fits (planFor s .area) (planFor s .copies) q → Ready (rulesIn g) i a q
     ready q x y = record { held = x; general = y .general; floating = y .floating; memory = λ _. omega (arith, y .memory); registers = image }
 
 pub all-ready : (s : List ℕ) (g : SignatureRead) (i a : ℕ) → g ≡ signatureAnswer (signatureOf s) → i ≡ 512 → planFor s .area ≤ a → AllReady g i a
 all-ready s g i a same image area = record {
   plannable = rw same (answer-plannable s);
-  each = rw (arguments-read s g same) (each-ready s (g .convention) i a (ap (λ (x : SignatureRead). x .convention) (sym same)) image area);
+  each = rw (arguments-read s g same) (each-ready s g i a same image area);
 }
 
 -- their sizes are those of the values
@@ -86,16 +84,16 @@ module _ (s : List ℕ) (have : Sizes) (base : ℕ) (b : Buffers) (m : Measured)
 
   module _ (g : SignatureRead) (same : g ≡ signatureAnswer (signatureOf s)) (n : ℕ) (e : m .outcome ≡ Outcome.Accepted n) where
     -- of the lengths l and the arguments a
-    whole : (l a : Answer) → l ≡ firstOf (readTests have (m .values) (m .area)) → a ≡ argumentsAnswer (rulesOf (g .convention)) base (argumentsFrom g) b
+    whole : (l a : Answer) → l ≡ firstOf (readTests have (m .values) (m .area)) → a ≡ argumentsAnswer (rulesIn g) base (argumentsFrom g) b
         → orElse l a ≡ readAnswer s have base b
     unfolding readAnswer
     whole l a x y = rw (rw p at e, ← same, ← arguments-read s g same) (ap₂ orElse (rw p at x) y)
 
     pub answer-lengths : (l : Answer) → l ≡ firstOf (readTests have (m .values) (m .area)) → isRefused l ≡ true → l ≡ readAnswer s have base b
-    answer-lengths l x t = sym (or-refused l _ t) ∙ whole l (argumentsAnswer (rulesOf (g .convention)) base (argumentsFrom g) b) x refl
+    answer-lengths l x t = sym (or-refused l _ t) ∙ whole l (argumentsAnswer (rulesIn g) base (argumentsFrom g) b) x refl
 
     pub answer-arguments : (l a : Answer) → l ≡ firstOf (readTests have (m .values) (m .area)) → isRefused l ≡ false
-        → a ≡ argumentsAnswer (rulesOf (g .convention)) base (argumentsFrom g) b → a ≡ readAnswer s have base b
+        → a ≡ argumentsAnswer (rulesIn g) base (argumentsFrom g) b → a ≡ readAnswer s have base b
     answer-arguments l a x t y = ap (λ (z : Answer). orElse z a) (sym (not-refused l t)) ∙ whole l a x y
 
 -- ---- the value buffer
@@ -107,6 +105,6 @@ values-kept s base (Answer.Unread f) b values e = refl
 values-kept s base (Answer.Refused reason) b values e = refl
 
 pub values-taken : (s : List ℕ) (base : ℕ) (b : Buffers) (values last : List ℕ) (g : SignatureRead) → g ≡ signatureAnswer (signatureOf s)
-    → last ≡ overlay values (valuesAt (rulesOf (g .convention)) base (argumentsFrom g) b) → last ≡ readValues s base Answer.Done b values
+    → last ≡ overlay values (valuesAt (rulesIn g) base (argumentsFrom g) b) → last ≡ readValues s base Answer.Done b values
 unfolding readValues
 values-taken s base b values last g same e = rw (← same, ← arguments-read s g same) e

@@ -14,7 +14,7 @@ use Rattle.types.specs.declared.ValueType.{ValueType}
 use Rattle.types.specs.Sizes.{equivalentOf}
 use Rattle.signature.specs.declared.SignatureRead.{SignatureRead}
 use Rattle.places.specs.declared.Rules.{Rules}
-use Rattle.places.specs.Step.{rulesOf, wordOf}
+use Rattle.places.specs.Step.{wordOf}
 use Rattle.slots.specs.declared.Refusal.{Refusal}
 use Rattle.slots.specs.declared.Answer.{Answer}
 use Rattle.places.specs.Spots.{general}
@@ -25,7 +25,7 @@ use Rattle.slots.specs.Placements.{Placement, floatAt, addressAt, valuesAt}
 use Rattle.slots.specs.Refusals.{Test, test, differ, firstOf, afterReading, orElse, firstOfAll, isDone, floatAnswer}
 use Rattle.slots.specs.Limits.{Held, All}
 use Rattle.plan.specs.Call.{outcomeFor}
-use Rattle.slots.specs.Arguments.{argumentsOf, planFor, rulesFor}
+use Rattle.slots.specs.Arguments.{argumentsOf, planFor, rulesIn, rulesFor}
 use Rattle.plan.specs.Limits.{Plannable}
 use Rattle.arguments.specs.Table.{argumentsFrom}
 use Rattle.unmarshal.specs.Readable.{Ready}
@@ -127,4 +127,4 @@ pub record Compared (r : Rules) (p : Placement) (b : Buffers) : Type 0 where
 -- what the first pass asks: all arguments of a signature that was read, and the lengths of the image and the area
 pub record AllReady (g : SignatureRead) (i a : ℕ) : Type 0 where
   pub plannable : Plannable g
-  pub each : All (Ready (rulesOf (g .convention)) i a) (argumentsFrom g)
+  pub each : All (Ready (rulesIn g) i a) (argumentsFrom g)

@@ -13,10 +13,11 @@ ghost use mathlib.Core.Path.{_≡_};
 ghost use mathlib.Core.List.{[]};
 ghost use Prim.Native.Nat.{_≤_};
 ghost use lib.ListN.{length, take};
-ghost use Rattle.places.specs.Step.{Lawful, Roomy, rulesOf, spanOf};
+ghost use Rattle.places.specs.Step.{Lawful, Roomy, spanOf};
 ghost use Rattle.slots.specs.Buffers.{buffers};
 ghost use Rattle.slots.specs.Placements.{placement};
 ghost use Rattle.slots.specs.Refusals.{firstOf};
+ghost use Rattle.slots.specs.Arguments.{rulesIn};
 ghost use Rattle.arguments.specs.Table.{argumentsFrom};
 ghost use Rattle.unmarshal.specs.Readable.{Ready};
 ghost use Rattle.read.specs.Read.{inCopies, copyAnswer, sameBytes, agrees, agreeAnswer, Compared, argumentAnswer, canRefuse, argumentsAnswer, readTests, readAnswer, readValues, sizes, AllReady};
@@ -194,12 +195,12 @@ pub fn first_refusal(
     base: u64,
 ) -> Answer
     requires { ⌜ AllReady g (length (now image)) (length (now area)) ⌝ }
-    ensures { λ a. ⌜ a ≡ argumentsAnswer (rulesOf (g .convention)) base (argumentsFrom g) (buffers (now (image .entry)) (now (area .entry)) (now (copies .entry))) ⌝ }
+    ensures { λ a. ⌜ a ≡ argumentsAnswer (rulesIn g) base (argumentsFrom g) (buffers (now (image .entry)) (now (area .entry)) (now (copies .entry))) ⌝ }
 {
     let convention = g.convention;
     let result = g.result;
     let count = g.count;
-    let rules = abi::call_rules_of(convention);
+    let rules = arguments::rules_in(convention, g.ellipsis);
     let mut c = arguments::first_cursor(convention, result);
     let mut i: usize = 0;
     while i < count {

@@ -11,12 +11,13 @@ use Rattle.types.specs.Sizes.{equivalentOf}
 use Rattle.signature.specs.declared.SignatureRead.{SignatureRead}
 use Rattle.places.specs.declared.Rules.{Rules}
 use Rattle.places.specs.declared.Span.{Span}
-use Rattle.places.specs.Step.{rulesOf, wordOf}
+use Rattle.places.specs.Step.{wordOf}
 use Rattle.slots.specs.declared.Answer.{Answer}
 use Rattle.slots.specs.Buffers.{Buffers}
 use Rattle.slots.specs.Placements.{Placement, floatAt, addressAt}
 use Rattle.slots.specs.Refusals.{floatAnswer}
 use Rattle.slots.specs.Limits.{Held, All, sizesOf}
+use Rattle.slots.specs.Arguments.{rulesIn}
 use Rattle.plan.specs.Limits.{Plannable}
 use Rattle.arguments.specs.Table.{argumentsFrom}
 
@@ -55,5 +56,5 @@ pub record Readable (r : Rules) (base : ℕ) (p : Placement) (b : Buffers) : Typ
 -- all arguments of a signature that was read, into values of v bytes
 pub record AllReadable (g : SignatureRead) (base v : ℕ) (b : Buffers) : Type 0 where
   pub plannable : Plannable g
-  pub each : All (λ (q : Placement). Readable (rulesOf (g .convention)) base q b) (argumentsFrom g)
+  pub each : All (λ (q : Placement). Readable (rulesIn g) base q b) (argumentsFrom g)
   pub total : sizesOf (argumentsFrom g) ≡ v

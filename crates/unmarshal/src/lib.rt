@@ -11,10 +11,10 @@ ghost use Prim.Native.Nat.{_+_, _*_, _≤_, _<_};
 ghost use lib.ListN.{length};
 ghost use Rattle.words.specs.Splice.{overlay, part};
 ghost use Rattle.ieee.specs.Narrowing.{narrow as narrowOf};
-ghost use Rattle.places.specs.Step.{rulesOf};
 ghost use Rattle.slots.specs.Buffers.{buffers};
 ghost use Rattle.slots.specs.Forms.{narrowedBytes, floatValueAs};
 ghost use Rattle.slots.specs.Placements.{placement, wordsAt, addressAt, valueAt, valuesAt};
+ghost use Rattle.slots.specs.Arguments.{rulesIn};
 ghost use Rattle.arguments.specs.Table.{argumentsFrom};
 ghost use Rattle.unmarshal.specs.Readable.{WordsFit, FloatRoom, Readable, AllReadable};
 
@@ -144,12 +144,12 @@ pub fn take_arguments(
     base: u64,
 )
     requires { ⌜ AllReadable g base (length (now values)) (buffers (now image) (now area) (now copies)) ⌝ }
-    ensures { λ _. ⌜ now (values .exit) ≡ overlay (now (values .entry)) (valuesAt (rulesOf (g .convention)) base (argumentsFrom g) (buffers (now (image .entry)) (now (area .entry)) (now (copies .entry)))) ⌝ }
+    ensures { λ _. ⌜ now (values .exit) ≡ overlay (now (values .entry)) (valuesAt (rulesIn g) base (argumentsFrom g) (buffers (now (image .entry)) (now (area .entry)) (now (copies .entry)))) ⌝ }
 {
     let convention = g.convention;
     let result = g.result;
     let count = g.count;
-    let rules = abi::call_rules_of(convention);
+    let rules = arguments::rules_in(convention, g.ellipsis);
     let mut c = arguments::first_cursor(convention, result);
     let mut v: usize = 0;
     let mut i: usize = 0;

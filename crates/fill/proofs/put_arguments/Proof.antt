@@ -8,13 +8,13 @@ use native.Mathlib.Omega.{arith}
 use native.Mathlib.Nat.{add-sub-cancel-left}
 use lib.ListN.{length, drop, take, length-drop}
 use lib.Seq.{length-take-le}
-use Rattle.places.specs.Step.{rulesOf, placed}
-use Rattle.places.proofs.Bounds.{rules-lawful}
+use Rattle.places.specs.Step.{placed}
 use Rattle.plan.specs.Limits.{typeAt}
 use Rattle.slots.specs.Buffers.{buffers}
 use Rattle.slots.specs.Placements.{Placement, placement}
+use Rattle.slots.specs.Arguments.{rulesIn}
 use Rattle.arguments.specs.Table.{argumentsFrom}
-use Rattle.arguments.proofs.Table.{Walking, walking-start, walking-roomy, walking-hand, walking-more, walking-end}
+use Rattle.arguments.proofs.Table.{lawful-in, Walking, walking-start, walking-roomy, walking-hand, walking-more, walking-end}
 use Rattle.marshal.specs.Room.{Ready}
 use Rattle.fill.proofs.Turns.{Going, AtHand, going-start, at-hand, going-more, going-end}
 use Rattle.fill.proofs.put_arguments.Statement.{statement}
@@ -23,7 +23,7 @@ use Rattle.fill.proofs.put_arguments.Tie as tie
 abbrev Inv-loop : tie.InvT-loop
 Inv-loop image₀ area₀ copies₀ values base g convention count rules c₀ v₀ i₀ image area copies c v i =
     Walking g c v i
-    × Going (rulesOf (g .convention)) base (Ready (rulesOf (g .convention)) base (length image₀) (length area₀) (length copies₀)) (argumentsFrom g) values (buffers image₀ area₀ copies₀) (buffers image area copies) v i
+    × Going (rulesIn g) base (Ready (rulesIn g) base (length image₀) (length area₀) (length copies₀)) (argumentsFrom g) values (buffers image₀ area₀ copies₀) (buffers image area copies) v i
 
 abbrev μ-loop : tie.MeasureT-loop
 μ-loop image₀ area₀ copies₀ values base g convention count rules c₀ v₀ i₀ image area copies c v i = count - i
@@ -35,14 +35,14 @@ hand c = placement (typeAt (c .before .before .before .before .before .before .b
 next : (c : tie.After-step Inv-loop μ-loop) → drop (c .before .before .before .before .loop .i) (argumentsFrom (c .before .before .before .before .before .before .before .before .before .before .before .args .t4)) ≡ hand c ∷ drop (suc (c .before .before .before .before .loop .i)) (argumentsFrom (c .before .before .before .before .before .before .before .before .before .before .before .args .t4))
 unfolding placed
 next c =
-    rw (c .step .ensures, c .before .size-of .ensures, c .before .before .before .before .before .before .call-rules-of .ensures)
+    rw (c .step .ensures, c .before .size-of .ensures, c .before .before .before .before .before .before .rules-in .ensures)
     (walking-hand (c .before .before .before .before .before .before .before .before .before .before .before .args .t4) (c .before .before .before .before .before .before .before .before .before .before .before .pre .plannable) _ _ _ (c .before .before .before .before .loop .inv .0) (c .before .before .before .loop-test .taken))
 
-known : (c : tie.After-step Inv-loop μ-loop) → AtHand (Ready (rulesOf (c .before .before .before .before .before .before .before .before .before .before .before .args .t4 .convention)) (c .before .before .before .before .before .before .before .before .before .before .before .args .base) (length (c .before .before .before .before .before .before .before .before .before .before .before .args .image .now)) (length (c .before .before .before .before .before .before .before .before .before .before .before .args .area .now)) (length (c .before .before .before .before .before .before .before .before .before .before .before .args .copies .now))) (hand c) (c .before .before .before .before .loop .v) (length (c .before .before .before .before .before .before .before .before .before .before .before .args .values .now))
+known : (c : tie.After-step Inv-loop μ-loop) → AtHand (Ready (rulesIn (c .before .before .before .before .before .before .before .before .before .before .before .args .t4)) (c .before .before .before .before .before .before .before .before .before .before .before .args .base) (length (c .before .before .before .before .before .before .before .before .before .before .before .args .image .now)) (length (c .before .before .before .before .before .before .before .before .before .before .before .args .area .now)) (length (c .before .before .before .before .before .before .before .before .before .before .before .args .copies .now))) (hand c) (c .before .before .before .before .loop .v) (length (c .before .before .before .before .before .before .before .before .before .before .before .args .values .now))
 known c = at-hand _ _ _ _ _ _ _ _ _ _ (next c) (c .before .before .before .before .loop .inv .1)
 
-call-rules-of-requires : tie.Need-call-rules-of-requires Inv-loop μ-loop
-call-rules-of-requires c κs = search needs
+rules-in-requires : tie.Need-rules-in-requires Inv-loop μ-loop
+rules-in-requires c κs = search needs
 
 first-cursor-requires : tie.Need-first-cursor-requires Inv-loop μ-loop
 first-cursor-requires c κs = search needs
@@ -64,7 +64,7 @@ size-of-requires c κs = search needs
 step-requires : tie.Need-step-requires Inv-loop μ-loop
 step-requires c κs =
     let start = c .before .before .before .before .before .before .before .before .before .before in (
-      rw (c .before .before .before .before .before .call-rules-of .ensures) (rules-lawful (start .args .t4 .convention)),
+      rw (c .before .before .before .before .before .rules-in .ensures) (lawful-in (start .args .t4)),
       walking-roomy (start .args .t4) (start .pre .plannable) _ _ _ (c .before .before .before .loop .inv .0),
       rw (c .size-of .ensures) (start .pre .plannable .small (c .before .before .before .loop .i) (c .before .before .loop-test .taken)),
     )
@@ -94,7 +94,7 @@ put-argument-requires c κs =
     let n : ℕ = stepped .before .size-of .result in
     let m : v + n - v ≡ n = add-sub-cancel-left v n in
     let l : length (take n (drop v values)) ≡ n = length-take-le n (drop v values) (omega (arith, k .within, length-drop v values)) in
-    rw (m, l, stepped .before .before .before .before .before .before .call-rules-of .ensures, same .image, same .area, same .copies) (k .ready)
+    rw (m, l, stepped .before .before .before .before .before .before .rules-in .ensures, same .image, same .area, same .copies) (k .ready)
 
 add-i : tie.Need-add-i Inv-loop μ-loop
 add-i c = omega (arith, c .before .before .before .before .before .before .before .before .before .before .before .before .before .before .before .before .before .before .before .before .before .before .before .before .pre .plannable .few, c .before .before .before .before .before .before .before .before .before .before .before .before .before .before .before .before .loop-test .taken)
@@ -114,9 +114,9 @@ loop-again c =
     let n : ℕ = stepped .before .size-of .result in
     let m : v + n - v ≡ n = add-sub-cancel-left v n in
     let l : length (take n (drop v values)) ≡ n = length-take-le n (drop v values) (omega (arith, k .within, length-drop v values)) in (
-      rw (stepped .step .ensures, stepped .before .size-of .ensures, stepped .before .before .before .before .before .before .call-rules-of .ensures)
+      rw (stepped .step .ensures, stepped .before .size-of .ensures, stepped .before .before .before .before .before .before .rules-in .ensures)
           (walking-more (start .args .t4) (start .pre .plannable) _ _ _ (stepped .before .before .before .before .loop .inv .0) (stepped .before .before .before .loop-test .taken)),
-      rw (after .put-argument .ensures, m, l, stepped .before .before .before .before .before .before .call-rules-of .ensures)
+      rw (after .put-argument .ensures, m, l, stepped .before .before .before .before .before .before .rules-in .ensures)
           (going-more _ _ _ _ _ _ _ _ _ (hand stepped) (next stepped) (stepped .before .before .before .before .loop .inv .1)),
     )
 
@@ -141,7 +141,7 @@ put-arguments-spec =
     (tie.spec
     Inv-loop
     μ-loop
-    call-rules-of-requires
+    rules-in-requires
     first-cursor-requires
     loop-holds
     mul-a

@@ -6,14 +6,14 @@ use mathlib.Core.List.{_∷_}
 use Prim.Native.Nat.{ℕ, suc, _+_, _-_, _≤_}
 use native.Mathlib.Omega.{arith}
 use lib.ListN.{length, drop}
-use Rattle.places.specs.Step.{Lawful, Roomy, rulesOf, spanOf}
-use Rattle.places.proofs.Bounds.{rules-lawful}
+use Rattle.places.specs.Step.{Lawful, Roomy, spanOf}
 use Rattle.plan.specs.Limits.{typeAt}
 use Rattle.slots.specs.Buffers.{buffers}
 use Rattle.slots.specs.Placements.{Placement, placement}
 use Rattle.slots.proofs.Turns.{Checking, checking-start, checking-ready, checking-refused, checking-more, checking-end}
+use Rattle.slots.specs.Arguments.{rulesIn}
 use Rattle.arguments.specs.Table.{argumentsFrom}
-use Rattle.arguments.proofs.Table.{Walking, walking-start, walking-roomy, walking-hand, walking-more, walking-end}
+use Rattle.arguments.proofs.Table.{lawful-in, Walking, walking-start, walking-roomy, walking-hand, walking-more, walking-end}
 use Rattle.unmarshal.specs.Readable.{Ready}
 use Rattle.read.specs.Read.{argumentAnswer, argumentsAnswer}
 use Rattle.read.proofs.first_refusal.Statement.{statement}
@@ -22,23 +22,23 @@ use Rattle.read.proofs.first_refusal.Tie as tie
 abbrev Inv-loop : tie.InvT-loop
 Inv-loop image area copies base g convention count rules c₀ i₀ c i =
     (v : ℕ) × Walking g c v i
-    × Checking (λ (q : Placement). argumentAnswer (rulesOf (g .convention)) base q (buffers image area copies)) (Ready (rulesOf (g .convention)) (length image) (length area)) (argumentsFrom g) i
+    × Checking (λ (q : Placement). argumentAnswer (rulesIn g) base q (buffers image area copies)) (Ready (rulesIn g) (length image) (length area)) (argumentsFrom g) i
 
 abbrev μ-loop : tie.MeasureT-loop
 μ-loop image area copies base g convention count rules c₀ i₀ c i = count - i
 
 -- the argument at hand
 abbrev hand : (c : tie.After-size-of Inv-loop μ-loop) → Placement
-hand c = placement (typeAt (c .before .before .before .before .before .before .before .before .before .args .t4) (c .before .before .before .loop .i)) (c .size-of .result) (spanOf (c .before .before .before .before .before .call-rules-of .result) (c .before .before .before .loop .c) (typeAt (c .before .before .before .before .before .before .before .before .before .args .t4) (c .before .before .before .loop .i)) (c .size-of .result))
+hand c = placement (typeAt (c .before .before .before .before .before .before .before .before .before .args .t4) (c .before .before .before .loop .i)) (c .size-of .result) (spanOf (c .before .before .before .before .before .rules-in .result) (c .before .before .before .loop .c) (typeAt (c .before .before .before .before .before .before .before .before .before .args .t4) (c .before .before .before .loop .i)) (c .size-of .result))
 
 next : (c : tie.After-size-of Inv-loop μ-loop) → drop (c .before .before .before .loop .i) (argumentsFrom (c .before .before .before .before .before .before .before .before .before .args .t4)) ≡ hand c ∷ drop (suc (c .before .before .before .loop .i)) (argumentsFrom (c .before .before .before .before .before .before .before .before .before .args .t4))
 next c =
-    rw (c .size-of .ensures, c .before .before .before .before .before .call-rules-of .ensures)
+    rw (c .size-of .ensures, c .before .before .before .before .before .rules-in .ensures)
     (walking-hand (c .before .before .before .before .before .before .before .before .before .args .t4) (c .before .before .before .before .before .before .before .before .before .pre .plannable) _ _ _ (c .before .before .before .loop .inv .1) (c .before .before .loop-test .taken))
 
 -- the rules, the cursor and the size are what a step asks for
 record Steps (c : tie.After-size-of Inv-loop μ-loop) : Type 0 where
-  lawful : Lawful (c .before .before .before .before .before .call-rules-of .result)
+  lawful : Lawful (c .before .before .before .before .before .rules-in .result)
   roomy : Roomy (c .before .before .before .loop .c)
   small : c .size-of .result ≤ 256
 
@@ -46,16 +46,16 @@ steps : (c : tie.After-size-of Inv-loop μ-loop) → Steps c
 steps c =
     let start = c .before .before .before .before .before .before .before .before .before in
     record {
-      lawful = rw (c .before .before .before .before .before .call-rules-of .ensures) (rules-lawful (start .args .t4 .convention));
+      lawful = rw (c .before .before .before .before .before .rules-in .ensures) (lawful-in (start .args .t4));
       roomy = walking-roomy (start .args .t4) (start .pre .plannable) _ _ _ (c .before .before .before .loop .inv .1);
       small = rw (c .size-of .ensures) (start .pre .plannable .small (c .before .before .before .loop .i) (c .before .before .loop-test .taken));
     }
 
-asked : (c : tie.After-answer-at Inv-loop μ-loop) → c .answer-at .result ≡ argumentAnswer (rulesOf (c .before .before .before .before .before .before .before .before .before .before .args .t4 .convention)) (c .before .before .before .before .before .before .before .before .before .before .args .base) (hand (c .before)) (buffers (c .before .before .before .before .before .before .before .before .before .before .args .image .now) (c .before .before .before .before .before .before .before .before .before .before .args .area .now) (c .before .before .before .before .before .before .before .before .before .before .args .copies .now))
-asked c = c .answer-at .ensures ∙ rw (c .before .before .before .before .before .before .call-rules-of .ensures)
+asked : (c : tie.After-answer-at Inv-loop μ-loop) → c .answer-at .result ≡ argumentAnswer (rulesIn (c .before .before .before .before .before .before .before .before .before .before .args .t4)) (c .before .before .before .before .before .before .before .before .before .before .args .base) (hand (c .before)) (buffers (c .before .before .before .before .before .before .before .before .before .before .args .image .now) (c .before .before .before .before .before .before .before .before .before .before .args .area .now) (c .before .before .before .before .before .before .before .before .before .before .args .copies .now))
+asked c = c .answer-at .ensures ∙ rw (c .before .before .before .before .before .before .rules-in .ensures)
 
-call-rules-of-requires : tie.Need-call-rules-of-requires Inv-loop μ-loop
-call-rules-of-requires c κs = search needs
+rules-in-requires : tie.Need-rules-in-requires Inv-loop μ-loop
+rules-in-requires c κs = search needs
 
 first-cursor-requires : tie.Need-first-cursor-requires Inv-loop μ-loop
 first-cursor-requires c κs = search needs
@@ -78,7 +78,7 @@ answer-at-requires : tie.Need-answer-at-requires Inv-loop μ-loop
 answer-at-requires c κs =
     let fit = steps c in
     let ready = checking-ready _ _ _ _ (hand c) (next c) (c .before .before .before .loop .inv .2) in
-    (fit .lawful, fit .roomy, fit .small, rw (c .before .before .before .before .before .call-rules-of .ensures) (rw (c .before .before .before .before .before .call-rules-of .ensures) at ready))
+    (fit .lawful, fit .roomy, fit .small, rw (c .before .before .before .before .before .rules-in .ensures) (rw (c .before .before .before .before .before .rules-in .ensures) at ready))
 
 is-refused-requires : tie.Need-is-refused-requires Inv-loop μ-loop
 is-refused-requires c κs = search needs
@@ -103,7 +103,7 @@ loop-again c =
     let sized = c .before .before .before .before in
     let start = sized .before .before .before .before .before .before .before .before .before in (
       sized .before .before .before .loop .inv .0 + sized .size-of .result,
-      rw (c .advance .ensures, sized .size-of .ensures, sized .before .before .before .before .before .call-rules-of .ensures)
+      rw (c .advance .ensures, sized .size-of .ensures, sized .before .before .before .before .before .rules-in .ensures)
           (walking-more (start .args .t4) (start .pre .plannable) _ _ _ (sized .before .before .before .loop .inv .1) (sized .before .before .loop-test .taken)),
       checking-more _ _ _ _ (hand sized) (next sized) (sized .before .before .before .loop .inv .2) _ (asked (c .before .before .before)) (sym (c .before .before .is-refused .ensures) ∙ c .before .if1 .left),
     )
@@ -121,7 +121,7 @@ first-refusal-spec =
     (tie.spec
     Inv-loop
     μ-loop
-    call-rules-of-requires
+    rules-in-requires
     first-cursor-requires
     loop-holds
     mul-a

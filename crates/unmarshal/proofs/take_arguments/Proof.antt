@@ -9,20 +9,20 @@ use lib.ListN.{length, drop}
 use borrow.Rule.Slice.PartMut.{putMid}
 use Rattle.words.specs.Splice.{splice}
 use Rattle.words.proofs.Splices.{lent-tail}
-use Rattle.places.specs.Step.{rulesOf, placed}
-use Rattle.places.proofs.Bounds.{rules-lawful}
+use Rattle.places.specs.Step.{placed}
 use Rattle.plan.specs.Limits.{typeAt}
 use Rattle.slots.specs.Buffers.{Buffers, buffers}
 use Rattle.slots.specs.Placements.{Placement, placement, valueAt}
+use Rattle.slots.specs.Arguments.{rulesIn}
 use Rattle.arguments.specs.Table.{argumentsFrom}
-use Rattle.arguments.proofs.Table.{Walking, walking-start, walking-roomy, walking-hand, walking-more, walking-end}
+use Rattle.arguments.proofs.Table.{lawful-in, Walking, walking-start, walking-roomy, walking-hand, walking-more, walking-end}
 use Rattle.unmarshal.proofs.Turns.{Taking, taking-start, taking-readable, taking-within, taking-more, taking-end}
 use Rattle.unmarshal.proofs.take_arguments.Statement.{statement}
 use Rattle.unmarshal.proofs.take_arguments.Tie as tie
 
 abbrev Inv-loop : tie.InvT-loop
 Inv-loop values₀ image area copies base g convention count rules c₀ v₀ i₀ values c v i =
-    Walking g c v i × Taking (rulesOf (g .convention)) base (argumentsFrom g) (buffers image area copies) values₀ values v i
+    Walking g c v i × Taking (rulesIn g) base (argumentsFrom g) (buffers image area copies) values₀ values v i
 
 abbrev μ-loop : tie.MeasureT-loop
 μ-loop values₀ image area copies base g convention count rules c₀ v₀ i₀ values c v i = count - i
@@ -37,14 +37,14 @@ hand c = placement (typeAt (c .before .before .before .before .before .before .b
 next : (c : tie.After-step Inv-loop μ-loop) → drop (c .before .before .before .before .loop .i) (argumentsFrom (c .before .before .before .before .before .before .before .before .before .before .before .args .t5)) ≡ hand c ∷ drop (suc (c .before .before .before .before .loop .i)) (argumentsFrom (c .before .before .before .before .before .before .before .before .before .before .before .args .t5))
 unfolding placed
 next c =
-    rw (c .step .ensures, c .before .size-of .ensures, c .before .before .before .before .before .before .call-rules-of .ensures)
+    rw (c .step .ensures, c .before .size-of .ensures, c .before .before .before .before .before .before .rules-in .ensures)
     (walking-hand (c .before .before .before .before .before .before .before .before .before .before .before .args .t5) (c .before .before .before .before .before .before .before .before .before .before .before .pre .plannable) _ _ _ (c .before .before .before .before .loop .inv .0) (c .before .before .before .loop-test .taken))
 
 within : (c : tie.After-step Inv-loop μ-loop) → c .before .before .before .before .loop .v + hand c .size ≤ length (c .before .before .before .before .loop .values)
 within c = taking-within _ _ _ _ _ _ _ _ (hand c) (next c) (c .before .before .before .before .loop .inv .1)
 
-call-rules-of-requires : tie.Need-call-rules-of-requires Inv-loop μ-loop
-call-rules-of-requires c κs = search needs
+rules-in-requires : tie.Need-rules-in-requires Inv-loop μ-loop
+rules-in-requires c κs = search needs
 
 first-cursor-requires : tie.Need-first-cursor-requires Inv-loop μ-loop
 first-cursor-requires c κs = search needs
@@ -66,7 +66,7 @@ size-of-requires c κs = search needs
 step-requires : tie.Need-step-requires Inv-loop μ-loop
 step-requires c κs =
     let start = c .before .before .before .before .before .before .before .before .before .before in (
-      rw (c .before .before .before .before .before .call-rules-of .ensures) (rules-lawful (start .args .t5 .convention)),
+      rw (c .before .before .before .before .before .rules-in .ensures) (lawful-in (start .args .t5)),
       walking-roomy (start .args .t5) (start .pre .plannable) _ _ _ (c .before .before .before .loop .inv .0),
       rw (c .size-of .ensures) (start .pre .plannable .small (c .before .before .before .loop .i) (c .before .before .loop-test .taken)),
     )
@@ -83,7 +83,7 @@ part-take-argument-end c = search needs
 take-argument-requires : tie.Need-take-argument-requires Inv-loop μ-loop
 take-argument-requires c κs =
     let stepped = c .before .before in
-    (rw (stepped .before .before .before .before .before .before .call-rules-of .ensures) (taking-readable _ _ _ _ _ _ _ _ (hand stepped) (next stepped) (stepped .before .before .before .before .loop .inv .1)), omega (arith, within stepped))
+    (rw (stepped .before .before .before .before .before .before .rules-in .ensures) (taking-readable _ _ _ _ _ _ _ _ (hand stepped) (next stepped) (stepped .before .before .before .before .loop .inv .1)), omega (arith, within stepped))
 
 add-v : tie.Need-add-v Inv-loop μ-loop
 add-v c =
@@ -104,11 +104,11 @@ loop-again c =
     let start = stepped .before .before .before .before .before .before .before .before .before .before .before in
     let l : List ℕ = stepped .before .before .before .before .loop .values in
     let v : ℕ = stepped .before .before .before .before .loop .v in
-    let x : List ℕ = valueAt (stepped .before .before .before .before .before .before .call-rules-of .result) (start .args .base) (hand stepped) (lent start) in
+    let x : List ℕ = valueAt (stepped .before .before .before .before .before .before .rules-in .result) (start .args .base) (hand stepped) (lent start) in
     let e : putMid v (length l - v) l (c .before .before .before .take-argument .last .0) ≡ splice l v x = ap (putMid v (length l - v) l) (c .before .before .before .take-argument .ensures) ∙ lent-tail l v x in (
-      rw (stepped .step .ensures, stepped .before .size-of .ensures, stepped .before .before .before .before .before .before .call-rules-of .ensures)
+      rw (stepped .step .ensures, stepped .before .size-of .ensures, stepped .before .before .before .before .before .before .rules-in .ensures)
           (walking-more (start .args .t5) (start .pre .plannable) _ _ _ (stepped .before .before .before .before .loop .inv .0) (stepped .before .before .before .loop-test .taken)),
-      rw (e, stepped .before .before .before .before .before .before .call-rules-of .ensures) (taking-more _ _ _ _ _ _ _ _ (hand stepped) (next stepped) (stepped .before .before .before .before .loop .inv .1)),
+      rw (e, stepped .before .before .before .before .before .before .rules-in .ensures) (taking-more _ _ _ _ _ _ _ _ (hand stepped) (next stepped) (stepped .before .before .before .before .loop .inv .1)),
     )
 
 same-length : tie.Need-same-length Inv-loop μ-loop
@@ -126,7 +126,7 @@ take-arguments-spec =
     (tie.spec
     Inv-loop
     μ-loop
-    call-rules-of-requires
+    rules-in-requires
     first-cursor-requires
     loop-holds
     mul-a
