@@ -3,3 +3,4 @@ pub mod Folds
 pub mod Encoded
 pub mod Theorems
 pub mod Printed
+pub mod Filled

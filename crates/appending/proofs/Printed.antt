@@ -25,7 +25,7 @@ use Rattle.appending.specs.Appending.{joined}
 use Rattle.appending.specs.Printed.{LinesKept, LinesStay}
 use Rattle.appending.proofs.Folds.{types-joined, spans-append}
 use Rattle.appending.proofs.Encoded.{extended}
-use Rattle.appending.proofs.Theorems.{Readings, readings}
+use Rattle.appending.proofs.Theorems.{kept, readings}
 
 lines-append : (c : Convention) (i : ℕ) (l m : List Span) → linesText c i (l ++ m) ≡ linesText c i l ++ linesText c (i + length l) m
 unfolding linesText
@@ -75,10 +75,6 @@ text-of : (g : Signature) (next n : ℕ) → let p = planAnswer (got g next n) i
 unfolding planText planAnswer planIn
 text-of g next n = refl
 
-result-kept : (g : Signature) (us : Trees) (next n l m : ℕ) → planAnswer (got (extended g us) l m) .result ≡ planAnswer (got g next n) .result
-unfolding planAnswer planIn
-result-kept g us next n l m = refl
-
 pub lines-stay : LinesStay
 unfolding listingOf acceptedText
 lines-stay s u a n e =
@@ -89,6 +85,6 @@ lines-stay s u a n e =
       more = more g us;
       shorter = rw (read .shorter) (text-of g (a .next) (a .items));
       longer =
-          rw (read .shorter, read .longer, sym (lines-kept g us (a .next) (a .items) (a .longer-next) (a .longer-items)), sym (result-kept g us (a .next) (a .items) (a .longer-next) (a .longer-items)))
+          rw (read .shorter, read .longer, sym (lines-kept g us (a .next) (a .items) (a .longer-next) (a .longer-items)), sym (kept g us (a .next) (a .items) (a .longer-next) (a .longer-items) .result))
           (text-of (extended g us) (a .longer-next) (a .longer-items));
     }

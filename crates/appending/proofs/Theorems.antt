@@ -18,7 +18,7 @@ use Rattle.signature.specs.declared.Outcome.{Outcome}
 use Rattle.signature.specs.Signature.{Signature}
 use Rattle.signature.specs.Read.{signatureOf}
 use Rattle.signature.specs.Answer.{resultType}
-use Rattle.signature.specs.Encode.{encode, signatureItems}
+use Rattle.signature.specs.Encode.{encode, signatureItems, Within}
 use Rattle.signature.proofs.Theorems.{accepted}
 use Rattle.signature.proofs.Complete.{encode-reads}
 use Rattle.reader.specs.declared.ArgumentRead.{ArgumentRead}
@@ -148,6 +148,9 @@ read-clear g h next n l m e = go (unclearIn g) e
     go zero q = refl
     go (suc i) q = let z : _≡_ {A = ℕ} 0 1 = cc in absurd (omega arith)
 
+pub longer-reads : (s u : List ℕ) (a : Appended s u) → signatureOf u ≡ got (extended (a .shorter) (a .appends .more)) (a .longer-next) (a .longer-items)
+longer-reads s u a = a .longer-read ∙ ap (λ (z : Signature). got z (a .longer-next) (a .longer-items)) (appends-extended (a .shorter) (a .longer) (a .appends))
+
 -- what both calls are read as, where the longer one is accepted
 pub record Readings (s u : List ℕ) (a : Appended s u) : Type 0 where
   pub shorter : callOf s ≡ got (a .shorter) (a .next) (a .items)
@@ -157,8 +160,7 @@ pub readings : (s u : List ℕ) (a : Appended s u) (n : ℕ) → outcomeFor u �
 readings s u a n e =
     let g : Signature = a .shorter in
     let us : Trees = a .appends .more in
-    let read : signatureOf u ≡ got (extended g us) (a .longer-next) (a .longer-items) =
-    a .longer-read ∙ ap (λ (z : Signature). got z (a .longer-next) (a .longer-items)) (appends-extended g (a .longer) (a .appends)) in
+    let read = longer-reads s u a in
     let whole = called-accepted (signatureOf u) n e ∙ read in
     let clear : unclearIn (extended g us) ≡ 0 = read-clear (extended g us) _ _ _ _ _ (ap called (sym read) ∙ whole) in
     record { shorter = ap called (a .read) ∙ clear-read g (a .next) (a .items) (unclear-none g us clear); longer = whole }
@@ -211,10 +213,23 @@ refused-alike s u a f e =
     let y : Reading Signature = got (extended g us) (a .longer-next) (a .longer-items) in
     let b : Refused g (a .next) (a .items) f = read-unclear g (a .next) (a .items) f (ap called (sym (a .read)) ∙ e) in
     let i : ℕ = b .number in
-    let longer : signatureOf u ≡ y = a .longer-read ∙ ap (λ (z : Signature). got z (a .longer-next) (a .longer-items)) (appends-extended g (a .longer) (a .appends)) in
     let same : argumentAnswer i y ≡ argumentAnswer i x =
     argument-kept g us (a .next) (a .items) (a .longer-next) (a .longer-items) i (number-within g (a .next) (a .items) i (b .first)) in
-    ap called longer
+    ap called (longer-reads s u a)
     ∙ unclear-read (extended g us) (a .longer-next) (a .longer-items) i (unclear-first g us i (b .first))
     ∙ ap (λ (z : ArgumentRead). no (fault Refusal.UnclearPlace (itemIn z) 0)) same
     ∙ ap no (sym (b .fault))
+
+-- two encodings within the limits are such bytes
+pub encodings-appended : (g h : Signature) → Within h → Appends g h → Appended (encode g) (encode h)
+encodings-appended g h w a = record {
+  shorter = g;
+  longer = h;
+  appends = a;
+  next = length (encode g);
+  items = signatureItems g;
+  read = encode-reads g (shorter-within g h a w);
+  longer-next = length (encode h);
+  longer-items = signatureItems h;
+  longer-read = encode-reads h w;
+}
