@@ -9,15 +9,17 @@
  *   3. fz_fill puts the arguments' values into an image of the registers and into memory, as the
  *      calling function must. Or:
  *   4. fz_read takes them out of there, as the called function finds them; fz_home and fz_view
- *      give it them side by side in memory.
+ *      give it them side by side in memory; fz_walk takes them one by one, which is how a function
+ *      with a variable argument list does it that learns their types only as it goes.
  *
  * The machine need not be the one that this program runs on: nothing is executed, and addresses are
  * numbers. The frame machine (fz_start_ppc64 to fz_leave) stands apart from this: it keeps a stack
  * on which functions enter and leave frames. fz_walk_dump_ppc64 and its like find the frames in the
  * memory of a program that hangs.
  *
- * Installed with this header, in share/doc/flakuzhen: call.c plans, fills and reads a call;
- * COMPILERS.md says in which points compilers of today differ from the conventions, and what to do.
+ * Installed with this header, in share/doc/flakuzhen: call.c plans, fills and reads a call, and
+ * variable.c walks one as printf does; COMPILERS.md says in which points compilers of today differ from
+ * the conventions, and what to do.
  *
  * Words that come up everywhere:
  *
@@ -43,7 +45,8 @@
  *    x86-64, PowerPC and zSeries (make bench and make bench-targets measure it):
  *       1 KiB   fz_version, fz_widen, fz_narrow
  *       4 KiB   fz_read_signature, fz_measure, fz_walk_dump_ppc64, fz_walk_dump_z, fz_walk_dump_aix
- *       8 KiB   fz_plan, fz_fill, fz_read
+ *       4 KiB   fz_walk_start
+ *       8 KiB   fz_plan, fz_fill, fz_read, fz_walk
  *       8 KiB   fz_start_ppc64, fz_start_z, fz_start_aix, fz_start_ppc64b
  *      12 KiB   fz_listing, fz_write_register
  *      16 KiB   fz_view, fz_write_memory
@@ -52,7 +55,7 @@
  *    where: the offset in the signature of the faulty item's header or of the first byte too many;
  *    in a dump an address. A refusal that concerns no place has place 0. Where the signature is
  *    refused, `items` says how much of it was good (fz_read_signature). In a refused answer all else
- *    is 0.
+ *    is 0. What a walk is asked for is one item of a signature, and is refused in the same way.
  *
  * Versions: FZ_VERSION is this header's, fz_version the library's. A version's first number is that
  * of the shared library's name, libflakuzhen.so.1, and of its functions' symbol versions. It changes
@@ -78,12 +81,14 @@ uint64_t fz_version(void);
 
 /* A signature says which values a function takes and gives. It is a string of items. An item is a
  * tag (one byte), the length of its body (two bytes, the higher one first) and its body. The
- * signature is these three items in this order, and nothing after:
+ * signature is these items in this order, of which the third may be left out, and nothing after:
  *
  *   tag  body
  *   01   the convention, one byte: 1 PPC64, 2 Z, 3 AIX, 4 PPC64 by the later edition of its
  *        supplement
  *   02   the result: nothing for a function that gives none, else one type
+ *   04   nothing: the function's prototype has an ellipsis, '...'. The arguments may then be those
+ *        of one call, the unnamed ones among them, or those before the ellipsis alone
  *   03   the arguments: 0 to 128 types
  *
  * A type is an item too:
@@ -110,19 +115,20 @@ enum fz_refusal {
     FZ_TRUNCATED = 2,             /* fewer than 3 bytes for a header, or the length passes the
                                      end of what the item stands in */
     FZ_UNEXPECTED_TAG = 3,        /* a tag that is not allowed there */
-    FZ_MALFORMED = 4,             /* a length or a code that is not allowed; an empty struct;
-                                     bytes after the result's one type (place: the first) */
+    FZ_MALFORMED = 4,             /* a length or a code that is not allowed; an empty struct; an
+                                     ellipsis that is not empty; bytes after the result's one type,
+                                     or after a walk's (place: the first) */
     FZ_LONG_DOUBLE_IN_STRUCT = 5, /* a long double inside a struct */
     FZ_TOO_DEEP = 6,              /* structs nested deeper than 8, where an argument's or a
                                      result's own struct has depth 1 */
     FZ_TOO_MANY_ARGUMENTS = 7,    /* bytes after the 128th argument (place: the first) */
     FZ_STRUCT_TOO_LARGE = 8,      /* a struct of over 256 bytes */
-    FZ_TRAILING_BYTES = 9,        /* bytes after the third item (place: the first) */
+    FZ_TRAILING_BYTES = 9,        /* bytes after the arguments' item (place: the first) */
     FZ_NOT_WIDENED = 14,          /* the bits of a double that is no widened single; place 0 */
     FZ_FLOAT_NOT_CARRIED = 25,    /* on AIX a long double, or a double inside a struct */
     FZ_UNCLEAR_PLACE = 29         /* by the later edition a long double for which only f13 is left;
-                                     no refusal of fz_read_signature: it is tested after the whole
-                                     signature, and `items` is 0 */
+                                     no refusal of fz_read_signature or fz_walk_start: it is tested
+                                     after the whole signature, and `items` is 0; place 0 of a walk */
 };
 
 typedef struct {
@@ -137,8 +143,8 @@ typedef struct {
     uint64_t bits;
 } fz_narrowed;
 
-/* Reads the signature of sig_length bytes at sig. `items` is its count of items: the three and all
- * that are nested in them, 5 in the example above. Of a refused signature it is the count of the
+/* Reads the signature of sig_length bytes at sig. `items` is its count of items: the three or four and
+ * all that are nested in them, 5 in the example above. Of a refused signature it is the count of the
  * headers that had passed header room, tag and length room when reading stopped, those around the
  * place and nested ones alike: without the faulty item's own, and for FZ_STRUCT_TOO_LARGE with those
  * in the struct; 0 for FZ_TOO_LONG. It is never more than a third of sig_length. */
@@ -170,6 +176,10 @@ fz_narrowed fz_narrow(uint64_t bits);
  * On AIX all this is so by words (4 bytes each): a double and a 64-bit integer take two of them, a
  * single, a pointer and any other integer one, a struct as many as it fills or begins to fill. The
  * first eight words are in r3 to r10. A 64-bit integer's result is in r3 and r4, the high word first.
+ *
+ * With an ellipsis what is in floating registers is also in its doublewords, on AIX in its words: in
+ * general registers those of the first eight, in memory the others. So the called function finds it
+ * wherever it looks. On Z nothing is different.
  *
  * On Z every argument takes one register or, when none of its kind is left, the next 8 bytes of the
  * stack, from 160 bytes above the stack pointer on. Singles, doubles and structs of only one of
@@ -211,7 +221,7 @@ typedef struct {
 typedef struct {
     fz_answer answer;                  /* as in fz_sizes */
     uint64_t convention;               /* 1 PPC64, 2 Z, 3 AIX, 4 PPC64 by the later edition */
-    uint64_t ellipsis;                 /* 0: no signature has one */
+    uint64_t ellipsis;                 /* 1: the signature has one; 0: it has none */
     uint64_t arguments;                /* how many */
     uint64_t values, area, copies;     /* as in fz_sizes */
     uint64_t result;                   /* 0 none, 1 in registers, 2 hidden: in the caller's memory */
@@ -238,7 +248,13 @@ fz_planned fz_plan(const uint8_t *sig, size_t sig_length, uint64_t *places, size
  *   result f1 f2                   also: none, or hidden and the register with its address
  *
  * On AIX it is the same by words, and the result of a 64-bit integer is r3 r4. The later edition is
- * named PPC64B.
+ * named PPC64B. With an ellipsis the first line ends with var, and what is in floating registers and
+ * elsewhere names these first:
+ *
+ *   PPC64 args 2 area 64 var
+ *   0 r3 @0
+ *   1 f1 r4 @8
+ *   result r3
  *
  * On Z only what lies on the stack has an offset, which counts from the stack pointer, and ref
  * marks an argument that is passed by reference:
@@ -467,7 +483,8 @@ fz_walked fz_walk_dump_aix(const uint8_t *memory, size_t memory_length, uint64_t
  *   integer         extended to 64 bits, a signed one with its sign, an unsigned one with zeros; on
  *                   AIX one of less than 32 bits to 32
  *   single          PPC64: in a floating register the double of the same value (fz_widen); in the
- *                   area the second 4 bytes of a doubleword, after 4 zeros
+ *                   area, and with an ellipsis in a general register, the second 4 bytes of a
+ *                   doubleword, after 4 zeros
  *                   Z: in a floating register the first 4 bytes, 4 zeros after them; in the area
  *                   the last 4 of 8 bytes, after 4 zeros
  *   double          its 8 bytes
@@ -497,7 +514,11 @@ enum fz_marshal_refusal {
     /* FZ_NOT_WIDENED = 14     a single's floating register on PPC64 or AIX that holds no widened
                                single */
     FZ_IMAGE_SIZE = 15,     /* the image not 512 bytes */
-    FZ_NO_VIEW = 24         /* home or view for Z, or a view of an argument that is not there */
+    FZ_NO_VIEW = 24,        /* home or view for Z, or a view of an argument that is not there */
+    FZ_FLOATS_DIFFER = 26   /* reading with an ellipsis: the bytes of a float's value that stand in
+                               general registers are not those of its floating register. Bytes around
+                               the value and bytes in memory are not compared. COMPILERS.md says when
+                               a call has this */
 };
 
 /* A part of a buffer: `length` bytes from offset `start` on. */
@@ -526,9 +547,11 @@ fz_answer fz_fill(const uint8_t *sig, size_t sig_length,
  * bytes. Zeros and signs around a value are not looked at. An argument by reference is read from
  * wherever its address points: that need not be where fz_fill would put it, nor a multiple of 8,
  * but must lie with all its bytes between copy_base and copy_base + copies_length, which are
- * compared as numbers without limit. The hidden address is not returned.
+ * compared as numbers without limit. The hidden address is not returned. What is in a floating
+ * register and elsewhere is taken from the floating register.
  * Refuses, in this order: what fz_read_signature refuses, FZ_IMAGE_SIZE, FZ_VALUES_SIZE,
- * FZ_AREA_TOO_SHORT, then from the first argument on FZ_OUTSIDE_COPIES and FZ_NOT_WIDENED. */
+ * FZ_AREA_TOO_SHORT, then from the first argument on FZ_OUTSIDE_COPIES, FZ_NOT_WIDENED and
+ * FZ_FLOATS_DIFFER. */
 fz_answer fz_read(const uint8_t *sig, size_t sig_length,
                   uint8_t *values, size_t values_length,
                   const uint8_t *image, size_t image_length,
@@ -539,7 +562,8 @@ fz_answer fz_read(const uint8_t *sig, size_t sig_length,
 /* PPC64 and AIX. Every argument has its place in the area, also one that is passed in registers. This
  * copies those that came in registers to their places, as a callee does that wants its arguments
  * side by side: general registers as they are, on AIX their 4 bytes, a floating register's single as
- * it would stand in memory. The hidden address's doubleword or word and all other bytes stay.
+ * it would stand in memory. With an ellipsis a float comes from its floating register, whatever its
+ * other places hold. The hidden address's doubleword or word and all other bytes stay.
  * Refuses, in this order: what fz_read_signature refuses, FZ_NO_VIEW, FZ_IMAGE_SIZE,
  * FZ_AREA_TOO_SHORT, FZ_NOT_WIDENED. */
 fz_answer fz_home(const uint8_t *sig, size_t sig_length,
@@ -553,6 +577,48 @@ fz_answer fz_home(const uint8_t *sig, size_t sig_length,
 fz_part fz_view(const uint8_t *area, size_t area_length,
                 const uint8_t *sig, size_t sig_length,
                 uint64_t index);
+
+/* ---- Walks: a call's arguments one by one, each as the type that is asked for ---- */
+
+/* Where a walk stands. A program makes one with fz_walk_start, and may copy and keep it: it has no
+ * pointers. 6 numbers. */
+typedef struct {
+    uint64_t convention; /* 1 PPC64, 2 Z, 3 AIX, 4 PPC64 by the later edition */
+    uint64_t ellipsis;   /* 1: the signature has one; 0: it has none */
+    uint64_t hidden;     /* 1: the result's address is a hidden first argument; 0: it is none */
+    uint64_t general;    /* doublewords passed so far, on AIX words; Z: the next general register, 2
+                            to 7, where 7 is none */
+    uint64_t floating;   /* floating registers used so far, 0 to 13; Z: the next one, 0 to 8, where 8
+                            is none */
+    uint64_t stack;      /* 0; Z: the offset of the next stack argument, from 160 on */
+} fz_walker;
+
+/* Starts a walk at the first argument of a call with this signature, which may or may not have an
+ * ellipsis. Refuses what fz_read_signature refuses, and then leaves *walker as it was. */
+fz_answer fz_walk_start(fz_walker *walker, const uint8_t *sig, size_t sig_length);
+
+/* Takes the next argument of a call, as the type whose item is given, and moves on. The item is read as
+ * one of a signature's arguments, of at most 16,384 bytes, and nothing may come after it. The value is
+ * written to `value`, which has exactly the type's size. Image, area, copies and copy_base are as for
+ * fz_read, but that the area need only have the memory of this argument: for one in registers it may
+ * be empty.
+ * Asked for the types that the signature declares, in order, it gives the values that fz_read gives
+ * where that accepts. What it is asked for beyond them is up to the caller: nothing in registers or
+ * memory says how many arguments there are.
+ * A refused step leaves walker and value as they were.
+ * Refuses, in this order: FZ_BAD_STATE for a walker that no arguments, however many, lead to, or with
+ * one of its last three numbers over 2^32; what the item is refused for, as in a signature (place and
+ * items count from the item's first byte); FZ_UNCLEAR_PLACE; FZ_IMAGE_SIZE; FZ_VALUES_SIZE where
+ * value_length is another; FZ_AREA_TOO_SHORT where the argument's memory passes the area;
+ * FZ_OUTSIDE_COPIES, FZ_NOT_WIDENED, FZ_FLOATS_DIFFER. Neither the walker nor the value may overlap
+ * anything else. */
+fz_answer fz_walk(fz_walker *walker,
+                  const uint8_t *item, size_t item_length,
+                  uint8_t *value, size_t value_length,
+                  const uint8_t *image, size_t image_length,
+                  const uint8_t *area, size_t area_length,
+                  const uint8_t *copies, size_t copies_length,
+                  uint64_t copy_base);
 
 #ifdef __cplusplus
 }

@@ -58,7 +58,12 @@ pub enum Fault {
     HiddenTooHigh,
     /// An address that points outside of the copies.
     OutsideCopies,
+    /// Other bytes in a float's general registers, at an argument before the one that is no widened
+    /// single.
+    DiffersBefore,
     NotWidened,
+    /// The same at that argument or behind it.
+    Differs,
 }
 
 impl Fault {
@@ -76,6 +81,7 @@ impl Fault {
             | Fault::HiddenTooHigh => 12,
             Fault::OutsideCopies => 13,
             Fault::NotWidened => 14,
+            Fault::DiffersBefore | Fault::Differs => 26,
         })
     }
 }
@@ -107,7 +113,9 @@ impl Operation {
                 Fault::ValuesSize,
                 Fault::AreaTooShort,
                 Fault::OutsideCopies,
+                Fault::DiffersBefore,
                 Fault::NotWidened,
+                Fault::Differs,
             ],
             Operation::Home => &[
                 Fault::Signature,
@@ -165,10 +173,12 @@ pub fn case(random: &mut Random, operation: Operation) -> Case {
             make_hidden(random, &mut case);
         }
         Operation::Read => {
-            make_copies_to_read(random, &mut case);
-            make_slots_to_read(random, &mut case);
+            make_contents_to_read(random, &mut case);
         }
-        Operation::Home => make_slots_to_read(random, &mut case),
+        Operation::Home => {
+            let not_widened = wrong_floats(random, &mut case).not_widened;
+            make_slots_to_read(random, &mut case, &not_widened);
+        }
         Operation::View => make_index(random, &mut case),
     }
     make_lengths(random, &mut case);
@@ -188,10 +198,13 @@ fn signature_for(
     let mut tries = 0;
     loop {
         let convention = random.pick(conventions_for(operation, faults));
-        let signature = match random.below(3) {
+        let mut signature = match random.below(3) {
             0 => generate::valid_for(random, convention),
             _ => plans::interesting_for(random, convention),
         };
+        if faults.contains(&Fault::DiffersBefore) || faults.contains(&Fault::Differs) {
+            generate::add_ellipsis(&mut signature);
+        }
         let plan = reference::plan(&signature);
         let cannot = |fault: &Fault| !can_have(*fault, &signature, &plan);
         tries += 1;
@@ -220,7 +233,8 @@ fn conventions_for(operation: Operation, faults: &BTreeSet<Fault>) -> &'static [
     if matches!(operation, Operation::Home | Operation::View) {
         return &[Convention::Ppc64, Convention::Aix, Convention::Ppc64b];
     }
-    if faults.contains(&Fault::NotWidened) {
+    let of_floats = [Fault::DiffersBefore, Fault::NotWidened, Fault::Differs];
+    if of_floats.iter().any(|fault| faults.contains(fault)) {
         return &[Convention::Ppc64, Convention::Aix, Convention::Ppc64b];
     }
     if of_copies.iter().any(|fault| faults.contains(fault)) {
@@ -242,9 +256,8 @@ fn can_have(fault: Fault, signature: &Signature, plan: &Plan) -> bool {
         // 8 below 2^64 is the highest multiple of 8
         Fault::BaseTooHigh => plan.copies >= 8,
         Fault::HiddenTooHigh => signature.convention == Convention::Aix && is_hidden(&plan.result),
-        Fault::NotWidened => {
-            signature.convention != Convention::Z && !tested_slots(signature, plan).is_empty()
-        }
+        Fault::NotWidened => !singles(signature, plan).is_empty(),
+        Fault::DiffersBefore | Fault::Differs => !twofold(plan).is_empty(),
     }
 }
 
@@ -395,6 +408,14 @@ fn make_hidden(random: &mut Random, case: &mut Case) {
     case.edges.extend(edge);
 }
 
+/// What a call that is read finds in its registers, area and copies.
+pub(crate) fn make_contents_to_read(random: &mut Random, case: &mut Case) {
+    make_copies_to_read(random, case);
+    let wrong = wrong_floats(random, case);
+    make_slots_to_read(random, case, &wrong.not_widened);
+    make_general_to_read(random, case, &wrong);
+}
+
 /// A copy buffer and a base for a call that is read: of any length and at any address.
 fn make_copies_to_read(random: &mut Random, case: &mut Case) {
     let arguments = case.signature.arguments.iter().zip(&case.plan.arguments);
@@ -419,15 +440,147 @@ fn make_copies_to_read(random: &mut Random, case: &mut Case) {
     };
 }
 
-/// The slots whose content is tested, with the sizes of their arguments: the addresses, or the
-/// floating registers with singles on PPC64 and AIX.
-fn tested_slots(signature: &Signature, plan: &Plan) -> Vec<(Place, usize)> {
-    let arguments = signature.arguments.iter().zip(&plan.arguments);
-    let tested = arguments
-        .filter(|(of, argument)| argument.by_reference() || is_widened(signature, of, argument));
-    tested
-        .map(|(of, argument)| (argument.places[0], of.size(signature.convention)))
-        .collect()
+/// The arguments whose slots are tested: those with addresses, or the singles in floating registers of
+/// PPC64 and AIX.
+fn tested(signature: &Signature, plan: &Plan) -> Vec<usize> {
+    let arguments = signature.arguments.iter().zip(&plan.arguments).enumerate();
+    let tested = arguments.filter(|(_, (of, argument))| {
+        argument.by_reference() || is_widened(signature, of, argument)
+    });
+    tested.map(|(number, _)| number).collect()
+}
+
+/// The singles in floating registers of PPC64 and AIX.
+fn singles(signature: &Signature, plan: &Plan) -> Vec<usize> {
+    match signature.convention {
+        Convention::Z => Vec::new(),
+        _ => tested(signature, plan),
+    }
+}
+
+/// The arguments that stand in floating and in general registers, with an ellipsis.
+fn twofold(plan: &Plan) -> Vec<usize> {
+    let has = |argument: &ArgumentPlan, of: fn(&Place) -> bool| argument.places.iter().any(of);
+    let arguments = plan.arguments.iter().enumerate();
+    let twofold = arguments.filter(|(_, argument)| {
+        has(argument, |place| matches!(place, Place::Floating(_)))
+            && has(argument, |place| matches!(place, Place::General(_)))
+    });
+    twofold.map(|(number, _)| number).collect()
+}
+
+/// The arguments that are wrong in a call: those whose floating register is no widened single, and
+/// those whose general registers differ from it.
+struct WrongFloats {
+    not_widened: Vec<usize>,
+    differ: Vec<usize>,
+}
+
+/// Chooses them for the faults that the call shall have, and drops those that it cannot have at once:
+/// the first of these must come before the others.
+fn wrong_floats(random: &mut Random, case: &mut Case) -> WrongFloats {
+    let singles = singles(&case.signature, &case.plan);
+    let twofold = twofold(&case.plan);
+    let wants = |fault: Fault| case.faults.contains(&fault);
+    let any = usize::MAX;
+    // one of these from the least on and below the end, where the call shall have the fault
+    let choose = |random: &mut Random, fault, of: &[usize], least: usize, end: usize| {
+        let range = of.iter().filter(|&&number| least <= number && number < end);
+        let range: Vec<usize> = range.copied().collect();
+        (wants(fault) && !range.is_empty()).then(|| random.pick(&range))
+    };
+    let last_single = match wants(Fault::NotWidened) {
+        true => singles.last().copied().unwrap_or(0),
+        false => any,
+    };
+    let early = choose(random, Fault::DiffersBefore, &twofold, 0, last_single);
+    let after_early = early.map_or(0, |number| number + 1);
+    let single = choose(random, Fault::NotWidened, &singles, after_early, any);
+    let least = single.or(early).unwrap_or(0);
+    // often at the very same argument
+    let same = single.filter(|number| twofold.contains(number));
+    let late = match same {
+        Some(_) if wants(Fault::Differs) && random.once_in(2) => same,
+        _ => choose(random, Fault::Differs, &twofold, least, any),
+    };
+    for (fault, chosen) in [
+        (Fault::DiffersBefore, early),
+        (Fault::NotWidened, single),
+        (Fault::Differs, late),
+    ] {
+        if chosen.is_none() {
+            case.faults.remove(&fault);
+        }
+    }
+    if single.is_some() && single == late {
+        let edge = "other bytes beside what is no widened single";
+        case.edges.insert((Some(Fault::NotWidened), edge));
+    }
+    // once in a while it is so of all that come later, too
+    let everywhere = random.once_in(8);
+    let all_from = |chosen: Option<usize>, of: &[usize]| -> Vec<usize> {
+        let wrong = |number: &usize| match chosen {
+            Some(first) => *number == first || (everywhere && *number > first),
+            None => false,
+        };
+        of.iter().copied().filter(wrong).collect()
+    };
+    let mut differ = all_from(early, &twofold);
+    differ.extend(all_from(late, &twofold));
+    WrongFloats {
+        not_widened: all_from(single, &singles),
+        differ,
+    }
+}
+
+/// Gives the general registers of each float the bytes of its floating register, but for the faults
+/// that the call shall have; the bytes around a single are any, and memory is not looked at.
+fn make_general_to_read(random: &mut Random, case: &mut Case, wrong: &WrongFloats) {
+    let convention = case.signature.convention;
+    for number in twofold(&case.plan) {
+        let places = case.plan.arguments[number].places.clone();
+        let size = case.signature.arguments[number].size(convention);
+        let mut value = Vec::new();
+        let mut general = Vec::new();
+        for place in places {
+            match place {
+                Place::Floating(_) => {
+                    value.extend_from_slice(slot(&mut case.call, convention, place))
+                }
+                Place::General(register) => general.push(register),
+                Place::Memory(_) => {
+                    let edge = "a float in general registers and in memory";
+                    case.edges.insert((None, edge));
+                }
+            }
+        }
+        if size == 4 {
+            let double = u64::from_be_bytes(value.try_into().expect("8 bytes"));
+            let single = narrow(double).unwrap_or(double as u32);
+            value = single.to_be_bytes().to_vec();
+        }
+        // each register has as much of the value, at its end
+        let own = convention.word().min(size);
+        for (register, part) in general.iter().zip(value.chunks(own)) {
+            let end = 8 * register + 8;
+            case.call.image[end - own..end].copy_from_slice(part);
+        }
+        if wrong.differ.contains(&number) {
+            let register = random.pick(&general);
+            let byte = random.below(own);
+            case.call.image[8 * register + 8 - own + byte] ^= 1 << random.below(8);
+            for fault in [Fault::DiffersBefore, Fault::Differs] {
+                if register == 10 && own * general.len() < size {
+                    let edge = "other bytes in r10 of a float that goes on in memory";
+                    case.edges.insert((Some(fault), edge));
+                }
+                if general.len() > 1 && register != general[0] {
+                    let edge = "other bytes in a float's second register";
+                    case.edges.insert((Some(fault), edge));
+                }
+            }
+        }
+    }
 }
 
 /// Whether the argument is a single in a floating register of PPC64 or AIX.
@@ -438,18 +591,20 @@ fn is_widened(signature: &Signature, of: &Type, argument: &ArgumentPlan) -> bool
 }
 
 /// Puts addresses that point into the copies or widened singles where they are tested, but for
-/// the faults that the call shall have.
-fn make_slots_to_read(random: &mut Random, case: &mut Case) {
+/// the faults that the call shall have, of which `wrong` has the singles.
+fn make_slots_to_read(random: &mut Random, case: &mut Case, wrong: &[usize]) {
     let convention = case.signature.convention;
-    let tested = tested_slots(&case.signature, &case.plan);
-    // the fault is at one of them, or once in a while at each
+    let tested = tested(&case.signature, &case.plan);
+    // an address is wrong at one of them, or once in a while at each
     let everywhere = random.once_in(8);
     let chosen = random.below(tested.len().max(1));
-    for (number, &(place, size)) in tested.iter().enumerate() {
+    for (number, &argument) in tested.iter().enumerate() {
+        let place = case.plan.arguments[argument].places[0];
+        let size = case.signature.arguments[argument].size(convention);
         let faulty = number == chosen || everywhere;
         let bits = match convention {
             Convention::Ppc64 | Convention::Aix | Convention::Ppc64b
-                if faulty && case.faults.contains(&Fault::NotWidened) =>
+                if wrong.contains(&argument) =>
             {
                 not_widened(random)
             }

@@ -5,6 +5,7 @@ use reference::{Convention, Float, Integer, Signature, Type};
 pub const CONVENTION: u8 = 0x01;
 pub const RESULT: u8 = 0x02;
 pub const ARGUMENTS: u8 = 0x03;
+pub const ELLIPSIS: u8 = 0x04;
 pub const INTEGER: u8 = 0x10;
 pub const FLOAT: u8 = 0x11;
 pub const STRUCT: u8 = 0x12;
@@ -83,15 +84,35 @@ fn write_type(of: &Type, to: &mut Vec<u8>) {
 
 /// A signature with these bodies of its result and its arguments, well formed or not.
 pub fn signature_of(convention: Convention, result: &[u8], arguments: &[u8]) -> Vec<u8> {
+    signature_around(convention, result, &[], arguments)
+}
+
+/// The same with an ellipsis.
+pub fn variable_signature_of(convention: Convention, result: &[u8], arguments: &[u8]) -> Vec<u8> {
+    signature_around(convention, result, &item(ELLIPSIS, &[]), arguments)
+}
+
+/// The same with these bytes between result and arguments.
+pub fn signature_around(
+    convention: Convention,
+    result: &[u8],
+    between: &[u8],
+    arguments: &[u8],
+) -> Vec<u8> {
     [
-        item(CONVENTION, &[convention.code()]),
-        item(RESULT, result),
-        item(ARGUMENTS, arguments),
+        &item(CONVENTION, &[convention.code()])[..],
+        &item(RESULT, result),
+        between,
+        &item(ARGUMENTS, arguments),
     ]
     .concat()
 }
 
 pub fn signature(of: &Signature) -> Vec<u8> {
     let result = of.result.as_ref().map_or(Vec::new(), type_item);
-    signature_of(of.convention, &result, &type_items(&of.arguments))
+    let with = match of.ellipsis {
+        true => variable_signature_of,
+        false => signature_of,
+    };
+    with(of.convention, &result, &type_items(&of.arguments))
 }

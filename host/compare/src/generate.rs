@@ -1,7 +1,7 @@
 //! Signatures at random: valid ones, valid ones with a rule broken, and bytes damaged by chance.
 
 use crate::encode::{
-    self, ARGUMENTS, CONVENTION, FLOAT, FLOATS, INTEGER, INTEGERS, RESULT, STRUCT,
+    self, ARGUMENTS, CONVENTION, ELLIPSIS, FLOAT, FLOATS, INTEGER, INTEGERS, RESULT, STRUCT,
 };
 use crate::random::Random;
 use reference::{first_unclear, struct_size, Convention, Float, Integer, Signature, Type};
@@ -10,8 +10,11 @@ const LONGEST_SIGNATURE: usize = 16_384;
 pub const MOST_ARGUMENTS: usize = 128;
 const DEEPEST_STRUCT: usize = 8;
 const LARGEST_STRUCT: usize = 256;
-/// The bytes of a signature's three headers and its convention's code.
+/// The bytes of a signature's three headers and its convention's code, and those of an ellipsis.
 const FRAME: usize = 10;
+const ELLIPSIS_HEADER: usize = 3;
+/// A generated signature has an ellipsis once in so many times.
+const VARIABLE: usize = 3;
 
 /// Bytes that mean something somewhere in a signature.
 const TELLING_BYTES: [u8; 14] = [
@@ -27,8 +30,9 @@ pub fn valid(random: &mut Random) -> Signature {
 /// A signature within all limits, of this convention.
 pub fn valid_for(random: &mut Random, convention: Convention) -> Signature {
     let result = random.once_in(2).then(|| valid_type(random, convention));
+    let ellipsis = any_ellipsis(random);
     if random.once_in(100) {
-        return longest(random, convention, result);
+        return longest(random, convention, result, ellipsis);
     }
     let count = match random.below(16) {
         0 => MOST_ARGUMENTS,
@@ -36,14 +40,24 @@ pub fn valid_for(random: &mut Random, convention: Convention) -> Signature {
         _ => random.below(9),
     };
     let arguments = (0..count).map(|_| valid_type(random, convention));
-    fitting(convention, result, arguments)
+    fitting(convention, result, ellipsis, arguments)
+}
+
+/// Whether a signature shall have an ellipsis.
+pub fn any_ellipsis(random: &mut Random) -> bool {
+    random.once_in(VARIABLE)
 }
 
 /// A signature of the longest length, or of up to three bytes less: structs of integers, and one
 /// that takes what is left.
-fn longest(random: &mut Random, convention: Convention, result: Option<Type>) -> Signature {
+fn longest(
+    random: &mut Random,
+    convention: Convention,
+    result: Option<Type>,
+    ellipsis: bool,
+) -> Signature {
     let structure = |count| Type::Struct(vec![Type::Integer(Integer::U8); count]);
-    let mut room = LONGEST_SIGNATURE - FRAME - result.as_ref().map_or(0, encode::type_length);
+    let mut room = room(result.as_ref(), ellipsis);
     let mut arguments = Vec::new();
     loop {
         // the fields of a struct that takes all that is left
@@ -60,19 +74,27 @@ fn longest(random: &mut Random, convention: Convention, result: Option<Type>) ->
             return Signature {
                 convention,
                 result,
+                ellipsis,
                 arguments,
             };
         }
     }
 }
 
+/// The bytes that the arguments' items may have.
+fn room(result: Option<&Type>, ellipsis: bool) -> usize {
+    let frame = FRAME + if ellipsis { ELLIPSIS_HEADER } else { 0 };
+    LONGEST_SIGNATURE - frame - result.map_or(0, encode::type_length)
+}
+
 /// The signature with these types, without the arguments that would make it too long.
 pub fn fitting(
     convention: Convention,
     result: Option<Type>,
+    ellipsis: bool,
     arguments: impl Iterator<Item = Type>,
 ) -> Signature {
-    let mut room = LONGEST_SIGNATURE - FRAME - result.as_ref().map_or(0, encode::type_length);
+    let mut room = room(result.as_ref(), ellipsis);
     let fits = |argument: &Type| {
         let rest = room.checked_sub(encode::type_length(argument));
         room = rest.unwrap_or(room);
@@ -81,6 +103,7 @@ pub fn fitting(
     let mut signature = Signature {
         convention,
         result,
+        ellipsis,
         arguments: arguments.take_while(fits).collect(),
     };
     // up to the first argument that refusal 29 is for
@@ -88,6 +111,12 @@ pub fn fitting(
         signature.arguments.truncate(number);
     }
     signature
+}
+
+/// Gives a signature an ellipsis, where that does not make it too long.
+pub fn add_ellipsis(signature: &mut Signature) {
+    signature.ellipsis = true;
+    signature.ellipsis = encode::signature(signature).len() <= LONGEST_SIGNATURE;
 }
 
 /// A type that an argument or a result may have.
@@ -219,16 +248,19 @@ impl Loose {
         }
     }
 
-    /// A parent whose own header is never written: its items are the signature's three.
+    /// A parent whose own header is never written: its items are the signature's three or four.
     fn of_signature(of: &Signature) -> Loose {
         let code = of.convention.code();
         let result = of.result.iter().map(Loose::of_type).collect();
         let arguments = of.arguments.iter().map(Loose::of_type).collect();
-        let items = vec![
+        let mut items = vec![
             Loose::leaf(CONVENTION, &[code]),
             Loose::parent(RESULT, result),
             Loose::parent(ARGUMENTS, arguments),
         ];
+        if of.ellipsis {
+            items.insert(2, Loose::leaf(ELLIPSIS, &[]));
+        }
         Loose::parent(0, items)
     }
 
@@ -287,16 +319,13 @@ impl Loose {
 /// A valid signature with one or two rules broken at random places.
 pub fn faulty(random: &mut Random) -> Vec<u8> {
     let mut whole = Loose::of_signature(&valid(random));
-    for _ in 0..1 + random.below(2) {
-        let mut parents = Vec::new();
-        whole.parents(0, &mut parents);
-        if random.once_in(2) && !parents.is_empty() {
-            let number = random.pick(&parents);
-            break_parent(random, whole.numbered(number));
-        } else {
-            let number = random.below(whole.count());
-            break_item(random, whole.numbered(number));
-        }
+    let mut rules = 1 + random.below(2);
+    if random.once_in(8) {
+        break_ellipsis(random, &mut whole);
+        rules -= 1;
+    }
+    for _ in 0..rules {
+        break_some(random, &mut whole);
     }
     let mut bytes = Vec::new();
     whole.write_content(&mut bytes);
@@ -305,6 +334,35 @@ pub fn faulty(random: &mut Random) -> Vec<u8> {
         bytes.resize(LONGEST_SIGNATURE - 4 + random.below(9), random.byte());
     }
     bytes
+}
+
+/// The item of a type with one or two rules broken.
+pub fn faulty_item(random: &mut Random, convention: Convention) -> Vec<u8> {
+    let of = match random.below(3) {
+        0 => valid_type(random, convention),
+        1 => nested_struct(random, convention, DEEPEST_STRUCT - 1),
+        _ => valid_struct(random, convention, 3, DEEPEST_STRUCT),
+    };
+    let mut whole = Loose::parent(0, vec![Loose::of_type(&of)]);
+    for _ in 0..1 + random.below(2) {
+        break_some(random, &mut whole);
+    }
+    let mut bytes = Vec::new();
+    whole.write_content(&mut bytes);
+    bytes
+}
+
+/// Breaks a rule of one of the items within this one.
+fn break_some(random: &mut Random, whole: &mut Loose) {
+    let mut parents = Vec::new();
+    whole.parents(0, &mut parents);
+    if random.once_in(2) && !parents.is_empty() {
+        let number = random.pick(&parents);
+        break_parent(random, whole.numbered(number));
+    } else {
+        let number = random.below(whole.count());
+        break_item(random, whole.numbered(number));
+    }
 }
 
 /// Breaks a rule that any item has.
@@ -325,6 +383,15 @@ fn break_item(random: &mut Random, item: &mut Loose) {
         5 => item.length_error = random.pick(&[-4, -3, -2, -1, 1, 2, 3, 4, 256, 60_000]),
         _ => item.tag = random.byte(),
     }
+}
+
+/// Puts an ellipsis, or a second one, among the items of a signature: at its place or not, and with
+/// a body or not.
+fn break_ellipsis(random: &mut Random, whole: &mut Loose) {
+    let at = random.below(whole.items.len() + 1);
+    let length = random.pick(&[0, 0, 0, 1, 3]);
+    let body: Vec<u8> = (0..length).map(|_| random.pick(&TELLING_BYTES)).collect();
+    whole.items.insert(at, Loose::leaf(ELLIPSIS, &body));
 }
 
 /// Breaks a rule of an item with others within it.

@@ -20,6 +20,7 @@ pub mod random;
 pub mod signatures;
 pub mod timing;
 pub mod usual;
+pub mod walks;
 
 use std::fmt;
 

@@ -113,7 +113,7 @@ impl fmt::Display for Histogram {
 }
 
 /// A buffer that is lent as a part of a larger one.
-struct Lent {
+pub(crate) struct Lent {
     bytes: Vec<u8>,
     start: usize,
     length: usize,
@@ -124,7 +124,7 @@ const GUARD: usize = 16;
 
 impl Lent {
     /// `shift` moves the buffer, so that it starts at any address.
-    fn new(content: &[u8], shift: usize) -> Lent {
+    pub(crate) fn new(content: &[u8], shift: usize) -> Lent {
         let mut bytes: Vec<u8> = (0..GUARD + shift).map(guard).collect();
         let start = bytes.len();
         bytes.extend_from_slice(content);
@@ -136,12 +136,12 @@ impl Lent {
         }
     }
 
-    fn part(&mut self) -> &mut [u8] {
+    pub(crate) fn part(&mut self) -> &mut [u8] {
         &mut self.bytes[self.start..self.start + self.length]
     }
 
     /// What the buffer holds, where the bytes around it are as they were.
-    fn content(mut self) -> Option<Vec<u8>> {
+    pub(crate) fn content(mut self) -> Option<Vec<u8>> {
         let content = self.part().to_vec();
         let shift = self.start - GUARD;
         (Lent::new(&content, shift).bytes == self.bytes).then_some(content)

@@ -16,9 +16,12 @@ use std::collections::BTreeMap;
 use std::fmt;
 
 /// What accepted calls of PPC64 must have been like, as a histogram has it.
-pub const PPC64: [&str; 37] = [
+pub const PPC64: [&str; 42] = [
     "PPC64 128 arguments",
+    "PPC64 calls with an ellipsis",
     "PPC64 double in FPR",
+    "PPC64 double in FPR and GPR",
+    "PPC64 double in FPR and memory",
     "PPC64 double in FPR past r10",
     "PPC64 double in memory",
     "PPC64 float-like struct in GPR",
@@ -35,6 +38,8 @@ pub const PPC64: [&str; 37] = [
     "PPC64 other struct in memory",
     "PPC64 other struct straddling",
     "PPC64 single in FPR",
+    "PPC64 single in FPR and GPR",
+    "PPC64 single in FPR and memory",
     "PPC64 single in FPR past r10",
     "PPC64 single in memory",
     "PPC64 smallest area",
@@ -57,8 +62,9 @@ pub const PPC64: [&str; 37] = [
 ];
 
 /// What accepted calls of Z must have been like.
-pub const Z: [&str; 29] = [
+pub const Z: [&str; 30] = [
     "Z 128 arguments",
+    "Z calls with an ellipsis",
     "Z copies end off a multiple of 8",
     "Z double in FPR",
     "Z double in memory",
@@ -90,14 +96,18 @@ pub const Z: [&str; 29] = [
 ];
 
 /// What accepted calls of AIX must have been like.
-pub const AIX: [&str; 22] = [
+pub const AIX: [&str; 28] = [
     "AIX 128 arguments",
     "AIX 64-bit integer in GPR",
     "AIX 64-bit integer in memory",
     "AIX 64-bit integer straddling",
+    "AIX calls with an ellipsis",
     "AIX double in FPR",
     "AIX double in FPR across r10",
+    "AIX double in FPR and GPR",
+    "AIX double in FPR and memory",
     "AIX double in FPR past r10",
+    "AIX double in FPR, GPR and memory",
     "AIX double in memory",
     "AIX float-like struct in GPR",
     "AIX float-like struct in memory",
@@ -109,6 +119,8 @@ pub const AIX: [&str; 22] = [
     "AIX other struct in memory",
     "AIX other struct straddling",
     "AIX single in FPR",
+    "AIX single in FPR and GPR",
+    "AIX single in FPR and memory",
     "AIX single in FPR past r10",
     "AIX single in memory",
     "AIX smallest area",
@@ -116,9 +128,12 @@ pub const AIX: [&str; 22] = [
 ];
 
 /// What accepted calls of code 4 must have been like.
-pub const PPC64B: [&str; 22] = [
+pub const PPC64B: [&str; 30] = [
     "PPC64B 128 arguments",
+    "PPC64B calls with an ellipsis",
     "PPC64B double in FPR",
+    "PPC64B double in FPR and GPR",
+    "PPC64B double in FPR and memory",
     "PPC64B double in FPR past r10",
     "PPC64B double in memory",
     "PPC64B float-like struct in GPR",
@@ -128,12 +143,17 @@ pub const PPC64B: [&str; 22] = [
     "PPC64B integer in memory",
     "PPC64B larger area",
     "PPC64B long double in FPR",
+    "PPC64B long double in FPR and GPR",
+    "PPC64B long double in FPR and memory",
     "PPC64B long double in FPR past r10",
+    "PPC64B long double in FPR, GPR and memory",
     "PPC64B long double in memory",
     "PPC64B other struct in GPR",
     "PPC64B other struct in memory",
     "PPC64B other struct straddling",
     "PPC64B single in FPR",
+    "PPC64B single in FPR and GPR",
+    "PPC64B single in FPR and memory",
     "PPC64B single in FPR past r10",
     "PPC64B single in memory",
     "PPC64B smallest area",
@@ -373,6 +393,9 @@ pub(crate) fn count_cases(signature: &Signature, plan: &Plan, seen: &mut Histogr
     };
     let mut count = |case: &str| seen.count(&format!("{convention} {case}"));
     count("calls");
+    if plan.ellipsis {
+        count("calls with an ellipsis");
+    }
     match plan.arguments.len() {
         0 => count("no arguments"),
         generate::MOST_ARGUMENTS => count("128 arguments"),
@@ -453,7 +476,14 @@ fn argument_case(convention: Convention, argument: &ArgumentPlan, of: &Type) -> 
     };
     let first = argument.places[0];
     let last = argument.places[argument.places.len() - 1];
+    let holds = |of: fn(&Place) -> bool| argument.places.iter().any(of);
+    let general = holds(|place| matches!(place, Place::General(_)));
+    let memory = holds(|place| matches!(place, Place::Memory(_)));
     let place = match (first, last) {
+        // with an ellipsis
+        (Place::Floating(_), _) if general && memory => "in FPR, GPR and memory",
+        (Place::Floating(_), _) if general => "in FPR and GPR",
+        (Place::Floating(_), _) if memory => "in FPR and memory",
         (Place::Memory(_), _) => "in memory",
         (_, Place::Memory(_)) => "straddling",
         // on PPC64 and AIX a float may have a register although its words are not among the first 8
@@ -528,18 +558,43 @@ pub fn interesting_for(random: &mut Random, convention: Convention) -> Signature
         let mix = random.pick(&mixes);
         argument(random, convention, mix)
     });
+    let ellipsis = generate::any_ellipsis(random);
     let count = match random.below(8) {
         0 => generate::MOST_ARGUMENTS,
         1..=2 => random.below(generate::MOST_ARGUMENTS + 1),
         3..=5 => random.below(25),
         _ => random.below(9),
     };
-    let arguments = (0..count).map(|_| {
+    // now and then a float of two words has one of them in the last register, the other in memory
+    let hidden = matches!(result, Some(Type::Struct(_)));
+    let often = if ellipsis { 3 } else { 10 };
+    let straddling = random.once_in(often).then_some(7 - usize::from(hidden));
+    let count = count.max(straddling.map_or(0, |before| before + 1));
+    let arguments = (0..count).map(|number| {
+        match straddling {
+            Some(before) if number < before => return Type::Integer(Integer::I32),
+            Some(before) if number == before => return Type::Float(widest(convention)),
+            _ => {}
+        }
         // the last of the three comes seldom
         let mix = mixes[random.below(9) / 4];
         argument(random, convention, mix)
     });
-    generate::fitting(convention, result, arguments)
+    generate::fitting(convention, result, ellipsis, arguments)
+}
+
+/// The largest float that an argument may be.
+fn widest(convention: Convention) -> Float {
+    match convention {
+        Convention::Aix => Float::Double,
+        _ => Float::LongDouble,
+    }
+}
+
+/// An argument of one of the kinds.
+pub fn any_argument(random: &mut Random, convention: Convention) -> Type {
+    let mix = random.pick(&MIXES);
+    argument(random, convention, mix)
 }
 
 fn argument(random: &mut Random, convention: Convention, mix: Mostly) -> Type {

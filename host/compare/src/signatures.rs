@@ -6,7 +6,7 @@ use crate::random::Random;
 use crate::Difference;
 use flakuzhen::surface::{self, Answer};
 use reference::Refusal;
-use std::collections::BTreeSet;
+use std::collections::{BTreeMap, BTreeSet};
 use std::fmt;
 
 /// The answers that reading a signature can give.
@@ -18,13 +18,49 @@ pub struct Histogram {
     pub answers: [u64; 30],
     /// The counts of items that came with each.
     pub items: [BTreeSet<u64>; 30],
+    /// How often each answer was given to a signature with an ellipsis there or elsewhere.
+    pub ellipses: BTreeMap<(&'static str, u64), u64>,
+}
+
+/// Where a signature has an ellipsis, as far as its items' headers show it.
+pub fn ellipsis_case(bytes: &[u8]) -> Option<&'static str> {
+    // a header's tag and its item's end
+    let header = |at: usize| match bytes.get(at..)? {
+        [tag, high, low, ..] => {
+            let end = at + 3 + usize::from(u16::from_be_bytes([*high, *low]));
+            (end <= bytes.len()).then_some((*tag, end))
+        }
+        _ => None,
+    };
+    let mut tags = Vec::new();
+    let mut at = 0;
+    while let Some((tag, end)) = header(at) {
+        tags.push((tag, end - at > 3));
+        at = end;
+    }
+    let tag = |number: usize| tags.get(number).map(|(tag, _)| *tag);
+    match [tag(0), tag(1), tag(2), tag(3), tag(4)] {
+        [Some(4), ..] => Some("first of all"),
+        [Some(1), Some(4), ..] => Some("before the result"),
+        [Some(1), Some(2), Some(4), ..] if tags[2].1 => Some("with a body"),
+        [Some(1), Some(2), Some(4), Some(4), _] => Some("twice"),
+        [Some(1), Some(2), Some(4), Some(3), Some(4)] => Some("twice, after the arguments"),
+        [Some(1), Some(2), Some(4), Some(3), None] if at == bytes.len() => Some("at its place"),
+        [Some(1), Some(2), Some(4), None, _] if at == bytes.len() => Some("last"),
+        [Some(1), Some(2), Some(4), ..] => Some("at its place, with a fault behind it"),
+        [Some(1), Some(2), Some(3), Some(4), _] => Some("after the arguments"),
+        _ => None,
+    }
 }
 
 impl Histogram {
-    pub fn count(&mut self, answer: Answer) {
+    pub fn count(&mut self, bytes: &[u8], answer: Answer) {
         let number = answer.number as usize;
         self.answers[number] += 1;
         self.items[number].insert(answer.items);
+        if let Some(case) = ellipsis_case(bytes) {
+            *self.ellipses.entry((case, answer.number)).or_default() += 1;
+        }
     }
 
     pub fn total(&self) -> u64 {
@@ -46,6 +82,9 @@ impl fmt::Display for Histogram {
         write!(to, "; different counts of items")?;
         for number in ANSWERS {
             write!(to, ", {number}: {}", self.items[number].len())?;
+        }
+        for ((case, number), count) in &self.ellipses {
+            write!(to, "\n  an ellipsis {case}, {number}: {count}")?;
         }
         Ok(())
     }
@@ -123,7 +162,7 @@ pub fn run(seed: u64, cases: u64) -> Result<Histogram, Difference> {
     let mut histogram = Histogram::default();
     while histogram.total() < cases {
         let (valid, answer) = compare_valid(&mut random)?;
-        histogram.count(answer);
+        histogram.count(&valid, answer);
         let faulty = generate::faulty(&mut random);
         let also_faulty = generate::faulty(&mut random);
         let others = [
@@ -134,7 +173,7 @@ pub fn run(seed: u64, cases: u64) -> Result<Histogram, Difference> {
             generate::noise(&mut random),
         ];
         for bytes in &others {
-            histogram.count(compare(bytes)?);
+            histogram.count(bytes, compare(bytes)?);
         }
     }
     Ok(histogram)

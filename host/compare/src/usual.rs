@@ -100,7 +100,7 @@ fn different(
 fn signature(random: &mut Random, convention: Convention, count: usize) -> Signature {
     let result = random.once_in(2).then(|| usual_type(random, convention));
     let arguments = (0..count).map(|_| usual_type(random, convention));
-    generate::fitting(convention, result, arguments)
+    generate::fitting(convention, result, false, arguments)
 }
 
 /// As calls usually have them: mostly integers and pointers, some floats, now and then a struct

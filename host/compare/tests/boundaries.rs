@@ -1,7 +1,10 @@
 //! The limits of documents 01 and 02, one step on either side. Each case states the answer that the
 //! document gives, and both programs are held to it.
 
-use compare::encode::{self, item, signature_of, type_items, ARGUMENTS, FLOAT, INTEGER, STRUCT};
+use compare::encode::{
+    self, item, signature_around, signature_of, type_items, variable_signature_of, ARGUMENTS,
+    CONVENTION, ELLIPSIS, FLOAT, INTEGER, RESULT, STRUCT,
+};
 use compare::signatures;
 use flakuzhen::surface::{self, Answer};
 use reference::{Convention, Float, Integer, Signature, Type};
@@ -77,6 +80,7 @@ fn every(result: Option<&Type>, arguments: &[Type]) -> Vec<Vec<u8>> {
         encode::signature(&Signature {
             convention,
             result: result.cloned(),
+            ellipsis: false,
             arguments: arguments.to_vec(),
         })
     };
@@ -285,6 +289,15 @@ fn a_signature_of_16383_bytes_16384_and_16385() {
         assert_eq!(bytes.len(), 16_385);
         refused("16,385 bytes", &bytes, 1, 0, 0);
     }
+    // 13 bytes with an ellipsis, 17 structs' headers and 4,080 integers
+    for convention in Convention::ALL {
+        let arguments = type_items(&structs_of_i8(17, 240, 17));
+        let bytes = variable_signature_of(convention, &[], &arguments);
+        assert_eq!(bytes.len(), 16_384);
+        accepted("16,384 bytes", &bytes, 4 + 17 + 4_080);
+        refused("and one more", &[&bytes[..], &[0]].concat(), 1, 0, 0);
+        refused("all but one", &bytes[..16_383], 2, 10, 3);
+    }
     refused("16,384 zeros", &[0; 16_384], 3, 0, 0);
     refused("16,385 zeros", &[0; 16_385], 1, 0, 0);
     refused("70,000 zeros", &[0; 70_000], 1, 0, 0);
@@ -479,7 +492,7 @@ fn empty_structs() {
 }
 
 #[test]
-fn bytes_after_the_third_item() {
+fn bytes_after_the_arguments() {
     for stray in [
         &[0x00][..],
         &[0x01],
@@ -497,6 +510,85 @@ fn bytes_after_the_third_item() {
                 5,
             );
         }
+        // 02, No. 5: "9 now means bytes after tag 0x03's item"
+        for convention in Convention::ALL {
+            let bytes = variable_signature_of(convention, &[], &type_items(&[I8, DOUBLE]));
+            let place = bytes.len();
+            let bytes = [&bytes[..], stray].concat();
+            refused("after the fourth item", &bytes, 9, place, 6);
+        }
+    }
+}
+
+/// 02, No. 5: "an optional tag 0x04, empty body, between result and arguments".
+#[test]
+fn an_ellipsis_at_its_place_and_elsewhere() {
+    let arguments = type_items(&[I8, SINGLE]);
+    let ellipsis = item(ELLIPSIS, &[]);
+    for convention in Convention::ALL {
+        let variable = variable_signature_of(convention, &[], &arguments);
+        accepted("at its place", &variable, 6);
+        let result = encode::type_item(&structure(&[I8, I64]));
+        let with_result = variable_signature_of(convention, &result, &[]);
+        accepted("after a result", &with_result, 4 + 3);
+        // with a body, whatever that is
+        for length in [1, 2, 3, 7] {
+            let faulty = item(ELLIPSIS, &vec![ARGUMENTS; length]);
+            let bytes = signature_around(convention, &[], &faulty, &arguments);
+            refused("with a body", &bytes, 4, RESULT_BODY, 2);
+        }
+        // a length that passes the end comes before that
+        for length in 1..=255 {
+            let header = [ELLIPSIS, 0, length];
+            let bytes = [
+                &item(CONVENTION, &[convention.code()])[..],
+                &item(RESULT, &[]),
+                &header,
+            ];
+            refused("with no room for it", &bytes.concat(), 2, RESULT_BODY, 2);
+        }
+        let twice = [&ellipsis[..], &ellipsis].concat();
+        let bytes = signature_around(convention, &[], &twice, &arguments);
+        refused("twice", &bytes, 3, RESULT_BODY + 3, 3);
+        let after = [&variable[..], &ellipsis].concat();
+        refused("and after the arguments", &after, 9, variable.len(), 6);
+        let plain = signature_of(convention, &[], &arguments);
+        let after = [&plain[..], &ellipsis].concat();
+        refused("after the arguments", &after, 9, plain.len(), 5);
+        let before = [&plain[..4], &ellipsis, &plain[4..]].concat();
+        refused("before the result", &before, 3, 4, 1);
+        let first = [&ellipsis[..], &plain].concat();
+        refused("first of all", &first, 3, 0, 0);
+        let bytes = signature_of(convention, &ellipsis, &arguments);
+        refused("in the result", &bytes, 3, RESULT_BODY, 2);
+        let bytes = signature_of(convention, &[], &ellipsis);
+        refused("in the arguments", &bytes, 3, ARGUMENTS_BODY, 3);
+        let bytes = signature_of(convention, &[], &item(STRUCT, &ellipsis));
+        refused("in a struct", &bytes, 3, ARGUMENTS_BODY + 3, 4);
+        // every part of it
+        for length in 0..variable.len() {
+            let (place, items) = match length {
+                0..=3 => (0, 0),
+                4..=6 => (4, 1),
+                7..=9 => (7, 2),
+                _ => (10, 3),
+            };
+            refused("a part", &variable[..length], 2, place, items);
+        }
+        // what another tag gives there
+        for tag in (0..=255).filter(|tag| ![ARGUMENTS, ELLIPSIS].contains(tag)) {
+            let bytes = signature_around(convention, &[], &[tag, 0, 0], &arguments);
+            refused("another tag", &bytes, 3, RESULT_BODY, 2);
+        }
+        // limits and places behind it are those of a signature without it, three bytes on
+        let many = type_items(&vec![I8; 129]);
+        let bytes = variable_signature_of(convention, &[], &many);
+        refused("129 arguments", &bytes, 7, ARGUMENTS_BODY + 3 + 512, 132);
+        let bytes = variable_signature_of(convention, &[], &many[4..]);
+        accepted("128 arguments", &bytes, 4 + 128);
+        let deep = encode::type_item(&nested(9, I8));
+        let bytes = variable_signature_of(convention, &[], &deep);
+        refused("depth 9", &bytes, 6, ARGUMENTS_BODY + 3 + 24, 4 + 8);
     }
 }
 
@@ -576,9 +668,11 @@ fn tags_at_every_position() {
         for (passed, (place, right)) in (0..).zip([(0, 1), (4, 2), (7, 3)]) {
             let mut bytes = whole;
             bytes[place] = tag;
-            match tag == right {
-                true => accepted("the right tag", &bytes, 3),
-                false => refused("another tag", &bytes, 3, place, passed),
+            match (place, tag) {
+                _ if tag == right => accepted("the right tag", &bytes, 3),
+                // an ellipsis, and no arguments
+                (7, ELLIPSIS) => refused("an ellipsis", &bytes, 2, 10, 3),
+                _ => refused("another tag", &bytes, 3, place, passed),
             }
         }
     }

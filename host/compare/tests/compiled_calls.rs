@@ -1,10 +1,12 @@
 //! Filling and reading on the calls of `data/compiled-calls.txt`, on which code compiled by gcc and
-//! clang agreed, for AIX by clang alone: fill makes the registers, area and copies of each byte for byte, read gives its
-//! values. Both programs are held to them.
+//! clang agreed, for AIX by clang alone: fill makes the registers, area and copies of each byte for
+//! byte, read gives its values, and so does a walk over its arguments. Both programs are held to them.
 
 use compare::calls::{Call, Operation};
 use compare::compiled_calls::{self, CompiledCall};
+use compare::walks::{self, Step};
 use compare::{encode, marshal};
+use reference::walker::Walker;
 use reference::{Convention, Integer, Signature, Type};
 
 /// What both programs do with a call.
@@ -50,6 +52,36 @@ fn both_programs() {
     }
 }
 
+/// A walk from the first argument on, with the types of all of them.
+#[test]
+fn walked_one_by_one() {
+    let mut walked = 0;
+    for call in compiled_calls::all() {
+        let signature = reference::read(&call.after.signature).expect("an accepted signature");
+        let start = walks::compare_start(&Walker::default(), &call.after.signature);
+        let (_, walker) = start.unwrap_or_else(|difference| panic!("{difference}"));
+        let mut step = Step {
+            walker,
+            call: call.after.clone(),
+        };
+        let mut values = Vec::new();
+        for of in &signature.arguments {
+            step.call.signature = encode::type_item(of);
+            step.call.values = vec![0xa7; of.size(signature.convention)];
+            let (answer, after) = match walks::compare(&step, 0) {
+                Ok(compared) => compared,
+                Err(difference) => panic!("{}: {difference}", call.name),
+            };
+            assert_eq!(answer.number, 0, "{}", call.name);
+            values.extend_from_slice(&after.call.values);
+            step = after;
+            walked += 1;
+        }
+        assert_eq!(values, call.after.values, "{}", call.name);
+    }
+    assert!(walked > 2_000, "only {walked} arguments");
+}
+
 /// Calls described as `docs/COMPILERS.md` advises for long doubles, and as it advised for small
 /// structs until they stood as compilers have them.
 #[test]
@@ -90,6 +122,7 @@ fn filled(of: Type, value: &[u8], before: usize) -> (Call, Vec<u8>, [u64; 2]) {
     let signature = Signature {
         convention: Convention::Ppc64,
         result: None,
+        ellipsis: false,
         arguments: [vec![Type::Integer(Integer::Pointer); before], vec![of]].concat(),
     };
     let name = format!("{:?} after {before} pointers", signature.arguments[before]);
@@ -148,12 +181,13 @@ fn the_file_has_what_it_is_for() {
         };
         calls.iter().filter(of_this).count()
     };
-    assert_eq!(conventions(Convention::Ppc64), 44 + 19);
-    assert_eq!(conventions(Convention::Z), 84);
-    assert_eq!(conventions(Convention::Aix), 79);
-    assert_eq!(conventions(Convention::Ppc64b), 51 + 22);
+    // of the prototypes, and of those with an ellipsis or not in scope
+    assert_eq!(conventions(Convention::Ppc64), 44 + 19 + 25);
+    assert_eq!(conventions(Convention::Z), 84 + 25);
+    assert_eq!(conventions(Convention::Aix), 79 + 18);
+    assert_eq!(conventions(Convention::Ppc64b), 51 + 22 + 31);
     let count = |of: fn(&CompiledCall) -> bool| calls.iter().filter(|call| of(call)).count();
-    assert_eq!(count(|call| !call.before.copies.is_empty()), 55);
+    assert_eq!(count(|call| !call.before.copies.is_empty()), 55 + 18);
     assert!(count(|call| call.before.hidden != 0) >= 20);
     assert!(count(|call| call.before.area != call.after.area) >= 40);
 }

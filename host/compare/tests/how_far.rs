@@ -3,9 +3,10 @@
 //! refusals have count 0.
 
 use compare::calls::{Call, Operation};
-use compare::{marshal, plans, signatures};
+use compare::{marshal, plans, signatures, walks};
 use flakuzhen::surface::marshal as surface;
 use flakuzhen::surface::{self as library, Answer};
+use reference::walker::Walker;
 
 /// The bytes that hexadecimal text says; spaces count for nothing, and `*` repeats the group before
 /// it: `(10 0001 00)*3`.
@@ -34,7 +35,7 @@ fn digits(text: &str, to: &mut Vec<u8>) {
 }
 
 /// Number, place and count of items. `%` is the code of the convention.
-const REFUSED: [(&str, u64, u64, u64); 49] = [
+const REFUSED: [(&str, u64, u64, u64); 58] = [
     // 1: "0 for refusal 1", whatever the bytes are
     ("01 0001 % 02 0000 03 3ff7 (00)*16375", 1, 0, 0),
     // 2, no room for a header: what stands before it is counted
@@ -163,6 +164,21 @@ const REFUSED: [(&str, u64, u64, u64); 49] = [
         22,
         6,
     ),
+    // an ellipsis counts as an item: what is behind it has one header more
+    ("01 0001 % 02 0000 04 00", 2, 7, 2),
+    ("01 0001 % 02 0000 04 0001", 2, 7, 2),
+    ("01 0001 % 02 0000 04 0000", 2, 10, 3),
+    ("01 0001 % 02 0000 04 0000 04 0000 03 0000", 3, 10, 3),
+    ("01 0001 % 02 0000 04 0001 00 03 0000", 4, 7, 2),
+    ("01 0001 % 02 0000 04 0000 03 0004 10 0001 09", 4, 13, 4),
+    (
+        "01 0001 % 02 0000 04 0000 03 0201 (10 0001 00)*128 00",
+        7,
+        525,
+        132,
+    ),
+    ("01 0001 % 02 0000 04 0000 03 0000 00", 9, 13, 4),
+    ("01 0001 % 02 0000 03 0000 04 0000", 9, 10, 3),
     // 25, of AIX alone: the long double's or double's own header is not counted
     ("01 0001 03 02 0004 11 0001 02 03 0000", 25, 7, 2),
     (
@@ -206,7 +222,7 @@ fn call(signature: &[u8]) -> Call {
 fn every_function_that_reads_a_signature_says_how_far() {
     let mut numbers = std::collections::BTreeSet::new();
     for (text, number, place, items) in REFUSED {
-        for code in ["01", "02", "03"] {
+        for code in ["01", "02", "03", "04"] {
             let bytes = hex(&text.replace('%', code));
             let answer = Answer {
                 number,
@@ -239,6 +255,11 @@ fn every_function_that_reads_a_signature_says_how_far() {
                 assert_eq!(part.answer, answer, "{operation:?}: {text}");
                 assert_eq!((part.start, part.length), (0, 0));
                 assert!(after == call, "{operation:?} changes bytes: {text}");
+            }
+            let before = Walker::of_words([7; 6]);
+            match walks::compare_start(&before, &bytes) {
+                Ok(started) => assert_eq!(started, (answer, before), "start: {text}"),
+                Err(difference) => panic!("{difference}"),
             }
         }
         numbers.insert(number);
@@ -274,6 +295,10 @@ fn the_other_refusals_have_no_count() {
     let read = surface::read(&ppc64, &mut [0; 4], image, area, &[], 0);
     assert_eq!(read, none(14));
     assert_eq!(surface::home(&ppc64, image, area), none(14));
+    let variable = hex("01 0001 01 02 0000 04 0000 03 0004 11 0001 01");
+    let read = surface::read(&variable, &mut [0; 8], image, area, &[], 0);
+    assert_eq!(read, none(26));
+    assert_eq!(surface::home(&variable, image, area), none(0));
     assert_eq!(surface::home(&ppc64, &[0; 511], area), none(15));
     assert_eq!(surface::home(&z, image, area), none(24));
     assert_eq!(surface::view(area, &ppc64, 1).answer, none(24));

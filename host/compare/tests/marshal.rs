@@ -77,7 +77,12 @@ fn together(fault: Fault, other: Fault) -> bool {
         Fault::BaseTooHigh,
         Fault::OutsideCopies,
     ];
-    let not_of_z = [Fault::NotWidened, Fault::HiddenTooHigh];
+    let not_of_z = [
+        Fault::DiffersBefore,
+        Fault::NotWidened,
+        Fault::Differs,
+        Fault::HiddenTooHigh,
+    ];
     !(of_z.contains(&fault) && not_of_z.contains(&other))
 }
 
@@ -114,6 +119,7 @@ fn read() {
         "a copy at the buffer's end",
         "a copy between multiples of 8",
         "a copy that reaches past 2^64",
+        "a float in general registers and in memory",
         "a low address",
         "an address anywhere",
         "an address below the copies",
@@ -123,6 +129,9 @@ fn read() {
         "an area that just fits",
         "an area that is too short by one",
         "copies shorter than an argument",
+        "other bytes beside what is no widened single",
+        "other bytes in a float's second register",
+        "other bytes in r10 of a float that goes on in memory",
         "values of one byte too many or too few",
     ];
     let edges = [&edges[..], &SINGLES].concat();

@@ -1,6 +1,6 @@
 //! Reading, compared on generated signatures and on all of some small families.
 
-use compare::encode::{item, signature_of, ARGUMENTS, STRUCT};
+use compare::encode::{item, signature_of, variable_signature_of, ARGUMENTS, ELLIPSIS, STRUCT};
 use compare::random::Random;
 use compare::signatures::{self, Histogram, ANSWERS};
 use reference::Convention;
@@ -10,7 +10,7 @@ const CASES: u64 = 400_000;
 
 fn compare(bytes: &[u8], histogram: &mut Histogram) {
     match signatures::compare(bytes) {
-        Ok(answer) => histogram.count(answer),
+        Ok(answer) => histogram.count(bytes, answer),
         Err(difference) => panic!("{difference}"),
     }
 }
@@ -38,7 +38,34 @@ fn generated_signatures() {
             _ => assert!(items.len() >= 20, "{number} had only the counts {items:?}"),
         }
     }
+    for (case, number) in ELLIPSES {
+        let count = histogram.ellipses.get(&(case, number)).copied();
+        let count = count.unwrap_or(0);
+        assert!(
+            count >= 100,
+            "an ellipsis {case} gave {number} only {count} times"
+        );
+    }
 }
+
+/// Where a signature has an ellipsis, and what must have been answered to it.
+const ELLIPSES: [(&str, u64); 15] = [
+    ("first of all", 3),
+    ("before the result", 3),
+    ("with a body", 4),
+    ("twice", 3),
+    ("twice, after the arguments", 9),
+    ("after the arguments", 9),
+    ("last", 2),
+    ("at its place", 0),
+    ("at its place", 1),
+    ("at its place", 4),
+    ("at its place", 5),
+    ("at its place", 6),
+    ("at its place", 7),
+    ("at its place", 8),
+    ("at its place, with a fault behind it", 2),
+];
 
 #[test]
 fn every_prefix_of_valid_signatures() {
@@ -65,11 +92,15 @@ fn every_change_of_one_byte() {
     let mut histogram = Histogram::default();
     let small = [1, 0, 1, 1, 2, 0, 0, 3, 0, 8, 0x10, 0, 1, 4, 0x11, 0, 1, 1];
     let within = item(STRUCT, &item(STRUCT, &[0x10, 0, 1, 2, 0x11, 0, 1, 0]));
-    let nested = |convention| {
-        let arguments = [within.clone(), within.clone()].concat();
-        signature_of(convention, &within, &arguments)
-    };
-    for bytes in [&small[..], &nested(Convention::Z), &nested(Convention::Aix)] {
+    let arguments = [within.clone(), within.clone()].concat();
+    let nested = |convention| signature_of(convention, &within, &arguments);
+    let variable = variable_signature_of(Convention::Ppc64, &within, &arguments);
+    for bytes in [
+        &small[..],
+        &nested(Convention::Z),
+        &nested(Convention::Aix),
+        &variable,
+    ] {
         for at in 0..bytes.len() {
             let mut changed = bytes.to_vec();
             for value in 0..=255 {
@@ -120,6 +151,12 @@ fn every_short_rest_after_the_first_item() {
     let mut histogram = Histogram::default();
     for rest in all_strings(7, &[0x00, 0x01, 0x02, ARGUMENTS]) {
         compare(&[&[1, 0, 1, 1][..], &rest].concat(), &mut histogram);
+    }
+    for rest in all_strings(7, &[0x00, 0x01, ARGUMENTS, ELLIPSIS]) {
+        let before = [1, 0, 1, 1, 2, 0, 0];
+        compare(&[&before[..], &rest].concat(), &mut histogram);
+        let before = [1, 0, 1, 1, 2, 0, 0, ELLIPSIS, 0, 0];
+        compare(&[&before[..], &rest].concat(), &mut histogram);
     }
     for whole in all_strings(2, &(0..=255).collect::<Vec<u8>>()) {
         compare(&whole, &mut histogram);

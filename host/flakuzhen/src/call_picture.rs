@@ -32,6 +32,7 @@ impl Call<'_> {
     fn draw(&self) -> String {
         let Plan {
             convention,
+            ellipsis,
             sizes,
             arguments,
             ..
@@ -42,9 +43,10 @@ impl Call<'_> {
             ("copies", 8, self.copy_rows()),
         ];
         let mut text = format!(
-            "{convention} args {} area {}\n",
+            "{convention} args {} area {}{}\n",
             arguments.len(),
-            sizes.area
+            sizes.area,
+            if *ellipsis { " var" } else { "" }
         );
         for (name, width, rows) in tables.iter().filter(|(_, _, rows)| !rows.is_empty()) {
             let numbers = (0..*width).map(|number| number.to_string()).collect();
@@ -93,8 +95,8 @@ impl Call<'_> {
             rows.push((register, Row::new(&register.to_string(), marks)));
         }
         for (number, argument) in self.plan.arguments.iter().enumerate() {
-            for (at, register) in argument.registers().enumerate() {
-                let marks = self.register_marks(number, argument, at);
+            for register in argument.registers() {
+                let marks = self.register_marks(number, argument, register);
                 rows.push((register, Row::new(&register.to_string(), marks)));
             }
         }
@@ -123,15 +125,15 @@ impl Call<'_> {
         };
         let at = place - argument.home.start;
         if argument.memory.contains(&place) {
-            return Row::new(&label, self.marks(number, argument, at, self.word()));
+            return Row::new(&label, self.marks(number, argument, at, self.word(), false));
         }
         // a floating register has 8 bytes of its argument, on AIX both words of a double
-        let nth = match argument.floating.is_empty() {
-            true => at / self.word(),
-            false => at / IN_IMAGE,
-        };
-        let register = argument.registers().nth(nth);
-        let note = register.map(|name| format!("{number} is in {name}"));
+        let floating = argument.floating.clone().nth(at / IN_IMAGE);
+        let general = argument.general.clone().nth(at / self.word());
+        let floating = floating.map(|name| Register::Floating(name).to_string());
+        let general = general.map(|name| Register::General(name).to_string());
+        let names: Vec<String> = floating.into_iter().chain(general).collect();
+        let note = (!names.is_empty()).then(|| format!("{number} is in {}", names.join(" and ")));
         Row::new(&label, repeated("", self.word())).noted(note)
     }
 
@@ -153,23 +155,40 @@ impl Call<'_> {
         [repeated(".", IN_IMAGE - word.len()), word].concat()
     }
 
-    /// The marks of the 8 bytes of an argument's register, of which `nth` come before it.
-    fn register_marks(&self, number: usize, argument: &Argument, nth: usize) -> Vec<String> {
-        match argument.floating.is_empty() {
-            true => {
+    /// The marks of the 8 bytes of an argument's register.
+    fn register_marks(
+        &self,
+        number: usize,
+        argument: &Argument,
+        register: Register,
+    ) -> Vec<String> {
+        match register {
+            Register::General(of) => {
                 let word = self.word();
-                self.in_general(self.marks(number, argument, word * nth, word))
+                let at = word * usize::from(of - argument.general.start);
+                self.in_general(self.marks(number, argument, at, word, false))
             }
-            false => self.marks(number, argument, IN_IMAGE * nth, IN_IMAGE),
+            Register::Floating(of) => {
+                let at = IN_IMAGE * usize::from(of - argument.floating.start);
+                self.marks(number, argument, at, IN_IMAGE, true)
+            }
         }
     }
 
-    /// The marks of `count` bytes of an argument that come after `at` others.
-    fn marks(&self, number: usize, argument: &Argument, at: usize, count: usize) -> Vec<String> {
+    /// The marks of `count` bytes of an argument that come after `at` others, in its floating registers
+    /// or else in its words.
+    fn marks(
+        &self,
+        number: usize,
+        argument: &Argument,
+        at: usize,
+        count: usize,
+        in_float: bool,
+    ) -> Vec<String> {
         if argument.by_reference() {
             return repeated(&format!("&{number}"), count);
         }
-        let own = self.own(argument);
+        let own = self.own(argument, in_float);
         let mark = |byte| match own.contains(&byte) {
             true => number.to_string(),
             false => ".".to_string(),
@@ -182,10 +201,9 @@ impl Call<'_> {
         self.word() == 8 && size < 8
     }
 
-    /// Where in its places a value stands.
-    fn own(&self, argument: &Argument) -> Range<usize> {
+    /// Where in its floating registers a value stands, or else in its words.
+    fn own(&self, argument: &Argument, in_float: bool) -> Range<usize> {
         let size = argument.value.len();
-        let in_float = !argument.floating.is_empty();
         let is_struct = self.signature[argument.item] == STRUCT;
         let is_power = self.plan.convention != Convention::Z;
         match (in_float, is_power) {
@@ -310,15 +328,19 @@ mod tests {
         let mut all = Vec::new();
         // AIX has no long double, and no double in a struct
         let on_aix = |of: &Vec<u8>| of[..] != [0x11, 0, 1, 2] && !of.ends_with(&[4, 0x11, 0, 1, 1]);
-        for convention in [1, 2, 3] {
+        let kinds = [1, 2, 3, 4]
+            .into_iter()
+            .flat_map(|code| [(code, false), (code, true)]);
+        for (convention, ellipsis) in kinds {
             let types = types.iter().filter(|of| convention != 3 || on_aix(of));
-            for (of, before) in types.flat_map(|of| [(of, 0), (of, 7), (of, 20)]) {
+            for (of, before) in types.flat_map(|of| [(of, 0), (of, 3), (of, 7), (of, 20)]) {
                 let mut arguments = [0x10, 0, 1, 4].repeat(before);
                 arguments.extend([0x11, 0, 1, 1].repeat(before));
                 arguments.extend_from_slice(of);
                 let [high, low] = (arguments.len() as u16).to_be_bytes();
-                let head = [1, 0, 1, convention, 2, 0, 0, 3, high, low];
-                all.push([&head[..], &arguments].concat());
+                let head = [1, 0, 1, convention, 2, 0, 0];
+                let between: &[u8] = if ellipsis { &[4, 0, 0] } else { &[] };
+                all.push([&head[..], between, &[3, high, low], &arguments].concat());
             }
         }
         all
@@ -340,17 +362,17 @@ mod tests {
                 if argument.by_reference() {
                     continue;
                 }
-                let in_image = argument.registers().enumerate().map(|(nth, register)| {
+                let in_image = argument.registers().map(|register| {
                     let place = match register {
                         Register::General(number) => 8 * usize::from(number),
                         Register::Floating(number) => 256 + 8 * usize::from(number),
                     };
-                    (0, place, call.register_marks(number, argument, nth))
+                    (0, place, call.register_marks(number, argument, register))
                 });
                 let word = call.word();
                 let in_area = argument.memory.clone().step_by(word).map(|place| {
                     let at = place - argument.home.start;
-                    (1, place, call.marks(number, argument, at, word))
+                    (1, place, call.marks(number, argument, at, word, false))
                 });
                 for (buffer, place, marks) in in_image.chain(in_area) {
                     for (byte, mark) in marks.iter().enumerate() {

@@ -19,10 +19,12 @@ mod marshal;
 mod plans;
 #[allow(unsafe_code)]
 pub mod surface;
+mod walker;
 
 pub use dump::walk_dump;
 pub use marshal::{fill, home, read, view};
 pub use plans::{listing, measure, plan, Argument, Convention, Plan, Register, ResultPlace, Sizes};
+pub use walker::Walker;
 
 use surface::Answer;
 
@@ -91,12 +93,12 @@ impl Refusal {
             1 => "the signature is over 16,384 bytes",
             2 => "no room for an item's header, or its length passes the enclosing end",
             3 => "a tag that is not allowed there",
-            4 => "a length or code that is not allowed, an empty struct, or bytes after the result's type",
+            4 => "a length or code that is not allowed, an empty struct, or bytes after the one type",
             5 => "a long double inside a struct",
             6 => "structs nested deeper than 8",
             7 => "bytes after the 128th argument",
             8 => "a struct of over 256 bytes",
-            9 => "bytes after the third item",
+            9 => "bytes after the arguments",
             10 => "the buffer of values is not exactly of the arguments' size",
             11 => "the buffer of parameters is shorter than the area",
             12 => "the copy buffer is too short, or its address is no multiple of 8 or too high, or a hidden address on AIX is over 32 bits",
@@ -110,10 +112,12 @@ impl Refusal {
             20 => "a write that is not permitted",
             21 => "the back chain, on Z the saved r15, is not the caller's stack pointer",
             22 => "no frame to leave",
-            23 => "a machine state that cannot be",
+            23 => "a machine's or a walker's state that cannot be",
             24 => "no home or view for this convention, or no argument with this index",
             25 => "a long double on AIX, or a double inside a struct there",
+            26 => "a float's general registers hold other bytes than its floating register",
             28 => "an enter above a leaf",
+            29 => "a long double for which only f13 is left",
             30 => "an address in a dump that is not aligned, not inside with its header or not above the one before, or a dump that ends past the last address",
             31 => "a back chain of over 4,096 frames",
             32 => "a list that is too short for all frames",
@@ -151,7 +155,7 @@ mod tests {
             place: 0,
             items: 0,
         };
-        for number in (1..=25).chain([28, 30, 31, 32]) {
+        for number in (1..=26).chain(28..=32) {
             let refusal = Refusal {
                 number,
                 place: 3,

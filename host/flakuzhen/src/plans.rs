@@ -38,6 +38,8 @@ pub enum Register {
 #[derive(Clone, Debug, PartialEq, Eq)]
 pub struct Plan {
     pub convention: Convention,
+    /// Whether the signature has an ellipsis.
+    pub ellipsis: bool,
     pub sizes: Sizes,
     pub result: ResultPlace,
     /// In order. `for argument in &plan` goes over them too.
@@ -93,7 +95,8 @@ impl fmt::Display for Register {
 }
 
 impl Argument {
-    /// Its registers, in the order of its bytes.
+    /// Its registers, the floating ones first; with an ellipsis these and the general ones each have
+    /// its bytes in order.
     pub fn registers(&self) -> impl Iterator<Item = Register> {
         registers(self.general.clone(), self.floating.clone())
     }
@@ -177,6 +180,7 @@ fn plan_from(signature: &[u8], room: usize) -> Result<Plan, Refusal> {
             4 => Convention::Ppc64b,
             _ => Convention::Z,
         },
+        ellipsis: planned.ellipsis != 0,
         sizes: Sizes {
             values: planned.values,
             area: planned.area,
@@ -295,6 +299,7 @@ mod tests {
         };
         let expected = Plan {
             convention: Convention::Z,
+            ellipsis: false,
             sizes: measure(&SIGNATURE).expect("an accepted signature"),
             result: ResultPlace::Hidden(Register::General(2)),
             arguments: vec![long_double, single],

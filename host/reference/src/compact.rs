@@ -25,7 +25,8 @@ pub struct Memory {
     pub words: u8,
 }
 
-/// Where an argument stands: first in registers, then in memory.
+/// Where an argument stands: in floating registers, or else first in general ones, then in memory;
+/// with an ellipsis in both.
 #[derive(Clone, Copy, Debug, Default, PartialEq, Eq)]
 pub struct Argument {
     pub general: Registers,
@@ -54,6 +55,7 @@ pub enum Content {
 #[derive(Clone, Debug, PartialEq, Eq)]
 pub struct Plan {
     pub convention: Convention,
+    pub ellipsis: bool,
     pub arguments: Vec<Argument>,
     pub result: ResultType,
     pub area: usize,
@@ -136,20 +138,30 @@ impl Keeper for Nobody {
 /// Reads a signature and plans its call.
 pub fn plan(bytes: &[u8]) -> Result<Plan, Refusal> {
     let mut arguments = Vec::new();
-    let (convention, result, sizes) = place(bytes, &mut arguments)?;
+    let head = place(bytes, &mut arguments)?;
     Ok(Plan {
-        convention,
+        convention: head.convention,
+        ellipsis: head.ellipsis,
         arguments,
-        result,
-        area: sizes.area,
-        values: sizes.values,
-        copies: sizes.copies,
+        result: head.result,
+        area: head.sizes.area,
+        values: head.sizes.values,
+        copies: head.sizes.copies,
     })
 }
 
 /// The sizes of the plan alone: no place is kept.
 pub fn measure(bytes: &[u8]) -> Result<Sizes, Refusal> {
-    place(bytes, &mut Nobody).map(|(_, _, sizes)| sizes)
+    place(bytes, &mut Nobody).map(|head| head.sizes)
+}
+
+/// All of a plan but its arguments.
+#[derive(Clone, Copy)]
+struct Head {
+    convention: Convention,
+    ellipsis: bool,
+    result: ResultType,
+    sizes: Sizes,
 }
 
 /// A signature's bytes, the headers that have passed so far, and the convention once it is known.
@@ -162,10 +174,7 @@ struct Input<'a> {
 }
 
 /// Reads a signature and places its arguments.
-fn place(
-    bytes: &[u8],
-    keeper: &mut impl Keeper,
-) -> Result<(Convention, ResultType, Sizes), Refusal> {
+fn place(bytes: &[u8], keeper: &mut impl Keeper) -> Result<Head, Refusal> {
     let mut input = Input {
         bytes,
         passed: 0,
@@ -186,17 +195,38 @@ fn place(
     input.convention = convention;
     let result_end = input.header(convention_end, bytes.len(), |tag| tag == 0x02)?;
     let result = result_type(&mut input, convention_end + 3, result_end)?;
-    let end = input.header(result_end, bytes.len(), |tag| tag == 0x03)?;
-    let sizes = match convention {
+    let mut start = result_end;
+    let mut end = input.header(start, bytes.len(), |tag| tag == 0x03 || tag == 0x04)?;
+    let ellipsis = bytes[start] == 0x04;
+    if ellipsis {
+        if end > start + 3 {
+            return input.refuse_item(4, start);
+        }
+        start = end;
+        end = input.header(start, bytes.len(), |tag| tag == 0x03)?;
+    }
+    let body = start + 3;
+    let sizes = match (convention, ellipsis) {
         // the width is a constant in each, so that no division is left
-        Convention::Ppc64 => {
-            place_powerpc::<8, 0>(&mut input, result_end + 3, end, result, keeper)?
+        (Convention::Ppc64, false) => {
+            place_powerpc::<8, 0, false>(&mut input, body, end, result, keeper)?
         }
-        Convention::Aix => place_powerpc::<4, 0>(&mut input, result_end + 3, end, result, keeper)?,
-        Convention::Ppc64b => {
-            place_powerpc::<8, 2>(&mut input, result_end + 3, end, result, keeper)?
+        (Convention::Ppc64, true) => {
+            place_powerpc::<8, 0, true>(&mut input, body, end, result, keeper)?
         }
-        Convention::Z => place_z(&mut input, result_end + 3, end, result, keeper)?,
+        (Convention::Aix, false) => {
+            place_powerpc::<4, 0, false>(&mut input, body, end, result, keeper)?
+        }
+        (Convention::Aix, true) => {
+            place_powerpc::<4, 0, true>(&mut input, body, end, result, keeper)?
+        }
+        (Convention::Ppc64b, false) => {
+            place_powerpc::<8, 2, false>(&mut input, body, end, result, keeper)?
+        }
+        (Convention::Ppc64b, true) => {
+            place_powerpc::<8, 2, true>(&mut input, body, end, result, keeper)?
+        }
+        (Convention::Z, _) => place_z(&mut input, body, end, result, keeper)?,
     };
     if end < bytes.len() {
         return input.refuse(9, end);
@@ -208,12 +238,17 @@ fn place(
             items: 0,
         });
     }
-    Ok((convention, result, sizes))
+    Ok(Head {
+        convention,
+        ellipsis,
+        result,
+        sizes,
+    })
 }
 
 /// By words of so many bytes; a long double takes this many floating registers, or none and words
-/// as an integer does.
-fn place_powerpc<const WORD: usize, const LONG_DOUBLE: u8>(
+/// as an integer does; with an ellipsis what is in floating registers has its words too.
+fn place_powerpc<const WORD: usize, const LONG_DOUBLE: u8, const ELLIPSIS: bool>(
     input: &mut Input<'_>,
     body: usize,
     end: usize,
@@ -237,21 +272,23 @@ fn place_powerpc<const WORD: usize, const LONG_DOUBLE: u8>(
             Kind::LongDouble => LONG_DOUBLE,
             _ => 0,
         };
-        let in_registers = if wanted > 0 {
+        if wanted > 0 {
             if floats + wanted <= 13 {
                 argument.floating = Registers {
                     first: floats + 1,
                     count: wanted,
                 };
                 floats += wanted;
-                return argument;
-            }
-            if floats < 13 && unclear.is_none() {
+                if !ELLIPSIS {
+                    return argument;
+                }
+            } else if floats < 13 && unclear.is_none() {
                 unclear = Some(at);
             }
-            0
-        } else {
-            count.min(8usize.saturating_sub(first))
+        }
+        let in_registers = match wanted > 0 && !ELLIPSIS {
+            true => 0,
+            false => count.min(8usize.saturating_sub(first)),
         };
         if in_registers > 0 {
             argument.general = Registers {
@@ -511,6 +548,7 @@ impl From<Plan> for crate::Plan {
     fn from(plan: Plan) -> crate::Plan {
         crate::Plan {
             convention: plan.convention,
+            ellipsis: plan.ellipsis,
             arguments: plan
                 .arguments
                 .iter()
@@ -535,8 +573,8 @@ fn argument_plan(convention: Convention, argument: &Argument) -> crate::Argument
     let general = numbers(argument.general).map(Place::General);
     let floating = numbers(argument.floating).map(Place::Floating);
     crate::ArgumentPlan {
-        places: general
-            .chain(floating)
+        places: floating
+            .chain(general)
             .chain(offsets.map(Place::Memory))
             .collect(),
         offset: argument.offset.map(usize::from),
@@ -597,10 +635,16 @@ mod tests {
         bytes
     }
 
+    /// The signature, and the same with an ellipsis.
+    fn both(bytes: Vec<u8>) -> [Vec<u8>; 2] {
+        let mut with = bytes.clone();
+        with.splice(11..11, [4, 0, 0]);
+        [bytes, with]
+    }
+
     #[test]
     fn plans_as_the_plain_planner() {
-        for convention in [1, 2, 3] {
-            let bytes = figure_3_18(convention);
+        for bytes in [1, 2, 3, 4].map(figure_3_18).into_iter().flat_map(both) {
             let expected = crate::plan(&read(&bytes).unwrap());
             assert_eq!(crate::Plan::from(plan(&bytes).unwrap()), expected);
             let sizes = Sizes {
@@ -614,13 +658,15 @@ mod tests {
 
     #[test]
     fn refuses_as_the_plain_reader() {
-        for bytes in [1, 3].map(figure_3_18) {
+        for bytes in [1, 3].map(figure_3_18).into_iter().flat_map(both) {
             for length in 0..bytes.len() {
                 let part = &bytes[..length];
                 assert_eq!(plan(part).map(|_| ()), read(part).map(|_| ()));
             }
             for at in 0..bytes.len() {
-                for value in [0x00, 0x01, 0x02, 0x03, 0x09, 0x10, 0x11, 0x12, 0x13, 0xff] {
+                for value in [
+                    0x00, 0x01, 0x02, 0x03, 0x04, 0x09, 0x10, 0x11, 0x12, 0x13, 0xff,
+                ] {
                     let mut changed = bytes.clone();
                     changed[at] = value;
                     assert_eq!(plan(&changed).map(|_| ()), read(&changed).map(|_| ()));

@@ -15,12 +15,13 @@ mod planner;
 mod reader;
 pub mod table;
 mod types;
+pub mod walker;
 
 pub use listing::{listing, listing_of, refusal_line};
 pub use planner::{
     call, first_unclear, float_equivalent, plan, ArgumentPlan, Place, Plan, ResultPlan,
 };
-pub use reader::read;
+pub use reader::{read, read_type};
 pub use types::{struct_size, Convention, Float, Integer, Signature, Type};
 
 /// Why an input is refused: the number of document 01's table, the place, and how far the reading

@@ -29,7 +29,9 @@ pub fn listing_of(plan: &Plan) -> String {
         Convention::Ppc64b => "PPC64B",
     };
     let count = plan.arguments.len();
-    let mut text = format!("{convention} args {count} area {}\n", plan.area);
+    // "adds ` var` at the end of its first line"
+    let var = if plan.ellipsis { " var" } else { "" };
+    let mut text = format!("{convention} args {count} area {}{var}\n", plan.area);
     for (number, argument) in plan.arguments.iter().enumerate() {
         text.push_str(&number.to_string());
         push_places(&argument.places, &mut text);
@@ -54,7 +56,8 @@ pub fn listing_of(plan: &Plan) -> String {
     text
 }
 
-/// The registers, and `mem` once, however many doublewords or words lie in memory.
+/// The registers, "FPRs before GPRs before `mem`", which comes once, however many doublewords or words
+/// lie in memory.
 fn push_places(places: &[Place], text: &mut String) {
     let mut in_memory = false;
     for place in places {
@@ -84,6 +87,7 @@ mod tests {
         listing_of(&crate::plan(&Signature {
             convention,
             result,
+            ellipsis: false,
             arguments,
         }))
     }
@@ -210,6 +214,57 @@ result r3 r4
         assert_eq!(printed(Convention::Aix, Some(I64), arguments), expected);
         let hidden = printed(Convention::Aix, Some(Type::Struct(vec![I32])), vec![I32]);
         assert_eq!(hidden, "AIX args 1 area 32\n0 r4 @4\nresult hidden r3\n");
+    }
+
+    #[test]
+    fn with_an_ellipsis() {
+        let variable = |convention, arguments| {
+            listing_of(&crate::plan(&Signature {
+                convention,
+                result: Some(I32),
+                ellipsis: true,
+                arguments,
+            }))
+        };
+        let s = Type::Struct(vec![I32, DOUBLE]);
+        let arguments = vec![
+            I32,
+            DOUBLE,
+            I32,
+            LONG_DOUBLE,
+            s.clone(),
+            DOUBLE,
+            s,
+            I32,
+            DOUBLE,
+        ];
+        let expected = "\
+PPC64B args 9 area 96 var
+0 r3 @0
+1 f1 r4 @8
+2 r5 @16
+3 f2 f3 r6 r7 @24
+4 r8 r9 @40
+5 f4 r10 @56
+6 mem @64
+7 mem @80
+8 f5 mem @88
+result r3
+";
+        assert_eq!(variable(Convention::Ppc64b, arguments), expected);
+        let arguments = vec![I64, I32, DOUBLE, I64, DOUBLE];
+        let expected = "\
+AIX args 5 area 36 var
+0 r3 r4 @0
+1 r5 @8
+2 f1 r6 r7 @12
+3 r8 r9 @20
+4 f2 r10 mem @28
+result r3
+";
+        assert_eq!(variable(Convention::Aix, arguments), expected);
+        let expected = "Z args 2 area 0 var\n0 f0\n1 r2\nresult r2\n";
+        assert_eq!(variable(Convention::Z, vec![DOUBLE, I32]), expected);
     }
 
     #[test]

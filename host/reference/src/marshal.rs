@@ -1,6 +1,7 @@
 //! Filling, reading, home and view: document 01, "What stands in a slot", with the refusals and
-//! their order of "When the bridge says no"; on AIX the same by words (document 02, No. 1), and small
-//! structs of PPC64 as No. 2 mends them. A refusal leaves every buffer as it was.
+//! their order of "When the bridge says no"; on AIX the same by words (document 02, No. 1), small
+//! structs of PPC64 as No. 2 mends them, and floats in two places with an ellipsis (No. 5). A refusal
+//! leaves every buffer as it was.
 
 use crate::float_bits::{narrow, widen};
 use crate::types::round_up;
@@ -11,20 +12,21 @@ use std::ops::Range;
 
 const DOUBLEWORD: usize = 8;
 /// "GPR n at 8n, FPR n at 256 + 8n", 32 of each.
-const IMAGE: usize = 512;
+pub(crate) const IMAGE: usize = 512;
 const FLOATING: usize = 256;
 /// "The parameter buffer's first byte is stack offset 160" on Z.
 const Z_AREA: usize = 160;
 /// A floating register's bytes in every convention.
 const FLOAT: usize = 8;
 
-const VALUES_SIZE: u64 = 10;
-const AREA_TOO_SHORT: u64 = 11;
+pub(crate) const VALUES_SIZE: u64 = 10;
+pub(crate) const AREA_TOO_SHORT: u64 = 11;
 const BAD_COPIES: u64 = 12;
 const OUTSIDE_COPIES: u64 = 13;
 const NOT_WIDENED: u64 = 14;
-const IMAGE_SIZE: u64 = 15;
+pub(crate) const IMAGE_SIZE: u64 = 15;
 const NO_VIEW: u64 = 24;
+const FLOATS_DIFFER: u64 = 26;
 
 /// How a value stands in its doublewords, on AIX in its words.
 #[derive(Clone, Copy, Debug, PartialEq, Eq)]
@@ -41,24 +43,26 @@ enum Form {
     Address,
 }
 
-/// How an argument stands where the plan puts it.
-fn form(convention: Convention, of: &Type, argument: &ArgumentPlan) -> Form {
-    let in_floating = matches!(argument.places[..], [Place::Floating(_)]);
+/// How an argument stands in floating registers.
+fn floating_form(convention: Convention, of: &Type) -> Form {
     match (convention, of) {
-        (_, Type::Integer(_)) => memory_form(convention, of),
-        (Convention::Ppc64 | Convention::Aix | Convention::Ppc64b, Type::Float(Float::Single))
-            if in_floating =>
-        {
-            Form::Widened
-        }
-        (Convention::Ppc64 | Convention::Aix | Convention::Ppc64b, _) => {
-            memory_form(convention, of)
-        }
+        // "in the upper half of its FPR, lower half zero"
+        (Convention::Z, _) => Form::Head,
+        // "widened bit for bit in an FPR"
+        (_, Type::Float(Float::Single)) => Form::Widened,
+        _ => Form::Head,
+    }
+}
+
+/// How an argument stands in general registers and in memory: "a single's GPR image is as in memory".
+fn word_form(convention: Convention, of: &Type, argument: &ArgumentPlan) -> Form {
+    match (convention, of) {
+        (Convention::Z, Type::Integer(_)) => memory_form(convention, of),
         (Convention::Z, _) if argument.by_reference() => Form::Address,
-        // "in the upper half of its FPR, lower half zero, and right-justified on the stack"
-        (Convention::Z, _) if in_floating => Form::Head,
-        // "other small ones are right-justified, zeros above"
+        // a float is "right-justified on the stack", "other small ones are right-justified, zeros
+        // above"
         (Convention::Z, _) => Form::Tail,
+        _ => memory_form(convention, of),
     }
 }
 
@@ -113,33 +117,47 @@ pub fn fill(
     for (of, argument) in signature.arguments.iter().zip(&plan.arguments) {
         let (value, others) = rest.split_at(of.size(convention));
         rest = others;
-        let length = length(convention, argument);
-        let content = match form(convention, of, argument) {
-            Form::Head => [value, &vec![0; length - value.len()]].concat(),
-            Form::Tail => extended(value, 0, length),
-            Form::SignedTail => {
-                let sign = if value[0] >= 0x80 { 0xff } else { 0 };
-                extended(value, sign, length)
+        if let Some(start) = argument.copy {
+            copies[start..start + value.len()].copy_from_slice(value);
+        }
+        let address = argument.copy.map(|start| copy_base + start as u64);
+        for (places, form) in [
+            (floating(argument), floating_form(convention, of)),
+            (words(argument), word_form(convention, of, argument)),
+        ] {
+            let content = content(form, value, address, length(convention, &places));
+            let mut rest = &content[..];
+            for place in places {
+                let (own, others) = rest.split_at(width(convention, place));
+                rest = others;
+                put(convention, place, own, image, area);
             }
-            Form::Widened => {
-                let single = u32::from_be_bytes(value.try_into().expect("a single has 4 bytes"));
-                widen(single).to_be_bytes().to_vec()
-            }
-            Form::Address => {
-                let start = argument.copy.expect("an argument by reference has a copy");
-                copies[start..start + value.len()].copy_from_slice(value);
-                let address = copy_base + start as u64;
-                address.to_be_bytes().to_vec()
-            }
-        };
-        let mut rest = &content[..];
-        for &place in &argument.places {
-            let (own, others) = rest.split_at(width(convention, place));
-            rest = others;
-            put(convention, place, own, image, area);
         }
     }
     Ok(())
+}
+
+/// What stands in places of so many bytes, of a value in this form; nothing in none.
+fn content(form: Form, value: &[u8], address: Option<u64>, length: usize) -> Vec<u8> {
+    if length == 0 {
+        return Vec::new();
+    }
+    match form {
+        Form::Head => [value, &vec![0; length - value.len()]].concat(),
+        Form::Tail => extended(value, 0, length),
+        Form::SignedTail => {
+            let sign = if value[0] >= 0x80 { 0xff } else { 0 };
+            extended(value, sign, length)
+        }
+        Form::Widened => {
+            let single = u32::from_be_bytes(value.try_into().expect("a single has 4 bytes"));
+            widen(single).to_be_bytes().to_vec()
+        }
+        Form::Address => {
+            let address = address.expect("an argument by reference has a copy");
+            address.to_be_bytes().to_vec()
+        }
+    }
 }
 
 /// Refusal 12: "last copy ends at C, C above 0, and copy buffer under C, base not a multiple of 8,
@@ -169,30 +187,72 @@ pub fn read(
     require(values.len() == plan.values, VALUES_SIZE)?;
     require(area.len() >= plan.area, AREA_TOO_SHORT)?;
 
-    let convention = signature.convention;
+    let caller = Caller {
+        convention: signature.convention,
+        image,
+        area,
+        copies,
+        copy_base,
+    };
     let mut found = Vec::with_capacity(values.len());
     for (of, argument) in signature.arguments.iter().zip(&plan.arguments) {
-        let size = of.size(convention);
-        let mut content = Vec::new();
-        for &place in &argument.places {
-            content.extend_from_slice(slot(convention, place, image, area));
-        }
-        match form(convention, of, argument) {
-            Form::Head => found.extend_from_slice(&content[..size]),
-            Form::Tail | Form::SignedTail => {
-                found.extend_from_slice(&content[content.len() - size..]);
-            }
-            Form::Widened => found.extend_from_slice(&narrowed(&content)?),
-            Form::Address => {
-                let copy = pointed_at(number(&content), size, copies.len(), copy_base);
-                found.extend_from_slice(
-                    &copies[copy.ok_or(Refusal::without_place(OUTSIDE_COPIES))?],
-                );
-            }
-        }
+        found.extend(caller.value(of, argument)?);
     }
     values.copy_from_slice(&found);
     Ok(())
+}
+
+/// What a caller has left: registers, memory and copies.
+pub(crate) struct Caller<'a> {
+    pub convention: Convention,
+    pub image: &'a [u8],
+    pub area: &'a [u8],
+    pub copies: &'a [u8],
+    pub copy_base: u64,
+}
+
+impl Caller<'_> {
+    /// An argument's value. "It prefers an FPR to memory."
+    pub fn value(&self, of: &Type, argument: &ArgumentPlan) -> Result<Vec<u8>, Refusal> {
+        let words = words(argument);
+        let word_form = word_form(self.convention, of, argument);
+        let floating = floating(argument);
+        if floating.is_empty() {
+            return self.found(of, &words, word_form);
+        }
+        let value = self.found(of, &floating, floating_form(self.convention, of))?;
+        // "when the GPRs of a float argument hold other value bytes than its FPR": the registers come
+        // before memory, which is not looked at, nor is a single's padding before it
+        let padding = length(self.convention, &words).saturating_sub(value.len());
+        let in_general = |place: &&Place| matches!(place, Place::General(_));
+        let general = words.iter().filter(in_general);
+        let held = general.flat_map(|&place| slot(self.convention, place, self.image, self.area));
+        let same = held
+            .skip(padding)
+            .zip(&value)
+            .all(|(one, other)| one == other);
+        require(same, FLOATS_DIFFER)?;
+        Ok(value)
+    }
+
+    /// The value that stands in these places in this form.
+    fn found(&self, of: &Type, places: &[Place], form: Form) -> Result<Vec<u8>, Refusal> {
+        let size = of.size(self.convention);
+        let mut content = Vec::new();
+        for &place in places {
+            content.extend_from_slice(slot(self.convention, place, self.image, self.area));
+        }
+        Ok(match form {
+            Form::Head => content[..size].to_vec(),
+            Form::Tail | Form::SignedTail => content[content.len() - size..].to_vec(),
+            Form::Widened => narrowed(&content)?.to_vec(),
+            Form::Address => {
+                let length = self.copies.len();
+                let copy = pointed_at(number(&content), size, length, self.copy_base);
+                self.copies[copy.ok_or(Refusal::without_place(OUTSIDE_COPIES))?].to_vec()
+            }
+        })
+    }
 }
 
 /// The part of the copy buffer that an address and a size name, where it lies wholly inside.
@@ -215,7 +275,12 @@ pub fn home(signature: &[u8], image: &[u8], area: &mut [u8]) -> Result<(), Refus
     let mut homed = area.to_vec();
     for (of, argument) in signature.arguments.iter().zip(&plan.arguments) {
         let mut at = powerpc_offset(argument);
-        for &place in &argument.places {
+        // with an ellipsis "home uses the FPR"
+        let places = match floating(argument) {
+            registers if registers.is_empty() => words(argument),
+            registers => registers,
+        };
+        for place in places {
             let content = slot(convention, place, image, area);
             let home = match place {
                 Place::General(_) => content.to_vec(),
@@ -267,10 +332,38 @@ fn width(convention: Convention, place: Place) -> usize {
     }
 }
 
-/// The bytes that all places of an argument hold.
-fn length(convention: Convention, argument: &ArgumentPlan) -> usize {
-    let places = argument.places.iter();
+/// The bytes that these places of an argument hold.
+fn length(convention: Convention, places: &[Place]) -> usize {
+    let places = places.iter();
     places.map(|&place| width(convention, place)).sum()
+}
+
+/// An argument's floating registers.
+fn floating(argument: &ArgumentPlan) -> Vec<Place> {
+    let places = argument.places.iter().copied();
+    places
+        .filter(|place| matches!(place, Place::Floating(_)))
+        .collect()
+}
+
+/// The general registers and the memory of an argument, in this order.
+fn words(argument: &ArgumentPlan) -> Vec<Place> {
+    let places = argument.places.iter().copied();
+    places
+        .filter(|place| !matches!(place, Place::Floating(_)))
+        .collect()
+}
+
+/// Where the last of an argument's memory ends in the area; 0 where none of it is there.
+pub(crate) fn memory_end(convention: Convention, argument: &ArgumentPlan) -> usize {
+    let ends = argument
+        .places
+        .iter()
+        .map(|&place| match position(convention, place) {
+            Position::Image(_) => 0,
+            Position::Area(part) => part.end,
+        });
+    ends.max().unwrap_or(0)
 }
 
 /// Where the bytes of a place stand: in the image, or else in the parameter buffer.
@@ -331,7 +424,7 @@ fn narrowed(doubleword: &[u8]) -> Result<[u8; 4], Refusal> {
     Ok(single.to_be_bytes())
 }
 
-fn require(holds: bool, otherwise: u64) -> Result<(), Refusal> {
+pub(crate) fn require(holds: bool, otherwise: u64) -> Result<(), Refusal> {
     match holds {
         true => Ok(()),
         false => Err(Refusal::without_place(otherwise)),
@@ -360,6 +453,7 @@ mod tests {
     const PPC64: &str = "01";
     const Z: &str = "02";
     const AIX: &str = "03";
+    const PPC64B: &str = "04";
 
     /// The bytes that hexadecimal text says; spaces count for nothing.
     fn hex(text: &str) -> Vec<u8> {
@@ -377,6 +471,13 @@ mod tests {
             bytes.extend((body.len() as u16).to_be_bytes());
             bytes.extend(body);
         }
+        bytes
+    }
+
+    /// The same with an ellipsis and no result.
+    fn variable(convention: &str, arguments: &[&str]) -> Vec<u8> {
+        let mut bytes = signature(convention, "", arguments);
+        bytes.splice(7..7, [4, 0, 0]);
         bytes
     }
 
@@ -993,5 +1094,167 @@ mod tests {
         let before = area.clone();
         assert_eq!(home(&of, &call.image, &mut area), refused(14));
         assert_eq!(area, before);
+    }
+
+    #[test]
+    fn with_an_ellipsis_a_float_stands_in_its_register_and_in_its_word() {
+        let arguments = [&[SINGLE, DOUBLE][..], &[I8; 6], &[SINGLE, DOUBLE]].concat();
+        let values = "7f800001 1112131415161718 01 02 03 04 05 06 00000001 2122232425262728";
+        let of = variable(PPC64, &arguments);
+        fills(&of, values, &mut buffers(80, 0, 0), 0, |state| {
+            state.set_floating(1, "7ff0000020000000");
+            state.set_general(3, "00000000 7f800001");
+            state.set_floating(2, "1112131415161718");
+            state.set_general(4, "1112131415161718");
+            for register in 5..=10 {
+                state.set_general(register, &format!("00000000000000{:02x}", register - 4));
+            }
+            state.set_floating(3, "36a0000000000000");
+            state.set_floating(4, "2122232425262728");
+            state.area[64..].copy_from_slice(&hex("00000000 00000001 2122232425262728"));
+        });
+        let of = variable(AIX, &arguments[..9]);
+        let values = "7f800001 1112131415161718 01 02 03 04 05 06 00000001";
+        fills(&of, values, &mut buffers(40, 0, 0), 0, |state| {
+            state.set_floating(1, "7ff0000020000000");
+            state.set_general(3, "00000000 7f800001");
+            state.set_floating(2, "1112131415161718");
+            state.set_general(4, "00000000 11121314");
+            state.set_general(5, "00000000 15161718");
+            for register in 6..=10 {
+                state.set_general(register, &format!("00000000000000{:02x}", register - 5));
+            }
+            state.set_floating(3, "36a0000000000000");
+            state.area[32..].copy_from_slice(&hex("00000006 00000001"));
+        });
+        // halves of a double in r10 and in memory
+        let of = variable(AIX, &[&[I8; 7][..], &[DOUBLE]].concat());
+        let values = "01 02 03 04 05 06 07 1112131415161718";
+        fills(&of, values, &mut buffers(36, 0, 0), 0, |state| {
+            for register in 3..=9 {
+                state.set_general(register, &format!("00000000000000{:02x}", register - 2));
+            }
+            state.set_floating(1, "1112131415161718");
+            state.set_general(10, "00000000 11121314");
+            state.area[32..].copy_from_slice(&hex("15161718"));
+        });
+        // and of a long double
+        let of = variable(PPC64B, &[&[I8; 7][..], &[LONG_DOUBLE]].concat());
+        let values = "01 02 03 04 05 06 07 1112131415161718 2122232425262728";
+        fills(&of, values, &mut buffers(72, 0, 0), 0, |state| {
+            for register in 3..=9 {
+                state.set_general(register, &format!("00000000000000{:02x}", register - 2));
+            }
+            state.set_floating(1, "1112131415161718");
+            state.set_floating(2, "2122232425262728");
+            state.set_general(10, "1112131415161718");
+            state.area[64..].copy_from_slice(&hex("2122232425262728"));
+        });
+    }
+
+    /// Every byte that is changed gives this answer, or the values that were filled.
+    fn changed(of: &[u8], values: &str, filled: &Buffers, at: usize, answer: Option<u64>) {
+        let values = hex(values);
+        let mut changed = filled.clone();
+        match at {
+            0..=511 => changed.image[at] ^= 0x40,
+            _ => changed.area[at - 512] ^= 0x40,
+        }
+        let mut read = vec![OLD; values.len()];
+        let given = changed.read(of, &mut read);
+        match answer {
+            Some(number) => assert_eq!((given, read), (refused(number), vec![OLD; values.len()])),
+            None => assert_eq!((given, read), (Ok(()), values), "byte {at}"),
+        }
+    }
+
+    #[test]
+    fn refusal_26_is_other_value_bytes_in_general_registers() {
+        // a single: the last four bytes of its register; in memory none
+        let of = variable(PPC64, &[SINGLE; 9]);
+        let values = "3f800000".repeat(9);
+        let mut filled = buffers(72, 0, 0);
+        filled.fill(&of, &hex(&values), 0).unwrap();
+        for register in 3..=10 {
+            for byte in 0..8 {
+                let answer = (byte >= 4).then_some(26);
+                changed(&of, &values, &filled, 8 * register + byte, answer);
+            }
+        }
+        for at in 0..72 {
+            changed(&of, &values, &filled, 512 + at, None);
+        }
+        // AIX: a single's word, and of a double that straddles r10's word
+        let of = variable(AIX, &[SINGLE, DOUBLE, DOUBLE, DOUBLE, DOUBLE]);
+        let values = format!("3f800000 {}", "1122334455667788".repeat(4));
+        let mut filled = buffers(36, 0, 0);
+        filled.fill(&of, &hex(&values), 0).unwrap();
+        for register in 3..=10 {
+            for byte in 0..8 {
+                let answer = (byte >= 4).then_some(26);
+                changed(&of, &values, &filled, 8 * register + byte, answer);
+            }
+        }
+        for at in 0..36 {
+            changed(&of, &values, &filled, 512 + at, None);
+        }
+        // a long double of the later edition, which straddles; r3 to r9 hold a struct's own bytes
+        let seven = format!("12 001c {}", I64.repeat(7));
+        let of = variable(PPC64B, &[&seven, LONG_DOUBLE]);
+        let values = "11".repeat(72);
+        let mut filled = buffers(72, 0, 0);
+        filled.fill(&of, &hex(&values), 0).unwrap();
+        for byte in 0..8 {
+            changed(&of, &values, &filled, 80 + byte, Some(26));
+            changed(&of, &values, &filled, 512 + 64 + byte, None);
+        }
+        // without an ellipsis and on Z nothing is compared
+        let mut call = buffers(64, 0, 0);
+        call.image.fill(0);
+        let of = signature(PPC64, "", &[DOUBLE]);
+        call.set_floating(1, "1122334455667788");
+        assert_eq!(call.values(&of, 8), hex("1122334455667788"));
+        let of = variable(Z, &[DOUBLE]);
+        call.set_floating(0, "1122334455667788");
+        assert_eq!(call.values(&of, 8), hex("1122334455667788"));
+    }
+
+    #[test]
+    fn at_one_argument_14_comes_before_26_and_an_earlier_argument_before_both() {
+        let of = variable(PPC64, &[SINGLE, SINGLE]);
+        let mut call = buffers(64, 0, 0);
+        call.fill(&of, &hex("3f800000 3f800000"), 0).unwrap();
+        call.set_general(4, "00000000 3f800001");
+        assert_eq!(call.read(&of, &mut [0; 8]), refused(26));
+        call.set_floating(2, "3ff0000010000000");
+        assert_eq!(call.read(&of, &mut [0; 8]), refused(14));
+        call.set_general(3, "00000000 3f800001");
+        assert_eq!(call.read(&of, &mut [0; 8]), refused(26));
+        call.set_floating(1, "3ff0000010000000");
+        call.set_floating(2, "3ff0000000000000");
+        assert_eq!(call.read(&of, &mut [0; 8]), refused(14));
+        // the lengths come before both
+        assert_eq!(call.read(&of, &mut [0; 7]), refused(10));
+        call.area.pop();
+        assert_eq!(call.read(&of, &mut [0; 8]), refused(11));
+    }
+
+    #[test]
+    fn with_an_ellipsis_home_uses_the_floating_register() {
+        let of = variable(AIX, &[SINGLE, DOUBLE, DOUBLE, DOUBLE, DOUBLE, SINGLE, I8]);
+        let mut call = buffers(44, 0, 0);
+        for register in 1..=5 {
+            call.set_floating(register, "1122334455667788");
+        }
+        call.set_floating(1, "7ff0000020000000");
+        call.set_floating(6, "3ff0000000000000");
+        let mut area = call.area.clone();
+        assert_eq!(home(&of, &call.image, &mut area), Ok(()));
+        let doubles = "1122334455667788".repeat(4);
+        assert_eq!(area, hex(&format!("7f800001 {doubles} 3f800000 aaaaaaaa")));
+        assert_eq!(view(&area, &of, 4), Ok(28..36));
+        // 14 remains, 26 never comes
+        call.set_floating(6, "3ff0000010000000");
+        assert_eq!(home(&of, &call.image, &mut area), refused(14));
     }
 }

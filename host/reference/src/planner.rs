@@ -1,13 +1,14 @@
 //! The planner: where each argument of a call stands, and how large the buffers around the call
 //! are (document 01, "Places on PPC64" and "Places on Z"; 000, 3.2.3; 001, "Parameter passing";
-//! document 02, No. 1, and 003 for AIX; No. 12 for the later edition).
+//! document 02, No. 1, and 003 for AIX; No. 12 for the later edition; No. 5, and 000 under its
+//! figure, for variable argument lists).
 
 use crate::table::items;
 use crate::types::round_up;
 use crate::{read, Convention, Float, Integer, Refusal, Signature, Type};
 
 /// 02, No. 12: "when only f13 is left the editions we hold aren't clear".
-const UNCLEAR: u64 = 29;
+pub(crate) const UNCLEAR: u64 = 29;
 
 /// Where a doubleword stands, or on AIX a word. A floating register holds all of a double.
 #[derive(Clone, Copy, Debug, PartialEq, Eq)]
@@ -24,8 +25,9 @@ pub enum Place {
 /// Where an argument stands.
 #[derive(Clone, Debug, PartialEq, Eq)]
 pub struct ArgumentPlan {
-    /// The places of its doublewords, on AIX of its words, in order. On Z there is always one, which
-    /// holds the address of an argument that is passed by reference.
+    /// Floating registers, then the places of its doublewords, on AIX of its words, in order. Both are
+    /// there only with an ellipsis, and then each holds all of it. On Z there is always one place,
+    /// which holds the address of an argument that is passed by reference.
     pub places: Vec<Place>,
     /// PPC64 and AIX: the offset in the parameter save area of its first doubleword or word, which
     /// may be in a register nonetheless. Z: its offset on the stack, if it stands there.
@@ -48,6 +50,7 @@ pub enum ResultPlan {
 #[derive(Clone, Debug, PartialEq, Eq)]
 pub struct Plan {
     pub convention: Convention,
+    pub ellipsis: bool,
     pub arguments: Vec<ArgumentPlan>,
     pub result: ResultPlan,
     /// The bytes of the parameter area.
@@ -81,17 +84,20 @@ pub fn call(bytes: &[u8]) -> Result<(Signature, Plan), Refusal> {
 
 /// The first long double for which only f13 is left, by the later edition.
 pub fn first_unclear(signature: &Signature) -> Option<usize> {
-    let mut left = 13;
+    let convention = signature.convention;
+    let mut cursor = PowerCursor::default();
     for (number, argument) in signature.arguments.iter().enumerate() {
-        let wanted = fprs(signature.convention, argument);
-        if 0 < left && left < wanted {
+        if is_unclear(convention, argument, cursor.floats) {
             return Some(number);
         }
-        if wanted <= left {
-            left -= wanted;
-        }
+        powerpc_argument(convention, signature.ellipsis, argument, &mut cursor);
     }
     None
+}
+
+/// Whether only f13 is left for a long double, after so many floating registers.
+pub(crate) fn is_unclear(convention: Convention, of: &Type, floats: usize) -> bool {
+    floats == 12 && fprs(convention, of) == 2
 }
 
 /// Where everything of a call stands that is not refused.
@@ -127,40 +133,72 @@ fn plan_powerpc(signature: &Signature) -> Plan {
     let result = powerpc_result(convention, signature.result.as_ref());
     // "The doubleword count w starts at 0, or at 1 when the result is a struct"; on AIX "a struct
     // result is passed by a hidden first word".
-    let mut words = match result {
-        ResultPlan::Hidden(_) => 1,
-        _ => 0,
+    let mut cursor = PowerCursor {
+        words: match result {
+            ResultPlan::Hidden(_) => 1,
+            _ => 0,
+        },
+        floats: 0,
     };
-    let mut floats = 0;
-    let mut arguments = Vec::new();
-    for argument in &signature.arguments {
-        let first = words;
-        words += powerpc_words(convention, argument);
-        let places = match fprs(convention, argument) {
-            0 => (first..words).map(|w| powerpc_place(word, w)).collect(),
-            // "Singles and doubles take f1 to f13 in order [..]; after f13, memory only."
-            wanted if floats + wanted <= 13 => {
-                floats += wanted;
-                let registers = floats - wanted + 1..=floats;
-                registers.map(Place::Floating).collect()
-            }
-            _ => (first..words).map(|w| Place::Memory(word * w)).collect(),
-        };
-        arguments.push(ArgumentPlan {
-            places,
-            offset: Some(word * first),
-            copy: None,
-        });
-    }
+    let place = |of| powerpc_argument(convention, signature.ellipsis, of, &mut cursor);
+    let arguments = signature.arguments.iter().map(place).collect();
     Plan {
         convention,
+        ellipsis: signature.ellipsis,
         arguments,
         result,
         // "The area is 8 times the larger of 8 and the final w"; on AIX "4 times the larger of 8
         // and w".
-        area: word * words.max(8),
+        area: word * cursor.words.max(8),
         values: values(signature),
         copies: 0,
+    }
+}
+
+/// What a list of arguments has used so far on PowerPC.
+#[derive(Clone, Copy, Default)]
+pub(crate) struct PowerCursor {
+    /// "The doubleword count w", on AIX of words.
+    pub words: usize,
+    /// The floating registers.
+    pub floats: usize,
+}
+
+/// Where the next argument stands; the cursor moves on.
+pub(crate) fn powerpc_argument(
+    convention: Convention,
+    ellipsis: bool,
+    argument: &Type,
+    cursor: &mut PowerCursor,
+) -> ArgumentPlan {
+    let word = convention.word();
+    let first = cursor.words;
+    cursor.words += powerpc_words(convention, argument);
+    let words = first..cursor.words;
+    let in_list = words.clone().map(|w| powerpc_place(word, w));
+    let wanted = fprs(convention, argument);
+    let places = if wanted == 0 {
+        in_list.collect()
+    } else if cursor.floats + wanted <= 13 {
+        // "Singles and doubles take f1 to f13 in order, skip their GPR, and aren't stored in memory."
+        cursor.floats += wanted;
+        let registers = cursor.floats - wanted + 1..=cursor.floats;
+        let floating = registers.map(Place::Floating);
+        match ellipsis {
+            false => floating.collect(),
+            // "in its FPR, and as well in its GPR while w < 8 and in memory from w 8 on"
+            true => floating.chain(in_list).collect(),
+        }
+    } else if ellipsis {
+        in_list.collect()
+    } else {
+        // "After f13, memory only."
+        words.map(|w| Place::Memory(word * w)).collect()
+    };
+    ArgumentPlan {
+        places,
+        offset: Some(word * first),
+        copy: None,
     }
 }
 
@@ -204,19 +242,19 @@ fn powerpc_result(convention: Convention, of: Option<&Type>) -> ResultPlan {
 }
 
 /// What is next, in the words of 001's algorithm.
-struct ZCursor {
+pub(crate) struct ZCursor {
     /// The number of the next general register.
-    gr: usize,
+    pub gr: usize,
     /// The number of the next floating register.
-    fr: usize,
+    pub fr: usize,
     /// The offset of the next stack argument.
-    stack: usize,
+    pub stack: usize,
     /// The end of the last copy.
-    copies: usize,
+    pub copies: usize,
 }
 
 /// Where the stack arguments start.
-const Z_STACK: usize = 160;
+pub(crate) const Z_STACK: usize = 160;
 
 fn plan_z(signature: &Signature) -> Plan {
     let result = z_result(signature.result.as_ref());
@@ -234,6 +272,8 @@ fn plan_z(signature: &Signature) -> Plan {
     let arguments = signature.arguments.iter().map(place).collect();
     Plan {
         convention: Convention::Z,
+        // "Z's places stay"
+        ellipsis: signature.ellipsis,
         arguments,
         result,
         // "The area is the stack bytes used, possibly 0."
@@ -243,7 +283,8 @@ fn plan_z(signature: &Signature) -> Plan {
     }
 }
 
-fn z_argument(argument: &Type, cursor: &mut ZCursor) -> ArgumentPlan {
+/// Where the next argument stands; the cursor moves on.
+pub(crate) fn z_argument(argument: &Type, cursor: &mut ZCursor) -> ArgumentPlan {
     let mut copy = None;
     if z_by_reference(argument) {
         // "at the next multiple of 8 in the copy buffer"
@@ -334,6 +375,16 @@ mod tests {
         plan(&Signature {
             convention,
             result,
+            ellipsis: false,
+            arguments: arguments.to_vec(),
+        })
+    }
+
+    fn variable(convention: Convention, arguments: &[Type]) -> Plan {
+        plan(&Signature {
+            convention,
+            result: None,
+            ellipsis: true,
             arguments: arguments.to_vec(),
         })
     }
@@ -707,6 +758,7 @@ mod tests {
         let signature = |floats: usize| Signature {
             convention: Convention::Ppc64b,
             result: None,
+            ellipsis: false,
             arguments: [&vec![DOUBLE; floats][..], &[LONG_DOUBLE, DOUBLE]].concat(),
         };
         assert_eq!(first_unclear(&signature(11)), None);
@@ -720,5 +772,110 @@ mod tests {
             ..signature(12)
         };
         assert_eq!(first_unclear(&earlier), None);
+    }
+
+    /// "In addition to the above, ff is passed in r4 and gg is passed in r10. The floating point
+    /// argument hh is passed in two places: the value is stored both in f3 and on the stack."
+    #[test]
+    fn figure_3_18_with_an_ellipsis() {
+        let sparm = || structure(&[I32, DOUBLE]);
+        let arguments = [
+            I32,
+            DOUBLE,
+            I32,
+            LONG_DOUBLE,
+            sparm(),
+            DOUBLE,
+            sparm(),
+            I32,
+            DOUBLE,
+        ];
+        let plan = variable(Convention::Ppc64, &arguments);
+        let without = ppc64(&arguments);
+        for (number, argument) in plan.arguments.iter().enumerate() {
+            let expected = match number {
+                1 => vec![Floating(1), General(4)],
+                5 => vec![Floating(2), General(10)],
+                8 => vec![Floating(3), Memory(88)],
+                _ => without.arguments[number].places.clone(),
+            };
+            assert_eq!(argument.places, expected);
+            assert_eq!(argument.offset, without.arguments[number].offset);
+        }
+        assert_eq!((plan.area, plan.values), (without.area, without.values));
+        // "with an ellipsis each doubleword also goes in its GPR while its own w is below 8"
+        let later = variable(Convention::Ppc64b, &arguments);
+        let expected = [Floating(2), Floating(3), General(6), General(7)];
+        assert_eq!(later.arguments[3].places, expected);
+        assert_eq!(later.arguments[5].places, [Floating(4), General(10)]);
+        assert_eq!(later.arguments[8].places, [Floating(5), Memory(88)]);
+    }
+
+    #[test]
+    fn with_an_ellipsis_a_float_is_in_its_word_too() {
+        // from w 8 on in memory, after f13 there alone
+        for convention in [Convention::Ppc64, Convention::Ppc64b, Convention::Aix] {
+            let plan = variable(convention, &[SINGLE; 15]);
+            let word = convention.word();
+            for (w, argument) in plan.arguments.iter().enumerate() {
+                let expected = match w {
+                    0..=7 => vec![Floating(w + 1), General(w + 3)],
+                    8..=12 => vec![Floating(w + 1), Memory(word * w)],
+                    _ => vec![Memory(word * w)],
+                };
+                assert_eq!(argument.places, expected);
+            }
+        }
+        // a double of AIX has two words, which may straddle
+        let plan = variable(
+            Convention::Aix,
+            &[I8, DOUBLE, DOUBLE, DOUBLE, DOUBLE, DOUBLE],
+        );
+        let doubles: [&[Place]; 5] = [
+            &[Floating(1), General(4), General(5)],
+            &[Floating(2), General(6), General(7)],
+            &[Floating(3), General(8), General(9)],
+            &[Floating(4), General(10), Memory(32)],
+            &[Floating(5), Memory(36), Memory(40)],
+        ];
+        assert_eq!(places(&plan)[1..], doubles);
+        // a long double of the later edition too
+        let arguments = [structure(&[I64; 7]), LONG_DOUBLE];
+        let plan = variable(Convention::Ppc64b, &arguments);
+        let straddling = [Floating(1), Floating(2), General(10), Memory(64)];
+        assert_eq!(plan.arguments[1].places, straddling);
+        // the earlier edition has it in words alone
+        let plan = variable(Convention::Ppc64, &arguments);
+        assert_eq!(plan.arguments[1].places, [General(10), Memory(64)]);
+    }
+
+    #[test]
+    fn an_ellipsis_changes_nothing_on_z_nor_of_results() {
+        let arguments = [
+            DOUBLE,
+            SINGLE,
+            I8,
+            LONG_DOUBLE,
+            DOUBLE,
+            structure(&[SINGLE]),
+            DOUBLE,
+        ];
+        let plan = variable(Convention::Z, &arguments);
+        assert_eq!(plan.arguments, z(&arguments).arguments);
+        for result in [I32, DOUBLE, LONG_DOUBLE, structure(&[DOUBLE])] {
+            for convention in [Convention::Ppc64, Convention::Z, Convention::Ppc64b] {
+                let signature = Signature {
+                    convention,
+                    result: Some(result.clone()),
+                    ellipsis: true,
+                    arguments: vec![I8],
+                };
+                let without = plan_of(convention, signature.result.clone(), &[I8]);
+                let with = super::plan(&signature);
+                assert!(with.ellipsis && !without.ellipsis);
+                assert_eq!(with.result, without.result);
+                assert_eq!(with.arguments, without.arguments);
+            }
+        }
     }
 }

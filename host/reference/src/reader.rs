@@ -1,6 +1,7 @@
 //! The reader of signatures: document 01, "A signature's bytes" and refusals 1 to 9 of "When the
-//! bridge says no", with the counts of document 02's No. 10, the limits of its No. 6 and AIX of its
-//! No. 1, refusal 25 with it. Offsets count from the signature's first byte.
+//! bridge says no", with the counts of document 02's No. 10, the limits of its No. 6, AIX of its
+//! No. 1, refusal 25 with it, and the ellipsis of its No. 5. Offsets count from the signature's first
+//! byte.
 
 use crate::{Convention, Float, Integer, Refusal, Signature, Type};
 
@@ -12,6 +13,7 @@ const LARGEST_STRUCT: usize = 256;
 const CONVENTION: u8 = 0x01;
 const RESULT: u8 = 0x02;
 const ARGUMENTS: u8 = 0x03;
+const ELLIPSIS: u8 = 0x04;
 const INTEGER: u8 = 0x10;
 const FLOAT: u8 = 0x11;
 const STRUCT: u8 = 0x12;
@@ -49,12 +51,22 @@ pub fn read(bytes: &[u8]) -> Result<Signature, Refusal> {
     reader.signature()
 }
 
+/// Reads the bytes of one type item, "read as an argument's, with 1's limit; bytes after it give 4
+/// there". Offsets count from the item's first byte.
+pub fn read_type(convention: Convention, bytes: &[u8]) -> Result<Type, Refusal> {
+    let mut reader = Reader { bytes, passed: 0 };
+    if bytes.len() > LONGEST_SIGNATURE {
+        return reader.refuse(1, 0);
+    }
+    reader.only_type(convention, 0, bytes.len())
+}
+
 impl Around {
-    /// Around the type of a result or of an argument.
-    fn top(convention: Convention, item: &Item) -> Around {
+    /// Around the type of a result or of an argument, in a body that ends there.
+    fn top(convention: Convention, end: usize) -> Around {
         Around {
             convention,
-            end: item.end,
+            end,
             depth: 1,
         }
     }
@@ -73,14 +85,24 @@ impl Reader<'_> {
         };
         let second = self.item(first.end, end, &[RESULT])?;
         let result = self.result(convention, &second)?;
-        let third = self.item(second.end, end, &[ARGUMENTS])?;
-        let arguments = self.arguments(convention, &third)?;
-        if third.end < end {
-            return self.refuse(9, third.end);
+        let mut last = self.item(second.end, end, &[ARGUMENTS, ELLIPSIS])?;
+        let ellipsis = last.tag == ELLIPSIS;
+        if ellipsis {
+            // "with a body it gives 4 at its header, a second one 3"
+            if last.body < last.end {
+                return self.refuse_item(4, &last);
+            }
+            last = self.item(last.end, end, &[ARGUMENTS])?;
+        }
+        let arguments = self.arguments(convention, &last)?;
+        // "9 now means bytes after tag 0x03's item"
+        if last.end < end {
+            return self.refuse(9, last.end);
         }
         Ok(Signature {
             convention,
             result,
+            ellipsis,
             arguments,
         })
     }
@@ -90,17 +112,26 @@ impl Reader<'_> {
         if item.body == item.end {
             return Ok(None);
         }
-        let around = Around::top(convention, item);
-        let (result, after) = self.type_item(item.body, around)?;
-        if after < item.end {
+        self.only_type(convention, item.body, item.end).map(Some)
+    }
+
+    /// One type item from `place` to `end`, and nothing after it.
+    fn only_type(
+        &mut self,
+        convention: Convention,
+        place: usize,
+        end: usize,
+    ) -> Result<Type, Refusal> {
+        let (read, after) = self.type_item(place, Around::top(convention, end))?;
+        if after < end {
             return self.refuse(4, after);
         }
-        Ok(Some(result))
+        Ok(read)
     }
 
     /// "0 to 64 type items", raised "to 128"
     fn arguments(&mut self, convention: Convention, item: &Item) -> Result<Vec<Type>, Refusal> {
-        let around = Around::top(convention, item);
+        let around = Around::top(convention, item.end);
         let mut arguments = Vec::new();
         let mut place = item.body;
         while place < item.end {
@@ -303,6 +334,7 @@ mod tests {
             Signature {
                 convention: Convention::Ppc64,
                 result: None,
+                ellipsis: false,
                 arguments: vec![Type::Integer(Integer::I32), Type::Float(Float::Double)],
             }
         );
@@ -455,9 +487,79 @@ mod tests {
     }
 
     #[test]
-    fn refusal_9_is_a_byte_after_the_third_item() {
+    fn refusal_9_is_a_byte_after_the_arguments() {
         refused(&hex("01 0001 01 02 0000 03 0000 00"), 9, 10, 3);
         refused(&hex("01 0001 01 02 0000 03 0000 03 0000"), 9, 10, 3);
+        refused(&hex("01 0001 01 02 0000 04 0000 03 0000 00"), 9, 13, 4);
+        // an ellipsis there is no ellipsis
+        refused(&hex("01 0001 01 02 0000 03 0000 04 0000"), 9, 10, 3);
+    }
+
+    #[test]
+    fn an_ellipsis_stands_between_result_and_arguments() {
+        for convention in Convention::ALL {
+            let bytes = [
+                item(CONVENTION, &[convention.code()]),
+                item(RESULT, &I8_ITEM),
+                item(ELLIPSIS, &[]),
+                item(ARGUMENTS, &DOUBLE_ITEM),
+            ];
+            let read = read(&bytes.concat()).unwrap();
+            assert_eq!((read.ellipsis, read.items()), (true, 6));
+            assert_eq!(read.arguments, [Type::Float(Float::Double)]);
+        }
+        // with a body it is refused, and its own header is not counted
+        refused(&hex("01 0001 01 02 0000 04 0001 00 03 0000"), 4, 7, 2);
+        refused(&hex("01 0001 01 02 0000 04 0003 03 0000"), 4, 7, 2);
+        // room for its header and its length come first
+        refused(&hex("01 0001 01 02 0000 04 00"), 2, 7, 2);
+        refused(&hex("01 0001 01 02 0000 04 0001"), 2, 7, 2);
+        // a second one, and one elsewhere
+        refused(&hex("01 0001 01 02 0000 04 0000 04 0000 03 0000"), 3, 10, 3);
+        refused(&hex("04 0000 01 0001 01 02 0000 03 0000"), 3, 0, 0);
+        refused(&hex("01 0001 01 04 0000 02 0000 03 0000"), 3, 4, 1);
+        refused(&signature(&item(ELLIPSIS, &[]), &[]), 3, RESULT_BODY, 2);
+        refused(&signature(&[], &item(ELLIPSIS, &[])), 3, ARGUMENTS_BODY, 3);
+        // nothing after it
+        refused(&hex("01 0001 01 02 0000 04 0000"), 2, 10, 3);
+        refused(&hex("01 0001 01 02 0000 04 0000 03"), 2, 10, 3);
+        refused(&hex("01 0001 01 02 0000 04 0000 02 0000"), 3, 10, 3);
+        // the places and counts behind it are one item further on
+        let faulty = "01 0001 01 02 0000 04 0000 03 0004 10 0001 09";
+        refused(&hex(faulty), 4, ARGUMENTS_BODY + 3, 4);
+    }
+
+    #[test]
+    fn one_type_by_itself() {
+        let refused = |convention, bytes: &[u8], number, place, items| {
+            let refusal = Refusal {
+                number,
+                place,
+                items,
+            };
+            assert_eq!(read_type(convention, bytes), Err(refusal));
+        };
+        let ppc64 = Convention::Ppc64;
+        let double = Type::Float(Float::Double);
+        assert_eq!(read_type(ppc64, &DOUBLE_ITEM), Ok(double.clone()));
+        let structure = Type::Struct(vec![double]);
+        assert_eq!(read_type(ppc64, &nested(1, &DOUBLE_ITEM)), Ok(structure));
+        refused(ppc64, &[], 2, 0, 0);
+        refused(ppc64, &[0x10; 2], 2, 0, 0);
+        refused(ppc64, &[0; 16_384], 3, 0, 0);
+        refused(ppc64, &[0; 16_385], 1, 0, 0);
+        refused(ppc64, &[INTEGER, 0, 2, 0], 2, 0, 0);
+        refused(ppc64, &[INTEGER, 0, 1, 9], 4, 0, 0);
+        refused(ppc64, &nested(1, &LONG_DOUBLE_ITEM), 5, 3, 1);
+        assert!(read_type(ppc64, &nested(8, &I8_ITEM)).is_ok());
+        refused(ppc64, &nested(9, &I8_ITEM), 6, 24, 8);
+        refused(ppc64, &item(STRUCT, &DOUBLE_ITEM.repeat(33)), 8, 0, 33);
+        refused(Convention::Aix, &LONG_DOUBLE_ITEM, 25, 0, 0);
+        refused(Convention::Aix, &nested(2, &DOUBLE_ITEM), 25, 6, 2);
+        // "bytes after it give 4 there", and are no item
+        refused(ppc64, &[I8_ITEM, I8_ITEM].concat(), 4, 4, 1);
+        refused(ppc64, &[INTEGER, 0, 1, 0, 0xff], 4, 4, 1);
+        refused(ppc64, &[INTEGER, 0, 1, 9, 0xff], 4, 0, 0);
     }
 
     #[test]

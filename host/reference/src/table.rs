@@ -36,7 +36,7 @@ pub fn table(bytes: &[u8]) -> Result<Table, Refusal> {
     let count = entries.len();
     let head = [
         code,
-        0,
+        usize::from(plan.ellipsis),
         count,
         plan.values,
         plan.area,
@@ -53,13 +53,17 @@ pub fn table(bytes: &[u8]) -> Result<Table, Refusal> {
     })
 }
 
-/// Where the arguments' items stand in an accepted signature: in the third item, one after the other.
+/// Where the arguments' items stand in an accepted signature: in its last item, one after the other.
 pub fn items(bytes: &[u8]) -> Vec<usize> {
     let end = |at: usize| at + 3 + usize::from(u16::from_be_bytes([bytes[at + 1], bytes[at + 2]]));
-    let third = end(end(0));
+    let mut last = end(end(0));
+    if end(last) < bytes.len() {
+        // an ellipsis
+        last = end(last);
+    }
     let mut items = Vec::new();
-    let mut at = third + 3;
-    while at < end(third) {
+    let mut at = last + 3;
+    while at < end(last) {
         items.push(at);
         at = end(at);
     }
@@ -156,5 +160,23 @@ mod tests {
         ];
         assert_eq!(table.entries, expected);
         assert_eq!(super::table(&bytes[..60]).unwrap_err().number, 2);
+    }
+
+    /// AIX, result struct of i8, an ellipsis; arguments i64, double, i64, double, single.
+    #[test]
+    fn with_an_ellipsis() {
+        let mut bytes = vec![1, 0, 1, 3, 2, 0, 7, 0x12, 0, 4, 0x10, 0, 1, 0];
+        bytes.extend([4, 0, 0, 3, 0, 20, 0x10, 0, 1, 6, 0x11, 0, 1, 1]);
+        bytes.extend([0x10, 0, 1, 6, 0x11, 0, 1, 1, 0x11, 0, 1, 0]);
+        let table = table(&bytes).unwrap();
+        assert_eq!(table.head, [3, 1, 5, 36, 40, 0, 2, 3, 1, 0, 0]);
+        let expected = [
+            [20, 8, 0, 4, 2, 0, 0, 4, 8, 0, 0, 0, 0],
+            [24, 8, 8, 6, 2, 1, 1, 12, 8, 0, 0, 0, 0],
+            [28, 8, 16, 8, 2, 0, 0, 20, 8, 0, 0, 0, 0],
+            [32, 8, 24, 10, 1, 2, 1, 28, 8, 32, 4, 0, 0],
+            [36, 4, 32, 0, 0, 3, 1, 36, 4, 36, 4, 0, 0],
+        ];
+        assert_eq!(table.entries, expected);
     }
 }

@@ -81,6 +81,9 @@ pub struct Signature {
     pub convention: Convention,
     /// `None`: the function gives no result.
     pub result: Option<Type>,
+    /// 02, No. 5: "an optional tag 0x04, empty body, between result and arguments, meaning an
+    /// ellipsis".
+    pub ellipsis: bool,
     pub arguments: Vec<Type>,
 }
 
@@ -119,12 +122,12 @@ impl Type {
 }
 
 impl Signature {
-    /// The count that an accepted reading reports: the three items of the signature itself and
-    /// all items nested in them.
+    /// The count that an accepted reading reports: the three items of the signature itself, that of
+    /// an ellipsis, and all items nested in them.
     pub fn items(&self) -> usize {
         let result = self.result.as_ref().map_or(0, Type::items);
         let arguments = self.arguments.iter().map(Type::items).sum::<usize>();
-        3 + result + arguments
+        3 + result + usize::from(self.ellipsis) + arguments
     }
 }
 
@@ -245,8 +248,14 @@ mod tests {
         let signature = Signature {
             convention: Convention::Z,
             result: Some(deep.clone()),
+            ellipsis: false,
             arguments: vec![I8, deep],
         };
         assert_eq!(signature.items(), 3 + 4 + 5);
+        let variable = Signature {
+            ellipsis: true,
+            ..signature
+        };
+        assert_eq!(variable.items(), 3 + 4 + 1 + 5);
     }
 }

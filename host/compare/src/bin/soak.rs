@@ -6,7 +6,7 @@
 
 use compare::calls::Operation;
 use compare::random::Random;
-use compare::{dumps, float_bits, machine_lists, marshal, plans, signatures, Difference};
+use compare::{dumps, float_bits, machine_lists, marshal, plans, signatures, walks, Difference};
 use reference::Convention;
 use std::fmt;
 use std::io::{self, IsTerminal, Write};
@@ -23,6 +23,8 @@ const LISTS: u64 = 500;
 const STATES: u64 = 2_000;
 /// Of each convention.
 const DUMPS: u64 = 1_000;
+/// Of a walker, and a sixth as many whole walks.
+const STEPS: u64 = 2_000;
 /// How often it tells how far it is, where that is no terminal.
 const PACE: Duration = Duration::from_secs(60);
 
@@ -63,12 +65,14 @@ struct Cases {
     calls: u64,
     floats: u64,
     machine_calls: u64,
-    walks: u64,
+    dumps: u64,
+    steps: u64,
 }
 
 impl Cases {
     fn total(&self) -> u64 {
-        self.signatures + self.plans + self.calls + self.floats + self.machine_calls + self.walks
+        let values = self.calls + self.floats + self.steps;
+        self.signatures + self.plans + values + self.machine_calls + self.dumps
     }
 }
 
@@ -80,12 +84,13 @@ impl fmt::Display for Cases {
             calls,
             floats,
             machine_calls,
-            walks,
+            dumps,
+            steps,
         } = self;
         write!(
             to,
             "{signatures} signatures, {plans} plans, {calls} calls, {floats} float conversions, \
-             {machine_calls} machine calls, {walks} walks of dumps"
+             {machine_calls} machine calls, {dumps} walks of dumps, {steps} steps of walkers"
         )
     }
 }
@@ -170,6 +175,7 @@ fn round(seed: u64, done: &mut Cases) -> Result<(), Difference> {
     done.machine_calls += machine_lists::run_nonsense(seed, STATES)
         .map_err(told)?
         .calls;
-    done.walks += dumps::run(seed, DUMPS).map_err(told)?.walks;
+    done.dumps += dumps::run(seed, DUMPS).map_err(told)?.walks;
+    done.steps += walks::run(seed, STEPS).map_err(told)?.steps();
     Ok(())
 }

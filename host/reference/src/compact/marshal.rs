@@ -40,16 +40,26 @@ pub fn fill(
     for argument in &plan.arguments {
         let (value, others) = rest.split_at(usize::from(argument.size));
         rest = others;
+        if argument.floating.count > 0 {
+            let registers = &mut image[floating(argument)];
+            if widened(plan.convention, argument) {
+                let single = u32::from_be_bytes([value[0], value[1], value[2], value[3]]);
+                registers.copy_from_slice(&widen(single).to_be_bytes());
+            } else {
+                put_with_zeros(registers, value);
+            }
+            // with an ellipsis in its words too
+            if argument.general.count == 0 && argument.memory.words == 0 {
+                continue;
+            }
+        }
         let (in_image, in_area) = ranges(plan.convention, argument);
         if let Some(start) = argument.copy {
             let start = usize::from(start);
             copies[start..start + value.len()].copy_from_slice(value);
             let address = (copy_base + start as u64).to_be_bytes();
             one(image, area, in_image, in_area).copy_from_slice(&address);
-        } else if widened(plan.convention, argument) {
-            let single = u32::from_be_bytes([value[0], value[1], value[2], value[3]]);
-            image[in_image].copy_from_slice(&widen(single).to_be_bytes());
-        } else if is_aix && argument.floating.count == 0 {
+        } else if is_aix {
             fill_words(argument, value, image, area);
         } else if at_the_end(plan.convention, argument) {
             let negative = argument.content == Content::SignedInteger && value[0] >= 0x80;
@@ -78,14 +88,19 @@ pub fn read(
     test_lengths(&plan, values, image, area)?;
     // all tests before the first byte changes
     for argument in &plan.arguments {
-        let (in_image, in_area) = ranges(plan.convention, argument);
         if argument.copy.is_some() {
+            let (in_image, in_area) = ranges(plan.convention, argument);
             let address = number(one_of(image, area, in_image, in_area));
             if pointed_at(address, argument.size, copies, copy_base).is_none() {
                 return refuse(13);
             }
-        } else if widened(plan.convention, argument) && narrow(number(&image[in_image])).is_none() {
-            return refuse(14);
+        } else if argument.floating.count > 0 {
+            let Some(value) = float_value(plan.convention, argument, image) else {
+                return refuse(14);
+            };
+            if !general_agree(plan.convention, argument, &value, image) {
+                return refuse(26);
+            }
         }
     }
     let mut rest = values;
@@ -97,10 +112,10 @@ pub fn read(
             let address = number(one_of(image, area, in_image, in_area));
             let copy = pointed_at(address, argument.size, copies, copy_base);
             value.copy_from_slice(copy.expect("tested above"));
-        } else if widened(plan.convention, argument) {
-            let single = narrow(number(&image[in_image])).expect("tested above");
-            value.copy_from_slice(&single.to_be_bytes());
-        } else if plan.convention == Convention::Aix && argument.floating.count == 0 {
+        } else if argument.floating.count > 0 {
+            let float = float_value(plan.convention, argument, image).expect("tested above");
+            value.copy_from_slice(&float[..value.len()]);
+        } else if plan.convention == Convention::Aix {
             read_words(argument, value, image, area);
         } else if at_the_end(plan.convention, argument) {
             let doubleword = one_of(image, area, in_image, in_area);
@@ -113,6 +128,32 @@ pub fn read(
         }
     }
     Ok(())
+}
+
+/// The value that stands in an argument's floating registers, from the first byte on; nothing where
+/// they hold no widened single.
+fn float_value(convention: Convention, argument: &Argument, image: &[u8]) -> Option<[u8; 16]> {
+    let registers = &image[floating(argument)];
+    let mut value = [0; 16];
+    if widened(convention, argument) {
+        value[..4].copy_from_slice(&narrow(number(registers))?.to_be_bytes());
+    } else {
+        value[..registers.len()].copy_from_slice(registers);
+    }
+    Some(value)
+}
+
+/// Whether the general registers of an argument, of which a call without ellipsis has none beside
+/// floating ones, hold the value's first bytes.
+fn general_agree(convention: Convention, argument: &Argument, value: &[u8], image: &[u8]) -> bool {
+    let word = convention.word();
+    // a single stands at its doubleword's end
+    let own = word.min(usize::from(argument.size));
+    let mut numbers = 0..usize::from(argument.general.count);
+    numbers.all(|number| {
+        let end = 8 * (usize::from(argument.general.first) + number) + 8;
+        image[end - own..end] == value[own * number..own * (number + 1)]
+    })
 }
 
 /// AIX: puts a value into its words, the first of which may be general registers.
@@ -212,26 +253,30 @@ fn widened(convention: Convention, argument: &Argument) -> bool {
         && argument.floating.count > 0
 }
 
-/// Whether a value that is not passed by reference stands at its doubleword's end. On AIX it is asked
-/// of floating registers alone, which hold all of a double.
+/// Whether a value that is not passed by reference stands at the end of its general register or of
+/// its doubleword of memory. It is not asked of AIX.
 fn at_the_end(convention: Convention, argument: &Argument) -> bool {
     match (convention, argument.content) {
-        (Convention::Aix, _) => false,
-        (_, Content::SignedInteger | Content::UnsignedInteger) => true,
-        (Convention::Ppc64 | Convention::Ppc64b, Content::Float) => argument.floating.count == 0,
+        (_, Content::SignedInteger | Content::UnsignedInteger | Content::Float) => true,
         // a struct of less than a doubleword
-        (Convention::Ppc64 | Convention::Ppc64b, Content::Other) => argument.size < 8,
-        (Convention::Z, _) => argument.floating.count == 0,
+        (Convention::Ppc64 | Convention::Aix | Convention::Ppc64b, Content::Other) => {
+            argument.size < 8
+        }
+        (Convention::Z, Content::Other) => true,
     }
 }
 
-/// An argument's parts of the image and of the area; on AIX general registers are taken word by word.
+/// An argument's floating registers in the image.
+fn floating(argument: &Argument) -> Range<usize> {
+    let first = FLOATING + 8 * usize::from(argument.floating.first);
+    first..first + 8 * usize::from(argument.floating.count)
+}
+
+/// The general registers of an argument in the image, and its part of the area; on AIX general registers
+/// are taken word by word.
 fn ranges(convention: Convention, argument: &Argument) -> (Range<usize>, Range<usize>) {
-    let (start, registers) = match argument.floating.count {
-        0 => (0, argument.general),
-        _ => (FLOATING, argument.floating),
-    };
-    let image = start + 8 * usize::from(registers.first);
+    let registers = argument.general;
+    let image = 8 * usize::from(registers.first);
     let above = match convention {
         Convention::Z if argument.memory.words > 0 => Z_AREA,
         _ => 0,

@@ -1,6 +1,6 @@
 //! The whole plan in words of a lent table: `crate::table`, as a program has it that plans often.
 
-use super::{place, Argument, Keeper, ResultType, Sizes};
+use super::{place, Argument, Head, Keeper, ResultType};
 use crate::table::ENTRY;
 use crate::{Convention, Refusal};
 
@@ -15,33 +15,39 @@ pub fn table(bytes: &[u8], words: &mut [u64]) -> Result<[u64; 11], Refusal> {
         arguments: [(Argument::default(), 0); MOST_ARGUMENTS],
         count: 0,
     };
-    let (convention, result, sizes) = place(bytes, &mut kept)?;
+    let planned = place(bytes, &mut kept)?;
     if words.len() >= ENTRY * kept.count {
         let mut value = 0;
         let entries = words.chunks_exact_mut(ENTRY);
         for (entry, (argument, item)) in entries.zip(&kept.arguments[..kept.count]) {
-            put(entry, convention, argument, usize::from(*item), value);
+            put(
+                entry,
+                planned.convention,
+                argument,
+                usize::from(*item),
+                value,
+            );
             value += u64::from(argument.size);
         }
     }
-    Ok(head(convention, result, sizes, kept.count))
+    Ok(head(planned, kept.count))
 }
 
 /// The same in two passes without keeping: the first finds out all that can refuse, the second writes
 /// each entry as it comes.
 pub fn table_in_two_passes(bytes: &[u8], words: &mut [u64]) -> Result<[u64; 11], Refusal> {
     let mut counted = Counted { count: 0 };
-    let (convention, result, sizes) = place(bytes, &mut counted)?;
+    let planned = place(bytes, &mut counted)?;
     if words.len() >= ENTRY * counted.count {
         let mut lent = Lent {
-            convention,
+            convention: planned.convention,
             words,
             count: 0,
             value: 0,
         };
         place(bytes, &mut lent)?;
     }
-    Ok(head(convention, result, sizes, counted.count))
+    Ok(head(planned, counted.count))
 }
 
 struct Counted {
@@ -132,7 +138,13 @@ fn put(entry: &mut [u64], convention: Convention, argument: &Argument, item: usi
     entry.copy_from_slice(&words);
 }
 
-fn head(convention: Convention, result: ResultType, sizes: Sizes, count: usize) -> [u64; 11] {
+fn head(planned: Head, count: usize) -> [u64; 11] {
+    let Head {
+        convention,
+        ellipsis,
+        result,
+        sizes,
+    } = planned;
     let (code, general, floating) = match convention {
         Convention::Ppc64 => (1, 3, 1),
         Convention::Z => (2, 2, 0),
@@ -153,6 +165,16 @@ fn head(convention: Convention, result: ResultType, sizes: Sizes, count: usize) 
     let [values, area, copies] = sizes;
     let count = count as u64;
     [
-        code, 0, count, values, area, copies, kind, gpr, gprs, fpr, fprs,
+        code,
+        u64::from(ellipsis),
+        count,
+        values,
+        area,
+        copies,
+        kind,
+        gpr,
+        gprs,
+        fpr,
+        fprs,
     ]
 }
