@@ -51,5 +51,14 @@ fn generated_pairs() {
     assert_eq!(total, 2 * PAIRS);
 }
 
-/// The conventions.
-const CALLS: [&str; 4] = ["PPC64", "Z", "AIX", "PPC64B"];
+/// The conventions, without an ellipsis and with one.
+const CALLS: [&str; 8] = [
+    "PPC64",
+    "Z",
+    "AIX",
+    "PPC64B",
+    "PPC64 var",
+    "Z var",
+    "AIX var",
+    "PPC64B var",
+];
