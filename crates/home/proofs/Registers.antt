@@ -15,7 +15,6 @@ use Rattle.signature.specs.declared.SignatureRead.{SignatureRead}
 use Rattle.signature.specs.Read.{signatureOf}
 use Rattle.signature.specs.Answer.{signatureAnswer}
 use Rattle.places.specs.declared.Rules.{Rules}
-use Rattle.places.specs.Step.{rulesOf}
 use Rattle.plan.specs.declared.Plan.{Plan}
 use Rattle.slots.specs.declared.Answer.{Answer}
 use Rattle.items.specs.declared.Fault.{Fault}
@@ -23,12 +22,14 @@ use Rattle.slots.specs.Placements.{Placement}
 use Rattle.slots.specs.Limits.{Held, Fits, All}
 use Rattle.slots.specs.Refusals.{firstOf, orElse, afterReading, isRefused}
 use Rattle.plan.specs.Call.{outcomeFor}
-use Rattle.slots.specs.Arguments.{argumentsIn, argumentsOf, planFor, rulesFor, Carried}
+use Rattle.slots.specs.Arguments.{argumentsIn, argumentsOf, planFor, rulesIn, rulesFor, Carried}
 use Rattle.slots.proofs.Planned.{all-with}
 use Rattle.slots.proofs.Refusals.{first-done, differ-false, or-refused, not-refused}
 use Rattle.slots.proofs.Answered.{carried-same}
 use Rattle.home.specs.Home.{homeTests, homeAnswer, registersAnswer, homeArea, AllRegistered, homed}
+use Rattle.places.specs.Step.{rulesOf}
 use Rattle.home_slot.proofs.Homed.{homed-all}
+use Rattle.home_slot.proofs.Marked.{homeless-marked}
 use Rattle.home_slot.specs.Homes.{homeless, homedBytes, Homed, Registered}
 
 -- ---- the loop
@@ -76,14 +77,19 @@ home-passed (Rules.Power f) i have area e =
     record { homes = refl; image = differ-false i 512 (b .0); room = ltb-false have area (c .0) }
 home-passed Rules.Z i have area e = let a = first-done _ _ e in let q : true ≡ false = a .0 in let z : _≡_ {A = ℕ} 0 1 = cc in absurd (omega arith)
 
+-- an ellipsis asks for nothing more
+pub tests-marked : (g : SignatureRead) (i have area : ℕ) (a : Answer) → a ≡ firstOf (homeTests (rulesOf (g .convention)) i have area) → a ≡ firstOf (homeTests (rulesIn g) i have area)
+unfolding homeTests
+tests-marked g i have area a e = rw (homeless-marked (g .ellipsis) (rulesOf (g .convention))) e
+
 -- every argument on PowerPC has its registers and its home
 pub all-registered : (s : List ℕ) (g : SignatureRead) (p : Plan) (i : ℕ) → g ≡ signatureAnswer (signatureOf s) → p ≡ planFor s
-    → homeless (rulesOf (g .convention)) ≡ false → i ≡ 512 → AllRegistered g p i
+    → homeless (rulesIn g) ≡ false → i ≡ 512 → AllRegistered g p i
 unfolding argumentsOf
 all-registered s g p i read plan power image =
     let c : Carried g p = carried-same s g p read plan in
-    let homes : All (Homed (rulesOf (g .convention)) (p .area)) (argumentsIn g p) =
-    rw (read, plan) (homed-all s (ap (λ (x : SignatureRead). homeless (rulesOf (x .convention))) (sym read) ∙ power)) in
+    let homes : All (Homed (rulesIn g) (p .area)) (argumentsIn g p) =
+    rw (read, plan) (homed-all s (ap (λ (x : SignatureRead). homeless (rulesIn x)) (sym read) ∙ power)) in
     record {
       few = c .few;
       types = c .types;
@@ -93,7 +99,7 @@ all-registered s g p i read plan power image =
     }
   where
     r : Rules
-    r = rulesOf (g .convention)
+    r = rulesIn g
 
     Lies : Placement → Type 0
     Lies q = Held r q × Fits (p .area) (p .copies) q
@@ -111,19 +117,19 @@ module _ (s image : List ℕ) (have : ℕ) where
 
   module _ (g : SignatureRead) (p : Plan) (n : ℕ) (read : g ≡ signatureAnswer (signatureOf s)) (plan : p ≡ planFor s) (e : outcomeFor s ≡ Outcome.Accepted n) where
     -- of the lengths l and the registers a
-    whole : (l a : Answer) → l ≡ firstOf (homeTests (rulesOf (g .convention)) (length image) have (p .area))
-        → a ≡ registersAnswer (rulesOf (g .convention)) (argumentsIn g p) image → orElse l a ≡ homeAnswer s image have
+    whole : (l a : Answer) → l ≡ firstOf (homeTests (rulesIn g) (length image) have (p .area))
+        → a ≡ registersAnswer (rulesIn g) (argumentsIn g p) image → orElse l a ≡ homeAnswer s image have
     unfolding homeAnswer argumentsOf
     whole l a x y =
         ap₂ orElse x y
-        ∙ ap₂ (λ (g : SignatureRead) (p : Plan). orElse (firstOf (homeTests (rulesOf (g .convention)) (length image) have (p .area))) (registersAnswer (rulesOf (g .convention)) (argumentsIn g p) image)) read plan
+        ∙ ap₂ (λ (g : SignatureRead) (p : Plan). orElse (firstOf (homeTests (rulesIn g) (length image) have (p .area))) (registersAnswer (rulesIn g) (argumentsIn g p) image)) read plan
         ∙ sym (ap (λ (o : Outcome). afterReading o (orElse (firstOf (homeTests (rulesFor s) (length image) have (planFor s .area))) (registersAnswer (rulesFor s) (argumentsOf s) image))) e)
 
-    pub home-lengths : (l : Answer) → l ≡ firstOf (homeTests (rulesOf (g .convention)) (length image) have (p .area)) → isRefused l ≡ true → l ≡ homeAnswer s image have
-    home-lengths l x t = sym (or-refused l _ t) ∙ whole l (registersAnswer (rulesOf (g .convention)) (argumentsIn g p) image) x refl
+    pub home-lengths : (l : Answer) → l ≡ firstOf (homeTests (rulesIn g) (length image) have (p .area)) → isRefused l ≡ true → l ≡ homeAnswer s image have
+    home-lengths l x t = sym (or-refused l _ t) ∙ whole l (registersAnswer (rulesIn g) (argumentsIn g p) image) x refl
 
-    pub home-registers : (l a : Answer) → l ≡ firstOf (homeTests (rulesOf (g .convention)) (length image) have (p .area)) → isRefused l ≡ false
-        → a ≡ registersAnswer (rulesOf (g .convention)) (argumentsIn g p) image → a ≡ homeAnswer s image have
+    pub home-registers : (l a : Answer) → l ≡ firstOf (homeTests (rulesIn g) (length image) have (p .area)) → isRefused l ≡ false
+        → a ≡ registersAnswer (rulesIn g) (argumentsIn g p) image → a ≡ homeAnswer s image have
     home-registers l a x t y = ap (λ (z : Answer). orElse z a) (sym (not-refused l t)) ∙ whole l a x y
 
 pub area-kept : (s : List ℕ) (a : Answer) (image area : List ℕ) → isRefused a ≡ true → area ≡ homeArea s a image area
@@ -133,6 +139,6 @@ area-kept s (Answer.Unread f) image area e = refl
 area-kept s (Answer.Refused reason) image area e = refl
 
 pub area-homed : (s image area last : List ℕ) (g : SignatureRead) (p : Plan) → g ≡ signatureAnswer (signatureOf s) → p ≡ planFor s
-    → last ≡ homed (rulesOf (g .convention)) (argumentsIn g p) image area → last ≡ homeArea s Answer.Done image area
+    → last ≡ homed (rulesIn g) (argumentsIn g p) image area → last ≡ homeArea s Answer.Done image area
 unfolding homeArea argumentsOf
 area-homed s image area last g p read plan e = rw (← read, ← plan) e

@@ -10,7 +10,6 @@ use Rattle.words.specs.Splice.{splice}
 use Rattle.signature.specs.Limits.{maxArguments}
 use Rattle.signature.specs.declared.SignatureRead.{SignatureRead}
 use Rattle.places.specs.declared.Rules.{Rules}
-use Rattle.places.specs.Step.{rulesOf}
 use Rattle.plan.specs.declared.Plan.{Plan}
 use Rattle.slots.specs.declared.Refusal.{Refusal}
 use Rattle.slots.specs.declared.Answer.{Answer}
@@ -18,7 +17,7 @@ use Rattle.slots.specs.Placements.{Placement}
 use Rattle.slots.specs.Limits.{All}
 use Rattle.slots.specs.Refusals.{Test, test, differ, firstOf, afterReading, orElse, firstOfAll, isDone}
 use Rattle.plan.specs.Call.{outcomeFor}
-use Rattle.slots.specs.Arguments.{argumentsIn, argumentsOf, planFor, rulesFor}
+use Rattle.slots.specs.Arguments.{argumentsIn, argumentsOf, planFor, rulesIn, rulesFor}
 use Rattle.home_slot.specs.Homes.{homeless, registerAnswer, homedBytes, Registered}
 
 -- ---- the answer
@@ -57,4 +56,4 @@ pub record AllRegistered (g : SignatureRead) (p : Plan) (i : ℕ) : Type 0 where
   pub few : g .count ≤ maxArguments
   pub types : g .count ≤ length (g .arguments)
   pub spans : g .count ≤ length (p .spans)
-  pub each : All (Registered (rulesOf (g .convention)) (p .area) i) (argumentsIn g p)
+  pub each : All (Registered (rulesIn g) (p .area) i) (argumentsIn g p)

@@ -8,15 +8,14 @@ use slots::Refusal;
 ghost use mathlib.Core.Path.{_≡_};
 ghost use Prim.Native.Nat.{_≤_};
 ghost use lib.ListN.{length};
-ghost use Rattle.places.specs.Step.{rulesOf};
 ghost use Rattle.slots.specs.Refusals.{firstOf};
-ghost use Rattle.slots.specs.Arguments.{argumentsIn};
+ghost use Rattle.slots.specs.Arguments.{argumentsIn, rulesIn};
 ghost use Rattle.home.specs.Home.{registersAnswer, homeTests, homeAnswer, homed, homeArea, AllRegistered};
 
 // The refusal of the first argument, left to right, that can't be homed.
 fn first_unwidened(image: &[u8], g: SignatureRead, p: Plan) -> Answer
     requires { ⌜ AllRegistered g p (length (now image)) ⌝ }
-    ensures { λ a. ⌜ a ≡ registersAnswer (rulesOf (g .convention)) (argumentsIn g p) (now (image .entry)) ⌝ }
+    ensures { λ a. ⌜ a ≡ registersAnswer (rulesIn g) (argumentsIn g p) (now (image .entry)) ⌝ }
 {
     let convention = g.convention;
     let count = g.count;
@@ -38,7 +37,7 @@ fn first_unwidened(image: &[u8], g: SignatureRead, p: Plan) -> Answer
 // All arguments, each in the part of the area that starts at its home.
 fn put_homes(area: &mut [u8], image: &[u8], g: SignatureRead, p: Plan)
     requires { ⌜ AllRegistered g p (length (now image)) × (p .area ≤ length (now area)) ⌝ }
-    ensures { λ _. ⌜ now (area .exit) ≡ homed (rulesOf (g .convention)) (argumentsIn g p) (now (image .entry)) (now (area .entry)) ⌝ }
+    ensures { λ _. ⌜ now (area .exit) ≡ homed (rulesIn g) (argumentsIn g p) (now (image .entry)) (now (area .entry)) ⌝ }
 {
     let convention = g.convention;
     let count = g.count;

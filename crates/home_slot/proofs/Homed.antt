@@ -23,14 +23,14 @@ use Rattle.places.specs.declared.Rules.{Rules}
 use Rattle.places.specs.Values.{share}
 use Rattle.places.specs.declared.Edition.{Edition}
 use Rattle.places.specs.Power.{words, fprs, covered, shareOf, powerShare}
-use Rattle.places.specs.Step.{rulesOf, spanOf, nextOf}
+use Rattle.places.specs.Step.{rulesOf, withEllipsis, spanOf, nextOf}
 use Rattle.places.proofs.Bounds.{area-holds}
 use Rattle.plan.specs.Plan.{spansOf, lastOf, startIn, endIn, planIn, planAnswer, typesOf}
-use Rattle.plan.proofs.Fold.{last-forward}
+use Rattle.plan.proofs.Fold.{last-forward, last-marked}
 use Rattle.slots.specs.Forms.{roomOf, startsAtHead, ownStart}
 use Rattle.slots.specs.Placements.{Placement, placement, placements}
 use Rattle.slots.specs.Limits.{Held, All}
-use Rattle.slots.specs.Arguments.{argumentsIn, argumentsOf, planFor, rulesFor}
+use Rattle.slots.specs.Arguments.{argumentsIn, argumentsOf, planFor, rulesIn, rulesFor}
 use Rattle.slots.proofs.Answered.{arguments-got}
 use Rattle.home_slot.specs.Homes.{homeless, fillsWords, Homed}
 
@@ -78,18 +78,20 @@ module _ (w : ℕ) (least : 4 ≤ w) (most : w ≤ 8) (e : Edition) (v : Bool) w
       let d : Cursor = nextOf rules k t (sizeOf c t) in
       (step-homed k t (sizeOf c t) a (omega (arith, last-forward c rules d ts)), all-homed c d ts a h)
 
+rules-homed : (c : Convention) (v : Bool) (k : Cursor) (ts : List ValueType) (a : ℕ) → homeless (withEllipsis v (rulesOf c)) ≡ false
+    → lastOf c (withEllipsis v (rulesOf c)) k ts .stack ≤ a → All (Homed (withEllipsis v (rulesOf c)) a) (placements c ts (spansOf c (withEllipsis v (rulesOf c)) k ts))
+unfolding withEllipsis
+rules-homed Convention.Ppc64 v k ts a e h = all-homed 8 (omega arith) (omega arith) Edition.Earlier v Convention.Ppc64 k ts a h
+rules-homed Convention.Z v k ts a e h = let z : _≡_ {A = ℕ} 0 1 = cc in absurd (omega arith)
+rules-homed Convention.Aix v k ts a e h = all-homed 4 (omega arith) (omega arith) Edition.Earlier v Convention.Aix k ts a h
+rules-homed Convention.Ppc64b v k ts a e h = all-homed 8 (omega arith) (omega arith) Edition.Later v Convention.Ppc64b k ts a h
+
 -- ---- a whole signature
 
-plan-homed : (n : ℕ) (c : Convention) (r : ResultType) (ts : List ValueType) → homeless (rulesOf c) ≡ false
-    → All (Homed (rulesOf c) (planIn n c r ts .area)) (placements c ts (spansOf c (rulesOf c) (startIn c r) ts))
+plan-homed : (n : ℕ) (c : Convention) (v : Bool) (r : ResultType) (ts : List ValueType) → homeless (withEllipsis v (rulesOf c)) ≡ false
+    → All (Homed (withEllipsis v (rulesOf c)) (planIn n c v r ts .area)) (placements c ts (spansOf c (withEllipsis v (rulesOf c)) (startIn c r) ts))
 unfolding planIn
-plan-homed n Convention.Ppc64 r ts e =
-    all-homed 8 (omega arith) (omega arith) Edition.Earlier false Convention.Ppc64 (startIn Convention.Ppc64 r) ts _ (area-holds Convention.Ppc64 (endIn Convention.Ppc64 r ts))
-plan-homed n Convention.Z r ts e = let z : _≡_ {A = ℕ} 0 1 = cc in absurd (omega arith)
-plan-homed n Convention.Aix r ts e =
-    all-homed 4 (omega arith) (omega arith) Edition.Earlier false Convention.Aix (startIn Convention.Aix r) ts _ (area-holds Convention.Aix (endIn Convention.Aix r ts))
-plan-homed n Convention.Ppc64b r ts e =
-    all-homed 8 (omega arith) (omega arith) Edition.Later false Convention.Ppc64b (startIn Convention.Ppc64b r) ts _ (area-holds Convention.Ppc64b (endIn Convention.Ppc64b r ts))
+plan-homed n c v r ts e = rules-homed c v (startIn c r) ts _ e (rw (last-marked c v (rulesOf c) (startIn c r) ts) (area-holds c (endIn c r ts)))
 
 refused-homed : (r : Rules) (f : Fault) → All (Homed r (planAnswer (no f) .area)) (argumentsIn (signatureAnswer (no f)) (planAnswer (no f)))
 unfolding argumentsIn placements All
@@ -99,12 +101,12 @@ pub homed-all : (s : List ℕ) → homeless (rulesFor s) ≡ false → All (Home
 unfolding argumentsOf planAnswer
 homed-all s e = go (signatureOf s) e
   where
-    go : (x : Reading Signature) → homeless (rulesOf (signatureAnswer x .convention)) ≡ false
-        → All (Homed (rulesOf (signatureAnswer x .convention)) (planAnswer x .area)) (argumentsIn (signatureAnswer x) (planAnswer x))
+    go : (x : Reading Signature) → homeless (rulesIn (signatureAnswer x)) ≡ false
+        → All (Homed (rulesIn (signatureAnswer x)) (planAnswer x .area)) (argumentsIn (signatureAnswer x) (planAnswer x))
     go (got g next n) q =
-        subst (All (Homed (rulesOf (g .convention)) (planAnswer (got g next n) .area))) (sym (arguments-got g next n))
-        (plan-homed n (g .convention) (resultType (g .convention) (g .result)) (typesOf (g .convention) (g .arguments)) q)
-    go (no f) q = refused-homed (rulesOf (signatureAnswer (no f) .convention)) f
+        subst (All (Homed (withEllipsis (g .ellipsis) (rulesOf (g .convention))) (planAnswer (got g next n) .area))) (sym (arguments-got g next n))
+        (plan-homed n (g .convention) (g .ellipsis) (resultType (g .convention) (g .result)) (typesOf (g .convention) (g .arguments)) q)
+    go (no f) q = refused-homed (rulesIn (signatureAnswer (no f))) f
 
 -- ---- one of them
 

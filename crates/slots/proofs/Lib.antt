@@ -2,6 +2,7 @@
 pub mod Forms
 pub mod Typed
 pub mod Held
+pub mod Marked
 pub mod Planned
 pub mod Buffers
 pub mod Answered

@@ -20,13 +20,15 @@ use Rattle.slots.specs.declared.Answer.{Answer}
 use Rattle.slots.specs.Forms.{ownStart}
 use Rattle.slots.specs.Placements.{Placement}
 use Rattle.slots.specs.Limits.{Held, All}
-use Rattle.slots.specs.Refusals.{firstOf, afterReading, isDone, isRefused}
+use Rattle.slots.specs.Refusals.{Test, firstOf, afterReading, isDone, isRefused}
 use Rattle.plan.specs.Call.{outcomeFor}
-use Rattle.slots.specs.Arguments.{argumentsIn, argumentsOf, planFor, rulesFor, Carried}
+use Rattle.slots.specs.Arguments.{argumentsIn, argumentsOf, planFor, rulesIn, rulesFor, Carried}
 use Rattle.slots.proofs.Answered.{carried-same}
+use Rattle.slots.proofs.Marked.{own-marked, held-marked}
 use Rattle.slots.proofs.Turns.{argumentAt, next-argument}
 use Rattle.slots.proofs.Refusals.{first-done}
 use Rattle.home_slot.proofs.Homed.{homed-all, all-at, getD-at, own-homed}
+use Rattle.home_slot.proofs.Marked.{homeless-marked, homed-marked}
 use Rattle.views.specs.declared.ViewPart.{ViewPart}
 use Rattle.home_slot.specs.Homes.{homeless, Homed}
 use Rattle.views.specs.View.{viewTests, viewAnswer, noArgument, ownBytes, ownPart, viewPart, viewOf}
@@ -60,11 +62,18 @@ pub record Hand (s : List ℕ) (have index : ℕ) (g : SignatureRead) (p : Plan)
   pub homed : Homed (rulesOf (g .convention)) (p .area) (argumentAt g p index)
   pub at : getD (argumentsOf s) index noArgument ≡ argumentAt g p index
 
+-- an ellipsis asks for nothing more
+tests-marked : (g : SignatureRead) (count index have area : ℕ) → viewTests (rulesOf (g .convention)) count index have area ≡ viewTests (rulesIn g) count index have area
+unfolding viewTests
+tests-marked g count index have area = rw (homeless-marked (g .ellipsis) (rulesOf (g .convention)))
+
 pub answer-same : (s : List ℕ) (have index : ℕ) (g : SignatureRead) (p : Plan) (a : Answer) → g ≡ signatureAnswer (signatureOf s) → p ≡ planFor s
     → a ≡ afterReading (outcomeFor s) (firstOf (viewTests (rulesOf (g .convention)) (g .count) index have (p .area))) → a ≡ viewAnswer s have index
 unfolding viewAnswer
 answer-same s have index g p a read plan e =
-    e ∙ ap₂ (λ (g : SignatureRead) (p : Plan). afterReading (outcomeFor s) (firstOf (viewTests (rulesOf (g .convention)) (g .count) index have (p .area)))) read plan
+    e
+    ∙ ap (λ (ts : List Test). afterReading (outcomeFor s) (firstOf ts)) (tests-marked g (g .count) index have (p .area))
+    ∙ ap₂ (λ (g : SignatureRead) (p : Plan). afterReading (outcomeFor s) (firstOf (viewTests (rulesIn g) (g .count) index have (p .area)))) read plan
 
 pub hand : (s : List ℕ) (have index : ℕ) (g : SignatureRead) (p : Plan) (a : Answer) → g ≡ signatureAnswer (signatureOf s) → p ≡ planFor s
     → a ≡ afterReading (outcomeFor s) (firstOf (viewTests (rulesOf (g .convention)) (g .count) index have (p .area))) → a ≡ Answer.Done → Hand s have index g p
@@ -73,14 +82,15 @@ hand s have index g p a read plan e d =
     let v = view-passed (rulesOf (g .convention)) (g .count) index have (p .area) (reading-done (outcomeFor s) _ (sym e ∙ d)) in
     let c : Carried g p = carried-same s g p read plan in
     let next = next-argument g p index (v .there) (c .types) (c .spans) in
-    let homes : All (Homed (rulesOf (g .convention)) (p .area)) (argumentsIn g p) =
-    rw (read, plan) (homed-all s (ap (λ (x : SignatureRead). homeless (rulesOf (x .convention))) (sym read) ∙ v .homes)) in
+    let r : Rules = rulesOf (g .convention) in
+    let homes : All (Homed (rulesIn g) (p .area)) (argumentsIn g p) =
+    rw (read, plan) (homed-all s (ap (λ (x : SignatureRead). homeless (rulesIn x)) (sym read) ∙ homeless-marked (g .ellipsis) r ∙ v .homes)) in
     record {
       done = sym (answer-same s have index g p a read plan e) ∙ d;
       small = omega (arith, v .there, c .few);
       room = v .room;
-      held = all-at (Held (rulesOf (g .convention))) (argumentsIn g p) index (argumentAt g p index) _ next (c .held);
-      homed = all-at (Homed (rulesOf (g .convention)) (p .area)) (argumentsIn g p) index (argumentAt g p index) _ next homes;
+      held = held-marked (g .ellipsis) r _ (all-at (Held (rulesIn g)) (argumentsIn g p) index (argumentAt g p index) _ next (c .held));
+      homed = homed-marked (g .ellipsis) r _ _ (all-at (Homed (rulesIn g) (p .area)) (argumentsIn g p) index (argumentAt g p index) _ next homes);
       at = ap₂ (λ (g : SignatureRead) (p : Plan). getD (argumentsIn g p) index noArgument) (sym read) (sym plan) ∙ getD-at (argumentsIn g p) index (argumentAt g p index) noArgument _ next;
     }
 
@@ -103,7 +113,8 @@ pub part-shown : (s : List ℕ) (have index : ℕ) (g : SignatureRead) (p : Plan
 unfolding viewPart
 part-shown s have index g p a own n h read e o z =
     let done : a ≡ Answer.Done = e ∙ h .done in
-    rw (← e, done, o, z, h .at) (ap (λ (x : SignatureRead). ownPart Answer.Done (rulesOf (x .convention)) (argumentAt g p index)) read)
+    let same = own-marked (g .ellipsis) (rulesOf (g .convention)) (argumentAt g p index .ty) (argumentAt g p index .size) in
+    rw (← e, done, o, z, h .at, ← same) (ap (λ (x : SignatureRead). ownPart Answer.Done (rulesIn x) (argumentAt g p index)) read)
 
 pub part-answer : (s : List ℕ) (have index : ℕ) → viewPart s have index .answer ≡ viewAnswer s have index
 unfolding viewPart
@@ -111,9 +122,9 @@ part-answer s have index = refl
 
 viewAnswer-is : (s : List ℕ) (have index : ℕ)
     → viewAnswer s have index
-    ≡ afterReading (outcomeFor s) (firstOf (viewTests (rulesFor s) (signatureAnswer (signatureOf s) .count) index have (planFor s .area)))
+    ≡ afterReading (outcomeFor s) (firstOf (viewTests (rulesOf (signatureAnswer (signatureOf s) .convention)) (signatureAnswer (signatureOf s) .count) index have (planFor s .area)))
 unfolding viewAnswer
-viewAnswer-is s have index = refl
+viewAnswer-is s have index = ap (λ (ts : List Test). afterReading (outcomeFor s) (firstOf ts)) (sym (tests-marked (signatureAnswer (signatureOf s)) _ index have _))
 
 -- it lies in the area
 pub part-within : (s : List ℕ) (have index : ℕ) → viewPart s have index .start + viewPart s have index .length ≤ have
@@ -123,8 +134,10 @@ part-within s have index = go (viewAnswer s have index) refl
     go : (a : Answer) → a ≡ viewAnswer s have index
         → ownPart a (rulesFor s) (getD (argumentsOf s) index noArgument) .start + ownPart a (rulesFor s) (getD (argumentsOf s) index noArgument) .length ≤ have
     go Answer.Done e =
-        let h = hand s have index (signatureAnswer (signatureOf s)) (planFor s) Answer.Done refl refl (e ∙ viewAnswer-is s have index) refl in
-        rw (h .at) (omega (arith, own-homed (rulesFor s) _ _ (h .held) (h .homed), h .room))
+        let g : SignatureRead = signatureAnswer (signatureOf s) in
+        let h = hand s have index g (planFor s) Answer.Done refl refl (e ∙ viewAnswer-is s have index) refl in
+        let same = own-marked (g .ellipsis) (rulesOf (g .convention)) (argumentAt g (planFor s) index .ty) (argumentAt g (planFor s) index .size) in
+        rw (h .at) (omega (arith, own-homed (rulesOf (g .convention)) _ _ (h .held) (h .homed), same, h .room))
     go (Answer.Unread f) e = omega arith
     go (Answer.Refused reason) e = omega arith
 

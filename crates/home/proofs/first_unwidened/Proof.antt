@@ -1,14 +1,14 @@
 -- The loop tests one argument a turn; those that are left give what all give (`Checking`).
 use Rattle.home_slot.specs.Homes.{registerAnswer, Registered}
+use Rattle.home_slot.proofs.Marked.{answer-marked}
 use borrow.Author.Needs.{needs}
 use mathlib.Core.Path.{_≡_, sym, _∙_}
 use mathlib.Core.List.{_∷_}
 use Prim.Native.Nat.{suc, _-_}
 use native.Mathlib.Omega.{arith}
 use lib.ListN.{length, drop}
-use Rattle.places.specs.Step.{rulesOf}
 use Rattle.slots.specs.Placements.{Placement}
-use Rattle.slots.specs.Arguments.{argumentsIn}
+use Rattle.slots.specs.Arguments.{argumentsIn, rulesIn}
 use Rattle.slots.proofs.Turns.{argumentAt, next-argument, no-argument, Checking, checking-start, checking-ready, checking-refused, checking-more, checking-end}
 use Rattle.home.specs.Home.{registersAnswer}
 use Rattle.home.proofs.first_unwidened.Statement.{statement}
@@ -16,7 +16,7 @@ use Rattle.home.proofs.first_unwidened.Tie as tie
 
 abbrev Inv-loop : tie.InvT-loop
 Inv-loop image g p count rules i₀ i =
-    Checking (λ (q : Placement). registerAnswer (rulesOf (g .convention)) (q .ty) (q .span) image) (Registered (rulesOf (g .convention)) (p .area) (length image)) (argumentsIn g p) i
+    Checking (λ (q : Placement). registerAnswer (rulesIn g) (q .ty) (q .span) image) (Registered (rulesIn g) (p .area) (length image)) (argumentsIn g p) i
 
 abbrev μ-loop : tie.MeasureT-loop
 μ-loop image g p count rules i₀ i = count - i
@@ -28,8 +28,8 @@ hand c = argumentAt (c .before .before .before .before .before .before .args .t2
 next : (c : tie.After-s Inv-loop μ-loop) → drop (c .before .before .before .loop .i) (argumentsIn (c .before .before .before .before .before .before .args .t2) (c .before .before .before .before .before .before .args .t3)) ≡ hand c ∷ drop (suc (c .before .before .before .loop .i)) (argumentsIn (c .before .before .before .before .before .before .args .t2) (c .before .before .before .before .before .before .args .t3))
 next c = next-argument (c .before .before .before .before .before .before .args .t2) (c .before .before .before .before .before .before .args .t3) (c .before .before .before .loop .i) (c .before .before .loop-test .taken) (c .before .before .before .before .before .before .pre .types) (c .before .before .before .before .before .before .pre .spans)
 
-asked : (c : tie.After-register-answer Inv-loop μ-loop) → c .register-answer .result ≡ registerAnswer (rulesOf (c .before .before .before .before .before .before .before .args .t2 .convention)) (hand (c .before) .ty) (hand (c .before) .span) (c .before .before .before .before .before .before .before .args .image .now)
-asked c = c .register-answer .ensures ∙ rw (c .before .before .before .before .before .call-rules-of .ensures)
+asked : (c : tie.After-register-answer Inv-loop μ-loop) → c .register-answer .result ≡ registerAnswer (rulesIn (c .before .before .before .before .before .before .before .args .t2)) (hand (c .before) .ty) (hand (c .before) .span) (c .before .before .before .before .before .before .before .args .image .now)
+asked c = c .register-answer .ensures ∙ rw (c .before .before .before .before .before .call-rules-of .ensures) (sym (answer-marked _ _ _ _ _))
 
 call-rules-of-requires : tie.Need-call-rules-of-requires Inv-loop μ-loop
 call-rules-of-requires c κs = search needs

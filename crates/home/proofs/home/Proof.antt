@@ -8,7 +8,7 @@ use Rattle.slots.specs.declared.Answer.{Answer}
 use Rattle.slots.proofs.Answered.{plan-same}
 use Rattle.slots.proofs.Refusals.{not-refused}
 use Rattle.home.specs.Home.{homeArea, AllRegistered}
-use Rattle.home.proofs.Registers.{home-passed, all-registered, home-refused, home-lengths, home-registers, area-kept, area-homed}
+use Rattle.home.proofs.Registers.{tests-marked, home-passed, all-registered, home-refused, home-lengths, home-registers, area-kept, area-homed}
 use borrow.Author.Needs.{needs}
 use Rattle.home.proofs.home.Statement.{statement}
 use Rattle.home.proofs.home.Tie as tie
@@ -18,7 +18,7 @@ passed : (c : tie.Else1) → AllRegistered (c .before .before .before .before .b
 passed c =
     let s = c .before .before .before .before .before .before .before .before .before .before .before .before .args .sig .now in
     let read = c .before .before .before .before .before .before .before .before .read-signature .ensures in
-    let lent = home-passed _ _ _ _ (sym (rw (c .before .before .before .call-rules-of .ensures) at (c .before .before .home-tested .ensures)) ∙ not-refused _ (sym (c .before .is-refused .ensures) ∙ c .if1 .left)) in
+    let lent = home-passed _ _ _ _ (sym (tests-marked (c .before .before .before .before .before .before .before .before .read-signature .result) _ _ _ _ (rw (c .before .before .before .call-rules-of .ensures) at (c .before .before .home-tested .ensures))) ∙ not-refused _ (sym (c .before .is-refused .ensures) ∙ c .if1 .left)) in
     (all-registered s _ _ _ read (plan-same s _ _ read (c .before .before .before .before .before .before .before .plan-signature .ensures)) (lent .homes) (lent .image), lent .room)
 
 read-signature-requires : tie.Need-read-signature-requires
@@ -52,7 +52,7 @@ returns c =
     let read = c .before .before .before .before .before .before .before .before .read-signature .ensures in
     let same = plan-same (start .args .sig .now) _ p read (c .before .before .before .before .before .before .before .plan-signature .ensures) in
     let refused = sym (c .before .is-refused .ensures) ∙ c .if1 .taken in (
-      home-lengths (start .args .sig .now) (start .args .image .now) _ _ p _ read same (sym (c .before .before .before .before .before .before .call-outcome .ensures) ∙ c .before .before .before .before .enum-told .given .1) _ (rw (c .before .before .before .call-rules-of .ensures) at (c .before .before .home-tested .ensures)) refused,
+      home-lengths (start .args .sig .now) (start .args .image .now) _ _ p _ read same (sym (c .before .before .before .before .before .before .call-outcome .ensures) ∙ c .before .before .before .before .enum-told .given .1) _ (tests-marked (c .before .before .before .before .before .before .before .before .read-signature .result) _ _ _ _ (rw (c .before .before .before .call-rules-of .ensures) at (c .before .before .home-tested .ensures))) refused,
       area-kept (start .args .sig .now) _ (start .args .image .now) (start .args .area .now) refused,
     )
 
@@ -68,7 +68,7 @@ returns-2 c =
     let p : Plan = c .before .before .before .before .before .before .before .before .before .before .plan-signature .result in
     let read = c .before .before .before .before .before .before .before .before .before .before .before .read-signature .ensures in
     let same = plan-same (start .args .sig .now) _ p read (c .before .before .before .before .before .before .before .before .before .before .plan-signature .ensures) in (
-      home-registers (start .args .sig .now) (start .args .image .now) _ _ p _ read same (sym (c .before .before .before .before .before .before .before .before .before .call-outcome .ensures) ∙ c .before .before .before .before .before .before .before .enum-told .given .1) _ _ (rw (c .before .before .before .before .before .before .call-rules-of .ensures) at (c .before .before .before .before .before .home-tested .ensures)) (sym (c .before .before .before .before .is-refused .ensures) ∙ c .before .before .before .if1 .left) (c .before .before .first-unwidened .ensures),
+      home-registers (start .args .sig .now) (start .args .image .now) _ _ p _ read same (sym (c .before .before .before .before .before .before .before .before .before .call-outcome .ensures) ∙ c .before .before .before .before .before .before .before .enum-told .given .1) _ _ (tests-marked (c .before .before .before .before .before .before .before .before .before .before .before .read-signature .result) _ _ _ _ (rw (c .before .before .before .before .before .before .call-rules-of .ensures) at (c .before .before .before .before .before .home-tested .ensures))) (sym (c .before .before .before .before .is-refused .ensures) ∙ c .before .before .before .if1 .left) (c .before .before .first-unwidened .ensures),
       area-kept (start .args .sig .now) _ (start .args .image .now) (start .args .area .now) (sym (c .before .is-refused2 .ensures) ∙ c .if2 .taken),
     )
 
@@ -91,7 +91,7 @@ returns-4 c =
     let read = c .before .before .before .before .before .before .before .before .before .before .before .before .before .before .before .read-signature .ensures in
     let same = plan-same (start .args .sig .now) _ p read (c .before .before .before .before .before .before .before .before .before .before .before .before .before .before .plan-signature .ensures) in
     let done = not-refused _ (sym (c .before .before .before .before .before .is-refused2 .ensures) ∙ c .before .before .before .before .if2 .left) in (
-      home-registers (start .args .sig .now) (start .args .image .now) _ _ p _ read same (sym (c .before .before .before .before .before .before .before .before .before .before .before .before .before .call-outcome .ensures) ∙ c .before .before .before .before .before .before .before .before .before .before .before .enum-told .given .1) _ Answer.Done (rw (c .before .before .before .before .before .before .before .before .before .before .call-rules-of .ensures) at (c .before .before .before .before .before .before .before .before .before .home-tested .ensures)) (sym (c .before .before .before .before .before .before .before .before .is-refused .ensures) ∙ c .before .before .before .before .before .before .before .if1 .left) (sym done ∙ c .before .before .before .before .before .before .first-unwidened .ensures),
+      home-registers (start .args .sig .now) (start .args .image .now) _ _ p _ read same (sym (c .before .before .before .before .before .before .before .before .before .before .before .before .before .call-outcome .ensures) ∙ c .before .before .before .before .before .before .before .before .before .before .before .enum-told .given .1) _ Answer.Done (tests-marked (c .before .before .before .before .before .before .before .before .before .before .before .before .before .before .before .read-signature .result) _ _ _ _ (rw (c .before .before .before .before .before .before .before .before .before .before .call-rules-of .ensures) at (c .before .before .before .before .before .before .before .before .before .home-tested .ensures))) (sym (c .before .before .before .before .before .before .before .before .is-refused .ensures) ∙ c .before .before .before .before .before .before .before .if1 .left) (sym done ∙ c .before .before .before .before .before .before .first-unwidened .ensures),
       area-homed (start .args .sig .now) (start .args .image .now) (start .args .area .now) _ _ p read same (c .before .before .put-homes .ensures),
     )
 

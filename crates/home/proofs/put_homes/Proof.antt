@@ -1,25 +1,26 @@
 -- The loop puts one argument a turn; those that are left give what all give (`Homing`).
 use Rattle.home_slot.specs.Homes.{homedBytes, Registered}
 use Rattle.home_slot.proofs.Forms.{registered-at}
+use Rattle.home_slot.proofs.Marked.{bytes-marked, registered-marked}
 use borrow.Author.Needs.{needs}
-use mathlib.Core.Path.{_≡_, ap, _∙_}
+use mathlib.Core.Path.{_≡_, sym, ap, _∙_}
 use mathlib.Core.List.{List, _∷_}
 use Prim.Native.Nat.{ℕ, suc, _-_, _≤_}
 use native.Mathlib.Omega.{arith}
 use lib.ListN.{length, drop}
 use borrow.Rule.Slice.PartMut.{putMid}
-use Rattle.words.specs.Splice.{splice, part}
+use Rattle.words.specs.Splice.{overlay, splice, part}
 use Rattle.words.proofs.Splices.{lent-tail, length-part}
 use Rattle.places.specs.Step.{rulesOf}
 use Rattle.slots.specs.Placements.{Placement}
-use Rattle.slots.specs.Arguments.{argumentsIn}
+use Rattle.slots.specs.Arguments.{argumentsIn, rulesIn}
 use Rattle.slots.proofs.Turns.{argumentAt, next-argument, no-argument}
 use Rattle.home.proofs.Registers.{Homing, homing-start, homing-ready, homing-more, homing-end}
 use Rattle.home.proofs.put_homes.Statement.{statement}
 use Rattle.home.proofs.put_homes.Tie as tie
 
 abbrev Inv-loop : tie.InvT-loop
-Inv-loop area₀ image g p convention count i₀ area i = Homing (p .area) (length image) (rulesOf (g .convention)) (argumentsIn g p) image area₀ area i
+Inv-loop area₀ image g p convention count i₀ area i = Homing (p .area) (length image) (rulesIn g) (argumentsIn g p) image area₀ area i
 
 abbrev μ-loop : tie.MeasureT-loop
 μ-loop area₀ image g p convention count i₀ area i = count - i
@@ -31,7 +32,7 @@ hand c = argumentAt (c .before .before .before .before .before .before .args .t3
 next : (c : tie.After-s Inv-loop μ-loop) → drop (c .before .before .before .loop .i) (argumentsIn (c .before .before .before .before .before .before .args .t3) (c .before .before .before .before .before .before .args .t4)) ≡ hand c ∷ drop (suc (c .before .before .before .loop .i)) (argumentsIn (c .before .before .before .before .before .before .args .t3) (c .before .before .before .before .before .before .args .t4))
 next c = next-argument (c .before .before .before .before .before .before .args .t3) (c .before .before .before .before .before .before .args .t4) (c .before .before .before .loop .i) (c .before .before .loop-test .taken) (c .before .before .before .before .before .before .pre .0 .types) (c .before .before .before .before .before .before .pre .0 .spans)
 
-ready : (c : tie.After-s Inv-loop μ-loop) → Registered (rulesOf (c .before .before .before .before .before .before .args .t3 .convention)) (c .before .before .before .before .before .before .args .t4 .area) (length (c .before .before .before .before .before .before .args .image .now)) (hand c)
+ready : (c : tie.After-s Inv-loop μ-loop) → Registered (rulesIn (c .before .before .before .before .before .before .args .t3)) (c .before .before .before .before .before .before .args .t4 .area) (length (c .before .before .before .before .before .before .args .image .now)) (hand c)
 ready c = homing-ready _ _ _ _ _ _ _ _ (hand c) (next c) (c .before .before .before .loop .inv)
 
 within : (c : tie.After-s Inv-loop μ-loop) → hand c .span .home .start ≤ length (c .before .before .before .loop .area)
@@ -70,7 +71,9 @@ put-home-requires c κs =
     let l : List ℕ = h .before .before .before .loop .area in
     let start : ℕ = hand h .span .home .start in
     let size : length (part start (length l - start) l) ≡ length l - start = length-part start (length l - start) l (omega (arith, within h)) in
-    registered-at _ _ _ _ _ (omega (arith, size, within h, h .before .before .before .before .before .before .pre .1, h .before .before .before .loop .inv .same)) (ready h)
+    let g = h .before .before .before .before .before .before .args .t3 in
+    registered-at _ _ _ _ _ (omega (arith, size, within h, h .before .before .before .before .before .before .pre .1, h .before .before .before .loop .inv .same))
+    (registered-marked (g .ellipsis) (rulesOf (g .convention)) _ _ _ (ready h))
 
 add-i : tie.Need-add-i Inv-loop μ-loop
 add-i c = omega (arith, c .before .before .before .before .before .before .before .before .before .before .before .before .pre .0 .few, c .before .before .before .before .before .before .before .before .loop-test .taken)
@@ -84,8 +87,10 @@ loop-again c =
     let l : List ℕ = h .before .before .before .loop .area in
     let image : List ℕ = h .before .before .before .before .before .before .args .image .now in
     let start : ℕ = hand h .span .home .start in
-    let x : List ℕ = homedBytes (rulesOf (h .before .before .before .before .before .before .args .t3 .convention)) (hand h) image in
-    let e : putMid start (length l - start) l (c .before .before .put-home .last .0) ≡ splice l start x = ap (putMid start (length l - start) l) (c .before .before .put-home .ensures) ∙ lent-tail l start x in
+    let g = h .before .before .before .before .before .before .args .t3 in
+    let x : List ℕ = homedBytes (rulesIn g) (hand h) image in
+    let put = c .before .before .put-home .ensures ∙ ap (overlay _) (sym (bytes-marked (g .ellipsis) (rulesOf (g .convention)) (hand h) image)) in
+    let e : putMid start (length l - start) l (c .before .before .put-home .last .0) ≡ splice l start x = ap (putMid start (length l - start) l) put ∙ lent-tail l start x in
     rw e (homing-more _ _ _ _ _ _ _ _ (hand h) (next h) (h .before .before .before .loop .inv))
 
 same-length : tie.Need-same-length Inv-loop μ-loop
