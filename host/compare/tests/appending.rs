@@ -1,7 +1,10 @@
 //! Arguments that are appended move nothing: pairs of signatures, in the library and in the second
 //! program.
 
-use compare::appending;
+use compare::appending::{self, Cases, Pair};
+use compare::encode;
+use compare::random::Random;
+use reference::{Convention, Float, Integer, Signature, Type};
 
 /// The pairs of the test; both programs are held to each.
 const PAIRS: u64 = 100_000;
@@ -62,3 +65,32 @@ const CALLS: [&str; 8] = [
     "AIX var",
     "PPC64B var",
 ];
+
+/// Pairs of which the longer signature does not have the shorter one's arguments first, or not its
+/// result, are noticed.
+#[test]
+fn other_pairs() {
+    let (double, i32) = (Type::Float(Float::Double), Type::Integer(Integer::I32));
+    for convention in Convention::ALL {
+        let signature = |result: Option<&Type>, arguments: &[&Type]| Signature {
+            convention,
+            result: result.cloned(),
+            ellipsis: false,
+            arguments: arguments.iter().copied().cloned().collect(),
+        };
+        let longer = signature(None, &[&double, &i32, &double]);
+        for shorter in [
+            signature(None, &[&i32]),
+            signature(None, &[&double, &double]),
+            signature(Some(&i32), &[&double, &i32]),
+        ] {
+            let mut pair = Pair::of(&longer, 2, &mut Random::new(compare::seed()));
+            let mut cases = Cases::new();
+            assert!(appending::compare(&pair, &mut cases).is_ok());
+            pair.shorter = encode::signature(&shorter);
+            let difference = appending::compare(&pair, &mut cases);
+            let told = difference.expect_err("a pair that appends nothing").0;
+            assert!(told.starts_with("the library: plans "), "{told}");
+        }
+    }
+}
