@@ -8,115 +8,107 @@ use crate::signatures::hex;
 use crate::Difference;
 use flakuzhen::surface::plans::{self as surface, PLACE_WORDS};
 use reference::table::{self, Table, ENTRY};
-use reference::{first_unclear, Convention, Float, Integer, Signature, Type};
+use reference::{first_unclear, marshal, Convention, Float, Integer, Signature, Type};
 use std::collections::BTreeMap;
 
 /// Number, place and count of a refusal.
 type Refusal = [u64; 3];
 
 /// One of the two programs.
-struct Program {
-    name: &'static str,
-    table: fn(&[u8]) -> Result<Table, Refusal>,
-    listing: fn(&[u8]) -> String,
-    fill: fn(&[u8], &[u8], &mut Buffers) -> Result<(), Refusal>,
-    read: fn(&[u8], &mut [u8], &Buffers) -> Result<(), Refusal>,
+trait Program {
+    const NAME: &'static str;
+    fn table(signature: &[u8]) -> Result<Table, Refusal>;
+    fn listing(signature: &[u8]) -> String;
+    fn fill(signature: &[u8], values: &[u8], to: &mut Buffers) -> Result<(), Refusal>;
+    fn read(signature: &[u8], values: &mut [u8], from: &Buffers) -> Result<(), Refusal>;
 }
 
-const PROGRAMS: [Program; 2] = [
-    Program {
-        name: "the library",
-        table: library_table,
-        listing: flakuzhen::listing,
-        fill: |signature, values, to| {
-            let Buffers {
-                image,
-                area,
-                copies,
-                copy_base,
-                hidden,
-            } = to;
-            flakuzhen::fill(signature, values, image, area, copies, *copy_base, *hidden)
-                .map_err(library_refusal)
-        },
-        read: |signature, values, from| {
-            let Buffers {
-                image,
-                area,
-                copies,
-                copy_base,
-                ..
-            } = from;
-            flakuzhen::read(signature, values, image, area, copies, *copy_base)
-                .map_err(library_refusal)
-        },
-    },
-    Program {
-        name: "the second program",
-        table: |signature| table::table(signature).map_err(second_refusal),
-        listing: reference::listing,
-        fill: |signature, values, to| {
-            let Buffers {
-                image,
-                area,
-                copies,
-                copy_base,
-                hidden,
-            } = to;
-            reference::marshal::fill(signature, values, image, area, copies, *copy_base, *hidden)
-                .map_err(second_refusal)
-        },
-        read: |signature, values, from| {
-            let Buffers {
-                image,
-                area,
-                copies,
-                copy_base,
-                ..
-            } = from;
-            reference::marshal::read(signature, values, image, area, copies, *copy_base)
-                .map_err(second_refusal)
-        },
-    },
-];
+struct Library;
+
+impl Program for Library {
+    const NAME: &'static str = "the library";
+
+    fn table(signature: &[u8]) -> Result<Table, Refusal> {
+        let mut words = vec![0; PLACE_WORDS * generate::MOST_ARGUMENTS];
+        let planned = surface::plan(signature, &mut words);
+        let answer = planned.answer;
+        if answer.number != 0 {
+            return Err([answer.number, answer.place, answer.items]);
+        }
+        let entries = words.chunks_exact(PLACE_WORDS);
+        let entry = |words: &[u64]| <[u64; ENTRY]>::try_from(words).expect("the words of an entry");
+        Ok(Table {
+            head: [
+                planned.convention,
+                planned.ellipsis,
+                planned.arguments,
+                planned.values,
+                planned.area,
+                planned.copies,
+                planned.result,
+                planned.result_gpr,
+                planned.result_gprs,
+                planned.result_fpr,
+                planned.result_fprs,
+            ],
+            entries: entries
+                .take(planned.arguments as usize)
+                .map(entry)
+                .collect(),
+        })
+    }
+
+    fn listing(signature: &[u8]) -> String {
+        flakuzhen::listing(signature)
+    }
+
+    fn fill(signature: &[u8], values: &[u8], to: &mut Buffers) -> Result<(), Refusal> {
+        let (base, hidden) = (to.copy_base, to.hidden);
+        let (image, area, copies) = (&mut to.image, &mut to.area, &mut to.copies);
+        let answer = flakuzhen::fill(signature, values, image, area, copies, base, hidden);
+        answer.map_err(library_refusal)
+    }
+
+    fn read(signature: &[u8], values: &mut [u8], from: &Buffers) -> Result<(), Refusal> {
+        let (image, area, copies) = (&from.image, &from.area, &from.copies);
+        let answer = flakuzhen::read(signature, values, image, area, copies, from.copy_base);
+        answer.map_err(library_refusal)
+    }
+}
 
 fn library_refusal(refusal: flakuzhen::Refusal) -> Refusal {
     [refusal.number, refusal.place, refusal.items]
 }
 
-fn second_refusal(refusal: reference::Refusal) -> Refusal {
-    [refusal.number, refusal.place as u64, refusal.items as u64]
+struct Second;
+
+impl Program for Second {
+    const NAME: &'static str = "the second program";
+
+    fn table(signature: &[u8]) -> Result<Table, Refusal> {
+        table::table(signature).map_err(second_refusal)
+    }
+
+    fn listing(signature: &[u8]) -> String {
+        reference::listing(signature)
+    }
+
+    fn fill(signature: &[u8], values: &[u8], to: &mut Buffers) -> Result<(), Refusal> {
+        let (base, hidden) = (to.copy_base, to.hidden);
+        let (image, area, copies) = (&mut to.image, &mut to.area, &mut to.copies);
+        let answer = marshal::fill(signature, values, image, area, copies, base, hidden);
+        answer.map_err(second_refusal)
+    }
+
+    fn read(signature: &[u8], values: &mut [u8], from: &Buffers) -> Result<(), Refusal> {
+        let (image, area, copies) = (&from.image, &from.area, &from.copies);
+        let answer = marshal::read(signature, values, image, area, copies, from.copy_base);
+        answer.map_err(second_refusal)
+    }
 }
 
-/// The library's plan, in the second program's words.
-fn library_table(signature: &[u8]) -> Result<Table, Refusal> {
-    let mut words = vec![0; PLACE_WORDS * generate::MOST_ARGUMENTS];
-    let planned = surface::plan(signature, &mut words);
-    let answer = planned.answer;
-    if answer.number != 0 {
-        return Err([answer.number, answer.place, answer.items]);
-    }
-    let entries = words.chunks_exact(PLACE_WORDS);
-    let entry = |words: &[u64]| <[u64; ENTRY]>::try_from(words).expect("the words of an entry");
-    Ok(Table {
-        head: [
-            planned.convention,
-            planned.ellipsis,
-            planned.arguments,
-            planned.values,
-            planned.area,
-            planned.copies,
-            planned.result,
-            planned.result_gpr,
-            planned.result_gprs,
-            planned.result_fpr,
-            planned.result_fprs,
-        ],
-        entries: entries
-            .take(planned.arguments as usize)
-            .map(entry)
-            .collect(),
-    })
+fn second_refusal(refusal: reference::Refusal) -> Refusal {
+    [refusal.number, refusal.place as u64, refusal.items as u64]
 }
 
 /// What a call's values are put in.
@@ -232,28 +224,25 @@ pub fn run(seed: u64, pairs: u64) -> Result<Cases, Difference> {
 
 /// Holds both programs to what is said of a pair.
 pub fn compare(pair: &Pair, cases: &mut Cases) -> Result<(), Difference> {
-    for program in &PROGRAMS {
-        let found = check(program, pair).map_err(|told| {
-            Difference(format!(
-                "{}: {told}\nfor the signature {}\nand the longer {}",
-                program.name,
-                hex(&pair.shorter),
-                hex(&pair.longer)
-            ))
-        })?;
-        for case in found {
-            *cases.entry(case).or_default() += 1;
-        }
+    hold::<Library>(pair, cases)?;
+    hold::<Second>(pair, cases)
+}
+
+fn hold<P: Program>(pair: &Pair, cases: &mut Cases) -> Result<(), Difference> {
+    let found = check::<P>(pair).map_err(|told| {
+        let (shorter, longer) = (hex(&pair.shorter), hex(&pair.longer));
+        let signatures = format!("for the signature {shorter}\nand the longer {longer}");
+        Difference(format!("{}: {told}\n{signatures}", P::NAME))
+    })?;
+    for case in found {
+        *cases.entry(case).or_default() += 1;
     }
     Ok(())
 }
 
 /// What is said of a pair, and the cases that it is.
-fn check(program: &Program, pair: &Pair) -> Result<Vec<String>, String> {
-    let (shorter, longer) = match (
-        (program.table)(&pair.shorter),
-        (program.table)(&pair.longer),
-    ) {
+fn check<P: Program>(pair: &Pair) -> Result<Vec<String>, String> {
+    let (shorter, longer) = match (P::table(&pair.shorter), P::table(&pair.longer)) {
         (Ok(shorter), Ok(longer)) => (shorter, longer),
         // "provided that the longer signature is accepted"
         (Ok(_), Err([29, ..])) => return Ok(vec!["29 of an appended argument".to_string()]),
@@ -261,11 +250,8 @@ fn check(program: &Program, pair: &Pair) -> Result<Vec<String>, String> {
             return Ok(vec!["29 of an earlier argument".to_string()])
         }
         (shorter, longer) => {
-            let (shorter, longer) = (
-                shorter.map(|table| table.head),
-                longer.map(|table| table.head),
-            );
-            return Err(format!("answers {shorter:?} and {longer:?}"));
+            let heads = [shorter, longer].map(|answer| answer.map(|table| table.head));
+            return Err(format!("answers {heads:?}"));
         }
     };
 
@@ -283,8 +269,8 @@ fn check(program: &Program, pair: &Pair) -> Result<Vec<String>, String> {
     if !grown || !same {
         return Err(format!("plans {:?}\nand {:?}", shorter.head, longer.head));
     }
-    check_listings(program, pair, kept)?;
-    check_filling(program, pair, &shorter.head, &longer.head)?;
+    check_listings::<P>(pair, kept)?;
+    check_filling::<P>(pair, &shorter.head, &longer.head)?;
 
     let name = match convention {
         1 => "PPC64",
@@ -310,11 +296,8 @@ fn check(program: &Program, pair: &Pair) -> Result<Vec<String>, String> {
 }
 
 /// The lines of the earlier arguments and of the result are the same, byte for byte.
-fn check_listings(program: &Program, pair: &Pair, kept: usize) -> Result<(), String> {
-    let (shorter, longer) = (
-        (program.listing)(&pair.shorter),
-        (program.listing)(&pair.longer),
-    );
+fn check_listings<P: Program>(pair: &Pair, kept: usize) -> Result<(), String> {
+    let (shorter, longer) = (P::listing(&pair.shorter), P::listing(&pair.longer));
     let lines = |text: &str| {
         let mut lines: Vec<String> = text.lines().map(str::to_string).collect();
         let last = lines.pop();
@@ -329,8 +312,7 @@ fn check_listings(program: &Program, pair: &Pair, kept: usize) -> Result<(), Str
 
 /// Filling by the longer signature leaves each byte that filling by the shorter one writes as that
 /// one does, and reading by the shorter one gives its values back.
-fn check_filling(
-    program: &Program,
+fn check_filling<P: Program>(
     pair: &Pair,
     shorter: &[u64; 11],
     longer: &[u64; 11],
@@ -341,7 +323,7 @@ fn check_filling(
     let own = &pair.values[..shorter[3] as usize];
     let fill = |byte: u8, signature: &[u8], values: &[u8]| {
         let mut buffers = Buffers::of(byte, longer, copy_base, hidden);
-        let answer = (program.fill)(signature, values, &mut buffers);
+        let answer = P::fill(signature, values, &mut buffers);
         answer.map_err(|no| format!("refuses to fill: {no:?}"))?;
         Ok::<Buffers, String>(buffers)
     };
@@ -354,7 +336,7 @@ fn check_filling(
         return Err("fills an earlier argument's place with something else".to_string());
     }
     let mut back = vec![0; own.len()];
-    let answer = (program.read)(&pair.shorter, &mut back, &all);
+    let answer = P::read(&pair.shorter, &mut back, &all);
     match (answer, back == own) {
         (Ok(()), true) => Ok(()),
         (answer, _) => Err(format!(

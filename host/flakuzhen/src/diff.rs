@@ -73,19 +73,17 @@ struct Report {
 }
 
 impl Report {
+    /// Nothing is told of what neither has.
     fn place(&mut self, name: &str, old: Option<String>, new: Option<String>) {
-        let told = match (old, new) {
-            (Some(old), Some(new)) if old == new => format!("kept {old}"),
-            (None, Some(new)) => format!("new {new}"),
-            (old, new) => {
-                self.moved = true;
-                match (old, new) {
-                    (Some(old), Some(new)) => format!("moved {old} to {new}"),
-                    (old, _) => format!("gone {}", old.unwrap_or_default()),
-                }
-            }
+        let (told, moved) = match (old, new) {
+            (Some(old), Some(new)) if old == new => (format!("kept {old}"), false),
+            (Some(old), Some(new)) => (format!("moved {old} to {new}"), true),
+            (Some(old), None) => (format!("gone {old}"), true),
+            (None, Some(new)) => (format!("new {new}"), false),
+            (None, None) => return,
         };
         self.text += &format!("{name} {told}\n");
+        self.moved |= moved;
     }
 
     fn size(&mut self, name: &str, old: u64, new: u64) {
