@@ -1,7 +1,7 @@
 -- One argument on PowerPC. Document 01, "Places on PPC64" (000, 3.2.3), over the bytes w of a word: 8 on PPC64, where a word is a
 -- doubleword. 01 counts words by one number; here the cursor holds the next GPR and the next byte of the area, and the laws
--- `words-written`, `float-written`, `ellipsis-written` and `next-counted` say that this is the same. A word of the argument list that has a GPR is
--- one of the first eight. Assumes nothing.
+-- `words-written`, `float-written`, `ellipsis-written` and `next-counted` say that this is the same. A word of the argument list
+-- that has a GPR is one of the first eight. Assumes nothing.
 use Prim.Native.Nat.{ℕ, zero, suc, _+_, _-_, _*_, _/_, _≤_, min}
 use mathlib.Core.Bool.{Bool, true, false}
 use lib.Dec.{ltb, leb}

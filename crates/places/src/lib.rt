@@ -14,7 +14,7 @@ pub enum Edition {
     Later,
 }
 
-// What calls on PowerPC differ in: the bytes of a word of the argument list, the edition, and whether an ellipsis stands before the arguments.
+// What calls on PowerPC differ in: the bytes of a word of the argument list, the edition, and whether the call has an ellipsis.
 pub struct PowerRules {
     pub word: usize,
     pub edition: Edition,

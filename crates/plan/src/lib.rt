@@ -6,8 +6,8 @@ use places::Span;
 use signature::MAX_ARGUMENTS;
 use signature::Outcome;
 
-// The plan of a signature, or the reader's refusal. `area` is the size of the parameter area, `values` that of all arguments'
-// values, and `copies` the end of the last copy. Of `spans` the first `count` belong to arguments, the others to none. A
+// The plan of a signature, or the reader's refusal. `ellipsis` says whether the signature has one; `area` is the size of the parameter area, `values`
+// that of all arguments' values, and `copies` the end of the last copy. Of `spans` the first `count` belong to arguments, the others to none. A
 // refused signature has a plan of nothing.
 pub struct Plan {
     pub outcome: Outcome,

@@ -64,8 +64,8 @@ fn both_of(m: usize, room: usize, n: usize, k: usize) -> Share
     }
 }
 
-// An argument of n words, k of which have a GPR, that asks for m FPRs where `room` are left. Only of a float is it asked whether an ellipsis stands
-// before it.
+// An argument of n words, k of which have a GPR, that asks for m FPRs where `room` are left. Only of a float is it asked whether the call has an
+// ellipsis.
 fn share_of(ellipsis: bool, m: usize, room: usize, n: usize, k: usize) -> Share
     requires { ⌜ k ≤ n ⌝ }
     ensures { λ r. ⌜ r ≡ shareOf ellipsis m room n k ⌝ }

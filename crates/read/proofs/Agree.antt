@@ -28,6 +28,11 @@ use Rattle.read.specs.Read.{sameBytes, ownHeld, agrees, Compared}
 
 -- ---- the same bytes
 
+pub same-refl : (l : List ℕ) → sameBytes l l ≡ true
+unfolding sameBytes
+same-refl [] = refl
+same-refl (x ∷ l) = simp (eq-eqb x x refl) (same-refl l)
+
 same-next : (x y : ℕ) (a b : List ℕ) → x ≡ y → sameBytes (x ∷ a) (y ∷ b) ≡ sameBytes a b
 unfolding sameBytes
 same-next x y a b e = simp (eq-eqb x y e)

@@ -4,9 +4,9 @@ use mathlib.Core.Path.{_≡_, refl, sym, ap, ap₂, _∙_}
 use mathlib.Core.Logic.{inr}
 use mathlib.Core.Bool.{Bool, true, false}
 use mathlib.Core.List.{List, [], _∷_, _++_}
-use Prim.Native.Nat.{ℕ, _+_, _-_, _*_, _^_, _≤_, _<_}
+use Prim.Native.Nat.{ℕ, zero, suc, _+_, _-_, _*_, _^_, _≤_, _<_}
 use native.Mathlib.Omega.{arith}
-use native.Mathlib.Nat.{add-sub-cancel-left, mul-zero}
+use native.Mathlib.Nat.{add-sub-cancel-left}
 use borrow.Author.Tests.{ltb-true, ltb-false, le-leb}
 use lib.Dec.{ltb}
 use lib.ListN.{length, take, drop}
@@ -30,10 +30,11 @@ use Rattle.slots.proofs.Limits.{form-length, one-word}
 use Rattle.registers.specs.Registers.{spread, gather}
 use Rattle.registers.proofs.Registers.{length-spread, gather-spread}
 use Rattle.slots.proofs.Buffers.{SameLengths}
-use Rattle.slots.specs.Refusals.{floatAnswer}
-use Rattle.read.specs.Read.{inCopies, copyAnswer, argumentAnswer}
+use Rattle.slots.specs.Refusals.{orElse, floatAnswer}
+use Rattle.read.specs.Read.{inCopies, copyAnswer, ownHeld, agrees, agreeAnswer, argumentAnswer}
+use Rattle.read.proofs.Agree.{same-refl}
 use Rattle.roundtrip.proofs.Kept.{Upto, Banked, AllLater, kept-all}
-use Rattle.roundtrip.proofs.Forms.{float-back, own-back, length-home}
+use Rattle.roundtrip.proofs.Forms.{float-back, own-back, length-home, prefix-part}
 
 -- what the buffers b hold of the argument p, of value v
 pub record Stands (r : Rules) (base : ℕ) (p : Placement) (v : List ℕ) (b : Buffers) : Type 0 where
@@ -55,6 +56,17 @@ pub record Given (r : Rules) (base : ℕ) (p : Placement) (v : List ℕ) (b : Bu
 module _ (r : Rules) (base : ℕ) (p : Placement) (v : List ℕ) (b : Buffers) (g : Given r base p v b) where
   -- ---- lengths
 
+  -- the form of a value that is passed itself
+  value-length : p .span .indirect ≡ false → length (homeBytes r (p .ty) (p .size) v) ≡ roomOf r (p .size)
+  value-length q =
+      ap (λ (n : ℕ). length (homeBytes r (p .ty) n v)) (sym (g .size))
+      ∙ length-home r (p .ty) v (λ e. rw (g .size) (g .held .room q .0))
+      ∙ ap (roomOf r) (g .size)
+
+  value-stands : p .span .indirect ≡ false → standing r base p v ≡ homeBytes r (p .ty) (p .size) v
+  unfolding standing
+  value-stands q = rw q
+
   -- all words of an argument that is in no FPR
   words-length : p .span .floating .count ≤ 0 → length (standing r base p v) ≡ wordOf r * p .span .general .count + p .span .memory .length
   unfolding standing
@@ -66,11 +78,7 @@ module _ (r : Rules) (base : ℕ) (p : Placement) (v : List ℕ) (b : Buffers) (
       go : (i : Bool) → p .span .indirect ≡ i
           → length (pick i (bytesOf (wordOf r) (base + p .span .copy .start)) (homeBytes r (p .ty) (p .size) v)) ≡ wordOf r * p .span .general .count + p .span .memory .length
       go true q = length-bytesOf (wordOf r) (base + p .span .copy .start) ∙ sym (one-word r p (g .held) none q)
-      go false q =
-          ap (λ (n : ℕ). length (homeBytes r (p .ty) n v)) (sym (g .size))
-          ∙ length-home r (p .ty) v (λ e. rw (g .size) (g .held .room q .0))
-          ∙ ap (roomOf r) (g .size)
-          ∙ sym (g .held .words no)
+      go false q = value-length q ∙ sym (g .held .words no)
 
   sized : 0 < p .span .floating .count → FloatSized (equivalentOf (p .ty)) (p .span .floating .count) (length v)
   sized some = rw (g .size) (g .held .float some)
@@ -90,14 +98,16 @@ module _ (r : Rules) (base : ℕ) (p : Placement) (v : List ℕ) (b : Buffers) (
           let no : p .span .floating .count ≡ 0 = omega arith in
           rw no
 
-  -- FPRs leave no words
+  -- beside FPRs there are all words of the value, or none
   word-room : wordOf r * p .span .general .count + p .span .memory .length ≤ length (standing r base p v)
   word-room = go (ltb 0 (p .span .floating .count)) refl
     where
+      words : (n : ℕ) → wordOf r * p .span .general .count + p .span .memory .length ≡ n → p .span .indirect ≡ false → n ≤ length (standing r base p v)
+      words zero e q = omega arith
+      words (suc n) e q = omega (arith, g .held .also (omega arith), ap length (value-stands q), value-length q)
+
       go : (f : Bool) → ltb 0 (p .span .floating .count) ≡ f → wordOf r * p .span .general .count + p .span .memory .length ≤ length (standing r base p v)
-      go true q =
-          let none = g .held .alone (ltb-true 0 (p .span .floating .count) q) in
-          omega (arith, none, mul-zero (wordOf r), ap (λ (n : ℕ). wordOf r * n) (none .0))
+      go true q = words (wordOf r * p .span .general .count + p .span .memory .length) refl (g .held .direct (ltb-true 0 (p .span .floating .count) q))
       go false q = let none : p .span .floating .count ≤ 0 = ltb-false 0 (p .span .floating .count) q in omega (arith, words-length none)
 
   registers-length : length (spread (wordOf r) (p .span .general .count) (standing r base p v)) ≡ 8 * p .span .general .count
@@ -156,6 +166,31 @@ module _ (r : Rules) (base : ℕ) (p : Placement) (v : List ℕ) (b : Buffers) (
     unfolding floatBytes
     float-stands some = s .floats ∙ take-all (8 * p .span .floating .count) (floatForm r (equivalentOf (p .ty)) v) (omega (arith, run-length some))
 
+    pub float-read : 0 < p .span .floating .count
+        → (floatAnswer r (equivalentOf (p .ty)) (valueOf (floatAt (p .span) c)) ≡ Answer.Done) × (floatValueAs r (equivalentOf (p .ty)) (floatAt (p .span) c) ≡ v)
+    float-read some =
+        let back = float-back r (equivalentOf (p .ty)) (p .span .floating .count) v (sized some) (g .bytes) in
+        (ap (λ (l : List ℕ). floatAnswer r (equivalentOf (p .ty)) (valueOf l)) (float-stands some) ∙ back .0, ap (floatValueAs r (equivalentOf (p .ty))) (float-stands some) ∙ back .1)
+
+    -- 26 is not given: what stands in general registers are bytes of the value, and so is what stands in FPRs
+    float-agrees : 0 < p .span .floating .count → agrees r p c ≡ true
+    unfolding agrees ownHeld floatValue
+    float-agrees some =
+        let q : p .span .indirect ≡ false = g .held .direct some in
+        let o : ℕ = ownStart r (p .ty) (p .size) in
+        let k : ℕ = p .span .general .count in
+        let hs : List ℕ = homeBytes r (p .ty) (p .size) v in
+        let own : List ℕ = part o (p .size) (take (wordOf r * k) hs) in
+        let held : gather (wordOf r) k (bytesAt (general (p .span .general .first)) (8 * k) c) ≡ take (wordOf r * k) hs =
+        ap (gather (wordOf r) k) (s .registers)
+        ∙ gather-spread (wordOf r) k (standing r base p v) (g .held .word .1) (omega (arith, word-room))
+        ∙ ap (take (wordOf r * k)) (value-stands q) in
+        let value : part o (p .size) hs ≡ v =
+        ap (λ (n : ℕ). part (ownStart r (p .ty) n) n (homeBytes r (p .ty) n v)) (sym (g .size))
+        ∙ own-back r (p .ty) v (g .bytes) (λ e. rw (g .size) (g .held .small e q .1, g .held .room q .0)) in
+        let same : take (length own) v ≡ own = ap (take (length own)) (sym value) ∙ prefix-part o (p .size) (wordOf r * k) hs in
+        rw (held, float-read some .1, same) (same-refl own)
+
     address-back : p .span .floating .count ≤ 0 → p .span .indirect ≡ true → addressAt (wordOf r) (p .span) c ≡ base + p .span .copy .start
     unfolding standing
     address-back none q =
@@ -193,13 +228,12 @@ module _ (r : Rules) (base : ℕ) (p : Placement) (v : List ℕ) (b : Buffers) (
         words false q none = refl
 
         go : (f : Bool) → ltb 0 (p .span .floating .count) ≡ f
-            → pick f (floatAnswer r (equivalentOf (p .ty)) (valueOf (floatAt (p .span) c)))
+            → pick f (orElse (floatAnswer r (equivalentOf (p .ty)) (valueOf (floatAt (p .span) c))) (agreeAnswer (agrees r p c)))
             (pick (p .span .indirect) (copyAnswer (inCopies (addressAt (wordOf r) (p .span) c) base (p .size) (length (c .copies)))) Answer.Done)
             ≡ Answer.Done
         go true q =
             let some : 0 < p .span .floating .count = ltb-true 0 (p .span .floating .count) q in
-            ap (λ (l : List ℕ). floatAnswer r (equivalentOf (p .ty)) (valueOf l)) (float-stands some)
-            ∙ float-back r (equivalentOf (p .ty)) (p .span .floating .count) v (sized some) (g .bytes) .0
+            ap₂ orElse (float-read some .0) (ap agreeAnswer (float-agrees some))
         go false q = words (p .span .indirect) refl (ltb-false 0 (p .span .floating .count) q)
 
     pub stands-value : valueAt r base p c ≡ v
@@ -219,10 +253,7 @@ module _ (r : Rules) (base : ℕ) (p : Placement) (v : List ℕ) (b : Buffers) (
             (pick (p .span .indirect) (bytesAt (copies (addressAt (wordOf r) (p .span) c - base)) (p .size) c)
             (part (ownStart r (p .ty) (p .size)) (p .size) (wordsAt (wordOf r) (p .span) c)))
             ≡ v
-        go true q =
-            let some : 0 < p .span .floating .count = ltb-true 0 (p .span .floating .count) q in
-            ap (floatValueAs r (equivalentOf (p .ty))) (float-stands some)
-            ∙ float-back r (equivalentOf (p .ty)) (p .span .floating .count) v (sized some) (g .bytes) .1
+        go true q = float-read (ltb-true 0 (p .span .floating .count) q) .1
         go false q = words (p .span .indirect) refl (ltb-false 0 (p .span .floating .count) q)
 
 -- ---- kept

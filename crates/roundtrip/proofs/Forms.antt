@@ -1,8 +1,8 @@
 -- A value's own bytes back out of its form. Assumes nothing.
 use mathlib.Core.Path.{_≡_, refl, sym, ap, _∙_}
 use mathlib.Core.Bool.{Bool, true, false}
-use mathlib.Core.List.{List, _++_}
-use Prim.Native.Nat.{ℕ, _+_, _-_, _*_, _/_, _^_, _≤_, _<_}
+use mathlib.Core.List.{List, [], _∷_, _++_}
+use Prim.Native.Nat.{ℕ, zero, suc, _+_, _-_, _*_, _/_, _^_, _≤_, _<_}
 use native.Mathlib.Omega.{arith}
 use lib.ListN.{length, take, replicate, length-append, length-replicate}
 use lib.Seq.{take-all, take-append-le, take-at, drop-at}
@@ -101,3 +101,18 @@ length-home r t v h = go (startsAtHead r t) refl
         let k = h q in
         omega (arith, length-append v (replicate (roomOf r (length v) - length v) 0), length-replicate {A = ℕ} (roomOf r (length v) - length v) 0)
     go false q = length-bytesOf (roomOf r (length v)) (extended t (length v) (valueOf v))
+
+-- ---- the first bytes of a part, where only the first k of its list are there
+
+prefix : (j n : ℕ) (d : List ℕ) → take (length (take n (take j d))) (take n d) ≡ take n (take j d)
+prefix j zero d = refl
+prefix zero (suc n) d = refl
+prefix (suc j) (suc n) [] = refl
+prefix (suc j) (suc n) (x ∷ d) = ap (λ (l : List ℕ). x ∷ l) (prefix j n d)
+
+pub prefix-part : (o n k : ℕ) (l : List ℕ) → take (length (part o n (take k l))) (part o n l) ≡ part o n (take k l)
+prefix-part zero n k l = prefix k n l
+prefix-part (suc o) zero k l = refl
+prefix-part (suc o) (suc n) zero l = refl
+prefix-part (suc o) (suc n) (suc k) [] = refl
+prefix-part (suc o) (suc n) (suc k) (x ∷ l) = prefix-part o (suc n) k l

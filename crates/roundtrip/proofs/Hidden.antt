@@ -22,8 +22,10 @@ use Rattle.places.specs.Spots.{general}
 use Rattle.places.specs.Values.{pointer}
 use Rattle.places.specs.ZSeries.{zClass, zSpanOf, zNextOf}
 use Rattle.places.specs.Power.{words, fprs, shareOf, powerShare}
-use Rattle.places.specs.Step.{rulesOf, wordOf, nextOf, spanOf, fresh, startOf}
+use Rattle.places.specs.declared.Rules.{Rules}
+use Rattle.places.specs.Step.{rulesOf, withEllipsis, wordOf, nextOf, spanOf, fresh, startOf}
 use Rattle.places.proofs.Bounds.{named-start, rules-lawful, word-most}
+use Rattle.places.proofs.Marked.{lawful-marked, named-marked}
 use Rattle.plan.proofs.Theorems.{hidden-address}
 use Rattle.plan.specs.Plan.{startIn, hiddenIn, resultIn, planAnswer, planIn, typesOf}
 use Rattle.registers.specs.Registers.{spread}
@@ -31,7 +33,7 @@ use Rattle.slots.specs.declared.Answer.{Answer}
 use Rattle.slots.specs.Buffers.{Buffers, buffers, Slot, put, putAll, bytesAt}
 use Rattle.slots.specs.Placements.{slotsOfAll, hiddenSlots}
 use Rattle.plan.specs.Call.{outcomeFor}
-use Rattle.slots.specs.Arguments.{argumentsIn, argumentsOf, planFor, rulesFor}
+use Rattle.slots.specs.Arguments.{argumentsIn, argumentsOf, planFor, rulesIn, rulesFor}
 use Rattle.slots.proofs.Buffers.{putAll-append}
 use Rattle.slots.proofs.Answered.{arguments-got}
 use Rattle.fill.specs.Fill.{highAddress, fillAnswer, filledSlots, fillBuffers}
@@ -56,16 +58,17 @@ register-first c r x e = let h = hidden-address c r x e in rw (h .0, h .1) (addr
 
 -- the arguments' slots leave it
 hidden-kept : (y : Reading Signature) (base : ℕ) (v : List ℕ) (x : Span) (b : Buffers) → planAnswer y .result ≡ ResultPlaces.Hidden x
-    → bytesAt (general (x .general .first)) 8 (putAll (slotsOfAll (rulesOf (signatureAnswer y .convention)) base (argumentsIn (signatureAnswer y) (planAnswer y)) v) b)
+    → bytesAt (general (x .general .first)) 8 (putAll (slotsOfAll (rulesIn (signatureAnswer y)) base (argumentsIn (signatureAnswer y) (planAnswer y)) v) b)
     ≡ bytesAt (general (x .general .first)) 8 b
 unfolding planAnswer planIn
 hidden-kept (got g next n) base v x b e =
     let c : Convention = g .convention in
     let r : ResultType = resultType c (g .result) in
+    let q : Rules = withEllipsis (g .ellipsis) (rulesOf c) in
     let f = register-first c r x e in
     rw (arguments-got g next n)
     (kept-all (startIn c r) (general (x .general .first)) 8 _ b (omega (arith, f .0)) (omega (arith, f .1))
-    (all-later c (rulesOf c) base (startIn c r) (typesOf c (g .arguments)) v (word-most (rulesOf c) (rules-lawful c)) (named-start (rulesOf c) (hiddenIn c r))))
+    (all-later c q base (startIn c r) (typesOf c (g .arguments)) v (word-most q (lawful-marked (g .ellipsis) (rulesOf c) (rules-lawful c))) (named-marked (g .ellipsis) (rulesOf c) _ (named-start (rulesOf c) (hiddenIn c r)))))
 hidden-kept (no f) base v x b e = let z : _≡_ {A = ℕ} 0 1 = cc in absurd (omega arith)
 
 register-below : (y : Reading Signature) (x : Span) → planAnswer y .result ≡ ResultPlaces.Hidden x → x .general .first < 32
@@ -77,14 +80,15 @@ pub hidden-stands : HiddenStands
 unfolding fillAnswer fillBuffers filledSlots argumentsOf putAll put bytesAt planAnswer
 hidden-stands s values image area copies base hidden x h e =
     let b : Buffers = buffers image area copies in
-    let c : Convention = signatureAnswer (signatureOf s) .convention in
+    let g = signatureAnswer (signatureOf s) in
+    let c : Convention = g .convention in
     let w : ℕ = wordOf (rulesFor s) in
     let ss : List Slot = slotsOfAll (rulesFor s) base (argumentsOf s) values in
     let size : length image ≡ 512 = filled-lent s values image area copies base hidden h .image in
     let below = register-below (signatureOf s) x e in
     let low = tests-low _ _ _ _ _ _ (reading-done (outcomeFor s) _ (h .accepted) Answer.Done refl .0) in
     let word : spread w 1 (bytesOf w hidden) ≡ bytesOf 8 hidden =
-    low-address w hidden x (word-most (rulesOf c) (rules-lawful c)) (subst (λ (q : ResultPlaces). highAddress w q hidden ≡ false) e low) in
+    low-address w hidden x (word-most (rulesFor s) (lawful-marked (g .ellipsis) (rulesOf c) (rules-lawful c))) (subst (λ (q : ResultPlaces). highAddress w q hidden ≡ false) e low) in
     rw e
     (ap (λ (y : Buffers). bytesAt (general (x .general .first)) 8 y) (putAll-append (hiddenSlots w (ResultPlaces.Hidden x) hidden) ss b)
     ∙ hidden-kept (signatureOf s) base values x (putAll (hiddenSlots w (ResultPlaces.Hidden x) hidden) b) e

@@ -20,8 +20,9 @@ use Rattle.signature.specs.Answer.{resultType, signatureAnswer}
 use Rattle.places.specs.declared.Cursor.{Cursor}
 use Rattle.places.specs.declared.Rules.{Rules}
 use Rattle.places.specs.Spots.{Spot, general, floating, area, copies}
-use Rattle.places.specs.Step.{rulesOf, wordOf, spanOf, nextOf}
+use Rattle.places.specs.Step.{rulesOf, withEllipsis, wordOf, spanOf, nextOf}
 use Rattle.places.proofs.Bounds.{Named, named-next, named-start}
+use Rattle.places.proofs.Marked.{named-marked}
 use Rattle.places.proofs.Between.{From, step-between}
 use Rattle.places.proofs.Registers.{step-numbered}
 use Rattle.plan.specs.Plan.{spansOf, hiddenIn, startIn, planAnswer, typesOf}
@@ -30,7 +31,7 @@ use Rattle.slots.specs.Placements.{Placement, placement, placements, standing, 
 use Rattle.slots.specs.Limits.{Held, All}
 use Rattle.slots.specs.Forms.{floatBytes}
 use Rattle.registers.proofs.Registers.{spread-short}
-use Rattle.slots.specs.Arguments.{argumentsIn, argumentsOf, rulesFor, Carried}
+use Rattle.slots.specs.Arguments.{argumentsIn, argumentsOf, rulesIn, rulesFor, Carried}
 use Rattle.slots.proofs.Answered.{arguments-got, carried}
 use Rattle.roundtrip.specs.Places.{Byte, inImage, inArea, inCopies, CoversFrom, Touches, slotLists, SlotsApart}
 use Rattle.roundtrip.proofs.Kept.{Upto, Banked, AllLater, all-later, take-short}
@@ -145,7 +146,7 @@ ordered-apart c r base k (y ∷ ts) v (suc i) (suc j) x named h l s t =
 -- ---- every signature
 
 none-touched : (base : ℕ) (v : List ℕ) (f : Fault) (i : ℕ) (x : Byte)
-    → Touches (getD (slotLists (rulesOf Convention.Ppc64) base (argumentsIn (signatureAnswer (no f)) (planAnswer (no f))) v) i []) x → ⊥
+    → Touches (getD (slotLists (rulesIn (signatureAnswer (no f))) base (argumentsIn (signatureAnswer (no f)) (planAnswer (no f))) v) i []) x → ⊥
 unfolding argumentsIn placements planAnswer slotLists Touches
 none-touched base v f zero x t = t
 none-touched base v f (suc i) x t = t
@@ -156,15 +157,16 @@ unfolding argumentsOf
 sorted s base v i j x l = go (signatureOf s) (carried s)
   where
     go : (q : Reading Signature) → Carried (signatureAnswer q) (planAnswer q)
-        → Touches (getD (slotLists (rulesOf (signatureAnswer q .convention)) base (argumentsIn (signatureAnswer q) (planAnswer q)) v) i []) x
-        → Touches (getD (slotLists (rulesOf (signatureAnswer q .convention)) base (argumentsIn (signatureAnswer q) (planAnswer q)) v) j []) x → ⊥
+        → Touches (getD (slotLists (rulesIn (signatureAnswer q)) base (argumentsIn (signatureAnswer q) (planAnswer q)) v) i []) x
+        → Touches (getD (slotLists (rulesIn (signatureAnswer q)) base (argumentsIn (signatureAnswer q) (planAnswer q)) v) j []) x → ⊥
     go (got g next n) h a b =
         let c : Convention = g .convention in
+        let r : Rules = withEllipsis (g .ellipsis) (rulesOf c) in
         let same = arguments-got g next n in
-        ordered-apart c (rulesOf c) base (startIn c (resultType c (g .result))) (typesOf c (g .arguments)) v i j x
-        (named-start (rulesOf c) (hiddenIn c (resultType c (g .result)))) (subst (All (Held (rulesOf c))) same (h .held)) l
-        (subst (λ (ps : List Placement). Touches (getD (slotLists (rulesOf c) base ps v) i []) x) same a)
-        (subst (λ (ps : List Placement). Touches (getD (slotLists (rulesOf c) base ps v) j []) x) same b)
+        ordered-apart c r base (startIn c (resultType c (g .result))) (typesOf c (g .arguments)) v i j x
+        (named-marked (g .ellipsis) (rulesOf c) _ (named-start (rulesOf c) (hiddenIn c (resultType c (g .result))))) (subst (All (Held r)) same (h .held)) l
+        (subst (λ (ps : List Placement). Touches (getD (slotLists r base ps v) i []) x) same a)
+        (subst (λ (ps : List Placement). Touches (getD (slotLists r base ps v) j []) x) same b)
     go (no f) h a b = none-touched base v f i x a
 
 pub slots-apart : SlotsApart

@@ -14,7 +14,7 @@ use Rattle.signature.specs.Answer.{signatureAnswer, resultType}
 use Rattle.signature.proofs.Theorems.{accepted}
 use Rattle.places.specs.declared.Cursor.{Cursor}
 use Rattle.places.specs.declared.Rules.{Rules}
-use Rattle.places.specs.Step.{rulesOf, nextOf}
+use Rattle.places.specs.Step.{rulesOf, withEllipsis, nextOf}
 use Rattle.plan.specs.Plan.{spansOf, startIn, planAnswer, typesOf}
 use Rattle.slots.specs.Placements.{Placement, placements}
 use Rattle.slots.specs.Limits.{All}
@@ -43,7 +43,7 @@ arguments-some s = go (signatureOf s) refl
     go : (x : Reading Signature) → signatureOf s ≡ x → All Some (argumentsIn (signatureAnswer x) (planAnswer x))
     go (got g next n) e =
         subst (All Some) (sym (arguments-got g next n))
-        (all-some (g .convention) (rulesOf (g .convention)) (startIn (g .convention) (resultType (g .convention) (g .result))) (typesOf (g .convention) (g .arguments))
+        (all-some (g .convention) (withEllipsis (g .ellipsis) (rulesOf (g .convention))) (startIn (g .convention) (resultType (g .convention) (g .result))) (typesOf (g .convention) (g .arguments))
         (all-typed (g .convention) (g .arguments) (accepted s g next n e .arguments)))
     go (no f) e = none-some
 

@@ -24,8 +24,9 @@ use Rattle.signature.specs.Read.{signatureOf}
 use Rattle.signature.specs.Answer.{resultType, signatureAnswer}
 use Rattle.places.specs.declared.Cursor.{Cursor}
 use Rattle.places.specs.declared.Rules.{Rules}
-use Rattle.places.specs.Step.{rulesOf, wordOf, spanOf, nextOf}
+use Rattle.places.specs.Step.{rulesOf, withEllipsis, wordOf, spanOf, nextOf}
 use Rattle.places.proofs.Bounds.{Named, named-next, named-start}
+use Rattle.places.proofs.Marked.{named-marked}
 use Rattle.places.proofs.Between.{step-between}
 use Rattle.places.proofs.Registers.{step-numbered}
 use Rattle.plan.specs.declared.Plan.{Plan}
@@ -36,7 +37,7 @@ use Rattle.slots.specs.Placements.{Placement, placement, placements, copyBytes,
 use Rattle.slots.specs.Limits.{Held, Fits, All, sizesOf}
 use Rattle.slots.specs.Refusals.{firstOf, orElse, firstOfAll, afterReading}
 use Rattle.plan.specs.Call.{outcomeFor}
-use Rattle.slots.specs.Arguments.{argumentsIn, argumentsOf, planFor, rulesFor, Carried}
+use Rattle.slots.specs.Arguments.{argumentsIn, argumentsOf, planFor, rulesIn, rulesFor, Carried}
 use Rattle.slots.proofs.Buffers.{SameLengths, same-then, putAll-lengths, putAll-append}
 use Rattle.slots.proofs.Answered.{carried, arguments-got}
 use Rattle.fill.specs.Fill.{lengths, fillAnswer, filledSlots, fillBuffers}
@@ -163,7 +164,7 @@ overlay-whole l bs e =
 
 -- a refused signature has no arguments
 none-put : (base : ℕ) (v : List ℕ) (b : Buffers) (f : Fault)
-    → AllPut (rulesOf Convention.Ppc64) base (argumentsIn (signatureAnswer (no f)) (planAnswer (no f))) v b
+    → AllPut (rulesIn (signatureAnswer (no f))) base (argumentsIn (signatureAnswer (no f)) (planAnswer (no f))) v b
 unfolding AllPut argumentsIn placements
 none-put base v b f = tt
 
@@ -176,16 +177,17 @@ plan-put s base v b bytes values image area copies low = go (signatureOf s) (car
   where
     go : (x : Reading Signature) → Carried (signatureAnswer x) (planAnswer x) → length v ≡ planAnswer x .values → planAnswer x .area ≤ length (b .area)
         → planAnswer x .copies ≤ length (b .copies) → base + planAnswer x .copies < 2 ^ 64
-        → AllPut (rulesOf (signatureAnswer x .convention)) base (argumentsIn (signatureAnswer x) (planAnswer x)) v
-        (putAll (slotsOfAll (rulesOf (signatureAnswer x .convention)) base (argumentsIn (signatureAnswer x) (planAnswer x)) v) b)
+        → AllPut (rulesIn (signatureAnswer x)) base (argumentsIn (signatureAnswer x) (planAnswer x)) v
+        (putAll (slotsOfAll (rulesIn (signatureAnswer x)) base (argumentsIn (signatureAnswer x) (planAnswer x)) v) b)
     go (got g next n) h e i j k =
         let c : Convention = g .convention in
+        let r : Rules = withEllipsis (g .ellipsis) (rulesOf c) in
         let same = arguments-got g next n in
         rw same
-        (all-put c (rulesOf c) base (planAnswer (got g next n) .area) (planAnswer (got g next n) .copies) (startIn c (resultType c (g .result))) (typesOf c (g .arguments)) v b
-        (named-start (rulesOf c) (hiddenIn c (resultType c (g .result))))
+        (all-put c r base (planAnswer (got g next n) .area) (planAnswer (got g next n) .copies) (startIn c (resultType c (g .result))) (typesOf c (g .arguments)) v b
+        (named-marked (g .ellipsis) (rulesOf c) _ (named-start (rulesOf c) (hiddenIn c (resultType c (g .result)))))
         (record {
-          held = subst (All (Held (rulesOf c))) same (h .held);
+          held = subst (All (Held r)) same (h .held);
           fit = subst (All (Fits (planAnswer (got g next n) .area) (planAnswer (got g next n) .copies))) same (h .fit);
           image = image;
           area = i;

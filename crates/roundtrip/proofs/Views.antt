@@ -32,7 +32,8 @@ use Rattle.places.specs.declared.ResultPlaces.{ResultPlaces}
 use Rattle.places.specs.declared.Span.{Span}
 use Rattle.places.specs.declared.PowerRules.{PowerRules}
 use Rattle.places.specs.declared.Edition.{Edition}
-use Rattle.places.specs.Step.{power, rulesOf, wordOf, spanOf, nextOf, fresh, startOf}
+use Rattle.places.specs.Step.{power, rulesOf, withEllipsis, wordOf, spanOf, nextOf, fresh, startOf}
+use Rattle.places.proofs.Marked.{word-marked}
 use Rattle.plan.specs.declared.Plan.{Plan}
 use Rattle.plan.proofs.Theorems.{hidden-address}
 use Rattle.plan.specs.Plan.{spansOf, resultIn, startIn, planIn, planAnswer, typesOf}
@@ -43,7 +44,7 @@ use Rattle.slots.specs.Placements.{Placement, placements, wordsAt, floatAt, wor
 use Rattle.slots.specs.Limits.{Held, All, sizesOf}
 use Rattle.slots.specs.Refusals.{firstOf, orElse, firstOfAll, floatAnswer, afterReading, isDone}
 use Rattle.plan.specs.Call.{outcomeFor}
-use Rattle.slots.specs.Arguments.{argumentsIn, argumentsOf, planFor, rulesFor, Carried}
+use Rattle.slots.specs.Arguments.{argumentsIn, argumentsOf, planFor, rulesIn, rulesFor, Carried}
 use Rattle.registers.specs.Registers.{gather}
 use Rattle.registers.proofs.Registers.{length-gather}
 use Rattle.slots.proofs.Held.{words-room}
@@ -53,11 +54,12 @@ use Rattle.slots.proofs.Turns.{next-argument}
 use Rattle.unmarshal.specs.Readable.{Readable}
 use Rattle.unmarshal.proofs.Arguments.{value-length}
 use Rattle.read.specs.declared.Sizes.{Sizes}
-use Rattle.read.specs.Read.{sizes, wordsAnswer, argumentAnswer, argumentsAnswer, readTests, readAnswer, readValues}
+use Rattle.read.specs.Read.{sizes, wordsAnswer, agrees, agreeAnswer, argumentAnswer, argumentsAnswer, readTests, readAnswer, readValues}
 use Rattle.read.proofs.Arguments.{all-readable}
 use Rattle.read.proofs.Accepted.{tests-passed, each-ready}
 use Rattle.home_slot.specs.Homes.{homeless, registerAnswer, homedBytes, Homed}
 use Rattle.home_slot.proofs.Homed.{homed-all}
+use Rattle.home_slot.proofs.Marked.{homeless-marked}
 use Rattle.home.specs.Home.{registersAnswer, homeTests, homeAnswer, homed, homeArea}
 use Rattle.views.specs.View.{viewTests, viewAnswer, noArgument, ownBytes, viewOf}
 use Rattle.views.proofs.Viewed.{reading-done}
@@ -159,11 +161,10 @@ module _ (r : Rules) (base : ℕ) (p : Placement) (v : List ℕ) (b : Buffers) (
         let ws : List ℕ = held in
         let no : p .span .floating .count ≡ 0 = omega arith in
         let all : k + n ≡ roomOf r (p .size) = h .held .words no in
-        let after : p .span .memory .start ≡ start + k = m .follows no in
         let put : List ℕ = splice (b .area) start ws in
         let first : part start k put ≡ ws = ap (λ (z : ℕ). part start z put) (sym registers-length) ∙ splice-same (b .area) start ws (omega (arith, registers-length, m .within)) in
         let second : part (start + k) n put ≡ part (p .span .memory .start) n (b .area) =
-        splice-other (b .area) start ws (start + k) n (inr (omega (arith, registers-length))) ∙ ap (λ (z : ℕ). part z n (b .area)) (sym after) in
+        splice-other (b .area) start ws (start + k) n (inr (omega (arith, registers-length))) ∙ memory-after n refl in
         let whole : part start (roomOf r (p .size)) l ≡ wordsAt (wordOf r) (p .span) b =
         same
         ∙ ap (λ (x : List ℕ). part start (roomOf r (p .size)) (splice (b .area) start x)) (homed-held none)
@@ -171,6 +172,12 @@ module _ (r : Rules) (base : ℕ) (p : Placement) (v : List ℕ) (b : Buffers) (
         ∙ part-add start k n put
         ∙ ap₂ (λ (x y : List ℕ). x ++ y) first second in
         ap (part (ownStart r (p .ty) (p .size)) (p .size)) whole ∙ words-value none
+      where
+        -- the words in memory follow those in registers
+        memory-after : (n : ℕ) → p .span .memory .length ≡ n
+            → part (p .span .home .start + wordOf r * p .span .general .count) n (b .area) ≡ part (p .span .memory .start) n (b .area)
+        memory-after zero e = refl
+        memory-after (suc n) e = ap (λ (z : ℕ). part z (suc n) (b .area)) (sym (m .follows (omega arith)))
 
     home-own : ownBytes r p l ≡ v
     home-own =
@@ -187,17 +194,11 @@ module _ (r : Rules) (base : ℕ) (p : Placement) (v : List ℕ) (b : Buffers) (
 
   memory-kept : (n : ℕ) (bs : List ℕ) → n + length bs ≤ p .span .home .start
       → part (p .span .memory .start) (p .span .memory .length) (splice (b .area) n bs) ≡ part (p .span .memory .start) (p .span .memory .length) (b .area)
-  memory-kept n bs l = go (ltb 0 (p .span .floating .count)) refl
+  memory-kept n bs l = go (p .span .memory .length) refl
     where
-      go : (f : Bool) → ltb 0 (p .span .floating .count) ≡ f
-          → part (p .span .memory .start) (p .span .memory .length) (splice (b .area) n bs) ≡ part (p .span .memory .start) (p .span .memory .length) (b .area)
-      go true q =
-          let some : 0 < p .span .floating .count = ltb-true 0 (p .span .floating .count) q in
-          rw (h .held .alone some .1)
-      go false q =
-          let none : p .span .floating .count ≤ 0 = ltb-false 0 (p .span .floating .count) q in
-          let no : p .span .floating .count ≡ 0 = omega arith in
-          splice-other (b .area) n bs (p .span .memory .start) (p .span .memory .length) (inr (omega (arith, m .follows no)))
+      go : (k : ℕ) → p .span .memory .length ≡ k → part (p .span .memory .start) k (splice (b .area) n bs) ≡ part (p .span .memory .start) k (b .area)
+      go zero e = refl
+      go (suc k) e = splice-other (b .area) n bs (p .span .memory .start) (suc k) (inr (omega (arith, m .follows (omega arith))))
 
   agree-over : (n : ℕ) (bs : List ℕ) → n + length bs ≤ p .span .home .start → Agree r base p (over n bs) b
   unfolding wordsAt bytesAt
@@ -291,14 +292,14 @@ homes-follow : (s : List ℕ) (n : ℕ) → homeless (rulesFor s) ≡ false → 
 unfolding argumentsOf
 homes-follow s n = go (signatureOf s)
   where
-    go : (x : Reading Signature) → homeless (rulesOf (signatureAnswer x .convention)) ≡ false → StartsFrom n x
-        → HomesFrom (rulesOf (signatureAnswer x .convention)) n (argumentsIn (signatureAnswer x) (planAnswer x))
+    go : (x : Reading Signature) → homeless (rulesIn (signatureAnswer x)) ≡ false → StartsFrom n x
+        → HomesFrom (rulesIn (signatureAnswer x)) n (argumentsIn (signatureAnswer x) (planAnswer x))
     go (got g next m) q l =
         let c : Convention = g .convention in
         let k : Cursor = startIn c (resultType c (g .result)) in
-        subst (HomesFrom (rulesOf c) n) (sym (arguments-got g next m))
-        (homes-later (rulesOf c) n (k .stack) _ l (plan-homes c (rulesOf c) k (typesOf c (g .arguments)) q))
-    go (no f) q l = none-homes (rulesOf (signatureAnswer (no f) .convention)) n f
+        let r : Rules = withEllipsis (g .ellipsis) (rulesOf c) in
+        subst (HomesFrom r n) (sym (arguments-got g next m)) (homes-later r n (k .stack) _ l (plan-homes c r k (typesOf c (g .arguments)) q))
+    go (no f) q l = none-homes (rulesIn (signatureAnswer (no f))) n f
 
 starts-any : (x : Reading Signature) → StartsFrom 0 x
 starts-any (got g next m) = omega arith
@@ -309,9 +310,10 @@ register-done : (r : Rules) (base : ℕ) (p : Placement) (b : Buffers) → argum
 unfolding argumentAnswer registerAnswer bytesAt
 register-done r base p b = go (wordsAnswer r base p b) (ltb 0 (p .span .floating .count))
   where
-    go : (x : Answer) (f : Bool) → pick f (floatAnswer r (equivalentOf (p .ty)) (valueOf (part (256 + 8 * p .span .floating .first) (8 * p .span .floating .count) (b .image)))) x ≡ Answer.Done
+    go : (x : Answer) (f : Bool)
+        → pick f (orElse (floatAnswer r (equivalentOf (p .ty)) (valueOf (part (256 + 8 * p .span .floating .first) (8 * p .span .floating .count) (b .image)))) (agreeAnswer (agrees r p b))) x ≡ Answer.Done
         → pick f (floatAnswer r (equivalentOf (p .ty)) (valueOf (part (256 + 8 * p .span .floating .first) (8 * p .span .floating .count) (b .image)))) Answer.Done ≡ Answer.Done
-    go x true e = e
+    go x true e = or-done _ _ e .0
     go x false e = refl
 
 registers-done : (r : Rules) (base : ℕ) (ps : List Placement) (b : Buffers) → argumentsAnswer r base ps b ≡ Answer.Done → registersAnswer r ps (b .image) ≡ Answer.Done
@@ -407,7 +409,7 @@ length-values r base (p ∷ ps) b h =
 arguments-readable : (s : List ℕ) (base : ℕ) (b : Buffers) → length (b .image) ≡ 512 → planFor s .area ≤ length (b .area)
     → argumentsAnswer (rulesFor s) base (argumentsOf s) b ≡ Answer.Done → All (λ (p : Placement). Readable (rulesFor s) base p b) (argumentsOf s)
 arguments-readable s base b image area done =
-    all-readable (rulesFor s) base b (argumentsOf s) (each-ready s (signatureAnswer (signatureOf s) .convention) (length (b .image)) (length (b .area)) refl image area) done
+    all-readable (rulesFor s) base b (argumentsOf s) (each-ready s (signatureAnswer (signatureOf s)) (length (b .image)) (length (b .area)) refl image area) done
 
 -- what can be read can be homed, and then each view is the value read
 viewed : (s : List ℕ) (base : ℕ) (b : Buffers) → homeless (rulesFor s) ≡ false
@@ -470,10 +472,12 @@ address-word Convention.Ppc64b q = address-power 8 Edition.Later (omega arith) (
 hidden-start : (c : Convention) (r : ResultType) (x : Span) → homeless (rulesOf c) ≡ false → resultIn c r ≡ ResultPlaces.Hidden x → wordOf (rulesOf c) ≤ startIn c r .stack
 hidden-start c r x q e = rw (hidden-address c r x e .1) (address-word c q)
 
-starts-hidden : (y : Reading Signature) (x : Span) → homeless (rulesOf (signatureAnswer y .convention)) ≡ false → planAnswer y .result ≡ ResultPlaces.Hidden x
-    → StartsFrom (wordOf (rulesOf (signatureAnswer y .convention))) y
+starts-hidden : (y : Reading Signature) (x : Span) → homeless (rulesIn (signatureAnswer y)) ≡ false → planAnswer y .result ≡ ResultPlaces.Hidden x
+    → StartsFrom (wordOf (rulesIn (signatureAnswer y))) y
 unfolding planAnswer planIn
-starts-hidden (got g next m) x q e = hidden-start (g .convention) (resultType (g .convention) (g .result)) x q e
+starts-hidden (got g next m) x q e =
+    let r : Rules = rulesOf (g .convention) in
+    rw (word-marked (g .ellipsis) r) (hidden-start (g .convention) (resultType (g .convention) (g .result)) x (sym (homeless-marked (g .ellipsis) r) ∙ q) e)
 starts-hidden (no f) x q e = tt
 
 pub hidden-stays : HiddenStays

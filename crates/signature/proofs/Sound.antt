@@ -167,18 +167,7 @@ arguments-sound c s at = by-body (ArgumentsSound c s at) s 0x03 0x03 (length s) 
 pub length-encode : (g : Signature) →
     length (encode g) ≡ 10 + length (encodeResult (g .result)) + length (ellipsisItem (g .ellipsis)) + length (encodeTrees (g .arguments))
 unfolding encode
-length-encode g =
-    let one = item 0x01 (codeOf (g .convention) ∷ []) in
-    let two = item 0x02 (encodeResult (g .result)) in
-    let mark = ellipsisItem (g .ellipsis) in
-    let three = item 0x03 (encodeTrees (g .arguments)) in
-    let size₁ : length one ≡ 4 = length-item 0x01 (codeOf (g .convention) ∷ []) in
-    let size₂ = length-item 0x02 (encodeResult (g .result)) in
-    let size₃ = length-item 0x03 (encodeTrees (g .arguments)) in
-    let sum = length-append one (two ++ (mark ++ three)) in
-    let sum′ = length-append two (mark ++ three) in
-    let sum″ = length-append mark three in
-    omega arith
+length-encode g = simp (length-append, length-item) (omega arith)
 
 has-encode : (s : List ℕ) (g : Signature) (at last : ℕ) → Has s 0 (item 0x01 (codeOf (g .convention) ∷ [])) → Has s 4 (item 0x02 (encodeResult (g .result))) →
     at ≡ 7 + length (encodeResult (g .result)) → Has s at (ellipsisItem (g .ellipsis)) → last ≡ at + length (ellipsisItem (g .ellipsis)) →

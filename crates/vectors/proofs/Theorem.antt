@@ -5,10 +5,10 @@ use Rattle.words.specs.Basics.{roundUp}
 use Rattle.types.specs.Structs.{withField, shapeOf}
 use Rattle.types.specs.Trees.{typeOf, countOf}
 use Rattle.items.specs.Read.{bodyAt, integerCode, floatCode, integerAt, floatOf, floatAt, sequence, sizedAt, contentsAt, itemBy, structAt, itemAt}
-use Rattle.signature.specs.Read.{conventionAt, resultIn, resultAt, argumentsIn, argumentsAt, afterResult, afterConvention, signatureOf}
+use Rattle.signature.specs.Read.{conventionAt, resultIn, resultAt, ellipsisAt, argumentsIn, argumentsAt, afterEllipsis, afterResult, afterConvention, signatureOf}
 use Rattle.places.specs.Power.{words, fprs, shareOf, powerShare, unclear}
 use Rattle.places.specs.ZSeries.{zClass, zSpanOf, zNextOf}
-use Rattle.places.specs.Step.{spanOf, nextOf, unclearFor, fresh, startOf, areaOf, hiddenFor, returning, resultOf}
+use Rattle.places.specs.Step.{withEllipsis, spanOf, nextOf, unclearFor, fresh, startOf, areaOf, hiddenFor, returning, resultOf}
 use Rattle.places.specs.Places.{upFrom, registersOf}
 use Rattle.plan.specs.Plan.{spansOf, lastOf, tableOf, planIn, typesOf, planAnswer}
 use Rattle.plan.specs.Call.{firstUnclear, called}
@@ -23,8 +23,8 @@ use Rattle.ieee.specs.Format.{join, split}
 use Rattle.ieee.specs.Widening.{widenFields, widen}
 use Rattle.ieee.specs.Narrowing.{candidateFields, candidate, narrow}
 use Rattle.rules.specs.Frames.{below, fullSize, frameSize}
-use Rattle.vectors.specs.Vectors.{AllHold, vectors, figureBy, figure-3-18, figure-3-18-text, figure-3-18b, figure-3-18b-text, seven-long-doubles, seven-long-doubles-text, table-10, table-10-text, moo-func, moo-func-text, empty-text}
+use Rattle.vectors.specs.Vectors.{AllHold, vectors, ellipsis-item, figureBy, figure-3-18-var, figure-3-18-var-text, figure-3-18b-var, figure-3-18b-var-text, aix-var, aix-var-text, ellipsis-with-a-body, ellipsis-with-a-body-text, two-ellipses, two-ellipses-text, figure-3-18, figure-3-18-text, figure-3-18b, figure-3-18b-text, seven-long-doubles, seven-long-doubles-text, table-10, table-10-text, moo-func, moo-func-text, empty-text}
 
 pub vectors-hold : AllHold vectors
-unfolding vectors figureBy figure-3-18 figure-3-18-text figure-3-18b figure-3-18b-text seven-long-doubles seven-long-doubles-text table-10 table-10-text moo-func moo-func-text empty-text roundUp withField shapeOf typeOf bodyAt integerCode floatCode integerAt floatOf floatAt sequence sizedAt contentsAt itemBy structAt itemAt conventionCode conventionAt resultIn resultAt argumentsIn argumentsAt afterResult afterConvention signatureOf words fprs shareOf powerShare zClass zSpanOf zNextOf spanOf nextOf fresh startOf areaOf hiddenFor returning resultOf upFrom registersOf spansOf lastOf tableOf planIn typesOf planAnswer unclear unclearFor firstUnclear called argumentIn countOf item encodeTree encodeTrees encodeResult ellipsisItem digitsOf decimal placesText lineText linesText headText resultText refusalText acceptedText planText listingOf leadingZeros join split widenFields widen candidateFields candidate narrow below fullSize frameSize
-vectors-hold = (refl, (refl, (refl, (refl, (refl, (refl, (refl, (refl, (refl, (refl, (refl, (refl, (refl, (refl, (refl, tt)))))))))))))))
+unfolding vectors ellipsis-item figureBy figure-3-18-var figure-3-18-var-text figure-3-18b-var figure-3-18b-var-text aix-var aix-var-text ellipsis-with-a-body ellipsis-with-a-body-text two-ellipses two-ellipses-text figure-3-18 figure-3-18-text figure-3-18b figure-3-18b-text seven-long-doubles seven-long-doubles-text table-10 table-10-text moo-func moo-func-text empty-text roundUp withField shapeOf typeOf bodyAt integerCode floatCode integerAt floatOf floatAt sequence sizedAt contentsAt itemBy structAt itemAt conventionCode conventionAt resultIn resultAt ellipsisAt argumentsIn argumentsAt afterEllipsis afterResult afterConvention signatureOf words fprs shareOf powerShare zClass zSpanOf zNextOf spanOf nextOf fresh startOf areaOf hiddenFor returning resultOf withEllipsis upFrom registersOf spansOf lastOf tableOf planIn typesOf planAnswer unclear unclearFor firstUnclear called argumentIn countOf item encodeTree encodeTrees encodeResult ellipsisItem digitsOf decimal placesText lineText linesText headText resultText refusalText acceptedText planText listingOf leadingZeros join split widenFields widen candidateFields candidate narrow below fullSize frameSize
+vectors-hold = (refl, (refl, (refl, (refl, (refl, (refl, (refl, (refl, (refl, (refl, (refl, (refl, (refl, (refl, (refl, (refl, (refl, (refl, (refl, (refl, tt))))))))))))))))))))
