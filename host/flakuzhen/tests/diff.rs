@@ -39,9 +39,10 @@ fn example(name: &str) -> String {
 }
 
 /// The examples, and what each of them comes to.
-const EXAMPLES: [(&str, i32, &str); 4] = [
+const EXAMPLES: [(&str, i32, &str); 5] = [
     ("aix-put-in-front", 1, "something moved\n"),
     ("ppc64-grown", 0, "only appends\n"),
+    ("ppc64-variable", 1, "something moved\n"),
     ("ppc64b-unsigned", 0, "nothing moved\n"),
     ("z-larger-result", 1, "something moved\n"),
 ];
