@@ -1,7 +1,8 @@
 # make run    prove what the command needs, build it and list the call of figure 3-18
 # make test   the whole gate: every proof, every must-fail edit, every comparison
 # make lib    build/libflakuzhen.a and build/libflakuzhen.so with its links, from proved code alone
-# make examples  the same call planned, filled and read by a program in C and one in Rust
+# make examples  the same call planned, filled and read by a program in C and one in Rust, and a
+#             variable argument list walked in C
 # make install  the command, the libraries, the header and the manual page, under PREFIX=/usr/local;
 #             make uninstall removes them
 # make soak   the comparisons on fresh seeds; SECONDS=n says for how long
@@ -25,7 +26,7 @@ CC = gcc
 # the inputs of a proof: a change of any file or folder here proves the library again
 PROVED_FROM := crates.txt $(shell find crates -print 2>/dev/null)
 # the crates that export functions
-BRIDGES := bridge bridge_plans bridge_values bridge_starts bridge_frames bridge_dump
+BRIDGES := bridge bridge_plans bridge_values bridge_walk bridge_starts bridge_frames bridge_dump
 ARCHIVE := build/libflakuzhen.a
 SHARED := build/libflakuzhen.so
 # a version's first number is the soname's
@@ -79,6 +80,8 @@ $(SHARED): $(ARCHIVE) include/flakuzhen.map host/Cargo.toml
 examples: $(ARCHIVE)
 	$(CC) -Iinclude -o build/call examples/c/call.c $(ARCHIVE)
 	build/call
+	$(CC) -Iinclude -o build/variable examples/c/variable.c $(ARCHIVE)
+	build/variable
 	cd host && cargo run $(CARGO_WORDS) --quiet -p call
 
 # DESTDIR is put before PREFIX where files are copied, and nowhere else
@@ -96,13 +99,14 @@ install: $(ARCHIVE) $(SHARED)
 	sed -e 's|@PREFIX@|$(PREFIX)|' -e 's|@VERSION@|$(VERSION)|' include/flakuzhen.pc.in \
 	    > $(INSTALLED)/lib/pkgconfig/flakuzhen.pc
 	install -m 644 docs/flakuzhen.1 $(INSTALLED)/share/man/man1
-	install -m 644 docs/COMPILERS.md examples/c/call.c $(INSTALLED)/$(DOC)
+	install -m 644 docs/COMPILERS.md examples/c/call.c examples/c/variable.c $(INSTALLED)/$(DOC)
 
 # what install puts in place; folders stay, but for the one that is ours alone
 uninstall:
 	rm -f $(addprefix $(INSTALLED)/,bin/flakuzhen include/flakuzhen.h \
 	    $(addprefix lib/,libflakuzhen.a libflakuzhen.so $(SONAME) libflakuzhen.so.$(VERSION)) \
-	    lib/pkgconfig/flakuzhen.pc share/man/man1/flakuzhen.1 $(DOC)/COMPILERS.md $(DOC)/call.c)
+	    lib/pkgconfig/flakuzhen.pc share/man/man1/flakuzhen.1 \
+	    $(addprefix $(DOC)/,COMPILERS.md call.c variable.c))
 	[ ! -d $(INSTALLED)/$(DOC) ] || rmdir $(INSTALLED)/$(DOC)
 
 soak: $(ARCHIVE)

@@ -27,6 +27,8 @@ enum {
     PLAN,
     START_AIX,
     START_PPC64B,
+    WALK_START,
+    WALK,
     WALK_DUMP_PPC64,
     WALK_DUMP_Z,
     WALK_DUMP_AIX,
@@ -58,6 +60,8 @@ static const struct shape {
     [VIEW] = {"fz_view", 1, 2, 5, 0},
     [PLAN] = {"fz_plan", 0, 2, 14, 0},
     [START_AIX] = {"fz_start_aix", 2, 1, 3, 2},
+    [WALK_START] = {"fz_walk_start", 0, 2, 3, 0},
+    [WALK] = {"fz_walk", 1, 6, 3, 0},
     [WALK_DUMP_PPC64] = {"fz_walk_dump_ppc64", 2, 2, 4, 0},
     [WALK_DUMP_Z] = {"fz_walk_dump_z", 2, 2, 4, 0},
     [WALK_DUMP_AIX] = {"fz_walk_dump_aix", 2, 2, 4, 0},
@@ -65,7 +69,7 @@ static const struct shape {
 };
 
 #define MOST_NUMBERS 4
-#define MOST_LENT 5
+#define MOST_LENT 6
 #define MOST_WORDS 14
 
 static unsigned long made[OPERATIONS], mismatches;
@@ -348,6 +352,40 @@ static void call_values(int operation, const uint64_t *numbers)
     }
 }
 
+/* Starts a walk, or takes a step of it: the walker is the first buffer, between words that no call may
+ * change. */
+static void call_walker(int operation, const uint64_t *numbers)
+{
+    static struct {
+        uint64_t before[8];
+        fz_walker walker;
+        uint64_t after[8];
+    } own_walker;
+    uint8_t *at[MOST_LENT];
+    size_t length[MOST_LENT];
+    uint64_t i;
+
+    for (i = 0; i < (uint64_t)shapes[operation].lent; i++) {
+        at[i] = lent(&own[i]);
+        length[i] = own[i].length;
+    }
+    for (i = 0; i < 8; i++)
+        own_walker.before[i] = own_walker.after[i] = i;
+    words_from(&own_walker.walker, sizeof own_walker.walker, &own[0]);
+    if (operation == WALK_START)
+        set_answer(fz_walk_start(&own_walker.walker, at[1], length[1]));
+    else
+        set_answer(fz_walk(&own_walker.walker, at[1], length[1], at[2], length[2], at[3], length[3],
+                           at[4], length[4], at[5], length[5], numbers[0]));
+    words_to(&own_walker.walker, sizeof own_walker.walker, &own[0]);
+    for (i = 0; i < 8; i++) {
+        if (own_walker.before[i] != i)
+            mismatch(operation, "word before the walker", (size_t)i, own_walker.before[i], i);
+        if (own_walker.after[i] != i)
+            mismatch(operation, "word after the walker", (size_t)i, own_walker.after[i], i);
+    }
+}
+
 /* a machine between words that no call may change */
 static struct {
     uint64_t before[8];
@@ -418,7 +456,7 @@ static void replay(int operation)
 {
     static const char *const names[MOST_LENT] = {
         "byte of the first buffer", "byte of the second buffer", "byte of the third buffer",
-        "byte of the fourth buffer", "byte of the fifth buffer"};
+        "byte of the fourth buffer", "byte of the fifth buffer", "byte of the sixth buffer"};
     const struct shape *shape = &shapes[operation];
     uint64_t numbers[MOST_NUMBERS];
     int i;
@@ -435,6 +473,8 @@ static void replay(int operation)
         call_machine(operation, numbers);
     else if (operation == PLAN || operation >= WALK_DUMP_PPC64)
         call_table(operation, numbers);
+    else if (operation >= WALK_START)
+        call_walker(operation, numbers);
     else if (operation >= FILL)
         call_values(operation, numbers);
     else

@@ -61,12 +61,14 @@ static size_t written(void (*call)(void))
 static uint8_t sig[LONGEST], values[MOST_ARGUMENTS * LARGEST_STRUCT], image[512];
 static uint8_t area[MOST_ARGUMENTS * LARGEST_STRUCT + 8];
 static uint8_t copies[MOST_ARGUMENTS * LARGEST_STRUCT], memory[MEMORY];
-static size_t sig_length;
+static size_t sig_length, arguments;
 static fz_sizes sizes;
 static char text[1 << 16];
 static uint64_t places[FZ_PLACE_WORDS * MOST_ARGUMENTS];
 static fz_registers registers;
 static fz_machine machine;
+static fz_walker walker;
+static size_t item, item_length, value_length;
 static fz_frame request;
 static volatile uint64_t number; /* of the last answer */
 static uint64_t expected;        /* what it must be */
@@ -126,18 +128,23 @@ static int unclear(uint8_t convention, const type *of)
 }
 
 /* A signature of as many arguments of the type as there can be, with it as its result. */
-static void put_signature(uint8_t convention, const type *of)
+static void put_signature(uint8_t convention, const type *of, int ellipsis)
 {
-    size_t length = length_of(of), count = (LONGEST - 10 - length) / length, i;
+    size_t length = length_of(of), i;
 
-    if (count > MOST_ARGUMENTS)
-        count = MOST_ARGUMENTS;
+    arguments = (LONGEST - 13 - length) / length;
+    if (arguments > MOST_ARGUMENTS)
+        arguments = MOST_ARGUMENTS;
     sig_length = 0;
     put_scalar(0x01, convention);
     put_header(0x02, length);
     put_type(of);
-    put_header(0x03, count * length);
-    for (i = 0; i < count; i++)
+    if (ellipsis)
+        put_header(0x04, 0);
+    put_header(0x03, arguments * length);
+    item = sig_length;
+    item_length = length;
+    for (i = 0; i < arguments; i++)
         put_type(of);
 }
 
@@ -211,6 +218,18 @@ static uint64_t view_index;
 static void call_view(void)
 {
     number = fz_view(area, (size_t)sizes.area, sig, sig_length, view_index).answer.number;
+}
+
+static void call_walk_start(void)
+{
+    number = fz_walk_start(&walker, sig, sig_length).number;
+}
+
+static void call_walk(void)
+{
+    number = fz_walk(&walker, sig + item, item_length, values, value_length, image, sizeof image,
+                     area, sizeof area, copies, (size_t)sizes.copies, BASE)
+                 .number;
 }
 
 static void call_widen(void)
@@ -299,6 +318,8 @@ enum {
     READ,
     HOME,
     VIEW,
+    WALK_START,
+    WALK,
     WIDEN,
     NARROW,
     START_PPC64,
@@ -329,6 +350,8 @@ static struct {
     [READ] = {"fz_read", call_read, 0},
     [HOME] = {"fz_home", call_home, 0},
     [VIEW] = {"fz_view", call_view, 0},
+    [WALK_START] = {"fz_walk_start", call_walk_start, 0},
+    [WALK] = {"fz_walk", call_walk, 0},
     [WIDEN] = {"fz_widen", call_widen, 0},
     [NARROW] = {"fz_narrow", call_narrow, 0},
     [START_PPC64] = {"fz_start_ppc64", call_start_ppc64, 0},
@@ -357,9 +380,33 @@ static void measure(int function)
         functions[function].most = bytes;
 }
 
-static void measure_signature(uint8_t convention, const type *of)
+/* Steps of a walk on what was filled: to the first argument, to one in memory, and where only f13 is
+   left. */
+static void measure_steps(uint8_t convention, const type *of)
 {
-    put_signature(convention, of);
+    measure(WALK_START);
+    value_length = unclear(convention, of) ? 16 : (size_t)sizes.values / arguments;
+    measure(WALK);
+    if (convention == 2) {
+        walker.general = 7;
+        walker.floating = 8;
+        walker.stack = 160;
+    } else {
+        walker.general = 14;
+        walker.floating = 13;
+    }
+    measure(WALK);
+    if (unclear(convention, of)) {
+        walker.floating = 12;
+        expected = FZ_UNCLEAR_PLACE;
+        measure(WALK);
+        expected = 0;
+    }
+}
+
+static void measure_signature(uint8_t convention, const type *of, int ellipsis)
+{
+    put_signature(convention, of, ellipsis);
     sizes = fz_measure(sig, sig_length);
     if (sizes.values > sizeof values || sizes.area > sizeof area || sizes.copies > sizeof copies)
         fail("a call that is too large");
@@ -379,6 +426,7 @@ static void measure_signature(uint8_t convention, const type *of)
         measure(VIEW);
     }
     expected = 0;
+    measure_steps(convention, of);
 }
 
 /* Frames to the most: the last with all registers saved. */
@@ -428,8 +476,10 @@ int main(void)
     without_library = written(call_nothing);
     for (convention = 1; convention <= 4; convention++)
         for (i = 0; i < sizeof types / sizeof *types; i++)
-            if (convention != 3 || !not_on_aix(&types[i]))
-                measure_signature(convention, &types[i]);
+            if (convention != 3 || !not_on_aix(&types[i])) {
+                measure_signature(convention, &types[i], 0);
+                measure_signature(convention, &types[i], 1);
+            }
     measure(VERSION);
     measure(WIDEN);
     measure(NARROW);

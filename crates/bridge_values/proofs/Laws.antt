@@ -1,28 +1,10 @@
--- An answer in the surface's words, and what stands beside it. Assumes nothing.
-use Prim.Native.Nat.{ℕ}
+-- A view in the surface's words. Assumes nothing.
 use mathlib.Core.Path.{_≡_, ap}
-use Rattle.items.specs.declared.Fault.{Fault}
-use Rattle.slots.specs.declared.Answer as slots
-use Rattle.slots.specs.declared.Refusal.{Refusal}
-use Rattle.slots.specs.Refusals.{numberOf}
 use Rattle.answers.specs.declared.Answer.{Answer}
-use Rattle.answers.specs.Answers.{answerOf, yes}
-use Rattle.faults.specs.Faults.{faultAnswer}
+use Rattle.call_answers.specs.Calls.{callAnswer}
 use Rattle.bridge_values.specs.declared.Part.{Part}
-use Rattle.bridge_values.specs.Values.{callAnswer, partAnswer}
+use Rattle.bridge_values.specs.Values.{partAnswer}
 use Rattle.views.specs.declared.ViewPart.{ViewPart}
-
-pub done-answer : (a : slots.Answer) → a ≡ slots.Answer.Done → yes ≡ callAnswer a
-unfolding callAnswer
-done-answer a e = rw e
-
-pub unread-answer : (a : slots.Answer) (f : Fault) → a ≡ slots.Answer.Unread f → faultAnswer f ≡ callAnswer a
-unfolding callAnswer
-unread-answer a f e = rw e
-
-pub refused-answer : (a : slots.Answer) (reason : Refusal) (n : ℕ) → a ≡ slots.Answer.Refused reason → n ≡ numberOf reason → answerOf n 0 ≡ callAnswer a
-unfolding callAnswer
-refused-answer a reason n e is = rw (e, is)
 
 pub part-answer : (p v : ViewPart) (a : Answer) → p ≡ v → a ≡ callAnswer (p .answer)
     → _≡_ {A = Part} (record { answer = a; start = p .start; length = p .length }) (partAnswer v)

@@ -1,18 +1,7 @@
--- The words of the answers of filling, reading, home and view. Document 01, "When the bridge says no": "A refusal is a number and a
--- place (.. 0 for refusals 1 and 10 to 24). .. counts are 0", but for a reading's own refusal. Assumes nothing.
-use Rattle.slots.specs.declared.Answer as slots
-use Rattle.slots.specs.Refusals.{numberOf}
-use Rattle.answers.specs.declared.Answer.{Answer}
-use Rattle.answers.specs.Answers.{answerOf, yes}
-use Rattle.faults.specs.Faults.{faultAnswer}
+-- The words of a view's answer, with where it lies in the area. Assumes nothing.
+use Rattle.call_answers.specs.Calls.{callAnswer}
 use Rattle.bridge_values.specs.declared.Part.{Part}
 use Rattle.views.specs.declared.ViewPart.{ViewPart}
 
-unfoldable pub callAnswer : slots.Answer → Answer
-callAnswer slots.Answer.Done = yes
-callAnswer (slots.Answer.Unread f) = faultAnswer f
-callAnswer (slots.Answer.Refused reason) = answerOf (numberOf reason) 0
-
--- where a view lies in the area
 unfoldable pub partAnswer : ViewPart → Part
 partAnswer p = record { answer = callAnswer (p .answer); start = p .start; length = p .length }

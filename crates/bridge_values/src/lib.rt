@@ -7,7 +7,8 @@ ghost use Rattle.slots.specs.Buffers.{buffers};
 ghost use Rattle.fill.specs.Fill.{lengths, fillAnswer, fillBuffers};
 ghost use Rattle.read.specs.Read.{sizes, readAnswer, readValues};
 ghost use Rattle.home.specs.Home.{homeAnswer, homeArea};
-ghost use Rattle.bridge_values.specs.Values.{callAnswer, partAnswer};
+ghost use Rattle.call_answers.specs.Calls.{callAnswer};
+ghost use Rattle.bridge_values.specs.Values.{partAnswer};
 ghost use Rattle.views.specs.View.{viewPart};
 
 // `fz_part`: `length` bytes of a buffer from `start` on.
@@ -16,24 +17,6 @@ pub struct Part {
     pub answer: Answer,
     pub start: u64,
     pub length: u64,
-}
-
-fn answer_of(a: slots::Answer) -> Answer
-    ensures { λ r. ⌜ r ≡ callAnswer a ⌝ }
-{
-    match a {
-        slots::Answer::Done => Answer {
-            number: 0,
-            place: 0,
-            items: 0,
-        },
-        slots::Answer::Unread(fault) => faults::fault_answer(fault),
-        slots::Answer::Refused(reason) => Answer {
-            number: slots::number_of(reason),
-            place: 0,
-            items: 0,
-        },
-    }
 }
 
 #[no_mangle]
@@ -50,7 +33,7 @@ pub extern "C" fn fz_fill(
     ensures { λ _. ⌜ buffers (now (image .exit)) (now (area .exit)) (now (copies .exit)) ≡ fillBuffers (now (sig .entry)) (now (values .entry)) base hidden (fillAnswer (now (sig .entry)) (lengths (now (values .entry)) (now (image .entry)) (now (area .entry)) (now (copies .entry))) base hidden) (buffers (now (image .entry)) (now (area .entry)) (now (copies .entry))) ⌝ }
 {
     let a = fill::fill(sig, values, image, area, copies, base, hidden);
-    answer_of(a)
+    call_answers::answer_of(a)
 }
 
 #[no_mangle]
@@ -66,7 +49,7 @@ pub extern "C" fn fz_read(
     ensures { λ _. ⌜ now (values .exit) ≡ readValues (now (sig .entry)) base (readAnswer (now (sig .entry)) (sizes (now (values .entry)) (now (image .entry)) (now (area .entry))) base (buffers (now (image .entry)) (now (area .entry)) (now (copies .entry)))) (buffers (now (image .entry)) (now (area .entry)) (now (copies .entry))) (now (values .entry)) ⌝ }
 {
     let a = read::read(sig, values, image, area, copies, base);
-    answer_of(a)
+    call_answers::answer_of(a)
 }
 
 #[no_mangle]
@@ -75,7 +58,7 @@ pub extern "C" fn fz_home(sig: &[u8], image: &[u8], area: &mut [u8]) -> Answer
     ensures { λ _. ⌜ now (area .exit) ≡ homeArea (now (sig .entry)) (homeAnswer (now (sig .entry)) (now (image .entry)) (length (now (area .entry)))) (now (image .entry)) (now (area .entry)) ⌝ }
 {
     let a = home::home(sig, image, area);
-    answer_of(a)
+    call_answers::answer_of(a)
 }
 
 // Where the view lies in the area. The area is only measured.
@@ -88,7 +71,7 @@ pub extern "C" fn fz_view(area: &[u8], sig: &[u8], index: u64) -> Part
     let start = p.start as u64;
     let length = p.length as u64;
     Part {
-        answer: answer_of(a),
+        answer: call_answers::answer_of(a),
         start,
         length,
     }

@@ -1,24 +1,27 @@
 -- The answer and the value buffer of a whole reading, from those of its parts. Assumes nothing.
 use mathlib.Core.Path.{_≡_, refl, sym, ap, ap₂, _∙_, subst}
 use mathlib.Core.Bool.{true, false}
-use mathlib.Core.List.{List}
+use mathlib.Core.List.{List, []}
 use Prim.Native.Nat.{ℕ, _≤_}
 use native.Mathlib.Omega.{arith}
 use borrow.Author.Tests.{ltb-false}
 use Rattle.words.specs.Splice.{overlay}
+use Rattle.words.proofs.Splices.{splice-nothing, splice-head}
 use Rattle.signature.specs.declared.Outcome.{Outcome}
 use Rattle.signature.specs.declared.SignatureRead.{SignatureRead}
 use Rattle.signature.specs.Read.{signatureOf}
 use Rattle.signature.specs.Answer.{signatureAnswer}
 use Rattle.plan.specs.declared.Plan.{Plan}
 use Rattle.plan.specs.declared.Measured.{Measured}
+use Rattle.plan.specs.Plan.{spansOf}
 use Rattle.plan.proofs.Answers.{answer-plannable}
 use Rattle.slots.specs.declared.Answer.{Answer}
 use Rattle.items.specs.declared.Fault.{Fault}
 use Rattle.slots.specs.Buffers.{Buffers}
-use Rattle.slots.specs.Placements.{Placement, valuesAt}
+use Rattle.places.specs.declared.Rules.{Rules}
+use Rattle.slots.specs.Placements.{Placement, placements, valuesAt}
 use Rattle.slots.specs.Limits.{Held, Fits, All, sizesOf}
-use Rattle.slots.specs.Refusals.{firstOf, orElse, isRefused}
+use Rattle.slots.specs.Refusals.{firstOf, orElse, firstOfAll, isRefused}
 use Rattle.slots.specs.Arguments.{argumentsOf, planFor, rulesIn, sizesFor}
 use Rattle.slots.proofs.Answered.{carried}
 use Rattle.arguments.specs.Table.{argumentsFrom}
@@ -108,3 +111,17 @@ pub values-taken : (s : List ℕ) (base : ℕ) (b : Buffers) (values last : List
     → last ≡ overlay values (valuesAt (rulesIn g) base (argumentsFrom g) b) → last ≡ readValues s base Answer.Done b values
 unfolding readValues
 values-taken s base b values last g same e = rw (← same, ← arguments-read s g same) e
+
+-- a signature of no arguments
+
+pub none-from : (g : SignatureRead) → g .count ≡ 0 → argumentsFrom g ≡ []
+unfolding argumentsFrom spansOf placements
+none-from g z = rw z
+
+pub none-refused : (r : Rules) (base : ℕ) (ps : List Placement) (b : Buffers) → ps ≡ [] → Answer.Done ≡ argumentsAnswer r base ps b
+unfolding argumentsAnswer firstOfAll
+none-refused r base ps b z = rw z
+
+pub none-taken : (r : Rules) (base : ℕ) (ps : List Placement) (b : Buffers) → ps ≡ [] → (values : List ℕ) → values ≡ overlay values (valuesAt r base ps b)
+unfolding valuesAt
+none-taken r base ps b z values = rw z (sym (splice-nothing values 0) ∙ splice-head values [])

@@ -20,12 +20,13 @@ use Rattle.items.proofs.HowFar.{Goes, walked-over, walked-into, passed-none, pa
 use Rattle.conventions.specs.declared.ConventionCode.{ConventionCode}
 use Rattle.conventions.specs.Numbers.{conventionCode}
 use Rattle.signature.specs.declared.ResultRead.{ResultRead}
+use Rattle.signature.specs.declared.EllipsisRead.{EllipsisRead}
 use Rattle.signature.specs.Signature.{Result, Signature}
 use Rattle.signature.specs.Limits.{maxLength, maxDepth, maxArguments}
 use Rattle.signature.specs.Read.{conventionBy, conventionAt, resultIn, resultAt, ellipsisAt, argumentsIn, argumentsAt, afterEllipsis, afterResult, afterConvention, signatureOf}
-use Rattle.signature.specs.Answer.{resultAnswer}
+use Rattle.signature.specs.Answer.{resultAnswer, ellipsisAnswer}
 use Rattle.signature.specs.Exact.{SaysHowFar}
-use Rattle.signature.proofs.Laws.{result-was-refused}
+use Rattle.signature.proofs.Laws.{result-was-refused, ellipsis-was-refused}
 
 module _ (s : List ℕ) where
   convention-goes : Goes s (length s) 0 (conventionAt s)
@@ -130,4 +131,11 @@ pub result-fault-third : (c : Convention) (s : List ℕ) (at : ℕ) (x : ResultR
     x ≡ ResultRead.Refused f → at + 3 * f .passed ≤ length s
 result-fault-third c s at x f room found q =
     let goes : HowFar s (length s) at f = rw (result-was-refused c (resultAt c s at) f (sym q ∙ found)) at (result-goes s c at room) in
+    far-third s (length s) at f goes
+
+-- and an ellipsis's
+pub ellipsis-fault-third : (s : List ℕ) (at : ℕ) (x : EllipsisRead) (f : Fault) → at ≤ length s → x ≡ ellipsisAnswer (ellipsisAt s at) →
+    x ≡ EllipsisRead.Refused f → at + 3 * f .passed ≤ length s
+ellipsis-fault-third s at x f room found q =
+    let goes : HowFar s (length s) at f = rw (ellipsis-was-refused (ellipsisAt s at) f (sym q ∙ found)) at (ellipsis-goes s at room) in
     far-third s (length s) at f goes

@@ -7,7 +7,7 @@ use mathlib.Core.List.{List}
 use lib.ListN.{length, getD, List·getD-eq-default}
 use lib.Dec.{ltb, eqb}
 use native.Mathlib.Omega.{arith}
-use borrow.Author.Tests.{lt-ltb, le-ltb, eq-eqb, ne-eqb, eqb-true}
+use borrow.Author.Tests.{lt-ltb, le-ltb, eq-eqb, ne-eqb}
 use Rattle.words.specs.Basics.{pick}
 use Rattle.conventions.specs.declared.Convention.{Convention}
 use Rattle.types.specs.declared.ValueType.{ValueType}
@@ -20,7 +20,7 @@ use Rattle.items.specs.Reading.{Reading, fault, got, no, later, after, choose, 
 use Rattle.items.specs.Read.{bodyAt, itemAt}
 use Rattle.items.specs.Answer.{itemAnswer}
 use Rattle.items.proofs.Laws.{item-got, item-no}
-use Rattle.items.proofs.Sound.{by-pick, by-choose}
+use Rattle.items.proofs.Sound.{by-pick}
 use Rattle.conventions.specs.declared.ConventionCode.{ConventionCode}
 use Rattle.conventions.specs.Numbers.{conventionCode}
 use Rattle.signature.specs.declared.ConventionRead.{ConventionRead}
@@ -31,7 +31,7 @@ use Rattle.signature.specs.declared.HeadRead.{HeadRead}
 use Rattle.signature.specs.Signature.{Result, nothing, Signature, Head}
 use Rattle.signature.specs.Limits.{maxLength, maxDepth}
 use Rattle.signature.specs.Read.{conventionBy, conventionAt, resultIn, resultAt, ellipsisAt, argumentsIn, argumentsAt, afterEllipsis, afterResult, afterConvention, signatureOf, headBy, headThen, headAfter, headOf}
-use Rattle.signature.specs.Answer.{conventionAnswer, resultType, resultAnswer, ellipsisAnswer, headWith, headAnswer, refused, accepted, withArguments, signatureAnswer}
+use Rattle.signature.specs.Answer.{conventionAnswer, resultType, resultAnswer, ellipsisAnswer, headAnswer, refused, accepted, withArguments, signatureAnswer}
 
 -- the convention
 
@@ -152,53 +152,17 @@ module _ (s : List ℕ) (at : ℕ) where
       unfolding ellipsisAt
       ellipsis-one h = rw (eq-eqb (getD s at 0) 0x04 tag, body, eq-eqb b (at + 3) h)
 
--- where there is none nothing is passed, and else three bytes and one header; its fault is at its header
+-- what a program's answer says of the ellipsis
 
-abbrev Lone : ℕ → Reading Bool → Type 0
-Lone at (got true next n) = (next ≡ at + 3) × (n ≡ 1)
-Lone at (got false next n) = (next ≡ at) × (n ≡ 0)
-Lone at (no f) = (f .place ≡ at) × (f .passed ≡ 0)
+pub ellipsis-got : (x : Reading Bool) (v : Bool) (next n : ℕ) → EllipsisRead.Ellipsis v next n ≡ ellipsisAnswer x → x ≡ got v next n
+ellipsis-got (got w a m) v next n q = cc
+ellipsis-got (no f) v next n q = let z : _≡_ {A = ℕ} 0 1 = cc in absurd (omega arith)
 
-ellipsis-lone : (s : List ℕ) (at : ℕ) → Lone at (ellipsisAt s at)
-unfolding ellipsisAt
-ellipsis-lone s at = by-choose (Lone at) (eqb (getD s at 0) 0x04) _ _ (λ _. go (bodyAt s 0x04 0x04 (length s) at)) (λ _. (refl, refl))
-  where
-    go : (x : Body) → Lone at (inBody x at (λ b. pick (eqb b (at + 3)) (got true b 1) (no (fault Refusal.Malformed at 0))))
-    go (Body.To b) = by-pick (Lone at) (eqb b (at + 3)) _ _ (λ q. (eqb-true b (at + 3) q, refl)) (λ _. (refl, refl))
-    go (Body.Refused r) = (refl, refl)
-
--- so the program's answer says what was read
-
-absent-read : (at : ℕ) (x : Reading Bool) → Lone at x → EllipsisRead.Absent ≡ ellipsisAnswer x → x ≡ got false at 0
-absent-read at (got true next n) l q = let z : _≡_ {A = ℕ} 0 1 = cc in absurd (omega arith)
-absent-read at (got false next n) l q = cc (l .0, l .1)
-absent-read at (no f) l q = let z : _≡_ {A = ℕ} 0 1 = cc in absurd (omega arith)
-
-present-read : (at : ℕ) (x : Reading Bool) → Lone at x → EllipsisRead.Present ≡ ellipsisAnswer x → x ≡ got true (at + 3) 1
-present-read at (got true next n) l q = cc (l .0, l .1)
-present-read at (got false next n) l q = let z : _≡_ {A = ℕ} 0 1 = cc in absurd (omega arith)
-present-read at (no f) l q = let z : _≡_ {A = ℕ} 0 1 = cc in absurd (omega arith)
-
-refused-read : (at : ℕ) (r : Refusal) (x : Reading Bool) → Lone at x → EllipsisRead.Refused r ≡ ellipsisAnswer x → x ≡ no (fault r at 0)
-refused-read at r (got true next n) l q = let z : _≡_ {A = ℕ} 0 1 = cc in absurd (omega arith)
-refused-read at r (got false next n) l q = let z : _≡_ {A = ℕ} 0 1 = cc in absurd (omega arith)
-refused-read at r (no f) l q = let whole : f ≡ fault (f .reason) (f .place) (f .passed) = refl in cc (whole, l .0, l .1)
-
-module _ (s : List ℕ) (at : ℕ) (x : EllipsisRead) (found : x ≡ ellipsisAnswer (ellipsisAt s at)) where
-  pub ellipsis-absent : x ≡ EllipsisRead.Absent → ellipsisAt s at ≡ got false at 0
-  ellipsis-absent q = absent-read at (ellipsisAt s at) (ellipsis-lone s at) (sym q ∙ found)
-
-  pub ellipsis-present : x ≡ EllipsisRead.Present → ellipsisAt s at ≡ got true (at + 3) 1
-  ellipsis-present q = present-read at (ellipsisAt s at) (ellipsis-lone s at) (sym q ∙ found)
-
-  pub ellipsis-refused : (r : Refusal) → x ≡ EllipsisRead.Refused r → ellipsisAt s at ≡ no (fault r at 0)
-  ellipsis-refused r q = refused-read at r (ellipsisAt s at) (ellipsis-lone s at) (sym q ∙ found)
+pub ellipsis-was-refused : (x : Reading Bool) (f : Fault) → EllipsisRead.Refused f ≡ ellipsisAnswer x → x ≡ no f
+ellipsis-was-refused (got v a m) f q = let z : _≡_ {A = ℕ} 0 1 = cc in absurd (omega arith)
+ellipsis-was-refused (no x) f q = cc
 
 -- what comes before the arguments
-
-head-answer : (c : Convention) (r : Result) (v : Bool) (at n : ℕ) (x : Body) → headAnswer (headBy c r v at n x) ≡ headWith c (resultType c r) v at n x
-head-answer c r v at n (Body.To b) = refl
-head-answer c r v at n (Body.Refused x) = refl
 
 module _ (s : List ℕ) (c : Convention) (at n : ℕ) (x : ResultRead) (found : x ≡ resultAnswer c (resultAt c s at)) where
   pub head-no-result : (f : Fault) → x ≡ ResultRead.Refused f → headAfter s c at n ≡ no (later n f)
@@ -206,31 +170,26 @@ module _ (s : List ℕ) (c : Convention) (at n : ℕ) (x : ResultRead) (found : 
   head-no-result f q = rw (result-was-refused c (resultAt c s at) f (sym q ∙ found))
 
   module _ (t : ResultType) (next m : ℕ) (q : x ≡ ResultRead.Result t next m) where
-    pub head-no-ellipsis : (r : Refusal) → ellipsisAt s next ≡ no (fault r next 0) → headAfter s c at n ≡ no (fault r next (n + m))
-    unfolding headAfter headThen
-    head-no-ellipsis r e =
-        let (tree, read, same) = result-got c (resultAt c s at) t next m (sym q ∙ found) in
-        let sum : n + m + 0 ≡ n + m = omega arith in
-        rw (read, e) (ap (λ (k : ℕ). no (fault r next k)) sum)
+    module _ (y : EllipsisRead) (marked : y ≡ ellipsisAnswer (ellipsisAt s next)) where
+      pub head-no-ellipsis : (f : Fault) → y ≡ EllipsisRead.Refused f → headAfter s c at n ≡ no (later (n + m) f)
+      unfolding headAfter headThen
+      head-no-ellipsis f e =
+          let (tree, read, same) = result-got c (resultAt c s at) t next m (sym q ∙ found) in
+          rw (read, ellipsis-was-refused (ellipsisAt s next) f (sym e ∙ marked))
 
-    -- from the last item's header on
-    head-from : (v : Bool) (third k : ℕ) → ellipsisAt s next ≡ got v third k →
-        headAnswer (headAfter s c at n) ≡ headWith c t v third (n + m + k) (bodyAt s 0x03 0x03 (length s) third)
-    unfolding headAfter headThen
-    head-from v third k e =
-        let (tree, read, same) = result-got c (resultAt c s at) t next m (sym q ∙ found) in
-        let body = bodyAt s 0x03 0x03 (length s) third in
-        rw (read, e) (head-answer c tree v third (n + m + k) body ∙ ap (λ (u : ResultType). headWith c u v third (n + m + k) body) (sym same))
+      module _ (v : Bool) (last k : ℕ) (e : y ≡ EllipsisRead.Ellipsis v last k) where
+        pub head-no-arguments : (r : Refusal) → bodyAt s 0x03 0x03 (length s) last ≡ Body.Refused r → headAfter s c at n ≡ no (fault r last (n + m + k))
+        unfolding headAfter headThen
+        head-no-arguments r body =
+            let (tree, read, same) = result-got c (resultAt c s at) t next m (sym q ∙ found) in
+            rw (read, ellipsis-got (ellipsisAt s next) v last k (sym e ∙ marked), body)
 
-    pub head-plain : ellipsisAt s next ≡ got false next 0 →
-        headAnswer (headAfter s c at n) ≡ headWith c t false next (n + m) (bodyAt s 0x03 0x03 (length s) next)
-    head-plain e =
-        let sum : n + m + 0 ≡ n + m = omega arith in
-        head-from false next 0 e ∙ ap (λ (k : ℕ). headWith c t false next k (bodyAt s 0x03 0x03 (length s) next)) sum
-
-    pub head-marked : ellipsisAt s next ≡ got true (next + 3) 1 →
-        headAnswer (headAfter s c at n) ≡ headWith c t true (next + 3) (n + m + 1) (bodyAt s 0x03 0x03 (length s) (next + 3))
-    head-marked e = head-from true (next + 3) 1 e
+        pub head-to : (b : ℕ) → bodyAt s 0x03 0x03 (length s) last ≡ Body.To b → headAnswer (headAfter s c at n) ≡ HeadRead.Head c t v (last + 3) b (n + m + k)
+        unfolding headAfter headThen
+        head-to b body =
+            let (tree, read, same) = result-got c (resultAt c s at) t next m (sym q ∙ found) in
+            rw (read, ellipsis-got (ellipsisAt s next) v last k (sym e ∙ marked), body)
+            (ap (λ (u : ResultType). HeadRead.Head c u v (last + 3) b (n + m + k)) (sym same))
 
 module _ (s : List ℕ) where
   pub head-long : maxLength < length s → headOf s ≡ no (fault Refusal.TooLong 0 0)

@@ -1,6 +1,6 @@
 -- Each answer has the number of its reading. Assumes nothing.
 use mathlib.Core.Path.{_≡_, refl}
-use mathlib.Core.Bool.{Bool, true, false}
+use mathlib.Core.Bool.{Bool}
 use Rattle.conventions.specs.declared.Convention.{Convention}
 use Rattle.items.specs.Reading.{Reading, got, no}
 use Rattle.items.specs.Refusals.{readingNumber}
@@ -21,8 +21,7 @@ result-number c (got r next n) = refl
 result-number c (no f) = refl
 
 pub ellipsis-number : (x : Reading Bool) → ellipsisReadNumber (ellipsisAnswer x) ≡ readingNumber x
-ellipsis-number (got true next n) = refl
-ellipsis-number (got false next n) = refl
+ellipsis-number (got v next n) = refl
 ellipsis-number (no f) = refl
 
 pub head-number : (x : Reading Head) → headReadNumber (headAnswer x) ≡ readingNumber x

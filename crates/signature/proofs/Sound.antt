@@ -24,12 +24,13 @@ use Rattle.conventions.specs.Numbers.{conventionCode, codeOf}
 use Rattle.conventions.proofs.Laws.{CodeIs, code-is}
 use Rattle.signature.specs.declared.ResultType.{ResultType}
 use Rattle.signature.specs.declared.ResultRead.{ResultRead}
+use Rattle.signature.specs.declared.EllipsisRead.{EllipsisRead}
 use Rattle.signature.specs.declared.HeadRead.{HeadRead}
-use Rattle.signature.specs.Answer.{resultAnswer, headAnswer}
+use Rattle.signature.specs.Answer.{resultAnswer, ellipsisAnswer, headAnswer}
 use Rattle.signature.specs.Signature.{Result, nothing, value, Signature, Head}
 use Rattle.signature.specs.Limits.{maxLength, maxArguments, maxDepth}
 use Rattle.signature.specs.Read.{conventionBy, conventionAt, resultIn, resultAt, ellipsisAt, argumentsIn, argumentsAt, afterEllipsis, afterResult, afterConvention, signatureOf, headBy, headThen, headAfter, headOf}
-use Rattle.signature.proofs.Laws.{result-got, head-got}
+use Rattle.signature.proofs.Laws.{result-got, ellipsis-got, head-got}
 use Rattle.signature.specs.Encode.{encodeResult, ellipsisItem, encode, resultItems, ellipsisItems, signatureItems, ResultWithin, Within}
 
 -- an item of the signature that ends the item's framing
@@ -305,6 +306,14 @@ result-bounded c s at x t next n found q =
     let k = result-read c s at r next n read in
     let third = result-third r in
     record { inside = k .inside; third = omega arith }
+
+-- and of the ellipsis's
+pub ellipsis-bounded : (s : List ℕ) (at : ℕ) (x : EllipsisRead) (v : Bool) (next n : ℕ) → at ≤ length s → x ≡ ellipsisAnswer (ellipsisAt s at) →
+    x ≡ EllipsisRead.Ellipsis v next n → Bounded s at next n
+ellipsis-bounded s at x v next n room found q =
+    let k = ellipsis-read s at v next n (ellipsis-got (ellipsisAt s at) v next n (sym q ∙ found)) in
+    let third = ellipsis-third v in
+    record { inside = k .inside room; third = omega arith }
 
 -- "at most a third of the input length"
 

@@ -1,6 +1,6 @@
 -- The program's answer for each reading. Assumes nothing.
 use Prim.Native.Nat.{ℕ, _+_, _-_}
-use mathlib.Core.Bool.{Bool, true, false}
+use mathlib.Core.Bool.{Bool, false}
 use mathlib.Core.List.{List, [], _∷_, _++_}
 use lib.ListN.{replicate}
 use lib.Dec.{ltb}
@@ -11,7 +11,6 @@ use Rattle.types.specs.declared.ValueType.{ValueType}
 use Rattle.types.specs.Trees.{Trees, none, _▸_, typeOf, countOf}
 use Rattle.items.specs.declared.Refusal.{Refusal}
 use Rattle.items.specs.declared.Fault.{Fault}
-use Rattle.items.specs.declared.Body.{Body}
 use Rattle.items.specs.Reading.{Reading, fault, got, no, later}
 use Rattle.signature.specs.declared.ResultType.{ResultType}
 use Rattle.signature.specs.declared.Argument.{Argument}
@@ -37,14 +36,8 @@ resultAnswer c (got r next n) = ResultRead.Result (resultType c r) next n
 resultAnswer c (no f) = ResultRead.Refused f
 
 abbrev pub ellipsisAnswer : Reading Bool → EllipsisRead
-ellipsisAnswer (got true next n) = EllipsisRead.Present
-ellipsisAnswer (got false next n) = EllipsisRead.Absent
-ellipsisAnswer (no f) = EllipsisRead.Refused (f .reason)
-
--- a head from the last item's header on, which stands at `at`, where n items came before it
-abbrev pub headWith : Convention → ResultType → Bool → ℕ → ℕ → Body → HeadRead
-headWith c r v at n (Body.To b) = HeadRead.Head c r v (at + 3) b n
-headWith c r v at n (Body.Refused x) = HeadRead.Refused (fault x at n)
+ellipsisAnswer (got v next n) = EllipsisRead.Ellipsis v next n
+ellipsisAnswer (no f) = EllipsisRead.Refused f
 
 abbrev pub headAnswer : Reading Head → HeadRead
 headAnswer (got h next n) = HeadRead.Head (h .convention) (resultType (h .convention) (h .result)) (h .ellipsis) next (h .end) n

@@ -20,9 +20,8 @@ resultReadNumber (ResultRead.Result t next n) = 0
 resultReadNumber (ResultRead.Refused f) = numberOf (f .reason)
 
 abbrev pub ellipsisReadNumber : EllipsisRead → ℕ
-ellipsisReadNumber EllipsisRead.Absent = 0
-ellipsisReadNumber EllipsisRead.Present = 0
-ellipsisReadNumber (EllipsisRead.Refused r) = numberOf r
+ellipsisReadNumber (EllipsisRead.Ellipsis v next n) = 0
+ellipsisReadNumber (EllipsisRead.Refused f) = numberOf (f .reason)
 
 abbrev pub headReadNumber : HeadRead → ℕ
 headReadNumber (HeadRead.Head c t v at e n) = 0

@@ -1,7 +1,6 @@
 // What a signature says: the convention, the result's type, whether it has an ellipsis, and the types of 0 to 128 arguments.
 use conventions::Convention;
 use items::Fault;
-use items::Refusal;
 use types::IntegerKind;
 use types::ValueType;
 ghost use mathlib.Core.Path.{_≡_};
@@ -51,11 +50,14 @@ pub enum ResultRead {
     Refused(Fault),
 }
 
-// An ellipsis's item, which stands at the place after the result's: three bytes long where it is there.
+// The ellipsis's item, or none, with the place of the last item and the count of its items.
 pub enum EllipsisRead {
-    Absent,
-    Present,
-    Refused(Refusal),
+    Ellipsis {
+        present: bool,
+        next: usize,
+        items: usize,
+    },
+    Refused(Fault),
 }
 
 // What stands before the arguments: the convention, the result's type and whether there is an ellipsis; the arguments' bytes are those from `at` to `end`,

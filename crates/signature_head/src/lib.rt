@@ -13,9 +13,8 @@ use signature::ResultType;
 ghost use mathlib.Core.Path.{_≡_};
 ghost use Prim.Native.Nat.{_+_, _^_, _≤_, _<_};
 ghost use lib.ListN.{length};
-ghost use Rattle.items.specs.Read.{bodyAt};
 ghost use Rattle.signature.specs.Read.{conventionAt, resultIn, resultAt, ellipsisAt, headAfter, headOf};
-ghost use Rattle.signature.specs.Answer.{conventionAnswer, resultAnswer, ellipsisAnswer, headWith, headAnswer};
+ghost use Rattle.signature.specs.Answer.{conventionAnswer, resultAnswer, ellipsisAnswer, headAnswer};
 
 // The most bytes that a signature may have: `maxLength` of crates/signature/specs/Limits.antt.
 pub const MAX_LENGTH: usize = 16384;
@@ -99,49 +98,37 @@ fn read_ellipsis(s: &[u8], at: usize) -> EllipsisRead
     requires { ⌜ (at ≤ length (now s)) × (length (now s) ≤ 2 ^ 16) ⌝ }
     ensures { λ r. ⌜ r ≡ ellipsisAnswer (ellipsisAt (now (s .entry)) at) ⌝ }
 {
+    let absent = EllipsisRead::Ellipsis {
+        present: false,
+        next: at,
+        items: 0,
+    };
     if at == s.len() {
-        return EllipsisRead::Absent;
+        return absent;
     }
     if s[at] != 0x04 {
-        return EllipsisRead::Absent;
+        return absent;
     }
     match item_headers::read_body(s, 0x04, 0x04, at, s.len()) {
-        Body::Refused(reason) => EllipsisRead::Refused(reason),
-        Body::To(to) => {
-            if to != at + 3 {
-                return EllipsisRead::Refused(Refusal::Malformed);
-            }
-            EllipsisRead::Present
-        }
-    }
-}
-
-// The header of the arguments' item, at `at`; `earlier` items came before it.
-fn read_last(
-    s: &[u8],
-    c: Convention,
-    result: ResultType,
-    ellipsis: bool,
-    at: usize,
-    earlier: usize,
-) -> HeadRead
-    requires { ⌜ (at ≤ length (now s)) × (length (now s) ≤ 2 ^ 16) ⌝ }
-    ensures { λ r. ⌜ r ≡ headWith c result ellipsis at earlier (bodyAt (now (s .entry)) 0x03 0x03 (length (now (s .entry))) at) ⌝ }
-{
-    match item_headers::read_body(s, 0x03, 0x03, at, s.len()) {
-        Body::Refused(reason) => HeadRead::Refused(Fault {
+        Body::Refused(reason) => EllipsisRead::Refused(Fault {
             reason,
             place: at,
-            passed: earlier,
+            passed: 0,
         }),
-        Body::To(to) => HeadRead::Head {
-            convention: c,
-            result,
-            ellipsis,
-            at: at + 3,
-            end: to,
-            earlier,
-        },
+        Body::To(to) => {
+            if to != at + 3 {
+                return EllipsisRead::Refused(Fault {
+                    reason: Refusal::Malformed,
+                    place: at,
+                    passed: 0,
+                });
+            }
+            EllipsisRead::Ellipsis {
+                present: true,
+                next: to,
+                items: 1,
+            }
+        }
     }
 }
 
@@ -157,15 +144,31 @@ fn read_head_after(s: &[u8], c: Convention) -> HeadRead
             next: third,
             items,
         } => {
-            let earlier = 1 + items;
+            let counted = 1 + items;
             match read_ellipsis(s, third) {
-                EllipsisRead::Refused(reason) => HeadRead::Refused(Fault {
-                    reason,
-                    place: third,
-                    passed: earlier,
-                }),
-                EllipsisRead::Absent => read_last(s, c, ty, false, third, earlier),
-                EllipsisRead::Present => read_last(s, c, ty, true, third + 3, earlier + 1),
+                EllipsisRead::Refused(fault) => HeadRead::Refused(items::later_by(counted, fault)),
+                EllipsisRead::Ellipsis {
+                    present,
+                    next: last,
+                    items: more,
+                } => {
+                    let earlier = counted + more;
+                    match item_headers::read_body(s, 0x03, 0x03, last, s.len()) {
+                        Body::Refused(reason) => HeadRead::Refused(Fault {
+                            reason,
+                            place: last,
+                            passed: earlier,
+                        }),
+                        Body::To(to) => HeadRead::Head {
+                            convention: c,
+                            result: ty,
+                            ellipsis: present,
+                            at: last + 3,
+                            end: to,
+                            earlier,
+                        },
+                    }
+                }
             }
         }
     }

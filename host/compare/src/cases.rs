@@ -20,6 +20,7 @@ mod dumps;
 mod floats;
 mod machines;
 mod signatures;
+mod walks;
 
 use crate::random::Random;
 use std::collections::BTreeMap;
@@ -49,9 +50,11 @@ pub enum Operation {
     Plan = 16,
     StartAix = 17,
     StartPpc64b = 18,
-    WalkDumpPpc64 = 19,
-    WalkDumpZ = 20,
-    WalkDumpAix = 21,
+    WalkStart = 19,
+    Walk = 20,
+    WalkDumpPpc64 = 21,
+    WalkDumpZ = 22,
+    WalkDumpAix = 23,
     /// No call: the state and the memory that the next calls of the frame machine find.
     SetMachine = 100,
     /// No call: changes of that state and that memory.
@@ -60,7 +63,7 @@ pub enum Operation {
 
 impl Operation {
     /// Those that call the library.
-    pub const CALLS: [Operation; 21] = [
+    pub const CALLS: [Operation; 23] = [
         Operation::ReadSignature,
         Operation::Measure,
         Operation::Listing,
@@ -79,6 +82,8 @@ impl Operation {
         Operation::Plan,
         Operation::StartAix,
         Operation::StartPpc64b,
+        Operation::WalkStart,
+        Operation::Walk,
         Operation::WalkDumpPpc64,
         Operation::WalkDumpZ,
         Operation::WalkDumpAix,
@@ -137,6 +142,7 @@ pub fn all(seed: u64, least: usize) -> Vec<Case> {
         floats::some(&mut random, &mut cases);
         machines::some(&mut random, &mut cases);
         calls::some(&mut random, &mut cases);
+        walks::some(&mut random, &mut cases);
         dumps::some(&mut random, &mut cases);
     }
     cases

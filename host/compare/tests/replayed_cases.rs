@@ -101,9 +101,16 @@ fn refusals(of: Operation) -> Vec<u64> {
         Operation::WriteRegister | Operation::WriteMemory => vec![16, 20, 23],
         Operation::Leave => vec![16, 21, 22, 23],
         Operation::Fill => (1..=12).chain([15, 25, 29]).collect(),
-        Operation::Read => (1..=11).chain([13, 14, 15, 25, 29]).collect(),
+        Operation::Read => (1..=11).chain([13, 14, 15, 25, 26, 29]).collect(),
         Operation::Home => (1..=9).chain([11, 14, 15, 24, 25, 29]).collect(),
         Operation::View => (1..=9).chain([11, 24, 25, 29]).collect(),
+        Operation::WalkStart => (1..=9).chain([25]).collect(),
+        Operation::Walk => {
+            let of_the_item = (1..=6).chain([8, 25]);
+            of_the_item
+                .chain([10, 11, 13, 14, 15, 23, 26, 29])
+                .collect()
+        }
         Operation::WalkDumpPpc64 | Operation::WalkDumpZ | Operation::WalkDumpAix => {
             vec![30, 31, 32]
         }
@@ -121,7 +128,8 @@ fn every_operation_gives_every_answer() {
         assert!(accepted >= 100, "{operation:?}: accepted only {accepted}");
         for number in refusals(operation) {
             // of the signature's refusals these have but a few each
-            let of_values = (Operation::Fill..=Operation::View).contains(&operation);
+            let of_values = (Operation::Fill..=Operation::View).contains(&operation)
+                || matches!(operation, Operation::WalkStart | Operation::Walk);
             let of_signatures = number <= 9 || number == 25 || number == 29;
             let least = match number {
                 _ if of_values && of_signatures => 0,
@@ -154,6 +162,8 @@ fn refused_signatures_come_with_counts() {
         Operation::Read,
         Operation::Home,
         Operation::View,
+        Operation::WalkStart,
+        Operation::Walk,
     ] {
         let refused = cases
             .iter()

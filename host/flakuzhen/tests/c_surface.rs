@@ -1,5 +1,5 @@
 //! The header and both libraries, used from C and from C++, as they are built and as they are
-//! installed; the C example; the names that the shared library shows; and the stack that each
+//! installed; the C examples; the names that the shared library shows; and the stack that each
 //! function takes.
 
 use std::collections::{BTreeMap, BTreeSet};
@@ -91,39 +91,51 @@ fn cpp_with_the_shared_library() {
     compile_and_run("cpp-shared", &CPP, "libflakuzhen.so");
 }
 
-/// The C example must print what is stored next to it.
-fn prints_what_is_stored(output: &Output) {
-    let stored = std::fs::read_to_string(root().join("examples/call.out")).expect("its output");
+/// A C example must print what is stored for it.
+fn prints_what_is_stored(example: &str, output: &Output) {
+    let path = root().join(format!("examples/{example}.out"));
+    let stored = std::fs::read_to_string(path).expect("its output");
     assert_eq!(String::from_utf8_lossy(&output.stdout), stored);
 }
 
-fn run_the_example(name: &str, words: &[&str], library: &str) {
-    let program = temporary(&format!("call-{name}"));
-    let compiler = [&C[..], words].concat();
-    compile(&root().join(EXAMPLE), &program, &compiler, library);
-    prints_what_is_stored(&run_with_library(&program, "build"));
+fn source_of(example: &str) -> String {
+    format!("examples/c/{example}.c")
 }
 
-const EXAMPLE: &str = "examples/c/call.c";
+fn run_the_examples(name: &str, words: &[&str], library: &str) {
+    for example in EXAMPLES {
+        let program = temporary(&format!("{example}-{name}"));
+        let compiler = [&C[..], words].concat();
+        compile(
+            &root().join(source_of(example)),
+            &program,
+            &compiler,
+            library,
+        );
+        prints_what_is_stored(example, &run_with_library(&program, "build"));
+    }
+}
+
+const EXAMPLES: [&str; 2] = ["call", "variable"];
 
 #[test]
-fn the_example_with_the_archive() {
-    run_the_example("archive", &[], "libflakuzhen.a");
+fn the_examples_with_the_archive() {
+    run_the_examples("archive", &[], "libflakuzhen.a");
 }
 
 #[test]
-fn the_example_with_the_shared_library() {
-    run_the_example("shared", &[], "libflakuzhen.so");
+fn the_examples_with_the_shared_library() {
+    run_the_examples("shared", &[], "libflakuzhen.so");
 }
 
 #[test]
-fn the_example_under_sanitizers() {
+fn the_examples_under_sanitizers() {
     let words = [
         "-g",
         "-fsanitize=address,undefined",
         "-fno-sanitize-recover=all",
     ];
-    run_the_example("sanitized", &words, "libflakuzhen.so");
+    run_the_examples("sanitized", &words, "libflakuzhen.so");
 }
 
 /// Runs `make` for what is installed in this folder, below the prefix.
@@ -175,7 +187,7 @@ fn use_installed(folder: &Path) {
     assert!(prefix.join("share/man/man1/flakuzhen.1").is_file());
     assert!(prefix.join("lib/libflakuzhen.a").is_file());
     // what the header names
-    for name in ["call.c", "COMPILERS.md"] {
+    for name in ["call.c", "variable.c", "COMPILERS.md"] {
         assert!(prefix.join("share/doc/flakuzhen").join(name).is_file());
     }
 
@@ -197,9 +209,11 @@ fn use_installed(folder: &Path) {
             .arg(root().join(source))
             .args(words.split_whitespace()));
     };
-    let program = temporary("call-installed");
-    compile(EXAMPLE, &program);
-    prints_what_is_stored(&run_with_library(&program, prefix.join("lib")));
+    for example in EXAMPLES {
+        let program = temporary(&format!("{example}-installed"));
+        compile(&source_of(example), &program);
+        prints_what_is_stored(example, &run_with_library(&program, prefix.join("lib")));
+    }
     // this one holds the library's version to the header's
     let program = temporary("surface-installed");
     compile("host/flakuzhen/tests/surface.c", &program);

@@ -46,6 +46,7 @@ fn reads_the_examples() {
     let readings = [
         ("aix-lseek64.hex", 0, "items 7\n"),
         ("aix-moofunc.hex", 0, "items 12\n"),
+        ("aix-printf.hex", 0, "items 12\n"),
         ("aix-straddling-struct.hex", 0, "items 21\n"),
         ("limit-128-arguments.hex", 0, "items 131\n"),
         ("limit-129-arguments.hex", 1, "refused 7 at 522 after 131\n"),
@@ -58,17 +59,20 @@ fn reads_the_examples() {
             "refused 8 at 10 after 36\n",
         ),
         ("ppc64-dgemm.hex", 0, "items 17\n"),
+        ("ppc64-figure-3-18-var.hex", 0, "items 18\n"),
         ("ppc64-figure-3-18.hex", 0, "items 17\n"),
         ("ppc64-ldiv.hex", 0, "items 8\n"),
         ("ppc64-small-structs.hex", 0, "items 36\n"),
         ("ppc64-straddling-struct.hex", 0, "items 16\n"),
         ("ppc64-two-arguments.hex", 0, "items 5\n"),
         ("ppc64b-figure-3-18.hex", 0, "items 17\n"),
+        ("ppc64b-printf.hex", 0, "items 12\n"),
         (
             "refused-aix-double-field.hex",
             1,
             "refused 25 at 17 after 5\n",
         ),
+        ("refused-ellipsis-last.hex", 1, "refused 9 at 18 after 5\n"),
         (
             "refused-long-double-field.hex",
             1,
@@ -76,6 +80,7 @@ fn reads_the_examples() {
         ),
         ("refused-unclear-long-double.hex", 0, "items 10\n"),
         ("z-powl.hex", 0, "items 6\n"),
+        ("z-printf.hex", 0, "items 10\n"),
         ("z-small-structs.hex", 0, "items 27\n"),
         ("z-table-10.hex", 0, "items 13\n"),
     ];

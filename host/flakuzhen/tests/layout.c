@@ -84,6 +84,14 @@ WORD(fz_machine, depth, 3);
 WORD(fz_machine, registers, 4);
 WORD(fz_machine, frames, 70);
 
+SIZE(fz_walker, 6);
+WORD(fz_walker, convention, 0);
+WORD(fz_walker, ellipsis, 1);
+WORD(fz_walker, hidden, 2);
+WORD(fz_walker, general, 3);
+WORD(fz_walker, floating, 4);
+WORD(fz_walker, stack, 5);
+
 SIZE(fz_walked, 4);
 WORD(fz_walked, answer, 0);
 WORD(fz_walked, count, 3);

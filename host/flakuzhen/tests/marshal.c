@@ -1,5 +1,5 @@
-/* Filling, reading, home and view, used as a C or C++ program uses them. Ends with the count of
- * what is wrong. */
+/* Filling, reading, home, view and walks, used as a C or C++ program uses them. Ends with the count
+ * of what is wrong. */
 #include "check.h"
 #include "flakuzhen.h"
 #include <string.h>
@@ -139,10 +139,102 @@ static void check_aix(void)
                   FZ_BAD_COPIES));
 }
 
+/* PPC64, no result, an ellipsis, arguments i32, single and double */
+static const uint8_t variable[25] = {0x01, 0x00, 0x01, 0x01, 0x02, 0x00, 0x00, 0x04, 0x00,
+                                     0x00, 0x03, 0x00, 0x0c, 0x10, 0x00, 0x01, 0x04, 0x11,
+                                     0x00, 0x01, 0x00, 0x11, 0x00, 0x01, 0x01};
+
+static void check_ellipsis(void)
+{
+    /* -2, 1.0 and a double */
+    static const uint8_t values[16] = {0xff, 0xff, 0xff, 0xfe, 0x3f, 0x80, 0, 0,
+                                       1,    2,    3,    4,    5,    6,    7, 8};
+    static const uint8_t r4[16] = {0, 0, 0, 0, 0x3f, 0x80, 0, 0, 1, 2, 3, 4, 5, 6, 7, 8};
+    static const uint8_t f1[16] = {0x3f, 0xf0, 0, 0, 0, 0, 0, 0, 1, 2, 3, 4, 5, 6, 7, 8};
+    uint64_t places[3 * FZ_PLACE_WORDS];
+    uint8_t back[16];
+    fz_planned planned = fz_plan(variable, 25, places, 3 * FZ_PLACE_WORDS);
+
+    CHECK(answers(planned.answer, 0) && planned.ellipsis == 1 && planned.arguments == 3);
+    /* r4 and f1 */
+    CHECK(places[13 + 3] == 4 && places[13 + 4] == 1 && places[13 + 5] == 1 && places[13 + 6] == 1);
+    CHECK(fz_plan(ppc64, 18, places, 0).ellipsis == 0);
+
+    start();
+    CHECK(answers(fz_fill(variable, 25, values, 16, image, 512, area, 64, copies, 0, 1, 0), 0));
+    CHECK(memcmp(image + 8 * 4, r4, 16) == 0);
+    CHECK(memcmp(image + 256 + 8 * 1, f1, 16) == 0);
+    CHECK(answers(fz_read(variable, 25, back, 16, image, 512, area, 64, copies, 0, 1), 0));
+    CHECK(memcmp(back, values, 16) == 0);
+    /* what is around a single is not compared, its bytes are */
+    image[8 * 4] = 1;
+    CHECK(answers(fz_read(variable, 25, back, 16, image, 512, area, 64, copies, 0, 1), 0));
+    image[8 * 4 + 7] = 1;
+    CHECK(answers(fz_read(variable, 25, back, 16, image, 512, area, 64, copies, 0, 1),
+                  FZ_FLOATS_DIFFER));
+    image[256 + 8 * 1 + 7] = 1;
+    CHECK(answers(fz_read(variable, 25, back, 16, image, 512, area, 64, copies, 0, 1),
+                  FZ_NOT_WIDENED));
+    image[256 + 8 * 1 + 7] = 0;
+    CHECK(answers(fz_home(variable, 25, image, 512, area, 64), 0));
+    CHECK(memcmp(area + 8, r4, 16) == 0 && area[24] == 0xee);
+}
+
+static int stands_at(const fz_walker *walker, uint64_t general, uint64_t floating)
+{
+    return walker->convention == 1 && walker->ellipsis == 1 && walker->hidden == 0 &&
+           walker->general == general && walker->floating == floating && walker->stack == 0;
+}
+
+/* The same call, one by one. */
+static void check_walk(void)
+{
+    static const uint8_t values[16] = {0xff, 0xff, 0xff, 0xfe, 0x3f, 0x80, 0, 0,
+                                       1,    2,    3,    4,    5,    6,    7, 8};
+    static const uint8_t *const i32 = variable + 13, *const single = variable + 17,
+                                *const real = variable + 21;
+    uint8_t value[8] = {0xee, 0xee, 0xee, 0xee, 0xee, 0xee, 0xee, 0xee};
+    fz_walker walker = {9, 9, 9, 9, 9, 9};
+    fz_answer answer;
+
+    start();
+    CHECK(answers(fz_fill(variable, 25, values, 16, image, 512, area, 64, copies, 0, 1, 0), 0));
+    answer = fz_walk_start(&walker, variable, 24);
+    CHECK(answer.number == FZ_TRUNCATED && answer.place == 10 && answer.items == 3);
+    CHECK(walker.convention == 9 && walker.stack == 9);
+    CHECK(answers(fz_walk(&walker, i32, 4, value, 4, image, 512, area, 0, copies, 0, 1),
+                  FZ_BAD_STATE));
+    CHECK(answers(fz_walk_start(&walker, variable, 25), 0));
+    CHECK(stands_at(&walker, 0, 0));
+    CHECK(answers(fz_walk(&walker, i32, 4, value, 4, image, 512, area, 0, copies, 0, 1), 0));
+    CHECK(memcmp(value, values, 4) == 0 && value[4] == 0xee && stands_at(&walker, 1, 0));
+    answer = fz_walk(&walker, single, 8, value, 4, image, 512, area, 0, copies, 0, 1);
+    CHECK(answer.number == FZ_MALFORMED && answer.place == 4 && answer.items == 1);
+    CHECK(answers(fz_walk(&walker, single, 4, value, 4, image, 511, area, 0, copies, 0, 1),
+                  FZ_IMAGE_SIZE));
+    CHECK(answers(fz_walk(&walker, single, 4, value, 5, image, 512, area, 0, copies, 0, 1),
+                  FZ_VALUES_SIZE));
+    CHECK(stands_at(&walker, 1, 0));
+    CHECK(answers(fz_walk(&walker, single, 4, value, 4, image, 512, area, 0, copies, 0, 1), 0));
+    CHECK(memcmp(value, values + 4, 4) == 0 && stands_at(&walker, 2, 1));
+    image[8 * 5]++;
+    CHECK(answers(fz_walk(&walker, real, 4, value, 8, image, 512, area, 0, copies, 0, 1),
+                  FZ_FLOATS_DIFFER));
+    image[8 * 5]--;
+    CHECK(answers(fz_walk(&walker, real, 4, value, 8, image, 512, area, 0, copies, 0, 1), 0));
+    CHECK(memcmp(value, values + 8, 8) == 0 && stands_at(&walker, 3, 2));
+    /* an argument past the last register */
+    walker.general = 8;
+    CHECK(answers(fz_walk(&walker, i32, 4, value, 4, image, 512, area, 64, copies, 0, 1),
+                  FZ_AREA_TOO_SHORT));
+}
+
 int main(void)
 {
     check_ppc64();
     check_z();
     check_aix();
+    check_ellipsis();
+    check_walk();
     return wrong;
 }

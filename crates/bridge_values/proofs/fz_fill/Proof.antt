@@ -3,7 +3,7 @@ use mathlib.Core.Path.{ap, _∙_}
 use Rattle.slots.specs.declared.Answer as slots
 use Rattle.slots.specs.Buffers.{buffers}
 use Rattle.fill.specs.Fill.{fillBuffers}
-use Rattle.bridge_values.specs.Values.{callAnswer}
+use Rattle.call_answers.specs.Calls.{callAnswer}
 use borrow.Author.Needs.{needs}
 use Rattle.bridge_values.proofs.fz_fill.Statement.{statement}
 use Rattle.bridge_values.proofs.fz_fill.Tie as tie

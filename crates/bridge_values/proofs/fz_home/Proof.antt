@@ -2,7 +2,7 @@
 use mathlib.Core.Path.{ap, _∙_}
 use Rattle.slots.specs.declared.Answer as slots
 use Rattle.home.specs.Home.{homeArea}
-use Rattle.bridge_values.specs.Values.{callAnswer}
+use Rattle.call_answers.specs.Calls.{callAnswer}
 use borrow.Author.Needs.{needs}
 use Rattle.bridge_values.proofs.fz_home.Statement.{statement}
 use Rattle.bridge_values.proofs.fz_home.Tie as tie

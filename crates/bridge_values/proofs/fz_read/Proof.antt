@@ -3,7 +3,7 @@ use mathlib.Core.Path.{ap, _∙_}
 use Rattle.slots.specs.declared.Answer as slots
 use Rattle.slots.specs.Buffers.{buffers}
 use Rattle.read.specs.Read.{readValues}
-use Rattle.bridge_values.specs.Values.{callAnswer}
+use Rattle.call_answers.specs.Calls.{callAnswer}
 use borrow.Author.Needs.{needs}
 use Rattle.bridge_values.proofs.fz_read.Statement.{statement}
 use Rattle.bridge_values.proofs.fz_read.Tie as tie

@@ -1,7 +1,7 @@
 //! Cases of reading, measuring, planning and listing.
 
 use super::{changes, Case, Operation};
-use crate::encode::{self, ARGUMENTS, CONVENTION, FLOAT, INTEGER, RESULT, STRUCT};
+use crate::encode::{self, ARGUMENTS, CONVENTION, ELLIPSIS, FLOAT, INTEGER, RESULT, STRUCT};
 use crate::generate;
 use crate::plans;
 use crate::random::Random;
@@ -39,6 +39,23 @@ pub fn boundaries() -> Vec<Case> {
         }
         for length in 16_381..=16_385 {
             signatures.push(of(convention, &[], &structs_of_length(length - 10)));
+            let arguments = structs_of_length(length - 13);
+            signatures.push(encode::variable_signature_of(convention, &[], &arguments));
+        }
+        // an ellipsis at its place, with a body, twice, and before floats of every kind
+        let ellipsis = encode::item(ELLIPSIS, &[]);
+        for between in [
+            ellipsis.clone(),
+            encode::item(ELLIPSIS, &[0]),
+            ellipsis.repeat(2),
+        ] {
+            for code in [0, 1, 2] {
+                let floats = encode::item(FLOAT, &[code]).repeat(14);
+                let arguments = [&encode::item(INTEGER, &[4])[..], &floats].concat();
+                let bytes = encode::signature_around(convention, &[], &between, &arguments);
+                signatures.push([&bytes[..], &ellipsis].concat());
+                signatures.push(bytes);
+            }
         }
         let long_double = encode::item(FLOAT, &[2]);
         for inside in [long_double.clone(), encode::item(STRUCT, &long_double)] {

@@ -1,0 +1,2 @@
+-- What the exported calls of a walker answer. Assumes nothing.
+pub mod Walk

@@ -1,0 +1,2 @@
+-- What the exported calls on values answer. Assumes nothing.
+pub mod Calls

@@ -1,0 +1,155 @@
+// A walker read from six 64-bit words, with refusal 23, and written to them.
+use conventions::Convention;
+use conventions::ConventionCode;
+use places::Rules;
+use walker::Counters;
+use walker::Walker;
+use walker::WalkerRead;
+ghost use mathlib.Core.Path.{_≡_};
+ghost use Prim.Native.Nat.{_≤_};
+ghost use lib.ListN.{length};
+ghost use Rattle.conventions.specs.declared.ConventionCode.the-variants.{Known};
+ghost use Rattle.walker.specs.Walker.{mark, possible, powerPossible, zPossible, inRange, lost};
+ghost use Rattle.walker.specs.Words.{walkerBy, walkerIn, walkerWords};
+
+fn mark_of(b: bool) -> u64
+    ensures { λ n. ⌜ n ≡ mark b ⌝ }
+{
+    if b { 1 } else { 0 }
+}
+
+// ---- reading
+
+fn power_possible(hidden: u64, k: Counters) -> bool
+    requires { ⌜ hidden ≤ 1 ⌝ }
+    ensures { λ b. ⌜ b ≡ powerPossible hidden k ⌝ }
+{
+    if 13 < k.floating {
+        return false;
+    }
+    if k.general < k.floating + hidden {
+        return false;
+    }
+    k.stack == 0
+}
+
+fn z_possible(hidden: u64, k: Counters) -> bool
+    requires { ⌜ hidden ≤ 1 ⌝ }
+    ensures { λ b. ⌜ b ≡ zPossible hidden k ⌝ }
+{
+    if k.general < 2 + hidden {
+        return false;
+    }
+    if 7 < k.general {
+        return false;
+    }
+    if 8 < k.floating {
+        return false;
+    }
+    if k.floating % 2 != 0 {
+        return false;
+    }
+    if k.stack < 160 {
+        return false;
+    }
+    if k.stack % 8 != 0 {
+        return false;
+    }
+    if k.stack <= 160 {
+        return true;
+    }
+    if 7 <= k.general {
+        return true;
+    }
+    8 <= k.floating
+}
+
+// Whether some arguments, however many, lead to these counters.
+fn is_possible(r: Rules, hidden: bool, k: Counters) -> bool
+    ensures { λ b. ⌜ b ≡ possible r hidden k ⌝ }
+{
+    let h = mark_of(hidden);
+    match r {
+        Rules::Power(_) => power_possible(h, k),
+        Rules::Z => z_possible(h, k),
+    }
+}
+
+// Whether no counter is over 2^32.
+fn in_range(k: Counters) -> bool
+    ensures { λ b. ⌜ b ≡ inRange k ⌝ }
+{
+    if 4294967296 < k.general {
+        return false;
+    }
+    if 4294967296 < k.floating {
+        return false;
+    }
+    k.stack <= 4294967296
+}
+
+fn is_lost(w: Walker) -> bool
+    ensures { λ b. ⌜ b ≡ lost w ⌝ }
+{
+    let k = w.at;
+    let c = w.convention;
+    if !in_range(k) {
+        return true;
+    }
+    let r = abi::call_rules_of(c);
+    !is_possible(r, w.hidden, k)
+}
+
+fn walker_by(c: Convention, words: &[u64; 6]) -> WalkerRead
+    ensures { λ r. ⌜ r ≡ walkerBy (Known c) (now (words .entry)) ⌝ }
+{
+    let ellipsis = words[1];
+    let hidden = words[2];
+    if 1 < ellipsis {
+        return WalkerRead::Lost;
+    }
+    if 1 < hidden {
+        return WalkerRead::Lost;
+    }
+    let w = Walker {
+        convention: c,
+        ellipsis: ellipsis == 1,
+        hidden: hidden == 1,
+        at: Counters {
+            general: words[3],
+            floating: words[4],
+            stack: words[5],
+        },
+    };
+    if is_lost(w) {
+        return WalkerRead::Lost;
+    }
+    WalkerRead::Walker(w)
+}
+
+// The walker that six words are, or that they are none's (23).
+pub fn walker_in(words: &[u64; 6]) -> WalkerRead
+    ensures { λ r. ⌜ r ≡ walkerIn (now (words .entry)) ⌝ }
+{
+    match conventions::convention_code(words[0]) {
+        ConventionCode::Known(c) => walker_by(c, words),
+        ConventionCode::Unknown => WalkerRead::Lost,
+    }
+}
+
+// ---- writing
+
+// All six words of a walker.
+pub fn put_walker(words: &mut [u64], w: Walker)
+    requires { ⌜ length (now words) ≡ 6 ⌝ }
+    ensures { λ _. ⌜ now (words .exit) ≡ walkerWords w ⌝ }
+{
+    let c = w.convention;
+    let k = w.at;
+    words[0] = conventions::code_of(c);
+    words[1] = mark_of(w.ellipsis);
+    words[2] = mark_of(w.hidden);
+    words[3] = k.general;
+    words[4] = k.floating;
+    words[5] = k.stack;
+}

@@ -1,0 +1,104 @@
+-- The counters and the part of the area: what the functions compute from offset 0 is what the definitions say. Assumes nothing.
+use mathlib.Core.Path.{_≡_, refl, sym, ap, _∙_}
+use mathlib.Core.Bool.{Bool, true, false}
+use mathlib.Core.List.{List}
+use Prim.Native.Nat.{ℕ, _+_, _-_, _*_, _/_, _^_, _≤_, _<_, min}
+use native.Mathlib.Omega.{arith}
+use native.Mathlib.Nat.{mul-add, mul-div-cancel-left, zero-add}
+use borrow.Author.Tests.{ltb-true, ltb-false}
+use lib.Dec.{ltb}
+use lib.ListN.{length, take, drop, length-drop, drop-of-length-le}
+use lib.Seq.{take-all}
+use Rattle.types.specs.declared.ValueType.{ValueType}
+use Rattle.places.specs.declared.Cursor.{Cursor}
+use Rattle.places.specs.declared.Rules.{Rules}
+use Rattle.places.specs.declared.ZClass.{ZClass}
+use Rattle.places.specs.Power.{words, powerShare, unclear}
+use Rattle.places.specs.ZSeries.{zClass, zNextOf}
+use Rattle.places.specs.Step.{Lawful, Roomy, nextOf, unclearFor, startOf}
+use Rattle.places.proofs.Bounds.{Named, named-next, named-start, named-roomy, near-next, start-bytes}
+use Rattle.walker.specs.declared.Counters.{Counters}
+use Rattle.walker.specs.Walker.{counters, cursorAt, countersOf}
+use Rattle.walker.specs.Walks.{local}
+use Rattle.walker.proofs.Reached.{Possible}
+use Rattle.walking.specs.Part.{Offset, Countable, countersAfter}
+
+-- ---- the part of the area
+
+-- from the smaller of the offset and the area's length on: the part that starts at the offset, or none
+pub part-area : (d m : ℕ) (l : List ℕ) → m ≡ min d (length l) → take (length l - m) (drop m l) ≡ drop d l
+part-area d m l e = go (ltb (length l) d) refl
+  where
+    all : take (length l - m) (drop m l) ≡ drop m l
+    all = ap (λ (n : ℕ). take n (drop m l)) (sym (length-drop m l)) ∙ take-all (length (drop m l)) (drop m l) (omega arith)
+
+    go : (b : Bool) → ltb (length l) d ≡ b → take (length l - m) (drop m l) ≡ drop d l
+    go true q =
+        let past = ltb-true (length l) d q in
+        let low : length l ≤ m = omega arith in
+        let far : length l ≤ d = omega arith in
+        all ∙ drop-of-length-le l low ∙ sym (drop-of-length-le l far)
+    go false q =
+        let inside = ltb-false (length l) d q in
+        let same : m ≡ d = omega arith in
+        all ∙ ap (λ (n : ℕ). drop n l) same
+
+pub part-length : (d m : ℕ) (l : List ℕ) → m ≡ min d (length l) → length l - m ≡ length (drop d l)
+part-length d m l e = omega (arith, length-drop d l)
+
+-- ---- the cursor
+
+pub possible-offset : (r : Rules) (hidden : Bool) (k : Counters) → Lawful r → Possible r hidden k → Offset r k
+possible-offset (Rules.Power f) hidden k l p = l .1
+possible-offset Rules.Z hidden k l p = p .4
+
+pub local-named : (r : Rules) (hidden : Bool) (k : Counters) → Possible r hidden k → Named r (local (cursorAt r k))
+unfolding cursorAt
+local-named (Rules.Power f) hidden k p = (omega arith, omega arith, omega arith, omega (arith, p .0))
+local-named Rules.Z hidden k p = (omega (arith, p .0), p .1, p .2, p .3)
+
+pub local-roomy : (r : Rules) (hidden : Bool) (k : Counters) → Possible r hidden k → Roomy (local (cursorAt r k))
+local-roomy r hidden k p = named-roomy r (local (cursorAt r k)) (local-named r hidden k p) (omega arith) (omega arith)
+
+-- 29 doesn't look at the offset
+pub unclear-local : (r : Rules) (d : Cursor) (t : ValueType) → unclearFor r (local d) t ≡ unclearFor r d t
+unfolding unclearFor unclear
+unclear-local (Rules.Power f) d t = refl
+unclear-local Rules.Z d t = refl
+
+-- ---- the counters
+
+countable : (r : Rules) (d : Cursor) → Lawful r → Named r d → d .stack ≤ 2 ^ 32 → Countable r d
+countable (Rules.Power f) d l h s = (omega arith, h .2, s)
+countable Rules.Z d l h s = s
+
+pub start-countable : (r : Rules) (hidden : Bool) → Lawful r → Countable r (startOf r hidden)
+start-countable r hidden l = countable r (startOf r hidden) l (named-start r hidden) (omega (arith, start-bytes r hidden l))
+
+-- a start is where no counter was before
+pub start-after : (r : Rules) (d : Cursor) → countersAfter r (counters 0 0 160) d ≡ countersOf r d
+unfolding countersAfter countersOf
+start-after (Rules.Power f) d = rw (zero-add (d .stack / f .word))
+start-after Rules.Z d = refl
+
+pub next-countable : (r : Rules) (hidden : Bool) (k : Counters) (t : ValueType) (n : ℕ) → Lawful r → Possible r hidden k → n ≤ 256
+    → Countable r (nextOf r (local (cursorAt r k)) t n)
+next-countable r hidden k t n l p h =
+    let d : Cursor = local (cursorAt r k) in
+    countable r (nextOf r d t n) l (named-next r d t n (local-named r hidden k p)) (omega (arith, near-next r d t n l h .stack))
+
+z-after : (k : Counters) (class : ZClass) (n : ℕ) → 160 ≤ k .stack
+    → countersAfter Rules.Z k (zNextOf (local (cursorAt Rules.Z k)) class n) ≡ countersOf Rules.Z (zNextOf (cursorAt Rules.Z k) class n)
+unfolding countersAfter countersOf cursorAt zNextOf
+z-after k ZClass.Float n h = ap (counters _ _) (omega arith)
+z-after k ZClass.Simple n h = ap (counters _ _) (omega arith)
+z-after k ZClass.Reference n h = ap (counters _ _) (omega arith)
+
+pub next-after : (r : Rules) (hidden : Bool) (k : Counters) (t : ValueType) (n : ℕ) → Lawful r → Possible r hidden k
+    → countersAfter r k (nextOf r (local (cursorAt r k)) t n) ≡ countersOf r (nextOf r (cursorAt r k) t n)
+unfolding countersAfter countersOf cursorAt nextOf powerShare
+next-after (Rules.Power f) hidden k t n l p =
+    let some : 0 < f .word = omega arith in
+    let m : ℕ = words (f .word) n in
+    rw (zero-add (f .word * m), ← mul-add (f .word) (k .general) m, mul-div-cancel-left m some, mul-div-cancel-left (k .general + m) some)
+next-after Rules.Z hidden k t n l p = z-after k (zClass t n) n (p .4)

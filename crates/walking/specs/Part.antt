@@ -1,0 +1,33 @@
+-- A step in the part of the area that starts at the walker's offset: what its functions ask and give. Nothing here is claimed of the calls, which crates/walker/specs defines.
+-- Assumes nothing.
+use Prim.Native.Nat.{ℕ, _+_, _-_, _/_, _^_, _≤_}
+use mathlib.Core.Path.{_≡_}
+use Rattle.conventions.specs.declared.Convention.{Convention}
+use Rattle.types.specs.declared.ValueType.{ValueType}
+use Rattle.types.specs.Sizes.{Sized}
+use Rattle.types.specs.Trees.{Tree, typeOf}
+use Rattle.places.specs.declared.Cursor.{Cursor}
+use Rattle.places.specs.declared.Rules.{Rules}
+use Rattle.walker.specs.declared.Counters.{Counters}
+use Rattle.walker.specs.Walker.{counters}
+
+-- a type that an item was read as
+pub record Declared (c : Convention) (t : ValueType) : Type 0 where
+  pub tree : Tree
+  pub same : typeOf c tree ≡ t
+  pub sized : Sized c t
+
+-- counters whose offset in the area is a number: their words' bytes, or what is past 160
+abbrev pub Offset : Rules → Counters → Type 0
+Offset (Rules.Power f) k = f .word ≤ 8
+Offset Rules.Z k = 160 ≤ k .stack
+
+-- a cursor whose counters are numbers
+abbrev pub Countable : Rules → Cursor → Type 0
+Countable (Rules.Power f) d = (1 ≤ f .word) × (1 ≤ d .floating) × (d .stack ≤ 2 ^ 32)
+Countable Rules.Z d = d .stack ≤ 2 ^ 32
+
+-- the counters k, and from offset 0 on those of the cursor d
+unfoldable pub countersAfter : Rules → Counters → Cursor → Counters
+countersAfter (Rules.Power f) k d = counters (k .general + d .stack / f .word) (d .floating - 1) 0
+countersAfter Rules.Z k d = counters (d .general) (d .floating) (k .stack + d .stack)
