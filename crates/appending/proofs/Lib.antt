@@ -4,3 +4,4 @@ pub mod Encoded
 pub mod Theorems
 pub mod Printed
 pub mod Filled
+pub mod Driver

@@ -2,3 +2,4 @@
 pub mod Appending
 pub mod Printed
 pub mod Filled
+pub mod Driver
