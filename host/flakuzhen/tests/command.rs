@@ -375,7 +375,7 @@ fn replays_the_examples() {
         prints(&run(&["replay", "-"], &text), 1, &stored(&list, "out"));
         replayed += 1;
     }
-    assert_eq!(replayed, 6);
+    assert_eq!(replayed, 7);
 }
 
 #[test]
