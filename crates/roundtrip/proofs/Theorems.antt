@@ -148,7 +148,7 @@ put-back r base (p ∷ ps) v b h e =
 
 -- ---- a whole signature
 
-read-tests : (have : Sizes) (values area : ℕ) → have .image ≡ 512 → have .values ≡ values → area ≤ have .area → firstOf (readTests have values area) ≡ Answer.Done
+pub read-tests : (have : Sizes) (values area : ℕ) → have .image ≡ 512 → have .values ≡ values → area ≤ have .area → firstOf (readTests have values area) ≡ Answer.Done
 unfolding firstOf readTests
 read-tests have values area i v a = simp (eq-eqb _ _ i, eq-eqb _ _ v, le-ltb _ _ a)
 

@@ -3,6 +3,7 @@
 
 #![forbid(unsafe_code)]
 
+pub mod appending;
 pub mod calls;
 pub mod cases;
 pub mod compiled_calls;

@@ -4,6 +4,7 @@
 #![forbid(unsafe_code)]
 
 mod call_picture;
+mod diff;
 mod hex;
 mod replay;
 mod stack_picture;
@@ -19,6 +20,7 @@ const USAGE: &str = "\
 usage: flakuzhen list [--hex] [FILE..]
        flakuzhen list --picture [--hex] [FILE..]
        flakuzhen read [--hex] [FILE..]
+       flakuzhen diff [--hex] OLD NEW
        flakuzhen replay [--picture] FILE
        flakuzhen dump [--picture] [--hex] CONVENTION BASE POINTER FILE
 
@@ -30,6 +32,13 @@ read      prints a line for each signature with its count of items, 'items N'
 --picture draws a table of the registers, the parameter area and the copies instead, a row
           to a doubleword (to a word in AIX's area), with the argument that has each byte
 FILE      holds one signature; '-', or no FILE at all, is standard input
+
+diff      compares the places of two signatures of one function, an older and a newer one: a
+          line for each argument and for the result, 'kept', 'moved .. to ..', 'new' or 'gone',
+          the sizes, and 'only appends' where the newer one only has arguments after the
+          older one's. 'value' is an argument's bytes among the values, 'copy' those of its
+          copy. Exit status 0: nothing moved; 1: something moved or is gone
+OLD, NEW  hold one signature each, which must be accepted; '-' is standard input
 
 replay    makes calls of the frame machine, on registers and memory of zeros, and prints
           each answer with the number of its line: 'accepted' or 'refused NUMBER at PLACE',
@@ -104,6 +113,7 @@ fn run(words: &[OsString]) -> Result<Outcome, String> {
             Ok(list(&words.signatures()?, print))
         }
         Some("read") => Ok(read(&Words::of(rest, &["--hex"])?.signatures()?)),
+        Some("diff") => diff_files(&Words::of(rest, &["--hex"])?),
         Some("replay") => replay_file(&Words::of(rest, &["--picture"])?),
         Some("dump") => dump_file(&Words::of(rest, &["--hex", "--picture"])?),
         Some("--help" | "-h" | "help") => Ok(Outcome {
@@ -147,6 +157,26 @@ fn read(signatures: &[Vec<u8>]) -> Outcome {
         text.push_str(&line);
     }
     Outcome { text, status }
+}
+
+fn diff_files(words: &Words) -> Result<Outcome, String> {
+    let [old, new] = words.files[..] else {
+        return Err("diff takes OLD NEW ('-' is standard input)".to_string());
+    };
+    if old == "-" && new == "-" {
+        return Err("diff: standard input can't be both OLD and NEW".to_string());
+    }
+    let signature = |file| input(file, words.has("--hex"), LARGEST_INPUT);
+    let (old_bytes, new_bytes) = (signature(old)?, signature(new)?);
+    diff::diff([&old_bytes, &new_bytes]).map_err(|(which, refusal)| {
+        let Refusal {
+            number,
+            place,
+            items,
+        } = refusal;
+        let told = format!("refused {number} at {place} after {items}");
+        told_of([old, new][which], told)
+    })
 }
 
 fn replay_file(words: &Words) -> Result<Outcome, String> {

@@ -1,6 +1,6 @@
 //! The command in C for other machines (`targets/flakuzhen.c`), compiled for this one and held to
-//! the Rust command: the same output, the same messages, the same exit status. It has no pictures and
-//! walks no dumps.
+//! the Rust command: the same output, the same messages, the same exit status. It has no pictures,
+//! walks no dumps and compares no signatures.
 
 mod support;
 
@@ -450,10 +450,17 @@ fn pictures_are_refused_in_one_line() {
 }
 
 #[test]
-fn dumps_are_refused_in_one_line() {
-    for words in [&["dump"][..], &["dump", "ppc64", "0", "0", "-"]] {
+fn dumps_and_comparisons_are_refused_in_one_line() {
+    let dumps = "dump: dumps are walked";
+    let signatures = "diff: signatures are compared";
+    for (words, what) in [
+        (&["dump"][..], dumps),
+        (&["dump", "ppc64", "0", "0", "-"], dumps),
+        (&["diff"], signatures),
+        (&["diff", "--hex", "-", "not-there"], signatures),
+    ] {
         let output = run(in_c(), words, b"");
-        let said = "flakuzhen: dump: dumps are walked by the Rust command alone\n";
+        let said = format!("flakuzhen: {what} by the Rust command alone\n");
         assert_eq!(String::from_utf8_lossy(&output.stderr), said);
         assert!(output.stdout.is_empty());
         assert_eq!(output.status.code(), Some(2));
@@ -461,14 +468,14 @@ fn dumps_are_refused_in_one_line() {
 }
 
 #[test]
-fn its_help_is_the_rust_commands_but_for_pictures_and_dumps() {
+fn its_help_is_the_rust_commands_but_for_what_it_has_not() {
     for asked in ["--help", "-h", "help"] {
         let rust = run(Path::new(env!("CARGO_BIN_EXE_flakuzhen")), &[asked], b"");
         let known = String::from_utf8(rust.stdout).expect("text");
-        // a dump has its own part
+        // dumps and comparisons have their own parts
         let parts = known
             .split("\n\n")
-            .filter(|part| !part.starts_with("dump "));
+            .filter(|part| !part.starts_with("dump ") && !part.starts_with("diff "));
         let known = parts.collect::<Vec<&str>>().join("\n\n");
         let mut expected = String::new();
         let mut lines = known.lines();
@@ -476,12 +483,16 @@ fn its_help_is_the_rust_commands_but_for_pictures_and_dumps() {
             if line.starts_with("--picture ") {
                 // it has two lines
                 lines.next();
-            } else if !line.contains("list --picture") && !line.contains("flakuzhen dump") {
+            } else if !["list --picture", "flakuzhen dump", "flakuzhen diff"]
+                .iter()
+                .any(|own| line.contains(own))
+            {
                 expected += &line.replace("[--picture] ", "");
                 expected += "\n";
             }
         }
-        expected += "\nPictures (--picture) are drawn, and dumps walked (dump), by the Rust command alone.\n";
+        expected += "\nPictures (--picture) are drawn, dumps walked (dump), and signatures compared (diff), \
+                     by the Rust\ncommand alone.\n";
         let output = run(in_c(), &[asked], b"");
         assert_eq!(String::from_utf8_lossy(&output.stdout), expected);
         assert_eq!(output.status.code(), Some(0));

@@ -6,7 +6,9 @@
 
 use compare::calls::Operation;
 use compare::random::Random;
-use compare::{dumps, float_bits, machine_lists, marshal, plans, signatures, walks, Difference};
+use compare::{
+    appending, dumps, float_bits, machine_lists, marshal, plans, signatures, walks, Difference,
+};
 use reference::Convention;
 use std::fmt;
 use std::io::{self, IsTerminal, Write};
@@ -16,6 +18,8 @@ use std::time::{Duration, Instant, SystemTime, UNIX_EPOCH};
 /// The share of a round, which takes about a second.
 const SIGNATURES: u64 = 20_000;
 const PLANS: u64 = 5_000;
+/// Of signatures, one with arguments appended.
+const PAIRS: u64 = 1_000;
 /// Of each operation.
 const CALLS: u64 = 2_000;
 const SINGLES: u64 = 50_000;
@@ -62,6 +66,7 @@ fn seed_from_the_clock() -> u64 {
 struct Cases {
     signatures: u64,
     plans: u64,
+    pairs: u64,
     calls: u64,
     floats: u64,
     machine_calls: u64,
@@ -72,7 +77,7 @@ struct Cases {
 impl Cases {
     fn total(&self) -> u64 {
         let values = self.calls + self.floats + self.steps;
-        self.signatures + self.plans + values + self.machine_calls + self.dumps
+        self.signatures + self.plans + self.pairs + values + self.machine_calls + self.dumps
     }
 }
 
@@ -81,6 +86,7 @@ impl fmt::Display for Cases {
         let Cases {
             signatures,
             plans,
+            pairs,
             calls,
             floats,
             machine_calls,
@@ -89,8 +95,8 @@ impl fmt::Display for Cases {
         } = self;
         write!(
             to,
-            "{signatures} signatures, {plans} plans, {calls} calls, {floats} float conversions, \
-             {machine_calls} machine calls, {dumps} walks of dumps, {steps} steps of walkers"
+            "{signatures} signatures, {plans} plans, {pairs} appended, {calls} calls, {floats} float \
+             conversions, {machine_calls} machine calls, {dumps} walks of dumps, {steps} steps of walkers"
         )
     }
 }
@@ -164,6 +170,8 @@ fn round(seed: u64, done: &mut Cases) -> Result<(), Difference> {
     let told = |difference: Difference| Difference(format!("round {seed:#x}: {difference}"));
     done.signatures += signatures::run(seed, SIGNATURES).map_err(told)?.total();
     done.plans += plans::run(seed, PLANS).map_err(told)?.total();
+    appending::run(seed, PAIRS).map_err(told)?;
+    done.pairs += PAIRS;
     for operation in Operation::ALL {
         done.calls += marshal::run(operation, seed, CALLS).map_err(told)?.total();
     }
