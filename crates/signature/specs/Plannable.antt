@@ -1,4 +1,4 @@
--- What the planner asks of a signature that was read: it holds of every answer of the reader (law `answer-plannable`).
+-- What planners ask of a signature that was read: it holds of every answer of the reader (law `answer-plannable`).
 -- Assumes nothing.
 use Prim.Native.Nat.{ℕ, _≤_, _<_}
 use lib.ListN.{length, getD}
