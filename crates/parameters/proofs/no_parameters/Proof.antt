@@ -7,7 +7,7 @@ no-run-requires : tie.Need-no-run-requires
 no-run-requires c κs = search needs
 
 returns : tie.Need-returns
-returns c = cc
+returns c = rw (c .no-run .ensures)
 
 pub no-parameters-spec : {M : Type 1} → statement M
 no-parameters-spec = tie.close (tie.spec no-run-requires returns)

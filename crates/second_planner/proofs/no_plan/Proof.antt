@@ -7,7 +7,7 @@ no-parameters-requires : tie.Need-no-parameters-requires
 no-parameters-requires c κs = search needs
 
 returns : tie.Need-returns
-returns c = cc
+returns c = rw (c .no-parameters .ensures)
 
 pub no-plan-spec : {M : Type 1} → statement M
 no-plan-spec = tie.close (tie.spec no-parameters-requires returns)

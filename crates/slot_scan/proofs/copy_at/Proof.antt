@@ -19,10 +19,10 @@ unfolding roundUp
 add-t8 c = omega (arith, c .before .round-up .ensures)
 
 returns : tie.Need-returns
-returns c = cc
+returns c = rw (c .run-of .ensures, c .before .round-up .ensures, c .before .before .if1 .taken)
 
 returns-2 : tie.Need-returns-2
-returns-2 c = cc
+returns-2 c = rw (c .before .no-run .ensures, c .if1 .left)
 
 pub copy-at-spec : {M : Type 1} → statement M
 copy-at-spec =

@@ -14,7 +14,7 @@ add-t7 : tie.Need-add-t7
 add-t7 c = search needs
 
 returns : tie.Need-returns
-returns c = cc
+returns c = rw (c .before .run-of .ensures, c .before .before .before .no-run .ensures)
 
 pub in-floating-spec : {M : Type 1} → statement M
 in-floating-spec = tie.close (tie.spec no-run-requires run-of-requires add-t7 returns)

@@ -14,7 +14,7 @@ run-of-requires : tie.Need-run-of-requires
 run-of-requires c κs = search needs
 
 returns : tie.Need-returns
-returns c = cc
+returns c = rw (c .run-of .ensures, c .before .bytes-of2 .ensures, c .before .before .bytes-of .ensures)
 
 pub field-bytes-spec : {M : Type 1} → statement M
 field-bytes-spec =

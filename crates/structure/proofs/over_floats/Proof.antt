@@ -12,7 +12,7 @@ field-bytes-requires c κs = search needs
 
 returns : tie.Need-returns
 unfolding overFloats
-returns c = cc
+returns c = rw (c .field-bytes .ensures, c .before .no-run .ensures)
 
 pub over-floats-spec : {M : Type 1} → statement M
 over-floats-spec = tie.close (tie.spec no-run-requires field-bytes-requires returns)

@@ -13,7 +13,7 @@ field-bytes-requires c κs = search needs
 
 returns : tie.Need-returns
 unfolding overNothing
-returns c = cc
+returns c = rw (c .field-bytes .ensures, c .before .no-run .ensures)
 
 pub over-nothing-spec : {M : Type 1} → statement M
 over-nothing-spec = tie.close (tie.spec no-run-requires field-bytes-requires returns)

@@ -43,7 +43,7 @@ run-of-requires-2 c κs = search needs
 
 returns : tie.Need-returns
 unfolding overWords
-returns c = cc
+returns c = rw (c .run-of2 .ensures, c .before .bytes-of2 .ensures, c .before .before .bytes-of .ensures, c .before .before .before .field-bytes .ensures, c .before .before .before .before .run-of .ensures, c .before .before .before .before .before .no-run .ensures, c .before .before .before .before .before .before .left2 .ensures, c .before .before .before .before .before .before .before .left .ensures, c .before .before .before .before .before .before .before .before .smaller .ensures, c .before .before .before .before .before .before .before .before .before .larger .ensures)
 
 pub over-words-spec : {M : Type 1} → statement M
 over-words-spec =
