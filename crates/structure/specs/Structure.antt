@@ -95,7 +95,7 @@ registersOver ellipsis paired w m (t ∷ ts) (f ∷ fs) = laidOver ellipsis w (f
 
 -- ---- where the papers are not clear
 
--- 02, No. 12: "When only f13 is left the editions we hold aren't clear": a parameter's FPRs would begin before the last one and end past it
+-- 02, No. 12: "When only f13 is left the editions we hold aren't clear": a parameter's FPRs would begin at f13 or before it and end past it
 abbrev pub straddles : ℕ → ℕ → Bool
 straddles m k = pick (ltb m 13) (ltb 13 (m + k)) false
 
