@@ -4,6 +4,7 @@ use Prim.Native.Nat.{ℕ, _+_, _-_, _*_, _/_, _%_, _^_, min}
 use mathlib.Core.Bool.{Bool, true, false, not, _&&_, _||_}
 use lib.Dec.{eqb, leb}
 use Rattle.conventions.specs.declared.Convention.{Convention}
+use Rattle.conventions.specs.Numbers.{headerBytes}
 use Rattle.places.specs.declared.Cursor.{Cursor}
 use Rattle.places.specs.declared.Rules.{Rules}
 use Rattle.places.specs.Values.{cursor}
@@ -19,15 +20,19 @@ use Rattle.walker.specs.declared.Walker.{Walker}
 abbrev pub counters : ℕ → ℕ → ℕ → Counters
 counters g f s = record { general = g; floating = f; stack = s }
 
--- The planner's cursor that counters stand for. PowerPC counts the words passed, w: "r(3+w) while w < 8", and "Offset in the area is 8w"; Z has the next stack offset, the
--- first being 160. Copies have no counter, since reading follows addresses.
+-- Z's stack offset of the area's first byte, 160
+abbrev pub areaOffset : ℕ
+areaOffset = headerBytes Convention.Z
+
+-- The planner's cursor that counters stand for. PowerPC counts the words passed, w: "r(3+w) while w < 8", and "Offset in the area is 8w"; Z has the next stack
+-- offset. Copies have no counter, since reading follows addresses.
 unfoldable pub cursorAt : Rules → Counters → Cursor
 cursorAt (Rules.Power f) k = cursor (3 + min (k .general) 8) (1 + k .floating) (f .word * k .general) 0
-cursorAt Rules.Z k = cursor (k .general) (k .floating) (k .stack - 160) 0
+cursorAt Rules.Z k = cursor (k .general) (k .floating) (k .stack - areaOffset) 0
 
 unfoldable pub countersOf : Rules → Cursor → Counters
 countersOf (Rules.Power f) c = counters (c .stack / f .word) (c .floating - 1) 0
-countersOf Rules.Z c = counters (c .general) (c .floating) (160 + c .stack)
+countersOf Rules.Z c = counters (c .general) (c .floating) (areaOffset + c .stack)
 
 -- ---- the walker
 
@@ -60,7 +65,7 @@ zPossible hidden k =
     && (leb (k .general) 7
     && (leb (k .floating) 8
     && (eqb (k .floating % 2) 0
-    && (leb 160 (k .stack) && (eqb (k .stack % 8) 0 && (leb (k .stack) 160 || (leb 7 (k .general) || leb 8 (k .floating))))))))
+    && (leb areaOffset (k .stack) && (eqb (k .stack % 8) 0 && (leb (k .stack) areaOffset || (leb 7 (k .general) || leb 8 (k .floating))))))))
 
 unfoldable pub possible : Rules → Bool → Counters → Bool
 possible (Rules.Power f) hidden k = powerPossible (mark hidden) k
