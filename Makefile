@@ -28,6 +28,8 @@ PROVED_FROM := crates.txt $(shell find crates -print 2>/dev/null)
 # the crates that export functions
 BRIDGES := bridge bridge_plans bridge_values bridge_walk bridge_starts bridge_frames bridge_dump
 ARCHIVE := build/libflakuzhen.a
+# the second planner, for the comparisons: no part of the library, and not installed
+SECOND := build/libsecond.a
 SHARED := build/libflakuzhen.so
 # a version's first number is the soname's
 VERSION := $(shell sed -n 's/^version = "\(.*\)"$$/\1/p' host/Cargo.toml)
@@ -56,7 +58,7 @@ ifndef TARGET
 run: $(ARCHIVE)
 	@cd host && cargo run $(CARGO_WORDS) --quiet -p flakuzhen -- list --hex ../$(EXAMPLE)
 
-lib: $(ARCHIVE) $(SHARED)
+lib: $(ARCHIVE) $(SHARED) $(SECOND)
 endif
 
 test:
@@ -73,6 +75,11 @@ $(ARCHIVE): $(PROVED_FROM)
 	    ar x --output build/objects target/staticlib/lib$$bridge.a; \
 	done
 	ar rcsD $@ $(BRIDGES:%=build/objects/%.o)
+
+$(SECOND): $(PROVED_FROM) | $(ARCHIVE)
+	@scripts/check-toolchain
+	rt staticlib bridge_second
+	cp target/staticlib/libbridge_second.a $@
 
 $(SHARED): $(ARCHIVE) include/flakuzhen.map host/Cargo.toml
 	$(call MAKE_SHARED,$(CC))
@@ -109,21 +116,21 @@ uninstall:
 	    $(addprefix $(DOC)/,COMPILERS.md call.c variable.c))
 	[ ! -d $(INSTALLED)/$(DOC) ] || rmdir $(INSTALLED)/$(DOC)
 
-soak: $(ARCHIVE)
+soak: $(ARCHIVE) $(SECOND)
 	cd host && cargo run $(CARGO_WORDS) --quiet -p compare --bin soak -- $(SECONDS)
 
-sanitize: $(ARCHIVE) $(SHARED)
+sanitize: $(ARCHIVE) $(SHARED) $(SECOND)
 	@scripts/sanitize
 
 # a profile of its own: with all optimisations and without the tests' checks of sums
-bench: $(ARCHIVE) build/x86_64/stack
+bench: $(ARCHIVE) $(SECOND) build/x86_64/stack
 	cd host && cargo run --profile bench --offline --locked --quiet -p compare --bin bench
 	@echo
 	cd host && cargo run --profile bench --offline --locked --quiet -p compare --bin bench-marshal
 	@echo
 	build/x86_64/stack
 
-lint: $(ARCHIVE)
+lint: $(ARCHIVE) $(SECOND)
 	cd host && cargo fmt --check && cargo clippy $(CARGO_WORDS) --all-targets -- -D warnings
 
 include targets/targets.mk

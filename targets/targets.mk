@@ -49,7 +49,7 @@ $(foreach target,$(TARGETS),build/$(target)/flakuzhen build/$(target)/flakuzhen-
 
 # ---- tests ----
 
-build/cases: $(ARCHIVE)
+build/cases: $(ARCHIVE) $(SECOND)
 	cd host && cargo run $(CARGO_WORDS) --quiet -p compare --bin write-cases -- ../$@
 
 test-targets: build/cases $(SHARED) \

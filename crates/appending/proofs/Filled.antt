@@ -18,7 +18,8 @@ use Rattle.places.specs.declared.Cursor.{Cursor}
 use Rattle.places.specs.declared.Rules.{Rules}
 use Rattle.places.specs.declared.ResultPlaces.{ResultPlaces}
 use Rattle.places.specs.Step.{rulesOf, withEllipsis, wordOf, spanOf, nextOf}
-use Rattle.plan.specs.Plan.{spansOf, lastOf, valuesOf, typesOf, startIn, planIn, planAnswer}
+use Rattle.plan.specs.Plan.{spansOf, lastOf, startIn, planIn, planAnswer}
+use Rattle.signature.specs.Types.{valuesOf, typesOf}
 use Rattle.slots.specs.Buffers.{Slot}
 use Rattle.slots.specs.Placements.{Placement, placement, placements, slotsOf, slotsOfAll, hiddenSlots}
 use Rattle.slots.specs.Limits.{sizesOf}

@@ -15,7 +15,8 @@ use Rattle.places.specs.declared.Cursor.{Cursor}
 use Rattle.places.specs.declared.Span.{Span}
 use Rattle.places.specs.declared.Rules.{Rules}
 use Rattle.places.specs.Step.{spanOf, nextOf, unclearFor, areaOf}
-use Rattle.plan.specs.Plan.{spansOf, lastOf, valuesOf, noSpan, tableOf, typesOf}
+use Rattle.plan.specs.Plan.{spansOf, lastOf, noSpan, tableOf}
+use Rattle.signature.specs.Types.{valuesOf, typesOf}
 use Rattle.plan.specs.Call.{firstUnclear}
 use Rattle.plan.proofs.Fold.{length-spans}
 use Rattle.plan.proofs.Apart.{in-table}

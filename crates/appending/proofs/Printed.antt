@@ -17,7 +17,8 @@ use Rattle.places.specs.declared.Cursor.{Cursor}
 use Rattle.places.specs.declared.Rules.{Rules}
 use Rattle.places.specs.declared.Span.{Span}
 use Rattle.places.specs.Step.{rulesOf, withEllipsis}
-use Rattle.plan.specs.Plan.{spansOf, lastOf, noSpan, tableOf, typesOf, startIn, planIn, planAnswer}
+use Rattle.plan.specs.Plan.{spansOf, lastOf, noSpan, tableOf, startIn, planIn, planAnswer}
+use Rattle.signature.specs.Types.{typesOf}
 use Rattle.plan.proofs.Fold.{length-spans}
 use Rattle.line.specs.Line.{lineText}
 use Rattle.listing.specs.Text.{linesText, headText, resultText, acceptedText, planText, listingOf}

@@ -26,11 +26,12 @@ use Rattle.reader.specs.Argument.{argumentIn, argumentsPlace, argumentAnswer}
 use Rattle.places.specs.declared.Cursor.{Cursor}
 use Rattle.places.specs.declared.Rules.{Rules}
 use Rattle.places.specs.Step.{rulesOf, withEllipsis}
-use Rattle.plan.specs.Plan.{lastOf, typesOf, valuesOf, startIn, endIn, planIn, planAnswer}
+use Rattle.plan.specs.Plan.{lastOf, startIn, endIn, planIn, planAnswer}
+use Rattle.signature.specs.Types.{typesOf, valuesOf}
 use Rattle.plan.specs.Disjoint.{spanAt}
 use Rattle.plan.specs.Call.{firstUnclear, unclearIn, unclearFault, itemIn, clearRead, called, callOf, outcomeFor}
 use Rattle.plan.proofs.Fold.{last-forward}
-use Rattle.plan.proofs.Answers.{length-of-types}
+use Rattle.signature.proofs.Types.{length-of-types}
 use Rattle.plan.proofs.Calls.{unclearFrom, called-got, called-accepted}
 use Rattle.plan_words.specs.Entries.{sizeAt, valueAt, entryAt}
 use Rattle.appending.specs.Appending.{joined, Appends, Appended, Kept, Stays, PlacesStay, ShorterAccepted, RefusedAlike}

@@ -1,7 +1,8 @@
 -- The arguments of a signature that was read, each with its place: of its table of types alone. Assumes nothing.
 use mathlib.Core.List.{List}
 use Rattle.signature.specs.declared.SignatureRead.{SignatureRead}
-use Rattle.plan.specs.Plan.{spansOf, startIn, typesIn}
+use Rattle.signature.specs.Types.{typesIn}
+use Rattle.plan.specs.Plan.{spansOf, startIn}
 use Rattle.slots.specs.Placements.{Placement, placements}
 use Rattle.slots.specs.Arguments.{rulesIn}
 

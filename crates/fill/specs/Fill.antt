@@ -8,6 +8,7 @@ use lib.Dec.{eqb, ltb}
 use lib.ListN.{length}
 use Rattle.words.specs.Basics.{pick}
 use Rattle.signature.specs.declared.SignatureRead.{SignatureRead}
+use Rattle.signature.specs.Plannable.{Plannable}
 use Rattle.places.specs.declared.ResultPlaces.{ResultPlaces}
 use Rattle.places.specs.Step.{wordOf}
 use Rattle.slots.specs.declared.Refusal.{Refusal}
@@ -18,7 +19,6 @@ use Rattle.slots.specs.Refusals.{Test, test, differ, firstOf, afterReading, isD
 use Rattle.slots.specs.Limits.{All, sizesOf}
 use Rattle.plan.specs.Call.{outcomeFor}
 use Rattle.slots.specs.Arguments.{argumentsOf, planFor, rulesIn, rulesFor}
-use Rattle.plan.specs.Limits.{Plannable}
 use Rattle.arguments.specs.Table.{argumentsFrom}
 use Rattle.marshal.specs.Room.{Ready}
 use Rattle.fill.specs.declared.Lengths.{Lengths}

@@ -18,6 +18,7 @@ use Rattle.signature.specs.declared.ResultType.{ResultType}
 use Rattle.signature.specs.Signature.{Signature}
 use Rattle.signature.specs.Read.{signatureOf}
 use Rattle.signature.specs.Answer.{resultType, signatureAnswer}
+use Rattle.signature.specs.Types.{typesOf}
 use Rattle.places.specs.declared.Cursor.{Cursor}
 use Rattle.places.specs.declared.Rules.{Rules}
 use Rattle.places.specs.Values.{share}
@@ -25,7 +26,7 @@ use Rattle.places.specs.declared.Edition.{Edition}
 use Rattle.places.specs.Power.{words, fprs, covered, shareOf, powerShare}
 use Rattle.places.specs.Step.{rulesOf, withEllipsis, spanOf, nextOf}
 use Rattle.places.proofs.Bounds.{area-holds}
-use Rattle.plan.specs.Plan.{spansOf, lastOf, startIn, endIn, planIn, planAnswer, typesOf}
+use Rattle.plan.specs.Plan.{spansOf, lastOf, startIn, endIn, planIn, planAnswer}
 use Rattle.plan.proofs.Fold.{last-forward, last-marked}
 use Rattle.slots.specs.Forms.{roomOf, startsAtHead, ownStart}
 use Rattle.slots.specs.Placements.{Placement, placement, placements}

@@ -28,7 +28,8 @@ use Rattle.places.specs.Values.{pointer}
 use Rattle.places.specs.Power.{words}
 use Rattle.places.specs.ZSeries.{zClass, zNextOf}
 use Rattle.places.specs.Step.{rulesOf, nextOf, fresh, startOf, areaOf}
-use Rattle.plan.specs.Plan.{lastOf, hiddenIn, startIn, endIn, planIn, typesOf, planAnswer}
+use Rattle.plan.specs.Plan.{lastOf, hiddenIn, startIn, endIn, planIn, planAnswer}
+use Rattle.signature.specs.Types.{typesOf}
 use Rattle.plan.specs.Call.{called}
 use Rattle.plan.proofs.Fold.{last-more}
 use Rattle.saves.proofs.Taking.{le-or-lt}

@@ -18,6 +18,7 @@ use Rattle.signature.specs.Limits.{maxArguments}
 use Rattle.signature.specs.Signature.{Signature}
 use Rattle.signature.specs.Read.{signatureOf}
 use Rattle.signature.specs.Answer.{resultType, signatureAnswer}
+use Rattle.signature.proofs.Types.{table-types}
 use Rattle.places.specs.declared.Cursor.{Cursor}
 use Rattle.places.specs.declared.Rules.{Rules}
 use Rattle.places.specs.Step.{Lawful, rulesOf, nextOf, startOf, unclearFor, alwaysClear, unclearAfter}
@@ -27,7 +28,7 @@ use Rattle.plan.specs.declared.Measured.{Measured}
 use Rattle.plan.specs.Plan.{lastOf, startIn, planIn, refused, planAnswer, planned, measureOf}
 use Rattle.plan.specs.Call.{firstUnclear, unclearIn, unclearOf, unclearFault, clearRead, called, callOf, measuredBy}
 use Rattle.plan.proofs.Fold.{Reached, reached-start, reached-more}
-use Rattle.plan.proofs.Answers.{table-types, planned-answer, outcome-read, answer-few}
+use Rattle.plan.proofs.Answers.{planned-answer, outcome-read, answer-few}
 
 -- ---- the fold
 

@@ -15,7 +15,8 @@ use Rattle.places.proofs.Bounds.{Named, named-start, named-next, named-roomy, n
 use Rattle.places.proofs.Marked.{next-marked}
 use Rattle.places.proofs.Between.{Forward, forward-same, forward-then, step-forward}
 use Rattle.signature.specs.Limits.{maxArguments}
-use Rattle.plan.specs.Plan.{spansOf, lastOf, valuesOf}
+use Rattle.signature.specs.Types.{valuesOf}
+use Rattle.plan.specs.Plan.{spansOf, lastOf}
 
 pub length-spans : (c : Convention) (r : Rules) (k : Cursor) (ts : List ValueType) → length (spansOf c r k ts) ≡ length ts
 unfolding spansOf

@@ -28,14 +28,15 @@ use Rattle.signature.specs.Read.{argumentsIn, signatureOf, headOf}
 use Rattle.signature.specs.Answer.{resultType, headAnswer, signatureAnswer}
 use Rattle.signature.proofs.Laws.{thenArguments, signature-then}
 use Rattle.signature.proofs.Loop.{Turn, turn-start, turn-more, turn-last}
+use Rattle.signature.specs.Types.{valuesOf, typesOf}
+use Rattle.signature.proofs.Types.{table-types, length-of-types}
 use Rattle.places.specs.declared.Cursor.{Cursor}
 use Rattle.places.specs.declared.Rules.{Rules}
 use Rattle.places.specs.Step.{Lawful, rulesOf, nextOf, unclearFor, unclearAfter, startOf, areaOf}
 use Rattle.plan.specs.declared.Measured.{Measured}
-use Rattle.plan.specs.Plan.{lastOf, valuesOf, typesOf, startIn, planIn, refused, planAnswer, measureOf, planWith}
+use Rattle.plan.specs.Plan.{lastOf, startIn, planIn, refused, planAnswer, measureOf, planWith}
 use Rattle.plan.specs.Call.{firstUnclear, unclearOf, unclearWith}
 use Rattle.plan.proofs.Calls.{unclear-more}
-use Rattle.plan.proofs.Answers.{table-types, length-of-types}
 use Rattle.plan.proofs.Fold.{last-more, values-more, Reached, reached-start, reached-more}
 
 -- ---- the loop

@@ -14,6 +14,7 @@ use Rattle.items.specs.Reading.{got, no}
 use Rattle.signature.specs.declared.ResultType.{ResultType}
 use Rattle.signature.specs.Limits.{maxArguments}
 use Rattle.signature.specs.Answer.{resultType}
+use Rattle.signature.specs.Types.{typesOf}
 use Rattle.places.specs.declared.Cursor.{Cursor}
 use Rattle.places.specs.declared.Span.{Span}
 use Rattle.places.specs.declared.ResultPlaces.{ResultPlaces}
@@ -26,7 +27,7 @@ use Rattle.places.proofs.Bounds.{named-fresh, named-start, area-holds, least-ar
 use Rattle.places.proofs.Marked.{named-marked, register-marked}
 use Rattle.places.proofs.Between.{Before, before-from, before-later, step-between, owns-before}
 use Rattle.places.proofs.Registers.{step-numbered, step-registers}
-use Rattle.plan.specs.Plan.{spansOf, noSpan, hiddenIn, resultIn, startIn, endIn, planIn, refused, typesOf, planAnswer}
+use Rattle.plan.specs.Plan.{spansOf, noSpan, hiddenIn, resultIn, startIn, endIn, planIn, refused, planAnswer}
 use Rattle.plan.specs.Disjoint.{spanAt, Disjoint, PlansDisjoint, SpanWithin, Within, PlansWithin}
 use Rattle.plan.proofs.Fold.{last-forward, last-marked}
 use Rattle.plan.proofs.Apart.{in-table, getD-blanks, spanIn, none-owned, owned-from, owned-before, owned-register, owned-apart, span-numbered, span-homed, Homed}

@@ -1,19 +1,19 @@
 -- A turn of the planner's loop: what is planned so far and what is left make up the whole fold. Assumes nothing.
 use mathlib.Core.Path.{_≡_, refl, sym, ap, subst, _∙_}
 use mathlib.Core.Bool.{Bool}
-use mathlib.Core.List.{List, [], _∷_, _++_, map, append-assoc, append-nil}
-use Prim.Native.Nat.{ℕ, zero, suc, _+_, _-_, _≤_, _<_}
+use mathlib.Core.List.{List, [], _∷_, _++_, append-assoc, append-nil}
+use Prim.Native.Nat.{ℕ, suc, _+_, _-_, _≤_, _<_}
 use native.Mathlib.Omega.{arith}
 use native.Mathlib.Numerals.{add-one}
-use lib.ListN.{length, getD, set, take, drop, replicate, length-append, drop-of-length-le}
+use lib.ListN.{length, set, drop, replicate, length-append, drop-of-length-le}
 use lib.Seq.{set-at}
 use Rattle.conventions.specs.declared.Convention.{Convention}
 use Rattle.types.specs.declared.ValueType.{ValueType}
 use Rattle.types.specs.Sizes.{sizeOf}
-use Rattle.signature.specs.declared.Argument.{Argument}
 use Rattle.signature.specs.declared.Outcome.{Outcome}
 use Rattle.signature.specs.declared.ResultType.{ResultType}
 use Rattle.signature.specs.Limits.{maxArguments}
+use Rattle.signature.specs.Types.{valuesOf}
 use Rattle.places.specs.declared.Cursor.{Cursor}
 use Rattle.places.specs.declared.Span.{Span}
 use Rattle.places.specs.declared.Rules.{Rules}
@@ -21,24 +21,8 @@ use Rattle.places.specs.Step.{Lawful, rulesOf, withEllipsis, spanOf, nextOf, st
 use Rattle.places.proofs.Bounds.{rules-lawful}
 use Rattle.places.proofs.Marked.{lawful-marked, start-marked}
 use Rattle.plan.specs.declared.Plan.{Plan}
-use Rattle.plan.specs.Plan.{spansOf, lastOf, valuesOf, resultIn, noSpan, tableOf, startIn, endIn, planIn, typeIn}
+use Rattle.plan.specs.Plan.{spansOf, lastOf, resultIn, noSpan, tableOf, startIn, endIn, planIn}
 use Rattle.plan.proofs.Fold.{length-spans, last-marked, Reached, reached-start, reached-more}
-use Rattle.plan.proofs.Answers.{blank}
-
--- ---- the types of the reader's table
-
-pub length-types : (n : ℕ) (l : List Argument) → n ≤ length l → length (map typeIn (take n l)) ≡ n
-length-types zero l h = refl
-length-types (suc n) [] h = absurd (omega arith)
-length-types (suc n) (a ∷ l) h = ap suc (length-types n l (omega arith))
-
--- the next type, and those after it
-pub types-drop : (n : ℕ) (l : List Argument) (i : ℕ) → i < n → n ≤ length l
-    → drop i (map typeIn (take n l)) ≡ getD l i blank .ty ∷ drop (suc i) (map typeIn (take n l))
-types-drop zero l i h k = absurd (omega arith)
-types-drop (suc n) [] i h k = absurd (omega arith)
-types-drop (suc n) (a ∷ l) zero h k = refl
-types-drop (suc n) (a ∷ l) (suc i) h k = types-drop n l i (omega arith) (omega arith)
 
 -- ---- the loop
 

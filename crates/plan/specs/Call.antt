@@ -17,13 +17,14 @@ use Rattle.signature.specs.declared.SignatureRead.{SignatureRead}
 use Rattle.signature.specs.Signature.{Signature}
 use Rattle.signature.specs.Read.{signatureOf}
 use Rattle.signature.specs.Answer.{resultType}
+use Rattle.signature.specs.Types.{typesOf, typesIn}
 use Rattle.reader.specs.declared.ArgumentRead.{ArgumentRead}
 use Rattle.reader.specs.Argument.{argumentAnswer}
 use Rattle.places.specs.declared.Cursor.{Cursor}
 use Rattle.places.specs.declared.Rules.{Rules}
 use Rattle.places.specs.Step.{rulesOf, nextOf, unclearFor}
 use Rattle.plan.specs.declared.Measured.{Measured}
-use Rattle.plan.specs.Plan.{startIn, typesOf, typesIn, refused, planAnswer, measureOf}
+use Rattle.plan.specs.Plan.{startIn, refused, planAnswer, measureOf}
 
 -- Of the arguments from the cursor k on, i of which came before: the number of the first that is unclear, counted from 1; 0 where none is.
 unfoldable pub firstUnclear : Convention → Rules → Cursor → ℕ → List ValueType → ℕ

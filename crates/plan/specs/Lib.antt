@@ -1,5 +1,4 @@
 -- What the plan of a signature means. Assumes nothing.
 pub mod Plan
 pub mod Call
-pub mod Limits
 pub mod Disjoint

@@ -2,24 +2,24 @@
 -- PPC64" and "Places on Z"; the step is the crate places'. Assumes nothing.
 use Prim.Native.Nat.{ℕ, _+_, _-_}
 use mathlib.Core.Bool.{Bool, false}
-use mathlib.Core.List.{List, [], _∷_, _++_, map}
-use lib.ListN.{length, take, replicate}
+use mathlib.Core.List.{List, [], _∷_, _++_}
+use lib.ListN.{length, replicate}
 use lib.Dec.{ltb}
 use Rattle.words.specs.Basics.{pick}
 use Rattle.conventions.specs.declared.Convention.{Convention}
 use Rattle.types.specs.declared.ValueType.{ValueType}
 use Rattle.types.specs.Sizes.{sizeOf}
-use Rattle.types.specs.Trees.{Trees, none, _▸_, typeOf}
+use Rattle.types.specs.Trees.{Trees}
 use Rattle.items.specs.declared.Refusal.{Refusal}
 use Rattle.items.specs.declared.Fault.{Fault}
 use Rattle.items.specs.Reading.{Reading, fault, got, no, later}
-use Rattle.signature.specs.declared.Argument.{Argument}
 use Rattle.signature.specs.declared.ResultType.{ResultType}
 use Rattle.signature.specs.declared.Outcome.{Outcome}
 use Rattle.signature.specs.declared.SignatureRead.{SignatureRead}
 use Rattle.signature.specs.Signature.{Signature}
 use Rattle.signature.specs.Limits.{maxArguments}
 use Rattle.signature.specs.Answer.{resultType}
+use Rattle.signature.specs.Types.{typesOf, typesIn, valuesOf}
 use Rattle.places.specs.declared.Cursor.{Cursor}
 use Rattle.places.specs.declared.Span.{Span}
 use Rattle.places.specs.declared.ResultPlaces.{ResultPlaces}
@@ -40,11 +40,6 @@ spansOf c r k (t ∷ ts) = spanOf r k t (sizeOf c t) ∷ spansOf c r (nextOf r k
 unfoldable pub lastOf : Convention → Rules → Cursor → List ValueType → Cursor
 lastOf c r k [] = k
 lastOf c r k (t ∷ ts) = lastOf c r (nextOf r k t (sizeOf c t)) ts
-
--- "The value buffer holds the arguments in order without gaps": all their bytes
-unfoldable pub valuesOf : Convention → List ValueType → ℕ
-valuesOf c [] = 0
-valuesOf c (t ∷ ts) = sizeOf c t + valuesOf c ts
 
 -- ---- the result
 
@@ -105,23 +100,12 @@ blankPlan o c v r n = record {
 abbrev pub refused : Fault → Plan
 refused f = blankPlan (Outcome.Refused f) Convention.Ppc64 false ResultPlaces.Nothing 0
 
--- the arguments' types in order
-unfoldable pub typesOf : Convention → Trees → List ValueType
-typesOf c none = []
-typesOf c (ts ▸ t) = typesOf c ts ++ typeOf c t ∷ []
-
 -- of what the reader finds in a signature's bytes
 unfoldable pub planAnswer : Reading Signature → Plan
 planAnswer (got g next n) = planIn n (g .convention) (g .ellipsis) (resultType (g .convention) (g .result)) (typesOf (g .convention) (g .arguments))
 planAnswer (no f) = refused f
 
 -- ---- the same of the reader's answer
-
-abbrev pub typeIn : Argument → ValueType
-typeIn a = a .ty
-
-abbrev pub typesIn : SignatureRead → List ValueType
-typesIn g = map typeIn (take (g .count) (g .arguments))
 
 abbrev pub plannedAs : Outcome → SignatureRead → Plan
 plannedAs (Outcome.Accepted n) g = planIn n (g .convention) (g .ellipsis) (g .result) (typesIn g)

@@ -25,6 +25,9 @@ use Rattle.signature.specs.Limits.{maxArguments}
 use Rattle.signature.specs.Read.{argumentsIn, signatureOf, headOf}
 use Rattle.signature.specs.Answer.{accepted, withArguments, resultType, headAnswer, signatureAnswer}
 use Rattle.signature.proofs.Laws.{thenArguments, signature-arguments}
+use Rattle.signature.specs.Types.{valuesOf, typesOf}
+use Rattle.signature.specs.Plannable.{SmallResult}
+use Rattle.signature.proofs.Types.{length-of-types, answer-plannable}
 use Rattle.reader.specs.declared.ArgumentRead.{ArgumentRead}
 use Rattle.reader.specs.Argument.{argumentIn, argumentsPlace, argumentAnswer}
 use Rattle.reader.proofs.Found.{begun}
@@ -32,11 +35,9 @@ use Rattle.places.specs.declared.Cursor.{Cursor}
 use Rattle.places.specs.declared.Span.{Span}
 use Rattle.places.specs.declared.Rules.{Rules}
 use Rattle.places.specs.Step.{rulesOf, withEllipsis, spanOf, nextOf}
-use Rattle.plan.specs.Plan.{spansOf, lastOf, valuesOf, noSpan, tableOf, startIn, endIn, typesOf, planIn, refused, planAnswer}
+use Rattle.plan.specs.Plan.{spansOf, lastOf, noSpan, tableOf, startIn, endIn, planIn, refused, planAnswer}
 use Rattle.plan.specs.Disjoint.{spanAt}
 use Rattle.plan.proofs.Fold.{length-spans, last-marked, values-more}
-use Rattle.plan.specs.Limits.{SmallResult}
-use Rattle.plan.proofs.Answers.{length-of-types, answer-plannable}
 use Rattle.plan.specs.Call.{itemIn, unclearOf, unclearFault, called, callOf}
 use Rattle.plan.proofs.Calls.{called-clear, unclear-plan}
 use Rattle.plan_words.specs.declared.Planned.{Planned}

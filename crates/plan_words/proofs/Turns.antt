@@ -26,6 +26,9 @@ use Rattle.signature.specs.declared.Outcome.{Outcome}
 use Rattle.signature.specs.declared.ResultType.{ResultType}
 use Rattle.signature.specs.Read.{argumentsIn, signatureOf}
 use Rattle.signature.proofs.Loop.{Turn, turn-start, turn-last}
+use Rattle.signature.specs.Types.{valuesOf, typesOf}
+use Rattle.signature.specs.Plannable.{SmallResult}
+use Rattle.signature.proofs.Types.{length-of-types}
 use Rattle.reader.proofs.Found.{further}
 use Rattle.places.specs.declared.Cursor.{Cursor}
 use Rattle.places.specs.declared.Span.{Span}
@@ -33,12 +36,10 @@ use Rattle.places.specs.declared.Rules.{Rules}
 use Rattle.places.specs.Step.{rulesOf, withEllipsis, spanOf, nextOf, unclearFor, unclearAfter, areaOf}
 use Rattle.places.proofs.Bounds.{rules-lawful}
 use Rattle.places.proofs.Marked.{next-marked, unclear-marked}
-use Rattle.plan.specs.Plan.{lastOf, valuesOf, hiddenIn, startIn, endIn, resultIn, typesOf, planIn, refused}
+use Rattle.plan.specs.Plan.{lastOf, hiddenIn, startIn, endIn, resultIn, planIn, refused}
 use Rattle.plan.specs.Call.{firstUnclear, unclearFault}
 use Rattle.plan.proofs.Calls.{unclear-more}
-use Rattle.plan.specs.Limits.{SmallResult}
 use Rattle.plan.proofs.Fold.{last-more, values-more, Reached, reached-start, reached-more}
-use Rattle.plan.proofs.Answers.{length-of-types}
 use Rattle.plan_entries.specs.Words.{entryWords, tabled}
 use Rattle.plan_entries.proofs.Copies.{overlay-nothing, tabled-nothing}
 use Rattle.plan_words.specs.declared.Planned.{Planned}

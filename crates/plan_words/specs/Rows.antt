@@ -13,10 +13,11 @@ use Rattle.items.specs.Encode.{encodeTrees}
 use Rattle.signature.specs.Limits.{maxArguments}
 use Rattle.signature.specs.declared.ResultType.{ResultType}
 use Rattle.signature.specs.Signature.{Signature}
+use Rattle.signature.specs.Types.{valuesOf, typesOf}
+use Rattle.signature.specs.Plannable.{SmallResult}
 use Rattle.places.specs.Step.{rulesOf, withEllipsis, spanOf}
-use Rattle.plan.specs.Plan.{endIn, valuesOf, typesOf, refused, planWith}
+use Rattle.plan.specs.Plan.{endIn, refused, planWith}
 use Rattle.plan.specs.Call.{unclearWith, unclearFault}
-use Rattle.plan.specs.Limits.{SmallResult}
 use Rattle.plan_entries.specs.Words.{entryWords}
 use Rattle.plan_words.specs.declared.Planned.{Planned}
 use Rattle.plan_words.specs.Planned.{plannedOf}

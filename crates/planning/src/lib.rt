@@ -16,7 +16,7 @@ ghost use mathlib.Core.Path.{_≡_};
 ghost use Rattle.signature.specs.Read.{signatureOf};
 ghost use Rattle.plan.specs.Plan.{hiddenIn, resultIn, blankPlan, planned, planAnswer};
 ghost use Rattle.signature.specs.Answer.{signatureAnswer};
-ghost use Rattle.plan.specs.Limits.{SmallResult, Plannable};
+ghost use Rattle.signature.specs.Plannable.{SmallResult, Plannable};
 ghost use Rattle.plan.specs.Call.{itemIn, unclearFault, unclearOf, callOf, outcomeFor};
 
 // A plan without spans and sizes.

@@ -11,10 +11,10 @@ use Rattle.signature.specs.declared.Outcome.{Outcome}
 use Rattle.signature.specs.declared.SignatureRead.{SignatureRead}
 use Rattle.signature.specs.Read.{signatureOf}
 use Rattle.signature.specs.Answer.{signatureAnswer}
+use Rattle.signature.proofs.Types.{answer-plannable}
 use Rattle.plan.specs.declared.Plan.{Plan}
 use Rattle.plan.specs.declared.Measured.{Measured}
 use Rattle.plan.specs.Plan.{spansOf}
-use Rattle.plan.proofs.Answers.{answer-plannable}
 use Rattle.slots.specs.declared.Answer.{Answer}
 use Rattle.items.specs.declared.Fault.{Fault}
 use Rattle.slots.specs.Buffers.{Buffers}

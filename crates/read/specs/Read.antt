@@ -13,6 +13,7 @@ use Rattle.types.specs.declared.FloatFormat.{FloatFormat}
 use Rattle.types.specs.declared.ValueType.{ValueType}
 use Rattle.types.specs.Sizes.{equivalentOf}
 use Rattle.signature.specs.declared.SignatureRead.{SignatureRead}
+use Rattle.signature.specs.Plannable.{Plannable}
 use Rattle.places.specs.declared.Rules.{Rules}
 use Rattle.places.specs.Step.{wordOf}
 use Rattle.slots.specs.declared.Refusal.{Refusal}
@@ -26,7 +27,6 @@ use Rattle.slots.specs.Refusals.{Test, test, differ, firstOf, afterReading, orE
 use Rattle.slots.specs.Limits.{Held, All}
 use Rattle.plan.specs.Call.{outcomeFor}
 use Rattle.slots.specs.Arguments.{argumentsOf, planFor, rulesIn, rulesFor}
-use Rattle.plan.specs.Limits.{Plannable}
 use Rattle.arguments.specs.Table.{argumentsFrom}
 use Rattle.unmarshal.specs.Readable.{Ready}
 use Rattle.read.specs.declared.Sizes.{Sizes}

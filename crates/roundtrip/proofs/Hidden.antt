@@ -16,6 +16,7 @@ use Rattle.signature.specs.declared.ResultType.{ResultType}
 use Rattle.signature.specs.Signature.{Signature}
 use Rattle.signature.specs.Read.{signatureOf}
 use Rattle.signature.specs.Answer.{signatureAnswer, resultType}
+use Rattle.signature.specs.Types.{typesOf}
 use Rattle.places.specs.declared.Span.{Span}
 use Rattle.places.specs.declared.ResultPlaces.{ResultPlaces}
 use Rattle.places.specs.Spots.{general}
@@ -27,7 +28,7 @@ use Rattle.places.specs.Step.{rulesOf, withEllipsis, wordOf, nextOf, spanOf, fr
 use Rattle.places.proofs.Bounds.{named-start, rules-lawful, word-most}
 use Rattle.places.proofs.Marked.{lawful-marked, named-marked}
 use Rattle.plan.proofs.Theorems.{hidden-address}
-use Rattle.plan.specs.Plan.{startIn, hiddenIn, resultIn, planAnswer, planIn, typesOf}
+use Rattle.plan.specs.Plan.{startIn, hiddenIn, resultIn, planAnswer, planIn}
 use Rattle.registers.specs.Registers.{spread}
 use Rattle.slots.specs.declared.Answer.{Answer}
 use Rattle.slots.specs.Buffers.{Buffers, buffers, Slot, put, putAll, bytesAt}

@@ -17,6 +17,7 @@ use Rattle.items.specs.Reading.{Reading, got, no}
 use Rattle.signature.specs.Signature.{Signature}
 use Rattle.signature.specs.Read.{signatureOf}
 use Rattle.signature.specs.Answer.{resultType, signatureAnswer}
+use Rattle.signature.specs.Types.{typesOf}
 use Rattle.places.specs.declared.Cursor.{Cursor}
 use Rattle.places.specs.declared.Rules.{Rules}
 use Rattle.places.specs.Spots.{Spot, general, floating, area, copies}
@@ -25,7 +26,7 @@ use Rattle.places.proofs.Bounds.{Named, named-next, named-start}
 use Rattle.places.proofs.Marked.{named-marked}
 use Rattle.places.proofs.Between.{From, step-between}
 use Rattle.places.proofs.Registers.{step-numbered}
-use Rattle.plan.specs.Plan.{spansOf, hiddenIn, startIn, planAnswer, typesOf}
+use Rattle.plan.specs.Plan.{spansOf, hiddenIn, startIn, planAnswer}
 use Rattle.slots.specs.Buffers.{Slot}
 use Rattle.slots.specs.Placements.{Placement, placement, placements, standing, copyBytes, slotsOf, slotsOfAll}
 use Rattle.slots.specs.Limits.{Held, All}

@@ -12,10 +12,11 @@ use Rattle.signature.specs.Signature.{Signature}
 use Rattle.signature.specs.Read.{signatureOf}
 use Rattle.signature.specs.Answer.{signatureAnswer, resultType}
 use Rattle.signature.proofs.Theorems.{accepted}
+use Rattle.signature.specs.Types.{typesOf}
 use Rattle.places.specs.declared.Cursor.{Cursor}
 use Rattle.places.specs.declared.Rules.{Rules}
 use Rattle.places.specs.Step.{rulesOf, withEllipsis, nextOf}
-use Rattle.plan.specs.Plan.{spansOf, startIn, planAnswer, typesOf}
+use Rattle.plan.specs.Plan.{spansOf, startIn, planAnswer}
 use Rattle.slots.specs.Placements.{Placement, placements}
 use Rattle.slots.specs.Limits.{All}
 use Rattle.slots.specs.Arguments.{argumentsIn, argumentsOf}

@@ -22,6 +22,7 @@ use Rattle.signature.specs.declared.Outcome.{Outcome}
 use Rattle.signature.specs.Signature.{Signature}
 use Rattle.signature.specs.Read.{signatureOf}
 use Rattle.signature.specs.Answer.{resultType, signatureAnswer}
+use Rattle.signature.specs.Types.{typesOf}
 use Rattle.places.specs.declared.Cursor.{Cursor}
 use Rattle.places.specs.declared.Rules.{Rules}
 use Rattle.places.specs.Step.{rulesOf, withEllipsis, wordOf, spanOf, nextOf}
@@ -30,7 +31,7 @@ use Rattle.places.proofs.Marked.{named-marked}
 use Rattle.places.proofs.Between.{step-between}
 use Rattle.places.proofs.Registers.{step-numbered}
 use Rattle.plan.specs.declared.Plan.{Plan}
-use Rattle.plan.specs.Plan.{spansOf, hiddenIn, startIn, planAnswer, typesOf}
+use Rattle.plan.specs.Plan.{spansOf, hiddenIn, startIn, planAnswer}
 use Rattle.slots.specs.declared.Answer.{Answer}
 use Rattle.slots.specs.Buffers.{Buffers, buffers, Slot, putAll}
 use Rattle.slots.specs.Placements.{Placement, placement, placements, copyBytes, slotsOf, slotsOfAll, hiddenSlots, valuesAt}

@@ -26,6 +26,7 @@ use Rattle.signature.specs.declared.ResultType.{ResultType}
 use Rattle.signature.specs.Signature.{Signature}
 use Rattle.signature.specs.Read.{signatureOf}
 use Rattle.signature.specs.Answer.{resultType, signatureAnswer}
+use Rattle.signature.specs.Types.{typesOf}
 use Rattle.places.specs.declared.Cursor.{Cursor}
 use Rattle.places.specs.declared.Rules.{Rules}
 use Rattle.places.specs.declared.ResultPlaces.{ResultPlaces}
@@ -36,7 +37,7 @@ use Rattle.places.specs.Step.{power, rulesOf, withEllipsis, wordOf, spanOf, nex
 use Rattle.places.proofs.Marked.{word-marked}
 use Rattle.plan.specs.declared.Plan.{Plan}
 use Rattle.plan.proofs.Theorems.{hidden-address}
-use Rattle.plan.specs.Plan.{spansOf, resultIn, startIn, planIn, planAnswer, typesOf}
+use Rattle.plan.specs.Plan.{spansOf, resultIn, startIn, planIn, planAnswer}
 use Rattle.slots.specs.declared.Answer.{Answer}
 use Rattle.slots.specs.Buffers.{Buffers, buffers, bytesAt}
 use Rattle.slots.specs.Forms.{roomOf, startsAtHead, homeBytes, ownStart, narrowedBytes, floatValueAs, floatValue}

@@ -4,6 +4,7 @@ pub mod Loop
 pub mod Sound
 pub mod Complete
 pub mod Theorems
+pub mod Types
 pub mod Numbers
 pub mod Examples
 pub mod HowFar

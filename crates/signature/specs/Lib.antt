@@ -3,6 +3,8 @@ pub mod Signature
 pub mod Limits
 pub mod Read
 pub mod Answer
+pub mod Types
+pub mod Plannable
 pub mod Numbers
 pub mod Encode
 pub mod Exact

@@ -16,6 +16,9 @@ use Rattle.signature.specs.Signature.{Signature}
 use Rattle.signature.specs.Read.{signatureOf}
 use Rattle.signature.specs.Answer.{resultType, signatureAnswer}
 use Rattle.signature.proofs.Theorems.{accepted}
+use Rattle.signature.specs.Types.{valuesOf, typesOf}
+use Rattle.signature.specs.Plannable.{Plannable}
+use Rattle.signature.proofs.Types.{table-types, answer-plannable, length-of-types}
 use Rattle.places.specs.declared.Cursor.{Cursor}
 use Rattle.places.specs.declared.Rules.{Rules}
 use Rattle.places.specs.declared.Span.{Span}
@@ -23,10 +26,9 @@ use Rattle.places.specs.Step.{rulesOf, withEllipsis}
 use Rattle.places.proofs.Marked.{named-marked}
 use Rattle.places.proofs.Bounds.{named-start, area-holds}
 use Rattle.plan.specs.declared.Plan.{Plan}
-use Rattle.plan.specs.Plan.{spansOf, lastOf, valuesOf, noSpan, tableOf, hiddenIn, startIn, endIn, planIn, planAnswer, typesOf, planned}
-use Rattle.plan.specs.Limits.{Plannable}
+use Rattle.plan.specs.Plan.{spansOf, lastOf, noSpan, tableOf, hiddenIn, startIn, endIn, planIn, planAnswer, planned}
 use Rattle.plan.proofs.Fold.{length-spans, last-marked}
-use Rattle.plan.proofs.Answers.{table-types, answer-plannable, planned-answer, length-of-types}
+use Rattle.plan.proofs.Answers.{planned-answer}
 use Rattle.slots.specs.Placements.{Placement, placements}
 use Rattle.slots.specs.Limits.{Held, Fits, All, sizesOf}
 use Rattle.slots.specs.Arguments.{argumentsIn, planFor, Carried}

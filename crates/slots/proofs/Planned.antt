@@ -15,7 +15,8 @@ use Rattle.places.specs.Step.{rulesOf, withEllipsis, spanOf, nextOf}
 use Rattle.places.proofs.Bounds.{Named, named-next}
 use Rattle.places.proofs.Between.{step-between}
 use Rattle.places.proofs.Registers.{step-numbered}
-use Rattle.plan.specs.Plan.{spansOf, lastOf, valuesOf}
+use Rattle.signature.specs.Types.{valuesOf}
+use Rattle.plan.specs.Plan.{spansOf, lastOf}
 use Rattle.plan.proofs.Fold.{last-forward}
 use Rattle.slots.specs.Placements.{Placement, placement, placements}
 use Rattle.slots.specs.Limits.{Held, Fits, All, sizesOf}

@@ -13,10 +13,11 @@ use Rattle.types.specs.declared.ValueType.{ValueType}
 use Rattle.types.specs.Sizes.{sizeOf}
 use Rattle.signature.specs.declared.SignatureRead.{SignatureRead}
 use Rattle.signature.specs.Answer.{argument}
+use Rattle.signature.specs.Types.{typesIn}
+use Rattle.signature.proofs.Types.{types-drop, length-types}
 use Rattle.places.specs.declared.Span.{Span}
 use Rattle.plan.specs.declared.Plan.{Plan}
-use Rattle.plan.specs.Plan.{noSpan, typesIn}
-use Rattle.plan.proofs.Turns.{types-drop, length-types}
+use Rattle.plan.specs.Plan.{noSpan}
 use Rattle.slots.specs.declared.Answer.{Answer}
 use Rattle.slots.specs.Placements.{Placement, placement, placements}
 use Rattle.slots.specs.Limits.{All}

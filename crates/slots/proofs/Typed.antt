@@ -15,7 +15,7 @@ use Rattle.types.specs.Sizes.{sizeOf, alignOf, equivalentOf, Sized}
 use Rattle.types.specs.Structs.{withField, equivalentAfter, shapeOf}
 use Rattle.types.specs.Trees.{Tree, Trees, integer, float, struct, none, _▸_, typeOf, fieldsOf}
 use Rattle.types.specs.Limits.{AllSized}
-use Rattle.plan.specs.Plan.{typesOf}
+use Rattle.signature.specs.Types.{typesOf}
 
 -- the size and the alignment of the float
 abbrev LaidAs : Equivalent → ℕ → ℕ → Type 0

@@ -7,11 +7,12 @@ use Rattle.signature.specs.Limits.{maxArguments}
 use Rattle.signature.specs.declared.SignatureRead.{SignatureRead}
 use Rattle.signature.specs.Read.{signatureOf}
 use Rattle.signature.specs.Answer.{signatureAnswer}
+use Rattle.signature.specs.Types.{typesIn}
 use Rattle.places.specs.declared.Rules.{Rules}
 use Rattle.places.specs.Step.{rulesOf, withEllipsis}
 use Rattle.plan.specs.declared.Plan.{Plan}
 use Rattle.plan.specs.declared.Measured.{Measured}
-use Rattle.plan.specs.Plan.{planAnswer, typesIn}
+use Rattle.plan.specs.Plan.{planAnswer}
 use Rattle.plan.specs.Call.{outcomeFor}
 use Rattle.slots.specs.Placements.{Placement, placements}
 use Rattle.slots.specs.Limits.{Held, Fits, All, sizesOf}

@@ -9,6 +9,7 @@ use Rattle.words.specs.Numbers.{valueOf}
 use Rattle.types.specs.declared.Equivalent.{Equivalent}
 use Rattle.types.specs.Sizes.{equivalentOf}
 use Rattle.signature.specs.declared.SignatureRead.{SignatureRead}
+use Rattle.signature.specs.Plannable.{Plannable}
 use Rattle.places.specs.declared.Rules.{Rules}
 use Rattle.places.specs.declared.Span.{Span}
 use Rattle.places.specs.Step.{wordOf}
@@ -18,7 +19,6 @@ use Rattle.slots.specs.Placements.{Placement, floatAt, addressAt}
 use Rattle.slots.specs.Refusals.{floatAnswer}
 use Rattle.slots.specs.Limits.{Held, All, sizesOf}
 use Rattle.slots.specs.Arguments.{rulesIn}
-use Rattle.plan.specs.Limits.{Plannable}
 use Rattle.arguments.specs.Table.{argumentsFrom}
 
 -- m bytes at s lie in an area of a bytes; none may start anywhere: an argument in registers asks nothing of the area

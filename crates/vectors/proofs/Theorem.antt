@@ -10,11 +10,12 @@ use Rattle.places.specs.Power.{words, fprs, shareOf, powerShare, unclear}
 use Rattle.places.specs.ZSeries.{zClass, zSpanOf, zNextOf}
 use Rattle.places.specs.Step.{withEllipsis, spanOf, nextOf, unclearFor, fresh, startOf, areaOf, hiddenFor, returning, resultOf}
 use Rattle.places.specs.Places.{upFrom, registersOf}
-use Rattle.plan.specs.Plan.{spansOf, lastOf, tableOf, planIn, typesOf, planAnswer}
+use Rattle.plan.specs.Plan.{spansOf, lastOf, tableOf, planIn, planAnswer}
 use Rattle.plan.specs.Call.{firstUnclear, called}
 use Rattle.reader.specs.Argument.{argumentIn}
 use Rattle.items.specs.Encode.{item, encodeTree, encodeTrees}
 use Rattle.signature.specs.Encode.{encodeResult, ellipsisItem}
+use Rattle.signature.specs.Types.{typesOf}
 use Rattle.text.specs.Decimals.{digitsOf, decimal}
 use Rattle.line.specs.Line.{placesText, lineText}
 use Rattle.listing.specs.Text.{linesText, headText, resultText, refusalText, acceptedText, planText, listingOf}

@@ -10,7 +10,7 @@ use Rattle.types.proofs.Sized.{all-within-sized}
 use Rattle.places.specs.declared.Rules.{Rules}
 use Rattle.places.specs.Step.{rulesOf, startOf}
 use Rattle.places.proofs.Bounds.{rules-lawful}
-use Rattle.plan.specs.Plan.{typesOf}
+use Rattle.signature.specs.Types.{typesOf}
 use Rattle.slots.proofs.Typed.{all-typed}
 use Rattle.walker.specs.declared.Counters.{Counters}
 use Rattle.walker.specs.declared.Walker.{Walker}

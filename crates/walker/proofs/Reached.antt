@@ -27,7 +27,8 @@ use Rattle.places.specs.ZSeries.{zClass, zNextOf}
 use Rattle.places.specs.Step.{Lawful, nextOf, startOf}
 use Rattle.places.proofs.Shares.{share-marked, share-room}
 use Rattle.places.proofs.Written.{counted, next-counted, start-written, hidden-written, z-start-written, z-hidden-written}
-use Rattle.plan.specs.Plan.{lastOf, typesOf}
+use Rattle.signature.specs.Types.{typesOf}
+use Rattle.plan.specs.Plan.{lastOf}
 use Rattle.plan.proofs.Fold.{last-more}
 use Rattle.slots.proofs.Typed.{AllTyped}
 use Rattle.walker.specs.declared.Counters.{Counters}

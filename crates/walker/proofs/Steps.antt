@@ -23,7 +23,7 @@ use Rattle.places.specs.ZSeries.{zClass, zNextOf}
 use Rattle.places.specs.Step.{Lawful, rulesOf, spanOf, nextOf, unclearFor}
 use Rattle.places.proofs.Between.{step-between}
 use Rattle.places.proofs.Marked.{next-marked}
-use Rattle.plan.specs.Plan.{typesOf}
+use Rattle.signature.specs.Types.{typesOf}
 use Rattle.slots.specs.declared.Answer.{Answer}
 use Rattle.slots.specs.Buffers.{Buffers}
 use Rattle.slots.specs.Placements.{placement, valueAt}

@@ -28,16 +28,17 @@ use Rattle.signature.specs.Answer.{resultType, signatureAnswer}
 use Rattle.signature.specs.Encode.{encode}
 use Rattle.signature.proofs.Sound.{length-encode}
 use Rattle.signature.proofs.Theorems.{accepted}
+use Rattle.signature.specs.Types.{valuesOf, typesOf}
+use Rattle.signature.proofs.Types.{length-of-types}
 use Rattle.places.specs.declared.Cursor.{Cursor}
 use Rattle.places.specs.declared.Rules.{Rules}
 use Rattle.places.specs.Step.{Lawful, Roomy, rulesOf, spanOf, nextOf, unclearFor, startOf}
 use Rattle.places.proofs.Bounds.{rules-lawful, area-holds}
 use Rattle.places.proofs.Marked.{next-marked}
 use Rattle.plan.specs.declared.Plan.{Plan}
-use Rattle.plan.specs.Plan.{spansOf, lastOf, valuesOf, hiddenIn, startIn, endIn, planIn, planAnswer, typesOf}
+use Rattle.plan.specs.Plan.{spansOf, lastOf, hiddenIn, startIn, endIn, planIn, planAnswer}
 use Rattle.plan.specs.Call.{firstUnclear, unclearIn, clearRead, called, outcomeFor}
 use Rattle.plan.proofs.Fold as fold
-use Rattle.plan.proofs.Answers.{length-of-types}
 use Rattle.slots.specs.declared.Answer as call
 use Rattle.slots.specs.Buffers.{Buffers}
 use Rattle.slots.specs.Placements.{Placement, placement, placements, valueAt, valuesAt}

@@ -14,12 +14,13 @@ use Rattle.items.specs.Reading.{Reading, got, no}
 use Rattle.items.specs.Encode.{encodeTree}
 use Rattle.signature.specs.Signature.{Signature}
 use Rattle.signature.specs.Read.{signatureOf}
+use Rattle.signature.specs.Types.{typesOf}
 use Rattle.places.specs.declared.Cursor.{Cursor}
 use Rattle.places.specs.declared.Span.{Span}
 use Rattle.places.specs.declared.Rules.{Rules}
 use Rattle.places.specs.Values.{cursor}
 use Rattle.places.specs.Step.{rulesOf, spanOf, startOf}
-use Rattle.plan.specs.Plan.{lastOf, typesOf}
+use Rattle.plan.specs.Plan.{lastOf}
 use Rattle.slots.specs.declared.Answer as call
 use Rattle.slots.specs.Buffers.{Buffers}
 use Rattle.read.specs.Read.{sizes, readAnswer, readValues}

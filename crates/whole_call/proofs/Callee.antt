@@ -19,7 +19,7 @@ use Rattle.places.specs.declared.Span.{Span}
 use Rattle.places.specs.declared.ResultPlaces.{ResultPlaces}
 use Rattle.places.specs.Step.{wordOf}
 use Rattle.plan.specs.declared.Plan.{Plan}
-use Rattle.plan.specs.Plan.{typesIn}
+use Rattle.signature.specs.Types.{typesIn}
 use Rattle.slots.specs.Buffers.{Buffers, buffers, bytesAt}
 use Rattle.slots.specs.Limits.{Fits, All}
 use Rattle.slots.specs.Arguments.{argumentsIn, argumentsOf, planFor, rulesFor}

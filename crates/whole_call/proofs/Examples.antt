@@ -24,7 +24,8 @@ use Rattle.places.specs.Power.{words, fprs, shareOf, powerShare, unclear}
 use Rattle.places.specs.ZSeries.{zClass, zSpanOf, zNextOf}
 use Rattle.places.specs.Step.{withEllipsis, spanOf, nextOf, unclearFor, fresh, startOf, areaOf, hiddenFor, returning, resultOf}
 use Rattle.places.specs.Places.{upFrom}
-use Rattle.plan.specs.Plan.{spansOf, lastOf, valuesOf, tableOf, planIn, typesOf, planAnswer}
+use Rattle.plan.specs.Plan.{spansOf, lastOf, tableOf, planIn, planAnswer}
+use Rattle.signature.specs.Types.{valuesOf, typesOf}
 use Rattle.plan.specs.Call.{firstUnclear, called}
 use Rattle.registers.specs.Registers.{spread}
 use Rattle.slots.specs.Buffers.{Buffers, buffers, put, putAll, bytesAt}

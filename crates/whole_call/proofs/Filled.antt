@@ -31,7 +31,8 @@ use Rattle.places.specs.declared.ResultPlaces.{ResultPlaces}
 use Rattle.places.specs.Step.{rulesOf, withEllipsis, wordOf}
 use Rattle.places.proofs.Marked.{word-marked}
 use Rattle.plan.specs.declared.Plan.{Plan}
-use Rattle.plan.specs.Plan.{spansOf, noSpan, tableOf, startIn, planIn, typesOf, planAnswer}
+use Rattle.plan.specs.Plan.{spansOf, noSpan, tableOf, startIn, planIn, planAnswer}
+use Rattle.signature.specs.Types.{typesOf}
 use Rattle.plan.specs.Call.{outcomeFor}
 use Rattle.registers.specs.Registers.{inRegister, spread}
 use Rattle.registers.proofs.Registers.{spread-short}

@@ -17,6 +17,7 @@ pub mod machines;
 pub mod marshal;
 pub mod plans;
 pub mod random;
+pub mod second_planner;
 pub mod signatures;
 pub mod timing;
 pub mod usual;

@@ -4,6 +4,7 @@
 use crate::encode::{self, INTEGERS};
 use crate::generate;
 use crate::random::Random;
+use crate::second_planner;
 use crate::signatures::{hex, refused, ACCEPTED, ANSWERS};
 use crate::Difference;
 use flakuzhen::surface::plans::{self as surface, Planned, Sizes};
@@ -317,9 +318,10 @@ pub fn compare(bytes: &[u8], longer: usize, seen: &mut Histogram) -> Result<(), 
 
 /// Holds the library to the whole plan in tables without room, with one word too few, with exactly
 /// enough and with more; behind each lie words that are not lent. The second program's compact one
-/// is held to it too.
+/// and the second planner are held to it too.
 fn compare_tables(bytes: &[u8], longer: usize) -> Result<(), String> {
     let table = table::table(bytes);
+    second_planner::compare(bytes, &table)?;
     let expected = expected_plan(&table);
     let length = ENTRY * expected.arguments as usize;
     for room in [0, length.saturating_sub(1), length, length + longer] {

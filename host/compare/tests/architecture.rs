@@ -134,6 +134,25 @@ fn the_drawing_has_the_crates_and_their_arrows() {
     );
 }
 
+/// Document 02, No. 14: "above the reader but knowing nothing of the first planner", of which all is
+/// part that is below it and not of reading.
+#[test]
+fn the_second_planner_knows_nothing_of_the_first() {
+    let arrows = listed(&file("crates.txt"));
+    let with_below = |name: &str| {
+        let mut all = reached(&arrows, name);
+        assert!(all.insert(name.to_string()));
+        all
+    };
+    let reading = &with_below("reader") | &with_below("whole_signature");
+    let first = &with_below("planning") - &reading;
+    let second = with_below("second_planner");
+    assert!(first.contains("plan") && first.contains("places") && first.contains("power_step"));
+    assert!(second.contains("reader"));
+    let known: Vec<&String> = second.intersection(&first).collect();
+    assert!(known.is_empty(), "the second planner knows {known:?}");
+}
+
 /// A drawing and its table: top over middle over bottom, and side over bottom.
 const ARCHITECTURE: &str = "\
 # Crates

@@ -1,6 +1,6 @@
 -- Rules that are always clear leave the outcome of what was read.
 use mathlib.Core.Path.{sym, _∙_}
-use Rattle.plan.proofs.Answers.{answer-plannable}
+use Rattle.signature.proofs.Types.{answer-plannable}
 use Rattle.plan.proofs.Calls.{none-unclear}
 use Rattle.arguments.proofs.Table.{measured-clear}
 use borrow.Author.Needs.{needs}

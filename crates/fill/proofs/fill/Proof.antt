@@ -2,7 +2,7 @@
 -- address and then the arguments are put.
 use mathlib.Core.Path.{_≡_, refl, sym, _∙_}
 use lib.ListN.{length}
-use Rattle.plan.proofs.Answers.{answer-plannable}
+use Rattle.signature.proofs.Types.{answer-plannable}
 use Rattle.places.specs.Step.{wordOf}
 use Rattle.slots.specs.Arguments.{planFor, sizesFor, rulesFor}
 use Rattle.slots.proofs.Refusals.{not-refused}

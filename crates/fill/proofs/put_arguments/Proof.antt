@@ -9,7 +9,7 @@ use native.Mathlib.Nat.{add-sub-cancel-left}
 use lib.ListN.{length, drop, take, length-drop}
 use lib.Seq.{length-take-le}
 use Rattle.places.specs.Step.{placed}
-use Rattle.plan.specs.Limits.{typeAt}
+use Rattle.signature.specs.Plannable.{typeAt}
 use Rattle.slots.specs.Buffers.{buffers}
 use Rattle.slots.specs.Placements.{Placement, placement}
 use Rattle.slots.specs.Arguments.{rulesIn}

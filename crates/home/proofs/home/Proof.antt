@@ -3,7 +3,7 @@ use mathlib.Core.Path.{refl, sym, _∙_}
 use Prim.Native.Nat.{_≤_}
 use lib.ListN.{length}
 use Rattle.plan.specs.declared.Plan.{Plan}
-use Rattle.plan.proofs.Answers.{answer-plannable}
+use Rattle.signature.proofs.Types.{answer-plannable}
 use Rattle.slots.specs.declared.Answer.{Answer}
 use Rattle.slots.proofs.Answered.{plan-same}
 use Rattle.slots.proofs.Refusals.{not-refused}

@@ -3,9 +3,9 @@ use mathlib.Core.Path.{sym, _∙_}
 use Prim.Native.Nat.{_-_}
 use native.Mathlib.Omega.{arith}
 use Rattle.places.proofs.Bounds.{rules-lawful}
-use Rattle.plan.specs.Plan.{typesIn}
+use Rattle.signature.specs.Types.{typesIn}
+use Rattle.signature.proofs.Types.{length-types, types-drop}
 use Rattle.plan.proofs.Fold.{reached-roomy}
-use Rattle.plan.proofs.Turns.{length-types, types-drop}
 use Rattle.plan.proofs.Calls.{none-unclear, Clearing, clearing-start, clearing-more, clearing-end}
 use borrow.Author.Needs.{needs}
 use Rattle.planning.proofs.first_unclear.Statement.{statement}

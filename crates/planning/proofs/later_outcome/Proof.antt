@@ -3,7 +3,7 @@ use mathlib.Core.Path.{_≡_, sym, ap, _∙_}
 use native.Mathlib.Omega.{arith}
 use Prim.Native.Nat.{suc, _-_}
 use Rattle.signature.specs.declared.Outcome.{Outcome}
-use Rattle.plan.proofs.Answers.{answer-plannable}
+use Rattle.signature.proofs.Types.{answer-plannable}
 use Rattle.plan.proofs.Calls.{clear-outcome, unclear-outcome}
 use borrow.Author.Needs.{needs}
 use Rattle.planning.proofs.later_outcome.Statement.{statement}

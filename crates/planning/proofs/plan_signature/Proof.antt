@@ -1,6 +1,8 @@
 -- The loop plans one argument a turn; what it has planned and what is left make up the whole fold (`Going`).
-use Rattle.plan.proofs.Turns.{Going, Kept, length-types, types-drop, going-marked, going-more, going-end, gone-plan}
-use Rattle.plan.specs.Plan.{planned, typesIn}
+use Rattle.signature.proofs.Types.{length-types, types-drop}
+use Rattle.signature.specs.Types.{typesIn}
+use Rattle.plan.proofs.Turns.{Going, Kept, going-marked, going-more, going-end, gone-plan}
+use Rattle.plan.specs.Plan.{planned}
 use Rattle.plan.specs.declared.Plan.{Plan}
 use Rattle.plan.proofs.Fold.{reached-roomy}
 use Rattle.places.proofs.Bounds.{rules-lawful}

@@ -7,7 +7,7 @@ use Prim.Native.Nat.{ℕ, suc, _+_, _-_, _≤_}
 use native.Mathlib.Omega.{arith}
 use lib.ListN.{length, drop}
 use Rattle.places.specs.Step.{Lawful, Roomy, spanOf}
-use Rattle.plan.specs.Limits.{typeAt}
+use Rattle.signature.specs.Plannable.{typeAt}
 use Rattle.slots.specs.Buffers.{buffers}
 use Rattle.slots.specs.Placements.{Placement, placement}
 use Rattle.slots.proofs.Turns.{Checking, checking-start, checking-ready, checking-refused, checking-more, checking-end}

@@ -2,7 +2,7 @@
 use mathlib.Core.Path.{_≡_, sym, _∙_}
 use native.Mathlib.Omega.{arith}
 use Rattle.places.specs.Step.{rulesOf}
-use Rattle.plan.proofs.Answers.{answer-plannable}
+use Rattle.signature.proofs.Types.{answer-plannable}
 use Rattle.slots.specs.Forms.{ownStart}
 use Rattle.slots.proofs.Answered.{plan-same}
 use Rattle.slots.proofs.Refusals.{not-refused}

@@ -1,0 +1,2 @@
+-- That both planners agree. Assumes nothing.
+pub mod Agreement

@@ -1,0 +1,2 @@
+-- The second plan in words. Assumes nothing.
+pub mod Words

@@ -1,0 +1,2 @@
+-- The second plan of a signature. Assumes nothing.
+pub mod Answer

@@ -1,0 +1,204 @@
+// A second planner, which knows nothing of the first: any signature's plan, by the structure of its parameters or slot by slot.
+use conventions::Convention;
+use items::Fault;
+use items::Refusal;
+use parameters::Parameter;
+use parameters::Returned;
+use reader::ArgumentRead;
+use signature::MAX_ARGUMENTS;
+use signature::Outcome;
+use signature::SignatureRead;
+ghost use mathlib.Core.Path.{_≡_};
+ghost use Prim.Native.Nat.{_≤_, _<_};
+ghost use Rattle.signature.specs.declared.Outcome.{Outcome};
+ghost use Rattle.signature.specs.Read.{signatureOf};
+ghost use Rattle.signature.specs.Answer.{signatureAnswer};
+ghost use Rattle.signature.specs.Types.{typesIn, valuesOf};
+ghost use Rattle.signature.specs.Plannable.{Plannable};
+ghost use Rattle.second_planner.specs.Answer.{powerPlan, zPlan, noPlan, secondIn, straddlingIn, headerOf, straddlingFault, secondAnswer};
+
+pub struct SecondPlan {
+    pub outcome: Outcome,
+    pub convention: Convention,
+    pub ellipsis: bool,
+    pub result: Returned,
+    pub count: usize,
+    pub area: usize,
+    pub values: usize,
+    pub copies: usize,
+    pub parameters: [Parameter; MAX_ARGUMENTS],
+}
+
+// The bytes of all values.
+fn values_in(g: SignatureRead) -> usize
+    requires { ⌜ Plannable g ⌝ }
+    ensures { λ r. ⌜ r ≡ valuesOf (g .convention) (typesIn g) ⌝ }
+{
+    let convention = g.convention;
+    let count = g.count;
+    let mut values: usize = 0;
+    let mut i: usize = 0;
+    while i < count {
+        let a = g.arguments[i];
+        let t = a.ty;
+        values = values + types::size_of(convention, t);
+        i = i + 1;
+    }
+    values
+}
+
+// An accepted signature's plan on PowerPC, of n items.
+fn power_plan(paired: bool, word: usize, n: usize, g: SignatureRead) -> SecondPlan
+    requires { ⌜ (0 < word) × (word ≤ 8) × Plannable g ⌝ }
+    ensures { λ p. ⌜ p ≡ powerPlan (g .ellipsis) paired word n (g .convention) (g .result) (typesIn g) ⌝ }
+{
+    let convention = g.convention;
+    let ellipsis = g.ellipsis;
+    let count = g.count;
+    let returned = g.result;
+    let result = structure::power_returned(convention, word, returned);
+    let values = values_in(g);
+    let s = structure::lay_out(
+        word,
+        structure::first_word(structure::power_hidden(returned)),
+        g,
+    );
+    let area = structure::area_bytes(word, s.words);
+    let laid = structure::lay_registers(ellipsis, paired, word, g, s);
+    SecondPlan {
+        outcome: Outcome::Accepted(n),
+        convention,
+        ellipsis,
+        result,
+        count,
+        area,
+        values,
+        copies: 0,
+        parameters: laid,
+    }
+}
+
+// An accepted signature's plan on Z, of n items.
+fn z_plan(n: usize, g: SignatureRead) -> SecondPlan
+    requires { ⌜ Plannable g ⌝ }
+    ensures { λ p. ⌜ p ≡ zPlan (g .ellipsis) n (g .convention) (g .result) (typesIn g) ⌝ }
+{
+    let convention = g.convention;
+    let ellipsis = g.ellipsis;
+    let count = g.count;
+    let returned = g.result;
+    let result = slot_scan::z_returned(returned);
+    let values = values_in(g);
+    let s = slot_scan::scan_all(g, slot_scan::z_hidden(returned));
+    let scanned = s.parameters;
+    let end = s.end;
+    SecondPlan {
+        outcome: Outcome::Accepted(n),
+        convention,
+        ellipsis,
+        result,
+        count,
+        area: end.starg,
+        values,
+        copies: end.copies,
+        parameters: scanned,
+    }
+}
+
+fn accepted_plan(n: usize, g: SignatureRead) -> SecondPlan
+    requires { ⌜ Plannable g ⌝ }
+    ensures { λ p. ⌜ p ≡ secondIn n (g .convention) (g .ellipsis) (g .result) (typesIn g) ⌝ }
+{
+    let convention = g.convention;
+    match convention {
+        Convention::Ppc64 => power_plan(false, 8, n, g),
+        Convention::Z => z_plan(n, g),
+        Convention::Aix => power_plan(false, 4, n, g),
+        Convention::Ppc64b => power_plan(true, 8, n, g),
+    }
+}
+
+fn no_plan(fault: Fault) -> SecondPlan
+    ensures { λ p. ⌜ p ≡ noPlan fault ⌝ }
+{
+    let none = parameters::no_parameters();
+    SecondPlan {
+        outcome: Outcome::Refused(fault),
+        convention: Convention::Ppc64,
+        ellipsis: false,
+        result: Returned::Nothing,
+        count: 0,
+        area: 0,
+        values: 0,
+        copies: 0,
+        parameters: none,
+    }
+}
+
+// The number of the first parameter for which the papers are not clear, counted from 1; 0 where there is none.
+fn straddling_in(g: SignatureRead) -> usize
+    requires { ⌜ Plannable g ⌝ }
+    ensures { λ n. ⌜ n ≡ straddlingIn (g .convention) (typesIn g) ⌝ }
+{
+    let convention = g.convention;
+    match convention {
+        Convention::Ppc64 => structure::first_straddling(false, g),
+        Convention::Z => 0,
+        Convention::Aix => structure::first_straddling(false, g),
+        Convention::Ppc64b => structure::first_straddling(true, g),
+    }
+}
+
+// The place of an argument's header.
+fn header_of(a: ArgumentRead) -> usize
+    ensures { λ n. ⌜ n ≡ headerOf a ⌝ }
+{
+    match a {
+        ArgumentRead::Argument { ty, place } => place,
+        ArgumentRead::Missing => 0,
+        ArgumentRead::Refused(_) => 0,
+    }
+}
+
+// 29 of argument number `index`, counted from 0.
+fn straddling_fault(sig: &[u8], index: usize) -> Fault
+    ensures { λ f. ⌜ f ≡ straddlingFault index (signatureOf (now (sig .entry))) ⌝ }
+{
+    let a = reader::argument_at(sig, index);
+    let place = header_of(a);
+    Fault {
+        reason: Refusal::UnclearPlace,
+        place,
+        passed: 0,
+    }
+}
+
+// The plan of n items that were read, by the signature's bytes and what was read of them.
+fn clear_plan(sig: &[u8], n: usize, g: SignatureRead) -> SecondPlan
+    requires { ⌜ (g ≡ signatureAnswer (signatureOf (now sig))) × (g .outcome ≡ Outcome.Accepted n) ⌝ }
+    ensures { λ p. ⌜ p ≡ secondAnswer (signatureOf (now (sig .entry))) ⌝ }
+{
+    let straddling = straddling_in(g);
+    if straddling == 0 {
+        return accepted_plan(n, g);
+    }
+    no_plan(straddling_fault(sig, straddling - 1))
+}
+
+fn second(sig: &[u8], g: SignatureRead) -> SecondPlan
+    requires { ⌜ g ≡ signatureAnswer (signatureOf (now sig)) ⌝ }
+    ensures { λ p. ⌜ p ≡ secondAnswer (signatureOf (now (sig .entry))) ⌝ }
+{
+    let outcome = g.outcome;
+    match outcome {
+        Outcome::Refused(fault) => no_plan(fault),
+        Outcome::Accepted(n) => clear_plan(sig, n, g),
+    }
+}
+
+// The second plan of a signature's bytes: any bytes at all.
+pub fn second_plan_of(s: &[u8]) -> SecondPlan
+    ensures { λ p. ⌜ p ≡ secondAnswer (signatureOf (now (s .entry))) ⌝ }
+{
+    second(s, whole_signature::read_signature(s))
+}

@@ -1,0 +1,26 @@
+-- What planners ask of a signature that was read: it holds of every answer of the reader (law `answer-plannable`).
+-- Assumes nothing.
+use Prim.Native.Nat.{ℕ, _≤_, _<_}
+use lib.ListN.{length, getD}
+use Rattle.conventions.specs.declared.Convention.{Convention}
+use Rattle.types.specs.declared.IntegerKind.{IntegerKind}
+use Rattle.types.specs.declared.ValueType.{ValueType}
+use Rattle.types.specs.Sizes.{sizeOf}
+use Rattle.signature.specs.declared.ResultType.{ResultType}
+use Rattle.signature.specs.declared.SignatureRead.{SignatureRead}
+use Rattle.signature.specs.Limits.{maxArguments}
+use Rattle.signature.specs.Answer.{argument}
+
+-- refusal 8: no "struct size over 256"
+abbrev pub SmallResult : Convention → ResultType → Type 0
+SmallResult c ResultType.Nothing = Unit {0}
+SmallResult c (ResultType.Value t) = sizeOf c t ≤ 256
+
+abbrev pub typeAt : SignatureRead → ℕ → ValueType
+typeAt g i = getD (g .arguments) i (argument (ValueType.Integer IntegerKind.I8)) .ty
+
+pub record Plannable (g : SignatureRead) : Type 0 where
+  pub few : g .count ≤ maxArguments
+  pub room : g .count ≤ length (g .arguments)
+  pub result : SmallResult (g .convention) (g .result)
+  pub small : (i : ℕ) → i < g .count → sizeOf (g .convention) (typeAt g i) ≤ 256
