@@ -45,8 +45,8 @@
  *    x86-64, PowerPC and zSeries (make bench and make bench-targets measure it):
  *       1 KiB   fz_version, fz_widen, fz_narrow
  *       4 KiB   fz_read_signature, fz_measure, fz_walk_dump_ppc64, fz_walk_dump_z, fz_walk_dump_aix
- *       4 KiB   fz_walk_start
- *       8 KiB   fz_plan, fz_fill, fz_read, fz_walk
+ *       4 KiB   fz_walk_start, fz_walk
+ *       8 KiB   fz_plan, fz_fill, fz_read
  *       8 KiB   fz_start_ppc64, fz_start_z, fz_start_aix, fz_start_ppc64b
  *      12 KiB   fz_listing, fz_write_register
  *      16 KiB   fz_view, fz_write_memory
