@@ -6,6 +6,7 @@ use native.Mathlib.Omega.{arith}
 use lib.ListN.{length, take, drop, length-drop}
 use lib.Seq.{take-append-le, drop-append-le}
 use Rattle.words.specs.Splice.{overlay}
+use Rattle.words.proofs.Splices.{overlay-whole}
 use Rattle.items.specs.Reading.{Reading, got}
 use Rattle.signature.specs.declared.Outcome.{Outcome}
 use Rattle.signature.specs.Signature.{Signature}
@@ -25,7 +26,7 @@ use Rattle.fill.specs.Fill.{fillAnswer}
 use Rattle.read.specs.Read.{sizes, readTests, readAnswer, readValues}
 use Rattle.roundtrip.specs.RoundTrip.{Filled, left}
 use Rattle.roundtrip.proofs.Arguments.{Put, AllPut}
-use Rattle.roundtrip.proofs.Theorems.{put-back, read-tests, overlay-whole, Left, filled-left, values-total}
+use Rattle.roundtrip.proofs.Theorems.{put-back, read-tests, Left, filled-left, values-total}
 use Rattle.appending.specs.Appending.{Appended}
 use Rattle.appending.specs.Driver.{OldDriverReads}
 use Rattle.appending.proofs.Encoded.{extended}

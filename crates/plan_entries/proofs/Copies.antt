@@ -8,11 +8,8 @@ use borrow.Author.Tests.{le-ltb, lt-ltb}
 use lib.ListN.{length, getD, set, take}
 use lib.Seq.{take-suc, length-take-le}
 use Rattle.words.specs.Splice.{overlay}
-use Rattle.words.proofs.Splices.{splice-head, splice-nothing, overlay-more}
+use Rattle.words.proofs.Splices.{overlay-nothing, overlay-more}
 use Rattle.plan_entries.specs.Words.{tabled}
-
-pub overlay-nothing : (l : List ℕ) → l ≡ overlay l []
-overlay-nothing l = sym (splice-nothing l 0) ∙ splice-head l []
 
 pub tabled-nothing : (table : List ℕ) → table ≡ tabled table []
 tabled-nothing table = rw (le-ltb (length table) 0 (omega arith)) (overlay-nothing table)

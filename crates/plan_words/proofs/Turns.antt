@@ -8,7 +8,7 @@ use lib.ListN.{length, take, drop, length-append}
 use lib.Seq.{take-at}
 use borrow.Author.Tests.{lt-ltb, le-ltb}
 use Rattle.words.specs.Splice.{overlay, splice}
-use Rattle.words.proofs.Splices.{length-overlay, overlay-is, overlay-append}
+use Rattle.words.proofs.Splices.{length-overlay, overlay-is, overlay-nothing, overlay-append}
 use Rattle.conventions.specs.declared.Convention.{Convention}
 use Rattle.types.specs.declared.ValueType.{ValueType}
 use Rattle.types.specs.Sizes.{sizeOf}
@@ -41,7 +41,7 @@ use Rattle.plan.specs.Call.{firstUnclear, unclearFault}
 use Rattle.plan.proofs.Calls.{unclear-more}
 use Rattle.plan.proofs.Fold.{last-more, values-more, Reached, reached-start, reached-more}
 use Rattle.plan_entries.specs.Words.{entryWords, tabled}
-use Rattle.plan_entries.proofs.Copies.{overlay-nothing, tabled-nothing}
+use Rattle.plan_entries.proofs.Copies.{tabled-nothing}
 use Rattle.plan_words.specs.declared.Planned.{Planned}
 use Rattle.plan_words.specs.Planned.{plannedOf}
 use Rattle.plan_words.specs.Rows.{itemAfter, rowsOf, rowsBy, plannedBy, planCalled, rowsCalled, SmallWith}

@@ -6,7 +6,7 @@ use Prim.Native.Nat.{ℕ, _≤_}
 use native.Mathlib.Omega.{arith}
 use borrow.Author.Tests.{ltb-false}
 use Rattle.words.specs.Splice.{overlay}
-use Rattle.words.proofs.Splices.{splice-nothing, splice-head}
+use Rattle.words.proofs.Splices.{overlay-nothing}
 use Rattle.signature.specs.declared.Outcome.{Outcome}
 use Rattle.signature.specs.declared.SignatureRead.{SignatureRead}
 use Rattle.signature.specs.Read.{signatureOf}
@@ -124,4 +124,4 @@ none-refused r base ps b z = rw z
 
 pub none-taken : (r : Rules) (base : ℕ) (ps : List Placement) (b : Buffers) → ps ≡ [] → (values : List ℕ) → values ≡ overlay values (valuesAt r base ps b)
 unfolding valuesAt
-none-taken r base ps b z values = rw z (sym (splice-nothing values 0) ∙ splice-head values [])
+none-taken r base ps b z values = rw z (overlay-nothing values)

@@ -2,16 +2,16 @@
 -- ---- the arguments of a plan, from the cursor k on
 use mathlib.Core.Path.{_≡_, refl, sym, ap, ap₂, _∙_, subst}
 use mathlib.Core.Bool.{Bool, true, false}
-use mathlib.Core.List.{List, [], _∷_, _++_, append-nil}
+use mathlib.Core.List.{List, [], _∷_, _++_}
 use Prim.Native.Nat.{ℕ, _+_, _^_, _≤_, _<_}
 use native.Mathlib.Omega.{arith}
 use borrow.Author.Tests.{eq-eqb, le-ltb}
-use lib.ListN.{length, take, drop, length-drop, drop-of-length-le}
+use lib.ListN.{length, take, drop, length-drop}
 use lib.Seq.{length-take-le, take-add, take-all}
 use Rattle.words.specs.Basics.{pick}
 use Rattle.words.specs.Splice.{overlay}
 use Rattle.words.specs.Numbers.{Bytes}
-use Rattle.words.proofs.Splices.{overlay-is}
+use Rattle.words.proofs.Splices.{overlay-whole}
 use Rattle.words.proofs.Numbers.{bytes-part}
 use Rattle.conventions.specs.declared.Convention.{Convention}
 use Rattle.types.specs.declared.ValueType.{ValueType}
@@ -156,12 +156,6 @@ read-tests have values area i v a = simp (eq-eqb _ _ i, eq-eqb _ _ v, le-ltb _ _
 pub reading-done : (o : Outcome) (x : Answer) → afterReading o x ≡ Answer.Done → (y : Answer) → y ≡ Answer.Done → (x ≡ Answer.Done) × (afterReading o y ≡ Answer.Done)
 reading-done (Outcome.Accepted n) x e y q = (e, q)
 reading-done (Outcome.Refused f) x e y q = let z : _≡_ {A = ℕ} 0 1 = cc in absurd (omega arith)
-
-pub overlay-whole : (l bs : List ℕ) → length l ≡ length bs → overlay l bs ≡ bs
-overlay-whole l bs e =
-    let short : length l ≤ length bs = omega arith in
-    let none : drop (length bs) l ≡ [] = drop-of-length-le l short in
-    overlay-is l bs (omega arith) ∙ ap (λ (t : List ℕ). bs ++ t) none ∙ append-nil bs
 
 -- a refused signature has no arguments
 none-put : (base : ℕ) (v : List ℕ) (b : Buffers) (f : Fault)

@@ -12,7 +12,7 @@ use lib.Seq.{take-at, drop-at}
 use Rattle.words.specs.Basics.{pick}
 use Rattle.words.specs.Splice.{splice, part}
 use Rattle.words.specs.Numbers.{Bytes, valueOf}
-use Rattle.words.proofs.Splices.{splice-same, splice-other, length-splice, length-part, part-add, part-part}
+use Rattle.words.proofs.Splices.{overlay-whole, splice-same, splice-other, length-splice, length-part, part-add, part-part}
 use Rattle.words.proofs.Numbers.{bytes-bytesOf, bytes-part}
 use Rattle.ieee.specs.declared.Narrowed.{Narrowed}
 use Rattle.ieee.specs.Narrowing.{narrow}
@@ -53,7 +53,7 @@ use Rattle.slots.proofs.Answered.{carried, arguments-got}
 use Rattle.slots.proofs.Refusals.{or-done}
 use Rattle.slots.proofs.Turns.{next-argument}
 use Rattle.unmarshal.specs.Readable.{Readable}
-use Rattle.unmarshal.proofs.Arguments.{value-length}
+use Rattle.unmarshal.proofs.Arguments.{value-length, length-values}
 use Rattle.read.specs.declared.Sizes.{Sizes}
 use Rattle.read.specs.Read.{sizes, wordsAnswer, agrees, agreeAnswer, argumentAnswer, argumentsAnswer, readTests, readAnswer, readValues}
 use Rattle.read.proofs.Arguments.{all-readable}
@@ -70,7 +70,7 @@ use Rattle.roundtrip.specs.Places.{Agree}
 use Rattle.roundtrip.specs.Views.{valueLists, homedArea, Viewed, ViewAfterHome, ViewAsRead, HiddenStays}
 use Rattle.roundtrip.proofs.Alone.{read-own}
 use Rattle.roundtrip.proofs.Forms.{own-back, length-home}
-use Rattle.roundtrip.proofs.Theorems.{reading-done as answer-passed, bytes-drop, put-back, overlay-whole, values-total, Left, filled-left, filled-answer}
+use Rattle.roundtrip.proofs.Theorems.{reading-done as answer-passed, bytes-drop, put-back, values-total, Left, filled-left, filled-answer}
 
 -- ---- one argument
 
@@ -399,12 +399,6 @@ image-bytes r base (p ∷ ps) b h = (
   λ some. rw (lt-ltb 0 (p .span .floating .count) some) (float-bytes r (equivalentOf (p .ty)) _ (bytes-part (256 + 8 * p .span .floating .first) (8 * p .span .floating .count) (b .image) h)),
   image-bytes r base ps b h,
 )
-
-length-values : (r : Rules) (base : ℕ) (ps : List Placement) (b : Buffers) → All (λ (p : Placement). Readable r base p b) ps → length (valuesAt r base ps b) ≡ sizesOf ps
-unfolding All valuesAt sizesOf
-length-values r base [] b h = refl
-length-values r base (p ∷ ps) b h =
-    length-append (valueAt r base p b) (valuesAt r base ps b) ∙ rw (value-length r base p b (h .0), length-values r base ps b (h .1))
 
 -- every argument of a reading that nothing refuses can be read
 arguments-readable : (s : List ℕ) (base : ℕ) (b : Buffers) → length (b .image) ≡ 512 → planFor s .area ≤ length (b .area)

@@ -1,7 +1,7 @@
 -- One argument that can be read: its bytes are there, and as many as its size. Assumes nothing.
 use mathlib.Core.Path.{_≡_, refl, sym, _∙_}
 use mathlib.Core.Bool.{Bool, true, false}
-use mathlib.Core.List.{List}
+use mathlib.Core.List.{List, [], _∷_}
 use Prim.Native.Nat.{ℕ, zero, suc, _+_, _-_, _*_, _≤_, _<_}
 use native.Mathlib.Omega.{arith}
 use borrow.Author.Tests.{ltb-true, ltb-false}
@@ -25,8 +25,8 @@ use Rattle.registers.proofs.Registers.{length-gather}
 use Rattle.slots.specs.declared.Answer.{Answer}
 use Rattle.slots.specs.Buffers.{Buffers, bytesAt}
 use Rattle.slots.specs.Forms.{startsAtHead, ownStart, roomOf, narrowedBytes, floatValueAs, floatValue}
-use Rattle.slots.specs.Placements.{Placement, wordsAt, floatAt, addressAt, wordsValue, valueAt}
-use Rattle.slots.specs.Limits.{FloatSized, Held}
+use Rattle.slots.specs.Placements.{Placement, wordsAt, floatAt, addressAt, wordsValue, valueAt, valuesAt}
+use Rattle.slots.specs.Limits.{FloatSized, Held, All, sizesOf}
 use Rattle.slots.specs.Refusals.{narrowedAnswer, floatAnswer}
 use Rattle.unmarshal.specs.Readable.{Stored, FloatRoom, Readable}
 
@@ -118,3 +118,10 @@ value-length r base p b h = go (ltb 0 (p .span .floating .count)) refl
         float-length r (equivalentOf (p .ty)) (floatAt (p .span) b) (p .span .floating .count) (p .size) (h .ready .held .float some) (length-fprs r base p b h)
         (h .exact some)
     go false q = words (p .span .indirect) refl (ltb-false 0 (p .span .floating .count) q)
+
+-- and so have those of several, one after the other
+pub length-values : (r : Rules) (base : ℕ) (ps : List Placement) (b : Buffers) → All (λ (p : Placement). Readable r base p b) ps → length (valuesAt r base ps b) ≡ sizesOf ps
+unfolding All valuesAt sizesOf
+length-values r base [] b h = refl
+length-values r base (p ∷ ps) b h =
+    length-append (valueAt r base p b) (valuesAt r base ps b) ∙ rw (value-length r base p b (h .0), length-values r base ps b (h .1))

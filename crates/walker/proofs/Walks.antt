@@ -1,15 +1,15 @@
 -- A walk over the declared types of a signature gives what plain reading gives, where that accepts (specs/Walks.antt). Assumes nothing.
 use mathlib.Core.Path.{_≡_, refl, sym, ap, ap₂, _∙_, subst}
 use mathlib.Core.Bool.{Bool, true, false}
-use mathlib.Core.List.{List, [], _∷_, _++_, map, append-nil}
+use mathlib.Core.List.{List, [], _∷_, _++_, map}
 use Prim.Native.Nat.{ℕ, zero, suc, _+_, _-_, _*_, _/_, _^_, _≤_, _<_}
 use native.Mathlib.Omega.{arith}
 use native.Mathlib.Nat.{div-le-self}
-use lib.ListN.{length, take, drop, length-append, length-drop, drop-of-length-le}
+use lib.ListN.{length, take, drop, length-append, length-drop}
 use lib.Seq.{length-take-le}
 use Rattle.words.specs.Basics.{pick}
 use Rattle.words.specs.Splice.{overlay}
-use Rattle.words.proofs.Splices.{overlay-is}
+use Rattle.words.proofs.Splices.{overlay-whole}
 use Rattle.conventions.specs.declared.Convention.{Convention}
 use Rattle.types.specs.declared.ValueType.{ValueType}
 use Rattle.types.specs.Sizes.{sizeOf}
@@ -50,7 +50,7 @@ use Rattle.slots.proofs.Answered.{arguments-got}
 use Rattle.slots.proofs.Planned.{placements-sizes}
 use Rattle.slots.proofs.Refusals.{or-done}
 use Rattle.unmarshal.specs.Readable.{Ready, Readable}
-use Rattle.unmarshal.proofs.Arguments.{value-length}
+use Rattle.unmarshal.proofs.Arguments.{value-length, length-values}
 use Rattle.read.specs.declared.Sizes.{Sizes}
 use Rattle.read.specs.Read.{sizes, argumentAnswer, argumentsAnswer, readTests, readAnswer, readValues}
 use Rattle.read.proofs.Accepted.{Lent, tests-passed, each-ready}
@@ -69,12 +69,6 @@ use Rattle.walker.proofs.Words.{words-back, item-back}
 use Rattle.walker.proofs.Steps.{step-done, step-value, step-on}
 
 -- ---- one step of the walk
-
-overlay-whole : (l bs : List ℕ) → length l ≡ length bs → overlay l bs ≡ bs
-overlay-whole l bs e =
-    let short : length l ≤ length bs = omega arith in
-    let none : drop (length bs) l ≡ [] = drop-of-length-le l short in
-    overlay-is l bs (omega arith) ∙ ap (λ (x : List ℕ). bs ++ x) none ∙ append-nil bs
 
 -- a step that is accepted
 walk-step : (w : Walker) (t : Tree) (s : List ℕ) (next n base : ℕ) (b : Buffers) (v : List ℕ) → lost w ≡ false → typeItem (w .convention) s ≡ got t next n
@@ -228,11 +222,6 @@ plan-values : (n : ℕ) (c : Convention) (e : Bool) (q : ResultType) (ts : List 
 unfolding planIn
 plan-values n c e q ts = refl
 
-values-length : (r : Rules) (base : ℕ) (ps : List Placement) (b : Buffers) → AllSizes r base ps b → length (valuesAt r base ps b) ≡ sizesOf ps
-unfolding valuesAt sizesOf AllSizes
-values-length r base [] b h = refl
-values-length r base (p ∷ ps) b h = length-append (valueAt r base p b) (valuesAt r base ps b) ∙ rw (h .0, values-length r base ps b (h .1))
-
 pub walks-alike : WalksAlike
 unfolding readAnswer readValues argumentsOf walkerOf planAnswer
 walks-alike s ws base b v accept = go (signatureOf s) refl accept
@@ -267,7 +256,8 @@ walks-alike s ws base b v accept = go (signatureOf s) refl accept
         let whole : argumentsOf s ≡ ps = ap (λ (z : Reading Signature). argumentsIn (signatureAnswer z) (planAnswer z)) e ∙ same in
         let done : argumentsAnswer r base ps b ≡ call.Answer.Done = subst (λ (z : List Placement). argumentsAnswer r base z b ≡ call.Answer.Done) same (both .1) in
         let ready = each-ready s (signatureAnswer (got g next n)) (length (b .image)) (length (b .area)) (sym (ap signatureAnswer e)) (lent .image) (rw e (lent .area)) in
-        let sized = all-sizes r base ps b (all-readable r base b ps (subst (All (Ready r (length (b .image)) (length (b .area)))) whole ready) done) in
+        let readable = all-readable r base b ps (subst (All (Ready r (length (b .image)) (length (b .area)))) whole ready) done in
+        let sized = all-sizes r base ps b readable in
         let size : length v ≡ valuesOf c types = lent .values ∙ (plan-values n c mark q (typesOf c (g .arguments)) ∙ ap (valuesOf c) (sym order)) in
         let short = length-encode g in
         let asked = all-asked c (g .arguments) (a .within .arguments) (omega (arith, short, a .within .short)) in
@@ -279,7 +269,7 @@ walks-alike s ws base b v accept = go (signatureOf s) refl accept
         let small : endIn c q (typesOf c (g .arguments)) .stack ≤ 60000 = omega (arith, bounds .stack, length-of-types c (g .arguments), few) in
         let room : endIn c q (typesOf c (g .arguments)) .stack ≤ length (b .area) = omega (arith, plan-area n c mark q (typesOf c (g .arguments)), lent .area) in
         let walk = walk-fold c mark hidden base b (lent .image) ts k 0 v asked (reached-start (rulesOf c) hidden l) clear (rw last small) (rw last room) done sized size in
-        let total : length v ≡ length (valuesAt r base ps b) = size ∙ sym (values-length r base ps b sized ∙ placements-sizes c r k types) in
+        let total : length v ≡ length (valuesAt r base ps b) = size ∙ sym (length-values r base ps b readable ∙ placements-sizes c r k types) in
         record {
           start = rw e;
           answer = rw e (walk .0);

@@ -35,6 +35,19 @@ overlay-is l [] h = refl
 overlay-is [] (b ∷ bs) h = absurd (not-suc-le-zero h)
 overlay-is (x ∷ l) (b ∷ bs) h = ap (λ (t : List ℕ). b ∷ t) (overlay-is l bs (le-of-suc-le-suc h))
 
+-- as many bytes as the list has
+pub overlay-whole : (l bs : List ℕ) → length l ≡ length bs → overlay l bs ≡ bs
+overlay-whole l bs e =
+    let short : length l ≤ length bs = omega arith in
+    let none : drop (length bs) l ≡ [] = drop-of-length-le l short in
+    overlay-is l bs (omega arith) ∙ ap (λ (t : List ℕ). bs ++ t) none ∙ append-nil bs
+
+-- no bytes
+pub overlay-nothing : (l : List ℕ) → l ≡ overlay l []
+unfolding overlay
+overlay-nothing [] = refl
+overlay-nothing (x ∷ l) = refl
+
 -- a splice leaves the list before its offset, and puts the bytes over the head of the rest
 pub splice-is : (l : List ℕ) (n : ℕ) (bs : List ℕ) → splice l n bs ≡ take n l ++ overlay (drop n l) bs
 unfolding splice
