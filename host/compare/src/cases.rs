@@ -28,7 +28,7 @@ use std::collections::BTreeMap;
 use std::fmt;
 
 /// The calls in a file of cases, at the least.
-pub const LEAST: usize = 60_000;
+pub const LEAST: usize = 80_000;
 
 /// What a case is of, with its code in the file.
 #[derive(Clone, Copy, Debug, PartialEq, Eq, PartialOrd, Ord)]

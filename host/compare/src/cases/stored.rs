@@ -49,7 +49,8 @@ pub fn some(random: &mut Random, cases: &mut Vec<Case>) {
     let valid = encode::signature(&generate::valid(random));
     let damaged = generate::damaged(random, &chosen);
     let faulty = generate::faulty(random);
-    for of in [&chosen, &damaged, &faulty] {
+    let also_faulty = generate::faulty(random);
+    for of in [&chosen, &damaged, &faulty, &also_faulty] {
         cases.push(measuring(of));
     }
     for of in [&chosen, &valid, &damaged, &faulty] {
@@ -63,6 +64,7 @@ pub fn some(random: &mut Random, cases: &mut Vec<Case>) {
     cases.push(checking(&whole, &valid));
     cases.push(checking(&whole, &damaged));
     cases.push(checking(&wrong, &faulty));
+    cases.push(checking(&whole, &also_faulty));
 }
 
 fn words(answer: Answer) -> [u64; 3] {
