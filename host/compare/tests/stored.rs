@@ -134,45 +134,47 @@ fn whole_plans() {
     stored(&signature, &places);
 }
 
-/// The most bytes that a plan takes: a call of AIX whose arguments are structs of 64-bit integers.
+/// The longest plans that were found: of AIX, 124 structs of 32 integers of 64 bits, three doubles, each in a
+/// floating register and two words, and a struct that takes what is left; and such structs in each
+/// convention.
 #[test]
 fn the_longest_plans() {
-    let mut seen = 0;
+    let structure = |fields: usize| {
+        let length = 4 * fields as u8;
+        [&[0x12, 0, length][..], &[0x10, 0, 1, 6].repeat(fields)].concat()
+    };
+    let mut arguments = structure(32).repeat(124);
+    let structs = [&arguments[..], &structure(31)].concat();
+    arguments.extend([0x11, 0, 1, 1].repeat(3));
+    arguments.extend(structure(28));
+    assert_eq!(whole(3, &arguments), 56_779);
     for convention in 1..=4 {
-        let field = [0x10, 0, 1, 6].repeat(32);
-        let structure = [&[0x12, 0, 128][..], &field].concat();
-        let count = (16_384 - 13) / structure.len();
-        let arguments = structure.repeat(count);
-        let length = (arguments.len() as u16).to_be_bytes();
-        let mut signature = vec![
-            1, 0, 1, convention, 2, 0, 0, 4, 0, 0, 3, length[0], length[1],
-        ];
-        signature.extend(arguments);
-        let stored = flakuzhen::store(&signature).expect("an accepted signature");
-        assert_eq!(reference::stored::bytes(&signature), Ok(stored.clone()));
-        assert_eq!(flakuzhen::check(&stored, &signature), Ok(()));
-        let mut room = vec![0; stored.len() - 1];
-        let refusal = flakuzhen::store_into(&signature, &mut room).unwrap_err();
-        assert_eq!((refusal.number, refusal.place, refusal.items), (33, 0, 0));
-        for at in [
-            0,
-            2,
-            3,
-            signature.len() + 2,
-            signature.len() + 3,
-            stored.len() - 1,
-        ] {
-            let mut changed = stored.clone();
-            changed[at] ^= 0x10;
-            let refusal = Refusal {
-                number: 27,
-                place: at as u64,
-                items: 0,
-            };
-            assert_eq!(flakuzhen::check(&changed, &signature), Err(refusal));
-        }
-        seen = seen.max(stored.len());
+        let length = whole(convention, &structs);
+        println!("convention {convention}: {length} bytes");
     }
-    println!("the longest plan has {seen} bytes");
-    assert!(seen > 56_000);
+}
+
+/// Stores and checks the plan of a call with an ellipsis and these arguments, and gives its length.
+fn whole(convention: u8, arguments: &[u8]) -> usize {
+    let [high, low] = (arguments.len() as u16).to_be_bytes();
+    let mut signature = vec![1, 0, 1, convention, 2, 0, 0, 4, 0, 0, 3, high, low];
+    signature.extend(arguments);
+    let stored = flakuzhen::store(&signature).expect("an accepted signature");
+    assert_eq!(reference::stored::bytes(&signature), Ok(stored.clone()));
+    assert_eq!(flakuzhen::check(&stored, &signature), Ok(()));
+    let mut room = vec![0; stored.len() - 1];
+    let refusal = flakuzhen::store_into(&signature, &mut room).unwrap_err();
+    assert_eq!((refusal.number, refusal.place, refusal.items), (33, 0, 0));
+    let behind = 3 + signature.len();
+    for at in [0, 2, 3, behind - 1, behind, stored.len() - 1] {
+        let mut changed = stored.clone();
+        changed[at] ^= 0x10;
+        let refusal = Refusal {
+            number: 27,
+            place: at as u64,
+            items: 0,
+        };
+        assert_eq!(flakuzhen::check(&changed, &signature), Err(refusal));
+    }
+    stored.len()
 }
