@@ -43,7 +43,7 @@ pub struct Call {
 /// What is wrong with a call, in the order in which it is tested.
 #[derive(Clone, Copy, Debug, PartialEq, Eq, PartialOrd, Ord)]
 pub enum Fault {
-    /// Refusals 1 to 9 and 25.
+    /// Refusals 1 to 9, 25 and 29.
     Signature,
     /// Stored bytes that are not those of the signature's plan.
     Stale,
@@ -853,12 +853,14 @@ fn resize(random: &mut Random, buffer: &mut Vec<u8>, lengths: &[usize]) {
 /// Gives the call a signature that is refused: mostly its own with some damage.
 fn break_signature(random: &mut Random, call: &mut Call) {
     loop {
-        let broken = match random.below(8) {
+        let broken = match random.below(9) {
             0 | 1 => generate::faulty(random),
-            2 => of_another_convention(random, &call.signature),
+            // refusal 29
+            2 => encode::signature(&generate::unclear(random)),
+            3 => of_another_convention(random, &call.signature),
             _ => generate::damaged(random, &call.signature),
         };
-        if reference::read(&broken).is_err() {
+        if reference::call(&broken).is_err() {
             call.signature = broken;
             return;
         }

@@ -10,7 +10,7 @@ use crate::signatures::{hex, refused, ACCEPTED};
 use crate::Difference;
 use flakuzhen::surface::stored::{self as surface, Stored};
 use flakuzhen::surface::Answer;
-use reference::{compact, stored as second, Convention, Float, Integer, Refusal, Signature, Type};
+use reference::{compact, stored as second, Convention, Integer, Refusal, Signature, Type};
 use std::collections::hash_map::DefaultHasher;
 use std::collections::{BTreeMap, HashMap};
 use std::fmt;
@@ -566,32 +566,9 @@ pub fn run(seed: u64, stored: u64) -> Result<Histogram, Difference> {
             compare(&mut random, &bytes, &mut before, &mut seen)?;
         }
         if random.once_in(200) {
-            let bytes = encode::signature(&unclear(&mut random));
+            let bytes = encode::signature(&generate::unclear(&mut random));
             compare(&mut random, &bytes, &mut before, &mut seen)?;
         }
     }
     Ok(seen)
-}
-
-/// A signature that refusal 29 is for: a long double after twelve floats, with integers between them
-/// and any arguments behind it.
-fn unclear(random: &mut Random) -> Signature {
-    let convention = Convention::Ppc64b;
-    let mut arguments = Vec::new();
-    for _ in 0..12 {
-        if random.once_in(3) {
-            arguments.push(Type::Integer(Integer::I32));
-        }
-        arguments.push(Type::Float(random.pick(&[Float::Single, Float::Double])));
-    }
-    arguments.push(Type::Float(Float::LongDouble));
-    for _ in 0..random.below(4) {
-        arguments.push(plans::any_argument(random, convention));
-    }
-    Signature {
-        convention,
-        result: None,
-        ellipsis: generate::any_ellipsis(random),
-        arguments,
-    }
 }

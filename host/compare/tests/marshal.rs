@@ -41,6 +41,7 @@ fn run(operation: Operation, edges: &[&str], cases: &[&str]) -> Histogram {
         }
     }
     assert!(seen.answers[1] > 0, "1 never came");
+    assert!(seen.answers[29] >= 100, "29 came seldom");
     let faults = operation.faults();
     for (at, &fault) in faults.iter().enumerate() {
         let count = seen.faults.get(&fault).copied().unwrap_or(0);

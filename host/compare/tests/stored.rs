@@ -6,7 +6,7 @@ use flakuzhen::Refusal;
 use reference::Convention;
 
 /// Signatures that plans are stored of.
-const STORED: u64 = 100_000;
+const STORED: u64 = 75_000;
 /// How often each of what accepted calls may be like must have come.
 const CASES: u64 = 200;
 
@@ -47,10 +47,10 @@ fn lengths_bytes_and_checks() {
     assert_eq!(seen.lengths[33] + seen.checks[33], 0);
     assert_eq!(seen.lengths[27] + seen.stores[27], 0);
     least("a fresh plan", seen.checks[0], STORED);
-    least("a stale plan", seen.checks[27], 10 * STORED);
+    least("a stale plan", seen.checks[27], 1_000_000);
     for how in STALE {
         let count = seen.stale.get(how).copied().unwrap_or(0);
-        least(how, count, 20_000);
+        least(how, count, 10_000);
     }
     least("a plan checked at every byte", seen.thorough, 2_000);
     least("a plan checked with every value", seen.exhaustive, 20);
