@@ -469,17 +469,9 @@ fn compare_some(
     for _ in 0..4 {
         let (wrong, how) = stale(random, of, stored);
         let answer = compare_check(&wrong, signature, random.below(8), seen)?;
-        // two changes of one byte may undo each other
-        let right = match how {
-            "a byte of two" if wrong == stored => 0,
-            _ => 27,
-        };
-        if answer.number != right {
-            return Err(told(
-                &format!("{how}: both answer {answer:?}"),
-                &wrong,
-                signature,
-            ));
+        if answer.number != 27 {
+            let what = format!("{how}: both answer {answer:?}");
+            return Err(told(&what, &wrong, signature));
         }
         *seen.stale.entry(how).or_default() += 1;
     }
