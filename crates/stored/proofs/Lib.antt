@@ -3,3 +3,4 @@ pub mod Answers
 pub mod Alike
 pub mod Items
 pub mod Outcomes
+pub mod Theorems
