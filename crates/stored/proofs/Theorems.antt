@@ -11,6 +11,7 @@ use lib.Seq.{take-at, drop-at, length-take-le}
 use Rattle.words.specs.Basics.{pick}
 use Rattle.words.specs.Splice.{overlay}
 use Rattle.words.proofs.Splices.{overlay-is}
+use Rattle.items.specs.declared.Fault.{Fault}
 use Rattle.items.specs.Encode.{item}
 use Rattle.signature.specs.declared.Outcome.{Outcome}
 use Rattle.plan.specs.Call.{outcomeFor}
@@ -100,6 +101,20 @@ accepted-check stored s a = rw (a .outcome)
 by-outcome : (o : Outcome) (stored t s : List ℕ) → outcomeFor s ≡ o → checkBy o stored t ≡ CheckAnswer.Same → Accepts s × (stored ≡ t)
 by-outcome (Outcome.Accepted k) stored t s e h = (record { items = k; outcome = e }, same-compared stored t h)
 by-outcome (Outcome.Refused f) stored t s e h = let z : _≡_ {A = ℕ} 0 1 = cc in absurd (omega arith)
+
+refused-by : (o : Outcome) (stored t : List ℕ) (f : Fault) → checkBy o stored t ≡ CheckAnswer.Refused f → o ≡ Outcome.Refused f
+unfolding compared
+refused-by (Outcome.Accepted k) stored t f h = absurd (go (eqb (alike stored t) (max (length stored) (length t))) h)
+  where
+    go : (b : Bool) → pick b CheckAnswer.Same (CheckAnswer.Differs (alike stored t)) ≡ CheckAnswer.Refused f → ⊥
+    go true e = let z : _≡_ {A = ℕ} 0 1 = cc in omega arith
+    go false e = let z : _≡_ {A = ℕ} 0 1 = cc in omega arith
+refused-by (Outcome.Refused g) stored t f h = cc
+
+-- a refusal other than 27 is the call's own
+pub refused-check : (stored s : List ℕ) (f : Fault) → checkAnswer stored s ≡ CheckAnswer.Refused f → outcomeFor s ≡ Outcome.Refused f
+unfolding checkAnswer
+refused-check stored s f h = refused-by (outcomeFor s) stored (storedOf s) f h
 
 pub checks-exactly : ChecksExactly
 unfolding checkAnswer
