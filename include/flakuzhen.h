@@ -54,6 +54,8 @@
  *      12 KiB   fz_listing, fz_write_register
  *      16 KiB   fz_view, fz_write_memory
  *      20 KiB   fz_home, fz_enter, fz_leave
+ *      20 KiB   fz_stored_length, fz_store_plan, fz_check_plan
+ *      24 KiB   fz_fill_stored
  *  - An answer's `number` is 0 for yes; else it says why not (enum fz_refusal), and `place` says
  *    where: the offset in the signature of the faulty item's header or of the first byte too many;
  *    in a dump an address. A refusal that concerns no place has place 0. Where the signature is
