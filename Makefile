@@ -1,13 +1,13 @@
 # make run    prove what the command needs, build it and list the call of figure 3-18
 # make test   the whole gate: every proof, every must-fail edit, every comparison
 # make lib    build/libflakuzhen.a and build/libflakuzhen.so with its links, from proved code alone
-# make examples  the same call planned, filled and read by a program in C and one in Rust, and a
-#             variable argument list walked in C
+# make examples  the same call planned, filled and read by a program in C and one in Rust, a variable
+#             argument list walked in C, and plans kept and checked in both
 # make install  the command, the libraries, the header and the manual page, under PREFIX=/usr/local;
 #             make uninstall removes them
 # make soak   the comparisons on fresh seeds; SECONDS=n says for how long
-# make bench  the time of planning, filling and reading beside the second program's, and the stack of
-#             each function
+# make bench  the time of planning, filling, reading, storing and checking beside the second program's,
+#             and the stack of each function
 # make lint   what the gate does not ask: layout and clippy of the Rust code
 # make sanitize  the C programs and the Rust tests under AddressSanitizer
 # make clean  remove all that is built
@@ -26,7 +26,7 @@ CC = gcc
 # the inputs of a proof: a change of any file or folder here proves the library again
 PROVED_FROM := crates.txt $(shell find crates -print 2>/dev/null)
 # the crates that export functions
-BRIDGES := bridge bridge_plans bridge_values bridge_walk bridge_starts bridge_frames bridge_dump
+BRIDGES := bridge bridge_plans bridge_values bridge_walk bridge_stored bridge_starts bridge_frames bridge_dump
 ARCHIVE := build/libflakuzhen.a
 # the second planner, for the comparisons: no part of the library, and not installed
 SECOND := build/libsecond.a
@@ -89,11 +89,16 @@ examples: $(ARCHIVE)
 	build/call
 	$(CC) -Iinclude -o build/variable examples/c/variable.c $(ARCHIVE)
 	build/variable
+	$(CC) -Iinclude -o build/stored examples/c/stored.c $(ARCHIVE)
+	build/stored
 	cd host && cargo run $(CARGO_WORDS) --quiet -p call
+	cd host && cargo run $(CARGO_WORDS) --quiet -p call --bin stored
 
 # DESTDIR is put before PREFIX where files are copied, and nowhere else
 INSTALLED = $(DESTDIR)$(PREFIX)
 DOC := share/doc/flakuzhen
+# what goes there: the pages that the header and the examples name, and the examples
+DOCUMENTS := docs/COMPILERS.md docs/STORED.md $(addprefix examples/c/,call.c variable.c stored.c)
 
 install: $(ARCHIVE) $(SHARED)
 	cd host && cargo build $(CARGO_WORDS) --quiet -p flakuzhen
@@ -106,14 +111,14 @@ install: $(ARCHIVE) $(SHARED)
 	sed -e 's|@PREFIX@|$(PREFIX)|' -e 's|@VERSION@|$(VERSION)|' include/flakuzhen.pc.in \
 	    > $(INSTALLED)/lib/pkgconfig/flakuzhen.pc
 	install -m 644 docs/flakuzhen.1 $(INSTALLED)/share/man/man1
-	install -m 644 docs/COMPILERS.md examples/c/call.c examples/c/variable.c $(INSTALLED)/$(DOC)
+	install -m 644 $(DOCUMENTS) $(INSTALLED)/$(DOC)
 
 # what install puts in place; folders stay, but for the one that is ours alone
 uninstall:
 	rm -f $(addprefix $(INSTALLED)/,bin/flakuzhen include/flakuzhen.h \
 	    $(addprefix lib/,libflakuzhen.a libflakuzhen.so $(SONAME) libflakuzhen.so.$(VERSION)) \
 	    lib/pkgconfig/flakuzhen.pc share/man/man1/flakuzhen.1 \
-	    $(addprefix $(DOC)/,COMPILERS.md call.c variable.c))
+	    $(addprefix $(DOC)/,$(notdir $(DOCUMENTS))))
 	[ ! -d $(INSTALLED)/$(DOC) ] || rmdir $(INSTALLED)/$(DOC)
 
 soak: $(ARCHIVE) $(SECOND)
@@ -127,6 +132,8 @@ bench: $(ARCHIVE) $(SECOND) build/x86_64/stack
 	cd host && cargo run --profile bench --offline --locked --quiet -p compare --bin bench
 	@echo
 	cd host && cargo run --profile bench --offline --locked --quiet -p compare --bin bench-marshal
+	@echo
+	cd host && cargo run --profile bench --offline --locked --quiet -p compare --bin bench-stored
 	@echo
 	build/x86_64/stack
 

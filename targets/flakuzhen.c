@@ -1,6 +1,6 @@
 /* The command `flakuzhen` for machines that Rust's standard library is not at hand for: that of
- * host/flakuzhen but for its pictures, dumps and comparisons, with the same output, messages and exit
- * statuses.
+ * host/flakuzhen but for its pictures, dumps, comparisons and stored plans, with the same output,
+ * messages and exit statuses.
  * All inputs are read before anything is printed, so that a word, a file or a line that is wrong
  * gives one line on standard error and nothing else. */
 #include "command.h"
@@ -37,8 +37,8 @@ static const char usage[] =
     "\n"
     "Exit status: 0 all accepted; 1 something was refused; 2 a word, a file or a line is wrong.\n"
     "\n"
-    "Pictures (--picture) are drawn, dumps walked (dump), and signatures compared (diff), by the Rust\n"
-    "command alone.\n";
+    "Pictures (--picture) are drawn, dumps walked (dump), signatures compared (diff), and plans stored\n"
+    "and checked (store, check), by the Rust command alone.\n";
 
 /* the most that is taken of a file */
 #define LARGEST_INPUT ((size_t)1 << 20)
@@ -208,6 +208,8 @@ int main(int count, char **words)
         fail(NULL, "dump: dumps are walked by the Rust command alone");
     if (strcmp(command, "diff") == 0)
         fail(NULL, "diff: signatures are compared by the Rust command alone");
+    if (strcmp(command, "store") == 0 || strcmp(command, "check") == 0)
+        fail(NULL, "%s: plans are stored and checked by the Rust command alone", command);
     if (strcmp(command, "--help") != 0 && strcmp(command, "-h") != 0 &&
         strcmp(command, "help") != 0)
         fail_at_word(NULL, "unknown command ", span_of(command), " (flakuzhen --help lists them)");

@@ -8,12 +8,14 @@ mod diff;
 mod hex;
 mod replay;
 mod stack_picture;
+mod store;
 mod walk;
 
 use flakuzhen::Refusal;
 use std::ffi::{OsStr, OsString};
 use std::fs::File;
 use std::io::{self, Read, Write};
+use std::path::Path;
 use std::process::ExitCode;
 
 const USAGE: &str = "\
@@ -21,6 +23,8 @@ usage: flakuzhen list [--hex] [FILE..]
        flakuzhen list --picture [--hex] [FILE..]
        flakuzhen read [--hex] [FILE..]
        flakuzhen diff [--hex] OLD NEW
+       flakuzhen store [--hex] FILE -o OUT
+       flakuzhen check [--hex] STORED SIGNATURE
        flakuzhen replay [--picture] FILE
        flakuzhen dump [--picture] [--hex] CONVENTION BASE POINTER FILE
 
@@ -39,6 +43,20 @@ diff      compares the places of two signatures of one function, an older and a 
           older one's. 'value' is an argument's bytes among the values, 'copy' those of its
           copy. Exit status 0: nothing moved; 1: something moved or is gone
 OLD, NEW  hold one signature each, which must be accepted; '-' is standard input
+
+store     writes the plan of a signature to a file, in bytes that hold the signature too, and
+          prints 'stored N bytes'; or 'refused NUMBER at PLACE after ITEMS'
+--hex     the signature is hexadecimal text
+FILE      holds one signature; '-' is standard input
+-o OUT    the file that is written: whole, or it stays as it was
+
+check     prints 'fresh' where a stored plan is what 'store' writes for the signature today;
+          or 'stale at PLACE', the first byte that differs, with what that is part of: the
+          signature, an argument or the result. Exit status 0: fresh; 1: stale; 2: the
+          signature is refused
+--hex     the signature is hexadecimal text; a stored plan never is
+STORED    holds a plan as 'store' writes it; either file may be '-', standard input
+SIGNATURE holds one signature
 
 replay    makes calls of the frame machine, on registers and memory of zeros, and prints
           each answer with the number of its line: 'accepted' or 'refused NUMBER at PLACE',
@@ -114,6 +132,8 @@ fn run(words: &[OsString]) -> Result<Outcome, String> {
         }
         Some("read") => Ok(read(&Words::of(rest, &["--hex"])?.signatures()?)),
         Some("diff") => diff_files(&Words::of(rest, &["--hex"])?),
+        Some("store") => store_file(&Words::with_values(rest, &["--hex"], &["-o"])?),
+        Some("check") => check_files(&Words::of(rest, &["--hex"])?),
         Some("replay") => replay_file(&Words::of(rest, &["--picture"])?),
         Some("dump") => dump_file(&Words::of(rest, &["--hex", "--picture"])?),
         Some("--help" | "-h" | "help") => Ok(Outcome {
@@ -146,17 +166,22 @@ fn read(signatures: &[Vec<u8>]) -> Outcome {
             Ok(items) => format!("items {items}\n"),
             Err(refusal) => {
                 status = 1;
-                let Refusal {
-                    number,
-                    place,
-                    items,
-                } = refusal;
-                format!("refused {number} at {place} after {items}\n")
+                refused(&refusal) + "\n"
             }
         };
         text.push_str(&line);
     }
     Outcome { text, status }
+}
+
+/// A signature's refusal, as a listing tells it.
+fn refused(refusal: &Refusal) -> String {
+    let Refusal {
+        number,
+        place,
+        items,
+    } = refusal;
+    format!("refused {number} at {place} after {items}")
 }
 
 fn diff_files(words: &Words) -> Result<Outcome, String> {
@@ -168,15 +193,44 @@ fn diff_files(words: &Words) -> Result<Outcome, String> {
     }
     let signature = |file| input(file, words.has("--hex"), LARGEST_INPUT);
     let (old_bytes, new_bytes) = (signature(old)?, signature(new)?);
-    diff::diff([&old_bytes, &new_bytes]).map_err(|(which, refusal)| {
-        let Refusal {
-            number,
-            place,
-            items,
-        } = refusal;
-        let told = format!("refused {number} at {place} after {items}");
-        told_of([old, new][which], told)
+    diff::diff([&old_bytes, &new_bytes])
+        .map_err(|(which, refusal)| told_of([old, new][which], refused(&refusal)))
+}
+
+fn store_file(words: &Words) -> Result<Outcome, String> {
+    let ([file], Some(out)) = (&words.files[..], words.value("-o")) else {
+        return Err("store takes one FILE ('-' is standard input) and -o OUT".to_string());
+    };
+    if out == "-" {
+        return Err("store: -o takes the name of a file".to_string());
+    }
+    let signature = input(file, words.has("--hex"), LARGEST_INPUT)?;
+    let plan = match flakuzhen::store(&signature) {
+        Ok(plan) => plan,
+        Err(refusal) => {
+            return Ok(Outcome {
+                text: refused(&refusal) + "\n",
+                status: 1,
+            })
+        }
+    };
+    store::write_whole(Path::new(out), &plan).map_err(|fault| format!("{out:?}: {fault}"))?;
+    Ok(Outcome {
+        text: format!("stored {} bytes\n", plan.len()),
+        status: 0,
     })
+}
+
+fn check_files(words: &Words) -> Result<Outcome, String> {
+    let [stored, signature] = words.files[..] else {
+        return Err("check takes STORED SIGNATURE ('-' is standard input)".to_string());
+    };
+    if stored == "-" && signature == "-" {
+        return Err("check: standard input can't be both STORED and SIGNATURE".to_string());
+    }
+    let plan = input(stored, false, LARGEST_INPUT)?;
+    let bytes = input(signature, words.has("--hex"), LARGEST_INPUT)?;
+    store::check(&plan, &bytes).map_err(|refusal| told_of(signature, refused(&refusal)))
 }
 
 fn replay_file(words: &Words) -> Result<Outcome, String> {
@@ -203,24 +257,55 @@ fn dump_file(words: &Words) -> Result<Outcome, String> {
 /// The words after a command.
 struct Words<'a> {
     options: Vec<&'a str>,
+    /// Options with the word that follows each.
+    values: Vec<(&'a str, &'a OsStr)>,
     files: Vec<&'a OsStr>,
 }
 
 impl<'a> Words<'a> {
     /// Tells the options, which are among the known ones, from the files.
     fn of(words: &'a [OsString], known: &[&str]) -> Result<Words<'a>, String> {
-        let (mut options, mut files) = (Vec::new(), Vec::new());
+        Words::with_values(words, known, &[])
+    }
+
+    /// The same where these options are each followed by a word of theirs.
+    fn with_values(
+        words: &'a [OsString],
+        known: &[&str],
+        valued: &[&str],
+    ) -> Result<Words<'a>, String> {
+        let (mut options, mut values, mut files) = (Vec::new(), Vec::new(), Vec::new());
         let mut options_end = false;
-        for word in words {
+        let mut words = words.iter();
+        while let Some(word) = words.next() {
             let is_option = word.as_encoded_bytes().starts_with(b"-") && word != "-";
             match word.to_str() {
                 _ if options_end || !is_option => files.push(word.as_os_str()),
                 Some("--") => options_end = true,
                 Some(option) if known.contains(&option) => options.push(option),
+                Some(option) if valued.contains(&option) => {
+                    let Some(value) = words.next() else {
+                        return Err(format!("nothing after {option}"));
+                    };
+                    if values.iter().any(|(other, _)| *other == option) {
+                        return Err(format!("{option} twice"));
+                    }
+                    values.push((option, value.as_os_str()));
+                }
                 _ => return Err(format!("unknown option {word:?}")),
             }
         }
-        Ok(Words { options, files })
+        Ok(Words {
+            options,
+            values,
+            files,
+        })
+    }
+
+    /// The word after an option.
+    fn value(&self, option: &str) -> Option<&'a OsStr> {
+        let named = self.values.iter().find(|(name, _)| *name == option);
+        named.map(|(_, value)| *value)
     }
 
     fn has(&self, option: &str) -> bool {

@@ -1,6 +1,6 @@
 //! The command in C for other machines (`targets/flakuzhen.c`), compiled for this one and held to
 //! the Rust command: the same output, the same messages, the same exit status. It has no pictures,
-//! walks no dumps and compares no signatures.
+//! walks no dumps, compares no signatures and stores no plans.
 
 mod support;
 
@@ -450,14 +450,18 @@ fn pictures_are_refused_in_one_line() {
 }
 
 #[test]
-fn dumps_and_comparisons_are_refused_in_one_line() {
+fn dumps_comparisons_and_stored_plans_are_refused_in_one_line() {
     let dumps = "dump: dumps are walked";
     let signatures = "diff: signatures are compared";
+    let store = "store: plans are stored and checked";
+    let check = "check: plans are stored and checked";
     for (words, what) in [
         (&["dump"][..], dumps),
         (&["dump", "ppc64", "0", "0", "-"], dumps),
         (&["diff"], signatures),
         (&["diff", "--hex", "-", "not-there"], signatures),
+        (&["store", "-", "-o", "out"], store),
+        (&["check", "--hex", "-", "not-there"], check),
     ] {
         let output = run(in_c(), words, b"");
         let said = format!("flakuzhen: {what} by the Rust command alone\n");
@@ -472,10 +476,11 @@ fn its_help_is_the_rust_commands_but_for_what_it_has_not() {
     for asked in ["--help", "-h", "help"] {
         let rust = run(Path::new(env!("CARGO_BIN_EXE_flakuzhen")), &[asked], b"");
         let known = String::from_utf8(rust.stdout).expect("text");
-        // dumps and comparisons have their own parts
+        // dumps, comparisons and stored plans have their own parts
+        let own = ["dump ", "diff ", "store ", "check "];
         let parts = known
             .split("\n\n")
-            .filter(|part| !part.starts_with("dump ") && !part.starts_with("diff "));
+            .filter(|part| !own.iter().any(|verb| part.starts_with(verb)));
         let known = parts.collect::<Vec<&str>>().join("\n\n");
         let mut expected = String::new();
         let mut lines = known.lines();
@@ -483,16 +488,22 @@ fn its_help_is_the_rust_commands_but_for_what_it_has_not() {
             if line.starts_with("--picture ") {
                 // it has two lines
                 lines.next();
-            } else if !["list --picture", "flakuzhen dump", "flakuzhen diff"]
-                .iter()
-                .any(|own| line.contains(own))
+            } else if ![
+                "list --picture",
+                "flakuzhen dump",
+                "flakuzhen diff",
+                "flakuzhen store",
+                "flakuzhen check",
+            ]
+            .iter()
+            .any(|own| line.contains(own))
             {
                 expected += &line.replace("[--picture] ", "");
                 expected += "\n";
             }
         }
-        expected += "\nPictures (--picture) are drawn, dumps walked (dump), and signatures compared (diff), \
-                     by the Rust\ncommand alone.\n";
+        expected += "\nPictures (--picture) are drawn, dumps walked (dump), signatures compared (diff), and \
+                     plans stored\nand checked (store, check), by the Rust command alone.\n";
         let output = run(in_c(), &[asked], b"");
         assert_eq!(String::from_utf8_lossy(&output.stdout), expected);
         assert_eq!(output.status.code(), Some(0));
