@@ -4,3 +4,4 @@ pub mod Alike
 pub mod Items
 pub mod Outcomes
 pub mod Theorems
+pub mod Examples
