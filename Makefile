@@ -6,8 +6,8 @@
 # make install  the command, the libraries, the header and the manual page, under PREFIX=/usr/local;
 #             make uninstall removes them
 # make soak   the comparisons on fresh seeds; SECONDS=n says for how long
-# make bench  the time of planning, filling and reading beside the second program's, and the stack of
-#             each function
+# make bench  the time of plans, sizes, filling, reading, walking and frames beside ordinary Rust's, and
+#             the stack of each function; JOBS='plan sizes' names some
 # make lint   what the gate does not ask: layout and clippy of the Rust code
 # make sanitize  the C programs and the Rust tests under AddressSanitizer
 # make clean  remove all that is built
@@ -122,11 +122,10 @@ soak: $(ARCHIVE) $(SECOND)
 sanitize: $(ARCHIVE) $(SHARED) $(SECOND)
 	@scripts/sanitize
 
-# a profile of its own: with all optimisations and without the tests' checks of sums
+# a profile of its own: with all optimisations and without the tests' checks of sums. JOBS names jobs of the program, else it does
+# all; it fails where a row of whole plans passes twice ordinary Rust's time
 bench: $(ARCHIVE) $(SECOND) build/x86_64/stack
-	cd host && cargo run --profile bench --offline --locked --quiet -p compare --bin bench
-	@echo
-	cd host && cargo run --profile bench --offline --locked --quiet -p compare --bin bench-marshal
+	cd host && cargo run --profile bench --offline --locked --quiet -p compare --bin bench -- $(JOBS)
 	@echo
 	build/x86_64/stack
 
