@@ -23,13 +23,16 @@ impl AddAssign for Quartiles {
     }
 }
 
+/// One way of doing it with a batch of inputs.
+pub type Side<'a, T> = &'a dyn Fn(&[T]);
+
 /// What each side takes for all inputs, which it is handed batch by batch. On a batch the sides run one after
 /// the other, and who comes first goes round by round: a slow moment of the machine, or what another
 /// left in its caches, meets all alike. Of each batch's times in all rounds the quartiles count.
 pub fn turns<T, const SIDES: usize>(
     inputs: &[T],
     rounds: usize,
-    sides: [&dyn Fn(&[T]); SIDES],
+    sides: [Side<T>; SIDES],
 ) -> [Quartiles; SIDES] {
     let batches: Vec<&[T]> = inputs.chunks(BATCH).collect();
     let mut times = vec![[(); SIDES].map(|()| Vec::with_capacity(rounds)); batches.len()];

@@ -542,6 +542,9 @@ fn libffi_type(of: &reference::Type) -> libffi::Type {
     }
 }
 
+/// A call of one side on its machine; whether it is accepted.
+type FrameCall = fn(&mut Stack) -> bool;
+
 /// Prints the times of the frame machine's calls; whether both gave the same.
 fn frames(seed: u64) -> bool {
     println!(
@@ -555,7 +558,7 @@ fn frames(seed: u64) -> bool {
     let stacks: Vec<RefCell<Stack>> = (0..200)
         .map(|number| RefCell::new(Stack::new(&mut random, Convention::ALL[number % 4])))
         .collect();
-    let calls: [(&str, fn(&mut Stack) -> bool, fn(&mut Stack) -> bool); 4] = [
+    let calls: [(&str, FrameCall, FrameCall); 4] = [
         (
             "enter, leave",
             Stack::frame_by_library,
