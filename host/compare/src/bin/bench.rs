@@ -1,6 +1,7 @@
 //! The time that the proved library takes beside ordinary Rust, on the same inputs, in turns, in one
-//! process: `bench [JOB..]`, all jobs where none is named. The exit status is 1 where the two differ on an input,
-//! or a row of whole plans passes twice the time of ordinary Rust, and 2 for a job that is none.
+//! process: `bench [JOB..]`, all jobs where none is named. The exit status is 1 where the two differ
+//! on an input, or a row of whole plans passes twice the time of ordinary Rust, and 2 for a job that
+//! is none.
 
 #![forbid(unsafe_code)]
 
@@ -25,8 +26,8 @@ const BAR: f64 = 2.0;
 const TABLE: usize = 128 * plans::PLACE_WORDS;
 const BASE: u64 = 0x10000;
 
-/// A job by its name, what the two sides do, and how a group of signatures is timed: the library first, then the others. `None` where
-/// they differ.
+/// A job by its name, what the two sides do, and how a group of signatures is timed: the library
+/// first, then the others. `None` where they differ.
 struct Job {
     name: &'static str,
     sides: &'static str,
