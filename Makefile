@@ -6,8 +6,8 @@
 # make install  the command, the libraries, the header and the manual page, under PREFIX=/usr/local;
 #             make uninstall removes them
 # make soak   the comparisons on fresh seeds; SECONDS=n says for how long
-# make bench  the time of planning, filling, reading, storing and checking beside the second program's,
-#             and the stack of each function
+# make bench  the time of plans, sizes, filling, reading, walking, frames, storing and checking beside ordinary
+#             Rust's, and the stack of each function; JOBS='plan sizes' names some
 # make lint   what the gate does not ask: layout and clippy of the Rust code
 # make sanitize  the C programs and the Rust tests under AddressSanitizer
 # make clean  remove all that is built
@@ -26,7 +26,7 @@ CC = gcc
 # the inputs of a proof: a change of any file or folder here proves the library again
 PROVED_FROM := crates.txt $(shell find crates -print 2>/dev/null)
 # the crates that export functions
-BRIDGES := bridge bridge_plans bridge_values bridge_walk bridge_stored bridge_starts bridge_frames bridge_dump
+BRIDGES := bridge bridge_plans bridge_listing bridge_values bridge_walk bridge_stored bridge_starts bridge_frames bridge_dump
 ARCHIVE := build/libflakuzhen.a
 # the second planner, for the comparisons: no part of the library, and not installed
 SECOND := build/libsecond.a
@@ -127,13 +127,10 @@ soak: $(ARCHIVE) $(SECOND)
 sanitize: $(ARCHIVE) $(SHARED) $(SECOND)
 	@scripts/sanitize
 
-# a profile of its own: with all optimisations and without the tests' checks of sums
+# a profile of its own: with all optimisations and without the tests' checks of sums. JOBS names jobs of the program, else it does
+# all; it fails where a row of whole plans passes twice ordinary Rust's time
 bench: $(ARCHIVE) $(SECOND) build/x86_64/stack
-	cd host && cargo run --profile bench --offline --locked --quiet -p compare --bin bench
-	@echo
-	cd host && cargo run --profile bench --offline --locked --quiet -p compare --bin bench-marshal
-	@echo
-	cd host && cargo run --profile bench --offline --locked --quiet -p compare --bin bench-stored
+	cd host && cargo run --profile bench --offline --locked --quiet -p compare --bin bench -- $(JOBS)
 	@echo
 	build/x86_64/stack
 

@@ -10,9 +10,7 @@ use Rattle.plan.specs.declared.Measured.{Measured}
 use Rattle.plan.specs.Plan.{planIn, planAnswer, measureOf}
 use Rattle.conventions.specs.Numbers.{codeOf}
 use Rattle.plan_words.specs.declared.Planned.{Planned}
-use Rattle.plan_entries.specs.declared.ResultWords.{ResultWords}
 use Rattle.plan_words.specs.Planned.{plannedOf}
-use Rattle.plan_entries.specs.Results.{resultWords}
 use Rattle.answers.specs.declared.Answer.{Answer}
 use Rattle.answers.specs.Answers.{yes}
 use Rattle.faults.specs.Faults.{faultAnswer}
@@ -40,7 +38,7 @@ module _ (m : Measured) where
 
 module _ (m : Planned) where
   pub accepted-plan : (x : Reading Signature) → m ≡ plannedOf (planAnswer x) → (n : ℕ) → m .outcome ≡ Outcome.Accepted n →
-      (r : ResultWords) → r ≡ resultWords (m .result) → (code : ℕ) → code ≡ codeOf (m .convention) → (mark : ℕ) → mark ≡ markWord (m .ellipsis) →
+      (code : ℕ) → code ≡ codeOf (m .convention) → (mark : ℕ) → mark ≡ markWord (m .ellipsis) →
       _≡_ {A = PlanAnswer}
       (record {
         answer = yes;
@@ -50,16 +48,16 @@ module _ (m : Planned) where
         values = m .values;
         area = m .area;
         copies = m .copies;
-        result = r .kind;
-        «result_gpr» = r .gpr;
-        «result_gprs» = r .gprs;
-        «result_fpr» = r .fpr;
-        «result_fprs» = r .fprs;
+        result = m .result .kind;
+        «result_gpr» = m .result .gpr;
+        «result_gprs» = m .result .gprs;
+        «result_fpr» = m .result .fpr;
+        «result_fprs» = m .result .fprs;
       })
       (plannedAnswer x)
   unfolding plannedAnswer planAnswer planIn
-  accepted-plan (got g next k) e n q r words code is mark same = rw (words, is, same, e)
-  accepted-plan (no f) e n q r words code is mark same = let z : _≡_ {A = ℕ} 0 1 = cc (ap (λ (y : Planned). y .outcome) e) in absurd (omega arith)
+  accepted-plan (got g next k) e n q code is mark same = rw (is, same, e)
+  accepted-plan (no f) e n q code is mark same = let z : _≡_ {A = ℕ} 0 1 = cc (ap (λ (y : Planned). y .outcome) e) in absurd (omega arith)
 
   pub refused-plan : (x : Reading Signature) → m ≡ plannedOf (planAnswer x) → (f : Fault) → m .outcome ≡ Outcome.Refused f → (a : Answer) → a ≡ faultAnswer f →
       _≡_ {A = PlanAnswer}

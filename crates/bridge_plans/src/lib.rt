@@ -1,11 +1,8 @@
-// The surface for C and Rust on plans: the sizes of a call, its whole plan and its listing. It is an object of its own beside that on signatures, so that each
+// The surface for C and Rust on plans: the sizes of a call and its whole plan. It is an object of its own beside those on signatures and listings, so that each
 // has the planner's code where it is used.
 use answers::Answer;
 use signature::Outcome;
 ghost use mathlib.Core.Path.{_≡_};
-ghost use lib.ListN.{length};
-ghost use Rattle.listing.specs.Text.{listingOf};
-ghost use Rattle.listing.specs.Writing.{printed};
 ghost use Rattle.plan.specs.Call.{callOf};
 ghost use Rattle.plan_entries.specs.Words.{tabled};
 ghost use Rattle.plan_words.specs.Entries.{entriesOf};
@@ -100,8 +97,7 @@ pub extern "C" fn fz_plan(sig: &[u8], places: &mut [u64]) -> PlanAnswer
         },
         Outcome::Accepted(_) => {
             let convention = p.convention;
-            let result = p.result;
-            let r = plan_entries::result_words(result);
+            let r = p.result;
             PlanAnswer {
                 answer: Answer {
                     number: 0,
@@ -122,12 +118,4 @@ pub extern "C" fn fz_plan(sig: &[u8], places: &mut [u64]) -> PlanAnswer
             }
         }
     }
-}
-
-// The length of the printed plan, which is put at the head of the text where there is room for all of it.
-#[no_mangle]
-pub extern "C" fn fz_listing(sig: &[u8], text: &mut [u8]) -> u64
-    ensures { λ r. ⌜ (r ≡ length (listingOf (now (sig .entry)))) × (now (text .exit) ≡ printed (now (text .entry)) (listingOf (now (sig .entry)))) ⌝ }
-{
-    listing::listing(sig, text) as u64
 }

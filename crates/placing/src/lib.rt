@@ -1,5 +1,6 @@
 // The places of arguments and of a result in every convention: the step of its cursor, where the first argument starts, and the size of the area.
 ghost use mathlib.Core.Path.{_≡_};
+ghost use mathlib.Core.Bool.{true};
 ghost use Prim.Native.Nat.{_^_, _≤_, _<_};
 ghost use Rattle.places.specs.Values.{pointer};
 ghost use Rattle.places.specs.Step.{Lawful, Roomy, rulesOf, wordOf, nextOf, unclearFor, isEarlier, alwaysClear, unclearAfter, placed, fresh, startOf, areaOf, returning, hiddenFor, resultOf};
@@ -105,13 +106,34 @@ fn hidden_step(c: Convention) -> Placed
     step(r, k, ValueType::Integer(IntegerKind::Pointer), word)
 }
 
+// The cursor after a hidden address, by the numbers: it takes the first general register and, on PowerPC, that register's word. The step is left to the
+// arguments: called in one place alone, it is compiled in line there.
+fn past_address(c: Convention) -> Cursor
+    ensures { λ k. ⌜ k ≡ startOf (rulesOf c) true ⌝ }
+{
+    let k = abi::cursor_of(c);
+    match abi::call_rules_of(c) {
+        Rules::Power(f) => Cursor {
+            general: k.general + 1,
+            floating: k.floating,
+            stack: f.word,
+            copies: 0,
+        },
+        Rules::Z => Cursor {
+            general: k.general + 1,
+            floating: k.floating,
+            stack: 0,
+            copies: 0,
+        },
+    }
+}
+
 // The cursor of the first argument: a hidden address goes before it.
 pub fn start(c: Convention, hidden: bool) -> Cursor
     ensures { λ k. ⌜ k ≡ startOf (rulesOf c) hidden ⌝ }
 {
     if hidden {
-        let p = hidden_step(c);
-        return p.next;
+        return past_address(c);
     }
     abi::cursor_of(c)
 }

@@ -1,14 +1,12 @@
-// The words of a plan: an argument's entry, a result's places, and the table that the caller lends.
+// The words of a plan: an argument's entry, what a result's are, and the table that the caller lends.
 use places::ByteRange;
 use places::RegisterRange;
-use places::ResultPlaces;
 use places::Span;
 ghost use mathlib.Core.Path.{_≡_};
 ghost use Prim.Native.Nat.{_+_, _*_, _^_, _≤_, _<_};
 ghost use lib.ListN.{length, take};
 ghost use Rattle.words.specs.Splice.{overlay, splice};
 ghost use Rattle.plan_entries.specs.Words.{firstWord, startWord, entryWords, tabled};
-ghost use Rattle.plan_entries.specs.Results.{registerWords, resultWords};
 
 // The words of an entry.
 pub const ENTRY: usize = 13;
@@ -94,36 +92,5 @@ pub fn write_table(table: &mut [u64], kept: &[u16], n: usize)
     while i < n {
         table[i] = wide(kept[i]);
         i = i + 1;
-    }
-}
-
-fn register_words(kind: u64, s: Span) -> ResultWords
-    ensures { λ w. ⌜ w ≡ registerWords kind s ⌝ }
-{
-    let general = s.general;
-    let floating = s.floating;
-    ResultWords {
-        kind,
-        gpr: wide(first_word(general)),
-        gprs: general.count as u64,
-        fpr: wide(first_word(floating)),
-        fprs: floating.count as u64,
-    }
-}
-
-// A result's places in words.
-pub fn result_words(r: ResultPlaces) -> ResultWords
-    ensures { λ w. ⌜ w ≡ resultWords r ⌝ }
-{
-    match r {
-        ResultPlaces::Nothing => ResultWords {
-            kind: 0,
-            gpr: 0,
-            gprs: 0,
-            fpr: 0,
-            fprs: 0,
-        },
-        ResultPlaces::Registers(s) => register_words(1, s),
-        ResultPlaces::Hidden(s) => register_words(2, s),
     }
 }

@@ -26,7 +26,6 @@ use Rattle.signature.specs.Read.{argumentsIn, signatureOf, headOf}
 use Rattle.signature.specs.Answer.{accepted, withArguments, resultType, headAnswer, signatureAnswer}
 use Rattle.signature.proofs.Laws.{thenArguments, signature-arguments}
 use Rattle.signature.specs.Types.{valuesOf, typesOf}
-use Rattle.signature.specs.Plannable.{SmallResult}
 use Rattle.signature.proofs.Types.{length-of-types, answer-plannable}
 use Rattle.reader.specs.declared.ArgumentRead.{ArgumentRead}
 use Rattle.reader.specs.Argument.{argumentIn, argumentsPlace, argumentAnswer}
@@ -43,7 +42,7 @@ use Rattle.plan.proofs.Calls.{called-clear, unclear-plan}
 use Rattle.plan_words.specs.declared.Planned.{Planned}
 use Rattle.plan_words.specs.Planned.{plannedOf}
 use Rattle.plan_words.specs.Entries.{sizeIn, sizeAt, valueAt, entriesUpTo, entriesOf}
-use Rattle.plan_words.specs.Rows.{itemAfter, rowsOf, rowsWith, plannedBy, rowsBy, SmallWith}
+use Rattle.plan_words.specs.Rows.{itemAfter, rowsOf, rowsWith, plannedBy, rowsBy}
 use Rattle.plan_words.proofs.Turns.{same-words}
 
 same-append : {a b x y : List ℕ} → a ≡ b → x ≡ y → a ++ x ≡ b ++ y
@@ -194,16 +193,3 @@ pub rows-called : (x : Reading Signature) (rows : List ℕ) (u : ℕ) → rows �
 unfolding rowsBy
 rows-called x rows zero e q = e ∙ ap entriesOf (sym (called-clear x (sym q)))
 rows-called x rows (suc i) e q = refused-rows (called x) (unclearFault i x) (sym (unclear-plan x (signatureAnswer x) i refl (sym q)))
-
--- the result's type of an accepted signature is small
-small-of : (g : SignatureRead) (c : Convention) (r : ResultType) (v : Bool) (n all : ℕ) (x : Reading Trees) → SmallResult (g .convention) (g .result) →
-    g ≡ withArguments c r v n all x → SmallWith c r all x
-small-of g c r v n all (no f) small read = tt
-small-of g c r v n all (got ts next m) small read = λ h.
-    let whole : g ≡ accepted c r v ts (n + m) = rw (le-ltb next all h) at read in
-    rw whole at small
-
-pub small-result : (s : List ℕ) (x : HeadRead) → x ≡ headAnswer (headOf s) → (c : Convention) (t : ResultType) (v : Bool) (at b n : ℕ) → x ≡ HeadRead.Head c t v at b n →
-    SmallWith c t (length s) (argumentsIn c s at b)
-small-result s x found c t v at b n q =
-    small-of (signatureAnswer (signatureOf s)) c t v n (length s) (argumentsIn c s at b) (answer-plannable s .result) (signature-arguments s x found c t v at b n q)

@@ -27,7 +27,6 @@ use Rattle.signature.specs.declared.ResultType.{ResultType}
 use Rattle.signature.specs.Read.{argumentsIn, signatureOf}
 use Rattle.signature.proofs.Loop.{Turn, turn-start, turn-last}
 use Rattle.signature.specs.Types.{valuesOf, typesOf}
-use Rattle.signature.specs.Plannable.{SmallResult}
 use Rattle.signature.proofs.Types.{length-of-types}
 use Rattle.reader.proofs.Found.{further}
 use Rattle.places.specs.declared.Cursor.{Cursor}
@@ -42,9 +41,10 @@ use Rattle.plan.proofs.Calls.{unclear-more}
 use Rattle.plan.proofs.Fold.{last-more, values-more, Reached, reached-start, reached-more}
 use Rattle.plan_entries.specs.Words.{entryWords, tabled}
 use Rattle.plan_entries.proofs.Copies.{tabled-nothing}
+use Rattle.plan_entries.specs.Results.{resultWords}
 use Rattle.plan_words.specs.declared.Planned.{Planned}
 use Rattle.plan_words.specs.Planned.{plannedOf}
-use Rattle.plan_words.specs.Rows.{itemAfter, rowsOf, rowsBy, plannedBy, planCalled, rowsCalled, SmallWith}
+use Rattle.plan_words.specs.Rows.{itemAfter, rowsOf, rowsBy, plannedBy, planCalled, rowsCalled}
 
 length-rows : (c : Convention) (mark : Bool) (r : ResultType) (at : ℕ) (ts : Trees) → length (rowsOf c mark r at ts) ≡ 13 * countOf ts
 unfolding rowsOf countOf entryWords
@@ -159,7 +159,7 @@ module _ (c : Convention) (mark : Bool) (s : List ℕ) (at e : ℕ) (r : ResultT
 
     pub plan-end : length s ≤ next → u ≡ 0 →
         _≡_ {A = Planned}
-        (record { outcome = Outcome.Accepted (earlier + n); convention = c; ellipsis = mark; result = resultIn c r; count = count; area = areaOf c k; values = v; copies = k .copies })
+        (record { outcome = Outcome.Accepted (earlier + n); convention = c; ellipsis = mark; result = resultWords (resultIn c r); count = count; area = areaOf c k; values = v; copies = k .copies })
         (planCalled c mark r earlier (length s) (argumentsIn c s at e) (signatureOf s))
     unfolding planIn plannedBy
     plan-end h z =
@@ -181,6 +181,3 @@ module _ (c : Convention) (mark : Bool) (s : List ℕ) (at e : ℕ) (r : ResultT
     rows-unclear h z table =
         let some : u ≡ suc (u - 1) = omega arith in
         rw (turn-last c s at e (m .ts) count next n (m .turn) last, le-ltb next (length s) h, sym (m .unclear) ∙ some) (tabled-nothing table)
-
-    pub small-end : length s ≤ next → SmallWith c r (length s) (argumentsIn c s at e) → SmallResult c r
-    small-end h w = (rw (turn-last c s at e (m .ts) count next n (m .turn) last) at w) h

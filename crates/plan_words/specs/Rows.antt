@@ -14,7 +14,6 @@ use Rattle.signature.specs.Limits.{maxArguments}
 use Rattle.signature.specs.declared.ResultType.{ResultType}
 use Rattle.signature.specs.Signature.{Signature}
 use Rattle.signature.specs.Types.{valuesOf, typesOf}
-use Rattle.signature.specs.Plannable.{SmallResult}
 use Rattle.places.specs.Step.{rulesOf, withEllipsis, spanOf}
 use Rattle.plan.specs.Plan.{endIn, refused, planWith}
 use Rattle.plan.specs.Call.{unclearWith, unclearFault}
@@ -54,11 +53,6 @@ planCalled c v r n all y x = plannedBy (unclearWith c r all y) (plannedOf (planW
 abbrev pub rowsCalled : Convention → Bool → ResultType → ℕ → ℕ → Reading Trees → List ℕ
 rowsCalled c v r at all y = rowsBy (unclearWith c r all y) (rowsWith c v r at all y)
 
--- what the planner asks of the result's type: refusal 8 has passed it wherever the signature is accepted
-abbrev pub SmallWith : Convention → ResultType → ℕ → Reading Trees → Type 0
-SmallWith c r all (got ts next m) = all ≤ next → SmallResult c r
-SmallWith c r all (no f) = Unit {0}
-
--- and of the room for what is kept: n words for as many arguments as can stand between `at` and e
+-- what the planner asks of the room for what is kept: n words for as many arguments as can stand between `at` and e
 abbrev pub KeepsAll : ℕ → ℕ → ℕ → Type 0
 KeepsAll at e n = (i : ℕ) → i ≤ maxArguments → at + 3 * i ≤ e → 13 * i ≤ n

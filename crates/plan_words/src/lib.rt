@@ -4,22 +4,31 @@ use conventions::Convention;
 use items::Fault;
 use items::ItemRead;
 use items::Refusal;
-use places::ResultPlaces;
+use places::Rules;
 use plan_entries::ENTRY;
+use plan_entries::ResultWords;
 use signature::HeadRead;
 use signature::MAX_ARGUMENTS;
 use signature::Outcome;
 use signature::ResultType;
+use types::FloatFormat;
+use types::ValueType;
 ghost use mathlib.Core.Path.{_≡_};
+ghost use lib.Dec.{ltb};
 ghost use Prim.Native.Nat.{_^_, _≤_, _<_};
 ghost use lib.ListN.{length};
 ghost use Rattle.signature.specs.Limits.{maxLength};
 ghost use Rattle.signature.specs.Read.{argumentsIn, signatureOf};
-ghost use Rattle.plan.specs.Plan.{refused, planAnswer};
+ghost use Rattle.words.specs.Basics.{pick};
+ghost use Rattle.types.specs.Sizes.{sizeOf};
+ghost use Rattle.places.specs.declared.ResultPlaces.{ResultPlaces};
+ghost use Rattle.places.specs.Step.{rulesOf, resultOf};
+ghost use Rattle.plan.specs.Plan.{refused, resultIn, planAnswer};
 ghost use Rattle.plan.specs.Call.{callOf};
 ghost use Rattle.plan_entries.specs.Words.{tabled};
+ghost use Rattle.plan_entries.specs.Results.{resultWords};
 ghost use Rattle.plan_words.specs.Entries.{entriesOf};
-ghost use Rattle.plan_words.specs.Rows.{planCalled, rowsCalled, SmallWith, KeepsAll};
+ghost use Rattle.plan_words.specs.Rows.{planCalled, rowsCalled, KeepsAll};
 ghost use Rattle.plan_words.specs.Planned.{plannedOf};
 
 // A plan without the places of its arguments.
@@ -27,7 +36,7 @@ pub struct Planned {
     pub outcome: Outcome,
     pub convention: Convention,
     pub ellipsis: bool,
-    pub result: ResultPlaces,
+    pub result: ResultWords,
     pub count: usize,
     pub area: usize,
     pub values: usize,
@@ -37,6 +46,88 @@ pub struct Planned {
 // An argument takes three bytes or more of the signature: where the arguments' part has at most this many bytes, they are few.
 const FEW_BYTES: usize = 36;
 
+fn no_result() -> ResultWords
+    ensures { λ w. ⌜ w ≡ resultWords ResultPlaces.Nothing ⌝ }
+{
+    ResultWords {
+        kind: 0,
+        gpr: 0,
+        gprs: 0,
+        fpr: 0,
+        fprs: 0,
+    }
+}
+
+// The general registers of an integer: one, or two where it has more bytes than a word.
+fn integer_words(word: usize, size: usize) -> u64
+    ensures { λ n. ⌜ n ≡ pick (ltb word size) 2 1 ⌝ }
+{
+    if word < size {
+        return 2;
+    }
+    1
+}
+
+// The words of a result of a type, from the registers that its convention begins with. Nothing is placed for it: the step is then called for arguments
+// alone, and compiled in line there.
+fn value_words(c: Convention, t: ValueType) -> ResultWords
+    ensures { λ w. ⌜ w ≡ resultWords (resultOf (rulesOf c) t (sizeOf c t)) ⌝ }
+{
+    let k = abi::cursor_of(c);
+    let general = k.general as u64;
+    let floating = k.floating as u64;
+    let address = ResultWords {
+        kind: 2,
+        gpr: general,
+        gprs: 1,
+        fpr: 0,
+        fprs: 0,
+    };
+    let float = ResultWords {
+        kind: 1,
+        gpr: 0,
+        gprs: 0,
+        fpr: floating,
+        fprs: 1,
+    };
+    match t {
+        ValueType::Integer(i) => {
+            let gprs = integer_words(conventions::word_bytes(c), types::integer_size(c, i));
+            ResultWords {
+                kind: 1,
+                gpr: general,
+                gprs,
+                fpr: 0,
+                fprs: 0,
+            }
+        }
+        ValueType::Float(f) => match f {
+            FloatFormat::Single => float,
+            FloatFormat::Double => float,
+            FloatFormat::LongDouble => match abi::call_rules_of(c) {
+                Rules::Power(_) => ResultWords {
+                    kind: 1,
+                    gpr: 0,
+                    gprs: 0,
+                    fpr: floating,
+                    fprs: 2,
+                },
+                Rules::Z => address,
+            },
+        },
+        ValueType::Struct(_) => address,
+    }
+}
+
+fn result_words(c: Convention, result: ResultType) -> ResultWords
+    ensures { λ w. ⌜ w ≡ resultWords (resultIn c result) ⌝ }
+{
+    match result {
+        ResultType::Nothing => no_result(),
+        ResultType::Value(t) => value_words(c, t),
+    }
+}
+
 fn no_plan(fault: Fault) -> Planned
     ensures { λ p. ⌜ p ≡ plannedOf (refused fault) ⌝ }
 {
@@ -44,7 +135,7 @@ fn no_plan(fault: Fault) -> Planned
         outcome: Outcome::Refused(fault),
         convention: Convention::Ppc64,
         ellipsis: false,
-        result: ResultPlaces::Nothing,
+        result: no_result(),
         count: 0,
         area: 0,
         values: 0,
@@ -65,7 +156,7 @@ fn plan_arguments(
     kept: &mut [u16],
     places: &mut [u64],
 ) -> Planned
-    requires { ⌜ (at ≤ end) × (end ≤ length (now sig)) × (length (now sig) ≤ maxLength) × (earlier ≤ 2 ^ 16) × SmallWith convention returned (length (now sig)) (argumentsIn convention (now sig) at end) × KeepsAll at end (length (now kept)) ⌝ }
+    requires { ⌜ (at ≤ end) × (end ≤ length (now sig)) × (length (now sig) ≤ maxLength) × (earlier ≤ 2 ^ 16) × KeepsAll at end (length (now kept)) ⌝ }
     ensures { λ p. ⌜ p ≡ planCalled convention ellipsis returned earlier (length (now (sig .entry))) (argumentsIn convention (now (sig .entry)) at end) (signatureOf (now (sig .entry))) ⌝ }
     ensures { λ p. ⌜ now (places .exit) ≡ tabled (now (places .entry)) (rowsCalled convention ellipsis returned at (length (now (sig .entry))) (argumentsIn convention (now (sig .entry)) at end)) ⌝ }
 {
@@ -119,7 +210,7 @@ fn plan_arguments(
         return no_plan(planning::unclear_fault(sig, unclear - 1));
     }
     plan_entries::write_table(places, kept, ENTRY * count);
-    let result = planning::result_in(convention, returned);
+    let result = result_words(convention, returned);
     let area = placing::area_of(convention, c);
     Planned {
         outcome: Outcome::Accepted(counted),
@@ -144,7 +235,7 @@ fn plan_part(
     earlier: usize,
     places: &mut [u64],
 ) -> Planned
-    requires { ⌜ (at ≤ end) × (end ≤ length (now sig)) × (length (now sig) ≤ maxLength) × (earlier ≤ 2 ^ 16) × SmallWith convention returned (length (now sig)) (argumentsIn convention (now sig) at end) ⌝ }
+    requires { ⌜ (at ≤ end) × (end ≤ length (now sig)) × (length (now sig) ≤ maxLength) × (earlier ≤ 2 ^ 16) ⌝ }
     ensures { λ p. ⌜ p ≡ planCalled convention ellipsis returned earlier (length (now (sig .entry))) (argumentsIn convention (now (sig .entry)) at end) (signatureOf (now (sig .entry))) ⌝ }
     ensures { λ p. ⌜ now (places .exit) ≡ tabled (now (places .entry)) (rowsCalled convention ellipsis returned at (length (now (sig .entry))) (argumentsIn convention (now (sig .entry)) at end)) ⌝ }
 {

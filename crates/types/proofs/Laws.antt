@@ -29,6 +29,13 @@ integer-by-word c d IntegerKind.I64 e = refl
 integer-by-word c d IntegerKind.U64 e = refl
 integer-by-word c d IntegerKind.Pointer e = e
 
+-- a word that hasn't 4 bytes has 8
+pub wide-word : (c : Convention) → (wordBytes c ≡ wordBytes Convention.Aix → ⊥) → wordBytes c ≡ wordBytes Convention.Ppc64
+wide-word Convention.Ppc64 h = refl
+wide-word Convention.Z h = refl
+wide-word Convention.Aix h = absurd (h refl)
+wide-word Convention.Ppc64b h = refl
+
 -- a type that is no struct is small
 
 integer-most : (c : Convention) (k : IntegerKind) → (0 < integerSize c k) × (integerSize c k ≤ 16)

@@ -93,15 +93,14 @@ fn narrow_size(k: IntegerKind) -> usize
     }
 }
 
+// By the word alone, so that it is small enough to be compiled in line.
 pub fn integer_size(c: Convention, k: IntegerKind) -> usize
     ensures { λ r. ⌜ r ≡ integerSize c k ⌝ }
 {
-    match c {
-        Convention::Ppc64 => wide_size(k),
-        Convention::Z => wide_size(k),
-        Convention::Aix => narrow_size(k),
-        Convention::Ppc64b => wide_size(k),
+    if conventions::word_bytes(c) == Convention::AIX_WORD {
+        return narrow_size(k);
     }
+    wide_size(k)
 }
 
 pub fn float_size(f: FloatFormat) -> usize

@@ -1,49 +1,69 @@
-//! The time of two ways of doing the same.
+//! The time of several ways of doing the same.
 
+use std::ops::AddAssign;
 use std::time::{Duration, Instant};
 
 /// How many inputs are timed together: enough for the clock's own time to count for nothing, few
 /// enough for most batches to pass without the machine doing something else meanwhile.
 const BATCH: usize = 50;
 
-/// The nanoseconds that each of the two takes for an input. Batch by batch the one runs, then the
-/// other, and who comes first alternates by round: a slow moment of the machine, or what the other
-/// left in its caches, meets both alike. Of each batch's times in all rounds the median counts.
-pub fn medians<T>(
+/// Nanoseconds that several rounds took, by their order.
+#[derive(Clone, Copy, Debug, Default, PartialEq)]
+pub struct Quartiles {
+    pub lower: f64,
+    pub median: f64,
+    pub upper: f64,
+}
+
+impl AddAssign for Quartiles {
+    fn add_assign(&mut self, other: Quartiles) {
+        self.lower += other.lower;
+        self.median += other.median;
+        self.upper += other.upper;
+    }
+}
+
+/// One way of doing it with a batch of inputs.
+pub type Side<'a, T> = &'a dyn Fn(&[T]);
+
+/// What each side takes for all inputs, which it is handed batch by batch. On a batch the sides run one after
+/// the other, and who comes first goes round by round: a slow moment of the machine, or what another
+/// left in its caches, meets all alike. Of each batch's times in all rounds the quartiles count.
+pub fn turns<T, const SIDES: usize>(
     inputs: &[T],
     rounds: usize,
-    first: impl Fn(&T),
-    second: impl Fn(&T),
-) -> (f64, f64) {
+    sides: [Side<T>; SIDES],
+) -> [Quartiles; SIDES] {
     let batches: Vec<&[T]> = inputs.chunks(BATCH).collect();
-    let mut times = vec![(Vec::new(), Vec::new()); batches.len()];
+    let mut times = vec![[(); SIDES].map(|()| Vec::with_capacity(rounds)); batches.len()];
     for round in 0..rounds {
         for (batch, times) in batches.iter().zip(&mut times) {
-            if round % 2 == 0 {
-                times.0.push(pass(batch, &first));
-                times.1.push(pass(batch, &second));
-            } else {
-                times.1.push(pass(batch, &second));
-                times.0.push(pass(batch, &first));
+            for turn in 0..SIDES {
+                let side = (round + turn) % SIDES;
+                let began = Instant::now();
+                sides[side](batch);
+                times[side].push(began.elapsed());
             }
         }
     }
-    let each = |sum: Duration| sum.as_nanos() as f64 / inputs.len() as f64;
-    let first = times.iter_mut().map(|times| median(&mut times.0)).sum();
-    let second = times.iter_mut().map(|times| median(&mut times.1)).sum();
-    (each(first), each(second))
+    let mut sums = [Quartiles::default(); SIDES];
+    for batch in times {
+        for (sum, mut times) in sums.iter_mut().zip(batch) {
+            *sum += quartiles(&mut times);
+        }
+    }
+    sums
 }
 
-fn pass<T>(inputs: &[T], run: &impl Fn(&T)) -> Duration {
-    let began = Instant::now();
-    inputs.iter().for_each(run);
-    began.elapsed()
-}
-
-/// The middle one; of an even number the later one of the two in the middle.
-fn median(times: &mut [Duration]) -> Duration {
+/// Of an even number in the middle the later one counts.
+fn quartiles(times: &mut [Duration]) -> Quartiles {
     times.sort_unstable();
-    times[times.len() / 2]
+    let at = |place: usize| times[place].as_nanos() as f64;
+    Quartiles {
+        lower: at(times.len() / 4),
+        median: at(times.len() / 2),
+        upper: at(3 * times.len() / 4),
+    }
 }
 
 #[cfg(test)]
@@ -52,14 +72,16 @@ mod tests {
     use std::cell::RefCell;
 
     #[test]
-    fn the_middle_one() {
-        let median_of = |times: &[u64]| {
+    fn by_their_order() {
+        let of = |times: &[u64]| {
             let mut times: Vec<Duration> =
                 times.iter().copied().map(Duration::from_nanos).collect();
-            median(&mut times).as_nanos()
+            let of = quartiles(&mut times);
+            [of.lower, of.median, of.upper]
         };
-        assert_eq!(median_of(&[3, 1, 2]), 2);
-        assert_eq!(median_of(&[4, 1, 3, 2]), 3);
+        assert_eq!(of(&[3, 1, 2]), [1.0, 2.0, 3.0]);
+        assert_eq!(of(&[4, 1, 3, 2]), [2.0, 3.0, 4.0]);
+        assert_eq!(of(&[5, 9, 7, 1, 3]), [3.0, 5.0, 7.0]);
     }
 
     #[test]
@@ -68,9 +90,9 @@ mod tests {
         let inputs = [1; BATCH + 1];
         let side = |name| {
             let order = &order;
-            move |_: &i32| order.borrow_mut().push(name)
+            move |batch: &[i32]| batch.iter().for_each(|_| order.borrow_mut().push(name))
         };
-        medians(&inputs, 3, side('a'), side('b'));
+        turns(&inputs, 3, [&side('a'), &side('b')]);
         let (a, b) = ("a".repeat(BATCH), "b".repeat(BATCH));
         let even = format!("{a}{b}ab");
         let odd = format!("{b}{a}ba");

@@ -16,9 +16,6 @@ fault-answer-requires c κs = search needs
 enum-told : tie.Need-enum-told
 enum-told c = search needs
 
-result-words-requires : tie.Need-result-words-requires
-result-words-requires c κs = search needs
-
 code-of-requires : tie.Need-code-of-requires
 code-of-requires c κs = search needs
 
@@ -37,7 +34,7 @@ same-length-2 c = search needs
 returns-2 : tie.Need-returns-2
 returns-2 c =
     let plan = c .before .before .before .before .before .before .before .plan-words .ensures in
-    (accepted-plan _ _ (plan .0) _ (c .before .before .before .enum-told .given .1) _ (c .before .before .result-words .ensures) _ (c .before .code-of .ensures) _ (c .mark-word .ensures), plan .1)
+    (accepted-plan _ _ (plan .0) _ (c .before .before .before .enum-told .given .1) _ (c .before .code-of .ensures) _ (c .mark-word .ensures), plan .1)
 
 pub fz-plan-spec : {M : Type 1} → statement M
 fz-plan-spec =
@@ -47,7 +44,6 @@ fz-plan-spec =
     enum-known-outcome
     fault-answer-requires
     enum-told
-    result-words-requires
     code-of-requires
     mark-word-requires
     same-length

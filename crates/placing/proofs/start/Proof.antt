@@ -1,15 +1,14 @@
 -- The hidden address comes first, or nothing does.
-use Rattle.places.specs.Step.{startOf, placed}
+use Rattle.places.specs.Step.{startOf}
 use borrow.Author.Needs.{needs}
 use Rattle.placing.proofs.start.Statement.{statement}
 use Rattle.placing.proofs.start.Tie as tie
 
-hidden-step-requires : tie.Need-hidden-step-requires
-hidden-step-requires c κs = search needs
+past-address-requires : tie.Need-past-address-requires
+past-address-requires c κs = search needs
 
 returns : tie.Need-returns
-unfolding startOf placed
-returns c = rw (c .before .before .if1 .taken) (rw (c .before .hidden-step .ensures))
+returns c = rw (c .before .if1 .taken) (c .past-address .ensures)
 
 cursor-of-requires : tie.Need-cursor-of-requires
 cursor-of-requires c κs = search needs
@@ -19,4 +18,4 @@ unfolding startOf
 returns-2 c = rw (c .before .if1 .left) (c .cursor-of .ensures)
 
 pub start-spec : {M : Type 1} → statement M
-start-spec = tie.close (tie.spec hidden-step-requires returns cursor-of-requires returns-2)
+start-spec = tie.close (tie.spec past-address-requires returns cursor-of-requires returns-2)

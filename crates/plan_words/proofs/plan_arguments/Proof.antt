@@ -14,7 +14,7 @@ use Rattle.plan.specs.Plan.{refused}
 use Rattle.plan.proofs.Fold.{reached-roomy}
 use Rattle.plan_entries.specs.Words.{tabled}
 use Rattle.plan_words.specs.Planned.{plannedOf}
-use Rattle.plan_words.proofs.Turns.{Keeping, keeping-start, keeping-more, keeping-length, plan-no, rows-no, plan-trailing, rows-trailing, plan-end, rows-end, plan-unclear, rows-unclear, small-end}
+use Rattle.plan_words.proofs.Turns.{Keeping, keeping-start, keeping-more, keeping-length, plan-no, rows-no, plan-trailing, rows-trailing, plan-end, rows-end, plan-unclear, rows-unclear}
 use Rattle.plan_words.proofs.plan_arguments.Statement.{statement}
 use Rattle.plan_words.proofs.plan_arguments.Tie as tie
 
@@ -81,7 +81,7 @@ keep-entry-requires : tie.Need-keep-entry-requires Inv-loop μ-loop
 keep-entry-requires c κs =
     let a = item-answered _ _ _ _ _ _ _ _ _ (omega arith) (c .before .before .before .before .before .before .before .before .read-item .ensures) (c .before .before .before .before .before .before .ty .given .1) in
     let m = c .before .before .before .before .before .before .before .before .before .before .before .loop .inv in
-    let room = c .before .before .before .before .before .before .before .before .before .before .before .before .before .before .before .before .before .before .before .pre .5 (c .before .before .before .before .before .before .before .before .before .before .before .loop .count + 1) (omega (arith, m .turn .few, c .before .before .before .before .before .before .before .before .before .if1 .left)) (omega (arith, m .apart, a .on, a .inside)) in (
+    let room = c .before .before .before .before .before .before .before .before .before .before .before .before .before .before .before .before .before .before .before .pre .4 (c .before .before .before .before .before .before .before .before .before .before .before .loop .count + 1) (omega (arith, m .turn .few, c .before .before .before .before .before .before .before .before .before .if1 .left)) (omega (arith, m .apart, a .on, a .inside)) in (
       omega (arith, room, keeping-length _ _ _ _ _ _ _ _ _ _ _ _ _ _ m),
       omega (arith, c .before .before .before .before .before .before .before .before .before .before .loop-test .taken, c .before .before .before .before .before .before .before .before .before .before .before .before .before .before .before .before .before .before .before .pre .1, c .before .before .before .before .before .before .before .before .before .before .before .before .before .before .before .before .before .before .before .pre .2),
       omega (arith, a .sized .small, c .before .before .before .before .size-of .ensures),
@@ -178,11 +178,11 @@ mul-write-table c = omega (arith, c .before .before .before .before .before .loo
 write-table-requires : tie.Need-write-table-requires Inv-loop μ-loop
 write-table-requires c κs =
     let m = c .before .before .before .before .before .loop .inv in
-    let room = c .before .before .before .before .before .before .before .before .before .before .before .before .before .pre .5 (c .before .before .before .before .before .loop .count) (omega (arith, m .turn .few)) (omega (arith, m .apart, m .turn .within)) in
+    let room = c .before .before .before .before .before .before .before .before .before .before .before .before .before .pre .4 (c .before .before .before .before .before .loop .count) (omega (arith, m .turn .few)) (omega (arith, m .apart, m .turn .within)) in
     omega (arith, room, keeping-length _ _ _ _ _ _ _ _ _ _ _ _ _ _ m)
 
-result-in-requires : tie.Need-result-in-requires Inv-loop μ-loop
-result-in-requires c κs = small-end _ _ _ _ _ _ (c .before .before .before .before .before .before .before .before .before .before .before .before .before .before .before .before .args .earlier) _ _ _ _ _ _ _ _ (c .before .before .before .before .before .before .before .before .loop .inv) (c .before .before .before .before .before .before .before .loop-test .left) (c .before .before .before .before .before .before .if2 .left) (c .before .before .before .before .before .before .before .before .before .before .before .before .before .before .before .before .pre .4)
+result-words-requires : tie.Need-result-words-requires Inv-loop μ-loop
+result-words-requires c κs = search needs
 
 area-of-requires : tie.Need-area-of-requires Inv-loop μ-loop
 area-of-requires c κs = search needs
@@ -196,8 +196,8 @@ same-length-6 c = search needs
 returns-5 : tie.Need-returns-5 Inv-loop μ-loop
 returns-5 c =
     let m = c .before .before .before .before .before .before .before .before .before .before .loop .inv in
-    let room = c .before .before .before .before .before .before .before .before .before .before .before .before .before .before .before .before .before .before .pre .5 (c .before .before .before .before .before .before .before .before .before .before .loop .count) (omega (arith, m .turn .few)) (omega (arith, m .apart, m .turn .within)) in (
-      rw (c .area-of .ensures, c .before .result-in .ensures) (plan-end _ _ _ _ _ _ _ _ _ _ _ _ _ _ _ m (c .before .before .before .before .before .before .before .before .before .loop-test .left) (c .before .before .before .before .before .before .before .before .if2 .left) (omega (arith, c .before .before .before .before .before .before .before .if3 .left))),
+    let room = c .before .before .before .before .before .before .before .before .before .before .before .before .before .before .before .before .before .before .pre .4 (c .before .before .before .before .before .before .before .before .before .before .loop .count) (omega (arith, m .turn .few)) (omega (arith, m .apart, m .turn .within)) in (
+      rw (c .area-of .ensures, c .before .result-words .ensures) (plan-end _ _ _ _ _ _ _ _ _ _ _ _ _ _ _ m (c .before .before .before .before .before .before .before .before .before .loop-test .left) (c .before .before .before .before .before .before .before .before .if2 .left) (omega (arith, c .before .before .before .before .before .before .before .if3 .left))),
       c .before .before .before .before .write-table .ensures ∙ ap (tabled (c .before .before .before .before .before .before .before .before .before .before .before .before .before .before .before .before .before .before .args .places .now)) (rows-end _ _ _ _ _ _ (c .before .before .before .before .before .before .before .before .before .before .before .before .before .before .before .before .before .before .args .earlier) _ _ _ _ _ _ _ _ m (c .before .before .before .before .before .before .before .before .before .loop-test .left) (c .before .before .before .before .before .before .before .before .if2 .left) (omega (arith, c .before .before .before .before .before .before .before .if3 .left)) room),
     )
 
@@ -244,7 +244,7 @@ plan-arguments-spec =
     returns-4
     mul-write-table
     write-table-requires
-    result-in-requires
+    result-words-requires
     area-of-requires
     same-length-5
     same-length-6

@@ -10,7 +10,7 @@ use Rattle.plan.proofs.Measures.{plan-arguments, unclear-arguments}
 use Rattle.plan_words.specs.Planned.{plannedOf}
 use Rattle.plan_entries.specs.Words.{tabled}
 use Rattle.plan_entries.proofs.Copies.{tabled-nothing}
-use Rattle.plan_words.proofs.Rows.{rows-entries, no-entries, planned-called, rows-called, small-result}
+use Rattle.plan_words.proofs.Rows.{rows-entries, no-entries, planned-called, rows-called}
 use Rattle.plan_words.proofs.plan_words.Statement.{statement}
 use Rattle.plan_words.proofs.plan_words.Tie as tie
 
@@ -31,7 +31,7 @@ plan-part-requires c κs =
     let found = c .before .before .before .before .read-head .ensures in
     let is = c .before .before .convention .given .1 in
     let k = head-bounded _ _ _ _ _ _ _ _ found is in
-    (omega arith, omega arith, k .short, omega arith, small-result _ _ found _ _ _ _ _ _ is)
+    (omega arith, omega arith, k .short, omega arith)
 
 returns : tie.Need-returns
 unfolding called planAnswer
