@@ -1,10 +1,15 @@
 # make run    prove what the command needs, build it and list the call of figure 3-18
+# make command  build/flakuzhen, the command
 # make test   the whole gate: every proof, every must-fail edit, every comparison
 # make lib    build/libflakuzhen.a and build/libflakuzhen.so with its links, from proved code alone
 # make examples  the same call planned, filled and read by a program in C and one in Rust, and a
 #             variable argument list walked in C
-# make install  the command, the libraries, the header and the manual page, under PREFIX=/usr/local;
-#             make uninstall removes them
+# make install  the command with its manual page and completions, the libraries and the headers, under
+#             PREFIX=/usr/local; make uninstall removes them
+# make dist   build/dist/flakuzhen-VERSION-MACHINE.tar.gz: all that is installed, for machines without
+#             a toolchain
+# make fuzz   the command's readers on damaged inputs, under AddressSanitizer; SECONDS=n says for how
+#             long
 # make soak   the comparisons on fresh seeds; SECONDS=n says for how long
 # make bench  the time of planning, filling and reading beside the second program's, and the stack of
 #             each function
@@ -16,6 +21,7 @@
 #
 # make lib TARGET=..   build/TARGET/libflakuzhen.a and build/TARGET/libflakuzhen.so
 # make run TARGET=..   the command there, under emulation
+# make dist TARGET=..  the same to deploy there
 # make test-targets    a file of cases replayed on both, under emulation
 # make bench-targets   the archives' sizes and the instructions of a plan
 
@@ -47,19 +53,27 @@ $(1) -shared -o $@.$(VERSION) -Wl,-soname,$(SONAME) \
     -Wl,--whole-archive $< -Wl,--no-whole-archive
 $(call LINK_SHARED,$(@D))
 endef
+# the command is the same C on every machine
+COMMAND := $(wildcard command/*.c)
+COMMAND_FROM := $(COMMAND) command/command.h include/flakuzhen.h include/flakuzhen_text.h
 EXAMPLE := examples/signatures/ppc64-figure-3-18.hex
 # no network and no other versions than Cargo.lock's
 CARGO_WORDS := --release --offline --locked
 
-.PHONY: run test lib examples install uninstall soak sanitize bench lint clean
+.PHONY: run test lib command examples install uninstall dist soak fuzz sanitize bench lint clean
 .DELETE_ON_ERROR:
 
 ifndef TARGET
-run: $(ARCHIVE)
-	@cd host && cargo run $(CARGO_WORDS) --quiet -p flakuzhen -- list --hex ../$(EXAMPLE)
+run: build/flakuzhen
+	@build/flakuzhen list --hex $(EXAMPLE)
 
 lib: $(ARCHIVE) $(SHARED) $(SECOND)
+
+command: build/flakuzhen
 endif
+
+build/flakuzhen: $(COMMAND_FROM) $(ARCHIVE)
+	$(CC) $(C_WORDS) $(ARCHIVE)
 
 test:
 	@.ci/run
@@ -85,9 +99,9 @@ $(SHARED): $(ARCHIVE) include/flakuzhen.map host/Cargo.toml
 	$(call MAKE_SHARED,$(CC))
 
 examples: $(ARCHIVE)
-	$(CC) -Iinclude -o build/call examples/c/call.c $(ARCHIVE)
+	$(CC) -Iinclude -o build/call examples/c/call.c command/signature_text.c $(ARCHIVE)
 	build/call
-	$(CC) -Iinclude -o build/variable examples/c/variable.c $(ARCHIVE)
+	$(CC) -Iinclude -o build/variable examples/c/variable.c command/signature_text.c $(ARCHIVE)
 	build/variable
 	cd host && cargo run $(CARGO_WORDS) --quiet -p call
 

@@ -1,62 +1,35 @@
-//! The command in C for other machines (`targets/flakuzhen.c`), compiled for this one and held to
-//! the Rust command: the same output, the same messages, the same exit status. It has no pictures,
-//! walks no dumps and compares no signatures.
+//! Inputs of all kinds, whole, damaged and wrong: whatever they are, the command ends with status 0, 1
+//! or 2, says what it says in whole lines, and prints nothing where the status is 2.
 
 mod support;
 
 use std::path::{Path, PathBuf};
-use std::process::{Command, Output};
-use std::sync::OnceLock;
-use support::run;
+use support::{command, root, run};
 
-fn root() -> PathBuf {
-    let root = Path::new(env!("CARGO_MANIFEST_DIR")).join("../..");
-    root.canonicalize().expect("the repository's folder")
-}
-
-const SOURCES: [&str; 3] = ["flakuzhen.c", "text.c", "calls.c"];
-
-/// The command in C, compiled once.
-fn in_c() -> &'static Path {
-    static PROGRAM: OnceLock<PathBuf> = OnceLock::new();
-    PROGRAM.get_or_init(|| {
-        let program = Path::new(env!("CARGO_TARGET_TMPDIR")).join("flakuzhen-in-c");
-        let status = Command::new("gcc")
-            .args([
-                "-std=c99",
-                "-O2",
-                "-pedantic",
-                "-Wall",
-                "-Wextra",
-                "-Werror",
-                "-I",
-            ])
-            .arg(root().join("include"))
-            .arg("-o")
-            .arg(&program)
-            .args(SOURCES.map(|source| root().join("targets").join(source)))
-            .arg(root().join("build/libflakuzhen.a"))
-            .status();
-        assert!(status.expect("gcc starts").success());
-        program
-    })
-}
-
-/// Runs both, and gives the exit status that they share.
-fn same(words: &[&str], input: &[u8]) -> i32 {
-    let rust = run(Path::new(env!("CARGO_BIN_EXE_flakuzhen")), words, input);
-    let c = run(in_c(), words, input);
-    let told = |output: &Output| {
-        format!(
-            "{}{}{}",
-            output.stdout.escape_ascii(),
-            output.stderr.escape_ascii(),
-            output.status
-        )
-    };
-    assert_eq!(told(&c), told(&rust), "{words:?}, {}", input.escape_ascii());
-    assert_eq!(c, rust, "{words:?}, {}", input.escape_ascii());
-    c.status.code().expect("an exit status")
+/// Runs the command, and gives its exit status.
+fn ends(words: &[&str], input: &[u8]) -> i32 {
+    let output = run(command(), words, input);
+    let status = output.status.code().expect("an exit status");
+    let told = format!("{words:?}, {}: {output:?}", input.escape_ascii());
+    support::says_only_in_whole_lines(&output);
+    match status {
+        0 => assert!(output.stderr.is_empty(), "{told}"),
+        1 => assert!(!output.stderr.is_empty(), "{told}"),
+        2 => {
+            assert!(output.stdout.is_empty(), "{told}");
+            assert_eq!(
+                output.stderr.iter().filter(|&&byte| byte == b'\n').count(),
+                1,
+                "{told}"
+            );
+        }
+        _ => panic!("{told}"),
+    }
+    assert!(
+        output.stdout.is_empty() || output.stdout.ends_with(b"\n"),
+        "{told}"
+    );
+    status
 }
 
 /// The examples in a folder whose names end so.
@@ -95,13 +68,13 @@ fn the_examples() {
     let names: Vec<&str> = paths.iter().map(|path| word(path)).collect();
     for command in COMMANDS {
         for name in &names {
-            same(&[command, "--hex", name], b"");
+            ends(&[command, "--hex", name], b"");
             // comments and digits are bytes too
-            same(&[command, name], b"");
+            ends(&[command, name], b"");
         }
         let all = [&[command, "--hex", "-"], &names[..]].concat();
-        assert_eq!(same(&all, b"01 00"), 1);
-        assert_eq!(same(&[command, "-", names[0]], b""), 1);
+        assert_eq!(ends(&all, b"01 00"), 1);
+        assert_eq!(ends(&[command, "-", names[0]], b""), 1);
     }
 }
 
@@ -112,12 +85,12 @@ fn damaged_text() {
         // every beginning, and at some places a byte that does not belong there
         for length in 0..text.len() {
             if length % 5 == 0 {
-                same(&["list", "--hex"], &text[..length]);
+                ends(&["list", "--hex"], &text[..length]);
             }
             if length % 7 == 0 {
                 let mut other = text.clone();
                 other[length] = b"0f1#g \n\r\t\x0c\x0b\\'\"\x00\x7f\xc3"[length / 7 % 17];
-                same(&["read", "--hex"], &other);
+                ends(&["read", "--hex"], &other);
             }
         }
     }
@@ -129,13 +102,13 @@ fn bytes_of_all_kinds() {
         let hidden = [
             1, 0, 1, 2, 2, 0, 7, 0x12, 0, 4, 0x10, 0, 1, 6, 3, 0, 4, 0x11, 0, 1, 0,
         ];
-        assert_eq!(same(&[command], &hidden), 0);
-        assert_eq!(same(&[command, "-", "-"], &hidden), 1);
+        assert_eq!(ends(&[command], &hidden), 0);
+        assert_eq!(ends(&[command, "-", "-"], &hidden), 1);
         for at in 0..hidden.len() {
-            same(&[command], &hidden[..at]);
+            ends(&[command], &hidden[..at]);
             let mut other = hidden;
             other[at] ^= 3;
-            same(&[command, "--"], &other);
+            ends(&[command, "--"], &other);
         }
         for length in [
             0,
@@ -146,15 +119,15 @@ fn bytes_of_all_kinds() {
             1 << 20,
             (1 << 20) + 1,
         ] {
-            same(&[command], &vec![0; length]);
-            same(&[command, "--hex"], &vec![b' '; length]);
+            ends(&[command], &vec![0; length]);
+            ends(&[command, "--hex"], &vec![b' '; length]);
         }
     }
 }
 
 #[test]
 fn words_that_are_wrong() {
-    assert_eq!(same(&[], b""), 2);
+    assert_eq!(ends(&[], b""), 2);
     for word in [
         "reed",
         "--hex",
@@ -163,19 +136,19 @@ fn words_that_are_wrong() {
         "a \"quote\" \\ '\t\r\x1b",
         "Z\u{e9}ro",
     ] {
-        assert_eq!(same(&[word], b""), 2);
+        assert_eq!(ends(&[word], b""), 2);
         for command in ["list", "read", "replay"] {
-            assert_eq!(same(&[command, word, "not-there"], b""), 2);
-            assert_eq!(same(&[command, "--", word], b""), 2);
+            assert_eq!(ends(&[command, word, "not-there"], b""), 2);
+            assert_eq!(ends(&[command, "--", word], b""), 2);
             let option = format!("--{word}!");
-            assert_eq!(same(&[command, &option, "--"], b""), 2);
+            assert_eq!(ends(&[command, &option, "--"], b""), 2);
         }
     }
     for command in COMMANDS {
-        same(&[command, env!("CARGO_MANIFEST_DIR")], b"");
-        same(&[command, "--hex", "--hex", "--", "-"], b"01");
+        ends(&[command, env!("CARGO_MANIFEST_DIR")], b"");
+        ends(&[command, "--hex", "--hex", "--", "-"], b"01");
     }
-    assert_eq!(same(&["read", "--picture"], b""), 2);
+    assert_eq!(ends(&["read", "--picture"], b""), 2);
     for words in [
         &["replay"][..],
         &["replay", "--"],
@@ -185,9 +158,9 @@ fn words_that_are_wrong() {
         &["replay", "-x"],
         &["replay", env!("CARGO_MANIFEST_DIR")],
     ] {
-        assert_eq!(same(words, b"start z 4096 0"), 2);
+        assert_eq!(ends(words, b"start z 4096 0"), 2);
     }
-    assert_eq!(same(&["replay", "--", "-"], b"start z 4096 0"), 0);
+    assert_eq!(ends(&["replay", "--", "-"], b"start z 4096 0"), 0);
 }
 
 #[test]
@@ -201,15 +174,15 @@ fn the_examples_replayed() {
             .filter_map(|line| line.split(' ').next()?.parse().ok())
             .collect();
         let status = i32::from(!refused.is_empty());
-        assert_eq!(same(&["replay", word(&path)], b""), status);
-        assert_eq!(same(&["replay", "-"], &text), status);
+        assert_eq!(ends(&["replay", word(&path)], b""), status);
+        assert_eq!(ends(&["replay", "-"], &text), status);
         // without what is refused: the numbers of the lines show which those are
         let lines = text.split(|&byte| byte == b'\n').enumerate();
         let accepted: Vec<&[u8]> = lines
             .filter(|(index, _)| !refused.contains(&(index + 1)))
             .map(|(_, line)| line)
             .collect();
-        assert_eq!(same(&["replay", "-"], &accepted.join(&b'\n')), 0);
+        assert_eq!(ends(&["replay", "-"], &accepted.join(&b'\n')), 0);
     }
 }
 
@@ -220,21 +193,21 @@ fn damaged_lists_of_calls() {
         let text = std::fs::read(&path).expect("an example");
         for length in 0..text.len() {
             if length % 5 == 0 {
-                same(&["replay", "-"], &text[..length]);
+                ends(&["replay", "-"], &text[..length]);
             }
             if length % 3 == 0 {
                 let mut other = text.clone();
                 other[length] = marks[length / 3 % marks.len()];
-                same(&["replay", "-"], &other);
+                ends(&["replay", "-"], &other);
             }
         }
     }
 }
 
-/// Both say the same of a line between a start and a leave, with the shared status.
-fn same_of_line(line: &[u8]) -> i32 {
+/// A line between a start and a leave.
+fn ends_of_line(line: &[u8]) -> i32 {
     let list = [b"start ppc64 4096 0x10000\n#\n", line, b"\nleave\n"].concat();
-    same(&["replay", "-"], &list)
+    ends(&["replay", "-"], &list)
 }
 
 #[test]
@@ -258,7 +231,7 @@ fn calls_of_all_kinds() {
     ];
     for line in lines {
         let list = ["start ppc64 4096 0x10000", line].join("\n");
-        assert_eq!(same(&["replay", "-"], list.as_bytes()), 0, "{line}");
+        assert_eq!(ends(&["replay", "-"], list.as_bytes()), 0, "{line}");
     }
     let refused = [
         "start ppc64 0 0",
@@ -285,24 +258,24 @@ fn calls_of_all_kinds() {
         "leave",
     ];
     for line in refused {
-        assert_eq!(same_of_line(line.as_bytes()), 1, "{line}");
+        assert_eq!(ends_of_line(line.as_bytes()), 1, "{line}");
         // and whatever is called after it
         for next in ["enter g=32 m=32", "write r3 1", "write mem 0x10fc0 00"] {
-            same_of_line([line, next].join("\n").as_bytes());
+            ends_of_line([line, next].join("\n").as_bytes());
         }
     }
     // frames to the most, and one more; bytes of a write to the most, and one more
     let enters = "enter g=32 m=32\n".repeat(33);
     let leaves = "leave\n".repeat(33);
     let list = format!("start ppc64 65536 0x10000\n{enters}{leaves}");
-    assert_eq!(same(&["replay", "-"], list.as_bytes()), 1);
+    assert_eq!(ends(&["replay", "-"], list.as_bytes()), 1);
     for count in [256, 257] {
         let list = format!(
             "start ppc64 4096 0\nenter g=32 m=32 out=512\nwrite mem 3552 {}\n",
             "5a".repeat(count)
         );
         assert_eq!(
-            same(&["replay", "-"], list.as_bytes()),
+            ends(&["replay", "-"], list.as_bytes()),
             i32::from(count > 256)
         );
     }
@@ -375,14 +348,14 @@ fn lines_that_are_wrong() {
         b"write r1\x0b 1",
     ];
     for line in lines {
-        assert_eq!(same_of_line(line), 2, "{}", line.escape_ascii());
+        assert_eq!(ends_of_line(line), 2, "{}", line.escape_ascii());
         // the same as the first line of all
-        same(&["replay", "-"], line);
+        ends(&["replay", "-"], line);
     }
     for first in ["leave", "enter g=32 m=32", "write r3 1", "write mem 0 00"] {
-        assert_eq!(same(&["replay", "-"], first.as_bytes()), 2);
+        assert_eq!(ends(&["replay", "-"], first.as_bytes()), 2);
         let later = format!("# a comment\n\n {first}\nstart z 4096 0\n");
-        assert_eq!(same(&["replay", "-"], later.as_bytes()), 2);
+        assert_eq!(ends(&["replay", "-"], later.as_bytes()), 2);
     }
 }
 
@@ -412,89 +385,21 @@ fn lines_that_are_no_text() {
     for (text, is_text) in texts {
         assert_eq!(std::str::from_utf8(text).is_ok(), is_text);
         // a word of the line, and the line's end
-        assert_eq!(same_of_line(&[b"leave ", text, b" 1"].concat()), 2);
-        assert_eq!(same_of_line(&[b"jump", text].concat()), 2);
+        assert_eq!(ends_of_line(&[b"leave ", text, b" 1"].concat()), 2);
+        assert_eq!(ends_of_line(&[b"jump", text].concat()), 2);
         // and a comment, which may be any bytes
-        assert_eq!(same_of_line(&[b"leave #", text].concat()), 1);
+        assert_eq!(ends_of_line(&[b"leave #", text].concat()), 1);
     }
 }
 
 #[test]
 fn lists_of_all_sizes() {
     for length in [0, 1, (1 << 20) - 1, 1 << 20, (1 << 20) + 1] {
-        same(&["replay", "-"], &vec![b'\n'; length]);
-        same(&["replay", "-"], &vec![b'x'; length]);
+        ends(&["replay", "-"], &vec![b'\n'; length]);
+        ends(&["replay", "-"], &vec![b'x'; length]);
         let digits = [b"start z 4096 ", &vec![b'0'; length][..]].concat();
-        same(&["replay", "-"], &digits);
+        ends(&["replay", "-"], &digits);
     }
     let calls = [b"start z 256 0\n", &b"leave\n".repeat(170_000)[..]].concat();
-    assert_eq!(same(&["replay", "-"], &calls), 1);
-}
-
-#[test]
-fn pictures_are_refused_in_one_line() {
-    for words in [
-        &["list", "--picture"][..],
-        &["list", "--hex", "--picture", "not-there"],
-        &["replay", "--picture", "-"],
-        &["replay", "-", "--picture"],
-    ] {
-        let output = run(in_c(), words, b"");
-        let said = "flakuzhen: --picture: pictures are drawn by the Rust command alone\n";
-        assert_eq!(String::from_utf8_lossy(&output.stderr), said);
-        assert!(output.stdout.is_empty());
-        assert_eq!(output.status.code(), Some(2));
-    }
-    // where it is a file
-    assert_eq!(same(&["replay", "--", "--picture"], b""), 2);
-}
-
-#[test]
-fn dumps_and_comparisons_are_refused_in_one_line() {
-    let dumps = "dump: dumps are walked";
-    let signatures = "diff: signatures are compared";
-    for (words, what) in [
-        (&["dump"][..], dumps),
-        (&["dump", "ppc64", "0", "0", "-"], dumps),
-        (&["diff"], signatures),
-        (&["diff", "--hex", "-", "not-there"], signatures),
-    ] {
-        let output = run(in_c(), words, b"");
-        let said = format!("flakuzhen: {what} by the Rust command alone\n");
-        assert_eq!(String::from_utf8_lossy(&output.stderr), said);
-        assert!(output.stdout.is_empty());
-        assert_eq!(output.status.code(), Some(2));
-    }
-}
-
-#[test]
-fn its_help_is_the_rust_commands_but_for_what_it_has_not() {
-    for asked in ["--help", "-h", "help"] {
-        let rust = run(Path::new(env!("CARGO_BIN_EXE_flakuzhen")), &[asked], b"");
-        let known = String::from_utf8(rust.stdout).expect("text");
-        // dumps and comparisons have their own parts
-        let parts = known
-            .split("\n\n")
-            .filter(|part| !part.starts_with("dump ") && !part.starts_with("diff "));
-        let known = parts.collect::<Vec<&str>>().join("\n\n");
-        let mut expected = String::new();
-        let mut lines = known.lines();
-        while let Some(line) = lines.next() {
-            if line.starts_with("--picture ") {
-                // it has two lines
-                lines.next();
-            } else if !["list --picture", "flakuzhen dump", "flakuzhen diff"]
-                .iter()
-                .any(|own| line.contains(own))
-            {
-                expected += &line.replace("[--picture] ", "");
-                expected += "\n";
-            }
-        }
-        expected += "\nPictures (--picture) are drawn, dumps walked (dump), and signatures compared (diff), \
-                     by the Rust\ncommand alone.\n";
-        let output = run(in_c(), &[asked], b"");
-        assert_eq!(String::from_utf8_lossy(&output.stdout), expected);
-        assert_eq!(output.status.code(), Some(0));
-    }
+    assert_eq!(ends(&["replay", "-"], &calls), 1);
 }

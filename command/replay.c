@@ -1,5 +1,5 @@
-/* Lists of calls of the frame machine, for the command in flakuzhen.c: a text with one call to a
- * line, blank lines, and from '#' to the end of a line a comment. Each call is made as soon as its
+/* Lists of calls of the frame machine: a text with one call to a line, blank lines, and from '#' to
+ * the end of a line a comment. Each call is made as soon as its
  * line is read; the calls before a bad line leave no trace, as that ends the command with nothing
  * printed. */
 #include "command.h"
@@ -9,14 +9,6 @@
 /* The most memory that a start may ask for: far above what the library takes, so that its own
  * refusal can be seen, and little enough to be had. */
 #define LARGEST_MEMORY 1048576
-
-/* a state with the memory that it was started on; before the first start the state is all zeros,
- * which every call refuses */
-typedef struct {
-    fz_machine state;
-    uint8_t *memory;
-    size_t size;
-} machine;
 
 /* Gives the machine a memory of zeros. */
 static void renew_memory(machine *on, size_t size)
@@ -29,66 +21,31 @@ static void renew_memory(machine *on, size_t size)
         fail(NULL, "no memory left");
 }
 
-/* ---- numbers ---- */
-
-enum digits { A_NUMBER, NO_DIGITS, OVER_64_BITS };
-
-static enum digits read_digits(span digits, unsigned radix, uint64_t *number)
+uint64_t stack_pointer(const fz_machine *of)
 {
-    enum digits kind = digits.length == 0 ? NO_DIGITS : A_NUMBER;
-
-    for (*number = 0; digits.length > 0; digits = without(digits, 1)) {
-        unsigned value = digit_value(*digits.at);
-
-        if (value >= radix)
-            return NO_DIGITS;
-        if (*number > (UINT64_MAX - value) / radix)
-            kind = OVER_64_BITS;
-        *number = *number * radix + value;
-    }
-    return kind;
-}
-
-/* A number of 64 bits, decimal or from '0x' on hexadecimal. */
-static uint64_t read_number(const place *where, span word)
-{
-    int hex = word.length >= 2 && memcmp(word.at, "0x", 2) == 0;
-    uint64_t number;
-    enum digits kind = read_digits(without(word, hex ? 2 : 0), hex ? 16 : 10, &number);
-
-    if (kind != A_NUMBER)
-        fail_at_word(where, "", word, kind == NO_DIGITS ? " is no number" : " is over 64 bits");
-    return number;
+    return of->registers.gpr[of->convention == 2 ? 15 : 1];
 }
 
 /* ---- the calls: each reads the words after the call's name, and makes it ---- */
 
 static fz_answer start(const place *where, span line, machine *on)
 {
-    static const fz_registers zeros;
-    static const struct {
-        const char *name;
-        fz_answer (*start)(fz_machine *, const fz_registers *, uint64_t, uint8_t *, size_t);
-    } conventions[] = {{"ppc64", fz_start_ppc64},
-                       {"z", fz_start_z},
-                       {"aix", fz_start_aix},
-                       {"ppc64b", fz_start_ppc64b}};
+    static const fz_registers all_zeros;
+    static fz_answer (*const starts[])(fz_machine *, const fz_registers *, uint64_t, uint8_t *,
+                                       size_t) = {fz_start_ppc64, fz_start_z, fz_start_aix,
+                                                  fz_start_ppc64b};
     span convention = next_word(&line), size = next_word(&line), base = next_word(&line);
-    uint64_t length, address;
-    int of;
+    uint64_t length, address, code;
 
     if (base.length == 0 || next_word(&line).length != 0)
         fail(where, "a start is 'start CONVENTION SIZE BASE', of ppc64, z, aix or ppc64b");
-    for (of = 0; of < 3 && !is(convention, conventions[of].name); of++)
-        ;
-    if (!is(convention, conventions[of].name))
-        fail_at_word(where, "", convention, " is no convention: ppc64, z, aix or ppc64b");
+    code = read_convention(where, convention);
     length = read_number(where, size);
     if (length > LARGEST_MEMORY)
         fail(where, "a memory of over %d bytes", LARGEST_MEMORY);
     address = read_number(where, base);
     renew_memory(on, (size_t)length);
-    return conventions[of].start(&on->state, &zeros, address, on->memory, on->size);
+    return starts[code - 1](&on->state, &all_zeros, address, on->memory, on->size);
 }
 
 /* Each word at most once and in any order. Only those for the first saved registers must be there:
@@ -154,12 +111,13 @@ static fz_answer write_register(const place *where, span name, span value, machi
 static fz_answer write_memory(const place *where, span address, span line, machine *on)
 {
     uint64_t first = read_number(where, address);
+    place here = *where;
     bytes written = {NULL, 0, 0};
     fz_answer answer;
     span word;
 
     for (word = next_word(&line); word.length != 0; word = next_word(&line))
-        decode_word(where, word, &written);
+        decode_word(&here, word, &written);
     if (written.length == 0)
         fail(where, "a write of no bytes");
     answer = fz_write_memory(&on->state, first, written.at, written.length, on->memory, on->size);
@@ -220,7 +178,7 @@ static fz_answer make(const place *where, span word, span line, machine *on, byt
         add(out, ": accepted\n");
     else
         add(out, ": accepted, stack pointer 0x%llx\n",
-            (unsigned long long)on->state.registers.gpr[on->state.convention == 2 ? 15 : 1]);
+            (unsigned long long)stack_pointer(&on->state));
     return answer;
 }
 
@@ -249,22 +207,53 @@ static int is_text(span line)
     return 1;
 }
 
-int replay(place *where, const bytes *content, bytes *out)
+/* Makes the calls of a file's text and adds a line for each. With a picture the stack follows
+ * wherever the drawing has changed. */
+static void replay(place *where, span text, int with_picture, outcome *to)
 {
-    span text = {content->at, content->length};
+    bytes drawn = {NULL, 0, 0};
     machine on = {0};
-    int status = 0;
 
     renew_memory(&on, 0);
     for (where->line = 1; text.length > 0; where->line++) {
         span line = next_line(&text), word;
+        bytes picture = {NULL, 0, 0};
+        fz_answer answer;
 
         if (!is_text(line))
             fail(where, "this is no text");
         word = next_word(&line);
-        if (word.length != 0 && make(where, word, line, &on, out).number != FZ_ACCEPTED)
-            status = 1;
+        if (word.length == 0)
+            continue;
+        answer = make(where, word, line, &on, &to->out);
+        if (answer.number != FZ_ACCEPTED) {
+            tell_number(&to->told, where, "", answer.number);
+            to->status = 1;
+        }
+        if (!with_picture)
+            continue;
+        /* where a start is refused, the machine before it is gone all the same */
+        if (on.state.size != 0)
+            draw_stack(&on, &picture);
+        if (picture.length != drawn.length ||
+            (drawn.length > 0 && memcmp(picture.at, drawn.at, drawn.length) != 0))
+            add_word(&to->out, span_of_bytes(&picture));
+        free(drawn.at);
+        drawn = picture;
     }
+    free(drawn.at);
     free(on.memory);
-    return status;
+}
+
+void replay_verb(words *given, outcome *to)
+{
+    place where = {{NULL, 0, 0}, 0, 0};
+    bytes calls;
+
+    if (given->count != 1)
+        fail(NULL, "replay takes one FILE ('-' is standard input)");
+    calls = read_file(given->files[0], &where, LARGEST_INPUT);
+    replay(&where, span_of_bytes(&calls), given->given & PICTURE, to);
+    free(where.file.at);
+    free(calls.at);
 }
