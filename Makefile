@@ -109,29 +109,70 @@ examples: $(ARCHIVE)
 INSTALLED = $(DESTDIR)$(PREFIX)
 DOC := share/doc/flakuzhen
 
-install: $(ARCHIVE) $(SHARED)
-	cd host && cargo build $(CARGO_WORDS) --quiet -p flakuzhen
-	install -d $(addprefix $(INSTALLED)/,bin include lib/pkgconfig share/man/man1 $(DOC))
-	install -m 755 host/target/release/flakuzhen $(INSTALLED)/bin
-	install -m 644 include/flakuzhen.h $(INSTALLED)/include
-	install -m 644 $(ARCHIVE) $(INSTALLED)/lib
-	install -m 755 $(SHARED).$(VERSION) $(INSTALLED)/lib
-	$(call LINK_SHARED,$(INSTALLED)/lib)
-	sed -e 's|@PREFIX@|$(PREFIX)|' -e 's|@VERSION@|$(VERSION)|' include/flakuzhen.pc.in \
-	    > $(INSTALLED)/lib/pkgconfig/flakuzhen.pc
-	install -m 644 docs/flakuzhen.1 $(INSTALLED)/share/man/man1
-	install -m 644 docs/COMPILERS.md examples/c/call.c examples/c/variable.c $(INSTALLED)/$(DOC)
+# What is installed besides the libraries and the file for pkg-config: its folder under the prefix,
+# and the file. The folder of documents is ours alone.
+INSTALLED_FILES := \
+    include:include/flakuzhen.h include:include/flakuzhen_text.h \
+    share/man/man1:docs/flakuzhen.1 \
+    share/bash-completion/completions:command/completions/flakuzhen \
+    share/zsh/site-functions:command/completions/_flakuzhen \
+    share/fish/vendor_completions.d:command/completions/flakuzhen.fish \
+    $(DOC):docs/COMPILERS.md $(DOC):examples/c/call.c $(DOC):examples/c/variable.c \
+    $(DOC):command/signature_text.c
+folder_of = $(firstword $(subst :, ,$(1)))
+file_of = $(lastword $(subst :, ,$(1)))
+
+# Installs in a folder, for a prefix, what a machine has: FOLDER PREFIX COMMAND ARCHIVE SHARED
+define INSTALL
+install -d $(addprefix $(1)/,bin lib/pkgconfig $(sort $(foreach each,$(INSTALLED_FILES),$(call folder_of,$(each)))))
+install -m 755 $(3) $(1)/bin/flakuzhen
+install -m 644 $(4) $(1)/lib
+install -m 755 $(5).$(VERSION) $(1)/lib
+$(call LINK_SHARED,$(1)/lib)
+sed -e 's|@PREFIX@|$(2)|' -e 's|@VERSION@|$(VERSION)|' include/flakuzhen.pc.in \
+    > $(1)/lib/pkgconfig/flakuzhen.pc
+$(foreach each,$(INSTALLED_FILES),install -m 644 $(call file_of,$(each)) $(1)/$(call folder_of,$(each)) &&) true
+endef
+
+install: build/flakuzhen $(ARCHIVE) $(SHARED)
+	$(call INSTALL,$(INSTALLED),$(PREFIX),build/flakuzhen,$(ARCHIVE),$(SHARED))
 
 # what install puts in place; folders stay, but for the one that is ours alone
 uninstall:
-	rm -f $(addprefix $(INSTALLED)/,bin/flakuzhen include/flakuzhen.h \
+	rm -f $(addprefix $(INSTALLED)/,bin/flakuzhen lib/pkgconfig/flakuzhen.pc \
 	    $(addprefix lib/,libflakuzhen.a libflakuzhen.so $(SONAME) libflakuzhen.so.$(VERSION)) \
-	    lib/pkgconfig/flakuzhen.pc share/man/man1/flakuzhen.1 \
-	    $(addprefix $(DOC)/,COMPILERS.md call.c variable.c))
+	    $(foreach each,$(INSTALLED_FILES),$(call folder_of,$(each))/$(notdir $(call file_of,$(each)))))
 	[ ! -d $(INSTALLED)/$(DOC) ] || rmdir $(INSTALLED)/$(DOC)
+
+# ---- something to deploy ----
+
+DIST = flakuzhen-$(VERSION)-$(MACHINE)
+DIST_FOLDER = build/$(MACHINE)
+
+# the command is linked statically: it runs on every Linux of its machine
+build/x86_64/flakuzhen: $(COMMAND_FROM) $(ARCHIVE)
+	@mkdir -p $(@D)
+	$(CC) -static $(C_WORDS) $(ARCHIVE)
+
+ifndef TARGET
+dist: MACHINE := x86_64
+dist: build/x86_64/flakuzhen $(ARCHIVE) $(SHARED)
+	@rm -rf build/dist/$(DIST) build/dist/$(DIST).tar.gz
+	$(call INSTALL,build/dist/$(DIST),$${pcfiledir}/../..,$<,$(ARCHIVE),$(SHARED))
+	@scripts/dist $(DIST)
+else
+dist: MACHINE := $(TARGET)
+dist: build/$(TARGET)/flakuzhen build/$(TARGET)/libflakuzhen.a build/$(TARGET)/libflakuzhen.so
+	@rm -rf build/dist/$(DIST) build/dist/$(DIST).tar.gz
+	$(call INSTALL,build/dist/$(DIST),$${pcfiledir}/../..,$<,$(DIST_FOLDER)/libflakuzhen.a,$(DIST_FOLDER)/libflakuzhen.so)
+	@scripts/dist $(DIST)
+endif
 
 soak: $(ARCHIVE) $(SECOND)
 	cd host && cargo run $(CARGO_WORDS) --quiet -p compare --bin soak -- $(SECONDS)
+
+fuzz: $(ARCHIVE)
+	@scripts/fuzz $(SECONDS)
 
 sanitize: $(ARCHIVE) $(SHARED) $(SECOND)
 	@scripts/sanitize

@@ -20,7 +20,7 @@
 typedef struct {
     enum { HEADER, BACK_CHAIN, OUTGOING, LOCALS, UNUSED, FREE, SAVED } kind;
     uint64_t depth;
-    char name[8];
+    char name[16];
 } part;
 
 /* A machine with all its functions: as each finds it when it is returned to, the latest first. The
@@ -158,7 +158,7 @@ static void mark_areas(stack *of, size_t index, size_t start, size_t end)
 }
 
 /* The name of the first register that is not the same, or nothing. */
-static void difference(char name[8], const fz_registers *one, const fz_registers *other)
+static void difference(char name[16], const fz_registers *one, const fz_registers *other)
 {
     int n;
 
@@ -169,10 +169,10 @@ static void difference(char name[8], const fz_registers *one, const fz_registers
         strcpy(name, "lr");
     for (n = 31; n >= 0; n--)
         if (one->fpr[n] != other->fpr[n])
-            snprintf(name, 8, "f%d", n);
+            snprintf(name, 16, "f%d", n);
     for (n = 31; n >= 0; n--)
         if (one->gpr[n] != other->gpr[n])
-            snprintf(name, 8, "r%d", n);
+            snprintf(name, 16, "r%d", n);
 }
 
 static void flip(uint8_t *word)
