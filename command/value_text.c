@@ -110,23 +110,27 @@ static int is_nan(uint64_t bits)
 /* The shortest decimal that reads back as the same bits, in a text of at least 32 bytes. */
 static void shortest_double(char *text, uint64_t bits)
 {
+    char other[32];
     int digits;
 
-    for (digits = 1; digits <= 17; digits++) {
-        snprintf(text, 32, "%.*g", digits, double_of(bits));
-        if (bits_of(strtod(text, NULL)) == bits)
-            return;
+    snprintf(text, 32, "%.17g", double_of(bits));
+    for (digits = 16; digits > 0; digits--) {
+        snprintf(other, sizeof other, "%.*g", digits, double_of(bits));
+        if (bits_of(strtod(other, NULL)) == bits && strlen(other) < strlen(text))
+            strcpy(text, other);
     }
 }
 
 static void shortest_single(char *text, uint32_t bits)
 {
+    char other[32];
     int digits;
 
-    for (digits = 1; digits <= 9; digits++) {
-        snprintf(text, 32, "%.*g", digits, (double)single_of(bits));
-        if (single_bits(strtof(text, NULL)) == bits)
-            return;
+    snprintf(text, 32, "%.9g", (double)single_of(bits));
+    for (digits = 8; digits > 0; digits--) {
+        snprintf(other, sizeof other, "%.*g", digits, (double)single_of(bits));
+        if (single_bits(strtof(other, NULL)) == bits && strlen(other) < strlen(text))
+            strcpy(text, other);
     }
 }
 

@@ -208,8 +208,9 @@ static void mark_all_registers(uint64_t convention, uint8_t marks[64])
     plan planned;
     int i;
 
-    for (i = 0; i < 16; i++)
-        add(&list, "%sdouble, u32", i == 0 ? "" : ", ");
+    /* a float may use up a general register: it comes after those that fill them */
+    for (i = 0; i < 32; i++)
+        add(&list, "%s%s", i == 0 ? "" : ", ", i < 16 ? "u32" : "double");
     add_byte(&list, 0);
     add(&text, calls[convention - 1], (char *)list.at);
     memset(&many, 0, sizeof many);
