@@ -56,7 +56,10 @@ test-targets: build/cases $(SHARED) \
     $(foreach target,$(CHOSEN),$(addprefix build/$(target)/, \
         flakuzhen replay $(HEADER_TESTS) $(HEADER_TESTS:%=%-shared)))
 	@scripts/target-tools run $(CHOSEN)
-	@set -e; for target in $(CHOSEN); do scripts/test-target $$target $(HEADER_TESTS); done
+	@set -e; for target in $(CHOSEN); do \
+	    $(MAKE) --no-print-directory dist TARGET=$$target > /dev/null; \
+	    scripts/test-target $$target $(HEADER_TESTS); \
+	done
 
 build/x86_64/plan build/x86_64/stack: build/x86_64/%: targets/%.c include/flakuzhen.h $(ARCHIVE)
 	@mkdir -p $(@D)
