@@ -17,9 +17,9 @@
  * on which functions enter and leave frames. fz_walk_dump_ppc64 and its like find the frames in the
  * memory of a program that hangs.
  *
- * Installed with this header, in share/doc/flakuzhen: call.c plans, fills and reads a call, and
- * variable.c walks one as printf does; COMPILERS.md says in which points compilers of today differ
- * from the conventions, and what to do.
+ * Installed with this header: flakuzhen_text.h, with which signatures are written as text; and in
+ * share/doc/flakuzhen: call.c plans, fills and reads a call, and variable.c walks one as printf does;
+ * COMPILERS.md says in which points compilers of today differ from the conventions, and what to do.
  *
  * Words that come up everywhere:
  *
