@@ -192,8 +192,7 @@ fn the_headers_are_the_librarys() {
         // the row above the frame's header begins where the outgoing area does
         let area = picture
             .lines()
-            .filter(|line| line.ends_with("outgoing area, locals and saves"))
-            .last()
+            .rfind(|line| line.ends_with("outgoing area, locals and saves"))
             .and_then(|line| line.split_whitespace().next())
             .and_then(|word| u64::from_str_radix(word.strip_prefix("0x")?, 16).ok())
             .expect("the latest frame's row");
