@@ -2,8 +2,8 @@
 # make command  build/flakuzhen, the command
 # make test   the whole gate: every proof, every must-fail edit, every comparison
 # make lib    build/libflakuzhen.a and build/libflakuzhen.so with its links, from proved code alone
-# make examples  the same call planned, filled and read by a program in C and one in Rust, and a
-#             variable argument list walked in C
+# make examples  the same call planned, filled and read by a program in C and one in Rust, a variable
+#             argument list walked in C, and plans kept and checked in both
 # make install  the command with its manual page and completions, the libraries and the headers, under
 #             PREFIX=/usr/local; make uninstall removes them
 # make dist   build/dist/flakuzhen-VERSION-MACHINE.tar.gz: all that is installed, for machines without
@@ -11,8 +11,8 @@
 # make fuzz   the command's readers on damaged inputs, under AddressSanitizer; SECONDS=n says for how
 #             long
 # make soak   the comparisons on fresh seeds; SECONDS=n says for how long
-# make bench  the time of planning, filling and reading beside the second program's, and the stack of
-#             each function
+# make bench  the time of planning, filling, reading, storing and checking beside the second program's,
+#             and the stack of each function
 # make lint   what the gate does not ask: layout and clippy of the Rust code
 # make sanitize  the C programs and the Rust tests under AddressSanitizer
 # make clean  remove all that is built
@@ -32,7 +32,7 @@ CC = gcc
 # the inputs of a proof: a change of any file or folder here proves the library again
 PROVED_FROM := crates.txt $(shell find crates -print 2>/dev/null)
 # the crates that export functions
-BRIDGES := bridge bridge_plans bridge_values bridge_walk bridge_starts bridge_frames bridge_dump
+BRIDGES := bridge bridge_plans bridge_values bridge_walk bridge_stored bridge_starts bridge_frames bridge_dump
 ARCHIVE := build/libflakuzhen.a
 # the second planner, for the comparisons: no part of the library, and not installed
 SECOND := build/libsecond.a
@@ -103,12 +103,14 @@ examples: $(ARCHIVE)
 	build/call
 	$(CC) -Iinclude -o build/variable examples/c/variable.c command/signature_text.c $(ARCHIVE)
 	build/variable
+	$(CC) -Iinclude -o build/stored examples/c/stored.c command/signature_text.c $(ARCHIVE)
+	build/stored
 	cd host && cargo run $(CARGO_WORDS) --quiet -p call
+	cd host && cargo run $(CARGO_WORDS) --quiet -p call --bin stored
 
 # DESTDIR is put before PREFIX where files are copied, and nowhere else
 INSTALLED = $(DESTDIR)$(PREFIX)
 DOC := share/doc/flakuzhen
-
 # What is installed besides the libraries and the file for pkg-config: its folder under the prefix,
 # and the file. The folder of documents is ours alone.
 INSTALLED_FILES := \
@@ -117,8 +119,8 @@ INSTALLED_FILES := \
     share/bash-completion/completions:command/completions/flakuzhen \
     share/zsh/site-functions:command/completions/_flakuzhen \
     share/fish/vendor_completions.d:command/completions/flakuzhen.fish \
-    $(DOC):docs/COMPILERS.md $(DOC):examples/c/call.c $(DOC):examples/c/variable.c \
-    $(DOC):command/signature_text.c
+    $(addprefix $(DOC):,docs/COMPILERS.md docs/STORED.md command/signature_text.c \
+        $(addprefix examples/c/,call.c variable.c stored.c))
 folder_of = $(firstword $(subst :, ,$(1)))
 file_of = $(lastword $(subst :, ,$(1)))
 
@@ -182,6 +184,8 @@ bench: $(ARCHIVE) $(SECOND) build/x86_64/stack
 	cd host && cargo run --profile bench --offline --locked --quiet -p compare --bin bench
 	@echo
 	cd host && cargo run --profile bench --offline --locked --quiet -p compare --bin bench-marshal
+	@echo
+	cd host && cargo run --profile bench --offline --locked --quiet -p compare --bin bench-stored
 	@echo
 	build/x86_64/stack
 

@@ -155,20 +155,23 @@ void add_where(bytes *to, const place *where)
 void fail(const place *where, const char *what, ...)
 {
     static const span nothing = {(const uint8_t *)"", 0};
-    static int failing; /* no memory left for the message either */
+    static int failing;
     bytes line = {NULL, 0, 0};
+    span told = span_of("flakuzhen: no memory left\n");
     char text[1024];
     va_list rest;
 
+    /* where there is no memory for the message either, this is called by itself */
     if (failing++ == 0) {
         va_start(rest, what);
         vsnprintf(text, sizeof text, what, rest);
         va_end(rest);
         add_where(&line, where);
         add(&line, "%s\n", text);
+        told = span_of_bytes(&line);
     }
     failing = 0;
-    print(nothing, span_of_bytes(&line), 2);
+    print(nothing, told, 2);
     exit(2);
 }
 
@@ -252,6 +255,11 @@ uint64_t read_number(const place *where, span word)
     if (kind != A_NUMBER)
         fail_at_word(where, "", word, kind == NO_DIGITS ? " is no number" : " is over 64 bits");
     return number;
+}
+
+uint64_t number_or_zero(const char *word)
+{
+    return word == NULL ? 0 : read_number(NULL, span_of(word));
 }
 
 uint64_t big_endian(const uint8_t *from, size_t length)

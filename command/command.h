@@ -69,6 +69,8 @@ enum digits { A_NUMBER, NO_DIGITS, OVER_64_BITS };
 enum digits read_digits(span digits, unsigned radix, uint64_t *number);
 /* A number of 64 bits, decimal or from '0x' on hexadecimal. */
 uint64_t read_number(const place *where, span word);
+/* The same of a word that may be missing, which is 0. */
+uint64_t number_or_zero(const char *word);
 /* The number that bytes say, the highest first. */
 uint64_t big_endian(const uint8_t *from, size_t length);
 
@@ -126,7 +128,8 @@ bytes read_bytes(const words *given, const char *path, size_t largest);
 /* A convention's code of its word. */
 uint64_t read_convention(const place *where, span word);
 
-/* Writes a file whole or not at all: to a new name, synced, renamed. */
+/* Writes a file whole or not at all: to a new file in the same folder, which is synced and then takes
+ * the name. A link is followed, and an older file's permissions stay. */
 void write_file(const char *path, span content);
 
 /* ---- signature.c: the signatures in files ---- */
@@ -154,6 +157,8 @@ void add_refusal(bytes *out, fz_answer answer);
 void tell_refusal(bytes *told, const source *of, fz_answer answer);
 /* The same of one that is about no signature, with the words before its name. */
 void tell_number(bytes *told, const place *where, const char *about, uint64_t number);
+/* Ends with status 2 where a signature is refused that something shall be compared with. */
+void fail_refused(const source *of, fz_answer answer);
 const char *refusal_name(uint64_t number);
 const char *refusal_meaning(uint64_t number);
 
@@ -198,6 +203,9 @@ typedef struct {
     uint64_t base; /* the address of the copies */
 } call;
 
+#define IMAGE_BYTES 512
+/* Adds the line of a call's signature that is refused and tells of it, where it is. */
+int refuses_call(const source *of, const plan *planned, outcome *to);
 /* Adds the arguments with their places, what stands there and their values. */
 void add_call(const plan *of, const call *on, int as_json, outcome *to);
 
@@ -211,6 +219,8 @@ void explain_verb(words *given, outcome *to);
 void diff_verb(words *given, outcome *to);
 void values_verb(words *given, outcome *to);
 void fill_verb(words *given, outcome *to);
+void store_verb(words *given, outcome *to);
+void check_verb(words *given, outcome *to);
 void replay_verb(words *given, outcome *to);
 void dump_verb(words *given, outcome *to);
 

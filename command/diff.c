@@ -150,13 +150,9 @@ static void diff(const plan *old, const plan *new, outcome *to)
 static plan plan_or_fail(const source *of)
 {
     plan planned = plan_of(of);
-    fz_answer answer = planned.whole.answer;
 
-    if (answer.number != FZ_ACCEPTED)
-        fail(&of->where, "refused %llu at %llu after %llu: %s (%llu): %s",
-             (unsigned long long)answer.number, (unsigned long long)answer.place,
-             (unsigned long long)answer.items, refusal_name(answer.number),
-             (unsigned long long)answer.number, refusal_meaning(answer.number));
+    if (planned.whole.answer.number != FZ_ACCEPTED)
+        fail_refused(of, planned.whole.answer);
     return planned;
 }
 

@@ -101,6 +101,22 @@ static const struct verb {
      "          hexadecimal\n"
      "--base    the address of the copies, a multiple of 8; 0 where it is not said\n"
      "--hidden  the address for a result in memory; 0 where it is not said\n"},
+    {"store", HEX | TEXT | OUT, store_verb, "[--hex|--text] FILE -o OUT",
+     "writes the plan of a signature to a file, in bytes that hold the signature too",
+     SIGNATURE_FILES
+     "FILE      holds one signature; '-' is standard input\n"
+     "-o OUT    the file that is written: whole, or it stays as it was\n"
+     "\n"
+     "Prints 'stored N bytes'; or 'refused NUMBER at PLACE after ITEMS'.\n"},
+    {"check", HEX | TEXT, check_verb, "[--hex|--text] STORED SIGNATURE",
+     "prints 'fresh' where a stored plan is what 'store' writes for the signature today",
+     SIGNATURE_FILES
+     "STORED    holds a plan as 'store' writes it, never as text; either file may be '-', standard\n"
+     "          input\n"
+     "SIGNATURE holds one signature, which must be accepted\n"
+     "\n"
+     "Else prints 'stale at PLACE', the first byte that differs, with what that is part of: the\n"
+     "signature, an argument or the result. Exit status 0: fresh; 1: stale.\n"},
     {"replay", PICTURE, replay_verb, "[--picture] FILE",
      "makes calls of the frame machine, on registers and memory of zeros",
      "--picture draws the stack too, from the highest address down, after each call that changes\n"
@@ -134,10 +150,10 @@ static const struct verb {
 
 static const char statuses[] =
     "Exit status\n"
-    "0  all accepted; diff: nothing moved\n"
-    "1  something was refused; diff: something moved or is gone\n"
-    "2  a word, a file or a line is wrong, or a signature that diff shall compare is refused: one\n"
-    "   line on standard error says which, and nothing is printed\n";
+    "0  all accepted; diff: nothing moved; check: fresh\n"
+    "1  something was refused; diff: something moved or is gone; check: stale\n"
+    "2  a word, a file or a line is wrong, or a signature that diff or check shall compare is\n"
+    "   refused: one line on standard error says which, and nothing is printed\n";
 
 static void add_help(bytes *out)
 {

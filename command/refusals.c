@@ -77,7 +77,7 @@ static const struct {
      "a float's general registers hold other bytes than its floating register",
      "Under an ellipsis gcc leaves the general registers of named floats as they are. Read the call\n"
      "by the signature without the ellipsis (docs/COMPILERS.md)."},
-    {27, "FZ_STALE", "a stored plan that is not the one of this signature today",
+    {27, "FZ_STALE", "the stored bytes are not the signature's plan",
      "The place is the first byte that differs, or the shorter length. Store the plan again."},
     {28, "FZ_ABOVE_LEAF", "an enter above a leaf", "A leaf calls nothing: leave it first."},
     {29, "FZ_UNCLEAR_PLACE", "a long double for which only f13 is left",
@@ -176,6 +176,14 @@ void tell_refusal(bytes *told, const source *of, fz_answer answer)
         add(told, "this looks like a signature's text, and was taken as bytes: try --text\n");
     }
     free(about.at);
+}
+
+void fail_refused(const source *of, fz_answer answer)
+{
+    fail(&of->where, "refused %llu at %llu after %llu: %s (%llu): %s",
+         (unsigned long long)answer.number, (unsigned long long)answer.place,
+         (unsigned long long)answer.items, refusal_name(answer.number),
+         (unsigned long long)answer.number, refusal_meaning(answer.number));
 }
 
 void explain_verb(words *given, outcome *to)

@@ -1,10 +1,12 @@
 /* What the command is told: options, other words, and the files that they name. */
-#define _POSIX_C_SOURCE 200809L
+#define _XOPEN_SOURCE 700
 #include "command.h"
 #include <errno.h>
+#include <fcntl.h>
 #include <stdio.h>
 #include <stdlib.h>
 #include <string.h>
+#include <sys/stat.h>
 #include <unistd.h>
 
 /* ---- options ---- */
@@ -128,49 +130,117 @@ bytes read_bytes(const words *given, const char *path, size_t largest)
     return content;
 }
 
-/* The folder of a path, to be synced after a file in it has its new name. */
-static void sync_folder(const char *path)
+/* The path of the file that is replaced: of a link, what it leads to. Gives the permissions that it has,
+ * or -1 where there is no file. */
+static int replaced_file(const place *where, const char *path, bytes *to)
 {
-    const char *slash = strrchr(path, '/');
-    bytes folder = {NULL, 0, 0};
-    FILE *file;
+    struct stat old;
+    char *real;
 
-    if (slash == NULL)
-        add(&folder, ".");
-    else
-        add(&folder, "%.*s", (int)(slash == path ? 1 : slash - path), path);
-    add_byte(&folder, 0);
-    file = fopen((char *)folder.at, "r");
-    if (file != NULL) {
-        /* not every system has this for folders, and the file is whole in any case */
-        (void)!fsync(fileno(file));
-        fclose(file);
+    if (stat(path, &old) != 0) {
+        if (errno != ENOENT)
+            fail(where, "%s (os error %d)", strerror(errno), errno);
+        if (lstat(path, &old) == 0)
+            fail(where, "a link that leads nowhere");
+        add(to, "%s", path);
+        return -1;
     }
+    if (!S_ISREG(old.st_mode))
+        fail(where, "not a regular file");
+    real = realpath(path, NULL);
+    if (real == NULL)
+        fail(where, "%s (os error %d)", strerror(errno), errno);
+    add(to, "%s", real);
+    free(real);
+    return (int)(old.st_mode & 07777);
+}
+
+/* Opens a new file of a name that is free, beside the path. */
+static int new_file(const place *where, const char *path, const char *name, bytes *to)
+{
+    int number, file = -1;
+
+    for (number = 0; number < 100 && file < 0; number++) {
+        to->length = 0;
+        add(to, "%.*s.%s.%ld.%d.new", (int)(name - path), path, name, (long)getpid(), number);
+        add_byte(to, 0);
+        file = open((char *)to->at, O_WRONLY | O_CREAT | O_EXCL, 0666);
+        if (file < 0 && errno != EEXIST)
+            break;
+    }
+    if (file < 0)
+        fail(where, "%s (os error %d)", strerror(errno), errno);
+    return file;
+}
+
+/* Writes all of it, with these permissions unless they are -1, and syncs. */
+static int write_all(int file, span content, int permissions)
+{
+    while (content.length > 0) {
+        ssize_t count = write(file, content.at, content.length);
+
+        if (count < 0 && errno == EINTR)
+            continue;
+        if (count < 0)
+            return -1;
+        content = without(content, (size_t)count);
+    }
+    if (permissions >= 0 && fchmod(file, (mode_t)permissions) != 0)
+        return -1;
+    return fsync(file);
+}
+
+/* Syncs the folder that a file is in: then its name is on the disk. */
+static int sync_folder(const char *path, const char *name)
+{
+    bytes folder = {NULL, 0, 0};
+    int file, status;
+
+    add(&folder, "%.*s", (int)(name - path), name == path ? "" : path);
+    if (folder.length == 0)
+        add(&folder, ".");
+    add_byte(&folder, 0);
+    file = open((char *)folder.at, O_RDONLY);
     free(folder.at);
+    if (file < 0)
+        return -1;
+    status = fsync(file);
+    /* some file systems have no such call for folders */
+    if (status != 0 && errno == EINVAL)
+        status = 0;
+    close(file);
+    return status;
 }
 
 void write_file(const char *path, span content)
 {
     place where = {{NULL, 0, 0}, 0, 0};
-    bytes new_name = {NULL, 0, 0};
-    FILE *file;
+    bytes replaced = {NULL, 0, 0}, new_name = {NULL, 0, 0};
+    const char *to, *name;
+    int permissions, file, fault = 0;
 
     add_quoted(&where.file, span_of(path));
-    add(&new_name, "%s.%ld.new", path, (long)getpid());
-    add_byte(&new_name, 0);
-    file = fopen((char *)new_name.at, "wb");
-    if (file == NULL)
-        fail(&where, "%s (os error %d)", strerror(errno), errno);
-    if (fwrite(content.at, 1, content.length, file) != content.length || fflush(file) != 0 ||
-        fsync(fileno(file)) != 0 || fclose(file) != 0 ||
-        rename((char *)new_name.at, path) != 0) {
-        int fault = errno;
-
-        remove((char *)new_name.at);
+    permissions = replaced_file(&where, path, &replaced);
+    add_byte(&replaced, 0);
+    to = (char *)replaced.at;
+    name = strrchr(to, '/') == NULL ? to : strrchr(to, '/') + 1;
+    if (*name == '\0')
+        fail(&where, "no file name");
+    file = new_file(&where, to, name, &new_name);
+    if (write_all(file, content, permissions) != 0)
+        fault = errno;
+    if (close(file) != 0 && fault == 0)
+        fault = errno;
+    if (fault == 0 && rename((char *)new_name.at, to) != 0)
+        fault = errno;
+    if (fault != 0)
+        unlink((char *)new_name.at);
+    else if (sync_folder(to, name) != 0)
+        fault = errno;
+    if (fault != 0)
         fail(&where, "%s (os error %d)", strerror(fault), fault);
-    }
-    sync_folder(path);
     free(new_name.at);
+    free(replaced.at);
     free(where.file.at);
 }
 

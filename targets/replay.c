@@ -32,6 +32,10 @@ enum {
     WALK_DUMP_PPC64,
     WALK_DUMP_Z,
     WALK_DUMP_AIX,
+    STORED_LENGTH,
+    STORE_PLAN,
+    CHECK_PLAN,
+    FILL_STORED,
     OPERATIONS,
     SET_MACHINE = 100,
     CHANGE_MACHINE = 101
@@ -66,6 +70,10 @@ static const struct shape {
     [WALK_DUMP_Z] = {"fz_walk_dump_z", 2, 2, 4, 0},
     [WALK_DUMP_AIX] = {"fz_walk_dump_aix", 2, 2, 4, 0},
     [START_PPC64B] = {"fz_start_ppc64b", 2, 1, 3, 2},
+    [STORED_LENGTH] = {"fz_stored_length", 0, 1, 4, 0},
+    [STORE_PLAN] = {"fz_store_plan", 0, 2, 4, 0},
+    [CHECK_PLAN] = {"fz_check_plan", 0, 2, 3, 0},
+    [FILL_STORED] = {"fz_fill_stored", 2, 6, 3, 0},
 };
 
 #define MOST_NUMBERS 4
@@ -352,6 +360,38 @@ static void call_values(int operation, const uint64_t *numbers)
     }
 }
 
+/* Calls of stored plans: the buffers are in the order of the function's parameters. */
+static void call_stored(int operation, const uint64_t *numbers)
+{
+    uint8_t *at[MOST_LENT];
+    size_t length[MOST_LENT];
+    fz_stored stored;
+    int i;
+
+    for (i = 0; i < shapes[operation].lent; i++) {
+        at[i] = lent(&own[i]);
+        length[i] = own[i].length;
+    }
+    switch (operation) {
+    case STORED_LENGTH:
+    case STORE_PLAN:
+        stored = operation == STORED_LENGTH
+                     ? fz_stored_length(at[0], length[0])
+                     : fz_store_plan(at[0], length[0], at[1], length[1]);
+        set_answer(stored.answer);
+        answer[3] = stored.length;
+        break;
+    case CHECK_PLAN:
+        set_answer(fz_check_plan(at[0], length[0], at[1], length[1]));
+        break;
+    case FILL_STORED:
+        set_answer(fz_fill_stored(at[0], length[0], at[1], length[1], at[2], length[2], at[3],
+                                  length[3], at[4], length[4], at[5], length[5], numbers[0],
+                                  numbers[1]));
+        break;
+    }
+}
+
 /* Starts a walk, or takes a step of it: the walker is the first buffer, between words that no call may
  * change. */
 static void call_walker(int operation, const uint64_t *numbers)
@@ -471,6 +511,8 @@ static void replay(int operation)
     memset(answer, 0xc5, sizeof answer);
     if (shape->kept)
         call_machine(operation, numbers);
+    else if (operation >= STORED_LENGTH)
+        call_stored(operation, numbers);
     else if (operation == PLAN || operation >= WALK_DUMP_PPC64)
         call_table(operation, numbers);
     else if (operation >= WALK_START)

@@ -57,10 +57,14 @@ static size_t written(void (*call)(void))
 #define LARGEST_STRUCT 256
 #define MEMORY 65536
 #define BASE UINT64_C(0x10000)
+/* more than any plan takes in bytes */
+#define LONGEST_PLAN 65536
 
 static uint8_t sig[LONGEST], values[MOST_ARGUMENTS * LARGEST_STRUCT], image[512];
 static uint8_t area[MOST_ARGUMENTS * LARGEST_STRUCT + 8];
 static uint8_t copies[MOST_ARGUMENTS * LARGEST_STRUCT], memory[MEMORY];
+static uint8_t stored[LONGEST_PLAN];
+static size_t stored_length;
 static size_t sig_length, arguments;
 static fz_sizes sizes;
 static char text[1 << 16];
@@ -201,6 +205,29 @@ static void call_fill(void)
                  .number;
 }
 
+static void call_stored_length(void)
+{
+    number = fz_stored_length(sig, sig_length).answer.number;
+}
+
+static void call_store_plan(void)
+{
+    number = fz_store_plan(sig, sig_length, stored, sizeof stored).answer.number;
+}
+
+static void call_check_plan(void)
+{
+    number = fz_check_plan(stored, stored_length, sig, sig_length).number;
+}
+
+static void call_fill_stored(void)
+{
+    number = fz_fill_stored(stored, stored_length, sig, sig_length, values, (size_t)sizes.values,
+                            image, sizeof image, area, (size_t)sizes.area, copies,
+                            (size_t)sizes.copies, BASE, BASE)
+                 .number;
+}
+
 static void call_read(void)
 {
     number = fz_read(sig, sig_length, values, (size_t)sizes.values, image, sizeof image, area,
@@ -333,6 +360,10 @@ enum {
     WALK_DUMP_PPC64,
     WALK_DUMP_Z,
     WALK_DUMP_AIX,
+    STORED_LENGTH,
+    STORE_PLAN,
+    CHECK_PLAN,
+    FILL_STORED,
     FUNCTIONS
 };
 
@@ -365,6 +396,10 @@ static struct {
     [WALK_DUMP_PPC64] = {"fz_walk_dump_ppc64", call_walk_dump_ppc64, 0},
     [WALK_DUMP_Z] = {"fz_walk_dump_z", call_walk_dump_z, 0},
     [WALK_DUMP_AIX] = {"fz_walk_dump_aix", call_walk_dump_aix, 0},
+    [STORED_LENGTH] = {"fz_stored_length", call_stored_length, 0},
+    [STORE_PLAN] = {"fz_store_plan", call_store_plan, 0},
+    [CHECK_PLAN] = {"fz_check_plan", call_check_plan, 0},
+    [FILL_STORED] = {"fz_fill_stored", call_fill_stored, 0},
 };
 
 static size_t without_library;
@@ -404,6 +439,28 @@ static void measure_steps(uint8_t convention, const type *of)
     }
 }
 
+/* Storing a plan, checking what was stored, fresh and with its last byte changed, and filling from
+   it. */
+static void measure_stored(void)
+{
+    uint64_t accepted = expected;
+
+    stored_length = 0;
+    measure(STORED_LENGTH);
+    measure(STORE_PLAN);
+    if (accepted == 0) {
+        stored_length = (size_t)fz_stored_length(sig, sig_length).length;
+        stored[stored_length - 1] ^= 1;
+        expected = FZ_STALE;
+        measure(CHECK_PLAN);
+        measure(FILL_STORED);
+        stored[stored_length - 1] ^= 1;
+        expected = 0;
+    }
+    measure(CHECK_PLAN);
+    measure(FILL_STORED);
+}
+
 static void measure_signature(uint8_t convention, const type *of, int ellipsis)
 {
     put_signature(convention, of, ellipsis);
@@ -418,6 +475,7 @@ static void measure_signature(uint8_t convention, const type *of, int ellipsis)
     expected = unclear(convention, of) ? FZ_UNCLEAR_PLACE : 0;
     measure(MEASURE);
     measure(PLAN);
+    measure_stored();
     measure(FILL);
     measure(READ);
     if (convention != 2) {

@@ -1,5 +1,5 @@
 # Completion of flakuzhen for fish: verbs, their options, and files.
-set -l verbs list read encode decode diff values fill replay dump explain
+set -l verbs list read encode decode diff values fill store check replay dump explain
 complete -c flakuzhen -n "not __fish_seen_subcommand_from $verbs" -f
 complete -c flakuzhen -n "not __fish_seen_subcommand_from $verbs" -l version -d 'its version'
 complete -c flakuzhen -l help -d 'how it is used'
@@ -10,11 +10,13 @@ complete -c flakuzhen -n "not __fish_seen_subcommand_from $verbs" -a decode -d '
 complete -c flakuzhen -n "not __fish_seen_subcommand_from $verbs" -a diff -d 'the places of two signatures'
 complete -c flakuzhen -n "not __fish_seen_subcommand_from $verbs" -a values -d 'the arguments of a call'
 complete -c flakuzhen -n "not __fish_seen_subcommand_from $verbs" -a fill -d 'values into registers and memory'
+complete -c flakuzhen -n "not __fish_seen_subcommand_from $verbs" -a store -d 'a plan to a file'
+complete -c flakuzhen -n "not __fish_seen_subcommand_from $verbs" -a check -d 'a stored plan against a signature'
 complete -c flakuzhen -n "not __fish_seen_subcommand_from $verbs" -a replay -d 'calls of the frame machine'
 complete -c flakuzhen -n "not __fish_seen_subcommand_from $verbs" -a dump -d 'the frames in a memory'
 complete -c flakuzhen -n "not __fish_seen_subcommand_from $verbs" -a explain -d 'what refusals mean'
-complete -c flakuzhen -n "__fish_seen_subcommand_from list read encode decode diff values fill dump" -l hex -d 'hexadecimal text'
-complete -c flakuzhen -n "__fish_seen_subcommand_from list read decode diff values fill" -l text -d 'a signature as text'
+complete -c flakuzhen -n "__fish_seen_subcommand_from list read encode decode diff values fill store check dump" -l hex -d 'hexadecimal text'
+complete -c flakuzhen -n "__fish_seen_subcommand_from list read decode diff values fill store check" -l text -d 'a signature as text'
 complete -c flakuzhen -n "__fish_seen_subcommand_from list replay dump" -l picture -d 'draw it'
 complete -c flakuzhen -n "__fish_seen_subcommand_from list" -l compilers -d 'where compilers differ'
 complete -c flakuzhen -n "__fish_seen_subcommand_from values" -l json -d 'for programs'
@@ -23,4 +25,5 @@ complete -c flakuzhen -n "__fish_seen_subcommand_from values fill" -l area -r -d
 complete -c flakuzhen -n "__fish_seen_subcommand_from values fill" -l copies -r -d 'the copies'
 complete -c flakuzhen -n "__fish_seen_subcommand_from values fill" -l base -x -d 'the address of the copies'
 complete -c flakuzhen -n "__fish_seen_subcommand_from fill" -l hidden -x -d 'the address for the result'
+complete -c flakuzhen -n "__fish_seen_subcommand_from store" -s o -r -d 'the file to write'
 complete -c flakuzhen -n "__fish_seen_subcommand_from dump" -a 'ppc64 z aix ppc64b' -d 'convention'

@@ -1,10 +1,11 @@
-//! Calls at random: what filling, reading, home and view are lent, all in order or with faults of
+//! Calls at random: what filling, from stored bytes too, reading, home and view are lent, all in order or with faults of
 //! which it is known in which order they are tested.
 
 use crate::encode;
 use crate::generate;
 use crate::plans;
 use crate::random::Random;
+use crate::stored;
 use reference::float_bits::{narrow, widen};
 use reference::{ArgumentPlan, Convention, Float, Place, Plan, ResultPlan, Signature, Type};
 use std::collections::BTreeSet;
@@ -22,11 +23,13 @@ pub enum Operation {
     Read,
     Home,
     View,
+    FillStored,
 }
 
 /// All that one of the operations may be lent. None of them takes everything.
 #[derive(Clone, Debug, Default, PartialEq, Eq)]
 pub struct Call {
+    pub stored: Vec<u8>,
     pub signature: Vec<u8>,
     pub values: Vec<u8>,
     pub image: Vec<u8>,
@@ -40,8 +43,10 @@ pub struct Call {
 /// What is wrong with a call, in the order in which it is tested.
 #[derive(Clone, Copy, Debug, PartialEq, Eq, PartialOrd, Ord)]
 pub enum Fault {
-    /// Refusals 1 to 9 and 25.
+    /// Refusals 1 to 9, 25 and 29.
     Signature,
+    /// Stored bytes that are not those of the signature's plan.
+    Stale,
     /// Home or view of Z.
     ForZ,
     /// A view of an argument that is not there.
@@ -71,6 +76,7 @@ impl Fault {
     pub fn number(self) -> Option<u64> {
         Some(match self {
             Fault::Signature => return None,
+            Fault::Stale => 27,
             Fault::ForZ | Fault::NoArgument => 24,
             Fault::ImageSize => 15,
             Fault::ValuesSize => 10,
@@ -87,18 +93,35 @@ impl Fault {
 }
 
 impl Operation {
-    pub const ALL: [Operation; 4] = [
+    pub const ALL: [Operation; 5] = [
         Operation::Fill,
         Operation::Read,
         Operation::Home,
         Operation::View,
+        Operation::FillStored,
     ];
+
+    /// Whether it puts values.
+    pub fn fills(self) -> bool {
+        matches!(self, Operation::Fill | Operation::FillStored)
+    }
 
     /// The faults that this operation tests, in its order.
     pub fn faults(self) -> &'static [Fault] {
         match self {
             Operation::Fill => &[
                 Fault::Signature,
+                Fault::ImageSize,
+                Fault::ValuesSize,
+                Fault::AreaTooShort,
+                Fault::CopiesTooShort,
+                Fault::BaseUnaligned,
+                Fault::BaseTooHigh,
+                Fault::HiddenTooHigh,
+            ],
+            Operation::FillStored => &[
+                Fault::Signature,
+                Fault::Stale,
                 Fault::ImageSize,
                 Fault::ValuesSize,
                 Fault::AreaTooShort,
@@ -167,7 +190,7 @@ pub fn case(random: &mut Random, operation: Operation) -> Case {
         edges: BTreeSet::new(),
     };
     match operation {
-        Operation::Fill => {
+        Operation::Fill | Operation::FillStored => {
             note_singles(&mut case);
             make_copies_to_fill(random, &mut case);
             make_hidden(random, &mut case);
@@ -182,6 +205,9 @@ pub fn case(random: &mut Random, operation: Operation) -> Case {
         Operation::View => make_index(random, &mut case),
     }
     make_lengths(random, &mut case);
+    if operation == Operation::FillStored {
+        make_stored(random, &mut case);
+    }
     if case.faults.contains(&Fault::Signature) {
         break_signature(random, &mut case.call);
     }
@@ -249,7 +275,11 @@ fn conventions_for(operation: Operation, faults: &BTreeSet<Fault>) -> &'static [
 /// Whether a call of this signature can have this fault.
 fn can_have(fault: Fault, signature: &Signature, plan: &Plan) -> bool {
     match fault {
-        Fault::Signature | Fault::ImageSize | Fault::ValuesSize | Fault::NoArgument => true,
+        Fault::Signature
+        | Fault::Stale
+        | Fault::ImageSize
+        | Fault::ValuesSize
+        | Fault::NoArgument => true,
         Fault::ForZ => signature.convention == Convention::Z,
         Fault::AreaTooShort => plan.area > 0,
         Fault::CopiesTooShort | Fault::BaseUnaligned | Fault::OutsideCopies => plan.copies > 0,
@@ -406,6 +436,19 @@ fn make_hidden(random: &mut Random, case: &mut Case) {
     };
     case.call.hidden = hidden;
     case.edges.extend(edge);
+}
+
+/// The stored bytes of the call's signature, or others.
+fn make_stored(random: &mut Random, case: &mut Case) {
+    let own =
+        reference::stored::bytes(&case.call.signature).expect("a signature within all limits");
+    if case.faults.contains(&Fault::Stale) {
+        let (stale, edge) = stored::stale(random, &case.signature, &own);
+        case.call.stored = stale;
+        case.edges.insert((Some(Fault::Stale), edge));
+    } else {
+        case.call.stored = own;
+    }
 }
 
 /// What a call that is read finds in its registers, area and copies.
@@ -810,12 +853,14 @@ fn resize(random: &mut Random, buffer: &mut Vec<u8>, lengths: &[usize]) {
 /// Gives the call a signature that is refused: mostly its own with some damage.
 fn break_signature(random: &mut Random, call: &mut Call) {
     loop {
-        let broken = match random.below(8) {
+        let broken = match random.below(9) {
             0 | 1 => generate::faulty(random),
-            2 => of_another_convention(random, &call.signature),
+            // refusal 29
+            2 => encode::signature(&generate::unclear(random)),
+            3 => of_another_convention(random, &call.signature),
             _ => generate::damaged(random, &call.signature),
         };
-        if reference::read(&broken).is_err() {
+        if reference::call(&broken).is_err() {
             call.signature = broken;
             return;
         }

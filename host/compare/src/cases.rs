@@ -20,6 +20,7 @@ mod dumps;
 mod floats;
 mod machines;
 mod signatures;
+mod stored;
 mod walks;
 
 use crate::random::Random;
@@ -27,7 +28,7 @@ use std::collections::BTreeMap;
 use std::fmt;
 
 /// The calls in a file of cases, at the least.
-pub const LEAST: usize = 60_000;
+pub const LEAST: usize = 80_000;
 
 /// What a case is of, with its code in the file.
 #[derive(Clone, Copy, Debug, PartialEq, Eq, PartialOrd, Ord)]
@@ -55,6 +56,10 @@ pub enum Operation {
     WalkDumpPpc64 = 21,
     WalkDumpZ = 22,
     WalkDumpAix = 23,
+    StoredLength = 24,
+    StorePlan = 25,
+    CheckPlan = 26,
+    FillStored = 27,
     /// No call: the state and the memory that the next calls of the frame machine find.
     SetMachine = 100,
     /// No call: changes of that state and that memory.
@@ -63,7 +68,7 @@ pub enum Operation {
 
 impl Operation {
     /// Those that call the library.
-    pub const CALLS: [Operation; 23] = [
+    pub const CALLS: [Operation; 27] = [
         Operation::ReadSignature,
         Operation::Measure,
         Operation::Listing,
@@ -87,6 +92,10 @@ impl Operation {
         Operation::WalkDumpPpc64,
         Operation::WalkDumpZ,
         Operation::WalkDumpAix,
+        Operation::StoredLength,
+        Operation::StorePlan,
+        Operation::CheckPlan,
+        Operation::FillStored,
     ];
 
     fn is_call(self) -> bool {
@@ -137,6 +146,7 @@ pub fn all(seed: u64, least: usize) -> Vec<Case> {
     let mut cases = signatures::boundaries();
     cases.extend(floats::boundaries(&mut random));
     cases.extend(dumps::boundaries(&mut random));
+    cases.extend(stored::boundaries());
     while count_calls(&cases) < least {
         signatures::some(&mut random, &mut cases);
         floats::some(&mut random, &mut cases);
@@ -144,6 +154,7 @@ pub fn all(seed: u64, least: usize) -> Vec<Case> {
         calls::some(&mut random, &mut cases);
         walks::some(&mut random, &mut cases);
         dumps::some(&mut random, &mut cases);
+        stored::some(&mut random, &mut cases);
     }
     cases
 }

@@ -113,6 +113,29 @@ pub fn fitting(
     signature
 }
 
+/// A signature that refusal 29 is for: a long double after twelve floats, with integers between them
+/// and any arguments behind it.
+pub fn unclear(random: &mut Random) -> Signature {
+    let convention = Convention::Ppc64b;
+    let mut arguments = Vec::new();
+    for _ in 0..12 {
+        if random.once_in(3) {
+            arguments.push(Type::Integer(Integer::I32));
+        }
+        arguments.push(Type::Float(random.pick(&[Float::Single, Float::Double])));
+    }
+    arguments.push(Type::Float(Float::LongDouble));
+    for _ in 0..random.below(4) {
+        arguments.push(valid_type(random, convention));
+    }
+    Signature {
+        convention,
+        result: None,
+        ellipsis: any_ellipsis(random),
+        arguments,
+    }
+}
+
 /// Gives a signature an ellipsis, where that does not make it too long.
 pub fn add_ellipsis(signature: &mut Signature) {
     signature.ellipsis = true;

@@ -19,6 +19,7 @@ pub mod plans;
 pub mod random;
 pub mod second_planner;
 pub mod signatures;
+pub mod stored;
 pub mod timing;
 pub mod usual;
 pub mod walks;

@@ -1,4 +1,4 @@
-//! Filling, reading, home and view compared: the answer and every byte that is lent, also of what
+//! Filling, from stored bytes too, reading, home and view compared: the answer and every byte that is lent, also of what
 //! is only read, with guards on either side, after yes and after each refusal.
 
 use crate::calls::{self, Call, Case, Fault, Operation};
@@ -7,20 +7,24 @@ use crate::random::Random;
 use crate::signatures::{hex, refused, ACCEPTED};
 use crate::Difference;
 use flakuzhen::surface::marshal::{self as surface, Part};
+use flakuzhen::surface::stored as stored_surface;
 use flakuzhen::surface::Answer;
-use reference::{compact, marshal as second, Convention, Refusal};
+use reference::{compact, marshal as second, stored as second_stored, Convention, Refusal};
 use std::collections::BTreeMap;
 use std::fmt;
 use std::hint::black_box;
+
+/// One more than the highest number of a refusal.
+const ANSWERS: usize = 34;
 
 /// What was seen of one operation.
 #[derive(Clone)]
 pub struct Histogram {
     pub operation: Operation,
     /// Yes at 0, each refusal at its number.
-    pub answers: [u64; 30],
+    pub answers: [u64; ANSWERS],
     /// How many of each had a count of items.
-    pub counted: [u64; 30],
+    pub counted: [u64; ANSWERS],
     /// How often each fault was the one that was answered.
     pub faults: BTreeMap<Fault, u64>,
     /// How often a call had both of these, and the first was answered.
@@ -38,8 +42,8 @@ impl Histogram {
     fn new(operation: Operation) -> Histogram {
         Histogram {
             operation,
-            answers: [0; 30],
-            counted: [0; 30],
+            answers: [0; ANSWERS],
+            counted: [0; ANSWERS],
             faults: BTreeMap::new(),
             orders: BTreeMap::new(),
             edges: BTreeMap::new(),
@@ -92,7 +96,7 @@ impl fmt::Display for Histogram {
                 _ => write!(to, ", {number}: {count} ({counted} counted)")?,
             }
         }
-        if self.operation == Operation::Fill {
+        if self.operation.fills() {
             write!(
                 to,
                 "\n  read back {}, viewed back {}",
@@ -176,6 +180,7 @@ fn no_part(answer: Answer) -> Part {
 /// Has the second program do it.
 pub fn expected(operation: Operation, call: &mut Call) -> Part {
     let Call {
+        stored,
         signature,
         values,
         image,
@@ -195,6 +200,10 @@ pub fn expected(operation: Operation, call: &mut Call) -> Part {
         Operation::View => {
             second::view(area, signature, *index).map(|part| (part.start, part.len()))
         }
+        Operation::FillStored => second_stored::fill(
+            stored, signature, values, image, area, copies, *base, *hidden,
+        )
+        .map(nothing),
     })
 }
 
@@ -213,7 +222,7 @@ fn expected_by_compact(operation: Operation, call: &mut Call) -> Option<Part> {
     let result = match operation {
         Operation::Fill => compact::fill(signature, values, image, area, copies, *base, *hidden),
         Operation::Read => compact::read(signature, values, image, area, copies, *base),
-        Operation::Home | Operation::View => return None,
+        Operation::Home | Operation::View | Operation::FillStored => return None,
     };
     Some(answer_of(result.map(|()| (0, 0))))
 }
@@ -221,6 +230,7 @@ fn expected_by_compact(operation: Operation, call: &mut Call) -> Option<Part> {
 /// Has the library do it. Nothing where it changed a byte outside of what it was lent.
 fn given(operation: Operation, call: &mut Call, shift: usize) -> Option<Part> {
     let lend = |bytes: &[u8]| Lent::new(bytes, shift);
+    let mut stored = lend(&call.stored);
     let mut signature = lend(&call.signature);
     let mut values = lend(&call.values);
     let mut image = lend(&call.image);
@@ -247,8 +257,19 @@ fn given(operation: Operation, call: &mut Call, shift: usize) -> Option<Part> {
         )),
         Operation::Home => no_part(surface::home(signature.part(), image.part(), area.part())),
         Operation::View => surface::view(area.part(), signature.part(), index),
+        Operation::FillStored => no_part(stored_surface::fill(
+            stored.part(),
+            signature.part(),
+            values.part(),
+            image.part(),
+            area.part(),
+            copies.part(),
+            base,
+            hidden,
+        )),
     };
     // what was lent to be read is looked at again, whatever the compiler knows of it
+    call.stored = black_box(stored).content()?;
     call.signature = black_box(signature).content()?;
     call.values = black_box(values).content()?;
     call.image = black_box(image).content()?;
@@ -286,6 +307,7 @@ pub fn compare(
         return Err(told(operation, call, &what));
     }
     let buffers = [
+        ("stored", &given_call.stored, &expected_call.stored),
         ("signature", &given_call.signature, &expected_call.signature),
         ("values", &given_call.values, &expected_call.values),
         ("image", &given_call.image, &expected_call.image),
@@ -308,8 +330,9 @@ pub fn compare(
 /// A difference with all of its call.
 fn told(operation: Operation, call: &Call, what: &str) -> Difference {
     Difference(format!(
-        "{operation:?}: {what}\nsignature {}\nvalues {}\nimage {}\narea {}\ncopies {}\n\
+        "{operation:?}: {what}\nstored {}\nsignature {}\nvalues {}\nimage {}\narea {}\ncopies {}\n\
          base {:#x}, hidden {:#x}, index {}",
+        hex(&call.stored),
         hex(&call.signature),
         hex(&call.values),
         hex(&call.image),
@@ -346,7 +369,7 @@ fn compare_case(random: &mut Random, seen: &mut Histogram) -> Result<(), Differe
         ));
     }
     seen.count(&case, part.answer);
-    if operation == Operation::Fill && number == 0 {
+    if operation.fills() && number == 0 {
         compare_back(&case, &after, seen)?;
     }
     Ok(())

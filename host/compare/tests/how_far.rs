@@ -5,6 +5,7 @@
 use compare::calls::{Call, Operation};
 use compare::{marshal, plans, signatures, walks};
 use flakuzhen::surface::marshal as surface;
+use flakuzhen::surface::stored::Stored;
 use flakuzhen::surface::{self as library, Answer};
 use reference::walker::Walker;
 
@@ -207,6 +208,7 @@ const REFUSED: [(&str, u64, u64, u64); 58] = [
 /// A call that is refused for its signature alone: its other faults come later.
 fn call(signature: &[u8]) -> Call {
     Call {
+        stored: vec![],
         signature: signature.to_vec(),
         values: vec![0; 3],
         image: vec![0; 511],
@@ -256,6 +258,14 @@ fn every_function_that_reads_a_signature_says_how_far() {
                 assert_eq!((part.start, part.length), (0, 0));
                 assert!(after == call, "{operation:?} changes bytes: {text}");
             }
+            let refused = Stored { answer, length: 0 };
+            assert_eq!(library::stored::length(&bytes), refused, "length: {text}");
+            let mut stored = [7; 3];
+            let given = library::stored::store(&bytes, &mut stored);
+            assert_eq!((given, stored), (refused, [7; 3]), "store: {text}");
+            let given = library::stored::check(&stored, &bytes);
+            assert_eq!(given, answer, "check: {text}");
+
             let before = Walker::of_words([7; 6]);
             match walks::compare_start(&before, &bytes) {
                 Ok(started) => assert_eq!(started, (answer, before), "start: {text}"),
@@ -302,4 +312,10 @@ fn the_other_refusals_have_no_count() {
     assert_eq!(surface::home(&ppc64, &[0; 511], area), none(15));
     assert_eq!(surface::home(&z, image, area), none(24));
     assert_eq!(surface::view(area, &ppc64, 1).answer, none(24));
+    assert_eq!(library::stored::store(&z, &mut []).answer, none(33));
+    let stale = Answer {
+        place: 2,
+        ..none(27)
+    };
+    assert_eq!(library::stored::check(&[0x20, 0], &z), stale);
 }

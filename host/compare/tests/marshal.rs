@@ -1,8 +1,9 @@
-//! Filling, reading, home and view, compared on generated calls.
+//! Filling, from stored bytes too, reading, home and view, compared on generated calls.
 
 use compare::calls::{Fault, Operation};
 use compare::marshal::{self, Histogram};
 use compare::plans::{AIX, PPC64, PPC64B, Z};
+use compare::stored::STALE;
 
 /// The calls of each operation.
 const CALLS: u64 = 75_000;
@@ -40,6 +41,7 @@ fn run(operation: Operation, edges: &[&str], cases: &[&str]) -> Histogram {
         }
     }
     assert!(seen.answers[1] > 0, "1 never came");
+    assert!(seen.answers[29] >= 100, "29 came seldom");
     let faults = operation.faults();
     for (at, &fault) in faults.iter().enumerate() {
         let count = seen.faults.get(&fault).copied().unwrap_or(0);
@@ -167,4 +169,29 @@ fn view() {
         &edges,
         &[&PPC64[..], &AIX, &PPC64B].concat(),
     );
+}
+
+#[test]
+fn fill_stored() {
+    let edges = [
+        "a hidden address over 32 bits that is not needed",
+        "an area that just fits",
+        "an area that is too short by one",
+        "base 0",
+        "copies that are too short by one",
+        "copies that just fit",
+        "the highest base",
+        "the highest hidden address",
+        "the lowest base that is too high",
+        "the lowest hidden address that is too high",
+        "values of one byte too many or too few",
+    ];
+    let edges = [&edges[..], &SINGLES, &STALE].concat();
+    let seen = run(
+        Operation::FillStored,
+        &edges,
+        &[&PPC64[..], &Z, &AIX, &PPC64B].concat(),
+    );
+    assert_eq!(seen.read_back, seen.answers[0]);
+    assert!(seen.answers[27] >= 5_000);
 }

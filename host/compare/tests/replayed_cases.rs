@@ -114,6 +114,10 @@ fn refusals(of: Operation) -> Vec<u64> {
         Operation::WalkDumpPpc64 | Operation::WalkDumpZ | Operation::WalkDumpAix => {
             vec![30, 31, 32]
         }
+        Operation::StoredLength => (1..=9).chain([25, 29]).collect(),
+        Operation::StorePlan => (1..=9).chain([25, 29, 33]).collect(),
+        Operation::CheckPlan => (1..=9).chain([25, 27, 29]).collect(),
+        Operation::FillStored => (1..=12).chain([15, 25, 27, 29]).collect(),
         _ => vec![],
     }
 }
@@ -129,7 +133,10 @@ fn every_operation_gives_every_answer() {
         for number in refusals(operation) {
             // of the signature's refusals these have but a few each
             let of_values = (Operation::Fill..=Operation::View).contains(&operation)
-                || matches!(operation, Operation::WalkStart | Operation::Walk);
+                || matches!(
+                    operation,
+                    Operation::WalkStart | Operation::Walk | Operation::FillStored
+                );
             let of_signatures = number <= 9 || number == 25 || number == 29;
             let least = match number {
                 _ if of_values && of_signatures => 0,
@@ -164,6 +171,10 @@ fn refused_signatures_come_with_counts() {
         Operation::View,
         Operation::WalkStart,
         Operation::Walk,
+        Operation::StoredLength,
+        Operation::StorePlan,
+        Operation::CheckPlan,
+        Operation::FillStored,
     ] {
         let refused = cases
             .iter()

@@ -21,6 +21,7 @@ pub mod machine;
 mod marshal;
 mod plans;
 mod signature;
+mod stored;
 #[allow(unsafe_code)]
 pub mod surface;
 mod walker;
@@ -29,6 +30,7 @@ pub use dump::walk_dump;
 pub use marshal::{fill, home, read, view};
 pub use plans::{listing, measure, plan, Argument, Convention, Plan, Register, ResultPlace, Sizes};
 pub use signature::{Builder, Signature, TextFault, Type};
+pub use stored::{check, fill_stored, store, store_into, stored_length};
 pub use walker::Walker;
 
 use surface::Answer;
@@ -41,8 +43,8 @@ use std::fmt;
 pub struct Refusal {
     /// The number of document 01's table; never 0.
     pub number: u64,
-    /// The offset of the faulty item's header or byte in the signature; in a dump the bad address; or
-    /// 0 for a refusal that names no place.
+    /// The offset of the faulty item's header or byte in the signature; in stored bytes the first that
+    /// differs; in a dump the bad address; or 0 for a refusal that names no place.
     pub place: u64,
     /// How far the reading of the signature had come: the headers that had passed their tests of
     /// room, tag and length, without that of the faulty item. 0 for refusal 1, and where the
@@ -121,11 +123,13 @@ impl Refusal {
             24 => "no home or view for this convention, or no argument with this index",
             25 => "a long double on AIX, or a double inside a struct there",
             26 => "a float's general registers hold other bytes than its floating register",
+            27 => "the stored bytes are not the signature's plan",
             28 => "an enter above a leaf",
             29 => "a long double for which only f13 is left",
             30 => "an address in a dump that is not aligned, not inside with its header or not above the one before, or a dump that ends past the last address",
             31 => "a back chain of over 4,096 frames",
             32 => "a list that is too short for all frames",
+            33 => "a buffer that is too short for the stored plan",
             _ => "a refusal that this version has no words for",
         }
     }
@@ -160,7 +164,7 @@ mod tests {
             place: 0,
             items: 0,
         };
-        for number in (1..=26).chain(28..=32) {
+        for number in 1..=33 {
             let refusal = Refusal {
                 number,
                 place: 3,

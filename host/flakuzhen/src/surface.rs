@@ -7,6 +7,7 @@ pub mod dump;
 pub mod machine;
 pub mod marshal;
 pub mod plans;
+pub mod stored;
 pub mod walker;
 
 /// `fz_answer`: number 0 is yes. A refused signature's `items` is the count of headers that had

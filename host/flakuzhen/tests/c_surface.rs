@@ -126,7 +126,7 @@ fn run_the_examples(name: &str, words: &[&str], library: &str) {
     }
 }
 
-const EXAMPLES: [&str; 2] = ["call", "variable"];
+const EXAMPLES: [&str; 3] = ["call", "variable", "stored"];
 
 #[test]
 fn the_examples_with_the_archive() {
@@ -197,7 +197,14 @@ fn use_installed(folder: &Path) {
     assert!(prefix.join("share/man/man1/flakuzhen.1").is_file());
     assert!(prefix.join("lib/libflakuzhen.a").is_file());
     // what the header names
-    for name in ["call.c", "variable.c", "signature_text.c", "COMPILERS.md"] {
+    for name in [
+        "call.c",
+        "variable.c",
+        "stored.c",
+        "signature_text.c",
+        "COMPILERS.md",
+        "STORED.md",
+    ] {
         assert!(prefix.join("share/doc/flakuzhen").join(name).is_file());
     }
     for name in [

@@ -92,6 +92,10 @@ WORD(fz_walker, general, 3);
 WORD(fz_walker, floating, 4);
 WORD(fz_walker, stack, 5);
 
+SIZE(fz_stored, 4);
+WORD(fz_stored, answer, 0);
+WORD(fz_stored, length, 3);
+
 SIZE(fz_walked, 4);
 WORD(fz_walked, answer, 0);
 WORD(fz_walked, count, 3);

@@ -141,6 +141,59 @@ static void check_listing(void)
     CHECK(strcmp(text, "refused 2 at 0 after 0\n") == 0);
 }
 
+/* Stores the call's plan in `room` bytes and holds the whole of it, and what lies behind it, to the
+ * plan where that fits and to what was there before where it does not. */
+static void check_storing_in(size_t room)
+{
+    static const uint8_t places[29] = {0x21, 0, 10, 0, 0, 3, 0, 0, 2, 0, 0, 0, 0, /* r3, a copy */
+                                       0x21, 0, 5, 0, 1, 0, 0, 0,                 /* f0 */
+                                       0x22, 0, 5, 3, 0, 2, 0, 0};                /* hidden, r2 */
+    uint8_t stored[100], expected[100];
+    fz_stored answer;
+
+    memset(stored, 0xee, sizeof stored);
+    memset(expected, 0xee, sizeof expected);
+    if (room >= 57) {
+        expected[0] = 0x20;
+        expected[1] = 0;
+        expected[2] = sizeof call;
+        memcpy(expected + 3, call, sizeof call);
+        memcpy(expected + 28, places, sizeof places);
+    }
+    answer = fz_store_plan(call, sizeof call, stored, room);
+    CHECK(answer.answer.number == (room >= 57 ? FZ_ACCEPTED : FZ_STORED_TOO_SHORT));
+    CHECK(answer.answer.place == 0 && answer.answer.items == 0);
+    CHECK(answer.length == (room >= 57 ? 57 : 0));
+    CHECK(memcmp(stored, expected, sizeof stored) == 0);
+}
+
+static void check_storing(void)
+{
+    uint8_t stored[57], image[512];
+    size_t room;
+    fz_stored length = fz_stored_length(call, sizeof call);
+    fz_stored no = fz_stored_length(call, sizeof call - 1);
+    fz_answer answer;
+
+    for (room = 0; room <= 100; room++)
+        check_storing_in(room);
+    CHECK(length.answer.number == FZ_ACCEPTED && length.answer.place == 0);
+    CHECK(length.answer.items == 0 && length.length == 57);
+    CHECK(no.answer.number == FZ_TRUNCATED && no.answer.place == 14 && no.answer.items == 4);
+    CHECK(no.length == 0);
+    fz_store_plan(call, sizeof call, stored, sizeof stored);
+    answer = fz_check_plan(stored, sizeof stored, call, sizeof call);
+    CHECK(answer.number == FZ_ACCEPTED && answer.place == 0 && answer.items == 0);
+    answer = fz_check_plan(stored, 30, call, sizeof call);
+    CHECK(answer.number == FZ_STALE && answer.place == 30 && answer.items == 0);
+    answer = fz_check_plan(stored, sizeof stored, call, sizeof call - 1);
+    CHECK(answer.number == FZ_TRUNCATED && answer.place == 14 && answer.items == 4);
+    stored[56] = 1;
+    answer = fz_fill_stored(stored, sizeof stored, call, sizeof call, stored, 0, image, 0, stored, 0,
+                            stored, 0, 0, 0);
+    CHECK(answer.number == FZ_STALE && answer.place == 56 && answer.items == 0);
+}
+
 int main(void)
 {
     check_version();
@@ -150,5 +203,6 @@ int main(void)
     check_measuring();
     check_planning();
     check_listing();
+    check_storing();
     return wrong;
 }

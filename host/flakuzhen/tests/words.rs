@@ -233,13 +233,11 @@ fn explains_every_refusal_as_the_header_and_the_rust_library_name_it() {
             "{said}"
         );
         listed.insert((refusal.number, name.to_string()));
-        if header_refusals().contains(&(refusal.number, name.to_string())) {
-            assert_eq!(refusal.message(), meaning.trim_start());
-        }
+        assert_eq!(refusal.message(), meaning.trim_start());
     }
     let known = header_refusals();
-    assert!(known.len() >= 30);
-    assert!(known.is_subset(&listed), "{known:?}");
+    assert_eq!(known.len(), 33);
+    assert_eq!(known, listed);
     assert_eq!(
         output_of(&["explain", "5", "0x6"]),
         format!(

@@ -1,14 +1,16 @@
 //! The planner once more, as a program has it that plans often: from the bytes to the plan in one
-//! pass and without trees; and filling and reading by its plans. `planner` and `marshal` are the
-//! ones to read next to the document. These are what time is measured against, and the comparisons
-//! hold them to those.
+//! pass and without trees; filling and reading by its plans; and stored plans. `planner`, `marshal`
+//! and `stored` are the ones to read next to the document. These are what time is measured against,
+//! and the comparisons hold them to those.
 
 use crate::{Convention, Place, Refusal, ResultPlan};
 
 mod marshal;
+mod stored;
 mod table;
 
 pub use marshal::{fill, read};
+pub use stored::{check, store, store_in_two_passes, stored_length};
 pub use table::{table, table_in_two_passes};
 
 /// Registers that follow each other, on Z always one.

@@ -13,6 +13,7 @@ pub mod machine;
 pub mod marshal;
 mod planner;
 mod reader;
+pub mod stored;
 pub mod table;
 mod types;
 pub mod walker;

@@ -117,6 +117,7 @@ fn filled(random: &mut Random, group: &Group) -> Option<Vec<RefCell<Call>>> {
         let signature = reference::read(bytes).ok()?;
         let plan = reference::plan(&signature);
         let mut call = Call {
+            stored: Vec::new(),
             signature: bytes.clone(),
             values: calls::values(random, &signature),
             image: vec![0; 512],

@@ -7,7 +7,8 @@
 use compare::calls::Operation;
 use compare::random::Random;
 use compare::{
-    appending, dumps, float_bits, machine_lists, marshal, plans, signatures, walks, Difference,
+    appending, dumps, float_bits, machine_lists, marshal, plans, signatures, stored, walks,
+    whole_calls, Difference,
 };
 use reference::Convention;
 use std::fmt;
@@ -18,12 +19,16 @@ use std::time::{Duration, Instant, SystemTime, UNIX_EPOCH};
 /// The share of a round, which takes about a second.
 const SIGNATURES: u64 = 20_000;
 const PLANS: u64 = 5_000;
+/// Plans that are stored, each with some checks.
+const STORED: u64 = 1_000;
 /// Of signatures, one with arguments appended.
 const PAIRS: u64 = 1_000;
 /// Of each operation.
 const CALLS: u64 = 2_000;
 const SINGLES: u64 = 50_000;
 const LISTS: u64 = 500;
+/// Of each convention.
+const WHOLE_CALLS: u64 = 300;
 const STATES: u64 = 2_000;
 /// Of each convention.
 const DUMPS: u64 = 1_000;
@@ -66,10 +71,12 @@ fn seed_from_the_clock() -> u64 {
 struct Cases {
     signatures: u64,
     plans: u64,
+    stored: u64,
     pairs: u64,
     calls: u64,
     floats: u64,
     machine_calls: u64,
+    whole_calls: u64,
     dumps: u64,
     steps: u64,
 }
@@ -77,7 +84,8 @@ struct Cases {
 impl Cases {
     fn total(&self) -> u64 {
         let values = self.calls + self.floats + self.steps;
-        self.signatures + self.plans + self.pairs + values + self.machine_calls + self.dumps
+        let machines = self.machine_calls + self.whole_calls + self.dumps;
+        self.signatures + self.plans + self.stored + self.pairs + values + machines
     }
 }
 
@@ -86,17 +94,20 @@ impl fmt::Display for Cases {
         let Cases {
             signatures,
             plans,
+            stored,
             pairs,
             calls,
             floats,
             machine_calls,
+            whole_calls,
             dumps,
             steps,
         } = self;
         write!(
             to,
-            "{signatures} signatures, {plans} plans, {pairs} appended, {calls} calls, {floats} float \
-             conversions, {machine_calls} machine calls, {dumps} walks of dumps, {steps} steps of walkers"
+            "{signatures} signatures, {plans} plans, {stored} stored plans, {pairs} appended, {calls} \
+             calls, {floats} float conversions, {machine_calls} machine calls, {whole_calls} whole \
+             calls, {dumps} walks of dumps, {steps} steps of walkers"
         )
     }
 }
@@ -170,6 +181,7 @@ fn round(seed: u64, done: &mut Cases) -> Result<(), Difference> {
     let told = |difference: Difference| Difference(format!("round {seed:#x}: {difference}"));
     done.signatures += signatures::run(seed, SIGNATURES).map_err(told)?.total();
     done.plans += plans::run(seed, PLANS).map_err(told)?.total();
+    done.stored += stored::run(seed, STORED).map_err(told)?.total();
     appending::run(seed, PAIRS).map_err(told)?;
     done.pairs += PAIRS;
     for operation in Operation::ALL {
@@ -179,6 +191,8 @@ fn round(seed: u64, done: &mut Cases) -> Result<(), Difference> {
     for convention in Convention::ALL {
         let reach = machine_lists::run(seed, convention, LISTS).map_err(told)?;
         done.machine_calls += reach.calls;
+        let reach = whole_calls::run(seed, convention, WHOLE_CALLS).map_err(told)?;
+        done.whole_calls += reach.calls;
     }
     done.machine_calls += machine_lists::run_nonsense(seed, STATES)
         .map_err(told)?

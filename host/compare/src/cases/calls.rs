@@ -1,4 +1,4 @@
-//! Cases of fill, read, home and view.
+//! Cases of fill, from stored bytes too, read, home and view.
 
 use super::{changes, Case, Operation};
 use crate::calls::{self, Call};
@@ -21,6 +21,7 @@ fn case(operation: calls::Operation, before: &Call) -> Case {
         calls::Operation::Fill => (Operation::Fill, vec![before.base, before.hidden]),
         calls::Operation::Read => (Operation::Read, vec![before.base]),
         calls::Operation::Home => (Operation::Home, vec![]),
+        calls::Operation::FillStored => (Operation::FillStored, vec![before.base, before.hidden]),
         calls::Operation::View => {
             answer.extend([part.start, part.length]);
             (Operation::View, vec![before.index])
@@ -44,6 +45,7 @@ fn case(operation: calls::Operation, before: &Call) -> Case {
 /// What the C function takes, in its order.
 fn lent(operation: Operation, call: &Call) -> Vec<&[u8]> {
     let Call {
+        stored,
         signature,
         values,
         image,
@@ -54,6 +56,7 @@ fn lent(operation: Operation, call: &Call) -> Vec<&[u8]> {
     match operation {
         Operation::Home => vec![signature, image, area],
         Operation::View => vec![area, signature],
+        Operation::FillStored => vec![stored, signature, values, image, area, copies],
         _ => vec![signature, values, image, area, copies],
     }
 }

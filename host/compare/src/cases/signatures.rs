@@ -11,6 +11,19 @@ use reference::{Convention, Integer, Type};
 
 /// Each limit of a signature with a step on either side of it, and every prefix of a signature.
 pub fn boundaries() -> Vec<Case> {
+    let mut cases = Vec::new();
+    for signature in &limits() {
+        cases.push(reading(signature));
+        cases.push(measuring(signature));
+        for room in Room::ALL {
+            cases.push(planning(signature, room));
+            cases.push(listing(signature, room));
+        }
+    }
+    cases
+}
+
+pub(super) fn limits() -> Vec<Vec<u8>> {
     let mut signatures = Vec::new();
     for convention in Convention::ALL {
         for count in [0, 127, 128, 129] {
@@ -82,16 +95,7 @@ pub fn boundaries() -> Vec<Case> {
         signatures.push(whole[..length].to_vec());
     }
     signatures.push([&whole[..], &[0]].concat());
-    let mut cases = Vec::new();
-    for signature in &signatures {
-        cases.push(reading(signature));
-        cases.push(measuring(signature));
-        for room in Room::ALL {
-            cases.push(planning(signature, room));
-            cases.push(listing(signature, room));
-        }
-    }
-    cases
+    signatures
 }
 
 /// Types of this length: structs of single bytes, in the number that leaves a multiple of 4 for
@@ -169,9 +173,10 @@ fn measuring(signature: &[u8]) -> Case {
     }
 }
 
-/// How long the text is that a listing is printed to, or the table that a plan is written to.
+/// How long the text is that a listing is printed to, the table that a plan is written to, or the
+/// buffer that it is stored in.
 #[derive(Clone, Copy)]
-enum Room {
+pub(super) enum Room {
     None,
     OneTooShort,
     Exact,
@@ -179,12 +184,12 @@ enum Room {
 }
 
 impl Room {
-    const ALL: [Room; 4] = [Room::None, Room::OneTooShort, Room::Exact, Room::Longer];
+    pub const ALL: [Room; 4] = [Room::None, Room::OneTooShort, Room::Exact, Room::Longer];
 }
 
 impl Room {
     /// Where this much is needed.
-    fn of(self, needed: usize) -> usize {
+    pub fn of(self, needed: usize) -> usize {
         match self {
             Room::None => 0,
             Room::OneTooShort => needed.saturating_sub(1),

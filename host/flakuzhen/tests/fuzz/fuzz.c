@@ -1,5 +1,5 @@
 /* The command on damaged inputs: everything that it reads, signatures as text, hexadecimal and bytes,
- * lists of calls, values, dumps and call images, is changed at random and handed to all verbs that
+ * lists of calls, values, stored plans, dumps and call images, is changed at random and handed to all verbs that
  * take it, in one process with the sanitizers that this is compiled with.
  *
  *     fuzz CORPUS SECONDS SEED [KEEP]
@@ -13,7 +13,8 @@
  *   - with status 2 nothing is printed, and one line is told; with status 0 nothing is told
  *   - what is told is whole lines that begin with the command's name, without control characters
  *   - a signature that is encoded is decoded to a text that gives the same bytes, and the other way
- *   - what fill prints of a call, values prints of the files that it wrote */
+ *   - what fill prints of a call, values prints of the files that it wrote
+ *   - a plan that is stored is fresh */
 #define _GNU_SOURCE
 #include "command.h"
 #include <dirent.h>
@@ -256,6 +257,22 @@ static void fill_and_values(void)
     free(filled.at);
 }
 
+/* A plan that is stored is fresh. */
+static void stored_verbs(void)
+{
+    bytes fresh = {(uint8_t *)"fresh\n", 6, 6};
+    char plan[160];
+
+    snprintf(plan, sizeof plan, "%s/plan", folder);
+    ONE("check", "--text", paths[1], paths[0]);
+    ONE("check", paths[1], paths[0]);
+    ONE("store", "--text", paths[0], "-o", plan);
+    if (run_status == 0) {
+        ONE("check", "--text", plan, paths[0]);
+        must_be(&fresh, "what was stored is not fresh");
+    }
+}
+
 /* The words of a dump stand in its first part. */
 static void dump_verbs(void)
 {
@@ -295,6 +312,8 @@ static void run_input(const input *of)
             paths[3], "--base", "0x10000");
         ONE("values", "--json", "--hex", paths[0], "--image", paths[1], "--area", paths[2]);
         ONE("values", "--text", paths[0], "--image", paths[1], "--area", paths[2]);
+    } else if (strcmp(of->kind, "stored") == 0) {
+        stored_verbs();
     } else if (strcmp(of->kind, "dump") == 0) {
         dump_verbs();
     } else {
@@ -520,10 +539,10 @@ int main(int count, char **given)
     for (i = 0; i < 6; i++)
         remove(paths[i]);
     {
-        static const char *const others[] = {"image", "area", "copies"};
+        static const char *const others[] = {"image", "area", "copies", "plan"};
         char path[160];
 
-        for (i = 0; i < 3; i++) {
+        for (i = 0; i < 4; i++) {
             snprintf(path, sizeof path, "%s/%s", folder, others[i]);
             remove(path);
         }
