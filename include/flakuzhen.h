@@ -55,12 +55,15 @@
  *       8 KiB   fz_start_ppc64, fz_start_z, fz_start_aix, fz_start_ppc64b
  *      12 KiB   fz_listing, fz_write_register
  *      16 KiB   fz_view, fz_write_memory
- *      20 KiB   fz_home, fz_enter, fz_leave
+ *      20 KiB   fz_home, fz_enter, fz_leave, fz_stored_length, fz_store_plan
+ *      24 KiB   fz_check_plan
+ *      28 KiB   fz_fill_stored
  *  - An answer's `number` is 0 for yes; else it says why not (enum fz_refusal), and `place` says
  *    where: the offset in the signature of the faulty item's header or of the first byte too many;
- *    in a dump an address. A refusal that concerns no place has place 0. Where the signature is
- *    refused, `items` says how much of it was good (fz_read_signature). In a refused answer all else
- *    is 0. What a walk is asked for is one item of a signature, and is refused in the same way.
+ *    in stored bytes that of the first that differs; in a dump an address. A refusal that concerns no
+ *    place has place 0. Where the signature is refused, `items` says how much of it was good
+ *    (fz_read_signature). In a refused answer all else is 0. What a walk is asked for is one item of a
+ *    signature, and is refused in the same way.
  *
  * Versions: FZ_VERSION is this header's, fz_version the library's. A version's first number is that
  * of the shared library's name, libflakuzhen.so.1, and of its functions' symbol versions. It changes

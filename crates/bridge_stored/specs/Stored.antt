@@ -17,16 +17,16 @@ use Rattle.bridge_stored.specs.declared.Stored.{Stored}
 unfoldable pub storedWords : StoreAnswer → Stored
 storedWords (StoreAnswer.Stored n) = record { answer = yes; length = n }
 storedWords (StoreAnswer.Refused f) = record { answer = faultAnswer f; length = 0 }
-storedWords StoreAnswer.TooShort = record { answer = answerOf 33 0; length = 0 }
+storedWords StoreAnswer.TooShort = record { answer = answerOf (storeNumber StoreAnswer.TooShort) 0; length = 0 }
 
 unfoldable pub checkWords : CheckAnswer → Answer
 checkWords CheckAnswer.Same = yes
 checkWords (CheckAnswer.Refused f) = faultAnswer f
-checkWords (CheckAnswer.Differs place) = answerOf 27 place
+checkWords (CheckAnswer.Differs place) = answerOf (checkNumber (CheckAnswer.Differs place)) place
 
 unfoldable pub storedFillWords : StoredFill → Answer
 storedFillWords (StoredFill.Plain a) = callAnswer a
-storedFillWords (StoredFill.Stale place) = answerOf 27 place
+storedFillWords (StoredFill.Stale place) = answerOf (storedFillNumber (StoredFill.Stale place)) place
 
 -- each has the number that the definitions give it; proofs/Laws.antt proves it
 pub record Numbered : Type 0 where

@@ -1,9 +1,8 @@
 -- 02, No. 7: "Filling from stored bytes and a fresh signature makes this check first, then answers as plain filling". Assumes nothing.
 use Prim.Native.Nat.{ℕ}
 use mathlib.Core.List.{List}
-use Rattle.items.specs.Refusals as reading
 use Rattle.slots.specs.declared.Answer.{Answer}
-use Rattle.slots.specs.Refusals.{numberOf}
+use Rattle.slots.specs.Refusals.{answerNumber}
 use Rattle.slots.specs.Buffers.{Buffers}
 use Rattle.fill.specs.declared.Lengths.{Lengths}
 use Rattle.fill.specs.Fill.{fillAnswer, fillBuffers}
@@ -31,11 +30,6 @@ storedFillBuffers stored s values have base hidden b =
     buffersBy (checkAnswer stored s) (fillBuffers s values base hidden (fillAnswer s have base hidden) b) b
 
 -- the papers' number, 0 for yes
-abbrev answerNumber : Answer → ℕ
-answerNumber Answer.Done = 0
-answerNumber (Answer.Unread f) = reading.numberOf (f .reason)
-answerNumber (Answer.Refused reason) = numberOf reason
-
 abbrev pub storedFillNumber : StoredFill → ℕ
 storedFillNumber (StoredFill.Plain a) = answerNumber a
 storedFillNumber (StoredFill.Stale place) = checkNumber (CheckAnswer.Differs place)

@@ -161,7 +161,7 @@ static void check_storing_in(size_t room)
         memcpy(expected + 28, places, sizeof places);
     }
     answer = fz_store_plan(call, sizeof call, stored, room);
-    CHECK(answer.answer.number == (room >= 57 ? FZ_ACCEPTED : FZ_STORED_TOO_SHORT));
+    CHECK(answer.answer.number == (room >= 57 ? 0 : (uint64_t)FZ_STORED_TOO_SHORT));
     CHECK(answer.answer.place == 0 && answer.answer.items == 0);
     CHECK(answer.length == (room >= 57 ? 57 : 0));
     CHECK(memcmp(stored, expected, sizeof stored) == 0);

@@ -16,11 +16,11 @@ use std::io::{self, IsTerminal, Write};
 use std::process::ExitCode;
 use std::time::{Duration, Instant, SystemTime, UNIX_EPOCH};
 
-/// The share of a round, which takes about a second.
+/// The share of a round, which takes some seconds.
 const SIGNATURES: u64 = 20_000;
 const PLANS: u64 = 5_000;
 /// Plans that are stored, each with some checks.
-const STORED: u64 = 1_000;
+const STORED: u64 = 500;
 /// Of signatures, one with arguments appended.
 const PAIRS: u64 = 1_000;
 /// Of each operation.
@@ -28,7 +28,7 @@ const CALLS: u64 = 2_000;
 const SINGLES: u64 = 50_000;
 const LISTS: u64 = 500;
 /// Of each convention.
-const WHOLE_CALLS: u64 = 300;
+const WHOLE_CALLS: u64 = 100;
 const STATES: u64 = 2_000;
 /// Of each convention.
 const DUMPS: u64 = 1_000;
