@@ -78,7 +78,7 @@ void fill_verb(words *given, outcome *to)
             tell_number(&to->told, NULL, "", answer.number);
             to->status = 1;
         } else {
-            add_call(&planned, &on, 0, to);
+            add_call(&planned, &on, given->given & JSON, to);
             write_buffer(given, given->image, &on.image, 8, register_label);
             write_buffer(given, given->area, &on.area, word_of(&planned),
                          planned.whole.convention == 2 ? z_offset_label : offset_label);

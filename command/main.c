@@ -89,8 +89,9 @@ static const struct verb {
      "Of an argument that can't be read it says why, and goes on with the others. 'not looked at'\n"
      "are argument registers and words of the area that no argument has and that are not zero:\n"
      "a value that stands there was put where nobody looks.\n"},
-    {"fill", HEX | TEXT | IMAGE | AREA | COPIES | BASE | HIDDEN, fill_verb,
-     "[--hex|--text] SIG VALUES [--image OUT] [--area OUT] [--copies OUT] [--base N] [--hidden N]",
+    {"fill", HEX | TEXT | JSON | IMAGE | AREA | COPIES | BASE | HIDDEN, fill_verb,
+     "[--json] [--hex|--text] SIG VALUES [--image OUT] [--area OUT] [--copies OUT] [--base N]"
+     " [--hidden N]",
      "puts values into registers and memory, as a caller does, and prints them as 'values' does",
      SIGNATURE_FILES
      "SIG       holds the signature; '-' is standard input\n"
@@ -100,7 +101,8 @@ static const struct verb {
      "          write the registers, the parameter area and the copies to files; with --hex in\n"
      "          hexadecimal\n"
      "--base    the address of the copies, a multiple of 8; 0 where it is not said\n"
-     "--hidden  the address for a result in memory; 0 where it is not said\n"},
+     "--hidden  the address for a result in memory; 0 where it is not said\n"
+     "--json    prints it for programs\n"},
     {"store", HEX | TEXT | OUT, store_verb, "[--hex|--text] FILE -o OUT",
      "writes the plan of a signature to a file, in bytes that hold the signature too",
      SIGNATURE_FILES

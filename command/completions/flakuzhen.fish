@@ -19,7 +19,7 @@ complete -c flakuzhen -n "__fish_seen_subcommand_from list read encode decode di
 complete -c flakuzhen -n "__fish_seen_subcommand_from list read decode diff values fill store check" -l text -d 'a signature as text'
 complete -c flakuzhen -n "__fish_seen_subcommand_from list replay dump" -l picture -d 'draw it'
 complete -c flakuzhen -n "__fish_seen_subcommand_from list" -l compilers -d 'where compilers differ'
-complete -c flakuzhen -n "__fish_seen_subcommand_from values" -l json -d 'for programs'
+complete -c flakuzhen -n "__fish_seen_subcommand_from values fill" -l json -d 'for programs'
 complete -c flakuzhen -n "__fish_seen_subcommand_from values fill" -l image -r -d 'the registers'
 complete -c flakuzhen -n "__fish_seen_subcommand_from values fill" -l area -r -d 'the parameter area'
 complete -c flakuzhen -n "__fish_seen_subcommand_from values fill" -l copies -r -d 'the copies'

@@ -221,6 +221,13 @@ fn the_same_for_programs() {
         1,
         text,
     );
+    // the same of what fill has made
+    let made = temporary("json.made");
+    let made = made.to_str().expect("a path that can be printed");
+    let words = ["fill", "--json", &sig, "-", "--image", made];
+    let filled = run(&words, b"1.5 {-1 {5}} 0");
+    let read = run(&["values", "--json", &sig, "--image", made], b"");
+    assert_eq!((filled.status.code(), &filled), (Some(0), &read));
 }
 
 #[test]
