@@ -144,34 +144,44 @@ static int looks_like_text(span text)
     return is(word, "ppc64") || is(word, "z") || is(word, "aix") || is(word, "ppc64b");
 }
 
-void tell_refusal(bytes *told, const source *of, fz_answer answer)
+/* Where a refusal of a signature is: the line and column of a place in text and hexadecimal. Adds the
+ * token, which a text has there. */
+static place find_refusal(const source *of, uint64_t at, bytes *token)
 {
     place where = of->where;
     span content = span_of_bytes(&of->content);
-    bytes about = {NULL, 0, 0};
 
     where.line = where.column = 0;
     if (of->form == AS_HEX) {
-        find_in_hex(&where, content, answer.place);
+        find_in_hex(&where, content, at);
     } else if (of->form == AS_TEXT) {
-        fz_encoded token = fz_token_at((const char *)content.at, content.length, answer.place);
-        span word = without(content, (size_t)token.offset);
+        fz_encoded found = fz_token_at((const char *)content.at, content.length, at);
+        span word = without(content, (size_t)found.offset);
 
-        where.line = (size_t)token.line;
-        where.column = (size_t)token.column;
-        word.length = (size_t)token.length;
-        add_quoted(&about, word);
-        add(&about, ": ");
-    } else {
-        add(&about, "byte %llu: ", (unsigned long long)answer.place);
+        where.line = (size_t)found.line;
+        where.column = (size_t)found.column;
+        word.length = (size_t)found.length;
+        add_quoted(token, word);
+        add(token, ": ");
     }
+    return where;
+}
+
+void tell_refusal(bytes *told, const source *of, fz_answer answer)
+{
+    span content = span_of_bytes(&of->content);
+    bytes about = {NULL, 0, 0};
+    place where = find_refusal(of, answer.place, &about);
+
+    if (of->form == AS_BYTES)
+        add(&about, "byte %llu: ", (unsigned long long)answer.place);
     add_byte(&about, 0);
     tell_number(told, &where, (char *)about.at, answer.number);
     where.line = 0;
     if (of->form == AS_BYTES && looks_like_hex(content)) {
         add_where(told, &where);
         add(told, "this looks like hexadecimal text, and was taken as bytes: try --hex\n");
-    } else if (of->form != AS_TEXT && looks_like_text(content)) {
+    } else if (of->form == AS_BYTES && looks_like_text(content)) {
         add_where(told, &where);
         add(told, "this looks like a signature's text, and was taken as bytes: try --text\n");
     }
@@ -180,7 +190,11 @@ void tell_refusal(bytes *told, const source *of, fz_answer answer)
 
 void fail_refused(const source *of, fz_answer answer)
 {
-    fail(&of->where, "refused %llu at %llu after %llu: %s (%llu): %s",
+    bytes token = {NULL, 0, 0};
+    place where = find_refusal(of, answer.place, &token);
+
+    add_byte(&token, 0);
+    fail(&where, "%srefused %llu at %llu after %llu: %s (%llu): %s", (char *)token.at,
          (unsigned long long)answer.number, (unsigned long long)answer.place,
          (unsigned long long)answer.items, refusal_name(answer.number),
          (unsigned long long)answer.number, refusal_meaning(answer.number));

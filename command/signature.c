@@ -1,4 +1,4 @@
-/* The signatures in files, and the verbs that ask for no more: read, encode, decode. */
+/* The signatures in files, and the verbs on signatures alone: list, read, encode, decode. */
 #include "command.h"
 #include <stdlib.h>
 #include <string.h>

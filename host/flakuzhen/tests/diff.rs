@@ -140,6 +140,25 @@ fn what_is_no_input() {
         &diff(&[&good, "-"], cut),
         "standard input: refused 2 at 7 after 2",
     );
+    // in text and hexadecimal it is told where
+    let deep = "z void(u8,\n {longdouble})";
+    complains(
+        &diff(&["--text", "-", "not-there"], deep.as_bytes()),
+        "\"not-there\"",
+    );
+    let text = file("diff-deep.sig", deep.as_bytes());
+    complains(
+        &diff(&[&text, &good], b""),
+        "line 2, column 3: \"longdouble\": refused 5 at 17 after 5: FZ_LONG_DOUBLE_IN_STRUCT (5)",
+    );
+    complains(
+        &diff(&["--hex", &text, "-"], b"01\n 0001 01"),
+        "line 2, column 3: \"longdouble\": refused 5",
+    );
+    complains(
+        &diff(&["--hex", "-", &text], b"01 0001 01\n 05 0000"),
+        "standard input: line 2, column 2: refused 3 at 4 after 1: FZ_UNEXPECTED_TAG (3)",
+    );
     let cut = file("diff-cut", cut);
     complains(
         &diff(&[&cut, &good], b""),
