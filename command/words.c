@@ -97,7 +97,10 @@ bytes read_file(const char *path, place *where, size_t largest)
     else
         add_quoted(&where->file, span_of(path));
     if (file == NULL)
-        fail(where, "%s (os error %d)", strerror(fault), fault);
+        fail(where, "%s (os error %d)%s", strerror(fault), fault,
+             strchr(path, '(') == NULL ? ""
+                                       : ": a signature's text is read from a file, or with --text "
+                                         "from standard input");
     do {
         size_t room = largest + 1 - content.length;
 

@@ -35,8 +35,10 @@ static void accepted(const char *text, size_t length, const fz_encoded *told)
     fz_decode(sig, told->length, back, decoded.length);
     must(back[decoded.length] == '~', "nothing is written past the text");
     printf("accepted ");
-    for (i = 0; i < told->length; i++)
-        printf("%02x", sig[i]);
+    for (i = 0; i < told->length; i++) {
+        putchar("0123456789abcdef"[sig[i] >> 4]);
+        putchar("0123456789abcdef"[sig[i] & 15]);
+    }
     printf(" %.*s\n", (int)decoded.length, back);
     free(sig);
     free(back);

@@ -408,6 +408,10 @@ fn signatures_as_text() {
         }
         complains(&run(&["encode"], text.as_bytes()), said);
     }
+    complains(
+        &run(&["list", "z void()"], b""),
+        "\"z void()\": No such file or directory (os error 2): a signature's text is read from a file",
+    );
     complains(&run(&["encode", &sig, &sig], b""), "encode takes one FILE");
     complains(&run(&["decode", &sig, &sig], b""), "decode takes one FILE");
     complains(&run(&["encode", "--text"], b""), "\"--text\"");
