@@ -1,17 +1,26 @@
 -- Stored places are a listing's, in its order (specs/Listed.antt states it). Assumes nothing.
 use mathlib.Core.Path.{_≡_, refl, sym, ap, ap₂, _∙_}
+use mathlib.Core.Bool.{Bool, true, false}
 use mathlib.Core.List.{List, [], _∷_, _++_, map, append-assoc}
-use Prim.Native.Nat.{ℕ, zero, suc, _+_, _-_, _/_}
+use Prim.Native.Nat.{ℕ, zero, suc, _+_, _-_, _/_, _≤_}
 use native.Mathlib.Omega.{arith}
+use native.Mathlib.Nat.{add-div-left, div-eq-of-lt}
+use Rattle.words.specs.Basics.{pick}
+use Rattle.types.specs.declared.ValueType.{ValueType}
 use Rattle.places.specs.declared.Bank.{Bank}
 use Rattle.places.specs.declared.Place.{Place}
 use Rattle.places.specs.declared.Rules.{Rules}
 use Rattle.places.specs.declared.Span.{Span}
-use Rattle.places.specs.Step.{wordOf}
+use Rattle.places.specs.declared.PowerRules.{PowerRules}
+use Rattle.places.specs.declared.ResultPlaces.{ResultPlaces}
+use Rattle.places.specs.Values.{pointer}
+use Rattle.places.specs.Power.{words, fprs, shareOf, powerShare}
+use Rattle.places.specs.ZSeries.{zClass, zSpanOf}
+use Rattle.places.specs.Step.{wordOf, Lawful, fresh, spanOf, hiddenFor, returning, resultOf}
 use Rattle.places.specs.Places.{upFrom, register, registersOf, memoryOf, placesOf}
 use Rattle.stored_items.specs.declared.StoredPlace.{StoredPlace}
-use Rattle.stored_items.specs.Places.{placesFrom, placesIn, ownBytes, listedFrom, floatingRun, generalRun, memoryRun, directPlaces}
-use Rattle.stored_items.specs.Listed.{bankOf, listedPlace, StoredAsListed}
+use Rattle.stored_items.specs.Places.{placesFrom, placesIn, ownBytes, listedFrom, floatingRun, generalRun, memoryRun, directPlaces, resultPlaces}
+use Rattle.stored_items.specs.Listed.{bankOf, listedPlace, StoredAsListed, resultRegisters, ResultAsListed}
 
 map-append : (r : Rules) (ps qs : List StoredPlace) → map (listedPlace r) (ps ++ qs) ≡ map (listedPlace r) ps ++ map (listedPlace r) qs
 map-append r [] qs = refl
@@ -47,3 +56,33 @@ stored-as-listed r s =
     ∙ sym (append-assoc (map (register Bank.Floating) (upFrom (s .floating .first) 1 (s .floating .count)))
     (map (register Bank.General) (upFrom (s .general .first) 1 (s .general .count)))
     (memoryOf (wordOf r) s))
+
+-- ---- the result
+
+registers-listed : (r : Rules) (s : Span) → map (listedPlace r) (resultPlaces (ResultPlaces.Registers s)) ≡ registersOf s
+unfolding placesIn registersOf
+registers-listed r s =
+    map-append r (placesFrom 0 1 1 0 (s .floating .first) 0 (s .floating .count)) (placesFrom 0 0 1 0 (s .general .first) 0 (s .general .count))
+    ∙ ap₂ (λ (a l : List Place). a ++ l) (numbers-from r 1 0 (s .floating .first) 0 (s .floating .count)) (numbers-from r 0 0 (s .general .first) 0 (s .general .count))
+
+one-listed : (r : Rules) (s : Span) → s .floating .count ≡ 0 → s .general .count ≡ 1 → map (listedPlace r) (resultPlaces (ResultPlaces.Hidden s)) ≡ registersOf s
+unfolding placesIn placesFrom listedPlace registersOf upFrom
+one-listed r s none one = rw (none, one)
+
+-- a hidden address is in one general register
+hidden-one : (r : Rules) → Lawful r → (spanOf r (fresh r) pointer (wordOf r) .floating .count ≡ 0) × (spanOf r (fresh r) pointer (wordOf r) .general .count ≡ 1)
+unfolding spanOf fresh words fprs shareOf powerShare zClass zSpanOf
+hidden-one (Rules.Power f) l =
+    let one : (f .word + (f .word - 1)) / f .word ≡ 1 = add-div-left (f .word - 1) (omega arith) ∙ ap (λ (x : ℕ). x + 1) (div-eq-of-lt (omega arith)) in
+    (refl, rw one)
+hidden-one Rules.Z l = (refl, refl)
+
+pub result-as-listed : ResultAsListed
+unfolding resultOf
+result-as-listed r t n l = go (hiddenFor r t)
+  where
+    go : (b : Bool)
+        → map (listedPlace r) (resultPlaces (pick b (ResultPlaces.Hidden (spanOf r (fresh r) pointer (wordOf r))) (ResultPlaces.Registers (spanOf (returning r) (fresh r) t n))))
+        ≡ resultRegisters (pick b (ResultPlaces.Hidden (spanOf r (fresh r) pointer (wordOf r))) (ResultPlaces.Registers (spanOf (returning r) (fresh r) t n)))
+    go true = let one = hidden-one r l in one-listed r (spanOf r (fresh r) pointer (wordOf r)) (one .0) (one .1)
+    go false = registers-listed r (spanOf (returning r) (fresh r) t n)

@@ -2,28 +2,40 @@
 -- (AIX: word) of memory is a place, in listing order". proofs/Listing.antt proves it. Assumes nothing.
 use Prim.Native.Nat.{ℕ, zero, suc, _-_}
 use mathlib.Core.Path.{_≡_}
-use mathlib.Core.List.{map}
+use mathlib.Core.List.{List, [], map}
+use Rattle.types.specs.declared.ValueType.{ValueType}
 use Rattle.places.specs.declared.Bank.{Bank}
 use Rattle.places.specs.declared.Place.{Place}
 use Rattle.places.specs.declared.Rules.{Rules}
 use Rattle.places.specs.declared.Span.{Span}
-use Rattle.places.specs.Step.{wordOf}
-use Rattle.places.specs.Places.{placesOf}
+use Rattle.places.specs.declared.ResultPlaces.{ResultPlaces}
+use Rattle.places.specs.Step.{wordOf, Lawful, resultOf}
+use Rattle.places.specs.Places.{registersOf, placesOf}
 use Rattle.stored_items.specs.declared.StoredPlace.{StoredPlace}
-use Rattle.stored_items.specs.Places.{listedFrom, directPlaces}
+use Rattle.stored_items.specs.Places.{listedFrom, directPlaces, resultPlaces}
 
 abbrev pub bankOf : ℕ → Bank
 bankOf zero = Bank.General
 bankOf (suc n) = Bank.Floating
 
--- of a kind, as a listing's place: kind 0 is a register, any other is memory at an offset in the area
+-- a stored place as a listing's, by its kind: memory at an offset in the area, or a register, that of a hidden address too
 abbrev pub listedBy : ℕ → Rules → StoredPlace → Place
 listedBy zero r p = Place.Register (bankOf (p .bank)) (p .number)
-listedBy (suc n) r p = Place.Memory (p .offset - listedFrom r)
+listedBy (suc zero) r p = Place.Memory (p .offset - listedFrom r)
+listedBy (suc (suc n)) r p = Place.Register (bankOf (p .bank)) (p .number)
 
 unfoldable pub listedPlace : Rules → StoredPlace → Place
 listedPlace r p = listedBy (p .kind) r p
 
--- all but the copy
+-- of an argument: all but the copy, which a listing marks by `ref`
 abbrev pub StoredAsListed : Type 0
 StoredAsListed = (r : Rules) (s : Span) → map (listedPlace r) (directPlaces r s) ≡ placesOf (wordOf r) s
+
+-- of a result: the registers after `result`, or after `hidden`
+abbrev pub resultRegisters : ResultPlaces → List Place
+resultRegisters ResultPlaces.Nothing = []
+resultRegisters (ResultPlaces.Registers s) = registersOf s
+resultRegisters (ResultPlaces.Hidden s) = registersOf s
+
+abbrev pub ResultAsListed : Type 0
+ResultAsListed = (r : Rules) (t : ValueType) (n : ℕ) → Lawful r → map (listedPlace r) (resultPlaces (resultOf r t n)) ≡ resultRegisters (resultOf r t n)

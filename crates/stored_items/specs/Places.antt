@@ -102,9 +102,12 @@ resultSecond ResultPlaces.Nothing = noPlaces
 resultSecond (ResultPlaces.Registers s) = registerRun 0 (s .general) 0 0
 resultSecond (ResultPlaces.Hidden s) = noPlaces
 
+abbrev pub resultPlaces : ResultPlaces → List StoredPlace
+resultPlaces x = placesIn (resultFirst x) ++ placesIn (resultSecond x)
+
 -- "tag 0x22 the result's (empty for none)"
 unfoldable pub resultItem : ResultPlaces → List ℕ
-resultItem x = item 0x22 (placesBytes (placesIn (resultFirst x) ++ placesIn (resultSecond x)))
+resultItem x = item 0x22 (placesBytes (resultPlaces x))
 
 -- ---- what the writers ask for: numbers that fit their bytes; every plan has them
 
