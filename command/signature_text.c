@@ -326,9 +326,10 @@ fz_encoded fz_token_at(const char *text, size_t text_length, uint64_t place)
 /* Ends an encoding: the library's answer, and the bytes where they fit. */
 static fz_encoded finish(const encoder *of, fz_answer answer, uint8_t *to, size_t length)
 {
-    fz_encoded told = fault(of);
+    fz_encoded told = kept(of);
 
     told.answer = answer;
+    told.length = 0;
     if (answer.number == FZ_ACCEPTED) {
         told.length = of->written;
         told.offset = told.line = told.column = 0;

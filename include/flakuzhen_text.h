@@ -5,9 +5,10 @@
  *   aix void(i32, ...)
  *   z {i64, i64}()
  *
- * The functions here are no part of the library: compile signature_text.c, which is installed in
- * share/doc/flakuzhen beside the examples, into the program that uses them. It needs the library, no
- * memory of its own and little stack, and keeps no state.
+ * The functions here are no part of the library, and not proved: compile signature_text.c, which is
+ * installed in share/doc/flakuzhen beside the examples, into the program that uses them. It takes no
+ * memory but some 36 KiB of stack, and keeps no state. What a text means is tested against a second
+ * program; whether it is accepted the library says.
  *
  * The grammar, where white space stands between tokens as one likes, and '#' begins a comment that
  * ends with its line:
@@ -62,7 +63,7 @@ fz_encoded fz_encode_type(const char *text, size_t text_length, uint8_t *item,
 
 /* Where in a text that was encoded the token stands that the byte `place` of its signature was made
  * of; `answer` is accepted, `expected` NULL and `length` the token's. A place at or after the
- * signature's end has the text's last token. For refusals that come later than an encoding's, like
+ * signature's end has the last token that gave bytes. For refusals that come later than an encoding's, like
  * FZ_UNCLEAR_PLACE. */
 fz_encoded fz_token_at(const char *text, size_t text_length, uint64_t place);
 

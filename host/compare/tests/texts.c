@@ -14,6 +14,29 @@ static void must(int holds, const char *what)
     }
 }
 
+/* The text of each argument's type is that of its item. */
+static void types(const uint8_t *sig, size_t length)
+{
+    static fz_place places[128];
+    fz_planned plan = fz_plan(sig, length, (uint64_t *)places, 128 * FZ_PLACE_WORDS);
+    uint64_t i;
+
+    for (i = 0; i < plan.arguments; i++) {
+        const uint8_t *item = sig + places[i].item;
+        size_t item_length = 3 + ((size_t)item[1] << 8 | item[2]);
+        uint64_t needed = fz_decode_type(sig, length, places[i].item, "", 0);
+        char *text = malloc(needed);
+        uint8_t *back = malloc(item_length);
+
+        fz_decode_type(sig, length, places[i].item, text, needed);
+        must(fz_encode_type(text, needed, back, item_length).length == item_length, "a type's length");
+        must(memcmp(back, item, item_length) == 0, "a type's item");
+        free(text);
+        free(back);
+    }
+    must(fz_decode_type(sig, length, length, "", 0) == 0, "a type past the end");
+}
+
 /* What is written where it fits is written whole, and else nothing is. */
 static void accepted(const char *text, size_t length, const fz_encoded *told)
 {
@@ -34,6 +57,7 @@ static void accepted(const char *text, size_t length, const fz_encoded *told)
     must(back[0] == '~', "no text is written without room");
     fz_decode(sig, told->length, back, decoded.length);
     must(back[decoded.length] == '~', "nothing is written past the text");
+    types(sig, told->length);
     printf("accepted ");
     for (i = 0; i < told->length; i++) {
         putchar("0123456789abcdef"[sig[i] >> 4]);

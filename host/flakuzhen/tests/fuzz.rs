@@ -1,4 +1,4 @@
-//! The command's readers on the corpus of `fuzz/corpus`, each file as it is and with 50 changes, under
+//! The command's readers on the corpus of `fuzz/corpus`, each file as it is and with 30 changes, under
 //! sanitizers. `make fuzz SECONDS=600` goes on from there.
 
 mod support;

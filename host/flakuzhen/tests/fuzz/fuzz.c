@@ -4,7 +4,7 @@
  *
  *     fuzz CORPUS SECONDS SEED [KEEP]
  *
- * With SECONDS 0 every file of the corpus is run as it is and with 50 changes of each. An input is a
+ * With SECONDS 0 every file of the corpus is run as it is and with 30 changes of each. An input is a
  * file's kind, the word before the first '-' of its name, and its parts, which lines of '%%' divide.
  * Inputs that reach code that none before them reached are changed further, and where KEEP is a
  * folder they are put there. After each run these must hold:
@@ -448,7 +448,7 @@ static void keep(const char *to)
     }
 }
 
-/* Runs a child's share: where `whole`, all inputs as they are and with 50 changes of each, from
+/* Runs a child's share: where `whole`, all inputs as they are and with 30 changes of each, from
  * `first` on; else changes of any. */
 static void batch(int whole, size_t first, const char *to)
 {
@@ -458,7 +458,7 @@ static void batch(int whole, size_t first, const char *to)
         all->now = all->inputs[first];
         run_input(&all->now);
         keep(NULL);
-        for (i = 0; i < 50; i++) {
+        for (i = 0; i < 30; i++) {
             all->now = all->inputs[first];
             for (n = 1 + below(4); n > 0; n--)
                 change(&all->now);
