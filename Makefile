@@ -54,7 +54,7 @@ $(1) -shared -o $@.$(VERSION) -Wl,-soname,$(SONAME) \
 $(call LINK_SHARED,$(@D))
 endef
 # the command is the same C on every machine
-COMMAND := $(wildcard command/*.c)
+COMMAND := $(sort $(wildcard command/*.c))
 COMMAND_FROM := $(COMMAND) command/command.h include/flakuzhen.h include/flakuzhen_text.h
 EXAMPLE := examples/signatures/ppc64-figure-3-18.hex
 # no network and no other versions than Cargo.lock's
