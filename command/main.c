@@ -75,13 +75,14 @@ static const struct verb {
      "'value' is an argument's bytes among the values, 'copy' those of its copy. Exit status 0:\n"
      "nothing moved; 1: something moved or is gone.\n"},
     {"values", HEX | TEXT | JSON | IMAGE | AREA | COPIES | BASE, values_verb,
-     "[--json] [--hex|--text] SIG --image FILE --area FILE [--copies FILE --base N]",
+     "[--json] [--hex|--text] SIG --image FILE [--area FILE] [--copies FILE --base N]",
      "prints the arguments of a call: their places, what stands there, and their values",
      SIGNATURE_FILES
      "SIG       holds the signature; '-' is standard input\n"
      "--image   the registers, 512 bytes: general register n at 8n, floating register n at\n"
      "          256 + 8n; with --hex this and the next two are hexadecimal too\n"
-     "--area    the parameter area, from 48 bytes above the stack pointer on (AIX 24, Z 160)\n"
+     "--area    the parameter area, from 48 bytes above the stack pointer on (AIX 24, Z 160); what\n"
+     "          is in registers can be read without it\n"
      "--copies  on Z the memory with the copies of arguments that go by reference\n"
      "--base    the address of its first byte\n"
      "--json    prints it for programs\n"

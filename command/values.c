@@ -373,7 +373,8 @@ void values_verb(words *given, outcome *to)
     call on;
 
     if (given->count != 1 || given->image == NULL)
-        fail(NULL, "values takes SIG --image FILE --area FILE ('-' is standard input)");
+        fail(NULL, "values takes SIG --image FILE, and --area FILE for what is in memory ('-' is "
+                   "standard input)");
     if ((given->copies == NULL) != (given->base == NULL))
         fail(NULL, "--copies and --base belong together");
     one_standard_input(given);
