@@ -2,8 +2,8 @@
  * have, and which argument has each byte.
  *
  * Which registers, doublewords and copies an argument has is the library's plan. Where its value
- * stands in them, and what fills up, follows from its size and from whether it is a struct: the tests
- * hold that to what the library's filling writes. */
+ * stands in them, and what fills up, follows from its size and from whether it is a struct: the
+ * tests hold that to what the library's filling writes. */
 #include "command.h"
 #include <stdio.h>
 #include <stdlib.h>
@@ -91,8 +91,8 @@ static void own_bytes(const plan *of, size_t number, int in_float, size_t *start
     }
 }
 
-/* The marks of `count` bytes of an argument that come after `at` others, in its floating registers or
- * else in its words. */
+/* The marks of `count` bytes of an argument that come after `at` others, in its floating registers
+ * or else in its words. */
 static row marks_of(const plan *of, size_t number, size_t at, int count, int in_float)
 {
     row marked = all_of((int)number, count);

@@ -87,8 +87,8 @@ typedef struct {
 void decode_word(place *where, span word, bytes *to);
 /* The bytes that a hexadecimal text says. */
 bytes decode_hex(place *where, span text);
-/* Sets the line and column of the digits of a byte of such a text; of its end where there is no such
- * byte. */
+/* Sets the line and column of the digits of a byte of such a text; of its end where there is no
+ * such byte. */
 void find_in_hex(place *where, span text, uint64_t offset);
 /* Whether a text is nothing but white space, comments and two or more whole bytes. */
 int looks_like_hex(span text);
@@ -128,8 +128,8 @@ bytes read_bytes(const words *given, const char *path, size_t largest);
 /* A convention's code of its word. */
 uint64_t read_convention(const place *where, span word);
 
-/* Writes a file whole or not at all: to a new file in the same folder, which is synced and then takes
- * the name. A link is followed, and an older file's permissions stay. */
+/* Writes a file whole or not at all: to a new file in the same folder, which is synced and then
+ * takes the name. A link is followed, and an older file's permissions stay. */
 void write_file(const char *path, span content);
 
 /* ---- signature.c: the signatures in files ---- */
@@ -187,8 +187,8 @@ span item_of(const plan *of, size_t number);
 
 /* ---- value_text.c: values as text ---- */
 
-/* Adds the value of a type, given by its item, that stands in these bytes: a struct by its fields. As
- * JSON every number is a string, so that 64 bits survive, and a struct an array. */
+/* Adds the value of a type, given by its item, that stands in these bytes: a struct by its fields.
+ * As JSON every number is a string, so that 64 bits survive, and a struct an array. */
 void add_value(bytes *out, uint64_t convention, span item, const uint8_t *value, int as_json);
 /* Reads the values of all arguments of a call from a text, and gives their bytes. */
 bytes read_values(const plan *of, place *where, span text);

@@ -74,7 +74,7 @@ static int grows_to(const plan *old, const plan *new)
  * move. */
 static int add_place(bytes *out, const span *old, const span *new)
 {
-    int kept = old != NULL && new != NULL && same_bytes(*old, *new);
+    int kept = old != NULL && new != NULL &&same_bytes(*old, *new);
 
     add(out, " %s ", kept ? "kept" : new == NULL ? "gone" : old == NULL ? "new" : "moved");
     add_word(out, old == NULL ? *new : *old);

@@ -17,9 +17,9 @@ typedef struct {
     bytes memory;
 } dump;
 
-/* What stands where in a frame's header: the back chain's bytes and those of every other word, where a
- * function that was called from here has saved the address that it returns to, and the register that
- * it had that address in. The tests hold these to the library's machine. */
+/* What stands where in a frame's header: the back chain's bytes and those of every other word,
+ * where a function that was called from here has saved the address that it returns to, and the
+ * register that it had that address in. The tests hold these to the library's machine. */
 static const struct header {
     size_t length, word, saved;
     const char *register_name;
@@ -94,9 +94,8 @@ static void add_lines(const dump *of, const uint64_t *frames, size_t count, byte
         add(out, "%zu 0x%llx: ", i + 1, (unsigned long long)frames[i]);
         if (i + 1 < count)
             add(out, "%llu bytes, ", (unsigned long long)(frames[i + 1] - frames[i]));
-        add(out, "back chain 0x%llx, saved %s 0x%llx\n",
-            (unsigned long long)word_at(of, frames[i]), header->register_name,
-            (unsigned long long)word_at(of, frames[i] + header->saved));
+        add(out, "back chain 0x%llx, saved %s 0x%llx\n", (unsigned long long)word_at(of, frames[i]),
+            header->register_name, (unsigned long long)word_at(of, frames[i] + header->saved));
     }
 }
 
@@ -109,7 +108,10 @@ static void add_parts(const dump *of, uint64_t frame, size_t end, int width, byt
         size_t end;
         const char *name;
         int shown;
-    } parts[5] = {{0, "back chain", 1}, {0, "header", 0}, {0, NULL, 1}, {0, "header", 0},
+    } parts[5] = {{0, "back chain", 1},
+                  {0, "header", 0},
+                  {0, NULL, 1},
+                  {0, "header", 0},
                   {SIZE_MAX, "outgoing area, locals and saves", 0}};
     int i;
 

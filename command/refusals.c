@@ -144,8 +144,8 @@ static int looks_like_text(span text)
     return is(word, "ppc64") || is(word, "z") || is(word, "aix") || is(word, "ppc64b");
 }
 
-/* Where a refusal of a signature is: the line and column of a place in text and hexadecimal. Adds the
- * token, which a text has there. */
+/* Where a refusal of a signature is: the line and column of a place in text and hexadecimal. Adds
+ * the token, which a text has there. */
 static place find_refusal(const source *of, uint64_t at, bytes *token)
 {
     place where = of->where;

@@ -78,7 +78,8 @@ void free_source(source *of)
 
 /* ---- the verbs ---- */
 
-/* The files that are named, or standard input where none is, all read before anything is printed. */
+/* The files that are named, or standard input where none is, all read before anything is printed.
+ */
 static source *read_sources(words *given, int *count)
 {
     static char dash[] = "-";

@@ -11,11 +11,11 @@ static const struct {
     const char *word;
     uint8_t tag, code;
 } items[] = {
-    {"ppc64", CONVENTION, 1}, {"z", CONVENTION, 2},   {"aix", CONVENTION, 3},
-    {"ppc64b", CONVENTION, 4}, {"i8", 0x10, 0},       {"u8", 0x10, 1},
-    {"i16", 0x10, 2},         {"u16", 0x10, 3},       {"i32", 0x10, 4},
-    {"u32", 0x10, 5},         {"i64", 0x10, 6},       {"u64", 0x10, 7},
-    {"pointer", 0x10, 8},     {"single", 0x11, 0},    {"double", 0x11, 1},
+    {"ppc64", CONVENTION, 1},  {"z", CONVENTION, 2}, {"aix", CONVENTION, 3},
+    {"ppc64b", CONVENTION, 4}, {"i8", 0x10, 0},      {"u8", 0x10, 1},
+    {"i16", 0x10, 2},          {"u16", 0x10, 3},     {"i32", 0x10, 4},
+    {"u32", 0x10, 5},          {"i64", 0x10, 6},     {"u64", 0x10, 7},
+    {"pointer", 0x10, 8},      {"single", 0x11, 0},  {"double", 0x11, 1},
     {"longdouble", 0x11, 2},
 };
 
@@ -26,16 +26,16 @@ static const struct {
 /* where the next token is, the token, and what was made of those before it */
 typedef struct {
     const char *text;
-    size_t length;           /* of the text */
-    size_t next, next_line;  /* where to look for the next token */
+    size_t length;          /* of the text */
+    size_t next, next_line; /* where to look for the next token */
     size_t line_start;
-    size_t at, count;        /* the token: where, and how many bytes; none at the text's end */
+    size_t at, count; /* the token: where, and how many bytes; none at the text's end */
     size_t line, column;
-    int ellipsis;            /* whether a '...' was met */
-    const char *expected;    /* what should stand where the token does not fit; NULL for no fault */
+    int ellipsis;         /* whether a '...' was met */
+    const char *expected; /* what should stand where the token does not fit; NULL for no fault */
     uint8_t *out;
-    size_t room, written;    /* bytes that do not fit are counted alone */
-    uint64_t place;          /* the last token to give bytes up to here is kept */
+    size_t room, written; /* bytes that do not fit are counted alone */
+    uint64_t place;       /* the last token to give bytes up to here is kept */
     size_t kept_at, kept_count, kept_line, kept_column;
 } encoder;
 
@@ -230,8 +230,8 @@ static void text_end(encoder *of)
         of->expected = "nothing more";
 }
 
-/* The whole signature. The bytes have the ellipsis before the arguments, the text has it after them:
- * whether there is one must be known. */
+/* The whole signature. The bytes have the ellipsis before the arguments, the text has it after
+ * them: whether there is one must be known. */
 static void signature(encoder *of, int ellipsis)
 {
     size_t header;
@@ -347,9 +347,9 @@ fz_encoded fz_encode(const char *text, size_t text_length, uint8_t *sig, size_t 
 
     if (of.expected != NULL)
         return fault(&of);
-    told = finish(&of,
-                  fz_read_signature(bytes, of.written < sizeof bytes ? of.written : sizeof bytes),
-                  sig, sig_length);
+    told =
+        finish(&of, fz_read_signature(bytes, of.written < sizeof bytes ? of.written : sizeof bytes),
+               sig, sig_length);
     if (told.answer.number != FZ_ACCEPTED) {
         fz_answer answer = told.answer;
 

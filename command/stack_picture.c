@@ -1,16 +1,16 @@
 /* The stack of a frame machine, drawn as a table from the highest address down.
  *
- * How a frame is laid out is said nowhere here: the library is asked. A word that a leave restores a
- * register from is that register's save slot; words that may be written are an area; what is neither
- * is header; the floor under the stack pointer is what a leaf may write there. So the picture cannot
- * show another layout than the one that is proved. */
+ * How a frame is laid out is said nowhere here: the library is asked. A word that a leave restores
+ * a register from is that register's save slot; words that may be written are an area; what is
+ * neither is header; the floor under the stack pointer is what a leaf may write there. So the
+ * picture cannot show another layout than the one that is proved. */
 #include "command.h"
 #include <stdio.h>
 #include <stdlib.h>
 #include <string.h>
 
-/* bytes that are asked for at a time: CR's save slot is the smallest of all parts, and so are all of
- * AIX's words */
+/* bytes that are asked for at a time: CR's save slot is the smallest of all parts, and so are all
+ * of AIX's words */
 #define WORD 4
 /* the start and 32 frames */
 #define MOST_FUNCTIONS 33
@@ -268,8 +268,7 @@ static void add_rows(const stack *of, size_t start, size_t end, bytes *out)
     while (end > start) {
         size_t first = end - WORD;
 
-        while (first > start &&
-               same_part(&of->parts[first / WORD - 1], &of->parts[end / WORD - 1]))
+        while (first > start && same_part(&of->parts[first / WORD - 1], &of->parts[end / WORD - 1]))
             first -= WORD;
         add_row(of, first, end, out);
         end = first;

@@ -193,7 +193,8 @@ static int is_long_nan(uint64_t convention, const uint8_t *from)
     if (convention != Z)
         return is_nan(high);
     high &= ~(UINT64_C(1) << 63);
-    return high > UINT64_C(0x7fff000000000000) || (high == UINT64_C(0x7fff000000000000) && low != 0);
+    return high > UINT64_C(0x7fff000000000000) ||
+           (high == UINT64_C(0x7fff000000000000) && low != 0);
 }
 
 /* Adds a float: as a decimal, or by its bits where it is none of that size. */

@@ -125,9 +125,9 @@ static fz_answer step(fz_walker *walker, const plan *of, const call *on, size_t 
     span item = item_of(of, number);
     size_t size = (size_t)of->places[number].size;
     fz_walker before = *walker;
-    fz_answer answer = fz_walk(walker, item.at, item.length, value, size, on->image.at,
-                               on->image.length, on->area.at, on->area.length, on->copies.at,
-                               on->copies.length, on->base);
+    fz_answer answer =
+        fz_walk(walker, item.at, item.length, value, size, on->image.at, on->image.length,
+                on->area.at, on->area.length, on->copies.at, on->copies.length, on->base);
 
     if (answer.number != FZ_ACCEPTED) {
         bytes image = zeros(IMAGE_BYTES), area = zeros((size_t)of->whole.area);
@@ -199,8 +199,8 @@ static void mark_registers(const plan *of, uint8_t marks[64])
 /* Marks the registers that arguments of a convention can be in: those of a call with many. */
 static void mark_all_registers(uint64_t convention, uint8_t marks[64])
 {
-    static const char *const calls[] = {
-        "ppc64 void(%s)", "z void(%s)", "aix void(%s)", "ppc64b void(%s)"};
+    static const char *const calls[] = {"ppc64 void(%s)", "z void(%s)", "aix void(%s)",
+                                        "ppc64b void(%s)"};
     bytes list = {NULL, 0, 0}, text = {NULL, 0, 0};
     source many;
     plan planned;
@@ -213,9 +213,9 @@ static void mark_all_registers(uint64_t convention, uint8_t marks[64])
     add(&text, calls[convention - 1], (char *)list.at);
     memset(&many, 0, sizeof many);
     many.signature = zeros(FZ_LONGEST_SIGNATURE);
-    many.signature.length = (size_t)fz_encode((char *)text.at, text.length, many.signature.at,
-                                              many.signature.length)
-                                .length;
+    many.signature.length =
+        (size_t)fz_encode((char *)text.at, text.length, many.signature.at, many.signature.length)
+            .length;
     planned = plan_of(&many);
     mark_registers(&planned, marks);
     free_plan(&planned);

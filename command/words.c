@@ -15,9 +15,17 @@ static const struct {
     const char *name;
     enum option option;
 } options[] = {
-    {"--hex", HEX},       {"--text", TEXT},   {"--picture", PICTURE}, {"--compilers", COMPILERS},
-    {"--json", JSON},     {"--image", IMAGE}, {"--area", AREA},       {"--copies", COPIES},
-    {"--base", BASE},     {"--hidden", HIDDEN}, {"-o", OUT},
+    {"--hex", HEX},
+    {"--text", TEXT},
+    {"--picture", PICTURE},
+    {"--compilers", COMPILERS},
+    {"--json", JSON},
+    {"--image", IMAGE},
+    {"--area", AREA},
+    {"--copies", COPIES},
+    {"--base", BASE},
+    {"--hidden", HIDDEN},
+    {"-o", OUT},
 };
 
 #define OPTIONS (sizeof options / sizeof *options)
@@ -133,8 +141,8 @@ bytes read_bytes(const words *given, const char *path, size_t largest)
     return content;
 }
 
-/* The path of the file that is replaced: of a link, what it leads to. Gives the permissions that it has,
- * or -1 where there is no file. */
+/* The path of the file that is replaced: of a link, what it leads to. Gives the permissions that it
+ * has, or -1 where there is no file. */
 static int replaced_file(const place *where, const char *path, bytes *to)
 {
     struct stat old;

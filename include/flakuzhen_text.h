@@ -53,8 +53,8 @@ typedef struct {
 
 /* The bytes of the signature that a text says, of text_length bytes without a zero at its end. They
  * are written to sig, which has sig_length bytes, where they fit and the library accepts them
- * (fz_read_signature); else nothing is written, and `length` still says how many an accepted signature
- * has. FZ_LONGEST_SIGNATURE bytes are enough for every one. */
+ * (fz_read_signature); else nothing is written, and `length` still says how many an accepted
+ * signature has. FZ_LONGEST_SIGNATURE bytes are enough for every one. */
 fz_encoded fz_encode(const char *text, size_t text_length, uint8_t *sig, size_t sig_length);
 
 /* The same of a text that says one type, for fz_walk. Whether it is accepted fz_walk says. */
@@ -63,8 +63,8 @@ fz_encoded fz_encode_type(const char *text, size_t text_length, uint8_t *item,
 
 /* Where in a text that was encoded the token stands that the byte `place` of its signature was made
  * of; `answer` is accepted, `expected` NULL and `length` the token's. A place at or after the
- * signature's end has the last token that gave bytes. For refusals that come later than an encoding's, like
- * FZ_UNCLEAR_PLACE. */
+ * signature's end has the last token that gave bytes. For refusals that come later than an
+ * encoding's, like FZ_UNCLEAR_PLACE. */
 fz_encoded fz_token_at(const char *text, size_t text_length, uint64_t place);
 
 /* What became of a signature's bytes: the library's answer, and the length of the text. */

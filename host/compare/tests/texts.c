@@ -1,6 +1,6 @@
 /* For texts.rs: reads texts from standard input, each after its length in four bytes, the highest
- * first, and prints a line for each: what fz_encode says, and of an accepted one its bytes, the text
- * that fz_decode makes of them, and what the two say of buffers that are too short. */
+ * first, and prints a line for each: what fz_encode says, and of an accepted one its bytes, the
+ * text that fz_decode makes of them, and what the two say of buffers that are too short. */
 #include "flakuzhen_text.h"
 #include <stdio.h>
 #include <stdlib.h>
@@ -29,7 +29,8 @@ static void types(const uint8_t *sig, size_t length)
         uint8_t *back = malloc(item_length);
 
         fz_decode_type(sig, length, places[i].item, text, needed);
-        must(fz_encode_type(text, needed, back, item_length).length == item_length, "a type's length");
+        must(fz_encode_type(text, needed, back, item_length).length == item_length,
+             "a type's length");
         must(memcmp(back, item, item_length) == 0, "a type's item");
         free(text);
         free(back);
@@ -73,8 +74,8 @@ int main(void)
     uint8_t header[4];
 
     while (fread(header, 1, 4, stdin) == 4) {
-        size_t length = (size_t)header[0] << 24 | (size_t)header[1] << 16 | (size_t)header[2] << 8 |
-                        header[3];
+        size_t length =
+            (size_t)header[0] << 24 | (size_t)header[1] << 16 | (size_t)header[2] << 8 | header[3];
         /* exactly so long, for AddressSanitizer */
         char *text = malloc(length + (length == 0));
         uint8_t none = 0;

@@ -1,6 +1,6 @@
 /* The command on damaged inputs: everything that it reads, signatures as text, hexadecimal and bytes,
- * lists of calls, values, stored plans, dumps and call images, is changed at random and handed to all verbs that
- * take it, in one process with the sanitizers that this is compiled with.
+ * lists of calls, values, stored plans, dumps and call images, is changed at random and handed to all
+ * verbs that take it, in one process with the sanitizers that this is compiled with.
  *
  *     fuzz CORPUS SECONDS SEED [KEEP]
  *
