@@ -1,6 +1,8 @@
-// The calls of the frame machine for C and Rust: `fz_machine` is 262 words and `fz_frame` 6, in the layout of the crate word_layout. A refused call leaves the machine's
+// The calls of the frame machine for C and Rust: `fz_machine` and `fz_frame` are words in the layout of the crate word_layout. A refused call leaves the machine's
 // words and the memory as they were.
 use answers::Answer;
+use word_layout::MACHINE_WORDS;
+use word_layout::RECORD_WORDS;
 ghost use mathlib.Core.Path.{_≡_};
 ghost use lib.ListN.{length};
 ghost use Rattle.machine.specs.Machine.{enterOutcome, enterMemory, writeRegisterOutcome, writeMemoryOutcome, writeMemoryMemory, leaveOutcome};
@@ -10,8 +12,8 @@ ghost use Rattle.frame_answers.specs.Frames.{frameAnswer};
 
 #[no_mangle]
 pub extern "C" fn fz_enter(
-    machine: &mut [u64; 262],
-    request: &[u64; 6],
+    machine: &mut [u64; MACHINE_WORDS],
+    request: &[u64; RECORD_WORDS],
     memory: &mut [u8],
 ) -> Answer
     ensures { λ r. ⌜ r ≡ frameAnswer (enterOutcome (stateIn (now (machine .entry))) (length (now (memory .entry))) (frameIn (now (request .entry)) 0) .answer) ⌝ }
@@ -25,7 +27,7 @@ pub extern "C" fn fz_enter(
 // Bank 0 general, 1 floating, 2 LR, 3 a field of CR. The memory is only measured.
 #[no_mangle]
 pub extern "C" fn fz_write_register(
-    machine: &mut [u64; 262],
+    machine: &mut [u64; MACHINE_WORDS],
     bank: u64,
     number: u64,
     value: u64,
@@ -40,7 +42,7 @@ pub extern "C" fn fz_write_register(
 
 #[no_mangle]
 pub extern "C" fn fz_write_memory(
-    machine: &[u64; 262],
+    machine: &[u64; MACHINE_WORDS],
     address: u64,
     bytes: &[u8],
     memory: &mut [u8],
@@ -53,7 +55,7 @@ pub extern "C" fn fz_write_memory(
 }
 
 #[no_mangle]
-pub extern "C" fn fz_leave(machine: &mut [u64; 262], memory: &[u8]) -> Answer
+pub extern "C" fn fz_leave(machine: &mut [u64; MACHINE_WORDS], memory: &[u8]) -> Answer
     ensures { λ r. ⌜ r ≡ frameAnswer (leaveOutcome (stateIn (now (machine .entry))) (now (memory .entry)) .answer) ⌝ }
     ensures { λ _. ⌜ now (machine .exit) ≡ leaveWords (now (machine .entry)) (now (memory .entry)) ⌝ }
 {

@@ -1,6 +1,8 @@
-// The fresh starts of the frame machine for C and Rust: `fz_machine` is 262 words and `fz_registers` 66, in the layout of the crate word_layout. A refused start leaves
+// The fresh starts of the frame machine for C and Rust: `fz_machine` and `fz_registers` are words in the layout of the crate word_layout. A refused start leaves
 // the convention, the registers as handed in and all else 0.
 use answers::Answer;
+use word_layout::MACHINE_WORDS;
+use word_layout::REGISTERS_WORDS;
 ghost use mathlib.Core.Path.{_≡_};
 ghost use lib.ListN.{length};
 ghost use Rattle.conventions.specs.declared.Convention.the-variants.{Ppc64, Z, Aix, Ppc64b};
@@ -12,8 +14,8 @@ ghost use Rattle.frame_answers.specs.Frames.{frameAnswer};
 // Of `registers`' CR an accepted start takes the low 32 bits.
 #[no_mangle]
 pub extern "C" fn fz_start_ppc64(
-    machine: &mut [u64; 262],
-    registers: &[u64; 66],
+    machine: &mut [u64; MACHINE_WORDS],
+    registers: &[u64; REGISTERS_WORDS],
     base: u64,
     memory: &mut [u8],
 ) -> Answer
@@ -27,8 +29,8 @@ pub extern "C" fn fz_start_ppc64(
 
 #[no_mangle]
 pub extern "C" fn fz_start_z(
-    machine: &mut [u64; 262],
-    registers: &[u64; 66],
+    machine: &mut [u64; MACHINE_WORDS],
+    registers: &[u64; REGISTERS_WORDS],
     base: u64,
     memory: &mut [u8],
 ) -> Answer
@@ -43,8 +45,8 @@ pub extern "C" fn fz_start_z(
 // Of the general registers and LR an accepted start takes the low 32 bits.
 #[no_mangle]
 pub extern "C" fn fz_start_aix(
-    machine: &mut [u64; 262],
-    registers: &[u64; 66],
+    machine: &mut [u64; MACHINE_WORDS],
+    registers: &[u64; REGISTERS_WORDS],
     base: u64,
     memory: &mut [u8],
 ) -> Answer
@@ -59,8 +61,8 @@ pub extern "C" fn fz_start_aix(
 // As fz_start_ppc64's, but for the convention's code.
 #[no_mangle]
 pub extern "C" fn fz_start_ppc64b(
-    machine: &mut [u64; 262],
-    registers: &[u64; 66],
+    machine: &mut [u64; MACHINE_WORDS],
+    registers: &[u64; REGISTERS_WORDS],
     base: u64,
     memory: &mut [u8],
 ) -> Answer

@@ -16,7 +16,7 @@ use Rattle.rules.proofs.Places.{limit-64}
 use Rattle.machine.specs.declared.Answer.the-variants.{Accepted}
 use Rattle.machine.specs.Machine.{stackPointer, startOutcome}
 use Rattle.machine.proofs.States.{memory-yes}
-use Rattle.word_layout.specs.Words.{registersIn}
+use Rattle.word_layout.specs.Words.{machineWords, registersWords, registersIn}
 use Rattle.word_layout.proofs.Theorems.{start-state}
 use Rattle.history.specs.Calls as states
 use Rattle.history.specs.Preserved.{OpenEnter, openAfter, callerOf, CallHolds, CallsFit}
@@ -51,7 +51,7 @@ memory-walked k law even os m i z =
 
 -- the invariant of what is lent, with the enters os open, and what stands at their pointers
 pub record Kept (k : Rules) (os : List OpenEnter) (m : Lent) (p : ℕ) : Type 0 where
-  pub words : length (m .words) ≡ 262
+  pub words : length (m .words) ≡ machineWords
   pub invariant : Invariant k os (machineIn m)
   pub stands : Stands k os (machineIn m) p
 
@@ -70,7 +70,7 @@ run-keeps k law (c ∷ cs) w os m p i =
     })
 
 -- an accepted start has it, with no enter open
-start-kept : (c : Convention) (b : ℕ) (l rs : List ℕ) → WordsFit 66 rs → startOutcome c b (length l) (registersIn rs 0) .answer ≡ Accepted
+start-kept : (c : Convention) (b : ℕ) (l rs : List ℕ) → WordsFit registersWords rs → startOutcome c b (length l) (registersIn rs 0) .answer ≡ Accepted
     → Kept (rules c) [] (fresh c b l rs) (pointerIn (rules c) (fresh c b l rs))
 unfolding startOutcome
 start-kept c b l rs h e = record {

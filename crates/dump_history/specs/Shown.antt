@@ -12,7 +12,7 @@ use Rattle.rules.specs.declared.Rules.{Rules}
 use Rattle.rules.specs.Rules.{rules}
 use Rattle.machine.specs.declared.Answer.the-variants.{Accepted}
 use Rattle.machine.specs.Machine.{stackPointer, startOutcome}
-use Rattle.word_layout.specs.Words.{registersIn, stateIn}
+use Rattle.word_layout.specs.Words.{registersWords, registersIn, stateIn}
 use Rattle.history.specs.Calls as states
 use Rattle.history.specs.Preserved.{OpenEnter, openAfter, callerOf, CallsFit}
 use Rattle.word_history.specs.Calls.{Call, Lent, answer, after, fresh}
@@ -45,7 +45,7 @@ pointerIn k m = stackPointer k (stateIn (m .words))
 -- NO. 13. In each convention, from each accepted start, after every list of exported calls; the premises are those of `Demand3`. No enter is accepted above a leaf, so only
 -- the latest open enter can be one of a leaf. n is the length of the slice; what `fz_walk_dump_ppc64`, `_z` and `_aix` answer and write is told by `walkInto`.
 abbrev pub WalkShows : Type 0
-WalkShows = (c : Convention) (b : ℕ) (l rs : List ℕ) → WordsFit 66 rs → startOutcome c b (length l) (registersIn rs 0) .answer ≡ Accepted → (cs : List Call) → CallsFit (callsIn cs)
+WalkShows = (c : Convention) (b : ℕ) (l rs : List ℕ) → WordsFit registersWords rs → startOutcome c b (length l) (registersIn rs 0) .answer ≡ Accepted → (cs : List Call) → CallsFit (callsIn cs)
     → callerOf (rules c) (opened cs [] (fresh c b l rs)) .leaf ≡ false → (n : ℕ) → suc (length (opened cs [] (fresh c b l rs))) ≤ n
     → walkInto (rules c) (stateIn (run cs (fresh c b l rs) .words) .base) (run cs (fresh c b l rs) .memory) (pointerIn (rules c) (run cs (fresh c b l rs))) n
     ≡ frames (shown (rules c) (opened cs [] (fresh c b l rs)) (pointerIn (rules c) (fresh c b l rs)))

@@ -6,9 +6,15 @@ ghost use Rattle.machine.specs.Machine.{enterOutcome, enterMemory, writeRegiste
 ghost use Rattle.word_layout.specs.Words.{frameIn, stateIn};
 ghost use Rattle.word_layout.specs.Calls.{enterWords, writeRegisterWords, leaveWords};
 use machine::Answer;
+use word_layout::MACHINE_WORDS;
+use word_layout::RECORD_WORDS;
 
 // Enters a frame.
-pub fn enter(words: &mut [u64; 262], request: &[u64; 6], memory: &mut [u8]) -> Answer
+pub fn enter(
+    words: &mut [u64; MACHINE_WORDS],
+    request: &[u64; RECORD_WORDS],
+    memory: &mut [u8],
+) -> Answer
     ensures { λ r. ⌜ r ≡ enterOutcome (stateIn (now (words .entry))) (length (now (memory .entry))) (frameIn (now (request .entry)) 0) .answer ⌝ }
     ensures { λ _. ⌜ now (words .exit) ≡ enterWords (now (words .entry)) (length (now (memory .entry))) (now (request .entry)) ⌝ }
     ensures { λ _. ⌜ now (memory .exit) ≡ enterMemory (stateIn (now (words .entry))) (now (memory .entry)) (frameIn (now (request .entry)) 0) ⌝ }
@@ -29,7 +35,7 @@ pub fn enter(words: &mut [u64; 262], request: &[u64; 6], memory: &mut [u8]) -> A
 
 // Writes a value to a register: bank 0 general, 1 floating, 2 LR, 3 a field of CR.
 pub fn write_register(
-    words: &mut [u64; 262],
+    words: &mut [u64; MACHINE_WORDS],
     bank: u64,
     number: u64,
     value: u64,
@@ -53,7 +59,12 @@ pub fn write_register(
 }
 
 // Writes bytes to the memory at an address.
-pub fn write_memory(words: &[u64; 262], address: u64, bytes: &[u8], memory: &mut [u8]) -> Answer
+pub fn write_memory(
+    words: &[u64; MACHINE_WORDS],
+    address: u64,
+    bytes: &[u8],
+    memory: &mut [u8],
+) -> Answer
     ensures { λ r. ⌜ r ≡ writeMemoryOutcome (stateIn (now (words .entry))) (length (now (memory .entry))) address (length (now (bytes .entry))) .answer ⌝ }
     ensures { λ _. ⌜ now (memory .exit) ≡ writeMemoryMemory (stateIn (now (words .entry))) (now (memory .entry)) address (now (bytes .entry)) ⌝ }
 {
@@ -63,7 +74,7 @@ pub fn write_memory(words: &[u64; 262], address: u64, bytes: &[u8], memory: &mut
 }
 
 // Leaves the frame entered last.
-pub fn leave(words: &mut [u64; 262], memory: &[u8]) -> Answer
+pub fn leave(words: &mut [u64; MACHINE_WORDS], memory: &[u8]) -> Answer
     ensures { λ r. ⌜ r ≡ leaveOutcome (stateIn (now (words .entry))) (now (memory .entry)) .answer ⌝ }
     ensures { λ _. ⌜ now (words .exit) ≡ leaveWords (now (words .entry)) (now (memory .entry)) ⌝ }
 {

@@ -1,16 +1,26 @@
-// The frame machine's state read from 262 64-bit words, and written to them.
+// The frame machine's state read from 64-bit words, and written to them.
 ghost use mathlib.Core.Path.{_≡_};
 ghost use Prim.Native.Nat.{_+_, _≤_, _<_};
 ghost use lib.ListN.{length};
 ghost use Rattle.words.specs.Splice.{splice, part};
 ghost use Rattle.rules.specs.Frames.{flag};
-ghost use Rattle.word_layout.specs.Words.{conventionOf, isKnown, depthIn, registersIn, frameIn, framesIn, stateIn, registerWords, framesWords, stateWords, withRegisters, withFrame};
+ghost use Rattle.word_layout.specs.Words.{machineWords, registersWords, recordWords, recordsAt, conventionOf, isKnown, depthIn, registersIn, frameIn, framesIn, stateIn, registerWords, framesWords, stateWords, withRegisters, withFrame};
 ghost use Rattle.word_layout.specs.Calls.{changed};
 use conventions::Convention;
 use conventions::ConventionCode;
 use machine::State;
 use rules::Frame;
 use rules::Registers;
+use word_layout::CR_AT;
+use word_layout::CR_IN;
+use word_layout::DEPTH_AT;
+use word_layout::FLOATING_AT;
+use word_layout::FLOATING_IN;
+use word_layout::LR_AT;
+use word_layout::LR_IN;
+use word_layout::RECORD_WORDS;
+use word_layout::RECORDS_AT;
+use word_layout::REGISTERS_AT;
 
 // ---- reading
 
@@ -26,26 +36,26 @@ fn copy(to: &mut [u64], at: usize, from: &[u64], start: usize, n: usize)
     }
 }
 
-// The registers in the 66 words from `at` on; of CR the low 32 bits.
+// The registers in the words from `at` on; of CR the low 32 bits.
 pub fn registers_in(words: &[u64], at: usize) -> Registers
-    requires { ⌜ at + 66 ≤ length (now words) ⌝ }
+    requires { ⌜ at + registersWords ≤ length (now words) ⌝ }
     ensures { λ r. ⌜ r ≡ registersIn (now (words .entry)) at ⌝ }
 {
     let mut gpr: [u64; 32] = [0; 32];
     let mut fpr: [u64; 32] = [0; 32];
     copy(&mut gpr, 0, words, at, 32);
-    copy(&mut fpr, 0, words, at + 32, 32);
+    copy(&mut fpr, 0, words, at + FLOATING_IN, 32);
     Registers {
         gpr: gpr,
         fpr: fpr,
-        lr: words[at + 64],
-        cr: (words[at + 65] % 4294967296) as u32,
+        lr: words[at + LR_IN],
+        cr: (words[at + CR_IN] % 4294967296) as u32,
     }
 }
 
 // The request or the record in the six words from `at` on; one that is refused where a flag of it is neither 0 nor 1.
 pub fn frame_in(words: &[u64], at: usize) -> Frame
-    requires { ⌜ at + 6 ≤ length (now words) ⌝ }
+    requires { ⌜ at + recordWords ≤ length (now words) ⌝ }
     ensures { λ r. ⌜ r ≡ frameIn (now (words .entry)) at ⌝ }
 {
     let flag = words[at + 2];
@@ -82,7 +92,7 @@ pub fn frame_in(words: &[u64], at: usize) -> Frame
 
 // All 32 records.
 fn frames_in(words: &[u64]) -> [Frame; 32]
-    requires { ⌜ length (now words) ≡ 262 ⌝ }
+    requires { ⌜ length (now words) ≡ machineWords ⌝ }
     ensures { λ r. ⌜ r ≡ framesIn 32 (now (words .entry)) 0 ⌝ }
 {
     let none = Frame {
@@ -96,7 +106,7 @@ fn frames_in(words: &[u64]) -> [Frame; 32]
     let mut fs = [none; 32];
     let mut i: usize = 0;
     while i < 32 {
-        let f = frame_in(words, 70 + 6 * i);
+        let f = frame_in(words, RECORDS_AT + RECORD_WORDS * i);
         fs[i] = f;
         i += 1;
     }
@@ -124,27 +134,27 @@ fn is_known(code: ConventionCode) -> bool
 
 // The depth; one over 32, which every call refuses, where the convention's code or CR cannot be.
 fn depth_in(words: &[u64]) -> usize
-    requires { ⌜ length (now words) ≡ 262 ⌝ }
+    requires { ⌜ length (now words) ≡ machineWords ⌝ }
     ensures { λ r. ⌜ r ≡ depthIn (now (words .entry)) ⌝ }
 {
     let code = conventions::convention_code(words[0]);
     if !is_known(code) {
         return 33;
     }
-    if 4294967295 < words[69] {
+    if 4294967295 < words[CR_AT] {
         return 33;
     }
-    words[3] as usize
+    words[DEPTH_AT] as usize
 }
 
-// The state that 262 words are read as.
+// The state that a machine's words are read as.
 pub fn state_in(words: &[u64]) -> State
-    requires { ⌜ length (now words) ≡ 262 ⌝ }
+    requires { ⌜ length (now words) ≡ machineWords ⌝ }
     ensures { λ r. ⌜ r ≡ stateIn (now (words .entry)) ⌝ }
 {
     let convention = convention_of(conventions::convention_code(words[0]));
     let depth = depth_in(words);
-    let registers = registers_in(words, 4);
+    let registers = registers_in(words, REGISTERS_AT);
     let frames = frames_in(words);
     State {
         convention: convention,
@@ -166,17 +176,17 @@ fn put_bank(words: &mut [u64], at: usize, bank: [u64; 32])
     copy(words, at, &bank, 0, 32);
 }
 
-// The registers over the words 4 to 69.
+// The registers over their words.
 pub fn put_registers(words: &mut [u64], r: Registers)
-    requires { ⌜ length (now words) ≡ 262 ⌝ }
-    ensures { λ _. ⌜ (now (words .exit) ≡ withRegisters (now (words .entry)) r) × (length (registerWords r) ≡ 66) ⌝ }
+    requires { ⌜ length (now words) ≡ machineWords ⌝ }
+    ensures { λ _. ⌜ (now (words .exit) ≡ withRegisters (now (words .entry)) r) × (length (registerWords r) ≡ registersWords) ⌝ }
 {
     let gpr = r.gpr;
     let fpr = r.fpr;
-    put_bank(words, 4, gpr);
-    put_bank(words, 36, fpr);
-    words[68] = r.lr;
-    words[69] = r.cr as u64;
+    put_bank(words, REGISTERS_AT, gpr);
+    put_bank(words, FLOATING_AT, fpr);
+    words[LR_AT] = r.lr;
+    words[CR_AT] = r.cr as u64;
 }
 
 fn flag_word(b: bool) -> u64
@@ -187,10 +197,10 @@ fn flag_word(b: bool) -> u64
 
 // The record i.
 fn put_frame(words: &mut [u64], i: usize, f: Frame)
-    requires { ⌜ (length (now words) ≡ 262) × (i < 32) ⌝ }
+    requires { ⌜ (length (now words) ≡ machineWords) × (i < 32) ⌝ }
     ensures { λ _. ⌜ now (words .exit) ≡ withFrame (now (words .entry)) i f ⌝ }
 {
-    let at = 70 + 6 * i;
+    let at = RECORDS_AT + RECORD_WORDS * i;
     words[at] = f.first_gpr as u64;
     words[at + 1] = f.first_fpr as u64;
     words[at + 2] = flag_word(f.saves_cr);
@@ -201,8 +211,8 @@ fn put_frame(words: &mut [u64], i: usize, f: Frame)
 
 // All 32 records.
 fn put_frames(words: &mut [u64], fs: [Frame; 32])
-    requires { ⌜ length (now words) ≡ 262 ⌝ }
-    ensures { λ _. ⌜ (now (words .exit) ≡ splice (now (words .entry)) 70 (framesWords fs)) × (length fs ≡ 32) ⌝ }
+    requires { ⌜ length (now words) ≡ machineWords ⌝ }
+    ensures { λ _. ⌜ (now (words .exit) ≡ splice (now (words .entry)) recordsAt (framesWords fs)) × (length fs ≡ 32) ⌝ }
 {
     let mut i: usize = 0;
     while i < 32 {
@@ -212,9 +222,9 @@ fn put_frames(words: &mut [u64], fs: [Frame; 32])
     }
 }
 
-// All 262 words of a state.
+// All words of a state.
 pub fn put_state(words: &mut [u64], s: State)
-    requires { ⌜ length (now words) ≡ 262 ⌝ }
+    requires { ⌜ length (now words) ≡ machineWords ⌝ }
     ensures { λ _. ⌜ now (words .exit) ≡ stateWords s ⌝ }
 {
     let c = s.convention;
@@ -223,19 +233,19 @@ pub fn put_state(words: &mut [u64], s: State)
     words[0] = conventions::code_of(c);
     words[1] = s.base;
     words[2] = s.size as u64;
-    words[3] = s.depth as u64;
+    words[DEPTH_AT] = s.depth as u64;
     put_registers(words, registers);
     put_frames(words, frames);
 }
 
 // What an enter or a leave changes: the depth, the registers, and the record i.
 pub fn put_changed(words: &mut [u64], s: State, i: usize)
-    requires { ⌜ (length (now words) ≡ 262) × (i < 32) ⌝ }
+    requires { ⌜ (length (now words) ≡ machineWords) × (i < 32) ⌝ }
     ensures { λ _. ⌜ now (words .exit) ≡ changed (now (words .entry)) s i ⌝ }
 {
     let registers = s.registers;
     let f = s.frames[i];
-    words[3] = s.depth as u64;
+    words[DEPTH_AT] = s.depth as u64;
     put_registers(words, registers);
     put_frame(words, i, f);
 }

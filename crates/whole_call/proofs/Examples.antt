@@ -47,7 +47,7 @@ use Rattle.machine.specs.declared.Answer.the-variants.{Accepted}
 use Rattle.machine.specs.Answers.{judge}
 use Rattle.machine.specs.Machine.{topFrame, callerFrame, okFrames, sizes, okMemory, okState, startAnswer, started, startedMemory, enterAnswer, entered, enteredMemory, writableBytes, writableAddress, writeRegisterAnswer, writeMemoryAnswer, writtenRegister, writtenMemory, startOutcome, startMemory, enterOutcome, enterMemory, writeRegisterOutcome, writeMemoryOutcome, writeMemoryMemory}
 use Rattle.word_layout.specs.Words as layout
-use Rattle.word_layout.specs.Words.{isMachine, depthIn, frameIn, framesIn, stateIn, registerWords, frameWords, framesWords, stateWords}
+use Rattle.word_layout.specs.Words.{registersWords, isMachine, depthIn, frameIn, framesIn, stateIn, registerWords, frameWords, framesWords, stateWords}
 use Rattle.word_layout.specs.Calls.{changed, startWords, enterWords, writeRegisterWords}
 use Rattle.history.specs.Preserved.{OpenEnter, callerOf}
 use Rattle.word_history.specs.Calls as calls
@@ -80,9 +80,9 @@ below-all (suc n) x m (suc i) h = below-all n x m i h
 
 -- a start of 640 bytes, all registers 7
 abbrev start : Convention → Lent
-start c = calls.fresh c 4096 (replicate 640 1) (replicate 66 7)
+start c = calls.fresh c 4096 (replicate 640 1) (replicate registersWords 7)
 
-sevens : WordsFit 66 (replicate 66 7)
+sevens : WordsFit registersWords (replicate registersWords 7)
 sevens = record { count = refl; fit = λ i. below-all 66 7 (2 ^ 64) i (omega arith) }
 
 -- one piece
@@ -136,12 +136,12 @@ worked x h can =
     (take (x .size) (leftBy x .area) ∷ []) (piece x h))
 
 -- from the start, and from a function that the start called
-from-start : (c : Convention) → startOutcome c 4096 640 (layout.registersIn (replicate 66 7) 0) .answer ≡ Accepted → Reached c [] (start c)
+from-start : (c : Convention) → startOutcome c 4096 640 (layout.registersIn (replicate registersWords 7) 0) .answer ≡ Accepted → Reached c [] (start c)
 unfolding run openedBy
 from-start c e = record {
   base = 4096;
   memory = replicate 640 1;
-  registers = replicate 66 7;
+  registers = replicate registersWords 7;
   calls = [];
   registers-fit = sevens;
   started = e;
@@ -153,13 +153,13 @@ from-start c e = record {
 abbrev entering : Convention → List ℕ → OpenEnter
 entering c q = record { before = machineIn (start c); request = frameIn q 0 }
 
-from-caller : (c : Convention) (q : List ℕ) → startOutcome c 4096 640 (layout.registersIn (replicate 66 7) 0) .answer ≡ Accepted → answer (enter q) (start c) ≡ Accepted
+from-caller : (c : Convention) (q : List ℕ) → startOutcome c 4096 640 (layout.registersIn (replicate registersWords 7) 0) .answer ≡ Accepted → answer (enter q) (start c) ≡ Accepted
     → Reached c (entering c q ∷ []) (calls.after (enter q) (start c))
 unfolding run openedBy
 from-caller c q e a = record {
   base = 4096;
   memory = replicate 640 1;
-  registers = replicate 66 7;
+  registers = replicate registersWords 7;
   calls = enter q ∷ [];
   registers-fit = sevens;
   started = e;
@@ -415,10 +415,10 @@ ellipsis-computed =
 -- ---- what the theorem says of them
 
 -- every start, and both callers, are accepted
-starts-are : (startOutcome Convention.Ppc64 4096 640 (layout.registersIn (replicate 66 7) 0) .answer ≡ Accepted)
-    × (startOutcome Convention.Z 4096 640 (layout.registersIn (replicate 66 7) 0) .answer ≡ Accepted)
-    × (startOutcome Convention.Aix 4096 640 (layout.registersIn (replicate 66 7) 0) .answer ≡ Accepted)
-    × (startOutcome Convention.Ppc64b 4096 640 (layout.registersIn (replicate 66 7) 0) .answer ≡ Accepted)
+starts-are : (startOutcome Convention.Ppc64 4096 640 (layout.registersIn (replicate registersWords 7) 0) .answer ≡ Accepted)
+    × (startOutcome Convention.Z 4096 640 (layout.registersIn (replicate registersWords 7) 0) .answer ≡ Accepted)
+    × (startOutcome Convention.Aix 4096 640 (layout.registersIn (replicate registersWords 7) 0) .answer ≡ Accepted)
+    × (startOutcome Convention.Ppc64b 4096 640 (layout.registersIn (replicate registersWords 7) 0) .answer ≡ Accepted)
     × (answer (enter (6 ∷ 16 ∷ 0 ∷ 16 ∷ 8 ∷ 0 ∷ [])) (start Convention.Z) ≡ Accepted)
     × (answer (enter (32 ∷ 32 ∷ 0 ∷ 0 ∷ 40 ∷ 0 ∷ [])) (start Convention.Aix) ≡ Accepted)
 unfolding roundUp overlay splice bytesOf valueOf conventionCode store load saveRun withPointer allWithin lowered okRegisters cleared okLeaf okRequest below fullSize frameSize chainWidth gprAt savesBy bankOf writableRegister withRegister judge topFrame callerFrame okFrames sizes okMemory okState startAnswer started startedMemory enterAnswer entered enteredMemory writableBytes writableAddress writeRegisterAnswer writeMemoryAnswer writtenRegister writtenMemory startOutcome startMemory enterOutcome enterMemory writeRegisterOutcome writeMemoryOutcome writeMemoryMemory isMachine depthIn layout.registersIn frameIn framesIn stateIn registerWords frameWords framesWords stateWords changed startWords enterWords writeRegisterWords run

@@ -15,7 +15,7 @@ use Rattle.rules.specs.Rules.{rules}
 use Rattle.machine.specs.declared.Answer.{Answer}
 use Rattle.machine.specs.declared.Answer.the-variants.{Accepted}
 use Rattle.machine.specs.Machine.{startOutcome}
-use Rattle.word_layout.specs.Words.{registersIn, frameIn}
+use Rattle.word_layout.specs.Words.{machineWords, registersIn, frameIn}
 use Rattle.word_layout.proofs.Theorems.{start-state}
 use Rattle.history.specs.Calls as states
 use Rattle.history.specs.Preserved.{OpenEnter, openAfter, Preserved, CallsFit}
@@ -41,12 +41,12 @@ unfolding run
 words-run [] m = refl
 words-run (c ∷ cs) m = words-run cs (after c m) ∙ words-length c m
 
-pub run-read : (cs : List Call) (m : Lent) → length (m .words) ≡ 262 → machineIn (run cs m) ≡ steps.run (callsIn cs) (machineIn m)
+pub run-read : (cs : List Call) (m : Lent) → length (m .words) ≡ machineWords → machineIn (run cs m) ≡ steps.run (callsIn cs) (machineIn m)
 unfolding run steps.run
 run-read [] m h = refl
 run-read (c ∷ cs) m h = run-read cs (after c m) (words-length c m ∙ h) ∙ ap (steps.run (callsIn cs)) (reading-after c m h)
 
-pub accepted-read : (cs : List Call) (m : Lent) → length (m .words) ≡ 262 → steps.AllAccepted (callsIn cs) (machineIn m) → AllAccepted cs m
+pub accepted-read : (cs : List Call) (m : Lent) → length (m .words) ≡ machineWords → steps.AllAccepted (callsIn cs) (machineIn m) → AllAccepted cs m
 unfolding AllAccepted steps.AllAccepted
 accepted-read [] m h a = tt
 accepted-read (c ∷ cs) m h a = (
@@ -54,7 +54,7 @@ accepted-read (c ∷ cs) m h a = (
   accepted-read cs (after c m) (words-length c m ∙ h) (subst (steps.AllAccepted (callsIn cs)) (sym (reading-after c m h)) (a .1)),
 )
 
-pub opened-read : (cs : List Call) (m : Lent) (os : List OpenEnter) → length (m .words) ≡ 262 → openedBy cs m os ≡ steps.openedBy (callsIn cs) (machineIn m) os
+pub opened-read : (cs : List Call) (m : Lent) (os : List OpenEnter) → length (m .words) ≡ machineWords → openedBy cs m os ≡ steps.openedBy (callsIn cs) (machineIn m) os
 unfolding openedBy steps.openedBy
 opened-read [] m os h = refl
 opened-read (c ∷ cs) m os h =
@@ -106,10 +106,10 @@ module _ (c : Convention) (os : List OpenEnter) (m : Lent) (h : Reached c os m) 
   abbrev start : Lent
   start = fresh c (h .base) (h .memory) (h .registers)
 
-  first-length : length (start .words) ≡ 262
+  first-length : length (start .words) ≡ machineWords
   first-length = start-length c (h .registers) (h .base) (length (h .memory)) (h .registers-fit .count)
 
-  pub reached-length : length (m .words) ≡ 262
+  pub reached-length : length (m .words) ≡ machineWords
   reached-length = ap (λ (x : Lent). length (x .words)) (sym (h .lent)) ∙ words-run (h .calls) start ∙ first-length
 
   started : Invariant (rules c) [] (machineIn start)
@@ -146,7 +146,7 @@ able p os m can = record { invariant = reached-keeps (p .convention) os m (can .
 
 -- ---- the claims
 
-homed-read : (s values copies : List ℕ) (f : Frame) (m : Lent) → length (m .words) ≡ 262 → callee.Homed s values copies f (machineIn m) → Homed s values copies f m
+homed-read : (s values copies : List ℕ) (f : Frame) (m : Lent) → length (m .words) ≡ machineWords → callee.Homed s values copies f (machineIn m) → Homed s values copies f m
 homed-read s values copies f m h k =
     let a : ℕ = callersArea (framesFor s) f (machineIn m) in
     let same : (pieces : List (List ℕ)) → machineIn (run (putPieces a pieces) m) ≡ steps.run (memory.putPieces a pieces) (machineIn m) =
@@ -163,7 +163,7 @@ module _ (s values : List ℕ) (copies : states.Machine → List ℕ) (base hidd
   abbrev c : Convention
   c = planFor s .convention
 
-  size : length (m .words) ≡ 262
+  size : length (m .words) ≡ machineWords
   size = reached-length c os m (can .reached)
 
   opens : openedBy puts m os ≡ os
@@ -172,7 +172,7 @@ module _ (s values : List ℕ) (copies : states.Machine → List ℕ) (base hidd
   ran : machineIn (run puts m) ≡ steps.run (callsIn puts) (machineIn m)
   ran = run-read puts m size
 
-  ran-size : length (run puts m .words) ≡ 262
+  ran-size : length (run puts m .words) ≡ machineWords
   ran-size = words-run puts m ∙ size
 
   put : Reached c os (run puts m)
@@ -195,7 +195,7 @@ module _ (s values : List ℕ) (copies : states.Machine → List ℕ) (base hidd
     entered : machineIn m′ ≡ callee.inCallee (callsIn puts) (machineIn m) f
     entered = reading-after (enter q) (run puts m) ran-size ∙ ap (states.after (states.enter f)) ran
 
-    entered-size : length (m′ .words) ≡ 262
+    entered-size : length (m′ .words) ≡ machineWords
     entered-size = words-length (enter q) (run puts m) ∙ ran-size
 
     opened : o ≡ callee.calling (callsIn puts) (machineIn m) f

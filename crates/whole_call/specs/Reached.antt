@@ -7,7 +7,7 @@ use lib.ListN.{length}
 use Rattle.conventions.specs.declared.Convention.{Convention}
 use Rattle.machine.specs.declared.Answer.the-variants.{Accepted}
 use Rattle.machine.specs.Machine.{startOutcome}
-use Rattle.word_layout.specs.Words.{registersIn}
+use Rattle.word_layout.specs.Words.{registersWords, registersIn}
 use Rattle.history.specs.Preserved.{OpenEnter, openAfter, CallsFit}
 use Rattle.word_history.specs.Calls.{Call, Lent, answer, after, fresh}
 use Rattle.word_history.specs.Demand3.{machineIn, callIn, callsIn, WordsFit}
@@ -33,7 +33,7 @@ pub record Reached (c : Convention) (os : List OpenEnter) (m : Lent) : Type 0 wh
   pub memory : List ℕ
   pub registers : List ℕ
   pub calls : List Call
-  pub registers-fit : WordsFit 66 registers
+  pub registers-fit : WordsFit registersWords registers
   pub started : startOutcome c base (length memory) (registersIn registers 0) .answer ≡ Accepted
   pub calls-fit : CallsFit (callsIn calls)
   pub lent : run calls (fresh c base memory registers) ≡ m

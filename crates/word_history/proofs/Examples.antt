@@ -16,7 +16,7 @@ use Rattle.rules.specs.Frames.{withPointer, allWithin, lowered, okRegisters, cl
 use Rattle.machine.specs.declared.Answer.the-variants.{Accepted}
 use Rattle.machine.specs.Answers.{answerNumber, judge}
 use Rattle.machine.specs.Machine.{topFrame, okFrames, sizes, okMemory, okState, startAnswer, started, startedMemory, enterAnswer, entered, enteredMemory, writeRegisterAnswer, writtenRegister, leaveAnswer, left, startOutcome, startMemory, enterOutcome, enterMemory, writeRegisterOutcome, leaveOutcome}
-use Rattle.word_layout.specs.Words.{isMachine, depthIn, registersIn, frameIn, framesIn, stateIn, registerWords, frameWords, framesWords, stateWords}
+use Rattle.word_layout.specs.Words.{registersWords, isMachine, depthIn, registersIn, frameIn, framesIn, stateIn, registerWords, frameWords, framesWords, stateWords}
 use Rattle.word_layout.specs.Calls.{changed, startWords, enterWords, writeRegisterWords, leaveWords}
 use Rattle.word_history.specs.Calls.{Call, enter, writeRegister, leave, Lent, answer, after, fresh}
 
@@ -30,7 +30,7 @@ run [] m = m
 run (c ∷ cs) m = run cs (after c m)
 
 abbrev start : Convention → Lent
-start c = fresh c 4096 (replicate 640 1) (replicate 66 7)
+start c = fresh c 4096 (replicate 640 1) (replicate registersWords 7)
 
 -- with the words of a request and a general register that it saves
 abbrev calls : List ℕ → ℕ → List Call
@@ -46,8 +46,8 @@ abbrev calls-leaf : List Call
 calls-leaf = calls (29 ∷ 30 ∷ 1 ∷ 0 ∷ 0 ∷ 1 ∷ []) 30
 
 -- Both starts are accepted. A leave is refused by 22 where nothing is entered. After the calls all the words are as the start left them.
-pub worked : (startOutcome Ppc64 4096 640 (registersIn (replicate 66 7) 0) .answer ≡ Accepted)
-    × (startOutcome Z 4096 640 (registersIn (replicate 66 7) 0) .answer ≡ Accepted)
+pub worked : (startOutcome Ppc64 4096 640 (registersIn (replicate registersWords 7) 0) .answer ≡ Accepted)
+    × (startOutcome Z 4096 640 (registersIn (replicate registersWords 7) 0) .answer ≡ Accepted)
     × (numbers calls-ppc64 (start Ppc64) ≡ 22 ∷ 0 ∷ 0 ∷ 0 ∷ 22 ∷ [])
     × (numbers calls-z (start Z) ≡ 22 ∷ 0 ∷ 0 ∷ 0 ∷ 22 ∷ [])
     × (run calls-ppc64 (start Ppc64) .words ≡ start Ppc64 .words)
@@ -62,7 +62,7 @@ abbrev calls-aix : List Call
 calls-aix = calls (13 ∷ 30 ∷ 1 ∷ 20 ∷ 64 ∷ 0 ∷ []) 13
 
 abbrev wide : List ℕ
-wide = replicate 66 (2 ^ 32)
+wide = replicate registersWords (2 ^ 32)
 
 abbrev start-aix : Lent
 start-aix = fresh Aix 4096 (replicate 640 1) wide

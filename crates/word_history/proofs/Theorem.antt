@@ -19,7 +19,7 @@ use Rattle.machine.specs.declared.Answer.{Answer}
 use Rattle.machine.specs.declared.Answer.the-variants.{Accepted, Refused}
 use Rattle.machine.specs.Answers.{settle}
 use Rattle.machine.specs.Machine.{startAnswer, startOutcome, started, notStarted, enterOutcome, enterMemory, writeRegisterOutcome, writeMemoryOutcome, leaveOutcome}
-use Rattle.word_layout.specs.Words.{registersIn, frameIn, stateIn, stateWords, registerWords, withRegisters}
+use Rattle.word_layout.specs.Words.{machineWords, registersWords, registersIn, frameIn, stateIn, stateWords, registerWords, withRegisters}
 use Rattle.word_layout.specs.Calls.{changed, refusedWords, startWords, enterWords, writeRegisterWords, leaveWords}
 use Rattle.word_layout.proofs.Laws.{length-register-words, length-frames-words}
 use Rattle.word_layout.proofs.Theorems.{start-state, enter-state, write-register-state, leave-state}
@@ -35,7 +35,7 @@ use Rattle.word_history.specs.Demand3.{machineIn, callIn, callsIn, Holds
 abbrev machineOf : List ℕ → State → states.Machine
 machineOf l s = record { state = s; memory = l }
 
-pub reading-after : (c : Call) (m : Lent) → length (m .words) ≡ 262 → machineIn (after c m) ≡ states.after (callIn c) (machineIn m)
+pub reading-after : (c : Call) (m : Lent) → length (m .words) ≡ machineWords → machineIn (after c m) ≡ states.after (callIn c) (machineIn m)
 unfolding writeMemoryOutcome
 reading-after (enter q) m h = ap (machineOf (enterMemory (stateIn (m .words)) (m .memory) (frameIn q 0))) (enter-state (m .words) (length (m .memory)) q h)
 reading-after (writeRegister b n v) m h = ap (machineOf (m .memory)) (write-register-state (m .words) (length (m .memory)) b n v h)
@@ -72,7 +72,7 @@ words-length leave m =
     settle-length (o .answer) (changed (m .words) (o .state) (o .state .depth)) (m .words) (changed-length (m .words) (o .state) (o .state .depth))
 
 -- a start's are 262
-pub start-length : (c : Convention) (rs : List ℕ) (b n : ℕ) → length rs ≡ 66 → length (startWords c rs b n) ≡ 262
+pub start-length : (c : Convention) (rs : List ℕ) (b n : ℕ) → length rs ≡ registersWords → length (startWords c rs b n) ≡ machineWords
 unfolding startWords refusedWords startOutcome started withPointer cleared registersIn stateWords
 start-length c rs b n h = go (startAnswer c b n)
   where
@@ -82,13 +82,13 @@ start-length c rs b n h = go (startAnswer c b n)
     f : length (part (0 + 32) 32 rs) ≡ 32
     f = length-part (0 + 32) 32 rs (omega arith)
 
-    go : (a : Answer) → length (settle a (stateWords (settle a (started c b n (registersIn rs 0)) (notStarted c (registersIn rs 0)))) (refusedWords c rs)) ≡ 262
+    go : (a : Answer) → length (settle a (stateWords (settle a (started c b n (registersIn rs 0)) (notStarted c (registersIn rs 0)))) (refusedWords c rs)) ≡ machineWords
     go Accepted = simp length-append (omega (arith, length-register-words (started c b n (registersIn rs 0) .registers) (simp length-set (lowered-length (rules c .limit) (part 0 32 rs) 32 ∙ g)) f, length-frames-words (replicate 32 noFrame)))
     go (Refused x) = simp length-append (omega arith)
 
 -- ---- a list of calls
 
-holds-read : (k : Rules) (cs : List Call) (os : List OpenEnter) (m : Lent) → length (m .words) ≡ 262 → states-kept.Holds k (callsIn cs) os (machineIn m) → Holds k cs os m
+holds-read : (k : Rules) (cs : List Call) (os : List OpenEnter) (m : Lent) → length (m .words) ≡ machineWords → states-kept.Holds k (callsIn cs) os (machineIn m) → Holds k cs os m
 holds-read k [] os m h p = tt
 holds-read k (c ∷ cs) os m h p =
     let e = reading-after c m h in
@@ -106,7 +106,7 @@ fit-take (suc n) [] b z h i = z
 fit-take (suc n) (x ∷ l) b z h zero = h 0
 fit-take (suc n) (x ∷ l) b z h (suc i) = fit-take n l b z (λ j. h (suc j)) i
 
-pub registers-fit : (rs : List ℕ) → WordsFit 66 rs → RegistersFit (registersIn rs 0)
+pub registers-fit : (rs : List ℕ) → WordsFit registersWords rs → RegistersFit (registersIn rs 0)
 unfolding registersIn
 registers-fit rs h = record {
   gprs = length-part 0 32 rs (omega (arith, h .count));

@@ -10,7 +10,7 @@ use Rattle.rules.specs.declared.Rules.{Rules}
 use Rattle.rules.specs.Rules.{rules}
 use Rattle.machine.specs.declared.Answer.the-variants.{Accepted}
 use Rattle.machine.specs.Machine.{startOutcome}
-use Rattle.word_layout.specs.Words.{registersIn, frameIn, stateIn}
+use Rattle.word_layout.specs.Words.{registersWords, registersIn, frameIn, stateIn}
 use Rattle.history.specs.Calls as states
 use Rattle.history.specs.Preserved.{OpenEnter, openAfter, CallHolds, CallsFit}
 use Rattle.word_history.specs.Calls.{Call, enter, writeRegister, writeMemory, leave, Lent, answer, after, fresh}
@@ -51,5 +51,5 @@ pub record WordsFit (n : ℕ) (ws : List ℕ) : Type 0 where
 -- calls holds. `WordsFit` and `CallsFit` restrict nothing: `fz_registers` is 66 words of 64 bits (32 general and 32 floating registers, LR, and CR, of which the low 32 bits
 -- count), and the value of `fz_write_register` is one. Nothing is asked of the memory, its base, the requests and the bytes written; a refused start starts no list.
 abbrev pub Demand3 : Type 0
-Demand3 = (c : Convention) (b : ℕ) (l rs : List ℕ) → WordsFit 66 rs → startOutcome c b (length l) (registersIn rs 0) .answer ≡ Accepted → (cs : List Call) → CallsFit (callsIn cs)
+Demand3 = (c : Convention) (b : ℕ) (l rs : List ℕ) → WordsFit registersWords rs → startOutcome c b (length l) (registersIn rs 0) .answer ≡ Accepted → (cs : List Call) → CallsFit (callsIn cs)
     → Holds (rules c) cs [] (fresh c b l rs)

@@ -10,7 +10,7 @@ use Rattle.rules.specs.declared.Rules.{Rules}
 use Rattle.rules.specs.Rules.{rules}
 use Rattle.machine.specs.declared.Answer.the-variants.{Accepted}
 use Rattle.machine.specs.Machine.{startOutcome}
-use Rattle.word_layout.specs.Words.{registersIn}
+use Rattle.word_layout.specs.Words.{registersWords, registersIn}
 use Rattle.history.specs.Preserved.{CallsFit}
 use Rattle.history.specs.Floor.{FloorInside, Untouched}
 use Rattle.word_history.specs.Calls.{Call, Lent, after, fresh}
@@ -24,5 +24,5 @@ FloorHolds k (c ∷ cs) m = FloorInside k (machineIn m) × Untouched k (callIn c
 
 -- in each convention, from each accepted start, of every list of exported calls; the premises are those of `Demand3`
 abbrev pub KeepsFloor : Type 0
-KeepsFloor = (c : Convention) (b : ℕ) (l rs : List ℕ) → WordsFit 66 rs → startOutcome c b (length l) (registersIn rs 0) .answer ≡ Accepted → (cs : List Call) → CallsFit (callsIn cs)
+KeepsFloor = (c : Convention) (b : ℕ) (l rs : List ℕ) → WordsFit registersWords rs → startOutcome c b (length l) (registersIn rs 0) .answer ≡ Accepted → (cs : List Call) → CallsFit (callsIn cs)
     → FloorHolds (rules c) cs (fresh c b l rs)

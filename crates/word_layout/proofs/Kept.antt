@@ -27,7 +27,7 @@ use Rattle.rules.proofs.Writing.{writable-named}
 use Rattle.machine.specs.declared.Answer.the-variants.{Accepted}
 use Rattle.machine.specs.Machine.{rulesOf, stackPointer, offset, top, enterAnswer, entered, enterOutcome, writeRegisterAnswer, writtenRegister, writeRegisterOutcome, leaveAnswer, left, leaveOutcome}
 use Rattle.machine.proofs.States.{enter-yes, write-register-yes, leave-yes}
-use Rattle.word_layout.specs.Words.{isKnown, isMachine, registersIn, frameIn, stateIn, withRegisters, withFrame}
+use Rattle.word_layout.specs.Words.{machineWords, registersAt, isKnown, isMachine, registersIn, frameIn, stateIn, withRegisters, withFrame}
 use Rattle.word_layout.specs.Calls.{changed, enterWords, writeRegisterWords, leaveWords}
 use Rattle.word_layout.proofs.Laws.{registers-put}
 use Rattle.word_layout.proofs.ReadBack.{registers-other, depth-machine}
@@ -73,7 +73,7 @@ module _ (ws : List ℕ) (a v : ℕ) where
   word-kept : (b : ℕ) → (b ≡ a → ⊥) → set (set ws a v) b (getD ws b 0) ≡ set ws a v
   word-kept b h = rw (← getD-set-other ws a b v 0 h) (set-getD (set ws a v) b 0)
 
-module _ (ws : List ℕ) (n : length ws ≡ 262) (m : isMachine ws ≡ true) where
+module _ (ws : List ℕ) (n : length ws ≡ machineWords) (m : isMachine ws ≡ true) where
   cr-kept : getD ws 69 0 % 2 ^ 32 ≡ getD ws 69 0
   unfolding isMachine
   cr-kept =
@@ -108,7 +108,7 @@ module _ (ws : List ℕ) (n : length ws ≡ 262) (m : isMachine ws ≡ true) whe
       ∙ rw (splice-part ws 4 32, splice-part ws 36 32, set-getD ws 68 0)
 
   -- a new stack pointer is one word
-  pub pointer-put : (k : Rules) (p : ℕ) → k .pointer < 32 → withRegisters ws (withPointer k (registersIn ws 4) p) ≡ set ws (4 + k .pointer) p
+  pub pointer-put : (k : Rules) (p : ℕ) → k .pointer < 32 → withRegisters ws (withPointer k (registersIn ws registersAt) p) ≡ set ws (4 + k .pointer) p
   unfolding withPointer registersIn
   pointer-put k p h = rw cr-kept (general-put (k .pointer) p h)
 
@@ -117,7 +117,7 @@ module _ (ws : List ℕ) (n : length ws ≡ 262) (m : isMachine ws ≡ true) whe
 pointer-small : (c : Convention) → rules c .pointer < 32
 pointer-small c = lawful c .pointer
 
-module _ (ws : List ℕ) (n : ℕ) (qs : List ℕ) (l : length ws ≡ 262) where
+module _ (ws : List ℕ) (n : ℕ) (qs : List ℕ) (l : length ws ≡ machineWords) where
   -- the depth, the stack pointer's word and the record
   pub enter-changes : enterAnswer (rulesOf (stateIn ws)) (stateIn ws) n (frameIn qs 0) ≡ Accepted
       → enterWords ws n qs
@@ -129,7 +129,7 @@ module _ (ws : List ℕ) (n : ℕ) (qs : List ℕ) (l : length ws ≡ 262) where
       let f = frameIn qs 0 in
       let deep : List ℕ = set ws 3 (s .depth + 1) in
       let can = enter-yes k s n f e .1 in
-      let same : registersIn deep 4 ≡ registersIn ws 4 = rw (splice-one ws 3 (s .depth + 1)) at (registers-other ws 3 ((s .depth + 1) ∷ []) (inr (omega arith))) in
+      let same : registersIn deep 4 ≡ registersIn ws registersAt = rw (splice-one ws 3 (s .depth + 1)) at (registers-other ws 3 ((s .depth + 1) ∷ []) (inr (omega arith))) in
       let there : s .depth < length (s .frames) = omega (arith, can .shallow, frames-32 ws) in
       let put = pointer-put deep (simp length-set l) (depth-machine ws l (accepted-machine k ws n _ e) (s .depth + 1)) k (stackPointer k s - frameSize k f) (pointer-small (s .convention)) in
       rw (e, getD-set-same (s .frames) (s .depth) f noFrame there, rw same at put)
@@ -151,9 +151,9 @@ wordAfter Link cr i v = v
 wordAfter ConditionField cr i v = withField cr i v
 wordAfter None cr i v = v
 
-module _ (ws : List ℕ) (n b i v : ℕ) (l : length ws ≡ 262) where
+module _ (ws : List ℕ) (n b i v : ℕ) (l : length ws ≡ machineWords) where
   one-word : (k : Rules) → isMachine ws ≡ true → (c : RegisterBank) → Named c i v → writableRegister k (top k (stateIn ws)) c i v ≡ true
-      → withRegisters ws (withRegister (registersIn ws 4) c i v) ≡ set ws (registerWord c i) (wordAfter c (getD ws 69 0) i v)
+      → withRegisters ws (withRegister (registersIn ws registersAt) c i v) ≡ set ws (registerWord c i) (wordAfter c (getD ws 69 0) i v)
   unfolding registersIn withRegister writableRegister
   one-word k m General h w = rw (cr-kept ws l m) (general-put ws l m i v h)
   one-word k m Floating h w = rw (cr-kept ws l m) (floating-put ws l m i v h)

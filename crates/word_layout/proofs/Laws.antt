@@ -20,7 +20,7 @@ use Rattle.machine.specs.declared.Answer.the-variants.{Accepted, Refused}
 use Rattle.machine.specs.Answers.{settle}
 use Rattle.machine.specs.Machine.{rulesOf, startAnswer, started, notStarted, startOutcome, enterOutcome, writeRegisterOutcome, leaveOutcome, left}
 use Rattle.machine.proofs.States.{enter-yes, leave-yes}
-use Rattle.word_layout.specs.Words.{registersIn, frameIn, framesIn, stateIn, registerWords, frameWords, framesWords, stateWords, withRegisters}
+use Rattle.word_layout.specs.Words.{machineWords, registersWords, recordWords, registersAt, recordsAt, registersIn, frameIn, framesIn, stateIn, registerWords, frameWords, framesWords, stateWords, withRegisters}
 use Rattle.word_layout.specs.Calls.{changed, refusedWords, startWords, enterWords, writeRegisterWords, leaveWords}
 
 -- ---- lengths and shape
@@ -44,7 +44,7 @@ unfolding framesWords frameWords
 length-frames-words [] = refl
 length-frames-words (f ∷ fs) = omega (arith, length-frames-words fs)
 
-pub length-register-words : (r : Registers) → length (r .gpr) ≡ 32 → length (r .fpr) ≡ 32 → length (registerWords r) ≡ 66
+pub length-register-words : (r : Registers) → length (r .gpr) ≡ 32 → length (r .fpr) ≡ 32 → length (registerWords r) ≡ registersWords
 unfolding registerWords
 length-register-words r g h = simp length-append (omega arith)
 
@@ -89,20 +89,20 @@ six-words l at a b c d e f =
 
 -- ---- records
 
-frames-more : (n : ℕ) (ws : List ℕ) (i : ℕ) → framesIn (suc n) ws i ≡ framesIn n ws i ++ frameIn ws (70 + 6 * (i + n)) ∷ []
+frames-more : (n : ℕ) (ws : List ℕ) (i : ℕ) → framesIn (suc n) ws i ≡ framesIn n ws i ++ frameIn ws (recordsAt + recordWords * (i + n)) ∷ []
 unfolding framesIn
 frames-more zero ws i = let e : i + 0 ≡ i = omega arith in rw e
-frames-more (suc n) ws i = let e : i + suc n ≡ i + 1 + n = omega arith in rw e (ap (λ (t : List Frame). frameIn ws (70 + 6 * i) ∷ t) (frames-more n ws (i + 1)))
+frames-more (suc n) ws i = let e : i + suc n ≡ i + 1 + n = omega arith in rw e (ap (λ (t : List Frame). frameIn ws (recordsAt + recordWords * i) ∷ t) (frames-more n ws (i + 1)))
 
-pub frames-next : (n : ℕ) (ws : List ℕ) → framesIn (suc n) ws 0 ≡ framesIn n ws 0 ++ frameIn ws (70 + 6 * n) ∷ []
+pub frames-next : (n : ℕ) (ws : List ℕ) → framesIn (suc n) ws 0 ≡ framesIn n ws 0 ++ frameIn ws (recordsAt + recordWords * n) ∷ []
 frames-next n ws = let e : 0 + n ≡ n = omega arith in rw e at (frames-more n ws 0)
 
 module _ (l : List ℕ) (fs : List Frame) (i : ℕ) (h : i < length fs) where
-  pub frames-turn : splice (splice l (70 + 6 * i) (frameWords (getD fs i noFrame))) (70 + 6 * (i + 1)) (framesWords (drop (i + 1) fs)) ≡ splice l (70 + 6 * i) (framesWords (drop i fs))
+  pub frames-turn : splice (splice l (recordsAt + recordWords * i) (frameWords (getD fs i noFrame))) (recordsAt + recordWords * (i + 1)) (framesWords (drop (i + 1) fs)) ≡ splice l (recordsAt + recordWords * i) (framesWords (drop i fs))
   unfolding framesWords frameWords
   frames-turn =
-      let e : 70 + 6 * (i + 1) ≡ 70 + 6 * i + 6 = omega arith in
-      rw (e, drop-cons fs i noFrame, add-one) (sym (splice-append l (70 + 6 * i) (frameWords (getD fs i noFrame)) (framesWords (drop (suc i) fs))))
+      let e : recordsAt + recordWords * (i + 1) ≡ recordsAt + recordWords * i + 6 = omega arith in
+      rw (e, drop-cons fs i noFrame, add-one) (sym (splice-append l (recordsAt + recordWords * i) (frameWords (getD fs i noFrame)) (framesWords (drop (suc i) fs))))
 
 pub frames-end : (l : List ℕ) (fs : List Frame) (at i : ℕ) → length fs ≤ i → splice l at (framesWords (drop i fs)) ≡ l
 unfolding framesWords
@@ -111,7 +111,7 @@ frames-end l fs at i h = rw (drop-of-length-le fs {i = i} h) (splice-nothing l a
 -- ---- registers, and a whole state
 
 module _ (l : List ℕ) (r : Registers) (g : length (r .gpr) ≡ 32) (f : length (r .fpr) ≡ 32) where
-  pub registers-put : set (set (splice (splice l 4 (r .gpr)) 36 (r .fpr)) 68 (r .lr)) 69 (r .cr) ≡ splice l 4 (registerWords r)
+  pub registers-put : set (set (splice (splice l 4 (r .gpr)) 36 (r .fpr)) 68 (r .lr)) 69 (r .cr) ≡ splice l registersAt (registerWords r)
   unfolding registerWords
   registers-put =
       let tail : List ℕ = r .lr ∷ r .cr ∷ [] in
@@ -121,12 +121,12 @@ module _ (l : List ℕ) (r : Registers) (g : length (r .gpr) ≡ 32) (f : length
       let d : splice m 68 tail ≡ set (set m 68 (r .lr)) 69 (r .cr) = sym (splice-next m 68 (r .lr) (r .cr ∷ [])) ∙ splice-one (set m 68 (r .lr)) 69 (r .cr) in
       sym (rw (rw g at a, rw f at b) d)
 
-module _ (l : List ℕ) (s : State) (n : length l ≡ 262) (r : length (registerWords (s .registers)) ≡ 66) (f : length (s .frames) ≡ 32) where
-  whole : length (stateWords s) ≡ 262
+module _ (l : List ℕ) (s : State) (n : length l ≡ machineWords) (r : length (registerWords (s .registers)) ≡ registersWords) (f : length (s .frames) ≡ 32) where
+  whole : length (stateWords s) ≡ machineWords
   unfolding stateWords
   whole = simp length-append (omega (arith, length-frames-words (s .frames)))
 
-  pub state-put : splice (splice (set (set (set (set l 0 (codeOf (s .convention))) 1 (s .base)) 2 (s .size)) 3 (s .depth)) 4 (registerWords (s .registers))) 70 (framesWords (s .frames)) ≡ stateWords s
+  pub state-put : splice (splice (set (set (set (set l 0 (codeOf (s .convention))) 1 (s .base)) 2 (s .size)) 3 (s .depth)) registersAt (registerWords (s .registers))) recordsAt (framesWords (s .frames)) ≡ stateWords s
   unfolding stateWords
   state-put =
       let rest : List ℕ = registerWords (s .registers) ++ framesWords (s .frames) in
@@ -136,7 +136,7 @@ module _ (l : List ℕ) (s : State) (n : length l ≡ 262) (r : length (register
       let l3 = set l2 3 (s .depth) in
       let a : splice l 0 (stateWords s) ≡ splice l3 4 rest
       = sym (splice-next l 0 (codeOf (s .convention)) (s .base ∷ s .size ∷ s .depth ∷ rest)) ∙ sym (splice-next l0 1 (s .base) (s .size ∷ s .depth ∷ rest)) ∙ sym (splice-next l1 2 (s .size) (s .depth ∷ rest)) ∙ sym (splice-next l2 3 (s .depth) rest) in
-      let b : splice l3 4 rest ≡ splice (splice l3 4 (registerWords (s .registers))) (4 + length (registerWords (s .registers))) (framesWords (s .frames)) = splice-append l3 4 (registerWords (s .registers)) (framesWords (s .frames)) in
+      let b : splice l3 4 rest ≡ splice (splice l3 registersAt (registerWords (s .registers))) (4 + length (registerWords (s .registers))) (framesWords (s .frames)) = splice-append l3 4 (registerWords (s .registers)) (framesWords (s .frames)) in
       sym (rw r at b) ∙ sym a ∙ splice-all l (stateWords s) (whole ∙ sym n)
 
 -- ---- a start
@@ -146,7 +146,7 @@ set-behind [] ys n i v h = let e : n + i ≡ i = omega arith in rw e
 set-behind (x ∷ xs) ys zero i v h = absurd (omega arith)
 set-behind (x ∷ xs) ys (suc n) i v h = let e : suc n + i ≡ suc (n + i) = omega arith in rw e (ap (λ (t : List ℕ). x ∷ t) (set-behind xs ys n i v (omega arith)))
 
-module _ (rs : List ℕ) (l : length rs ≡ 66) where
+module _ (rs : List ℕ) (l : length rs ≡ registersWords) where
   cut : part 0 32 rs ++ (part 32 32 rs ++ getD rs 64 0 ∷ getD rs 65 0 ∷ []) ≡ rs
   cut =
       let last : drop 64 rs ≡ getD rs 64 0 ∷ getD rs 65 0 ∷ []
@@ -163,7 +163,7 @@ module _ (rs : List ℕ) (l : length rs ≡ 66) where
       ∙ ap (λ (t : List ℕ). part 0 32 rs ++ t) (set-behind (part 32 32 rs) (getD rs 64 0 ∷ cr ∷ []) 32 1 (getD rs 65 0) (length-part 32 32 rs (omega arith)))
       ∙ cut
 
-  handed-length : length (registerWords (registersIn rs 0)) ≡ 66
+  handed-length : length (registerWords (registersIn rs 0)) ≡ registersWords
   unfolding registersIn
   handed-length = length-register-words (registersIn rs 0) (length-part 0 32 rs (omega arith)) (length-part 32 32 rs (omega arith))
 

@@ -20,7 +20,7 @@ use Rattle.rules.proofs.Facts.{and-yes}
 use Rattle.machine.specs.declared.State.{State}
 use Rattle.machine.specs.Machine.{frameAt}
 use Rattle.conventions.specs.Numbers.{conventionCode}
-use Rattle.word_layout.specs.Words.{isKnown, isMachine, depthIn, registersIn, frameIn, framesIn, stateIn, registerWords, frameWords, withRegisters, withFrame}
+use Rattle.word_layout.specs.Words.{machineWords, registersWords, recordWords, registersAt, recordsAt, isKnown, isMachine, depthIn, registersIn, frameIn, framesIn, stateIn, registerWords, frameWords, withRegisters, withFrame}
 use Rattle.word_layout.specs.Calls.{changed}
 use Rattle.word_layout.proofs.Laws.{registers-put, length-register-words}
 
@@ -34,7 +34,7 @@ flag-back true false g m l p = refl
 flag-back false true g m l p = refl
 flag-back false false g m l p = refl
 
-pub frame-same : (l : List ℕ) (at : ℕ) (f : Frame) → at + 6 ≤ length l → frameIn (splice l at (frameWords f)) at ≡ f
+pub frame-same : (l : List ℕ) (at : ℕ) (f : Frame) → at + recordWords ≤ length l → frameIn (splice l at (frameWords f)) at ≡ f
 unfolding frameIn frameWords
 frame-same l at f h =
     let at-0 : at + 0 ≡ at = omega arith in
@@ -63,27 +63,27 @@ unfolding frameWords
 frame-other l n f at (inl h) = frame-agree _ l at (λ j a b. splice-at-other l n (frameWords f) j 0 (inl (omega arith)))
 frame-other l n f at (inr h) = frame-agree _ l at (λ j a b. splice-at-other l n (frameWords f) j 0 (inr (omega arith)))
 
-pub frames-agree : (n : ℕ) (l m : List ℕ) (i : ℕ) → ((j : ℕ) → i ≤ j → j < i + n → frameIn l (70 + 6 * j) ≡ frameIn m (70 + 6 * j)) → framesIn n l i ≡ framesIn n m i
+pub frames-agree : (n : ℕ) (l m : List ℕ) (i : ℕ) → ((j : ℕ) → i ≤ j → j < i + n → frameIn l (recordsAt + recordWords * j) ≡ frameIn m (recordsAt + recordWords * j)) → framesIn n l i ≡ framesIn n m i
 unfolding framesIn
 frames-agree zero l m i h = refl
 frames-agree (suc n) l m i h = rw (h i (omega arith) (omega arith), frames-agree n l m (i + 1) (λ j a b. h j (omega arith) (omega arith)))
 
 -- one record is put, and the others stay
-pub frames-set : (n : ℕ) (l : List ℕ) (i k : ℕ) (f : Frame) → k < n → 70 + 6 * (i + n) ≤ length l
-    → framesIn n (splice l (70 + 6 * (i + k)) (frameWords f)) i ≡ set (framesIn n l i) k f
+pub frames-set : (n : ℕ) (l : List ℕ) (i k : ℕ) (f : Frame) → k < n → recordsAt + recordWords * (i + n) ≤ length l
+    → framesIn n (splice l (recordsAt + recordWords * (i + k)) (frameWords f)) i ≡ set (framesIn n l i) k f
 unfolding framesIn
 frames-set zero l i k f h r = absurd (omega arith)
 frames-set (suc n) l i zero f h r =
     let here : i + 0 ≡ i = omega arith in
     rw here
-    (rw (frame-same l (70 + 6 * i) f (omega arith), frames-agree n (splice l (70 + 6 * i) (frameWords f)) l (i + 1) (λ j a b. frame-other l (70 + 6 * i) f (70 + 6 * j) (inr (omega arith)))))
+    (rw (frame-same l (recordsAt + recordWords * i) f (omega arith), frames-agree n (splice l (recordsAt + recordWords * i) (frameWords f)) l (i + 1) (λ j a b. frame-other l (recordsAt + recordWords * i) f (recordsAt + recordWords * j) (inr (omega arith)))))
 frames-set (suc n) l i (suc k) f h r =
     let there : i + suc k ≡ i + 1 + k = omega arith in
-    rw there (rw (frame-other l (70 + 6 * (i + 1 + k)) f (70 + 6 * i) (inl (omega arith)), frames-set n l (i + 1) k f (omega arith) (omega arith)))
+    rw there (rw (frame-other l (recordsAt + recordWords * (i + 1 + k)) f (recordsAt + recordWords * i) (inl (omega arith)), frames-set n l (i + 1) k f (omega arith) (omega arith)))
 
 -- ---- registers
 
-module _ (l : List ℕ) (r : Registers) (n : 70 ≤ length l) (g : length (r .gpr) ≡ 32) (f : length (r .fpr) ≡ 32) (c : r .cr < 2 ^ 32) where
+module _ (l : List ℕ) (r : Registers) (n : recordsAt ≤ length l) (g : length (r .gpr) ≡ 32) (f : length (r .fpr) ≡ 32) (c : r .cr < 2 ^ 32) where
   general : List ℕ
   general = splice l 4 (r .gpr)
 
@@ -93,7 +93,7 @@ module _ (l : List ℕ) (r : Registers) (n : 70 ≤ length l) (g : length (r .gp
   linked : List ℕ
   linked = splice banks 68 (r .lr ∷ [])
 
-  put-is : splice l 4 (registerWords r) ≡ splice linked 69 (r .cr ∷ [])
+  put-is : splice l registersAt (registerWords r) ≡ splice linked 69 (r .cr ∷ [])
   unfolding general banks linked
   put-is = sym (registers-put l r g f) ∙ rw (splice-one, splice-one)
 
@@ -105,10 +105,10 @@ module _ (l : List ℕ) (r : Registers) (n : 70 ≤ length l) (g : length (r .gp
       let d = length-splice (splice (splice l 4 (r .gpr)) 36 (r .fpr)) 68 (r .lr ∷ []) in
       (a, b ∙ a, d ∙ b ∙ a)
 
-  pub cr-word : getD (splice l 4 (registerWords r)) 69 0 ≡ r .cr
+  pub cr-word : getD (splice l registersAt (registerWords r)) 69 0 ≡ r .cr
   cr-word = rw put-is (splice-at-same linked 69 (r .cr ∷ []) 0 0 (omega (arith, rooms .2)) (omega arith))
 
-  pub registers-same : registersIn (splice l 4 (registerWords r)) 4 ≡ r
+  pub registers-same : registersIn (splice l registersAt (registerWords r)) 4 ≡ r
   unfolding registersIn general banks linked
   registers-same =
       let tail = r .cr ∷ [] in
@@ -125,19 +125,19 @@ module _ (l : List ℕ) (r : Registers) (n : 70 ≤ length l) (g : length (r .gp
 -- ---- what a write elsewhere leaves
 
 module _ (ws : List ℕ) (n : ℕ) (bs : List ℕ) where
-  pub registers-other : Apart 4 66 n (length bs) → registersIn (splice ws n bs) 4 ≡ registersIn ws 4
+  pub registers-other : Apart registersAt registersWords n (length bs) → registersIn (splice ws n bs) 4 ≡ registersIn ws registersAt
   unfolding registersIn
   registers-other (inl h) =
       rw (splice-other ws n bs 4 32 (inl (omega arith)), splice-other ws n bs 36 32 (inl (omega arith)), splice-at-other ws n bs 68 0 (inl (omega arith)), splice-at-other ws n bs 69 0 (inl (omega arith)))
   registers-other (inr h) =
       rw (splice-other ws n bs 4 32 (inr (omega arith)), splice-other ws n bs 36 32 (inr (omega arith)), splice-at-other ws n bs 68 0 (inr (omega arith)), splice-at-other ws n bs 69 0 (inr (omega arith)))
 
-  frames-other : n + length bs ≤ 70 → framesIn 32 (splice ws n bs) 0 ≡ framesIn 32 ws 0
-  frames-other h = frames-agree 32 (splice ws n bs) ws 0 (λ j a b. frame-agree (splice ws n bs) ws (70 + 6 * j) (λ k c d. splice-at-other ws n bs k 0 (inr (omega arith))))
+  frames-other : n + length bs ≤ recordsAt → framesIn 32 (splice ws n bs) 0 ≡ framesIn 32 ws 0
+  frames-other h = frames-agree 32 (splice ws n bs) ws 0 (λ j a b. frame-agree (splice ws n bs) ws (recordsAt + recordWords * j) (λ k c d. splice-at-other ws n bs k 0 (inr (omega arith))))
 
 -- ---- a state whose depth, registers or one record is put
 
-module _ (ws : List ℕ) (n : length ws ≡ 262) (m : isMachine ws ≡ true) where
+module _ (ws : List ℕ) (n : length ws ≡ machineWords) (m : isMachine ws ≡ true) where
   pub depth-machine : (d : ℕ) → isMachine (set ws 3 d) ≡ true
   unfolding isMachine
   depth-machine d = rw (getD-set-other ws 3 0 d 0 (λ e. omega arith), getD-set-other ws 3 69 d 0 (λ e. omega arith)) m
@@ -156,7 +156,7 @@ module _ (ws : List ℕ) (n : length ws ≡ 262) (m : isMachine ws ≡ true) whe
       )
 
   module _ (r : Registers) (g : length (r .gpr) ≡ 32) (f : length (r .fpr) ≡ 32) (c : r .cr < 2 ^ 32) where
-    words-66 : length (registerWords r) ≡ 66
+    words-66 : length (registerWords r) ≡ registersWords
     words-66 = length-register-words r g f
 
     registers-machine : isMachine (withRegisters ws r) ≡ true
@@ -182,7 +182,7 @@ module _ (ws : List ℕ) (n : length ws ≡ 262) (m : isMachine ws ≡ true) whe
   module _ (i : ℕ) (f : Frame) (h : i < 32) where
     frame-machine : isMachine (withFrame ws i f) ≡ true
     unfolding isMachine
-    frame-machine = rw (splice-at-other ws (70 + 6 * i) (frameWords f) 0 0 (inl (omega arith)), splice-at-other ws (70 + 6 * i) (frameWords f) 69 0 (inl (omega arith))) m
+    frame-machine = rw (splice-at-other ws (recordsAt + recordWords * i) (frameWords f) 0 0 (inl (omega arith)), splice-at-other ws (recordsAt + recordWords * i) (frameWords f) 69 0 (inl (omega arith))) m
 
     pub frame-back : stateIn (withFrame ws i f) ≡ record { convention = stateIn ws .convention; base = stateIn ws .base; size = stateIn ws .size; depth = stateIn ws .depth; registers = stateIn ws .registers; frames = set (stateIn ws .frames) i f }
     unfolding stateIn depthIn
@@ -191,24 +191,24 @@ module _ (ws : List ℕ) (n : length ws ≡ 262) (m : isMachine ws ≡ true) whe
         rw (
           frame-machine,
           m,
-          splice-at-other ws (70 + 6 * i) (frameWords f) 0 0 (inl (omega arith)),
-          splice-at-other ws (70 + 6 * i) (frameWords f) 1 0 (inl (omega arith)),
-          splice-at-other ws (70 + 6 * i) (frameWords f) 2 0 (inl (omega arith)),
-          splice-at-other ws (70 + 6 * i) (frameWords f) 3 0 (inl (omega arith)),
-          registers-other ws (70 + 6 * i) (frameWords f) (inl (omega arith)),
+          splice-at-other ws (recordsAt + recordWords * i) (frameWords f) 0 0 (inl (omega arith)),
+          splice-at-other ws (recordsAt + recordWords * i) (frameWords f) 1 0 (inl (omega arith)),
+          splice-at-other ws (recordsAt + recordWords * i) (frameWords f) 2 0 (inl (omega arith)),
+          splice-at-other ws (recordsAt + recordWords * i) (frameWords f) 3 0 (inl (omega arith)),
+          registers-other ws (recordsAt + recordWords * i) (frameWords f) (inl (omega arith)),
           rw from-0 at (frames-set 32 ws 0 i f h (omega arith)),
         )
 
 -- what an enter or a leave puts
-module _ (ws : List ℕ) (n : length ws ≡ 262) (m : isMachine ws ≡ true) (s : State) (i : ℕ) (h : i < 32) (g : length (s .registers .gpr) ≡ 32) (f : length (s .registers .fpr) ≡ 32) (c : s .registers .cr < 2 ^ 32) where
+module _ (ws : List ℕ) (n : length ws ≡ machineWords) (m : isMachine ws ≡ true) (s : State) (i : ℕ) (h : i < 32) (g : length (s .registers .gpr) ≡ 32) (f : length (s .registers .fpr) ≡ 32) (c : s .registers .cr < 2 ^ 32) where
   pub changed-back : stateIn (changed ws s i)
       ≡ record { convention = stateIn ws .convention; base = stateIn ws .base; size = stateIn ws .size; depth = s .depth; registers = s .registers; frames = set (stateIn ws .frames) i (frameAt (s .frames) i) }
   unfolding changed
   changed-back =
       let deep : List ℕ = set ws 3 (s .depth) in
-      let deep-length : length deep ≡ 262 = simp length-set n in
+      let deep-length : length deep ≡ machineWords = simp length-set n in
       let deep-machine = depth-machine ws n m (s .depth) in
       let full : List ℕ = withRegisters deep (s .registers) in
-      let full-length : length full ≡ 262 = length-splice deep 4 (registerWords (s .registers)) ∙ deep-length in
+      let full-length : length full ≡ machineWords = length-splice deep registersAt (registerWords (s .registers)) ∙ deep-length in
       let full-machine = registers-machine deep deep-length deep-machine (s .registers) g f c in
       rw (frame-back full full-length full-machine i (frameAt (s .frames) i) h, registers-back deep deep-length deep-machine (s .registers) g f c, depth-back ws n m (s .depth))

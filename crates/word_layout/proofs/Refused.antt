@@ -16,7 +16,7 @@ use Rattle.machine.specs.declared.Refusal.the-variants.{BadState}
 use Rattle.machine.specs.declared.Answer.the-variants.{Refused}
 use Rattle.machine.specs.Answers.{Test, judge}
 use Rattle.machine.specs.Machine.{okFrames, okMemory, okState, stateTests}
-use Rattle.word_layout.specs.Words.{isMachine, depthIn, registersIn, frameIn, stateIn}
+use Rattle.word_layout.specs.Words.{registersAt, isMachine, depthIn, registersIn, frameIn, stateIn}
 use Rattle.word_layout.specs.Calls.{refusedWords}
 
 and-no : (b : Bool) → (b && false) ≡ false
@@ -25,7 +25,7 @@ and-no false = refl
 
 no-state : (k : Rules) (ws : List ℕ) → isMachine ws ≡ false → okState k (stateIn ws) ≡ false
 unfolding okState stateIn depthIn
-no-state k ws h = rw h (and-no (okRegisters k (registersIn ws 4)))
+no-state k ws h = rw h (and-no (okRegisters k (registersIn ws registersAt)))
 
 -- every answer but a start's is of this form
 pub no-machine : (k : Rules) (ws : List ℕ) (n : ℕ) (ts : List Test) → isMachine ws ≡ false → judge (stateTests k (stateIn ws) n ++ ts) ≡ Refused BadState

@@ -36,7 +36,7 @@ use Rattle.machine.specs.Answers.{Test, judge, settle}
 use Rattle.machine.specs.Machine.{rulesOf, stackPointer, offset, top, stateTests, startAnswer, started, notStarted, startOutcome, enterAnswer, entered, writeRegisterAnswer, writtenRegister, leaveAnswer, left, enterOutcome, writeRegisterOutcome, leaveOutcome}
 use Rattle.machine.proofs.Judging.{never}
 use Rattle.machine.proofs.States.{enter-yes, write-register-yes, leave-yes}
-use Rattle.word_layout.specs.Words.{isMachine, depthIn, registersIn, frameIn, framesIn, stateIn, registerWords, frameWords, framesWords, stateWords, withRegisters}
+use Rattle.word_layout.specs.Words.{machineWords, registersWords, recordWords, registersAt, recordsAt, isMachine, depthIn, registersIn, frameIn, framesIn, stateIn, registerWords, frameWords, framesWords, stateWords, withRegisters}
 use Rattle.word_layout.specs.Calls.{changed, refusedWords, startWords, enterWords, writeRegisterWords, leaveWords}
 use Rattle.word_layout.proofs.Refused.{no-machine}
 use Rattle.word_layout.proofs.Laws.{length-register-words, state-put, refused-back}
@@ -62,7 +62,7 @@ pub record Read (r : Registers) : Type 0 where
   pub fpr : length (r .fpr) ≡ 32
   pub cr : r .cr < 2 ^ 32
 
-registers-read : (ws : List ℕ) (at : ℕ) → at + 66 ≤ length ws → Read (registersIn ws at)
+registers-read : (ws : List ℕ) (at : ℕ) → at + registersWords ≤ length ws → Read (registersIn ws at)
 unfolding registersIn
 registers-read ws at h = record {
   gpr = length-part at 32 ws (omega arith);
@@ -70,7 +70,7 @@ registers-read ws at h = record {
   cr = mod-lt (getD ws (at + 65) 0) (omega arith);
 }
 
-state-read : (ws : List ℕ) → length ws ≡ 262 → Read (stateIn ws .registers)
+state-read : (ws : List ℕ) → length ws ≡ machineWords → Read (stateIn ws .registers)
 unfolding stateIn
 state-read ws n = registers-read ws 4 (omega arith)
 
@@ -80,17 +80,17 @@ frames-32 ws = length-frames 32 ws 0
 
 -- ---- all the words of a state
 
-frames-read : (fs : List Frame) (ws : List ℕ) (i : ℕ) → drop (70 + 6 * i) ws ≡ framesWords fs → framesIn (length fs) ws i ≡ fs
+frames-read : (fs : List Frame) (ws : List ℕ) (i : ℕ) → drop (recordsAt + recordWords * i) ws ≡ framesWords fs → framesIn (length fs) ws i ≡ fs
 unfolding framesIn framesWords frameIn frameWords
 frames-read [] ws i e = refl
 frames-read (f ∷ fs) ws i e =
-    let at = 70 + 6 * i in
+    let at = recordsAt + recordWords * i in
     let at-0 : at + 0 ≡ at = omega arith in
     let here : (j : ℕ) → getD ws (at + j) 0 ≡ getD (framesWords (f ∷ fs)) j 0 = λ j. sym (getD-drop at ws j 0) ∙ ap (λ (t : List ℕ). getD t j 0) e in
     let w0 = rw at-0 at (here 0) in
     let head : frameIn ws at ≡ f = rw (w0, here 1, here 2, here 3, here 4, here 5) (flag-back (f .«saves_cr») (f .leaf) (f .«first_gpr») (f .«first_fpr») (f .locals) (f .outgoing)) in
-    let next : 70 + 6 * (i + 1) ≡ at + 6 = omega arith in
-    let rest : drop (70 + 6 * (i + 1)) ws ≡ framesWords fs = rw next (sym (drop-drop 6 at ws) ∙ ap (λ (t : List ℕ). drop 6 t) e) in
+    let next : recordsAt + recordWords * (i + 1) ≡ at + 6 = omega arith in
+    let rest : drop (recordsAt + recordWords * (i + 1)) ws ≡ framesWords fs = rw next (sym (drop-drop 6 at ws) ∙ ap (λ (t : List ℕ). drop 6 t) e) in
     rw (head, frames-read fs ws (i + 1) rest)
 
 code-machine : (c : Convention) (ws : List ℕ) → getD ws 0 0 ≡ codeOf c → getD ws 69 0 < 2 ^ 32 → isMachine ws ≡ true
@@ -98,27 +98,27 @@ unfolding isMachine
 code-machine c ws e h = rw (e, code-back c, le-leb (getD ws 69 0) (2 ^ 32 - 1) (omega arith))
 
 module _ (s : State) (y : Read (s .registers)) (f : length (s .frames) ≡ 32) where
-  words-66 : length (registerWords (s .registers)) ≡ 66
+  words-66 : length (registerWords (s .registers)) ≡ registersWords
   words-66 = length-register-words (s .registers) (y .gpr) (y .fpr)
 
   blank : List ℕ
-  blank = set (set (set (set (replicate 262 0) 0 (codeOf (s .convention))) 1 (s .base)) 2 (s .size)) 3 (s .depth)
+  blank = set (set (set (set (replicate machineWords 0) 0 (codeOf (s .convention))) 1 (s .base)) 2 (s .size)) 3 (s .depth)
 
-  blank-length : length blank ≡ 262
+  blank-length : length blank ≡ machineWords
   unfolding blank
   blank-length = simp length-set
 
-  spliced : splice (splice blank 4 (registerWords (s .registers))) 70 (framesWords (s .frames)) ≡ stateWords s
+  spliced : splice (splice blank registersAt (registerWords (s .registers))) recordsAt (framesWords (s .frames)) ≡ stateWords s
   unfolding blank
-  spliced = state-put (replicate 262 0) s refl words-66 f
+  spliced = state-put (replicate machineWords 0) s refl words-66 f
 
   registers-there : registersIn (stateWords s) 4 ≡ s .registers
   registers-there =
-      rw (← spliced) (registers-other (splice blank 4 (registerWords (s .registers))) 70 (framesWords (s .frames)) (inl (omega arith)) ∙ registers-same blank (s .registers) (omega (arith, blank-length)) (y .gpr) (y .fpr) (y .cr))
+      rw (← spliced) (registers-other (splice blank registersAt (registerWords (s .registers))) recordsAt (framesWords (s .frames)) (inl (omega arith)) ∙ registers-same blank (s .registers) (omega (arith, blank-length)) (y .gpr) (y .fpr) (y .cr))
 
   cr-there : getD (stateWords s) 69 0 ≡ s .registers .cr
   cr-there =
-      rw (← spliced) (splice-at-other (splice blank 4 (registerWords (s .registers))) 70 (framesWords (s .frames)) 69 0 (inl (omega arith)) ∙ cr-word blank (s .registers) (omega (arith, blank-length)) (y .gpr) (y .fpr) (y .cr))
+      rw (← spliced) (splice-at-other (splice blank registersAt (registerWords (s .registers))) recordsAt (framesWords (s .frames)) 69 0 (inl (omega arith)) ∙ cr-word blank (s .registers) (omega (arith, blank-length)) (y .gpr) (y .fpr) (y .cr))
 
   frames-there : framesIn 32 (stateWords s) 0 ≡ s .frames
   unfolding stateWords
@@ -136,7 +136,7 @@ module _ (s : State) (y : Read (s .registers)) (f : length (s .frames) ≡ 32) w
 
 -- ---- start
 
-module _ (c : Convention) (rs : List ℕ) (b n : ℕ) (l : length rs ≡ 66) where
+module _ (c : Convention) (rs : List ℕ) (b n : ℕ) (l : length rs ≡ registersWords) where
   handed : Read (registersIn rs 0)
   handed = registers-read rs 0 (omega arith)
 
@@ -155,7 +155,7 @@ module _ (c : Convention) (rs : List ℕ) (b n : ℕ) (l : length rs ≡ 66) whe
 
 -- ---- enter
 
-module _ (ws : List ℕ) (n : ℕ) (qs : List ℕ) (l : length ws ≡ 262) where
+module _ (ws : List ℕ) (n : ℕ) (qs : List ℕ) (l : length ws ≡ machineWords) where
   entered-back : enterAnswer (rulesOf (stateIn ws)) (stateIn ws) n (frameIn qs 0) ≡ Accepted
       → stateIn (changed ws (entered (rulesOf (stateIn ws)) (stateIn ws) (frameIn qs 0)) (stateIn ws .depth)) ≡ entered (rulesOf (stateIn ws)) (stateIn ws) (frameIn qs 0)
   unfolding entered withPointer enterAnswer
@@ -185,7 +185,7 @@ with-register-read r Link i v h y = record { gpr = y .gpr; fpr = y .fpr; cr = y 
 with-register-read r ConditionField i v h y = record { gpr = y .gpr; fpr = y .fpr; cr = field-fit i (r .cr) v (h .1) (y .cr) (h .0) }
 with-register-read r None i v h y = y
 
-module _ (ws : List ℕ) (n b i v : ℕ) (l : length ws ≡ 262) where
+module _ (ws : List ℕ) (n b i v : ℕ) (l : length ws ≡ machineWords) where
   written-back : writeRegisterAnswer (rulesOf (stateIn ws)) (stateIn ws) n b i v ≡ Accepted
       → stateIn (withRegisters ws (writtenRegister (stateIn ws) b i v .registers)) ≡ writtenRegister (stateIn ws) b i v
   unfolding writtenRegister writeRegisterAnswer
@@ -214,7 +214,7 @@ restored-read k f s m p r y = record {
   cr = cr-fit k f s r m (k .linkage) (r .cr) (y .cr);
 }
 
-module _ (ws m : List ℕ) (l : length ws ≡ 262) where
+module _ (ws m : List ℕ) (l : length ws ≡ machineWords) where
   left-back : leaveAnswer (rulesOf (stateIn ws)) (stateIn ws) m ≡ Accepted
       → stateIn (changed ws (left (rulesOf (stateIn ws)) (stateIn ws) m) (left (rulesOf (stateIn ws)) (stateIn ws) m .depth)) ≡ left (rulesOf (stateIn ws)) (stateIn ws) m
   unfolding left leaveAnswer

@@ -18,6 +18,38 @@ use Rattle.words.specs.Basics.{pick}
 use Rattle.rules.specs.Frames.{firstGpr, firstFpr, savesCr, noFrame, flag}
 use Rattle.machine.specs.declared.State.{State}
 
+-- ---- the numbers of the layout
+
+-- words of the whole state, of the registers (`fz_registers`), of a record or a request (`fz_frame`)
+abbrev pub machineWords : ℕ
+machineWords = 262
+
+abbrev pub registersWords : ℕ
+registersWords = 66
+
+abbrev pub recordWords : ℕ
+recordWords = 6
+
+-- where the depth stands, and where the registers and the records start
+abbrev pub depthAt : ℕ
+depthAt = 3
+
+abbrev pub registersAt : ℕ
+registersAt = 4
+
+abbrev pub recordsAt : ℕ
+recordsAt = 70
+
+-- in the registers: where the floating ones start, and LR and CR stand
+abbrev pub floatingIn : ℕ
+floatingIn = 32
+
+abbrev pub lrIn : ℕ
+lrIn = 64
+
+abbrev pub crIn : ℕ
+crIn = 65
+
 -- ---- reading
 
 -- a code's convention; where it is no convention's code some one stands there, and `isMachine` says no
@@ -29,21 +61,21 @@ abbrev pub isKnown : ConventionCode → Bool
 isKnown (ConventionCode.Known c) = true
 isKnown ConventionCode.Unknown = false
 
--- Are the words a machine's? Not where word 0 is no convention's code, or word 69 no 32-bit word ("CR is one 32-bit word").
+-- Are the words a machine's? Not where word 0 is no convention's code, or CR's word no 32-bit word ("CR is one 32-bit word").
 unfoldable pub isMachine : List ℕ → Bool
-isMachine ws = isKnown (conventionCode (getD ws 0 0)) && leb (getD ws 69 0) (2 ^ 32 - 1)
+isMachine ws = isKnown (conventionCode (getD ws 0 0)) && leb (getD ws (registersAt + crIn) 0) (2 ^ 32 - 1)
 
 -- the depth; words that are no machine's are read as one of depth 33, which is refused by 23 ("depth over 32") before anything else
 unfoldable pub depthIn : List ℕ → ℕ
-depthIn ws = pick (isMachine ws) (getD ws 3 0) 33
+depthIn ws = pick (isMachine ws) (getD ws depthAt 0) 33
 
--- the registers in the 66 words from `at` on; of CR's word the low 32 bits
+-- the registers in the `registersWords` words from `at` on; of CR's word the low 32 bits
 unfoldable pub registersIn : List ℕ → ℕ → Registers
 registersIn ws at = record {
   gpr = part at 32 ws;
-  fpr = part (at + 32) 32 ws;
-  lr = getD ws (at + 64) 0;
-  cr = getD ws (at + 65) 0 % 2 ^ 32;
+  fpr = part (at + floatingIn) 32 ws;
+  lr = getD ws (at + lrIn) 0;
+  cr = getD ws (at + crIn) 0 % 2 ^ 32;
 }
 
 -- the request or the record in the six words from `at` on; where "CR or not" or the mark of a leaf is neither 0 nor 1, one that 17 refuses: r0 is the first register
@@ -64,7 +96,7 @@ frameIn ws at =
 -- the n records from record i on
 unfoldable pub framesIn : ℕ → List ℕ → ℕ → List Frame
 framesIn zero ws i = []
-framesIn (suc n) ws i = frameIn ws (70 + 6 * i) ∷ framesIn n ws (i + 1)
+framesIn (suc n) ws i = frameIn ws (recordsAt + recordWords * i) ∷ framesIn n ws (i + 1)
 
 -- the state that 262 words are read as
 unfoldable pub stateIn : List ℕ → State
@@ -73,7 +105,7 @@ stateIn ws = record {
   base = getD ws 1 0;
   size = getD ws 2 0;
   depth = depthIn ws;
-  registers = registersIn ws 4;
+  registers = registersIn ws registersAt;
   frames = framesIn 32 ws 0;
 }
 
@@ -95,10 +127,10 @@ stateWords s = codeOf (s .convention) ∷ s .base ∷ s .size ∷ s .depth ∷ (
 
 -- ws with the depth d; with the registers r; with the record i at f
 abbrev pub withDepth : List ℕ → ℕ → List ℕ
-withDepth ws d = set ws 3 d
+withDepth ws d = set ws depthAt d
 
 abbrev pub withRegisters : List ℕ → Registers → List ℕ
-withRegisters ws r = splice ws 4 (registerWords r)
+withRegisters ws r = splice ws registersAt (registerWords r)
 
 abbrev pub withFrame : List ℕ → ℕ → Frame → List ℕ
-withFrame ws i f = splice ws (70 + 6 * i) (frameWords f)
+withFrame ws i f = splice ws (recordsAt + recordWords * i) (frameWords f)

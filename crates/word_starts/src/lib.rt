@@ -12,9 +12,15 @@ use abi::Z;
 use conventions::Convention;
 use machine::Answer;
 use machine::Outcome;
+use word_layout::MACHINE_WORDS;
+use word_layout::REGISTERS_WORDS;
 
 // Puts a start's state in the words; a refused one's CR as it came, all 64 bits.
-fn put_start(words: &mut [u64; 262], registers: &[u64; 66], o: Outcome) -> Answer
+fn put_start(
+    words: &mut [u64; MACHINE_WORDS],
+    registers: &[u64; REGISTERS_WORDS],
+    o: Outcome,
+) -> Answer
     ensures { λ r. ⌜ r ≡ o .answer ⌝ }
     ensures { λ _. ⌜ now (words .exit) ≡ settle (o .answer) (stateWords (o .state)) (set (stateWords (o .state)) 69 (getD (now (registers .entry)) 65 0)) ⌝ }
 {
@@ -32,8 +38,8 @@ fn put_start(words: &mut [u64; 262], registers: &[u64; 66], o: Outcome) -> Answe
 
 // The fresh start on PPC64: all the words are written, also where it is refused.
 pub fn start_ppc64(
-    words: &mut [u64; 262],
-    registers: &[u64; 66],
+    words: &mut [u64; MACHINE_WORDS],
+    registers: &[u64; REGISTERS_WORDS],
     base: u64,
     memory: &mut [u8],
 ) -> Answer
@@ -47,8 +53,8 @@ pub fn start_ppc64(
 
 // The fresh start on Z.
 pub fn start_z(
-    words: &mut [u64; 262],
-    registers: &[u64; 66],
+    words: &mut [u64; MACHINE_WORDS],
+    registers: &[u64; REGISTERS_WORDS],
     base: u64,
     memory: &mut [u8],
 ) -> Answer
@@ -62,8 +68,8 @@ pub fn start_z(
 
 // The fresh start on AIX.
 pub fn start_aix(
-    words: &mut [u64; 262],
-    registers: &[u64; 66],
+    words: &mut [u64; MACHINE_WORDS],
+    registers: &[u64; REGISTERS_WORDS],
     base: u64,
     memory: &mut [u8],
 ) -> Answer
@@ -77,8 +83,8 @@ pub fn start_aix(
 
 // The fresh start on PPC64 by the later edition.
 pub fn start_ppc64b(
-    words: &mut [u64; 262],
-    registers: &[u64; 66],
+    words: &mut [u64; MACHINE_WORDS],
+    registers: &[u64; REGISTERS_WORDS],
     base: u64,
     memory: &mut [u8],
 ) -> Answer

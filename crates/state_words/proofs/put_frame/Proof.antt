@@ -1,6 +1,6 @@
 -- Six stores are a splice. Assumes nothing.
 use Rattle.rules.specs.Frames.{flag}
-use Rattle.word_layout.specs.Words.{frameWords}
+use Rattle.word_layout.specs.Words.{recordWords, recordsAt, frameWords}
 use Rattle.word_layout.proofs.Laws.{six-words}
 use denote.Ref.{now}
 use lib.ListN.{length-set}
@@ -80,7 +80,7 @@ returns : tie.Need-returns
 unfolding frameWords
 returns c =
     let z = c .before .before .before in
-    rw (c .flag-word2 .ensures, c .before .flag-word .ensures) (six-words (now (z .args .words)) (70 + 6 * z .args .i) (z .args .f .«first_gpr») (z .args .f .«first_fpr») (flag (z .args .f .«saves_cr»)) (z .args .f .locals) (z .args .f .outgoing) (flag (z .args .f .leaf)))
+    rw (c .flag-word2 .ensures, c .before .flag-word .ensures) (six-words (now (z .args .words)) (recordsAt + recordWords * z .args .i) (z .args .f .«first_gpr») (z .args .f .«first_fpr») (flag (z .args .f .«saves_cr»)) (z .args .f .locals) (z .args .f .outgoing) (flag (z .args .f .leaf)))
 
 pub put-frame-spec : {M : Type 1} → statement M
 put-frame-spec =

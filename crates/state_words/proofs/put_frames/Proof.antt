@@ -1,6 +1,6 @@
 -- What is left to put, put from here, gives the whole. Assumes nothing.
 use Rattle.words.specs.Splice.{splice}
-use Rattle.word_layout.specs.Words.{framesWords}
+use Rattle.word_layout.specs.Words.{recordWords, recordsAt, framesWords}
 use Rattle.word_layout.proofs.Laws.{frames-turn, frames-end}
 use lib.ListN.{length, drop}
 use Prim.Native.Nat.{_+_, _-_, _*_, _≤_, zero-le}
@@ -12,7 +12,7 @@ use Rattle.state_words.proofs.put_frames.Tie as tie
 
 abbrev Inv-loop : tie.InvT-loop
 Inv-loop words₀ fs i₀ words i =
-    (splice words (70 + 6 * i) (framesWords (drop i fs)) ≡ splice words₀ 70 (framesWords fs)) × (i ≤ 32) × (length words ≡ length words₀)
+    (splice words (recordsAt + recordWords * i) (framesWords (drop i fs)) ≡ splice words₀ 70 (framesWords fs)) × (i ≤ 32) × (length words ≡ length words₀)
 
 abbrev μ-loop : tie.MeasureT-loop
 μ-loop words₀ fs i₀ words i = 32 - i
@@ -52,7 +52,7 @@ returns c =
     let z = c .before .before .before in
     let loop = c .before .loop in
     let all : length (z .args .t2) ≡ 32 = z .good .1 .0 .1 .0 .1 in
-    (sym (frames-end (loop .words) (z .args .t2) (70 + 6 * loop .i) (loop .i) (omega arith)) ∙ loop .inv .0, all)
+    (sym (frames-end (loop .words) (z .args .t2) (recordsAt + recordWords * loop .i) (loop .i) (omega arith)) ∙ loop .inv .0, all)
 
 pub put-frames-spec : {M : Type 1} → statement M
 put-frames-spec =
