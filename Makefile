@@ -1,10 +1,15 @@
 # make run    prove what the command needs, build it and list the call of figure 3-18
+# make command  build/flakuzhen, the command
 # make test   the whole gate: every proof, every must-fail edit, every comparison
 # make lib    build/libflakuzhen.a and build/libflakuzhen.so with its links, from proved code alone
 # make examples  the same call planned, filled and read by a program in C and one in Rust, a variable
 #             argument list walked in C, and plans kept and checked in both
-# make install  the command, the libraries, the header and the manual page, under PREFIX=/usr/local;
-#             make uninstall removes them
+# make install  the command with its manual page and completions, the libraries and the headers, under
+#             PREFIX=/usr/local; make uninstall removes them
+# make dist   build/dist/flakuzhen-VERSION-MACHINE.tar.gz: all that is installed, for machines without
+#             a toolchain
+# make fuzz   the command's readers on damaged inputs, under AddressSanitizer; SECONDS=n says for how
+#             long
 # make soak   the comparisons on fresh seeds; SECONDS=n says for how long
 # make bench  the time of plans, sizes, filling, reading, walking, frames, storing and checking beside ordinary
 #             Rust's, and the stack of each function; JOBS='plan sizes' names some
@@ -16,6 +21,7 @@
 #
 # make lib TARGET=..   build/TARGET/libflakuzhen.a and build/TARGET/libflakuzhen.so
 # make run TARGET=..   the command there, under emulation
+# make dist TARGET=..  the same to deploy there
 # make test-targets    a file of cases replayed on both, under emulation
 # make bench-targets   the archives' sizes and the instructions of a plan
 
@@ -47,19 +53,27 @@ $(1) -shared -o $@.$(VERSION) -Wl,-soname,$(SONAME) \
     -Wl,--whole-archive $< -Wl,--no-whole-archive
 $(call LINK_SHARED,$(@D))
 endef
+# the command is the same C on every machine
+COMMAND := $(sort $(wildcard command/*.c))
+COMMAND_FROM := $(COMMAND) command/command.h include/flakuzhen.h include/flakuzhen_text.h
 EXAMPLE := examples/signatures/ppc64-figure-3-18.hex
 # no network and no other versions than Cargo.lock's
 CARGO_WORDS := --release --offline --locked
 
-.PHONY: run test lib examples install uninstall soak sanitize bench lint clean
+.PHONY: run test lib command examples install uninstall dist soak fuzz sanitize bench lint clean
 .DELETE_ON_ERROR:
 
 ifndef TARGET
-run: $(ARCHIVE)
-	@cd host && cargo run $(CARGO_WORDS) --quiet -p flakuzhen -- list --hex ../$(EXAMPLE)
+run: build/flakuzhen
+	@build/flakuzhen list --hex $(EXAMPLE)
 
 lib: $(ARCHIVE) $(SHARED) $(SECOND)
+
+command: build/flakuzhen
 endif
+
+build/flakuzhen: $(COMMAND_FROM) $(ARCHIVE)
+	$(CC) $(C_WORDS) $(ARCHIVE)
 
 test:
 	@.ci/run
@@ -85,11 +99,11 @@ $(SHARED): $(ARCHIVE) include/flakuzhen.map host/Cargo.toml
 	$(call MAKE_SHARED,$(CC))
 
 examples: $(ARCHIVE)
-	$(CC) -Iinclude -o build/call examples/c/call.c $(ARCHIVE)
+	$(CC) -Iinclude -o build/call examples/c/call.c command/signature_text.c $(ARCHIVE)
 	build/call
-	$(CC) -Iinclude -o build/variable examples/c/variable.c $(ARCHIVE)
+	$(CC) -Iinclude -o build/variable examples/c/variable.c command/signature_text.c $(ARCHIVE)
 	build/variable
-	$(CC) -Iinclude -o build/stored examples/c/stored.c $(ARCHIVE)
+	$(CC) -Iinclude -o build/stored examples/c/stored.c command/signature_text.c $(ARCHIVE)
 	build/stored
 	cd host && cargo run $(CARGO_WORDS) --quiet -p call
 	cd host && cargo run $(CARGO_WORDS) --quiet -p call --bin stored
@@ -97,32 +111,70 @@ examples: $(ARCHIVE)
 # DESTDIR is put before PREFIX where files are copied, and nowhere else
 INSTALLED = $(DESTDIR)$(PREFIX)
 DOC := share/doc/flakuzhen
-# what goes there: the pages that the header and the examples name, and the examples
-DOCUMENTS := docs/COMPILERS.md docs/STORED.md $(addprefix examples/c/,call.c variable.c stored.c)
+# What is installed besides the libraries and the file for pkg-config: its folder under the prefix,
+# and the file. The folder of documents is ours alone.
+INSTALLED_FILES := \
+    include:include/flakuzhen.h include:include/flakuzhen_text.h \
+    share/man/man1:docs/flakuzhen.1 \
+    share/bash-completion/completions:command/completions/flakuzhen \
+    share/zsh/site-functions:command/completions/_flakuzhen \
+    share/fish/vendor_completions.d:command/completions/flakuzhen.fish \
+    $(addprefix $(DOC):,docs/COMPILERS.md docs/STORED.md command/signature_text.c \
+        $(addprefix examples/c/,call.c variable.c stored.c))
+folder_of = $(firstword $(subst :, ,$(1)))
+file_of = $(lastword $(subst :, ,$(1)))
 
-install: $(ARCHIVE) $(SHARED)
-	cd host && cargo build $(CARGO_WORDS) --quiet -p flakuzhen
-	install -d $(addprefix $(INSTALLED)/,bin include lib/pkgconfig share/man/man1 $(DOC))
-	install -m 755 host/target/release/flakuzhen $(INSTALLED)/bin
-	install -m 644 include/flakuzhen.h $(INSTALLED)/include
-	install -m 644 $(ARCHIVE) $(INSTALLED)/lib
-	install -m 755 $(SHARED).$(VERSION) $(INSTALLED)/lib
-	$(call LINK_SHARED,$(INSTALLED)/lib)
-	sed -e 's|@PREFIX@|$(PREFIX)|' -e 's|@VERSION@|$(VERSION)|' include/flakuzhen.pc.in \
-	    > $(INSTALLED)/lib/pkgconfig/flakuzhen.pc
-	install -m 644 docs/flakuzhen.1 $(INSTALLED)/share/man/man1
-	install -m 644 $(DOCUMENTS) $(INSTALLED)/$(DOC)
+# Installs in a folder, for a prefix, what a machine has: FOLDER PREFIX COMMAND ARCHIVE SHARED
+define INSTALL
+install -d $(addprefix $(1)/,bin lib/pkgconfig $(sort $(foreach each,$(INSTALLED_FILES),$(call folder_of,$(each)))))
+install -m 755 $(3) $(1)/bin/flakuzhen
+install -m 644 $(4) $(1)/lib
+install -m 755 $(5).$(VERSION) $(1)/lib
+$(call LINK_SHARED,$(1)/lib)
+sed -e 's|@PREFIX@|$(2)|' -e 's|@VERSION@|$(VERSION)|' include/flakuzhen.pc.in \
+    > $(1)/lib/pkgconfig/flakuzhen.pc
+$(foreach each,$(INSTALLED_FILES),install -m 644 $(call file_of,$(each)) $(1)/$(call folder_of,$(each)) &&) true
+endef
+
+install: build/flakuzhen $(ARCHIVE) $(SHARED)
+	$(call INSTALL,$(INSTALLED),$(PREFIX),build/flakuzhen,$(ARCHIVE),$(SHARED))
 
 # what install puts in place; folders stay, but for the one that is ours alone
 uninstall:
-	rm -f $(addprefix $(INSTALLED)/,bin/flakuzhen include/flakuzhen.h \
+	rm -f $(addprefix $(INSTALLED)/,bin/flakuzhen lib/pkgconfig/flakuzhen.pc \
 	    $(addprefix lib/,libflakuzhen.a libflakuzhen.so $(SONAME) libflakuzhen.so.$(VERSION)) \
-	    lib/pkgconfig/flakuzhen.pc share/man/man1/flakuzhen.1 \
-	    $(addprefix $(DOC)/,$(notdir $(DOCUMENTS))))
+	    $(foreach each,$(INSTALLED_FILES),$(call folder_of,$(each))/$(notdir $(call file_of,$(each)))))
 	[ ! -d $(INSTALLED)/$(DOC) ] || rmdir $(INSTALLED)/$(DOC)
+
+# ---- something to deploy ----
+
+DIST = flakuzhen-$(VERSION)-$(MACHINE)
+DIST_FOLDER = build/$(MACHINE)
+
+# the command is linked statically: it runs on every Linux of its machine
+build/x86_64/flakuzhen: $(COMMAND_FROM) $(ARCHIVE)
+	@mkdir -p $(@D)
+	$(CC) -static $(C_WORDS) $(ARCHIVE)
+
+ifndef TARGET
+dist: MACHINE := x86_64
+dist: build/x86_64/flakuzhen $(ARCHIVE) $(SHARED)
+	@rm -rf build/dist/$(DIST) build/dist/$(DIST).tar.gz
+	$(call INSTALL,build/dist/$(DIST),$${pcfiledir}/../..,$<,$(ARCHIVE),$(SHARED))
+	@scripts/dist $(DIST)
+else
+dist: MACHINE := $(TARGET)
+dist: build/$(TARGET)/flakuzhen build/$(TARGET)/libflakuzhen.a build/$(TARGET)/libflakuzhen.so
+	@rm -rf build/dist/$(DIST) build/dist/$(DIST).tar.gz
+	$(call INSTALL,build/dist/$(DIST),$${pcfiledir}/../..,$<,$(DIST_FOLDER)/libflakuzhen.a,$(DIST_FOLDER)/libflakuzhen.so)
+	@scripts/dist $(DIST)
+endif
 
 soak: $(ARCHIVE) $(SECOND)
 	cd host && cargo run $(CARGO_WORDS) --quiet -p compare --bin soak -- $(SECONDS)
+
+fuzz: $(ARCHIVE)
+	@scripts/fuzz $(SECONDS)
 
 sanitize: $(ARCHIVE) $(SHARED) $(SECOND)
 	@scripts/sanitize

@@ -20,10 +20,11 @@
  * on which functions enter and leave frames. fz_walk_dump_ppc64 and its like find the frames in the
  * memory of a program that hangs.
  *
- * Installed with this header, in share/doc/flakuzhen: call.c plans, fills and reads a call,
- * variable.c walks one as printf does, and stored.c keeps plans in files; COMPILERS.md says in which
- * points compilers of today differ from the conventions, and what to do, and STORED.md how a server
- * keeps plans and checks them when it comes up.
+ * Installed with this header: flakuzhen_text.h, with which signatures are written as text; and in
+ * share/doc/flakuzhen: call.c plans, fills and reads a call, variable.c walks one as printf does, and
+ * stored.c keeps plans in files; COMPILERS.md says in which points compilers of today differ from the
+ * conventions, and what to do, and STORED.md how a server keeps plans and checks them when it comes
+ * up.
  *
  * Words that come up everywhere:
  *

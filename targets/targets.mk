@@ -16,6 +16,8 @@ run: build/$(TARGET)/flakuzhen
 	@scripts/run-target $(TARGET) $< list --hex $(EXAMPLE)
 
 lib: build/$(TARGET)/libflakuzhen.a build/$(TARGET)/libflakuzhen.so
+
+command: build/$(TARGET)/flakuzhen
 endif
 
 # one run for all that are asked for, so that each bridge is proved once
@@ -39,13 +41,11 @@ build/%/$(notdir $(1))-shared: $(1).c include/flakuzhen.h build/%/libflakuzhen.s
 endef
 
 HEADER_TESTS := layout surface machine marshal
-PROGRAMS := $(addprefix targets/,flakuzhen replay plan stack) \
-    $(HEADER_TESTS:%=host/flakuzhen/tests/%)
+PROGRAMS := $(addprefix targets/,replay plan stack) $(HEADER_TESTS:%=host/flakuzhen/tests/%)
 $(foreach source,$(PROGRAMS),$(eval $(call program,$(source))))
 
-# the command has more files
-$(foreach target,$(TARGETS),build/$(target)/flakuzhen build/$(target)/flakuzhen-shared): \
-    targets/text.c targets/calls.c targets/command.h
+$(TARGETS:%=build/%/flakuzhen): build/%/flakuzhen: $(COMMAND_FROM) build/%/libflakuzhen.a
+	$*-linux-gnu-gcc -static $(C_WORDS) build/$*/libflakuzhen.a
 
 # ---- tests ----
 
@@ -56,7 +56,10 @@ test-targets: build/cases $(SHARED) \
     $(foreach target,$(CHOSEN),$(addprefix build/$(target)/, \
         flakuzhen replay $(HEADER_TESTS) $(HEADER_TESTS:%=%-shared)))
 	@scripts/target-tools run $(CHOSEN)
-	@set -e; for target in $(CHOSEN); do scripts/test-target $$target $(HEADER_TESTS); done
+	@set -e; for target in $(CHOSEN); do \
+	    $(MAKE) --no-print-directory dist TARGET=$$target > /dev/null; \
+	    scripts/test-target $$target $(HEADER_TESTS); \
+	done
 
 build/x86_64/plan build/x86_64/stack: build/x86_64/%: targets/%.c include/flakuzhen.h $(ARCHIVE)
 	@mkdir -p $(@D)

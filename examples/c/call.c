@@ -4,29 +4,17 @@
  *
  * Build it against what `make install` has put in place:
  *
- *     cc -o call call.c $(pkg-config --cflags --libs flakuzhen)
+ *     cc -o call call.c signature_text.c $(pkg-config --cflags --libs flakuzhen)
  */
-#include <flakuzhen.h>
+#include <flakuzhen_text.h>
 #include <inttypes.h>
 #include <stdio.h>
 #include <stdlib.h>
 #include <string.h>
 
-#define PPC64 1
-#define Z 2
-
-/* the signature; its fourth byte is the convention */
-static uint8_t signature[] = {
-    0x01, 0, 1, PPC64,          /* the convention */
-    0x02, 0, 4, 0x10, 0, 1, 6,  /* the result: i64 */
-    0x03, 0, 23,                /* the arguments, 23 bytes of them */
-    0x10, 0, 1, 4,              /* rows:   i32 */
-    0x11, 0, 1, 0,              /* scale:  single */
-    0x12, 0, 8,                 /* corner: a struct of */
-    0x11, 0, 1, 1,              /*         double */
-    0x11, 0, 1, 1,              /*         and double */
-    0x10, 0, 1, 2,              /* border: i16 */
-};
+/* the signature that is encoded last */
+static uint8_t signature[128];
+static size_t signature_length;
 
 /* where the copies of arguments that go by reference shall be, on the machine that is called */
 #define COPY_BASE 0x10000
@@ -89,6 +77,19 @@ static void must(fz_answer answer, const char *what)
     }
 }
 
+/* Makes the signature of its text. */
+static void encode(const char *text)
+{
+    fz_encoded encoded = fz_encode(text, strlen(text), signature, sizeof signature);
+
+    if (encoded.expected != NULL) {
+        fprintf(stderr, "column %" PRIu64 ": expected %s\n", encoded.column, encoded.expected);
+        exit(1);
+    }
+    must(encoded.answer, text);
+    signature_length = encoded.length;
+}
+
 /* A buffer of zeros. It has an address even where it needs no byte. */
 static uint8_t *buffer(uint64_t size)
 {
@@ -101,10 +102,10 @@ static uint8_t *buffer(uint64_t size)
 
 static void print_listing(void)
 {
-    uint64_t length = fz_listing(signature, sizeof signature, "", 0);
+    uint64_t length = fz_listing(signature, signature_length, "", 0);
     char *text = (char *)buffer(length);
 
-    fz_listing(signature, sizeof signature, text, length);
+    fz_listing(signature, signature_length, text, length);
     fputs(text, stdout);
     free(text);
 }
@@ -113,12 +114,12 @@ static void print_listing(void)
 static void print_places(void)
 {
     uint64_t none = 0; /* a pointer is never null, even for no words */
-    fz_planned planned = fz_plan(signature, sizeof signature, &none, 0);
+    fz_planned planned = fz_plan(signature, signature_length, &none, 0);
     fz_place *places;
 
     must(planned.answer, "plan");
     places = (fz_place *)buffer(planned.arguments * sizeof *places);
-    fz_plan(signature, sizeof signature, (uint64_t *)places, FZ_PLACE_WORDS * planned.arguments);
+    fz_plan(signature, signature_length, (uint64_t *)places, FZ_PLACE_WORDS * planned.arguments);
     for (uint64_t i = 0; i < planned.arguments; i++) {
         const fz_place *at = &places[i];
 
@@ -147,15 +148,15 @@ static void print_registers(const uint8_t *image)
     }
 }
 
-static void print_call(uint8_t convention)
+static void print_call(const char *text)
 {
     fz_sizes sizes;
     uint8_t image[512] = {0};
     uint8_t *values, *area, *copies, *back;
 
     /* plan */
-    signature[3] = convention;
-    sizes = fz_measure(signature, sizeof signature);
+    encode(text);
+    sizes = fz_measure(signature, signature_length);
     must(sizes.answer, "plan");
     print_listing();
     print_places();
@@ -171,7 +172,7 @@ static void print_call(uint8_t convention)
     put(values + 8, double_bits(2.0), 8);
     put(values + 16, double_bits(0.25), 8);
     put(values + 24, 7, 2);
-    must(fz_fill(signature, sizeof signature, values, sizes.values, image, sizeof image, area,
+    must(fz_fill(signature, signature_length, values, sizes.values, image, sizeof image, area,
                  sizes.area, copies, sizes.copies, COPY_BASE, 0),
          "fill");
     print_registers(image);
@@ -180,7 +181,7 @@ static void print_call(uint8_t convention)
 
     /* read: the same values, as the called function finds them */
     back = buffer(sizes.values);
-    must(fz_read(signature, sizeof signature, back, sizes.values, image, sizeof image, area,
+    must(fz_read(signature, signature_length, back, sizes.values, image, sizeof image, area,
                  sizes.area, copies, sizes.copies, COPY_BASE),
          "read");
     printf("rows %d scale %g corner (%g, %g) border %d\n", (int32_t)get(back, 4),
@@ -195,8 +196,8 @@ static void print_call(uint8_t convention)
 
 int main(void)
 {
-    print_call(PPC64);
+    print_call("ppc64 i64(i32, single, {double, double}, i16)");
     putchar('\n');
-    print_call(Z);
+    print_call("z i64(i32, single, {double, double}, i16)");
     return 0;
 }

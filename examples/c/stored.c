@@ -6,11 +6,11 @@
  *
  * Build it against what `make install` has put in place:
  *
- *     cc -o stored stored.c $(pkg-config --cflags --libs flakuzhen)
+ *     cc -o stored stored.c signature_text.c $(pkg-config --cflags --libs flakuzhen)
  */
 #define _POSIX_C_SOURCE 200809L
 #include <fcntl.h>
-#include <flakuzhen.h>
+#include <flakuzhen_text.h>
 #include <inttypes.h>
 #include <stdio.h>
 #include <stdlib.h>
@@ -20,22 +20,31 @@
 /* ---- the functions of the drivers ---- */
 
 /* int move_to(int joint, double angle), on 64-bit PowerPC */
-static const uint8_t move_to[] = {0x01, 0, 1, 1,  0x02, 0, 4, 0x10, 0, 1, 4,  0x03, 0, 8,
-                                  0x10, 0, 1, 4,  0x11, 0, 1, 1};
+static const char move_to[] = "ppc64 i32(i32, double)";
 /* the new driver's: int move_to(long joint, double angle) */
-static const uint8_t new_move_to[] = {0x01, 0, 1, 1,  0x02, 0, 4, 0x10, 0, 1, 4,  0x03, 0, 8,
-                                      0x10, 0, 1, 6,  0x11, 0, 1, 1};
+static const char new_move_to[] = "ppc64 i32(i64, double)";
 /* long double load(void *arm), on zSeries */
-static const uint8_t load[] = {0x01, 0, 1, 2,  0x02, 0, 4, 0x11, 0, 1, 2,  0x03, 0, 4,
-                               0x10, 0, 1, 8};
+static const char load[] = "z longdouble(pointer)";
 
 typedef struct {
     const char *name;
-    const uint8_t *signature;
+    uint8_t signature[64];
     size_t signature_length;
     uint8_t *stored; /* its plan, as it stands in its file */
     size_t stored_length;
 } function;
+
+/* Makes a function's signature of its text. */
+static void describe(function *of, const char *text)
+{
+    fz_encoded encoded = fz_encode(text, strlen(text), of->signature, sizeof of->signature);
+
+    if (encoded.expected != NULL || encoded.answer.number != FZ_ACCEPTED) {
+        fprintf(stderr, "%s: column %" PRIu64 "\n", text, encoded.column);
+        exit(1);
+    }
+    of->signature_length = (size_t)encoded.length;
+}
 
 /* ---- files ---- */
 
@@ -162,13 +171,14 @@ static void call_move_to(const function *of, const uint8_t *values, size_t value
 int main(void)
 {
     static const uint8_t values[12] = {0xff, 0xff, 0xff, 0xfe, 0x3f, 0xf8}; /* -2 and 1.5 */
-    function functions[2] = {{"move_to", move_to, sizeof move_to, NULL, 0},
-                             {"load", load, sizeof load, NULL, 0}};
+    function functions[2] = {{"move_to", {0}, 0, NULL, 0}, {"load", {0}, 0, NULL, 0}};
     function old;
     size_t i;
 
     if (mkdtemp(folder) == NULL)
         fail(folder);
+    describe(&functions[0], move_to);
+    describe(&functions[1], load);
 
     printf("coming up for the first time\n");
     for (i = 0; i < 2; i++)
@@ -186,7 +196,8 @@ int main(void)
     if (old.stored == NULL)
         fail("memory");
     memcpy(old.stored, functions[0].stored, old.stored_length);
-    functions[0].signature = old.signature = new_move_to;
+    describe(&functions[0], new_move_to);
+    describe(&old, new_move_to);
     for (i = 0; i < 2; i++)
         come_up(&functions[i]);
     call_move_to(&old, values, sizeof values);

@@ -6,40 +6,25 @@
  * It learns from the format what was passed, as printf does, and asks a walker for each argument in
  * turn. Build it against what `make install` has put in place:
  *
- *     cc -o variable variable.c $(pkg-config --cflags --libs flakuzhen)
+ *     cc -o variable variable.c signature_text.c $(pkg-config --cflags --libs flakuzhen)
  */
-#include <flakuzhen.h>
+#include <flakuzhen_text.h>
 #include <inttypes.h>
 #include <stdio.h>
 #include <stdlib.h>
 #include <string.h>
 
-#define PPC64 1
-#define Z 2
-#define AIX 3
+/* A signature, with the bytes that its text says. */
+typedef struct {
+    uint8_t bytes[128];
+    size_t length;
+} signature;
 
-/* the types that a format can ask for, as items of a signature */
-static const uint8_t i32[] = {0x10, 0, 1, 4}, i64[] = {0x10, 0, 1, 6};
-static const uint8_t pointer[] = {0x10, 0, 1, 8}, real[] = {0x11, 0, 1, 1};
-
-/* The caller's signature of this one call: all arguments, after an ellipsis. */
-static uint8_t call[] = {
-    0x01, 0, 1, PPC64,         /* the convention */
-    0x02, 0, 4, 0x10, 0, 1, 4, /* the result: i32 */
-    0x04, 0, 0,                /* the ellipsis */
-    0x03, 0, 24,               /* the arguments, 24 bytes of them */
-    0x10, 0, 1, 8,             /* format: pointer */
-    0x10, 0, 1, 4,             /* i32 */
-    0x11, 0, 1, 1,             /* double */
-    0x10, 0, 1, 6,             /* i64 */
-    0x10, 0, 1, 4,             /* i32 */
-    0x11, 0, 1, 1,             /* double */
-};
+/* The caller's signature of this one call: all arguments, with an ellipsis. */
+static signature call;
 
 /* The called function's own: what stands before the ellipsis. */
-static uint8_t declared[] = {
-    0x01, 0, 1, PPC64, 0x02, 0, 4, 0x10, 0, 1, 4, 0x04, 0, 0, 0x03, 0, 4, 0x10, 0, 1, 8,
-};
+static signature declared;
 
 /* Where the format stands on the machine of the call; here it is at hand. */
 #define FORMAT 0x10000
@@ -91,13 +76,27 @@ static void must(fz_answer answer, const char *what)
 /* what the call has on its way: no argument of it goes by reference */
 static uint8_t image[512], area[128], copies[1];
 
+/* Makes a signature of a convention's word and the text of the rest. */
+static signature encode(const char *convention, const char *rest)
+{
+    signature made;
+    char text[128];
+    fz_encoded encoded;
+
+    snprintf(text, sizeof text, "%s %s", convention, rest);
+    encoded = fz_encode(text, strlen(text), made.bytes, sizeof made.bytes);
+    must(encoded.answer, text);
+    made.length = encoded.length;
+    return made;
+}
+
 /* The caller: puts the values where the called function looks for them. */
-static void make_call(void)
+static void make_call(int pointer_size)
 {
     uint8_t values[64], *end = values;
     char text[256] = "";
 
-    end = put(end, FORMAT, call[3] == AIX ? 4 : 8);
+    end = put(end, FORMAT, pointer_size);
     end = put(end, 12, 4);
     end = put(end, bits_of(50.5), 8);
     end = put(end, UINT64_C(5000000000), 8);
@@ -105,42 +104,50 @@ static void make_call(void)
     end = put(end, bits_of(0.25), 8);
     memset(image, 0, sizeof image);
     memset(area, 0, sizeof area);
-    must(fz_fill(call, sizeof call, values, (size_t)(end - values), image, sizeof image, area,
+    must(fz_fill(call.bytes, call.length, values, (size_t)(end - values), image, sizeof image, area,
                  sizeof area, copies, 0, 0, 0),
          "fill");
-    fz_listing(call, sizeof call, text, sizeof text - 1);
+    fz_listing(call.bytes, call.length, text, sizeof text - 1);
     fputs(text, stdout);
 }
 
-/* The next argument, of a type with this item and size. */
-static uint64_t next(fz_walker *walker, const uint8_t *item, int size)
+/* Asks a walker for an argument of a type and size. */
+static fz_answer ask(fz_walker *walker, const char *type, int size, uint8_t *value)
+{
+    uint8_t item[16];
+    fz_encoded encoded = fz_encode_type(type, strlen(type), item, sizeof item);
+
+    return fz_walk(walker, item, encoded.length, value, (size_t)size, image, sizeof image, area,
+                   sizeof area, copies, 0, 0);
+}
+
+/* The next argument, of this type and size. */
+static uint64_t next(fz_walker *walker, const char *type, int size)
 {
     uint8_t value[8];
 
-    must(fz_walk(walker, item, 4, value, (size_t)size, image, sizeof image, area, sizeof area,
-                 copies, 0, 0),
-         "walk");
+    must(ask(walker, type, size, value), "walk");
     return get(value, size);
 }
 
 /* The function that is called: prints the format with what was passed. */
-static void note(uint8_t convention)
+static void note(int pointer_size)
 {
     fz_walker walker;
     const char *at;
 
-    must(fz_walk_start(&walker, declared, sizeof declared), "start");
-    if (next(&walker, pointer, convention == AIX ? 4 : 8) != FORMAT)
+    must(fz_walk_start(&walker, declared.bytes, declared.length), "start");
+    if (next(&walker, "pointer", pointer_size) != FORMAT)
         exit(1);
     for (at = format; *at != '\0'; at++) {
         if (*at != '%')
             putchar(*at);
         else if (*++at == 'd')
-            printf("%" PRId32, (int32_t)next(&walker, i32, 4));
+            printf("%" PRId32, (int32_t)next(&walker, "i32", 4));
         else if (*at == 'f')
-            printf("%g", number_of(next(&walker, real, 8)));
+            printf("%g", number_of(next(&walker, "double", 8)));
         else if (*at == 'l' && *++at == 'd')
-            printf("%" PRId64, (int64_t)next(&walker, i64, 8));
+            printf("%" PRId64, (int64_t)next(&walker, "i64", 8));
     }
     printf("\nnext: general %" PRIu64 " floating %" PRIu64 " stack %" PRIu64 "\n", walker.general,
            walker.floating, walker.stack);
@@ -154,30 +161,32 @@ static void leave_out_a_copy(void)
     uint8_t value[8];
     fz_answer answer;
 
-    must(fz_walk_start(&walker, declared, sizeof declared), "start");
-    next(&walker, pointer, 8);
-    next(&walker, i32, 4);
+    must(fz_walk_start(&walker, declared.bytes, declared.length), "start");
+    next(&walker, "pointer", 8);
+    next(&walker, "i32", 4);
     memset(image + 8 * 5, 0, 8); /* r5 */
-    answer = fz_walk(&walker, real, sizeof real, value, sizeof value, image, sizeof image, area,
-                     sizeof area, copies, 0, 0);
+    answer = ask(&walker, "double", 8, value);
     printf("without r5: refused %" PRIu64 "\n", answer.number);
     /* where the walker stays: the register is there to be read without an ellipsis */
     walker.ellipsis = 0;
-    printf("from f1 alone: %g\n", number_of(next(&walker, real, 8)));
+    printf("from f1 alone: %g\n", number_of(next(&walker, "double", 8)));
 }
 
 int main(void)
 {
-    static const uint8_t conventions[] = {PPC64, AIX, Z};
+    static const char *const conventions[] = {"ppc64", "aix", "z"};
     size_t i;
 
-    for (i = 0; i < sizeof conventions; i++) {
-        call[3] = declared[3] = conventions[i];
-        make_call();
-        note(conventions[i]);
-        if (conventions[i] == PPC64)
+    for (i = 0; i < 3; i++) {
+        int pointer_size = i == 1 ? 4 : 8;
+
+        call = encode(conventions[i], "i32(pointer, i32, double, i64, i32, double, ...)");
+        declared = encode(conventions[i], "i32(pointer, ...)");
+        make_call(pointer_size);
+        note(pointer_size);
+        if (i == 0)
             leave_out_a_copy();
-        if (i + 1 < sizeof conventions)
+        if (i < 2)
             putchar('\n');
     }
     return 0;

@@ -6,38 +6,32 @@
 
 #![forbid(unsafe_code)]
 
-use flakuzhen::{Plan, Refusal};
-
-const PPC64: u8 = 1;
-const Z: u8 = 2;
+use flakuzhen::{Convention, Plan, Refusal, Signature, Type};
+use std::error::Error;
 
 /// Where the copies of arguments that go by reference shall be, on the machine that is called.
 const COPY_BASE: u64 = 0x10000;
 
-fn main() -> Result<(), Refusal> {
-    print_call(PPC64)?;
+fn main() -> Result<(), Box<dyn Error>> {
+    print_call(Convention::Ppc64)?;
     println!();
-    print_call(Z)
+    print_call(Convention::Z)
 }
 
-#[rustfmt::skip]
-fn signature(convention: u8) -> Vec<u8> {
-    vec![
-        0x01, 0, 1, convention,
-        0x02, 0, 4, 0x10, 0, 1, 6,  // the result: i64
-        0x03, 0, 23,                // the arguments, 23 bytes of them
-        0x10, 0, 1, 4,              // rows:   i32
-        0x11, 0, 1, 0,              // scale:  single
-        0x12, 0, 8,                 // corner: a struct of
-        0x11, 0, 1, 1,              //         double
-        0x11, 0, 1, 1,              //         and double
-        0x10, 0, 1, 2,              // border: i16
-    ]
+fn signature(convention: Convention) -> Result<Signature, Refusal> {
+    let corner = Type::Struct(vec![Type::Double, Type::Double]);
+    Signature::of(convention)
+        .result(Type::I64)
+        .argument(Type::I32)
+        .argument(Type::Single)
+        .argument(corner)
+        .argument(Type::I16)
+        .build()
 }
 
-fn print_call(convention: u8) -> Result<(), Refusal> {
+fn print_call(convention: Convention) -> Result<(), Box<dyn Error>> {
     // plan
-    let signature = signature(convention);
+    let signature = signature(convention)?;
     let sizes = flakuzhen::measure(&signature)?;
     print!("{}", flakuzhen::listing(&signature));
     print_places(&flakuzhen::plan(&signature)?);

@@ -2,13 +2,16 @@
 //! [`surface`] has the same functions with the C surface's own answers.
 //!
 //! ```
-//! // PPC64, no result, arguments i32 and double: five items
-//! let signature = [1, 0, 1, 1, 2, 0, 0, 3, 0, 8, 0x10, 0, 1, 4, 0x11, 0, 1, 1];
+//! use flakuzhen::Signature;
+//!
+//! // five items
+//! let signature: Signature = "ppc64 void(i32, double)".parse()?;
 //! assert_eq!(flakuzhen::read_signature(&signature), Ok(5));
 //!
 //! // the same without its last byte: the arguments' length passes the end, after two good headers
 //! let refusal = flakuzhen::read_signature(&signature[..17]).unwrap_err();
 //! assert_eq!((refusal.number, refusal.place, refusal.items), (2, 7, 2));
+//! # Ok::<(), flakuzhen::TextFault>(())
 //! ```
 
 #![deny(unsafe_code)]
@@ -17,6 +20,7 @@ mod dump;
 pub mod machine;
 mod marshal;
 mod plans;
+mod signature;
 mod stored;
 #[allow(unsafe_code)]
 pub mod surface;
@@ -25,6 +29,7 @@ mod walker;
 pub use dump::walk_dump;
 pub use marshal::{fill, home, read, view};
 pub use plans::{listing, measure, plan, Argument, Convention, Plan, Register, ResultPlace, Sizes};
+pub use signature::{Builder, Signature, TextFault, Type};
 pub use stored::{check, fill_stored, store, store_into, stored_length};
 pub use walker::Walker;
 

@@ -14,8 +14,7 @@ use crate::{accepted, surface, Refusal};
 /// most 32 bits, and is not looked at where the signature has none.
 ///
 /// ```
-/// // PPC64, no result, arguments i32 and double
-/// let signature = [1, 0, 1, 1, 2, 0, 0, 3, 0, 8, 0x10, 0, 1, 4, 0x11, 0, 1, 1];
+/// let signature: flakuzhen::Signature = "ppc64 void(i32, double)".parse()?;
 /// let values = [(-2i32).to_be_bytes().as_slice(), &1.5f64.to_be_bytes()].concat();
 /// let (mut image, mut area) = ([0; 512], [0; 64]);
 /// flakuzhen::fill(&signature, &values, &mut image, &mut area, &mut [], 0, 0)?;
@@ -25,7 +24,7 @@ use crate::{accepted, surface, Refusal};
 /// let mut back = [0; 12];
 /// flakuzhen::read(&signature, &mut back, &image, &area, &[], 0)?;
 /// assert_eq!(back[..], values);
-/// # Ok::<(), flakuzhen::Refusal>(())
+/// # Ok::<(), Box<dyn std::error::Error>>(())
 /// ```
 pub fn fill(
     signature: &[u8],
@@ -64,14 +63,13 @@ pub fn home(signature: &[u8], image: &[u8], area: &mut [u8]) -> Result<(), Refus
 /// [`home`] has completed.
 ///
 /// ```
-/// // PPC64, no result, arguments i32 and double
-/// let signature = [1, 0, 1, 1, 2, 0, 0, 3, 0, 8, 0x10, 0, 1, 4, 0x11, 0, 1, 1];
+/// let signature: flakuzhen::Signature = "ppc64 void(i32, double)".parse()?;
 /// let (mut image, mut area) = ([0; 512], [0; 64]);
 /// image[24..32].copy_from_slice(&(-2i64).to_be_bytes()); // r3
 /// flakuzhen::home(&signature, &image, &mut area)?;
 /// assert_eq!(flakuzhen::view(&area, &signature, 0)?, (-2i32).to_be_bytes());
 /// assert_eq!(flakuzhen::view(&area, &signature, 2).unwrap_err().number, 24);
-/// # Ok::<(), flakuzhen::Refusal>(())
+/// # Ok::<(), Box<dyn std::error::Error>>(())
 /// ```
 pub fn view<'a>(area: &'a [u8], signature: &[u8], index: u64) -> Result<&'a [u8], Refusal> {
     let part = surface::marshal::view(area, signature, index);

@@ -143,10 +143,9 @@ impl<'a> IntoIterator for &'a Plan {
 /// Plans the call of a function with this signature.
 ///
 /// ```
-/// use flakuzhen::{Register, ResultPlace};
+/// use flakuzhen::{Register, ResultPlace, Signature};
 ///
-/// // PPC64, no result, arguments i32 and double
-/// let signature = [1, 0, 1, 1, 2, 0, 0, 3, 0, 8, 0x10, 0, 1, 4, 0x11, 0, 1, 1];
+/// let signature: Signature = "ppc64 void(i32, double)".parse()?;
 /// let plan = flakuzhen::plan(&signature)?;
 /// assert_eq!(plan.result, ResultPlace::None);
 /// let second = &plan.arguments[1];
@@ -154,7 +153,7 @@ impl<'a> IntoIterator for &'a Plan {
 /// assert_eq!((second.item, second.value.clone()), (14, 4..12));
 /// // its doubleword of the area is not used
 /// assert_eq!((second.home.clone(), second.memory.is_empty()), (8..16, true));
-/// # Ok::<(), flakuzhen::Refusal>(())
+/// # Ok::<(), Box<dyn std::error::Error>>(())
 /// ```
 pub fn plan(signature: &[u8]) -> Result<Plan, Refusal> {
     // an argument's item has at least 4 bytes
@@ -210,11 +209,10 @@ const USUAL_LISTING: usize = 4096;
 /// Plans the call of a function with this signature and gives the sizes of its buffers.
 ///
 /// ```
-/// // PPC64, no result, arguments i32 and double
-/// let signature = [1, 0, 1, 1, 2, 0, 0, 3, 0, 8, 0x10, 0, 1, 4, 0x11, 0, 1, 1];
+/// let signature: flakuzhen::Signature = "ppc64 void(i32, double)".parse()?;
 /// let sizes = flakuzhen::measure(&signature)?;
 /// assert_eq!((sizes.values, sizes.area, sizes.copies), (12, 64, 0));
-/// # Ok::<(), flakuzhen::Refusal>(())
+/// # Ok::<(), Box<dyn std::error::Error>>(())
 /// ```
 pub fn measure(signature: &[u8]) -> Result<Sizes, Refusal> {
     let sizes = surface::plans::measure(signature);
@@ -229,11 +227,11 @@ pub fn measure(signature: &[u8]) -> Result<Sizes, Refusal> {
 /// The plan of a call in print, or for a refused signature the one line that says so.
 ///
 /// ```
-/// // PPC64, no result, arguments i32 and double
-/// let signature = [1, 0, 1, 1, 2, 0, 0, 3, 0, 8, 0x10, 0, 1, 4, 0x11, 0, 1, 1];
+/// let signature: flakuzhen::Signature = "ppc64 void(i32, double)".parse()?;
 /// let listing = "PPC64 args 2 area 64\n0 r3 @0\n1 f1 @8\nresult none\n";
 /// assert_eq!(flakuzhen::listing(&signature), listing);
 /// assert_eq!(flakuzhen::listing(&[]), "refused 2 at 0 after 0\n");
+/// # Ok::<(), flakuzhen::TextFault>(())
 /// ```
 pub fn listing(signature: &[u8]) -> String {
     listing_from(signature, USUAL_LISTING)

@@ -11,15 +11,14 @@ use crate::{accepted, surface, Refusal};
 /// The plan of a signature in bytes.
 ///
 /// ```
-/// // PPC64, no result, arguments i32 and double
-/// let signature = [1, 0, 1, 1, 2, 0, 0, 3, 0, 8, 0x10, 0, 1, 4, 0x11, 0, 1, 1];
+/// let signature: flakuzhen::Signature = "ppc64 void(i32, double)".parse()?;
 /// let stored = flakuzhen::store(&signature)?;
 /// assert_eq!(stored[..3], [0x20, 0, 18]);
-/// assert_eq!(stored[3..21], signature);
+/// assert_eq!(stored[3..21], signature[..]);
 /// assert_eq!(stored[21..29], [0x21, 0, 5, 0, 0, 3, 0, 0]); // r3, at offset 0
 /// assert_eq!(stored[29..37], [0x21, 0, 5, 0, 1, 1, 0, 8]); // f1, at offset 8
 /// assert_eq!(stored[37..], [0x22, 0, 0]);
-/// # Ok::<(), flakuzhen::Refusal>(())
+/// # Ok::<(), Box<dyn std::error::Error>>(())
 /// ```
 pub fn store(signature: &[u8]) -> Result<Vec<u8>, Refusal> {
     let mut stored = vec![0; stored_length(signature)?];
@@ -37,13 +36,12 @@ pub fn stored_length(signature: &[u8]) -> Result<usize, Refusal> {
 /// stay; a buffer that is too short is refused with 33, after all else, and stays as it was.
 ///
 /// ```
-/// // Z, no result and no arguments
-/// let signature = [1, 0, 1, 2, 2, 0, 0, 3, 0, 0];
+/// let signature: flakuzhen::Signature = "z void()".parse()?;
 /// let mut buffer = [0xff; 20];
 /// assert_eq!(flakuzhen::store_into(&signature, &mut buffer)?, 16);
 /// assert_eq!(buffer[16..], [0xff; 4]);
 /// assert_eq!(flakuzhen::store_into(&signature, &mut buffer[..15]).unwrap_err().number, 33);
-/// # Ok::<(), flakuzhen::Refusal>(())
+/// # Ok::<(), Box<dyn std::error::Error>>(())
 /// ```
 pub fn store_into(signature: &[u8], stored: &mut [u8]) -> Result<usize, Refusal> {
     let written = surface::stored::store(signature, stored);
@@ -55,14 +53,13 @@ pub fn store_into(signature: &[u8], stored: &mut [u8]) -> Result<usize, Refusal>
 /// or the shorter length where one is a part of the other.
 ///
 /// ```
-/// // PPC64, no result, arguments i32 and double; then i64 and double
-/// let old = [1, 0, 1, 1, 2, 0, 0, 3, 0, 8, 0x10, 0, 1, 4, 0x11, 0, 1, 1];
-/// let new = [1, 0, 1, 1, 2, 0, 0, 3, 0, 8, 0x10, 0, 1, 6, 0x11, 0, 1, 1];
+/// let old: flakuzhen::Signature = "ppc64 void(i32, double)".parse()?;
+/// let new: flakuzhen::Signature = "ppc64 void(i64, double)".parse()?;
 /// let stored = flakuzhen::store(&old)?;
 /// assert_eq!(flakuzhen::check(&stored, &old), Ok(()));
 /// let refusal = flakuzhen::check(&stored, &new).unwrap_err();
 /// assert_eq!((refusal.number, refusal.place), (27, 16));
-/// # Ok::<(), flakuzhen::Refusal>(())
+/// # Ok::<(), Box<dyn std::error::Error>>(())
 /// ```
 pub fn check(stored: &[u8], signature: &[u8]) -> Result<(), Refusal> {
     accepted(surface::stored::check(stored, signature), ())
@@ -71,14 +68,13 @@ pub fn check(stored: &[u8], signature: &[u8]) -> Result<(), Refusal> {
 /// Checks the stored bytes as [`check`] does, and then fills the call as [`fill`](crate::fill) does.
 ///
 /// ```
-/// // PPC64, no result, arguments i32 and double
-/// let signature = [1, 0, 1, 1, 2, 0, 0, 3, 0, 8, 0x10, 0, 1, 4, 0x11, 0, 1, 1];
+/// let signature: flakuzhen::Signature = "ppc64 void(i32, double)".parse()?;
 /// let stored = flakuzhen::store(&signature)?;
 /// let values = [(-2i32).to_be_bytes().as_slice(), &1.5f64.to_be_bytes()].concat();
 /// let (mut image, mut area) = ([0; 512], [0; 64]);
 /// flakuzhen::fill_stored(&stored, &signature, &values, &mut image, &mut area, &mut [], 0, 0)?;
 /// assert_eq!(image[24..32], (-2i64).to_be_bytes()); // r3
-/// # Ok::<(), flakuzhen::Refusal>(())
+/// # Ok::<(), Box<dyn std::error::Error>>(())
 /// ```
 #[allow(clippy::too_many_arguments)]
 pub fn fill_stored(

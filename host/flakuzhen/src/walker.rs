@@ -5,20 +5,20 @@ use crate::{accepted, surface, Refusal};
 /// Where a walk over a call's arguments stands. It keeps no bytes of the call.
 ///
 /// ```
-/// use flakuzhen::Walker;
+/// use flakuzhen::{Signature, Type, Walker};
 ///
-/// // PPC64, no result, an ellipsis, one declared argument: a pointer to the types' names
-/// let signature = [1, 0, 1, 1, 2, 0, 0, 4, 0, 0, 3, 0, 4, 0x10, 0, 1, 8];
+/// // before the ellipsis a pointer to the types' names
+/// let signature: Signature = "ppc64 void(pointer, ...)".parse()?;
 /// let (mut image, area) = ([0; 512], [0; 64]);
 /// image[32..40].copy_from_slice(&1.5f64.to_be_bytes()); // r4, where the caller put a double
 /// image[264..272].copy_from_slice(&1.5f64.to_be_bytes()); // and f1, where it put it too
 ///
 /// let mut walker = Walker::start(&signature)?;
 /// let (mut pointer, mut double) = ([0; 8], [0; 8]);
-/// walker.next(&[0x10, 0, 1, 8], &mut pointer, &image, &area, &[], 0)?;
-/// walker.next(&[0x11, 0, 1, 1], &mut double, &image, &area, &[], 0)?;
+/// walker.next(&Type::Pointer.item(), &mut pointer, &image, &area, &[], 0)?;
+/// walker.next(&Type::Double.item(), &mut double, &image, &area, &[], 0)?;
 /// assert_eq!(double, 1.5f64.to_be_bytes());
-/// # Ok::<(), flakuzhen::Refusal>(())
+/// # Ok::<(), Box<dyn std::error::Error>>(())
 /// ```
 #[derive(Clone, Copy, Debug, PartialEq, Eq)]
 pub struct Walker {

@@ -38,7 +38,7 @@ fn compile_and_run(name: &str, compiler: &[&str], library: &str) {
 fn compile_and_run_one(source: &str, name: &str, compiler: &[&str], library: &str) {
     let program = temporary(&format!("{source}-{name}"));
     let source = root().join(format!("host/flakuzhen/tests/{source}.c"));
-    compile(&source, &program, compiler, library);
+    compile(&[source], &program, compiler, library);
     run_with_library(&program, "build");
 }
 
@@ -47,7 +47,7 @@ fn temporary(name: &str) -> PathBuf {
     Path::new(env!("CARGO_TARGET_TMPDIR")).join(name)
 }
 
-fn compile(source: &Path, program: &Path, compiler: &[&str], library: &str) {
+fn compile(sources: &[PathBuf], program: &Path, compiler: &[&str], library: &str) {
     run(Command::new(compiler[0])
         .args(&compiler[1..])
         .args(WARNINGS)
@@ -55,7 +55,7 @@ fn compile(source: &Path, program: &Path, compiler: &[&str], library: &str) {
         .arg(root().join("include"))
         .arg("-o")
         .arg(program)
-        .arg(source)
+        .args(sources)
         // what follows is a library, whatever language was named before
         .args(["-x", "none"])
         .arg(root().join("build").join(library)));
@@ -91,6 +91,19 @@ fn cpp_with_the_shared_library() {
     compile_and_run("cpp-shared", &CPP, "libflakuzhen.so");
 }
 
+/// Signatures as text from C++, which compiles its file too.
+#[test]
+fn cpp_with_signatures_as_text() {
+    let source = temporary("text.cpp");
+    let text = "#include <flakuzhen_text.h>\n\
+        int main() { uint8_t sig[64]; return fz_encode(\"z void()\", 8, sig, 64).length == 10 ? 0 : 1; }\n";
+    std::fs::write(&source, text).expect("a file of the test's own");
+    let program = temporary("text-cpp");
+    let sources = [source, root().join("command/signature_text.c")];
+    compile(&sources, &program, &CPP, "libflakuzhen.a");
+    run(&mut Command::new(program));
+}
+
 /// A C example must print what is stored for it.
 fn prints_what_is_stored(example: &str, output: &Output) {
     let path = root().join(format!("examples/{example}.out"));
@@ -98,20 +111,17 @@ fn prints_what_is_stored(example: &str, output: &Output) {
     assert_eq!(String::from_utf8_lossy(&output.stdout), stored);
 }
 
-fn source_of(example: &str) -> String {
-    format!("examples/c/{example}.c")
+/// An example's own file, and that of signatures as text.
+fn sources_of(example: &str) -> [PathBuf; 2] {
+    let own = format!("examples/c/{example}.c");
+    [&own, "command/signature_text.c"].map(|path| root().join(path))
 }
 
 fn run_the_examples(name: &str, words: &[&str], library: &str) {
     for example in EXAMPLES {
         let program = temporary(&format!("{example}-{name}"));
         let compiler = [&C[..], words].concat();
-        compile(
-            &root().join(source_of(example)),
-            &program,
-            &compiler,
-            library,
-        );
+        compile(&sources_of(example), &program, &compiler, library);
         prints_what_is_stored(example, &run_with_library(&program, "build"));
     }
 }
@@ -191,10 +201,18 @@ fn use_installed(folder: &Path) {
         "call.c",
         "variable.c",
         "stored.c",
+        "signature_text.c",
         "COMPILERS.md",
         "STORED.md",
     ] {
         assert!(prefix.join("share/doc/flakuzhen").join(name).is_file());
+    }
+    for name in [
+        "bash-completion/completions/flakuzhen",
+        "zsh/site-functions/_flakuzhen",
+        "fish/vendor_completions.d/flakuzhen.fish",
+    ] {
+        assert!(prefix.join("share").join(name).is_file());
     }
 
     let mut words = Command::new("pkg-config");
@@ -206,23 +224,25 @@ fn use_installed(folder: &Path) {
         return;
     }
     let words = String::from_utf8(run(&mut words).stdout).expect("words of a compiler");
-    let compile = |source: &str, program: &Path| {
+    let compile = |sources: &[PathBuf], program: &Path| {
         run(Command::new(C[0])
             .args(&C[1..])
             .args(WARNINGS)
             .arg("-o")
             .arg(program)
-            .arg(root().join(source))
+            .args(sources)
             .args(words.split_whitespace()));
     };
+    let documents = prefix.join("share/doc/flakuzhen");
     for example in EXAMPLES {
         let program = temporary(&format!("{example}-installed"));
-        compile(&source_of(example), &program);
+        let own = documents.join(format!("{example}.c"));
+        compile(&[own, documents.join("signature_text.c")], &program);
         prints_what_is_stored(example, &run_with_library(&program, prefix.join("lib")));
     }
     // this one holds the library's version to the header's
     let program = temporary("surface-installed");
-    compile("host/flakuzhen/tests/surface.c", &program);
+    compile(&[root().join("host/flakuzhen/tests/surface.c")], &program);
     run_with_library(&program, prefix.join("lib"));
 }
 
@@ -324,7 +344,7 @@ fn no_function_takes_more_stack_than_the_header_says() {
     let source = root().join("targets/stack.c");
     // nothing is left to be linked at a function's first call, which takes stack too
     let words = [&C[..], &["-O2", "-Wl,-z,now"]].concat();
-    compile(&source, &program, &words, "libflakuzhen.a");
+    compile(&[source], &program, &words, "libflakuzhen.a");
     let said = String::from_utf8(run(&mut Command::new(program)).stdout).expect("a table");
     println!("{said}");
     let stated = stated_stack();

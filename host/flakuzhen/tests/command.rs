@@ -5,29 +5,19 @@ mod support;
 use std::ffi::OsStr;
 use std::path::{Path, PathBuf};
 use std::process::Output;
+use support::complains;
 
 const EXAMPLE: [u8; 18] = [1, 0, 1, 1, 2, 0, 0, 3, 0, 8, 0x10, 0, 1, 4, 0x11, 0, 1, 1];
 
 /// Runs the command on these words, with these bytes as its standard input.
 fn run<S: AsRef<OsStr>>(words: &[S], input: &[u8]) -> Output {
-    support::run(Path::new(env!("CARGO_BIN_EXE_flakuzhen")), words, input)
+    support::run(support::command(), words, input)
 }
 
+/// As [`support::prints`], and where something is refused standard error says it in words.
 fn prints(output: &Output, status: i32, text: &str) {
-    assert_eq!(String::from_utf8_lossy(&output.stderr), "");
-    assert_eq!(String::from_utf8_lossy(&output.stdout), text);
-    assert_eq!(output.status.code(), Some(status));
-}
-
-/// One line on standard error that says this, and nothing else.
-fn complains(output: &Output, about: &str) {
-    let said = String::from_utf8_lossy(&output.stderr);
-    assert!(said.starts_with("flakuzhen: "), "{said}");
-    assert!(said.contains(about), "{said}");
-    assert_eq!(said.matches('\n').count(), 1, "{said}");
-    assert!(said.ends_with('\n'), "{said}");
-    assert!(output.stdout.is_empty());
-    assert_eq!(output.status.code(), Some(2));
+    support::prints(output, status, text);
+    assert_eq!(status == 0, output.stderr.is_empty());
 }
 
 fn examples() -> PathBuf {
@@ -177,7 +167,9 @@ fn draws_several_files_in_their_order() {
     let names = ["z-powl.hex", "refused-long-double-field.hex"];
     let [first, second] = names.map(example);
     let output = run(&["list", &first, "--hex", &second, "--picture"], b"");
-    prints(&output, 1, &names.map(stored_picture).concat());
+    let [first_picture, second_picture] = names.map(stored_picture);
+    let text = format!("{first}:\n{first_picture}\n{second}:\n{second_picture}");
+    prints(&output, 1, &text);
     complains(&run(&["read", "--picture"], &EXAMPLE), "\"--picture\"");
 }
 
@@ -238,7 +230,11 @@ fn lists_several_files_in_their_order() {
     let names = ["z-table-10.hex", "refused-long-double-field.hex"];
     let [first, second] = names.map(example);
     let output = run(&["list", &first, "--hex", &second, "-"], b"01 00");
-    let text = names.map(stored_listing).concat() + "refused 2 at 0 after 0\n";
+    let [first_listing, second_listing] = names.map(stored_listing);
+    let text = format!(
+        "{first}:\n{first_listing}\n{second}:\n{second_listing}\n\
+         standard input:\nrefused 2 at 0 after 0\n"
+    );
     prints(&output, 1, &text);
 }
 
@@ -256,11 +252,11 @@ fn reads_several_files_in_their_order() {
     let first = example("z-table-10.hex");
     let second = example("refused-long-double-field.hex");
     let output = run(&["read", &first, "--hex", &second, "-"], b"01 00");
-    prints(
-        &output,
-        1,
-        "items 13\nrefused 5 at 17 after 5\nrefused 2 at 0 after 0\n",
+    let text = format!(
+        "{first}: items 13\n{second}: refused 5 at 17 after 5\n\
+         standard input: refused 2 at 0 after 0\n"
     );
+    prints(&output, 1, &text);
 }
 
 #[test]
@@ -269,36 +265,6 @@ fn reads_bytes_from_standard_input() {
     prints(&run(&["read", "-"], &EXAMPLE), 0, "items 5\n");
     prints(&run(&["read"], b""), 1, "refused 2 at 0 after 0\n");
     prints(&run(&["read"], &[0; 16_385]), 1, "refused 1 at 0 after 0\n");
-}
-
-#[test]
-fn says_how_it_is_used() {
-    let output = run(&["--help"], b"");
-    let usage = String::from_utf8_lossy(&output.stdout);
-    assert!(usage.starts_with("usage: flakuzhen list"));
-    assert!(usage.contains("flakuzhen read"));
-    assert_eq!(output.status.code(), Some(0));
-}
-
-#[test]
-fn the_manual_page_has_the_words_of_the_help() {
-    let page = Path::new(env!("CARGO_MANIFEST_DIR")).join("../../docs/flakuzhen.1");
-    let page = std::fs::read_to_string(page).expect("the manual page");
-    let page = page.replace("\\-", "-");
-    let help = run(&["--help"], b"").stdout;
-    let help = String::from_utf8(help).expect("a text");
-    let usage = help.split("\n\n").next().expect("the first lines");
-    let words = usage.split(|mark: char| mark.is_whitespace() || "[]".contains(mark));
-    let mut found = 0;
-    for word in words.filter(|word| !word.is_empty() && *word != "usage:") {
-        let named = page.contains(&format!("\n.B {word}\n")) || page.contains(&format!(" {word}"));
-        assert!(
-            named || word.starts_with("FILE"),
-            "{word} is not in the manual page"
-        );
-        found += 1;
-    }
-    assert!(found >= 10);
 }
 
 #[test]
@@ -348,9 +314,12 @@ fn text_that_is_no_hexadecimal() {
     for command in ["list", "read"] {
         complains(
             &run(&[command, "--hex"], b"01 0001\n0x"),
-            "standard input: line 2: 'x'",
+            "standard input: line 2, column 2: 'x'",
         );
-        complains(&run(&[command, "--hex"], b"010"), "line 1: half a byte");
+        complains(
+            &run(&[command, "--hex"], b"010"),
+            "line 1, column 1: half a byte",
+        );
     }
 }
 

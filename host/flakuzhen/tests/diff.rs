@@ -4,26 +4,11 @@ mod support;
 
 use std::path::{Path, PathBuf};
 use std::process::Output;
+use support::{complains, file, prints};
 
 fn diff(words: &[&str], input: &[u8]) -> Output {
     let words = [&["diff"], words].concat();
-    support::run(Path::new(env!("CARGO_BIN_EXE_flakuzhen")), &words, input)
-}
-
-fn prints(output: &Output, status: i32, text: &str) {
-    assert_eq!(String::from_utf8_lossy(&output.stderr), "");
-    assert_eq!(String::from_utf8_lossy(&output.stdout), text);
-    assert_eq!(output.status.code(), Some(status));
-}
-
-/// One line on standard error, nothing else, and exit status 2.
-fn complains(output: &Output, said: &str) {
-    let told = String::from_utf8_lossy(&output.stderr);
-    assert!(told.starts_with("flakuzhen: "), "{told}");
-    assert!(told.contains(said), "{told}");
-    assert_eq!(told.matches('\n').count(), 1, "{told}");
-    assert!(output.stdout.is_empty());
-    assert_eq!(output.status.code(), Some(2));
+    support::run(support::command(), &words, input)
 }
 
 fn examples(folder: &str) -> PathBuf {
@@ -67,15 +52,6 @@ fn signature(arguments: &[u8]) -> Vec<u8> {
 
 const I32: [u8; 4] = [0x10, 0, 1, 4];
 const DOUBLE: [u8; 4] = [0x11, 0, 1, 1];
-
-/// Puts the bytes in a file of this test's own, and gives its path.
-fn file(name: &str, bytes: &[u8]) -> String {
-    let path = Path::new(env!("CARGO_TARGET_TMPDIR")).join(name);
-    std::fs::write(&path, bytes).expect("a file of the test's own");
-    path.to_str()
-        .expect("a path that can be printed")
-        .to_string()
-}
 
 #[test]
 fn arguments_that_come_and_go() {
@@ -163,6 +139,25 @@ fn what_is_no_input() {
     complains(
         &diff(&[&good, "-"], cut),
         "standard input: refused 2 at 7 after 2",
+    );
+    // in text and hexadecimal it is told where
+    let deep = "z void(u8,\n {longdouble})";
+    complains(
+        &diff(&["--text", "-", "not-there"], deep.as_bytes()),
+        "\"not-there\"",
+    );
+    let text = file("diff-deep.sig", deep.as_bytes());
+    complains(
+        &diff(&[&text, &good], b""),
+        "line 2, column 3: \"longdouble\": refused 5 at 17 after 5: FZ_LONG_DOUBLE_IN_STRUCT (5)",
+    );
+    complains(
+        &diff(&["--hex", &text, "-"], b"01\n 0001 01"),
+        "line 2, column 3: \"longdouble\": refused 5",
+    );
+    complains(
+        &diff(&["--hex", "-", &text], b"01 0001 01\n 05 0000"),
+        "standard input: line 2, column 2: refused 3 at 4 after 1: FZ_UNEXPECTED_TAG (3)",
     );
     let cut = file("diff-cut", cut);
     complains(

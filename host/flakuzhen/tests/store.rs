@@ -8,8 +8,7 @@ use std::fs;
 use std::os::unix::fs::{symlink, PermissionsExt};
 use std::path::{Path, PathBuf};
 use std::process::{Command, Output};
-
-const COMMAND: &str = env!("CARGO_BIN_EXE_flakuzhen");
+use support::{command, complains, prints};
 
 /// PPC64, no result, arguments i32 and double.
 const EXAMPLE: [u8; 18] = [1, 0, 1, 1, 2, 0, 0, 3, 0, 8, 0x10, 0, 1, 4, 0x11, 0, 1, 1];
@@ -23,23 +22,7 @@ const PLAN: [u8; 40] = [
 ];
 
 fn run<S: AsRef<OsStr>>(words: &[S], input: &[u8]) -> Output {
-    support::run(Path::new(COMMAND), words, input)
-}
-
-fn prints(output: &Output, status: i32, text: &str) {
-    assert_eq!(String::from_utf8_lossy(&output.stderr), "");
-    assert_eq!(String::from_utf8_lossy(&output.stdout), text);
-    assert_eq!(output.status.code(), Some(status));
-}
-
-/// One line on standard error, nothing else, and exit status 2.
-fn complains(output: &Output, said: &str) {
-    let told = String::from_utf8_lossy(&output.stderr);
-    assert!(told.starts_with("flakuzhen: "), "{told}");
-    assert!(told.contains(said), "{told}");
-    assert_eq!(told.matches('\n').count(), 1, "{told}");
-    assert!(output.stdout.is_empty());
-    assert_eq!(output.status.code(), Some(2));
+    support::run(command(), words, input)
 }
 
 /// An empty folder of a test's own.
@@ -196,7 +179,9 @@ fn nothing_is_left_behind_where_writing_fails() {
         let signature = Path::new(env!("CARGO_TARGET_TMPDIR")).join("store-failing-signature");
         fs::write(&signature, EXAMPLE).expect("the signature");
         let output = Command::new("bash")
-            .args(["-c", script, "bash", COMMAND, "store"])
+            .args(["-c", script, "bash"])
+            .arg(command())
+            .arg("store")
             .arg(signature)
             .arg("-o")
             .arg(out)
@@ -227,7 +212,7 @@ fn a_file_without_a_folder_is_in_the_folder_at_hand() {
     let folder = folder("at-hand");
     let signature = folder.join("signature");
     fs::write(&signature, EXAMPLE).expect("the signature");
-    let output = Command::new(COMMAND)
+    let output = Command::new(command())
         .args(["store", "signature", "-o", "plan"])
         .current_dir(&folder)
         .output();
@@ -248,9 +233,12 @@ fn words_that_are_wrong() {
     ] {
         complains(&run(words, &EXAMPLE), takes);
     }
-    complains(&run(&["store", "-", "-o"], &EXAMPLE), "nothing after -o");
+    complains(
+        &run(&["store", "-", "-o"], &EXAMPLE),
+        "nothing after \"-o\"",
+    );
     let twice = ["store", "-", "-o", "a", "-o", "b"];
-    complains(&run(&twice, &EXAMPLE), "-o twice");
+    complains(&run(&twice, &EXAMPLE), "\"-o\" twice");
     let dash = ["store", "-", "-o", "-"];
     complains(&run(&dash, &EXAMPLE), "-o takes the name of a file");
     let picture = ["store", "--picture", "-", "-o", "out"];
@@ -294,7 +282,7 @@ fn the_examples() {
         assert_eq!(Path::new(plan), Path::new(&name).with_extension("plan"));
         let stored = fs::read(examples.join(plan)).expect("the plan");
         assert_eq!(decoded(&text), stored, "{name:?}");
-        let output = Command::new(COMMAND)
+        let output = Command::new(command())
             .args(&words)
             .current_dir(&examples)
             .output()
@@ -304,7 +292,7 @@ fn the_examples() {
         prints(&output, i32::from(!fresh), &expected);
         if fresh {
             let out = Path::new(env!("CARGO_TARGET_TMPDIR")).join("store-example");
-            let output = Command::new(COMMAND)
+            let output = Command::new(command())
                 .args(["store", "--hex", signature, "-o"])
                 .arg(&out)
                 .current_dir(&examples)

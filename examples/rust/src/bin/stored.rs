@@ -6,27 +6,18 @@
 
 #![forbid(unsafe_code)]
 
-use flakuzhen::Refusal;
+use flakuzhen::{Refusal, Signature, TextFault};
 use std::error::Error;
 use std::fs::{self, File};
 use std::io::{self, Write};
 use std::path::{Path, PathBuf};
 
 /// `int move_to(int joint, double angle)`, on 64-bit PowerPC.
-#[rustfmt::skip]
-const MOVE_TO: [u8; 22] = [
-    0x01, 0, 1, 1,  0x02, 0, 4, 0x10, 0, 1, 4,  0x03, 0, 8,  0x10, 0, 1, 4,  0x11, 0, 1, 1,
-];
+const MOVE_TO: &str = "ppc64 i32(i32, double)";
 /// The new driver's: `int move_to(long joint, double angle)`.
-#[rustfmt::skip]
-const NEW_MOVE_TO: [u8; 22] = [
-    0x01, 0, 1, 1,  0x02, 0, 4, 0x10, 0, 1, 4,  0x03, 0, 8,  0x10, 0, 1, 6,  0x11, 0, 1, 1,
-];
+const NEW_MOVE_TO: &str = "ppc64 i32(i64, double)";
 /// `long double load(void *arm)`, on zSeries.
-#[rustfmt::skip]
-const LOAD: [u8; 18] = [
-    0x01, 0, 1, 2,  0x02, 0, 4, 0x11, 0, 1, 2,  0x03, 0, 4,  0x10, 0, 1, 8,
-];
+const LOAD: &str = "z longdouble(pointer)";
 
 /// What a refusal of stored bytes has as its number.
 const STALE: u64 = 27;
@@ -34,7 +25,7 @@ const STALE: u64 = 27;
 #[derive(Clone)]
 struct Function {
     name: &'static str,
-    signature: &'static [u8],
+    signature: Signature,
     /// Its plan, as it stands in its file.
     stored: Vec<u8>,
 }
@@ -48,7 +39,7 @@ impl Function {
             Err(fault) if fault.kind() == io::ErrorKind::NotFound => Vec::new(),
             read => read?,
         };
-        match flakuzhen::check(&self.stored, self.signature) {
+        match flakuzhen::check(&self.stored, &self.signature) {
             Ok(()) => println!("{}: fresh", self.name),
             Err(Refusal {
                 number: STALE,
@@ -56,7 +47,7 @@ impl Function {
                 ..
             }) => {
                 println!("{}: stale at {place}", self.name);
-                self.stored = flakuzhen::store(self.signature)?;
+                self.stored = flakuzhen::store(&self.signature)?;
                 write_whole(folder, &file, &self.stored)?;
                 println!("  stored {} bytes", self.stored.len());
             }
@@ -71,7 +62,7 @@ impl Function {
         let (mut image, mut area) = ([0; 512], [0; 64]);
         match flakuzhen::fill_stored(
             &self.stored,
-            self.signature,
+            &self.signature,
             values,
             &mut image,
             &mut area,
@@ -131,12 +122,14 @@ fn main() -> Result<(), Box<dyn Error>> {
 }
 
 fn come_up_three_times(folder: &Path) -> Result<(), Box<dyn Error>> {
-    let function = |name, signature| Function {
-        name,
-        signature,
-        stored: Vec::new(),
+    let function = |name, signature: &str| -> Result<Function, TextFault> {
+        Ok(Function {
+            name,
+            signature: signature.parse()?,
+            stored: Vec::new(),
+        })
     };
-    let mut functions = [function("move_to", &MOVE_TO[..]), function("load", &LOAD)];
+    let mut functions = [function("move_to", MOVE_TO)?, function("load", LOAD)?];
     println!("coming up for the first time");
     for function in &mut functions {
         function.come_up(folder)?;
@@ -150,7 +143,7 @@ fn come_up_three_times(folder: &Path) -> Result<(), Box<dyn Error>> {
     functions[0].call(&values);
 
     println!("coming up with a new driver");
-    functions[0].signature = &NEW_MOVE_TO;
+    functions[0].signature = NEW_MOVE_TO.parse()?;
     // what is left of a program that never checked: the old plan and the new signature
     let old = functions[0].clone();
     for function in &mut functions {

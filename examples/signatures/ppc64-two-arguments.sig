@@ -1,0 +1,1 @@
+ppc64 void(i32, double)

@@ -1,0 +1,1 @@
+aix void({i32, double})

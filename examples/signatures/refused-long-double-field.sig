@@ -1,0 +1,1 @@
+z void({i64, longdouble})

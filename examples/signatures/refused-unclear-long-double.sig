@@ -1,0 +1,1 @@
+ppc64b void(longdouble, longdouble, longdouble, longdouble, longdouble, longdouble, longdouble)

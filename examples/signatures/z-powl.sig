@@ -1,0 +1,1 @@
+z longdouble(longdouble, longdouble)

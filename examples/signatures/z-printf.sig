@@ -1,0 +1,1 @@
+z i32(pointer, i32, double, longdouble, double, ...)
