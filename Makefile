@@ -26,7 +26,7 @@ CC = gcc
 # the inputs of a proof: a change of any file or folder here proves the library again
 PROVED_FROM := crates.txt $(shell find crates -print 2>/dev/null)
 # the crates that export functions
-BRIDGES := bridge bridge_plans bridge_values bridge_walk bridge_starts bridge_frames bridge_dump
+BRIDGES := bridge bridge_plans bridge_values bridge_walk bridge_stored bridge_starts bridge_frames bridge_dump
 ARCHIVE := build/libflakuzhen.a
 # the second planner, for the comparisons: no part of the library, and not installed
 SECOND := build/libsecond.a

@@ -12,6 +12,9 @@
  *      give it them side by side in memory; fz_walk takes them one by one, which is how a function
  *      with a variable argument list does it that learns their types only as it goes.
  *
+ * A plan may be kept in a file: fz_store_plan writes it to bytes, and fz_check_plan says whether such
+ * bytes are still the plan of a signature.
+ *
  * The machine need not be the one that this program runs on: nothing is executed, and addresses are
  * numbers. The frame machine (fz_start_ppc64 to fz_leave) stands apart from this: it keeps a stack
  * on which functions enter and leave frames. fz_walk_dump_ppc64 and its like find the frames in the
@@ -619,6 +622,70 @@ fz_answer fz_walk(fz_walker *walker,
                   const uint8_t *area, size_t area_length,
                   const uint8_t *copies, size_t copies_length,
                   uint64_t copy_base);
+
+/* ---- Stored plans: a plan in bytes, together with its signature ----
+ *
+ * A plan that is kept is stale when the signature has changed, or the library that planned it. So it
+ * is kept with the signature that it was made of, and checked before it is used. Its bytes are items
+ * as in a signature:
+ *
+ *   tag  body
+ *   20   the signature's own bytes
+ *   21   for each argument, in order: its places
+ *   22   the result's places; nothing for a function that gives none
+ *
+ * A place is 5 bytes: kind, bank, number, and an offset of two bytes, the higher one first. What a
+ * place has no use for is 0:
+ *
+ *   kind 0   a register: bank 0 general, 1 floating; its number. The offset is that of its bytes in
+ *            the area, on Z and in a result 0: of an argument at offset 24 in r6 and r7, r7 has 32
+ *   kind 1   a doubleword of memory, on AIX a word, at an offset in the area, on Z above the stack
+ *            pointer, as fz_listing counts
+ *   kind 2   a copy, at an offset in the copies; it comes after the place of its address
+ *   kind 3   in a result alone: the general register with the hidden address
+ *
+ * An argument's places are in the order of fz_listing: floating registers, general ones, memory.
+ * A plan has one byte form, and two signatures never share one. */
+
+enum fz_stored_refusal {
+    FZ_STALE = 27,           /* stored bytes that are not the plan of the signature; `place` is the
+                                offset of the first byte that differs, or the shorter length */
+    FZ_STORED_TOO_SHORT = 33 /* fewer bytes at `stored` than the stored plan has */
+};
+
+typedef struct {
+    fz_answer answer; /* its items are 0, unless the signature is refused */
+    uint64_t length;  /* bytes of the stored plan; 0 where refused */
+} fz_stored;
+
+/* The length of the plan that fz_store_plan would write. Refuses what fz_measure refuses. */
+fz_stored fz_stored_length(const uint8_t *sig, size_t sig_length);
+
+/* Writes the plan of a call with this signature to `stored`, from its first byte on. Bytes past the
+ * plan stay; a refused call leaves all of them as they were. The stored bytes must not overlap the
+ * signature.
+ * Refuses, in this order: what fz_measure refuses, FZ_STORED_TOO_SHORT. */
+fz_stored fz_store_plan(const uint8_t *sig, size_t sig_length,
+                        uint8_t *stored, size_t stored_length);
+
+/* Accepts exactly if the stored bytes, all stored_length of them, are those that fz_store_plan would
+ * write for this signature today. So it finds every change of the signature, of a stored byte and of
+ * the rules that the plan was made by.
+ * Refuses, in this order: what fz_measure refuses, FZ_STALE. */
+fz_answer fz_check_plan(const uint8_t *stored, size_t stored_length,
+                        const uint8_t *sig, size_t sig_length);
+
+/* fz_check_plan, and where that accepts fz_fill: the same answer, and the same bytes in image, area
+ * and copies. Where the check refuses, these stay as they were.
+ * Refuses, in this order: what fz_check_plan refuses, FZ_IMAGE_SIZE, FZ_VALUES_SIZE,
+ * FZ_AREA_TOO_SHORT, FZ_BAD_COPIES. */
+fz_answer fz_fill_stored(const uint8_t *stored, size_t stored_length,
+                         const uint8_t *sig, size_t sig_length,
+                         const uint8_t *values, size_t values_length,
+                         uint8_t *image, size_t image_length,
+                         uint8_t *area, size_t area_length,
+                         uint8_t *copies, size_t copies_length,
+                         uint64_t copy_base, uint64_t hidden);
 
 #ifdef __cplusplus
 }

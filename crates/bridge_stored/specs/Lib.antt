@@ -1,0 +1,2 @@
+-- The words of the answers on stored plans. Assumes nothing.
+pub mod Stored
