@@ -26,7 +26,8 @@ use Rattle.places.specs.declared.PowerRules.{PowerRules}
 use Rattle.places.specs.declared.Edition.{Edition}
 use Rattle.places.specs.declared.Rules.{Rules}
 use Rattle.places.specs.declared.Span.{Span}
-use Rattle.places.specs.Step.{rulesOf, withEllipsis, power, startOf, areaOf, hiddenFor, alwaysClear}
+use Rattle.places.specs.Step.{rulesOf, withEllipsis, power, startOf, areaOf, hiddenFor}
+use Rattle.places.specs.Helpers.{alwaysClear}
 use Rattle.places.proofs.Written.{counted, start-written, hidden-written, area-written, z-start-written, z-hidden-written, z-area-written}
 use Rattle.plan.specs.declared.Plan.{Plan}
 use Rattle.plan.specs.Plan.{spansOf, lastOf, noSpan, tableOf, hiddenIn, resultIn, startIn, endIn, planIn, refused, planAnswer}

@@ -19,7 +19,7 @@ use Rattle.plan.specs.Call.{callOf, outcomeFor}
 use Rattle.slots.specs.declared.Answer.{Answer}
 use Rattle.slots.specs.Buffers.{Buffers}
 use Rattle.slots.specs.Placements.{Placement}
-use Rattle.slots.specs.Limits.{sizesOf}
+use Rattle.slots.specs.Helpers.{sizesOf}
 use Rattle.slots.specs.Refusals.{firstOf, orElse, afterReading}
 use Rattle.slots.specs.Arguments.{argumentsOf, planFor, rulesIn, rulesFor}
 use Rattle.fill.specs.Fill.{fillAnswer}

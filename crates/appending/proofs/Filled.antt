@@ -22,7 +22,7 @@ use Rattle.plan.specs.Plan.{spansOf, lastOf, startIn, planIn, planAnswer}
 use Rattle.signature.specs.Types.{valuesOf, typesOf}
 use Rattle.slots.specs.Buffers.{Slot}
 use Rattle.slots.specs.Placements.{Placement, placement, placements, slotsOf, slotsOfAll, hiddenSlots}
-use Rattle.slots.specs.Limits.{sizesOf}
+use Rattle.slots.specs.Helpers.{sizesOf}
 use Rattle.slots.specs.Arguments.{argumentsIn, argumentsOf, planFor, rulesIn, rulesFor}
 use Rattle.slots.proofs.Planned.{placements-sizes}
 use Rattle.slots.proofs.Answered.{arguments-got}

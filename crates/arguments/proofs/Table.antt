@@ -16,15 +16,16 @@ use Rattle.signature.specs.Signature.{Signature}
 use Rattle.signature.specs.Read.{signatureOf}
 use Rattle.signature.specs.Answer.{resultType, signatureAnswer}
 use Rattle.signature.specs.Types.{valuesOf, typesIn}
-use Rattle.signature.specs.Plannable.{Plannable, typeAt}
+use Rattle.signature.specs.Helpers.{Plannable, typeAt}
 use Rattle.signature.proofs.Types.{length-types, types-drop, table-types}
 use Rattle.places.specs.declared.Cursor.{Cursor}
-use Rattle.places.specs.Step.{Lawful, Roomy, rulesOf, withEllipsis, spanOf, nextOf}
+use Rattle.places.specs.Step.{rulesOf, withEllipsis, spanOf, nextOf}
+use Rattle.places.specs.Helpers.{Lawful, Roomy}
 use Rattle.places.proofs.Bounds.{rules-lawful}
 use Rattle.places.proofs.Marked.{lawful-marked, next-marked, start-marked}
 use Rattle.plan.specs.declared.Measured.{Measured}
-use Rattle.plan.specs.Plan.{spansOf, lastOf, hiddenIn, startIn, endIn, resultIn, planIn, planAnswer, planned, measureOf}
-use Rattle.plan.specs.Call.{unclearOf}
+use Rattle.plan.specs.Plan.{spansOf, lastOf, hiddenIn, startIn, endIn, resultIn, planIn, planAnswer, measureOf}
+use Rattle.plan.specs.Helpers.{planned, unclearOf}
 use Rattle.plan.proofs.Fold.{last-marked, Reached, reached-start, reached-more, reached-roomy}
 use Rattle.plan.proofs.Answers.{planned-answer, outcome-read}
 use Rattle.plan.proofs.Calls.{clear-outcome}

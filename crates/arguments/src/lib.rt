@@ -10,10 +10,11 @@ use signature::SignatureRead;
 ghost use mathlib.Core.Path.{_≡_};
 ghost use Rattle.signature.specs.Read.{signatureOf};
 ghost use Rattle.signature.specs.Answer.{signatureAnswer};
-ghost use Rattle.signature.specs.Plannable.{Plannable};
+ghost use Rattle.signature.specs.Helpers.{Plannable};
 ghost use Rattle.places.specs.Step.{rulesOf, withEllipsis};
 ghost use Rattle.slots.specs.Arguments.{sizesFor};
-ghost use Rattle.plan.specs.Plan.{startIn, planned, measureOf};
+ghost use Rattle.plan.specs.Plan.{startIn, measureOf};
+ghost use Rattle.plan.specs.Helpers.{planned};
 
 // The cursor of the first argument.
 pub fn first_cursor(c: Convention, result: ResultType) -> Cursor

@@ -1,6 +1,6 @@
 // Whether a memory lies where it may, which refusal 16 asks at the start and 23 of every state, and whether registers fit their words.
 ghost use mathlib.Core.Path.{_≡_};
-ghost use Rattle.rules.specs.Lawful.{Lawful};
+ghost use Rattle.rules.specs.Helpers.{Lawful};
 ghost use Rattle.rules.specs.Frames.{allWithin, okRegisters};
 ghost use Rattle.machine.specs.Machine.{okMemory};
 use rules::Registers;

@@ -1,6 +1,6 @@
 // What the writes and a leave answer: the tests of the state, then those of the call, in their order.
 ghost use mathlib.Core.Path.{_≡_};
-ghost use Rattle.rules.specs.Lawful.{Lawful};
+ghost use Rattle.rules.specs.Helpers.{Lawful};
 ghost use Rattle.machine.specs.Machine.{writeRegisterAnswer, writeMemoryAnswer, leaveAnswer};
 use machine::Answer;
 use machine::Refusal;

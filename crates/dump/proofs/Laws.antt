@@ -15,7 +15,7 @@ use Rattle.words.specs.Basics.{pick}
 use Rattle.saves.specs.Saves.{load}
 use Rattle.rules.specs.declared.Rules.{Rules}
 use Rattle.rules.proofs.Facts.{and-yes}
-use Rattle.rules.specs.Lawful.{Lawful}
+use Rattle.rules.specs.Helpers.{Lawful}
 use Rattle.dump.specs.Walk.{Refusal, BadAddress, ChainTooLong, ListTooShort, Found, Frames, Refused, Walked, frames, refused, okAddress, prepend, walkFrom, maxFrames, walk, fitted, walkInto, foundIn, counted}
 
 -- a word has a byte at least

@@ -11,7 +11,7 @@ use Rattle.saves.proofs.Words.{load-agree}
 use Rattle.saves.proofs.Saving.{outside-above}
 use Rattle.rules.specs.declared.Rules.{Rules}
 use Rattle.rules.specs.Frames.{outgoingLength, below, frameSize, saves}
-use Rattle.rules.specs.Lawful.{Lawful}
+use Rattle.rules.specs.Helpers.{Lawful}
 use Rattle.rules.proofs.Places.{size-parts, ascending, chain-outside}
 use Rattle.machine.specs.Machine.{stackPointer, offset}
 use Rattle.history.specs.Calls.{Machine}

@@ -10,7 +10,7 @@ use borrow.Author.Tests.{le-leb}
 use Rattle.conventions.specs.declared.Convention.{Convention}
 use Rattle.rules.specs.declared.Rules.{Rules}
 use Rattle.rules.specs.Rules.{rules}
-use Rattle.rules.specs.Lawful.{Lawful}
+use Rattle.rules.specs.Helpers.{Lawful}
 use Rattle.rules.proofs.Conventions.{lawful}
 use Rattle.rules.proofs.Places.{limit-64}
 use Rattle.machine.specs.declared.Answer.the-variants.{Accepted}

@@ -17,12 +17,12 @@ use Rattle.rules.specs.declared.Rules.{Rules}
 use Rattle.rules.specs.declared.Frame.{Frame}
 use Rattle.rules.specs.Rules.{rules}
 use Rattle.rules.specs.Frames.{outgoingLength, below, fullSize, frameSize}
-use Rattle.rules.specs.Lawful.{Lawful}
+use Rattle.rules.specs.Helpers.{Lawful}
 use Rattle.rules.proofs.Facts.{and-yes, either}
 use Rattle.rules.proofs.Places.{leaf-size, solid-size, size-parts}
 use Rattle.machine.specs.declared.State.{State}
 use Rattle.machine.specs.Machine.{stackPointer, offset, frameAt, okMemory, sizes}
-use Rattle.machine.specs.Premises.{Sound}
+use Rattle.machine.specs.Helpers.{Sound}
 use Rattle.history.specs.Calls.{Machine}
 use Rattle.history.specs.Preserved.{OpenEnter, callerOf}
 use Rattle.history.proofs.Invariant.{Invariant, base-of}

@@ -1,6 +1,6 @@
 // What an enter answers: the tests of the state, then its own, in their order.
 ghost use mathlib.Core.Path.{_≡_};
-ghost use Rattle.rules.specs.Lawful.{Lawful};
+ghost use Rattle.rules.specs.Helpers.{Lawful};
 ghost use Rattle.machine.specs.Machine.{enterAnswer};
 use machine::Answer;
 use machine::Refusal;

@@ -39,7 +39,7 @@ use Rattle.slots.specs.declared.Answer.{Answer}
 use Rattle.slots.specs.declared.Refusal.{Refusal}
 use Rattle.slots.specs.Buffers.{Buffers, buffers, Slot, put, putAll}
 use Rattle.slots.specs.Placements.{Placement, hiddenSlots, slotsOfAll}
-use Rattle.slots.specs.Limits.{Held, Fits, All, sizesOf}
+use Rattle.slots.specs.Helpers.{Held, Fits, All, sizesOf}
 use Rattle.slots.specs.Refusals.{test, differ, firstOf, isRefused}
 use Rattle.slots.specs.Arguments.{argumentsOf, planFor, sizesFor, rulesIn, rulesFor}
 use Rattle.slots.proofs.Answered.{carried}
@@ -48,9 +48,10 @@ use Rattle.arguments.proofs.Table.{arguments-read}
 use Rattle.slots.proofs.Buffers.{putAll-lengths, putAll-append}
 use Rattle.slots.proofs.Planned.{all-with}
 use Rattle.slots.proofs.Refusals.{first-done, differ-false}
-use Rattle.marshal.specs.Room.{Ready}
+use Rattle.marshal.specs.Helpers.{Ready}
 use Rattle.fill.specs.declared.Lengths.{Lengths}
-use Rattle.fill.specs.Fill.{badCopies, highAddress, fillTests, fillAnswer, filledSlots, fillBuffers, HiddenFits, WordSize, AllReady}
+use Rattle.fill.specs.Fill.{badCopies, highAddress, fillTests, fillAnswer, filledSlots, fillBuffers}
+use Rattle.fill.specs.Helpers.{HiddenFits, WordSize, AllReady}
 
 -- ---- the tests
 copies-good : (e n base : ℕ) → base < 2 ^ 64 → badCopies e n base ≡ false → (e ≤ n) × (base + e < 2 ^ 64)

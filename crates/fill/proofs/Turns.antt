@@ -11,7 +11,7 @@ use Rattle.signature.specs.Answer.{argument}
 use Rattle.places.specs.declared.Rules.{Rules}
 use Rattle.slots.specs.Buffers.{Buffers, Slot, putAll}
 use Rattle.slots.specs.Placements.{Placement, slotsOf, slotsOfAll}
-use Rattle.slots.specs.Limits.{All, sizesOf}
+use Rattle.slots.specs.Helpers.{All, sizesOf}
 use Rattle.slots.proofs.Buffers.{SameLengths, same-then, putAll-lengths, putAll-append}
 
 -- ---- the loop

@@ -1,14 +1,11 @@
 -- Filling: its answer, and what the buffers hold afterwards. Document 01, "When the bridge says no" and "What stands in a slot".
 -- Assumes nothing.
-use Prim.Native.Nat.{ℕ, _+_, _-_, _*_, _%_, _^_, _≤_, _<_}
-use mathlib.Core.Path.{_≡_}
+use Prim.Native.Nat.{ℕ, _+_, _-_, _*_, _%_, _^_}
 use mathlib.Core.Bool.{Bool, true, false}
 use mathlib.Core.List.{List, [], _∷_, _++_}
 use lib.Dec.{eqb, ltb}
 use lib.ListN.{length}
 use Rattle.words.specs.Basics.{pick}
-use Rattle.signature.specs.declared.SignatureRead.{SignatureRead}
-use Rattle.signature.specs.Plannable.{Plannable}
 use Rattle.places.specs.declared.ResultPlaces.{ResultPlaces}
 use Rattle.places.specs.Step.{wordOf}
 use Rattle.slots.specs.declared.Refusal.{Refusal}
@@ -16,11 +13,8 @@ use Rattle.slots.specs.declared.Answer.{Answer}
 use Rattle.slots.specs.Buffers.{Buffers, Slot, putAll}
 use Rattle.slots.specs.Placements.{slotsOfAll, hiddenSlots}
 use Rattle.slots.specs.Refusals.{Test, test, differ, firstOf, afterReading, isDone}
-use Rattle.slots.specs.Limits.{All, sizesOf}
 use Rattle.plan.specs.Call.{outcomeFor}
-use Rattle.slots.specs.Arguments.{argumentsOf, planFor, rulesIn, rulesFor}
-use Rattle.arguments.specs.Table.{argumentsFrom}
-use Rattle.marshal.specs.Room.{Ready}
+use Rattle.slots.specs.Arguments.{argumentsOf, planFor, rulesFor}
 use Rattle.fill.specs.declared.Lengths.{Lengths}
 
 abbrev pub lengths : List ℕ → List ℕ → List ℕ → List ℕ → Lengths
@@ -68,21 +62,3 @@ filledSlots s values base hidden =
 -- "Filling changes only named slots and copies"; "Every refusal leaves all buffers .. untouched"
 unfoldable pub fillBuffers : List ℕ → List ℕ → ℕ → ℕ → Answer → Buffers → Buffers
 fillBuffers s values base hidden answer b = pick (isDone answer) (putAll (filledSlots s values base hidden) b) b
-
--- ---- what the helpers ask; every filling that no test refuses has it (laws `all-ready` and `hidden-fits`)
-
--- a hidden address has a general register
-abbrev pub HiddenFits : ResultPlaces → ℕ → Type 0
-HiddenFits ResultPlaces.Nothing i = Unit {0}
-HiddenFits (ResultPlaces.Registers s) i = Unit {0}
-HiddenFits (ResultPlaces.Hidden s) i = (s .general .first < 32) × (i ≡ 512)
-
--- the bytes of a word
-abbrev pub WordSize : ℕ → Type 0
-WordSize w = (1 ≤ w) × (w ≤ 8)
-
--- all arguments of a signature that was read, of values of v bytes
-pub record AllReady (g : SignatureRead) (base v i a c : ℕ) : Type 0 where
-  pub plannable : Plannable g
-  pub each : All (Ready (rulesIn g) base i a c) (argumentsFrom g)
-  pub total : sizesOf (argumentsFrom g) ≡ v

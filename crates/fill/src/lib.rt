@@ -12,7 +12,8 @@ ghost use Rattle.slots.specs.Placements.{slotsOfAll, hiddenSlots};
 ghost use Rattle.slots.specs.Refusals.{firstOf};
 ghost use Rattle.slots.specs.Arguments.{rulesIn};
 ghost use Rattle.arguments.specs.Table.{argumentsFrom};
-ghost use Rattle.fill.specs.Fill.{badCopies, highAddress, fillTests, fillAnswer, fillBuffers, lengths, HiddenFits, WordSize, AllReady};
+ghost use Rattle.fill.specs.Fill.{badCopies, highAddress, fillTests, fillAnswer, fillBuffers, lengths};
+ghost use Rattle.fill.specs.Helpers.{HiddenFits, WordSize, AllReady};
 
 // The lengths of the lent buffers.
 pub struct Lengths {

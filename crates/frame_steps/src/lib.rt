@@ -1,9 +1,9 @@
 // What an accepted enter and an accepted leave do to the state and to the memory.
 ghost use mathlib.Core.Path.{_≡_};
 ghost use lib.ListN.{length};
-ghost use Rattle.rules.specs.Lawful.{Lawful};
+ghost use Rattle.rules.specs.Helpers.{Lawful};
 ghost use Rattle.machine.specs.Machine.{entered, enteredMemory, left};
-ghost use Rattle.machine.specs.Premises.{Sound, CanEnter, CanLeave};
+ghost use Rattle.machine.specs.Helpers.{Sound, CanEnter, CanLeave};
 use machine::State;
 use rules::Frame;
 use rules::Rules;

@@ -16,14 +16,14 @@ use Rattle.rules.specs.declared.Registers.{Registers}
 use Rattle.rules.specs.declared.Linkage.{Linkage}
 use Rattle.rules.specs.declared.Linkage.the-variants.{LinkRegister, SaveArea}
 use Rattle.rules.specs.Frames.{noFrame, withPointer, below, frameSize, chainWidth, savesBy, saves}
-use Rattle.rules.specs.Lawful.{Lawful}
+use Rattle.rules.specs.Helpers.{Lawful}
 use Rattle.rules.proofs.Facts.{fit-set}
 use Rattle.rules.proofs.Conventions.{pointer-unpreserved}
 use Rattle.rules.proofs.Places.{solid-chain, below-reach, chain-in, ascending}
 use Rattle.machine.specs.declared.Answer.the-variants.{Accepted}
 use Rattle.machine.specs.declared.State.{State}
 use Rattle.machine.specs.Machine.{stackPointer, offset, frameAt, okFrames, sizes, enterAnswer, entered, enteredMemory}
-use Rattle.machine.specs.Premises.{CanEnter}
+use Rattle.machine.specs.Helpers.{CanEnter}
 use Rattle.machine.proofs.States.{enter-yes, top-agree, frames-agree, sizes-agree}
 use Rattle.history.specs.Calls.{Machine}
 use Rattle.history.specs.Preserved.{OpenEnter, callerOf}

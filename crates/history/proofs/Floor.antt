@@ -19,14 +19,14 @@ use Rattle.rules.specs.declared.Rules.{Rules}
 use Rattle.rules.specs.declared.Frame.{Frame}
 use Rattle.rules.specs.Rules.{rules}
 use Rattle.rules.specs.Frames.{withPointer, below, frameSize, chainWidth, saves}
-use Rattle.rules.specs.Lawful.{Lawful}
+use Rattle.rules.specs.Helpers.{Lawful}
 use Rattle.rules.proofs.Facts.{either, and-yes}
 use Rattle.rules.proofs.Conventions.{lawful}
 use Rattle.rules.proofs.Places.{leaf-size, size-parts, below-reach, ascending}
 use Rattle.machine.specs.declared.Answer.{Answer}
 use Rattle.machine.specs.declared.Answer.the-variants.{Accepted, Refused}
 use Rattle.machine.specs.Machine.{stackPointer, offset, top, caller, stateTests, outgoingFrom, writableAddress, writeMemoryAnswer, writtenMemory, entered, enteredMemory, startOutcome, enterOutcome, enterMemory, writeRegisterOutcome, writeMemoryOutcome, writeMemoryMemory, leaveOutcome}
-use Rattle.machine.specs.Premises.{CanEnter}
+use Rattle.machine.specs.Helpers.{CanEnter}
 use Rattle.machine.proofs.Judging.{holds-yes, judge-both}
 use Rattle.machine.proofs.States.{enter-yes}
 use Rattle.machine.proofs.Areas.{solid-outgoing, outgoing-le, areas}

@@ -15,11 +15,11 @@ use Rattle.rules.specs.declared.Rules.{Rules}
 use Rattle.rules.specs.declared.Registers.{Registers}
 use Rattle.rules.specs.Rules.{within}
 use Rattle.rules.specs.Frames.{firstGpr, firstFpr, savesCr, okRegisters, okRequest, outgoingLength, below, frameSize, chainWidth, saves, preservedCondition}
-use Rattle.rules.specs.Lawful.{Lawful}
+use Rattle.rules.specs.Helpers.{Lawful}
 use Rattle.rules.proofs.Halves.{each-within}
 use Rattle.rules.proofs.Places.{solid-chain, below-reach, ascending}
 use Rattle.machine.specs.Machine.{rulesOf, stackPointer, offset, frameAt, topFrame}
-use Rattle.machine.specs.Premises.{Sound}
+use Rattle.machine.specs.Helpers.{Sound}
 use Rattle.history.specs.Calls.{Machine}
 use Rattle.history.specs.Preserved.{OpenEnter, callerOf}
 

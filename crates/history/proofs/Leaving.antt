@@ -16,7 +16,7 @@ use Rattle.rules.specs.declared.Rules.{Rules}
 use Rattle.rules.specs.declared.Registers.{Registers}
 use Rattle.rules.specs.Rules.{within}
 use Rattle.rules.specs.Frames.{firstGpr, firstFpr, noFrame, below, frameSize, saves, gprSave, fprSave, linkAt, restored, returnAddress, preservedCondition}
-use Rattle.rules.specs.Lawful.{Lawful}
+use Rattle.rules.specs.Helpers.{Lawful}
 use Rattle.rules.proofs.Facts.{either, fit-set}
 use Rattle.rules.proofs.Conventions.{pointer-unpreserved, before-lt}
 use Rattle.rules.proofs.Places.{ranges, solid-chain, gpr-end, fpr-end, room-for, ascending, chain-outside}

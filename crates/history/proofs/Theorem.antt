@@ -14,7 +14,7 @@ use Rattle.rules.specs.declared.Rules.{Rules}
 use Rattle.rules.specs.declared.Registers.{Registers}
 use Rattle.rules.specs.Rules.{rules}
 use Rattle.rules.specs.Frames.{withPointer, lowered, cleared}
-use Rattle.rules.specs.Lawful.{Lawful}
+use Rattle.rules.specs.Helpers.{Lawful}
 use Rattle.rules.proofs.Facts.{fit-set}
 use Rattle.rules.proofs.Halves.{lowered-length, lowered-fit}
 use Rattle.rules.proofs.Conventions.{lawful}

@@ -16,7 +16,7 @@ use Rattle.rules.specs.declared.Registers.{Registers}
 use Rattle.rules.specs.declared.RegisterBank.{RegisterBank}
 use Rattle.rules.specs.declared.RegisterBank.the-variants.{General, Floating, Link, ConditionField, None}
 use Rattle.rules.specs.Frames.{firstGpr, firstFpr, startFrame, hasCondition, outgoingLength, below, frameSize, chainWidth, bankOf, writable, writableField, writableRegister, withRegister}
-use Rattle.rules.specs.Lawful.{Lawful}
+use Rattle.rules.specs.Helpers.{Lawful}
 use Rattle.rules.proofs.Facts.{either, and-yes, not-yes, fit-set}
 use Rattle.rules.proofs.Conventions.{writable-apart, pointer-unwritable}
 use Rattle.rules.proofs.Places.{ranges, leaf-chain, solid-chain}

@@ -19,18 +19,20 @@ use Rattle.plan.specs.declared.Plan.{Plan}
 use Rattle.slots.specs.declared.Answer.{Answer}
 use Rattle.items.specs.declared.Fault.{Fault}
 use Rattle.slots.specs.Placements.{Placement}
-use Rattle.slots.specs.Limits.{Held, Fits, All}
+use Rattle.slots.specs.Helpers.{Held, Fits, All}
 use Rattle.slots.specs.Refusals.{firstOf, orElse, afterReading, isRefused}
 use Rattle.plan.specs.Call.{outcomeFor}
-use Rattle.slots.specs.Arguments.{argumentsIn, argumentsOf, planFor, rulesIn, rulesFor, Carried}
+use Rattle.slots.specs.Arguments.{argumentsIn, argumentsOf, planFor, rulesIn, rulesFor}
 use Rattle.slots.proofs.Planned.{all-with}
 use Rattle.slots.proofs.Refusals.{first-done, differ-false, or-refused, not-refused}
-use Rattle.slots.proofs.Answered.{carried-same}
-use Rattle.home.specs.Home.{homeTests, homeAnswer, registersAnswer, homeArea, AllRegistered, homed}
+use Rattle.slots.proofs.Answered.{Carried, carried-same}
+use Rattle.home.specs.Home.{homeTests, homeAnswer, registersAnswer, homeArea, homed}
+use Rattle.home.specs.Helpers.{AllRegistered}
 use Rattle.places.specs.Step.{rulesOf}
 use Rattle.home_slot.proofs.Homed.{homed-all}
 use Rattle.home_slot.proofs.Marked.{homeless-marked}
-use Rattle.home_slot.specs.Homes.{homeless, homedBytes, Homed, Registered}
+use Rattle.home_slot.specs.Homes.{homeless, homedBytes}
+use Rattle.home_slot.specs.Helpers.{Homed, Registered}
 
 -- ---- the loop
 
@@ -91,9 +93,7 @@ all-registered s g p i read plan power image =
     let homes : All (Homed (rulesIn g) (p .area)) (argumentsIn g p) =
     rw (read, plan) (homed-all s (ap (λ (x : SignatureRead). homeless (rulesIn x)) (sym read) ∙ power)) in
     record {
-      few = c .few;
-      types = c .types;
-      spans = c .spans;
+      tables = c .tables;
       each = all-with Lies (Homed r (p .area)) (Registered r (p .area) i) registered (argumentsIn g p)
           (all-with (Held r) (Fits (p .area) (p .copies)) Lies (λ q x y. (x, y)) (argumentsIn g p) (c .held) (c .fit)) homes;
     }

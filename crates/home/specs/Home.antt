@@ -1,24 +1,20 @@
 -- Home: the arguments in registers, copied into the parameter area. Document 01, "What stands in a slot": "Home (PPC64) copies each argument's
 -- register doublewords into the area at its offset: GPRs as they stand, an FPR in its memory form (14 possible). The hidden address's doubleword
 -- and all else stay". Assumes nothing.
-use Prim.Native.Nat.{ℕ, _≤_}
+use Prim.Native.Nat.{ℕ}
 use mathlib.Core.List.{List, [], _∷_}
 use lib.Dec.{ltb}
 use lib.ListN.{length}
 use Rattle.words.specs.Basics.{pick}
 use Rattle.words.specs.Splice.{splice}
-use Rattle.signature.specs.Limits.{maxArguments}
-use Rattle.signature.specs.declared.SignatureRead.{SignatureRead}
 use Rattle.places.specs.declared.Rules.{Rules}
-use Rattle.plan.specs.declared.Plan.{Plan}
 use Rattle.slots.specs.declared.Refusal.{Refusal}
 use Rattle.slots.specs.declared.Answer.{Answer}
 use Rattle.slots.specs.Placements.{Placement}
-use Rattle.slots.specs.Limits.{All}
 use Rattle.slots.specs.Refusals.{Test, test, differ, firstOf, afterReading, orElse, firstOfAll, isDone}
 use Rattle.plan.specs.Call.{outcomeFor}
-use Rattle.slots.specs.Arguments.{argumentsIn, argumentsOf, planFor, rulesIn, rulesFor}
-use Rattle.home_slot.specs.Homes.{homeless, registerAnswer, homedBytes, Registered}
+use Rattle.slots.specs.Arguments.{argumentsOf, planFor, rulesFor}
+use Rattle.home_slot.specs.Homes.{homeless, registerAnswer, homedBytes}
 
 -- ---- the answer
 
@@ -48,12 +44,3 @@ homed r (p ∷ ps) image area = homed r ps image (splice area (p .span .home .st
 -- "Every refusal leaves all buffers .. untouched"
 unfoldable pub homeArea : List ℕ → Answer → List ℕ → List ℕ → List ℕ
 homeArea s answer image area = pick (isDone answer) (homed (rulesFor s) (argumentsOf s) image area) area
-
--- ---- what the helpers ask
-
--- all arguments
-pub record AllRegistered (g : SignatureRead) (p : Plan) (i : ℕ) : Type 0 where
-  pub few : g .count ≤ maxArguments
-  pub types : g .count ≤ length (g .arguments)
-  pub spans : g .count ≤ length (p .spans)
-  pub each : All (Registered (rulesIn g) (p .area) i) (argumentsIn g p)

@@ -10,7 +10,8 @@ ghost use Prim.Native.Nat.{_≤_};
 ghost use lib.ListN.{length};
 ghost use Rattle.slots.specs.Refusals.{firstOf};
 ghost use Rattle.slots.specs.Arguments.{argumentsIn, rulesIn};
-ghost use Rattle.home.specs.Home.{registersAnswer, homeTests, homeAnswer, homed, homeArea, AllRegistered};
+ghost use Rattle.home.specs.Home.{registersAnswer, homeTests, homeAnswer, homed, homeArea};
+ghost use Rattle.home.specs.Helpers.{AllRegistered};
 
 // The refusal of the first argument, left to right, that can't be homed.
 fn first_unwidened(image: &[u8], g: SignatureRead, p: Plan) -> Answer

@@ -23,8 +23,9 @@ use Rattle.places.specs.Step.{wordOf}
 use Rattle.registers.specs.Registers.{gather}
 use Rattle.slots.specs.Forms.{roomOf, startsAtHead, extended, homeBytes, narrowedBytes, floatValueAs, floatValue}
 use Rattle.slots.specs.Placements.{Placement}
-use Rattle.slots.specs.Limits.{FloatSized}
-use Rattle.home_slot.specs.Homes.{homeless, narrowedWord, memoryWord, floatHome, HomeSized, fillsWords, fprsOf, homedBytes, Registered}
+use Rattle.slots.specs.Helpers.{FloatSized}
+use Rattle.home_slot.specs.Homes.{homeless, fprsOf, homedBytes}
+use Rattle.home_slot.specs.Helpers.{narrowedWord, memoryWord, floatHome, HomeSized, fillsWords, Registered}
 
 -- ---- the memory form
 narrowed-form : (d : ℕ) (q : Narrowed) → narrow d ≡ q → zeroExtended 4 (valueOf (narrowedBytes q)) ≡ narrowedWord q

@@ -30,10 +30,11 @@ use Rattle.plan.specs.Plan.{spansOf, lastOf, startIn, endIn, planIn, planAnswer
 use Rattle.plan.proofs.Fold.{last-forward, last-marked}
 use Rattle.slots.specs.Forms.{roomOf, startsAtHead, ownStart}
 use Rattle.slots.specs.Placements.{Placement, placement, placements}
-use Rattle.slots.specs.Limits.{Held, All}
+use Rattle.slots.specs.Helpers.{Held, All}
 use Rattle.slots.specs.Arguments.{argumentsIn, argumentsOf, planFor, rulesIn, rulesFor}
 use Rattle.slots.proofs.Answered.{arguments-got}
-use Rattle.home_slot.specs.Homes.{homeless, fillsWords, Homed}
+use Rattle.home_slot.specs.Homes.{homeless}
+use Rattle.home_slot.specs.Helpers.{fillsWords, Homed}
 
 -- ---- each argument, over the bytes w of a word, the edition and the ellipsis
 

@@ -18,7 +18,8 @@ use Rattle.slots.specs.Forms.{startsAtHead, homeBytes, floatValueAs, floatValue
 use Rattle.slots.specs.Placements.{Placement}
 use Rattle.slots.specs.Refusals.{floatAnswer}
 use Rattle.slots.proofs.Marked.{held-marked}
-use Rattle.home_slot.specs.Homes.{homeless, fprsOf, registerAnswer, homedBytes, Homed, Registered}
+use Rattle.home_slot.specs.Homes.{homeless, fprsOf, registerAnswer, homedBytes}
+use Rattle.home_slot.specs.Helpers.{Homed, Registered}
 
 pub homeless-marked : (v : Bool) (r : Rules) → homeless (withEllipsis v r) ≡ homeless r
 unfolding withEllipsis

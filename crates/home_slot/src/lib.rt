@@ -13,7 +13,8 @@ ghost use Rattle.words.specs.Splice.{overlay, part};
 ghost use Rattle.types.specs.Sizes.{sizeOf};
 ghost use Rattle.places.specs.Step.{rulesOf};
 ghost use Rattle.slots.specs.Placements.{placement};
-ghost use Rattle.home_slot.specs.Homes.{homeless, registerAnswer, homedBytes, memoryWord, floatHome, HomeSized, FloatFits, Registered};
+ghost use Rattle.home_slot.specs.Homes.{homeless, registerAnswer, homedBytes};
+ghost use Rattle.home_slot.specs.Helpers.{memoryWord, floatHome, HomeSized, FloatFits, Registered};
 
 // Whether a convention has no homes for its register arguments.
 pub fn is_homeless(r: Rules) -> bool

@@ -13,10 +13,11 @@ use text::put_labelled;
 ghost use mathlib.Core.Path.{_≡_};
 ghost use Prim.Native.Nat.{_+_, _^_, _≤_, _<_};
 ghost use lib.ListN.{length};
-ghost use Rattle.places.specs.Places.{ResultNumbered};
+ghost use Rattle.places.specs.Helpers.{ResultNumbered};
 ghost use Rattle.text.specs.Writing.{Wrote};
 ghost use Rattle.listing.specs.Text.{nameOf, ellipsisText, headText, resultPlacesText, resultText, refusalText, acceptedText, planText, listingOf};
-ghost use Rattle.listing.specs.Writing.{printed, Printable};
+ghost use Rattle.listing.specs.Writing.{printed};
+ghost use Rattle.plan.specs.Helpers.{Printable};
 
 fn put_name(text: &mut [u8], at: usize, c: Convention) -> usize
     requires { ⌜ at < 2 ^ 31 ⌝ }

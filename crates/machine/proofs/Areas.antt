@@ -11,11 +11,11 @@ use Rattle.saves.proofs.Taking.{le-or-lt}
 use Rattle.rules.specs.declared.Rules.{Rules}
 use Rattle.rules.specs.declared.Frame.{Frame}
 use Rattle.rules.specs.Frames.{startFrame, okRequest, outgoingLength, below, frameSize}
-use Rattle.rules.specs.Lawful.{Lawful}
+use Rattle.rules.specs.Helpers.{Lawful}
 use Rattle.rules.proofs.Facts.{either, and-yes, or-yes}
 use Rattle.rules.proofs.Places.{leaf-size, size-parts, below-reach}
 use Rattle.machine.specs.Machine.{State, offset, frameAt, topFrame, callerFrame, top, caller, okFrames, sizes, inside, outgoingFrom, localsFrom, writableBytes, writableAddress}
-use Rattle.machine.specs.Premises.{Sound}
+use Rattle.machine.specs.Helpers.{Sound}
 use Rattle.machine.proofs.Coding.{frames-read, sizes-down, top-none, top-some, frame-request, pointer-room, top-request}
 
 inside-is : (a n b e : ℕ) → inside a n b e ≡ true → (b ≤ a) × (a + n ≤ e)

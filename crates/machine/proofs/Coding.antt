@@ -12,12 +12,12 @@ use Rattle.saves.proofs.Taking.{le-or-lt}
 use Rattle.rules.specs.declared.Rules.{Rules}
 use Rattle.rules.specs.declared.Frame.{Frame}
 use Rattle.rules.specs.Frames.{startFrame, maxOutgoing, okRequest, outgoingLength, frameSize}
-use Rattle.rules.specs.Lawful.{Lawful, Placed}
+use Rattle.rules.specs.Helpers.{Lawful, Placed}
 use Rattle.rules.proofs.Facts.{and-yes, not-yes}
 use Rattle.rules.proofs.Conventions.{lawful}
 use Rattle.rules.proofs.Places.{ranges, below-reach}
 use Rattle.machine.specs.Machine.{State, offset, frameAt, topFrame, callerFrame, top, caller, okFrames, sizes}
-use Rattle.machine.specs.Premises.{Sound, CanEnter}
+use Rattle.machine.specs.Helpers.{Sound, CanEnter}
 use Rattle.machine.proofs.States.{memory-yes}
 
 -- ---- tests on differences

@@ -13,7 +13,7 @@ use Rattle.rules.specs.Frames.{okRegisters, frameSize, bankOf, writableRegister
 use Rattle.rules.proofs.Facts.{and-yes, not-yes}
 use Rattle.machine.specs.Answers.{Accepted, judge}
 use Rattle.machine.specs.Machine.{State, stackPointer, frameAt, topFrame, okFrames, sizes, okMemory, okState, stateTests, enterAnswer, top, writableAddress, writeRegisterAnswer, writeMemoryAnswer, leaveTests, leaveAnswer}
-use Rattle.machine.specs.Premises.{Sound, CanEnter, CanLeave}
+use Rattle.machine.specs.Helpers.{Sound, CanEnter, CanLeave}
 use Rattle.machine.proofs.Judging.{holds-yes, judge-both}
 
 -- what refusal 16 says of the memory

@@ -1,3 +1,3 @@
 pub mod Answers
 pub mod Machine
-pub mod Premises
+pub mod Helpers

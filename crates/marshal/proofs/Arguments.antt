@@ -21,8 +21,8 @@ use Rattle.registers.specs.Registers.{spread}
 use Rattle.slots.specs.Buffers.{buffers, generalAt, floatingAt, put, putAll}
 use Rattle.slots.specs.Forms.{roomOf, startsAtHead, extended, homeBytes, floatForm, floatBytes}
 use Rattle.slots.specs.Placements.{Placement, standing, copyBytes, slotsOf}
-use Rattle.slots.specs.Limits.{FloatSized, Held}
-use Rattle.marshal.specs.Room.{NumberFits, FloatRoom}
+use Rattle.slots.specs.Helpers.{FloatSized, Held}
+use Rattle.marshal.specs.Helpers.{NumberFits, FloatRoom}
 use Rattle.slots.proofs.Limits.{form-length, one-word, one-address, one-doubleword}
 
 -- FPRs have room for their float

@@ -16,8 +16,8 @@ ghost use Rattle.registers.specs.Registers.{spread};
 ghost use Rattle.slots.specs.Buffers.{buffers, putAll};
 ghost use Rattle.slots.specs.Forms.{homeBytes, floatForm};
 ghost use Rattle.slots.specs.Placements.{placement, slotsOf};
-ghost use Rattle.slots.specs.Limits.{Held};
-ghost use Rattle.marshal.specs.Room.{padded, WordsFit, NumberFits, FloatRoom, Ready};
+ghost use Rattle.slots.specs.Helpers.{Held};
+ghost use Rattle.marshal.specs.Helpers.{padded, WordsFit, NumberFits, FloatRoom, Ready};
 
 // The eight bytes of x in the only word of a span, where a word is a doubleword: a general register or a doubleword of memory.
 fn put_word(image: &mut [u8], area: &mut [u8], s: Span, x: u64)

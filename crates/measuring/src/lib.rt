@@ -14,9 +14,10 @@ ghost use Prim.Native.Nat.{_^_, _≤_};
 ghost use lib.ListN.{length};
 ghost use Rattle.signature.specs.Read.{argumentsIn, signatureOf};
 ghost use Rattle.signature.specs.Answer.{signatureAnswer};
-ghost use Rattle.signature.specs.Plannable.{SmallResult};
-ghost use Rattle.plan.specs.Plan.{refused, planAnswer, measureOf, planWith};
-ghost use Rattle.plan.specs.Call.{unclearWith, measuredBy, callOf};
+ghost use Rattle.signature.specs.Helpers.{SmallResult};
+ghost use Rattle.plan.specs.Plan.{refused, planAnswer, measureOf};
+ghost use Rattle.plan.specs.Helpers.{planWith, unclearWith, measuredBy};
+ghost use Rattle.plan.specs.Call.{callOf};
 
 fn no_measure(fault: Fault) -> Measured
     ensures { λ m. ⌜ m ≡ measureOf (refused fault) ⌝ }

@@ -6,7 +6,7 @@ use Rattle.conventions.specs.declared.Convention.{Convention}
 use Rattle.types.specs.declared.ValueType.{ValueType}
 use Rattle.types.specs.Sizes.{sizeOf}
 use Rattle.signature.specs.declared.ResultType.{ResultType}
-use Rattle.signature.specs.Plannable.{SmallResult}
+use Rattle.signature.specs.Helpers.{SmallResult}
 use Rattle.parameters.specs.Values.{numbers, run, noRun}
 
 -- ---- runs

@@ -9,7 +9,7 @@ use Rattle.types.specs.Sizes.{sizeOf}
 use Rattle.signature.specs.Limits.{maxArguments}
 use Rattle.signature.specs.declared.SignatureRead.{SignatureRead}
 use Rattle.signature.specs.Types.{typesIn}
-use Rattle.signature.specs.Plannable.{typeAt, Plannable}
+use Rattle.signature.specs.Helpers.{typeAt, Plannable}
 use Rattle.signature.proofs.Types.{length-types, types-drop}
 use Rattle.parameters.specs.Values.{tableWith}
 

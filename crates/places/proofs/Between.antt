@@ -9,7 +9,8 @@ use Rattle.places.specs.declared.Span.{Span}
 use Rattle.places.specs.declared.Share.{Share}
 use Rattle.places.specs.declared.Rules.{Rules}
 use Rattle.places.specs.declared.ZClass.{ZClass}
-use Rattle.places.specs.Power.{words, covered, powerShare, powerSpan, powerNext, Shared}
+use Rattle.places.specs.Power.{words, covered, powerShare, powerSpan, powerNext}
+use Rattle.places.specs.Helpers.{Shared}
 use Rattle.places.specs.ZSeries.{zClass, zSpanOf, zNextOf}
 use Rattle.places.specs.Step.{spanOf, nextOf}
 use Rattle.places.specs.Spots.{Spot, general, floating, area, copies, Owns}

@@ -14,7 +14,8 @@ use Rattle.places.specs.declared.ZClass.{ZClass}
 use Rattle.places.specs.Values.{pointer}
 use Rattle.places.specs.Power.{words, fprs, covered, powerShare}
 use Rattle.places.specs.ZSeries.{zClass, zNextOf}
-use Rattle.places.specs.Step.{Lawful, Roomy, rulesOf, wordOf, nextOf, unclearAfter, fresh, startOf, areaOf, returning}
+use Rattle.places.specs.Step.{rulesOf, wordOf, nextOf, fresh, startOf, areaOf, returning}
+use Rattle.places.specs.Helpers.{Lawful, Roomy, unclearAfter}
 use Rattle.places.proofs.Shares.{share-room}
 
 -- ---- the conventions

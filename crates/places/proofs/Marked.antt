@@ -9,7 +9,8 @@ use Rattle.places.specs.declared.PowerRules.{PowerRules}
 use Rattle.places.specs.declared.Rules.{Rules}
 use Rattle.places.specs.Values.{pointer}
 use Rattle.places.specs.Power.{words, fprs, covered, shareOf, powerShare, powerNext, unclear}
-use Rattle.places.specs.Step.{rulesOf, withEllipsis, wordOf, Lawful, spanOf, nextOf, unclearFor, alwaysClear, fresh, startOf, hiddenFor, returning, resultOf}
+use Rattle.places.specs.Step.{rulesOf, withEllipsis, wordOf, spanOf, nextOf, unclearFor, fresh, startOf, hiddenFor, returning, resultOf}
+use Rattle.places.specs.Helpers.{Lawful, alwaysClear}
 use Rattle.places.specs.Spots.{Spot, general, floating, area, copies, ArgumentRegister}
 use Rattle.places.proofs.Shares.{share-marked}
 use Rattle.places.proofs.Bounds.{Named}

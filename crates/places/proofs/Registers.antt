@@ -20,7 +20,8 @@ use Rattle.places.specs.ZSeries.{zClass, zSpanOf}
 use Rattle.places.specs.Values.{pointer}
 use Rattle.places.specs.Step.{wordOf, spanOf, nextOf, fresh, hiddenFor, returning, resultOf}
 use Rattle.places.specs.Spots.{Spot, general, floating, area, copies, Owns, ArgumentRegister}
-use Rattle.places.specs.Places.{upFrom, register, registersIn, registersOf, registerCount, Numbered, ResultNumbered, noPlace}
+use Rattle.places.specs.Places.{upFrom, register, registersIn, registersOf, Numbered, noPlace}
+use Rattle.places.specs.Helpers.{registerCount, ResultNumbered}
 use Rattle.places.proofs.Between.{step-between}
 use Rattle.places.proofs.Bounds.{Named, named-fresh, named-next}
 

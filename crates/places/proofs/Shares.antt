@@ -11,7 +11,8 @@ use Rattle.types.specs.declared.FloatFormat.{FloatFormat}
 use Rattle.types.specs.declared.ValueType.{ValueType}
 use Rattle.places.specs.declared.Edition.{Edition}
 use Rattle.places.specs.Values.{share}
-use Rattle.places.specs.Power.{fprs, shareOf, Shared}
+use Rattle.places.specs.Power.{fprs, shareOf}
+use Rattle.places.specs.Helpers.{Shared}
 
 pub share-words : (v : Bool) (m room n k : ℕ) → m ≡ 0 → share k 0 (n - k) ≡ shareOf v m room n k
 unfolding shareOf

@@ -27,7 +27,8 @@ use Rattle.places.specs.declared.ZClass.{ZClass}
 use Rattle.places.specs.Values.{cursor, registers, bytes, share}
 use Rattle.places.specs.Power.{words, fprs, covered, shareOf, powerShare, unclear}
 use Rattle.places.specs.ZSeries.{zClass, zSpanOf, zNextOf}
-use Rattle.places.specs.Step.{rulesOf, spanOf, nextOf, isEarlier, unclearFor, alwaysClear, fresh, startOf, areaOf, hiddenFor, returning, resultOf}
+use Rattle.places.specs.Step.{rulesOf, spanOf, nextOf, unclearFor, fresh, startOf, areaOf, hiddenFor, returning, resultOf}
+use Rattle.places.specs.Helpers.{isEarlier, alwaysClear}
 use Rattle.places.specs.Places.{upFrom, register, registersOf, memoryOf, placesOf}
 use Rattle.places.specs.Results.{returned, returnedBy}
 use Rattle.places.proofs.Shares.{share-whole, fprs-most}

@@ -6,3 +6,4 @@ pub mod Step
 pub mod Places
 pub mod Results
 pub mod Spots
+pub mod Helpers

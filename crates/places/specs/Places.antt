@@ -6,7 +6,6 @@ use Rattle.places.specs.declared.Bank.{Bank}
 use Rattle.places.specs.declared.Place.{Place}
 use Rattle.places.specs.declared.RegisterRange.{RegisterRange}
 use Rattle.places.specs.declared.Span.{Span}
-use Rattle.places.specs.declared.ResultPlaces.{ResultPlaces}
 
 -- n numbers from `first` on, each `by` more than the one before
 unfoldable pub upFrom : ℕ → ℕ → ℕ → List ℕ
@@ -23,17 +22,9 @@ registersIn b r = map (register b) (upFrom (r .first) 1 (r .count))
 unfoldable pub registersOf : Span → List Place
 registersOf s = registersIn Bank.Floating (s .floating) ++ registersIn Bank.General (s .general)
 
-abbrev pub registerCount : Span → ℕ
-registerCount s = s .floating .count + s .general .count
-
 -- register numbers that fit their type
 abbrev pub Numbered : Span → Type 0
 Numbered s = (s .floating .first + s .floating .count ≤ 32) × (s .general .first + s .general .count ≤ 32)
-
-abbrev pub ResultNumbered : ResultPlaces → Type 0
-ResultNumbered ResultPlaces.Nothing = Unit {0}
-ResultNumbered (ResultPlaces.Registers s) = Numbered s
-ResultNumbered (ResultPlaces.Hidden s) = Numbered s
 
 -- the words of w bytes in memory
 unfoldable pub memoryOf : ℕ → Span → List Place

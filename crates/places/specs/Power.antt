@@ -2,7 +2,7 @@
 -- doubleword. 01 counts words by one number; here the cursor holds the next GPR and the next byte of the area, and the laws
 -- `words-written`, `float-written`, `ellipsis-written` and `next-counted` say that this is the same. A word of the argument list
 -- that has a GPR is one of the first eight. Assumes nothing.
-use Prim.Native.Nat.{ℕ, zero, suc, _+_, _-_, _*_, _/_, _≤_, min}
+use Prim.Native.Nat.{ℕ, zero, suc, _+_, _-_, _*_, _/_, min}
 use mathlib.Core.Bool.{Bool, true, false}
 use lib.Dec.{ltb, leb}
 use Rattle.words.specs.Basics.{pick}
@@ -50,12 +50,6 @@ powerShare f c t n = shareOf (f .ellipsis) (fprs (f .edition) t) (14 - c .floati
 -- 29, 02, No. 12: "When only f13 is left the editions we hold aren't clear": some FPRs are left, but fewer than the type asks for
 unfoldable pub unclear : PowerRules → Cursor → ValueType → Bool
 unclear f c t = pick (ltb 0 (14 - c .floating)) (ltb (14 - c .floating) (fprs (f .edition) t)) false
-
--- what a share is of: at most k words in GPRs, at most n in memory, at most two FPRs
-pub record Shared (s : Share) (n k : ℕ) : Type 0 where
-  pub general : s .general ≤ k
-  pub memory : s .memory ≤ n
-  pub floating : s .floating ≤ 2
 
 -- "Offset in the area is 8w": the argument's home; the words in memory are its last ones
 abbrev pub powerSpan : ℕ → Cursor → ℕ → Share → Span

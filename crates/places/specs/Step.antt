@@ -1,7 +1,7 @@
 -- One argument in every convention: its span and the next cursor; the first cursor, the area, and the place of a result.
 -- Document 01, "Places on PPC64" and "Places on Z"; document 02, No. 1. A convention is a value of `Rules`. All laws hold at every cursor.
 -- Assumes nothing.
-use Prim.Native.Nat.{ℕ, zero, suc, _≤_, max}
+use Prim.Native.Nat.{ℕ, max}
 use mathlib.Core.Bool.{Bool, true, false}
 use Rattle.words.specs.Basics.{pick}
 use Rattle.conventions.specs.declared.Convention.{Convention}
@@ -52,15 +52,6 @@ abbrev pub wordOf : Rules → ℕ
 wordOf (Rules.Power f) = f .word
 wordOf Rules.Z = wordBytes Convention.Z
 
--- what the laws ask of a convention
-abbrev pub Lawful : Rules → Type 0
-Lawful (Rules.Power f) = (4 ≤ f .word) × (f .word ≤ 8)
-Lawful Rules.Z = Unit {0}
-
--- a cursor whose numbers leave room for an argument more in their types
-abbrev pub Roomy : Cursor → Type 0
-Roomy c = (c .general ≤ 11) × (c .floating ≤ 14) × (c .stack ≤ 60000) × (c .copies ≤ 60000)
-
 -- ---- one argument, of a type and its size n
 
 unfoldable pub spanOf : Rules → Cursor → ValueType → ℕ → Span
@@ -77,25 +68,10 @@ placedAs s d = record { span = s; next = d }
 unfoldable pub placed : Rules → Cursor → ValueType → ℕ → Placed
 placed r c t n = placedAs (spanOf r c t n) (nextOf r c t n)
 
-abbrev pub isEarlier : Edition → Bool
-isEarlier Edition.Earlier = true
-isEarlier Edition.Later = false
-
 -- 29: whether the papers leave open where an argument of a type goes; Z's never do
 unfoldable pub unclearFor : Rules → Cursor → ValueType → Bool
 unclearFor (Rules.Power f) c t = unclear f c t
 unclearFor Rules.Z c t = false
-
--- the rules that never do: all but the later edition's
-unfoldable pub alwaysClear : Rules → Bool
-alwaysClear (Rules.Power f) = isEarlier (f .edition)
-alwaysClear Rules.Z = true
-
--- The number of the first unclear argument, counted from 1, or 0 where none is: u of the first i, and after one more.
-unfoldable pub unclearAfter : ℕ → Bool → ℕ → ℕ
-unclearAfter zero true i = suc i
-unclearAfter zero false i = 0
-unclearAfter (suc u) b i = suc u
 
 -- ---- the whole list
 

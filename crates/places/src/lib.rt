@@ -6,7 +6,8 @@ ghost use Prim.Native.Nat.{_<_};
 ghost use lib.ListN.{getD};
 ghost use Rattle.places.specs.Step.{withEllipsis, wordOf};
 ghost use Rattle.places.specs.Values.{registers, bytes};
-ghost use Rattle.places.specs.Places.{registersOf, registerCount, Numbered, noPlace};
+ghost use Rattle.places.specs.Places.{registersOf, Numbered, noPlace};
+ghost use Rattle.places.specs.Helpers.{registerCount};
 
 // The edition of the PowerPC supplement. In the later one a long double takes two FPRs.
 pub enum Edition {

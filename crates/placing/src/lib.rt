@@ -2,7 +2,8 @@
 ghost use mathlib.Core.Path.{_≡_};
 ghost use Prim.Native.Nat.{_^_, _≤_, _<_};
 ghost use Rattle.places.specs.Values.{pointer};
-ghost use Rattle.places.specs.Step.{Lawful, Roomy, rulesOf, wordOf, nextOf, unclearFor, isEarlier, alwaysClear, unclearAfter, placed, fresh, startOf, areaOf, returning, hiddenFor, resultOf};
+ghost use Rattle.places.specs.Step.{rulesOf, wordOf, nextOf, unclearFor, placed, fresh, startOf, areaOf, returning, hiddenFor, resultOf};
+ghost use Rattle.places.specs.Helpers.{Lawful, Roomy, isEarlier, alwaysClear, unclearAfter};
 use conventions::Convention;
 use places::Cursor;
 use places::Edition;

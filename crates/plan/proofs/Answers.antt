@@ -16,7 +16,8 @@ use Rattle.signature.proofs.Theorems.{accepted}
 use Rattle.signature.proofs.Types.{table-types, length-of-types}
 use Rattle.signature.specs.Types.{typesOf}
 use Rattle.places.specs.Step.{rulesOf, withEllipsis}
-use Rattle.plan.specs.Plan.{tableOf, startIn, planIn, planAnswer, planned}
+use Rattle.plan.specs.Plan.{tableOf, startIn, planIn, planAnswer}
+use Rattle.plan.specs.Helpers.{planned}
 use Rattle.plan.proofs.Fold.{length-spans}
 
 -- ---- the answer

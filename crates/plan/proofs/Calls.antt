@@ -21,12 +21,14 @@ use Rattle.signature.specs.Answer.{resultType, signatureAnswer}
 use Rattle.signature.proofs.Types.{table-types}
 use Rattle.places.specs.declared.Cursor.{Cursor}
 use Rattle.places.specs.declared.Rules.{Rules}
-use Rattle.places.specs.Step.{Lawful, rulesOf, nextOf, startOf, unclearFor, alwaysClear, unclearAfter}
+use Rattle.places.specs.Step.{rulesOf, nextOf, startOf, unclearFor}
+use Rattle.places.specs.Helpers.{Lawful, alwaysClear, unclearAfter}
 use Rattle.places.proofs.Written.{always-clear}
 use Rattle.plan.specs.declared.Plan.{Plan}
 use Rattle.plan.specs.declared.Measured.{Measured}
-use Rattle.plan.specs.Plan.{lastOf, startIn, planIn, refused, planAnswer, planned, measureOf}
-use Rattle.plan.specs.Call.{firstUnclear, unclearIn, unclearOf, unclearFault, clearRead, called, callOf, measuredBy}
+use Rattle.plan.specs.Plan.{lastOf, startIn, planIn, refused, planAnswer, measureOf}
+use Rattle.plan.specs.Helpers.{planned, unclearOf, measuredBy}
+use Rattle.plan.specs.Call.{firstUnclear, unclearIn, unclearFault, clearRead, called, callOf}
 use Rattle.plan.proofs.Fold.{Reached, reached-start, reached-more}
 use Rattle.plan.proofs.Answers.{planned-answer, outcome-read, answer-few}
 

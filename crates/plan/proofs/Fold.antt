@@ -10,7 +10,8 @@ use Rattle.types.specs.declared.ValueType.{ValueType}
 use Rattle.types.specs.Sizes.{sizeOf}
 use Rattle.places.specs.declared.Cursor.{Cursor}
 use Rattle.places.specs.declared.Rules.{Rules}
-use Rattle.places.specs.Step.{Lawful, Roomy, withEllipsis, nextOf, startOf}
+use Rattle.places.specs.Step.{withEllipsis, nextOf, startOf}
+use Rattle.places.specs.Helpers.{Lawful, Roomy}
 use Rattle.places.proofs.Bounds.{Named, named-start, named-next, named-roomy, near-next, start-bytes}
 use Rattle.places.proofs.Marked.{next-marked}
 use Rattle.places.proofs.Between.{Forward, forward-same, forward-then, step-forward}

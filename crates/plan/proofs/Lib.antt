@@ -6,4 +6,5 @@ pub mod Answers
 pub mod Calls
 pub mod Apart
 pub mod Theorems
+pub mod Printable
 pub mod Examples

@@ -32,10 +32,12 @@ use Rattle.signature.specs.Types.{valuesOf, typesOf}
 use Rattle.signature.proofs.Types.{table-types, length-of-types}
 use Rattle.places.specs.declared.Cursor.{Cursor}
 use Rattle.places.specs.declared.Rules.{Rules}
-use Rattle.places.specs.Step.{Lawful, rulesOf, nextOf, unclearFor, unclearAfter, startOf, areaOf}
+use Rattle.places.specs.Step.{rulesOf, nextOf, unclearFor, startOf, areaOf}
+use Rattle.places.specs.Helpers.{Lawful, unclearAfter}
 use Rattle.plan.specs.declared.Measured.{Measured}
-use Rattle.plan.specs.Plan.{lastOf, startIn, planIn, refused, planAnswer, measureOf, planWith}
-use Rattle.plan.specs.Call.{firstUnclear, unclearOf, unclearWith}
+use Rattle.plan.specs.Plan.{lastOf, startIn, planIn, refused, planAnswer, measureOf}
+use Rattle.plan.specs.Helpers.{planWith, unclearOf, unclearWith}
+use Rattle.plan.specs.Call.{firstUnclear}
 use Rattle.plan.proofs.Calls.{unclear-more}
 use Rattle.plan.proofs.Fold.{last-more, values-more, Reached, reached-start, reached-more}
 

@@ -17,7 +17,8 @@ use Rattle.signature.specs.Types.{valuesOf}
 use Rattle.places.specs.declared.Cursor.{Cursor}
 use Rattle.places.specs.declared.Span.{Span}
 use Rattle.places.specs.declared.Rules.{Rules}
-use Rattle.places.specs.Step.{Lawful, rulesOf, withEllipsis, spanOf, nextOf, startOf, areaOf}
+use Rattle.places.specs.Step.{rulesOf, withEllipsis, spanOf, nextOf, startOf, areaOf}
+use Rattle.places.specs.Helpers.{Lawful}
 use Rattle.places.proofs.Bounds.{rules-lawful}
 use Rattle.places.proofs.Marked.{lawful-marked, start-marked}
 use Rattle.plan.specs.declared.Plan.{Plan}

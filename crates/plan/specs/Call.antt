@@ -2,29 +2,24 @@
 -- editions we hold aren't clear, so give new refusal 29 at that argument's header, after reading and before 24". Assumes nothing.
 use Prim.Native.Nat.{ℕ, zero, suc}
 use mathlib.Core.List.{List, [], _∷_}
-use lib.Dec.{ltb}
 use Rattle.words.specs.Basics.{pick}
 use Rattle.conventions.specs.declared.Convention.{Convention}
 use Rattle.types.specs.declared.ValueType.{ValueType}
 use Rattle.types.specs.Sizes.{sizeOf}
-use Rattle.types.specs.Trees.{Trees}
 use Rattle.items.specs.declared.Refusal.{Refusal}
 use Rattle.items.specs.declared.Fault.{Fault}
 use Rattle.items.specs.Reading.{Reading, fault, got, no}
 use Rattle.signature.specs.declared.Outcome.{Outcome}
-use Rattle.signature.specs.declared.ResultType.{ResultType}
-use Rattle.signature.specs.declared.SignatureRead.{SignatureRead}
 use Rattle.signature.specs.Signature.{Signature}
 use Rattle.signature.specs.Read.{signatureOf}
 use Rattle.signature.specs.Answer.{resultType}
-use Rattle.signature.specs.Types.{typesOf, typesIn}
+use Rattle.signature.specs.Types.{typesOf}
 use Rattle.reader.specs.declared.ArgumentRead.{ArgumentRead}
 use Rattle.reader.specs.Argument.{argumentAnswer}
 use Rattle.places.specs.declared.Cursor.{Cursor}
 use Rattle.places.specs.declared.Rules.{Rules}
 use Rattle.places.specs.Step.{rulesOf, nextOf, unclearFor}
-use Rattle.plan.specs.declared.Measured.{Measured}
-use Rattle.plan.specs.Plan.{startIn, refused, planAnswer, measureOf}
+use Rattle.plan.specs.Plan.{startIn, planAnswer}
 
 -- Of the arguments from the cursor k on, i of which came before: the number of the first that is unclear, counted from 1; 0 where none is.
 unfoldable pub firstUnclear : Convention → Rules → Cursor → ℕ → List ValueType → ℕ
@@ -36,15 +31,6 @@ abbrev pub unclearIn : Signature → ℕ
 unclearIn g =
     firstUnclear (g .convention) (rulesOf (g .convention)) (startIn (g .convention) (resultType (g .convention) (g .result))) 0
     (typesOf (g .convention) (g .arguments))
-
--- the same of the reader's answer
-abbrev pub unclearOf : SignatureRead → ℕ
-unclearOf g = firstUnclear (g .convention) (rulesOf (g .convention)) (startIn (g .convention) (g .result)) 0 (typesIn g)
-
--- and of what is read from the arguments on, in a signature of `all` bytes, as `planWith` of the plan
-abbrev pub unclearWith : Convention → ResultType → ℕ → Reading Trees → ℕ
-unclearWith c r all (got ts next m) = pick (ltb next all) 0 (firstUnclear c (rulesOf c) (startIn c r) 0 (typesOf c ts))
-unclearWith c r all (no f) = 0
 
 -- the place of an argument's item
 abbrev pub itemIn : ArgumentRead → ℕ
@@ -72,10 +58,3 @@ callOf s = called (signatureOf s)
 -- what a call is accepted or refused with; all else of it is the plan's of its reading
 abbrev pub outcomeFor : List ℕ → Outcome
 outcomeFor s = planAnswer (callOf s) .outcome
-
--- ---- the sizes alone
-
--- of a reading x whose own sizes are m, where the first unclear argument is number u, counted from 1
-unfoldable pub measuredBy : ℕ → Measured → Reading Signature → Measured
-measuredBy zero m x = m
-measuredBy (suc i) m x = measureOf (refused (unclearFault i x))

@@ -2,3 +2,4 @@
 pub mod Plan
 pub mod Call
 pub mod Disjoint
+pub mod Helpers

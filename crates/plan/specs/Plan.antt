@@ -4,22 +4,17 @@ use Prim.Native.Nat.{ℕ, _+_, _-_}
 use mathlib.Core.Bool.{Bool, false}
 use mathlib.Core.List.{List, [], _∷_, _++_}
 use lib.ListN.{length, replicate}
-use lib.Dec.{ltb}
-use Rattle.words.specs.Basics.{pick}
 use Rattle.conventions.specs.declared.Convention.{Convention}
 use Rattle.types.specs.declared.ValueType.{ValueType}
 use Rattle.types.specs.Sizes.{sizeOf}
-use Rattle.types.specs.Trees.{Trees}
-use Rattle.items.specs.declared.Refusal.{Refusal}
 use Rattle.items.specs.declared.Fault.{Fault}
-use Rattle.items.specs.Reading.{Reading, fault, got, no, later}
+use Rattle.items.specs.Reading.{Reading, got, no}
 use Rattle.signature.specs.declared.ResultType.{ResultType}
 use Rattle.signature.specs.declared.Outcome.{Outcome}
-use Rattle.signature.specs.declared.SignatureRead.{SignatureRead}
 use Rattle.signature.specs.Signature.{Signature}
 use Rattle.signature.specs.Limits.{maxArguments}
 use Rattle.signature.specs.Answer.{resultType}
-use Rattle.signature.specs.Types.{typesOf, typesIn, valuesOf}
+use Rattle.signature.specs.Types.{typesOf, valuesOf}
 use Rattle.places.specs.declared.Cursor.{Cursor}
 use Rattle.places.specs.declared.Span.{Span}
 use Rattle.places.specs.declared.ResultPlaces.{ResultPlaces}
@@ -105,22 +100,8 @@ unfoldable pub planAnswer : Reading Signature → Plan
 planAnswer (got g next n) = planIn n (g .convention) (g .ellipsis) (resultType (g .convention) (g .result)) (typesOf (g .convention) (g .arguments))
 planAnswer (no f) = refused f
 
--- ---- the same of the reader's answer
-
-abbrev pub plannedAs : Outcome → SignatureRead → Plan
-plannedAs (Outcome.Accepted n) g = planIn n (g .convention) (g .ellipsis) (g .result) (typesIn g)
-plannedAs (Outcome.Refused f) g = refused f
-
-unfoldable pub planned : SignatureRead → Plan
-planned g = plannedAs (g .outcome) g
-
 -- ---- the sizes alone
 
 -- of a plan: its outcome and its sizes, without the places
 abbrev pub measureOf : Plan → Measured
 measureOf p = record { outcome = p .outcome; area = p .area; values = p .values; copies = p .copies }
-
--- from the arguments on, in a signature of `all` bytes, where n items came before theirs: as `withArguments` of the reader
-abbrev pub planWith : Convention → Bool → ResultType → ℕ → ℕ → Reading Trees → Plan
-planWith c v r n all (got ts next m) = pick (ltb next all) (refused (fault Refusal.TrailingBytes next (n + m))) (planIn (n + m) c v r (typesOf c ts))
-planWith c v r n all (no f) = refused (later n f)

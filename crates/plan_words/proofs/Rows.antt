@@ -23,10 +23,10 @@ use Rattle.signature.specs.declared.SignatureRead.{SignatureRead}
 use Rattle.signature.specs.Signature.{Result, Signature}
 use Rattle.signature.specs.Limits.{maxArguments}
 use Rattle.signature.specs.Read.{argumentsIn, signatureOf, headOf}
-use Rattle.signature.specs.Answer.{accepted, withArguments, resultType, headAnswer, signatureAnswer}
+use Rattle.signature.specs.Answer.{accepted, resultType, headAnswer, signatureAnswer}
+use Rattle.signature.specs.Helpers.{withArguments, SmallResult}
 use Rattle.signature.proofs.Laws.{thenArguments, signature-arguments}
 use Rattle.signature.specs.Types.{valuesOf, typesOf}
-use Rattle.signature.specs.Plannable.{SmallResult}
 use Rattle.signature.proofs.Types.{length-of-types, answer-plannable}
 use Rattle.reader.specs.declared.ArgumentRead.{ArgumentRead}
 use Rattle.reader.specs.Argument.{argumentIn, argumentsPlace, argumentAnswer}
@@ -38,12 +38,13 @@ use Rattle.places.specs.Step.{rulesOf, withEllipsis, spanOf, nextOf}
 use Rattle.plan.specs.Plan.{spansOf, lastOf, noSpan, tableOf, startIn, endIn, planIn, refused, planAnswer}
 use Rattle.plan.specs.Disjoint.{spanAt}
 use Rattle.plan.proofs.Fold.{length-spans, last-marked, values-more}
-use Rattle.plan.specs.Call.{itemIn, unclearOf, unclearFault, called, callOf}
+use Rattle.plan.specs.Call.{itemIn, unclearFault, called, callOf}
+use Rattle.plan.specs.Helpers.{unclearOf}
 use Rattle.plan.proofs.Calls.{called-clear, unclear-plan}
 use Rattle.plan_words.specs.declared.Planned.{Planned}
 use Rattle.plan_words.specs.Planned.{plannedOf}
 use Rattle.plan_words.specs.Entries.{sizeIn, sizeAt, valueAt, entriesUpTo, entriesOf}
-use Rattle.plan_words.specs.Rows.{itemAfter, rowsOf, rowsWith, plannedBy, rowsBy, SmallWith}
+use Rattle.plan_words.specs.Helpers.{itemAfter, rowsOf, rowsWith, plannedBy, rowsBy, SmallWith}
 use Rattle.plan_words.proofs.Turns.{same-words}
 
 same-append : {a b x y : List ℕ} → a ≡ b → x ≡ y → a ++ x ≡ b ++ y

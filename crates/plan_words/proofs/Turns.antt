@@ -27,13 +27,14 @@ use Rattle.signature.specs.declared.ResultType.{ResultType}
 use Rattle.signature.specs.Read.{argumentsIn, signatureOf}
 use Rattle.signature.proofs.Loop.{Turn, turn-start, turn-last}
 use Rattle.signature.specs.Types.{valuesOf, typesOf}
-use Rattle.signature.specs.Plannable.{SmallResult}
+use Rattle.signature.specs.Helpers.{SmallResult}
 use Rattle.signature.proofs.Types.{length-of-types}
 use Rattle.reader.proofs.Found.{further}
 use Rattle.places.specs.declared.Cursor.{Cursor}
 use Rattle.places.specs.declared.Span.{Span}
 use Rattle.places.specs.declared.Rules.{Rules}
-use Rattle.places.specs.Step.{rulesOf, withEllipsis, spanOf, nextOf, unclearFor, unclearAfter, areaOf}
+use Rattle.places.specs.Step.{rulesOf, withEllipsis, spanOf, nextOf, unclearFor, areaOf}
+use Rattle.places.specs.Helpers.{unclearAfter}
 use Rattle.places.proofs.Bounds.{rules-lawful}
 use Rattle.places.proofs.Marked.{next-marked, unclear-marked}
 use Rattle.plan.specs.Plan.{lastOf, hiddenIn, startIn, endIn, resultIn, planIn, refused}
@@ -44,7 +45,7 @@ use Rattle.plan_entries.specs.Words.{entryWords, tabled}
 use Rattle.plan_entries.proofs.Copies.{tabled-nothing}
 use Rattle.plan_words.specs.declared.Planned.{Planned}
 use Rattle.plan_words.specs.Planned.{plannedOf}
-use Rattle.plan_words.specs.Rows.{itemAfter, rowsOf, rowsBy, plannedBy, planCalled, rowsCalled, SmallWith}
+use Rattle.plan_words.specs.Helpers.{itemAfter, rowsOf, rowsBy, plannedBy, planCalled, rowsCalled, SmallWith}
 
 length-rows : (c : Convention) (mark : Bool) (r : ResultType) (at : ℕ) (ts : Trees) → length (rowsOf c mark r at ts) ≡ 13 * countOf ts
 unfolding rowsOf countOf entryWords

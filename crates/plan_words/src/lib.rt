@@ -19,7 +19,7 @@ ghost use Rattle.plan.specs.Plan.{refused, planAnswer};
 ghost use Rattle.plan.specs.Call.{callOf};
 ghost use Rattle.plan_entries.specs.Words.{tabled};
 ghost use Rattle.plan_words.specs.Entries.{entriesOf};
-ghost use Rattle.plan_words.specs.Rows.{planCalled, rowsCalled, SmallWith, KeepsAll};
+ghost use Rattle.plan_words.specs.Helpers.{planCalled, rowsCalled, SmallWith, KeepsAll};
 ghost use Rattle.plan_words.specs.Planned.{plannedOf};
 
 // A plan without the places of its arguments.

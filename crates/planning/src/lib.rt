@@ -14,10 +14,11 @@ use signature::ResultType;
 use signature::SignatureRead;
 ghost use mathlib.Core.Path.{_≡_};
 ghost use Rattle.signature.specs.Read.{signatureOf};
-ghost use Rattle.plan.specs.Plan.{hiddenIn, resultIn, blankPlan, planned, planAnswer};
+ghost use Rattle.plan.specs.Plan.{hiddenIn, resultIn, blankPlan, planAnswer};
+ghost use Rattle.plan.specs.Helpers.{planned, unclearOf};
 ghost use Rattle.signature.specs.Answer.{signatureAnswer};
-ghost use Rattle.signature.specs.Plannable.{SmallResult, Plannable};
-ghost use Rattle.plan.specs.Call.{itemIn, unclearFault, unclearOf, callOf, outcomeFor};
+ghost use Rattle.signature.specs.Helpers.{SmallResult, Plannable};
+ghost use Rattle.plan.specs.Call.{itemIn, unclearFault, callOf, outcomeFor};
 
 // A plan without spans and sizes.
 fn blank(

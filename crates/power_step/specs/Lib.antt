@@ -1,2 +1,2 @@
 -- What the code counts of one argument on PowerPC. Assumes nothing.
-pub mod Counted
+pub mod Helpers

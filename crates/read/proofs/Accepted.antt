@@ -20,7 +20,7 @@ use Rattle.items.specs.declared.Fault.{Fault}
 use Rattle.slots.specs.Buffers.{Buffers}
 use Rattle.places.specs.declared.Rules.{Rules}
 use Rattle.slots.specs.Placements.{Placement, placements, valuesAt}
-use Rattle.slots.specs.Limits.{Held, Fits, All, sizesOf}
+use Rattle.slots.specs.Helpers.{Held, Fits, All, sizesOf}
 use Rattle.slots.specs.Refusals.{firstOf, orElse, firstOfAll, isRefused}
 use Rattle.slots.specs.Arguments.{argumentsOf, planFor, rulesIn, sizesFor}
 use Rattle.slots.proofs.Answered.{carried}
@@ -28,9 +28,10 @@ use Rattle.arguments.specs.Table.{argumentsFrom}
 use Rattle.arguments.proofs.Table.{arguments-read}
 use Rattle.slots.proofs.Planned.{all-with}
 use Rattle.slots.proofs.Refusals.{first-done, differ-false, or-refused, not-refused}
-use Rattle.unmarshal.specs.Readable.{Ready}
+use Rattle.unmarshal.specs.Helpers.{Ready}
 use Rattle.read.specs.declared.Sizes.{Sizes}
-use Rattle.read.specs.Read.{argumentsAnswer, readTests, readAnswer, readValues, AllReady}
+use Rattle.read.specs.Read.{argumentsAnswer, readTests, readAnswer, readValues}
+use Rattle.read.specs.Helpers.{AllReady}
 
 -- ---- what no test refuses
 pub record Lent (have : Sizes) (p : Plan) : Type 0 where

@@ -22,9 +22,10 @@ use Rattle.registers.proofs.Registers.{length-gather}
 use Rattle.slots.specs.Buffers.{Buffers, bytesAt}
 use Rattle.slots.specs.Forms.{ownStart, floatValueAs, floatValue}
 use Rattle.slots.specs.Placements.{Placement, floatAt}
-use Rattle.slots.specs.Limits.{FloatSized}
+use Rattle.slots.specs.Helpers.{FloatSized}
 use Rattle.unmarshal.proofs.Arguments.{own-first, float-length}
-use Rattle.read.specs.Read.{sameBytes, ownHeld, agrees, Compared}
+use Rattle.read.specs.Read.{sameBytes, ownHeld, agrees}
+use Rattle.read.specs.Helpers.{Compared}
 
 -- ---- the same bytes
 

@@ -25,10 +25,11 @@ use Rattle.slots.specs.declared.Answer.{Answer}
 use Rattle.slots.specs.Buffers.{Buffers}
 use Rattle.slots.specs.Placements.{Placement, placement, floatAt, addressAt}
 use Rattle.slots.specs.Refusals.{orElse, firstOfAll, isRefused, floatAnswer}
-use Rattle.slots.specs.Limits.{All}
+use Rattle.slots.specs.Helpers.{All}
 use Rattle.slots.proofs.Refusals.{or-done, or-refused, not-refused}
-use Rattle.unmarshal.specs.Readable.{Ready, Readable}
-use Rattle.read.specs.Read.{inCopies, copyAnswer, agrees, agreeAnswer, argumentAnswer, canRefuse, argumentsAnswer}
+use Rattle.unmarshal.specs.Helpers.{Ready, Readable}
+use Rattle.read.specs.Read.{inCopies, copyAnswer, agrees, agreeAnswer, argumentAnswer, argumentsAnswer}
+use Rattle.read.specs.Helpers.{canRefuse}
 use Rattle.read.proofs.Agree.{agrees-alone}
 
 inside-facts : (address base n c : ℕ) → copyAnswer (inCopies address base n c) ≡ Answer.Done → (base ≤ address) × (address - base + n ≤ c)

@@ -1,2 +1,3 @@
 -- What reading does. Assumes nothing.
 pub mod Read
+pub mod Helpers

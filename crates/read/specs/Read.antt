@@ -1,7 +1,6 @@
 -- Reading: its answer, and what the value buffer holds afterwards. Document 01, "When the bridge says no" and "What stands in a slot".
 -- The values themselves are `valuesAt`, of the crate slots. Assumes nothing.
-use Prim.Native.Nat.{ℕ, _+_, _-_, _*_, _≤_, _<_}
-use mathlib.Core.Path.{_≡_}
+use Prim.Native.Nat.{ℕ, _+_, _-_, _*_}
 use mathlib.Core.Bool.{Bool, true, false}
 use mathlib.Core.List.{List, [], _∷_}
 use lib.Dec.{eqb, ltb, leb}
@@ -9,11 +8,7 @@ use lib.ListN.{length, take}
 use Rattle.words.specs.Basics.{pick}
 use Rattle.words.specs.Splice.{overlay, part}
 use Rattle.words.specs.Numbers.{valueOf}
-use Rattle.types.specs.declared.FloatFormat.{FloatFormat}
-use Rattle.types.specs.declared.ValueType.{ValueType}
 use Rattle.types.specs.Sizes.{equivalentOf}
-use Rattle.signature.specs.declared.SignatureRead.{SignatureRead}
-use Rattle.signature.specs.Plannable.{Plannable}
 use Rattle.places.specs.declared.Rules.{Rules}
 use Rattle.places.specs.Step.{wordOf}
 use Rattle.slots.specs.declared.Refusal.{Refusal}
@@ -24,11 +19,8 @@ use Rattle.slots.specs.Buffers.{Buffers, bytesAt}
 use Rattle.slots.specs.Forms.{ownStart, floatValue}
 use Rattle.slots.specs.Placements.{Placement, floatAt, addressAt, valuesAt}
 use Rattle.slots.specs.Refusals.{Test, test, differ, firstOf, afterReading, orElse, firstOfAll, isDone, floatAnswer}
-use Rattle.slots.specs.Limits.{Held, All}
 use Rattle.plan.specs.Call.{outcomeFor}
-use Rattle.slots.specs.Arguments.{argumentsOf, planFor, rulesIn, rulesFor}
-use Rattle.arguments.specs.Table.{argumentsFrom}
-use Rattle.unmarshal.specs.Readable.{Ready}
+use Rattle.slots.specs.Arguments.{argumentsOf, planFor, rulesFor}
 use Rattle.read.specs.declared.Sizes.{Sizes}
 
 -- ---- one argument
@@ -74,20 +66,6 @@ argumentAnswer r base p b =
     (orElse (floatAnswer r (equivalentOf (p .ty)) (valueOf (floatAt (p .span) b))) (agreeAnswer (agrees r p b)))
     (wordsAnswer r base p b)
 
--- the types whose arguments 13, 14 or 26 can refuse: on PowerPC a single, whose FPR is tested, and with an ellipsis every float; on Z those
--- that may be passed by pointer to a copy (law `never-refused`)
-abbrev pub canRefuse : Rules → ValueType → Bool
-canRefuse (Rules.Power f) (ValueType.Integer k) = false
-canRefuse (Rules.Power f) (ValueType.Float FloatFormat.Single) = true
-canRefuse (Rules.Power f) (ValueType.Float FloatFormat.Double) = f .ellipsis
-canRefuse (Rules.Power f) (ValueType.Float FloatFormat.LongDouble) = f .ellipsis
-canRefuse (Rules.Power f) (ValueType.Struct s) = false
-canRefuse Rules.Z (ValueType.Integer k) = false
-canRefuse Rules.Z (ValueType.Float FloatFormat.Single) = false
-canRefuse Rules.Z (ValueType.Float FloatFormat.Double) = false
-canRefuse Rules.Z (ValueType.Float FloatFormat.LongDouble) = true
-canRefuse Rules.Z (ValueType.Struct s) = true
-
 -- "13 and 14 by argument, left to right", and 26
 unfoldable pub argumentsAnswer : Rules → ℕ → List Placement → Buffers → Answer
 argumentsAnswer r base ps b = firstOfAll (λ (p : Placement). argumentAnswer r base p b) ps
@@ -113,18 +91,3 @@ readValues s base answer b values = pick (isDone answer) (overlay values (values
 
 abbrev pub sizes : List ℕ → List ℕ → List ℕ → Sizes
 sizes values image area = record { values = length values; image = length image; area = length area }
-
--- what comparing asks: a float in FPRs that 14 doesn't refuse, and in general registers, all of an image of 512 bytes
-pub record Compared (r : Rules) (p : Placement) (b : Buffers) : Type 0 where
-  pub held : Held r p
-  pub float : 0 < p .span .floating .count
-  pub also : 0 < p .span .general .count
-  pub general : p .span .general .first + p .span .general .count ≤ 32
-  pub floating : p .span .floating .first + p .span .floating .count ≤ 32
-  pub registers : length (b .image) ≡ 512
-  pub exact : floatAnswer r (equivalentOf (p .ty)) (valueOf (floatAt (p .span) b)) ≡ Answer.Done
-
--- what the first pass asks: all arguments of a signature that was read, and the lengths of the image and the area
-pub record AllReady (g : SignatureRead) (i a : ℕ) : Type 0 where
-  pub plannable : Plannable g
-  pub each : All (Ready (rulesIn g) i a) (argumentsFrom g)

@@ -13,14 +13,16 @@ ghost use mathlib.Core.Path.{_≡_};
 ghost use mathlib.Core.List.{[]};
 ghost use Prim.Native.Nat.{_≤_};
 ghost use lib.ListN.{length, take};
-ghost use Rattle.places.specs.Step.{Lawful, Roomy, spanOf};
+ghost use Rattle.places.specs.Step.{spanOf};
+ghost use Rattle.places.specs.Helpers.{Lawful, Roomy};
 ghost use Rattle.slots.specs.Buffers.{buffers};
 ghost use Rattle.slots.specs.Placements.{placement};
 ghost use Rattle.slots.specs.Refusals.{firstOf};
 ghost use Rattle.slots.specs.Arguments.{rulesIn};
 ghost use Rattle.arguments.specs.Table.{argumentsFrom};
-ghost use Rattle.unmarshal.specs.Readable.{Ready};
-ghost use Rattle.read.specs.Read.{inCopies, copyAnswer, sameBytes, agrees, agreeAnswer, Compared, argumentAnswer, canRefuse, argumentsAnswer, readTests, readAnswer, readValues, sizes, AllReady};
+ghost use Rattle.unmarshal.specs.Helpers.{Ready};
+ghost use Rattle.read.specs.Read.{inCopies, copyAnswer, sameBytes, agrees, agreeAnswer, argumentAnswer, argumentsAnswer, readTests, readAnswer, readValues, sizes};
+ghost use Rattle.read.specs.Helpers.{Compared, canRefuse, AllReady};
 
 // The lengths of the lent buffers that are tested.
 pub struct Sizes {

@@ -33,7 +33,8 @@ use Rattle.signature.proofs.Loop.{Turn, turn-start, turn-last}
 use Rattle.signature.proofs.Sound.{convention-read, result-read, ellipsis-read}
 use Rattle.reader.specs.declared.ArgumentRead.{ArgumentRead}
 use Rattle.stepping.specs.Step.{typeIn}
-use Rattle.reader.specs.Argument.{argumentIn, argumentsPlace, argumentAnswer, argumentWith, notedAs}
+use Rattle.reader.specs.Argument.{argumentIn, argumentsPlace, argumentAnswer}
+use Rattle.reader.specs.Helpers.{argumentWith, notedAs}
 use Rattle.reader.proofs.Arguments.{type-is}
 
 -- ---- where the arguments' items start

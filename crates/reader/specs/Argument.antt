@@ -4,13 +4,11 @@ use Prim.Native.Nat.{ℕ, zero, suc, _+_}
 use mathlib.Core.Bool.{Bool}
 use mathlib.Core.List.{List}
 use lib.ListN.{length, getD}
-use lib.Dec.{ltb, eqb}
+use lib.Dec.{eqb}
 use Rattle.words.specs.Basics.{pick}
 use Rattle.conventions.specs.declared.Convention.{Convention}
-use Rattle.types.specs.declared.ValueType.{ValueType}
 use Rattle.types.specs.Trees.{Tree, Trees, none, _▸_, typeOf, countOf}
-use Rattle.items.specs.declared.Refusal.{Refusal}
-use Rattle.items.specs.Reading.{Reading, fault, got, no, later}
+use Rattle.items.specs.Reading.{Reading, got, no}
 use Rattle.items.specs.Encode.{encodeTrees}
 use Rattle.signature.specs.Signature.{Result, Signature}
 use Rattle.signature.specs.Encode.{encodeResult, ellipsisItem}
@@ -32,16 +30,6 @@ argumentsPlace r v = 10 + length (encodeResult r) + length (ellipsisItem v)
 abbrev pub argumentAnswer : ℕ → Reading Signature → ArgumentRead
 argumentAnswer index (got g next n) = argumentIn (g .convention) (argumentsPlace (g .result) (g .ellipsis)) index (g .arguments)
 argumentAnswer index (no f) = ArgumentRead.Refused f
-
--- found, unless argument number `count` is the one that is asked for
-abbrev pub notedAs : ArgumentRead → ℕ → ℕ → ValueType → ℕ → ArgumentRead
-notedAs found index count t place = pick (eqb index count) (ArgumentRead.Argument t place) found
-
--- from the arguments on, which stand from `at` on in a signature of `all` bytes, where n items came before theirs
-abbrev pub argumentWith : Convention → ℕ → ℕ → ℕ → ℕ → Reading Trees → ArgumentRead
-argumentWith c at n all index (got ts next m) =
-    pick (ltb next all) (ArgumentRead.Refused (fault Refusal.TrailingBytes next (n + m))) (argumentIn c at index ts)
-argumentWith c at n all index (no f) = ArgumentRead.Refused (later n f)
 
 -- past an ellipsis's item, where its tag stands
 unfoldable pub pastEllipsis : List ℕ → ℕ → ℕ

@@ -2,3 +2,4 @@
 pub mod Reader
 pub mod Argument
 pub mod Numbers
+pub mod Helpers

@@ -17,7 +17,8 @@ ghost use Rattle.signature.specs.Limits.{maxLength};
 ghost use Rattle.signature.specs.Read.{argumentsIn, signatureOf};
 ghost use Rattle.stepping.specs.Step.{leftAt, headerIn, typeIn};
 ghost use Rattle.reader.specs.Reader.{started, skipped, entered, advanced};
-ghost use Rattle.reader.specs.Argument.{argumentAnswer, argumentWith, notedAs};
+ghost use Rattle.reader.specs.Argument.{argumentAnswer};
+ghost use Rattle.reader.specs.Helpers.{argumentWith, notedAs};
 
 // The bytes, the place of the next item, and the end of the part that is stepped through. Any numbers are allowed.
 pub struct Reader<'a> {

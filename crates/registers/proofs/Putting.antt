@@ -16,7 +16,7 @@ use Rattle.words.proofs.Splices.{length-splice, overlay-append}
 use Rattle.words.proofs.Numbers.{length-bytesOf, bytesOf-append}
 use Rattle.registers.specs.Registers.{inRegister, spread}
 use Rattle.registers.proofs.Registers.{length-spread, spread-more, register-number}
-use Rattle.registers.specs.Registers.{RegistersTake}
+use Rattle.registers.specs.Helpers.{RegistersTake}
 
 -- one word more of a form
 register-more : (s form : List ℕ) (w i : ℕ) → w ≤ 8 → w * i ≤ length form

@@ -11,7 +11,8 @@ use lib.Dec.{ltb}
 use lib.ListN.{length, take}
 use Rattle.words.specs.Splice.{overlay, splice, part}
 use Rattle.words.proofs.Splices.{length-splice, length-part, part-add, part-part, overlay-append}
-use Rattle.registers.specs.Registers.{gather, RegistersHold}
+use Rattle.registers.specs.Registers.{gather}
+use Rattle.registers.specs.Helpers.{RegistersHold}
 use Rattle.registers.proofs.Registers.{gather-part, length-gather}
 
 -- a word before the last byte is one of k

@@ -1,7 +1,7 @@
 -- Words in general registers of the image. The image has eight bytes for each GPR; a word of w bytes stands in the low ones, zeros
 -- above: request No. 1, "Its image keeps each GPR in the low half of its 8 bytes, high half zero". Where a word is a doubleword,
 -- both definitions change nothing (laws `spread-doublewords` and `gather-doublewords`). Assumes nothing.
-use Prim.Native.Nat.{ℕ, zero, suc, _+_, _-_, _*_, _≤_, _<_}
+use Prim.Native.Nat.{ℕ, zero, suc, _+_, _-_}
 use mathlib.Core.List.{List, [], _++_}
 use lib.ListN.{take, drop, replicate}
 use Rattle.words.specs.Splice.{part}
@@ -19,11 +19,3 @@ spread w (suc k) bs = inRegister w (take w bs) ++ spread w k (drop w bs)
 unfoldable pub gather : ℕ → ℕ → List ℕ → List ℕ
 gather w zero bs = []
 gather w (suc k) bs = part (8 - w) w bs ++ gather w k (drop 8 bs)
-
--- n bytes in k words of w bytes, none of them empty, in registers that lie in a buffer of i bytes
-abbrev pub RegistersTake : ℕ → ℕ → ℕ → ℕ → Type 0
-RegistersTake w k n i = (1 ≤ w) × (w ≤ 8) × (n ≤ w * k) × (w * k < n + w) × (8 * k ≤ i)
-
--- k registers from `first` on lie in an image of i bytes, and n bytes of their words from lo on, in the first word, are there
-abbrev pub RegistersHold : ℕ → ℕ → ℕ → ℕ → ℕ → ℕ → Type 0
-RegistersHold w first k lo n i = (1 ≤ w) × (w ≤ 8) × (lo < w) × (lo + n ≤ w * k) × (8 * first + 8 * k ≤ i)

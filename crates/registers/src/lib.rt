@@ -6,7 +6,8 @@ ghost use Prim.Native.Nat.{_+_, _-_, _*_, _≤_, _<_};
 ghost use lib.ListN.{length, replicate};
 ghost use Rattle.words.specs.Splice.{overlay, part};
 ghost use Rattle.words.specs.Numbers.{bytesOf};
-ghost use Rattle.registers.specs.Registers.{inRegister, spread, gather, RegistersTake, RegistersHold};
+ghost use Rattle.registers.specs.Registers.{inRegister, spread, gather};
+ghost use Rattle.registers.specs.Helpers.{RegistersTake, RegistersHold};
 
 // The bytes v at the head of s, and zeros after them.
 pub fn put_padded(s: &mut [u8], v: &[u8], zeros: usize)

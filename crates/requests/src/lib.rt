@@ -2,7 +2,7 @@
 ghost use mathlib.Core.Path.{_≡_};
 ghost use mathlib.Core.Bool.{true};
 ghost use Rattle.rules.specs.Frames.{okLeaf, okRequest, outgoingLength, below, fullSize, frameSize, chainWidth};
-ghost use Rattle.rules.specs.Lawful.{Lawful};
+ghost use Rattle.rules.specs.Helpers.{Lawful};
 use rules::Frame;
 use rules::Linkage;
 use rules::Rules;

@@ -3,7 +3,7 @@ ghost use mathlib.Core.Path.{_≡_};
 ghost use Prim.Native.Nat.{_+_, _≤_};
 ghost use lib.ListN.{length};
 ghost use Rattle.rules.specs.Frames.{linkAt, mergeFields, restoredLr, restoredCr, restored};
-ghost use Rattle.rules.specs.Lawful.{Lawful, Placed};
+ghost use Rattle.rules.specs.Helpers.{Lawful, Placed};
 use rules::Frame;
 use rules::Linkage;
 use rules::Registers;

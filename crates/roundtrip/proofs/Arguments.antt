@@ -25,7 +25,7 @@ use Rattle.slots.specs.declared.Answer.{Answer}
 use Rattle.slots.specs.Buffers.{Buffers, Slot, put, putAll, bytesAt}
 use Rattle.slots.specs.Forms.{roomOf, homeBytes, ownStart, floatForm, floatBytes, floatValueAs, floatValue}
 use Rattle.slots.specs.Placements.{Placement, standing, copyBytes, slotsOf, wordsAt, floatAt, addressAt, wordsValue, valueAt}
-use Rattle.slots.specs.Limits.{FloatSized, Held, Fits}
+use Rattle.slots.specs.Helpers.{FloatSized, Held, Fits}
 use Rattle.slots.proofs.Limits.{form-length, one-word}
 use Rattle.registers.specs.Registers.{spread, gather}
 use Rattle.registers.proofs.Registers.{length-spread, gather-spread}

@@ -19,7 +19,7 @@ use Rattle.types.specs.declared.ValueType.{ValueType}
 use Rattle.places.specs.declared.Rules.{Rules}
 use Rattle.slots.specs.declared.Answer.{Answer}
 use Rattle.slots.specs.Forms.{roomOf, isSigned, startsAtHead, extended, homeBytes, ownStart, floatForm, narrowedBytes, floatValueAs}
-use Rattle.slots.specs.Limits.{FloatSized}
+use Rattle.slots.specs.Helpers.{FloatSized}
 use Rattle.slots.specs.Refusals.{narrowedAnswer, floatAnswer}
 
 -- n bytes as a number of n bytes

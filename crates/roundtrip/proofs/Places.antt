@@ -29,11 +29,11 @@ use Rattle.places.proofs.Registers.{step-numbered}
 use Rattle.plan.specs.Plan.{spansOf, hiddenIn, startIn, planAnswer}
 use Rattle.slots.specs.Buffers.{Slot}
 use Rattle.slots.specs.Placements.{Placement, placement, placements, standing, copyBytes, slotsOf, slotsOfAll}
-use Rattle.slots.specs.Limits.{Held, All}
+use Rattle.slots.specs.Helpers.{Held, All}
 use Rattle.slots.specs.Forms.{floatBytes}
 use Rattle.registers.proofs.Registers.{spread-short}
-use Rattle.slots.specs.Arguments.{argumentsIn, argumentsOf, rulesIn, rulesFor, Carried}
-use Rattle.slots.proofs.Answered.{arguments-got, carried}
+use Rattle.slots.specs.Arguments.{argumentsIn, argumentsOf, rulesIn, rulesFor}
+use Rattle.slots.proofs.Answered.{Carried, arguments-got, carried}
 use Rattle.roundtrip.specs.Places.{Byte, inImage, inArea, inCopies, CoversFrom, Touches, slotLists, SlotsApart}
 use Rattle.roundtrip.proofs.Kept.{Upto, Banked, AllLater, all-later, take-short}
 

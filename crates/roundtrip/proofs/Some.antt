@@ -18,7 +18,7 @@ use Rattle.places.specs.declared.Rules.{Rules}
 use Rattle.places.specs.Step.{rulesOf, withEllipsis, nextOf}
 use Rattle.plan.specs.Plan.{spansOf, startIn, planAnswer}
 use Rattle.slots.specs.Placements.{Placement, placements}
-use Rattle.slots.specs.Limits.{All}
+use Rattle.slots.specs.Helpers.{All}
 use Rattle.slots.specs.Arguments.{argumentsIn, argumentsOf}
 use Rattle.slots.proofs.Answered.{arguments-got}
 use Rattle.slots.proofs.Typed.{AllTyped, all-typed}

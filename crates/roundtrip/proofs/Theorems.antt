@@ -35,12 +35,12 @@ use Rattle.plan.specs.Plan.{spansOf, hiddenIn, startIn, planAnswer}
 use Rattle.slots.specs.declared.Answer.{Answer}
 use Rattle.slots.specs.Buffers.{Buffers, buffers, Slot, putAll}
 use Rattle.slots.specs.Placements.{Placement, placement, placements, copyBytes, slotsOf, slotsOfAll, hiddenSlots, valuesAt}
-use Rattle.slots.specs.Limits.{Held, Fits, All, sizesOf}
+use Rattle.slots.specs.Helpers.{Held, Fits, All, sizesOf}
 use Rattle.slots.specs.Refusals.{firstOf, orElse, firstOfAll, afterReading}
 use Rattle.plan.specs.Call.{outcomeFor}
-use Rattle.slots.specs.Arguments.{argumentsIn, argumentsOf, planFor, rulesIn, rulesFor, Carried}
+use Rattle.slots.specs.Arguments.{argumentsIn, argumentsOf, planFor, rulesIn, rulesFor}
 use Rattle.slots.proofs.Buffers.{SameLengths, same-then, putAll-lengths, putAll-append}
-use Rattle.slots.proofs.Answered.{carried, arguments-got}
+use Rattle.slots.proofs.Answered.{Carried, carried, arguments-got}
 use Rattle.fill.specs.Fill.{lengths, fillAnswer, filledSlots, fillBuffers}
 use Rattle.fill.proofs.Accepted.{Lent, tests-passed}
 use Rattle.read.specs.declared.Sizes.{Sizes}

@@ -42,23 +42,24 @@ use Rattle.slots.specs.declared.Answer.{Answer}
 use Rattle.slots.specs.Buffers.{Buffers, buffers, bytesAt}
 use Rattle.slots.specs.Forms.{roomOf, startsAtHead, homeBytes, ownStart, narrowedBytes, floatValueAs, floatValue}
 use Rattle.slots.specs.Placements.{Placement, placements, wordsAt, floatAt, wordsValue, valueAt, valuesAt}
-use Rattle.slots.specs.Limits.{Held, All, sizesOf}
+use Rattle.slots.specs.Helpers.{Held, All, sizesOf}
 use Rattle.slots.specs.Refusals.{firstOf, orElse, firstOfAll, floatAnswer, afterReading, isDone}
 use Rattle.plan.specs.Call.{outcomeFor}
-use Rattle.slots.specs.Arguments.{argumentsIn, argumentsOf, planFor, rulesIn, rulesFor, Carried}
+use Rattle.slots.specs.Arguments.{argumentsIn, argumentsOf, planFor, rulesIn, rulesFor}
 use Rattle.registers.specs.Registers.{gather}
 use Rattle.registers.proofs.Registers.{length-gather}
 use Rattle.slots.proofs.Held.{words-room}
-use Rattle.slots.proofs.Answered.{carried, arguments-got}
+use Rattle.slots.proofs.Answered.{Carried, carried, arguments-got}
 use Rattle.slots.proofs.Refusals.{or-done}
 use Rattle.slots.proofs.Turns.{next-argument}
-use Rattle.unmarshal.specs.Readable.{Readable}
+use Rattle.unmarshal.specs.Helpers.{Readable}
 use Rattle.unmarshal.proofs.Arguments.{value-length, length-values}
 use Rattle.read.specs.declared.Sizes.{Sizes}
 use Rattle.read.specs.Read.{sizes, wordsAnswer, agrees, agreeAnswer, argumentAnswer, argumentsAnswer, readTests, readAnswer, readValues}
 use Rattle.read.proofs.Arguments.{all-readable}
 use Rattle.read.proofs.Accepted.{tests-passed, each-ready}
-use Rattle.home_slot.specs.Homes.{homeless, registerAnswer, homedBytes, Homed}
+use Rattle.home_slot.specs.Homes.{homeless, registerAnswer, homedBytes}
+use Rattle.home_slot.specs.Helpers.{Homed}
 use Rattle.home_slot.proofs.Homed.{homed-all}
 use Rattle.home_slot.proofs.Marked.{homeless-marked}
 use Rattle.home.specs.Home.{registersAnswer, homeTests, homeAnswer, homed, homeArea}
@@ -345,7 +346,7 @@ counted s i l =
     let g = signatureAnswer (signatureOf s) in
     let p : Plan = planFor s in
     let c : Carried g p = carried s in
-    let e = next-argument g p i l (c .types) (c .spans) in
+    let e = next-argument g p i l (c .tables .types) (c .tables .spans) in
     omega (arith, length-drop i (argumentsIn g p), ap (λ (x : List Placement). length x) e)
 
 view-shows : (s area : List ℕ) (i : ℕ) (v : List ℕ) → viewAnswer s (length area) i ≡ Answer.Done → ownBytes (rulesFor s) (getD (argumentsOf s) i noArgument) area ≡ v → viewOf s area i ≡ v

@@ -9,7 +9,7 @@ use lib.Dec.{leb, ltb}
 use borrow.Author.Tests.{ltb-true}
 use Rattle.rules.specs.Rules.{Convention, Ppc64, Z, Aix, Ppc64b, Span, inSpan, within, Bank, Rules, ppc64, rules}
 use Rattle.rules.specs.Frames.{writable}
-use Rattle.rules.specs.Lawful.{apart, disjoint, before, BankLaw, Lawful}
+use Rattle.rules.specs.Helpers.{apart, disjoint, before, BankLaw, Lawful}
 use Rattle.rules.proofs.Facts.{and-yes, or-yes, between}
 
 -- of codes 1 and 4

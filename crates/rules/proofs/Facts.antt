@@ -8,7 +8,7 @@ use lib.ListN.{getD, set}
 use lib.Dec.{leb}
 use borrow.Author.Tests.{leb-true}
 use Rattle.rules.specs.Rules.{Linkage, Rules}
-use Rattle.rules.specs.Lawful.{LinkageLaw}
+use Rattle.rules.specs.Helpers.{LinkageLaw}
 
 -- by cases on a test
 pub either : {A : Type 0} (b : Bool) → (b ≡ true → A) → (b ≡ false → A) → A

@@ -12,7 +12,7 @@ use Rattle.saves.specs.Saves.{Outside}
 use Rattle.saves.proofs.Saving.{Ascending}
 use Rattle.rules.specs.Rules.{Linkage, LinkRegister, SaveArea, Rules, Frame, Registers, inSpan}
 use Rattle.rules.specs.Frames.{firstGpr, firstFpr, savesCr, hasCondition, maxOutgoing, okLeaf, okRequest, outgoingLength, below, fullSize, frameSize, mostSize, chainWidth, flag, gprAt, savesBy, saves, linkAt}
-use Rattle.rules.specs.Lawful.{LinkageLaw, Lawful}
+use Rattle.rules.specs.Helpers.{LinkageLaw, Lawful}
 use Rattle.rules.proofs.Facts.{either, and-yes, between}
 
 -- what the ranges of a request say

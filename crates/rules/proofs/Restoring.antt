@@ -10,7 +10,7 @@ use Rattle.saves.proofs.Saving.{Held, HeldAll}
 use Rattle.words.specs.Basics.{pick}
 use Rattle.rules.specs.Rules.{Linkage, LinkRegister, SaveArea, Rules, Frame, Registers}
 use Rattle.rules.specs.Frames.{firstGpr, savesCr, flag, gprAt, gprSave, fprSave, savesBy, linkAt, preservedFields, mergeFields, restoredLr, restoredCr, returnAddress, preservedCondition}
-use Rattle.rules.specs.Lawful.{LinkageLaw}
+use Rattle.rules.specs.Helpers.{LinkageLaw}
 use Rattle.rules.proofs.Facts.{either}
 use Rattle.rules.proofs.Places.{words-split}
 

@@ -8,7 +8,7 @@ use lib.Dec.{leb}
 use borrow.Author.Tests.{leb-true}
 use Rattle.rules.specs.Rules.{Linkage, LinkRegister, SaveArea, Rules, Frame, RegisterBank, General, Floating, Link, ConditionField, None}
 use Rattle.rules.specs.Frames.{savesCr, hasCondition, writableField, withField, preservedFields, preservedCondition, firstGpr, firstFpr, writable, writableRegister}
-use Rattle.rules.specs.Lawful.{Lawful, Named}
+use Rattle.rules.specs.Helpers.{Lawful, Named}
 use Rattle.rules.proofs.Conventions.{writable-lt}
 use Rattle.rules.proofs.Facts.{and-yes, or-yes, between}
 

@@ -1,3 +1,3 @@
 pub mod Rules
 pub mod Frames
-pub mod Lawful
+pub mod Helpers

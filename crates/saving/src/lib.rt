@@ -5,7 +5,7 @@ ghost use Prim.Native.Nat.{_+_, _≤_};
 ghost use lib.ListN.{length};
 ghost use Rattle.saves.specs.Saves.{saveRun, saveAll};
 ghost use Rattle.rules.specs.Frames.{flag, saves, gprAt, gprSave, fprSave};
-ghost use Rattle.rules.specs.Lawful.{Placed};
+ghost use Rattle.rules.specs.Helpers.{Placed};
 use rules::Frame;
 use rules::Linkage;
 use rules::Registers;

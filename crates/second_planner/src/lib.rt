@@ -14,7 +14,7 @@ ghost use Rattle.signature.specs.declared.Outcome.{Outcome};
 ghost use Rattle.signature.specs.Read.{signatureOf};
 ghost use Rattle.signature.specs.Answer.{signatureAnswer};
 ghost use Rattle.signature.specs.Types.{typesIn, valuesOf};
-ghost use Rattle.signature.specs.Plannable.{Plannable};
+ghost use Rattle.signature.specs.Helpers.{Plannable};
 ghost use Rattle.second_planner.specs.Answer.{powerPlan, zPlan, noPlan, secondIn, straddlingIn, headerOf, straddlingFault, secondAnswer};
 
 pub struct SecondPlan {

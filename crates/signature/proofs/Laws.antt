@@ -31,7 +31,8 @@ use Rattle.signature.specs.declared.HeadRead.{HeadRead}
 use Rattle.signature.specs.Signature.{Result, nothing, Signature, Head}
 use Rattle.signature.specs.Limits.{maxLength, maxDepth}
 use Rattle.signature.specs.Read.{conventionBy, conventionAt, resultIn, resultAt, ellipsisAt, argumentsIn, argumentsAt, afterEllipsis, afterResult, afterConvention, signatureOf, headBy, headThen, headAfter, headOf}
-use Rattle.signature.specs.Answer.{conventionAnswer, resultType, resultAnswer, ellipsisAnswer, headAnswer, refused, accepted, withArguments, signatureAnswer}
+use Rattle.signature.specs.Answer.{conventionAnswer, resultType, resultAnswer, ellipsisAnswer, headAnswer, refused, accepted, signatureAnswer}
+use Rattle.signature.specs.Helpers.{withArguments}
 
 -- the convention
 

@@ -25,7 +25,8 @@ use Rattle.signature.specs.declared.ResultType.{ResultType}
 use Rattle.signature.specs.declared.SignatureRead.{SignatureRead}
 use Rattle.signature.specs.declared.Outcome.{Outcome}
 use Rattle.signature.specs.Read.{argumentsIn}
-use Rattle.signature.specs.Answer.{argument, noArguments, listed, table, refused, withArguments}
+use Rattle.signature.specs.Answer.{argument, noArguments, listed, table, refused}
+use Rattle.signature.specs.Helpers.{withArguments}
 
 -- the table
 

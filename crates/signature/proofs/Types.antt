@@ -19,7 +19,7 @@ use Rattle.signature.specs.Read.{signatureOf}
 use Rattle.signature.specs.Answer.{argument, listed, table, resultType, signatureAnswer}
 use Rattle.signature.specs.Exact.{ResultSized}
 use Rattle.signature.specs.Types.{typesOf, typeIn}
-use Rattle.signature.specs.Plannable.{SmallResult, Plannable}
+use Rattle.signature.specs.Helpers.{SmallResult, Plannable}
 use Rattle.signature.proofs.Theorems.{accepted}
 
 abbrev pub blank : Argument

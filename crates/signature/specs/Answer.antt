@@ -3,15 +3,12 @@ use Prim.Native.Nat.{ℕ, _+_, _-_}
 use mathlib.Core.Bool.{Bool, false}
 use mathlib.Core.List.{List, [], _∷_, _++_}
 use lib.ListN.{replicate}
-use lib.Dec.{ltb}
-use Rattle.words.specs.Basics.{pick}
 use Rattle.conventions.specs.declared.Convention.{Convention}
 use Rattle.types.specs.declared.IntegerKind.{IntegerKind}
 use Rattle.types.specs.declared.ValueType.{ValueType}
 use Rattle.types.specs.Trees.{Trees, none, _▸_, typeOf, countOf}
-use Rattle.items.specs.declared.Refusal.{Refusal}
 use Rattle.items.specs.declared.Fault.{Fault}
-use Rattle.items.specs.Reading.{Reading, fault, got, no, later}
+use Rattle.items.specs.Reading.{Reading, got, no}
 use Rattle.signature.specs.declared.ResultType.{ResultType}
 use Rattle.signature.specs.declared.Argument.{Argument}
 use Rattle.signature.specs.declared.Outcome.{Outcome}
@@ -75,8 +72,3 @@ accepted c r v ts n = record { outcome = Outcome.Accepted n; convention = c; res
 abbrev pub signatureAnswer : Reading Signature → SignatureRead
 signatureAnswer (got g next n) = accepted (g .convention) (resultType (g .convention) (g .result)) (g .ellipsis) (g .arguments) n
 signatureAnswer (no f) = refused f
-
--- from the arguments on, in a signature of `all` bytes, where the convention and the result's type took n items
-abbrev pub withArguments : Convention → ResultType → Bool → ℕ → ℕ → Reading Trees → SignatureRead
-withArguments c r v n all (got ts next m) = pick (ltb next all) (refused (fault Refusal.TrailingBytes next (n + m))) (accepted c r v ts (n + m))
-withArguments c r v n all (no f) = refused (later n f)

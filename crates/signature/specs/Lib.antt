@@ -4,7 +4,7 @@ pub mod Limits
 pub mod Read
 pub mod Answer
 pub mod Types
-pub mod Plannable
+pub mod Helpers
 pub mod Numbers
 pub mod Encode
 pub mod Exact

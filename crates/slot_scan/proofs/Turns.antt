@@ -19,7 +19,7 @@ use Rattle.slot_scan.specs.declared.Slot.{Slot}
 use Rattle.slot_scan.specs.declared.Copied.{Copied}
 use Rattle.parameters.specs.Values.{noParameter}
 use Rattle.slot_scan.specs.Slots.{initial, doubleOrFloat, copied, copyAt, inFloating, inGeneral, inOther, slotBy, slotOf, slotsFrom, scannedTo}
-use Rattle.slot_scan.specs.Limits.{Roomy}
+use Rattle.slot_scan.specs.Helpers.{Roomy}
 
 -- ---- the slots
 

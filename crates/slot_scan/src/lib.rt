@@ -11,9 +11,9 @@ use types::ValueType;
 ghost use mathlib.Core.Path.{_≡_};
 ghost use Prim.Native.Nat.{_≤_, _^_};
 ghost use Rattle.signature.specs.Types.{typesIn};
-ghost use Rattle.signature.specs.Plannable.{Plannable};
+ghost use Rattle.signature.specs.Helpers.{Plannable};
 ghost use Rattle.slot_scan.specs.Slots.{initial, doubleOrFloat, otherSize, copiedStruct, copied, copyAt, inFloating, inGeneral, inOther, slotBy, slotOf, scannedOf, zHidden, zReturned};
-ghost use Rattle.slot_scan.specs.Limits.{Roomy};
+ghost use Rattle.slot_scan.specs.Helpers.{Roomy};
 
 // 001's gr, fr and starg, and the end of the copies.
 pub struct Scan {

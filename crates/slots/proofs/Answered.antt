@@ -17,7 +17,7 @@ use Rattle.signature.specs.Read.{signatureOf}
 use Rattle.signature.specs.Answer.{resultType, signatureAnswer}
 use Rattle.signature.proofs.Theorems.{accepted}
 use Rattle.signature.specs.Types.{valuesOf, typesOf}
-use Rattle.signature.specs.Plannable.{Plannable}
+use Rattle.signature.specs.Helpers.{Plannable}
 use Rattle.signature.proofs.Types.{table-types, answer-plannable, length-of-types}
 use Rattle.places.specs.declared.Cursor.{Cursor}
 use Rattle.places.specs.declared.Rules.{Rules}
@@ -26,14 +26,23 @@ use Rattle.places.specs.Step.{rulesOf, withEllipsis}
 use Rattle.places.proofs.Marked.{named-marked}
 use Rattle.places.proofs.Bounds.{named-start, area-holds}
 use Rattle.plan.specs.declared.Plan.{Plan}
-use Rattle.plan.specs.Plan.{spansOf, lastOf, noSpan, tableOf, hiddenIn, startIn, endIn, planIn, planAnswer, planned}
+use Rattle.plan.specs.Plan.{spansOf, lastOf, noSpan, tableOf, hiddenIn, startIn, endIn, planIn, planAnswer}
+use Rattle.plan.specs.Helpers.{planned}
 use Rattle.plan.proofs.Fold.{length-spans, last-marked}
 use Rattle.plan.proofs.Answers.{planned-answer}
 use Rattle.slots.specs.Placements.{Placement, placements}
-use Rattle.slots.specs.Limits.{Held, Fits, All, sizesOf}
-use Rattle.slots.specs.Arguments.{argumentsIn, planFor, Carried}
+use Rattle.slots.specs.Helpers.{Held, Fits, All, sizesOf, Tabled}
+use Rattle.slots.specs.Arguments.{argumentsIn, planFor, rulesIn}
 use Rattle.slots.proofs.Typed.{all-typed}
 use Rattle.slots.proofs.Planned.{placements-table, placements-sizes, all-held, all-fit}
+
+-- What holds of every signature's arguments, whatever its bytes (`carried`): there are at most 128; each is held by its span, and
+-- lies in the area and the copies of its plan; their sizes are those of the values.
+pub record Carried (g : SignatureRead) (p : Plan) : Type 0 where
+  pub tables : Tabled g p
+  pub held : All (Held (rulesIn g)) (argumentsIn g p)
+  pub fit : All (Fits (p .area) (p .copies)) (argumentsIn g p)
+  pub total : sizesOf (argumentsIn g p) ≡ p .values
 
 -- the arguments of an accepted signature are those of its plan's fold
 pub arguments-got : (g : Signature) (next n : ℕ)
@@ -91,14 +100,16 @@ carried s = go (signatureOf s) refl
         let same = arguments-got g next n in
         let plan = subst Plannable (ap signatureAnswer e) (answer-plannable s) in
         record {
-          few = a .within .few;
-          types = plan .room;
-          spans = planned-room n c v r ts (countOf (g .arguments)) (length-of-types c (g .arguments)) (a .within .few);
+          tables = record {
+            few = a .within .few;
+            types = plan .room;
+            spans = planned-room n c v r ts (countOf (g .arguments)) (length-of-types c (g .arguments)) (a .within .few);
+          };
           held = subst (All (Held (withEllipsis v (rulesOf c)))) (sym same) (all-held c v k ts (all-typed c (g .arguments) (a .arguments)));
           fit = subst (All (Fits (planIn n c v r ts .area) (planIn n c v r ts .copies))) (sym same) (planned-fit n c v r ts);
           total = ap sizesOf same ∙ placements-sizes c (withEllipsis v (rulesOf c)) k ts ∙ planned-values n c v r ts;
         }
-    go (no f) e = record { few = omega arith; types = omega arith; spans = omega arith; held = none-all _; fit = none-all _; total = refl }
+    go (no f) e = record { tables = record { few = omega arith; types = omega arith; spans = omega arith }; held = none-all _; fit = none-all _; total = refl }
 
 -- ---- the same of what the reader and the planner answered
 

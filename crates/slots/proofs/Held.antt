@@ -25,7 +25,7 @@ use Rattle.places.specs.Step.{rulesOf, withEllipsis, spanOf}
 use Rattle.places.proofs.Shares.{words-split}
 use Rattle.slots.specs.Forms.{structAtHead, startsAtHead}
 use Rattle.slots.specs.Placements.{placement}
-use Rattle.slots.specs.Limits.{FloatSized, Held}
+use Rattle.slots.specs.Helpers.{FloatSized, Held}
 use Rattle.slots.proofs.Typed.{EquivalentSized, Typed}
 
 absurd-bool : {A : Type 0} → _≡_ {A = Bool} true false → A

@@ -14,7 +14,7 @@ use Rattle.places.specs.Power.{words}
 use Rattle.places.specs.Step.{wordOf}
 use Rattle.slots.specs.Forms.{roomOf, singleWord, floatForm}
 use Rattle.slots.specs.Placements.{Placement}
-use Rattle.slots.specs.Limits.{FloatSized, Held}
+use Rattle.slots.specs.Helpers.{FloatSized, Held}
 use Rattle.slots.specs.Refusals.{floatAnswer}
 
 -- a float fills its FPRs

@@ -7,7 +7,7 @@ use Rattle.places.specs.declared.Rules.{Rules}
 use Rattle.places.specs.Step.{withEllipsis}
 use Rattle.slots.specs.Forms.{startsAtHead, ownStart}
 use Rattle.slots.specs.Placements.{Placement}
-use Rattle.slots.specs.Limits.{Held}
+use Rattle.slots.specs.Helpers.{Held}
 
 pub own-marked : (v : Bool) (r : Rules) (t : ValueType) (n : ℕ) → ownStart (withEllipsis v r) t n ≡ ownStart r t n
 unfolding withEllipsis ownStart startsAtHead

@@ -19,7 +19,7 @@ use Rattle.signature.specs.Types.{valuesOf}
 use Rattle.plan.specs.Plan.{spansOf, lastOf}
 use Rattle.plan.proofs.Fold.{last-forward}
 use Rattle.slots.specs.Placements.{Placement, placement, placements}
-use Rattle.slots.specs.Limits.{Held, Fits, All, sizesOf}
+use Rattle.slots.specs.Helpers.{Held, Fits, All, sizesOf}
 use Rattle.slots.proofs.Typed.{AllTyped}
 use Rattle.slots.proofs.Held.{step-held}
 

@@ -20,7 +20,7 @@ use Rattle.plan.specs.declared.Plan.{Plan}
 use Rattle.plan.specs.Plan.{noSpan}
 use Rattle.slots.specs.declared.Answer.{Answer}
 use Rattle.slots.specs.Placements.{Placement, placement, placements}
-use Rattle.slots.specs.Limits.{All}
+use Rattle.slots.specs.Helpers.{All}
 use Rattle.slots.specs.Refusals.{orElse, firstOfAll, isRefused}
 use Rattle.slots.specs.Arguments.{argumentsIn}
 use Rattle.slots.proofs.Refusals.{or-refused, not-refused}

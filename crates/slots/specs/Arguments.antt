@@ -1,9 +1,6 @@
 -- The arguments of a signature with their places: the reader's types and the planner's spans. Assumes nothing.
-use Prim.Native.Nat.{ℕ, _≤_}
-use mathlib.Core.Path.{_≡_}
+use Prim.Native.Nat.{ℕ}
 use mathlib.Core.List.{List}
-use lib.ListN.{length}
-use Rattle.signature.specs.Limits.{maxArguments}
 use Rattle.signature.specs.declared.SignatureRead.{SignatureRead}
 use Rattle.signature.specs.Read.{signatureOf}
 use Rattle.signature.specs.Answer.{signatureAnswer}
@@ -15,7 +12,6 @@ use Rattle.plan.specs.declared.Measured.{Measured}
 use Rattle.plan.specs.Plan.{planAnswer}
 use Rattle.plan.specs.Call.{outcomeFor}
 use Rattle.slots.specs.Placements.{Placement, placements}
-use Rattle.slots.specs.Limits.{Held, Fits, All, sizesOf}
 
 -- of a signature that was read, with its plan
 unfoldable pub argumentsIn : SignatureRead → Plan → List Placement
@@ -39,13 +35,3 @@ rulesIn g = withEllipsis (g .ellipsis) (rulesOf (g .convention))
 
 abbrev pub rulesFor : List ℕ → Rules
 rulesFor s = rulesIn (signatureAnswer (signatureOf s))
-
--- What holds of every signature's arguments, whatever its bytes (law `carried`): there are at most 128; each is held by its span, and
--- lies in the area and the copies of its plan; their sizes are those of the values.
-pub record Carried (g : SignatureRead) (p : Plan) : Type 0 where
-  pub few : g .count ≤ maxArguments
-  pub types : g .count ≤ length (g .arguments)
-  pub spans : g .count ≤ length (p .spans)
-  pub held : All (Held (rulesIn g)) (argumentsIn g p)
-  pub fit : All (Fits (p .area) (p .copies)) (argumentsIn g p)
-  pub total : sizesOf (argumentsIn g p) ≡ p .values

@@ -1,10 +1,8 @@
 -- The buffers that a call's arguments stand in, and bytes put in a place of them. Document 01, "What stands in a slot". A place is
 -- where a slot or a copy starts, a `Spot`: a register, a byte of the parameter area, or a byte of the copies.
 -- Assumes nothing.
-use Prim.Native.Nat.{ℕ, _+_, _*_, _≤_}
-use mathlib.Core.Path.{_≡_}
+use Prim.Native.Nat.{ℕ, _+_, _*_}
 use mathlib.Core.List.{List, [], _∷_}
-use lib.ListN.{length}
 use Rattle.words.specs.Splice.{splice, part}
 use Rattle.places.specs.Spots.{Spot, general, floating, area, copies}
 
@@ -50,10 +48,3 @@ bytesAt (general n) m b = part (generalAt n) m (b .image)
 bytesAt (floating n) m b = part (floatingAt n) m (b .image)
 bytesAt (area n) m b = part n m (b .area)
 bytesAt (copies n) m b = part n m (b .copies)
-
--- m bytes from a spot on lie in their buffer: registers in their bank of an image of 512 bytes
-abbrev pub Inside : Spot → ℕ → Buffers → Type 0
-Inside (general n) m b = (8 * n + m ≤ 256) × (length (b .image) ≡ 512)
-Inside (floating n) m b = (8 * n + m ≤ 256) × (length (b .image) ≡ 512)
-Inside (area n) m b = n + m ≤ length (b .area)
-Inside (copies n) m b = n + m ≤ length (b .copies)

@@ -3,5 +3,5 @@ pub mod Buffers
 pub mod Forms
 pub mod Placements
 pub mod Refusals
-pub mod Limits
+pub mod Helpers
 pub mod Arguments

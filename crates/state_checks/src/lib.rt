@@ -2,7 +2,7 @@
 ghost use mathlib.Core.Path.{_≡_};
 ghost use mathlib.Core.Bool.{true};
 ghost use Prim.Native.Nat.{_*_, _≤_};
-ghost use Rattle.rules.specs.Lawful.{Lawful};
+ghost use Rattle.rules.specs.Helpers.{Lawful};
 ghost use Rattle.rules.specs.Frames.{mostSize};
 ghost use Rattle.machine.specs.Answers.{judge};
 ghost use Rattle.machine.specs.Machine.{stackPointer, topFrame, top, caller, okFrames, sizes, okState, stateTests};

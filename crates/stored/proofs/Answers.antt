@@ -25,21 +25,21 @@ use Rattle.signature.proofs.Types.{length-of-types}
 use Rattle.places.specs.declared.Cursor.{Cursor}
 use Rattle.places.specs.declared.Span.{Span}
 use Rattle.places.specs.declared.Rules.{Rules}
-use Rattle.places.specs.Places.{ResultNumbered}
-use Rattle.places.specs.Step.{rulesOf, withEllipsis, Lawful, spanOf, nextOf, startOf}
+use Rattle.places.specs.Helpers.{Lawful}
+use Rattle.places.specs.Step.{rulesOf, withEllipsis, spanOf, nextOf, startOf}
 use Rattle.places.proofs.Bounds.{near-next, rules-lawful}
 use Rattle.places.proofs.Between.{step-between}
-use Rattle.places.proofs.Registers.{step-numbered, result-numbered}
+use Rattle.places.proofs.Registers.{step-numbered}
 use Rattle.places.proofs.Marked.{lawful-marked, start-marked}
-use Rattle.plan.specs.Plan.{spansOf, noSpan, hiddenIn, startIn, resultIn, planIn, refused, planAnswer}
+use Rattle.plan.specs.Plan.{spansOf, noSpan, hiddenIn, startIn, planIn, refused, planAnswer}
 use Rattle.plan.specs.Call.{callOf, outcomeFor}
 use Rattle.plan.specs.Disjoint.{spanAt}
 use Rattle.plan.proofs.Fold.{Reached, reached-start, reached-more}
 use Rattle.plan.proofs.Apart.{in-table, getD-blanks}
-use Rattle.plan.proofs.Answers.{answer-table}
-use Rattle.plan.proofs.Calls.{called-got, call-few}
-use Rattle.stored_items.specs.Places.{Storable}
-use Rattle.stored.specs.Limits.{Writable}
+use Rattle.plan.proofs.Calls.{called-got}
+use Rattle.plan.proofs.Printable.{answer-printable}
+use Rattle.stored_items.specs.Helpers.{Storable}
+use Rattle.stored.specs.Helpers.{Writable}
 
 -- ---- the types are small
 
@@ -104,22 +104,8 @@ spans-read s (got g next n) e i =
     plan-storable n c (g .ellipsis) (resultType c (g .result)) (typesOf c (g .arguments)) (small-types c (g .arguments) (a .arguments)) (omega (arith, a .within .few)) i
 spans-read s (no f) e i = refused-storable f i
 
-result-of : (c : Convention) (r : ResultType) → ResultNumbered (resultIn c r)
-result-of c ResultType.Nothing = tt
-result-of c (ResultType.Value t) = result-numbered (rulesOf c) t (sizeOf c t)
-
-result-read : (x : Reading Signature) → ResultNumbered (planAnswer x .result)
-unfolding planAnswer planIn
-result-read (got g next n) = result-of (g .convention) (resultType (g .convention) (g .result))
-result-read (no f) = tt
-
 pub answer-storable : (s : List ℕ) → Writable (planAnswer (callOf s))
-answer-storable s = record {
-  few = call-few s;
-  room = answer-table (callOf s);
-  spans = spans-read s (callOf s) refl;
-  result = result-read (callOf s);
-}
+answer-storable s = record { printable = answer-printable s; spans = spans-read s (callOf s) refl }
 
 -- ---- the length of an accepted signature
 

@@ -17,7 +17,7 @@ use Rattle.text.specs.Writing.{Wrote}
 use Rattle.stored.specs.declared.StoreAnswer.{StoreAnswer}
 use Rattle.stored.specs.declared.CheckAnswer.{CheckAnswer}
 use Rattle.stored.specs.Stored.{planBytes, storedOf, lengthAnswer, storeAnswer, storedBuffer, compared, checkAnswer}
-use Rattle.stored.specs.Limits.{Writable}
+use Rattle.stored.specs.Helpers.{Writable}
 use Rattle.stored.proofs.Answers.{answer-storable, accepted-short}
 
 module _ (s : List ℕ) (p : Plan) (made : p ≡ planAnswer (callOf s)) where

@@ -9,7 +9,7 @@ ghost use lib.ListN.{length, take, drop};
 ghost use Rattle.signature.specs.Limits.{maxLength};
 ghost use Rattle.text.specs.Writing.{Wrote};
 ghost use Rattle.stored.specs.Stored.{planBytes, lengthAnswer, storeAnswer, storedBuffer, alike, compared, checkAnswer};
-ghost use Rattle.stored.specs.Limits.{Writable};
+ghost use Rattle.stored.specs.Helpers.{Writable};
 
 // The stored plan's length; or the signature's refusal; or a buffer that is too short.
 pub enum StoreAnswer {

@@ -11,14 +11,15 @@ use Rattle.items.specs.Encode.{item}
 use Rattle.places.specs.declared.Rules.{Rules}
 use Rattle.places.specs.declared.Span.{Span}
 use Rattle.places.specs.declared.ResultPlaces.{ResultPlaces}
-use Rattle.places.specs.Step.{wordOf, Lawful}
-use Rattle.places.specs.Places.{ResultNumbered}
+use Rattle.places.specs.Step.{wordOf}
+use Rattle.places.specs.Helpers.{Lawful, ResultNumbered}
 use Rattle.places.proofs.Bounds.{word-most}
 use Rattle.text.specs.Writing.{Wrote}
 use Rattle.text.proofs.Writing.{wrote-nothing, wrote-then}
 use Rattle.stored_items.specs.declared.StoredPlace.{StoredPlace}
 use Rattle.stored_items.specs.declared.PlaceRun.{PlaceRun}
-use Rattle.stored_items.specs.Places.{place, placeBytes, placesBytes, placesFrom, placesIn, placeRun, registerRun, ownBytes, listedFrom, floatingRun, generalRun, memoryRun, copyRun, directPlaces, argumentPlaces, argumentItem, resultFirst, resultSecond, resultItem, Fits, Storable}
+use Rattle.stored_items.specs.Places.{place, placeBytes, placesBytes, placesFrom, placesIn, placeRun, registerRun, ownBytes, listedFrom, floatingRun, generalRun, memoryRun, copyRun, directPlaces, argumentPlaces, argumentItem, resultFirst, resultSecond, resultItem}
+use Rattle.stored_items.specs.Helpers.{Fits, Storable}
 
 -- ---- lengths
 

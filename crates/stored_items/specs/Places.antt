@@ -2,7 +2,7 @@
 -- 1 memory, 2 copy (after its address), 3 hidden; bank 0 general, 1 floating; offset its own, counted as in listings, a copy's in its buffer;
 -- unused numbers 0. Each register and each doubleword (AIX: word) of memory is a place, in listing order." Over the rules of any convention;
 -- an ellipsis is in an argument's span already. Assumes nothing.
-use Prim.Native.Nat.{ℕ, zero, suc, _+_, _/_, _%_, _*_, _≤_}
+use Prim.Native.Nat.{ℕ, zero, suc, _+_, _/_, _%_}
 use mathlib.Core.List.{List, [], _∷_, _++_}
 use Rattle.words.specs.Basics.{pick}
 use Rattle.conventions.specs.declared.Convention.{Convention}
@@ -13,7 +13,6 @@ use Rattle.places.specs.declared.Rules.{Rules}
 use Rattle.places.specs.declared.Span.{Span}
 use Rattle.places.specs.declared.ResultPlaces.{ResultPlaces}
 use Rattle.places.specs.Step.{wordOf}
-use Rattle.places.specs.Places.{Numbered}
 use Rattle.stored_items.specs.declared.StoredPlace.{StoredPlace}
 use Rattle.stored_items.specs.declared.PlaceRun.{PlaceRun}
 
@@ -105,18 +104,3 @@ resultSecond (ResultPlaces.Hidden s) = noPlaces
 -- "tag 0x22 the result's (empty for none)"
 unfoldable pub resultItem : ResultPlaces → List ℕ
 resultItem x = item 0x22 (placesBytes (placesIn (resultFirst x) ++ placesIn (resultSecond x)))
-
--- ---- what the writers ask for: numbers that fit their bytes; every plan has them
-
-pub record Fits (q : PlaceRun) : Type 0 where
-  pub on : q .on ≤ 1
-  pub by : q .by ≤ 8
-  pub numbers : q .number + q .count ≤ 255
-  pub offsets : q .offset + 8 * q .count ≤ 65535
-
-pub record Storable (s : Span) : Type 0 where
-  pub numbered : Numbered s
-  pub home : s .home .start ≤ 60000
-  pub memory : s .memory .start ≤ 60000
-  pub short : s .memory .length ≤ 264
-  pub copy : s .copy .start ≤ 60000

@@ -9,10 +9,11 @@ ghost use mathlib.Core.List.{_∷_, [], _++_};
 ghost use Prim.Native.Nat.{_+_, _*_, _/_, _%_, _^_, _≤_, _<_};
 ghost use lib.ListN.{length};
 ghost use Rattle.words.specs.Basics.{pick};
-ghost use Rattle.places.specs.Places.{ResultNumbered};
-ghost use Rattle.places.specs.Step.{wordOf, Lawful};
+ghost use Rattle.places.specs.Helpers.{ResultNumbered, Lawful};
+ghost use Rattle.places.specs.Step.{wordOf};
 ghost use Rattle.text.specs.Writing.{Wrote};
-ghost use Rattle.stored_items.specs.Places.{placeBytes, placesBytes, placesIn, registerRun, noPlaces, ownBytes, listedFrom, floatingRun, generalRun, memoryRun, copyRun, argumentItem, resultFirst, resultSecond, resultItem, Fits, Storable};
+ghost use Rattle.stored_items.specs.Places.{placeBytes, placesBytes, placesIn, registerRun, noPlaces, ownBytes, listedFrom, floatingRun, generalRun, memoryRun, copyRun, argumentItem, resultFirst, resultSecond, resultItem};
+ghost use Rattle.stored_items.specs.Helpers.{Fits, Storable};
 
 // One place as it is stored.
 pub struct StoredPlace {

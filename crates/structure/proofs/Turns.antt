@@ -16,7 +16,7 @@ use Rattle.parameters.specs.declared.Parameter.{Parameter}
 use Rattle.parameters.specs.Values.{numbers, noRun, noParameter, tableWith}
 use Rattle.parameters.proofs.Turns.{Table, table-start, table-more, getD-table}
 use Rattle.structure.specs.Structure.{wordsIn, fieldsFrom, wordsTo, floats, laidOver, registersOver, straddles, firstStraddling}
-use Rattle.structure.specs.Limits.{Bounded}
+use Rattle.structure.specs.Helpers.{Bounded}
 use Rattle.structure.proofs.Laws.{words-few}
 
 -- ---- the structure

@@ -13,10 +13,10 @@ ghost use mathlib.Core.Path.{_≡_};
 ghost use Prim.Native.Nat.{_*_, _+_, _-_, _≤_, _<_, _^_};
 ghost use Rattle.signature.specs.Limits.{maxArguments};
 ghost use Rattle.signature.specs.Types.{typesIn};
-ghost use Rattle.signature.specs.Plannable.{SmallResult, Plannable};
+ghost use Rattle.signature.specs.Helpers.{SmallResult, Plannable};
 ghost use Rattle.parameters.specs.Values.{noParameter, tableWith};
 ghost use Rattle.structure.specs.Structure.{wordsIn, structureOf, firstWord, areaBytes, fieldBytes, overWords, overFloats, overNothing, floats, laidOver, registersOver, straddles, firstStraddling, powerHidden, powerReturned};
-ghost use Rattle.structure.specs.Limits.{Bounded};
+ghost use Rattle.structure.specs.Helpers.{Bounded};
 
 // All parameters as one structure: the words of each, and how many words there are.
 pub struct Structure {

@@ -26,9 +26,9 @@ use Rattle.slots.specs.declared.Answer.{Answer}
 use Rattle.slots.specs.Buffers.{Buffers, bytesAt}
 use Rattle.slots.specs.Forms.{startsAtHead, ownStart, roomOf, narrowedBytes, floatValueAs, floatValue}
 use Rattle.slots.specs.Placements.{Placement, wordsAt, floatAt, addressAt, wordsValue, valueAt, valuesAt}
-use Rattle.slots.specs.Limits.{FloatSized, Held, All, sizesOf}
+use Rattle.slots.specs.Helpers.{FloatSized, Held, All, sizesOf}
 use Rattle.slots.specs.Refusals.{narrowedAnswer, floatAnswer}
-use Rattle.unmarshal.specs.Readable.{Stored, FloatRoom, Readable}
+use Rattle.unmarshal.specs.Helpers.{Stored, FloatRoom, Readable}
 
 pub float-room : (e : Equivalent) (m n l : ℕ) → FloatSized e m n → n ≤ l → FloatRoom e (8 * m) l
 float-room Equivalent.Single m n l h k = (omega (arith, h .0), omega (arith, h .1))

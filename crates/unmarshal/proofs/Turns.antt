@@ -10,8 +10,8 @@ use Rattle.words.proofs.Splices.{length-splice, splice-head, splice-nothing, sp
 use Rattle.places.specs.declared.Rules.{Rules}
 use Rattle.slots.specs.Buffers.{Buffers}
 use Rattle.slots.specs.Placements.{Placement, valueAt, valuesAt}
-use Rattle.slots.specs.Limits.{All, sizesOf}
-use Rattle.unmarshal.specs.Readable.{Readable}
+use Rattle.slots.specs.Helpers.{All, sizesOf}
+use Rattle.unmarshal.specs.Helpers.{Readable}
 use Rattle.unmarshal.proofs.Arguments.{value-length}
 
 module _ (r : Rules) (base : ℕ) (ps : List Placement) (b : Buffers) where

@@ -1,2 +1,2 @@
 -- What taking values asks of the buffers. Assumes nothing.
-pub mod Readable
+pub mod Helpers

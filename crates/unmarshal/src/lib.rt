@@ -16,7 +16,7 @@ ghost use Rattle.slots.specs.Forms.{narrowedBytes, floatValueAs};
 ghost use Rattle.slots.specs.Placements.{placement, wordsAt, addressAt, valueAt, valuesAt};
 ghost use Rattle.slots.specs.Arguments.{rulesIn};
 ghost use Rattle.arguments.specs.Table.{argumentsFrom};
-ghost use Rattle.unmarshal.specs.Readable.{WordsFit, FloatRoom, Readable, AllReadable};
+ghost use Rattle.unmarshal.specs.Helpers.{WordsFit, FloatRoom, Readable, AllReadable};
 
 // The address in a span's only word, a doubleword: no convention with smaller words passes copies.
 pub fn word_at(image: &[u8], area: &[u8], s: Span) -> u64

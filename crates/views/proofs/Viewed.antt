@@ -19,18 +19,19 @@ use Rattle.plan.specs.declared.Plan.{Plan}
 use Rattle.slots.specs.declared.Answer.{Answer}
 use Rattle.slots.specs.Forms.{ownStart}
 use Rattle.slots.specs.Placements.{Placement}
-use Rattle.slots.specs.Limits.{Held, All}
+use Rattle.slots.specs.Helpers.{Held, All}
 use Rattle.slots.specs.Refusals.{Test, firstOf, afterReading, isDone, isRefused}
 use Rattle.plan.specs.Call.{outcomeFor}
-use Rattle.slots.specs.Arguments.{argumentsIn, argumentsOf, planFor, rulesIn, rulesFor, Carried}
-use Rattle.slots.proofs.Answered.{carried-same}
+use Rattle.slots.specs.Arguments.{argumentsIn, argumentsOf, planFor, rulesIn, rulesFor}
+use Rattle.slots.proofs.Answered.{Carried, carried-same}
 use Rattle.slots.proofs.Marked.{own-marked, held-marked}
 use Rattle.slots.proofs.Turns.{argumentAt, next-argument}
 use Rattle.slots.proofs.Refusals.{first-done}
 use Rattle.home_slot.proofs.Homed.{homed-all, all-at, getD-at, own-homed}
 use Rattle.home_slot.proofs.Marked.{homeless-marked, homed-marked}
 use Rattle.views.specs.declared.ViewPart.{ViewPart}
-use Rattle.home_slot.specs.Homes.{homeless, Homed}
+use Rattle.home_slot.specs.Homes.{homeless}
+use Rattle.home_slot.specs.Helpers.{Homed}
 use Rattle.views.specs.View.{viewTests, viewAnswer, noArgument, ownBytes, ownPart, viewPart, viewOf}
 
 -- ---- what no test refuses
@@ -81,13 +82,13 @@ unfolding argumentsOf
 hand s have index g p a read plan e d =
     let v = view-passed (rulesOf (g .convention)) (g .count) index have (p .area) (reading-done (outcomeFor s) _ (sym e ∙ d)) in
     let c : Carried g p = carried-same s g p read plan in
-    let next = next-argument g p index (v .there) (c .types) (c .spans) in
+    let next = next-argument g p index (v .there) (c .tables .types) (c .tables .spans) in
     let r : Rules = rulesOf (g .convention) in
     let homes : All (Homed (rulesIn g) (p .area)) (argumentsIn g p) =
     rw (read, plan) (homed-all s (ap (λ (x : SignatureRead). homeless (rulesIn x)) (sym read) ∙ homeless-marked (g .ellipsis) r ∙ v .homes)) in
     record {
       done = sym (answer-same s have index g p a read plan e) ∙ d;
-      small = omega (arith, v .there, c .few);
+      small = omega (arith, v .there, c .tables .few);
       room = v .room;
       held = held-marked (g .ellipsis) r _ (all-at (Held (rulesIn g)) (argumentsIn g p) index (argumentAt g p index) _ next (c .held));
       homed = homed-marked (g .ellipsis) r _ _ (all-at (Homed (rulesIn g) (p .area)) (argumentsIn g p) index (argumentAt g p index) _ next homes);

@@ -24,7 +24,8 @@ use Rattle.places.specs.declared.ZClass.{ZClass}
 use Rattle.places.specs.Values.{cursor, share}
 use Rattle.places.specs.Power.{words, fprs, covered, shareOf, powerShare}
 use Rattle.places.specs.ZSeries.{zClass, zNextOf}
-use Rattle.places.specs.Step.{Lawful, nextOf, startOf}
+use Rattle.places.specs.Step.{nextOf, startOf}
+use Rattle.places.specs.Helpers.{Lawful}
 use Rattle.places.proofs.Shares.{share-marked, share-room}
 use Rattle.places.proofs.Written.{counted, next-counted, start-written, hidden-written, z-start-written, z-hidden-written}
 use Rattle.signature.specs.Types.{typesOf}

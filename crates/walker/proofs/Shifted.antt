@@ -23,7 +23,7 @@ use Rattle.slots.specs.Placements.{placement, wordsAt, floatAt, wordsValue, val
 use Rattle.slots.specs.Refusals.{firstOf}
 use Rattle.read.specs.Read.{ownHeld, agrees, argumentAnswer}
 use Rattle.walker.specs.Step.{passes, stepTests}
-use Rattle.walker.specs.Walks.{local, Shifted, SpansShift}
+use Rattle.walker.specs.Helpers.{local, Shifted, SpansShift}
 
 z-shifts : (k : Cursor) (c : ZClass) (n : ℕ) → Shifted (k .stack) (zSpanOf k c n) (zSpanOf (local k) c n)
 unfolding zSpanOf

@@ -20,7 +20,8 @@ use Rattle.places.specs.declared.ZClass.{ZClass}
 use Rattle.places.specs.Values.{cursor}
 use Rattle.places.specs.Power.{powerShare, unclear}
 use Rattle.places.specs.ZSeries.{zClass, zNextOf}
-use Rattle.places.specs.Step.{Lawful, rulesOf, spanOf, nextOf, unclearFor}
+use Rattle.places.specs.Step.{rulesOf, spanOf, nextOf, unclearFor}
+use Rattle.places.specs.Helpers.{Lawful}
 use Rattle.places.proofs.Between.{step-between}
 use Rattle.places.proofs.Marked.{next-marked}
 use Rattle.signature.specs.Types.{typesOf}
@@ -33,7 +34,7 @@ use Rattle.read.specs.Read.{argumentAnswer}
 use Rattle.walker.specs.declared.Walker.{Walker}
 use Rattle.walker.specs.Walker.{cursorAt, countersOf, walker, cursorOf}
 use Rattle.walker.specs.Step.{sizeBy, rulesBy, asked, passes, stepTests, stepAnswer, stepValue, stepOn}
-use Rattle.walker.specs.Walks.{local, Shifted}
+use Rattle.walker.specs.Helpers.{local, Shifted}
 use Rattle.walker.proofs.Shifted.{areaFrom, span-shifts, value-shift, answer-shift}
 use Rattle.walker.proofs.Reached.{Reached, reached-cursor}
 

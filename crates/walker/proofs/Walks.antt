@@ -32,7 +32,8 @@ use Rattle.signature.specs.Types.{valuesOf, typesOf}
 use Rattle.signature.proofs.Types.{length-of-types}
 use Rattle.places.specs.declared.Cursor.{Cursor}
 use Rattle.places.specs.declared.Rules.{Rules}
-use Rattle.places.specs.Step.{Lawful, Roomy, rulesOf, spanOf, nextOf, unclearFor, startOf}
+use Rattle.places.specs.Step.{rulesOf, spanOf, nextOf, unclearFor, startOf}
+use Rattle.places.specs.Helpers.{Lawful, Roomy}
 use Rattle.places.proofs.Bounds.{rules-lawful, area-holds}
 use Rattle.places.proofs.Marked.{next-marked}
 use Rattle.plan.specs.declared.Plan.{Plan}
@@ -42,14 +43,14 @@ use Rattle.plan.proofs.Fold as fold
 use Rattle.slots.specs.declared.Answer as call
 use Rattle.slots.specs.Buffers.{Buffers}
 use Rattle.slots.specs.Placements.{Placement, placement, placements, valueAt, valuesAt}
-use Rattle.slots.specs.Limits.{All, sizesOf}
+use Rattle.slots.specs.Helpers.{All, sizesOf}
 use Rattle.slots.specs.Refusals.{firstOf, orElse, firstOfAll, afterReading}
 use Rattle.slots.specs.Arguments.{rulesIn, argumentsIn, argumentsOf}
 use Rattle.slots.proofs.Typed.{Typed, AllTyped, all-typed}
 use Rattle.slots.proofs.Answered.{arguments-got}
 use Rattle.slots.proofs.Planned.{placements-sizes}
 use Rattle.slots.proofs.Refusals.{or-done}
-use Rattle.unmarshal.specs.Readable.{Ready, Readable}
+use Rattle.unmarshal.specs.Helpers.{Ready, Readable}
 use Rattle.unmarshal.proofs.Arguments.{value-length, length-values}
 use Rattle.read.specs.declared.Sizes.{Sizes}
 use Rattle.read.specs.Read.{sizes, argumentAnswer, argumentsAnswer, readTests, readAnswer, readValues}

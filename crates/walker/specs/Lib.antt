@@ -3,3 +3,4 @@ pub mod Walker
 pub mod Step
 pub mod Words
 pub mod Walks
+pub mod Helpers

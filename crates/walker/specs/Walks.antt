@@ -1,12 +1,10 @@
 -- What is proved of the walker, each claim one type. Assumes nothing.
 use Prim.Native.Nat.{ℕ, _+_, _^_, _≤_}
 use mathlib.Core.Path.{_≡_}
-use mathlib.Core.Bool.{Bool, true, false}
+use mathlib.Core.Bool.{false}
 use mathlib.Core.List.{List, [], _∷_, _++_}
-use lib.ListN.{length, take, drop}
-use Rattle.words.specs.Basics.{pick}
+use lib.ListN.{take, drop}
 use Rattle.conventions.specs.declared.Convention.{Convention}
-use Rattle.types.specs.declared.ValueType.{ValueType}
 use Rattle.types.specs.Sizes.{sizeOf}
 use Rattle.types.specs.Trees.{Tree, Trees, none, _▸_, typeOf}
 use Rattle.types.specs.Limits.{AllWithin}
@@ -15,11 +13,7 @@ use Rattle.items.specs.Encode.{encodeTree}
 use Rattle.signature.specs.Signature.{Signature}
 use Rattle.signature.specs.Read.{signatureOf}
 use Rattle.signature.specs.Types.{typesOf}
-use Rattle.places.specs.declared.Cursor.{Cursor}
-use Rattle.places.specs.declared.Span.{Span}
-use Rattle.places.specs.declared.Rules.{Rules}
-use Rattle.places.specs.Values.{cursor}
-use Rattle.places.specs.Step.{rulesOf, spanOf, startOf}
+use Rattle.places.specs.Step.{rulesOf, startOf}
 use Rattle.plan.specs.Plan.{lastOf}
 use Rattle.slots.specs.declared.Answer as call
 use Rattle.slots.specs.Buffers.{Buffers}
@@ -86,24 +80,3 @@ pub record SameWalk (s ws : List ℕ) (base : ℕ) (b : Buffers) (v : List ℕ) 
 -- of values v, the register image, the area and the copies b
 abbrev pub WalksAlike : Type 0
 WalksAlike = (s ws : List ℕ) (base : ℕ) (b : Buffers) (v : List ℕ) → readAnswer s (sizes v (b .image) (b .area)) base b ≡ call.Answer.Done → SameWalk s ws base b v
-
--- ---- a span moves with its offset in the area
-
--- the cursor at the same registers, at offset 0 of the area
-abbrev pub local : Cursor → Cursor
-local k = cursor (k .general) (k .floating) 0 0
-
--- s is s′ moved by d bytes of the area; of a copy only its length is told
-pub record Shifted (d : ℕ) (s s′ : Span) : Type 0 where
-  pub general : s .general ≡ s′ .general
-  pub floating : s .floating ≡ s′ .floating
-  pub home-start : s .home .start ≡ d + s′ .home .start
-  pub home-length : s .home .length ≡ s′ .home .length
-  pub memory-start : s .memory .start ≡ d + s′ .memory .start
-  pub memory-length : s .memory .length ≡ s′ .memory .length
-  pub copy-length : s .copy .length ≡ s′ .copy .length
-  pub indirect : s .indirect ≡ s′ .indirect
-
--- a step may start from offset 0 of the part of the area that starts at its own
-abbrev pub SpansShift : Type 0
-SpansShift = (r : Rules) (k : Cursor) (t : ValueType) (n : ℕ) → Shifted (k .stack) (spanOf r k t n) (spanOf r (local k) t n)

@@ -36,7 +36,7 @@ use Rattle.walker.specs.declared.WalkerRead.{WalkerRead}
 use Rattle.walker.specs.Walker.{countersOf, walker, walkerOf, lost}
 use Rattle.walker.specs.Step.{typeItem}
 use Rattle.walker.specs.Words.{unlost, walkerBy, walkerIn, walkerWords, startAnswer, startWords, walked, stepFor, itemBy, walkBy, walk}
-use Rattle.walking.specs.Part.{Declared}
+use Rattle.walking.specs.Helpers.{Declared}
 
 -- ---- the item
 

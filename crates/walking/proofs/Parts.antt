@@ -15,13 +15,14 @@ use Rattle.places.specs.declared.Rules.{Rules}
 use Rattle.places.specs.declared.ZClass.{ZClass}
 use Rattle.places.specs.Power.{words, powerShare, unclear}
 use Rattle.places.specs.ZSeries.{zClass, zNextOf}
-use Rattle.places.specs.Step.{Lawful, Roomy, nextOf, unclearFor, startOf}
+use Rattle.places.specs.Step.{nextOf, unclearFor, startOf}
+use Rattle.places.specs.Helpers.{Lawful, Roomy}
 use Rattle.places.proofs.Bounds.{Named, named-next, named-start, named-roomy, near-next, start-bytes}
 use Rattle.walker.specs.declared.Counters.{Counters}
 use Rattle.walker.specs.Walker.{counters, cursorAt, countersOf}
-use Rattle.walker.specs.Walks.{local}
+use Rattle.walker.specs.Helpers.{local}
 use Rattle.walker.proofs.Reached.{Possible}
-use Rattle.walking.specs.Part.{Offset, Countable, countersAfter}
+use Rattle.walking.specs.Helpers.{Offset, Countable, countersAfter}
 
 -- ---- the part of the area
 

@@ -18,19 +18,20 @@ use Rattle.items.specs.Reading.{fault}
 use Rattle.places.specs.declared.Cursor.{Cursor}
 use Rattle.places.specs.declared.Rules.{Rules}
 use Rattle.places.specs.declared.Span.{Span}
-use Rattle.places.specs.Step.{Lawful, rulesOf, spanOf, nextOf, unclearFor}
+use Rattle.places.specs.Step.{rulesOf, spanOf, nextOf, unclearFor}
+use Rattle.places.specs.Helpers.{Lawful}
 use Rattle.places.proofs.Bounds.{rules-lawful}
 use Rattle.places.proofs.Marked.{next-marked, named-marked}
 use Rattle.places.proofs.Registers.{step-numbered}
 use Rattle.slots.specs.declared.Answer as call
 use Rattle.slots.specs.Buffers.{Buffers, buffers}
 use Rattle.slots.specs.Placements.{Placement, placement, valueAt}
-use Rattle.slots.specs.Limits.{All}
+use Rattle.slots.specs.Helpers.{All}
 use Rattle.slots.specs.Refusals.{firstOf, orElse, firstOfAll, isRefused}
 use Rattle.slots.proofs.Typed.{Typed}
 use Rattle.slots.proofs.Held.{step-held}
 use Rattle.slots.proofs.Refusals.{first-done, differ-false, or-refused, not-refused}
-use Rattle.unmarshal.specs.Readable.{Ready, Readable}
+use Rattle.unmarshal.specs.Helpers.{Ready, Readable}
 use Rattle.read.specs.Read.{argumentAnswer, argumentsAnswer}
 use Rattle.read.proofs.Arguments.{all-readable}
 use Rattle.walker.specs.declared.Answer.{Answer}
@@ -38,11 +39,11 @@ use Rattle.walker.specs.declared.Walker.{Walker}
 use Rattle.walker.specs.Walker.{countersOf, walker, cursorOf, lost}
 use Rattle.walker.specs.Step.{sizeBy, rulesBy, asked, passes, stepTests, stepAnswer, stepValue, stepOn}
 use Rattle.walker.specs.Words.{walkerWords, walked, stepBy, stepFor}
-use Rattle.walker.specs.Walks.{local, Shifted}
+use Rattle.walker.specs.Helpers.{local, Shifted}
 use Rattle.walker.proofs.Shifted.{areaFrom, span-shifts, value-shift, answer-shift, tests-shift}
 use Rattle.walker.proofs.Exactly.{found-possible}
 use Rattle.walker.proofs.Steps.{typed}
-use Rattle.walking.specs.Part.{Declared, countersAfter}
+use Rattle.walking.specs.Helpers.{Declared, countersAfter}
 use Rattle.walking.proofs.Parts.{local-named, unclear-local, next-after}
 
 -- ---- what the lengths tell

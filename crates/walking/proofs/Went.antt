@@ -13,7 +13,8 @@ use Rattle.places.specs.declared.Cursor.{Cursor}
 use Rattle.places.specs.declared.Placed.{Placed}
 use Rattle.places.specs.declared.Rules.{Rules}
 use Rattle.places.specs.declared.Span.{Span}
-use Rattle.places.specs.Step.{Lawful, Roomy, rulesOf, nextOf, unclearFor, placed}
+use Rattle.places.specs.Step.{rulesOf, nextOf, unclearFor, placed}
+use Rattle.places.specs.Helpers.{Lawful, Roomy}
 use Rattle.places.proofs.Bounds.{rules-lawful}
 use Rattle.places.proofs.Marked.{lawful-marked, next-marked}
 use Rattle.slots.specs.declared.Answer as call
@@ -21,7 +22,7 @@ use Rattle.slots.specs.Buffers.{Buffers, buffers}
 use Rattle.slots.specs.Placements.{placement, valueAt}
 use Rattle.slots.specs.Refusals.{firstOf, isRefused}
 use Rattle.slots.proofs.Refusals.{not-refused}
-use Rattle.unmarshal.specs.Readable.{Ready, Readable}
+use Rattle.unmarshal.specs.Helpers.{Ready, Readable}
 use Rattle.read.specs.Read.{argumentAnswer}
 use Rattle.walker.specs.declared.Answer.{Answer}
 use Rattle.walker.specs.declared.Counters.{Counters}
@@ -29,10 +30,10 @@ use Rattle.walker.specs.declared.Walker.{Walker}
 use Rattle.walker.specs.Walker.{cursorAt, walker, cursorOf, lost}
 use Rattle.walker.specs.Step.{sizeBy, rulesBy, stepTests, stepOn}
 use Rattle.walker.specs.Words.{walkerWords, walked, stepFor}
-use Rattle.walker.specs.Walks.{local}
+use Rattle.walker.specs.Helpers.{local}
 use Rattle.walker.proofs.Shifted.{areaFrom}
 use Rattle.walker.proofs.Exactly.{found-possible}
-use Rattle.walking.specs.Part.{Declared, Offset, Countable, countersAfter}
+use Rattle.walking.specs.Helpers.{Declared, Offset, Countable, countersAfter}
 use Rattle.walking.proofs.Parts.{part-area, part-length, possible-offset, local-roomy, next-countable}
 use Rattle.walking.proofs.Steps.{near, span, Passed, lengths-passed, step-unclear, step-lengths, step-answer, step-done, step-moves, step-ready, step-readable}
 

@@ -28,8 +28,9 @@ ghost use Rattle.slots.specs.Refusals.{firstOf};
 ghost use Rattle.walker.specs.Walker.{walker as walkerAt, counters, countersOf, cursorAt, lost};
 ghost use Rattle.walker.specs.Step.{typeItem, passes, stepTests};
 ghost use Rattle.walker.specs.Words.{startAnswer, startWords, stepFor, walk as walkOf};
-ghost use Rattle.walker.specs.Walks.{Small, local};
-ghost use Rattle.walking.specs.Part.{Declared, Offset, Countable, countersAfter};
+ghost use Rattle.walker.specs.Walks.{Small};
+ghost use Rattle.walker.specs.Helpers.{local};
+ghost use Rattle.walking.specs.Helpers.{Declared, Offset, Countable, countersAfter};
 
 // ---- the counters
 

@@ -21,7 +21,7 @@ use Rattle.places.specs.Step.{wordOf}
 use Rattle.plan.specs.declared.Plan.{Plan}
 use Rattle.signature.specs.Types.{typesIn}
 use Rattle.slots.specs.Buffers.{Buffers, buffers, bytesAt}
-use Rattle.slots.specs.Limits.{Fits, All}
+use Rattle.slots.specs.Helpers.{Fits, All}
 use Rattle.slots.specs.Arguments.{argumentsIn, argumentsOf, planFor, rulesFor}
 use Rattle.slots.proofs.Planned.{all-with}
 use Rattle.slots.proofs.Answered.{carried}

@@ -15,13 +15,13 @@ use Rattle.rules.specs.declared.Rules.{Rules}
 use Rattle.rules.specs.declared.Frame.{Frame}
 use Rattle.rules.specs.Rules.{rules}
 use Rattle.rules.specs.Frames.{withPointer, below, frameSize, chainWidth, saves}
-use Rattle.rules.specs.Lawful.{Lawful}
+use Rattle.rules.specs.Helpers.{Lawful}
 use Rattle.rules.proofs.Conventions.{lawful}
 use Rattle.rules.proofs.Places.{chain-in, below-reach, ascending}
 use Rattle.machine.specs.declared.Answer.the-variants.{Accepted}
 use Rattle.machine.specs.declared.State.{State}
 use Rattle.machine.specs.Machine.{rulesOf, stackPointer, offset, enterAnswer, entered, enteredMemory, enterOutcome}
-use Rattle.machine.specs.Premises.{CanEnter}
+use Rattle.machine.specs.Helpers.{CanEnter}
 use Rattle.machine.proofs.States.{enter-yes}
 use Rattle.machine.proofs.Outcomes.{enter-accepted}
 use Rattle.history.specs.Calls.{enter, Machine, answer, after}

@@ -40,7 +40,7 @@ use Rattle.slots.specs.declared.Answer.{Answer}
 use Rattle.slots.specs.Buffers.{Buffers, bytesAt}
 use Rattle.slots.specs.Forms.{startsAtHead, extended, roomOf, homeBytes, singleWord, floatForm, floatBytes}
 use Rattle.slots.specs.Placements.{Placement, placements, standing}
-use Rattle.slots.specs.Limits.{All}
+use Rattle.slots.specs.Helpers.{All}
 use Rattle.slots.specs.Arguments.{argumentsIn, argumentsOf, planFor, rulesIn, rulesFor}
 use Rattle.slots.proofs.Answered.{arguments-got}
 use Rattle.fill.specs.Fill.{highAddress, fillAnswer}

@@ -13,7 +13,7 @@ use Rattle.rules.specs.declared.Rules.{Rules}
 use Rattle.rules.specs.declared.Frame.{Frame}
 use Rattle.rules.specs.Rules.{rules}
 use Rattle.rules.specs.Frames.{outgoingLength, below, frameSize}
-use Rattle.rules.specs.Lawful.{Lawful}
+use Rattle.rules.specs.Helpers.{Lawful}
 use Rattle.rules.proofs.Places.{size-parts}
 use Rattle.machine.specs.declared.Answer.the-variants.{Accepted}
 use Rattle.machine.specs.declared.Refusal.the-variants.{NotPermitted}

@@ -15,7 +15,7 @@ use Rattle.rules.specs.declared.Rules.{Rules}
 use Rattle.rules.specs.declared.Registers.{Registers}
 use Rattle.rules.specs.Rules.{rules}
 use Rattle.rules.specs.Frames.{bankOf, writable, writableRegister, withRegister}
-use Rattle.rules.specs.Lawful.{Lawful}
+use Rattle.rules.specs.Helpers.{Lawful}
 use Rattle.rules.proofs.Conventions.{lawful, writable-lt}
 use Rattle.rules.proofs.Places.{limit-64}
 use Rattle.machine.specs.declared.Answer.the-variants.{Accepted}

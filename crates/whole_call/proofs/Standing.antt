@@ -18,11 +18,11 @@ use Rattle.places.specs.declared.Rules.{Rules}
 use Rattle.places.specs.declared.Span.{Span}
 use Rattle.slots.specs.Buffers.{Buffers, buffers, bytesAt}
 use Rattle.slots.specs.Placements.{Placement, placements, copyBytes}
-use Rattle.slots.specs.Limits.{Fits, All}
+use Rattle.slots.specs.Helpers.{Fits, All}
 use Rattle.roundtrip.proofs.Arguments.{Put, AllPut}
 use Rattle.rules.specs.declared.Rules as frames
 use Rattle.rules.specs.declared.Registers.{Registers}
-use Rattle.rules.specs.Lawful.{Lawful}
+use Rattle.rules.specs.Helpers.{Lawful}
 use Rattle.whole_call.specs.Put.{Register, register, fileOf, wordsOf, imageOf, imageAt, inImage}
 use Rattle.whole_call.specs.Caller.{Each}
 use Rattle.whole_call.proofs.Lists.{words-length, words-at}

@@ -13,7 +13,8 @@ ghost use mathlib.Core.Path.{_≡_};
 ghost use Prim.Native.Nat.{_+_, _^_, _≤_, _<_};
 ghost use lib.ListN.{length};
 ghost use Rattle.signature.specs.Read.{argumentsIn, signatureOf};
-ghost use Rattle.signature.specs.Answer.{refused, withArguments, signatureAnswer};
+ghost use Rattle.signature.specs.Answer.{refused, signatureAnswer};
+ghost use Rattle.signature.specs.Helpers.{withArguments};
 
 fn refuse(fault: Fault) -> SignatureRead
     ensures { λ r. ⌜ r ≡ refused fault ⌝ }

@@ -11,14 +11,14 @@ use lib.ListN.{length, getD, set, take, length-set}
 use lib.Dec.{leb}
 use lib.Seq.{set-getD, getD-set-same, getD-set-other}
 use borrow.Author.Tests.{leb-true}
-use Rattle.words.specs.Splice.{overlay, splice, part, Apart}
-use Rattle.words.proofs.Splices.{length-part, splice-one, splice-other}
+use Rattle.words.specs.Splice.{overlay, splice, part}
+use Rattle.words.proofs.Splices.{Apart, length-part, splice-one, splice-other}
 use Rattle.conventions.specs.declared.Convention.{Convention}
 use Rattle.conventions.specs.Numbers.{conventionCode}
 use Rattle.rules.specs.declared.Rules.{Rules}
 use Rattle.rules.specs.declared.RegisterBank.{RegisterBank}
 use Rattle.rules.specs.declared.RegisterBank.the-variants.{General, Floating, Link, ConditionField, None}
-use Rattle.rules.specs.Lawful.{Named}
+use Rattle.rules.specs.Helpers.{Named}
 use Rattle.rules.specs.Rules.{rules}
 use Rattle.rules.specs.Frames.{noFrame, frameSize, withPointer, restored, bankOf, writableRegister, withField, withRegister}
 use Rattle.rules.proofs.Facts.{and-yes}

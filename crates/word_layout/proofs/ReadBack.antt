@@ -10,8 +10,8 @@ use lib.ListN.{length, getD, set, length-set}
 use lib.Dec.{leb, eqb}
 use lib.Seq.{getD-set-same, getD-set-other}
 use borrow.Author.Tests.{le-leb}
-use Rattle.words.specs.Splice.{splice, part, Apart}
-use Rattle.words.proofs.Splices.{length-splice, splice-one, splice-same, splice-at-same, splice-other, splice-at-other}
+use Rattle.words.specs.Splice.{splice, part}
+use Rattle.words.proofs.Splices.{Apart, length-splice, splice-one, splice-same, splice-at-same, splice-other, splice-at-other}
 use Rattle.rules.specs.declared.Frame.{Frame}
 use Rattle.rules.specs.declared.Registers.{Registers}
 use Rattle.words.specs.Basics.{pick}

@@ -21,7 +21,7 @@ use Rattle.rules.specs.declared.Rules.{Rules}
 use Rattle.rules.specs.declared.Registers.{Registers}
 use Rattle.rules.specs.declared.RegisterBank.{RegisterBank}
 use Rattle.rules.specs.declared.RegisterBank.the-variants.{General, Floating, Link, ConditionField, None}
-use Rattle.rules.specs.Lawful.{Named}
+use Rattle.rules.specs.Helpers.{Named}
 use Rattle.rules.specs.Rules.{rules}
 use Rattle.rules.proofs.Halves.{lowered-length}
 use Rattle.rules.specs.Frames.{noFrame, withPointer, cleared, frameSize, gprSave, fprSave, restored, bankOf, withRegister}

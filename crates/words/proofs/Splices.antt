@@ -1,7 +1,7 @@
 -- The laws of `overlay`, `splice` and `part`: their lengths and shape, what is read at the place of a write, what is read elsewhere, and one write after another.
 -- Assumes nothing.
 use mathlib.Core.Path.{_≡_, refl, sym, ap, _∙_}
-use mathlib.Core.Logic.{inl, inr}
+use mathlib.Core.Logic.{_⊎_, inl, inr}
 use mathlib.Core.List.{List, [], _∷_, _++_, append-nil}
 use Prim.Native.Nat.{ℕ, zero, suc, _+_, _-_, _≤_, _<_}
 use native.Mathlib.Nat.{le-of-suc-le-suc, not-suc-le-zero, add-zero, zero-add, suc-add}
@@ -9,7 +9,11 @@ use native.Mathlib.Omega.{arith}
 use lib.ListN.{length, getD, take, drop, set, length-drop, drop-of-length-le}
 use lib.Seq.{take-all, take-take, length-take-le, take-add, drop-drop, getD-take, getD-drop}
 use borrow.Rule.Slice.PartMut.{putMid, midOf}
-use Rattle.words.specs.Splice.{overlay, splice, part, Apart}
+use Rattle.words.specs.Splice.{overlay, splice, part}
+
+-- the m bytes from p on and the n bytes from q on have no byte in common: where "nothing else" ("Frames") is, seen from a write
+abbrev pub Apart : ℕ → ℕ → ℕ → ℕ → Type 0
+Apart p m q n = (p + m ≤ q) ⊎ (q + n ≤ p)
 
 -- ---- lengths and shape
 

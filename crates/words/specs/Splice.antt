@@ -2,8 +2,7 @@
 -- ("What stands in a slot"), "An accepted write puts the given value or bytes in the place named and changes nothing else" ("Frames").
 -- A list keeps its length whatever is put over it, so that a chain of writes is stated without a word about room; that there is room is asked where it is read back.
 -- Assumes nothing.
-use Prim.Native.Nat.{ℕ, zero, suc, _+_, _≤_}
-use mathlib.Core.Logic.{_⊎_}
+use Prim.Native.Nat.{ℕ, zero, suc}
 use mathlib.Core.List.{List, [], _∷_}
 use lib.ListN.{take, drop}
 
@@ -24,7 +23,3 @@ splice (x ∷ l) (suc n) bs = x ∷ splice l n bs
 -- the m elements of l from the offset n on: "Reading takes a value's own bytes" ("What stands in a slot")
 abbrev pub part : ℕ → ℕ → List ℕ → List ℕ
 part n m l = take m (drop n l)
-
--- the m bytes from p on and the n bytes from q on have no byte in common: where "nothing else" ("Frames") is, seen from a write
-abbrev pub Apart : ℕ → ℕ → ℕ → ℕ → Type 0
-Apart p m q n = (p + m ≤ q) ⊎ (q + n ≤ p)

@@ -1,10 +1,10 @@
 // Which bytes of the memory a frame may write: its own outgoing area and its locals, or a leaf's part of the floor; and its caller's outgoing area.
 ghost use mathlib.Core.Path.{_≡_};
 ghost use Prim.Native.Nat.{_+_, _≤_};
-ghost use Rattle.rules.specs.Lawful.{Lawful};
+ghost use Rattle.rules.specs.Helpers.{Lawful};
 ghost use Rattle.rules.specs.Frames.{maxOutgoing, outgoingLength};
 ghost use Rattle.machine.specs.Machine.{inside, outgoingFrom, localsFrom, writableBytes, writableAddress};
-ghost use Rattle.machine.specs.Premises.{Sound};
+ghost use Rattle.machine.specs.Helpers.{Sound};
 use machine::State;
 use rules::Frame;
 use rules::Rules;

@@ -3,7 +3,7 @@ ghost use mathlib.Core.Path.{_≡_};
 ghost use Prim.Native.Nat.{_≤_, _<_};
 ghost use Rattle.rules.specs.Rules.{within};
 ghost use Rattle.rules.specs.Frames.{writable, writableField, bankOf, writableRegister, unitOf, withField, withRegister};
-ghost use Rattle.rules.specs.Lawful.{Named};
+ghost use Rattle.rules.specs.Helpers.{Named};
 use rules::Bank;
 use rules::Frame;
 use rules::RegisterBank;

@@ -1,6 +1,7 @@
 -- The loop places one argument of the table a turn (`Walking`); at its end the cursor and the bytes of the values are the plan's.
 use Rattle.arguments.proofs.Table.{Walking, walking-start, walking-roomy, walking-plain, walking-end}
-use Rattle.plan.specs.Plan.{planned, planIn}
+use Rattle.plan.specs.Plan.{planIn}
+use Rattle.plan.specs.Helpers.{planned}
 use Rattle.places.proofs.Bounds.{rules-lawful}
 use borrow.Author.Needs.{needs}
 use native.Mathlib.Omega.{arith}

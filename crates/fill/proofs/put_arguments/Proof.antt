@@ -9,13 +9,13 @@ use native.Mathlib.Nat.{add-sub-cancel-left}
 use lib.ListN.{length, drop, take, length-drop}
 use lib.Seq.{length-take-le}
 use Rattle.places.specs.Step.{placed}
-use Rattle.signature.specs.Plannable.{typeAt}
+use Rattle.signature.specs.Helpers.{typeAt}
 use Rattle.slots.specs.Buffers.{buffers}
 use Rattle.slots.specs.Placements.{Placement, placement}
 use Rattle.slots.specs.Arguments.{rulesIn}
 use Rattle.arguments.specs.Table.{argumentsFrom}
 use Rattle.arguments.proofs.Table.{lawful-in, Walking, walking-start, walking-roomy, walking-hand, walking-more, walking-end}
-use Rattle.marshal.specs.Room.{Ready}
+use Rattle.marshal.specs.Helpers.{Ready}
 use Rattle.fill.proofs.Turns.{Going, AtHand, going-start, at-hand, going-more, going-end}
 use Rattle.fill.proofs.put_arguments.Statement.{statement}
 use Rattle.fill.proofs.put_arguments.Tie as tie

@@ -11,7 +11,7 @@ use Rattle.words.proofs.Splices.{lent-tail}
 use Rattle.places.specs.declared.ResultPlaces.{ResultPlaces}
 use Rattle.slots.specs.Buffers.{buffers, put, putAll}
 use Rattle.slots.specs.Placements.{hiddenSlots}
-use Rattle.fill.specs.Fill.{HiddenFits}
+use Rattle.fill.specs.Helpers.{HiddenFits}
 use Rattle.fill.proofs.Accepted.{address-word}
 use borrow.Author.Needs.{needs}
 use Rattle.fill.proofs.put_hidden.Statement.{statement}

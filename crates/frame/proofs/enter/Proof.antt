@@ -1,7 +1,7 @@
 -- The answer decides: a refused call hands back what it was lent, an accepted one pushes the record and saves. Assumes nothing.
 use Rattle.machine.proofs.States.{enter-yes}
 use Rattle.machine.proofs.Outcomes.{enter-accepted, enter-refused}
-use Rattle.rules.specs.Lawful.{Lawful}
+use Rattle.rules.specs.Helpers.{Lawful}
 use Rattle.rules.proofs.Conventions.{lawful}
 use denote.Ref.{now}
 use lib.ListN.{length}

@@ -1,7 +1,7 @@
 -- The answer decides: a refused call hands the state back, an accepted one pops the frame. Assumes nothing.
 use Rattle.machine.proofs.States.{leave-yes}
 use Rattle.machine.proofs.Outcomes.{leave-accepted, leave-refused}
-use Rattle.rules.specs.Lawful.{Lawful}
+use Rattle.rules.specs.Helpers.{Lawful}
 use Rattle.rules.proofs.Conventions.{lawful}
 use denote.Ref.{now}
 use mathlib.Core.Path.{sym, _∙_}

@@ -4,7 +4,7 @@ use Rattle.machine.proofs.Areas.{address-yes}
 use Rattle.machine.proofs.States.{write-memory-yes}
 use Rattle.machine.proofs.Outcomes.{write-memory-accepted, write-memory-refused}
 use Rattle.machine.specs.Machine.{writtenMemory}
-use Rattle.rules.specs.Lawful.{Lawful}
+use Rattle.rules.specs.Helpers.{Lawful}
 use Rattle.rules.proofs.Conventions.{lawful}
 use denote.Ref.{now}
 use lib.ListN.{length, length-take, length-drop}

@@ -6,7 +6,7 @@ use Rattle.machine.proofs.States.{write-register-yes}
 use Rattle.machine.proofs.Outcomes.{write-register-accepted, write-register-refused, registers-written}
 use Rattle.rules.specs.Frames.{bankOf}
 use Rattle.machine.specs.Machine.{top}
-use Rattle.rules.specs.Lawful.{Lawful}
+use Rattle.rules.specs.Helpers.{Lawful}
 use Rattle.rules.proofs.Conventions.{lawful}
 use denote.Ref.{now}
 use lib.ListN.{length}

@@ -1,5 +1,6 @@
 -- The loop tests one argument a turn; those that are left give what all give (`Checking`).
-use Rattle.home_slot.specs.Homes.{registerAnswer, Registered}
+use Rattle.home_slot.specs.Homes.{registerAnswer}
+use Rattle.home_slot.specs.Helpers.{Registered}
 use Rattle.home_slot.proofs.Marked.{answer-marked}
 use borrow.Author.Needs.{needs}
 use mathlib.Core.Path.{_≡_, sym, _∙_}
@@ -26,7 +27,7 @@ abbrev hand : (c : tie.After-s Inv-loop μ-loop) → Placement
 hand c = argumentAt (c .before .before .before .before .before .before .args .t2) (c .before .before .before .before .before .before .args .t3) (c .before .before .before .loop .i)
 
 next : (c : tie.After-s Inv-loop μ-loop) → drop (c .before .before .before .loop .i) (argumentsIn (c .before .before .before .before .before .before .args .t2) (c .before .before .before .before .before .before .args .t3)) ≡ hand c ∷ drop (suc (c .before .before .before .loop .i)) (argumentsIn (c .before .before .before .before .before .before .args .t2) (c .before .before .before .before .before .before .args .t3))
-next c = next-argument (c .before .before .before .before .before .before .args .t2) (c .before .before .before .before .before .before .args .t3) (c .before .before .before .loop .i) (c .before .before .loop-test .taken) (c .before .before .before .before .before .before .pre .types) (c .before .before .before .before .before .before .pre .spans)
+next c = next-argument (c .before .before .before .before .before .before .args .t2) (c .before .before .before .before .before .before .args .t3) (c .before .before .before .loop .i) (c .before .before .loop-test .taken) (c .before .before .before .before .before .before .pre .tables .types) (c .before .before .before .before .before .before .pre .tables .spans)
 
 asked : (c : tie.After-register-answer Inv-loop μ-loop) → c .register-answer .result ≡ registerAnswer (rulesIn (c .before .before .before .before .before .before .before .args .t2)) (hand (c .before) .ty) (hand (c .before) .span) (c .before .before .before .before .before .before .before .args .image .now)
 asked c = c .register-answer .ensures ∙ rw (c .before .before .before .before .before .call-rules-of .ensures) (sym (answer-marked _ _ _ _ _))
@@ -38,16 +39,16 @@ loop-holds : tie.Need-loop-holds Inv-loop μ-loop
 loop-holds c = checking-start _ _ _ (c .before .before .pre .each)
 
 mul-a : tie.Need-mul-a Inv-loop μ-loop
-mul-a c = omega (arith, c .before .before .before .before .pre .few)
+mul-a c = omega (arith, c .before .before .before .before .pre .tables .few)
 
 element-copy-out-a : tie.Need-element-copy-out-a Inv-loop μ-loop
-element-copy-out-a c = omega (arith, c .before .before .before .before .pre .few)
+element-copy-out-a c = omega (arith, c .before .before .before .before .pre .tables .few)
 
 mul-s : tie.Need-mul-s Inv-loop μ-loop
-mul-s c = omega (arith, c .before .before .before .before .before .pre .few)
+mul-s c = omega (arith, c .before .before .before .before .before .pre .tables .few)
 
 element-copy-out-s : tie.Need-element-copy-out-s Inv-loop μ-loop
-element-copy-out-s c = omega (arith, c .before .before .before .before .before .pre .few)
+element-copy-out-s c = omega (arith, c .before .before .before .before .before .pre .tables .few)
 
 register-answer-requires : tie.Need-register-answer-requires Inv-loop μ-loop
 register-answer-requires c κs =
@@ -62,7 +63,7 @@ unfolding registersAnswer
 returns c = checking-refused _ _ _ _ (hand (c .before .before .before)) (next (c .before .before .before)) (c .before .before .before .before .before .before .loop .inv) _ (asked (c .before .before)) (sym (c .before .is-refused .ensures) ∙ c .if1 .taken)
 
 add-i : tie.Need-add-i Inv-loop μ-loop
-add-i c = omega (arith, c .before .before .before .before .before .before .before .before .before .pre .few, c .before .before .before .before .before .loop-test .taken)
+add-i c = omega (arith, c .before .before .before .before .before .before .before .before .before .pre .tables .few, c .before .before .before .before .before .loop-test .taken)
 
 loop-less : tie.Need-loop-less Inv-loop μ-loop
 loop-less c = omega (arith, c .before .before .before .before .before .loop-test .taken)
@@ -72,7 +73,7 @@ loop-again c = checking-more _ _ _ _ (hand (c .before .before .before)) (next (c
 
 returns-2 : tie.Need-returns-2 Inv-loop μ-loop
 unfolding registersAnswer
-returns-2 c = checking-end _ _ _ _ (no-argument (c .before .before .before .before .args .t2) (c .before .before .before .before .args .t3) (c .before .loop .i) (omega (arith, c .loop-test .left)) (c .before .before .before .before .pre .types)) (c .before .loop .inv)
+returns-2 c = checking-end _ _ _ _ (no-argument (c .before .before .before .before .args .t2) (c .before .before .before .before .args .t3) (c .before .loop .i) (omega (arith, c .loop-test .left)) (c .before .before .before .before .pre .tables .types)) (c .before .loop .inv)
 
 pub first-unwidened-spec : {M : Type 1} → statement M
 first-unwidened-spec =

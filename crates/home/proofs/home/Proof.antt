@@ -7,7 +7,8 @@ use Rattle.signature.proofs.Types.{answer-plannable}
 use Rattle.slots.specs.declared.Answer.{Answer}
 use Rattle.slots.proofs.Answered.{plan-same}
 use Rattle.slots.proofs.Refusals.{not-refused}
-use Rattle.home.specs.Home.{homeArea, AllRegistered}
+use Rattle.home.specs.Home.{homeArea}
+use Rattle.home.specs.Helpers.{AllRegistered}
 use Rattle.home.proofs.Registers.{tests-marked, home-passed, all-registered, home-refused, home-lengths, home-registers, area-kept, area-homed}
 use borrow.Author.Needs.{needs}
 use Rattle.home.proofs.home.Statement.{statement}

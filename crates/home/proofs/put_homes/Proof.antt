@@ -1,5 +1,6 @@
 -- The loop puts one argument a turn; those that are left give what all give (`Homing`).
-use Rattle.home_slot.specs.Homes.{homedBytes, Registered}
+use Rattle.home_slot.specs.Homes.{homedBytes}
+use Rattle.home_slot.specs.Helpers.{Registered}
 use Rattle.home_slot.proofs.Forms.{registered-at}
 use Rattle.home_slot.proofs.Marked.{bytes-marked, registered-marked}
 use borrow.Author.Needs.{needs}
@@ -30,7 +31,7 @@ abbrev hand : (c : tie.After-s Inv-loop μ-loop) → Placement
 hand c = argumentAt (c .before .before .before .before .before .before .args .t3) (c .before .before .before .before .before .before .args .t4) (c .before .before .before .loop .i)
 
 next : (c : tie.After-s Inv-loop μ-loop) → drop (c .before .before .before .loop .i) (argumentsIn (c .before .before .before .before .before .before .args .t3) (c .before .before .before .before .before .before .args .t4)) ≡ hand c ∷ drop (suc (c .before .before .before .loop .i)) (argumentsIn (c .before .before .before .before .before .before .args .t3) (c .before .before .before .before .before .before .args .t4))
-next c = next-argument (c .before .before .before .before .before .before .args .t3) (c .before .before .before .before .before .before .args .t4) (c .before .before .before .loop .i) (c .before .before .loop-test .taken) (c .before .before .before .before .before .before .pre .0 .types) (c .before .before .before .before .before .before .pre .0 .spans)
+next c = next-argument (c .before .before .before .before .before .before .args .t3) (c .before .before .before .before .before .before .args .t4) (c .before .before .before .loop .i) (c .before .before .loop-test .taken) (c .before .before .before .before .before .before .pre .0 .tables .types) (c .before .before .before .before .before .before .pre .0 .tables .spans)
 
 ready : (c : tie.After-s Inv-loop μ-loop) → Registered (rulesIn (c .before .before .before .before .before .before .args .t3)) (c .before .before .before .before .before .before .args .t4 .area) (length (c .before .before .before .before .before .before .args .image .now)) (hand c)
 ready c = homing-ready _ _ _ _ _ _ _ _ (hand c) (next c) (c .before .before .before .loop .inv)
@@ -42,16 +43,16 @@ loop-holds : tie.Need-loop-holds Inv-loop μ-loop
 loop-holds c = homing-start _ _ _ _ _ _ (c .before .before .pre .0 .each)
 
 mul-a : tie.Need-mul-a Inv-loop μ-loop
-mul-a c = omega (arith, c .before .before .before .before .pre .0 .few)
+mul-a c = omega (arith, c .before .before .before .before .pre .0 .tables .few)
 
 element-copy-out-a : tie.Need-element-copy-out-a Inv-loop μ-loop
-element-copy-out-a c = omega (arith, c .before .before .before .before .pre .0 .few)
+element-copy-out-a c = omega (arith, c .before .before .before .before .pre .0 .tables .few)
 
 mul-s : tie.Need-mul-s Inv-loop μ-loop
-mul-s c = omega (arith, c .before .before .before .before .before .pre .0 .few)
+mul-s c = omega (arith, c .before .before .before .before .before .pre .0 .tables .few)
 
 element-copy-out-s : tie.Need-element-copy-out-s Inv-loop μ-loop
-element-copy-out-s c = omega (arith, c .before .before .before .before .before .pre .0 .few)
+element-copy-out-s c = omega (arith, c .before .before .before .before .before .pre .0 .tables .few)
 
 cast-start : tie.Need-cast-start Inv-loop μ-loop
 cast-start c = search needs
@@ -76,7 +77,7 @@ put-home-requires c κs =
     (registered-marked (g .ellipsis) (rulesOf (g .convention)) _ _ _ (ready h))
 
 add-i : tie.Need-add-i Inv-loop μ-loop
-add-i c = omega (arith, c .before .before .before .before .before .before .before .before .before .before .before .before .pre .0 .few, c .before .before .before .before .before .before .before .before .loop-test .taken)
+add-i c = omega (arith, c .before .before .before .before .before .before .before .before .before .before .before .before .pre .0 .tables .few, c .before .before .before .before .before .before .before .before .loop-test .taken)
 
 loop-less : tie.Need-loop-less Inv-loop μ-loop
 loop-less c = omega (arith, c .before .before .before .before .before .before .before .before .loop-test .taken)
@@ -97,7 +98,7 @@ same-length : tie.Need-same-length Inv-loop μ-loop
 same-length c = c .before .loop .inv .same
 
 returns : tie.Need-returns Inv-loop μ-loop
-returns c = homing-end _ _ _ _ _ _ _ _ (no-argument (c .before .before .before .before .args .t3) (c .before .before .before .before .args .t4) (c .before .loop .i) (omega (arith, c .loop-test .left)) (c .before .before .before .before .pre .0 .types)) (c .before .loop .inv)
+returns c = homing-end _ _ _ _ _ _ _ _ (no-argument (c .before .before .before .before .args .t3) (c .before .before .before .before .args .t4) (c .before .loop .i) (omega (arith, c .loop-test .left)) (c .before .before .before .before .pre .0 .tables .types)) (c .before .loop .inv)
 
 pub put-homes-spec : {M : Type 1} → statement M
 put-homes-spec =

@@ -8,7 +8,7 @@ use lib.ListN.{length, take, drop, replicate, length-take}
 use Rattle.words.specs.Splice.{overlay, part}
 use Rattle.words.specs.Numbers.{bytesOf, valueOf}
 use Rattle.types.specs.declared.Equivalent.{Equivalent}
-use Rattle.home_slot.specs.Homes.{memoryWord, floatHome, HomeSized}
+use Rattle.home_slot.specs.Helpers.{memoryWord, floatHome, HomeSized}
 use borrow.Author.Needs.{needs}
 use Rattle.home_slot.proofs.home_float.Statement.{statement}
 use Rattle.home_slot.proofs.home_float.Tie as tie

@@ -1,6 +1,6 @@
 -- By the float, and what narrowing finds.
 use mathlib.Core.Path.{sym, ap, _∙_}
-use Rattle.home_slot.specs.Homes.{narrowedWord}
+use Rattle.home_slot.specs.Helpers.{narrowedWord}
 use borrow.Author.Needs.{needs}
 use Rattle.home_slot.proofs.memory_word.Statement.{statement}
 use Rattle.home_slot.proofs.memory_word.Tie as tie

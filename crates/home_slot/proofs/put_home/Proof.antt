@@ -16,7 +16,7 @@ use Rattle.places.proofs.Bounds.{rules-word}
 use Rattle.registers.specs.Registers.{gather}
 use Rattle.registers.proofs.Registers.{length-gather}
 use Rattle.home_slot.proofs.Forms.{homed-float, float-sized, homed-general, float-room, general-room}
-use Rattle.home_slot.specs.Homes.{floatHome}
+use Rattle.home_slot.specs.Helpers.{floatHome}
 use borrow.Author.Needs.{needs}
 use Rattle.home_slot.proofs.put_home.Statement.{statement}
 use Rattle.home_slot.proofs.put_home.Tie as tie

@@ -1,5 +1,5 @@
 -- The first run gives the length, and the second writes where there is room.
-use Rattle.listing.proofs.Answers.{answer-printable}
+use Rattle.plan.proofs.Printable.{answer-printable}
 use Rattle.listing.specs.Text.{listingOf}
 use Rattle.words.specs.Splice.{splice}
 use lib.ListN.{length}

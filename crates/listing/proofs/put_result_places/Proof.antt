@@ -1,6 +1,6 @@
 -- By cases on the result.
 use Rattle.text.proofs.Writing.{wrote-then}
-use Rattle.places.specs.Places.{ResultNumbered}
+use Rattle.places.specs.Helpers.{ResultNumbered}
 use native.Mathlib.Omega.{arith}
 use mathlib.Core.Path.{subst}
 use borrow.Author.Needs.{needs}

@@ -14,7 +14,7 @@ use Rattle.places.specs.Step.{wordOf}
 use Rattle.slots.specs.Buffers.{buffers}
 use Rattle.slots.specs.Forms.{floatForm}
 use Rattle.slots.specs.Placements.{Placement, placement}
-use Rattle.marshal.specs.Room.{FloatRoom}
+use Rattle.marshal.specs.Helpers.{FloatRoom}
 use Rattle.marshal.proofs.Arguments.{float-room, argument-float, argument-words, stands-address, stands-value, copy-none, copy-put}
 use Rattle.marshal.proofs.Pieces.{number-plain}
 use Rattle.slots.proofs.Limits.{one-address}

@@ -9,7 +9,7 @@ use Rattle.words.specs.Numbers.{bytesOf, valueOf}
 use Rattle.words.proofs.Numbers.{value-below}
 use Rattle.types.specs.declared.Equivalent.{Equivalent}
 use Rattle.slots.specs.Forms.{singleWord}
-use Rattle.marshal.specs.Room.{FloatRoom}
+use Rattle.marshal.specs.Helpers.{FloatRoom}
 use borrow.Author.Needs.{needs}
 use Rattle.marshal.proofs.put_float.Statement.{statement}
 use Rattle.marshal.proofs.put_float.Tie as tie

@@ -1,7 +1,7 @@
 -- A doubleword is the only one of its number; smaller words go one by one.
 use mathlib.Core.Path.{_≡_, subst}
 use Prim.Native.Nat.{ℕ}
-use Rattle.marshal.specs.Room.{WordsFit}
+use Rattle.marshal.specs.Helpers.{WordsFit}
 use Rattle.marshal.proofs.Pieces.{number-plain}
 use borrow.Author.Needs.{needs}
 use Rattle.marshal.proofs.put_words.Statement.{statement}

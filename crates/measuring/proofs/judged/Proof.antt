@@ -4,7 +4,7 @@ use native.Mathlib.Omega.{arith}
 use mathlib.Core.Path.{ap, _∙_}
 use Rattle.items.specs.declared.Fault.{Fault}
 use Rattle.plan.specs.Plan.{refused, measureOf}
-use Rattle.plan.specs.Call.{measuredBy}
+use Rattle.plan.specs.Helpers.{measuredBy}
 use Rattle.plan.proofs.Calls.{unclear-measured}
 use Rattle.measuring.proofs.judged.Statement.{statement}
 use Rattle.measuring.proofs.judged.Tie as tie

@@ -1,5 +1,5 @@
 -- By cases on the family.
-use Rattle.places.specs.Step.{Lawful}
+use Rattle.places.specs.Helpers.{Lawful}
 use native.Mathlib.Omega.{arith}
 use mathlib.Core.Path.{subst}
 use borrow.Author.Needs.{needs}

@@ -1,5 +1,5 @@
 -- By cases on the family.
-use Rattle.places.specs.Step.{alwaysClear}
+use Rattle.places.specs.Helpers.{alwaysClear}
 use borrow.Author.Needs.{needs}
 use Rattle.placing.proofs.always_clear.Statement.{statement}
 use Rattle.placing.proofs.always_clear.Tie as tie

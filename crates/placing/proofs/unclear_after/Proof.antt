@@ -2,7 +2,7 @@
 use Prim.Native.Nat.{ℕ, zero, suc}
 use mathlib.Core.Bool.{Bool, false}
 use mathlib.Core.Path.{_≡_, refl, sym, _∙_}
-use Rattle.places.specs.Step.{unclearAfter}
+use Rattle.places.specs.Helpers.{unclearAfter}
 use Rattle.places.proofs.Written.{always-clear}
 use borrow.Author.Needs.{needs}
 use Rattle.placing.proofs.unclear_after.Statement.{statement}

@@ -2,7 +2,7 @@
 use Rattle.signature.proofs.Types.{length-types, types-drop}
 use Rattle.signature.specs.Types.{typesIn}
 use Rattle.plan.proofs.Turns.{Going, Kept, going-marked, going-more, going-end, gone-plan}
-use Rattle.plan.specs.Plan.{planned}
+use Rattle.plan.specs.Helpers.{planned}
 use Rattle.plan.specs.declared.Plan.{Plan}
 use Rattle.plan.proofs.Fold.{reached-roomy}
 use Rattle.places.proofs.Bounds.{rules-lawful}

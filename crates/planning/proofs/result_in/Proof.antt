@@ -1,5 +1,5 @@
 -- By cases on the result.
-use Rattle.signature.specs.Plannable.{SmallResult}
+use Rattle.signature.specs.Helpers.{SmallResult}
 use mathlib.Core.Path.{subst, _∙_}
 use borrow.Author.Needs.{needs}
 use Rattle.planning.proofs.result_in.Statement.{statement}

@@ -6,15 +6,16 @@ use mathlib.Core.List.{_∷_}
 use Prim.Native.Nat.{ℕ, suc, _+_, _-_, _≤_}
 use native.Mathlib.Omega.{arith}
 use lib.ListN.{length, drop}
-use Rattle.places.specs.Step.{Lawful, Roomy, spanOf}
-use Rattle.signature.specs.Plannable.{typeAt}
+use Rattle.places.specs.Step.{spanOf}
+use Rattle.places.specs.Helpers.{Lawful, Roomy}
+use Rattle.signature.specs.Helpers.{typeAt}
 use Rattle.slots.specs.Buffers.{buffers}
 use Rattle.slots.specs.Placements.{Placement, placement}
 use Rattle.slots.proofs.Turns.{Checking, checking-start, checking-ready, checking-refused, checking-more, checking-end}
 use Rattle.slots.specs.Arguments.{rulesIn}
 use Rattle.arguments.specs.Table.{argumentsFrom}
 use Rattle.arguments.proofs.Table.{lawful-in, Walking, walking-start, walking-roomy, walking-hand, walking-more, walking-end}
-use Rattle.unmarshal.specs.Readable.{Ready}
+use Rattle.unmarshal.specs.Helpers.{Ready}
 use Rattle.read.specs.Read.{argumentAnswer, argumentsAnswer}
 use Rattle.read.proofs.first_refusal.Statement.{statement}
 use Rattle.read.proofs.first_refusal.Tie as tie

@@ -5,7 +5,8 @@ use Prim.Native.Nat.{ℕ, _-_, _*_}
 use native.Mathlib.Omega.{arith}
 use lib.ListN.{length, replicate}
 use Rattle.words.specs.Splice.{overlay}
-use Rattle.registers.specs.Registers.{spread, RegistersTake}
+use Rattle.registers.specs.Registers.{spread}
+use Rattle.registers.specs.Helpers.{RegistersTake}
 use Rattle.registers.proofs.Registers.{spread-plain}
 use borrow.Author.Needs.{needs}
 use Rattle.registers.proofs.put_registers.Statement.{statement}

@@ -4,7 +4,8 @@ use mathlib.Core.List.{List}
 use Prim.Native.Nat.{ℕ, _*_}
 use native.Mathlib.Omega.{arith}
 use Rattle.words.specs.Splice.{overlay, part}
-use Rattle.registers.specs.Registers.{gather, RegistersHold}
+use Rattle.registers.specs.Registers.{gather}
+use Rattle.registers.specs.Helpers.{RegistersHold}
 use Rattle.registers.proofs.Registers.{gather-plain}
 use borrow.Author.Needs.{needs}
 use Rattle.registers.proofs.take_registers.Statement.{statement}

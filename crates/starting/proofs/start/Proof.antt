@@ -4,7 +4,7 @@ use Rattle.saves.specs.Saves.{store}
 use Rattle.machine.proofs.States.{memory-yes}
 use Rattle.machine.proofs.Outcomes.{start-accepted, start-refused, accepted-start, refused-start}
 use Rattle.machine.specs.declared.Refusal.the-variants.{BadMemory}
-use Rattle.rules.specs.Lawful.{Lawful}
+use Rattle.rules.specs.Helpers.{Lawful}
 use Rattle.rules.specs.Rules.{rules}
 use Rattle.machine.specs.Machine.{okMemory, started, startedMemory, notStarted}
 use Rattle.rules.proofs.Conventions.{lawful}

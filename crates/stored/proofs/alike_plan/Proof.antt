@@ -8,7 +8,8 @@ use lib.ListN.{length, take, drop}
 use lib.Seq.{take-length, length-take-le, getD-take}
 use Rattle.plan.specs.Plan.{noSpan}
 use Rattle.places.proofs.Bounds.{rules-lawful}
-use Rattle.places.specs.Step.{rulesOf, Lawful}
+use Rattle.places.specs.Step.{rulesOf}
+use Rattle.places.specs.Helpers.{Lawful}
 use Rattle.text.proofs.Writing.{wrote-length}
 use Rattle.stored_items.specs.Places.{resultItem}
 use Rattle.stored.specs.Stored.{argumentItems, planBytes, alike}
@@ -62,10 +63,10 @@ loop-holds c =
     (rw (c .before .before .before .before .before .before .before .before .call-rules-of .ensures) (abreast-more (c .before .before .before .before .before .before .before .before .before .before .before .args .stored .now) _ s _ _ _ before-it reached (omega arith)), omega arith, wrote-length (c .before .before .before .before .before .before .put-header .ensures .0))
 
 mul-a : tie.Need-mul-a Inv-loop μ-loop
-mul-a c = omega (arith, c .before .before .before .before .before .before .before .before .before .before .before .before .before .pre .1 .few)
+mul-a c = omega (arith, c .before .before .before .before .before .before .before .before .before .before .before .before .before .pre .1 .printable .few)
 
 element-copy-out-a : tie.Need-element-copy-out-a Inv-loop μ-loop
-element-copy-out-a c = omega (arith, c .before .before .before .before .before .before .before .before .before .before .before .before .before .pre .1 .few)
+element-copy-out-a c = omega (arith, c .before .before .before .before .before .before .before .before .before .before .before .before .before .pre .1 .printable .few)
 
 slice-aggregate-put-argument : tie.Need-slice-aggregate-put-argument Inv-loop μ-loop
 slice-aggregate-put-argument c = search needs
@@ -89,7 +90,7 @@ returns-3 c =
     let i = c .before .before .before .before .before .before .before .before .loop .i in
     let inv = c .before .before .before .before .before .before .before .before .loop .inv in
     let w = c .before .before .before .before .put-argument .ensures in
-    let many = length-take-le (p .count) (p .spans) (c .before .before .before .before .before .before .before .before .before .before .before .before .before .before .before .before .before .before .before .before .pre .1 .room) in
+    let many = length-take-le (p .count) (p .spans) (c .before .before .before .before .before .before .before .before .before .before .before .before .before .before .before .before .before .before .before .before .pre .1 .printable .room) in
     let same = getD-take (p .count) (p .spans) i noSpan (omega arith) in
     let next = rw (items-next (c .before .before .before .before .before .before .before .before .before .before .before .before .before .before .before .before .before .call-rules-of .result) (take (p .count) (p .spans)) i (resultItem (p .result)) (omega arith), same) at (inv .0) in
     made-stops xs _ _ _ _ _ _ _ (w .0) (omega (arith, w .1, inv .2)) (c .before .alike-from3 .ensures) _ next (omega arith)
@@ -107,7 +108,7 @@ loop-again c =
     let i = c .before .before .before .before .before .before .before .before .loop .i in
     let inv = c .before .before .before .before .before .before .before .before .loop .inv in
     let w = c .before .before .before .before .put-argument .ensures in
-    let many = length-take-le (p .count) (p .spans) (c .before .before .before .before .before .before .before .before .before .before .before .before .before .before .before .before .before .before .before .before .pre .1 .room) in
+    let many = length-take-le (p .count) (p .spans) (c .before .before .before .before .before .before .before .before .before .before .before .before .before .before .before .before .before .before .before .before .pre .1 .printable .room) in
     let same = getD-take (p .count) (p .spans) i noSpan (omega arith) in
     let next = rw (items-next (c .before .before .before .before .before .before .before .before .before .before .before .before .before .before .before .before .before .call-rules-of .result) (take (p .count) (p .spans)) i (resultItem (p .result)) (omega arith), same) at (inv .0) in
     (made-more xs _ _ _ _ _ _ _ (w .0) (omega (arith, w .1, inv .2)) (c .before .alike-from3 .ensures) _ next (omega arith), omega arith, wrote-length (w .0) ∙ inv .2)
@@ -116,7 +117,7 @@ slice-aggregate-put-result : tie.Need-slice-aggregate-put-result Inv-loop μ-loo
 slice-aggregate-put-result c = search needs
 
 put-result-requires : tie.Need-put-result-requires Inv-loop μ-loop
-put-result-requires c κs = (omega arith, c .before .before .before .before .before .before .before .before .before .before .before .before .before .before .pre .1 .result)
+put-result-requires c κs = (omega arith, c .before .before .before .before .before .before .before .before .before .before .before .before .before .before .pre .1 .printable .result)
 
 slice-aggregate-alike-from-3 : tie.Need-slice-aggregate-alike-from-3 Inv-loop μ-loop
 slice-aggregate-alike-from-3 c = search needs
@@ -131,7 +132,7 @@ returns-4 c =
     let i = c .before .before .before .before .before .before .loop .i in
     let inv = c .before .before .before .before .before .before .loop .inv in
     let w = c .before .before .before .put-result .ensures in
-    let many = length-take-le (p .count) (p .spans) (c .before .before .before .before .before .before .before .before .before .before .before .before .before .before .before .before .before .before .pre .1 .room) in
+    let many = length-take-le (p .count) (p .spans) (c .before .before .before .before .before .before .before .before .before .before .before .before .before .before .before .before .before .before .pre .1 .printable .room) in
     let last = rw (items-none (c .before .before .before .before .before .before .before .before .before .before .before .before .before .before .before .call-rules-of .result) (take (p .count) (p .spans)) i (resultItem (p .result)) (omega arith)) at (inv .0) in
     made-end xs _ _ _ _ _ _ _ (w .0) (omega (arith, w .1, inv .2)) (c .alike-from4 .ensures) last
 

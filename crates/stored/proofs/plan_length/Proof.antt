@@ -1,7 +1,7 @@
 -- The lengths of the items so far are added up.
 use mathlib.Core.List.{_++_}
-use Rattle.stored_items.specs.Places.{argumentItem}
-use Rattle.places.specs.Step.{Lawful}
+use Rattle.stored_items.specs.Places.{argumentItem, resultItem}
+use Rattle.places.specs.Helpers.{Lawful}
 use borrow.Author.Needs.{needs}
 use mathlib.Core.Path.{_≡_, sym, ap, subst, _∙_}
 use Prim.Native.Nat.{ℕ, _-_, _+_, _*_, _≤_, _<_}
@@ -11,7 +11,6 @@ use lib.Seq.{length-take-le, getD-take, take-all}
 use Rattle.plan.specs.Plan.{noSpan}
 use Rattle.places.proofs.Bounds.{rules-lawful}
 use Rattle.places.specs.Step.{rulesOf}
-use Rattle.stored_items.specs.Places.{resultItem}
 use Rattle.items.specs.Encode.{item}
 use Rattle.stored.specs.Stored.{argumentItems, planBytes}
 use Rattle.stored.proofs.Items.{length-more}
@@ -35,16 +34,16 @@ unfolding argumentItems
 loop-holds c = (omega arith, omega arith, omega arith)
 
 mul-a : tie.Need-mul-a Inv-loop μ-loop
-mul-a c = omega (arith, c .before .before .before .before .pre .1 .few)
+mul-a c = omega (arith, c .before .before .before .before .pre .1 .printable .few)
 
 element-copy-out-a : tie.Need-element-copy-out-a Inv-loop μ-loop
-element-copy-out-a c = omega (arith, c .before .before .before .before .pre .1 .few)
+element-copy-out-a c = omega (arith, c .before .before .before .before .pre .1 .printable .few)
 
 argument-length-requires : tie.Need-argument-length-requires Inv-loop μ-loop
 argument-length-requires c κs = (subst Lawful (sym (c .before .before .before .call-rules-of .ensures)) (rules-lawful (c .before .before .before .before .before .args .t2 .convention)), c .before .before .before .before .before .pre .1 .spans (c .before .before .loop .i))
 
 add-next-2 : tie.Need-add-next-2 Inv-loop μ-loop
-add-next-2 c = omega (arith, c .before .before .before .loop .inv .1, c .before .before .before .loop .inv .2, c .argument-length .ensures .1, c .before .before .before .before .before .before .pre .0, c .before .before .before .before .before .before .pre .1 .few)
+add-next-2 c = omega (arith, c .before .before .before .loop .inv .1, c .before .before .before .loop .inv .2, c .argument-length .ensures .1, c .before .before .before .before .before .before .pre .0, c .before .before .before .before .before .before .pre .1 .printable .few)
 
 add-i : tie.Need-add-i Inv-loop μ-loop
 add-i c = omega arith
@@ -59,17 +58,17 @@ loop-again c =
     let i = c .before .before .before .loop .i in
     let inv = c .before .before .before .loop .inv in
     let n = c .argument-length .ensures in
-    let many = length-take-le (p .count) (p .spans) (c .before .before .before .before .before .before .pre .1 .room) in
+    let many = length-take-le (p .count) (p .spans) (c .before .before .before .before .before .before .pre .1 .printable .room) in
     let same = getD-take (p .count) (p .spans) i noSpan (omega arith) in
     let more = length-more rules (take (p .count) (p .spans)) i (omega arith) in
     let item = ap (λ s. length (argumentItem rules s)) same in
     (omega (arith, inv .0, n .0, more, item), omega arith, omega (arith, inv .2, n .1))
 
 result-length-requires : tie.Need-result-length-requires Inv-loop μ-loop
-result-length-requires c κs = c .before .before .before .before .pre .1 .result
+result-length-requires c κs = c .before .before .before .before .pre .1 .printable .result
 
 add-result : tie.Need-add-result Inv-loop μ-loop
-add-result c = omega (arith, c .before .before .loop .inv .1, c .before .before .loop .inv .2, c .result-length .ensures .1, c .before .before .before .before .before .pre .0, c .before .before .before .before .before .pre .1 .few)
+add-result c = omega (arith, c .before .before .loop .inv .1, c .before .before .loop .inv .2, c .result-length .ensures .1, c .before .before .before .before .before .pre .0, c .before .before .before .before .before .pre .1 .printable .few)
 
 returns : tie.Need-returns Inv-loop μ-loop
 unfolding planBytes item
@@ -77,7 +76,7 @@ returns c =
     let p = c .before .before .before .before .before .args .t2 in
     let i = c .before .before .loop .i in
     let inv = c .before .before .loop .inv in
-    let many = length-take-le (p .count) (p .spans) (c .before .before .before .before .before .pre .1 .room) in
+    let many = length-take-le (p .count) (p .spans) (c .before .before .before .before .before .pre .1 .printable .room) in
     let all = take-all i (take (p .count) (p .spans)) (omega arith) in
     let items = rw (all, c .before .before .before .call-rules-of .ensures) at (inv .0) in
     let tail = length-append (argumentItems (rulesOf (p .convention)) (take (p .count) (p .spans))) (resultItem (p .result)) in

@@ -7,7 +7,8 @@ use lib.ListN.{take}
 use lib.Seq.{take-all, length-take-le, getD-take}
 use Rattle.plan.specs.Plan.{noSpan}
 use Rattle.places.proofs.Bounds.{rules-lawful}
-use Rattle.places.specs.Step.{rulesOf, Lawful}
+use Rattle.places.specs.Step.{rulesOf}
+use Rattle.places.specs.Helpers.{Lawful}
 use Rattle.items.specs.Encode.{item}
 use Rattle.text.specs.Writing.{Wrote}
 use Rattle.text.proofs.Writing.{wrote-length, wrote-nothing, wrote-then}
@@ -36,13 +37,13 @@ unfolding argumentItems
 loop-holds c = (wrote-nothing _ _, omega arith, omega (arith, c .before .before .put-bytes .ensures .end, c .before .before .before .before .before .before .put-header .ensures .1, c .before .before .before .before .before .before .before .before .before .before .before .pre .0))
 
 mul-a : tie.Need-mul-a Inv-loop μ-loop
-mul-a c = omega (arith, c .before .before .before .before .before .before .before .before .before .before .before .before .before .pre .1 .few)
+mul-a c = omega (arith, c .before .before .before .before .before .before .before .before .before .before .before .before .before .pre .1 .printable .few)
 
 element-copy-out-a : tie.Need-element-copy-out-a Inv-loop μ-loop
-element-copy-out-a c = omega (arith, c .before .before .before .before .before .before .before .before .before .before .before .before .before .pre .1 .few)
+element-copy-out-a c = omega (arith, c .before .before .before .before .before .before .before .before .before .before .before .before .before .pre .1 .printable .few)
 
 put-argument-requires : tie.Need-put-argument-requires Inv-loop μ-loop
-put-argument-requires c κs = (omega (arith, c .before .before .before .loop .inv .1, c .before .before .before .loop .inv .2, c .before .before .before .before .before .before .before .before .before .before .before .before .before .before .before .pre .1 .few), subst Lawful (sym (c .before .before .before .before .before .before .before .before .before .before .before .before .call-rules-of .ensures)) (rules-lawful (c .before .before .before .before .before .before .before .before .before .before .before .before .before .before .before .args .t3 .convention)), c .before .before .before .before .before .before .before .before .before .before .before .before .before .before .before .pre .1 .spans (c .before .before .before .loop .i))
+put-argument-requires c κs = (omega (arith, c .before .before .before .loop .inv .1, c .before .before .before .loop .inv .2, c .before .before .before .before .before .before .before .before .before .before .before .before .before .before .before .pre .1 .printable .few), subst Lawful (sym (c .before .before .before .before .before .before .before .before .before .before .before .before .call-rules-of .ensures)) (rules-lawful (c .before .before .before .before .before .before .before .before .before .before .before .before .before .before .before .args .t3 .convention)), c .before .before .before .before .before .before .before .before .before .before .before .before .before .before .before .pre .1 .spans (c .before .before .before .loop .i))
 
 add-i : tie.Need-add-i Inv-loop μ-loop
 add-i c = omega arith
@@ -56,12 +57,12 @@ loop-again c =
     let i = c .before .before .before .before .before .before .loop .i in
     let w = c .before .before .put-argument .ensures in
     let inv = c .before .before .before .before .before .before .loop .inv in
-    let many = length-take-le (p .count) (p .spans) (c .before .before .before .before .before .before .before .before .before .before .before .before .before .before .before .before .before .before .pre .1 .room) in
+    let many = length-take-le (p .count) (p .spans) (c .before .before .before .before .before .before .before .before .before .before .before .before .before .before .before .before .before .before .pre .1 .printable .room) in
     let same = getD-take (p .count) (p .spans) i noSpan (omega arith) in
     (wrote-item (c .before .before .before .before .before .before .before .before .before .before .before .before .before .before .before .call-rules-of .result) (take (p .count) (p .spans)) i (omega arith) (inv .0) (rw (sym same) at (w .0)), omega arith, omega (arith, w .1, inv .2))
 
 put-result-requires : tie.Need-put-result-requires Inv-loop μ-loop
-put-result-requires c κs = (omega (arith, c .before .before .loop .inv .1, c .before .before .loop .inv .2, c .before .before .before .before .before .before .before .before .before .before .before .before .before .before .pre .1 .few), c .before .before .before .before .before .before .before .before .before .before .before .before .before .before .pre .1 .result)
+put-result-requires c κs = (omega (arith, c .before .before .loop .inv .1, c .before .before .loop .inv .2, c .before .before .before .before .before .before .before .before .before .before .before .before .before .before .pre .1 .printable .few), c .before .before .before .before .before .before .before .before .before .before .before .before .before .before .pre .1 .printable .result)
 
 same-length : tie.Need-same-length Inv-loop μ-loop
 same-length c = wrote-length (wrote-then (c .before .before .before .before .before .before .before .before .before .before .before .before .put-header .ensures .0) (wrote-then (c .before .before .before .before .before .before .before .before .put-bytes .ensures) (wrote-then (c .before .before .before .before .before .loop .inv .0) (c .before .before .put-result .ensures .0))))
@@ -70,7 +71,7 @@ returns : tie.Need-returns Inv-loop μ-loop
 unfolding planBytes item
 returns c =
     let p = c .before .before .before .before .before .before .before .before .before .before .before .before .before .before .before .before .before .args .t3 in
-    let many = length-take-le (p .count) (p .spans) (c .before .before .before .before .before .before .before .before .before .before .before .before .before .before .before .before .before .pre .1 .room) in
+    let many = length-take-le (p .count) (p .spans) (c .before .before .before .before .before .before .before .before .before .before .before .before .before .before .before .before .before .pre .1 .printable .room) in
     let all = take-all (c .before .before .before .before .before .loop .i) (take (p .count) (p .spans)) (omega arith) in
     wrote-then (c .before .before .before .before .before .before .before .before .before .before .before .before .put-header .ensures .0) (wrote-then (c .before .before .before .before .before .before .before .before .put-bytes .ensures) (wrote-then (rw (all, c .before .before .before .before .before .before .before .before .before .before .before .before .before .before .call-rules-of .ensures) at (c .before .before .before .before .before .loop .inv .0)) (c .before .before .put-result .ensures .0)))
 

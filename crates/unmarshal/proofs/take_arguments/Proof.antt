@@ -10,7 +10,7 @@ use borrow.Rule.Slice.PartMut.{putMid}
 use Rattle.words.specs.Splice.{splice}
 use Rattle.words.proofs.Splices.{lent-tail}
 use Rattle.places.specs.Step.{placed}
-use Rattle.signature.specs.Plannable.{typeAt}
+use Rattle.signature.specs.Helpers.{typeAt}
 use Rattle.slots.specs.Buffers.{Buffers, buffers}
 use Rattle.slots.specs.Placements.{Placement, placement, valueAt}
 use Rattle.slots.specs.Arguments.{rulesIn}

@@ -10,7 +10,7 @@ use Rattle.types.specs.declared.Equivalent.{Equivalent}
 use Rattle.places.specs.declared.Rules.{Rules}
 use Rattle.slots.specs.Forms.{floatValueAs, narrowedBytes}
 use Rattle.ieee.specs.Narrowing.{narrow}
-use Rattle.unmarshal.specs.Readable.{FloatRoom}
+use Rattle.unmarshal.specs.Helpers.{FloatRoom}
 use borrow.Author.Needs.{needs}
 use Rattle.unmarshal.proofs.take_float.Statement.{statement}
 use Rattle.unmarshal.proofs.take_float.Tie as tie

@@ -1,7 +1,7 @@
 -- By the family of conventions. Assumes nothing.
 use native.Mathlib.Nat.{div-le-self}
 use native.Mathlib.Omega.{arith}
-use Rattle.walking.specs.Part.{countersAfter}
+use Rattle.walking.specs.Helpers.{countersAfter}
 use borrow.Author.Needs.{needs}
 use Rattle.walking.proofs.counters_after.Statement.{statement}
 use Rattle.walking.proofs.counters_after.Tie as tie

@@ -1,6 +1,6 @@
 -- By the bank, one register is stored. Assumes nothing.
 -- By the bank, one register is stored. Assumes nothing.
-use Rattle.rules.specs.Lawful.{Named}
+use Rattle.rules.specs.Helpers.{Named}
 use Rattle.rules.specs.declared.RegisterBank.{RegisterBank}
 use Rattle.rules.specs.Frames.{withRegister}
 use native.Mathlib.Omega.{arith}

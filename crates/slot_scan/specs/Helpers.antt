@@ -1,3 +1,4 @@
+-- For proofs and helpers alone: no claim cites this file.
 -- What a slot asks of the scan, so that no sum passes its type: it holds of every scan of a signature (law `near-roomy`). Assumes nothing.
 use Prim.Native.Nat.{ℕ, _^_, _≤_}
 use Rattle.slot_scan.specs.declared.Scan.{Scan}

@@ -1,5 +1,5 @@
--- A step in the part of the area that starts at the walker's offset: what its functions ask and give. Nothing here is claimed of the calls, which crates/walker/specs defines.
--- Assumes nothing.
+-- For proofs and helpers alone: no claim cites this file.
+-- A step in the part of the area that starts at the walker's offset: what its functions ask and give. Assumes nothing.
 use Prim.Native.Nat.{ℕ, _+_, _-_, _/_, _^_, _≤_}
 use mathlib.Core.Path.{_≡_}
 use Rattle.conventions.specs.declared.Convention.{Convention}

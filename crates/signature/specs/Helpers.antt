@@ -1,6 +1,7 @@
--- What planners ask of a signature that was read: it holds of every answer of the reader (law `answer-plannable`).
--- Assumes nothing.
-use Prim.Native.Nat.{ℕ, _≤_, _<_}
+-- For proofs and helpers alone: no claim cites this file.
+-- What planners ask of a signature that was read: it holds of every answer of the reader (law `answer-plannable`);
+-- and the answer from the arguments on. Assumes nothing.
+use Prim.Native.Nat.{ℕ, _≤_, _<_, _+_}
 use lib.ListN.{length, getD}
 use Rattle.conventions.specs.declared.Convention.{Convention}
 use Rattle.types.specs.declared.IntegerKind.{IntegerKind}
@@ -9,7 +10,13 @@ use Rattle.types.specs.Sizes.{sizeOf}
 use Rattle.signature.specs.declared.ResultType.{ResultType}
 use Rattle.signature.specs.declared.SignatureRead.{SignatureRead}
 use Rattle.signature.specs.Limits.{maxArguments}
-use Rattle.signature.specs.Answer.{argument}
+use Rattle.signature.specs.Answer.{argument, refused, accepted}
+use mathlib.Core.Bool.{Bool}
+use lib.Dec.{ltb}
+use Rattle.words.specs.Basics.{pick}
+use Rattle.types.specs.Trees.{Trees}
+use Rattle.items.specs.declared.Refusal.{Refusal}
+use Rattle.items.specs.Reading.{Reading, fault, got, no, later}
 
 -- refusal 8: no "struct size over 256"
 abbrev pub SmallResult : Convention → ResultType → Type 0
@@ -24,3 +31,8 @@ pub record Plannable (g : SignatureRead) : Type 0 where
   pub room : g .count ≤ length (g .arguments)
   pub result : SmallResult (g .convention) (g .result)
   pub small : (i : ℕ) → i < g .count → sizeOf (g .convention) (typeAt g i) ≤ 256
+
+-- from the arguments on, in a signature of `all` bytes, where the convention and the result's type took n items
+abbrev pub withArguments : Convention → ResultType → Bool → ℕ → ℕ → Reading Trees → SignatureRead
+withArguments c r v n all (got ts next m) = pick (ltb next all) (refused (fault Refusal.TrailingBytes next (n + m))) (accepted c r v ts (n + m))
+withArguments c r v n all (no f) = refused (later n f)

@@ -1,4 +1,5 @@
--- The table's words from the arguments on: the same entries as of a whole reading (law `rows-entries`). Assumes nothing.
+-- For proofs and helpers alone: no claim cites this file.
+-- The table's words from the arguments on: the same entries as of a whole reading (law `rows-entries`); and what planning asks. Assumes nothing.
 use Prim.Native.Nat.{ℕ, zero, suc, _+_, _*_, _≤_}
 use mathlib.Core.Bool.{Bool}
 use mathlib.Core.List.{List, [], _++_}
@@ -14,10 +15,11 @@ use Rattle.signature.specs.Limits.{maxArguments}
 use Rattle.signature.specs.declared.ResultType.{ResultType}
 use Rattle.signature.specs.Signature.{Signature}
 use Rattle.signature.specs.Types.{valuesOf, typesOf}
-use Rattle.signature.specs.Plannable.{SmallResult}
+use Rattle.signature.specs.Helpers.{SmallResult}
 use Rattle.places.specs.Step.{rulesOf, withEllipsis, spanOf}
-use Rattle.plan.specs.Plan.{endIn, refused, planWith}
-use Rattle.plan.specs.Call.{unclearWith, unclearFault}
+use Rattle.plan.specs.Plan.{endIn, refused}
+use Rattle.plan.specs.Helpers.{planWith, unclearWith}
+use Rattle.plan.specs.Call.{unclearFault}
 use Rattle.plan_entries.specs.Words.{entryWords}
 use Rattle.plan_words.specs.declared.Planned.{Planned}
 use Rattle.plan_words.specs.Planned.{plannedOf}

@@ -1,3 +1,4 @@
+-- For proofs and helpers alone: no claim cites this file.
 -- What is known of a state and a request once the tests of refusals have passed: the premises of the functions behind the calls. Assumes nothing.
 use Prim.Native.Nat.{ℕ, _+_, _≤_, _<_}
 use mathlib.Core.Path.{_≡_}

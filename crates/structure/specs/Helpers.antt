@@ -1,5 +1,6 @@
--- What the registers ask of a structure, so that no sum passes its type: it holds of every structure of a signature (law `fields-bounded`).
--- Assumes nothing.
+-- For proofs and helpers alone: no claim cites this file.
+-- What the registers ask of a structure, so that no sum passes its type: it holds of every structure of a signature
+-- (law `fields-bounded`). Assumes nothing.
 use Prim.Native.Nat.{ℕ, _+_, _^_, _≤_}
 use mathlib.Core.List.{List}
 use lib.ListN.{length, getD}

@@ -1,3 +1,4 @@
+-- For proofs and helpers alone: no claim cites this file.
 -- What the machine asks of a convention's numbers: that the parts of a frame and the sets of registers do not meet, and that sizes stay small;
 -- and what the functions that save, restore and write ask of their numbers. Assumes nothing.
 use Prim.Native.Nat.{ℕ, _+_, _-_, _*_, _^_, _≤_, _<_}

@@ -1,4 +1,4 @@
--- Every plan can be printed. Assumes nothing.
+-- Every plan can be printed and stored. Assumes nothing.
 use mathlib.Core.List.{List}
 use Prim.Native.Nat.{ℕ}
 use Rattle.conventions.specs.declared.Convention.{Convention}
@@ -8,14 +8,14 @@ use Rattle.signature.specs.declared.ResultType.{ResultType}
 use Rattle.signature.specs.Signature.{Signature}
 use Rattle.signature.specs.Answer.{resultType}
 use Rattle.places.specs.Step.{rulesOf}
-use Rattle.places.specs.Places.{ResultNumbered}
+use Rattle.places.specs.Helpers.{ResultNumbered}
 use Rattle.places.proofs.Registers.{result-numbered}
 use Rattle.plan.specs.Plan.{resultIn, planIn, planAnswer}
 use Rattle.plan.specs.Call.{callOf}
 use Rattle.plan.proofs.Answers.{answer-table}
 use Rattle.plan.proofs.Calls.{call-few}
 use Rattle.plan.proofs.Theorems.{within}
-use Rattle.listing.specs.Writing.{Printable}
+use Rattle.plan.specs.Helpers.{Printable}
 
 result-of : (c : Convention) (r : ResultType) → ResultNumbered (resultIn c r)
 result-of c ResultType.Nothing = tt

@@ -1,13 +1,18 @@
--- What holds of each argument of a plan: how its span and its form agree, and that its places lie in the plan's area and
--- copies. The law `carried` has it of every signature. Assumes nothing.
+-- For proofs and helpers alone: no claim cites this file.
+-- What holds of each argument of a plan: how its span and its form agree, and that its places lie in the
+-- plan's area and copies. The law `carried` has it of every signature. Assumes nothing.
 use Prim.Native.Nat.{ℕ, _+_, _*_, _≤_, _<_}
 use mathlib.Core.Path.{_≡_}
 use mathlib.Core.Bool.{true, false}
 use mathlib.Core.List.{List, [], _∷_}
+use lib.ListN.{length}
 use Rattle.types.specs.declared.Equivalent.{Equivalent}
 use Rattle.types.specs.Sizes.{equivalentOf}
+use Rattle.signature.specs.Limits.{maxArguments}
+use Rattle.signature.specs.declared.SignatureRead.{SignatureRead}
 use Rattle.places.specs.declared.Rules.{Rules}
 use Rattle.places.specs.Step.{wordOf}
+use Rattle.plan.specs.declared.Plan.{Plan}
 use Rattle.slots.specs.Forms.{roomOf, startsAtHead}
 use Rattle.slots.specs.Placements.{Placement}
 
@@ -53,3 +58,9 @@ All P (p ∷ ps) = P p × All P ps
 unfoldable pub sizesOf : List Placement → ℕ
 sizesOf [] = 0
 sizesOf (p ∷ ps) = p .size + sizesOf ps
+
+-- the tables of a signature that was read and of its plan have all of its arguments
+pub record Tabled (g : SignatureRead) (p : Plan) : Type 0 where
+  pub few : g .count ≤ maxArguments
+  pub types : g .count ≤ length (g .arguments)
+  pub spans : g .count ≤ length (p .spans)

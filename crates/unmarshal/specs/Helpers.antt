@@ -1,5 +1,6 @@
--- What taking values asks: places that lie in the buffers, and that neither 13 nor 14 refuses an argument. Every reading that nothing
--- refuses has it (law `all-readable` of the crate read). Assumes nothing.
+-- For proofs and helpers alone: no claim cites this file.
+-- What taking values asks: places that lie in the buffers, and that neither 13 nor 14 refuses an argument. Every
+-- reading that nothing refuses has it (law `all-readable` of the crate read). Assumes nothing.
 use Prim.Native.Nat.{ℕ, _+_, _-_, _≤_, _<_}
 use mathlib.Core.Path.{_≡_}
 use mathlib.Core.Bool.{true}
@@ -9,7 +10,7 @@ use Rattle.words.specs.Numbers.{valueOf}
 use Rattle.types.specs.declared.Equivalent.{Equivalent}
 use Rattle.types.specs.Sizes.{equivalentOf}
 use Rattle.signature.specs.declared.SignatureRead.{SignatureRead}
-use Rattle.signature.specs.Plannable.{Plannable}
+use Rattle.signature.specs.Helpers.{Plannable}
 use Rattle.places.specs.declared.Rules.{Rules}
 use Rattle.places.specs.declared.Span.{Span}
 use Rattle.places.specs.Step.{wordOf}
@@ -17,7 +18,7 @@ use Rattle.slots.specs.declared.Answer.{Answer}
 use Rattle.slots.specs.Buffers.{Buffers}
 use Rattle.slots.specs.Placements.{Placement, floatAt, addressAt}
 use Rattle.slots.specs.Refusals.{floatAnswer}
-use Rattle.slots.specs.Limits.{Held, All, sizesOf}
+use Rattle.slots.specs.Helpers.{Held, All, sizesOf}
 use Rattle.slots.specs.Arguments.{rulesIn}
 use Rattle.arguments.specs.Table.{argumentsFrom}
 

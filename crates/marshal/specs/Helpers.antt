@@ -1,3 +1,4 @@
+-- For proofs and helpers alone: no claim cites this file.
 -- What putting a value asks of the buffers: room for the argument's words and copy. Assumes nothing.
 use Prim.Native.Nat.{ℕ, _+_, _-_, _*_, _^_, _≤_, _<_}
 use mathlib.Core.Path.{_≡_}
@@ -7,7 +8,7 @@ use Rattle.types.specs.declared.Equivalent.{Equivalent}
 use Rattle.places.specs.declared.Rules.{Rules}
 use Rattle.places.specs.declared.Span.{Span}
 use Rattle.slots.specs.Placements.{Placement}
-use Rattle.slots.specs.Limits.{Held, Fits}
+use Rattle.slots.specs.Helpers.{Held, Fits}
 
 -- v, and zeros to the end of a span's words of w bytes
 abbrev pub padded : ℕ → Span → List ℕ → List ℕ

@@ -1,0 +1,59 @@
+-- For proofs and helpers alone: no claim cites this file.
+-- The plan by the reader's answer, and from the arguments on: what the loops of the planners answer;
+-- and what the writers of a plan ask. Assumes nothing.
+use Prim.Native.Nat.{ℕ, zero, suc, _+_, _≤_}
+use mathlib.Core.Bool.{Bool}
+use lib.Dec.{ltb}
+use lib.ListN.{length}
+use Rattle.words.specs.Basics.{pick}
+use Rattle.conventions.specs.declared.Convention.{Convention}
+use Rattle.types.specs.Trees.{Trees}
+use Rattle.items.specs.declared.Refusal.{Refusal}
+use Rattle.items.specs.Reading.{Reading, fault, got, no, later}
+use Rattle.signature.specs.declared.ResultType.{ResultType}
+use Rattle.signature.specs.declared.Outcome.{Outcome}
+use Rattle.signature.specs.declared.SignatureRead.{SignatureRead}
+use Rattle.signature.specs.Limits.{maxArguments}
+use Rattle.signature.specs.Signature.{Signature}
+use Rattle.signature.specs.Types.{typesOf, typesIn}
+use Rattle.places.specs.Step.{rulesOf}
+use Rattle.places.specs.Places.{Numbered}
+use Rattle.places.specs.Helpers.{ResultNumbered}
+use Rattle.plan.specs.declared.Plan.{Plan}
+use Rattle.plan.specs.declared.Measured.{Measured}
+use Rattle.plan.specs.Plan.{planIn, refused, startIn, measureOf}
+use Rattle.plan.specs.Call.{firstUnclear, unclearFault}
+use Rattle.plan.specs.Disjoint.{spanAt}
+
+abbrev pub plannedAs : Outcome → SignatureRead → Plan
+plannedAs (Outcome.Accepted n) g = planIn n (g .convention) (g .ellipsis) (g .result) (typesIn g)
+plannedAs (Outcome.Refused f) g = refused f
+
+unfoldable pub planned : SignatureRead → Plan
+planned g = plannedAs (g .outcome) g
+
+-- from the arguments on, in a signature of `all` bytes, where n items came before theirs: as `withArguments` of the reader
+abbrev pub planWith : Convention → Bool → ResultType → ℕ → ℕ → Reading Trees → Plan
+planWith c v r n all (got ts next m) = pick (ltb next all) (refused (fault Refusal.TrailingBytes next (n + m))) (planIn (n + m) c v r (typesOf c ts))
+planWith c v r n all (no f) = refused (later n f)
+
+-- the same of the reader's answer
+abbrev pub unclearOf : SignatureRead → ℕ
+unclearOf g = firstUnclear (g .convention) (rulesOf (g .convention)) (startIn (g .convention) (g .result)) 0 (typesIn g)
+
+-- and of what is read from the arguments on, in a signature of `all` bytes, as `planWith` of the plan
+abbrev pub unclearWith : Convention → ResultType → ℕ → Reading Trees → ℕ
+unclearWith c r all (got ts next m) = pick (ltb next all) 0 (firstUnclear c (rulesOf c) (startIn c r) 0 (typesOf c ts))
+unclearWith c r all (no f) = 0
+
+-- of a reading x whose own sizes are m, where the first unclear argument is number u, counted from 1
+unfoldable pub measuredBy : ℕ → Measured → Reading Signature → Measured
+measuredBy zero m x = m
+measuredBy (suc i) m x = measureOf (refused (unclearFault i x))
+
+-- what the writers of a plan, printed or stored, ask of it; every plan has it (law `answer-printable`)
+pub record Printable (p : Plan) : Type 0 where
+  pub few : p .count ≤ maxArguments
+  pub room : p .count ≤ length (p .spans)
+  pub spans : (i : ℕ) → Numbered (spanAt p i)
+  pub result : ResultNumbered (p .result)

@@ -1,0 +1,51 @@
+-- For proofs and helpers alone: no claim cites this file.
+-- What the passes of reading ask, and the arguments that the first of them need not look at. Assumes nothing.
+use Prim.Native.Nat.{ℕ, _+_, _≤_, _<_}
+use mathlib.Core.Path.{_≡_}
+use mathlib.Core.Bool.{Bool, true, false}
+use lib.ListN.{length}
+use Rattle.words.specs.Numbers.{valueOf}
+use Rattle.types.specs.declared.FloatFormat.{FloatFormat}
+use Rattle.types.specs.declared.ValueType.{ValueType}
+use Rattle.types.specs.Sizes.{equivalentOf}
+use Rattle.signature.specs.declared.SignatureRead.{SignatureRead}
+use Rattle.signature.specs.Helpers.{Plannable}
+use Rattle.places.specs.declared.Rules.{Rules}
+use Rattle.slots.specs.declared.Answer.{Answer}
+use Rattle.places.specs.Spots.{general}
+use Rattle.slots.specs.Buffers.{Buffers}
+use Rattle.slots.specs.Placements.{Placement, floatAt}
+use Rattle.slots.specs.Refusals.{floatAnswer}
+use Rattle.slots.specs.Helpers.{Held, All}
+use Rattle.slots.specs.Arguments.{rulesIn}
+use Rattle.arguments.specs.Table.{argumentsFrom}
+use Rattle.unmarshal.specs.Helpers.{Ready}
+
+-- the types whose arguments 13, 14 or 26 can refuse: on PowerPC a single, whose FPR is tested, and with an ellipsis every float; on Z those
+-- that may be passed by pointer to a copy (law `never-refused`)
+abbrev pub canRefuse : Rules → ValueType → Bool
+canRefuse (Rules.Power f) (ValueType.Integer k) = false
+canRefuse (Rules.Power f) (ValueType.Float FloatFormat.Single) = true
+canRefuse (Rules.Power f) (ValueType.Float FloatFormat.Double) = f .ellipsis
+canRefuse (Rules.Power f) (ValueType.Float FloatFormat.LongDouble) = f .ellipsis
+canRefuse (Rules.Power f) (ValueType.Struct s) = false
+canRefuse Rules.Z (ValueType.Integer k) = false
+canRefuse Rules.Z (ValueType.Float FloatFormat.Single) = false
+canRefuse Rules.Z (ValueType.Float FloatFormat.Double) = false
+canRefuse Rules.Z (ValueType.Float FloatFormat.LongDouble) = true
+canRefuse Rules.Z (ValueType.Struct s) = true
+
+-- what comparing asks: a float in FPRs that 14 doesn't refuse, and in general registers, all of an image of 512 bytes
+pub record Compared (r : Rules) (p : Placement) (b : Buffers) : Type 0 where
+  pub held : Held r p
+  pub float : 0 < p .span .floating .count
+  pub also : 0 < p .span .general .count
+  pub general : p .span .general .first + p .span .general .count ≤ 32
+  pub floating : p .span .floating .first + p .span .floating .count ≤ 32
+  pub registers : length (b .image) ≡ 512
+  pub exact : floatAnswer r (equivalentOf (p .ty)) (valueOf (floatAt (p .span) b)) ≡ Answer.Done
+
+-- what the first pass asks: all arguments of a signature that was read, and the lengths of the image and the area
+pub record AllReady (g : SignatureRead) (i a : ℕ) : Type 0 where
+  pub plannable : Plannable g
+  pub each : All (Ready (rulesIn g) i a) (argumentsFrom g)
