@@ -6,6 +6,9 @@ ghost use Rattle.machine.specs.Machine.{okMemory};
 use rules::Registers;
 use rules::Rules;
 
+// The largest memory of a machine, in bytes.
+const MAX_MEMORY: usize = 65536;
+
 // Are a memory's base and length in range? (Refusal 16.)
 pub fn memory_ok(k: Rules, base: u64, n: usize) -> bool
     requires { ⌜ Lawful k ⌝ }
@@ -17,7 +20,7 @@ pub fn memory_ok(k: Rules, base: u64, n: usize) -> bool
     if n < 256 {
         return false;
     }
-    if 65536 < n {
+    if MAX_MEMORY < n {
         return false;
     }
     if base % 16 != 0 {

@@ -1,6 +1,7 @@
 // The walker for C and Rust, which include/flakuzhen.h declares: `fz_walker` is six words, in the layout of crates/walker/specs/Words.antt. A refused call leaves the walker
 // and the value buffer as they were.
 use answers::Answer;
+use walker::WALKER_WORDS;
 ghost use mathlib.Core.Path.{_≡_};
 ghost use Rattle.signature.specs.Read.{signatureOf};
 ghost use Rattle.slots.specs.Buffers.{buffers};
@@ -21,7 +22,7 @@ fn answer_of(a: walker::Answer) -> Answer
 }
 
 #[no_mangle]
-pub extern "C" fn fz_walk_start(walker: &mut [u64; 6], sig: &[u8]) -> Answer
+pub extern "C" fn fz_walk_start(walker: &mut [u64; WALKER_WORDS], sig: &[u8]) -> Answer
     ensures { λ r. ⌜ r ≡ walkAnswer (startAnswer (signatureOf (now (sig .entry)))) ⌝ }
     ensures { λ _. ⌜ now (walker .exit) ≡ startWords (signatureOf (now (sig .entry))) (now (walker .entry)) ⌝ }
 {
@@ -31,7 +32,7 @@ pub extern "C" fn fz_walk_start(walker: &mut [u64; 6], sig: &[u8]) -> Answer
 
 #[no_mangle]
 pub extern "C" fn fz_walk(
-    walker: &mut [u64; 6],
+    walker: &mut [u64; WALKER_WORDS],
     item: &[u8],
     value: &mut [u8],
     image: &[u8],

@@ -8,6 +8,7 @@ use lib.ListN.{length}
 use Rattle.words.specs.Basics.{pick}
 use Rattle.places.specs.declared.ResultPlaces.{ResultPlaces}
 use Rattle.places.specs.Step.{wordOf}
+use Rattle.places.specs.Spots.{imageBytes}
 use Rattle.slots.specs.declared.Refusal.{Refusal}
 use Rattle.slots.specs.declared.Answer.{Answer}
 use Rattle.slots.specs.Buffers.{Buffers, Slot, putAll}
@@ -38,7 +39,7 @@ highAddress w (ResultPlaces.Hidden s) address = ltb (2 ^ (8 * w) - 1) address
 -- and the hidden address is too high or not
 unfoldable pub fillTests : Lengths → ℕ → ℕ → ℕ → ℕ → Bool → List Test
 fillTests have values area copies base high =
-    test (differ (have .image) 512) Refusal.ImageSize
+    test (differ (have .image) imageBytes) Refusal.ImageSize
     ∷ test (differ (have .values) values) Refusal.ValuesSize
     ∷ test (ltb (have .area) area) Refusal.AreaTooShort
     ∷ test (badCopies copies (have .copies) base) Refusal.BadCopies

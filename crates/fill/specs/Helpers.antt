@@ -5,6 +5,7 @@ use mathlib.Core.Path.{_≡_}
 use Rattle.signature.specs.declared.SignatureRead.{SignatureRead}
 use Rattle.signature.specs.Helpers.{Plannable}
 use Rattle.places.specs.declared.ResultPlaces.{ResultPlaces}
+use Rattle.places.specs.Spots.{imageBytes}
 use Rattle.slots.specs.Helpers.{All, sizesOf}
 use Rattle.slots.specs.Arguments.{rulesIn}
 use Rattle.arguments.specs.Table.{argumentsFrom}
@@ -14,7 +15,7 @@ use Rattle.marshal.specs.Helpers.{Ready}
 abbrev pub HiddenFits : ResultPlaces → ℕ → Type 0
 HiddenFits ResultPlaces.Nothing i = Unit {0}
 HiddenFits (ResultPlaces.Registers s) i = Unit {0}
-HiddenFits (ResultPlaces.Hidden s) i = (s .general .first < 32) × (i ≡ 512)
+HiddenFits (ResultPlaces.Hidden s) i = (s .general .first < 32) × (i ≡ imageBytes)
 
 -- the bytes of a word
 abbrev pub WordSize : ℕ → Type 0

@@ -1,4 +1,5 @@
 // Filling: the values of a call's arguments are put where its signature's plan says, unless a buffer is too small or its base unfit.
+use places::IMAGE_BYTES;
 use places::ResultPlaces;
 use signature::Outcome;
 use signature::SignatureRead;
@@ -104,7 +105,7 @@ fn high_address(word: usize, result: ResultPlaces, address: u64) -> bool
 fn tested(have: Lengths, values: usize, area: usize, copies: usize, base: u64, high: bool) -> Answer
     ensures { λ a. ⌜ a ≡ firstOf (fillTests have values area copies base high) ⌝ }
 {
-    if have.image != 512 {
+    if have.image != IMAGE_BYTES {
         return Answer::Refused(Refusal::ImageSize);
     }
     if have.values != values {

@@ -8,6 +8,7 @@ use lib.ListN.{length}
 use Rattle.words.specs.Basics.{pick}
 use Rattle.words.specs.Splice.{splice}
 use Rattle.places.specs.declared.Rules.{Rules}
+use Rattle.places.specs.Spots.{imageBytes}
 use Rattle.slots.specs.declared.Refusal.{Refusal}
 use Rattle.slots.specs.declared.Answer.{Answer}
 use Rattle.slots.specs.Placements.{Placement}
@@ -25,7 +26,7 @@ registersAnswer r ps image = firstOfAll (λ (p : Placement). registerAnswer r (p
 -- "After reading: 24, 15, .. 11": of an image of i bytes and an area of `have`, where the plan asks for `area`
 unfoldable pub homeTests : Rules → ℕ → ℕ → ℕ → List Test
 homeTests r i have area =
-    test (homeless r) Refusal.NoView ∷ test (differ i 512) Refusal.ImageSize ∷ test (ltb have area) Refusal.AreaTooShort ∷ []
+    test (homeless r) Refusal.NoView ∷ test (differ i imageBytes) Refusal.ImageSize ∷ test (ltb have area) Refusal.AreaTooShort ∷ []
 
 -- of a signature's bytes s, an image, and an area of `have` bytes
 unfoldable pub homeAnswer : List ℕ → List ℕ → ℕ → Answer

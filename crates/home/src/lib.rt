@@ -1,4 +1,5 @@
 // Home: the arguments of a PowerPC call that came in registers, copied into the parameter area.
+use places::IMAGE_BYTES;
 use places::Rules;
 use plan::Plan;
 use signature::Outcome;
@@ -61,7 +62,7 @@ fn home_tested(r: Rules, image: usize, lent: usize, area: usize) -> Answer
     if home_slot::is_homeless(r) {
         return Answer::Refused(Refusal::NoView);
     }
-    if image != 512 {
+    if image != IMAGE_BYTES {
         return Answer::Refused(Refusal::ImageSize);
     }
     if lent < area {

@@ -14,6 +14,7 @@ use Rattle.types.specs.Sizes.{equivalentOf}
 use Rattle.places.specs.declared.Rules.{Rules}
 use Rattle.places.specs.declared.Span.{Span}
 use Rattle.places.specs.Step.{wordOf}
+use Rattle.places.specs.Spots.{imageBytes}
 use Rattle.slots.specs.Forms.{roomOf, startsAtHead}
 use Rattle.slots.specs.Placements.{Placement}
 use Rattle.slots.specs.Helpers.{FloatSized, Held}
@@ -60,7 +61,7 @@ pub record Homed (r : Rules) (a : ℕ) (p : Placement) : Type 0 where
 -- a type's FPRs lie in an image of i bytes, and hold a value of some size
 abbrev pub FloatFits : ValueType → Span → ℕ → Type 0
 FloatFits t s i =
-    (s .floating .first + s .floating .count ≤ 32) × (i ≡ 512) × (0 < s .floating .count → (n : ℕ) × FloatSized (equivalentOf t) (s .floating .count) n)
+    (s .floating .first + s .floating .count ≤ 32) × (i ≡ imageBytes) × (0 < s .floating .count → (n : ℕ) × FloatSized (equivalentOf t) (s .floating .count) n)
 
 -- such an argument, and that its registers lie in an image of i bytes
 pub record Registered (r : Rules) (a i : ℕ) (p : Placement) : Type 0 where
@@ -68,4 +69,4 @@ pub record Registered (r : Rules) (a i : ℕ) (p : Placement) : Type 0 where
   pub homed : Homed r a p
   pub general : p .span .general .first + p .span .general .count ≤ 32
   pub floating : p .span .floating .first + p .span .floating .count ≤ 32
-  pub image : i ≡ 512
+  pub image : i ≡ imageBytes

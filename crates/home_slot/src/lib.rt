@@ -1,6 +1,7 @@
 // The home of one argument of a PowerPC call in the parameter area: what stands there once its registers are copied, and whether they can be.
 use conventions::Convention;
 use ieee::Narrowed;
+use places::FPRS_AT;
 use places::Rules;
 use places::Span;
 use slots::Answer;
@@ -33,7 +34,7 @@ pub fn register_answer(image: &[u8], r: Rules, t: ValueType, s: Span) -> Answer
 {
     let floating = s.floating;
     if 0 < floating.count {
-        let x = words::load(image, 256 + 8 * (floating.first as usize), 8);
+        let x = words::load(image, FPRS_AT + 8 * (floating.first as usize), 8);
         return slots::float_answer(r, types::equivalent_of(t), x);
     }
     Answer::Done
@@ -81,7 +82,7 @@ pub fn put_home(place: &mut [u8], image: &[u8], c: Convention, t: ValueType, s: 
     let general = s.general;
     let home = s.home;
     if 0 < floating.count {
-        let at = 256 + 8 * (floating.first as usize);
+        let at = FPRS_AT + 8 * (floating.first as usize);
         let held = 8 * (floating.count as usize);
         let room = home.length as usize;
         home_float(place, image, types::equivalent_of(t), at, held, room);

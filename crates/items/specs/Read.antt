@@ -10,7 +10,7 @@ use Rattle.words.specs.Basics.{pick}
 use Rattle.conventions.specs.declared.Convention.{Convention}
 use Rattle.types.specs.declared.IntegerKind.{IntegerKind}
 use Rattle.types.specs.declared.FloatFormat.{FloatFormat}
-use Rattle.types.specs.Sizes.{lacksFloat}
+use Rattle.types.specs.Sizes.{lacksFloat, maxDepth}
 use Rattle.types.specs.Structs.{shapeOf, tooLarge}
 use Rattle.types.specs.Trees.{Tree, Trees, integer, float, struct, none, _▸_, fieldsOf}
 use Rattle.items.specs.declared.Refusal.{Refusal}
@@ -106,7 +106,7 @@ itemBy c structure inside s e at =
 -- any struct. 6: "struct depth over 8"
 unfoldable pub structAt : Convention → ℕ → List ℕ → ℕ → ℕ → Reading Tree
 structAt c zero s at b = no (fault Refusal.TooDeep at 0)
-structAt c (suc d) s at b = contentsAt c (λ k. itemBy c (structAt c d s) (ltb d 8) s b k) at b
+structAt c (suc d) s at b = contentsAt c (λ k. itemBy c (structAt c d s) (ltb d maxDepth) s b k) at b
 
 unfoldable pub itemAt : Convention → ℕ → List ℕ → ℕ → ℕ → Reading Tree
-itemAt c d s e at = itemBy c (structAt c d s) (ltb d 8) s e at
+itemAt c d s e at = itemBy c (structAt c d s) (ltb d maxDepth) s e at

@@ -64,7 +64,7 @@ pub fn with_field(l: Fields, c: Convention, t: ValueType) -> Fields
     }
 }
 
-// The struct of these fields, unless it is over 256 bytes.
+// The struct of these fields, unless it is too large.
 pub fn close(l: Fields) -> Closed
     requires { ⌜ (l .end < 2 ^ 32) × (0 < l .align) × (l .align ≤ 16) ⌝ }
     ensures { λ r. ⌜ r ≡ closed l ⌝ }
@@ -73,7 +73,7 @@ pub fn close(l: Fields) -> Closed
     let align = l.align;
     let equivalent = l.equivalent;
     let size = words::round_up(end, align);
-    if 256 < size {
+    if types::MAX_SIZE < size {
         return Closed::TooLarge;
     }
     Closed::Shape(Shape {

@@ -5,6 +5,7 @@ ghost use lib.Dec.{ltb};
 ghost use lib.ListN.{length};
 ghost use Rattle.items.specs.Read.{integerCode, floatCode, integerAt, floatOf, floatAt};
 ghost use Rattle.items.specs.Answer.{itemAnswer};
+ghost use Rattle.types.specs.Sizes.{maxDepth};
 use conventions::Convention;
 use items::FloatCode;
 use items::IntegerCode;
@@ -62,9 +63,9 @@ pub fn read_integer(s: &[u8], c: Convention, at: usize, end: usize) -> ItemRead
 
 // A float item at `at` that 5 does not refuse: whether the convention has it.
 fn float_item(c: Convention, f: FloatFormat, at: usize, end: usize, depth: usize) -> ItemRead
-    ensures { λ r. ⌜ r ≡ itemAnswer c (floatOf c f (ltb depth 8) at end) ⌝ }
+    ensures { λ r. ⌜ r ≡ itemAnswer c (floatOf c f (ltb depth maxDepth) at end) ⌝ }
 {
-    let inside = depth < 8;
+    let inside = depth < types::MAX_DEPTH;
     if types::lacks_float(c, inside, f) {
         return item_headers::refused_here(Refusal::FloatNotCarried, at);
     }
@@ -75,10 +76,10 @@ fn float_item(c: Convention, f: FloatFormat, at: usize, end: usize, depth: usize
     }
 }
 
-// The float item at `at`, whose body ends at `end`, with `depth` levels of structs left: fewer than 8 inside a struct.
+// The float item at `at`, whose body ends at `end`, with `depth` levels of structs left: fewer than MAX_DEPTH inside a struct.
 pub fn read_float(s: &[u8], c: Convention, at: usize, end: usize, depth: usize) -> ItemRead
     requires { ⌜ (at + 3 ≤ end) × (end ≤ length (now s)) ⌝ }
-    ensures { λ r. ⌜ r ≡ itemAnswer c (floatAt c (now (s .entry)) (ltb depth 8) at end) ⌝ }
+    ensures { λ r. ⌜ r ≡ itemAnswer c (floatAt c (now (s .entry)) (ltb depth maxDepth) at end) ⌝ }
 {
     if end - at != 4 {
         return item_headers::refused_here(Refusal::Malformed, at);
@@ -88,7 +89,7 @@ pub fn read_float(s: &[u8], c: Convention, at: usize, end: usize, depth: usize) 
             FloatFormat::Single => float_item(c, FloatFormat::Single, at, end, depth),
             FloatFormat::Double => float_item(c, FloatFormat::Double, at, end, depth),
             FloatFormat::LongDouble => {
-                if depth < 8 {
+                if depth < types::MAX_DEPTH {
                     item_headers::refused_here(Refusal::LongDoubleInStruct, at)
                 } else {
                     float_item(c, FloatFormat::LongDouble, at, end, depth)

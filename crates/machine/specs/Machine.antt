@@ -15,7 +15,7 @@ use Rattle.rules.specs.declared.Rules.{Rules}
 use Rattle.rules.specs.declared.Frame.{Frame}
 use Rattle.rules.specs.declared.Registers.{Registers}
 use Rattle.rules.specs.Rules.{rules}
-use Rattle.rules.specs.Frames.{noFrame, startFrame, withPointer, okRegisters, cleared, okRequest, outgoingLength, below, frameSize, chainWidth, saves, linkAt, restored, bankOf, writableRegister, withRegister}
+use Rattle.rules.specs.Frames.{noFrame, startFrame, withPointer, okRegisters, cleared, okRequest, outgoingLength, below, frameSize, chainWidth, saves, linkAt, restored, bankOf, writableRegister, withRegister, maxMemory}
 use Rattle.machine.specs.Answers.{Answer, BadMemory, BadRequest, TooManyFrames, NoRoom, NotPermitted, BrokenChain, NothingEntered, BadState, AboveLeaf, Test, require, judge, settle}
 pub use Rattle.machine.specs.declared.State.{State}
 pub use Rattle.machine.specs.declared.Outcome.{Outcome}
@@ -65,7 +65,7 @@ sizes k fs (suc d) = sizes k fs d + frameSize k (frameAt fs d)
 -- refusal 16: "machine memory N not a multiple of 16, under 256, over 65,536, base B not a multiple of 16, B + N over 2^64 - 1"; 02, No. 1, of AIX: "B + N over
 -- 2^32 - 1 gives 16"; No. 8: "Start gives 16 unless the start pointer has that room", which is the floor
 unfoldable pub okMemory : Rules → ℕ → ℕ → Bool
-okMemory k b n = eqb (n % 16) 0 && (leb 256 n && (leb n 65536 && (eqb (b % 16) 0 && (leb (b + n) (k .limit) && leb (k .room + k .floor) n))))
+okMemory k b n = eqb (n % 16) 0 && (leb 256 n && (leb n maxMemory && (eqb (b % 16) 0 && (leb (b + n) (k .limit) && leb (k .room + k .floor) n))))
 
 -- refusal 23: "depth over 32, an entered frame's record that 17 would refuse, B or N as in 16, or stack pointer below B or not the start's less the sum of frame sizes";
 -- 02, No. 1: "a GPR or LR write over 2^32 - 1 gives 20, a state holding one 23"; No. 8: "In 23, less room than this counts as below B"

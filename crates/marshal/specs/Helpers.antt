@@ -7,6 +7,7 @@ use lib.ListN.{length, replicate}
 use Rattle.types.specs.declared.Equivalent.{Equivalent}
 use Rattle.places.specs.declared.Rules.{Rules}
 use Rattle.places.specs.declared.Span.{Span}
+use Rattle.places.specs.Spots.{imageBytes}
 use Rattle.slots.specs.Placements.{Placement}
 use Rattle.slots.specs.Helpers.{Held, Fits}
 
@@ -20,7 +21,7 @@ WordsFit w s image area =
     (1 ≤ w)
     × (w ≤ 8)
     × (s .general .first + s .general .count ≤ 32)
-    × (length image ≡ 512)
+    × (length image ≡ imageBytes)
     × (s .memory .start + s .memory .length ≤ length area)
     × (0 < s .memory .length → w ≤ s .memory .length)
 
@@ -38,5 +39,5 @@ FloatRoom Equivalent.Nothing n l = n ≤ l
 pub record Ready (r : Rules) (base i a c : ℕ) (p : Placement) : Type 0 where
   pub held : Held r p
   pub fits : Fits a c p
-  pub registers : i ≡ 512
+  pub registers : i ≡ imageBytes
   pub low : base + (p .span .copy .start + p .span .copy .length) < 2 ^ 64

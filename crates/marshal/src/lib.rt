@@ -1,5 +1,6 @@
 // The value of one argument put where its span says: in registers, memory and copy. A slot or a copy is written through the part of its
 // buffer that starts at its offset.
+use places::FPRS_AT;
 use places::Rules;
 use places::Span;
 use types::Equivalent;
@@ -144,7 +145,7 @@ pub fn put_argument(
     let copy = s.copy;
     let indirect = s.indirect;
     if 0 < floating.count {
-        let at = 256 + 8 * (floating.first as usize);
+        let at = FPRS_AT + 8 * (floating.first as usize);
         put_float(&mut image[at..], r, types::equivalent_of(t), v);
         put_value(image, area, r, t, s, v);
         return;

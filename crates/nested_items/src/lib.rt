@@ -3,6 +3,7 @@ ghost use mathlib.Core.Path.{_≡_};
 ghost use Prim.Native.Nat.{_+_, _^_, _≤_, _<_};
 ghost use lib.ListN.{length};
 ghost use Rattle.types.specs.Structs.{closed};
+ghost use Rattle.types.specs.Sizes.{maxDepth};
 ghost use Rattle.items.specs.Read.{structAt, itemAt};
 ghost use Rattle.items.specs.Answer.{itemAnswer, closedAnswer};
 use conventions::Convention;
@@ -33,9 +34,9 @@ fn closed_item(at: usize, end: usize, items: usize, fields: Fields) -> ItemRead
     }
 }
 
-// The type item at `at` within `end`, with `depth` levels of structs left: 8 outside any struct.
+// The type item at `at` within `end`, with `depth` levels of structs left: MAX_DEPTH outside any struct.
 pub fn read_item(s: &[u8], c: Convention, at: usize, end: usize, depth: usize) -> ItemRead
-    requires { ⌜ (at ≤ end) × (end ≤ length (now s)) × (end ≤ 2 ^ 16) × (depth ≤ 8) ⌝ }
+    requires { ⌜ (at ≤ end) × (end ≤ length (now s)) × (end ≤ 2 ^ 16) × (depth ≤ maxDepth) ⌝ }
     ensures { λ r. ⌜ r ≡ itemAnswer c (itemAt c depth (now (s .entry)) end at) ⌝ }
 {
     match item_headers::read_body(s, 0x10, 0x12, at, end) {
@@ -55,7 +56,7 @@ pub fn read_item(s: &[u8], c: Convention, at: usize, end: usize, depth: usize) -
 
 // The struct item at `at`, whose body ends at `end`.
 fn read_struct(s: &[u8], c: Convention, at: usize, end: usize, depth: usize) -> ItemRead
-    requires { ⌜ (at + 3 ≤ end) × (end ≤ length (now s)) × (end ≤ 2 ^ 16) × (depth ≤ 8) ⌝ }
+    requires { ⌜ (at + 3 ≤ end) × (end ≤ length (now s)) × (end ≤ 2 ^ 16) × (depth ≤ maxDepth) ⌝ }
     ensures { λ r. ⌜ r ≡ itemAnswer c (structAt c depth (now (s .entry)) at end) ⌝ }
 {
     if depth == 0 {

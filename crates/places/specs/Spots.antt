@@ -29,13 +29,20 @@ Owns s (floating n) = InRegisters (s .floating) n
 Owns s (area n) = InBytes (s .home) n
 Owns s (copies n) = InBytes (s .copy) n
 
+-- "The image holds GPR n at 8n, FPR n at 256 + 8n": its bytes, and where the FPRs start
+abbrev pub imageBytes : ℕ
+imageBytes = 512
+
+abbrev pub fprsAt : ℕ
+fprsAt = 256
+
 abbrev spotAt : Bool → ℕ → Spot
 spotAt true b = general (b / 8)
-spotAt false b = floating ((b - 256) / 8)
+spotAt false b = floating ((b - fprsAt) / 8)
 
--- "The image holds GPR n at 8n, FPR n at 256 + 8n": the register that byte b of the image is of
+-- the register that byte b of the image is of
 abbrev pub imageSpot : ℕ → Spot
-imageSpot b = spotAt (ltb b 256) b
+imageSpot b = spotAt (ltb b fprsAt) b
 
 -- the registers that arguments may have: r3 to r10 and f1 to f13; Z: "r2 to r6" and "f0, f2, f4, f6"
 abbrev pub ArgumentRegister : Rules → Spot → Type 0

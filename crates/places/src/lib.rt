@@ -9,6 +9,11 @@ ghost use Rattle.places.specs.Values.{registers, bytes};
 ghost use Rattle.places.specs.Places.{registersOf, Numbered, noPlace};
 ghost use Rattle.places.specs.Helpers.{registerCount};
 
+// The bytes of a register image, and where the FPRs start in it: eight bytes for each register, GPRs first.
+pub const IMAGE_BYTES: usize = 512;
+
+pub const FPRS_AT: usize = 256;
+
 // The edition of the PowerPC supplement. In the later one a long double takes two FPRs.
 pub enum Edition {
     Earlier,

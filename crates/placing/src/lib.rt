@@ -4,6 +4,7 @@ ghost use Prim.Native.Nat.{_^_, _≤_, _<_};
 ghost use Rattle.places.specs.Values.{pointer};
 ghost use Rattle.places.specs.Step.{rulesOf, wordOf, nextOf, unclearFor, placed, fresh, startOf, areaOf, returning, hiddenFor, resultOf};
 ghost use Rattle.places.specs.Helpers.{Lawful, Roomy, isEarlier, alwaysClear, unclearAfter};
+ghost use Rattle.types.specs.Sizes.{maxSize};
 use conventions::Convention;
 use places::Cursor;
 use places::Edition;
@@ -17,7 +18,7 @@ use types::ValueType;
 
 // One argument of a type and its size: what belongs to it, and where the next one starts.
 pub fn step(r: Rules, c: Cursor, t: ValueType, size: usize) -> Placed
-    requires { ⌜ Lawful r × Roomy c × (size ≤ 256) ⌝ }
+    requires { ⌜ Lawful r × Roomy c × (size ≤ maxSize) ⌝ }
     ensures { λ p. ⌜ p ≡ placed r c t size ⌝ }
 {
     match r {
@@ -28,7 +29,7 @@ pub fn step(r: Rules, c: Cursor, t: ValueType, size: usize) -> Placed
 
 // The next cursor of the step, without the span.
 pub fn advance(r: Rules, c: Cursor, t: ValueType, size: usize) -> Cursor
-    requires { ⌜ Lawful r × Roomy c × (size ≤ 256) ⌝ }
+    requires { ⌜ Lawful r × Roomy c × (size ≤ maxSize) ⌝ }
     ensures { λ k. ⌜ k ≡ nextOf r c t size ⌝ }
 {
     match r {
@@ -156,7 +157,7 @@ fn returning_of(r: Rules) -> Rules
 }
 
 pub fn result_places(c: Convention, t: ValueType, size: usize) -> ResultPlaces
-    requires { ⌜ size ≤ 256 ⌝ }
+    requires { ⌜ size ≤ maxSize ⌝ }
     ensures { λ q. ⌜ q ≡ resultOf (rulesOf c) t size ⌝ }
 {
     let r = abi::call_rules_of(c);

@@ -17,6 +17,10 @@ firstWord r = pick (eqb (r .count) 0) 0 (r .first)
 abbrev pub startWord : ByteRange → ℕ
 startWord r = pick (eqb (r .length) 0) 0 (r .start)
 
+-- the words of an entry
+abbrev pub entryLength : ℕ
+entryLength = 13
+
 -- where the type item stands in the signature; the value's size, and where it starts in the values; the general and the floating
 -- registers; the bytes of the area, used or not, and those of them that hold it; the copy
 unfoldable pub entryWords : ℕ → ℕ → ℕ → Span → List ℕ

@@ -20,7 +20,7 @@ use Rattle.places.specs.Step.{rulesOf, withEllipsis, spanOf}
 use Rattle.plan.specs.Plan.{endIn, refused}
 use Rattle.plan.specs.Helpers.{planWith, unclearWith}
 use Rattle.plan.specs.Call.{unclearFault}
-use Rattle.plan_entries.specs.Words.{entryWords}
+use Rattle.plan_entries.specs.Words.{entryWords, entryLength}
 use Rattle.plan_words.specs.declared.Planned.{Planned}
 use Rattle.plan_words.specs.Planned.{plannedOf}
 
@@ -63,4 +63,4 @@ SmallWith c r all (no f) = Unit {0}
 
 -- and of the room for what is kept: n words for as many arguments as can stand between `at` and e
 abbrev pub KeepsAll : ℕ → ℕ → ℕ → Type 0
-KeepsAll at e n = (i : ℕ) → i ≤ maxArguments → at + 3 * i ≤ e → 13 * i ≤ n
+KeepsAll at e n = (i : ℕ) → i ≤ maxArguments → at + 3 * i ≤ e → entryLength * i ≤ n

@@ -7,6 +7,7 @@ ghost use Rattle.places.specs.Power.{words, fprs, unclear, shareOf, powerShare,
 ghost use Rattle.places.specs.Step.{placedAs, nextOf, placed};
 ghost use Rattle.places.specs.Helpers.{Roomy};
 ghost use Rattle.power_step.specs.Helpers.{Counted};
+ghost use Rattle.types.specs.Sizes.{maxSize};
 use places::Cursor;
 use places::Edition;
 use places::Placed;
@@ -18,7 +19,7 @@ use types::ValueType;
 
 // The words of the argument list that a value of `size` bytes takes.
 fn words_of(word: usize, size: usize) -> usize
-    requires { ⌜ (4 ≤ word) × (word ≤ 8) × (size ≤ 256) ⌝ }
+    requires { ⌜ (4 ≤ word) × (word ≤ 8) × (size ≤ maxSize) ⌝ }
     ensures { λ r. ⌜ (r ≡ words word size) × (word * r ≤ 264) ⌝ }
 {
     // The usual width by a shift: a division by a variable is slow. One for words of 4 bytes would make the step too long to be compiled in line.
@@ -103,7 +104,7 @@ struct Taken {
 }
 
 fn taken_of(f: PowerRules, c: Cursor, t: ValueType, size: usize) -> Taken
-    requires { ⌜ (4 ≤ f .word) × (f .word ≤ 8) × Roomy c × (size ≤ 256) ⌝ }
+    requires { ⌜ (4 ≤ f .word) × (f .word ≤ 8) × Roomy c × (size ≤ maxSize) ⌝ }
     ensures { λ a. ⌜ (a .count ≡ words (f .word) size) × (a .share ≡ powerShare f c t size) × Counted (f .word) c (a .count) (a .covered) (a .share) ⌝ }
 {
     let word = f.word;
@@ -166,7 +167,7 @@ fn place(word: usize, c: Cursor, a: Taken) -> Placed
 }
 
 pub fn step(f: PowerRules, c: Cursor, t: ValueType, size: usize) -> Placed
-    requires { ⌜ (4 ≤ f .word) × (f .word ≤ 8) × Roomy c × (size ≤ 256) ⌝ }
+    requires { ⌜ (4 ≤ f .word) × (f .word ≤ 8) × Roomy c × (size ≤ maxSize) ⌝ }
     ensures { λ r. ⌜ r ≡ placed (Rules.Power f) c t size ⌝ }
 {
     let word = f.word;
@@ -175,7 +176,7 @@ pub fn step(f: PowerRules, c: Cursor, t: ValueType, size: usize) -> Placed
 
 // The next cursor of the step, without the span. An ellipsis moves no cursor, so that none is looked for.
 pub fn advance(f: PowerRules, c: Cursor, t: ValueType, size: usize) -> Cursor
-    requires { ⌜ (4 ≤ f .word) × (f .word ≤ 8) × Roomy c × (size ≤ 256) ⌝ }
+    requires { ⌜ (4 ≤ f .word) × (f .word ≤ 8) × Roomy c × (size ≤ maxSize) ⌝ }
     ensures { λ k. ⌜ k ≡ nextOf (Rules.Power f) c t size ⌝ }
 {
     let word = f.word;

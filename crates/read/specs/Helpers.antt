@@ -12,7 +12,7 @@ use Rattle.signature.specs.declared.SignatureRead.{SignatureRead}
 use Rattle.signature.specs.Helpers.{Plannable}
 use Rattle.places.specs.declared.Rules.{Rules}
 use Rattle.slots.specs.declared.Answer.{Answer}
-use Rattle.places.specs.Spots.{general}
+use Rattle.places.specs.Spots.{general, imageBytes}
 use Rattle.slots.specs.Buffers.{Buffers}
 use Rattle.slots.specs.Placements.{Placement, floatAt}
 use Rattle.slots.specs.Refusals.{floatAnswer}
@@ -35,14 +35,14 @@ canRefuse Rules.Z (ValueType.Float FloatFormat.Double) = false
 canRefuse Rules.Z (ValueType.Float FloatFormat.LongDouble) = true
 canRefuse Rules.Z (ValueType.Struct s) = true
 
--- what comparing asks: a float in FPRs that 14 doesn't refuse, and in general registers, all of an image of 512 bytes
+-- what comparing asks: a float in FPRs that 14 doesn't refuse, and in general registers, all of them in the image
 pub record Compared (r : Rules) (p : Placement) (b : Buffers) : Type 0 where
   pub held : Held r p
   pub float : 0 < p .span .floating .count
   pub also : 0 < p .span .general .count
   pub general : p .span .general .first + p .span .general .count ≤ 32
   pub floating : p .span .floating .first + p .span .floating .count ≤ 32
-  pub registers : length (b .image) ≡ 512
+  pub registers : length (b .image) ≡ imageBytes
   pub exact : floatAnswer r (equivalentOf (p .ty)) (valueOf (floatAt (p .span) b)) ≡ Answer.Done
 
 -- what the first pass asks: all arguments of a signature that was read, and the lengths of the image and the area

@@ -13,7 +13,7 @@ use Rattle.places.specs.declared.Rules.{Rules}
 use Rattle.places.specs.Step.{wordOf}
 use Rattle.slots.specs.declared.Refusal.{Refusal}
 use Rattle.slots.specs.declared.Answer.{Answer}
-use Rattle.places.specs.Spots.{general}
+use Rattle.places.specs.Spots.{general, imageBytes}
 use Rattle.registers.specs.Registers.{gather}
 use Rattle.slots.specs.Buffers.{Buffers, bytesAt}
 use Rattle.slots.specs.Forms.{ownStart, floatValue}
@@ -75,7 +75,7 @@ argumentsAnswer r base ps b = firstOfAll (λ (p : Placement). argumentAnswer r b
 -- "After reading: .. 15, 10, 11": of buffers of these lengths, where the plan asks for values and an area of these sizes
 unfoldable pub readTests : Sizes → ℕ → ℕ → List Test
 readTests have values area =
-    test (differ (have .image) 512) Refusal.ImageSize
+    test (differ (have .image) imageBytes) Refusal.ImageSize
     ∷ test (differ (have .values) values) Refusal.ValuesSize
     ∷ test (ltb (have .area) area) Refusal.AreaTooShort
     ∷ []

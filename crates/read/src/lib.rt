@@ -1,6 +1,8 @@
 // Reading: the values of a call's arguments out of its registers, memory and copies. A first pass over the arguments finds the first
 // that can't be read, and only then are the values taken, so that a refused reading leaves the value buffer as it was.
 use places::Cursor;
+use places::FPRS_AT;
+use places::IMAGE_BYTES;
 use places::Rules;
 use places::Span;
 use signature::Outcome;
@@ -23,6 +25,7 @@ ghost use Rattle.arguments.specs.Table.{argumentsFrom};
 ghost use Rattle.unmarshal.specs.Helpers.{Ready};
 ghost use Rattle.read.specs.Read.{inCopies, copyAnswer, sameBytes, agrees, agreeAnswer, argumentAnswer, argumentsAnswer, readTests, readAnswer, readValues, sizes};
 ghost use Rattle.read.specs.Helpers.{Compared, canRefuse, AllReady};
+ghost use Rattle.types.specs.Sizes.{maxSize};
 
 // The lengths of the lent buffers that are tested.
 pub struct Sizes {
@@ -84,7 +87,7 @@ fn floats_agree(image: &[u8], r: Rules, t: ValueType, n: usize, s: Span) -> bool
     let mut own = [0u8; 16];
     registers::take_registers(&mut own, image, word, general.first as usize, count, lo, m);
     let mut value = [0u8; 16];
-    let at = 256 + 8 * (floating.first as usize);
+    let at = FPRS_AT + 8 * (floating.first as usize);
     unmarshal::take_float(
         &mut value,
         image,
@@ -123,7 +126,7 @@ pub fn argument_answer(
     let floating = s.floating;
     let indirect = s.indirect;
     if 0 < floating.count {
-        let x = words::load(image, 256 + 8 * (floating.first as usize), 8);
+        let x = words::load(image, FPRS_AT + 8 * (floating.first as usize), 8);
         let answer = slots::float_answer(r, types::equivalent_of(t), x);
         if general.count == 0 {
             return answer;
@@ -177,7 +180,7 @@ fn answer_at(
     n: usize,
     base: u64,
 ) -> Answer
-    requires { ⌜ Lawful r × Roomy c × (n ≤ 256) × Ready r (length (now image)) (length (now area)) (placement t n (spanOf r c t n)) ⌝ }
+    requires { ⌜ Lawful r × Roomy c × (n ≤ maxSize) × Ready r (length (now image)) (length (now area)) (placement t n (spanOf r c t n)) ⌝ }
     ensures { λ a. ⌜ a ≡ argumentAnswer r base (placement t n (spanOf r c t n)) (buffers (now (image .entry)) (now (area .entry)) (now (copies .entry))) ⌝ }
 {
     if can_refuse(r, t) {
@@ -223,7 +226,7 @@ pub fn first_refusal(
 fn tested(have: Sizes, values: usize, area: usize) -> Answer
     ensures { λ a. ⌜ a ≡ firstOf (readTests have values area) ⌝ }
 {
-    if have.image != 512 {
+    if have.image != IMAGE_BYTES {
         return Answer::Refused(Refusal::ImageSize);
     }
     if have.values != values {

@@ -59,6 +59,10 @@ abbrev pub hasCondition : Linkage → Bool
 hasCondition (LinkRegister c l) = true
 hasCondition (SaveArea r) = false
 
+-- refusal 16: "machine memory N .. over 65,536"
+abbrev pub maxMemory : ℕ
+maxMemory = 65536
+
 -- the most that a request may ask for: P up to 32,776 (document 02, No. 6)
 abbrev pub maxOutgoing : ℕ
 maxOutgoing = 32776

@@ -8,7 +8,7 @@ use mathlib.Core.Bool.{Bool, true, false, _&&_, _||_}
 use mathlib.Core.List.{List, [], _∷_}
 use lib.Dec.{ltb}
 use Rattle.rules.specs.Rules.{Span, within, Bank, Linkage, LinkRegister, SaveArea, Rules, Frame, RegisterBank, General, Floating, Link, ConditionField, None}
-use Rattle.rules.specs.Frames.{okRequest, below}
+use Rattle.rules.specs.Frames.{okRequest, below, maxMemory}
 
 -- no register of the span, and of the spans, is in the others
 abbrev pub apart : Span → List Span → Bool
@@ -52,7 +52,7 @@ pub record Lawful (k : Rules) : Type 0 where
   pub end : k .end ≤ 32
   pub pointer : k .pointer < 32
   pub limit : k .limit + 1 ≡ 2 ^ (8 * k .word)
-  pub memory : 65536 ≤ k .limit
+  pub memory : maxMemory ≤ k .limit
   pub unkept : within (k .gpr .preserved) (k .pointer) ≡ false
   pub unfree : within (k .gpr .volatile) (k .pointer) ≡ false
   pub unsaved : (k .pointer < k .gpr .request .first) ⊎ (k .gpr .last < k .pointer)

@@ -20,8 +20,9 @@ use Rattle.items.proofs.Complete.{header-reads, tree-reads, trees-read}
 use Rattle.conventions.specs.declared.ConventionCode.{ConventionCode}
 use Rattle.conventions.specs.Numbers.{conventionCode, codeOf}
 use Rattle.conventions.proofs.Laws.{code-back}
+use Rattle.types.specs.Sizes.{maxDepth}
 use Rattle.signature.specs.Signature.{Result, nothing, value, Signature}
-use Rattle.signature.specs.Limits.{maxLength, maxArguments, maxDepth}
+use Rattle.signature.specs.Limits.{maxLength, maxArguments}
 use Rattle.signature.specs.Read.{conventionAt, resultIn, resultAt, ellipsisAt, argumentsIn, argumentsAt, afterEllipsis, afterResult, afterConvention, signatureOf}
 use Rattle.signature.specs.Encode.{encodeResult, ellipsisItem, encode, resultItems, ellipsisItems, signatureItems, ResultWithin, Within}
 use Rattle.signature.proofs.Laws.{convention-by, result-none, result-to, ellipsis-none, ellipsis-one, arguments-to}

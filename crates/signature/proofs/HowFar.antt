@@ -19,10 +19,11 @@ use Rattle.items.proofs.Sound.{by-pick, by-choose, Framed}
 use Rattle.items.proofs.HowFar.{Goes, walked-over, walked-into, passed-none, passed-one, framed-here, stops, stops-here, goes-after, goes-within, fills-goes, goes-then, goes-body, sequence-goes, item-goes, walked-ascends, far-before, far-third, far-unique}
 use Rattle.conventions.specs.declared.ConventionCode.{ConventionCode}
 use Rattle.conventions.specs.Numbers.{conventionCode}
+use Rattle.types.specs.Sizes.{maxDepth}
 use Rattle.signature.specs.declared.ResultRead.{ResultRead}
 use Rattle.signature.specs.declared.EllipsisRead.{EllipsisRead}
 use Rattle.signature.specs.Signature.{Result, Signature}
-use Rattle.signature.specs.Limits.{maxLength, maxDepth, maxArguments}
+use Rattle.signature.specs.Limits.{maxLength, maxArguments}
 use Rattle.signature.specs.Read.{conventionBy, conventionAt, resultIn, resultAt, ellipsisAt, argumentsIn, argumentsAt, afterEllipsis, afterResult, afterConvention, signatureOf}
 use Rattle.signature.specs.Answer.{resultAnswer, ellipsisAnswer}
 use Rattle.signature.specs.Exact.{SaysHowFar}

@@ -23,13 +23,14 @@ use Rattle.items.proofs.Laws.{item-got, item-no}
 use Rattle.items.proofs.Sound.{by-pick}
 use Rattle.conventions.specs.declared.ConventionCode.{ConventionCode}
 use Rattle.conventions.specs.Numbers.{conventionCode}
+use Rattle.types.specs.Sizes.{maxDepth}
 use Rattle.signature.specs.declared.ConventionRead.{ConventionRead}
 use Rattle.signature.specs.declared.ResultType.{ResultType}
 use Rattle.signature.specs.declared.ResultRead.{ResultRead}
 use Rattle.signature.specs.declared.EllipsisRead.{EllipsisRead}
 use Rattle.signature.specs.declared.HeadRead.{HeadRead}
 use Rattle.signature.specs.Signature.{Result, nothing, Signature, Head}
-use Rattle.signature.specs.Limits.{maxLength, maxDepth}
+use Rattle.signature.specs.Limits.{maxLength}
 use Rattle.signature.specs.Read.{conventionBy, conventionAt, resultIn, resultAt, ellipsisAt, argumentsIn, argumentsAt, afterEllipsis, afterResult, afterConvention, signatureOf, headBy, headThen, headAfter, headOf}
 use Rattle.signature.specs.Answer.{conventionAnswer, resultType, resultAnswer, ellipsisAnswer, headAnswer, refused, accepted, signatureAnswer}
 use Rattle.signature.specs.Helpers.{withArguments}

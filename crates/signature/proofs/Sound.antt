@@ -22,13 +22,14 @@ use Rattle.items.proofs.Sound.{by-pick, by-choose, by-then, by-next, by-body, B
 use Rattle.conventions.specs.declared.ConventionCode.{ConventionCode}
 use Rattle.conventions.specs.Numbers.{conventionCode, codeOf}
 use Rattle.conventions.proofs.Laws.{CodeIs, code-is}
+use Rattle.types.specs.Sizes.{maxDepth}
 use Rattle.signature.specs.declared.ResultType.{ResultType}
 use Rattle.signature.specs.declared.ResultRead.{ResultRead}
 use Rattle.signature.specs.declared.EllipsisRead.{EllipsisRead}
 use Rattle.signature.specs.declared.HeadRead.{HeadRead}
 use Rattle.signature.specs.Answer.{resultAnswer, ellipsisAnswer, headAnswer}
 use Rattle.signature.specs.Signature.{Result, nothing, value, Signature, Head}
-use Rattle.signature.specs.Limits.{maxLength, maxArguments, maxDepth}
+use Rattle.signature.specs.Limits.{maxLength, maxArguments}
 use Rattle.signature.specs.Read.{conventionBy, conventionAt, resultIn, resultAt, ellipsisAt, argumentsIn, argumentsAt, afterEllipsis, afterResult, afterConvention, signatureOf, headBy, headThen, headAfter, headOf}
 use Rattle.signature.proofs.Laws.{result-got, ellipsis-got, head-got}
 use Rattle.signature.specs.Encode.{encodeResult, ellipsisItem, encode, resultItems, ellipsisItems, signatureItems, ResultWithin, Within}

@@ -6,7 +6,7 @@ use lib.ListN.{length, getD}
 use Rattle.conventions.specs.declared.Convention.{Convention}
 use Rattle.types.specs.declared.IntegerKind.{IntegerKind}
 use Rattle.types.specs.declared.ValueType.{ValueType}
-use Rattle.types.specs.Sizes.{sizeOf}
+use Rattle.types.specs.Sizes.{sizeOf, maxSize}
 use Rattle.signature.specs.declared.ResultType.{ResultType}
 use Rattle.signature.specs.declared.SignatureRead.{SignatureRead}
 use Rattle.signature.specs.Limits.{maxArguments}
@@ -21,7 +21,7 @@ use Rattle.items.specs.Reading.{Reading, fault, got, no, later}
 -- refusal 8: no "struct size over 256"
 abbrev pub SmallResult : Convention → ResultType → Type 0
 SmallResult c ResultType.Nothing = Unit {0}
-SmallResult c (ResultType.Value t) = sizeOf c t ≤ 256
+SmallResult c (ResultType.Value t) = sizeOf c t ≤ maxSize
 
 abbrev pub typeAt : SignatureRead → ℕ → ValueType
 typeAt g i = getD (g .arguments) i (argument (ValueType.Integer IntegerKind.I8)) .ty
@@ -30,7 +30,7 @@ pub record Plannable (g : SignatureRead) : Type 0 where
   pub few : g .count ≤ maxArguments
   pub room : g .count ≤ length (g .arguments)
   pub result : SmallResult (g .convention) (g .result)
-  pub small : (i : ℕ) → i < g .count → sizeOf (g .convention) (typeAt g i) ≤ 256
+  pub small : (i : ℕ) → i < g .count → sizeOf (g .convention) (typeAt g i) ≤ maxSize
 
 -- from the arguments on, in a signature of `all` bytes, where the convention and the result's type took n items
 abbrev pub withArguments : Convention → ResultType → Bool → ℕ → ℕ → Reading Trees → SignatureRead

@@ -1,4 +1,4 @@
--- The limits on a signature: of its refusals 1, 7 and 6. Assumes nothing.
+-- The limits on a signature: of its refusals 1 and 7; those on its types are in crates/types/specs/Sizes.antt. Assumes nothing.
 use Prim.Native.Nat.{ℕ}
 
 -- 1: "signature over" 16,384 bytes (document 02, No. 6)
@@ -8,7 +8,3 @@ maxLength = 16384
 -- 7: "bytes left after the" 128th "argument" (document 02, No. 6)
 abbrev pub maxArguments : ℕ
 maxArguments = 128
-
--- the depth left outside any struct; 6: "struct depth over 8"
-abbrev pub maxDepth : ℕ
-maxDepth = 8

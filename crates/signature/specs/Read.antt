@@ -8,13 +8,14 @@ use lib.Dec.{ltb, eqb}
 use Rattle.words.specs.Basics.{pick}
 use Rattle.conventions.specs.declared.Convention.{Convention}
 use Rattle.types.specs.Trees.{Trees, none}
+use Rattle.types.specs.Sizes.{maxDepth}
 use Rattle.items.specs.declared.Refusal.{Refusal}
 use Rattle.items.specs.declared.Body.{Body}
 use Rattle.items.specs.Reading.{Reading, fault, got, no, after, choose, andThen, inBody}
 use Rattle.items.specs.Read.{bodyAt, sequence, itemAt}
 use Rattle.conventions.specs.declared.ConventionCode.{ConventionCode}
 use Rattle.conventions.specs.Numbers.{conventionCode}
-use Rattle.signature.specs.Limits.{maxLength, maxArguments, maxDepth}
+use Rattle.signature.specs.Limits.{maxLength, maxArguments}
 use Rattle.signature.specs.Signature.{Result, nothing, value, Signature, Head}
 
 -- an unknown code is malformed

@@ -58,7 +58,7 @@ fn read_result_body(s: &[u8], c: Convention, at: usize, end: usize) -> ResultRea
             items: 1,
         };
     }
-    match nested_items::read_item(s, c, at, end, 8) {
+    match nested_items::read_item(s, c, at, end, types::MAX_DEPTH) {
         ItemRead::Refused(fault) => ResultRead::Refused(items::later_by(1, fault)),
         ItemRead::Item { ty, next, items } => {
             let counted = 1 + items;

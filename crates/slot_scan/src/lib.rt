@@ -14,6 +14,7 @@ ghost use Rattle.signature.specs.Types.{typesIn};
 ghost use Rattle.signature.specs.Helpers.{Plannable};
 ghost use Rattle.slot_scan.specs.Slots.{initial, doubleOrFloat, otherSize, copiedStruct, copied, copyAt, inFloating, inGeneral, inOther, slotBy, slotOf, scannedOf, zHidden, zReturned};
 ghost use Rattle.slot_scan.specs.Helpers.{Roomy};
+ghost use Rattle.types.specs.Sizes.{maxSize};
 
 // 001's gr, fr and starg, and the end of the copies.
 pub struct Scan {
@@ -97,7 +98,7 @@ fn is_copied(t: ValueType, size: usize) -> bool
 }
 
 fn copy_at(reference: bool, at: usize, size: usize) -> Copied
-    requires { ⌜ (at ≤ 2 ^ 20) × (size ≤ 256) ⌝ }
+    requires { ⌜ (at ≤ 2 ^ 20) × (size ≤ maxSize) ⌝ }
     ensures { λ r. ⌜ r ≡ copyAt reference at size ⌝ }
 {
     let none = parameters::no_run();
@@ -206,7 +207,7 @@ fn slot_by(float: bool, s: Scan, k: Copied) -> Slot
 }
 
 fn slot_for(s: Scan, t: ValueType, size: usize) -> Slot
-    requires { ⌜ Roomy s × (size ≤ 256) ⌝ }
+    requires { ⌜ Roomy s × (size ≤ maxSize) ⌝ }
     ensures { λ r. ⌜ r ≡ slotOf s t size ⌝ }
 {
     let k = copy_at(is_copied(t, size), s.copies, size);

@@ -4,7 +4,7 @@
 use Prim.Native.Nat.{ℕ, _+_, _*_}
 use mathlib.Core.List.{List, [], _∷_}
 use Rattle.words.specs.Splice.{splice, part}
-use Rattle.places.specs.Spots.{Spot, general, floating, area, copies}
+use Rattle.places.specs.Spots.{Spot, general, floating, area, copies, fprsAt}
 
 -- the register image, the parameter area and the copy buffer
 pub record Buffers : Type 0 where
@@ -20,7 +20,7 @@ abbrev pub generalAt : ℕ → ℕ
 generalAt n = 8 * n
 
 abbrev pub floatingAt : ℕ → ℕ
-floatingAt n = 256 + 8 * n
+floatingAt n = fprsAt + 8 * n
 
 -- the bytes bs from a spot on: registers of one bank that follow each other follow each other in the image too
 unfoldable pub put : Spot → List ℕ → Buffers → Buffers

@@ -8,12 +8,13 @@ use lib.Dec.{ltb}
 use Rattle.words.specs.Basics.{pick}
 use Rattle.conventions.specs.declared.Convention.{Convention}
 use Rattle.types.specs.Trees.{Tree}
+use Rattle.types.specs.Sizes.{maxDepth}
 use Rattle.items.specs.declared.Refusal.{Refusal}
 use Rattle.items.specs.declared.Body.{Body}
 use Rattle.items.specs.declared.ItemRead.{ItemRead}
 use Rattle.items.specs.Reading.{Reading, fault, no}
 use Rattle.items.specs.Read.{bodyAt, itemAt}
-use Rattle.signature.specs.Limits.{maxLength, maxDepth}
+use Rattle.signature.specs.Limits.{maxLength}
 use Rattle.stepping.specs.declared.Header.{Header}
 
 -- no part goes past the bytes

@@ -92,7 +92,7 @@ pub fn type_in(s: &[u8], at: usize, end: usize, c: Convention) -> ItemRead
     if to < at {
         return item_headers::refused_here(Refusal::Truncated, at);
     }
-    nested_items::read_item(s, c, at, to, 8)
+    nested_items::read_item(s, c, at, to, types::MAX_DEPTH)
 }
 
 // The place after an item that was read; a reader stays where it is after a refusal.

@@ -17,6 +17,7 @@ ghost use Rattle.signature.specs.Helpers.{SmallResult, Plannable};
 ghost use Rattle.parameters.specs.Values.{noParameter, tableWith};
 ghost use Rattle.structure.specs.Structure.{wordsIn, structureOf, firstWord, areaBytes, fieldBytes, overWords, overFloats, overNothing, floats, laidOver, registersOver, straddles, firstStraddling, powerHidden, powerReturned};
 ghost use Rattle.structure.specs.Helpers.{Bounded};
+ghost use Rattle.types.specs.Sizes.{maxSize};
 
 // All parameters as one structure: the words of each, and how many words there are.
 pub struct Structure {
@@ -26,7 +27,7 @@ pub struct Structure {
 
 // The words of a parameter with its padding.
 fn words_in(word: usize, size: usize) -> usize
-    requires { ⌜ (0 < word) × (word ≤ 8) × (size ≤ 256) ⌝ }
+    requires { ⌜ (0 < word) × (word ≤ 8) × (size ≤ maxSize) ⌝ }
     ensures { λ r. ⌜ (r ≡ wordsIn word size) × (r ≤ 264) ⌝ }
 {
     words::round_up(size, word) / word

@@ -5,7 +5,7 @@ use mathlib.Core.Path.{_≡_}
 use mathlib.Core.Bool.{Bool, true, false}
 use Rattle.conventions.specs.declared.Convention.{Convention}
 use Rattle.types.specs.declared.FloatFormat.{FloatFormat}
-use Rattle.types.specs.Sizes.{sizeOf, lacksFloat, Sized}
+use Rattle.types.specs.Sizes.{sizeOf, lacksFloat, Sized, maxSize, maxDepth}
 use Rattle.types.specs.Trees.{Tree, Trees, integer, float, struct, none, _▸_, typeOf}
 
 -- how deep structs stand in each other: "an argument or result struct has depth 1"
@@ -36,7 +36,7 @@ unfoldable mutual
   pub Fits : Convention → Bool → Tree → Type 0
   Fits c inside (integer k) = Unit {0}
   Fits c inside (float f) = FloatFits inside f × (lacksFloat c inside f ≡ false)
-  Fits c inside (struct ts) = Some ts × AllFit c ts × (sizeOf c (typeOf c (struct ts)) ≤ 256)
+  Fits c inside (struct ts) = Some ts × AllFit c ts × (sizeOf c (typeOf c (struct ts)) ≤ maxSize)
 
   -- each field of a struct
   pub AllFit : Convention → Trees → Type 0
@@ -45,7 +45,7 @@ unfoldable mutual
 
 -- a result's or an argument's type within the limits; 6: no "struct depth over 8"
 pub record Within (c : Convention) (t : Tree) : Type 0 where
-  pub depth : depthOf t ≤ 8
+  pub depth : depthOf t ≤ maxDepth
   pub fits : Fits c false t
 
 -- and each of several

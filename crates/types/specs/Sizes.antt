@@ -56,9 +56,17 @@ equivalentOf (ValueType.Float FloatFormat.Double) = Equivalent.Double
 equivalentOf (ValueType.Float FloatFormat.LongDouble) = Equivalent.Nothing
 equivalentOf (ValueType.Struct s) = s .equivalent
 
+-- 8: "struct size over 256", in bytes; no other type is as large
+abbrev pub maxSize : ℕ
+maxSize = 256
+
+-- 6: "struct depth over 8"
+abbrev pub maxDepth : ℕ
+maxDepth = 8
+
 -- what holds of each type that is read: a size of 1 to 256 bytes and an alignment of 1 to 16
 pub record Sized (c : Convention) (t : ValueType) : Type 0 where
   pub some : 0 < sizeOf c t
-  pub small : sizeOf c t ≤ 256
+  pub small : sizeOf c t ≤ maxSize
   pub aligned : 0 < alignOf c t
   pub narrow : alignOf c t ≤ 16

@@ -10,7 +10,7 @@ use Rattle.types.specs.declared.Shape.{Shape}
 use Rattle.types.specs.declared.ValueType.{ValueType}
 use Rattle.types.specs.declared.Fields.{Fields}
 use Rattle.types.specs.declared.Closed.{Closed}
-use Rattle.types.specs.Sizes.{sizeOf, alignOf, equivalentOf}
+use Rattle.types.specs.Sizes.{sizeOf, alignOf, equivalentOf, maxSize}
 
 abbrev pub noFields : Fields
 noFields = record { end = 0; align = 1; empty = true; equivalent = Equivalent.Nothing }
@@ -40,7 +40,7 @@ unlessTooLarge false s = Closed.Shape s
 
 -- refusal 8: "struct size over 256"
 abbrev pub tooLarge : Shape → Bool
-tooLarge s = ltb 256 (s .size)
+tooLarge s = ltb maxSize (s .size)
 
 unfoldable pub closed : Fields → Closed
 closed l = unlessTooLarge (tooLarge (shapeOf l)) (shapeOf l)

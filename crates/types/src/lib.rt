@@ -3,6 +3,11 @@ use conventions::Convention;
 ghost use mathlib.Core.Path.{_≡_};
 ghost use Rattle.types.specs.Sizes.{integerSize, floatSize, sizeOf, equivalentOf, lacksFloat};
 
+// The largest size in bytes, and how deep structs may stand in each other.
+pub const MAX_SIZE: usize = 256;
+
+pub const MAX_DEPTH: usize = 8;
+
 // An integer type or a pointer. Document 01 calls these whole numbers.
 pub enum IntegerKind {
     I8,
@@ -29,7 +34,7 @@ pub enum Equivalent {
     Double,
 }
 
-// A struct's size and alignment in bytes, at most 256 and 16, and its equivalent float. Kept small: a signature has a
+// A struct's size and alignment in bytes, at most MAX_SIZE and 16, and its equivalent float. Kept small: a signature has a
 // table of these.
 pub struct Shape {
     pub size: u16,

@@ -14,6 +14,7 @@ use Rattle.signature.specs.Helpers.{Plannable}
 use Rattle.places.specs.declared.Rules.{Rules}
 use Rattle.places.specs.declared.Span.{Span}
 use Rattle.places.specs.Step.{wordOf}
+use Rattle.places.specs.Spots.{imageBytes}
 use Rattle.slots.specs.declared.Answer.{Answer}
 use Rattle.slots.specs.Buffers.{Buffers}
 use Rattle.slots.specs.Placements.{Placement, floatAt, addressAt}
@@ -29,7 +30,7 @@ Stored s m a = 0 < m → s + m ≤ a
 -- a span's words of w bytes lie in the image and the area
 abbrev pub WordsFit : ℕ → Span → List ℕ → List ℕ → Type 0
 WordsFit w s image area =
-    (1 ≤ w) × (w ≤ 8) × (s .general .first + s .general .count ≤ 32) × (length image ≡ 512) × Stored (s .memory .start) (s .memory .length) (length area)
+    (1 ≤ w) × (w ≤ 8) × (s .general .first + s .general .count ≤ 32) × (length image ≡ imageBytes) × Stored (s .memory .start) (s .memory .length) (length area)
 
 -- room of l bytes for a float whose FPRs have n bytes
 abbrev pub FloatRoom : Equivalent → ℕ → ℕ → Type 0
@@ -43,7 +44,7 @@ pub record Ready (r : Rules) (i a : ℕ) (p : Placement) : Type 0 where
   pub general : p .span .general .first + p .span .general .count ≤ 32
   pub floating : p .span .floating .first + p .span .floating .count ≤ 32
   pub memory : Stored (p .span .memory .start) (p .span .memory .length) a
-  pub registers : i ≡ 512
+  pub registers : i ≡ imageBytes
 
 -- an argument that can be read
 pub record Readable (r : Rules) (base : ℕ) (p : Placement) (b : Buffers) : Type 0 where

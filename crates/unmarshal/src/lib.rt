@@ -1,5 +1,6 @@
 // The values of arguments taken out of their registers, memory and copies. An argument is taken only where nothing refuses its reading.
 use ieee::Narrowed;
+use places::FPRS_AT;
 use places::Rules;
 use places::Span;
 use signature::SignatureRead;
@@ -109,7 +110,7 @@ pub fn take_argument(
     let fpr = s.floating;
     let indirect = s.indirect;
     if 0 < fpr.count {
-        let at = 256 + 8 * (fpr.first as usize);
+        let at = FPRS_AT + 8 * (fpr.first as usize);
         let held = 8 * (fpr.count as usize);
         take_float(out, image, r, types::equivalent_of(t), at, held);
         return;

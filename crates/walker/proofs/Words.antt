@@ -14,12 +14,13 @@ use Rattle.conventions.specs.Numbers.{codeOf, conventionCode}
 use Rattle.conventions.proofs.Laws.{code-back}
 use Rattle.types.specs.Trees.{Tree}
 use Rattle.types.specs.Limits.{Within}
+use Rattle.types.specs.Sizes.{maxDepth}
 use Rattle.items.specs.Reading.{got}
 use Rattle.items.specs.Encode.{encodeTree, itemsOf}
 use Rattle.items.proofs.Has.{has-all}
 use Rattle.items.proofs.Levels.{within-left}
 use Rattle.items.proofs.Complete.{tree-reads}
-use Rattle.signature.specs.Limits.{maxLength, maxDepth}
+use Rattle.signature.specs.Limits.{maxLength}
 use Rattle.walker.specs.declared.Walker.{Walker}
 use Rattle.walker.specs.declared.WalkerRead.{WalkerRead}
 use Rattle.walker.specs.Walker.{walker, mark, lost}

@@ -8,15 +8,16 @@ use lib.ListN.{length}
 use Rattle.words.specs.Basics.{pick}
 use Rattle.conventions.specs.declared.Convention.{Convention}
 use Rattle.types.specs.declared.ValueType.{ValueType}
-use Rattle.types.specs.Sizes.{sizeOf}
+use Rattle.types.specs.Sizes.{sizeOf, maxDepth}
 use Rattle.types.specs.Trees.{Tree}
 use Rattle.items.specs.declared.Refusal as item
 use Rattle.items.specs.Reading.{Reading, fault, got, no, choose, andThen}
 use Rattle.items.specs.Read.{itemAt}
-use Rattle.signature.specs.Limits.{maxLength, maxDepth}
+use Rattle.signature.specs.Limits.{maxLength}
 use Rattle.places.specs.declared.Rules.{Rules}
 use Rattle.places.specs.declared.Span.{Span}
 use Rattle.places.specs.Step.{rulesOf, withEllipsis, spanOf, nextOf, unclearFor}
+use Rattle.places.specs.Spots.{imageBytes}
 use Rattle.slots.specs.declared.Refusal.{Refusal}
 use Rattle.slots.specs.declared.Answer.{Answer}
 use Rattle.slots.specs.Buffers.{Buffers}
@@ -55,7 +56,7 @@ passes s l = ltb 0 (s .memory .length) && ltb l (s .memory .start + s .memory .l
 -- 15, 10 and 11: of a type of n bytes with its span, where the value buffer, the image and the area have these lengths
 unfoldable pub stepTests : ℕ → Span → ℕ → ℕ → ℕ → List Test
 stepTests n s value image area =
-    test (differ image 512) Refusal.ImageSize ∷ test (differ value n) Refusal.ValuesSize ∷ test (passes s area) Refusal.AreaTooShort ∷ []
+    test (differ image imageBytes) Refusal.ImageSize ∷ test (differ value n) Refusal.ValuesSize ∷ test (passes s area) Refusal.AreaTooShort ∷ []
 
 -- No. 12: "give new refusal 29 .. a walker stays put on it", at place 0; then 15, 10 and 11; "13, 14 and 26 are as in reading"
 unfoldable pub stepAnswer : Walker → ValueType → ℕ → ℕ → Buffers → Answer

@@ -71,9 +71,12 @@ unfoldable pub possible : Rules → Bool → Counters → Bool
 possible (Rules.Power f) hidden k = powerPossible (mark hidden) k
 possible Rules.Z hidden k = zPossible (mark hidden) k
 
--- none is "over 2^32"
+-- the largest counter: none is "over 2^32"
+abbrev pub maxCounter : ℕ
+maxCounter = 2 ^ 32
+
 unfoldable pub inRange : Counters → Bool
-inRange k = leb (k .general) (2 ^ 32) && (leb (k .floating) (2 ^ 32) && leb (k .stack) (2 ^ 32))
+inRange k = leb (k .general) maxCounter && (leb (k .floating) maxCounter && leb (k .stack) maxCounter)
 
 -- "Counters over 2^32, or that no arguments, however many, lead to, give 23"
 unfoldable pub lost : Walker → Bool

@@ -21,7 +21,7 @@ use Rattle.read.specs.Read.{sizes, readAnswer, readValues}
 use Rattle.walker.specs.declared.Answer.{Answer}
 use Rattle.walker.specs.declared.Counters.{Counters}
 use Rattle.walker.specs.declared.Walker.{Walker}
-use Rattle.walker.specs.Walker.{countersOf, lost}
+use Rattle.walker.specs.Walker.{countersOf, lost, maxCounter}
 use Rattle.walker.specs.Words.{Walked, walked, walk, startAnswer, startWords}
 
 -- ---- 23: counters "that no arguments, however many, lead to"
@@ -35,9 +35,9 @@ pub record Led (w : Walker) : Type 0 where
 
 -- no counter is "over 2^32"
 pub record Small (k : Counters) : Type 0 where
-  pub general : k .general ≤ 2 ^ 32
-  pub floating : k .floating ≤ 2 ^ 32
-  pub stack : k .stack ≤ 2 ^ 32
+  pub general : k .general ≤ maxCounter
+  pub floating : k .floating ≤ maxCounter
+  pub stack : k .stack ≤ maxCounter
 
 -- 23 is given for all other counters, and for those alone
 pub record LostExactly (w : Walker) : Type 0 where

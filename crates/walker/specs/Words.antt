@@ -38,6 +38,10 @@ walkerBy (ConventionCode.Known c) ws =
 unfoldable pub walkerIn : List ℕ → WalkerRead
 walkerIn ws = walkerBy (conventionCode (getD ws 0 0)) ws
 
+-- the words of a walker
+abbrev pub walkerLength : ℕ
+walkerLength = 6
+
 unfoldable pub walkerWords : Walker → List ℕ
 walkerWords w = codeOf (w .convention) ∷ mark (w .ellipsis) ∷ mark (w .hidden) ∷ w .at .general ∷ w .at .floating ∷ w .at .stack ∷ []
 

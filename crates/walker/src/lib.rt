@@ -2,6 +2,11 @@
 // in the crates above.
 use conventions::Convention;
 
+// The words of a walker, and the largest counter.
+pub const WALKER_WORDS: usize = 6;
+
+pub const MAX_COUNTER: u64 = 4294967296;
+
 // How far a walker is. PowerPC: the words passed so far, the FPRs used so far, and 0. Z: the next GPR, the next FPR, the next stack offset.
 pub struct Counters {
     pub general: u64,

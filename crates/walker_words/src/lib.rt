@@ -3,6 +3,8 @@ use conventions::Convention;
 use conventions::ConventionCode;
 use places::Rules;
 use walker::Counters;
+use walker::MAX_COUNTER;
+use walker::WALKER_WORDS;
 use walker::Walker;
 use walker::WalkerRead;
 ghost use mathlib.Core.Path.{_≡_};
@@ -10,7 +12,10 @@ ghost use Prim.Native.Nat.{_≤_};
 ghost use lib.ListN.{length};
 ghost use Rattle.conventions.specs.declared.ConventionCode.the-variants.{Known};
 ghost use Rattle.walker.specs.Walker.{mark, possible, powerPossible, zPossible, inRange, lost};
-ghost use Rattle.walker.specs.Words.{walkerBy, walkerIn, walkerWords};
+ghost use Rattle.walker.specs.Words.{walkerBy, walkerIn, walkerWords, walkerLength};
+
+// Z's stack offset of the area's first byte.
+pub const AREA_OFFSET: u64 = abi::Z::HEADER as u64;
 
 fn mark_of(b: bool) -> u64
     ensures { λ n. ⌜ n ≡ mark b ⌝ }
@@ -49,13 +54,13 @@ fn z_possible(hidden: u64, k: Counters) -> bool
     if k.floating % 2 != 0 {
         return false;
     }
-    if k.stack < 160 {
+    if k.stack < AREA_OFFSET {
         return false;
     }
     if k.stack % 8 != 0 {
         return false;
     }
-    if k.stack <= 160 {
+    if k.stack <= AREA_OFFSET {
         return true;
     }
     if 7 <= k.general {
@@ -75,17 +80,17 @@ fn is_possible(r: Rules, hidden: bool, k: Counters) -> bool
     }
 }
 
-// Whether no counter is over 2^32.
+// Whether no counter is over the largest.
 fn in_range(k: Counters) -> bool
     ensures { λ b. ⌜ b ≡ inRange k ⌝ }
 {
-    if 4294967296 < k.general {
+    if MAX_COUNTER < k.general {
         return false;
     }
-    if 4294967296 < k.floating {
+    if MAX_COUNTER < k.floating {
         return false;
     }
-    k.stack <= 4294967296
+    k.stack <= MAX_COUNTER
 }
 
 fn is_lost(w: Walker) -> bool
@@ -100,7 +105,7 @@ fn is_lost(w: Walker) -> bool
     !is_possible(r, w.hidden, k)
 }
 
-fn walker_by(c: Convention, words: &[u64; 6]) -> WalkerRead
+fn walker_by(c: Convention, words: &[u64; WALKER_WORDS]) -> WalkerRead
     ensures { λ r. ⌜ r ≡ walkerBy (Known c) (now (words .entry)) ⌝ }
 {
     let ellipsis = words[1];
@@ -128,7 +133,7 @@ fn walker_by(c: Convention, words: &[u64; 6]) -> WalkerRead
 }
 
 // The walker that six words are, or that they are none's (23).
-pub fn walker_in(words: &[u64; 6]) -> WalkerRead
+pub fn walker_in(words: &[u64; WALKER_WORDS]) -> WalkerRead
     ensures { λ r. ⌜ r ≡ walkerIn (now (words .entry)) ⌝ }
 {
     match conventions::convention_code(words[0]) {
@@ -141,7 +146,7 @@ pub fn walker_in(words: &[u64; 6]) -> WalkerRead
 
 // All six words of a walker.
 pub fn put_walker(words: &mut [u64], w: Walker)
-    requires { ⌜ length (now words) ≡ 6 ⌝ }
+    requires { ⌜ length (now words) ≡ walkerLength ⌝ }
     ensures { λ _. ⌜ now (words .exit) ≡ walkerWords w ⌝ }
 {
     let c = w.convention;

@@ -12,7 +12,7 @@ use Rattle.conventions.specs.declared.Convention.{Convention}
 use Rattle.conventions.specs.declared.ConventionCode.{ConventionCode}
 use Rattle.conventions.specs.Numbers.{conventionCode}
 use Rattle.types.specs.declared.ValueType.{ValueType}
-use Rattle.types.specs.Sizes.{Sized}
+use Rattle.types.specs.Sizes.{Sized, maxDepth}
 use Rattle.types.specs.Trees.{Tree, typeOf}
 use Rattle.items.specs.declared.Fault.{Fault}
 use Rattle.items.specs.declared.ItemRead.{ItemRead}
@@ -25,7 +25,7 @@ use Rattle.signature.specs.declared.Outcome.{Outcome}
 use Rattle.signature.specs.declared.SignatureRead.{SignatureRead}
 use Rattle.signature.specs.Signature.{Signature}
 use Rattle.signature.specs.Answer.{signatureAnswer}
-use Rattle.signature.specs.Limits.{maxLength, maxDepth}
+use Rattle.signature.specs.Limits.{maxLength}
 use Rattle.places.specs.Step.{rulesOf}
 use Rattle.plan.specs.Plan.{hiddenIn, startIn}
 use Rattle.slots.specs.declared.Answer as call

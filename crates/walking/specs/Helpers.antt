@@ -9,7 +9,7 @@ use Rattle.types.specs.Trees.{Tree, typeOf}
 use Rattle.places.specs.declared.Cursor.{Cursor}
 use Rattle.places.specs.declared.Rules.{Rules}
 use Rattle.walker.specs.declared.Counters.{Counters}
-use Rattle.walker.specs.Walker.{counters}
+use Rattle.walker.specs.Walker.{counters, areaOffset, maxCounter}
 
 -- a type that an item was read as
 pub record Declared (c : Convention) (t : ValueType) : Type 0 where
@@ -17,15 +17,15 @@ pub record Declared (c : Convention) (t : ValueType) : Type 0 where
   pub same : typeOf c tree ≡ t
   pub sized : Sized c t
 
--- counters whose offset in the area is a number: their words' bytes, or what is past 160
+-- counters whose offset in the area is a number: their words' bytes, or what is past the header
 abbrev pub Offset : Rules → Counters → Type 0
 Offset (Rules.Power f) k = f .word ≤ 8
-Offset Rules.Z k = 160 ≤ k .stack
+Offset Rules.Z k = areaOffset ≤ k .stack
 
 -- a cursor whose counters are numbers
 abbrev pub Countable : Rules → Cursor → Type 0
-Countable (Rules.Power f) d = (1 ≤ f .word) × (1 ≤ d .floating) × (d .stack ≤ 2 ^ 32)
-Countable Rules.Z d = d .stack ≤ 2 ^ 32
+Countable (Rules.Power f) d = (1 ≤ f .word) × (1 ≤ d .floating) × (d .stack ≤ maxCounter)
+Countable Rules.Z d = d .stack ≤ maxCounter
 
 -- the counters k, and from offset 0 on those of the cursor d
 unfoldable pub countersAfter : Rules → Counters → Cursor → Counters

@@ -5,6 +5,7 @@ use items::Fault;
 use items::ItemRead;
 use items::Refusal;
 use places::Cursor;
+use places::IMAGE_BYTES;
 use places::Rules;
 use places::Span;
 use signature::Outcome;
@@ -13,6 +14,7 @@ use signature_head::MAX_LENGTH;
 use types::ValueType;
 use walker::Answer;
 use walker::Counters;
+use walker::WALKER_WORDS;
 use walker::Walker;
 use walker::WalkerRead;
 ghost use mathlib.Core.Path.{_≡_};
@@ -81,7 +83,7 @@ fn offset_of(r: Rules, k: Counters) -> usize
 {
     match r {
         Rules::Power(f) => f.word * (k.general as usize),
-        Rules::Z => (k.stack - 160) as usize,
+        Rules::Z => (k.stack - walker_words::AREA_OFFSET) as usize,
     }
 }
 
@@ -96,7 +98,7 @@ fn walker_of(c: Convention, ellipsis: bool, result: ResultType) -> Walker
     let none = Counters {
         general: 0,
         floating: 0,
-        stack: 160,
+        stack: walker_words::AREA_OFFSET,
     };
     let at = counters_after(r, none, d);
     Walker {
@@ -108,7 +110,7 @@ fn walker_of(c: Convention, ellipsis: bool, result: ResultType) -> Walker
 }
 
 // The walker of a signature, at its first argument. A refused start leaves the words as they were.
-pub fn start(words: &mut [u64; 6], sig: &[u8]) -> Answer
+pub fn start(words: &mut [u64; WALKER_WORDS], sig: &[u8]) -> Answer
     ensures { λ a. ⌜ a ≡ startAnswer (signatureOf (now (sig .entry))) ⌝ }
     ensures { λ _. ⌜ now (words .exit) ≡ startWords (signatureOf (now (sig .entry))) (now (words .entry)) ⌝ }
 {
@@ -140,7 +142,7 @@ fn read_type(s: &[u8], c: Convention) -> ItemRead
             passed: 0,
         });
     }
-    match nested_items::read_item(s, c, 0, s.len(), 8) {
+    match nested_items::read_item(s, c, 0, s.len(), types::MAX_DEPTH) {
         ItemRead::Refused(fault) => ItemRead::Refused(fault),
         ItemRead::Item { ty, next, items } => {
             if next < s.len() {
@@ -170,7 +172,7 @@ fn passes_area(s: Span, area: usize) -> bool
 fn tested(n: usize, s: Span, value: usize, image: usize, area: usize) -> slots::Answer
     ensures { λ a. ⌜ a ≡ firstOf (stepTests n s value image area) ⌝ }
 {
-    if image != 512 {
+    if image != IMAGE_BYTES {
         return slots::Answer::Refused(slots::Refusal::ImageSize);
     }
     if value != n {
@@ -184,7 +186,7 @@ fn tested(n: usize, s: Span, value: usize, image: usize, area: usize) -> slots::
 
 // A step of a walker, once its item is read.
 fn step(
-    words: &mut [u64; 6],
+    words: &mut [u64; WALKER_WORDS],
     w: Walker,
     t: ValueType,
     value: &mut [u8],
@@ -241,7 +243,7 @@ fn step(
 
 // The walker asked with one type item's bytes: its value, and the walker moved on. A refused call leaves the words and the value buffer as they were.
 pub fn walk(
-    words: &mut [u64; 6],
+    words: &mut [u64; WALKER_WORDS],
     item: &[u8],
     value: &mut [u8],
     image: &[u8],

@@ -55,7 +55,7 @@ fn read_arguments(
                 passed: earlier + items,
             });
         }
-        match nested_items::read_item(s, c, next, end, 8) {
+        match nested_items::read_item(s, c, next, end, types::MAX_DEPTH) {
             ItemRead::Item {
                 ty,
                 next: after,

@@ -2,7 +2,7 @@
 ghost use mathlib.Core.Path.{_≡_};
 ghost use Prim.Native.Nat.{_+_, _≤_};
 ghost use Rattle.rules.specs.Helpers.{Lawful};
-ghost use Rattle.rules.specs.Frames.{maxOutgoing, outgoingLength};
+ghost use Rattle.rules.specs.Frames.{maxOutgoing, outgoingLength, maxMemory};
 ghost use Rattle.machine.specs.Machine.{inside, outgoingFrom, localsFrom, writableBytes, writableAddress};
 ghost use Rattle.machine.specs.Helpers.{Sound};
 use machine::State;
@@ -24,7 +24,7 @@ fn lies_inside(a: usize, n: usize, b: usize, e: usize) -> bool
 
 // Where the own outgoing area and the locals of the frame f start, with its pointer at o.
 fn outgoing_from(k: Rules, f: Frame, o: usize) -> usize
-    requires { ⌜ (Lawful k) × (k .floor ≤ o) × (o ≤ 65536) ⌝ }
+    requires { ⌜ (Lawful k) × (k .floor ≤ o) × (o ≤ maxMemory) ⌝ }
     ensures { λ r. ⌜ r ≡ outgoingFrom k f o ⌝ }
 {
     if f.leaf {
@@ -34,7 +34,7 @@ fn outgoing_from(k: Rules, f: Frame, o: usize) -> usize
 }
 
 fn locals_from(k: Rules, f: Frame, o: usize) -> usize
-    requires { ⌜ (Lawful k) × (k .floor ≤ o) × (o ≤ 65536) × (outgoingLength k f ≤ maxOutgoing + 256) ⌝ }
+    requires { ⌜ (Lawful k) × (k .floor ≤ o) × (o ≤ maxMemory) × (outgoingLength k f ≤ maxOutgoing + 256) ⌝ }
     ensures { λ r. ⌜ r ≡ localsFrom k f o ⌝ }
 {
     if f.leaf {

@@ -6,6 +6,7 @@ ghost use Rattle.places.specs.ZSeries.{bySize, byEquivalent, zClass, zWord, zSp
 ghost use Rattle.places.specs.Values.{bytes};
 ghost use Rattle.places.specs.Step.{placedAs, nextOf, placed};
 ghost use Rattle.places.specs.Helpers.{Roomy};
+ghost use Rattle.types.specs.Sizes.{maxSize};
 use abi::Z;
 use places::Cursor;
 use places::Placed;
@@ -77,7 +78,7 @@ struct Taken {
 }
 
 fn taken_of(c: Cursor, class: ZClass, size: usize) -> Taken
-    requires { ⌜ Roomy c × (size ≤ 256) ⌝ }
+    requires { ⌜ Roomy c × (size ≤ maxSize) ⌝ }
     ensures { λ a. ⌜ (zSpanOf c class size ≡ zSpan c (a .general) (a .floating) (bytes (a .copy) (a .length)) (a .indirect)) × (zNextOf c class size ≡ zNext c (a .general) (a .floating) (a .copy + a .length)) × (a .general + a .floating ≤ 1) × (a .copy + a .length ≤ 60300) ⌝ }
 {
     let general = c.general;
@@ -163,7 +164,7 @@ fn place(c: Cursor, a: Taken) -> Placed
 }
 
 pub fn step(c: Cursor, t: ValueType, size: usize) -> Placed
-    requires { ⌜ Roomy c × (size ≤ 256) ⌝ }
+    requires { ⌜ Roomy c × (size ≤ maxSize) ⌝ }
     ensures { λ r. ⌜ r ≡ placed Rules.Z c t size ⌝ }
 {
     place(c, taken_of(c, class_of(t, size), size))
@@ -171,7 +172,7 @@ pub fn step(c: Cursor, t: ValueType, size: usize) -> Placed
 
 // The next cursor of the step, without the span.
 pub fn advance(c: Cursor, t: ValueType, size: usize) -> Cursor
-    requires { ⌜ Roomy c × (size ≤ 256) ⌝ }
+    requires { ⌜ Roomy c × (size ≤ maxSize) ⌝ }
     ensures { λ k. ⌜ k ≡ nextOf Rules.Z c t size ⌝ }
 {
     next_of(c, taken_of(c, class_of(t, size), size))
