@@ -12,11 +12,11 @@ use machine::Outcome;
 use places::Cursor;
 use places::Edition;
 use places::PowerRules;
-use rules::Bank;
+use rules::BankRules;
+use rules::FrameRules;
 use rules::Linkage;
+use rules::RegisterSpan;
 use rules::Registers;
-use rules::Rules;
-use rules::Span;
 
 // PPC64: document 000.
 pub struct Ppc64 {}
@@ -48,7 +48,7 @@ impl Ppc64 {
 
     pub const LR_SLOT: usize = 16;
 
-    pub fn call_rules() -> places::Rules
+    pub fn call_rules() -> places::CallRules
         ensures { λ r. ⌜ r ≡ rulesOf Convention.Ppc64 ⌝ }
     {
         earlier(Self::WORD)
@@ -66,10 +66,10 @@ impl Ppc64 {
         }
     }
 
-    pub fn frame_rules() -> Rules
+    pub fn frame_rules() -> FrameRules
         ensures { λ r. ⌜ r ≡ rules Convention.Ppc64 ⌝ }
     {
-        Rules {
+        FrameRules {
             word: Self::WORD,
             header: Self::HEADER,
             least: Self::WORD * Self::LEAST_WORDS,
@@ -128,10 +128,10 @@ impl Z {
 
     pub const RETURN_REGISTER: usize = 14;
 
-    pub fn call_rules() -> places::Rules
+    pub fn call_rules() -> places::CallRules
         ensures { λ r. ⌜ r ≡ rulesOf Convention.Z ⌝ }
     {
-        places::Rules::Z
+        places::CallRules::Z
     }
 
     pub fn cursor() -> Cursor
@@ -145,20 +145,29 @@ impl Z {
         }
     }
 
-    pub fn frame_rules() -> Rules
+    pub fn frame_rules() -> FrameRules
         ensures { λ r. ⌜ r ≡ rules Convention.Z ⌝ }
     {
         let volatile = [
-            Span { first: 0, last: 5 },
-            Span {
+            RegisterSpan { first: 0, last: 5 },
+            RegisterSpan {
                 first: 14,
                 last: 14,
             },
         ];
-        let preserved = [Span { first: 6, last: 13 }, Span { first: 6, last: 13 }];
-        let floating = [Span { first: 0, last: 7 }, Span { first: 0, last: 7 }];
-        let kept = [Span { first: 8, last: 15 }, Span { first: 8, last: 15 }];
-        Rules {
+        let preserved = [
+            RegisterSpan { first: 6, last: 13 },
+            RegisterSpan { first: 6, last: 13 },
+        ];
+        let floating = [
+            RegisterSpan { first: 0, last: 7 },
+            RegisterSpan { first: 0, last: 7 },
+        ];
+        let kept = [
+            RegisterSpan { first: 8, last: 15 },
+            RegisterSpan { first: 8, last: 15 },
+        ];
+        FrameRules {
             word: Self::WORD,
             header: Self::HEADER,
             least: Self::WORD * Self::LEAST_WORDS,
@@ -168,14 +177,14 @@ impl Z {
             pointer: Self::STACK_POINTER,
             end: 16,
             limit: 18446744073709551615,
-            gpr: Bank {
-                request: Span { first: 6, last: 14 },
+            gpr: BankRules {
+                request: RegisterSpan { first: 6, last: 14 },
                 last: 13,
                 volatile: volatile,
                 preserved: preserved,
             },
-            fpr: Bank {
-                request: Span { first: 8, last: 16 },
+            fpr: BankRules {
+                request: RegisterSpan { first: 8, last: 16 },
                 last: 15,
                 volatile: floating,
                 preserved: kept,
@@ -222,7 +231,7 @@ impl Aix {
     // The highest address, which is also the largest number in a word.
     pub const LIMIT: u64 = 4294967295;
 
-    pub fn call_rules() -> places::Rules
+    pub fn call_rules() -> places::CallRules
         ensures { λ r. ⌜ r ≡ rulesOf Convention.Aix ⌝ }
     {
         earlier(Self::WORD)
@@ -239,10 +248,10 @@ impl Aix {
         }
     }
 
-    pub fn frame_rules() -> Rules
+    pub fn frame_rules() -> FrameRules
         ensures { λ r. ⌜ r ≡ rules Convention.Aix ⌝ }
     {
-        Rules {
+        FrameRules {
             word: Self::WORD,
             header: Self::HEADER,
             least: Self::WORD * Self::LEAST_WORDS,
@@ -282,10 +291,10 @@ impl Ppc64b {
 
     pub const FIRST_FLOATING: usize = Ppc64::FIRST_FLOATING;
 
-    pub fn call_rules() -> places::Rules
+    pub fn call_rules() -> places::CallRules
         ensures { λ r. ⌜ r ≡ rulesOf Convention.Ppc64b ⌝ }
     {
-        places::Rules::Power(PowerRules {
+        places::CallRules::Power(PowerRules {
             word: Self::WORD,
             edition: Edition::Later,
             ellipsis: false,
@@ -304,7 +313,7 @@ impl Ppc64b {
     }
 
     // The edition says nothing of frames.
-    pub fn frame_rules() -> Rules
+    pub fn frame_rules() -> FrameRules
         ensures { λ r. ⌜ r ≡ rules Convention.Ppc64b ⌝ }
     {
         Ppc64::frame_rules()
@@ -327,10 +336,10 @@ impl Ppc64b {
 // ---- what PPC64 and AIX share
 
 // The rules of calls by words of so many bytes, in the earlier edition.
-fn earlier(word: usize) -> places::Rules
+fn earlier(word: usize) -> places::CallRules
     ensures { λ r. ⌜ r ≡ power word Edition.Earlier ⌝ }
 {
-    places::Rules::Power(PowerRules {
+    places::CallRules::Power(PowerRules {
         word: word,
         edition: Edition::Earlier,
         ellipsis: false,
@@ -338,19 +347,22 @@ fn earlier(word: usize) -> places::Rules
 }
 
 // The general registers, where saves start at r(first).
-fn power_gpr(first: usize) -> Bank
+fn power_gpr(first: usize) -> BankRules
     ensures { λ b. ⌜ b ≡ powerGpr first ⌝ }
 {
-    let volatile = [Span { first: 0, last: 0 }, Span { first: 3, last: 12 }];
+    let volatile = [
+        RegisterSpan { first: 0, last: 0 },
+        RegisterSpan { first: 3, last: 12 },
+    ];
     let preserved = [
-        Span { first: 2, last: 2 },
-        Span {
+        RegisterSpan { first: 2, last: 2 },
+        RegisterSpan {
             first: 13,
             last: 31,
         },
     ];
-    Bank {
-        request: Span {
+    BankRules {
+        request: RegisterSpan {
             first: first,
             last: 32,
         },
@@ -361,22 +373,25 @@ fn power_gpr(first: usize) -> Bank
 }
 
 // The floating registers.
-fn power_fpr() -> Bank
+fn power_fpr() -> BankRules
     ensures { λ b. ⌜ b ≡ powerFpr ⌝ }
 {
-    let volatile = [Span { first: 0, last: 13 }, Span { first: 0, last: 13 }];
+    let volatile = [
+        RegisterSpan { first: 0, last: 13 },
+        RegisterSpan { first: 0, last: 13 },
+    ];
     let preserved = [
-        Span {
+        RegisterSpan {
             first: 14,
             last: 31,
         },
-        Span {
+        RegisterSpan {
             first: 14,
             last: 31,
         },
     ];
-    Bank {
-        request: Span {
+    BankRules {
+        request: RegisterSpan {
             first: 14,
             last: 32,
         },
@@ -389,7 +404,7 @@ fn power_fpr() -> Bank
 // ---- by the convention's name
 
 // The rules of its calls.
-pub fn call_rules_of(c: Convention) -> places::Rules
+pub fn call_rules_of(c: Convention) -> places::CallRules
     ensures { λ r. ⌜ r ≡ rulesOf c ⌝ }
 {
     match c {
@@ -425,7 +440,7 @@ pub fn least_area_of(c: Convention) -> usize
 }
 
 // The rules of its frames.
-pub fn frame_rules_of(c: Convention) -> Rules
+pub fn frame_rules_of(c: Convention) -> FrameRules
     ensures { λ r. ⌜ r ≡ rules c ⌝ }
 {
     match c {

@@ -19,7 +19,7 @@ use Rattle.types.specs.Sizes.{sizeOf}
 use Rattle.signature.specs.declared.ResultType.{ResultType}
 use Rattle.places.specs.declared.Edition.{Edition}
 use Rattle.places.specs.declared.PowerRules.{PowerRules}
-use Rattle.places.specs.declared.Rules.{Rules}
+use Rattle.places.specs.declared.CallRules.{CallRules}
 use Rattle.places.specs.declared.Cursor.{Cursor}
 use Rattle.places.specs.declared.Share.{Share}
 use Rattle.places.specs.declared.Span.{Span}
@@ -193,14 +193,14 @@ askedTo p m (t ∷ ts) = askedTo p (m + floats p t) ts
 
 module _ (f : PowerRules) (positive : 0 < f .word) where
   step-agrees : (j m : ℕ) (t : ValueType) (n : ℕ) → Whole (floats (paired (f .edition)) t) m
-      → laidOver (f .ellipsis) (f .word) (floats (paired (f .edition)) t) m (numbers j (wordsIn (f .word) n)) ≡ parameterOf (spanOf (Rules.Power f) (at (f .word) j m) t n)
+      → laidOver (f .ellipsis) (f .word) (floats (paired (f .edition)) t) m (numbers j (wordsIn (f .word) n)) ≡ parameterOf (spanOf (CallRules.Power f) (at (f .word) j m) t n)
   unfolding spanOf powerShare words
   step-agrees j m t n h =
       rw (floats-same (f .edition) t, words-counted (f .word) n positive, cover (words (f .word) n) j)
       (laid-agree (f .ellipsis) (f .word) j m (words (f .word) n) (fprs (f .edition) t) (rw (floats-same (f .edition) t) at h))
 
   next-agrees : (j m : ℕ) (t : ValueType) (n : ℕ) → Whole (floats (paired (f .edition)) t) m
-      → nextOf (Rules.Power f) (at (f .word) j m) t n ≡ at (f .word) (j + wordsIn (f .word) n) (m + floats (paired (f .edition)) t)
+      → nextOf (CallRules.Power f) (at (f .word) j m) t n ≡ at (f .word) (j + wordsIn (f .word) n) (m + floats (paired (f .edition)) t)
   unfolding words
   next-agrees j m t n h =
       next-counted f j (1 + min m 13) 0 t n
@@ -209,7 +209,7 @@ module _ (f : PowerRules) (positive : 0 < f .word) where
   -- ---- all of them
 
   pub parameters-agree : (c : Convention) (j m : ℕ) (ts : List ValueType) → AllWhole (paired (f .edition)) m ts
-      → registersOver (f .ellipsis) (paired (f .edition)) (f .word) m ts (fieldsFrom c (f .word) j ts) ≡ map parameterOf (spansOf c (Rules.Power f) (at (f .word) j m) ts)
+      → registersOver (f .ellipsis) (paired (f .edition)) (f .word) m ts (fieldsFrom c (f .word) j ts) ≡ map parameterOf (spansOf c (CallRules.Power f) (at (f .word) j m) ts)
   unfolding registersOver fieldsFrom spansOf AllWhole
   parameters-agree c j m [] h = refl
   parameters-agree c j m (t ∷ ts) h =
@@ -217,23 +217,23 @@ module _ (f : PowerRules) (positive : 0 < f .word) where
       (rw (next-agrees j m t (sizeOf c t) (h .0)) (parameters-agree c (j + wordsIn (f .word) (sizeOf c t)) (m + floats (paired (f .edition)) t) ts (h .1)))
 
   pub last-agrees : (c : Convention) (j m : ℕ) (ts : List ValueType) → AllWhole (paired (f .edition)) m ts
-      → lastOf c (Rules.Power f) (at (f .word) j m) ts ≡ at (f .word) (wordsTo c (f .word) j ts) (askedTo (paired (f .edition)) m ts)
+      → lastOf c (CallRules.Power f) (at (f .word) j m) ts ≡ at (f .word) (wordsTo c (f .word) j ts) (askedTo (paired (f .edition)) m ts)
   unfolding wordsTo lastOf AllWhole askedTo
   last-agrees c j m [] h = refl
   last-agrees c j m (t ∷ ts) h =
-      ap (λ (k : Cursor). lastOf c (Rules.Power f) k ts) (next-agrees j m t (sizeOf c t) (h .0))
+      ap (λ (k : Cursor). lastOf c (CallRules.Power f) k ts) (next-agrees j m t (sizeOf c t) (h .0))
       ∙ last-agrees c (j + wordsIn (f .word) (sizeOf c t)) (m + floats (paired (f .edition)) t) ts (h .1)
 
-  pub copies-agree : (c : Convention) (j m : ℕ) (ts : List ValueType) → AllWhole (paired (f .edition)) m ts → 0 ≡ lastOf c (Rules.Power f) (at (f .word) j m) ts .copies
+  pub copies-agree : (c : Convention) (j m : ℕ) (ts : List ValueType) → AllWhole (paired (f .edition)) m ts → 0 ≡ lastOf c (CallRules.Power f) (at (f .word) j m) ts .copies
   copies-agree c j m ts h = sym (ap (λ (k : Cursor). k .copies) (last-agrees c j m ts h))
 
   -- 29 at the same parameter
-  unclear-same : (j m : ℕ) (t : ValueType) → unclearFor (Rules.Power f) (at (f .word) j m) t ≡ straddles m (floats (paired (f .edition)) t)
+  unclear-same : (j m : ℕ) (t : ValueType) → unclearFor (CallRules.Power f) (at (f .word) j m) t ≡ straddles m (floats (paired (f .edition)) t)
   unfolding unclearFor unclear
   unclear-same j m t = rw (floats-same (f .edition) t) (straddles-same (fprs (f .edition) t) m)
 
   pub unclear-agrees : (c : Convention) (j m i : ℕ) (ts : List ValueType)
-      → firstUnclear c (Rules.Power f) (at (f .word) j m) i ts ≡ firstStraddling (paired (f .edition)) m i ts
+      → firstUnclear c (CallRules.Power f) (at (f .word) j m) i ts ≡ firstStraddling (paired (f .edition)) m i ts
   unfolding firstUnclear firstStraddling
   unclear-agrees c j m i [] = refl
   unclear-agrees c j m i (t ∷ ts) =
@@ -241,9 +241,9 @@ module _ (f : PowerRules) (positive : 0 < f .word) where
       (go (straddles m (floats (paired (f .edition)) t)) refl (unclear-agrees c (j + wordsIn (f .word) (sizeOf c t)) (m + floats (paired (f .edition)) t) (suc i) ts))
     where
       go : (b : Bool) → straddles m (floats (paired (f .edition)) t) ≡ b
-          → firstUnclear c (Rules.Power f) (at (f .word) (j + wordsIn (f .word) (sizeOf c t)) (m + floats (paired (f .edition)) t)) (suc i) ts
+          → firstUnclear c (CallRules.Power f) (at (f .word) (j + wordsIn (f .word) (sizeOf c t)) (m + floats (paired (f .edition)) t)) (suc i) ts
           ≡ firstStraddling (paired (f .edition)) (m + floats (paired (f .edition)) t) (suc i) ts
-          → pick b (suc i) (firstUnclear c (Rules.Power f) (nextOf (Rules.Power f) (at (f .word) j m) t (sizeOf c t)) (suc i) ts)
+          → pick b (suc i) (firstUnclear c (CallRules.Power f) (nextOf (CallRules.Power f) (at (f .word) j m) t (sizeOf c t)) (suc i) ts)
           ≡ pick b (suc i) (firstStraddling (paired (f .edition)) (m + floats (paired (f .edition)) t) (suc i) ts)
       go true q ih = refl
       go false q ih = rw (next-agrees j m t (sizeOf c t) (straddles-not m (floats (paired (f .edition)) t) q)) ih

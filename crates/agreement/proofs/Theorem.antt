@@ -20,17 +20,17 @@ use Rattle.signature.specs.Read.{signatureOf}
 use Rattle.signature.specs.Answer.{resultType}
 use Rattle.signature.specs.Types.{typesOf}
 use Rattle.reader.specs.declared.ArgumentRead.{ArgumentRead}
-use Rattle.reader.specs.Argument.{argumentAnswer}
+use Rattle.reader.specs.Argument.{argumentOf}
 use Rattle.places.specs.declared.Cursor.{Cursor}
 use Rattle.places.specs.declared.PowerRules.{PowerRules}
 use Rattle.places.specs.declared.Edition.{Edition}
-use Rattle.places.specs.declared.Rules.{Rules}
+use Rattle.places.specs.declared.CallRules.{CallRules}
 use Rattle.places.specs.declared.Span.{Span}
 use Rattle.places.specs.Step.{rulesOf, withEllipsis, power, startOf, areaOf, hiddenFor}
 use Rattle.places.specs.Helpers.{alwaysClear}
 use Rattle.places.proofs.Written.{counted, start-written, hidden-written, area-written, z-start-written, z-hidden-written, z-area-written}
 use Rattle.plan.specs.declared.Plan.{Plan}
-use Rattle.plan.specs.Plan.{spansOf, lastOf, noSpan, tableOf, hiddenIn, resultIn, startIn, endIn, planIn, refused, planAnswer}
+use Rattle.plan.specs.Plan.{spansOf, lastOf, noSpan, tableOf, hiddenIn, resultPlacesIn, startIn, endIn, planIn, refusedPlan, planAnswer}
 use Rattle.plan.specs.Call.{firstUnclear, unclearIn, itemIn, unclearFault, clearRead, called}
 use Rattle.plan.proofs.Calls.{none-unclear}
 use Rattle.plan.proofs.Apart.{in-table}
@@ -83,18 +83,18 @@ module _ (w : ℕ) (e : Edition) (positive : 0 < w) (c : Convention) (same : rul
   start-agrees : (r : ResultType) → startIn c r ≡ at w (firstWord (powerHidden r)) 0
   start-agrees r = ap₂ startOf same (hidden-agrees r) ∙ begins (powerHidden r)
 
-  result-agrees : (r : ResultType) → powerReturned c w r ≡ returnedOf (resultIn c r)
+  result-agrees : (r : ResultType) → powerReturned c w r ≡ returnedOf (resultPlacesIn c r)
   unfolding returnedOf
   result-agrees ResultType.Nothing = refl
   result-agrees (ResultType.Value t) = rw same (powerpc.result-agrees c w e t positive)
 
-  marked : (v : Bool) → withEllipsis v (rulesOf c) ≡ Rules.Power (rulesFor v)
+  marked : (v : Bool) → withEllipsis v (rulesOf c) ≡ CallRules.Power (rulesFor v)
   unfolding withEllipsis
   marked v = ap (withEllipsis v) same
 
   -- the cursor past the last argument, by the convention's own rules
   end-agrees : (r : ResultType) (ts : List ValueType) → endIn c r ts ≡ lastOf c (power w e) (at w (firstWord (powerHidden r)) 0) ts
-  end-agrees r ts = ap₂ (λ (u : Rules) (k : Cursor). lastOf c u k ts) same (start-agrees r)
+  end-agrees r ts = ap₂ (λ (u : CallRules) (k : Cursor). lastOf c u k ts) same (start-agrees r)
 
   area-agrees : (r : ResultType) (ts : List ValueType) → AllWhole (paired e) 0 ts
       → areaBytes w (wordsTo c w (firstWord (powerHidden r)) ts) ≡ areaOf c (endIn c r ts)
@@ -122,7 +122,7 @@ module _ (w : ℕ) (e : Edition) (positive : 0 < w) (c : Convention) (same : rul
         places =
             table-agrees (registersOver v (paired e) w 0 ts (fieldsFrom c w j ts)) (spansOf c (withEllipsis v (rulesOf c)) (startIn c r) ts)
             (powerpc.parameters-agree (rulesFor v) positive c j 0 ts h
-            ∙ ap₂ (λ (u : Rules) (k : Cursor). map parameterOf (spansOf c u k ts)) (sym (marked v)) (sym (start-agrees r)));
+            ∙ ap₂ (λ (u : CallRules) (k : Cursor). map parameterOf (spansOf c u k ts)) (sym (marked v)) (sym (start-agrees r)));
         area = area-agrees r ts h;
         values = refl;
         copies = powerpc.copies-agree (rulesFor false) positive c j 0 ts h ∙ sym (ap (λ (k : Cursor). k .copies) (end-agrees r ts));
@@ -132,7 +132,7 @@ module _ (w : ℕ) (e : Edition) (positive : 0 < w) (c : Convention) (same : rul
   -- 29 of the same argument
   pub unclear-agrees : (r : ResultType) (ts : List ValueType) → firstUnclear c (rulesOf c) (startIn c r) 0 ts ≡ firstStraddling (paired e) 0 0 ts
   unclear-agrees r ts =
-      ap₂ (λ (u : Rules) (k : Cursor). firstUnclear c u k 0 ts) same (start-agrees r)
+      ap₂ (λ (u : CallRules) (k : Cursor). firstUnclear c u k 0 ts) same (start-agrees r)
       ∙ powerpc.unclear-agrees (rulesFor false) positive c (firstWord (powerHidden r)) 0 0 ts
 
 -- ---- Z
@@ -146,7 +146,7 @@ z-hidden (ResultType.Value (ValueType.Float FloatFormat.Double)) = refl
 z-hidden (ResultType.Value (ValueType.Float FloatFormat.LongDouble)) = refl
 z-hidden (ResultType.Value (ValueType.Struct s)) = refl
 
-z-begins : (hidden : Bool) → cursorOf (initial hidden) ≡ startOf Rules.Z hidden
+z-begins : (hidden : Bool) → cursorOf (initial hidden) ≡ startOf CallRules.Z hidden
 unfolding initial
 z-begins true = sym z-hidden-written
 z-begins false = sym z-start-written
@@ -156,9 +156,9 @@ unfolding initial
 z-even hidden = refl
 
 z-start : (r : ResultType) → cursorOf (initial (zHidden r)) ≡ startIn Convention.Z r
-z-start r = z-begins (zHidden r) ∙ ap (startOf Rules.Z) (sym (z-hidden r))
+z-start r = z-begins (zHidden r) ∙ ap (startOf CallRules.Z) (sym (z-hidden r))
 
-z-result : (r : ResultType) → zReturned r ≡ returnedOf (resultIn Convention.Z r)
+z-result : (r : ResultType) → zReturned r ≡ returnedOf (resultPlacesIn Convention.Z r)
 unfolding returnedOf
 z-result ResultType.Nothing = refl
 z-result (ResultType.Value t) = zseries.result-agrees Convention.Z t
@@ -167,24 +167,24 @@ z-agrees : (n : ℕ) (v : Bool) (r : ResultType) (ts : List ValueType) → Agree
 unfolding planIn zPlan withEllipsis
 z-agrees n v r ts =
     let s = initial (zHidden r) in
-    let end = zseries.scan-agrees Convention.Z s ts (z-even (zHidden r)) ∙ ap (λ (k : Cursor). lastOf Convention.Z Rules.Z k ts) (z-start r) in
+    let end = zseries.scan-agrees Convention.Z s ts (z-even (zHidden r)) ∙ ap (λ (k : Cursor). lastOf Convention.Z CallRules.Z k ts) (z-start r) in
     record {
       outcome = refl;
       convention = refl;
       ellipsis = refl;
       count = refl;
       places =
-          table-agrees (slotsFrom Convention.Z s ts) (spansOf Convention.Z Rules.Z (startIn Convention.Z r) ts)
-          (zseries.slots-agree Convention.Z s ts (z-even (zHidden r)) ∙ ap (λ (k : Cursor). map parameterOf (spansOf Convention.Z Rules.Z k ts)) (z-start r));
+          table-agrees (slotsFrom Convention.Z s ts) (spansOf Convention.Z CallRules.Z (startIn Convention.Z r) ts)
+          (zseries.slots-agree Convention.Z s ts (z-even (zHidden r)) ∙ ap (λ (k : Cursor). map parameterOf (spansOf Convention.Z CallRules.Z k ts)) (z-start r));
       area = ap (λ (k : Cursor). k .stack) end ∙ sym (z-area-written (endIn Convention.Z r ts));
       values = refl;
       copies = ap (λ (k : Cursor). k .copies) end;
       result = z-result r;
     }
 
-z-clear : (k : Cursor) (i : ℕ) (ts : List ValueType) → firstUnclear Convention.Z Rules.Z k i ts ≡ 0
+z-clear : (k : Cursor) (i : ℕ) (ts : List ValueType) → firstUnclear Convention.Z CallRules.Z k i ts ≡ 0
 unfolding alwaysClear
-z-clear k i ts = none-unclear Convention.Z Rules.Z refl k i ts
+z-clear k i ts = none-unclear Convention.Z CallRules.Z refl k i ts
 
 -- ---- every signature
 
@@ -207,7 +207,7 @@ none-agree zero i = refl
 none-agree (suc n) zero = refl
 none-agree (suc n) (suc i) = none-agree n i
 
-refused-agree : (f : Fault) → Agree (refused f) (noPlan f)
+refused-agree : (f : Fault) → Agree (refusedPlan f) (noPlan f)
 unfolding returnedOf
 refused-agree f = record {
   outcome = refl;
@@ -229,7 +229,7 @@ same-header (ArgumentRead.Refused f) = refl
 
 same-fault : (i k : ℕ) (x : Reading Signature) → i ≡ k → unclearFault i x ≡ straddlingFault k x
 same-fault i k x e =
-    ap (λ (m : ℕ). fault Refusal.UnclearPlace m 0) (ap (λ (m : ℕ). itemIn (argumentAnswer m x)) e ∙ sym (same-header (argumentAnswer k x)))
+    ap (λ (m : ℕ). fault Refusal.UnclearPlace m 0) (ap (λ (m : ℕ). itemIn (argumentOf m x)) e ∙ sym (same-header (argumentOf k x)))
 
 readings-agree : (x : Reading Signature) → Agree (planAnswer (called x)) (secondAnswer x)
 unfolding called secondAnswer planAnswer unlessStraddling
@@ -247,7 +247,7 @@ readings-agree (got g next n) =
     go zero (suc k) e h = absurd (omega arith)
     go (suc i) zero e h = absurd (omega arith)
     go (suc i) (suc k) e h =
-        subst (λ (f : Fault). Agree (refused (unclearFault i (got g next n))) (noPlan f)) (same-fault i k (got g next n) (omega arith)) (refused-agree (unclearFault i (got g next n)))
+        subst (λ (f : Fault). Agree (refusedPlan (unclearFault i (got g next n))) (noPlan f)) (same-fault i k (got g next n) (omega arith)) (refused-agree (unclearFault i (got g next n)))
 readings-agree (no f) = refused-agree f
 
 pub planners-agree : PlannersAgree

@@ -16,7 +16,7 @@ use Rattle.types.specs.declared.ValueType.{ValueType}
 use Rattle.types.specs.Sizes.{sizeOf}
 use Rattle.signature.specs.declared.ResultType.{ResultType}
 use Rattle.places.specs.declared.Cursor.{Cursor}
-use Rattle.places.specs.declared.Rules.{Rules}
+use Rattle.places.specs.declared.CallRules.{CallRules}
 use Rattle.places.specs.declared.ZClass.{ZClass}
 use Rattle.places.specs.Values.{cursor}
 use Rattle.places.specs.ZSeries.{bySize, zClass, zSpanOf, zNextOf}
@@ -128,24 +128,24 @@ step-agrees s t n h = let c = class-agrees t n in rw (c .0, c .1) (slot-agrees s
 
 -- ---- all of them
 
-pub slots-agree : (c : Convention) (s : Scan) (ts : List ValueType) → Even s → slotsFrom c s ts ≡ map parameterOf (spansOf c Rules.Z (cursorOf s) ts)
+pub slots-agree : (c : Convention) (s : Scan) (ts : List ValueType) → Even s → slotsFrom c s ts ≡ map parameterOf (spansOf c CallRules.Z (cursorOf s) ts)
 unfolding slotsFrom spansOf spanOf nextOf
 slots-agree c s [] h = refl
 slots-agree c s (t ∷ ts) h =
     let a = step-agrees s t (sizeOf c t) h in
     ap₂ (λ (p : Parameter) (ps : List Parameter). p ∷ ps) (a .parameter)
-    (slots-agree c (slotOf s t (sizeOf c t) .next) ts (a .even) ∙ ap (λ (k : Cursor). map parameterOf (spansOf c Rules.Z k ts)) (a .next))
+    (slots-agree c (slotOf s t (sizeOf c t) .next) ts (a .even) ∙ ap (λ (k : Cursor). map parameterOf (spansOf c CallRules.Z k ts)) (a .next))
 
-pub scan-agrees : (c : Convention) (s : Scan) (ts : List ValueType) → Even s → cursorOf (scannedTo c s ts) ≡ lastOf c Rules.Z (cursorOf s) ts
+pub scan-agrees : (c : Convention) (s : Scan) (ts : List ValueType) → Even s → cursorOf (scannedTo c s ts) ≡ lastOf c CallRules.Z (cursorOf s) ts
 unfolding scannedTo lastOf nextOf
 scan-agrees c s [] h = refl
 scan-agrees c s (t ∷ ts) h =
     let a = step-agrees s t (sizeOf c t) h in
-    scan-agrees c (slotOf s t (sizeOf c t) .next) ts (a .even) ∙ ap (λ (k : Cursor). lastOf c Rules.Z k ts) (a .next)
+    scan-agrees c (slotOf s t (sizeOf c t) .next) ts (a .even) ∙ ap (λ (k : Cursor). lastOf c CallRules.Z k ts) (a .next)
 
 -- ---- the result
 
-pub result-agrees : (c : Convention) (t : ValueType) → zReturned (ResultType.Value t) ≡ returnedOf (resultOf Rules.Z t (sizeOf c t))
+pub result-agrees : (c : Convention) (t : ValueType) → zReturned (ResultType.Value t) ≡ returnedOf (resultOf CallRules.Z t (sizeOf c t))
 unfolding resultOf returnedOf hiddenFor returning fresh spanOf zClass zSpanOf
 result-agrees c (ValueType.Integer k) = refl
 result-agrees c (ValueType.Float FloatFormat.Single) = refl

@@ -12,7 +12,7 @@ use Rattle.signature.specs.declared.Outcome.{Outcome}
 use Rattle.signature.specs.Signature.{Signature}
 use Rattle.signature.specs.Read.{signatureOf}
 use Rattle.signature.specs.Answer.{signatureAnswer}
-use Rattle.places.specs.declared.Rules.{Rules}
+use Rattle.places.specs.declared.CallRules.{CallRules}
 use Rattle.plan.specs.declared.Plan.{Plan}
 use Rattle.plan.specs.Plan.{planIn, planAnswer}
 use Rattle.plan.specs.Call.{callOf, outcomeFor}
@@ -23,7 +23,7 @@ use Rattle.slots.specs.Helpers.{sizesOf}
 use Rattle.slots.specs.Refusals.{firstOf, orElse, afterReading}
 use Rattle.slots.specs.Arguments.{argumentsOf, planFor, rulesIn, rulesFor}
 use Rattle.fill.specs.Fill.{fillAnswer}
-use Rattle.read.specs.Read.{sizes, readTests, readAnswer, readValues}
+use Rattle.read.specs.Read.{readLengths, readTests, readAnswer, readValues}
 use Rattle.roundtrip.specs.RoundTrip.{Filled, left}
 use Rattle.roundtrip.proofs.Arguments.{Put, AllPut}
 use Rattle.roundtrip.proofs.Theorems.{put-back, read-tests, Left, filled-left, values-total}
@@ -34,7 +34,7 @@ use Rattle.appending.proofs.Theorems.{kept, longer-reads, readings}
 use Rattle.appending.proofs.Filled.{others, arguments-extended}
 
 -- the first arguments of those that stand
-all-put-first : (r : Rules) (base : ℕ) (ps qs : List Placement) (v w : List ℕ) (b : Buffers) → length v ≡ sizesOf ps → AllPut r base (ps ++ qs) (v ++ w) b
+all-put-first : (r : CallRules) (base : ℕ) (ps qs : List Placement) (v w : List ℕ) (b : Buffers) → length v ≡ sizesOf ps → AllPut r base (ps ++ qs) (v ++ w) b
     → AllPut r base ps v b
 unfolding AllPut sizesOf
 all-put-first r base [] qs v w b e h = tt
@@ -86,8 +86,8 @@ old-driver-reads s u values more image area copies into base hidden a h total si
     let both : AllPut (rulesFor s) base (argumentsOf s ++ others (a .shorter) (a .appends .more)) (values ++ more) after =
     rw (← rules-same s u a, ← arguments-first s u a) (l .all) in
     let back = put-back (rulesFor s) base (argumentsOf s) values after (all-put-first (rulesFor s) base (argumentsOf s) (others (a .shorter) (a .appends .more)) values more after whole both) whole in
-    let good : firstOf (readTests (sizes into (after .image) (after .area)) (p .values) (p .area)) ≡ Answer.Done =
-    read-tests (sizes into (after .image) (after .area)) (p .values) (p .area) (l .image) (size ∙ total) (omega (arith, l .area, area-grown s u a)) in
+    let good : firstOf (readTests (readLengths into (after .image) (after .area)) (p .values) (p .area)) ≡ Answer.Done =
+    read-tests (readLengths into (after .image) (after .area)) (p .values) (p .area) (l .image) (size ∙ total) (omega (arith, l .area, area-grown s u a)) in
     record {
       accepted = ap₂ afterReading (shorter-outcome s u a (b .items) (b .same)) (ap₂ orElse good (back .0));
       same = ap (overlay into) (back .1) ∙ overlay-whole into values size;

@@ -11,7 +11,7 @@ use Rattle.types.specs.Limits.{AllWithin}
 use Rattle.items.specs.Encode.{encodeTrees}
 use Rattle.items.proofs.Trees.{length-more}
 use Rattle.signature.specs.Signature.{Result, Signature}
-use Rattle.signature.specs.Encode.{encodeResult, encode, Within}
+use Rattle.signature.specs.Encode.{encodeResult, encode, SignatureWithin}
 use Rattle.signature.proofs.Sound.{length-encode}
 use Rattle.appending.specs.Appending.{joined, Appends}
 use Rattle.appending.proofs.Folds.{joined-count}
@@ -37,7 +37,7 @@ unfolding joined
 joined-length ts none = omega arith
 joined-length ts (us ▸ u) = omega (arith, joined-length ts us, length-more (joined ts us) u)
 
-extended-within : (g : Signature) (us : Trees) → Within (extended g us) → Within g
+extended-within : (g : Signature) (us : Trees) → SignatureWithin (extended g us) → SignatureWithin g
 extended-within g us w = record {
   result = w .result;
   arguments = joined-within (g .convention) (g .arguments) us (w .arguments);
@@ -45,5 +45,5 @@ extended-within g us w = record {
   short = omega (arith, joined-length (g .arguments) us, length-encode g, length-encode (extended g us), w .short);
 }
 
-pub shorter-within : (g h : Signature) → Appends g h → Within h → Within g
-shorter-within g h a w = extended-within g (a .more) (subst Within (appends-extended g h a) w)
+pub shorter-within : (g h : Signature) → Appends g h → SignatureWithin h → SignatureWithin g
+shorter-within g h a w = extended-within g (a .more) (subst SignatureWithin (appends-extended g h a) w)

@@ -15,7 +15,7 @@ use Rattle.signature.specs.Signature.{Signature}
 use Rattle.signature.specs.Read.{signatureOf}
 use Rattle.signature.specs.Answer.{resultType, signatureAnswer}
 use Rattle.places.specs.declared.Cursor.{Cursor}
-use Rattle.places.specs.declared.Rules.{Rules}
+use Rattle.places.specs.declared.CallRules.{CallRules}
 use Rattle.places.specs.declared.ResultPlaces.{ResultPlaces}
 use Rattle.places.specs.Step.{rulesOf, withEllipsis, wordOf, spanOf, nextOf}
 use Rattle.plan.specs.Plan.{spansOf, lastOf, startIn, planIn, planAnswer}
@@ -32,14 +32,14 @@ use Rattle.appending.proofs.Folds.{types-joined}
 use Rattle.appending.proofs.Encoded.{extended}
 use Rattle.appending.proofs.Theorems.{kept, longer-reads}
 
-pub placements-append : (c : Convention) (r : Rules) (k : Cursor) (ts us : List ValueType)
+pub placements-append : (c : Convention) (r : CallRules) (k : Cursor) (ts us : List ValueType)
     → placements c (ts ++ us) (spansOf c r k (ts ++ us)) ≡ placements c ts (spansOf c r k ts) ++ placements c us (spansOf c r (lastOf c r k ts) us)
 unfolding placements spansOf lastOf
 placements-append c r k [] us = refl
 placements-append c r k (t ∷ ts) us =
     ap (λ (l : List Placement). placement t (sizeOf c t) (spanOf r k t (sizeOf c t)) ∷ l) (placements-append c r (nextOf r k t (sizeOf c t)) ts us)
 
-pub slots-append : (r : Rules) (base : ℕ) (ps qs : List Placement) (v w : List ℕ) → length v ≡ sizesOf ps
+pub slots-append : (r : CallRules) (base : ℕ) (ps qs : List Placement) (v w : List ℕ) → length v ≡ sizesOf ps
     → slotsOfAll r base (ps ++ qs) (v ++ w) ≡ slotsOfAll r base ps v ++ slotsOfAll r base qs w
 unfolding slotsOfAll sizesOf
 slots-append r base [] qs [] w h = refl
@@ -56,7 +56,7 @@ module _ (g : Signature) (us : Trees) where
   c : Convention
   c = g .convention
 
-  abbrev r : Rules
+  abbrev r : CallRules
   r = withEllipsis (g .ellipsis) (rulesOf (g .convention))
 
   k : Cursor
@@ -89,7 +89,7 @@ slotsIn x values base hidden =
 slots-kept : (g : Signature) (us : Trees) (next n l m : ℕ) (values more : List ℕ) (base hidden : ℕ) → length values ≡ planAnswer (got g next n) .values
     → Begins (slotsIn (got g next n) values base hidden) (slotsIn (got (extended g us) l m) (values ++ more) base hidden)
 slots-kept g us next n l m values more base hidden e =
-    let q : Rules = withEllipsis (g .ellipsis) (rulesOf (g .convention)) in
+    let q : CallRules = withEllipsis (g .ellipsis) (rulesOf (g .convention)) in
     let ps : List Placement = argumentsIn (signatureAnswer (got g next n)) (planAnswer (got g next n)) in
     let hs : List Slot = hiddenSlots (wordOf q) (planAnswer (got g next n) .result) hidden in
     let rest : List Slot = slotsOfAll q base (others g us) more in

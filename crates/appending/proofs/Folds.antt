@@ -13,7 +13,7 @@ use Rattle.types.specs.Sizes.{sizeOf}
 use Rattle.types.specs.Trees.{Trees, none, _▸_, typeOf, countOf}
 use Rattle.places.specs.declared.Cursor.{Cursor}
 use Rattle.places.specs.declared.Span.{Span}
-use Rattle.places.specs.declared.Rules.{Rules}
+use Rattle.places.specs.declared.CallRules.{CallRules}
 use Rattle.places.specs.Step.{spanOf, nextOf, unclearFor, areaOf}
 use Rattle.plan.specs.Plan.{spansOf, lastOf, noSpan, tableOf}
 use Rattle.signature.specs.Types.{valuesOf, typesOf}
@@ -37,12 +37,12 @@ joined-count ts (us ▸ u) = omega (arith, joined-count ts us)
 
 -- ---- spans, cursors and sizes
 
-pub spans-append : (c : Convention) (r : Rules) (k : Cursor) (ts us : List ValueType) → spansOf c r k (ts ++ us) ≡ spansOf c r k ts ++ spansOf c r (lastOf c r k ts) us
+pub spans-append : (c : Convention) (r : CallRules) (k : Cursor) (ts us : List ValueType) → spansOf c r k (ts ++ us) ≡ spansOf c r k ts ++ spansOf c r (lastOf c r k ts) us
 unfolding spansOf lastOf
 spans-append c r k [] us = refl
 spans-append c r k (t ∷ ts) us = ap (λ (l : List Span). spanOf r k t (sizeOf c t) ∷ l) (spans-append c r (nextOf r k t (sizeOf c t)) ts us)
 
-pub last-append : (c : Convention) (r : Rules) (k : Cursor) (ts us : List ValueType) → lastOf c r k (ts ++ us) ≡ lastOf c r (lastOf c r k ts) us
+pub last-append : (c : Convention) (r : CallRules) (k : Cursor) (ts us : List ValueType) → lastOf c r k (ts ++ us) ≡ lastOf c r (lastOf c r k ts) us
 unfolding lastOf
 last-append c r k [] us = refl
 last-append c r k (t ∷ ts) us = last-append c r (nextOf r k t (sizeOf c t)) ts us
@@ -57,7 +57,7 @@ unfolding areaOf
 area-grows c d e h = omega arith
 
 -- the span of an argument in the plan's table
-pub table-append : (c : Convention) (r : Rules) (k : Cursor) (ts us : List ValueType) (i : ℕ) → i < length ts
+pub table-append : (c : Convention) (r : CallRules) (k : Cursor) (ts us : List ValueType) (i : ℕ) → i < length ts
     → getD (tableOf (spansOf c r k (ts ++ us))) i noSpan ≡ getD (tableOf (spansOf c r k ts)) i noSpan
 table-append c r k ts us i h =
     let d : Cursor = lastOf c r k ts in
@@ -68,7 +68,7 @@ table-append c r k ts us i h =
 
 -- ---- 29: the first unclear argument of the first ones, or the first after them
 
-pub unclear-append : (c : Convention) (r : Rules) (k : Cursor) (i : ℕ) (ts us : List ValueType)
+pub unclear-append : (c : Convention) (r : CallRules) (k : Cursor) (i : ℕ) (ts us : List ValueType)
     → firstUnclear c r k i (ts ++ us) ≡ unclearFrom c r (firstUnclear c r k i ts) (lastOf c r k ts) (i + length ts) us
 unfolding firstUnclear lastOf
 unclear-append c r k i [] us = let same : i ≡ i + 0 = omega arith in ap (λ (j : ℕ). firstUnclear c r k j us) same
@@ -87,7 +87,7 @@ unclear-append c r k i (t ∷ ts) us = go (unclearFor r k t) (unclear-append c r
         e ∙ ap (λ (j : ℕ). unclearFrom c r (firstUnclear c r next (suc i) ts) (lastOf c r next ts) j us) same
 
 -- the first unclear one is one of them
-pub unclear-within : (c : Convention) (r : Rules) (k : Cursor) (i : ℕ) (ts : List ValueType) (j : ℕ) → firstUnclear c r k i ts ≡ suc j → j < i + length ts
+pub unclear-within : (c : Convention) (r : CallRules) (k : Cursor) (i : ℕ) (ts : List ValueType) (j : ℕ) → firstUnclear c r k i ts ≡ suc j → j < i + length ts
 unfolding firstUnclear
 unclear-within c r k i [] j e = absurd (omega arith)
 unclear-within c r k i (t ∷ ts) j e = go (unclearFor r k t) (unclear-within c r (nextOf r k t (sizeOf c t)) (suc i) ts j) e

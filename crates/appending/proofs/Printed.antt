@@ -14,7 +14,7 @@ use Rattle.signature.specs.Limits.{maxArguments}
 use Rattle.signature.specs.Signature.{Signature}
 use Rattle.signature.specs.Answer.{resultType}
 use Rattle.places.specs.declared.Cursor.{Cursor}
-use Rattle.places.specs.declared.Rules.{Rules}
+use Rattle.places.specs.declared.CallRules.{CallRules}
 use Rattle.places.specs.declared.Span.{Span}
 use Rattle.places.specs.Step.{rulesOf, withEllipsis}
 use Rattle.plan.specs.Plan.{spansOf, lastOf, noSpan, tableOf, startIn, planIn, planAnswer}
@@ -37,7 +37,7 @@ lines-append c i (x ∷ l) m =
     ∙ sym (append-assoc (lineText c i x) (linesText c (suc i) l) (linesText c (i + suc (length l)) m))
 
 -- the spans that are printed
-table-spans : (c : Convention) (r : Rules) (k : Cursor) (ts : List ValueType) → take (length ts) (tableOf (spansOf c r k ts)) ≡ spansOf c r k ts
+table-spans : (c : Convention) (r : CallRules) (k : Cursor) (ts : List ValueType) → take (length ts) (tableOf (spansOf c r k ts)) ≡ spansOf c r k ts
 unfolding tableOf
 table-spans c r k ts =
     let l : List Span = spansOf c r k ts in
@@ -48,7 +48,7 @@ module _ (g : Signature) (us : Trees) where
   c : Convention
   c = g .convention
 
-  r : Rules
+  r : CallRules
   r = withEllipsis (g .ellipsis) (rulesOf (g .convention))
 
   ts : List ValueType

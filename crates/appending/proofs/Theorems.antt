@@ -18,13 +18,13 @@ use Rattle.signature.specs.declared.Outcome.{Outcome}
 use Rattle.signature.specs.Signature.{Signature}
 use Rattle.signature.specs.Read.{signatureOf}
 use Rattle.signature.specs.Answer.{resultType}
-use Rattle.signature.specs.Encode.{encode, signatureItems, Within}
+use Rattle.signature.specs.Encode.{encode, signatureItems, SignatureWithin}
 use Rattle.signature.proofs.Theorems.{accepted}
 use Rattle.signature.proofs.Complete.{encode-reads}
 use Rattle.reader.specs.declared.ArgumentRead.{ArgumentRead}
-use Rattle.reader.specs.Argument.{argumentIn, argumentsPlace, argumentAnswer}
+use Rattle.reader.specs.Argument.{argumentIn, argumentsPlace, argumentOf}
 use Rattle.places.specs.declared.Cursor.{Cursor}
-use Rattle.places.specs.declared.Rules.{Rules}
+use Rattle.places.specs.declared.CallRules.{CallRules}
 use Rattle.places.specs.Step.{rulesOf, withEllipsis}
 use Rattle.plan.specs.Plan.{lastOf, startIn, endIn, planIn, planAnswer}
 use Rattle.signature.specs.Types.{typesOf, valuesOf}
@@ -58,7 +58,7 @@ module _ (g : Signature) (us : Trees) (k n l m : ℕ) where
   unfolding planAnswer planIn
   count-types = length-of-types (g .convention) (g .arguments)
 
-  argument-kept : (i : ℕ) → i < planAnswer x .count → argumentAnswer i y ≡ argumentAnswer i x
+  argument-kept : (i : ℕ) → i < planAnswer x .count → argumentOf i y ≡ argumentOf i x
   argument-kept i h = argument-joined (g .convention) (argumentsPlace (g .result) (g .ellipsis)) i (g .arguments) us (omega (arith, count-types))
 
   span-kept : (i : ℕ) → i < planAnswer x .count → spanAt (planAnswer y) i ≡ spanAt (planAnswer x) i
@@ -123,7 +123,7 @@ unclear-joined g us =
 unclear-none : (g : Signature) (us : Trees) → unclearIn (extended g us) ≡ 0 → unclearIn g ≡ 0
 unclear-none g us e = go (unclearIn g) _ _ _ _ _ (sym (unclear-joined g us) ∙ e)
   where
-    go : (u : ℕ) (c : Convention) (r : Rules) (k : Cursor) (i : ℕ) (ts : List ValueType) → unclearFrom c r u k i ts ≡ 0 → u ≡ 0
+    go : (u : ℕ) (c : Convention) (r : CallRules) (k : Cursor) (i : ℕ) (ts : List ValueType) → unclearFrom c r u k i ts ≡ 0 → u ≡ 0
     go zero c r k i ts q = refl
     go (suc u) c r k i ts q = q
 
@@ -214,7 +214,7 @@ refused-alike s u a f e =
     let y : Reading Signature = got (extended g us) (a .longer-next) (a .longer-items) in
     let b : Refused g (a .next) (a .items) f = read-unclear g (a .next) (a .items) f (ap called (sym (a .read)) ∙ e) in
     let i : ℕ = b .number in
-    let same : argumentAnswer i y ≡ argumentAnswer i x =
+    let same : argumentOf i y ≡ argumentOf i x =
     argument-kept g us (a .next) (a .items) (a .longer-next) (a .longer-items) i (number-within g (a .next) (a .items) i (b .first)) in
     ap called (longer-reads s u a)
     ∙ unclear-read (extended g us) (a .longer-next) (a .longer-items) i (unclear-first g us i (b .first))
@@ -222,7 +222,7 @@ refused-alike s u a f e =
     ∙ ap no (sym (b .fault))
 
 -- two encodings within the limits are such bytes
-pub encodings-appended : (g h : Signature) → Within h → Appends g h → Appended (encode g) (encode h)
+pub encodings-appended : (g h : Signature) → SignatureWithin h → Appends g h → Appended (encode g) (encode h)
 encodings-appended g h w a = record {
   shorter = g;
   longer = h;

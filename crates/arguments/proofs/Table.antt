@@ -20,11 +20,11 @@ use Rattle.signature.specs.Helpers.{Plannable, typeAt}
 use Rattle.signature.proofs.Types.{length-types, types-drop, table-types}
 use Rattle.places.specs.declared.Cursor.{Cursor}
 use Rattle.places.specs.Step.{rulesOf, withEllipsis, spanOf, nextOf}
-use Rattle.places.specs.Helpers.{Lawful, Roomy}
+use Rattle.places.specs.Helpers.{LawfulCalls, Roomy}
 use Rattle.places.proofs.Bounds.{rules-lawful}
 use Rattle.places.proofs.Marked.{lawful-marked, next-marked, start-marked}
 use Rattle.plan.specs.declared.Measured.{Measured}
-use Rattle.plan.specs.Plan.{spansOf, lastOf, hiddenIn, startIn, endIn, resultIn, planIn, planAnswer, measureOf}
+use Rattle.plan.specs.Plan.{spansOf, lastOf, hiddenIn, startIn, endIn, resultPlacesIn, planIn, planAnswer, measureOf}
 use Rattle.plan.specs.Helpers.{planned, unclearOf}
 use Rattle.plan.proofs.Fold.{last-marked, Reached, reached-start, reached-more, reached-roomy}
 use Rattle.plan.proofs.Answers.{planned-answer, outcome-read}
@@ -47,12 +47,12 @@ unfolding argumentsOf
 arguments-read s g e = ap argumentsFrom e ∙ arguments-same (signatureOf s)
 
 -- so are the result's places
-result-same : (x : Reading Signature) → planAnswer x .result ≡ resultIn (signatureAnswer x .convention) (signatureAnswer x .result)
+result-same : (x : Reading Signature) → planAnswer x .result ≡ resultPlacesIn (signatureAnswer x .convention) (signatureAnswer x .result)
 unfolding planAnswer planIn
 result-same (got g next n) = refl
 result-same (no f) = refl
 
-pub result-read : (s : List ℕ) (g : SignatureRead) → g ≡ signatureAnswer (signatureOf s) → planFor s .result ≡ resultIn (g .convention) (g .result)
+pub result-read : (s : List ℕ) (g : SignatureRead) → g ≡ signatureAnswer (signatureOf s) → planFor s .result ≡ resultPlacesIn (g .convention) (g .result)
 result-read s g e = rw e (result-same (signatureOf s))
 
 -- and the sizes
@@ -74,7 +74,7 @@ drop-next l i x xs e = let q : suc i ≡ i + 1 = omega arith in ap (λ (n : ℕ)
 -- ---- the walk
 
 module _ (g : SignatureRead) where
-  pub lawful-in : Lawful (rulesIn g)
+  pub lawful-in : LawfulCalls (rulesIn g)
   lawful-in = lawful-marked (g .ellipsis) (rulesOf (g .convention)) (rules-lawful (g .convention))
 
   -- i arguments are passed, whose values have v bytes; the next one's cursor is k

@@ -1,8 +1,8 @@
 // The arguments of a signature that was read, one after the other: the cursor of the first, and the sizes of their plan. Who goes over
 // them places each with a cursor of its own, so that there is no table of spans.
 use conventions::Convention;
+use places::CallRules;
 use places::Cursor;
-use places::Rules;
 use plan::Measured;
 use signature::Outcome;
 use signature::ResultType;
@@ -25,7 +25,7 @@ pub fn first_cursor(c: Convention, result: ResultType) -> Cursor
 }
 
 // The rules of the arguments of a convention, with an ellipsis or without.
-pub fn rules_in(c: Convention, ellipsis: bool) -> Rules
+pub fn rules_in(c: Convention, ellipsis: bool) -> CallRules
     ensures { λ r. ⌜ r ≡ withEllipsis ellipsis (rulesOf c) ⌝ }
 {
     places::with_ellipsis(abi::call_rules_of(c), ellipsis)

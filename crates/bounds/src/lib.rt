@@ -1,17 +1,17 @@
 // Whether a memory lies where it may, which refusal 16 asks at the start and 23 of every state, and whether registers fit their words.
 ghost use mathlib.Core.Path.{_≡_};
-ghost use Rattle.rules.specs.Helpers.{Lawful};
+ghost use Rattle.rules.specs.Helpers.{LawfulFrames};
 ghost use Rattle.rules.specs.Frames.{allWithin, okRegisters};
 ghost use Rattle.machine.specs.Machine.{okMemory};
+use rules::FrameRules;
 use rules::Registers;
-use rules::Rules;
 
 // The largest memory of a machine, in bytes.
 const MAX_MEMORY: usize = 65536;
 
 // Are a memory's base and length in range? (Refusal 16.)
-pub fn memory_ok(k: Rules, base: u64, n: usize) -> bool
-    requires { ⌜ Lawful k ⌝ }
+pub fn memory_ok(k: FrameRules, base: u64, n: usize) -> bool
+    requires { ⌜ LawfulFrames k ⌝ }
     ensures { λ r. ⌜ r ≡ okMemory k base n ⌝ }
 {
     if n % 16 != 0 {
@@ -47,7 +47,7 @@ fn all_within(m: u64, xs: [u64; 32]) -> bool
 }
 
 // Do the general registers and LR fit a word?
-pub fn registers_ok(k: Rules, r: Registers) -> bool
+pub fn registers_ok(k: FrameRules, r: Registers) -> bool
     ensures { λ b. ⌜ b ≡ okRegisters k r ⌝ }
 {
     let gpr = r.gpr;

@@ -8,7 +8,7 @@ ghost use mathlib.Core.Path.{_≡_};
 ghost use lib.ListN.{length};
 ghost use Rattle.answers.specs.Answers.{answerOf};
 ghost use Rattle.slots.specs.Buffers.{buffers};
-ghost use Rattle.fill.specs.Fill.{lengths};
+ghost use Rattle.fill.specs.Fill.{fillLengths};
 ghost use Rattle.stored.specs.Stored.{lengthAnswer, storeAnswer, storedBuffer, checkAnswer};
 ghost use Rattle.fill_stored.specs.FillStored.{storedFillAnswer, storedFillBuffers};
 ghost use Rattle.bridge_stored.specs.Stored.{storedWords, checkWords, storedFillWords};
@@ -107,8 +107,8 @@ pub extern "C" fn fz_fill_stored(
     base: u64,
     hidden: u64,
 ) -> Answer
-    ensures { λ r. ⌜ r ≡ storedFillWords (storedFillAnswer (now (stored .entry)) (now (sig .entry)) (lengths (now (values .entry)) (now (image .entry)) (now (area .entry)) (now (copies .entry))) base hidden) ⌝ }
-    ensures { λ _. ⌜ buffers (now (image .exit)) (now (area .exit)) (now (copies .exit)) ≡ storedFillBuffers (now (stored .entry)) (now (sig .entry)) (now (values .entry)) (lengths (now (values .entry)) (now (image .entry)) (now (area .entry)) (now (copies .entry))) base hidden (buffers (now (image .entry)) (now (area .entry)) (now (copies .entry))) ⌝ }
+    ensures { λ r. ⌜ r ≡ storedFillWords (storedFillAnswer (now (stored .entry)) (now (sig .entry)) (fillLengths (now (values .entry)) (now (image .entry)) (now (area .entry)) (now (copies .entry))) base hidden) ⌝ }
+    ensures { λ _. ⌜ buffers (now (image .exit)) (now (area .exit)) (now (copies .exit)) ≡ storedFillBuffers (now (stored .entry)) (now (sig .entry)) (now (values .entry)) (fillLengths (now (values .entry)) (now (image .entry)) (now (area .entry)) (now (copies .entry))) base hidden (buffers (now (image .entry)) (now (area .entry)) (now (copies .entry))) ⌝ }
 {
     let a = fill_stored::fill_stored(stored, sig, values, image, area, copies, base, hidden);
     stored_fill_words(a)

@@ -4,8 +4,8 @@ use answers::Answer;
 ghost use mathlib.Core.Path.{_≡_};
 ghost use lib.ListN.{length};
 ghost use Rattle.slots.specs.Buffers.{buffers};
-ghost use Rattle.fill.specs.Fill.{lengths, fillAnswer, fillBuffers};
-ghost use Rattle.read.specs.Read.{sizes, readAnswer, readValues};
+ghost use Rattle.fill.specs.Fill.{fillLengths, fillAnswer, fillBuffers};
+ghost use Rattle.read.specs.Read.{readLengths, readAnswer, readValues};
 ghost use Rattle.home.specs.Home.{homeAnswer, homeArea};
 ghost use Rattle.call_answers.specs.Calls.{callAnswer};
 ghost use Rattle.bridge_values.specs.Values.{partAnswer};
@@ -29,8 +29,8 @@ pub extern "C" fn fz_fill(
     base: u64,
     hidden: u64,
 ) -> Answer
-    ensures { λ r. ⌜ r ≡ callAnswer (fillAnswer (now (sig .entry)) (lengths (now (values .entry)) (now (image .entry)) (now (area .entry)) (now (copies .entry))) base hidden) ⌝ }
-    ensures { λ _. ⌜ buffers (now (image .exit)) (now (area .exit)) (now (copies .exit)) ≡ fillBuffers (now (sig .entry)) (now (values .entry)) base hidden (fillAnswer (now (sig .entry)) (lengths (now (values .entry)) (now (image .entry)) (now (area .entry)) (now (copies .entry))) base hidden) (buffers (now (image .entry)) (now (area .entry)) (now (copies .entry))) ⌝ }
+    ensures { λ r. ⌜ r ≡ callAnswer (fillAnswer (now (sig .entry)) (fillLengths (now (values .entry)) (now (image .entry)) (now (area .entry)) (now (copies .entry))) base hidden) ⌝ }
+    ensures { λ _. ⌜ buffers (now (image .exit)) (now (area .exit)) (now (copies .exit)) ≡ fillBuffers (now (sig .entry)) (now (values .entry)) base hidden (fillAnswer (now (sig .entry)) (fillLengths (now (values .entry)) (now (image .entry)) (now (area .entry)) (now (copies .entry))) base hidden) (buffers (now (image .entry)) (now (area .entry)) (now (copies .entry))) ⌝ }
 {
     let a = fill::fill(sig, values, image, area, copies, base, hidden);
     call_answers::answer_of(a)
@@ -45,8 +45,8 @@ pub extern "C" fn fz_read(
     copies: &[u8],
     base: u64,
 ) -> Answer
-    ensures { λ r. ⌜ r ≡ callAnswer (readAnswer (now (sig .entry)) (sizes (now (values .entry)) (now (image .entry)) (now (area .entry))) base (buffers (now (image .entry)) (now (area .entry)) (now (copies .entry)))) ⌝ }
-    ensures { λ _. ⌜ now (values .exit) ≡ readValues (now (sig .entry)) base (readAnswer (now (sig .entry)) (sizes (now (values .entry)) (now (image .entry)) (now (area .entry))) base (buffers (now (image .entry)) (now (area .entry)) (now (copies .entry)))) (buffers (now (image .entry)) (now (area .entry)) (now (copies .entry))) (now (values .entry)) ⌝ }
+    ensures { λ r. ⌜ r ≡ callAnswer (readAnswer (now (sig .entry)) (readLengths (now (values .entry)) (now (image .entry)) (now (area .entry))) base (buffers (now (image .entry)) (now (area .entry)) (now (copies .entry)))) ⌝ }
+    ensures { λ _. ⌜ now (values .exit) ≡ readValues (now (sig .entry)) base (readAnswer (now (sig .entry)) (readLengths (now (values .entry)) (now (image .entry)) (now (area .entry))) base (buffers (now (image .entry)) (now (area .entry)) (now (copies .entry)))) (buffers (now (image .entry)) (now (area .entry)) (now (copies .entry))) (now (values .entry)) ⌝ }
 {
     let a = read::read(sig, values, image, area, copies, base);
     call_answers::answer_of(a)

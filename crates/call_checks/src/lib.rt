@@ -1,21 +1,21 @@
 // What the writes and a leave answer: the tests of the state, then those of the call, in their order.
 ghost use mathlib.Core.Path.{_≡_};
-ghost use Rattle.rules.specs.Helpers.{Lawful};
+ghost use Rattle.rules.specs.Helpers.{LawfulFrames};
 ghost use Rattle.machine.specs.Machine.{writeRegisterAnswer, writeMemoryAnswer, leaveAnswer};
 use machine::Answer;
 use machine::Refusal;
 use machine::State;
-use rules::Rules;
+use rules::FrameRules;
 
 pub fn judge_write_register(
-    k: Rules,
+    k: FrameRules,
     s: State,
     n: usize,
     bank: u64,
     number: u64,
     value: u64,
 ) -> Answer
-    requires { ⌜ Lawful k ⌝ }
+    requires { ⌜ LawfulFrames k ⌝ }
     ensures { λ r. ⌜ r ≡ writeRegisterAnswer k s n bank number value ⌝ }
 {
     let a = state_checks::judge_state(k, s, n);
@@ -32,8 +32,8 @@ pub fn judge_write_register(
     }
 }
 
-pub fn judge_write_memory(k: Rules, s: State, n: usize, address: u64, m: usize) -> Answer
-    requires { ⌜ Lawful k ⌝ }
+pub fn judge_write_memory(k: FrameRules, s: State, n: usize, address: u64, m: usize) -> Answer
+    requires { ⌜ LawfulFrames k ⌝ }
     ensures { λ r. ⌜ r ≡ writeMemoryAnswer k s n address m ⌝ }
 {
     let a = state_checks::judge_state(k, s, n);
@@ -48,8 +48,8 @@ pub fn judge_write_memory(k: Rules, s: State, n: usize, address: u64, m: usize) 
     }
 }
 
-pub fn judge_leave(k: Rules, s: State, memory: &[u8]) -> Answer
-    requires { ⌜ Lawful k ⌝ }
+pub fn judge_leave(k: FrameRules, s: State, memory: &[u8]) -> Answer
+    requires { ⌜ LawfulFrames k ⌝ }
     ensures { λ r. ⌜ r ≡ leaveAnswer k s (now (memory .entry)) ⌝ }
 {
     let a = state_checks::judge_state(k, s, memory.len());

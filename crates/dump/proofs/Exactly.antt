@@ -9,7 +9,7 @@ use lib.Dec.{leb, eqb}
 use borrow.Author.Tests.{leb-true, le-leb, lt-leb, eq-eqb, eqb-true}
 use Rattle.words.specs.Basics.{pick}
 use Rattle.saves.specs.Saves.{load}
-use Rattle.rules.specs.declared.Rules.{Rules}
+use Rattle.rules.specs.declared.FrameRules.{FrameRules}
 use Rattle.rules.proofs.Facts.{and-yes, either}
 use Rattle.dump.specs.Walk.{BadAddress, ListTooShort, Walked, frames, refused, okAddress, prepend, walkFrom, maxFrames, walk, fitted, walkInto, foundIn}
 use Rattle.dump.specs.Chain.{firstOf, Linked, Inside, Ascending, Chain, WalksExactly}
@@ -17,7 +17,7 @@ use Rattle.dump.proofs.Laws.{walk-last, walk-more}
 
 -- ---- one address
 
-address-parts : (k : Rules) (b n least a : ℕ) → okAddress k b n least a ≡ true → (a % k .alignment ≡ 0) × (b ≤ a) × (a + k .header ≤ b + n) × (least ≤ a)
+address-parts : (k : FrameRules) (b n least a : ℕ) → okAddress k b n least a ≡ true → (a % k .alignment ≡ 0) × (b ≤ a) × (a + k .header ≤ b + n) × (least ≤ a)
 unfolding okAddress
 address-parts k b n least a e =
     let p = and-yes (eqb (a % k .alignment) 0) _ e in
@@ -25,7 +25,7 @@ address-parts k b n least a e =
     let r = and-yes (leb (a + k .header) (b + n)) _ (q .1) in
     (eqb-true (a % k .alignment) 0 (p .0), leb-true b a (q .0), leb-true (a + k .header) (b + n) (r .0), leb-true least a (r .1))
 
-address-whole : (k : Rules) (b n least a : ℕ) → a % k .alignment ≡ 0 → b ≤ a → a + k .header ≤ b + n → least ≤ a → okAddress k b n least a ≡ true
+address-whole : (k : FrameRules) (b n least a : ℕ) → a % k .alignment ≡ 0 → b ≤ a → a + k .header ≤ b + n → least ≤ a → okAddress k b n least a ≡ true
 unfolding okAddress
 address-whole k b n least a p q r s = rw (eq-eqb (a % k .alignment) 0 p, le-leb b a q, le-leb (a + k .header) (b + n) r, le-leb least a s)
 
@@ -42,7 +42,7 @@ prepend-frames a (refused r) xs e = absurd (let z : _≡_ {A = ℕ} 1 0 = ap tag
 -- ---- the rest of a walk
 
 -- what is found from the address a on, with n frames left to find
-record Part (k : Rules) (b : ℕ) (l : List ℕ) (n least a : ℕ) (xs : List ℕ) : Type 0 where
+record Part (k : FrameRules) (b : ℕ) (l : List ℕ) (n least a : ℕ) (xs : List ℕ) : Type 0 where
   some : 0 < length xs
   first : firstOf xs ≡ a
   linked : Linked k b l xs
@@ -50,7 +50,7 @@ record Part (k : Rules) (b : ℕ) (l : List ℕ) (n least a : ℕ) (xs : List �
   ascending : Ascending least xs
   count : length xs ≤ n
 
-module _ (k : Rules) (b : ℕ) (l : List ℕ) where
+module _ (k : FrameRules) (b : ℕ) (l : List ℕ) where
   found : (n least a : ℕ) (xs : List ℕ) → walkFrom n k b l least a ≡ frames xs → Part k b l n least a xs
   unfolding walkFrom
   found zero least a xs e = absurd (let z : _≡_ {A = ℕ} 1 0 = ap tag e in omega arith)
@@ -119,7 +119,7 @@ fitted-frames m (frames ys) xs e = go (leb (length ys) m) refl e
     go false t e = absurd (let z : _≡_ {A = ℕ} 1 0 = ap tag e in omega arith)
 fitted-frames m (refused r) xs e = absurd (let z : _≡_ {A = ℕ} 1 0 = ap tag e in omega arith)
 
-walk-frames : (k : Rules) (b : ℕ) (l : List ℕ) (p : ℕ) (xs : List ℕ) → walk k b l p ≡ frames xs → (b + length l ≤ 2 ^ 64 - 1) × (walkFrom maxFrames k b l 0 p ≡ frames xs)
+walk-frames : (k : FrameRules) (b : ℕ) (l : List ℕ) (p : ℕ) (xs : List ℕ) → walk k b l p ≡ frames xs → (b + length l ≤ 2 ^ 64 - 1) × (walkFrom maxFrames k b l 0 p ≡ frames xs)
 unfolding walk
 walk-frames k b l p xs e = go (leb (b + length l) (2 ^ 64 - 1)) refl e
   where

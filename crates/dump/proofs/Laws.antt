@@ -13,20 +13,20 @@ use lib.Dec.{leb, eqb}
 use borrow.Author.Tests.{leb-true, lt-leb, le-leb, ne-eqb}
 use Rattle.words.specs.Basics.{pick}
 use Rattle.saves.specs.Saves.{load}
-use Rattle.rules.specs.declared.Rules.{Rules}
+use Rattle.rules.specs.declared.FrameRules.{FrameRules}
 use Rattle.rules.proofs.Facts.{and-yes}
-use Rattle.rules.specs.Helpers.{Lawful}
+use Rattle.rules.specs.Helpers.{LawfulFrames}
 use Rattle.dump.specs.Walk.{Refusal, BadAddress, ChainTooLong, ListTooShort, Found, Frames, Refused, Walked, frames, refused, okAddress, prepend, walkFrom, maxFrames, walk, fitted, walkInto, foundIn, counted}
 
 -- a word has a byte at least
-pub word-some : (k : Rules) → Lawful k → 0 < k .word
+pub word-some : (k : FrameRules) → LawfulFrames k → 0 < k .word
 word-some k law = go (k .word) (law .limit)
   where
     go : (w : ℕ) → k .limit + 1 ≡ 2 ^ (8 * w) → 0 < w
     go zero e = absurd (omega (arith, e, law .memory))
     go (suc w) e = omega arith
 
-pub address-yes : (k : Rules) (b n least a : ℕ) → okAddress k b n least a ≡ true → (b ≤ a) × (a + k .header ≤ b + n)
+pub address-yes : (k : FrameRules) (b n least a : ℕ) → okAddress k b n least a ≡ true → (b ≤ a) × (a + k .header ≤ b + n)
 unfolding okAddress
 address-yes k b n least a e =
     let p = and-yes (eqb (a % k .alignment) 0) _ e in
@@ -36,7 +36,7 @@ address-yes k b n least a e =
 
 -- ---- one turn
 
-module _ (k : Rules) (b : ℕ) (l : List ℕ) (least a : ℕ) where
+module _ (k : FrameRules) (b : ℕ) (l : List ℕ) (least a : ℕ) where
   pub walk-bad : (n : ℕ) → 0 < n → okAddress k b (length l) least a ≡ false → walkFrom n k b l least a ≡ refused (BadAddress a)
   unfolding walkFrom
   walk-bad zero h e = absurd (omega arith)
@@ -53,7 +53,7 @@ module _ (k : Rules) (b : ℕ) (l : List ℕ) (least a : ℕ) where
   walk-more zero h e z = absurd (omega arith)
   walk-more (suc n) h e z = let d : suc n - 1 ≡ n = omega arith in rw (d, e, ne-eqb (load l (a - b) (k .word)) 0 z)
 
-pub walk-out : (k : Rules) (b : ℕ) (l : List ℕ) (n least a : ℕ) → n ≤ 0 → walkFrom n k b l least a ≡ refused ChainTooLong
+pub walk-out : (k : FrameRules) (b : ℕ) (l : List ℕ) (n least a : ℕ) → n ≤ 0 → walkFrom n k b l least a ≡ refused ChainTooLong
 unfolding walkFrom
 walk-out k b l zero least a h = refl
 walk-out k b l (suc n) least a h = absurd (omega arith)
@@ -65,15 +65,15 @@ counted-prepend c a (refused r) = refl
 -- ---- the frames that were found
 
 -- each is where the one before points, with its header in the dump
-abbrev pub Follow : Rules → ℕ → List ℕ → ℕ → List ℕ → Type 0
+abbrev pub Follow : FrameRules → ℕ → List ℕ → ℕ → List ℕ → Type 0
 Follow k b l a [] = Unit {0}
 Follow k b l a (x ∷ xs) = (x ≡ a) × (b ≤ a) × (a + k .header ≤ b + length l) × Follow k b l (load l (a - b) (k .word)) xs
 
-follow-prepend : (k : Rules) (b : ℕ) (l : List ℕ) (a : ℕ) (w : Walked) → b ≤ a → a + k .header ≤ b + length l → Follow k b l (load l (a - b) (k .word)) (foundIn w) → Follow k b l a (foundIn (prepend a w))
+follow-prepend : (k : FrameRules) (b : ℕ) (l : List ℕ) (a : ℕ) (w : Walked) → b ≤ a → a + k .header ≤ b + length l → Follow k b l (load l (a - b) (k .word)) (foundIn w) → Follow k b l a (foundIn (prepend a w))
 follow-prepend k b l a (frames xs) p q f = (refl, p, q, f)
 follow-prepend k b l a (refused r) p q f = tt
 
-pub follow : (n : ℕ) (k : Rules) (b : ℕ) (l : List ℕ) (least a : ℕ) → Follow k b l a (foundIn (walkFrom n k b l least a))
+pub follow : (n : ℕ) (k : FrameRules) (b : ℕ) (l : List ℕ) (least a : ℕ) → Follow k b l a (foundIn (walkFrom n k b l least a))
 unfolding walkFrom
 follow zero k b l least a = tt
 follow (suc n) k b l least a = go (okAddress k b (length l) least a) refl (eqb (load l (a - b) (k .word)) 0) (follow n k b l (a + 1) (load l (a - b) (k .word)))
@@ -104,7 +104,7 @@ counted-refused (refused x) r e = let a : x ≡ r = cc in rw a
 
 -- ---- the whole walk, into a slice of m numbers
 
-module _ (k : Rules) (b : ℕ) (l : List ℕ) (p m : ℕ) where
+module _ (k : FrameRules) (b : ℕ) (l : List ℕ) (p m : ℕ) where
   pub into-over : 2 ^ 64 - 1 < b + length l → walkInto k b l p m ≡ refused (BadAddress b)
   unfolding walkInto walk
   into-over h = rw (lt-leb (b + length l) (2 ^ 64 - 1) h)
@@ -132,7 +132,7 @@ module _ (k : Rules) (b : ℕ) (l : List ℕ) (p m : ℕ) where
           fitted-is ∙ rw (le-leb (length (foundIn (walkFrom maxFrames k b l 0 p))) m (omega (arith, size)))
 
 -- one frame of those found, and the rest of them
-module _ (k : Rules) (b : ℕ) (l : List ℕ) (a : ℕ) (xs : List ℕ) (i : ℕ) (h : i < length xs) (f : Follow k b l a (drop i xs)) where
+module _ (k : FrameRules) (b : ℕ) (l : List ℕ) (a : ℕ) (xs : List ℕ) (i : ℕ) (h : i < length xs) (f : Follow k b l a (drop i xs)) where
   at-i : Follow k b l a (getD xs i 0 ∷ drop (suc i) xs)
   at-i = subst (Follow k b l a) (drop-cons xs i 0 h) f
 

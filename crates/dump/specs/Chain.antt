@@ -5,7 +5,7 @@ use mathlib.Core.Path.{_≡_}
 use mathlib.Core.List.{List, [], _∷_}
 use lib.ListN.{length}
 use Rattle.saves.specs.Saves.{load}
-use Rattle.rules.specs.declared.Rules.{Rules}
+use Rattle.rules.specs.declared.FrameRules.{FrameRules}
 use Rattle.dump.specs.Walk.{Walked, frames, maxFrames, walkInto}
 
 -- the first of the addresses, or zero where there is none
@@ -14,12 +14,12 @@ firstOf [] = 0
 firstOf (x ∷ xs) = x
 
 -- "following the back chain until a zero word": the word at each address is the next one, that at the last is zero
-abbrev pub Linked : Rules → ℕ → List ℕ → List ℕ → Type 0
+abbrev pub Linked : FrameRules → ℕ → List ℕ → List ℕ → Type 0
 Linked k b l [] = Unit {0}
 Linked k b l (x ∷ xs) = (load l (x - b) (k .word) ≡ firstOf xs) × Linked k b l xs
 
 -- "Each address must be aligned", "wholly inside the dump with its header"; n is the dump's length
-abbrev pub Inside : Rules → ℕ → ℕ → List ℕ → Type 0
+abbrev pub Inside : FrameRules → ℕ → ℕ → List ℕ → Type 0
 Inside k b n [] = Unit {0}
 Inside k b n (x ∷ xs) = (x % k .alignment ≡ 0) × (b ≤ x) × (x + k .header ≤ b + n) × Inside k b n xs
 
@@ -29,7 +29,7 @@ Ascending least [] = Unit {0}
 Ascending least (x ∷ xs) = (least ≤ x) × Ascending (x + 1) xs
 
 -- the list xs is that of the dump's frames, from the stack pointer p on
-pub record Chain (k : Rules) (b : ℕ) (l : List ℕ) (p : ℕ) (xs : List ℕ) : Type 0 where
+pub record Chain (k : FrameRules) (b : ℕ) (l : List ℕ) (p : ℕ) (xs : List ℕ) : Type 0 where
   pub end : b + length l ≤ 2 ^ 64 - 1
   pub some : 0 < length xs
   pub first : firstOf xs ≡ p
@@ -40,5 +40,5 @@ pub record Chain (k : Rules) (b : ℕ) (l : List ℕ) (p : ℕ) (xs : List ℕ) 
 
 -- m is the length of the slice
 abbrev pub WalksExactly : Type 0
-WalksExactly = (k : Rules) (b : ℕ) (l : List ℕ) (p m : ℕ) (xs : List ℕ)
+WalksExactly = (k : FrameRules) (b : ℕ) (l : List ℕ) (p m : ℕ) (xs : List ℕ)
     → (walkInto k b l p m ≡ frames xs → Chain k b l p xs × (length xs ≤ m)) × (Chain k b l p xs → length xs ≤ m → walkInto k b l p m ≡ frames xs)

@@ -8,7 +8,7 @@ use lib.Dec.{leb, eqb}
 use Rattle.words.specs.Basics.{pick}
 use Rattle.words.specs.Splice.{splice}
 use Rattle.saves.specs.Saves.{load}
-use Rattle.rules.specs.declared.Rules.{Rules}
+use Rattle.rules.specs.declared.FrameRules.{FrameRules}
 pub use Rattle.dump.specs.declared.Refusal.{Refusal}
 pub use Rattle.dump.specs.declared.Refusal.the-variants.{BadAddress, ChainTooLong, ListTooShort}
 pub use Rattle.dump.specs.declared.Found.{Found}
@@ -21,7 +21,7 @@ pub data Walked : Type 0 where
 
 -- "Each address must be aligned (to 16, on Z to 8), wholly inside the dump with its header (48 bytes, AIX 24, Z 160), and above the one before", that is, at least
 -- `least`; n is the dump's length
-unfoldable pub okAddress : Rules → ℕ → ℕ → ℕ → ℕ → Bool
+unfoldable pub okAddress : FrameRules → ℕ → ℕ → ℕ → ℕ → Bool
 okAddress k b n least a = eqb (a % k .alignment) 0 && (leb b a && (leb (a + k .header) (b + n) && leb least a))
 
 -- a frame at a, and after it those that the rest of the walk finds
@@ -31,7 +31,7 @@ prepend a (refused r) = refused r
 
 -- The walk from the address a on, with n frames left to find: "At most 4,096 frames, else 31, tested before the next address is"; "otherwise new refusal 30 with the
 -- bad address"; "following the back chain until a zero word (8 bytes, or 4 on AIX)", that was read: address 0 may be a frame.
-unfoldable pub walkFrom : ℕ → Rules → ℕ → List ℕ → ℕ → ℕ → Walked
+unfoldable pub walkFrom : ℕ → FrameRules → ℕ → List ℕ → ℕ → ℕ → Walked
 walkFrom zero k b l least a = refused ChainTooLong
 walkFrom (suc n) k b l least a =
     let next = load l (a - b) (k .word) in
@@ -42,7 +42,7 @@ abbrev pub maxFrames : ℕ
 maxFrames = 4096
 
 -- the whole walk from the stack pointer p: "A base plus length over 2^64 - 1 gives 30 with the base, first of all"; the first address is above none
-unfoldable pub walk : Rules → ℕ → List ℕ → ℕ → Walked
+unfoldable pub walk : FrameRules → ℕ → List ℕ → ℕ → Walked
 walk k b l p = pick (leb (b + length l) (2 ^ 64 - 1)) (walkFrom maxFrames k b l 0 p) (refused (BadAddress b))
 
 -- a walk into a slice of m numbers: "too short a slice is 32, tested after the whole walk and before any write"
@@ -50,7 +50,7 @@ abbrev pub fitted : ℕ → Walked → Walked
 fitted m (frames xs) = pick (leb (length xs) m) (frames xs) (refused ListTooShort)
 fitted m (refused r) = refused r
 
-unfoldable pub walkInto : Rules → ℕ → List ℕ → ℕ → ℕ → Walked
+unfoldable pub walkInto : FrameRules → ℕ → List ℕ → ℕ → ℕ → Walked
 walkInto k b l p m = fitted m (walk k b l p)
 
 -- ---- what the code hands back

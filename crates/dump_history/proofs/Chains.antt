@@ -9,9 +9,9 @@ use lib.ListN.{length, getD}
 use Rattle.saves.specs.Saves.{load}
 use Rattle.saves.proofs.Words.{load-agree}
 use Rattle.saves.proofs.Saving.{outside-above}
-use Rattle.rules.specs.declared.Rules.{Rules}
+use Rattle.rules.specs.declared.FrameRules.{FrameRules}
 use Rattle.rules.specs.Frames.{outgoingLength, below, frameSize, saves}
-use Rattle.rules.specs.Helpers.{Lawful}
+use Rattle.rules.specs.Helpers.{LawfulFrames}
 use Rattle.rules.proofs.Places.{size-parts, ascending, chain-outside}
 use Rattle.machine.specs.Machine.{stackPointer, offset}
 use Rattle.history.specs.Calls.{Machine}
@@ -19,12 +19,12 @@ use Rattle.history.specs.Preserved.{OpenEnter, callerOf}
 use Rattle.history.proofs.Invariant.{Invariant, base-of, saves-below}
 
 -- in the memory l: at the pointer of the machine m its caller's, and so on; at the start's zero
-abbrev pub Chains : Rules → List OpenEnter → Machine → List ℕ → Type 0
+abbrev pub Chains : FrameRules → List OpenEnter → Machine → List ℕ → Type 0
 Chains k [] m l = load l (offset k (m .state)) (k .word) ≡ 0
 Chains k (o ∷ os) m l = (load l (offset k (m .state)) (k .word) ≡ stackPointer k (o .before .state)) × Chains k os (o .before) l
 
 -- memories that agree on the present chain word and past the present frame's outgoing area have the same chains
-chains-same : (k : Rules) → Lawful k → (os : List OpenEnter) (m : Machine) (l l′ : List ℕ) → Invariant k os m → callerOf k os .leaf ≡ false → length l′ ≡ length l
+chains-same : (k : FrameRules) → LawfulFrames k → (os : List OpenEnter) (m : Machine) (l l′ : List ℕ) → Invariant k os m → callerOf k os .leaf ≡ false → length l′ ≡ length l
     → ((b : ℕ) → offset k (m .state) ≤ b → b < offset k (m .state) + k .word → getD l′ b 0 ≡ getD l b 0)
     → ((b : ℕ) → offset k (m .state) + k .header + outgoingLength k (callerOf k os) ≤ b → getD l′ b 0 ≡ getD l b 0)
     → Chains k os m l → Chains k os m l′
@@ -37,7 +37,7 @@ chains-same k law (o ∷ os) m l l′ i z n e f c =
       chains-same k law os (o .before) l l′ (i .2) (t .solid) n (λ b p q. f b (omega arith)) (λ b p. f b (omega arith)) (c .1),
     )
 
-pub chains : (k : Rules) → Lawful k → (os : List OpenEnter) (m : Machine) → Invariant k os m → callerOf k os .leaf ≡ false → Chains k os m (m .memory)
+pub chains : (k : FrameRules) → LawfulFrames k → (os : List OpenEnter) (m : Machine) → Invariant k os m → callerOf k os .leaf ≡ false → Chains k os m (m .memory)
 chains k law [] m i z = i .2
 chains k law (o ∷ os) m i z =
     let t = i .1 in

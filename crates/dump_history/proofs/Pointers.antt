@@ -4,8 +4,8 @@ use mathlib.Core.Path.{_≡_, refl, sym, ap, _∙_}
 use mathlib.Core.List.{List, [], _∷_}
 use native.Mathlib.Omega.{arith}
 use lib.ListN.{length}
-use Rattle.rules.specs.declared.Rules.{Rules}
-use Rattle.rules.specs.Helpers.{Lawful}
+use Rattle.rules.specs.declared.FrameRules.{FrameRules}
+use Rattle.rules.specs.Helpers.{LawfulFrames}
 use Rattle.machine.specs.declared.Answer.{Answer}
 use Rattle.machine.specs.declared.Answer.the-variants.{Accepted, Refused}
 use Rattle.machine.specs.Machine.{stackPointer, sizes, enterOutcome, writeRegisterOutcome, writtenRegister, writeMemoryOutcome, leaveOutcome}
@@ -15,11 +15,11 @@ use Rattle.history.proofs.Invariant.{Invariant, base-of}
 use Rattle.dump_history.specs.Shown.{frameAddress, shown}
 
 -- the pointer just before each open enter
-abbrev pub callers : Rules → List OpenEnter → List ℕ
+abbrev pub callers : FrameRules → List OpenEnter → List ℕ
 callers k [] = []
 callers k (o ∷ os) = stackPointer k (o .before .state) ∷ callers k os
 
-pub callers-length : (k : Rules) (os : List OpenEnter) → length (callers k os) ≡ length os
+pub callers-length : (k : FrameRules) (os : List OpenEnter) → length (callers k os) ≡ length os
 callers-length k [] = refl
 callers-length k (o ∷ os) = omega (arith, callers-length k os)
 
@@ -28,11 +28,11 @@ rest [] = []
 rest (x ∷ xs) = xs
 
 -- The latest frame is where the pointer is; each caller's, at last the start's, is where the pointer was before its callee's enter.
-abbrev pub Stands : Rules → List OpenEnter → Machine → ℕ → Type 0
+abbrev pub Stands : FrameRules → List OpenEnter → Machine → ℕ → Type 0
 Stands k os m p = shown k os p ≡ stackPointer k (m .state) ∷ callers k os
 
 -- a write of a register leaves the pointer: the state's sum of sizes is as it was
-written-pointer : (k : Rules) (os : List OpenEnter) (m : Machine) (b n v : ℕ) → answer (writeRegister b n v) m ≡ Accepted → Invariant k os m → Invariant k os (after (writeRegister b n v) m)
+written-pointer : (k : FrameRules) (os : List OpenEnter) (m : Machine) (b n v : ℕ) → answer (writeRegister b n v) m ≡ Accepted → Invariant k os m → Invariant k os (after (writeRegister b n v) m)
     → stackPointer k (after (writeRegister b n v) m .state) ≡ stackPointer k (m .state)
 unfolding writeRegisterOutcome writtenRegister
 written-pointer k os m b n v e i j =
@@ -42,7 +42,7 @@ written-pointer k os m b n v e i j =
     rw e (omega (arith, was, is))
 
 -- each call keeps it
-pub stands-step : (k : Rules) (c : Call) (os : List OpenEnter) (m : Machine) (p : ℕ) → Invariant k os m → (a : Answer) → answer c m ≡ a → CallHolds k c a os (after c m)
+pub stands-step : (k : FrameRules) (c : Call) (os : List OpenEnter) (m : Machine) (p : ℕ) → Invariant k os m → (a : Answer) → answer c m ≡ a → CallHolds k c a os (after c m)
     → Invariant k (openAfter c a m os) (after c m) → Stands k os m p → Stands k (openAfter c a m os) (after c m) p
 unfolding enterOutcome writeRegisterOutcome writeMemoryOutcome leaveOutcome
 stands-step k (enter f) os m p i Accepted e h j s = ap (λ (t : List ℕ). stackPointer k (after (enter f) m .state) ∷ t) s

@@ -8,9 +8,9 @@ use native.Mathlib.Omega.{arith}
 use lib.ListN.{length}
 use borrow.Author.Tests.{le-leb}
 use Rattle.conventions.specs.declared.Convention.{Convention}
-use Rattle.rules.specs.declared.Rules.{Rules}
+use Rattle.rules.specs.declared.FrameRules.{FrameRules}
 use Rattle.rules.specs.Rules.{rules}
-use Rattle.rules.specs.Helpers.{Lawful}
+use Rattle.rules.specs.Helpers.{LawfulFrames}
 use Rattle.rules.proofs.Conventions.{lawful}
 use Rattle.rules.proofs.Places.{limit-64}
 use Rattle.machine.specs.declared.Answer.the-variants.{Accepted}
@@ -34,11 +34,11 @@ use Rattle.dump_history.proofs.Walking.{Aligned, aligned, memory-walk}
 -- ---- a machine with the invariant
 
 -- as many enters are open as frames are entered
-open-count : (k : Rules) (os : List OpenEnter) (m : states.Machine) → Invariant k os m → length os ≡ m .state .depth
+open-count : (k : FrameRules) (os : List OpenEnter) (m : states.Machine) → Invariant k os m → length os ≡ m .state .depth
 open-count k [] m i = sym (i .1)
 open-count k (o ∷ os) m i = omega (arith, open-count k os (o .before) (i .2), i .1 .deep)
 
-memory-walked : (k : Rules) → Lawful k → Aligned k → (os : List OpenEnter) (m : states.Machine) → Invariant k os m → callerOf k os .leaf ≡ false
+memory-walked : (k : FrameRules) → LawfulFrames k → Aligned k → (os : List OpenEnter) (m : states.Machine) → Invariant k os m → callerOf k os .leaf ≡ false
     → walk k (m .state .base) (m .memory) (stackPointer k (m .state)) ≡ frames (stackPointer k (m .state) ∷ callers k os)
 unfolding walk
 memory-walked k law even os m i z =
@@ -50,12 +50,12 @@ memory-walked k law even os m i z =
 -- ---- a list of exported calls
 
 -- the invariant of what is lent, with the enters os open, and what stands at their pointers
-pub record Kept (k : Rules) (os : List OpenEnter) (m : Lent) (p : ℕ) : Type 0 where
+pub record Kept (k : FrameRules) (os : List OpenEnter) (m : Lent) (p : ℕ) : Type 0 where
   pub words : length (m .words) ≡ machineWords
   pub invariant : Invariant k os (machineIn m)
   pub stands : Stands k os (machineIn m) p
 
-run-keeps : (k : Rules) → Lawful k → (cs : List Call) → CallsFit (callsIn cs) → (os : List OpenEnter) (m : Lent) (p : ℕ) → Kept k os m p → Kept k (opened cs os m) (run cs m) p
+run-keeps : (k : FrameRules) → LawfulFrames k → (cs : List Call) → CallsFit (callsIn cs) → (os : List OpenEnter) (m : Lent) (p : ℕ) → Kept k os m p → Kept k (opened cs os m) (run cs m) p
 run-keeps k law [] w os m p i = i
 run-keeps k law (c ∷ cs) w os m p i =
     let e = reading-after c m (i .words) in

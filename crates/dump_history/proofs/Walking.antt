@@ -13,11 +13,11 @@ use Rattle.words.specs.Basics.{roundUp}
 use Rattle.saves.specs.Saves.{load}
 use Rattle.conventions.specs.declared.Convention.{Convention}
 use Rattle.conventions.specs.declared.Convention.the-variants.{Ppc64, Z, Aix, Ppc64b}
-use Rattle.rules.specs.declared.Rules.{Rules}
+use Rattle.rules.specs.declared.FrameRules.{FrameRules}
 use Rattle.rules.specs.declared.Frame.{Frame}
 use Rattle.rules.specs.Rules.{rules}
 use Rattle.rules.specs.Frames.{outgoingLength, below, fullSize, frameSize}
-use Rattle.rules.specs.Helpers.{Lawful}
+use Rattle.rules.specs.Helpers.{LawfulFrames}
 use Rattle.rules.proofs.Facts.{and-yes, either}
 use Rattle.rules.proofs.Places.{leaf-size, solid-size, size-parts}
 use Rattle.machine.specs.declared.State.{State}
@@ -32,7 +32,7 @@ use Rattle.dump_history.proofs.Pointers.{callers}
 use Rattle.dump_history.proofs.Chains.{Chains}
 
 -- what the walk asks of a convention's numbers besides: the ends of a machine's memory are multiples of 16, and so the start's pointer is aligned
-pub record Aligned (k : Rules) : Type 0 where
+pub record Aligned (k : FrameRules) : Type 0 where
   pub divides : 16 % k .alignment ≡ 0
   pub room : k .room % k .alignment ≡ 0
 
@@ -44,7 +44,7 @@ aligned Ppc64b = record { divides = refl; room = refl }
 
 -- ---- alignment
 
-module _ (k : Rules) (law : Lawful k) (even : Aligned k) where
+module _ (k : FrameRules) (law : LawfulFrames k) (even : Aligned k) where
   -- a frame moves the pointer by a multiple of the alignment
   size-aligned : (f : Frame) → k .alignment ∣ frameSize k f
   unfolding fullSize roundUp

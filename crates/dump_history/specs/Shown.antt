@@ -8,7 +8,7 @@ use mathlib.Core.Bool.{false}
 use mathlib.Core.List.{List, [], _∷_}
 use lib.ListN.{length}
 use Rattle.conventions.specs.declared.Convention.{Convention}
-use Rattle.rules.specs.declared.Rules.{Rules}
+use Rattle.rules.specs.declared.FrameRules.{FrameRules}
 use Rattle.rules.specs.Rules.{rules}
 use Rattle.machine.specs.declared.Answer.the-variants.{Accepted}
 use Rattle.machine.specs.Machine.{stackPointer, startOutcome}
@@ -30,16 +30,16 @@ opened [] os m = os
 opened (c ∷ cs) os m = opened cs (openAfter (callIn c) (answer c m) (machineIn m) os) (after c m)
 
 -- the address of the frame that an enter opened: the stack pointer just after it
-abbrev pub frameAddress : Rules → OpenEnter → ℕ
+abbrev pub frameAddress : FrameRules → OpenEnter → ℕ
 frameAddress k o = stackPointer k (states.after (states.enter (o .request)) (o .before) .state)
 
 -- "its entered frames and the start", whose stack pointer is p: the latest first
-abbrev pub shown : Rules → List OpenEnter → ℕ → List ℕ
+abbrev pub shown : FrameRules → List OpenEnter → ℕ → List ℕ
 shown k [] p = p ∷ []
 shown k (o ∷ os) p = frameAddress k o ∷ shown k os p
 
 -- the stack pointer of a machine
-abbrev pub pointerIn : Rules → Lent → ℕ
+abbrev pub pointerIn : FrameRules → Lent → ℕ
 pointerIn k m = stackPointer k (stateIn (m .words))
 
 -- NO. 13. In each convention, from each accepted start, after every list of exported calls; the premises are those of `Demand3`. No enter is accepted above a leaf, so only

@@ -3,18 +3,18 @@ ghost use mathlib.Core.Path.{_≡_};
 ghost use Prim.Native.Nat.{_+_, _-_, _^_, _≤_};
 ghost use lib.ListN.{length};
 ghost use Rattle.words.specs.Splice.{splice};
-ghost use Rattle.rules.specs.Helpers.{Lawful};
+ghost use Rattle.rules.specs.Helpers.{LawfulFrames};
 ghost use Rattle.dump.specs.Walk.{okAddress, walkFrom, maxFrames, walkInto, foundIn, counted, listed};
 use dump::Found;
 use dump::Refusal;
-use rules::Rules;
+use rules::FrameRules;
 
 // The most frames that a walk finds.
 const MAX_FRAMES: usize = 4096;
 
 // Is the address a that of a frame whose header lies in the n bytes from `base` on, and not below `least`?
-fn address_ok(k: Rules, base: u64, n: usize, least: u64, a: u64) -> bool
-    requires { ⌜ (Lawful k) × (base + n ≤ 2 ^ 64 - 1) ⌝ }
+fn address_ok(k: FrameRules, base: u64, n: usize, least: u64, a: u64) -> bool
+    requires { ⌜ (LawfulFrames k) × (base + n ≤ 2 ^ 64 - 1) ⌝ }
     ensures { λ r. ⌜ r ≡ okAddress k base n least a ⌝ }
 {
     if a % (k.alignment as u64) != 0 {
@@ -34,8 +34,8 @@ fn address_ok(k: Rules, base: u64, n: usize, least: u64, a: u64) -> bool
 }
 
 // How many frames a walk finds, or why it is refused.
-fn count(memory: &[u8], k: Rules, base: u64, pointer: u64) -> Found
-    requires { ⌜ (Lawful k) × (base + length (now memory) ≤ 2 ^ 64 - 1) ⌝ }
+fn count(memory: &[u8], k: FrameRules, base: u64, pointer: u64) -> Found
+    requires { ⌜ (LawfulFrames k) × (base + length (now memory) ≤ 2 ^ 64 - 1) ⌝ }
     ensures { λ r. ⌜ r ≡ counted 0 (walkFrom maxFrames k base (now (memory .entry)) 0 pointer) ⌝ }
 {
     let n = memory.len();
@@ -60,8 +60,8 @@ fn count(memory: &[u8], k: Rules, base: u64, pointer: u64) -> Found
 }
 
 // The addresses of the n frames that a walk finds, over the first numbers of `list`.
-fn put(memory: &[u8], k: Rules, base: u64, pointer: u64, list: &mut [u64], n: usize)
-    requires { ⌜ (Lawful k) × (base + length (now memory) ≤ 2 ^ 64 - 1) × (n ≤ length (now list)) ⌝ }
+fn put(memory: &[u8], k: FrameRules, base: u64, pointer: u64, list: &mut [u64], n: usize)
+    requires { ⌜ (LawfulFrames k) × (base + length (now memory) ≤ 2 ^ 64 - 1) × (n ≤ length (now list)) ⌝ }
     requires { ⌜ counted 0 (walkFrom maxFrames k base (now memory) 0 pointer) ≡ Found.Frames n ⌝ }
     ensures { λ _. ⌜ now (list .exit) ≡ splice (now (list .entry)) 0 (foundIn (walkFrom maxFrames k base (now (memory .entry)) 0 pointer)) ⌝ }
 {
@@ -75,8 +75,8 @@ fn put(memory: &[u8], k: Rules, base: u64, pointer: u64, list: &mut [u64], n: us
 }
 
 // The walk of a dump from a stack pointer, into the lent list; nothing is written where it is refused.
-pub fn walk(memory: &[u8], k: Rules, base: u64, pointer: u64, list: &mut [u64]) -> Found
-    requires { ⌜ Lawful k ⌝ }
+pub fn walk(memory: &[u8], k: FrameRules, base: u64, pointer: u64, list: &mut [u64]) -> Found
+    requires { ⌜ LawfulFrames k ⌝ }
     ensures { λ r. ⌜ r ≡ counted 0 (walkInto k base (now (memory .entry)) pointer (length (now (list .entry)))) ⌝ }
     ensures { λ _. ⌜ now (list .exit) ≡ listed (walkInto k base (now (memory .entry)) pointer (length (now (list .entry)))) (now (list .entry)) ⌝ }
 {

@@ -1,15 +1,15 @@
 // What an enter answers: the tests of the state, then its own, in their order.
 ghost use mathlib.Core.Path.{_≡_};
-ghost use Rattle.rules.specs.Helpers.{Lawful};
+ghost use Rattle.rules.specs.Helpers.{LawfulFrames};
 ghost use Rattle.machine.specs.Machine.{enterAnswer};
 use machine::Answer;
 use machine::Refusal;
 use machine::State;
 use rules::Frame;
-use rules::Rules;
+use rules::FrameRules;
 
-pub fn judge_enter(k: Rules, s: State, n: usize, f: Frame) -> Answer
-    requires { ⌜ Lawful k ⌝ }
+pub fn judge_enter(k: FrameRules, s: State, n: usize, f: Frame) -> Answer
+    requires { ⌜ LawfulFrames k ⌝ }
     ensures { λ r. ⌜ r ≡ enterAnswer k s n f ⌝ }
 {
     let a = state_checks::judge_state(k, s, n);

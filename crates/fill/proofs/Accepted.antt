@@ -34,7 +34,7 @@ use Rattle.places.specs.Step.{rulesOf, wordOf, spanOf, fresh, hiddenFor, return
 use Rattle.places.specs.ZSeries.{zClass, zSpanOf}
 use Rattle.plan.specs.declared.Plan.{Plan}
 use Rattle.plan.specs.declared.Measured.{Measured}
-use Rattle.plan.specs.Plan.{resultIn}
+use Rattle.plan.specs.Plan.{resultPlacesIn}
 use Rattle.slots.specs.declared.Answer.{Answer}
 use Rattle.slots.specs.declared.Refusal.{Refusal}
 use Rattle.slots.specs.Buffers.{Buffers, buffers, Slot, put, putAll}
@@ -48,10 +48,10 @@ use Rattle.arguments.proofs.Table.{arguments-read}
 use Rattle.slots.proofs.Buffers.{putAll-lengths, putAll-append}
 use Rattle.slots.proofs.Planned.{all-with}
 use Rattle.slots.proofs.Refusals.{first-done, differ-false}
-use Rattle.marshal.specs.Helpers.{Ready}
-use Rattle.fill.specs.declared.Lengths.{Lengths}
+use Rattle.marshal.specs.Helpers.{CanPut}
+use Rattle.fill.specs.declared.FillLengths.{FillLengths}
 use Rattle.fill.specs.Fill.{badCopies, highAddress, fillTests, fillAnswer, filledSlots, fillBuffers}
-use Rattle.fill.specs.Helpers.{HiddenFits, WordSize, AllReady}
+use Rattle.fill.specs.Helpers.{HiddenFits, WordSize, AllCanPut}
 
 -- ---- the tests
 copies-good : (e n base : ℕ) → base < 2 ^ 64 → badCopies e n base ≡ false → (e ≤ n) × (base + e < 2 ^ 64)
@@ -75,14 +75,14 @@ copies-good e n base low = none (eqb e 0) refl
     none false q f = long (ltb n e) refl f
 
 -- the buffers have what a plan p asks for
-pub record Lent (have : Lengths) (p : Plan) (base : ℕ) : Type 0 where
+pub record Lent (have : FillLengths) (p : Plan) (base : ℕ) : Type 0 where
   pub image : have .image ≡ 512
   pub values : have .values ≡ p .values
   pub area : p .area ≤ have .area
   pub copies : p .copies ≤ have .copies
   pub low : base + p .copies < 2 ^ 64
 
-pub tests-passed : (have : Lengths) (p : Plan) (base : ℕ) (high : Bool) → base < 2 ^ 64
+pub tests-passed : (have : FillLengths) (p : Plan) (base : ℕ) (high : Bool) → base < 2 ^ 64
     → firstOf (fillTests have (p .values) (p .area) (p .copies) base high) ≡ Answer.Done → Lent have p base
 unfolding fillTests
 tests-passed have p base high low e =
@@ -100,7 +100,7 @@ tests-passed have p base high low e =
     }
 
 -- nor is the hidden address too high
-pub tests-low : (have : Lengths) (values area copies base : ℕ) (high : Bool) → firstOf (fillTests have values area copies base high) ≡ Answer.Done → high ≡ false
+pub tests-low : (have : FillLengths) (values area copies base : ℕ) (high : Bool) → firstOf (fillTests have values area copies base high) ≡ Answer.Done → high ≡ false
 unfolding fillTests
 tests-low have values area copies base high e =
     let a = first-done _ _ e in
@@ -110,14 +110,14 @@ tests-low have values area copies base high e =
     first-done _ _ (d .1) .0
 
 -- the same of sizes m that were measured
-pub tests-lent : (s : List ℕ) (have : Lengths) (base : ℕ) (m : Measured) (high : Bool) → base < 2 ^ 64 → m ≡ sizesFor s
+pub tests-lent : (s : List ℕ) (have : FillLengths) (base : ℕ) (m : Measured) (high : Bool) → base < 2 ^ 64 → m ≡ sizesFor s
     → firstOf (fillTests have (m .values) (m .area) (m .copies) base high) ≡ Answer.Done → Lent have (planFor s) base
 tests-lent s have base m high low p e = tests-passed have (planFor s) base high low (rw p at e)
 
 -- ---- the arguments
 
 pub all-ready : (s : List ℕ) (g : SignatureRead) (base v i a k : ℕ) → g ≡ signatureAnswer (signatureOf s)
-    → v ≡ planFor s .values → i ≡ 512 → planFor s .area ≤ a → planFor s .copies ≤ k → base + planFor s .copies < 2 ^ 64 → AllReady g base v i a k
+    → v ≡ planFor s .values → i ≡ 512 → planFor s .area ≤ a → planFor s .copies ≤ k → base + planFor s .copies < 2 ^ 64 → AllCanPut g base v i a k
 unfolding argumentsOf
 all-ready s g base v i a k same values image area copies low =
     let h = carried s in
@@ -125,12 +125,12 @@ all-ready s g base v i a k same values image area copies low =
       plannable = rw same (answer-plannable s);
       each =
           rw (arguments-read s g same)
-          (all-with (Held (rulesIn g)) (Fits (planFor s .area) (planFor s .copies)) (Ready (rulesIn g) base i a k) ready (argumentsOf s)
+          (all-with (Held (rulesIn g)) (Fits (planFor s .area) (planFor s .copies)) (CanPut (rulesIn g) base i a k) ready (argumentsOf s)
           (subst (λ (x : SignatureRead). All (Held (rulesIn x)) (argumentsOf s)) (sym same) (h .held)) (h .fit));
       total = ap sizesOf (arguments-read s g same) ∙ h .total ∙ sym values;
     }
   where
-    ready : (q : Placement) → Held (rulesIn g) q → Fits (planFor s .area) (planFor s .copies) q → Ready (rulesIn g) base i a k q
+    ready : (q : Placement) → Held (rulesIn g) q → Fits (planFor s .area) (planFor s .copies) q → CanPut (rulesIn g) base i a k q
     ready q x y = record {
       held = x;
       fits = record { general = y .general; floating = y .floating; memory = omega (arith, y .memory); copies = omega (arith, y .copies) };
@@ -147,7 +147,7 @@ address-first Convention.Z = omega arith
 address-first Convention.Aix = omega arith
 address-first Convention.Ppc64b = omega arith
 
-result-fits : (c : Convention) (r : ResultType) → HiddenFits (resultIn c r) 512
+result-fits : (c : Convention) (r : ResultType) → HiddenFits (resultPlacesIn c r) 512
 unfolding resultOf
 result-fits c ResultType.Nothing = tt
 result-fits c (ResultType.Value t) = go (hiddenFor (rulesOf c) t)
@@ -160,18 +160,18 @@ result-fits c (ResultType.Value t) = go (hiddenFor (rulesOf c) t)
     go true = (address-first c, refl)
     go false = tt
 
-pub hidden-fits : (c : Convention) (t : ResultType) (q : ResultPlaces) (i : ℕ) → q ≡ resultIn c t → i ≡ 512 → HiddenFits q i
+pub hidden-fits : (c : Convention) (t : ResultType) (q : ResultPlaces) (i : ℕ) → q ≡ resultPlacesIn c t → i ≡ 512 → HiddenFits q i
 hidden-fits c t q i p e = rw (p, e) (result-fits c t)
 
 -- ---- the answer and the buffers
 
 module _ (s : List ℕ) where
-  pub answer-refused : (have : Lengths) (base hidden : ℕ) (m : Measured) (f : Fault) → m ≡ sizesFor s → m .outcome ≡ Outcome.Refused f
+  pub answer-refused : (have : FillLengths) (base hidden : ℕ) (m : Measured) (f : Fault) → m ≡ sizesFor s → m .outcome ≡ Outcome.Refused f
       → Answer.Unread f ≡ fillAnswer s have base hidden
   unfolding fillAnswer
   answer-refused have base hidden m f p e = rw (rw p at e)
 
-  pub answer-tested : (have : Lengths) (base hidden n w : ℕ) (m : Measured) (q : ResultPlaces) (high : Bool) (a : Answer)
+  pub answer-tested : (have : FillLengths) (base hidden n w : ℕ) (m : Measured) (q : ResultPlaces) (high : Bool) (a : Answer)
       → m ≡ sizesFor s → w ≡ wordOf (rulesFor s) → q ≡ planFor s .result → high ≡ highAddress w q hidden → m .outcome ≡ Outcome.Accepted n
       → a ≡ firstOf (fillTests have (m .values) (m .area) (m .copies) base high) → a ≡ fillAnswer s have base hidden
   unfolding fillAnswer

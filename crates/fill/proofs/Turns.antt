@@ -8,14 +8,14 @@ use native.Mathlib.Numerals.{add-one}
 use lib.ListN.{length, take, drop}
 use lib.Seq.{drop-drop}
 use Rattle.signature.specs.Answer.{argument}
-use Rattle.places.specs.declared.Rules.{Rules}
+use Rattle.places.specs.declared.CallRules.{CallRules}
 use Rattle.slots.specs.Buffers.{Buffers, Slot, putAll}
 use Rattle.slots.specs.Placements.{Placement, slotsOf, slotsOfAll}
 use Rattle.slots.specs.Helpers.{All, sizesOf}
 use Rattle.slots.proofs.Buffers.{SameLengths, same-then, putAll-lengths, putAll-append}
 
 -- ---- the loop
-module _ (r : Rules) (base : ℕ) (P : Placement → Type 0) (ps : List Placement) (values : List ℕ) (b₀ : Buffers) where
+module _ (r : CallRules) (base : ℕ) (P : Placement → Type 0) (ps : List Placement) (values : List ℕ) (b₀ : Buffers) where
   -- i arguments are put, their values have v bytes, and the buffers are b
   pub record Going (b : Buffers) (v i : ℕ) : Type 0 where
     pub same : SameLengths b₀ b
@@ -23,7 +23,7 @@ module _ (r : Rules) (base : ℕ) (P : Placement → Type 0) (ps : List Placemen
     pub left : v + sizesOf (drop i ps) ≡ length values
     pub rest : putAll (slotsOfAll r base (drop i ps) (drop v values)) b ≡ putAll (slotsOfAll r base ps values) b₀
 
-pub going-start : (r : Rules) (base : ℕ) (P : Placement → Type 0) (ps : List Placement) (values : List ℕ) (b : Buffers) → All P ps → sizesOf ps ≡ length values
+pub going-start : (r : CallRules) (base : ℕ) (P : Placement → Type 0) (ps : List Placement) (values : List ℕ) (b : Buffers) → All P ps → sizesOf ps ≡ length values
     → Going r base P ps values b b 0 0
 going-start r base P ps values b each total = record { same = record { image = refl; area = refl; copies = refl }; each = each; left = omega arith; rest = refl }
 
@@ -32,7 +32,7 @@ pub record AtHand (P : Placement → Type 0) (p : Placement) (v n : ℕ) : Type 
   pub ready : P p
   pub within : v + p .size ≤ n
 
-module _ (r : Rules) (base : ℕ) (P : Placement → Type 0) (ps : List Placement) (values : List ℕ) (b₀ b : Buffers) (v i : ℕ) (p : Placement)
+module _ (r : CallRules) (base : ℕ) (P : Placement → Type 0) (ps : List Placement) (values : List ℕ) (b₀ b : Buffers) (v i : ℕ) (p : Placement)
     (e : drop i ps ≡ p ∷ drop (suc i) ps) (g : Going r base P ps values b₀ b v i) where
   pub at-hand : AtHand P p v (length values)
   unfolding All sizesOf
@@ -56,7 +56,7 @@ module _ (r : Rules) (base : ℕ) (P : Placement → Type 0) (ps : List Placemen
         rest = rw (add-one, ← drop-drop (p .size) v values) (sym (putAll-append ss us b) ∙ rest);
       }
 
-pub going-end : (r : Rules) (base : ℕ) (P : Placement → Type 0) (ps : List Placement) (values : List ℕ) (b₀ b : Buffers) (v i : ℕ) → drop i ps ≡ []
+pub going-end : (r : CallRules) (base : ℕ) (P : Placement → Type 0) (ps : List Placement) (values : List ℕ) (b₀ b : Buffers) (v i : ℕ) → drop i ps ≡ []
     → Going r base P ps values b₀ b v i → b ≡ putAll (slotsOfAll r base ps values) b₀
 unfolding putAll slotsOfAll
 going-end r base P ps values b₀ b v i e g = rw e at (g .rest)

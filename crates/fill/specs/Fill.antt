@@ -16,10 +16,10 @@ use Rattle.slots.specs.Placements.{slotsOfAll, hiddenSlots}
 use Rattle.slots.specs.Refusals.{Test, test, differ, firstOf, afterReading, isDone}
 use Rattle.plan.specs.Call.{outcomeFor}
 use Rattle.slots.specs.Arguments.{argumentsOf, planFor, rulesFor}
-use Rattle.fill.specs.declared.Lengths.{Lengths}
+use Rattle.fill.specs.declared.FillLengths.{FillLengths}
 
-abbrev pub lengths : List ℕ → List ℕ → List ℕ → List ℕ → Lengths
-lengths values image area copies = record { values = length values; image = length image; area = length area; copies = length copies }
+abbrev pub fillLengths : List ℕ → List ℕ → List ℕ → List ℕ → FillLengths
+fillLengths values image area copies = record { values = length values; image = length image; area = length area; copies = length copies }
 
 -- ---- the answer
 
@@ -37,7 +37,7 @@ highAddress w (ResultPlaces.Hidden s) address = ltb (2 ^ (8 * w) - 1) address
 
 -- "After reading: .. 15, 10, 11, 12": of buffers of these lengths, where the plan asks for values, an area and copies of these sizes,
 -- and the hidden address is too high or not
-unfoldable pub fillTests : Lengths → ℕ → ℕ → ℕ → ℕ → Bool → List Test
+unfoldable pub fillTests : FillLengths → ℕ → ℕ → ℕ → ℕ → Bool → List Test
 fillTests have values area copies base high =
     test (differ (have .image) imageBytes) Refusal.ImageSize
     ∷ test (differ (have .values) values) Refusal.ValuesSize
@@ -47,7 +47,7 @@ fillTests have values area copies base high =
     ∷ []
 
 -- "1 first, then left to right .. After reading: ..": the answer for a signature's bytes s
-unfoldable pub fillAnswer : List ℕ → Lengths → ℕ → ℕ → Answer
+unfoldable pub fillAnswer : List ℕ → FillLengths → ℕ → ℕ → Answer
 fillAnswer s have base hidden =
     afterReading (outcomeFor s)
     (firstOf

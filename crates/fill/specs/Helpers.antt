@@ -9,7 +9,7 @@ use Rattle.places.specs.Spots.{imageBytes}
 use Rattle.slots.specs.Helpers.{All, sizesOf}
 use Rattle.slots.specs.Arguments.{rulesIn}
 use Rattle.arguments.specs.Table.{argumentsFrom}
-use Rattle.marshal.specs.Helpers.{Ready}
+use Rattle.marshal.specs.Helpers.{CanPut}
 
 -- a hidden address has a general register
 abbrev pub HiddenFits : ResultPlaces → ℕ → Type 0
@@ -22,7 +22,7 @@ abbrev pub WordSize : ℕ → Type 0
 WordSize w = (1 ≤ w) × (w ≤ 8)
 
 -- all arguments of a signature that was read, of values of v bytes
-pub record AllReady (g : SignatureRead) (base v i a c : ℕ) : Type 0 where
+pub record AllCanPut (g : SignatureRead) (base v i a c : ℕ) : Type 0 where
   pub plannable : Plannable g
-  pub each : All (Ready (rulesIn g) base i a c) (argumentsFrom g)
+  pub each : All (CanPut (rulesIn g) base i a c) (argumentsFrom g)
   pub total : sizesOf (argumentsFrom g) ≡ v

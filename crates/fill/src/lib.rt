@@ -13,11 +13,11 @@ ghost use Rattle.slots.specs.Placements.{slotsOfAll, hiddenSlots};
 ghost use Rattle.slots.specs.Refusals.{firstOf};
 ghost use Rattle.slots.specs.Arguments.{rulesIn};
 ghost use Rattle.arguments.specs.Table.{argumentsFrom};
-ghost use Rattle.fill.specs.Fill.{badCopies, highAddress, fillTests, fillAnswer, fillBuffers, lengths};
-ghost use Rattle.fill.specs.Helpers.{HiddenFits, WordSize, AllReady};
+ghost use Rattle.fill.specs.Fill.{badCopies, highAddress, fillTests, fillAnswer, fillBuffers, fillLengths};
+ghost use Rattle.fill.specs.Helpers.{HiddenFits, WordSize, AllCanPut};
 
 // The lengths of the lent buffers.
-pub struct Lengths {
+pub struct FillLengths {
     pub values: usize,
     pub image: usize,
     pub area: usize,
@@ -33,7 +33,7 @@ fn put_arguments(
     values: &[u8],
     base: u64,
 )
-    requires { ⌜ AllReady g base (length (now values)) (length (now image)) (length (now area)) (length (now copies)) ⌝ }
+    requires { ⌜ AllCanPut g base (length (now values)) (length (now image)) (length (now area)) (length (now copies)) ⌝ }
     ensures { λ _. ⌜ buffers (now (image .exit)) (now (area .exit)) (now (copies .exit)) ≡ putAll (slotsOfAll (rulesIn g) base (argumentsFrom g) (now (values .entry))) (buffers (now (image .entry)) (now (area .entry)) (now (copies .entry))) ⌝ }
 {
     let convention = g.convention;
@@ -102,7 +102,14 @@ fn high_address(word: usize, result: ResultPlaces, address: u64) -> bool
 }
 
 // Whether the buffers have the lengths that a plan asks for, and the hidden address is not too high.
-fn tested(have: Lengths, values: usize, area: usize, copies: usize, base: u64, high: bool) -> Answer
+fn tested(
+    have: FillLengths,
+    values: usize,
+    area: usize,
+    copies: usize,
+    base: u64,
+    high: bool,
+) -> Answer
     ensures { λ a. ⌜ a ≡ firstOf (fillTests have values area copies base high) ⌝ }
 {
     if have.image != IMAGE_BYTES {
@@ -134,7 +141,7 @@ pub fn fill(
     base: u64,
     hidden: u64,
 ) -> Answer
-    ensures { λ a. ⌜ a ≡ fillAnswer (now (sig .entry)) (lengths (now (values .entry)) (now (image .entry)) (now (area .entry)) (now (copies .entry))) base hidden ⌝ }
+    ensures { λ a. ⌜ a ≡ fillAnswer (now (sig .entry)) (fillLengths (now (values .entry)) (now (image .entry)) (now (area .entry)) (now (copies .entry))) base hidden ⌝ }
     ensures { λ a. ⌜ buffers (now (image .exit)) (now (area .exit)) (now (copies .exit)) ≡ fillBuffers (now (sig .entry)) (now (values .entry)) base hidden a (buffers (now (image .entry)) (now (area .entry)) (now (copies .entry))) ⌝ }
 {
     let g = whole_signature::read_signature(sig);
@@ -148,7 +155,7 @@ pub fn fill(
             let word = conventions::word_bytes(convention);
             let result = planning::result_in(convention, returned);
             let high = high_address(word, result, hidden);
-            let have = Lengths {
+            let have = FillLengths {
                 values: values.len(),
                 image: image.len(),
                 area: area.len(),

@@ -8,7 +8,7 @@ use Rattle.signature.specs.declared.Outcome.{Outcome}
 use Rattle.plan.specs.Call.{outcomeFor}
 use Rattle.slots.specs.Refusals.{afterReading, isDone}
 use Rattle.slots.specs.Buffers.{Buffers}
-use Rattle.fill.specs.declared.Lengths.{Lengths}
+use Rattle.fill.specs.declared.FillLengths.{FillLengths}
 use Rattle.fill.specs.Fill.{fillAnswer, fillBuffers}
 use Rattle.stored.specs.declared.CheckAnswer.{CheckAnswer}
 use Rattle.stored.specs.Stored.{storedOf, compared, checkBy, checkAnswer}

@@ -5,7 +5,7 @@ use Rattle.items.specs.Refusals as reading
 use Rattle.slots.specs.declared.Answer.{Answer}
 use Rattle.slots.specs.Refusals.{numberOf}
 use Rattle.slots.specs.Buffers.{Buffers}
-use Rattle.fill.specs.declared.Lengths.{Lengths}
+use Rattle.fill.specs.declared.FillLengths.{FillLengths}
 use Rattle.fill.specs.Fill.{fillAnswer, fillBuffers}
 use Rattle.stored.specs.declared.CheckAnswer.{CheckAnswer}
 use Rattle.stored.specs.Stored.{checkAnswer, checkNumber}
@@ -17,7 +17,7 @@ fillBy CheckAnswer.Same a = StoredFill.Plain a
 fillBy (CheckAnswer.Refused f) a = StoredFill.Plain (Answer.Unread f)
 fillBy (CheckAnswer.Differs place) a = StoredFill.Stale place
 
-unfoldable pub storedFillAnswer : List ℕ → List ℕ → Lengths → ℕ → ℕ → StoredFill
+unfoldable pub storedFillAnswer : List ℕ → List ℕ → FillLengths → ℕ → ℕ → StoredFill
 storedFillAnswer stored s have base hidden = fillBy (checkAnswer stored s) (fillAnswer s have base hidden)
 
 -- the buffers: as plain filling leaves them, or as they were
@@ -26,7 +26,7 @@ buffersBy CheckAnswer.Same filled b = filled
 buffersBy (CheckAnswer.Refused f) filled b = b
 buffersBy (CheckAnswer.Differs place) filled b = b
 
-unfoldable pub storedFillBuffers : List ℕ → List ℕ → List ℕ → Lengths → ℕ → ℕ → Buffers → Buffers
+unfoldable pub storedFillBuffers : List ℕ → List ℕ → List ℕ → FillLengths → ℕ → ℕ → Buffers → Buffers
 storedFillBuffers stored s values have base hidden b =
     buffersBy (checkAnswer stored s) (fillBuffers s values base hidden (fillAnswer s have base hidden) b) b
 

@@ -5,7 +5,7 @@ use mathlib.Core.Path.{_≡_}
 use mathlib.Core.List.{List}
 use Rattle.items.specs.declared.Fault.{Fault}
 use Rattle.slots.specs.Buffers.{Buffers}
-use Rattle.fill.specs.declared.Lengths.{Lengths}
+use Rattle.fill.specs.declared.FillLengths.{FillLengths}
 use Rattle.fill.specs.Fill.{fillAnswer, fillBuffers}
 use Rattle.stored.specs.declared.CheckAnswer.{CheckAnswer}
 use Rattle.stored.specs.Stored.{storedOf, checkAnswer}
@@ -14,21 +14,21 @@ use Rattle.fill_stored.specs.declared.StoredFill.{StoredFill}
 use Rattle.fill_stored.specs.FillStored.{storedFillAnswer, storedFillBuffers}
 
 -- the same answer and the same bytes as plain filling
-abbrev pub AsPlain : List ℕ → List ℕ → List ℕ → Lengths → ℕ → ℕ → Buffers → Type 0
+abbrev pub AsPlain : List ℕ → List ℕ → List ℕ → FillLengths → ℕ → ℕ → Buffers → Type 0
 AsPlain stored s values have base hidden b =
     (storedFillAnswer stored s have base hidden ≡ StoredFill.Plain (fillAnswer s have base hidden))
     × (storedFillBuffers stored s values have base hidden b ≡ fillBuffers s values base hidden (fillAnswer s have base hidden) b)
 
 -- what the writer gave for this signature, whatever the buffers
 abbrev pub FillsAsPlain : Type 0
-FillsAsPlain = (s values : List ℕ) (have : Lengths) (base hidden : ℕ) (b : Buffers) → Accepts s → AsPlain (storedOf s) s values have base hidden b
+FillsAsPlain = (s values : List ℕ) (have : FillLengths) (base hidden : ℕ) (b : Buffers) → Accepts s → AsPlain (storedOf s) s values have base hidden b
 
 -- a signature that is refused: whatever is stored
 abbrev pub RefusesAsPlain : Type 0
-RefusesAsPlain = (stored s values : List ℕ) (have : Lengths) (base hidden : ℕ) (b : Buffers) (f : Fault) → checkAnswer stored s ≡ CheckAnswer.Refused f
+RefusesAsPlain = (stored s values : List ℕ) (have : FillLengths) (base hidden : ℕ) (b : Buffers) (f : Fault) → checkAnswer stored s ≡ CheckAnswer.Refused f
     → AsPlain stored s values have base hidden b
 
 -- stale bytes: 27 before all that filling tests, and no byte changes
 abbrev pub StaleFillsNothing : Type 0
-StaleFillsNothing = (stored s values : List ℕ) (have : Lengths) (base hidden : ℕ) (b : Buffers) (place : ℕ) → checkAnswer stored s ≡ CheckAnswer.Differs place
+StaleFillsNothing = (stored s values : List ℕ) (have : FillLengths) (base hidden : ℕ) (b : Buffers) (place : ℕ) → checkAnswer stored s ≡ CheckAnswer.Differs place
     → (storedFillAnswer stored s have base hidden ≡ StoredFill.Stale place) × (storedFillBuffers stored s values have base hidden b ≡ b)

@@ -3,7 +3,7 @@ use slots::Answer;
 use stored::CheckAnswer;
 ghost use mathlib.Core.Path.{_≡_};
 ghost use Rattle.slots.specs.Buffers.{buffers};
-ghost use Rattle.fill.specs.Fill.{lengths};
+ghost use Rattle.fill.specs.Fill.{fillLengths};
 ghost use Rattle.fill_stored.specs.FillStored.{storedFillAnswer, storedFillBuffers};
 
 // As plain filling answers; or stored bytes that are stale, with the place of the first difference.
@@ -22,8 +22,8 @@ pub fn fill_stored(
     base: u64,
     hidden: u64,
 ) -> StoredFill
-    ensures { λ a. ⌜ a ≡ storedFillAnswer (now (stored .entry)) (now (sig .entry)) (lengths (now (values .entry)) (now (image .entry)) (now (area .entry)) (now (copies .entry))) base hidden ⌝ }
-    ensures { λ a. ⌜ buffers (now (image .exit)) (now (area .exit)) (now (copies .exit)) ≡ storedFillBuffers (now (stored .entry)) (now (sig .entry)) (now (values .entry)) (lengths (now (values .entry)) (now (image .entry)) (now (area .entry)) (now (copies .entry))) base hidden (buffers (now (image .entry)) (now (area .entry)) (now (copies .entry))) ⌝ }
+    ensures { λ a. ⌜ a ≡ storedFillAnswer (now (stored .entry)) (now (sig .entry)) (fillLengths (now (values .entry)) (now (image .entry)) (now (area .entry)) (now (copies .entry))) base hidden ⌝ }
+    ensures { λ a. ⌜ buffers (now (image .exit)) (now (area .exit)) (now (copies .exit)) ≡ storedFillBuffers (now (stored .entry)) (now (sig .entry)) (now (values .entry)) (fillLengths (now (values .entry)) (now (image .entry)) (now (area .entry)) (now (copies .entry))) base hidden (buffers (now (image .entry)) (now (area .entry)) (now (copies .entry))) ⌝ }
 {
     match stored::check_plan(stored, sig) {
         CheckAnswer::Differs(place) => StoredFill::Stale(place),

@@ -1,16 +1,16 @@
 // What an accepted enter and an accepted leave do to the state and to the memory.
 ghost use mathlib.Core.Path.{_≡_};
 ghost use lib.ListN.{length};
-ghost use Rattle.rules.specs.Helpers.{Lawful};
+ghost use Rattle.rules.specs.Helpers.{LawfulFrames};
 ghost use Rattle.machine.specs.Machine.{entered, enteredMemory, left};
 ghost use Rattle.machine.specs.Helpers.{Sound, CanEnter, CanLeave};
 use machine::State;
 use rules::Frame;
-use rules::Rules;
+use rules::FrameRules;
 
 // The state with the frame entered.
-pub fn push(k: Rules, s: State, f: Frame) -> State
-    requires { ⌜ (Lawful k) × (CanEnter k s f) ⌝ }
+pub fn push(k: FrameRules, s: State, f: Frame) -> State
+    requires { ⌜ (LawfulFrames k) × (CanEnter k s f) ⌝ }
     ensures { λ r. ⌜ r ≡ entered k s f ⌝ }
 {
     let p = state_checks::stack_pointer(k, s);
@@ -26,8 +26,8 @@ pub fn push(k: Rules, s: State, f: Frame) -> State
 }
 
 // The back chain at the new stack pointer, which a leaf has not, and the saves.
-pub fn save_frame(memory: &mut [u8], k: Rules, s: State, f: Frame)
-    requires { ⌜ (Lawful k) × (Sound k s (length (now memory))) × (CanEnter k s f) ⌝ }
+pub fn save_frame(memory: &mut [u8], k: FrameRules, s: State, f: Frame)
+    requires { ⌜ (LawfulFrames k) × (Sound k s (length (now memory))) × (CanEnter k s f) ⌝ }
     ensures { λ _. ⌜ now (memory .exit) ≡ enteredMemory k s (now (memory .entry)) f ⌝ }
 {
     let p = state_checks::stack_pointer(k, s);
@@ -40,8 +40,8 @@ pub fn save_frame(memory: &mut [u8], k: Rules, s: State, f: Frame)
 }
 
 // The state with the frame left.
-pub fn pop(k: Rules, s: State, memory: &[u8]) -> State
-    requires { ⌜ (Lawful k) × (CanLeave k s (length (now memory))) ⌝ }
+pub fn pop(k: FrameRules, s: State, memory: &[u8]) -> State
+    requires { ⌜ (LawfulFrames k) × (CanLeave k s (length (now memory))) ⌝ }
     ensures { λ r. ⌜ r ≡ left k s (now (memory .entry)) ⌝ }
 {
     let f = state_checks::top_frame(k, s);

@@ -10,13 +10,13 @@ use lib.Seq.{getD-set-same, getD-set-other}
 use Rattle.saves.specs.Saves.{store, saveAll}
 use Rattle.saves.proofs.Words.{load-agree, load-store, store-length, store-above}
 use Rattle.saves.proofs.Saving.{FitAll, all-length, all-outside, all-held, outside-below}
-use Rattle.rules.specs.declared.Rules.{Rules}
+use Rattle.rules.specs.declared.FrameRules.{FrameRules}
 use Rattle.rules.specs.declared.Frame.{Frame}
 use Rattle.rules.specs.declared.Registers.{Registers}
 use Rattle.rules.specs.declared.Linkage.{Linkage}
 use Rattle.rules.specs.declared.Linkage.the-variants.{LinkRegister, SaveArea}
 use Rattle.rules.specs.Frames.{noFrame, withPointer, below, frameSize, chainWidth, savesBy, saves}
-use Rattle.rules.specs.Helpers.{Lawful}
+use Rattle.rules.specs.Helpers.{LawfulFrames}
 use Rattle.rules.proofs.Facts.{fit-set}
 use Rattle.rules.proofs.Conventions.{pointer-unpreserved}
 use Rattle.rules.proofs.Places.{solid-chain, below-reach, chain-in, ascending}
@@ -34,12 +34,12 @@ fit-one x m h zero = h
 fit-one x m h (suc i) = omega arith
 
 -- what is saved fits its words
-fit-saves : (p : Linkage) (k : Rules) (f : Frame) (s : ℕ) (r : Registers) → Fit k r → FitAll (savesBy p k f s r)
+fit-saves : (p : Linkage) (k : FrameRules) (f : Frame) (s : ℕ) (r : Registers) → Fit k r → FitAll (savesBy p k f s r)
 unfolding savesBy
 fit-saves (LinkRegister c l) k f s r w = (w .gpr, (w .fpr, (fit-one (r .cr) (2 ^ 32) (w .cr), (fit-one (r .lr) (2 ^ (8 * k .word)) (w .lr), tt))))
 fit-saves (SaveArea n) k f s r w = (w .fpr, (w .gpr, tt))
 
-module _ (k : Rules) (law : Lawful k) (m : Machine) (f : Frame) (b : Base k m) (y : CanEnter k (m .state) f) where
+module _ (k : FrameRules) (law : LawfulFrames k) (m : Machine) (f : Frame) (b : Base k m) (y : CanEnter k (m .state) f) where
   abbrev s : State
   s = m .state
 
@@ -136,7 +136,7 @@ module _ (k : Rules) (law : Lawful k) (m : Machine) (f : Frame) (b : Base k m) (
         bytes = λ c p q r. all-outside vs l₁ c q ∙ store-above l (offset k s - frameSize k f) (chainWidth k f) (stackPointer k s) c (omega (arith, under));
       }
 
-pub enter-keeps : (k : Rules) → Lawful k → (os : List OpenEnter) (m : Machine) (f : Frame) → Invariant k os m → enterAnswer k (m .state) (length (m .memory)) f ≡ Accepted
+pub enter-keeps : (k : FrameRules) → LawfulFrames k → (os : List OpenEnter) (m : Machine) (f : Frame) → Invariant k os m → enterAnswer k (m .state) (length (m .memory)) f ≡ Accepted
     → Invariant k (record { before = m; request = f } ∷ os) (record { state = entered k (m .state) f; memory = enteredMemory k (m .state) (m .memory) f })
 enter-keeps k law os m f i e =
     let b = base-of k os m i in

@@ -15,11 +15,11 @@ use Rattle.saves.specs.Saves.{store}
 use Rattle.saves.proofs.Words.{store-below}
 use Rattle.saves.proofs.Saving.{all-outside, outside-below}
 use Rattle.saves.proofs.Taking.{le-or-lt}
-use Rattle.rules.specs.declared.Rules.{Rules}
+use Rattle.rules.specs.declared.FrameRules.{FrameRules}
 use Rattle.rules.specs.declared.Frame.{Frame}
 use Rattle.rules.specs.Rules.{rules}
 use Rattle.rules.specs.Frames.{withPointer, below, frameSize, chainWidth, saves}
-use Rattle.rules.specs.Helpers.{Lawful}
+use Rattle.rules.specs.Helpers.{LawfulFrames}
 use Rattle.rules.proofs.Facts.{either, and-yes}
 use Rattle.rules.proofs.Conventions.{lawful}
 use Rattle.rules.proofs.Places.{leaf-size, size-parts, below-reach, ascending}
@@ -37,14 +37,14 @@ use Rattle.history.proofs.Invariant.{Base, Invariant, base-of}
 use Rattle.history.proofs.Entering.{new-pointer}
 use Rattle.history.proofs.Theorem.{step, start-invariant}
 
-floor-inside : (k : Rules) (m : Machine) → Base k m → FloorInside k m
+floor-inside : (k : FrameRules) (m : Machine) → Base k m → FloorInside k m
 floor-inside k m b = record { first = b .sound .over; last = omega (arith, b .sound .sum, b .sound .length) }
 
 -- 19 cannot occur for a leaf: it needs the floor, which is there in every state that can be
-pub leaf-room : (k : Rules) (m : Machine) → Base k m → (f : Frame) → f .leaf ≡ true → m .state .base + frameSize k f + k .floor ≤ stackPointer k (m .state)
+pub leaf-room : (k : FrameRules) (m : Machine) → Base k m → (f : Frame) → f .leaf ≡ true → m .state .base + frameSize k f + k .floor ≤ stackPointer k (m .state)
 leaf-room k m b f e = omega (arith, leaf-size k f e, b .sound .over)
 
-enter-untouched : (k : Rules) → Lawful k → (m : Machine) (f : Frame) → Base k m → CanEnter k (m .state) f
+enter-untouched : (k : FrameRules) → LawfulFrames k → (m : Machine) (f : Frame) → Base k m → CanEnter k (m .state) f
     → Untouched k (enter f) m (record { state = entered k (m .state) f; memory = enteredMemory k (m .state) (m .memory) f })
 unfolding entered enteredMemory withPointer
 enter-untouched k law m f b y c p =
@@ -61,10 +61,10 @@ enter-untouched k law m f b y c p =
     (le-or-lt (suc c) (s - u))
 
 -- a leaf writes from the floor's first byte on
-leaf-outgoing : (k : Rules) (f : Frame) (o : ℕ) → f .leaf ≡ true → outgoingFrom k f o ≡ o - k .floor
+leaf-outgoing : (k : FrameRules) (f : Frame) (o : ℕ) → f .leaf ≡ true → outgoingFrom k f o ≡ o - k .floor
 leaf-outgoing k f o e = rw e
 
-write-untouched : (k : Rules) (m : Machine) (a : ℕ) (bs : List ℕ) → writeMemoryAnswer k (m .state) (length (m .memory)) a (length bs) ≡ Accepted
+write-untouched : (k : FrameRules) (m : Machine) (a : ℕ) (bs : List ℕ) → writeMemoryAnswer k (m .state) (length (m .memory)) a (length bs) ≡ Accepted
     → Untouched k (writeMemory a bs) m (record { state = m .state; memory = writtenMemory (m .state) (m .memory) a bs })
 unfolding writeMemoryAnswer writtenMemory writableAddress
 write-untouched k m a bs e c p =
@@ -85,7 +85,7 @@ write-untouched k m a bs e c p =
     (le-or-lt (a - s .base + length bs) c))
     (le-or-lt (suc c) (a - s .base))
 
-module _ (k : Rules) (law : Lawful k) where
+module _ (k : FrameRules) (law : LawfulFrames k) where
   untouched : (c : Call) (os : List OpenEnter) (m : Machine) → Invariant k os m → (a : Answer) → answer c m ≡ a → Untouched k c m (after c m)
   unfolding enterOutcome enterMemory writeRegisterOutcome writeMemoryOutcome writeMemoryMemory leaveOutcome
   untouched (enter f) os m i Accepted e =

@@ -11,11 +11,11 @@ use borrow.Author.Tests.{le-leb}
 use Rattle.saves.specs.Saves.{load, Outside}
 use Rattle.saves.proofs.Words.{load-agree}
 use Rattle.saves.proofs.Saving.{HeldAll, all-agree}
-use Rattle.rules.specs.declared.Rules.{Rules}
+use Rattle.rules.specs.declared.FrameRules.{FrameRules}
 use Rattle.rules.specs.declared.Registers.{Registers}
 use Rattle.rules.specs.Rules.{within}
 use Rattle.rules.specs.Frames.{firstGpr, firstFpr, savesCr, okRegisters, okRequest, outgoingLength, below, frameSize, chainWidth, saves, preservedCondition}
-use Rattle.rules.specs.Helpers.{Lawful}
+use Rattle.rules.specs.Helpers.{LawfulFrames}
 use Rattle.rules.proofs.Halves.{each-within}
 use Rattle.rules.proofs.Places.{solid-chain, below-reach, ascending}
 use Rattle.machine.specs.Machine.{rulesOf, stackPointer, offset, frameAt, topFrame}
@@ -24,7 +24,7 @@ use Rattle.history.specs.Calls.{Machine}
 use Rattle.history.specs.Preserved.{OpenEnter, callerOf}
 
 -- the registers are as many as they must be, and fit their words
-pub record Fit (k : Rules) (r : Registers) : Type 0 where
+pub record Fit (k : FrameRules) (r : Registers) : Type 0 where
   pub gprs : length (r .gpr) ≡ 32
   pub fprs : length (r .fpr) ≡ 32
   pub gpr : (i : ℕ) → getD (r .gpr) i 0 < 2 ^ (8 * k .word)
@@ -33,19 +33,19 @@ pub record Fit (k : Rules) (r : Registers) : Type 0 where
   pub cr : r .cr < 2 ^ 32
 
 -- registers that fit their words pass 23
-pub fit-small : (k : Rules) → Lawful k → (r : Registers) → Fit k r → okRegisters k r ≡ true
+pub fit-small : (k : FrameRules) → LawfulFrames k → (r : Registers) → Fit k r → okRegisters k r ≡ true
 unfolding okRegisters
 fit-small k law r w =
     rw (each-within (k .limit) (r .gpr) 32 (λ i. omega (arith, w .gpr i, law .limit)), le-leb (r .lr) (k .limit) (omega (arith, w .lr, law .limit)))
 
-pub record Base (k : Rules) (m : Machine) : Type 0 where
+pub record Base (k : FrameRules) (m : Machine) : Type 0 where
   pub fit : Fit k (m .state .registers)
   pub frames : length (m .state .frames) ≡ 32
   pub rules : rulesOf (m .state) ≡ k
   pub sound : Sound k (m .state) (length (m .memory))
 
 -- the latest open enter o, with the enters os open below it
-pub record Top (k : Rules) (o : OpenEnter) (os : List OpenEnter) (m : Machine) : Type 0 where
+pub record Top (k : FrameRules) (o : OpenEnter) (os : List OpenEnter) (m : Machine) : Type 0 where
   pub request : okRequest k (o .request) ≡ true
   pub deep : m .state .depth ≡ suc (o .before .state .depth)
   pub recorded : frameAt (m .state .frames) (o .before .state .depth) ≡ o .request
@@ -67,34 +67,34 @@ pub record Top (k : Rules) (o : OpenEnter) (os : List OpenEnter) (m : Machine) :
       → getD (m .memory) b 0 ≡ getD (o .before .memory) b 0
 
 -- with nothing open, the start's zero word ends the back chain
-abbrev pub Invariant : Rules → List OpenEnter → Machine → Type 0
+abbrev pub Invariant : FrameRules → List OpenEnter → Machine → Type 0
 Invariant k [] m = Base k m × (m .state .depth ≡ 0) × (load (m .memory) (offset k (m .state)) (k .word) ≡ 0)
 Invariant k (o ∷ os) m = Base k m × Top k o os m × Invariant k os (o .before)
 
-pub base-of : (k : Rules) (os : List OpenEnter) (m : Machine) → Invariant k os m → Base k m
+pub base-of : (k : FrameRules) (os : List OpenEnter) (m : Machine) → Invariant k os m → Base k m
 base-of k [] m i = i .0
 base-of k (o ∷ os) m i = i .0
 
 -- the records say what the open enters asked for
-pub top-is : (k : Rules) (os : List OpenEnter) (m : Machine) → Invariant k os m → topFrame k (m .state .frames) (m .state .depth) ≡ callerOf k os
+pub top-is : (k : FrameRules) (os : List OpenEnter) (m : Machine) → Invariant k os m → topFrame k (m .state .frames) (m .state .depth) ≡ callerOf k os
 unfolding topFrame
 top-is k [] m i = rw (i .1)
 top-is k (o ∷ os) m i = rw (i .1 .deep) (i .1 .recorded)
 
 -- the bytes that the latest open frame rests on are the same in l and l′: its back chain, its saves with the caller's header, and all past the caller's outgoing area
-abbrev pub Rests : Rules → OpenEnter → List OpenEnter → List ℕ → List ℕ → Type 0
+abbrev pub Rests : FrameRules → OpenEnter → List OpenEnter → List ℕ → List ℕ → Type 0
 Rests k o os l l′ =
     ((b : ℕ) → offset k (o .before .state) - frameSize k (o .request) ≤ b → b < offset k (o .before .state) - frameSize k (o .request) + chainWidth k (o .request) → getD l′ b 0 ≡ getD l b 0)
     × ((b : ℕ) → offset k (o .before .state) - below (k .linkage) k (o .request) ≤ b → b < offset k (o .before .state) + k .header → getD l′ b 0 ≡ getD l b 0)
     × ((b : ℕ) → offset k (o .before .state) + k .header + outgoingLength k (callerOf k os) ≤ b → getD l′ b 0 ≡ getD l b 0)
 
 -- and those that the start rests on, with its pointer at s
-abbrev pub RestsAll : Rules → List OpenEnter → ℕ → List ℕ → List ℕ → Type 0
+abbrev pub RestsAll : FrameRules → List OpenEnter → ℕ → List ℕ → List ℕ → Type 0
 RestsAll k [] s l l′ = (b : ℕ) → s ≤ b → b < s + k .word → getD l′ b 0 ≡ getD l b 0
 RestsAll k (o ∷ os) s l l′ = Rests k o os l l′
 
 -- m′ is as good as m for the open enters os
-pub record Keeps (k : Rules) (os : List OpenEnter) (m m′ : Machine) : Type 0 where
+pub record Keeps (k : FrameRules) (os : List OpenEnter) (m m′ : Machine) : Type 0 where
   pub depth : m′ .state .depth ≡ m .state .depth
   pub frames : (d : ℕ) → d < m .state .depth → frameAt (m′ .state .frames) d ≡ frameAt (m .state .frames) d
   pub base : m′ .state .base ≡ m .state .base
@@ -107,14 +107,14 @@ pub record Keeps (k : Rules) (os : List OpenEnter) (m m′ : Machine) : Type 0 w
   pub rests : RestsAll k os (offset k (m .state)) (m .memory) (m′ .memory)
 
 -- the caller's pointer has room for the frame below it
-pub room-below : (k : Rules) (o : OpenEnter) (os : List OpenEnter) (m : Machine) → Base k m → Top k o os m → frameSize k (o .request) ≤ offset k (o .before .state)
+pub room-below : (k : FrameRules) (o : OpenEnter) (os : List OpenEnter) (m : Machine) → Base k m → Top k o os m → frameSize k (o .request) ≤ offset k (o .before .state)
 room-below k o os m b t = omega (arith, b .sound .over, t .base, t .pointer)
 
 -- and for what it saves
-pub saves-below : (k : Rules) → Lawful k → (o : OpenEnter) (os : List OpenEnter) (m : Machine) → Base k m → Top k o os m → below (k .linkage) k (o .request) ≤ offset k (o .before .state)
+pub saves-below : (k : FrameRules) → LawfulFrames k → (o : OpenEnter) (os : List OpenEnter) (m : Machine) → Base k m → Top k o os m → below (k .linkage) k (o .request) ≤ offset k (o .before .state)
 saves-below k law o os m b t = omega (arith, b .sound .over, t .base, t .pointer, below-reach k law (o .request) (t .request))
 
-pub invariant-keeps : (k : Rules) → Lawful k → (os : List OpenEnter) (m m′ : Machine) → Invariant k os m → Base k m′ → Keeps k os m m′ → Invariant k os m′
+pub invariant-keeps : (k : FrameRules) → LawfulFrames k → (os : List OpenEnter) (m m′ : Machine) → Invariant k os m → Base k m′ → Keeps k os m m′ → Invariant k os m′
 invariant-keeps k law [] m m′ i b e =
     let at : offset k (m′ .state) ≡ offset k (m .state) = omega (arith, e .pointer, e .base) in
     let size : length (m′ .memory) ≡ length (m .memory) = b .sound .length ∙ e .size ∙ sym (i .0 .sound .length) in

@@ -12,11 +12,11 @@ use borrow.Author.Tests.{eq-eqb, lt-ltb}
 use Rattle.saves.specs.Saves.{Save, load, taken}
 use Rattle.saves.proofs.Saving.{Held, outside-above}
 use Rattle.saves.proofs.Taking.{le-or-lt, taken-length, taken-under, taken-in, taken-fit}
-use Rattle.rules.specs.declared.Rules.{Rules}
+use Rattle.rules.specs.declared.FrameRules.{FrameRules}
 use Rattle.rules.specs.declared.Registers.{Registers}
 use Rattle.rules.specs.Rules.{within}
 use Rattle.rules.specs.Frames.{firstGpr, firstFpr, noFrame, below, frameSize, saves, gprSave, fprSave, linkAt, restored, returnAddress, preservedCondition}
-use Rattle.rules.specs.Helpers.{Lawful}
+use Rattle.rules.specs.Helpers.{LawfulFrames}
 use Rattle.rules.proofs.Facts.{either, fit-set}
 use Rattle.rules.proofs.Conventions.{pointer-unpreserved, before-lt}
 use Rattle.rules.proofs.Places.{ranges, solid-chain, gpr-end, fpr-end, room-for, ascending, chain-outside}
@@ -33,12 +33,12 @@ use Rattle.history.specs.Preserved.{OpenEnter, Preserved}
 use Rattle.history.proofs.Invariant.{Fit, fit-small, Base, Invariant, base-of, top-is, RestsAll, Keeps, room-below, saves-below, invariant-keeps}
 
 -- with nothing open, refusal 22
-pub leave-refused : (k : Rules) (m : Machine) → Invariant k [] m → leaveAnswer k (m .state) (m .memory) ≡ Refused NothingEntered
+pub leave-refused : (k : FrameRules) (m : Machine) → Invariant k [] m → leaveAnswer k (m .state) (m .memory) ≡ Refused NothingEntered
 unfolding leaveAnswer judge
 leave-refused k m i = judge-next (stateTests k (m .state) (length (m .memory))) (leaveTests k (m .state) (m .memory)) (state-accepted k (m .state) (length (m .memory)) (i .0 .sound)) ∙ rw (i .1)
 
 -- what the frame below rests on is as it was before the matching enter
-rests-down : (k : Rules) → Lawful k → (os : List OpenEnter) (o : OpenEnter) (m : Machine) → Invariant k (o ∷ os) m → RestsAll k os (offset k (o .before .state)) (o .before .memory) (m .memory)
+rests-down : (k : FrameRules) → LawfulFrames k → (os : List OpenEnter) (o : OpenEnter) (m : Machine) → Invariant k (o ∷ os) m → RestsAll k os (offset k (o .before .state)) (o .before .memory) (m .memory)
 rests-down k law [] o m i =
     let t = i .1 in
     let s = offset k (o .before .state) in
@@ -62,7 +62,7 @@ rests-down k law (p ∷ ps) o m i =
       λ b x. t .bytes b (omega arith) (outside-above vs lo (s + k .header) b asc (omega arith)) (inr (omega arith)),
     )
 
-module _ (k : Rules) (law : Lawful k) (o : OpenEnter) (os : List OpenEnter) (m : Machine) (i : Invariant k (o ∷ os) m) where
+module _ (k : FrameRules) (law : LawfulFrames k) (o : OpenEnter) (os : List OpenEnter) (m : Machine) (i : Invariant k (o ∷ os) m) where
   abbrev s : State
   s = m .state
 
@@ -234,9 +234,9 @@ module _ (k : Rules) (law : Lawful k) (o : OpenEnter) (os : List OpenEnter) (m :
   invariant-left : Invariant k os m′
   invariant-left = invariant-keeps k law os (o .before) m′ (i .2) base-left keeps-left
 
-pub leave-accepted : (k : Rules) → Lawful k → (o : OpenEnter) (os : List OpenEnter) (m : Machine) → Invariant k (o ∷ os) m → leaveAnswer k (m .state) (m .memory) ≡ Accepted
+pub leave-accepted : (k : FrameRules) → LawfulFrames k → (o : OpenEnter) (os : List OpenEnter) (m : Machine) → Invariant k (o ∷ os) m → leaveAnswer k (m .state) (m .memory) ≡ Accepted
 leave-accepted k law o os m i = accepted k law o os m i
 
-pub leave-keeps : (k : Rules) → Lawful k → (o : OpenEnter) (os : List OpenEnter) (m : Machine) → Invariant k (o ∷ os) m
+pub leave-keeps : (k : FrameRules) → LawfulFrames k → (o : OpenEnter) (os : List OpenEnter) (m : Machine) → Invariant k (o ∷ os) m
     → Preserved k o os (record { state = left k (m .state) (m .memory); memory = m .memory }) × Invariant k os (record { state = left k (m .state) (m .memory); memory = m .memory })
 leave-keeps k law o os m i = (preserved k law o os m i, invariant-left k law o os m i)

@@ -10,11 +10,11 @@ use lib.Seq.{getD-set-same}
 use Rattle.saves.specs.Saves.{load}
 use Rattle.saves.proofs.Words.{store-length, load-store}
 use Rattle.conventions.specs.declared.Convention.{Convention}
-use Rattle.rules.specs.declared.Rules.{Rules}
+use Rattle.rules.specs.declared.FrameRules.{FrameRules}
 use Rattle.rules.specs.declared.Registers.{Registers}
 use Rattle.rules.specs.Rules.{rules}
 use Rattle.rules.specs.Frames.{withPointer, lowered, cleared}
-use Rattle.rules.specs.Helpers.{Lawful}
+use Rattle.rules.specs.Helpers.{LawfulFrames}
 use Rattle.rules.proofs.Facts.{fit-set}
 use Rattle.rules.proofs.Halves.{lowered-length, lowered-fit}
 use Rattle.rules.proofs.Conventions.{lawful}
@@ -32,7 +32,7 @@ use Rattle.history.proofs.Leaving.{leave-refused, leave-accepted, leave
 
 -- ---- one call
 
-module _ (k : Rules) (law : Lawful k) where
+module _ (k : FrameRules) (law : LawfulFrames k) where
   pub step : (c : Call) → CallFits c → (os : List OpenEnter) (m : Machine) → Invariant k os m → (a : Answer) → answer c m ≡ a
       → CallHolds k c a os (after c m) × Invariant k (openAfter c a m os) (after c m)
   unfolding enterOutcome enterMemory writeRegisterOutcome writeMemoryOutcome writeMemoryMemory leaveOutcome
@@ -67,13 +67,13 @@ past (x ∷ xs) zero h = absurd (omega arith)
 past (x ∷ xs) (suc i) h = past xs i (omega arith)
 
 module _ (c : Convention) (b : ℕ) (l : List ℕ) (r : Registers) (fit : RegistersFit r) (e : startAnswer c b (length l) ≡ Accepted) where
-  abbrev k : Rules
+  abbrev k : FrameRules
   k = rules c
 
   abbrev n : ℕ
   n = length l
 
-  law : Lawful k
+  law : LawfulFrames k
   law = lawful c
 
   okay : okMemory k b n ≡ true

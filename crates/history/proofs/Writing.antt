@@ -11,12 +11,12 @@ use lib.Dec.{leb}
 use borrow.Author.Tests.{leb-true}
 use Rattle.words.specs.Splice.{splice}
 use Rattle.words.proofs.Splices.{length-splice, splice-at-other}
-use Rattle.rules.specs.declared.Rules.{Rules}
+use Rattle.rules.specs.declared.FrameRules.{FrameRules}
 use Rattle.rules.specs.declared.Registers.{Registers}
 use Rattle.rules.specs.declared.RegisterBank.{RegisterBank}
 use Rattle.rules.specs.declared.RegisterBank.the-variants.{General, Floating, Link, ConditionField, None}
 use Rattle.rules.specs.Frames.{firstGpr, firstFpr, startFrame, hasCondition, outgoingLength, below, frameSize, chainWidth, bankOf, writable, writableField, writableRegister, withRegister}
-use Rattle.rules.specs.Helpers.{Lawful}
+use Rattle.rules.specs.Helpers.{LawfulFrames}
 use Rattle.rules.proofs.Facts.{either, and-yes, not-yes, fit-set}
 use Rattle.rules.proofs.Conventions.{writable-apart, pointer-unwritable}
 use Rattle.rules.proofs.Places.{ranges, leaf-chain, solid-chain}
@@ -30,7 +30,7 @@ use Rattle.history.specs.Calls.{Machine}
 use Rattle.history.specs.Preserved.{OpenEnter, callerOf}
 use Rattle.history.proofs.Invariant.{Fit, fit-small, Base, Invariant, base-of, top-is, RestsAll, Keeps, room-below, invariant-keeps}
 
-pub caller-is : (k : Rules) (o : OpenEnter) (os : List OpenEnter) (m : Machine) → Invariant k (o ∷ os) m → callerFrame k (m .state .frames) (m .state .depth) ≡ callerOf k os
+pub caller-is : (k : FrameRules) (o : OpenEnter) (os : List OpenEnter) (m : Machine) → Invariant k (o ∷ os) m → callerFrame k (m .state .frames) (m .state .depth) ≡ callerOf k os
 unfolding topFrame callerFrame
 caller-is k o [] m i = rw (i .1 .deep, i .2 .1)
 caller-is k o (p ∷ ps) m i =
@@ -38,11 +38,11 @@ caller-is k o (p ∷ ps) m i =
     rw (i .1 .deep, e) (i .1 .older (p .before .state .depth) (omega (arith, e)) ∙ i .2 .1 .recorded)
 
 -- no frame saves a register below the least that a request may name
-gpr-least : (k : Rules) → Lawful k → (os : List OpenEnter) (m : Machine) → Invariant k os m → k .gpr .request .first ≤ firstGpr (callerOf k os)
+gpr-least : (k : FrameRules) → LawfulFrames k → (os : List OpenEnter) (m : Machine) → Invariant k os m → k .gpr .request .first ≤ firstGpr (callerOf k os)
 gpr-least k law [] m i = law .ends
 gpr-least k law (o ∷ os) m i = ranges k (o .request) (i .1 .request) .gpr .0
 
-rests-same : (k : Rules) (os : List OpenEnter) (s : ℕ) (l : List ℕ) → RestsAll k os s l l
+rests-same : (k : FrameRules) (os : List OpenEnter) (s : ℕ) (l : List ℕ) → RestsAll k os s l l
 rests-same k [] s l = λ b p q. refl
 rests-same k (o ∷ os) s l = (λ b p q. refl, λ b p q. refl, λ b p. refl)
 
@@ -53,7 +53,7 @@ beside : (l : List ℕ) (a : ℕ) (bs : List ℕ) (b : ℕ) → (b < a) ⊎ (a +
 beside l a bs b h = splice-at-other l a bs b 0 (⊎-elim (λ p. inl (omega arith)) (λ p. inr p) h)
 
 -- bytes written are not those that a frame rests on
-rests-write : (k : Rules) → Lawful k → (os : List OpenEnter) (m : Machine) → Invariant k os m → (a : ℕ) (bs : List ℕ) → writableBytes k (m .state) a (length bs) ≡ true
+rests-write : (k : FrameRules) → LawfulFrames k → (os : List OpenEnter) (m : Machine) → Invariant k os m → (a : ℕ) (bs : List ℕ) → writableBytes k (m .state) a (length bs) ≡ true
     → RestsAll k os (offset k (m .state)) (m .memory) (splice (m .memory) a bs)
 rests-write k law [] m i a bs e =
     λ b p q. beside (m .memory) a bs b (inl (⊎-elim (λ u. omega (arith, law .chain)) (λ u. ⊎-elim (λ w. omega (arith, law .chain)) (λ w. omega (arith, law .chain)) (u .1))
@@ -81,7 +81,7 @@ rests-write k law (o ∷ os) m i a bs e =
 
 -- ---- registers
 
-module _ (k : Rules) (law : Lawful k) (os : List OpenEnter) (m : Machine) (i : Invariant k os m) where
+module _ (k : FrameRules) (law : LawfulFrames k) (os : List OpenEnter) (m : Machine) (i : Invariant k os m) where
   abbrev s : State
   s = m .state
 
@@ -223,7 +223,7 @@ module _ (k : Rules) (law : Lawful k) (os : List OpenEnter) (m : Machine) (i : I
   write-bank ConditionField n v x p = write-field n v p
   write-bank None n v x p = absurd (false≢true p)
 
-pub write-register-keeps : (k : Rules) → Lawful k → (os : List OpenEnter) (m : Machine) (c n v : ℕ) → v < 2 ^ 64 → Invariant k os m
+pub write-register-keeps : (k : FrameRules) → LawfulFrames k → (os : List OpenEnter) (m : Machine) (c n v : ℕ) → v < 2 ^ 64 → Invariant k os m
     → writeRegisterAnswer k (m .state) (length (m .memory)) c n v ≡ Accepted → Invariant k os (record { state = writtenRegister (m .state) c n v; memory = m .memory })
 unfolding writeRegisterAnswer writtenRegister
 write-register-keeps k law os m c n v x i e =
@@ -231,7 +231,7 @@ write-register-keeps k law os m c n v x i e =
     let t = judge-both (stateTests k s (length (m .memory))) _ e in
     write-bank k law os m i (bankOf c) n v x (rw (top-is k os m i) at (holds-yes _ _ (t .1) .0))
 
-pub write-memory-keeps : (k : Rules) → Lawful k → (os : List OpenEnter) (m : Machine) (a : ℕ) (bs : List ℕ) → Invariant k os m
+pub write-memory-keeps : (k : FrameRules) → LawfulFrames k → (os : List OpenEnter) (m : Machine) (a : ℕ) (bs : List ℕ) → Invariant k os m
     → writeMemoryAnswer k (m .state) (length (m .memory)) a (length bs) ≡ Accepted → Invariant k os (record { state = m .state; memory = writtenMemory (m .state) (m .memory) a bs })
 unfolding writeMemoryAnswer writtenMemory writableAddress
 write-memory-keeps k law os m a bs i e =

@@ -8,7 +8,7 @@ use mathlib.Core.Bool.{true}
 use mathlib.Core.List.{List, [], _∷_}
 use lib.ListN.{getD, length}
 use Rattle.conventions.specs.declared.Convention.{Convention}
-use Rattle.rules.specs.declared.Rules.{Rules}
+use Rattle.rules.specs.declared.FrameRules.{FrameRules}
 use Rattle.rules.specs.declared.Registers.{Registers}
 use Rattle.rules.specs.Rules.{rules}
 use Rattle.rules.specs.Frames.{below}
@@ -18,24 +18,24 @@ use Rattle.history.specs.Calls.{Call, enter, writeRegister, writeMemory,
 use Rattle.history.specs.Preserved.{RegistersFit, CallsFit}
 
 -- the floor under the stack pointer lies inside the memory
-pub record FloorInside (k : Rules) (m : Machine) : Type 0 where
+pub record FloorInside (k : FrameRules) (m : Machine) : Type 0 where
   pub first : m .state .base + k .floor ≤ stackPointer k (m .state)
   pub last : stackPointer k (m .state) ≤ m .state .base + length (m .memory)
 
 -- the byte b below the stack pointer is a leaf's to change: as it is entered one that it saves, later one that it writes; in offsets from the base
-abbrev pub ByLeaf : Rules → Call → Machine → ℕ → Type 0
+abbrev pub ByLeaf : FrameRules → Call → Machine → ℕ → Type 0
 ByLeaf k (enter f) m b = (f .leaf ≡ true) × (offset k (m .state) ≤ b + below (k .linkage) k f)
 ByLeaf k (writeRegister i n v) m b = ⊥
 ByLeaf k (writeMemory a bs) m b = (top k (m .state) .leaf ≡ true) × (a ≤ m .state .base + b) × (m .state .base + b < a + length bs)
 ByLeaf k leave m b = ⊥
 
 -- from m to m′ by a call no byte below the stack pointer of m′ has changed, but for one of the floor that is a leaf's
-abbrev pub Untouched : Rules → Call → Machine → Machine → Type 0
+abbrev pub Untouched : FrameRules → Call → Machine → Machine → Type 0
 Untouched k c m m′ =
     (b : ℕ) → b < offset k (m′ .state) → (getD (m′ .memory) b 0 ≡ getD (m .memory) b 0) ⊎ ((offset k (m′ .state) ≤ b + k .floor) × ByLeaf k c m b)
 
 -- before the first of the calls and after each of them the floor is inside the memory, and each call leaves what lies below the stack pointer that it leaves behind
-abbrev pub FloorHolds : Rules → List Call → Machine → Type 0
+abbrev pub FloorHolds : FrameRules → List Call → Machine → Type 0
 FloorHolds k [] m = FloorInside k m
 FloorHolds k (c ∷ cs) m = FloorInside k m × Untouched k c m (after c m) × FloorHolds k cs (after c m)
 

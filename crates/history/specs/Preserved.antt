@@ -8,7 +8,7 @@ use mathlib.Core.List.{List, [], _∷_}
 use lib.ListN.{getD, length}
 use Rattle.saves.specs.Saves.{Outside}
 use Rattle.conventions.specs.declared.Convention.{Convention}
-use Rattle.rules.specs.declared.Rules.{Rules}
+use Rattle.rules.specs.declared.FrameRules.{FrameRules}
 use Rattle.rules.specs.declared.Frame.{Frame}
 use Rattle.rules.specs.declared.Registers.{Registers}
 use Rattle.rules.specs.Rules.{within, rules}
@@ -40,14 +40,14 @@ openAfter leave Accepted m os = closeLatest os
 openAfter leave (Refused r) m os = os
 
 -- "The caller is the latest enter still open once that leave is done, or the start if none is"
-abbrev pub callerOf : Rules → List OpenEnter → Frame
+abbrev pub callerOf : FrameRules → List OpenEnter → Frame
 callerOf k [] = startFrame k
 callerOf k (o ∷ os) = o .request
 
 -- ---- what is kept
 
 -- After an accepted leave to the machine m, whose matching enter is o, with the enters os still open.
-pub record Preserved (k : Rules) (o : OpenEnter) (os : List OpenEnter) (m : Machine) : Type 0 where
+pub record Preserved (k : FrameRules) (o : OpenEnter) (os : List OpenEnter) (m : Machine) : Type 0 where
   -- the stack pointer, the return address and every preserved register hold what they held just before the matching enter
   pub pointer : stackPointer k (m .state) ≡ stackPointer k (o .before .state)
   pub return : returnAddress (k .linkage) (m .state .registers) ≡ returnAddress (k .linkage) (o .before .state .registers)
@@ -61,20 +61,20 @@ pub record Preserved (k : Rules) (o : OpenEnter) (os : List OpenEnter) (m : Mach
       → getD (m .memory) b 0 ≡ getD (o .before .memory) b 0
 
 -- Of a leave with this answer, the enters open before it and the machine after it: it is refused exactly when no enter is open, and preserves where it is accepted.
-abbrev pub LeaveHolds : Rules → Answer → List OpenEnter → Machine → Type 0
+abbrev pub LeaveHolds : FrameRules → Answer → List OpenEnter → Machine → Type 0
 LeaveHolds k (Refused r) [] m = Unit {0}
 LeaveHolds k (Refused r) (o ∷ os) m = ⊥
 LeaveHolds k Accepted [] m = ⊥
 LeaveHolds k Accepted (o ∷ os) m = Preserved k o os m
 
-abbrev pub CallHolds : Rules → Call → Answer → List OpenEnter → Machine → Type 0
+abbrev pub CallHolds : FrameRules → Call → Answer → List OpenEnter → Machine → Type 0
 CallHolds k (enter f) a os m = Unit {0}
 CallHolds k (writeRegister b n v) a os m = Unit {0}
 CallHolds k (writeMemory at bs) a os m = Unit {0}
 CallHolds k leave a os m = LeaveHolds k a os m
 
 -- of a whole list of calls from the machine m, with the enters os open
-abbrev pub Holds : Rules → List Call → List OpenEnter → Machine → Type 0
+abbrev pub Holds : FrameRules → List Call → List OpenEnter → Machine → Type 0
 Holds k [] os m = Unit {0}
 Holds k (c ∷ cs) os m = CallHolds k c (answer c m) os (after c m) × Holds k cs (openAfter c (answer c m) m os) (after c m)
 

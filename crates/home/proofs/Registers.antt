@@ -14,7 +14,7 @@ use Rattle.signature.specs.declared.Outcome.{Outcome}
 use Rattle.signature.specs.declared.SignatureRead.{SignatureRead}
 use Rattle.signature.specs.Read.{signatureOf}
 use Rattle.signature.specs.Answer.{signatureAnswer}
-use Rattle.places.specs.declared.Rules.{Rules}
+use Rattle.places.specs.declared.CallRules.{CallRules}
 use Rattle.plan.specs.declared.Plan.{Plan}
 use Rattle.slots.specs.declared.Answer.{Answer}
 use Rattle.items.specs.declared.Fault.{Fault}
@@ -37,15 +37,15 @@ use Rattle.home_slot.specs.Helpers.{Homed, Registered}
 -- ---- the loop
 
 -- n arguments of ps are put, and the area is l
-pub record Homing (a i : ℕ) (r : Rules) (ps : List Placement) (image l₀ l : List ℕ) (n : ℕ) : Type 0 where
+pub record Homing (a i : ℕ) (r : CallRules) (ps : List Placement) (image l₀ l : List ℕ) (n : ℕ) : Type 0 where
   pub same : length l ≡ length l₀
   pub each : All (Registered r a i) (drop n ps)
   pub rest : homed r (drop n ps) image l ≡ homed r ps image l₀
 
-pub homing-start : (a i : ℕ) (r : Rules) (ps : List Placement) (image l : List ℕ) → All (Registered r a i) ps → Homing a i r ps image l l 0
+pub homing-start : (a i : ℕ) (r : CallRules) (ps : List Placement) (image l : List ℕ) → All (Registered r a i) ps → Homing a i r ps image l l 0
 homing-start a i r ps image l each = record { same = refl; each = each; rest = refl }
 
-module _ (a i : ℕ) (r : Rules) (ps : List Placement) (image l₀ l : List ℕ) (n : ℕ) (p : Placement) (e : drop n ps ≡ p ∷ drop (suc n) ps)
+module _ (a i : ℕ) (r : CallRules) (ps : List Placement) (image l₀ l : List ℕ) (n : ℕ) (p : Placement) (e : drop n ps ≡ p ∷ drop (suc n) ps)
     (h : Homing a i r ps image l₀ l n) where
   pub homing-ready : Registered r a i p
   unfolding All
@@ -59,25 +59,25 @@ module _ (a i : ℕ) (r : Rules) (ps : List Placement) (image l₀ l : List ℕ)
       let rest : homed r (drop (suc n) ps) image l' ≡ homed r ps image l₀ = rw e at (h .rest) in
       record { same = length-splice l (p .span .home .start) (homedBytes r p image) ∙ h .same; each = rw add-one (each .1); rest = rw add-one rest }
 
-pub homing-end : (a i : ℕ) (r : Rules) (ps : List Placement) (image l₀ l : List ℕ) (n : ℕ) → drop n ps ≡ [] → Homing a i r ps image l₀ l n → l ≡ homed r ps image l₀
+pub homing-end : (a i : ℕ) (r : CallRules) (ps : List Placement) (image l₀ l : List ℕ) (n : ℕ) → drop n ps ≡ [] → Homing a i r ps image l₀ l n → l ≡ homed r ps image l₀
 unfolding homed
 homing-end a i r ps image l₀ l n e h = rw e at (h .rest)
 
 -- ---- what no test refuses
 
-pub record HomeLent (r : Rules) (i have area : ℕ) : Type 0 where
+pub record HomeLent (r : CallRules) (i have area : ℕ) : Type 0 where
   pub homes : homeless r ≡ false
   pub image : i ≡ 512
   pub room : area ≤ have
 
-pub home-passed : (r : Rules) (i have area : ℕ) → firstOf (homeTests r i have area) ≡ Answer.Done → HomeLent r i have area
+pub home-passed : (r : CallRules) (i have area : ℕ) → firstOf (homeTests r i have area) ≡ Answer.Done → HomeLent r i have area
 unfolding homeTests
-home-passed (Rules.Power f) i have area e =
+home-passed (CallRules.Power f) i have area e =
     let a = first-done _ _ e in
     let b = first-done _ _ (a .1) in
     let c = first-done _ _ (b .1) in
     record { homes = refl; image = differ-false i 512 (b .0); room = ltb-false have area (c .0) }
-home-passed Rules.Z i have area e = let a = first-done _ _ e in let q : true ≡ false = a .0 in let z : _≡_ {A = ℕ} 0 1 = cc in absurd (omega arith)
+home-passed CallRules.Z i have area e = let a = first-done _ _ e in let q : true ≡ false = a .0 in let z : _≡_ {A = ℕ} 0 1 = cc in absurd (omega arith)
 
 -- an ellipsis asks for nothing more
 pub tests-marked : (g : SignatureRead) (i have area : ℕ) (a : Answer) → a ≡ firstOf (homeTests (rulesOf (g .convention)) i have area) → a ≡ firstOf (homeTests (rulesIn g) i have area)
@@ -98,7 +98,7 @@ all-registered s g p i read plan power image =
           (all-with (Held r) (Fits (p .area) (p .copies)) Lies (λ q x y. (x, y)) (argumentsIn g p) (c .held) (c .fit)) homes;
     }
   where
-    r : Rules
+    r : CallRules
     r = rulesIn g
 
     Lies : Placement → Type 0

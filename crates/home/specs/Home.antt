@@ -7,7 +7,7 @@ use lib.Dec.{ltb}
 use lib.ListN.{length}
 use Rattle.words.specs.Basics.{pick}
 use Rattle.words.specs.Splice.{splice}
-use Rattle.places.specs.declared.Rules.{Rules}
+use Rattle.places.specs.declared.CallRules.{CallRules}
 use Rattle.places.specs.Spots.{imageBytes}
 use Rattle.slots.specs.declared.Refusal.{Refusal}
 use Rattle.slots.specs.declared.Answer.{Answer}
@@ -20,11 +20,11 @@ use Rattle.home_slot.specs.Homes.{homeless, registerAnswer, homedBytes}
 -- ---- the answer
 
 -- "14 by argument, left to right"
-unfoldable pub registersAnswer : Rules → List Placement → List ℕ → Answer
+unfoldable pub registersAnswer : CallRules → List Placement → List ℕ → Answer
 registersAnswer r ps image = firstOfAll (λ (p : Placement). registerAnswer r (p .ty) (p .span) image) ps
 
 -- "After reading: 24, 15, .. 11": of an image of i bytes and an area of `have`, where the plan asks for `area`
-unfoldable pub homeTests : Rules → ℕ → ℕ → ℕ → List Test
+unfoldable pub homeTests : CallRules → ℕ → ℕ → ℕ → List Test
 homeTests r i have area =
     test (homeless r) Refusal.NoView ∷ test (differ i imageBytes) Refusal.ImageSize ∷ test (ltb have area) Refusal.AreaTooShort ∷ []
 
@@ -38,7 +38,7 @@ homeAnswer s image have =
 -- ---- the area
 
 -- "copies each argument's register doublewords into the area at its offset .. all else stay"
-unfoldable pub homed : Rules → List Placement → List ℕ → List ℕ → List ℕ
+unfoldable pub homed : CallRules → List Placement → List ℕ → List ℕ → List ℕ
 homed r [] image area = area
 homed r (p ∷ ps) image area = homed r ps image (splice area (p .span .home .start) (homedBytes r p image))
 

@@ -1,6 +1,6 @@
 // Home: the arguments of a PowerPC call that came in registers, copied into the parameter area.
+use places::CallRules;
 use places::IMAGE_BYTES;
-use places::Rules;
 use plan::Plan;
 use signature::Outcome;
 use signature::SignatureRead;
@@ -56,7 +56,7 @@ fn put_homes(area: &mut [u8], image: &[u8], g: SignatureRead, p: Plan)
 }
 
 // Whether there are homes, and the image and the area have the lengths that a plan asks for.
-fn home_tested(r: Rules, image: usize, lent: usize, area: usize) -> Answer
+fn home_tested(r: CallRules, image: usize, lent: usize, area: usize) -> Answer
     ensures { λ a. ⌜ a ≡ firstOf (homeTests r image lent area) ⌝ }
 {
     if home_slot::is_homeless(r) {

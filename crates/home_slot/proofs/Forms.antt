@@ -17,7 +17,7 @@ use Rattle.ieee.proofs.Laws.{widen-narrow}
 use Rattle.types.specs.declared.Equivalent.{Equivalent}
 use Rattle.types.specs.declared.ValueType.{ValueType}
 use Rattle.types.specs.Sizes.{equivalentOf}
-use Rattle.places.specs.declared.Rules.{Rules}
+use Rattle.places.specs.declared.CallRules.{CallRules}
 use Rattle.places.specs.declared.PowerRules.{PowerRules}
 use Rattle.places.specs.Step.{wordOf}
 use Rattle.registers.specs.Registers.{gather}
@@ -37,7 +37,7 @@ narrowed-form d (Narrowed.Single x) e =
 narrowed-form d Narrowed.NotWidened e = refl
 
 -- of a single and of a double
-single-form : (f : PowerRules) (n : ℕ) (bs : List ℕ) → n ≡ 4 → zeroExtended n (valueOf (floatValueAs (Rules.Power f) Equivalent.Single bs)) ≡ memoryWord Equivalent.Single (valueOf bs)
+single-form : (f : PowerRules) (n : ℕ) (bs : List ℕ) → n ≡ 4 → zeroExtended n (valueOf (floatValueAs (CallRules.Power f) Equivalent.Single bs)) ≡ memoryWord Equivalent.Single (valueOf bs)
 single-form f n bs s = rw s (narrowed-form (valueOf bs) (narrow (valueOf bs)) refl)
 
 double-form : (n : ℕ) (bs : List ℕ) → n ≡ 8 → valueOf bs < 2 ^ 64 → zeroExtended n (valueOf bs) ≡ valueOf bs
@@ -46,22 +46,22 @@ double-form n bs s low = rw s (mod-eq-of-lt low)
 
 -- of a float in m FPRs
 form-as : (f : PowerRules) (q : Equivalent) (m n : ℕ) (bs : List ℕ) → FloatSized q m n → (m ≡ 1 → valueOf bs < 2 ^ 64)
-    → pick (fillsWords q) (floatValueAs (Rules.Power f) q bs ++ replicate (roomOf (Rules.Power f) n - n) 0)
-    (bytesOf (roomOf (Rules.Power f) n) (zeroExtended n (valueOf (floatValueAs (Rules.Power f) q bs))))
-    ≡ floatHome (roomOf (Rules.Power f) n) (8 * m) q bs
-form-as f Equivalent.Single m n bs s low = ap (bytesOf (roomOf (Rules.Power f) n)) (single-form f n bs (s .1))
-form-as f Equivalent.Double m n bs s low = ap (bytesOf (roomOf (Rules.Power f) n)) (double-form n bs (s .1) (low (s .0)))
-form-as f Equivalent.Nothing m n bs s low = let e : n ≡ 8 * m = omega (arith, s .0, s .1) in ap (λ (k : ℕ). bs ++ replicate (roomOf (Rules.Power f) n - k) 0) e
+    → pick (fillsWords q) (floatValueAs (CallRules.Power f) q bs ++ replicate (roomOf (CallRules.Power f) n - n) 0)
+    (bytesOf (roomOf (CallRules.Power f) n) (zeroExtended n (valueOf (floatValueAs (CallRules.Power f) q bs))))
+    ≡ floatHome (roomOf (CallRules.Power f) n) (8 * m) q bs
+form-as f Equivalent.Single m n bs s low = ap (bytesOf (roomOf (CallRules.Power f) n)) (single-form f n bs (s .1))
+form-as f Equivalent.Double m n bs s low = ap (bytesOf (roomOf (CallRules.Power f) n)) (double-form n bs (s .1) (low (s .0)))
+form-as f Equivalent.Nothing m n bs s low = let e : n ≡ 8 * m = omega (arith, s .0, s .1) in ap (λ (k : ℕ). bs ++ replicate (roomOf (CallRules.Power f) n - k) 0) e
 
-memory-form : (f : PowerRules) (t : ValueType) (m n : ℕ) (bs : List ℕ) → FloatSized (equivalentOf t) m n → startsAtHead (Rules.Power f) t ≡ fillsWords (equivalentOf t)
+memory-form : (f : PowerRules) (t : ValueType) (m n : ℕ) (bs : List ℕ) → FloatSized (equivalentOf t) m n → startsAtHead (CallRules.Power f) t ≡ fillsWords (equivalentOf t)
     → (m ≡ 1 → valueOf bs < 2 ^ 64)
-    → homeBytes (Rules.Power f) t n (floatValue (Rules.Power f) t bs) ≡ floatHome (roomOf (Rules.Power f) n) (8 * m) (equivalentOf t) bs
+    → homeBytes (CallRules.Power f) t n (floatValue (CallRules.Power f) t bs) ≡ floatHome (roomOf (CallRules.Power f) n) (8 * m) (equivalentOf t) bs
 unfolding homeBytes floatValue extended
 memory-form f (ValueType.Integer k) m n bs s e low = rw e (form-as f Equivalent.Nothing m n bs s low)
 memory-form f (ValueType.Float x) m n bs s e low = rw e (form-as f (equivalentOf (ValueType.Float x)) m n bs s low)
 memory-form f (ValueType.Struct x) m n bs s e low = rw e (form-as f (x .equivalent) m n bs s low)
 
-module _ (r : Rules) (a i : ℕ) (p : Placement) (image : List ℕ) (h : Registered r a i p) where
+module _ (r : CallRules) (a i : ℕ) (p : Placement) (image : List ℕ) (h : Registered r a i p) where
   -- a float's home holds its memory form
   pub homed-float : 0 < p .span .floating .count → (p .span .floating .count ≡ 1 → valueOf (fprsOf (p .span) image) < 2 ^ 64)
       → homedBytes r p image ≡ floatHome (p .span .home .length) (8 * p .span .floating .count) (equivalentOf (p .ty)) (fprsOf (p .span) image)
@@ -70,10 +70,10 @@ module _ (r : Rules) (a i : ℕ) (p : Placement) (image : List ℕ) (h : Registe
       simp (lt-ltb 0 (p .span .floating .count) some)
       (go r (h .homed .homes) (h .homed .float some) ∙ ap (λ (n : ℕ). floatHome n (8 * p .span .floating .count) (equivalentOf (p .ty)) (fprsOf (p .span) image)) (sym (h .homed .room)))
     where
-      go : (r : Rules) → homeless r ≡ false → startsAtHead r (p .ty) ≡ fillsWords (equivalentOf (p .ty))
+      go : (r : CallRules) → homeless r ≡ false → startsAtHead r (p .ty) ≡ fillsWords (equivalentOf (p .ty))
           → homeBytes r (p .ty) (p .size) (floatValue r (p .ty) (fprsOf (p .span) image)) ≡ floatHome (roomOf r (p .size)) (8 * p .span .floating .count) (equivalentOf (p .ty)) (fprsOf (p .span) image)
-      go (Rules.Power f) e q = memory-form f (p .ty) (p .span .floating .count) (p .size) (fprsOf (p .span) image) (h .held .float some) q low
-      go Rules.Z e q = let z : _≡_ {A = ℕ} 0 1 = cc in absurd (omega arith)
+      go (CallRules.Power f) e q = memory-form f (p .ty) (p .span .floating .count) (p .size) (fprsOf (p .span) image) (h .held .float some) q low
+      go CallRules.Z e q = let z : _≡_ {A = ℕ} 0 1 = cc in absurd (omega arith)
 
   -- which it has room for
   pub float-sized : 0 < p .span .floating .count → HomeSized (equivalentOf (p .ty)) (8 * p .span .floating .count) (p .span .home .length)
@@ -98,7 +98,7 @@ module _ (r : Rules) (a i : ℕ) (p : Placement) (image : List ℕ) (h : Registe
   homed-general none = simp (le-ltb 0 (p .span .floating .count) none)
 
 -- in a longer area
-pub registered-at : (r : Rules) (a b i : ℕ) (p : Placement) → a ≤ b → Registered r a i p → Registered r b i p
+pub registered-at : (r : CallRules) (a b i : ℕ) (p : Placement) → a ≤ b → Registered r a i p → Registered r b i p
 registered-at r a b i p l h = record {
   held = h .held;
   homed = record { homes = h .homed .homes; direct = h .homed .direct; room = h .homed .room; within = omega (arith, h .homed .within); float = h .homed .float; follows = h .homed .follows };

@@ -20,7 +20,7 @@ use Rattle.signature.specs.Read.{signatureOf}
 use Rattle.signature.specs.Answer.{resultType, signatureAnswer}
 use Rattle.signature.specs.Types.{typesOf}
 use Rattle.places.specs.declared.Cursor.{Cursor}
-use Rattle.places.specs.declared.Rules.{Rules}
+use Rattle.places.specs.declared.CallRules.{CallRules}
 use Rattle.places.specs.Values.{share}
 use Rattle.places.specs.declared.Edition.{Edition}
 use Rattle.places.specs.Power.{words, fprs, covered, shareOf, powerShare}
@@ -39,8 +39,8 @@ use Rattle.home_slot.specs.Helpers.{fillsWords, Homed}
 -- ---- each argument, over the bytes w of a word, the edition and the ellipsis
 
 module _ (w : ℕ) (least : 4 ≤ w) (most : w ≤ 8) (e : Edition) (v : Bool) where
-  abbrev rules : Rules
-  rules = Rules.Power (record { word = w; edition = e; ellipsis = v })
+  abbrev rules : CallRules
+  rules = CallRules.Power (record { word = w; edition = e; ellipsis = v })
 
   float-fills : (k : Cursor) (t : ValueType) (n : ℕ) → 0 < spanOf rules k t n .floating .count → startsAtHead rules t ≡ fillsWords (equivalentOf t)
   unfolding spanOf powerShare shareOf fprs startsAtHead
@@ -95,7 +95,7 @@ plan-homed : (n : ℕ) (c : Convention) (v : Bool) (r : ResultType) (ts : List V
 unfolding planIn
 plan-homed n c v r ts e = rules-homed c v (startIn c r) ts _ e (rw (last-marked c v (rulesOf c) (startIn c r) ts) (area-holds c (endIn c r ts)))
 
-refused-homed : (r : Rules) (f : Fault) → All (Homed r (planAnswer (no f) .area)) (argumentsIn (signatureAnswer (no f)) (planAnswer (no f)))
+refused-homed : (r : CallRules) (f : Fault) → All (Homed r (planAnswer (no f) .area)) (argumentsIn (signatureAnswer (no f)) (planAnswer (no f)))
 unfolding argumentsIn placements All
 refused-homed r f = tt
 
@@ -126,7 +126,7 @@ getD-at (x ∷ ps) zero p none qs e = cc
 getD-at (x ∷ ps) (suc i) p none qs e = getD-at ps i p none qs e
 
 -- the value's own bytes in its home
-pub own-homed : (r : Rules) (p : Placement) (a : ℕ) → Held r p → Homed r a p → p .span .home .start + ownStart r (p .ty) (p .size) + p .size ≤ a
+pub own-homed : (r : CallRules) (p : Placement) (a : ℕ) → Held r p → Homed r a p → p .span .home .start + ownStart r (p .ty) (p .size) + p .size ≤ a
 unfolding ownStart
 own-homed r p a h m = go (startsAtHead r (p .ty))
   where

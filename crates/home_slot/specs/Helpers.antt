@@ -11,7 +11,7 @@ use Rattle.ieee.specs.Narrowing.{narrow}
 use Rattle.types.specs.declared.Equivalent.{Equivalent}
 use Rattle.types.specs.declared.ValueType.{ValueType}
 use Rattle.types.specs.Sizes.{equivalentOf}
-use Rattle.places.specs.declared.Rules.{Rules}
+use Rattle.places.specs.declared.CallRules.{CallRules}
 use Rattle.places.specs.declared.Span.{Span}
 use Rattle.places.specs.Step.{wordOf}
 use Rattle.places.specs.Spots.{imageBytes}
@@ -50,7 +50,7 @@ fillsWords Equivalent.Nothing = true
 
 -- What holds of each argument on PowerPC in an area of a bytes (law `homed-all`): it is passed by value, its home holds all its words
 -- and lies in the area, only a single, a double or a long double has FPRs, and the words in memory follow those in general registers.
-pub record Homed (r : Rules) (a : ℕ) (p : Placement) : Type 0 where
+pub record Homed (r : CallRules) (a : ℕ) (p : Placement) : Type 0 where
   pub homes : homeless r ≡ false
   pub direct : p .span .indirect ≡ false
   pub room : p .span .home .length ≡ roomOf r (p .size)
@@ -59,12 +59,12 @@ pub record Homed (r : Rules) (a : ℕ) (p : Placement) : Type 0 where
   pub follows : 0 < p .span .memory .length → p .span .memory .start ≡ p .span .home .start + wordOf r * p .span .general .count
 
 -- a type's FPRs lie in an image of i bytes, and hold a value of some size
-abbrev pub FloatFits : ValueType → Span → ℕ → Type 0
-FloatFits t s i =
+abbrev pub FprsFit : ValueType → Span → ℕ → Type 0
+FprsFit t s i =
     (s .floating .first + s .floating .count ≤ 32) × (i ≡ imageBytes) × (0 < s .floating .count → (n : ℕ) × FloatSized (equivalentOf t) (s .floating .count) n)
 
 -- such an argument, and that its registers lie in an image of i bytes
-pub record Registered (r : Rules) (a i : ℕ) (p : Placement) : Type 0 where
+pub record Registered (r : CallRules) (a i : ℕ) (p : Placement) : Type 0 where
   pub held : Held r p
   pub homed : Homed r a p
   pub general : p .span .general .first + p .span .general .count ≤ 32

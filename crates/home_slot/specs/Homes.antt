@@ -9,7 +9,7 @@ use Rattle.words.specs.Splice.{part}
 use Rattle.words.specs.Numbers.{valueOf}
 use Rattle.types.specs.declared.ValueType.{ValueType}
 use Rattle.types.specs.Sizes.{equivalentOf}
-use Rattle.places.specs.declared.Rules.{Rules}
+use Rattle.places.specs.declared.CallRules.{CallRules}
 use Rattle.places.specs.declared.Span.{Span}
 use Rattle.places.specs.Step.{wordOf}
 use Rattle.slots.specs.declared.Answer.{Answer}
@@ -20,23 +20,23 @@ use Rattle.slots.specs.Placements.{Placement}
 use Rattle.slots.specs.Refusals.{floatAnswer}
 
 -- "asked of Z": only PowerPC has homes for its register arguments
-abbrev pub homeless : Rules → Bool
-homeless (Rules.Power f) = false
-homeless Rules.Z = true
+abbrev pub homeless : CallRules → Bool
+homeless (CallRules.Power f) = false
+homeless CallRules.Z = true
 
 -- the bytes of an argument's FPRs, eight of each
 abbrev pub fprsOf : Span → List ℕ → List ℕ
 fprsOf s image = part (floatingAt (s .floating .first)) (8 * s .floating .count) image
 
 -- 14, of one argument: general registers hold anything
-unfoldable pub registerAnswer : Rules → ValueType → Span → List ℕ → Answer
+unfoldable pub registerAnswer : CallRules → ValueType → Span → List ℕ → Answer
 registerAnswer r t s image = pick (ltb 0 (s .floating .count)) (floatAnswer r (equivalentOf t) (valueOf (fprsOf s image))) Answer.Done
 
 -- ---- the bytes
 
 -- an argument's register words, as memory holds them: "GPRs as they stand", on AIX their low halves; "an FPR in its memory form". Of a float that
 -- is in both, with an ellipsis, "home uses the FPR" (02, No. 5): all its words, whatever memory held of them
-unfoldable pub homedBytes : Rules → Placement → List ℕ → List ℕ
+unfoldable pub homedBytes : CallRules → Placement → List ℕ → List ℕ
 homedBytes r p image =
     pick (ltb 0 (p .span .floating .count)) (homeBytes r (p .ty) (p .size) (floatValue r (p .ty) (fprsOf (p .span) image)))
     (gather (wordOf r) (p .span .general .count) (part (generalAt (p .span .general .first)) (8 * p .span .general .count) image))

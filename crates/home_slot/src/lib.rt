@@ -1,8 +1,8 @@
 // The home of one argument of a PowerPC call in the parameter area: what stands there once its registers are copied, and whether they can be.
 use conventions::Convention;
 use ieee::Narrowed;
+use places::CallRules;
 use places::FPRS_AT;
-use places::Rules;
 use places::Span;
 use slots::Answer;
 use types::Equivalent;
@@ -15,21 +15,21 @@ ghost use Rattle.types.specs.Sizes.{sizeOf};
 ghost use Rattle.places.specs.Step.{rulesOf};
 ghost use Rattle.slots.specs.Placements.{placement};
 ghost use Rattle.home_slot.specs.Homes.{homeless, registerAnswer, homedBytes};
-ghost use Rattle.home_slot.specs.Helpers.{memoryWord, floatHome, HomeSized, FloatFits, Registered};
+ghost use Rattle.home_slot.specs.Helpers.{memoryWord, floatHome, HomeSized, FprsFit, Registered};
 
 // Whether a convention has no homes for its register arguments.
-pub fn is_homeless(r: Rules) -> bool
+pub fn is_homeless(r: CallRules) -> bool
     ensures { λ b. ⌜ b ≡ homeless r ⌝ }
 {
     match r {
-        Rules::Power(_) => false,
-        Rules::Z => true,
+        CallRules::Power(_) => false,
+        CallRules::Z => true,
     }
 }
 
 // Whether one argument's FPRs, if it has any, can be homed.
-pub fn register_answer(image: &[u8], r: Rules, t: ValueType, s: Span) -> Answer
-    requires { ⌜ FloatFits t s (length (now image)) ⌝ }
+pub fn register_answer(image: &[u8], r: CallRules, t: ValueType, s: Span) -> Answer
+    requires { ⌜ FprsFit t s (length (now image)) ⌝ }
     ensures { λ a. ⌜ a ≡ registerAnswer r t s (now (image .entry)) ⌝ }
 {
     let floating = s.floating;

@@ -10,7 +10,7 @@ use Rattle.conventions.specs.declared.Convention.{Convention}
 use Rattle.types.specs.declared.FloatFormat.{FloatFormat}
 use Rattle.types.specs.Sizes.{sizeOf, lacksFloat, Sized}
 use Rattle.types.specs.Trees.{Tree, Trees, integer, float, struct, none, _▸_, typeOf}
-use Rattle.types.specs.Limits.{depthOf, depthIn, FloatFits, Some, Fits, AllFit, Within, AllWithin}
+use Rattle.types.specs.Limits.{depthOf, depthIn, FloatFits, Some, Fits, AllFit, TypeWithin, AllWithin}
 use Rattle.types.proofs.Sized.{fits-sized}
 
 -- a long double stands outside any struct only, where all 8 levels are left
@@ -73,10 +73,10 @@ module _ (c : Convention) where
         let (deep′, g) = left-fits t d true (lt-ltb d 8 l) (omega arith) (w .1) in
         (omega arith, (f, g))
 
-  pub within-left : (t : Tree) → Within c t → Left c 8 t
+  pub within-left : (t : Tree) → TypeWithin c t → Left c 8 t
   within-left t w = fits-left t 8 false refl (omega arith) (w .depth) (w .fits)
 
-  pub left-within : (t : Tree) → Left c 8 t → Within c t
+  pub left-within : (t : Tree) → Left c 8 t → TypeWithin c t
   left-within t l = let (deep, f) = left-fits t 8 false refl (omega arith) l in record { depth = deep; fits = f }
 
   pub all-within-left : (ts : Trees) → AllWithin c ts → AllLeft c 8 ts

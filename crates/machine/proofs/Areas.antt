@@ -8,10 +8,10 @@ use native.Mathlib.Omega.{arith}
 use lib.Dec.{leb, ltb}
 use borrow.Author.Tests.{leb-true, ltb-true}
 use Rattle.saves.proofs.Taking.{le-or-lt}
-use Rattle.rules.specs.declared.Rules.{Rules}
+use Rattle.rules.specs.declared.FrameRules.{FrameRules}
 use Rattle.rules.specs.declared.Frame.{Frame}
 use Rattle.rules.specs.Frames.{startFrame, okRequest, outgoingLength, below, frameSize}
-use Rattle.rules.specs.Helpers.{Lawful}
+use Rattle.rules.specs.Helpers.{LawfulFrames}
 use Rattle.rules.proofs.Facts.{either, and-yes, or-yes}
 use Rattle.rules.proofs.Places.{leaf-size, size-parts, below-reach}
 use Rattle.machine.specs.Machine.{State, offset, frameAt, topFrame, callerFrame, top, caller, okFrames, sizes, inside, outgoingFrom, localsFrom, writableBytes, writableAddress}
@@ -22,7 +22,7 @@ inside-is : (a n b e : ℕ) → inside a n b e ≡ true → (b ≤ a) × (a + n 
 inside-is a n b e h = let p = and-yes (leb b a) (leb (a + n) e) h in (leb-true b a (p .0), leb-true (a + n) e (p .1))
 
 -- own outgoing area; or, where a frame is entered, own locals or the caller's outgoing area
-pub areas : (k : Rules) (s : State) (a n : ℕ) → writableBytes k s a n ≡ true
+pub areas : (k : FrameRules) (s : State) (a n : ℕ) → writableBytes k s a n ≡ true
     → (f : Frame) → topFrame k (s .frames) (s .depth) ≡ f
     → (g : Frame) → callerFrame k (s .frames) (s .depth) ≡ g
     → ((outgoingFrom k f (offset k s) ≤ a) × (a + n ≤ localsFrom k f (offset k s)))
@@ -49,32 +49,32 @@ areas k s a n e f ef g eg =
     (or-yes own (ltb 0 (s .depth) && (locals || callers)) (q .1))
 
 -- where the own areas of a frame, and of a leaf, lie with its pointer at o
-pub solid-outgoing : (k : Rules) (f : Frame) (o : ℕ) → f .leaf ≡ false → outgoingFrom k f o ≡ o + k .header
+pub solid-outgoing : (k : FrameRules) (f : Frame) (o : ℕ) → f .leaf ≡ false → outgoingFrom k f o ≡ o + k .header
 solid-outgoing k f o e = rw e
 
-solid-locals : (k : Rules) (f : Frame) (o : ℕ) → f .leaf ≡ false → localsFrom k f o ≡ o + k .header + outgoingLength k f
+solid-locals : (k : FrameRules) (f : Frame) (o : ℕ) → f .leaf ≡ false → localsFrom k f o ≡ o + k .header + outgoingLength k f
 solid-locals k f o e = rw e
 
-leaf-locals : (k : Rules) (f : Frame) (o : ℕ) → f .leaf ≡ true → localsFrom k f o ≡ o - k .floor
+leaf-locals : (k : FrameRules) (f : Frame) (o : ℕ) → f .leaf ≡ true → localsFrom k f o ≡ o - k .floor
 leaf-locals k f o e = rw e
 
 -- the outgoing area comes before the locals, and these before the saves
-pub outgoing-le : (k : Rules) (f : Frame) (o : ℕ) → outgoingFrom k f o ≤ localsFrom k f o
+pub outgoing-le : (k : FrameRules) (f : Frame) (o : ℕ) → outgoingFrom k f o ≤ localsFrom k f o
 outgoing-le k f o = either (f .leaf) (λ e. rw e (omega arith)) (λ e. rw e (omega arith))
 
-pub locals-le : (k : Rules) → Lawful k → (f : Frame) → okRequest k f ≡ true → (o : ℕ) → localsFrom k f o ≤ o + frameSize k f - below (k .linkage) k f
+pub locals-le : (k : FrameRules) → LawfulFrames k → (f : Frame) → okRequest k f ≡ true → (o : ℕ) → localsFrom k f o ≤ o + frameSize k f - below (k .linkage) k f
 locals-le k law f r o =
     either (f .leaf) (λ e. omega (arith, leaf-locals k f o e, below-reach k law f r, leaf-size k f e)) (λ e. omega (arith, solid-locals k f o e, size-parts k law f r e))
 
 -- the outgoing area of a frame lies in the frame, that of the start in the start's room
-outgoing-in : (k : Rules) → Lawful k → (f : Frame) → okRequest k f ≡ true → f .leaf ≡ false → k .header + outgoingLength k f ≤ frameSize k f
+outgoing-in : (k : FrameRules) → LawfulFrames k → (f : Frame) → okRequest k f ≡ true → f .leaf ≡ false → k .header + outgoingLength k f ≤ frameSize k f
 outgoing-in k law f e z = omega (arith, size-parts k law f e z)
 
-start-in : (k : Rules) → Lawful k → k .header + outgoingLength k (startFrame k) ≤ k .room
+start-in : (k : FrameRules) → LawfulFrames k → k .header + outgoingLength k (startFrame k) ≤ k .room
 start-in k law = omega (arith, law .head)
 
 -- a top frame that is no leaf lies with its outgoing area in what is entered and the start's room
-top-in : (k : Rules) → Lawful k → (fs : List Frame) (d : ℕ) → okFrames k fs d ≡ true → topFrame k fs d .leaf ≡ false
+top-in : (k : FrameRules) → LawfulFrames k → (fs : List Frame) (d : ℕ) → okFrames k fs d ≡ true → topFrame k fs d .leaf ≡ false
     → k .header + outgoingLength k (topFrame k fs d) ≤ sizes k fs d + k .room
 top-in k law fs d e z =
     ⊎-elim (λ p. let t = top-none k fs d p in omega (arith, subst (λ (f : Frame). k .header + outgoingLength k f ≤ k .room) (sym t) (start-in k law)))
@@ -87,12 +87,12 @@ top-in k law fs d e z =
     ))
     (le-or-lt d 0)
 
-caller-top : (k : Rules) (fs : List Frame) (d : ℕ) → 0 < d → callerFrame k fs d ≡ topFrame k fs (d - 1)
+caller-top : (k : FrameRules) (fs : List Frame) (d : ℕ) → 0 < d → callerFrame k fs d ≡ topFrame k fs (d - 1)
 unfolding callerFrame
 caller-top k fs zero h = absurd (omega arith)
 caller-top k fs (suc d) h = let e : suc d - 1 ≡ d = omega arith in rw e
 
-module _ (k : Rules) (law : Lawful k) (s : State) (n : ℕ) (sound : Sound k s n) where
+module _ (k : FrameRules) (law : LawfulFrames k) (s : State) (n : ℕ) (sound : Sound k s n) where
   room : offset k s + sizes k (s .frames) (s .depth) + k .room ≡ n
   room = pointer-room k law s n sound
 

@@ -9,10 +9,10 @@ use lib.ListN.{length}
 use lib.Dec.{leb, eqb}
 use borrow.Author.Tests.{le-leb, lt-leb, eq-eqb, ne-eqb, eqb-true, eqb-false}
 use Rattle.saves.proofs.Taking.{le-or-lt}
-use Rattle.rules.specs.declared.Rules.{Rules}
+use Rattle.rules.specs.declared.FrameRules.{FrameRules}
 use Rattle.rules.specs.declared.Frame.{Frame}
 use Rattle.rules.specs.Frames.{startFrame, maxOutgoing, okRequest, outgoingLength, frameSize}
-use Rattle.rules.specs.Helpers.{Lawful, Placed}
+use Rattle.rules.specs.Helpers.{LawfulFrames, Placed}
 use Rattle.rules.proofs.Facts.{and-yes, not-yes}
 use Rattle.rules.proofs.Conventions.{lawful}
 use Rattle.rules.proofs.Places.{ranges, below-reach}
@@ -37,73 +37,73 @@ eqb-sub p u e h = go (eqb (p + u) e) refl
 
 -- ---- the records, one turn of a loop
 
-pub frames-down : (k : Rules) (fs : List Frame) (d : ℕ) → 0 < d → okFrames k fs d ≡ (okRequest k (frameAt fs (d - 1)) && (not (topFrame k fs (d - 1) .leaf) && okFrames k fs (d - 1)))
+pub frames-down : (k : FrameRules) (fs : List Frame) (d : ℕ) → 0 < d → okFrames k fs d ≡ (okRequest k (frameAt fs (d - 1)) && (not (topFrame k fs (d - 1) .leaf) && okFrames k fs (d - 1)))
 unfolding okFrames
 frames-down k fs zero h = absurd (omega arith)
 frames-down k fs (suc d) h = let e : suc d - 1 ≡ d = omega arith in rw e
 
 -- the record read is in range, what is under it is no leaf, and the records below it are in range
-pub frames-read : (k : Rules) (fs : List Frame) (d : ℕ) → 0 < d → okFrames k fs d ≡ true
+pub frames-read : (k : FrameRules) (fs : List Frame) (d : ℕ) → 0 < d → okFrames k fs d ≡ true
     → (okRequest k (frameAt fs (d - 1)) ≡ true) × (topFrame k fs (d - 1) .leaf ≡ false) × (okFrames k fs (d - 1) ≡ true)
 frames-read k fs d h e =
     let p = and-yes (okRequest k (frameAt fs (d - 1))) _ (sym (frames-down k fs d h) ∙ e) in
     let q = and-yes (not (topFrame k fs (d - 1) .leaf)) _ (p .1) in
     (p .0, not-yes (topFrame k fs (d - 1) .leaf) (q .0), q .1)
 
-pub frames-none : (k : Rules) (fs : List Frame) (d : ℕ) → d ≤ 0 → okFrames k fs d ≡ true
+pub frames-none : (k : FrameRules) (fs : List Frame) (d : ℕ) → d ≤ 0 → okFrames k fs d ≡ true
 unfolding okFrames
 frames-none k fs zero h = refl
 frames-none k fs (suc d) h = absurd (omega arith)
 
-pub sizes-down : (k : Rules) (fs : List Frame) (d : ℕ) → 0 < d → sizes k fs d ≡ sizes k fs (d - 1) + frameSize k (frameAt fs (d - 1))
+pub sizes-down : (k : FrameRules) (fs : List Frame) (d : ℕ) → 0 < d → sizes k fs d ≡ sizes k fs (d - 1) + frameSize k (frameAt fs (d - 1))
 unfolding sizes
 sizes-down k fs zero h = absurd (omega arith)
 sizes-down k fs (suc d) h = let e : suc d - 1 ≡ d = omega arith in rw e
 
-pub sizes-none : (k : Rules) (fs : List Frame) (d : ℕ) → d ≤ 0 → sizes k fs d ≡ 0
+pub sizes-none : (k : FrameRules) (fs : List Frame) (d : ℕ) → d ≤ 0 → sizes k fs d ≡ 0
 unfolding sizes
 sizes-none k fs zero h = refl
 sizes-none k fs (suc d) h = absurd (omega arith)
 
 -- ---- the top frame and its caller
 
-pub top-none : (k : Rules) (fs : List Frame) (d : ℕ) → d ≤ 0 → topFrame k fs d ≡ startFrame k
+pub top-none : (k : FrameRules) (fs : List Frame) (d : ℕ) → d ≤ 0 → topFrame k fs d ≡ startFrame k
 unfolding topFrame
 top-none k fs zero h = refl
 top-none k fs (suc d) h = absurd (omega arith)
 
-pub top-some : (k : Rules) (fs : List Frame) (d : ℕ) → 0 < d → topFrame k fs d ≡ frameAt fs (d - 1)
+pub top-some : (k : FrameRules) (fs : List Frame) (d : ℕ) → 0 < d → topFrame k fs d ≡ frameAt fs (d - 1)
 unfolding topFrame
 top-some k fs zero h = absurd (omega arith)
 top-some k fs (suc d) h = let e : suc d - 1 ≡ d = omega arith in rw e
 
-pub caller-none : (k : Rules) (fs : List Frame) (d : ℕ) → d ≤ 1 → callerFrame k fs d ≡ startFrame k
+pub caller-none : (k : FrameRules) (fs : List Frame) (d : ℕ) → d ≤ 1 → callerFrame k fs d ≡ startFrame k
 unfolding callerFrame topFrame
 caller-none k fs zero h = refl
 caller-none k fs (suc zero) h = refl
 caller-none k fs (suc (suc d)) h = absurd (omega arith)
 
-pub caller-some : (k : Rules) (fs : List Frame) (d : ℕ) → 1 < d → callerFrame k fs d ≡ frameAt fs (d - 2)
+pub caller-some : (k : FrameRules) (fs : List Frame) (d : ℕ) → 1 < d → callerFrame k fs d ≡ frameAt fs (d - 2)
 unfolding callerFrame topFrame
 caller-some k fs zero h = absurd (omega arith)
 caller-some k fs (suc zero) h = absurd (omega arith)
 caller-some k fs (suc (suc d)) h = let e : suc (suc d) - 2 ≡ d = omega arith in rw e
 
 -- each record of a sound state is in range
-pub frame-request : (k : Rules) (fs : List Frame) (d i : ℕ) → okFrames k fs d ≡ true → i < d → okRequest k (frameAt fs i) ≡ true
+pub frame-request : (k : FrameRules) (fs : List Frame) (d i : ℕ) → okFrames k fs d ≡ true → i < d → okRequest k (frameAt fs i) ≡ true
 unfolding okFrames
 frame-request k fs zero i e h = absurd (omega arith)
 frame-request k fs (suc d) i e h =
     let t = and-yes (okRequest k (frameAt fs d)) _ e in
     ⊎-elim (λ p. frame-request k fs d i (and-yes (not (topFrame k fs d .leaf)) _ (t .1) .1) p) (λ p. let x : i ≡ d = omega arith in rw x (t .0)) (le-or-lt (suc i) d)
 
-outgoing-small : (k : Rules) → Lawful k → (f : Frame) → okRequest k f ≡ true → outgoingLength k f ≤ maxOutgoing + 256
+outgoing-small : (k : FrameRules) → LawfulFrames k → (f : Frame) → okRequest k f ≡ true → outgoingLength k f ≤ maxOutgoing + 256
 outgoing-small k law f e = omega (arith, ranges k f e .outgoing, law .least)
 
-start-small : (k : Rules) → Lawful k → outgoingLength k (startFrame k) ≤ maxOutgoing + 256
+start-small : (k : FrameRules) → LawfulFrames k → outgoingLength k (startFrame k) ≤ maxOutgoing + 256
 start-small k law = omega (arith, law .least)
 
-module _ (k : Rules) (law : Lawful k) (s : State) (n : ℕ) (sound : Sound k s n) where
+module _ (k : FrameRules) (law : LawfulFrames k) (s : State) (n : ℕ) (sound : Sound k s n) where
   -- the start's room lies above the stack pointer, in at most 65,536 bytes
   pub memory-small : n ≤ 65536
   memory-small = omega (arith, sound .length, memory-yes k (s .base) (s .size) (sound .memory))
@@ -149,5 +149,5 @@ module _ (k : Rules) (law : Lawful k) (s : State) (n : ℕ) (sound : Sound k s n
     }
 
 -- a request that may be entered lies below the present pointer, whose header is in the memory
-pub enter-placed : (k : Rules) → Lawful k → (s : State) (n : ℕ) → Sound k s n → (f : Frame) → CanEnter k s f → Placed k f (offset k s) n
+pub enter-placed : (k : FrameRules) → LawfulFrames k → (s : State) (n : ℕ) → Sound k s n → (f : Frame) → CanEnter k s f → Placed k f (offset k s) n
 enter-placed k law s n sound f can = record { lawful = law; request = can .request; fits = omega (arith, can .room, below-reach k law f (can .request)); room = omega (arith, pointer-room k law s n sound, law .head) }

@@ -6,7 +6,7 @@ use mathlib.Core.List.{List}
 use lib.ListN.{length, set}
 use Rattle.conventions.specs.declared.Convention.{Convention}
 use Rattle.rules.specs.declared.Frame.{Frame}
-use Rattle.rules.specs.declared.Rules.{Rules}
+use Rattle.rules.specs.declared.FrameRules.{FrameRules}
 use Rattle.rules.specs.declared.Registers.{Registers}
 use Rattle.rules.specs.Rules.{rules}
 use Rattle.rules.specs.Frames.{noFrame, frameSize, restored, bankOf, withRegister}
@@ -78,7 +78,7 @@ module _ (s : State) (l : List ℕ) where
   unfolding leaveOutcome
   leave-refused x e = rw e
 
-pub registers-restored : (k : Rules) (s : State) (l : List ℕ) (r : Registers)
+pub registers-restored : (k : FrameRules) (s : State) (l : List ℕ) (r : Registers)
     → r ≡ restored k (top k s) (offset k s + frameSize k (top k s)) l (stackPointer k s + frameSize k (top k s)) (s .registers)
     → record { convention = s .convention; base = s .base; size = s .size; depth = s .depth - 1; registers = r; frames = set (s .frames) (s .depth - 1) noFrame } ≡ left k s l
 unfolding left

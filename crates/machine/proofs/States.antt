@@ -7,7 +7,7 @@ use native.Mathlib.Omega.{arith}
 use lib.ListN.{length}
 use lib.Dec.{leb, eqb}
 use borrow.Author.Tests.{leb-true, ltb-true, eqb-true, le-leb, eq-eqb}
-use Rattle.rules.specs.declared.Rules.{Rules}
+use Rattle.rules.specs.declared.FrameRules.{FrameRules}
 use Rattle.rules.specs.declared.Frame.{Frame}
 use Rattle.rules.specs.Frames.{okRegisters, frameSize, bankOf, writableRegister}
 use Rattle.rules.proofs.Facts.{and-yes, not-yes}
@@ -17,7 +17,7 @@ use Rattle.machine.specs.Helpers.{Sound, CanEnter, CanLeave}
 use Rattle.machine.proofs.Judging.{holds-yes, judge-both}
 
 -- what refusal 16 says of the memory
-pub memory-yes : (k : Rules) (b n : ℕ) → okMemory k b n ≡ true → (256 ≤ n) × (n ≤ 65536) × (b + n ≤ k .limit) × (k .room + k .floor ≤ n)
+pub memory-yes : (k : FrameRules) (b n : ℕ) → okMemory k b n ≡ true → (256 ≤ n) × (n ≤ 65536) × (b + n ≤ k .limit) × (k .room + k .floor ≤ n)
 unfolding okMemory
 memory-yes k b n e =
     let p = and-yes (eqb (n % 16) 0) _ e in
@@ -27,7 +27,7 @@ memory-yes k b n e =
     let t = and-yes (leb (b + n) (k .limit)) _ (s .1) in
     (leb-true 256 n (q .0), leb-true n 65536 (r .0), leb-true (b + n) (k .limit) (t .0), leb-true (k .room + k .floor) n (t .1))
 
-pub state-yes : (k : Rules) (s : State) (n : ℕ) → judge (stateTests k s n) ≡ Accepted → Sound k s n
+pub state-yes : (k : FrameRules) (s : State) (n : ℕ) → judge (stateTests k s n) ≡ Accepted → Sound k s n
 unfolding okState
 state-yes k s n e =
     let t = holds-yes _ _ e in
@@ -47,7 +47,7 @@ state-yes k s n e =
       length = eqb-true n (s .size) (u .0);
     }
 
-pub state-accepted : (k : Rules) (s : State) (n : ℕ) → Sound k s n → judge (stateTests k s n) ≡ Accepted
+pub state-accepted : (k : FrameRules) (s : State) (n : ℕ) → Sound k s n → judge (stateTests k s n) ≡ Accepted
 unfolding okState judge
 state-accepted k s n y =
     rw (
@@ -60,7 +60,7 @@ state-accepted k s n y =
       eq-eqb n (s .size) (y .length),
     )
 
-pub enter-yes : (k : Rules) (s : State) (n : ℕ) (f : Frame) → enterAnswer k s n f ≡ Accepted → Sound k s n × CanEnter k s f
+pub enter-yes : (k : FrameRules) (s : State) (n : ℕ) (f : Frame) → enterAnswer k s n f ≡ Accepted → Sound k s n × CanEnter k s f
 unfolding enterAnswer
 enter-yes k s n f e =
     let t = judge-both (stateTests k s n) _ e in
@@ -77,36 +77,36 @@ enter-yes k s n f e =
       },
     )
 
-pub write-register-yes : (k : Rules) (s : State) (n b i v : ℕ) → writeRegisterAnswer k s n b i v ≡ Accepted → Sound k s n × (writableRegister k (top k s) (bankOf b) i v ≡ true)
+pub write-register-yes : (k : FrameRules) (s : State) (n b i v : ℕ) → writeRegisterAnswer k s n b i v ≡ Accepted → Sound k s n × (writableRegister k (top k s) (bankOf b) i v ≡ true)
 unfolding writeRegisterAnswer
 write-register-yes k s n b i v e =
     let t = judge-both (stateTests k s n) _ e in
     (state-yes k s n (t .0), holds-yes _ _ (t .1) .0)
 
-pub write-memory-yes : (k : Rules) (s : State) (n a m : ℕ) → writeMemoryAnswer k s n a m ≡ Accepted → Sound k s n × (writableAddress k s a m ≡ true)
+pub write-memory-yes : (k : FrameRules) (s : State) (n a m : ℕ) → writeMemoryAnswer k s n a m ≡ Accepted → Sound k s n × (writableAddress k s a m ≡ true)
 unfolding writeMemoryAnswer
 write-memory-yes k s n a m e =
     let t = judge-both (stateTests k s n) _ e in
     (state-yes k s n (t .0), holds-yes _ _ (t .1) .0)
 
-pub leave-yes : (k : Rules) (s : State) (l : List ℕ) → leaveAnswer k s l ≡ Accepted → CanLeave k s (length l)
+pub leave-yes : (k : FrameRules) (s : State) (l : List ℕ) → leaveAnswer k s l ≡ Accepted → CanLeave k s (length l)
 unfolding leaveAnswer
 leave-yes k s l e =
     let t = judge-both (stateTests k s (length l)) (leaveTests k s l) e in
     record { deep = ltb-true 0 (s .depth) (holds-yes _ _ (t .1) .0); sound = state-yes k s (length l) (t .0) }
 
 -- records that agree below d
-pub top-agree : (k : Rules) (d : ℕ) (fs gs : List Frame) → ((i : ℕ) → i < d → frameAt fs i ≡ frameAt gs i) → topFrame k fs d ≡ topFrame k gs d
+pub top-agree : (k : FrameRules) (d : ℕ) (fs gs : List Frame) → ((i : ℕ) → i < d → frameAt fs i ≡ frameAt gs i) → topFrame k fs d ≡ topFrame k gs d
 unfolding topFrame
 top-agree k zero fs gs h = refl
 top-agree k (suc d) fs gs h = h d (omega arith)
 
-pub frames-agree : (k : Rules) (d : ℕ) (fs gs : List Frame) → ((i : ℕ) → i < d → frameAt fs i ≡ frameAt gs i) → okFrames k fs d ≡ okFrames k gs d
+pub frames-agree : (k : FrameRules) (d : ℕ) (fs gs : List Frame) → ((i : ℕ) → i < d → frameAt fs i ≡ frameAt gs i) → okFrames k fs d ≡ okFrames k gs d
 unfolding okFrames
 frames-agree k zero fs gs h = refl
 frames-agree k (suc d) fs gs h = rw (h d (omega arith), top-agree k d fs gs (λ i p. h i (omega arith)), frames-agree k d fs gs (λ i p. h i (omega arith)))
 
-pub sizes-agree : (k : Rules) (d : ℕ) (fs gs : List Frame) → ((i : ℕ) → i < d → frameAt fs i ≡ frameAt gs i) → sizes k fs d ≡ sizes k gs d
+pub sizes-agree : (k : FrameRules) (d : ℕ) (fs gs : List Frame) → ((i : ℕ) → i < d → frameAt fs i ≡ frameAt gs i) → sizes k fs d ≡ sizes k gs d
 unfolding sizes
 sizes-agree k zero fs gs h = refl
 sizes-agree k (suc d) fs gs h = rw (h d (omega arith), sizes-agree k d fs gs (λ i p. h i (omega arith)))

@@ -11,7 +11,7 @@ use Rattle.words.specs.Basics.{pick}
 use Rattle.words.specs.Splice.{splice}
 use Rattle.saves.specs.Saves.{store, load, saveAll}
 use Rattle.conventions.specs.declared.Convention.{Convention}
-use Rattle.rules.specs.declared.Rules.{Rules}
+use Rattle.rules.specs.declared.FrameRules.{FrameRules}
 use Rattle.rules.specs.declared.Frame.{Frame}
 use Rattle.rules.specs.declared.Registers.{Registers}
 use Rattle.rules.specs.Rules.{rules}
@@ -23,14 +23,14 @@ pub use Rattle.machine.specs.declared.Outcome.{Outcome}
 -- ---- a state
 
 -- the rules that a state goes by
-abbrev pub rulesOf : State → Rules
+abbrev pub rulesOf : State → FrameRules
 rulesOf s = rules (s .convention)
 
 -- the stack pointer, and its offset in the memory
-abbrev pub stackPointer : Rules → State → ℕ
+abbrev pub stackPointer : FrameRules → State → ℕ
 stackPointer k s = getD (s .registers .gpr) (k .pointer) 0
 
-abbrev pub offset : Rules → State → ℕ
+abbrev pub offset : FrameRules → State → ℕ
 offset k s = stackPointer k s - s .base
 
 -- the record of the frame entered at depth d
@@ -38,44 +38,44 @@ abbrev pub frameAt : List Frame → ℕ → Frame
 frameAt fs d = getD fs d noFrame
 
 -- the frame entered last of d, and its caller; the start where there is none
-unfoldable pub topFrame : Rules → List Frame → ℕ → Frame
+unfoldable pub topFrame : FrameRules → List Frame → ℕ → Frame
 topFrame k fs zero = startFrame k
 topFrame k fs (suc d) = frameAt fs d
 
-unfoldable pub callerFrame : Rules → List Frame → ℕ → Frame
+unfoldable pub callerFrame : FrameRules → List Frame → ℕ → Frame
 callerFrame k fs zero = startFrame k
 callerFrame k fs (suc d) = topFrame k fs d
 
 -- the same of a state
-abbrev pub top : Rules → State → Frame
+abbrev pub top : FrameRules → State → Frame
 top k s = topFrame k (s .frames) (s .depth)
 
-abbrev pub caller : Rules → State → Frame
+abbrev pub caller : FrameRules → State → Frame
 caller k s = callerFrame k (s .frames) (s .depth)
 
 -- would 17 accept each of the first d records, with none above a leaf, and what is the sum of their sizes? 02, No. 9: "a state with a leaf below the top gives 23"
-unfoldable pub okFrames : Rules → List Frame → ℕ → Bool
+unfoldable pub okFrames : FrameRules → List Frame → ℕ → Bool
 okFrames k fs zero = true
 okFrames k fs (suc d) = okRequest k (frameAt fs d) && (not (topFrame k fs d .leaf) && okFrames k fs d)
 
-unfoldable pub sizes : Rules → List Frame → ℕ → ℕ
+unfoldable pub sizes : FrameRules → List Frame → ℕ → ℕ
 sizes k fs zero = 0
 sizes k fs (suc d) = sizes k fs d + frameSize k (frameAt fs d)
 
 -- refusal 16: "machine memory N not a multiple of 16, under 256, over 65,536, base B not a multiple of 16, B + N over 2^64 - 1"; 02, No. 1, of AIX: "B + N over
 -- 2^32 - 1 gives 16"; No. 8: "Start gives 16 unless the start pointer has that room", which is the floor
-unfoldable pub okMemory : Rules → ℕ → ℕ → Bool
+unfoldable pub okMemory : FrameRules → ℕ → ℕ → Bool
 okMemory k b n = eqb (n % 16) 0 && (leb 256 n && (leb n maxMemory && (eqb (b % 16) 0 && (leb (b + n) (k .limit) && leb (k .room + k .floor) n))))
 
 -- refusal 23: "depth over 32, an entered frame's record that 17 would refuse, B or N as in 16, or stack pointer below B or not the start's less the sum of frame sizes";
 -- 02, No. 1: "a GPR or LR write over 2^32 - 1 gives 20, a state holding one 23"; No. 8: "In 23, less room than this counts as below B"
-unfoldable pub okState : Rules → State → Bool
+unfoldable pub okState : FrameRules → State → Bool
 okState k s =
     okRegisters k (s .registers) && (leb (s .depth) 32 && (okFrames k (s .frames) (s .depth) && (okMemory k (s .base) (s .size)
     && (leb (s .base + k .floor) (stackPointer k s) && eqb (stackPointer k s + sizes k (s .frames) (s .depth) + k .room) (s .base + s .size)))))
 
 -- what every call but start tests first, with n bytes of memory lent: "otherwise 23, 16"
-abbrev pub stateTests : Rules → State → ℕ → List Test
+abbrev pub stateTests : FrameRules → State → ℕ → List Test
 stateTests k s n = require (okState k s) BadState ∷ require (eqb n (s .size)) BadMemory ∷ []
 
 -- ---- start
@@ -97,7 +97,7 @@ started c b n r = record {
 }
 
 -- the memory with the start's zero word
-unfoldable pub startedMemory : Rules → List ℕ → List ℕ
+unfoldable pub startedMemory : FrameRules → List ℕ → List ℕ
 startedMemory k l = store l (length l - k .room) (k .word) 0
 
 -- "a refused start hands the registers back as they came, all else 0": base, size, depth and records are 0; the convention is the one asked for
@@ -108,16 +108,16 @@ notStarted c r = record { convention = c; base = 0; size = 0; depth = 0; registe
 
 -- "enter 17, 18, 19", and 19 is "new stack pointer below B"; 02, No. 8: "Enter now also needs 288 free bytes under the new stack pointer on PPC64 and 220 on AIX, else 19";
 -- No. 9: "Enter above a leaf gives new refusal 28, tested after 17"
-abbrev pub enterTests : Rules → State → Frame → List Test
+abbrev pub enterTests : FrameRules → State → Frame → List Test
 enterTests k s f =
     require (okRequest k f) BadRequest ∷ require (not (top k s .leaf)) AboveLeaf ∷ require (ltb (s .depth) 32) TooManyFrames ∷ require (leb (s .base + frameSize k f + k .floor) (stackPointer k s)) NoRoom ∷ []
 
 -- what an enter answers, with n bytes of memory lent
-unfoldable pub enterAnswer : Rules → State → ℕ → Frame → Answer
+unfoldable pub enterAnswer : FrameRules → State → ℕ → Frame → Answer
 enterAnswer k s n f = judge (stateTests k s n ++ enterTests k s f)
 
 -- "An accepted enter changes only the stack pointer, the slots named above, its record and the depth"
-unfoldable pub entered : Rules → State → Frame → State
+unfoldable pub entered : FrameRules → State → Frame → State
 entered k s f = record {
   convention = s .convention;
   base = s .base;
@@ -128,7 +128,7 @@ entered k s f = record {
 }
 
 -- "back chain at the new pointer", of a leaf none, then the saves
-unfoldable pub enteredMemory : Rules → State → List ℕ → Frame → List ℕ
+unfoldable pub enteredMemory : FrameRules → State → List ℕ → Frame → List ℕ
 enteredMemory k s l f = saveAll (store l (offset k s - frameSize k f) (chainWidth k f) (stackPointer k s)) (saves k f (offset k s) (s .registers))
 
 -- ---- write
@@ -139,15 +139,15 @@ inside a n b e = leb b a && leb (a + n) e
 
 -- Where the own outgoing area and the locals above it begin, with the frame's own pointer at o. A leaf has no outgoing area, and its locals are "the bytes of the floor
 -- area of No. 8 that aren't its saves" (02, No. 9).
-abbrev pub outgoingFrom : Rules → Frame → ℕ → ℕ
+abbrev pub outgoingFrom : FrameRules → Frame → ℕ → ℕ
 outgoingFrom k f o = pick (f .leaf) (o - k .floor) (o + k .header)
 
-abbrev pub localsFrom : Rules → Frame → ℕ → ℕ
+abbrev pub localsFrom : FrameRules → Frame → ℕ → ℕ
 localsFrom k f o = pick (f .leaf) (o - k .floor) (o + k .header + outgoingLength k f)
 
 -- "Memory, 1 to 256 bytes wholly inside one of: own locals (all between the outgoing area and the saves), own outgoing area, caller's outgoing area";
 -- at the start there is only the own outgoing area; 02, No. 9: "The leaf may write the bytes of the floor area .., and the caller's outgoing area"
-unfoldable pub writableBytes : Rules → State → ℕ → ℕ → Bool
+unfoldable pub writableBytes : FrameRules → State → ℕ → ℕ → Bool
 writableBytes k s a n =
     let f = top k s in
     let o = offset k s in
@@ -157,14 +157,14 @@ writableBytes k s a n =
     || inside a n (c + k .header) (c + k .header + outgoingLength k (caller k s))))))
 
 -- "write 20", with n bytes of memory lent: of the value v to register `number` of bank b
-unfoldable pub writeRegisterAnswer : Rules → State → ℕ → ℕ → ℕ → ℕ → Answer
+unfoldable pub writeRegisterAnswer : FrameRules → State → ℕ → ℕ → ℕ → ℕ → Answer
 writeRegisterAnswer k s n b number v = judge (stateTests k s n ++ (require (writableRegister k (top k s) (bankOf b) number v) NotPermitted ∷ []))
 
 -- the same of m bytes at the address a
-unfoldable pub writableAddress : Rules → State → ℕ → ℕ → Bool
+unfoldable pub writableAddress : FrameRules → State → ℕ → ℕ → Bool
 writableAddress k s a m = leb (s .base) a && writableBytes k s (a - s .base) m
 
-unfoldable pub writeMemoryAnswer : Rules → State → ℕ → ℕ → ℕ → Answer
+unfoldable pub writeMemoryAnswer : FrameRules → State → ℕ → ℕ → ℕ → Answer
 writeMemoryAnswer k s n a m = judge (stateTests k s n ++ (require (writableAddress k s a m) NotPermitted ∷ []))
 
 -- "An accepted write puts the given value or bytes in the place named and changes nothing else"
@@ -185,7 +185,7 @@ writtenMemory s l a bs = splice l (a - s .base) bs
 
 -- "leave 22, 21": 21 where "the back chain (on Z the r15 slot instead) isn't the caller's stack pointer"; 02, No. 9: "Leave skips the back chain
 -- test for a leaf"
-abbrev pub leaveTests : Rules → State → List ℕ → List Test
+abbrev pub leaveTests : FrameRules → State → List ℕ → List Test
 leaveTests k s l =
     let z = frameSize k (top k s) in
     require (ltb 0 (s .depth)) NothingEntered
@@ -193,11 +193,11 @@ leaveTests k s l =
     ∷ []
 
 -- what a leave answers with the memory l lent
-unfoldable pub leaveAnswer : Rules → State → List ℕ → Answer
+unfoldable pub leaveAnswer : FrameRules → State → List ℕ → Answer
 leaveAnswer k s l = judge (stateTests k s (length l) ++ leaveTests k s l)
 
 -- "an accepted leave only the stack pointer, what it restores, the record and the depth, and no memory"; it "zeroes the record"
-unfoldable pub left : Rules → State → List ℕ → State
+unfoldable pub left : FrameRules → State → List ℕ → State
 left k s l =
     let z = frameSize k (top k s) in
     record {

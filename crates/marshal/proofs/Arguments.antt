@@ -15,23 +15,23 @@ use Rattle.words.proofs.Splices.{splice-nothing}
 use Rattle.types.specs.declared.Equivalent.{Equivalent}
 use Rattle.types.specs.declared.ValueType.{ValueType}
 use Rattle.types.specs.Sizes.{equivalentOf}
-use Rattle.places.specs.declared.Rules.{Rules}
+use Rattle.places.specs.declared.CallRules.{CallRules}
 use Rattle.places.specs.Step.{wordOf}
 use Rattle.registers.specs.Registers.{spread}
 use Rattle.slots.specs.Buffers.{buffers, generalAt, floatingAt, put, putAll}
 use Rattle.slots.specs.Forms.{roomOf, startsAtHead, extended, homeBytes, floatForm, floatBytes}
 use Rattle.slots.specs.Placements.{Placement, standing, copyBytes, slotsOf}
 use Rattle.slots.specs.Helpers.{FloatSized, Held}
-use Rattle.marshal.specs.Helpers.{NumberFits, FloatRoom}
+use Rattle.marshal.specs.Helpers.{NumberFits, FprsTake}
 use Rattle.slots.proofs.Limits.{form-length, one-word, one-address, one-doubleword}
 
 -- FPRs have room for their float
-pub float-room : (e : Equivalent) (m n l : ℕ) → FloatSized e m n → 8 * m ≤ l → FloatRoom e n l
+pub float-room : (e : Equivalent) (m n l : ℕ) → FloatSized e m n → 8 * m ≤ l → FprsTake e n l
 float-room Equivalent.Single m n l h k = (h .1, omega (arith, h .0))
 float-room Equivalent.Double m n l h k = omega (arith, h .0, h .1)
 float-room Equivalent.Nothing m n l h k = omega (arith, h .0, h .1)
 
-module _ (r : Rules) (base : ℕ) (p : Placement) (v image area copies : List ℕ) (h : Held r p) where
+module _ (r : CallRules) (base : ℕ) (p : Placement) (v image area copies : List ℕ) (h : Held r p) where
   -- in FPRs, and as well in words, which are those of the value
   pub argument-float : (i j a : List ℕ) → 0 < p .span .floating .count → length v ≡ p .size
       → i ≡ splice image (floatingAt (p .span .floating .first)) (floatForm r (equivalentOf (p .ty)) v)
@@ -65,29 +65,29 @@ module _ (r : Rules) (base : ℕ) (p : Placement) (v image area copies : List �
       rw (i', a', ← z)
 
 -- what stands in the words: the address of a copy, or the value
-pub stands-address : (r : Rules) (base : ℕ) (p : Placement) (v : List ℕ) → Held r p → p .span .floating .count ≤ 0 → p .span .indirect ≡ true
+pub stands-address : (r : CallRules) (base : ℕ) (p : Placement) (v : List ℕ) → Held r p → p .span .floating .count ≤ 0 → p .span .indirect ≡ true
     → standing r base p v ≡ bytesOf (wordOf r * p .span .general .count + p .span .memory .length) (base + p .span .copy .start)
 unfolding standing
 stands-address r base p v h none e = rw (e, one-word r p h none e)
 
-pub stands-value : (r : Rules) (base : ℕ) (p : Placement) (v : List ℕ) → p .span .indirect ≡ false → length v ≡ p .size
+pub stands-value : (r : CallRules) (base : ℕ) (p : Placement) (v : List ℕ) → p .span .indirect ≡ false → length v ≡ p .size
     → standing r base p v ≡ homeBytes r (p .ty) (length v) v
 unfolding standing
 stands-value r base p v e n = rw (e, n)
 
 -- the value from its head on, or at the end of its words, which have `room` bytes
-pub home-head : (r : Rules) (t : ValueType) (v : List ℕ) (room : ℕ) → startsAtHead r t ≡ true → room ≡ roomOf r (length v)
+pub home-head : (r : CallRules) (t : ValueType) (v : List ℕ) (room : ℕ) → startsAtHead r t ≡ true → room ≡ roomOf r (length v)
     → v ++ replicate (room - length v) 0 ≡ homeBytes r t (length v) v
 unfolding homeBytes
 home-head r t v room s e = rw (s, e)
 
-pub home-end : (r : Rules) (t : ValueType) (v : List ℕ) (room : ℕ) → startsAtHead r t ≡ false → room ≡ roomOf r (length v)
+pub home-end : (r : CallRules) (t : ValueType) (v : List ℕ) (room : ℕ) → startsAtHead r t ≡ false → room ≡ roomOf r (length v)
     → bytesOf room (extended t (length v) (valueOf v)) ≡ homeBytes r t (length v) v
 unfolding homeBytes
 home-end r t v room s e = rw (s, e)
 
 -- what stands at the end of its words is a number of at most eight bytes
-pub number-fits : (r : Rules) (p : Placement) → Held r p → p .span .indirect ≡ false → startsAtHead r (p .ty) ≡ false
+pub number-fits : (r : CallRules) (p : Placement) → Held r p → p .span .indirect ≡ false → startsAtHead r (p .ty) ≡ false
     → 0 < wordOf r * p .span .general .count + p .span .memory .length → NumberFits (wordOf r) (p .span)
 number-fits r p h d e some =
     let small = h .small e d in

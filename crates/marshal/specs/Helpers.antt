@@ -5,7 +5,7 @@ use mathlib.Core.Path.{_≡_}
 use mathlib.Core.List.{List, _++_}
 use lib.ListN.{length, replicate}
 use Rattle.types.specs.declared.Equivalent.{Equivalent}
-use Rattle.places.specs.declared.Rules.{Rules}
+use Rattle.places.specs.declared.CallRules.{CallRules}
 use Rattle.places.specs.declared.Span.{Span}
 use Rattle.places.specs.Spots.{imageBytes}
 use Rattle.slots.specs.Placements.{Placement}
@@ -16,8 +16,8 @@ abbrev pub padded : ℕ → Span → List ℕ → List ℕ
 padded w s v = v ++ replicate (w * s .general .count + s .memory .length - length v) 0
 
 -- a span's words of w bytes lie in the image and the area
-abbrev pub WordsFit : ℕ → Span → List ℕ → List ℕ → Type 0
-WordsFit w s image area =
+abbrev pub SpanTakes : ℕ → Span → List ℕ → List ℕ → Type 0
+SpanTakes w s image area =
     (1 ≤ w)
     × (w ≤ 8)
     × (s .general .first + s .general .count ≤ 32)
@@ -30,13 +30,13 @@ abbrev pub NumberFits : ℕ → Span → Type 0
 NumberFits w s = (w * s .general .count + s .memory .length < w + 8) × (w ≡ 8 → 8 * s .general .count + s .memory .length ≡ 8)
 
 -- room for a float of n bytes in FPRs, of which l bytes are there
-abbrev pub FloatRoom : Equivalent → ℕ → ℕ → Type 0
-FloatRoom Equivalent.Single n l = (n ≡ 4) × (8 ≤ l)
-FloatRoom Equivalent.Double n l = n ≤ l
-FloatRoom Equivalent.Nothing n l = n ≤ l
+abbrev pub FprsTake : Equivalent → ℕ → ℕ → Type 0
+FprsTake Equivalent.Single n l = (n ≡ 4) × (8 ≤ l)
+FprsTake Equivalent.Double n l = n ≤ l
+FprsTake Equivalent.Nothing n l = n ≤ l
 
 -- an argument, and the lengths of the buffers that it is put in
-pub record Ready (r : Rules) (base i a c : ℕ) (p : Placement) : Type 0 where
+pub record CanPut (r : CallRules) (base i a c : ℕ) (p : Placement) : Type 0 where
   pub held : Held r p
   pub fits : Fits a c p
   pub registers : i ≡ imageBytes

@@ -1,7 +1,7 @@
 // The value of one argument put where its span says: in registers, memory and copy. A slot or a copy is written through the part of its
 // buffer that starts at its offset.
+use places::CallRules;
 use places::FPRS_AT;
-use places::Rules;
 use places::Span;
 use types::Equivalent;
 use types::ValueType;
@@ -18,11 +18,11 @@ ghost use Rattle.slots.specs.Buffers.{buffers, putAll};
 ghost use Rattle.slots.specs.Forms.{homeBytes, floatForm};
 ghost use Rattle.slots.specs.Placements.{placement, slotsOf};
 ghost use Rattle.slots.specs.Helpers.{Held};
-ghost use Rattle.marshal.specs.Helpers.{padded, WordsFit, NumberFits, FloatRoom, Ready};
+ghost use Rattle.marshal.specs.Helpers.{padded, SpanTakes, NumberFits, FprsTake, CanPut};
 
 // The eight bytes of x in the only word of a span, where a word is a doubleword: a general register or a doubleword of memory.
 fn put_word(image: &mut [u8], area: &mut [u8], s: Span, x: u64)
-    requires { ⌜ WordsFit 8 s (now image) (now area) × (8 * s .general .count + s .memory .length ≡ 8) ⌝ }
+    requires { ⌜ SpanTakes 8 s (now image) (now area) × (8 * s .general .count + s .memory .length ≡ 8) ⌝ }
     ensures { λ _. ⌜ (now (image .exit) ≡ splice (now (image .entry)) (8 * s .general .first) (take (8 * s .general .count) (bytesOf 8 x))) × (now (area .exit) ≡ splice (now (area .entry)) (s .memory .start) (part (8 * s .general .count) (s .memory .length) (bytesOf 8 x))) ⌝ }
 {
     let general = s.general;
@@ -38,7 +38,7 @@ fn put_word(image: &mut [u8], area: &mut [u8], s: Span, x: u64)
 
 // The lowest bytes of x in a span's words: the first words in general registers, the others in memory.
 fn put_each_word(image: &mut [u8], area: &mut [u8], word: usize, s: Span, x: u64)
-    requires { ⌜ WordsFit word s (now image) (now area) × NumberFits word s ⌝ }
+    requires { ⌜ SpanTakes word s (now image) (now area) × NumberFits word s ⌝ }
     ensures { λ _. ⌜ (now (image .exit) ≡ splice (now (image .entry)) (8 * s .general .first) (spread word (s .general .count) (bytesOf (word * s .general .count + s .memory .length) x))) × (now (area .exit) ≡ splice (now (area .entry)) (s .memory .start) (part (word * s .general .count) (s .memory .length) (bytesOf (word * s .general .count + s .memory .length) x))) ⌝ }
 {
     let general = s.general;
@@ -53,7 +53,7 @@ fn put_each_word(image: &mut [u8], area: &mut [u8], word: usize, s: Span, x: u64
 
 // The same in words of any width: a doubleword is put as it is.
 fn put_words(image: &mut [u8], area: &mut [u8], word: usize, s: Span, x: u64)
-    requires { ⌜ WordsFit word s (now image) (now area) × NumberFits word s ⌝ }
+    requires { ⌜ SpanTakes word s (now image) (now area) × NumberFits word s ⌝ }
     ensures { λ _. ⌜ (now (image .exit) ≡ splice (now (image .entry)) (8 * s .general .first) (spread word (s .general .count) (bytesOf (word * s .general .count + s .memory .length) x))) × (now (area .exit) ≡ splice (now (area .entry)) (s .memory .start) (part (word * s .general .count) (s .memory .length) (bytesOf (word * s .general .count + s .memory .length) x))) ⌝ }
 {
     if word == 8 {
@@ -65,7 +65,7 @@ fn put_words(image: &mut [u8], area: &mut [u8], word: usize, s: Span, x: u64)
 
 // The bytes v at the head of a span's words, and zeros after them: the first words in general registers, the others in memory.
 fn put_bytes(image: &mut [u8], area: &mut [u8], word: usize, s: Span, v: &[u8])
-    requires { ⌜ WordsFit word s (now image) (now area) × (length (now v) ≤ word * s .general .count + s .memory .length) × (word * s .general .count + s .memory .length < length (now v) + word) ⌝ }
+    requires { ⌜ SpanTakes word s (now image) (now area) × (length (now v) ≤ word * s .general .count + s .memory .length) × (word * s .general .count + s .memory .length < length (now v) + word) ⌝ }
     ensures { λ _. ⌜ (now (image .exit) ≡ splice (now (image .entry)) (8 * s .general .first) (spread word (s .general .count) (padded word s (now (v .entry))))) × (now (area .exit) ≡ splice (now (area .entry)) (s .memory .start) (part (word * s .general .count) (s .memory .length) (padded word s (now (v .entry))))) ⌝ }
 {
     let general = s.general;
@@ -85,8 +85,8 @@ fn put_bytes(image: &mut [u8], area: &mut [u8], word: usize, s: Span, v: &[u8])
 }
 
 // A float's form in its FPRs, at the head of `place`.
-fn put_float(place: &mut [u8], r: Rules, e: Equivalent, v: &[u8])
-    requires { ⌜ FloatRoom e (length (now v)) (length (now place)) ⌝ }
+fn put_float(place: &mut [u8], r: CallRules, e: Equivalent, v: &[u8])
+    requires { ⌜ FprsTake e (length (now v)) (length (now place)) ⌝ }
     ensures { λ _. ⌜ now (place .exit) ≡ overlay (now (place .entry)) (floatForm r e (now (v .entry))) ⌝ }
 {
     match e {
@@ -112,8 +112,8 @@ fn no_words(s: Span) -> bool
 }
 
 // A value v of type t in the general registers and the memory of its span, where it has any.
-fn put_value(image: &mut [u8], area: &mut [u8], r: Rules, t: ValueType, s: Span, v: &[u8])
-    requires { ⌜ WordsFit (wordOf r) s (now image) (now area) × Held r (placement t (length (now v)) s) × (s .indirect ≡ false) ⌝ }
+fn put_value(image: &mut [u8], area: &mut [u8], r: CallRules, t: ValueType, s: Span, v: &[u8])
+    requires { ⌜ SpanTakes (wordOf r) s (now image) (now area) × Held r (placement t (length (now v)) s) × (s .indirect ≡ false) ⌝ }
     ensures { λ _. ⌜ (now (image .exit) ≡ splice (now (image .entry)) (8 * s .general .first) (spread (wordOf r) (s .general .count) (homeBytes r t (length (now (v .entry))) (now (v .entry))))) × (now (area .exit) ≡ splice (now (area .entry)) (s .memory .start) (part (wordOf r * s .general .count) (s .memory .length) (homeBytes r t (length (now (v .entry))) (now (v .entry))))) ⌝ }
 {
     if no_words(s) {
@@ -132,13 +132,13 @@ pub fn put_argument(
     image: &mut [u8],
     area: &mut [u8],
     copies: &mut [u8],
-    r: Rules,
+    r: CallRules,
     t: ValueType,
     s: Span,
     v: &[u8],
     base: u64,
 )
-    requires { ⌜ Ready r base (length (now image)) (length (now area)) (length (now copies)) (placement t (length (now v)) s) ⌝ }
+    requires { ⌜ CanPut r base (length (now image)) (length (now area)) (length (now copies)) (placement t (length (now v)) s) ⌝ }
     ensures { λ _. ⌜ buffers (now (image .exit)) (now (area .exit)) (now (copies .exit)) ≡ putAll (slotsOf r base (placement t (length (now (v .entry))) s) (now (v .entry))) (buffers (now (image .entry)) (now (area .entry)) (now (copies .entry))) ⌝ }
 {
     let floating = s.floating;

@@ -15,12 +15,12 @@ ghost use lib.ListN.{length};
 ghost use Rattle.signature.specs.Read.{argumentsIn, signatureOf};
 ghost use Rattle.signature.specs.Answer.{signatureAnswer};
 ghost use Rattle.signature.specs.Helpers.{SmallResult};
-ghost use Rattle.plan.specs.Plan.{refused, planAnswer, measureOf};
+ghost use Rattle.plan.specs.Plan.{refusedPlan, planAnswer, measureOf};
 ghost use Rattle.plan.specs.Helpers.{planWith, unclearWith, measuredBy};
 ghost use Rattle.plan.specs.Call.{callOf};
 
 fn no_measure(fault: Fault) -> Measured
-    ensures { λ m. ⌜ m ≡ measureOf (refused fault) ⌝ }
+    ensures { λ m. ⌜ m ≡ measureOf (refusedPlan fault) ⌝ }
 {
     Measured {
         outcome: Outcome::Refused(fault),
@@ -37,7 +37,7 @@ struct Passed {
 }
 
 fn not_passed(fault: Fault) -> Passed
-    ensures { λ a. ⌜ (a .measured ≡ measureOf (refused fault)) × (a .unclear ≡ 0) ⌝ }
+    ensures { λ a. ⌜ (a .measured ≡ measureOf (refusedPlan fault)) × (a .unclear ≡ 0) ⌝ }
 {
     Passed {
         measured: no_measure(fault),

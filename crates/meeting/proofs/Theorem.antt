@@ -33,7 +33,7 @@ use Rattle.signature.specs.Types.{typesOf}
 use Rattle.plan.specs.Call.{called}
 use Rattle.plan.proofs.Fold.{last-more}
 use Rattle.saves.proofs.Taking.{le-or-lt}
-use Rattle.rules.specs.declared.Rules.{Rules}
+use Rattle.rules.specs.declared.FrameRules.{FrameRules}
 use Rattle.rules.specs.declared.Frame.{Frame}
 use Rattle.rules.specs.Rules.{span, inSpan, rules}
 use Rattle.rules.specs.Frames.{firstGpr, firstFpr, savesCr, hasCondition, maxOutgoing, okLeaf, okRequest}
@@ -155,7 +155,7 @@ area-is Convention.Ppc64b d e = record { whole = omega arith; most = omega arith
 
 -- ---- the request
 
-ask : (k : Rules) (f : Frame) (a : ℕ) → f .leaf ≡ false → a % 8 ≡ 0 → a ≤ maxOutgoing → okRequest k f ≡ true → okRequest k (asking f a) ≡ true
+ask : (k : FrameRules) (f : Frame) (a : ℕ) → f .leaf ≡ false → a % 8 ≡ 0 → a ≤ maxOutgoing → okRequest k f ≡ true → okRequest k (asking f a) ≡ true
 unfolding okRequest okLeaf
 ask k f a solid e h r =
     let x = and-yes (inSpan (k .gpr .request) (firstGpr f)) _ r in

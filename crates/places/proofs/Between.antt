@@ -7,7 +7,7 @@ use Rattle.types.specs.declared.ValueType.{ValueType}
 use Rattle.places.specs.declared.Cursor.{Cursor}
 use Rattle.places.specs.declared.Span.{Span}
 use Rattle.places.specs.declared.Share.{Share}
-use Rattle.places.specs.declared.Rules.{Rules}
+use Rattle.places.specs.declared.CallRules.{CallRules}
 use Rattle.places.specs.declared.ZClass.{ZClass}
 use Rattle.places.specs.Power.{words, covered, powerShare, powerSpan, powerNext}
 use Rattle.places.specs.Helpers.{Shared}
@@ -52,10 +52,10 @@ z-between c ZClass.Simple n = omega arith
 z-between c ZClass.Reference n = omega arith
 
 -- at every cursor, for every type and size
-pub step-between : (r : Rules) (c : Cursor) (t : ValueType) (n : ℕ) → Between c (spanOf r c t n) (nextOf r c t n)
+pub step-between : (r : CallRules) (c : Cursor) (t : ValueType) (n : ℕ) → Between c (spanOf r c t n) (nextOf r c t n)
 unfolding spanOf nextOf powerShare
-step-between (Rules.Power f) c t n = power-between (f .word) c (words (f .word) n) (powerShare f c t n) (share-shared _ _ _ _ _ (fprs-most (f .edition) t))
-step-between Rules.Z c t n = z-between c (zClass t n) n
+step-between (CallRules.Power f) c t n = power-between (f .word) c (words (f .word) n) (powerShare f c t n) (share-shared _ _ _ _ _ (fprs-most (f .edition) t))
+step-between CallRules.Z c t n = z-between c (zClass t n) n
 
 -- ---- what a span owns lies from its cursor on and before the next
 
@@ -102,7 +102,7 @@ from-earlier f (floating n) a = omega (arith, f)
 from-earlier f (area n) a = omega (arith, f)
 from-earlier f (copies n) a = omega (arith, f)
 
-module _ (r : Rules) (c : Cursor) (t : ValueType) (n : ℕ) where
+module _ (r : CallRules) (c : Cursor) (t : ValueType) (n : ℕ) where
   pub step-forward : Forward c (nextOf r c t n)
   step-forward = let b = step-between r c t n in record { general = omega arith; floating = omega arith; stack = omega arith; copies = omega arith }
 

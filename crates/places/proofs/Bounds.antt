@@ -9,18 +9,18 @@ use Rattle.conventions.specs.declared.Convention.{Convention}
 use Rattle.conventions.specs.Numbers.{wordBytes, leastArea}
 use Rattle.types.specs.declared.ValueType.{ValueType}
 use Rattle.places.specs.declared.Cursor.{Cursor}
-use Rattle.places.specs.declared.Rules.{Rules}
+use Rattle.places.specs.declared.CallRules.{CallRules}
 use Rattle.places.specs.declared.ZClass.{ZClass}
 use Rattle.places.specs.Values.{pointer}
 use Rattle.places.specs.Power.{words, fprs, covered, powerShare}
 use Rattle.places.specs.ZSeries.{zClass, zNextOf}
 use Rattle.places.specs.Step.{rulesOf, wordOf, nextOf, fresh, startOf, areaOf, returning}
-use Rattle.places.specs.Helpers.{Lawful, Roomy, unclearAfter}
+use Rattle.places.specs.Helpers.{LawfulCalls, Roomy, unclearAfter}
 use Rattle.places.proofs.Shares.{share-room}
 
 -- ---- the conventions
 
-pub rules-lawful : (c : Convention) → Lawful (rulesOf c)
+pub rules-lawful : (c : Convention) → LawfulCalls (rulesOf c)
 rules-lawful Convention.Ppc64 = omega arith
 rules-lawful Convention.Z = tt
 rules-lawful Convention.Aix = omega arith
@@ -33,45 +33,45 @@ rules-word Convention.Z = refl
 rules-word Convention.Aix = refl
 rules-word Convention.Ppc64b = refl
 
-pub returning-lawful : (r : Rules) → Lawful r → Lawful (returning r)
+pub returning-lawful : (r : CallRules) → LawfulCalls r → LawfulCalls (returning r)
 unfolding returning
-returning-lawful (Rules.Power f) h = h
-returning-lawful Rules.Z h = tt
+returning-lawful (CallRules.Power f) h = h
+returning-lawful CallRules.Z h = tt
 
-pub word-some : (r : Rules) → Lawful r → 0 < wordOf r
-word-some (Rules.Power f) h = omega arith
-word-some Rules.Z h = omega arith
+pub word-some : (r : CallRules) → LawfulCalls r → 0 < wordOf r
+word-some (CallRules.Power f) h = omega arith
+word-some CallRules.Z h = omega arith
 
-pub word-most : (r : Rules) → Lawful r → wordOf r ≤ 8
-word-most (Rules.Power f) h = omega arith
-word-most Rules.Z h = omega arith
+pub word-most : (r : CallRules) → LawfulCalls r → wordOf r ≤ 8
+word-most (CallRules.Power f) h = omega arith
+word-most CallRules.Z h = omega arith
 
 -- ---- the registers: r3 to r10 and f1 to f13; on Z r2 to r6, and f0, f2, f4 and f6
 
 -- the next register is one of these or the first after them
-abbrev pub Named : Rules → Cursor → Type 0
-Named (Rules.Power f) c = (3 ≤ c .general) × (c .general ≤ 11) × (1 ≤ c .floating) × (c .floating ≤ 14)
-Named Rules.Z c = (2 ≤ c .general) × (c .general ≤ 7) × (c .floating ≤ 8) × (c .floating % 2 ≡ 0)
+abbrev pub Named : CallRules → Cursor → Type 0
+Named (CallRules.Power f) c = (3 ≤ c .general) × (c .general ≤ 11) × (1 ≤ c .floating) × (c .floating ≤ 14)
+Named CallRules.Z c = (2 ≤ c .general) × (c .general ≤ 7) × (c .floating ≤ 8) × (c .floating % 2 ≡ 0)
 
-pub named-fresh : (r : Rules) → Named r (fresh r)
+pub named-fresh : (r : CallRules) → Named r (fresh r)
 unfolding fresh
-named-fresh (Rules.Power f) = omega arith
-named-fresh Rules.Z = omega arith
+named-fresh (CallRules.Power f) = omega arith
+named-fresh CallRules.Z = omega arith
 
-z-named : (c : Cursor) (class : ZClass) (n : ℕ) → Named Rules.Z c → Named Rules.Z (zNextOf c class n)
+z-named : (c : Cursor) (class : ZClass) (n : ℕ) → Named CallRules.Z c → Named CallRules.Z (zNextOf c class n)
 unfolding zNextOf
 z-named c ZClass.Float n h = omega arith
 z-named c ZClass.Simple n h = omega arith
 z-named c ZClass.Reference n h = omega arith
 
-pub named-next : (r : Rules) (c : Cursor) (t : ValueType) (n : ℕ) → Named r c → Named r (nextOf r c t n)
+pub named-next : (r : CallRules) (c : Cursor) (t : ValueType) (n : ℕ) → Named r c → Named r (nextOf r c t n)
 unfolding nextOf powerShare
-named-next (Rules.Power f) c t n h =
+named-next (CallRules.Power f) c t n h =
     let room : powerShare f c t n .floating ≤ 14 - c .floating = share-room (f .ellipsis) (fprs (f .edition) t) (14 - c .floating) (words (f .word) n) (covered c (words (f .word) n)) in
     omega arith
-named-next Rules.Z c t n h = z-named c (zClass t n) n h
+named-next CallRules.Z c t n h = z-named c (zClass t n) n h
 
-pub named-start : (r : Rules) (hidden : Bool) → Named r (startOf r hidden)
+pub named-start : (r : CallRules) (hidden : Bool) → Named r (startOf r hidden)
 unfolding startOf
 named-start r true = named-next r (fresh r) pointer (wordOf r) (named-fresh r)
 named-start r false = named-fresh r
@@ -93,27 +93,27 @@ z-near c ZClass.Float n h = omega arith
 z-near c ZClass.Simple n h = omega arith
 z-near c ZClass.Reference n h = omega arith
 
-pub near-next : (r : Rules) (c : Cursor) (t : ValueType) (n : ℕ) → Lawful r → n ≤ 256 → Near c (nextOf r c t n)
+pub near-next : (r : CallRules) (c : Cursor) (t : ValueType) (n : ℕ) → LawfulCalls r → n ≤ 256 → Near c (nextOf r c t n)
 unfolding nextOf
-near-next (Rules.Power f) c t n l h = let b = word-bound (f .word) n (l .0) (l .1) h in record { stack = omega arith; copies = omega arith }
-near-next Rules.Z c t n l h = z-near c (zClass t n) n h
+near-next (CallRules.Power f) c t n l h = let b = word-bound (f .word) n (l .0) (l .1) h in record { stack = omega arith; copies = omega arith }
+near-next CallRules.Z c t n l h = z-near c (zClass t n) n h
 
 -- the bytes of the first cursor: none
-fresh-bytes : (r : Rules) → (fresh r .stack ≡ 0) × (fresh r .copies ≡ 0)
+fresh-bytes : (r : CallRules) → (fresh r .stack ≡ 0) × (fresh r .copies ≡ 0)
 unfolding fresh
-fresh-bytes (Rules.Power f) = (refl, refl)
-fresh-bytes Rules.Z = (refl, refl)
+fresh-bytes (CallRules.Power f) = (refl, refl)
+fresh-bytes CallRules.Z = (refl, refl)
 
-pub start-bytes : (r : Rules) (hidden : Bool) → Lawful r → (startOf r hidden .stack ≤ 264) × (startOf r hidden .copies ≤ 264)
+pub start-bytes : (r : CallRules) (hidden : Bool) → LawfulCalls r → (startOf r hidden .stack ≤ 264) × (startOf r hidden .copies ≤ 264)
 unfolding startOf
 start-bytes r true l = let b = near-next r (fresh r) pointer (wordOf r) l (omega (arith, word-most r l)) in omega (arith, fresh-bytes r)
 start-bytes r false l = omega (arith, fresh-bytes r)
 
-pub named-roomy : (r : Rules) (c : Cursor) → Named r c → c .stack ≤ 60000 → c .copies ≤ 60000 → Roomy c
-named-roomy (Rules.Power f) c h s k = omega arith
-named-roomy Rules.Z c h s k = omega arith
+pub named-roomy : (r : CallRules) (c : Cursor) → Named r c → c .stack ≤ 60000 → c .copies ≤ 60000 → Roomy c
+named-roomy (CallRules.Power f) c h s k = omega arith
+named-roomy CallRules.Z c h s k = omega arith
 
-pub fresh-roomy : (r : Rules) → Roomy (fresh r)
+pub fresh-roomy : (r : CallRules) → Roomy (fresh r)
 fresh-roomy r = named-roomy r (fresh r) (named-fresh r) (omega (arith, fresh-bytes r)) (omega (arith, fresh-bytes r))
 
 -- "The area is 8 times the larger of 8 and the final w": never less than the least area

@@ -6,26 +6,26 @@ use Rattle.conventions.specs.declared.Convention.{Convention}
 use Rattle.types.specs.declared.ValueType.{ValueType}
 use Rattle.places.specs.declared.Cursor.{Cursor}
 use Rattle.places.specs.declared.PowerRules.{PowerRules}
-use Rattle.places.specs.declared.Rules.{Rules}
+use Rattle.places.specs.declared.CallRules.{CallRules}
 use Rattle.places.specs.Values.{pointer}
 use Rattle.places.specs.Power.{words, fprs, covered, shareOf, powerShare, powerNext, unclear}
 use Rattle.places.specs.Step.{rulesOf, withEllipsis, wordOf, spanOf, nextOf, unclearFor, fresh, startOf, hiddenFor, returning, resultOf}
-use Rattle.places.specs.Helpers.{Lawful, alwaysClear}
+use Rattle.places.specs.Helpers.{LawfulCalls, alwaysClear}
 use Rattle.places.specs.Spots.{Spot, general, floating, area, copies, ArgumentRegister}
 use Rattle.places.proofs.Shares.{share-marked}
 use Rattle.places.proofs.Bounds.{Named}
 
 -- ---- the rules
 
-pub lawful-marked : (v : Bool) (r : Rules) → Lawful r → Lawful (withEllipsis v r)
+pub lawful-marked : (v : Bool) (r : CallRules) → LawfulCalls r → LawfulCalls (withEllipsis v r)
 unfolding withEllipsis
-lawful-marked v (Rules.Power f) h = h
-lawful-marked v Rules.Z h = tt
+lawful-marked v (CallRules.Power f) h = h
+lawful-marked v CallRules.Z h = tt
 
-pub word-marked : (v : Bool) (r : Rules) → wordOf (withEllipsis v r) ≡ wordOf r
+pub word-marked : (v : Bool) (r : CallRules) → wordOf (withEllipsis v r) ≡ wordOf r
 unfolding withEllipsis
-word-marked v (Rules.Power f) = refl
-word-marked v Rules.Z = refl
+word-marked v (CallRules.Power f) = refl
+word-marked v CallRules.Z = refl
 
 -- a convention's own rules are those without one
 pub rules-plain : (c : Convention) → withEllipsis false (rulesOf c) ≡ rulesOf c
@@ -39,67 +39,67 @@ rules-plain Convention.Ppc64b = refl
 
 -- so that it can be found without looking for one
 pub next-plain : (f : PowerRules) (c : Cursor) (t : ValueType) (n : ℕ)
-    → powerNext (f .word) c (words (f .word) n) (powerShare (record { word = f .word; edition = f .edition; ellipsis = false }) c t n) ≡ nextOf (Rules.Power f) c t n
+    → powerNext (f .word) c (words (f .word) n) (powerShare (record { word = f .word; edition = f .edition; ellipsis = false }) c t n) ≡ nextOf (CallRules.Power f) c t n
 unfolding nextOf powerShare
 next-plain f c t n =
     let len : ℕ = words (f .word) n in
     rw (share-marked (f .ellipsis) (fprs (f .edition) t) (14 - c .floating) len (covered c len))
 
-pub next-marked : (v : Bool) (r : Rules) (c : Cursor) (t : ValueType) (n : ℕ) → nextOf (withEllipsis v r) c t n ≡ nextOf r c t n
+pub next-marked : (v : Bool) (r : CallRules) (c : Cursor) (t : ValueType) (n : ℕ) → nextOf (withEllipsis v r) c t n ≡ nextOf r c t n
 unfolding withEllipsis
-next-marked v (Rules.Power f) c t n = sym (next-plain (record { word = f .word; edition = f .edition; ellipsis = v }) c t n) ∙ next-plain f c t n
-next-marked v Rules.Z c t n = refl
+next-marked v (CallRules.Power f) c t n = sym (next-plain (record { word = f .word; edition = f .edition; ellipsis = v }) c t n) ∙ next-plain f c t n
+next-marked v CallRules.Z c t n = refl
 
-pub fresh-marked : (v : Bool) (r : Rules) → fresh (withEllipsis v r) ≡ fresh r
+pub fresh-marked : (v : Bool) (r : CallRules) → fresh (withEllipsis v r) ≡ fresh r
 unfolding withEllipsis fresh
-fresh-marked v (Rules.Power f) = refl
-fresh-marked v Rules.Z = refl
+fresh-marked v (CallRules.Power f) = refl
+fresh-marked v CallRules.Z = refl
 
-pub start-marked : (v : Bool) (r : Rules) (hidden : Bool) → startOf (withEllipsis v r) hidden ≡ startOf r hidden
+pub start-marked : (v : Bool) (r : CallRules) (hidden : Bool) → startOf (withEllipsis v r) hidden ≡ startOf r hidden
 unfolding startOf
 start-marked v r true = rw (word-marked v r, fresh-marked v r) (next-marked v r (fresh r) pointer (wordOf r))
 start-marked v r false = fresh-marked v r
 
 -- ---- the registers are those of any argument
 
-pub named-marked : (v : Bool) (r : Rules) (c : Cursor) → Named r c → Named (withEllipsis v r) c
+pub named-marked : (v : Bool) (r : CallRules) (c : Cursor) → Named r c → Named (withEllipsis v r) c
 unfolding withEllipsis
-named-marked v (Rules.Power f) c h = h
-named-marked v Rules.Z c h = h
+named-marked v (CallRules.Power f) c h = h
+named-marked v CallRules.Z c h = h
 
-pub register-marked : (v : Bool) (r : Rules) (x : Spot) → ArgumentRegister (withEllipsis v r) x → ArgumentRegister r x
+pub register-marked : (v : Bool) (r : CallRules) (x : Spot) → ArgumentRegister (withEllipsis v r) x → ArgumentRegister r x
 unfolding withEllipsis
-register-marked v (Rules.Power f) (general n) h = h
-register-marked v (Rules.Power f) (floating n) h = h
-register-marked v (Rules.Power f) (area n) h = tt
-register-marked v (Rules.Power f) (copies n) h = tt
-register-marked v Rules.Z x h = h
+register-marked v (CallRules.Power f) (general n) h = h
+register-marked v (CallRules.Power f) (floating n) h = h
+register-marked v (CallRules.Power f) (area n) h = tt
+register-marked v (CallRules.Power f) (copies n) h = tt
+register-marked v CallRules.Z x h = h
 
 -- ---- 29
 
-pub unclear-marked : (v : Bool) (r : Rules) (c : Cursor) (t : ValueType) → unclearFor (withEllipsis v r) c t ≡ unclearFor r c t
+pub unclear-marked : (v : Bool) (r : CallRules) (c : Cursor) (t : ValueType) → unclearFor (withEllipsis v r) c t ≡ unclearFor r c t
 unfolding withEllipsis unclearFor unclear
-unclear-marked v (Rules.Power f) c t = refl
-unclear-marked v Rules.Z c t = refl
+unclear-marked v (CallRules.Power f) c t = refl
+unclear-marked v CallRules.Z c t = refl
 
-pub always-marked : (v : Bool) (r : Rules) → alwaysClear (withEllipsis v r) ≡ alwaysClear r
+pub always-marked : (v : Bool) (r : CallRules) → alwaysClear (withEllipsis v r) ≡ alwaysClear r
 unfolding withEllipsis alwaysClear
-always-marked v (Rules.Power f) = refl
-always-marked v Rules.Z = refl
+always-marked v (CallRules.Power f) = refl
+always-marked v CallRules.Z = refl
 
 -- ---- the result
 
-pub hidden-marked : (v : Bool) (r : Rules) (t : ValueType) → hiddenFor (withEllipsis v r) t ≡ hiddenFor r t
+pub hidden-marked : (v : Bool) (r : CallRules) (t : ValueType) → hiddenFor (withEllipsis v r) t ≡ hiddenFor r t
 unfolding withEllipsis hiddenFor
-hidden-marked v (Rules.Power f) (ValueType.Integer k) = refl
-hidden-marked v (Rules.Power f) (ValueType.Float x) = refl
-hidden-marked v (Rules.Power f) (ValueType.Struct s) = refl
-hidden-marked v Rules.Z t = refl
+hidden-marked v (CallRules.Power f) (ValueType.Integer k) = refl
+hidden-marked v (CallRules.Power f) (ValueType.Float x) = refl
+hidden-marked v (CallRules.Power f) (ValueType.Struct s) = refl
+hidden-marked v CallRules.Z t = refl
 
 -- a float result is in its FPRs alone
-pub result-marked : (v : Bool) (r : Rules) (t : ValueType) (n : ℕ) → resultOf (withEllipsis v r) t n ≡ resultOf r t n
+pub result-marked : (v : Bool) (r : CallRules) (t : ValueType) (n : ℕ) → resultOf (withEllipsis v r) t n ≡ resultOf r t n
 unfolding withEllipsis resultOf hiddenFor returning spanOf fresh powerShare shareOf fprs
-result-marked v (Rules.Power f) (ValueType.Integer k) n = refl
-result-marked v (Rules.Power f) (ValueType.Float x) n = refl
-result-marked v (Rules.Power f) (ValueType.Struct s) n = refl
-result-marked v Rules.Z t n = refl
+result-marked v (CallRules.Power f) (ValueType.Integer k) n = refl
+result-marked v (CallRules.Power f) (ValueType.Float x) n = refl
+result-marked v (CallRules.Power f) (ValueType.Struct s) n = refl
+result-marked v CallRules.Z t n = refl

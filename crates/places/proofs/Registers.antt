@@ -13,7 +13,7 @@ use Rattle.places.specs.declared.Bank.{Bank}
 use Rattle.places.specs.declared.Place.{Place}
 use Rattle.places.specs.declared.Cursor.{Cursor}
 use Rattle.places.specs.declared.Span.{Span}
-use Rattle.places.specs.declared.Rules.{Rules}
+use Rattle.places.specs.declared.CallRules.{CallRules}
 use Rattle.places.specs.declared.ResultPlaces.{ResultPlaces}
 use Rattle.places.specs.declared.ZClass.{ZClass}
 use Rattle.places.specs.ZSeries.{zClass, zSpanOf}
@@ -70,24 +70,24 @@ register-general s i l h =
 
 -- ---- bounds
 
-named-small : (r : Rules) (c : Cursor) → Named r c → (c .general ≤ 32) × (c .floating ≤ 32)
-named-small (Rules.Power f) c h = omega arith
-named-small Rules.Z c h = omega arith
+named-small : (r : CallRules) (c : Cursor) → Named r c → (c .general ≤ 32) × (c .floating ≤ 32)
+named-small (CallRules.Power f) c h = omega arith
+named-small CallRules.Z c h = omega arith
 
 -- a step's registers are numbers of their bank
-pub step-numbered : (r : Rules) (c : Cursor) (t : ValueType) (n : ℕ) → Named r c → Numbered (spanOf r c t n)
+pub step-numbered : (r : CallRules) (c : Cursor) (t : ValueType) (n : ℕ) → Named r c → Numbered (spanOf r c t n)
 step-numbered r c t n h =
     let b = step-between r c t n in
     let s = named-small r (nextOf r c t n) (named-next r c t n h) in
     omega arith
 
-named-returning : (r : Rules) → Named (returning r) (fresh r)
+named-returning : (r : CallRules) → Named (returning r) (fresh r)
 unfolding returning fresh
-named-returning (Rules.Power f) = omega arith
-named-returning Rules.Z = omega arith
+named-returning (CallRules.Power f) = omega arith
+named-returning CallRules.Z = omega arith
 
 -- those of a result too
-pub result-numbered : (r : Rules) (t : ValueType) (n : ℕ) → ResultNumbered (resultOf r t n)
+pub result-numbered : (r : CallRules) (t : ValueType) (n : ℕ) → ResultNumbered (resultOf r t n)
 unfolding resultOf
 result-numbered r t n = go (hiddenFor r t)
   where
@@ -95,7 +95,7 @@ result-numbered r t n = go (hiddenFor r t)
     go true = step-numbered r (fresh r) pointer (wordOf r) (named-fresh r)
     go false = step-numbered (returning r) (fresh r) t n (named-returning r)
 
-z-registers : (c : Cursor) (class : ZClass) (n : ℕ) (x : Spot) → Named Rules.Z c → Owns (zSpanOf c class n) x → ArgumentRegister Rules.Z x
+z-registers : (c : Cursor) (class : ZClass) (n : ℕ) (x : Spot) → Named CallRules.Z c → Owns (zSpanOf c class n) x → ArgumentRegister CallRules.Z x
 unfolding zSpanOf
 z-registers c ZClass.Float n (general k) h o = omega arith
 z-registers c ZClass.Simple n (general k) h o = omega arith
@@ -107,16 +107,16 @@ z-registers c class n (area k) h o = tt
 z-registers c class n (copies k) h o = tt
 
 -- and those that the convention names
-pub step-registers : (r : Rules) (c : Cursor) (t : ValueType) (n : ℕ) (x : Spot) → Named r c → Owns (spanOf r c t n) x → ArgumentRegister r x
+pub step-registers : (r : CallRules) (c : Cursor) (t : ValueType) (n : ℕ) (x : Spot) → Named r c → Owns (spanOf r c t n) x → ArgumentRegister r x
 unfolding spanOf
-step-registers (Rules.Power f) c t n (general k) h o =
-    let b = step-between (Rules.Power f) c t n in
-    let d = named-next (Rules.Power f) c t n h in
+step-registers (CallRules.Power f) c t n (general k) h o =
+    let b = step-between (CallRules.Power f) c t n in
+    let d = named-next (CallRules.Power f) c t n h in
     omega arith
-step-registers (Rules.Power f) c t n (floating k) h o =
-    let b = step-between (Rules.Power f) c t n in
-    let d = named-next (Rules.Power f) c t n h in
+step-registers (CallRules.Power f) c t n (floating k) h o =
+    let b = step-between (CallRules.Power f) c t n in
+    let d = named-next (CallRules.Power f) c t n h in
     omega arith
-step-registers (Rules.Power f) c t n (area k) h o = tt
-step-registers (Rules.Power f) c t n (copies k) h o = tt
-step-registers Rules.Z c t n x h o = z-registers c (zClass t n) n x h o
+step-registers (CallRules.Power f) c t n (area k) h o = tt
+step-registers (CallRules.Power f) c t n (copies k) h o = tt
+step-registers CallRules.Z c t n x h o = z-registers c (zClass t n) n x h o

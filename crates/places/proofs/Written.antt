@@ -22,7 +22,7 @@ use Rattle.places.specs.declared.Cursor.{Cursor}
 use Rattle.places.specs.declared.Share.{Share}
 use Rattle.places.specs.declared.Edition.{Edition}
 use Rattle.places.specs.declared.PowerRules.{PowerRules}
-use Rattle.places.specs.declared.Rules.{Rules}
+use Rattle.places.specs.declared.CallRules.{CallRules}
 use Rattle.places.specs.declared.ZClass.{ZClass}
 use Rattle.places.specs.Values.{cursor, registers, bytes, share}
 use Rattle.places.specs.Power.{words, fprs, covered, shareOf, powerShare, unclear}
@@ -40,18 +40,18 @@ abbrev pub counted : ℕ → ℕ → ℕ → ℕ → Cursor
 counted word w m k = cursor (3 + min w 8) m (word * w) k
 
 -- "The doubleword count w starts at 0, or at 1 when the result is a struct: its address is then a hidden first argument in r3"
-pub start-written : (f : PowerRules) → startOf (Rules.Power f) false ≡ counted (f .word) 0 1 0
+pub start-written : (f : PowerRules) → startOf (CallRules.Power f) false ≡ counted (f .word) 0 1 0
 unfolding startOf fresh
 start-written f = rw (mul-zero (f .word))
 
-pub hidden-written : (f : PowerRules) → 0 < f .word → startOf (Rules.Power f) true ≡ counted (f .word) 1 1 0
+pub hidden-written : (f : PowerRules) → 0 < f .word → startOf (CallRules.Power f) true ≡ counted (f .word) 1 1 0
 unfolding startOf fresh nextOf words fprs shareOf powerShare
 hidden-written f h =
     let one : (f .word + (f .word - 1)) / f .word ≡ 1 = add-div-left (f .word - 1) h ∙ ap (λ (x : ℕ). x + 1) (div-eq-of-lt (omega arith)) in
     rw (one, zero-add (f .word * 1))
 
 -- "Offset in the area is 8w"
-pub offset-written : (f : PowerRules) (w m k : ℕ) (t : ValueType) (n : ℕ) → spanOf (Rules.Power f) (counted (f .word) w m k) t n .home .start ≡ f .word * w
+pub offset-written : (f : PowerRules) (w m k : ℕ) (t : ValueType) (n : ℕ) → spanOf (CallRules.Power f) (counted (f .word) w m k) t n .home .start ≡ f .word * w
 unfolding spanOf
 offset-written f w m k t n = refl
 
@@ -64,7 +64,7 @@ shareAt f w m t n = shareOf (f .ellipsis) (fprs (f .edition) t) (14 - m) (words 
 
 -- every argument, a float too, moves w by its words
 pub next-counted : (f : PowerRules) (w m k : ℕ) (t : ValueType) (n : ℕ)
-    → nextOf (Rules.Power f) (counted (f .word) w m k) t n ≡ counted (f .word) (w + words (f .word) n) (m + shareAt f w m t n .floating) k
+    → nextOf (CallRules.Power f) (counted (f .word) w m k) t n ≡ counted (f .word) (w + words (f .word) n) (m + shareAt f w m t n .floating) k
 unfolding nextOf powerShare
 next-counted f w m k t n =
     let len : ℕ = words (f .word) n in
@@ -143,7 +143,7 @@ straddle word (suc n) w = go (ltb w 8) refl (straddle word n (w + 1))
 
 -- "Each doubleword of a whole, struct or long double goes to r(3+w) while w < 8, then to memory; one argument may straddle"
 pub words-written : (f : PowerRules) (w m k : ℕ) (t : ValueType) (n : ℕ) → 0 < f .word → fprs (f .edition) t ≡ 0
-    → placesOf (f .word) (spanOf (Rules.Power f) (counted (f .word) w m k) t n) ≡ map (wordPlace (f .word)) (upFrom w 1 (words (f .word) n))
+    → placesOf (f .word) (spanOf (CallRules.Power f) (counted (f .word) w m k) t n) ≡ map (wordPlace (f .word)) (upFrom w 1 (words (f .word) n))
 unfolding spanOf powerShare shareOf placesOf registersOf memoryOf upFrom
 words-written f w m k t n h z =
     let len : ℕ = words (f .word) n in
@@ -155,7 +155,7 @@ words-written f w m k t n h z =
 -- an argument that asks for FPRs, one or more: the next ones, where so many are left; else memory alone. 02, No. 12: "a long double argument
 -- takes two successive FPRs instead of GPRs", "With no FPR left it is memory only"
 pub floats-written : (f : PowerRules) (w m k : ℕ) (t : ValueType) (n j : ℕ) → 0 < f .word → f .ellipsis ≡ false → fprs (f .edition) t ≡ suc j
-    → placesOf (f .word) (spanOf (Rules.Power f) (counted (f .word) w m k) t n)
+    → placesOf (f .word) (spanOf (CallRules.Power f) (counted (f .word) w m k) t n)
     ≡ pick (leb (suc j) (14 - m)) (map (register Bank.Floating) (upFrom m 1 (suc j))) (map Place.Memory (upFrom (f .word * w) (f .word) (words (f .word) n)))
 unfolding spanOf powerShare shareOf placesOf registersOf memoryOf upFrom
 floats-written f w m k t n j h e z = rw (z, e) (go (leb (suc j) (14 - m)))
@@ -178,7 +178,7 @@ floats-written f w m k t n j h e z = rw (z, e) (go (leb (suc j) (14 - m)))
 
 -- "Singles and doubles take f1 to f13 in order, skip their GPR, and aren't stored in memory; after f13, memory only"
 pub float-written : (f : PowerRules) (w m k : ℕ) (t : ValueType) (n : ℕ) → 0 < f .word → f .ellipsis ≡ false → fprs (f .edition) t ≡ 1
-    → placesOf (f .word) (spanOf (Rules.Power f) (counted (f .word) w m k) t n)
+    → placesOf (f .word) (spanOf (CallRules.Power f) (counted (f .word) w m k) t n)
     ≡ pick (leb 1 (14 - m)) (register Bank.Floating m ∷ []) (map Place.Memory (upFrom (f .word * w) (f .word) (words (f .word) n)))
 unfolding upFrom
 float-written f w m k t n h e z = floats-written f w m k t n 0 h e z
@@ -187,7 +187,7 @@ float-written f w m k t n h e z = floats-written f w m k t n 0 h e z
 -- its GPR while its own w is below 8, then in memory". Every type: the FPRs that it asks for, where so many are left, and its words where those
 -- of an integer or a struct would be, also where no FPR is left
 pub ellipsis-written : (f : PowerRules) (w m k : ℕ) (t : ValueType) (n : ℕ) → 0 < f .word → f .ellipsis ≡ true
-    → placesOf (f .word) (spanOf (Rules.Power f) (counted (f .word) w m k) t n)
+    → placesOf (f .word) (spanOf (CallRules.Power f) (counted (f .word) w m k) t n)
     ≡ map (register Bank.Floating) (upFrom m 1 (pick (leb (fprs (f .edition) t) (14 - m)) (fprs (f .edition) t) 0)) ++ map (wordPlace (f .word)) (upFrom w 1 (words (f .word) n))
 unfolding spanOf powerShare placesOf registersOf memoryOf
 ellipsis-written f w m k t n h e =
@@ -251,29 +251,29 @@ earlier-clear f c t e = rw e (go (ltb 0 (14 - c .floating)) refl)
     go false q = refl
 
 -- the rules that are clear everywhere
-pub always-clear : (r : Rules) (c : Cursor) (t : ValueType) → alwaysClear r ≡ true → unclearFor r c t ≡ false
+pub always-clear : (r : CallRules) (c : Cursor) (t : ValueType) → alwaysClear r ≡ true → unclearFor r c t ≡ false
 unfolding alwaysClear unclearFor
-always-clear (Rules.Power f) c t e = earlier-clear f c t (go (f .edition) e)
+always-clear (CallRules.Power f) c t e = earlier-clear f c t (go (f .edition) e)
   where
     go : (x : Edition) → isEarlier x ≡ true → x ≡ Edition.Earlier
     go Edition.Earlier q = refl
     go Edition.Later q = let z : _≡_ {A = ℕ} 0 1 = cc in absurd (omega arith)
-always-clear Rules.Z c t e = refl
+always-clear CallRules.Z c t e = refl
 
 -- ---- Z
 
 -- "Counters start at gr 2 (3 with a hidden result address in r2 ..), fr 0, stack offset 160", which is byte 0 of the area
-pub z-start-written : startOf Rules.Z false ≡ cursor 2 0 0 0
+pub z-start-written : startOf CallRules.Z false ≡ cursor 2 0 0 0
 unfolding startOf fresh
 z-start-written = refl
 
-pub z-hidden-written : startOf Rules.Z true ≡ cursor 3 0 0 0
+pub z-hidden-written : startOf CallRules.Z true ≡ cursor 3 0 0 0
 unfolding startOf fresh nextOf zClass zNextOf
 z-hidden-written = refl
 
 -- "f0, f2, f4, f6, then 8 stack bytes"
 pub z-float-written : (c : Cursor) (t : ValueType) (n : ℕ) → zClass t n ≡ ZClass.Float
-    → placesOf 8 (spanOf Rules.Z c t n) ≡ pick (ltb (c .floating) 8) (register Bank.Floating (c .floating) ∷ []) (Place.Memory (c .stack) ∷ [])
+    → placesOf 8 (spanOf CallRules.Z c t n) ≡ pick (ltb (c .floating) 8) (register Bank.Floating (c .floating) ∷ []) (Place.Memory (c .stack) ∷ [])
 unfolding placesOf registersOf memoryOf upFrom spanOf zSpanOf
 z-float-written c t n e = rw e (go (ltb (c .floating) 8) refl)
   where
@@ -292,7 +292,7 @@ z-held c false q = let m : min 1 (7 - c .general) ≡ 0 = omega (arith, ltb-fals
 
 -- "Everything else: r2 to r6, then 8 stack bytes", a value and a pointer to a copy alike
 pub z-general-written : (c : Cursor) (t : ValueType) (n : ℕ) → (zClass t n ≡ ZClass.Float → ⊥)
-    → placesOf 8 (spanOf Rules.Z c t n) ≡ pick (ltb (c .general) 7) (register Bank.General (c .general) ∷ []) (Place.Memory (c .stack) ∷ [])
+    → placesOf 8 (spanOf CallRules.Z c t n) ≡ pick (ltb (c .general) 7) (register Bank.General (c .general) ∷ []) (Place.Memory (c .stack) ∷ [])
 unfolding placesOf registersOf memoryOf upFrom spanOf zSpanOf
 z-general-written c t n h = go (zClass t n) h
   where
@@ -303,13 +303,13 @@ z-general-written c t n h = go (zClass t n) h
     go ZClass.Reference f = z-held c (ltb (c .general) 7) refl
 
 -- "other structs and long double go by pointer to a copy, at the next multiple of 8 in the copy buffer"
-pub z-copy-written : (c : Cursor) (t : ValueType) (n : ℕ) → zClass t n ≡ ZClass.Reference → spanOf Rules.Z c t n .copy ≡ bytes (roundUp (c .copies) 8) n
+pub z-copy-written : (c : Cursor) (t : ValueType) (n : ℕ) → zClass t n ≡ ZClass.Reference → spanOf CallRules.Z c t n .copy ≡ bytes (roundUp (c .copies) 8) n
 unfolding spanOf zSpanOf
 z-copy-written c t n e = rw e
 
 -- how the counters move: fr by 2 up to f6, then the stack by 8
 pub z-float-next : (c : Cursor) (t : ValueType) (n : ℕ) → zClass t n ≡ ZClass.Float
-    → nextOf Rules.Z c t n ≡ pick (ltb (c .floating) 8) (cursor (c .general) (c .floating + 2) (c .stack) (c .copies)) (cursor (c .general) (c .floating) (c .stack + 8) (c .copies))
+    → nextOf CallRules.Z c t n ≡ pick (ltb (c .floating) 8) (cursor (c .general) (c .floating + 2) (c .stack) (c .copies)) (cursor (c .general) (c .floating) (c .stack + 8) (c .copies))
 unfolding nextOf zNextOf
 z-float-next c t n e = rw e (go (ltb (c .floating) 8) refl)
   where
@@ -327,13 +327,13 @@ z-moved c e true q = let m : min 1 (7 - c .general) ≡ 1 = omega (arith, ltb-tr
 z-moved c e false q = let m : min 1 (7 - c .general) ≡ 0 = omega (arith, ltb-false (c .general) 7 q) in rw (m, add-zero (c .floating), add-zero (c .general))
 
 pub z-simple-next : (c : Cursor) (t : ValueType) (n : ℕ) → zClass t n ≡ ZClass.Simple
-    → nextOf Rules.Z c t n ≡ pick (ltb (c .general) 7) (cursor (c .general + 1) (c .floating) (c .stack) (c .copies)) (cursor (c .general) (c .floating) (c .stack + 8) (c .copies))
+    → nextOf CallRules.Z c t n ≡ pick (ltb (c .general) 7) (cursor (c .general + 1) (c .floating) (c .stack) (c .copies)) (cursor (c .general) (c .floating) (c .stack + 8) (c .copies))
 unfolding nextOf zNextOf
 z-simple-next c t n e = rw e (z-moved c (c .copies) (ltb (c .general) 7) refl)
 
 -- a pointer moves them as a value does, and the copies end after the new one
 pub z-reference-next : (c : Cursor) (t : ValueType) (n : ℕ) → zClass t n ≡ ZClass.Reference
-    → nextOf Rules.Z c t n
+    → nextOf CallRules.Z c t n
     ≡ pick (ltb (c .general) 7) (cursor (c .general + 1) (c .floating) (c .stack) (roundUp (c .copies) 8 + n)) (cursor (c .general) (c .floating) (c .stack + 8) (roundUp (c .copies) 8 + n))
 unfolding nextOf zNextOf
 z-reference-next c t n e = rw e (z-moved c (roundUp (c .copies) 8 + n) (ltb (c .general) 7) refl)

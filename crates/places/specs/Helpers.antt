@@ -3,7 +3,7 @@
 use Prim.Native.Nat.{ℕ, zero, suc, _≤_, _+_}
 use mathlib.Core.Bool.{Bool, true, false}
 use Rattle.places.specs.declared.Edition.{Edition}
-use Rattle.places.specs.declared.Rules.{Rules}
+use Rattle.places.specs.declared.CallRules.{CallRules}
 use Rattle.places.specs.declared.Cursor.{Cursor}
 use Rattle.places.specs.declared.Span.{Span}
 use Rattle.places.specs.declared.ResultPlaces.{ResultPlaces}
@@ -11,9 +11,9 @@ use Rattle.places.specs.Places.{Numbered}
 use Rattle.places.specs.declared.Share.{Share}
 
 -- what the laws ask of a convention
-abbrev pub Lawful : Rules → Type 0
-Lawful (Rules.Power f) = (4 ≤ f .word) × (f .word ≤ 8)
-Lawful Rules.Z = Unit {0}
+abbrev pub LawfulCalls : CallRules → Type 0
+LawfulCalls (CallRules.Power f) = (4 ≤ f .word) × (f .word ≤ 8)
+LawfulCalls CallRules.Z = Unit {0}
 
 -- a cursor whose numbers leave room for an argument more in their types
 abbrev pub Roomy : Cursor → Type 0
@@ -24,9 +24,9 @@ isEarlier Edition.Earlier = true
 isEarlier Edition.Later = false
 
 -- the rules that never do: all but the later edition's
-unfoldable pub alwaysClear : Rules → Bool
-alwaysClear (Rules.Power f) = isEarlier (f .edition)
-alwaysClear Rules.Z = true
+unfoldable pub alwaysClear : CallRules → Bool
+alwaysClear (CallRules.Power f) = isEarlier (f .edition)
+alwaysClear CallRules.Z = true
 
 -- The number of the first unclear argument, counted from 1, or 0 where none is: u of the first i, and after one more.
 unfoldable pub unclearAfter : ℕ → Bool → ℕ → ℕ

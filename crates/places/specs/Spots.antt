@@ -7,7 +7,7 @@ use lib.Dec.{ltb}
 use Rattle.places.specs.declared.RegisterRange.{RegisterRange}
 use Rattle.places.specs.declared.ByteRange.{ByteRange}
 use Rattle.places.specs.declared.Span.{Span}
-use Rattle.places.specs.declared.Rules.{Rules}
+use Rattle.places.specs.declared.CallRules.{CallRules}
 
 -- a register, a byte of the parameter area or a byte of the copies
 pub data Spot : Type 0 where
@@ -45,10 +45,10 @@ abbrev pub imageSpot : ℕ → Spot
 imageSpot b = spotAt (ltb b fprsAt) b
 
 -- the registers that arguments may have: r3 to r10 and f1 to f13; Z: "r2 to r6" and "f0, f2, f4, f6"
-abbrev pub ArgumentRegister : Rules → Spot → Type 0
-ArgumentRegister (Rules.Power f) (general n) = (3 ≤ n) × (n ≤ 10)
-ArgumentRegister (Rules.Power f) (floating n) = (1 ≤ n) × (n ≤ 13)
-ArgumentRegister Rules.Z (general n) = (2 ≤ n) × (n ≤ 6)
-ArgumentRegister Rules.Z (floating n) = (n ≤ 6) × (n % 2 ≡ 0)
+abbrev pub ArgumentRegister : CallRules → Spot → Type 0
+ArgumentRegister (CallRules.Power f) (general n) = (3 ≤ n) × (n ≤ 10)
+ArgumentRegister (CallRules.Power f) (floating n) = (1 ≤ n) × (n ≤ 13)
+ArgumentRegister CallRules.Z (general n) = (2 ≤ n) × (n ≤ 6)
+ArgumentRegister CallRules.Z (floating n) = (n ≤ 6) × (n % 2 ≡ 0)
 ArgumentRegister r (area n) = Unit {0}
 ArgumentRegister r (copies n) = Unit {0}

@@ -1,5 +1,5 @@
 // Where a calling convention puts arguments and results: the types of cursors, spans and places. The code of the steps is in the crates above.
-// A convention is a value, `Rules`; its type, with its constants and its starting cursor, is in `abi`.
+// A convention is a value, `CallRules`; its type, with its constants and its starting cursor, is in `abi`.
 use conventions::Convention;
 ghost use mathlib.Core.Path.{_≡_};
 ghost use Prim.Native.Nat.{_<_};
@@ -28,7 +28,7 @@ pub struct PowerRules {
 }
 
 // A convention's rules for arguments and results.
-pub enum Rules {
+pub enum CallRules {
     Power(PowerRules),
     Z,
 }
@@ -111,29 +111,29 @@ impl PowerRules {
 }
 
 // The bytes of a word of the argument list, and of a pointer.
-pub fn word_of(r: Rules) -> usize
+pub fn word_of(r: CallRules) -> usize
     ensures { λ n. ⌜ n ≡ wordOf r ⌝ }
 {
     match r {
-        Rules::Power(f) => f.word,
-        Rules::Z => Convention::Z_WORD,
+        CallRules::Power(f) => f.word,
+        CallRules::Z => Convention::Z_WORD,
     }
 }
 
 // The rules of a call with an ellipsis, or of one without.
-pub fn with_ellipsis(r: Rules, ellipsis: bool) -> Rules
+pub fn with_ellipsis(r: CallRules, ellipsis: bool) -> CallRules
     ensures { λ q. ⌜ q ≡ withEllipsis ellipsis r ⌝ }
 {
     match r {
-        Rules::Power(f) => {
+        CallRules::Power(f) => {
             let edition = f.edition;
-            Rules::Power(PowerRules {
+            CallRules::Power(PowerRules {
                 word: f.word,
                 edition: edition,
                 ellipsis: ellipsis,
             })
         }
-        Rules::Z => Rules::Z,
+        CallRules::Z => CallRules::Z,
     }
 }
 

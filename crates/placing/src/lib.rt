@@ -3,49 +3,49 @@ ghost use mathlib.Core.Path.{_≡_};
 ghost use Prim.Native.Nat.{_^_, _≤_, _<_};
 ghost use Rattle.places.specs.Values.{pointer};
 ghost use Rattle.places.specs.Step.{rulesOf, wordOf, nextOf, unclearFor, placed, fresh, startOf, areaOf, returning, hiddenFor, resultOf};
-ghost use Rattle.places.specs.Helpers.{Lawful, Roomy, isEarlier, alwaysClear, unclearAfter};
+ghost use Rattle.places.specs.Helpers.{LawfulCalls, Roomy, isEarlier, alwaysClear, unclearAfter};
 ghost use Rattle.types.specs.Sizes.{maxSize};
 use conventions::Convention;
+use places::CallRules;
 use places::Cursor;
 use places::Edition;
 use places::Placed;
 use places::PowerRules;
 use places::ResultPlaces;
-use places::Rules;
 use types::FloatFormat;
 use types::IntegerKind;
 use types::ValueType;
 
 // One argument of a type and its size: what belongs to it, and where the next one starts.
-pub fn step(r: Rules, c: Cursor, t: ValueType, size: usize) -> Placed
-    requires { ⌜ Lawful r × Roomy c × (size ≤ maxSize) ⌝ }
+pub fn step(r: CallRules, c: Cursor, t: ValueType, size: usize) -> Placed
+    requires { ⌜ LawfulCalls r × Roomy c × (size ≤ maxSize) ⌝ }
     ensures { λ p. ⌜ p ≡ placed r c t size ⌝ }
 {
     match r {
-        Rules::Power(f) => power_step::step(f, c, t, size),
-        Rules::Z => z_step::step(c, t, size),
+        CallRules::Power(f) => power_step::step(f, c, t, size),
+        CallRules::Z => z_step::step(c, t, size),
     }
 }
 
 // The next cursor of the step, without the span.
-pub fn advance(r: Rules, c: Cursor, t: ValueType, size: usize) -> Cursor
-    requires { ⌜ Lawful r × Roomy c × (size ≤ maxSize) ⌝ }
+pub fn advance(r: CallRules, c: Cursor, t: ValueType, size: usize) -> Cursor
+    requires { ⌜ LawfulCalls r × Roomy c × (size ≤ maxSize) ⌝ }
     ensures { λ k. ⌜ k ≡ nextOf r c t size ⌝ }
 {
     match r {
-        Rules::Power(f) => power_step::advance(f, c, t, size),
-        Rules::Z => z_step::advance(c, t, size),
+        CallRules::Power(f) => power_step::advance(f, c, t, size),
+        CallRules::Z => z_step::advance(c, t, size),
     }
 }
 
 // Whether the papers leave open where an argument of this type goes (29).
-pub fn unclear_for(r: Rules, c: Cursor, t: ValueType) -> bool
+pub fn unclear_for(r: CallRules, c: Cursor, t: ValueType) -> bool
     requires { ⌜ Roomy c ⌝ }
     ensures { λ b. ⌜ b ≡ unclearFor r c t ⌝ }
 {
     match r {
-        Rules::Power(f) => power_step::is_unclear(f, c, t),
-        Rules::Z => false,
+        CallRules::Power(f) => power_step::is_unclear(f, c, t),
+        CallRules::Z => false,
     }
 }
 
@@ -59,20 +59,20 @@ fn is_earlier(e: Edition) -> bool
 }
 
 // Whether the rules are clear wherever an argument stands.
-pub fn always_clear(r: Rules) -> bool
+pub fn always_clear(r: CallRules) -> bool
     ensures { λ b. ⌜ b ≡ alwaysClear r ⌝ }
 {
     match r {
-        Rules::Power(f) => {
+        CallRules::Power(f) => {
             let edition = f.edition;
             is_earlier(edition)
         }
-        Rules::Z => true,
+        CallRules::Z => true,
     }
 }
 
 // The same as below.
-fn unclear_in(unclear: usize, r: Rules, c: Cursor, t: ValueType, count: usize) -> usize
+fn unclear_in(unclear: usize, r: CallRules, c: Cursor, t: ValueType, count: usize) -> usize
     requires { ⌜ Roomy c × (count < 2 ^ 16) ⌝ }
     ensures { λ n. ⌜ n ≡ unclearAfter unclear (unclearFor r c t) count ⌝ }
 {
@@ -87,7 +87,7 @@ fn unclear_in(unclear: usize, r: Rules, c: Cursor, t: ValueType, count: usize) -
 
 // The number of the first unclear argument, counted from 1, or 0: `unclear` is that of the first `count`, and one more of this type comes at the cursor.
 // The test that all conventions but one end with comes first, and alone, so that it is compiled in line.
-pub fn unclear_after(unclear: usize, r: Rules, c: Cursor, t: ValueType, count: usize) -> usize
+pub fn unclear_after(unclear: usize, r: CallRules, c: Cursor, t: ValueType, count: usize) -> usize
     requires { ⌜ Roomy c × (count < 2 ^ 16) ⌝ }
     ensures { λ n. ⌜ n ≡ unclearAfter unclear (unclearFor r c t) count ⌝ }
 {
@@ -126,14 +126,14 @@ pub fn area_of(c: Convention, e: Cursor) -> usize
 }
 
 // Whether a result of this type is handed over through memory.
-pub fn hidden_for(r: Rules, t: ValueType) -> bool
+pub fn hidden_for(r: CallRules, t: ValueType) -> bool
     ensures { λ b. ⌜ b ≡ hiddenFor r t ⌝ }
 {
     match t {
         ValueType::Integer(_) => false,
         ValueType::Float(f) => match r {
-            Rules::Power(_) => false,
-            Rules::Z => match f {
+            CallRules::Power(_) => false,
+            CallRules::Z => match f {
                 FloatFormat::Single => false,
                 FloatFormat::Double => false,
                 FloatFormat::LongDouble => true,
@@ -143,16 +143,16 @@ pub fn hidden_for(r: Rules, t: ValueType) -> bool
     }
 }
 
-fn returning_of(r: Rules) -> Rules
+fn returning_of(r: CallRules) -> CallRules
     ensures { λ q. ⌜ q ≡ returning r ⌝ }
 {
     match r {
-        Rules::Power(f) => Rules::Power(PowerRules {
+        CallRules::Power(f) => CallRules::Power(PowerRules {
             word: f.word,
             edition: Edition::Later,
             ellipsis: false,
         }),
-        Rules::Z => Rules::Z,
+        CallRules::Z => CallRules::Z,
     }
 }
 

@@ -13,7 +13,7 @@ use Rattle.types.specs.Sizes.{sizeOf}
 use Rattle.signature.specs.Limits.{maxArguments}
 use Rattle.places.specs.declared.Cursor.{Cursor}
 use Rattle.places.specs.declared.Span.{Span}
-use Rattle.places.specs.declared.Rules.{Rules}
+use Rattle.places.specs.declared.CallRules.{CallRules}
 use Rattle.places.specs.Step.{nextOf}
 use Rattle.places.specs.Places.{Numbered}
 use Rattle.places.specs.Spots.{Spot, general, floating, area, copies, Owns, ArgumentRegister}
@@ -42,7 +42,7 @@ in-table l i = getD-blanks l (maxArguments - length l) i
 -- ---- one span
 
 -- the span of argument i, of nothing past the last one
-abbrev pub spanIn : Convention → Rules → Cursor → List ValueType → ℕ → Span
+abbrev pub spanIn : Convention → CallRules → Cursor → List ValueType → ℕ → Span
 spanIn c r k ts i = getD (spansOf c r k ts) i noSpan
 
 -- a span of nothing owns nothing
@@ -52,14 +52,14 @@ none-owned (floating n) o = omega arith
 none-owned (area n) o = omega arith
 none-owned (copies n) o = omega arith
 
-pub owned-from : (c : Convention) (r : Rules) (k : Cursor) (ts : List ValueType) (i : ℕ) (x : Spot) → Owns (spanIn c r k ts i) x → From k x
+pub owned-from : (c : Convention) (r : CallRules) (k : Cursor) (ts : List ValueType) (i : ℕ) (x : Spot) → Owns (spanIn c r k ts i) x → From k x
 unfolding spansOf
 owned-from c r k [] i x o = absurd (none-owned x o)
 owned-from c r k (t ∷ ts) zero x o = owns-from r k t (sizeOf c t) x o
 owned-from c r k (t ∷ ts) (suc i) x o =
     from-earlier (step-forward r k t (sizeOf c t)) x (owned-from c r (nextOf r k t (sizeOf c t)) ts i x o)
 
-pub owned-before : (c : Convention) (r : Rules) (k : Cursor) (ts : List ValueType) (i : ℕ) (x : Spot)
+pub owned-before : (c : Convention) (r : CallRules) (k : Cursor) (ts : List ValueType) (i : ℕ) (x : Spot)
     → Owns (spanIn c r k ts i) x → Before (lastOf c r k ts) x
 unfolding spansOf lastOf
 owned-before c r k [] i x o = absurd (none-owned x o)
@@ -67,7 +67,7 @@ owned-before c r k (t ∷ ts) zero x o =
     before-later (last-forward c r (nextOf r k t (sizeOf c t)) ts) x (owns-before r k t (sizeOf c t) x o)
 owned-before c r k (t ∷ ts) (suc i) x o = owned-before c r (nextOf r k t (sizeOf c t)) ts i x o
 
-pub owned-register : (c : Convention) (r : Rules) (k : Cursor) (ts : List ValueType) (i : ℕ) (x : Spot)
+pub owned-register : (c : Convention) (r : CallRules) (k : Cursor) (ts : List ValueType) (i : ℕ) (x : Spot)
     → Named r k → Owns (spanIn c r k ts i) x → ArgumentRegister r x
 unfolding spansOf
 owned-register c r k [] i x h o = absurd (none-owned x o)
@@ -75,7 +75,7 @@ owned-register c r k (t ∷ ts) zero x h o = step-registers r k t (sizeOf c t) x
 owned-register c r k (t ∷ ts) (suc i) x h o =
     owned-register c r (nextOf r k t (sizeOf c t)) ts i x (named-next r k t (sizeOf c t) h) o
 
-pub span-numbered : (c : Convention) (r : Rules) (k : Cursor) (ts : List ValueType) (i : ℕ) → Named r k → Numbered (spanIn c r k ts i)
+pub span-numbered : (c : Convention) (r : CallRules) (k : Cursor) (ts : List ValueType) (i : ℕ) → Named r k → Numbered (spanIn c r k ts i)
 unfolding spansOf
 span-numbered c r k [] i h = omega arith
 span-numbered c r k (t ∷ ts) zero h = step-numbered r k t (sizeOf c t) h
@@ -86,7 +86,7 @@ pub record Homed (s : Span) : Type 0 where
   pub from : s .home .start ≤ s .memory .start
   pub to : s .memory .start + s .memory .length ≤ s .home .start + s .home .length
 
-pub span-homed : (c : Convention) (r : Rules) (k : Cursor) (ts : List ValueType) (i : ℕ) → Homed (spanIn c r k ts i)
+pub span-homed : (c : Convention) (r : CallRules) (k : Cursor) (ts : List ValueType) (i : ℕ) → Homed (spanIn c r k ts i)
 unfolding spansOf
 span-homed c r k [] i = record { from = omega arith; to = omega arith }
 span-homed c r k (t ∷ ts) zero = let b = step-between r k t (sizeOf c t) in record { from = b .memory-from; to = b .memory-to }
@@ -94,7 +94,7 @@ span-homed c r k (t ∷ ts) (suc i) = span-homed c r (nextOf r k t (sizeOf c t))
 
 -- ---- two spans
 
-ordered-apart : (c : Convention) (r : Rules) (k : Cursor) (ts : List ValueType) (i j : ℕ) (x : Spot) → i < j
+ordered-apart : (c : Convention) (r : CallRules) (k : Cursor) (ts : List ValueType) (i j : ℕ) (x : Spot) → i < j
     → Owns (spanIn c r k ts i) x → Owns (spanIn c r k ts j) x → ⊥
 unfolding spansOf
 ordered-apart c r k [] i j x h a b = none-owned x a
@@ -104,7 +104,7 @@ ordered-apart c r k (t ∷ ts) zero (suc j) x h a b =
 ordered-apart c r k (t ∷ ts) (suc i) zero x h a b = omega arith
 ordered-apart c r k (t ∷ ts) (suc i) (suc j) x h a b = ordered-apart c r (nextOf r k t (sizeOf c t)) ts i j x (omega arith) a b
 
-pub owned-apart : (c : Convention) (r : Rules) (k : Cursor) (ts : List ValueType) (i j : ℕ) (x : Spot) → (i ≡ j → ⊥)
+pub owned-apart : (c : Convention) (r : CallRules) (k : Cursor) (ts : List ValueType) (i j : ℕ) (x : Spot) → (i ≡ j → ⊥)
     → Owns (spanIn c r k ts i) x → Owns (spanIn c r k ts j) x → ⊥
 owned-apart c r k ts i j x h a b = go (ltb i j) refl
   where

@@ -20,13 +20,13 @@ use Rattle.signature.specs.Read.{signatureOf}
 use Rattle.signature.specs.Answer.{resultType, signatureAnswer}
 use Rattle.signature.proofs.Types.{table-types}
 use Rattle.places.specs.declared.Cursor.{Cursor}
-use Rattle.places.specs.declared.Rules.{Rules}
+use Rattle.places.specs.declared.CallRules.{CallRules}
 use Rattle.places.specs.Step.{rulesOf, nextOf, startOf, unclearFor}
-use Rattle.places.specs.Helpers.{Lawful, alwaysClear, unclearAfter}
+use Rattle.places.specs.Helpers.{LawfulCalls, alwaysClear, unclearAfter}
 use Rattle.places.proofs.Written.{always-clear}
 use Rattle.plan.specs.declared.Plan.{Plan}
 use Rattle.plan.specs.declared.Measured.{Measured}
-use Rattle.plan.specs.Plan.{lastOf, startIn, planIn, refused, planAnswer, measureOf}
+use Rattle.plan.specs.Plan.{lastOf, startIn, planIn, refusedPlan, planAnswer, measureOf}
 use Rattle.plan.specs.Helpers.{planned, unclearOf, measuredBy}
 use Rattle.plan.specs.Call.{firstUnclear, unclearIn, unclearFault, clearRead, called, callOf}
 use Rattle.plan.proofs.Fold.{Reached, reached-start, reached-more}
@@ -34,7 +34,7 @@ use Rattle.plan.proofs.Answers.{planned-answer, outcome-read, answer-fe
 
 -- ---- the fold
 
-module _ (c : Convention) (r : Rules) where
+module _ (c : Convention) (r : CallRules) where
   -- the whole's number, where u is that of the i arguments before the cursor k
   abbrev pub unclearFrom : ℕ → Cursor → ℕ → List ValueType → ℕ
   unclearFrom zero k i ts = firstUnclear c r k i ts
@@ -86,17 +86,17 @@ module _ (c : Convention) (r : Rules) where
 -- ---- the loop that looks for it
 
 -- i arguments are looked at: u is their number, and k is the next one's cursor
-pub record Clearing (c : Convention) (r : Rules) (start : Cursor) (ts : List ValueType) (k : Cursor) (u i : ℕ) : Type 0 where
+pub record Clearing (c : Convention) (r : CallRules) (start : Cursor) (ts : List ValueType) (k : Cursor) (u i : ℕ) : Type 0 where
   pub v : ℕ
   pub within : i ≤ length ts
   pub rest : unclearFrom c r u k i (drop i ts) ≡ firstUnclear c r start 0 ts
   pub reached : Reached r k v i
 
-pub clearing-start : (c : Convention) (r : Rules) (hidden : Bool) (ts : List ValueType) → Lawful r → Clearing c r (startOf r hidden) ts (startOf r hidden) 0 0
+pub clearing-start : (c : Convention) (r : CallRules) (hidden : Bool) (ts : List ValueType) → LawfulCalls r → Clearing c r (startOf r hidden) ts (startOf r hidden) 0 0
 clearing-start c r hidden ts l = record { v = 0; within = omega arith; rest = refl; reached = reached-start r hidden l }
 
-pub clearing-more : (c : Convention) (r : Rules) (start : Cursor) (ts : List ValueType) (k : Cursor) (u i : ℕ) (t : ValueType)
-    → Lawful r → i < length ts → sizeOf c t ≤ 256 → drop i ts ≡ t ∷ drop (suc i) ts → Clearing c r start ts k u i
+pub clearing-more : (c : Convention) (r : CallRules) (start : Cursor) (ts : List ValueType) (k : Cursor) (u i : ℕ) (t : ValueType)
+    → LawfulCalls r → i < length ts → sizeOf c t ≤ 256 → drop i ts ≡ t ∷ drop (suc i) ts → Clearing c r start ts k u i
     → Clearing c r start ts (nextOf r k t (sizeOf c t)) (unclearAfter u (unclearFor r k t) i) (i + 1)
 clearing-more c r start ts k u i t l h n d w =
     let rest : unclearFrom c r u k i (t ∷ drop (suc i) ts) ≡ firstUnclear c r start 0 ts = rw d at (w .rest) in
@@ -107,7 +107,7 @@ clearing-more c r start ts k u i t l h n d w =
       reached = reached-more r k (w .v) i t (sizeOf c t) l n (w .reached);
     }
 
-pub clearing-end : (c : Convention) (r : Rules) (start : Cursor) (ts : List ValueType) (k : Cursor) (u i : ℕ)
+pub clearing-end : (c : Convention) (r : CallRules) (start : Cursor) (ts : List ValueType) (k : Cursor) (u i : ℕ)
     → length ts ≤ i → Clearing c r start ts k u i → u ≡ firstUnclear c r start 0 ts
 clearing-end c r start ts k u i l w =
     let none : drop i ts ≡ [] = drop-of-length-le ts l in
@@ -163,13 +163,13 @@ pub clear-plan : (x : Reading Signature) (g : SignatureRead) → g ≡ signature
 clear-plan x g e u = ap planned e ∙ planned-answer x ∙ ap planAnswer (sym (called-clear x (sym (ap unclearOf e) ∙ u)))
 
 -- where number i, counted from 0, is the first
-pub unclear-plan : (x : Reading Signature) (g : SignatureRead) (i : ℕ) → g ≡ signatureAnswer x → unclearOf g ≡ suc i → refused (unclearFault i x) ≡ planAnswer (called x)
+pub unclear-plan : (x : Reading Signature) (g : SignatureRead) (i : ℕ) → g ≡ signatureAnswer x → unclearOf g ≡ suc i → refusedPlan (unclearFault i x) ≡ planAnswer (called x)
 unfolding planAnswer
 unclear-plan x g i e u = sym (ap planAnswer (called-unclear x i (sym (ap unclearOf e) ∙ u)))
 
 -- ---- its sizes
 
-pub measured-refused : (s : List ℕ) (f : Fault) → signatureOf s ≡ no f → measureOf (refused f) ≡ measureOf (planAnswer (callOf s))
+pub measured-refused : (s : List ℕ) (f : Fault) → signatureOf s ≡ no f → measureOf (refusedPlan f) ≡ measureOf (planAnswer (callOf s))
 unfolding called planAnswer
 measured-refused s f q = rw q
 
@@ -179,7 +179,7 @@ unfolding measuredBy
 measured-called x m zero e q = e ∙ ap (λ (y : Reading Signature). measureOf (planAnswer y)) (sym (called-clear x (sym q)))
 measured-called x m (suc i) e q = ap measureOf (unclear-plan x (signatureAnswer x) i refl (sym q))
 
-pub unclear-measured : (u : ℕ) (m : Measured) (x : Reading Signature) → 0 < u → measureOf (refused (unclearFault (u - 1) x)) ≡ measuredBy u m x
+pub unclear-measured : (u : ℕ) (m : Measured) (x : Reading Signature) → 0 < u → measureOf (refusedPlan (unclearFault (u - 1) x)) ≡ measuredBy u m x
 unfolding measuredBy
 unclear-measured zero m x h = absurd (omega arith)
 unclear-measured (suc i) m x h = let same : suc i - 1 ≡ i = omega arith in rw same

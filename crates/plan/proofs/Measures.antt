@@ -31,11 +31,11 @@ use Rattle.signature.proofs.Loop.{Turn, turn-start, turn-more, turn-last}
 use Rattle.signature.specs.Types.{valuesOf, typesOf}
 use Rattle.signature.proofs.Types.{table-types, length-of-types}
 use Rattle.places.specs.declared.Cursor.{Cursor}
-use Rattle.places.specs.declared.Rules.{Rules}
+use Rattle.places.specs.declared.CallRules.{CallRules}
 use Rattle.places.specs.Step.{rulesOf, nextOf, unclearFor, startOf, areaOf}
-use Rattle.places.specs.Helpers.{Lawful, unclearAfter}
+use Rattle.places.specs.Helpers.{LawfulCalls, unclearAfter}
 use Rattle.plan.specs.declared.Measured.{Measured}
-use Rattle.plan.specs.Plan.{lastOf, startIn, planIn, refused, planAnswer, measureOf}
+use Rattle.plan.specs.Plan.{lastOf, startIn, planIn, refusedPlan, planAnswer, measureOf}
 use Rattle.plan.specs.Helpers.{planWith, unclearOf, unclearWith}
 use Rattle.plan.specs.Call.{firstUnclear}
 use Rattle.plan.proofs.Calls.{unclear-more}
@@ -44,7 +44,7 @@ use Rattle.plan.proofs.Fold.{last-more, values-more, Reached, reached-s
 -- ---- the loop
 
 -- reading on from here gives all arguments; the cursor k, the v bytes of values and the first unclear one, number u, are those of the arguments so far
-pub record Measuring (c : Convention) (s : List ℕ) (at e : ℕ) (r : Rules) (start : Cursor) (k : Cursor) (v u count next n : ℕ) : Type 0 where
+pub record Measuring (c : Convention) (s : List ℕ) (at e : ℕ) (r : CallRules) (start : Cursor) (k : Cursor) (v u count next n : ℕ) : Type 0 where
   pub ts : Trees
   pub turn : Turn c s at e ts count next n
   pub last : k ≡ lastOf c r start (typesOf c ts)
@@ -52,10 +52,10 @@ pub record Measuring (c : Convention) (s : List ℕ) (at e : ℕ) (r : Rules) (s
   pub unclear : u ≡ firstUnclear c r start 0 (typesOf c ts)
   pub reached : Reached r k v count
 
-same-next : (c : Convention) (r : Rules) {k l : Cursor} {t u : ValueType} → k ≡ l → t ≡ u → nextOf r k t (sizeOf c t) ≡ nextOf r l u (sizeOf c u)
+same-next : (c : Convention) (r : CallRules) {k l : Cursor} {t u : ValueType} → k ≡ l → t ≡ u → nextOf r k t (sizeOf c t) ≡ nextOf r l u (sizeOf c u)
 same-next c r p q = cc
 
-same-unclear : (r : Rules) {u x : ℕ} {k l : Cursor} {t w : ValueType} {i j : ℕ} → u ≡ x → k ≡ l → t ≡ w → i ≡ j
+same-unclear : (r : CallRules) {u x : ℕ} {k l : Cursor} {t w : ValueType} {i j : ℕ} → u ≡ x → k ≡ l → t ≡ w → i ≡ j
     → unclearAfter u (unclearFor r k t) i ≡ unclearAfter x (unclearFor r l w) j
 same-unclear r p q h e = cc
 
@@ -63,13 +63,13 @@ same-unclear r p q h e = cc
 count-types : (c : Convention) (s : List ℕ) (at e : ℕ) (ts : Trees) (count next n : ℕ) → Turn c s at e ts count next n → count ≡ 0 + length (typesOf c ts)
 count-types c s at e ts count next n t = omega (arith, t .many, length-of-types c ts)
 
-module _ (c : Convention) (s : List ℕ) (at e : ℕ) (r : Rules) where
-  pub measuring-start : (hidden : Bool) → Lawful r → at ≤ e → Measuring c s at e r (startOf r hidden) (startOf r hidden) 0 0 0 at 1
+module _ (c : Convention) (s : List ℕ) (at e : ℕ) (r : CallRules) where
+  pub measuring-start : (hidden : Bool) → LawfulCalls r → at ≤ e → Measuring c s at e r (startOf r hidden) (startOf r hidden) 0 0 0 at 1
   unfolding typesOf lastOf valuesOf firstUnclear
   measuring-start hidden l h = record { ts = none; turn = turn-start c s at e h; last = refl; total = refl; unclear = refl; reached = reached-start r hidden l }
 
   module _ (start k : Cursor) (v u count next n : ℕ) (m : Measuring c s at e r start k v u count next n) where
-    pub measuring-more : Lawful r → next < e → (count ≡ maxArguments → ⊥) → (x : ItemRead) → x ≡ itemAnswer c (itemAt c 8 s e next) → (t : ValueType) (after j : ℕ) →
+    pub measuring-more : LawfulCalls r → next < e → (count ≡ maxArguments → ⊥) → (x : ItemRead) → x ≡ itemAnswer c (itemAt c 8 s e next) → (t : ValueType) (after j : ℕ) →
         x ≡ ItemRead.Item t after j → Measuring c s at e r start (nextOf r k t (sizeOf c t)) (v + sizeOf c t) (unclearAfter u (unclearFor r k t) count) (count + 1) after (n + j)
     unfolding typesOf
     measuring-more l h some x found t after j q =
@@ -90,7 +90,7 @@ module _ (c : Convention) (s : List ℕ) (at e : ℕ) (r : Rules) where
 
 module _ (c : Convention) (s : List ℕ) (at e : ℕ) (result : ResultType) (earlier : ℕ) where
   pub measure-no : (f : Fault) → argumentsIn c s at e ≡ no f →
-      measureOf (refused (later earlier f)) ≡ measureOf (planWith c false result earlier (length s) (argumentsIn c s at e))
+      measureOf (refusedPlan (later earlier f)) ≡ measureOf (planWith c false result earlier (length s) (argumentsIn c s at e))
   measure-no f q = rw q
 
   pub unclear-no : (f : Fault) → argumentsIn c s at e ≡ no f → 0 ≡ unclearWith c result (length s) (argumentsIn c s at e)
@@ -98,7 +98,7 @@ module _ (c : Convention) (s : List ℕ) (at e : ℕ) (result : ResultType) (ear
 
   module _ (k : Cursor) (v u count next n : ℕ) (m : Measuring c s at e (rulesOf c) (startIn c result) k v u count next n) (last : e ≤ next) where
     pub measure-trailing : next < length s →
-        measureOf (refused (fault Refusal.TrailingBytes next (earlier + n))) ≡ measureOf (planWith c false result earlier (length s) (argumentsIn c s at e))
+        measureOf (refusedPlan (fault Refusal.TrailingBytes next (earlier + n))) ≡ measureOf (planWith c false result earlier (length s) (argumentsIn c s at e))
     measure-trailing h = rw (turn-last c s at e (m .ts) count next n (m .turn) last, lt-ltb next (length s) h)
 
     pub measure-end : length s ≤ next →
@@ -118,8 +118,8 @@ measured-marked : (c : Convention) (v : Bool) (r : ResultType) (n all : ℕ) (x 
 unfolding planIn
 measured-marked c v r n all (got ts next m) = go (ltb next all)
   where
-    go : (more : Bool) → measureOf (pick more (refused (fault Refusal.TrailingBytes next (n + m))) (planIn (n + m) c false r (typesOf c ts)))
-        ≡ measureOf (pick more (refused (fault Refusal.TrailingBytes next (n + m))) (planIn (n + m) c v r (typesOf c ts)))
+    go : (more : Bool) → measureOf (pick more (refusedPlan (fault Refusal.TrailingBytes next (n + m))) (planIn (n + m) c false r (typesOf c ts)))
+        ≡ measureOf (pick more (refusedPlan (fault Refusal.TrailingBytes next (n + m))) (planIn (n + m) c v r (typesOf c ts)))
     go true = refl
     go false = refl
 measured-marked c v r n all (no f) = refl
@@ -132,7 +132,7 @@ plan-then s c r v n (got ts next m) = go (ltb next (length s))
   where
     go : (more : Bool) →
         planAnswer (pick more (no (fault Refusal.TrailingBytes next (n + m))) (got (record { convention = c; result = r; ellipsis = v; arguments = ts }) next (n + m)))
-        ≡ pick more (refused (fault Refusal.TrailingBytes next (n + m))) (planIn (n + m) c v (resultType c r) (typesOf c ts))
+        ≡ pick more (refusedPlan (fault Refusal.TrailingBytes next (n + m))) (planIn (n + m) c v (resultType c r) (typesOf c ts))
     go true = refl
     go false = refl
 plan-then s c r v n (no f) = refl

@@ -10,14 +10,14 @@ use Rattle.signature.specs.Answer.{resultType}
 use Rattle.places.specs.Step.{rulesOf}
 use Rattle.places.specs.Helpers.{ResultNumbered}
 use Rattle.places.proofs.Registers.{result-numbered}
-use Rattle.plan.specs.Plan.{resultIn, planIn, planAnswer}
+use Rattle.plan.specs.Plan.{resultPlacesIn, planIn, planAnswer}
 use Rattle.plan.specs.Call.{callOf}
 use Rattle.plan.proofs.Answers.{answer-table}
 use Rattle.plan.proofs.Calls.{call-few}
 use Rattle.plan.proofs.Theorems.{within}
 use Rattle.plan.specs.Helpers.{Printable}
 
-result-of : (c : Convention) (r : ResultType) → ResultNumbered (resultIn c r)
+result-of : (c : Convention) (r : ResultType) → ResultNumbered (resultPlacesIn c r)
 result-of c ResultType.Nothing = tt
 result-of c (ResultType.Value t) = result-numbered (rulesOf c) t (sizeOf c t)
 

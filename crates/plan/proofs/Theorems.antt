@@ -18,7 +18,7 @@ use Rattle.signature.specs.Types.{typesOf}
 use Rattle.places.specs.declared.Cursor.{Cursor}
 use Rattle.places.specs.declared.Span.{Span}
 use Rattle.places.specs.declared.ResultPlaces.{ResultPlaces}
-use Rattle.places.specs.declared.Rules.{Rules}
+use Rattle.places.specs.declared.CallRules.{CallRules}
 use Rattle.places.specs.Values.{pointer}
 use Rattle.places.specs.Step.{rulesOf, withEllipsis, wordOf, spanOf, fresh, startOf, hiddenFor, returning, resultOf}
 use Rattle.places.specs.Places.{Numbered}
@@ -27,15 +27,15 @@ use Rattle.places.proofs.Bounds.{named-fresh, named-start, area-holds, least-ar
 use Rattle.places.proofs.Marked.{named-marked, register-marked}
 use Rattle.places.proofs.Between.{Before, before-from, before-later, step-between, owns-before}
 use Rattle.places.proofs.Registers.{step-numbered, step-registers}
-use Rattle.plan.specs.Plan.{spansOf, noSpan, hiddenIn, resultIn, startIn, endIn, planIn, refused, planAnswer}
-use Rattle.plan.specs.Disjoint.{spanAt, Disjoint, PlansDisjoint, SpanWithin, Within, PlansWithin}
+use Rattle.plan.specs.Plan.{spansOf, noSpan, hiddenIn, resultPlacesIn, startIn, endIn, planIn, refusedPlan, planAnswer}
+use Rattle.plan.specs.Disjoint.{spanAt, Disjoint, PlansDisjoint, SpanWithin, PlanWithin, PlansWithin}
 use Rattle.plan.proofs.Fold.{last-forward, last-marked}
 use Rattle.plan.proofs.Apart.{in-table, getD-blanks, spanIn, none-owned, owned-from, owned-before, owned-register, owned-apart, span-numbered, span-homed, Homed}
 
 -- ---- an accepted signature
 
 -- the rules of its spans
-abbrev rulesFor : Convention → Bool → Rules
+abbrev rulesFor : Convention → Bool → CallRules
 rulesFor c v = withEllipsis v (rulesOf c)
 
 module _ (n : ℕ) (c : Convention) (v : Bool) (r : ResultType) (ts : List ValueType) where
@@ -57,7 +57,7 @@ hidden-from c v ts i x a b =
     (owned-from c (rulesFor c v) (startOf (rulesOf c) true) ts i x b)
 
 -- a hidden address is placed as a first argument that is a pointer, and the arguments start after it
-pub hidden-address : (c : Convention) (r : ResultType) (s : Span) → resultIn c r ≡ ResultPlaces.Hidden s
+pub hidden-address : (c : Convention) (r : ResultType) (s : Span) → resultPlacesIn c r ≡ ResultPlaces.Hidden s
     → (s ≡ spanOf (rulesOf c) (fresh (rulesOf c)) pointer (wordOf (rulesOf c))) × (startIn c r ≡ startOf (rulesOf c) true)
 unfolding resultOf
 hidden-address c ResultType.Nothing s e = let z : _≡_ {A = ℕ} 0 1 = cc in absurd (omega arith)
@@ -75,7 +75,7 @@ hidden-address c (ResultType.Value t) s e = go (hiddenFor (rulesOf c) t) e
     go false q = let z : _≡_ {A = ℕ} 0 1 = cc in absurd (omega arith)
 
 hidden-apart : (c : Convention) (v : Bool) (r : ResultType) (ts : List ValueType) (s : Span) (i : ℕ) (x : Spot)
-    → resultIn c r ≡ ResultPlaces.Hidden s → Owns s x → Owns (spanIn c (rulesFor c v) (startIn c r) ts i) x → ⊥
+    → resultPlacesIn c r ≡ ResultPlaces.Hidden s → Owns s x → Owns (spanIn c (rulesFor c v) (startIn c r) ts i) x → ⊥
 hidden-apart c v r ts s i x e a b =
     let h = hidden-address c r s e in
     hidden-from c v ts i x (subst (λ (y : Span). Owns y x) (h .0) a) (subst (λ (k : Cursor). Owns (spanIn c (rulesFor c v) k ts i) x) (h .1) b)
@@ -133,7 +133,7 @@ module _ (n : ℕ) (c : Convention) (v : Bool) (r : ResultType) (ts : List Value
         memory-to = between .memory-to;
       }
 
-  plan-within : Within (planIn n c v r ts)
+  plan-within : PlanWithin (planIn n c v r ts)
   unfolding planIn
   plan-within = record {
     arguments = argument-within;
@@ -149,14 +149,14 @@ none-at i = getD-blanks [] maxArguments i
 none : (i : ℕ) (x : Spot) → Owns (getD (replicate maxArguments noSpan) i noSpan) x → ⊥
 none i x o = none-owned x (subst (λ (s : Span). Owns s x) (none-at i) o)
 
-refused-disjoint : (f : Fault) → Disjoint (refused f)
+refused-disjoint : (f : Fault) → Disjoint (refusedPlan f)
 refused-disjoint f = record {
   apart = λ i j x h a b. none i x a;
   image = λ i j b h x y. none i (imageSpot b) x;
   hidden = λ s i x e a b. none i x b;
 }
 
-refused-within : (f : Fault) → Within (refused f)
+refused-within : (f : Fault) → PlanWithin (refusedPlan f)
 refused-within f =
     let numbered : Numbered noSpan = omega arith in
     let homed : Homed noSpan = record { from = omega arith; to = omega arith } in

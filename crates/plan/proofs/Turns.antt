@@ -16,18 +16,18 @@ use Rattle.signature.specs.Limits.{maxArguments}
 use Rattle.signature.specs.Types.{valuesOf}
 use Rattle.places.specs.declared.Cursor.{Cursor}
 use Rattle.places.specs.declared.Span.{Span}
-use Rattle.places.specs.declared.Rules.{Rules}
+use Rattle.places.specs.declared.CallRules.{CallRules}
 use Rattle.places.specs.Step.{rulesOf, withEllipsis, spanOf, nextOf, startOf, areaOf}
-use Rattle.places.specs.Helpers.{Lawful}
+use Rattle.places.specs.Helpers.{LawfulCalls}
 use Rattle.places.proofs.Bounds.{rules-lawful}
 use Rattle.places.proofs.Marked.{lawful-marked, start-marked}
 use Rattle.plan.specs.declared.Plan.{Plan}
-use Rattle.plan.specs.Plan.{spansOf, lastOf, resultIn, noSpan, tableOf, startIn, endIn, planIn}
+use Rattle.plan.specs.Plan.{spansOf, lastOf, resultPlacesIn, noSpan, tableOf, startIn, endIn, planIn}
 use Rattle.plan.proofs.Fold.{length-spans, last-marked, Reached, reached-start, reached-more}
 
 -- ---- the loop
 
-module _ (c : Convention) (r : Rules) (start : Cursor) (ts : List ValueType) where
+module _ (c : Convention) (r : CallRules) (start : Cursor) (ts : List ValueType) where
   -- i arguments are planned: the table ss holds their spans, k is the next one's cursor, and their values have v bytes
   pub record Going (ss : List Span) (k : Cursor) (v i : ℕ) : Type 0 where
     pub done : List Span
@@ -39,7 +39,7 @@ module _ (c : Convention) (r : Rules) (start : Cursor) (ts : List ValueType) whe
     pub total : v + valuesOf c (drop i ts) ≡ valuesOf c ts
     pub reached : Reached r k v i
 
-pub going-start : (c : Convention) (r : Rules) (hidden : Bool) (ts : List ValueType) → Lawful r
+pub going-start : (c : Convention) (r : CallRules) (hidden : Bool) (ts : List ValueType) → LawfulCalls r
     → Going c r (startOf r hidden) ts (replicate maxArguments noSpan) (startOf r hidden) 0 0
 going-start c r hidden ts l = record {
   done = [];
@@ -56,12 +56,12 @@ going-start c r hidden ts l = record {
 pub going-marked : (c : Convention) (v hidden : Bool) (ts : List ValueType)
     → Going c (withEllipsis v (rulesOf c)) (startOf (rulesOf c) hidden) ts (replicate maxArguments noSpan) (startOf (rulesOf c) hidden) 0 0
 going-marked c v hidden ts =
-    let r : Rules = withEllipsis v (rulesOf c) in
+    let r : CallRules = withEllipsis v (rulesOf c) in
     subst (λ (k : Cursor). Going c r k ts (replicate maxArguments noSpan) k 0 0) (start-marked v (rulesOf c) hidden)
     (going-start c r hidden ts (lawful-marked v (rulesOf c) (rules-lawful c)))
 
-pub going-more : (c : Convention) (r : Rules) (start : Cursor) (ts : List ValueType) (ss : List Span) (k : Cursor) (v i : ℕ) (t : ValueType)
-    → Lawful r → i < length ts → length ts ≤ maxArguments → sizeOf c t ≤ 256 → drop i ts ≡ t ∷ drop (suc i) ts
+pub going-more : (c : Convention) (r : CallRules) (start : Cursor) (ts : List ValueType) (ss : List Span) (k : Cursor) (v i : ℕ) (t : ValueType)
+    → LawfulCalls r → i < length ts → length ts ≤ maxArguments → sizeOf c t ≤ 256 → drop i ts ≡ t ∷ drop (suc i) ts
     → Going c r start ts ss k v i
     → Going c r start ts (set ss i (spanOf r k t (sizeOf c t))) (nextOf r k t (sizeOf c t)) (v + sizeOf c t) (i + 1)
 unfolding spansOf lastOf valuesOf
@@ -85,12 +85,12 @@ going-more c r start ts ss k v i t l h few sm d g =
     }
 
 -- all arguments are planned: the table, the cursor and the size are the whole fold's
-pub record Gone (c : Convention) (r : Rules) (start : Cursor) (ts : List ValueType) (ss : List Span) (k : Cursor) (v : ℕ) : Type 0 where
+pub record Gone (c : Convention) (r : CallRules) (start : Cursor) (ts : List ValueType) (ss : List Span) (k : Cursor) (v : ℕ) : Type 0 where
   pub table : ss ≡ tableOf (spansOf c r start ts)
   pub last : k ≡ lastOf c r start ts
   pub total : v ≡ valuesOf c ts
 
-pub going-end : (c : Convention) (r : Rules) (start : Cursor) (ts : List ValueType) (ss : List Span) (k : Cursor) (v i : ℕ)
+pub going-end : (c : Convention) (r : CallRules) (start : Cursor) (ts : List ValueType) (ss : List Span) (k : Cursor) (v i : ℕ)
     → length ts ≤ i → Going c r start ts ss k v i → Gone c r start ts ss k v
 unfolding spansOf lastOf valuesOf tableOf
 going-end c r start ts ss k v i h g =
@@ -109,9 +109,9 @@ going-end c r start ts ss k v i h g =
     }
 
 -- so that they make up the plan: p is what the loop leaves of it, by rules and from a cursor that are the plan's
-pub gone-plan : (n : ℕ) (c : Convention) (v : Bool) (q : ResultType) (ts : List ValueType) (r : Rules) (start k : Cursor) (p : Plan) (values area : ℕ)
+pub gone-plan : (n : ℕ) (c : Convention) (v : Bool) (q : ResultType) (ts : List ValueType) (r : CallRules) (start k : Cursor) (p : Plan) (values area : ℕ)
     → r ≡ withEllipsis v (rulesOf c) → start ≡ startIn c q → Gone c r start ts (p .spans) k values
-    → p .outcome ≡ Outcome.Accepted n → p .convention ≡ c → p .ellipsis ≡ v → p .result ≡ resultIn c q → p .count ≡ length ts → area ≡ areaOf c k
+    → p .outcome ≡ Outcome.Accepted n → p .convention ≡ c → p .ellipsis ≡ v → p .result ≡ resultPlacesIn c q → p .count ≡ length ts → area ≡ areaOf c k
     → _≡_ {A = Plan} (record {
       outcome = p .outcome;
       convention = p .convention;

@@ -15,14 +15,14 @@ use Rattle.signature.specs.Read.{signatureOf}
 use Rattle.signature.specs.Answer.{resultType}
 use Rattle.signature.specs.Types.{typesOf}
 use Rattle.reader.specs.declared.ArgumentRead.{ArgumentRead}
-use Rattle.reader.specs.Argument.{argumentAnswer}
+use Rattle.reader.specs.Argument.{argumentOf}
 use Rattle.places.specs.declared.Cursor.{Cursor}
-use Rattle.places.specs.declared.Rules.{Rules}
+use Rattle.places.specs.declared.CallRules.{CallRules}
 use Rattle.places.specs.Step.{rulesOf, nextOf, unclearFor}
 use Rattle.plan.specs.Plan.{startIn, planAnswer}
 
 -- Of the arguments from the cursor k on, i of which came before: the number of the first that is unclear, counted from 1; 0 where none is.
-unfoldable pub firstUnclear : Convention → Rules → Cursor → ℕ → List ValueType → ℕ
+unfoldable pub firstUnclear : Convention → CallRules → Cursor → ℕ → List ValueType → ℕ
 firstUnclear c r k i [] = 0
 firstUnclear c r k i (t ∷ ts) = pick (unclearFor r k t) (suc i) (firstUnclear c r (nextOf r k t (sizeOf c t)) (suc i) ts)
 
@@ -40,7 +40,7 @@ itemIn (ArgumentRead.Refused f) = 0
 
 -- 29 of argument number i, counted from 0, of what was read: at its header. It has count 0, as every refusal after reading
 abbrev pub unclearFault : ℕ → Reading Signature → Fault
-unclearFault i x = fault Refusal.UnclearPlace (itemIn (argumentAnswer i x)) 0
+unclearFault i x = fault Refusal.UnclearPlace (itemIn (argumentOf i x)) 0
 
 -- where the first unclear argument is number u, counted from 1
 abbrev pub clearRead : ℕ → Signature → ℕ → ℕ → Reading Signature

@@ -39,11 +39,11 @@ pub record SpanWithin (p : Plan) (s : Span) : Type 0 where
   pub memory-to : s .memory .start + s .memory .length ≤ s .home .start + s .home .length
 
 -- so do the span of each argument, and that of a hidden address
-pub record Within (p : Plan) : Type 0 where
+pub record PlanWithin (p : Plan) : Type 0 where
   pub arguments : (i : ℕ) → SpanWithin p (spanAt p i)
   pub hidden : (s : Span) → p .result ≡ ResultPlaces.Hidden s → SpanWithin p s
   -- "8 times the larger of 8 and the final w": the area is never less than the convention's least
   pub least : (n : ℕ) → p .outcome ≡ Outcome.Accepted n → leastArea (p .convention) ≤ p .area
 
 abbrev pub PlansWithin : Type 0
-PlansWithin = (x : Reading Signature) → Within (planAnswer x)
+PlansWithin = (x : Reading Signature) → PlanWithin (planAnswer x)

@@ -21,21 +21,21 @@ use Rattle.places.specs.Places.{Numbered}
 use Rattle.places.specs.Helpers.{ResultNumbered}
 use Rattle.plan.specs.declared.Plan.{Plan}
 use Rattle.plan.specs.declared.Measured.{Measured}
-use Rattle.plan.specs.Plan.{planIn, refused, startIn, measureOf}
+use Rattle.plan.specs.Plan.{planIn, refusedPlan, startIn, measureOf}
 use Rattle.plan.specs.Call.{firstUnclear, unclearFault}
 use Rattle.plan.specs.Disjoint.{spanAt}
 
 abbrev pub plannedAs : Outcome → SignatureRead → Plan
 plannedAs (Outcome.Accepted n) g = planIn n (g .convention) (g .ellipsis) (g .result) (typesIn g)
-plannedAs (Outcome.Refused f) g = refused f
+plannedAs (Outcome.Refused f) g = refusedPlan f
 
 unfoldable pub planned : SignatureRead → Plan
 planned g = plannedAs (g .outcome) g
 
 -- from the arguments on, in a signature of `all` bytes, where n items came before theirs: as `withArguments` of the reader
 abbrev pub planWith : Convention → Bool → ResultType → ℕ → ℕ → Reading Trees → Plan
-planWith c v r n all (got ts next m) = pick (ltb next all) (refused (fault Refusal.TrailingBytes next (n + m))) (planIn (n + m) c v r (typesOf c ts))
-planWith c v r n all (no f) = refused (later n f)
+planWith c v r n all (got ts next m) = pick (ltb next all) (refusedPlan (fault Refusal.TrailingBytes next (n + m))) (planIn (n + m) c v r (typesOf c ts))
+planWith c v r n all (no f) = refusedPlan (later n f)
 
 -- the same of the reader's answer
 abbrev pub unclearOf : SignatureRead → ℕ
@@ -49,7 +49,7 @@ unclearWith c r all (no f) = 0
 -- of a reading x whose own sizes are m, where the first unclear argument is number u, counted from 1
 unfoldable pub measuredBy : ℕ → Measured → Reading Signature → Measured
 measuredBy zero m x = m
-measuredBy (suc i) m x = measureOf (refused (unclearFault i x))
+measuredBy (suc i) m x = measureOf (refusedPlan (unclearFault i x))
 
 -- what the writers of a plan, printed or stored, ask of it; every plan has it (law `answer-printable`)
 pub record Printable (p : Plan) : Type 0 where

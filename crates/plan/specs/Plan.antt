@@ -18,7 +18,7 @@ use Rattle.signature.specs.Types.{typesOf, valuesOf}
 use Rattle.places.specs.declared.Cursor.{Cursor}
 use Rattle.places.specs.declared.Span.{Span}
 use Rattle.places.specs.declared.ResultPlaces.{ResultPlaces}
-use Rattle.places.specs.declared.Rules.{Rules}
+use Rattle.places.specs.declared.CallRules.{CallRules}
 use Rattle.places.specs.Values.{registers, bytes}
 use Rattle.places.specs.Step.{rulesOf, withEllipsis, spanOf, nextOf, startOf, areaOf, hiddenFor, resultOf}
 use Rattle.plan.specs.declared.Plan.{Plan}
@@ -27,12 +27,12 @@ use Rattle.plan.specs.declared.Measured.{Measured}
 -- ---- the fold, over any rules
 
 -- the span of each argument, from the cursor k on
-unfoldable pub spansOf : Convention → Rules → Cursor → List ValueType → List Span
+unfoldable pub spansOf : Convention → CallRules → Cursor → List ValueType → List Span
 spansOf c r k [] = []
 spansOf c r k (t ∷ ts) = spanOf r k t (sizeOf c t) ∷ spansOf c r (nextOf r k t (sizeOf c t)) ts
 
 -- the cursor past the last argument
-unfoldable pub lastOf : Convention → Rules → Cursor → List ValueType → Cursor
+unfoldable pub lastOf : Convention → CallRules → Cursor → List ValueType → Cursor
 lastOf c r k [] = k
 lastOf c r k (t ∷ ts) = lastOf c r (nextOf r k t (sizeOf c t)) ts
 
@@ -42,9 +42,9 @@ abbrev pub hiddenIn : Convention → ResultType → Bool
 hiddenIn c ResultType.Nothing = false
 hiddenIn c (ResultType.Value t) = hiddenFor (rulesOf c) t
 
-abbrev pub resultIn : Convention → ResultType → ResultPlaces
-resultIn c ResultType.Nothing = ResultPlaces.Nothing
-resultIn c (ResultType.Value t) = resultOf (rulesOf c) t (sizeOf c t)
+abbrev pub resultPlacesIn : Convention → ResultType → ResultPlaces
+resultPlacesIn c ResultType.Nothing = ResultPlaces.Nothing
+resultPlacesIn c (ResultType.Value t) = resultOf (rulesOf c) t (sizeOf c t)
 
 -- ---- the plan
 
@@ -69,7 +69,7 @@ planIn n c v r ts = record {
   outcome = Outcome.Accepted n;
   convention = c;
   ellipsis = v;
-  result = resultIn c r;
+  result = resultPlacesIn c r;
   count = length ts;
   area = areaOf c (endIn c r ts);
   values = valuesOf c ts;
@@ -92,13 +92,13 @@ blankPlan o c v r n = record {
 }
 
 -- "Every refusal leaves all buffers and the state untouched"
-abbrev pub refused : Fault → Plan
-refused f = blankPlan (Outcome.Refused f) Convention.Ppc64 false ResultPlaces.Nothing 0
+abbrev pub refusedPlan : Fault → Plan
+refusedPlan f = blankPlan (Outcome.Refused f) Convention.Ppc64 false ResultPlaces.Nothing 0
 
 -- of what the reader finds in a signature's bytes
 unfoldable pub planAnswer : Reading Signature → Plan
 planAnswer (got g next n) = planIn n (g .convention) (g .ellipsis) (resultType (g .convention) (g .result)) (typesOf (g .convention) (g .arguments))
-planAnswer (no f) = refused f
+planAnswer (no f) = refusedPlan f
 
 -- ---- the sizes alone
 

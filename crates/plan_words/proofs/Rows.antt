@@ -29,13 +29,13 @@ use Rattle.signature.proofs.Laws.{thenArguments, signature-arguments}
 use Rattle.signature.specs.Types.{valuesOf, typesOf}
 use Rattle.signature.proofs.Types.{length-of-types, answer-plannable}
 use Rattle.reader.specs.declared.ArgumentRead.{ArgumentRead}
-use Rattle.reader.specs.Argument.{argumentIn, argumentsPlace, argumentAnswer}
+use Rattle.reader.specs.Argument.{argumentIn, argumentsPlace, argumentOf}
 use Rattle.reader.proofs.Found.{begun}
 use Rattle.places.specs.declared.Cursor.{Cursor}
 use Rattle.places.specs.declared.Span.{Span}
-use Rattle.places.specs.declared.Rules.{Rules}
+use Rattle.places.specs.declared.CallRules.{CallRules}
 use Rattle.places.specs.Step.{rulesOf, withEllipsis, spanOf, nextOf}
-use Rattle.plan.specs.Plan.{spansOf, lastOf, noSpan, tableOf, startIn, endIn, planIn, refused, planAnswer}
+use Rattle.plan.specs.Plan.{spansOf, lastOf, noSpan, tableOf, startIn, endIn, planIn, refusedPlan, planAnswer}
 use Rattle.plan.specs.Disjoint.{spanAt}
 use Rattle.plan.proofs.Fold.{length-spans, last-marked, values-more}
 use Rattle.plan.specs.Call.{itemIn, unclearFault, called, callOf}
@@ -51,7 +51,7 @@ same-append : {a b x y : List ℕ} → a ≡ b → x ≡ y → a ++ x ≡ b ++ y
 same-append p q = cc
 
 -- one argument's span more
-spans-more : (c : Convention) (r : Rules) (k : Cursor) (ts : List ValueType) (t : ValueType) →
+spans-more : (c : Convention) (r : CallRules) (k : Cursor) (ts : List ValueType) (t : ValueType) →
     spansOf c r k (ts ++ t ∷ []) ≡ spansOf c r k ts ++ spanOf r (lastOf c r k ts) t (sizeOf c t) ∷ []
 unfolding spansOf lastOf
 spans-more c r k [] t = refl
@@ -90,11 +90,11 @@ module _ (c : Convention) (g : Result) (v : Bool) (next n : ℕ) where
         spans-more c (withEllipsis v (rulesOf c)) (startIn c r) (typesOf c ts) (typeOf c t)
         ∙ ap (λ (k : Cursor). spans ts ++ spanOf (withEllipsis v (rulesOf c)) k (typeOf c t) (sizeOf c (typeOf c t)) ∷ []) (last-marked c v (rulesOf c) (startIn c r) (typesOf c ts))
 
-    argument-same : (i : ℕ) → i < countOf ts → argumentAnswer i (read (ts ▸ t)) ≡ argumentAnswer i (read ts)
+    argument-same : (i : ℕ) → i < countOf ts → argumentOf i (read (ts ▸ t)) ≡ argumentOf i (read ts)
     unfolding argumentIn
     argument-same i h = rw (ne-eqb i (countOf ts) (λ q. omega arith))
 
-    argument-last : argumentAnswer (countOf ts) (read (ts ▸ t)) ≡ ArgumentRead.Argument (typeOf c t) (itemAfter start ts)
+    argument-last : argumentOf (countOf ts) (read (ts ▸ t)) ≡ ArgumentRead.Argument (typeOf c t) (itemAfter start ts)
     unfolding argumentIn
     argument-last = rw (eq-eqb (countOf ts) (countOf ts) refl)
 
@@ -154,7 +154,7 @@ module _ (c : Convention) (g : Result) (v : Bool) (next n : ℕ) where
   accepted-rows ts = entries-all ts ∙ ap (entriesUpTo (read ts)) (sym (length-of-types c ts))
 
 -- a refused one
-refused-rows : (y : Reading Signature) (f : Fault) → planAnswer y ≡ refused f → [] ≡ entriesOf y
+refused-rows : (y : Reading Signature) (f : Fault) → planAnswer y ≡ refusedPlan f → [] ≡ entriesOf y
 unfolding entriesOf entriesUpTo
 refused-rows y f plan = rw plan
 

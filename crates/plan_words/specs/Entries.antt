@@ -8,7 +8,7 @@ use Rattle.types.specs.Sizes.{sizeOf}
 use Rattle.items.specs.Reading.{Reading}
 use Rattle.signature.specs.Signature.{Signature}
 use Rattle.reader.specs.declared.ArgumentRead.{ArgumentRead}
-use Rattle.reader.specs.Argument.{argumentAnswer}
+use Rattle.reader.specs.Argument.{argumentOf}
 use Rattle.plan.specs.Plan.{planAnswer}
 use Rattle.plan.specs.Disjoint.{spanAt}
 use Rattle.plan.specs.Call.{itemIn}
@@ -22,7 +22,7 @@ sizeIn c (ArgumentRead.Refused f) = 0
 
 -- the bytes of argument i
 abbrev pub sizeAt : Reading Signature → ℕ → ℕ
-sizeAt x i = sizeIn (planAnswer x .convention) (argumentAnswer i x)
+sizeAt x i = sizeIn (planAnswer x .convention) (argumentOf i x)
 
 -- "The value buffer holds the arguments in order without gaps": where argument i's value starts
 unfoldable pub valueAt : Reading Signature → ℕ → ℕ
@@ -30,7 +30,7 @@ valueAt x zero = 0
 valueAt x (suc i) = valueAt x i + sizeAt x i
 
 abbrev pub entryAt : Reading Signature → ℕ → List ℕ
-entryAt x i = entryWords (itemIn (argumentAnswer i x)) (sizeAt x i) (valueAt x i) (spanAt (planAnswer x) i)
+entryAt x i = entryWords (itemIn (argumentOf i x)) (sizeAt x i) (valueAt x i) (spanAt (planAnswer x) i)
 
 -- those of the first n arguments
 unfoldable pub entriesUpTo : Reading Signature → ℕ → List ℕ

@@ -17,7 +17,7 @@ use Rattle.signature.specs.Signature.{Signature}
 use Rattle.signature.specs.Types.{valuesOf, typesOf}
 use Rattle.signature.specs.Helpers.{SmallResult}
 use Rattle.places.specs.Step.{rulesOf, withEllipsis, spanOf}
-use Rattle.plan.specs.Plan.{endIn, refused}
+use Rattle.plan.specs.Plan.{endIn, refusedPlan}
 use Rattle.plan.specs.Helpers.{planWith, unclearWith}
 use Rattle.plan.specs.Call.{unclearFault}
 use Rattle.plan_entries.specs.Words.{entryWords, entryLength}
@@ -44,7 +44,7 @@ rowsWith c v r at all (no f) = []
 -- the same of a call, which the reading x is of: refused by 29 where argument number u, counted from 1, is the first unclear one
 unfoldable pub plannedBy : ℕ → Planned → Reading Signature → Planned
 plannedBy zero p x = p
-plannedBy (suc i) p x = plannedOf (refused (unclearFault i x))
+plannedBy (suc i) p x = plannedOf (refusedPlan (unclearFault i x))
 
 unfoldable pub rowsBy : ℕ → List ℕ → List ℕ
 rowsBy zero rows = rows

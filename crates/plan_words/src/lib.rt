@@ -15,7 +15,7 @@ ghost use Prim.Native.Nat.{_^_, _≤_, _<_};
 ghost use lib.ListN.{length};
 ghost use Rattle.signature.specs.Limits.{maxLength};
 ghost use Rattle.signature.specs.Read.{argumentsIn, signatureOf};
-ghost use Rattle.plan.specs.Plan.{refused, planAnswer};
+ghost use Rattle.plan.specs.Plan.{refusedPlan, planAnswer};
 ghost use Rattle.plan.specs.Call.{callOf};
 ghost use Rattle.plan_entries.specs.Words.{tabled};
 ghost use Rattle.plan_words.specs.Entries.{entriesOf};
@@ -38,7 +38,7 @@ pub struct Planned {
 const FEW_BYTES: usize = 36;
 
 fn no_plan(fault: Fault) -> Planned
-    ensures { λ p. ⌜ p ≡ plannedOf (refused fault) ⌝ }
+    ensures { λ p. ⌜ p ≡ plannedOf (refusedPlan fault) ⌝ }
 {
     Planned {
         outcome: Outcome::Refused(fault),

@@ -14,7 +14,7 @@ use signature::ResultType;
 use signature::SignatureRead;
 ghost use mathlib.Core.Path.{_≡_};
 ghost use Rattle.signature.specs.Read.{signatureOf};
-ghost use Rattle.plan.specs.Plan.{hiddenIn, resultIn, blankPlan, planAnswer};
+ghost use Rattle.plan.specs.Plan.{hiddenIn, resultPlacesIn, blankPlan, planAnswer};
 ghost use Rattle.plan.specs.Helpers.{planned, unclearOf};
 ghost use Rattle.signature.specs.Answer.{signatureAnswer};
 ghost use Rattle.signature.specs.Helpers.{SmallResult, Plannable};
@@ -67,7 +67,7 @@ pub fn hidden_in(c: Convention, result: ResultType) -> bool
 
 pub fn result_in(c: Convention, result: ResultType) -> ResultPlaces
     requires { ⌜ SmallResult c result ⌝ }
-    ensures { λ q. ⌜ q ≡ resultIn c result ⌝ }
+    ensures { λ q. ⌜ q ≡ resultPlacesIn c result ⌝ }
 {
     match result {
         ResultType::Nothing => ResultPlaces::Nothing,

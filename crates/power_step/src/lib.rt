@@ -2,7 +2,7 @@
 ghost use mathlib.Core.Path.{_≡_};
 ghost use mathlib.Core.Bool.{true};
 ghost use Prim.Native.Nat.{_*_, _≤_};
-ghost use Rattle.places.specs.declared.Rules.{Rules};
+ghost use Rattle.places.specs.declared.CallRules.{CallRules};
 ghost use Rattle.places.specs.Power.{words, fprs, unclear, shareOf, powerShare, powerSpan, powerNext};
 ghost use Rattle.places.specs.Step.{placedAs, nextOf, placed};
 ghost use Rattle.places.specs.Helpers.{Roomy};
@@ -168,7 +168,7 @@ fn place(word: usize, c: Cursor, a: Taken) -> Placed
 
 pub fn step(f: PowerRules, c: Cursor, t: ValueType, size: usize) -> Placed
     requires { ⌜ (4 ≤ f .word) × (f .word ≤ 8) × Roomy c × (size ≤ maxSize) ⌝ }
-    ensures { λ r. ⌜ r ≡ placed (Rules.Power f) c t size ⌝ }
+    ensures { λ r. ⌜ r ≡ placed (CallRules.Power f) c t size ⌝ }
 {
     let word = f.word;
     place(word, c, taken_of(f, c, t, size))
@@ -177,7 +177,7 @@ pub fn step(f: PowerRules, c: Cursor, t: ValueType, size: usize) -> Placed
 // The next cursor of the step, without the span. An ellipsis moves no cursor, so that none is looked for.
 pub fn advance(f: PowerRules, c: Cursor, t: ValueType, size: usize) -> Cursor
     requires { ⌜ (4 ≤ f .word) × (f .word ≤ 8) × Roomy c × (size ≤ maxSize) ⌝ }
-    ensures { λ k. ⌜ k ≡ nextOf (Rules.Power f) c t size ⌝ }
+    ensures { λ k. ⌜ k ≡ nextOf (CallRules.Power f) c t size ⌝ }
 {
     let word = f.word;
     let edition = f.edition;

@@ -18,7 +18,7 @@ use Rattle.plan.specs.Plan.{spansOf}
 use Rattle.slots.specs.declared.Answer.{Answer}
 use Rattle.items.specs.declared.Fault.{Fault}
 use Rattle.slots.specs.Buffers.{Buffers}
-use Rattle.places.specs.declared.Rules.{Rules}
+use Rattle.places.specs.declared.CallRules.{CallRules}
 use Rattle.slots.specs.Placements.{Placement, placements, valuesAt}
 use Rattle.slots.specs.Helpers.{Held, Fits, All, sizesOf}
 use Rattle.slots.specs.Refusals.{firstOf, orElse, firstOfAll, isRefused}
@@ -28,18 +28,18 @@ use Rattle.arguments.specs.Table.{argumentsFrom}
 use Rattle.arguments.proofs.Table.{arguments-read}
 use Rattle.slots.proofs.Planned.{all-with}
 use Rattle.slots.proofs.Refusals.{first-done, differ-false, or-refused, not-refused}
-use Rattle.unmarshal.specs.Helpers.{Ready}
-use Rattle.read.specs.declared.Sizes.{Sizes}
+use Rattle.unmarshal.specs.Helpers.{InBuffers}
+use Rattle.read.specs.declared.ReadLengths.{ReadLengths}
 use Rattle.read.specs.Read.{argumentsAnswer, readTests, readAnswer, readValues}
-use Rattle.read.specs.Helpers.{AllReady}
+use Rattle.read.specs.Helpers.{AllInBuffers}
 
 -- ---- what no test refuses
-pub record Lent (have : Sizes) (p : Plan) : Type 0 where
+pub record Lent (have : ReadLengths) (p : Plan) : Type 0 where
   pub image : have .image ≡ 512
   pub values : have .values ≡ p .values
   pub area : p .area ≤ have .area
 
-pub tests-passed : (have : Sizes) (p : Plan) → firstOf (readTests have (p .values) (p .area)) ≡ Answer.Done → Lent have p
+pub tests-passed : (have : ReadLengths) (p : Plan) → firstOf (readTests have (p .values) (p .area)) ≡ Answer.Done → Lent have p
 unfolding readTests
 tests-passed have p e =
     let a = first-done _ _ e in
@@ -52,23 +52,23 @@ tests-passed have p e =
     }
 
 -- the same of sizes m that were measured
-pub tests-lent : (s : List ℕ) (have : Sizes) (m : Measured) → m ≡ sizesFor s
+pub tests-lent : (s : List ℕ) (have : ReadLengths) (m : Measured) → m ≡ sizesFor s
     → firstOf (readTests have (m .values) (m .area)) ≡ Answer.Done → Lent have (planFor s)
 tests-lent s have m p e = tests-passed have (planFor s) (rw p at e)
 
 -- each argument is then one that the first pass can look at
 pub each-ready : (s : List ℕ) (g : SignatureRead) (i a : ℕ) → g ≡ signatureAnswer (signatureOf s) → i ≡ 512 → planFor s .area ≤ a
-    → All (Ready (rulesIn g) i a) (argumentsOf s)
+    → All (InBuffers (rulesIn g) i a) (argumentsOf s)
 unfolding argumentsOf
 each-ready s g i a same image area =
     let h = carried s in
-    all-with (Held (rulesIn g)) (Fits (planFor s .area) (planFor s .copies)) (Ready (rulesIn g) i a) ready (argumentsOf s)
+    all-with (Held (rulesIn g)) (Fits (planFor s .area) (planFor s .copies)) (InBuffers (rulesIn g) i a) ready (argumentsOf s)
     (subst (λ (x : SignatureRead). All (Held (rulesIn x)) (argumentsOf s)) (sym same) (h .held)) (h .fit)
   where
-    ready : (q : Placement) → Held (rulesIn g) q → Fits (planFor s .area) (planFor s .copies) q → Ready (rulesIn g) i a q
+    ready : (q : Placement) → Held (rulesIn g) q → Fits (planFor s .area) (planFor s .copies) q → InBuffers (rulesIn g) i a q
     ready q x y = record { held = x; general = y .general; floating = y .floating; memory = λ _. omega (arith, y .memory); registers = image }
 
-pub all-ready : (s : List ℕ) (g : SignatureRead) (i a : ℕ) → g ≡ signatureAnswer (signatureOf s) → i ≡ 512 → planFor s .area ≤ a → AllReady g i a
+pub all-ready : (s : List ℕ) (g : SignatureRead) (i a : ℕ) → g ≡ signatureAnswer (signatureOf s) → i ≡ 512 → planFor s .area ≤ a → AllInBuffers g i a
 all-ready s g i a same image area = record {
   plannable = rw same (answer-plannable s);
   each = rw (arguments-read s g same) (each-ready s g i a same image area);
@@ -81,7 +81,7 @@ all-sizes s g same = ap sizesOf (arguments-read s g same) ∙ carried s .total
 
 -- ---- the answer
 
-module _ (s : List ℕ) (have : Sizes) (base : ℕ) (b : Buffers) (m : Measured) (p : m ≡ sizesFor s) where
+module _ (s : List ℕ) (have : ReadLengths) (base : ℕ) (b : Buffers) (m : Measured) (p : m ≡ sizesFor s) where
   pub answer-refused : (f : Fault) → m .outcome ≡ Outcome.Refused f → Answer.Unread f ≡ readAnswer s have base b
   unfolding readAnswer
   answer-refused f e = rw (rw p at e)
@@ -119,10 +119,10 @@ pub none-from : (g : SignatureRead) → g .count ≡ 0 → argumentsFrom g ≡ [
 unfolding argumentsFrom spansOf placements
 none-from g z = rw z
 
-pub none-refused : (r : Rules) (base : ℕ) (ps : List Placement) (b : Buffers) → ps ≡ [] → Answer.Done ≡ argumentsAnswer r base ps b
+pub none-refused : (r : CallRules) (base : ℕ) (ps : List Placement) (b : Buffers) → ps ≡ [] → Answer.Done ≡ argumentsAnswer r base ps b
 unfolding argumentsAnswer firstOfAll
 none-refused r base ps b z = rw z
 
-pub none-taken : (r : Rules) (base : ℕ) (ps : List Placement) (b : Buffers) → ps ≡ [] → (values : List ℕ) → values ≡ overlay values (valuesAt r base ps b)
+pub none-taken : (r : CallRules) (base : ℕ) (ps : List Placement) (b : Buffers) → ps ≡ [] → (values : List ℕ) → values ≡ overlay values (valuesAt r base ps b)
 unfolding valuesAt
 none-taken r base ps b z values = rw z (overlay-nothing values)

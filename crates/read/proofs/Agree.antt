@@ -15,7 +15,7 @@ use Rattle.words.specs.Splice.{overlay, part}
 use Rattle.words.proofs.Splices.{overlay-is, length-part}
 use Rattle.types.specs.declared.Equivalent.{Equivalent}
 use Rattle.types.specs.Sizes.{equivalentOf}
-use Rattle.places.specs.declared.Rules.{Rules}
+use Rattle.places.specs.declared.CallRules.{CallRules}
 use Rattle.places.specs.Step.{wordOf}
 use Rattle.registers.specs.Registers.{gather}
 use Rattle.registers.proofs.Registers.{length-gather}
@@ -100,7 +100,7 @@ float-most Equivalent.Single m n h = omega (arith, h .1)
 float-most Equivalent.Double m n h = omega (arith, h .1)
 float-most Equivalent.Nothing m n h = omega (arith, h .1)
 
-module _ (r : Rules) (p : Placement) (b : Buffers) where
+module _ (r : CallRules) (p : Placement) (b : Buffers) where
   -- without general registers nothing is compared
   pub agrees-alone : p .span .general .count ≡ 0 → agrees r p b ≡ true
   unfolding agrees ownHeld gather sameBytes

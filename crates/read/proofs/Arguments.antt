@@ -12,7 +12,7 @@ use Rattle.words.specs.Numbers.{valueOf}
 use Rattle.types.specs.declared.FloatFormat.{FloatFormat}
 use Rattle.types.specs.declared.ValueType.{ValueType}
 use Rattle.types.specs.Sizes.{equivalentOf}
-use Rattle.places.specs.declared.Rules.{Rules}
+use Rattle.places.specs.declared.CallRules.{CallRules}
 use Rattle.places.specs.declared.Cursor.{Cursor}
 use Rattle.places.specs.declared.PowerRules.{PowerRules}
 use Rattle.places.specs.declared.Share.{Share}
@@ -27,7 +27,7 @@ use Rattle.slots.specs.Placements.{Placement, placement, floatAt, addressAt}
 use Rattle.slots.specs.Refusals.{orElse, firstOfAll, isRefused, floatAnswer}
 use Rattle.slots.specs.Helpers.{All}
 use Rattle.slots.proofs.Refusals.{or-done, or-refused, not-refused}
-use Rattle.unmarshal.specs.Helpers.{Ready, Readable}
+use Rattle.unmarshal.specs.Helpers.{InBuffers, Readable}
 use Rattle.read.specs.Read.{inCopies, copyAnswer, agrees, agreeAnswer, argumentAnswer, argumentsAnswer}
 use Rattle.read.specs.Helpers.{canRefuse}
 use Rattle.read.proofs.Agree.{agrees-alone}
@@ -50,7 +50,7 @@ or-done-right (Answer.Refused reason) = refl
 
 -- ---- an argument in FPRs: 14, and then 26
 
-module _ (r : Rules) (base : ℕ) (p : Placement) (b : Buffers) (some : 0 < p .span .floating .count) (a : Answer)
+module _ (r : CallRules) (base : ℕ) (p : Placement) (b : Buffers) (some : 0 < p .span .floating .count) (a : Answer)
     (e : a ≡ floatAnswer r (equivalentOf (p .ty)) (valueOf (floatAt (p .span) b))) where
   -- in these alone
   pub argument-float : p .span .general .count ≡ 0 → a ≡ argumentAnswer r base p b
@@ -87,48 +87,48 @@ share-alone false (suc m) room n k e h = go (leb (suc m) room)
 
 -- and 14, which looks at singles alone, refuses nothing
 float-done : (f : PowerRules) (base : ℕ) (c : Cursor) (t : ValueType) (n : ℕ) (b : Buffers) → f .ellipsis ≡ false
-    → ((x : ℕ) → floatAnswer (Rules.Power f) (equivalentOf t) x ≡ Answer.Done)
-    → argumentAnswer (Rules.Power f) base (placement t n (spanOf (Rules.Power f) c t n)) b ≡ Answer.Done
+    → ((x : ℕ) → floatAnswer (CallRules.Power f) (equivalentOf t) x ≡ Answer.Done)
+    → argumentAnswer (CallRules.Power f) base (placement t n (spanOf (CallRules.Power f) c t n)) b ≡ Answer.Done
 unfolding argumentAnswer spanOf powerShare
 float-done f base c t n b e done =
     go (shareOf (f .ellipsis) (fprs (f .edition) t) (14 - c .floating) (words (f .word) n) (covered c (words (f .word) n))) (share-alone (f .ellipsis) (fprs (f .edition) t) (14 - c .floating) (words (f .word) n) (covered c (words (f .word) n)) e)
   where
     at : (s : Share) (x : Bool) → ltb 0 (s .floating) ≡ x → (0 < s .floating → s .general ≡ 0)
         → pick x
-        (orElse (floatAnswer (Rules.Power f) (equivalentOf t) (valueOf (floatAt (powerSpan (f .word) c (words (f .word) n) s) b))) (agreeAnswer (agrees (Rules.Power f) (placement t n (powerSpan (f .word) c (words (f .word) n) s)) b)))
+        (orElse (floatAnswer (CallRules.Power f) (equivalentOf t) (valueOf (floatAt (powerSpan (f .word) c (words (f .word) n) s) b))) (agreeAnswer (agrees (CallRules.Power f) (placement t n (powerSpan (f .word) c (words (f .word) n) s)) b)))
         Answer.Done ≡ Answer.Done
     at s true q alone =
-        ap₂ (λ (x : Answer) (y : Bool). orElse x (agreeAnswer y)) (done _) (agrees-alone (Rules.Power f) (placement t n (powerSpan (f .word) c (words (f .word) n) s)) b (alone (ltb-true 0 (s .floating) q)))
+        ap₂ (λ (x : Answer) (y : Bool). orElse x (agreeAnswer y)) (done _) (agrees-alone (CallRules.Power f) (placement t n (powerSpan (f .word) c (words (f .word) n) s)) b (alone (ltb-true 0 (s .floating) q)))
     at s false q alone = refl
 
     go : (s : Share) → (0 < s .floating → s .general ≡ 0)
-        → argumentAnswer (Rules.Power f) base (placement t n (powerSpan (f .word) c (words (f .word) n) s)) b ≡ Answer.Done
+        → argumentAnswer (CallRules.Power f) base (placement t n (powerSpan (f .word) c (words (f .word) n) s)) b ≡ Answer.Done
     go s alone = at s (ltb 0 (s .floating)) refl alone
 
 -- on Z a float in an FPR is nowhere else, and nothing is asked of it
-z-done : (base : ℕ) (c : Cursor) (t : ValueType) (n : ℕ) (b : Buffers) → argumentAnswer Rules.Z base (placement t n (zSpanOf c ZClass.Float n)) b ≡ Answer.Done
+z-done : (base : ℕ) (c : Cursor) (t : ValueType) (n : ℕ) (b : Buffers) → argumentAnswer CallRules.Z base (placement t n (zSpanOf c ZClass.Float n)) b ≡ Answer.Done
 unfolding argumentAnswer zSpanOf
 z-done base c t n b =
-    rw (agrees-alone Rules.Z (placement t n (zSpanOf c ZClass.Float n)) b refl) (both-done (ltb 0 (zFloating c)))
+    rw (agrees-alone CallRules.Z (placement t n (zSpanOf c ZClass.Float n)) b refl) (both-done (ltb 0 (zFloating c)))
 
-pub never-refused : (r : Rules) (base : ℕ) (c : Cursor) (t : ValueType) (n : ℕ) (b : Buffers) → canRefuse r t ≡ false
+pub never-refused : (r : CallRules) (base : ℕ) (c : Cursor) (t : ValueType) (n : ℕ) (b : Buffers) → canRefuse r t ≡ false
     → Answer.Done ≡ argumentAnswer r base (placement t n (spanOf r c t n)) b
 unfolding argumentAnswer spanOf powerShare shareOf fprs zClass zSpanOf
-never-refused (Rules.Power f) base c (ValueType.Integer k) n b h = refl
-never-refused (Rules.Power f) base c (ValueType.Float FloatFormat.Single) n b h = let z : _≡_ {A = ℕ} 0 1 = cc in absurd (omega arith)
-never-refused (Rules.Power f) base c (ValueType.Float FloatFormat.Double) n b h = sym (float-done f base c (ValueType.Float FloatFormat.Double) n b h (λ x. refl))
-never-refused (Rules.Power f) base c (ValueType.Float FloatFormat.LongDouble) n b h = sym (float-done f base c (ValueType.Float FloatFormat.LongDouble) n b h (λ x. refl))
-never-refused (Rules.Power f) base c (ValueType.Struct s) n b h = refl
-never-refused Rules.Z base c (ValueType.Integer k) n b h = refl
-never-refused Rules.Z base c (ValueType.Float FloatFormat.Single) n b h = sym (z-done base c (ValueType.Float FloatFormat.Single) n b)
-never-refused Rules.Z base c (ValueType.Float FloatFormat.Double) n b h = sym (z-done base c (ValueType.Float FloatFormat.Double) n b)
-never-refused Rules.Z base c (ValueType.Float FloatFormat.LongDouble) n b h = let z : _≡_ {A = ℕ} 0 1 = cc in absurd (omega arith)
-never-refused Rules.Z base c (ValueType.Struct s) n b h = let z : _≡_ {A = ℕ} 0 1 = cc in absurd (omega arith)
+never-refused (CallRules.Power f) base c (ValueType.Integer k) n b h = refl
+never-refused (CallRules.Power f) base c (ValueType.Float FloatFormat.Single) n b h = let z : _≡_ {A = ℕ} 0 1 = cc in absurd (omega arith)
+never-refused (CallRules.Power f) base c (ValueType.Float FloatFormat.Double) n b h = sym (float-done f base c (ValueType.Float FloatFormat.Double) n b h (λ x. refl))
+never-refused (CallRules.Power f) base c (ValueType.Float FloatFormat.LongDouble) n b h = sym (float-done f base c (ValueType.Float FloatFormat.LongDouble) n b h (λ x. refl))
+never-refused (CallRules.Power f) base c (ValueType.Struct s) n b h = refl
+never-refused CallRules.Z base c (ValueType.Integer k) n b h = refl
+never-refused CallRules.Z base c (ValueType.Float FloatFormat.Single) n b h = sym (z-done base c (ValueType.Float FloatFormat.Single) n b)
+never-refused CallRules.Z base c (ValueType.Float FloatFormat.Double) n b h = sym (z-done base c (ValueType.Float FloatFormat.Double) n b)
+never-refused CallRules.Z base c (ValueType.Float FloatFormat.LongDouble) n b h = let z : _≡_ {A = ℕ} 0 1 = cc in absurd (omega arith)
+never-refused CallRules.Z base c (ValueType.Struct s) n b h = let z : _≡_ {A = ℕ} 0 1 = cc in absurd (omega arith)
 
 -- ---- what is read
 
-module _ (r : Rules) (base : ℕ) (b : Buffers) where
-  readable : (p : Placement) → Ready r (length (b .image)) (length (b .area)) p → argumentAnswer r base p b ≡ Answer.Done → Readable r base p b
+module _ (r : CallRules) (base : ℕ) (b : Buffers) where
+  readable : (p : Placement) → InBuffers r (length (b .image)) (length (b .area)) p → argumentAnswer r base p b ≡ Answer.Done → Readable r base p b
   unfolding argumentAnswer
   readable p ready done = record {
     ready = ready;
@@ -136,7 +136,7 @@ module _ (r : Rules) (base : ℕ) (b : Buffers) where
     inside = λ none e. inside-facts (addressAt (wordOf r) (p .span) b) base (p .size) (length (b .copies)) (simp (le-ltb 0 (p .span .floating .count) none, e) at done);
   }
 
-  pub all-readable : (ps : List Placement) → All (Ready r (length (b .image)) (length (b .area))) ps → argumentsAnswer r base ps b ≡ Answer.Done
+  pub all-readable : (ps : List Placement) → All (InBuffers r (length (b .image)) (length (b .area))) ps → argumentsAnswer r base ps b ≡ Answer.Done
       → All (λ (p : Placement). Readable r base p b) ps
   unfolding All argumentsAnswer firstOfAll
   all-readable [] each done = tt

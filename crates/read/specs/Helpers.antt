@@ -10,7 +10,7 @@ use Rattle.types.specs.declared.ValueType.{ValueType}
 use Rattle.types.specs.Sizes.{equivalentOf}
 use Rattle.signature.specs.declared.SignatureRead.{SignatureRead}
 use Rattle.signature.specs.Helpers.{Plannable}
-use Rattle.places.specs.declared.Rules.{Rules}
+use Rattle.places.specs.declared.CallRules.{CallRules}
 use Rattle.slots.specs.declared.Answer.{Answer}
 use Rattle.places.specs.Spots.{general, imageBytes}
 use Rattle.slots.specs.Buffers.{Buffers}
@@ -19,24 +19,24 @@ use Rattle.slots.specs.Refusals.{floatAnswer}
 use Rattle.slots.specs.Helpers.{Held, All}
 use Rattle.slots.specs.Arguments.{rulesIn}
 use Rattle.arguments.specs.Table.{argumentsFrom}
-use Rattle.unmarshal.specs.Helpers.{Ready}
+use Rattle.unmarshal.specs.Helpers.{InBuffers}
 
 -- the types whose arguments 13, 14 or 26 can refuse: on PowerPC a single, whose FPR is tested, and with an ellipsis every float; on Z those
 -- that may be passed by pointer to a copy (law `never-refused`)
-abbrev pub canRefuse : Rules → ValueType → Bool
-canRefuse (Rules.Power f) (ValueType.Integer k) = false
-canRefuse (Rules.Power f) (ValueType.Float FloatFormat.Single) = true
-canRefuse (Rules.Power f) (ValueType.Float FloatFormat.Double) = f .ellipsis
-canRefuse (Rules.Power f) (ValueType.Float FloatFormat.LongDouble) = f .ellipsis
-canRefuse (Rules.Power f) (ValueType.Struct s) = false
-canRefuse Rules.Z (ValueType.Integer k) = false
-canRefuse Rules.Z (ValueType.Float FloatFormat.Single) = false
-canRefuse Rules.Z (ValueType.Float FloatFormat.Double) = false
-canRefuse Rules.Z (ValueType.Float FloatFormat.LongDouble) = true
-canRefuse Rules.Z (ValueType.Struct s) = true
+abbrev pub canRefuse : CallRules → ValueType → Bool
+canRefuse (CallRules.Power f) (ValueType.Integer k) = false
+canRefuse (CallRules.Power f) (ValueType.Float FloatFormat.Single) = true
+canRefuse (CallRules.Power f) (ValueType.Float FloatFormat.Double) = f .ellipsis
+canRefuse (CallRules.Power f) (ValueType.Float FloatFormat.LongDouble) = f .ellipsis
+canRefuse (CallRules.Power f) (ValueType.Struct s) = false
+canRefuse CallRules.Z (ValueType.Integer k) = false
+canRefuse CallRules.Z (ValueType.Float FloatFormat.Single) = false
+canRefuse CallRules.Z (ValueType.Float FloatFormat.Double) = false
+canRefuse CallRules.Z (ValueType.Float FloatFormat.LongDouble) = true
+canRefuse CallRules.Z (ValueType.Struct s) = true
 
 -- what comparing asks: a float in FPRs that 14 doesn't refuse, and in general registers, all of them in the image
-pub record Compared (r : Rules) (p : Placement) (b : Buffers) : Type 0 where
+pub record Compared (r : CallRules) (p : Placement) (b : Buffers) : Type 0 where
   pub held : Held r p
   pub float : 0 < p .span .floating .count
   pub also : 0 < p .span .general .count
@@ -46,6 +46,6 @@ pub record Compared (r : Rules) (p : Placement) (b : Buffers) : Type 0 where
   pub exact : floatAnswer r (equivalentOf (p .ty)) (valueOf (floatAt (p .span) b)) ≡ Answer.Done
 
 -- what the first pass asks: all arguments of a signature that was read, and the lengths of the image and the area
-pub record AllReady (g : SignatureRead) (i a : ℕ) : Type 0 where
+pub record AllInBuffers (g : SignatureRead) (i a : ℕ) : Type 0 where
   pub plannable : Plannable g
-  pub each : All (Ready (rulesIn g) i a) (argumentsFrom g)
+  pub each : All (InBuffers (rulesIn g) i a) (argumentsFrom g)

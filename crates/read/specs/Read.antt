@@ -9,7 +9,7 @@ use Rattle.words.specs.Basics.{pick}
 use Rattle.words.specs.Splice.{overlay, part}
 use Rattle.words.specs.Numbers.{valueOf}
 use Rattle.types.specs.Sizes.{equivalentOf}
-use Rattle.places.specs.declared.Rules.{Rules}
+use Rattle.places.specs.declared.CallRules.{CallRules}
 use Rattle.places.specs.Step.{wordOf}
 use Rattle.slots.specs.declared.Refusal.{Refusal}
 use Rattle.slots.specs.declared.Answer.{Answer}
@@ -21,7 +21,7 @@ use Rattle.slots.specs.Placements.{Placement, floatAt, addressAt, valuesAt}
 use Rattle.slots.specs.Refusals.{Test, test, differ, firstOf, afterReading, orElse, firstOfAll, isDone, floatAnswer}
 use Rattle.plan.specs.Call.{outcomeFor}
 use Rattle.slots.specs.Arguments.{argumentsOf, planFor, rulesFor}
-use Rattle.read.specs.declared.Sizes.{Sizes}
+use Rattle.read.specs.declared.ReadLengths.{ReadLengths}
 
 -- ---- one argument
 -- n bytes at an address lie wholly in a copy buffer of c bytes at its base, in unbounded integers
@@ -33,7 +33,7 @@ abbrev pub copyAnswer : Bool → Answer
 copyAnswer true = Answer.Done
 copyAnswer false = Answer.Refused Refusal.OutsideCopies
 
-abbrev pub wordsAnswer : Rules → ℕ → Placement → Buffers → Answer
+abbrev pub wordsAnswer : CallRules → ℕ → Placement → Buffers → Answer
 wordsAnswer r base p b =
     pick (p .span .indirect) (copyAnswer (inCopies (addressAt (wordOf r) (p .span) b) base (p .size) (length (b .copies)))) Answer.Done
 
@@ -45,13 +45,13 @@ sameBytes (x ∷ xs) [] = false
 sameBytes (x ∷ xs) (y ∷ ys) = pick (eqb x y) (sameBytes xs ys) false
 
 -- a value's own bytes that stand in general registers: neither padding nor what is in memory
-unfoldable pub ownHeld : Rules → Placement → Buffers → List ℕ
+unfoldable pub ownHeld : CallRules → Placement → Buffers → List ℕ
 ownHeld r p b =
     part (ownStart r (p .ty) (p .size)) (p .size)
     (gather (wordOf r) (p .span .general .count) (bytesAt (general (p .span .general .first)) (8 * p .span .general .count) b))
 
 -- they are the first bytes of the value in its FPRs
-unfoldable pub agrees : Rules → Placement → Buffers → Bool
+unfoldable pub agrees : CallRules → Placement → Buffers → Bool
 agrees r p b = sameBytes (ownHeld r p b) (take (length (ownHeld r p b)) (floatValue r (p .ty) (floatAt (p .span) b)))
 
 -- 26, 02, No. 5: "when the GPRs of a float argument hold other value bytes than its FPR"
@@ -60,27 +60,27 @@ agreeAnswer true = Answer.Done
 agreeAnswer false = Answer.Refused Refusal.FloatsDiffer
 
 -- "Reading refuses with 26 .., right after 14 at each argument"
-unfoldable pub argumentAnswer : Rules → ℕ → Placement → Buffers → Answer
+unfoldable pub argumentAnswer : CallRules → ℕ → Placement → Buffers → Answer
 argumentAnswer r base p b =
     pick (ltb 0 (p .span .floating .count))
     (orElse (floatAnswer r (equivalentOf (p .ty)) (valueOf (floatAt (p .span) b))) (agreeAnswer (agrees r p b)))
     (wordsAnswer r base p b)
 
 -- "13 and 14 by argument, left to right", and 26
-unfoldable pub argumentsAnswer : Rules → ℕ → List Placement → Buffers → Answer
+unfoldable pub argumentsAnswer : CallRules → ℕ → List Placement → Buffers → Answer
 argumentsAnswer r base ps b = firstOfAll (λ (p : Placement). argumentAnswer r base p b) ps
 
 -- ---- the whole
 
 -- "After reading: .. 15, 10, 11": of buffers of these lengths, where the plan asks for values and an area of these sizes
-unfoldable pub readTests : Sizes → ℕ → ℕ → List Test
+unfoldable pub readTests : ReadLengths → ℕ → ℕ → List Test
 readTests have values area =
     test (differ (have .image) imageBytes) Refusal.ImageSize
     ∷ test (differ (have .values) values) Refusal.ValuesSize
     ∷ test (ltb (have .area) area) Refusal.AreaTooShort
     ∷ []
 
-unfoldable pub readAnswer : List ℕ → Sizes → ℕ → Buffers → Answer
+unfoldable pub readAnswer : List ℕ → ReadLengths → ℕ → Buffers → Answer
 readAnswer s have base b =
     afterReading (outcomeFor s)
     (orElse (firstOf (readTests have (planFor s .values) (planFor s .area))) (argumentsAnswer (rulesFor s) base (argumentsOf s) b))
@@ -89,5 +89,5 @@ readAnswer s have base b =
 unfoldable pub readValues : List ℕ → ℕ → Answer → Buffers → List ℕ → List ℕ
 readValues s base answer b values = pick (isDone answer) (overlay values (valuesAt (rulesFor s) base (argumentsOf s) b)) values
 
-abbrev pub sizes : List ℕ → List ℕ → List ℕ → Sizes
-sizes values image area = record { values = length values; image = length image; area = length area }
+abbrev pub readLengths : List ℕ → List ℕ → List ℕ → ReadLengths
+readLengths values image area = record { values = length values; image = length image; area = length area }

@@ -1,9 +1,9 @@
 // Reading: the values of a call's arguments out of its registers, memory and copies. A first pass over the arguments finds the first
 // that can't be read, and only then are the values taken, so that a refused reading leaves the value buffer as it was.
+use places::CallRules;
 use places::Cursor;
 use places::FPRS_AT;
 use places::IMAGE_BYTES;
-use places::Rules;
 use places::Span;
 use signature::Outcome;
 use signature::SignatureRead;
@@ -16,19 +16,19 @@ ghost use mathlib.Core.List.{[]};
 ghost use Prim.Native.Nat.{_≤_};
 ghost use lib.ListN.{length, take};
 ghost use Rattle.places.specs.Step.{spanOf};
-ghost use Rattle.places.specs.Helpers.{Lawful, Roomy};
+ghost use Rattle.places.specs.Helpers.{LawfulCalls, Roomy};
 ghost use Rattle.slots.specs.Buffers.{buffers};
 ghost use Rattle.slots.specs.Placements.{placement};
 ghost use Rattle.slots.specs.Refusals.{firstOf};
 ghost use Rattle.slots.specs.Arguments.{rulesIn};
 ghost use Rattle.arguments.specs.Table.{argumentsFrom};
-ghost use Rattle.unmarshal.specs.Helpers.{Ready};
-ghost use Rattle.read.specs.Read.{inCopies, copyAnswer, sameBytes, agrees, agreeAnswer, argumentAnswer, argumentsAnswer, readTests, readAnswer, readValues, sizes};
-ghost use Rattle.read.specs.Helpers.{Compared, canRefuse, AllReady};
+ghost use Rattle.unmarshal.specs.Helpers.{InBuffers};
+ghost use Rattle.read.specs.Read.{inCopies, copyAnswer, sameBytes, agrees, agreeAnswer, argumentAnswer, argumentsAnswer, readTests, readAnswer, readValues, readLengths};
+ghost use Rattle.read.specs.Helpers.{Compared, canRefuse, AllInBuffers};
 ghost use Rattle.types.specs.Sizes.{maxSize};
 
 // The lengths of the lent buffers that are tested.
-pub struct Sizes {
+pub struct ReadLengths {
     pub values: usize,
     pub image: usize,
     pub area: usize,
@@ -72,7 +72,7 @@ fn same_bytes(a: &[u8], b: &[u8], n: usize) -> bool
 }
 
 // Whether a float's own bytes in general registers are those in its FPRs.
-fn floats_agree(image: &[u8], r: Rules, t: ValueType, n: usize, s: Span) -> bool
+fn floats_agree(image: &[u8], r: CallRules, t: ValueType, n: usize, s: Span) -> bool
     requires { ⌜ Compared r (placement t n s) (buffers (now image) [] []) ⌝ }
     ensures { λ b. ⌜ b ≡ agrees r (placement t n s) (buffers (now (image .entry)) [] []) ⌝ }
 {
@@ -113,13 +113,13 @@ pub fn argument_answer(
     image: &[u8],
     area: &[u8],
     copies: &[u8],
-    r: Rules,
+    r: CallRules,
     t: ValueType,
     n: usize,
     s: Span,
     base: u64,
 ) -> Answer
-    requires { ⌜ Ready r (length (now image)) (length (now area)) (placement t n s) ⌝ }
+    requires { ⌜ InBuffers r (length (now image)) (length (now area)) (placement t n s) ⌝ }
     ensures { λ a. ⌜ a ≡ argumentAnswer r base (placement t n s) (buffers (now (image .entry)) (now (area .entry)) (now (copies .entry))) ⌝ }
 {
     let general = s.general;
@@ -144,11 +144,11 @@ pub fn argument_answer(
 }
 
 // Whether reading an argument of a type can be refused at all. Most can't, and then nobody need know its places.
-fn can_refuse(r: Rules, t: ValueType) -> bool
+fn can_refuse(r: CallRules, t: ValueType) -> bool
     ensures { λ b. ⌜ b ≡ canRefuse r t ⌝ }
 {
     match r {
-        Rules::Power(f) => match t {
+        CallRules::Power(f) => match t {
             ValueType::Integer(_) => false,
             ValueType::Float(x) => match x {
                 FloatFormat::Single => true,
@@ -157,7 +157,7 @@ fn can_refuse(r: Rules, t: ValueType) -> bool
             },
             ValueType::Struct(_) => false,
         },
-        Rules::Z => match t {
+        CallRules::Z => match t {
             ValueType::Integer(_) => false,
             ValueType::Float(f) => match f {
                 FloatFormat::Single => false,
@@ -174,13 +174,13 @@ fn answer_at(
     image: &[u8],
     area: &[u8],
     copies: &[u8],
-    r: Rules,
+    r: CallRules,
     c: Cursor,
     t: ValueType,
     n: usize,
     base: u64,
 ) -> Answer
-    requires { ⌜ Lawful r × Roomy c × (n ≤ maxSize) × Ready r (length (now image)) (length (now area)) (placement t n (spanOf r c t n)) ⌝ }
+    requires { ⌜ LawfulCalls r × Roomy c × (n ≤ maxSize) × InBuffers r (length (now image)) (length (now area)) (placement t n (spanOf r c t n)) ⌝ }
     ensures { λ a. ⌜ a ≡ argumentAnswer r base (placement t n (spanOf r c t n)) (buffers (now (image .entry)) (now (area .entry)) (now (copies .entry))) ⌝ }
 {
     if can_refuse(r, t) {
@@ -199,7 +199,7 @@ pub fn first_refusal(
     g: SignatureRead,
     base: u64,
 ) -> Answer
-    requires { ⌜ AllReady g (length (now image)) (length (now area)) ⌝ }
+    requires { ⌜ AllInBuffers g (length (now image)) (length (now area)) ⌝ }
     ensures { λ a. ⌜ a ≡ argumentsAnswer (rulesIn g) base (argumentsFrom g) (buffers (now (image .entry)) (now (area .entry)) (now (copies .entry))) ⌝ }
 {
     let convention = g.convention;
@@ -223,7 +223,7 @@ pub fn first_refusal(
 }
 
 // Whether the buffers have the lengths that a plan asks for.
-fn tested(have: Sizes, values: usize, area: usize) -> Answer
+fn tested(have: ReadLengths, values: usize, area: usize) -> Answer
     ensures { λ a. ⌜ a ≡ firstOf (readTests have values area) ⌝ }
 {
     if have.image != IMAGE_BYTES {
@@ -248,7 +248,7 @@ pub fn read(
     copies: &[u8],
     base: u64,
 ) -> Answer
-    ensures { λ a. ⌜ a ≡ readAnswer (now (sig .entry)) (sizes (now (values .entry)) (now (image .entry)) (now (area .entry))) base (buffers (now (image .entry)) (now (area .entry)) (now (copies .entry))) ⌝ }
+    ensures { λ a. ⌜ a ≡ readAnswer (now (sig .entry)) (readLengths (now (values .entry)) (now (image .entry)) (now (area .entry))) base (buffers (now (image .entry)) (now (area .entry)) (now (copies .entry))) ⌝ }
     ensures { λ a. ⌜ now (values .exit) ≡ readValues (now (sig .entry)) base a (buffers (now (image .entry)) (now (area .entry)) (now (copies .entry))) (now (values .entry)) ⌝ }
 {
     let g = whole_signature::read_signature(sig);
@@ -257,7 +257,7 @@ pub fn read(
     match outcome {
         Outcome::Refused(fault) => Answer::Unread(fault),
         Outcome::Accepted(_) => {
-            let have = Sizes {
+            let have = ReadLengths {
                 values: values.len(),
                 image: image.len(),
                 area: area.len(),

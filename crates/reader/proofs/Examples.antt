@@ -20,7 +20,7 @@ use Rattle.signature.specs.Read.{conventionAt, resultIn, resultAt, ellipsisAt, 
 use Rattle.stepping.specs.declared.Header.{Header}
 use Rattle.reader.specs.declared.ArgumentRead.{ArgumentRead}
 use Rattle.stepping.specs.Step.{endIn, bodyIn, headerIn, bodyStart, bodyEnd, typeIn}
-use Rattle.reader.specs.Argument.{argumentIn, argumentAnswer, pastEllipsis, argumentsStart, steppedTo}
+use Rattle.reader.specs.Argument.{argumentIn, argumentOf, pastEllipsis, argumentsStart, steppedTo}
 
 -- "PPC64, no result, arguments i32 and double: `01 0001 01 02 0000 03 0008 10 0001 04 11 0001 01`"
 pub example : List ℕ
@@ -33,7 +33,7 @@ unfolding example endIn bodyIn headerIn bodyAt
 headers = refl
 
 -- "arguments i32 and double", at 10 and 14
-pub arguments : map (λ (index : ℕ). argumentAnswer index (signatureOf example)) (0 ∷ 1 ∷ 2 ∷ [])
+pub arguments : map (λ (index : ℕ). argumentOf index (signatureOf example)) (0 ∷ 1 ∷ 2 ∷ [])
     ≡ ArgumentRead.Argument (ValueType.Integer IntegerKind.I32) 10 ∷ ArgumentRead.Argument (ValueType.Float FloatFormat.Double) 14 ∷ ArgumentRead.Missing ∷ []
 unfolding example bodyAt integerCode floatCode integerAt floatOf floatAt sequence roundUp withField shapeOf fieldsOf sizedAt contentsAt itemBy structAt itemAt conventionCode conventionAt resultIn resultAt ellipsisAt argumentsIn argumentsAt afterEllipsis afterResult afterConvention signatureOf item encodeTree encodeTrees encodeResult ellipsisItem typeOf countOf argumentIn
 arguments = refl
@@ -48,7 +48,7 @@ stepped = refl
 pub with-ellipsis : List ℕ
 with-ellipsis = 0x01 ∷ 0 ∷ 1 ∷ 1 ∷ 0x02 ∷ 0 ∷ 0 ∷ 0x04 ∷ 0 ∷ 0 ∷ 0x03 ∷ 0 ∷ 8 ∷ 0x10 ∷ 0 ∷ 1 ∷ 4 ∷ 0x11 ∷ 0 ∷ 1 ∷ 1 ∷ []
 
-pub later-arguments : map (λ (index : ℕ). argumentAnswer index (signatureOf with-ellipsis)) (0 ∷ 1 ∷ 2 ∷ [])
+pub later-arguments : map (λ (index : ℕ). argumentOf index (signatureOf with-ellipsis)) (0 ∷ 1 ∷ 2 ∷ [])
     ≡ ArgumentRead.Argument (ValueType.Integer IntegerKind.I32) 13 ∷ ArgumentRead.Argument (ValueType.Float FloatFormat.Double) 17 ∷ ArgumentRead.Missing ∷ []
 unfolding with-ellipsis bodyAt integerCode floatCode integerAt floatOf floatAt sequence roundUp withField shapeOf fieldsOf sizedAt contentsAt itemBy structAt itemAt conventionCode conventionAt resultIn resultAt ellipsisAt argumentsIn argumentsAt afterEllipsis afterResult afterConvention signatureOf item encodeTree encodeTrees encodeResult ellipsisItem typeOf countOf argumentIn
 later-arguments = refl

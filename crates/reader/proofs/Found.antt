@@ -33,7 +33,7 @@ use Rattle.signature.proofs.Loop.{Turn, turn-start, turn-last}
 use Rattle.signature.proofs.Sound.{convention-read, result-read, ellipsis-read}
 use Rattle.reader.specs.declared.ArgumentRead.{ArgumentRead}
 use Rattle.stepping.specs.Step.{typeIn}
-use Rattle.reader.specs.Argument.{argumentIn, argumentsPlace, argumentAnswer}
+use Rattle.reader.specs.Argument.{argumentIn, argumentsPlace, argumentOf}
 use Rattle.reader.specs.Helpers.{argumentWith, notedAs}
 use Rattle.reader.proofs.Arguments.{type-is}
 
@@ -155,19 +155,19 @@ module _ (c : Convention) (s : List ℕ) (at e index : ℕ) where
 -- ---- the whole
 
 argument-then : (s : List ℕ) (c : Convention) (r : Result) (v : Bool) (n index : ℕ) (x : Reading Trees) →
-    argumentAnswer index (thenArguments s c r v n x) ≡ argumentWith c (argumentsPlace r v) n (length s) index x
+    argumentOf index (thenArguments s c r v n x) ≡ argumentWith c (argumentsPlace r v) n (length s) index x
 argument-then s c r v n index (got ts next m) = go (ltb next (length s))
   where
     go : (more : Bool) →
-        argumentAnswer index (pick more (no (fault Refusal.TrailingBytes next (n + m))) (got (record { convention = c; result = r; ellipsis = v; arguments = ts }) next (n + m)))
+        argumentOf index (pick more (no (fault Refusal.TrailingBytes next (n + m))) (got (record { convention = c; result = r; ellipsis = v; arguments = ts }) next (n + m)))
         ≡ pick more (ArgumentRead.Refused (fault Refusal.TrailingBytes next (n + m))) (argumentIn c (argumentsPlace r v) index ts)
     go true = refl
     go false = refl
 argument-then s c r v n index (no f) = refl
 
 pub argument-begun : (s : List ℕ) (c : Convention) (t : ResultType) (v : Bool) (at b n index : ℕ) → Begun s c t v at b n →
-    argumentAnswer index (signatureOf s) ≡ argumentWith c at n (length s) index (argumentsIn c s at b)
+    argumentOf index (signatureOf s) ≡ argumentWith c at n (length s) index (argumentsIn c s at b)
 argument-begun s c t v at b n index g =
-    ap (argumentAnswer index) (g .whole)
+    ap (argumentOf index) (g .whole)
     ∙ argument-then s c (g .result) v n index (argumentsIn c s at b)
     ∙ ap (λ (k : ℕ). argumentWith c k n (length s) index (argumentsIn c s at b)) (sym (g .starts))

@@ -7,7 +7,7 @@ use Rattle.items.specs.Reading.{no}
 use Rattle.items.specs.Refusals.{bodyNumber, readingNumber}
 use Rattle.signature.specs.Signature.{Signature}
 use Rattle.stepping.specs.Step.{headerBy}
-use Rattle.reader.specs.Argument.{argumentAnswer}
+use Rattle.reader.specs.Argument.{argumentOf}
 use Rattle.reader.specs.Numbers.{headerNumber, argumentNumber}
 
 pub header-number : (tag : ℕ) (x : Body) → headerNumber (headerBy tag x) ≡ bodyNumber x
@@ -15,5 +15,5 @@ header-number tag (Body.To b) = refl
 header-number tag (Body.Refused r) = refl
 
 -- a refused signature's number is that of each of its arguments
-pub argument-number : (index : ℕ) (f : Fault) → argumentNumber (argumentAnswer index (no f)) ≡ readingNumber {A = Signature} (no f)
+pub argument-number : (index : ℕ) (f : Fault) → argumentNumber (argumentOf index (no f)) ≡ readingNumber {A = Signature} (no f)
 argument-number index f = refl

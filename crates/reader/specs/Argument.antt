@@ -27,9 +27,9 @@ abbrev pub argumentsPlace : Result → Bool → ℕ
 argumentsPlace r v = 10 + length (encodeResult r) + length (ellipsisItem v)
 
 -- of a whole reading
-abbrev pub argumentAnswer : ℕ → Reading Signature → ArgumentRead
-argumentAnswer index (got g next n) = argumentIn (g .convention) (argumentsPlace (g .result) (g .ellipsis)) index (g .arguments)
-argumentAnswer index (no f) = ArgumentRead.Refused f
+abbrev pub argumentOf : ℕ → Reading Signature → ArgumentRead
+argumentOf index (got g next n) = argumentIn (g .convention) (argumentsPlace (g .result) (g .ellipsis)) index (g .arguments)
+argumentOf index (no f) = ArgumentRead.Refused f
 
 -- past an ellipsis's item, where its tag stands
 unfoldable pub pastEllipsis : List ℕ → ℕ → ℕ

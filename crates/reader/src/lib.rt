@@ -17,7 +17,7 @@ ghost use Rattle.signature.specs.Limits.{maxLength};
 ghost use Rattle.signature.specs.Read.{argumentsIn, signatureOf};
 ghost use Rattle.stepping.specs.Step.{leftAt, headerIn, typeIn};
 ghost use Rattle.reader.specs.Reader.{started, skipped, entered, advanced};
-ghost use Rattle.reader.specs.Argument.{argumentAnswer};
+ghost use Rattle.reader.specs.Argument.{argumentOf};
 ghost use Rattle.reader.specs.Helpers.{argumentWith, notedAs};
 
 // The bytes, the place of the next item, and the end of the part that is stepped through. Any numbers are allowed.
@@ -189,7 +189,7 @@ fn argument_from(
 
 // Argument number `index` of any bytes, counted from 0: its type, and where its item stands.
 pub fn argument_at(s: &[u8], index: usize) -> ArgumentRead
-    ensures { λ r. ⌜ r ≡ argumentAnswer index (signatureOf (now (s .entry))) ⌝ }
+    ensures { λ r. ⌜ r ≡ argumentOf index (signatureOf (now (s .entry))) ⌝ }
 {
     match signature_head::read_head(s) {
         HeadRead::Refused(fault) => ArgumentRead::Refused(fault),

@@ -2,13 +2,13 @@
 ghost use mathlib.Core.Path.{_≡_};
 ghost use mathlib.Core.Bool.{true};
 ghost use Rattle.rules.specs.Frames.{okLeaf, okRequest, outgoingLength, below, fullSize, frameSize, chainWidth};
-ghost use Rattle.rules.specs.Helpers.{Lawful};
+ghost use Rattle.rules.specs.Helpers.{LawfulFrames};
 use rules::Frame;
+use rules::FrameRules;
 use rules::Linkage;
-use rules::Rules;
 
 // Is a request that asks for a leaf one that may?
-fn leaf_ok(k: Rules, f: Frame) -> bool
+fn leaf_ok(k: FrameRules, f: Frame) -> bool
     ensures { λ r. ⌜ r ≡ okLeaf k f ⌝ }
 {
     if !f.leaf {
@@ -28,7 +28,7 @@ fn leaf_ok(k: Rules, f: Frame) -> bool
 pub const MAX_OUTGOING: usize = 32776;
 
 // Is a request in range?
-pub fn request_ok(k: Rules, f: Frame) -> bool
+pub fn request_ok(k: FrameRules, f: Frame) -> bool
     ensures { λ r. ⌜ r ≡ okRequest k f ⌝ }
 {
     let g = k.gpr.request;
@@ -60,15 +60,15 @@ pub fn request_ok(k: Rules, f: Frame) -> bool
 }
 
 // The length of a frame's outgoing area.
-pub fn outgoing_length(k: Rules, f: Frame) -> usize
+pub fn outgoing_length(k: FrameRules, f: Frame) -> usize
     ensures { λ r. ⌜ r ≡ outgoingLength k f ⌝ }
 {
     words::larger(k.least, f.outgoing)
 }
 
 // The bytes that a frame saves below its caller's pointer.
-pub fn below_size(k: Rules, f: Frame) -> usize
-    requires { ⌜ Lawful k ⌝ }
+pub fn below_size(k: FrameRules, f: Frame) -> usize
+    requires { ⌜ LawfulFrames k ⌝ }
     requires { ⌜ okRequest k f ≡ true ⌝ }
     ensures { λ r. ⌜ r ≡ below (k .linkage) k f ⌝ }
 {
@@ -84,8 +84,8 @@ pub fn below_size(k: Rules, f: Frame) -> usize
 }
 
 // The size of a frame that is no leaf.
-fn full_size(k: Rules, f: Frame) -> usize
-    requires { ⌜ Lawful k ⌝ }
+fn full_size(k: FrameRules, f: Frame) -> usize
+    requires { ⌜ LawfulFrames k ⌝ }
     requires { ⌜ okRequest k f ≡ true ⌝ }
     ensures { λ r. ⌜ r ≡ fullSize k f ⌝ }
 {
@@ -95,8 +95,8 @@ fn full_size(k: Rules, f: Frame) -> usize
 }
 
 // How far an enter moves the stack pointer.
-pub fn frame_size(k: Rules, f: Frame) -> usize
-    requires { ⌜ Lawful k ⌝ }
+pub fn frame_size(k: FrameRules, f: Frame) -> usize
+    requires { ⌜ LawfulFrames k ⌝ }
     requires { ⌜ okRequest k f ≡ true ⌝ }
     ensures { λ r. ⌜ r ≡ frameSize k f ⌝ }
 {
@@ -107,7 +107,7 @@ pub fn frame_size(k: Rules, f: Frame) -> usize
 }
 
 // The bytes of a frame's back chain.
-pub fn chain_width(k: Rules, f: Frame) -> usize
+pub fn chain_width(k: FrameRules, f: Frame) -> usize
     ensures { λ r. ⌜ r ≡ chainWidth k f ⌝ }
 {
     if f.leaf {

@@ -3,15 +3,15 @@ ghost use mathlib.Core.Path.{_≡_};
 ghost use Prim.Native.Nat.{_+_, _≤_};
 ghost use lib.ListN.{length};
 ghost use Rattle.rules.specs.Frames.{linkAt, mergeFields, restoredLr, restoredCr, restored};
-ghost use Rattle.rules.specs.Helpers.{Lawful, Placed};
+ghost use Rattle.rules.specs.Helpers.{LawfulFrames, Placed};
 use rules::Frame;
+use rules::FrameRules;
 use rules::Linkage;
 use rules::Registers;
-use rules::Rules;
 
 // Where the caller's pointer must stand, with the frame's own pointer at o and the caller's at s.
-pub fn link_at(k: Rules, o: usize, s: usize) -> usize
-    requires { ⌜ (Lawful k) × (s ≤ 100000) ⌝ }
+pub fn link_at(k: FrameRules, o: usize, s: usize) -> usize
+    requires { ⌜ (LawfulFrames k) × (s ≤ 100000) ⌝ }
     ensures { λ r. ⌜ r ≡ linkAt (k .linkage) k o s ⌝ }
 {
     let linkage = k.linkage;
@@ -29,8 +29,8 @@ fn merge_fields(old: u32, new: u64) -> u32
     old / 16777216 * 16777216 + n * 4096 + old % 4096
 }
 
-fn restore_lr(memory: &[u8], k: Rules, f: Frame, s: usize, x: u64) -> u64
-    requires { ⌜ (Lawful k) × (s + k .header ≤ length (now memory)) ⌝ }
+fn restore_lr(memory: &[u8], k: FrameRules, f: Frame, s: usize, x: u64) -> u64
+    requires { ⌜ (LawfulFrames k) × (s + k .header ≤ length (now memory)) ⌝ }
     ensures { λ r. ⌜ r ≡ restoredLr (k .linkage) k f s (now (memory .entry)) x ⌝ }
 {
     let linkage = k.linkage;
@@ -46,8 +46,8 @@ fn restore_lr(memory: &[u8], k: Rules, f: Frame, s: usize, x: u64) -> u64
     }
 }
 
-fn restore_cr(memory: &[u8], k: Rules, f: Frame, s: usize, x: u32) -> u32
-    requires { ⌜ (Lawful k) × (s + k .header ≤ length (now memory)) ⌝ }
+fn restore_cr(memory: &[u8], k: FrameRules, f: Frame, s: usize, x: u32) -> u32
+    requires { ⌜ (LawfulFrames k) × (s + k .header ≤ length (now memory)) ⌝ }
     ensures { λ r. ⌜ r ≡ restoredCr (k .linkage) f s (now (memory .entry)) x ⌝ }
 {
     let linkage = k.linkage;
@@ -65,7 +65,7 @@ fn restore_cr(memory: &[u8], k: Rules, f: Frame, s: usize, x: u32) -> u32
 }
 
 // The registers after a leave, with the caller's pointer p at the offset s.
-pub fn restore(memory: &[u8], k: Rules, f: Frame, s: usize, p: u64, r: Registers) -> Registers
+pub fn restore(memory: &[u8], k: FrameRules, f: Frame, s: usize, p: u64, r: Registers) -> Registers
     requires { ⌜ Placed k f s (length (now memory)) ⌝ }
     ensures { λ q. ⌜ q ≡ restored k f s (now (memory .entry)) p r ⌝ }
 {

@@ -14,7 +14,7 @@ use Rattle.words.specs.Basics.{pick}
 use Rattle.words.specs.Splice.{splice, part}
 use Rattle.words.proofs.Splices.{splice-at-other}
 use Rattle.words.specs.Numbers.{valueOf}
-use Rattle.places.specs.declared.Rules.{Rules}
+use Rattle.places.specs.declared.CallRules.{CallRules}
 use Rattle.places.specs.Step.{wordOf}
 use Rattle.places.specs.Spots.{Spot, general, floating, area, copies}
 use Rattle.slots.specs.Buffers.{Buffers, Slot, generalAt, floatingAt, put, putAll, bytesAt}
@@ -65,7 +65,7 @@ fill-only s values base hidden b x h = all-kept (filledSlots s values base hidde
 
 -- ---- home
 
-homed-only : (r : Rules) (ps : List Placement) (image l : List ℕ) (i : ℕ) → (HomeTouches r ps image i → ⊥) → getD (homed r ps image l) i 0 ≡ getD l i 0
+homed-only : (r : CallRules) (ps : List Placement) (image l : List ℕ) (i : ℕ) → (HomeTouches r ps image i → ⊥) → getD (homed r ps image l) i 0 ≡ getD l i 0
 unfolding homed HomeTouches
 homed-only r [] image l i h = refl
 homed-only r (p ∷ ps) image l i h =

@@ -18,7 +18,7 @@ use Rattle.words.proofs.Splices.{splice-same, splice-other, length-splice, leng
 use Rattle.words.proofs.Numbers.{length-bytesOf, value-back}
 use Rattle.types.specs.Sizes.{equivalentOf}
 use Rattle.places.specs.declared.Cursor.{Cursor}
-use Rattle.places.specs.declared.Rules.{Rules}
+use Rattle.places.specs.declared.CallRules.{CallRules}
 use Rattle.places.specs.Step.{wordOf}
 use Rattle.places.specs.Spots.{general, floating, area, copies}
 use Rattle.slots.specs.declared.Answer.{Answer}
@@ -37,7 +37,7 @@ use Rattle.roundtrip.proofs.Kept.{Upto, Banked, AllLater, kept-all}
 use Rattle.roundtrip.proofs.Forms.{float-back, own-back, length-home, prefix-part}
 
 -- what the buffers b hold of the argument p, of value v
-pub record Stands (r : Rules) (base : ℕ) (p : Placement) (v : List ℕ) (b : Buffers) : Type 0 where
+pub record Stands (r : CallRules) (base : ℕ) (p : Placement) (v : List ℕ) (b : Buffers) : Type 0 where
   pub floats : bytesAt (floating (p .span .floating .first)) (8 * p .span .floating .count) b ≡ take (8 * p .span .floating .count) (floatBytes r (p .ty) v)
   pub registers : bytesAt (general (p .span .general .first)) (8 * p .span .general .count) b ≡ spread (wordOf r) (p .span .general .count) (standing r base p v)
   pub memory : bytesAt (area (p .span .memory .start)) (p .span .memory .length) b
@@ -45,7 +45,7 @@ pub record Stands (r : Rules) (base : ℕ) (p : Placement) (v : List ℕ) (b : B
   pub copy : bytesAt (copies (p .span .copy .start)) (length (copyBytes p v)) b ≡ copyBytes p v
 
 -- an argument, its value, and the lengths of the buffers
-pub record Given (r : Rules) (base : ℕ) (p : Placement) (v : List ℕ) (b : Buffers) : Type 0 where
+pub record Given (r : CallRules) (base : ℕ) (p : Placement) (v : List ℕ) (b : Buffers) : Type 0 where
   pub held : Held r p
   pub fits : Fits (length (b .area)) (length (b .copies)) p
   pub image : length (b .image) ≡ 512
@@ -53,7 +53,7 @@ pub record Given (r : Rules) (base : ℕ) (p : Placement) (v : List ℕ) (b : Bu
   pub bytes : Bytes v
   pub low : base + (p .span .copy .start + p .span .copy .length) < 2 ^ 64
 
-module _ (r : Rules) (base : ℕ) (p : Placement) (v : List ℕ) (b : Buffers) (g : Given r base p v b) where
+module _ (r : CallRules) (base : ℕ) (p : Placement) (v : List ℕ) (b : Buffers) (g : Given r base p v b) where
   -- ---- lengths
 
   -- the form of a value that is passed itself
@@ -267,7 +267,7 @@ pub record Behind (d : Cursor) (p : Placement) (v : List ℕ) : Type 0 where
   pub memory : Upto d (area (p .span .memory .start)) (p .span .memory .length)
   pub copy : Upto d (copies (p .span .copy .start)) (length (copyBytes p v))
 
-pub stands-kept : (r : Rules) (base : ℕ) (p : Placement) (v : List ℕ) (b : Buffers) (d : Cursor) (ss : List Slot) → Behind d p v → AllLater d ss
+pub stands-kept : (r : CallRules) (base : ℕ) (p : Placement) (v : List ℕ) (b : Buffers) (d : Cursor) (ss : List Slot) → Behind d p v → AllLater d ss
     → Stands r base p v b → Stands r base p v (putAll ss b)
 stands-kept r base p v b d ss h l s = record {
   floats = kept-all d _ _ ss b (h .floats) (h .floats-bank) l ∙ s .floats;
@@ -279,17 +279,17 @@ stands-kept r base p v b d ss h l s = record {
 -- ---- several
 
 -- an argument that stands in buffers with room for it
-pub record Put (r : Rules) (base : ℕ) (p : Placement) (v : List ℕ) (b : Buffers) : Type 0 where
+pub record Put (r : CallRules) (base : ℕ) (p : Placement) (v : List ℕ) (b : Buffers) : Type 0 where
   pub given : Given r base p v b
   pub stands : Stands r base p v b
 
 -- each of several, the values one after the other
-unfoldable pub AllPut : Rules → ℕ → List Placement → List ℕ → Buffers → Type 0
+unfoldable pub AllPut : CallRules → ℕ → List Placement → List ℕ → Buffers → Type 0
 AllPut r base [] v b = Unit {0}
 AllPut r base (p ∷ ps) v b = Put r base p (take (p .size) v) b × AllPut r base ps (drop (p .size) v) b
 
 -- room depends on lengths alone
-pub given-same : (r : Rules) (base : ℕ) (p : Placement) (v : List ℕ) (b c : Buffers) → SameLengths b c → Given r base p v b → Given r base p v c
+pub given-same : (r : CallRules) (base : ℕ) (p : Placement) (v : List ℕ) (b c : Buffers) → SameLengths b c → Given r base p v b → Given r base p v c
 given-same r base p v b c l g = record {
   held = g .held;
   fits = record { general = g .fits .general; floating = g .fits .floating; memory = omega (arith, g .fits .memory, l .area); copies = omega (arith, g .fits .copies, l .copies) };

@@ -16,7 +16,7 @@ use Rattle.ieee.specs.Narrowing.{narrow}
 use Rattle.ieee.proofs.Laws.{widen-below, narrow-widen}
 use Rattle.types.specs.declared.Equivalent.{Equivalent}
 use Rattle.types.specs.declared.ValueType.{ValueType}
-use Rattle.places.specs.declared.Rules.{Rules}
+use Rattle.places.specs.declared.CallRules.{CallRules}
 use Rattle.slots.specs.declared.Answer.{Answer}
 use Rattle.slots.specs.Forms.{roomOf, isSigned, startsAtHead, extended, homeBytes, ownStart, floatForm, narrowedBytes, floatValueAs}
 use Rattle.slots.specs.Helpers.{FloatSized}
@@ -31,14 +31,14 @@ value-four v e h = let l : valueOf v < 2 ^ (8 * length v) = value-below v h in r
 
 -- ---- in FPRs
 
-pub float-back : (r : Rules) (e : Equivalent) (m : ℕ) (v : List ℕ) → FloatSized e m (length v) → Bytes v
+pub float-back : (r : CallRules) (e : Equivalent) (m : ℕ) (v : List ℕ) → FloatSized e m (length v) → Bytes v
     → (floatAnswer r e (valueOf (floatForm r e v)) ≡ Answer.Done) × (floatValueAs r e (floatForm r e v) ≡ v)
-float-back (Rules.Power f) Equivalent.Single m v s h =
+float-back (CallRules.Power f) Equivalent.Single m v s h =
     let x : ℕ = valueOf v in
     let bits : valueOf (bytesOf 8 (widen x)) ≡ widen x = value-back 8 (widen x) (widen-below x) in
     let single : narrow (valueOf (bytesOf 8 (widen x))) ≡ Narrowed.Single x = ap narrow bits ∙ narrow-widen x (value-four v (s .1) h) in
     (ap narrowedAnswer single, ap narrowedBytes single ∙ own-number v 4 (s .1) h)
-float-back Rules.Z Equivalent.Single m v s h =
+float-back CallRules.Z Equivalent.Single m v s h =
     let x : ℕ = valueOf v in
     let split : bytesOf 8 (x * 2 ^ 32) ≡ bytesOf 4 (x * 2 ^ 32 / 2 ^ 32) ++ bytesOf 4 (x * 2 ^ 32) = bytesOf-append 4 4 (x * 2 ^ 32) in
     let high : x * 2 ^ 32 / 2 ^ 32 ≡ x = omega arith in (
@@ -48,10 +48,10 @@ float-back Rules.Z Equivalent.Single m v s h =
           ∙ ap (bytesOf 4) high
           ∙ own-number v 4 (s .1) h,
     )
-float-back (Rules.Power f) Equivalent.Double m v s h = (refl, refl)
-float-back (Rules.Power f) Equivalent.Nothing m v s h = (refl, refl)
-float-back Rules.Z Equivalent.Double m v s h = (refl, refl)
-float-back Rules.Z Equivalent.Nothing m v s h = (refl, refl)
+float-back (CallRules.Power f) Equivalent.Double m v s h = (refl, refl)
+float-back (CallRules.Power f) Equivalent.Nothing m v s h = (refl, refl)
+float-back CallRules.Z Equivalent.Double m v s h = (refl, refl)
+float-back CallRules.Z Equivalent.Nothing m v s h = (refl, refl)
 
 -- ---- in general registers and memory
 
@@ -72,7 +72,7 @@ end-back m n y h =
     ∙ ap (take n) (drop-at (bytesOf (m - n) (y / 2 ^ (8 * n))) (bytesOf n y) (m - n) (length-bytesOf (m - n) (y / 2 ^ (8 * n))))
     ∙ take-all n (bytesOf n y) (omega (arith, length-bytesOf n y))
 
-pub own-back : (r : Rules) (t : ValueType) (v : List ℕ) → Bytes v
+pub own-back : (r : CallRules) (t : ValueType) (v : List ℕ) → Bytes v
     → (startsAtHead r t ≡ false → (length v ≤ 8) × (length v ≤ roomOf r (length v)))
     → part (ownStart r t (length v)) (length v) (homeBytes r t (length v) v) ≡ v
 unfolding ownStart homeBytes
@@ -89,7 +89,7 @@ own-back r t v h small = go (startsAtHead r t) refl
         end-back (roomOf r (length v)) (length v) (extended t (length v) (valueOf v)) (s .1)
         ∙ extended-back t (length v) (valueOf v) (s .0) ∙ bytesOf-value v h
 
-pub length-home : (r : Rules) (t : ValueType) (v : List ℕ) → (startsAtHead r t ≡ true → length v ≤ roomOf r (length v))
+pub length-home : (r : CallRules) (t : ValueType) (v : List ℕ) → (startsAtHead r t ≡ true → length v ≤ roomOf r (length v))
     → length (homeBytes r t (length v) v) ≡ roomOf r (length v)
 unfolding homeBytes
 length-home r t v h = go (startsAtHead r t) refl

@@ -23,12 +23,12 @@ use Rattle.places.specs.Spots.{general}
 use Rattle.places.specs.Values.{pointer}
 use Rattle.places.specs.ZSeries.{zClass, zSpanOf, zNextOf}
 use Rattle.places.specs.Power.{words, fprs, shareOf, powerShare}
-use Rattle.places.specs.declared.Rules.{Rules}
+use Rattle.places.specs.declared.CallRules.{CallRules}
 use Rattle.places.specs.Step.{rulesOf, withEllipsis, wordOf, nextOf, spanOf, fresh, startOf}
 use Rattle.places.proofs.Bounds.{named-start, rules-lawful, word-most}
 use Rattle.places.proofs.Marked.{lawful-marked, named-marked}
 use Rattle.plan.proofs.Theorems.{hidden-address}
-use Rattle.plan.specs.Plan.{startIn, hiddenIn, resultIn, planAnswer, planIn}
+use Rattle.plan.specs.Plan.{startIn, hiddenIn, resultPlacesIn, planAnswer, planIn}
 use Rattle.registers.specs.Registers.{spread}
 use Rattle.slots.specs.declared.Answer.{Answer}
 use Rattle.slots.specs.Buffers.{Buffers, buffers, Slot, put, putAll, bytesAt}
@@ -54,7 +54,7 @@ address-first Convention.Aix = (omega arith, omega arith)
 address-first Convention.Ppc64b = (omega arith, omega arith)
 
 -- a hidden address has it, and the arguments have those after it
-register-first : (c : Convention) (r : ResultType) (x : Span) → resultIn c r ≡ ResultPlaces.Hidden x → (x .general .first < startIn c r .general) × (x .general .first < 32)
+register-first : (c : Convention) (r : ResultType) (x : Span) → resultPlacesIn c r ≡ ResultPlaces.Hidden x → (x .general .first < startIn c r .general) × (x .general .first < 32)
 register-first c r x e = let h = hidden-address c r x e in rw (h .0, h .1) (address-first c)
 
 -- the arguments' slots leave it
@@ -65,7 +65,7 @@ unfolding planAnswer planIn
 hidden-kept (got g next n) base v x b e =
     let c : Convention = g .convention in
     let r : ResultType = resultType c (g .result) in
-    let q : Rules = withEllipsis (g .ellipsis) (rulesOf c) in
+    let q : CallRules = withEllipsis (g .ellipsis) (rulesOf c) in
     let f = register-first c r x e in
     rw (arguments-got g next n)
     (kept-all (startIn c r) (general (x .general .first)) 8 _ b (omega (arith, f .0)) (omega (arith, f .1))

@@ -11,7 +11,7 @@ use Rattle.conventions.specs.declared.Convention.{Convention}
 use Rattle.types.specs.declared.ValueType.{ValueType}
 use Rattle.types.specs.Sizes.{sizeOf}
 use Rattle.places.specs.declared.Cursor.{Cursor}
-use Rattle.places.specs.declared.Rules.{Rules}
+use Rattle.places.specs.declared.CallRules.{CallRules}
 use Rattle.places.specs.Spots.{Spot, general, floating, area, copies}
 use Rattle.places.specs.Step.{wordOf, spanOf, nextOf}
 use Rattle.places.proofs.Bounds.{Named, named-next}
@@ -84,7 +84,7 @@ later-earlier f (s ∷ ss) h = (from-earlier f (s .spot) (h .0), h .1, later-ear
 pub take-short : (n : ℕ) (l : List ℕ) → length (take n l) ≤ n
 take-short n l = omega (arith, length-take n l)
 
-pub slots-later : (r : Rules) (base : ℕ) (k : Cursor) (t : ValueType) (n : ℕ) (v : List ℕ) → wordOf r ≤ 8 → Named r k
+pub slots-later : (r : CallRules) (base : ℕ) (k : Cursor) (t : ValueType) (n : ℕ) (v : List ℕ) → wordOf r ≤ 8 → Named r k
     → AllLater k (slotsOf r base (placement t n (spanOf r k t n)) v)
 unfolding slotsOf AllLater
 slots-later r base k t n v most named =
@@ -100,7 +100,7 @@ slots-later r base k t n v most named =
       ),
     )
 
-pub all-later : (c : Convention) (r : Rules) (base : ℕ) (k : Cursor) (ts : List ValueType) (v : List ℕ) → wordOf r ≤ 8 → Named r k
+pub all-later : (c : Convention) (r : CallRules) (base : ℕ) (k : Cursor) (ts : List ValueType) (v : List ℕ) → wordOf r ≤ 8 → Named r k
     → AllLater k (slotsOfAll r base (placements c ts (spansOf c r k ts)) v)
 unfolding placements spansOf slotsOfAll AllLater
 all-later c r base k [] v most named = tt

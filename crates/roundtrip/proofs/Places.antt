@@ -19,7 +19,7 @@ use Rattle.signature.specs.Read.{signatureOf}
 use Rattle.signature.specs.Answer.{resultType, signatureAnswer}
 use Rattle.signature.specs.Types.{typesOf}
 use Rattle.places.specs.declared.Cursor.{Cursor}
-use Rattle.places.specs.declared.Rules.{Rules}
+use Rattle.places.specs.declared.CallRules.{CallRules}
 use Rattle.places.specs.Spots.{Spot, general, floating, area, copies}
 use Rattle.places.specs.Step.{rulesOf, withEllipsis, wordOf, spanOf, nextOf}
 use Rattle.places.proofs.Bounds.{Named, named-next, named-start}
@@ -96,7 +96,7 @@ touches-right [] ts x t = t
 touches-right (q ∷ ss) ts x t = inr (touches-right ss ts x t)
 
 -- an argument's slots are among those of all
-touches-some : (r : Rules) (base : ℕ) (ps : List Placement) (v : List ℕ) (i : ℕ) (x : Byte) → Touches (getD (slotLists r base ps v) i []) x → Touches (slotsOfAll r base ps v) x
+touches-some : (r : CallRules) (base : ℕ) (ps : List Placement) (v : List ℕ) (i : ℕ) (x : Byte) → Touches (getD (slotLists r base ps v) i []) x → Touches (slotsOfAll r base ps v) x
 unfolding slotLists slotsOfAll
 touches-some r base [] v zero x t = t
 touches-some r base [] v (suc i) x t = t
@@ -106,7 +106,7 @@ touches-some r base (p ∷ ps) v (suc i) x t =
 
 -- ---- the arguments of a plan
 
-copy-before : (r : Rules) (p : Placement) (v : List ℕ) (d : Cursor) → Held r p → length v ≤ p .size → p .span .copy .start + p .span .copy .length ≤ d .copies
+copy-before : (r : CallRules) (p : Placement) (v : List ℕ) (d : Cursor) → Held r p → length v ≤ p .size → p .span .copy .start + p .span .copy .length ≤ d .copies
     → p .span .copy .start + length (copyBytes p v) ≤ d .copies
 copy-before r p v d h l k = go (p .span .indirect) refl
   where
@@ -114,7 +114,7 @@ copy-before r p v d h l k = go (p .span .indirect) refl
     go true q = omega (arith, h .copied q)
     go false q = omega arith
 
-slots-before : (r : Rules) (base : ℕ) (k : Cursor) (t : ValueType) (n : ℕ) (v : List ℕ) → Named r k → Held r (placement t n (spanOf r k t n)) → length v ≤ n
+slots-before : (r : CallRules) (base : ℕ) (k : Cursor) (t : ValueType) (n : ℕ) (v : List ℕ) → Named r k → Held r (placement t n (spanOf r k t n)) → length v ≤ n
     → AllBefore (nextOf r k t n) (slotsOf r base (placement t n (spanOf r k t n)) v)
 unfolding slotsOf AllBefore
 slots-before r base k t n v named h l =
@@ -126,7 +126,7 @@ slots-before r base k t n v named h l =
     let m = take-short (p .span .memory .length) (drop (wordOf r * p .span .general .count) (standing r base p v)) in
     (omega arith, omega arith, (omega arith, omega arith, (omega arith, tt, (copy-before r p v (nextOf r k t n) h l (b .copy-to), tt, tt))))
 
-ordered-apart : (c : Convention) (r : Rules) (base : ℕ) (k : Cursor) (ts : List ValueType) (v : List ℕ) (i j : ℕ) (x : Byte) → Named r k
+ordered-apart : (c : Convention) (r : CallRules) (base : ℕ) (k : Cursor) (ts : List ValueType) (v : List ℕ) (i j : ℕ) (x : Byte) → Named r k
     → All (Held r) (placements c ts (spansOf c r k ts)) → i < j
     → Touches (getD (slotLists r base (placements c ts (spansOf c r k ts)) v) i []) x → Touches (getD (slotLists r base (placements c ts (spansOf c r k ts)) v) j []) x → ⊥
 unfolding placements spansOf slotLists All Touches
@@ -162,7 +162,7 @@ sorted s base v i j x l = go (signatureOf s) (carried s)
         → Touches (getD (slotLists (rulesIn (signatureAnswer q)) base (argumentsIn (signatureAnswer q) (planAnswer q)) v) j []) x → ⊥
     go (got g next n) h a b =
         let c : Convention = g .convention in
-        let r : Rules = withEllipsis (g .ellipsis) (rulesOf c) in
+        let r : CallRules = withEllipsis (g .ellipsis) (rulesOf c) in
         let same = arguments-got g next n in
         ordered-apart c r base (startIn c (resultType c (g .result))) (typesOf c (g .arguments)) v i j x
         (named-marked (g .ellipsis) (rulesOf c) _ (named-start (rulesOf c) (hiddenIn c (resultType c (g .result))))) (subst (All (Held r)) same (h .held)) l

@@ -14,7 +14,7 @@ use Rattle.signature.specs.Answer.{signatureAnswer, resultType}
 use Rattle.signature.proofs.Theorems.{accepted}
 use Rattle.signature.specs.Types.{typesOf}
 use Rattle.places.specs.declared.Cursor.{Cursor}
-use Rattle.places.specs.declared.Rules.{Rules}
+use Rattle.places.specs.declared.CallRules.{CallRules}
 use Rattle.places.specs.Step.{rulesOf, withEllipsis, nextOf}
 use Rattle.plan.specs.Plan.{spansOf, startIn, planAnswer}
 use Rattle.slots.specs.Placements.{Placement, placements}
@@ -28,7 +28,7 @@ use Rattle.views.specs.View.{viewPart, noArgument}
 abbrev Some : Placement → Type 0
 Some p = 0 < p .size
 
-all-some : (c : Convention) (r : Rules) (k : Cursor) (ts : List ValueType) → AllTyped c ts → All Some (placements c ts (spansOf c r k ts))
+all-some : (c : Convention) (r : CallRules) (k : Cursor) (ts : List ValueType) → AllTyped c ts → All Some (placements c ts (spansOf c r k ts))
 unfolding placements spansOf All AllTyped
 all-some c r k [] h = tt
 all-some c r k (t ∷ ts) h = (h .0 .sized .some, all-some c r (nextOf r k t (sizeOf c t)) ts (h .1))

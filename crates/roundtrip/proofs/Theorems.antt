@@ -24,7 +24,7 @@ use Rattle.signature.specs.Read.{signatureOf}
 use Rattle.signature.specs.Answer.{resultType, signatureAnswer}
 use Rattle.signature.specs.Types.{typesOf}
 use Rattle.places.specs.declared.Cursor.{Cursor}
-use Rattle.places.specs.declared.Rules.{Rules}
+use Rattle.places.specs.declared.CallRules.{CallRules}
 use Rattle.places.specs.Step.{rulesOf, withEllipsis, wordOf, spanOf, nextOf}
 use Rattle.places.proofs.Bounds.{Named, named-next, named-start}
 use Rattle.places.proofs.Marked.{named-marked}
@@ -41,16 +41,16 @@ use Rattle.plan.specs.Call.{outcomeFor}
 use Rattle.slots.specs.Arguments.{argumentsIn, argumentsOf, planFor, rulesIn, rulesFor}
 use Rattle.slots.proofs.Buffers.{SameLengths, same-then, putAll-lengths, putAll-append}
 use Rattle.slots.proofs.Answered.{Carried, carried, arguments-got}
-use Rattle.fill.specs.Fill.{lengths, fillAnswer, filledSlots, fillBuffers}
+use Rattle.fill.specs.Fill.{fillLengths, fillAnswer, filledSlots, fillBuffers}
 use Rattle.fill.proofs.Accepted.{Lent, tests-passed}
-use Rattle.read.specs.declared.Sizes.{Sizes}
-use Rattle.read.specs.Read.{sizes, argumentAnswer, argumentsAnswer, readTests, readAnswer, readValues}
+use Rattle.read.specs.declared.ReadLengths.{ReadLengths}
+use Rattle.read.specs.Read.{readLengths, argumentAnswer, argumentsAnswer, readTests, readAnswer, readValues}
 use Rattle.roundtrip.specs.RoundTrip.{Filled, left, ReadBack, ReadAfterFill}
 use Rattle.roundtrip.proofs.Kept.{all-later}
 use Rattle.roundtrip.proofs.Arguments.{Stands, Given, stands-put, stands-done, stands-value, Behind, stands-kept, AllPut, given-same}
 
 -- the buffers have room for the arguments ps of a copies' end at m
-record Roomy (r : Rules) (base : ℕ) (ps : List Placement) (a m : ℕ) (v : List ℕ) (b : Buffers) : Type 0 where
+record Roomy (r : CallRules) (base : ℕ) (ps : List Placement) (a m : ℕ) (v : List ℕ) (b : Buffers) : Type 0 where
   held : All (Held r) ps
   fit : All (Fits a m) ps
   image : length (b .image) ≡ 512
@@ -68,7 +68,7 @@ copy-behind p v d h k = go (p .span .indirect) refl
     go true q = omega (arith, h q)
     go false q = omega arith
 
-step-behind : (r : Rules) (k : Cursor) (t : ValueType) (n : ℕ) (v : List ℕ) → Named r k → Held r (placement t n (spanOf r k t n)) → length v ≡ n
+step-behind : (r : CallRules) (k : Cursor) (t : ValueType) (n : ℕ) (v : List ℕ) → Named r k → Held r (placement t n (spanOf r k t n)) → length v ≡ n
     → Behind (nextOf r k t n) (placement t n (spanOf r k t n)) v
 step-behind r k t n v named held size =
     let b = step-between r k t n in
@@ -92,7 +92,7 @@ pub bytes-drop : (n : ℕ) (v : List ℕ) → Bytes v → Bytes (drop n v)
 bytes-drop n v h = subst Bytes (take-all (length (drop n v)) (drop n v) (omega arith)) (bytes-part n (length (drop n v)) v h)
 
 -- every argument stands once all are put: those after it leave its slots
-all-put : (c : Convention) (r : Rules) (base a m : ℕ) (k : Cursor) (ts : List ValueType) (v : List ℕ) (b : Buffers) → Named r k
+all-put : (c : Convention) (r : CallRules) (base a m : ℕ) (k : Cursor) (ts : List ValueType) (v : List ℕ) (b : Buffers) → Named r k
     → Roomy r base (placements c ts (spansOf c r k ts)) a m v b
     → AllPut r base (placements c ts (spansOf c r k ts)) v (putAll (slotsOfAll r base (placements c ts (spansOf c r k ts)) v) b)
 unfolding placements spansOf slotsOfAll AllPut All sizesOf
@@ -135,7 +135,7 @@ all-put c r base a m k (t ∷ ts) v b named h =
     rw (putAll-append xs ys b) (record { given = given-same r base p x b b2 l2 given; stands = stands }, rest)
 
 -- every argument can be read, and the values are those that were put
-pub put-back : (r : Rules) (base : ℕ) (ps : List Placement) (v : List ℕ) (b : Buffers) → AllPut r base ps v b → length v ≡ sizesOf ps
+pub put-back : (r : CallRules) (base : ℕ) (ps : List Placement) (v : List ℕ) (b : Buffers) → AllPut r base ps v b → length v ≡ sizesOf ps
     → (argumentsAnswer r base ps b ≡ Answer.Done) × (valuesAt r base ps b ≡ v)
 unfolding AllPut argumentsAnswer firstOfAll valuesAt sizesOf
 put-back r base [] [] b h e = (refl, refl)
@@ -149,7 +149,7 @@ put-back r base (p ∷ ps) v b h e =
 
 -- ---- a whole signature
 
-pub read-tests : (have : Sizes) (values area : ℕ) → have .image ≡ 512 → have .values ≡ values → area ≤ have .area → firstOf (readTests have values area) ≡ Answer.Done
+pub read-tests : (have : ReadLengths) (values area : ℕ) → have .image ≡ 512 → have .values ≡ values → area ≤ have .area → firstOf (readTests have values area) ≡ Answer.Done
 unfolding firstOf readTests
 read-tests have values area i v a = simp (eq-eqb _ _ i, eq-eqb _ _ v, le-ltb _ _ a)
 
@@ -176,7 +176,7 @@ plan-put s base v b bytes values image area copies low = go (signatureOf s) (car
         (putAll (slotsOfAll (rulesIn (signatureAnswer x)) base (argumentsIn (signatureAnswer x) (planAnswer x)) v) b)
     go (got g next n) h e i j k =
         let c : Convention = g .convention in
-        let r : Rules = withEllipsis (g .ellipsis) (rulesOf c) in
+        let r : CallRules = withEllipsis (g .ellipsis) (rulesOf c) in
         let same = arguments-got g next n in
         rw same
         (all-put c r base (planAnswer (got g next n) .area) (planAnswer (got g next n) .copies) (startIn c (resultType c (g .result))) (typesOf c (g .arguments)) v b
@@ -202,10 +202,10 @@ pub record Left (s values : List ℕ) (base : ℕ) (b : Buffers) : Type 0 where
   pub copies : planFor s .copies ≤ length (b .copies)
 
 -- the lent buffers have the lengths that the plan asks for
-pub filled-lent : (s values image area copies : List ℕ) (base hidden : ℕ) → Filled s values image area copies base hidden → Lent (lengths values image area copies) (planFor s) base
+pub filled-lent : (s values image area copies : List ℕ) (base hidden : ℕ) → Filled s values image area copies base hidden → Lent (fillLengths values image area copies) (planFor s) base
 unfolding fillAnswer
 filled-lent s values image area copies base hidden h =
-    tests-passed (lengths values image area copies) (planFor s) base _ (h .low) (reading-done (outcomeFor s) _ (h .accepted) Answer.Done refl .0)
+    tests-passed (fillLengths values image area copies) (planFor s) base _ (h .low) (reading-done (outcomeFor s) _ (h .accepted) Answer.Done refl .0)
 
 pub filled-left : (s values image area copies : List ℕ) (base hidden : ℕ) → Filled s values image area copies base hidden → Left s values base (left s values image area copies base hidden)
 unfolding fillBuffers filledSlots
@@ -217,7 +217,7 @@ filled-left s values image area copies base hidden h =
     let b0 : Buffers = putAll hs b in
     let l0 : SameLengths b b0 = putAll-lengths hs b in
     let l : SameLengths b (putAll (hs ++ ss) b) = putAll-lengths (hs ++ ss) b in
-    let lent : Lent (lengths values image area copies) p base = filled-lent s values image area copies base hidden h in
+    let lent : Lent (fillLengths values image area copies) p base = filled-lent s values image area copies base hidden h in
     let put = plan-put s base values b0 (h .bytes) (lent .values) (l0 .image ∙ lent .image) (omega (arith, lent .area, l0 .area)) (omega (arith, lent .copies, l0 .copies)) (lent .low) in
     record {
       all = rw (putAll-append hs ss b) put;
@@ -245,8 +245,8 @@ read-left s values into base b answer l size =
     let p : Plan = planFor s in
     let total : length values ≡ sizesOf (argumentsOf s) = l .total ∙ sym (values-total s) in
     let back = put-back (rulesFor s) base (argumentsOf s) values b (l .all) total in
-    let good : firstOf (readTests (sizes into (b .image) (b .area)) (p .values) (p .area)) ≡ Answer.Done =
-    read-tests (sizes into (b .image) (b .area)) (p .values) (p .area) (l .image) (size ∙ l .total) (l .area) in
+    let good : firstOf (readTests (readLengths into (b .image) (b .area)) (p .values) (p .area)) ≡ Answer.Done =
+    read-tests (readLengths into (b .image) (b .area)) (p .values) (p .area) (l .image) (size ∙ l .total) (l .area) in
     record {
       accepted = answer _ (ap₂ orElse good (back .0));
       same = ap (overlay into) (back .1) ∙ overlay-whole into values size;

@@ -28,7 +28,7 @@ use Rattle.signature.specs.Read.{signatureOf}
 use Rattle.signature.specs.Answer.{resultType, signatureAnswer}
 use Rattle.signature.specs.Types.{typesOf}
 use Rattle.places.specs.declared.Cursor.{Cursor}
-use Rattle.places.specs.declared.Rules.{Rules}
+use Rattle.places.specs.declared.CallRules.{CallRules}
 use Rattle.places.specs.declared.ResultPlaces.{ResultPlaces}
 use Rattle.places.specs.declared.Span.{Span}
 use Rattle.places.specs.declared.PowerRules.{PowerRules}
@@ -37,7 +37,7 @@ use Rattle.places.specs.Step.{power, rulesOf, withEllipsis, wordOf, spanOf, nex
 use Rattle.places.proofs.Marked.{word-marked}
 use Rattle.plan.specs.declared.Plan.{Plan}
 use Rattle.plan.proofs.Theorems.{hidden-address}
-use Rattle.plan.specs.Plan.{spansOf, resultIn, startIn, planIn, planAnswer}
+use Rattle.plan.specs.Plan.{spansOf, resultPlacesIn, startIn, planIn, planAnswer}
 use Rattle.slots.specs.declared.Answer.{Answer}
 use Rattle.slots.specs.Buffers.{Buffers, buffers, bytesAt}
 use Rattle.slots.specs.Forms.{roomOf, startsAtHead, homeBytes, ownStart, narrowedBytes, floatValueAs, floatValue}
@@ -54,8 +54,8 @@ use Rattle.slots.proofs.Refusals.{or-done}
 use Rattle.slots.proofs.Turns.{next-argument}
 use Rattle.unmarshal.specs.Helpers.{Readable}
 use Rattle.unmarshal.proofs.Arguments.{value-length, length-values}
-use Rattle.read.specs.declared.Sizes.{Sizes}
-use Rattle.read.specs.Read.{sizes, wordsAnswer, agrees, agreeAnswer, argumentAnswer, argumentsAnswer, readTests, readAnswer, readValues}
+use Rattle.read.specs.declared.ReadLengths.{ReadLengths}
+use Rattle.read.specs.Read.{readLengths, wordsAnswer, agrees, agreeAnswer, argumentAnswer, argumentsAnswer, readTests, readAnswer, readValues}
 use Rattle.read.proofs.Arguments.{all-readable}
 use Rattle.read.proofs.Accepted.{tests-passed, each-ready}
 use Rattle.home_slot.specs.Homes.{homeless, registerAnswer, homedBytes}
@@ -76,7 +76,7 @@ use Rattle.roundtrip.proofs.Theorems.{reading-done as answer-passed, by
 -- ---- one argument
 
 -- an argument that is read as v; a value in an FPR is made of bytes
-record Shows (r : Rules) (base : ℕ) (p : Placement) (v : List ℕ) (b : Buffers) : Type 0 where
+record Shows (r : CallRules) (base : ℕ) (p : Placement) (v : List ℕ) (b : Buffers) : Type 0 where
   held : Held r p
   registers : p .span .general .first + p .span .general .count ≤ 32
   image : length (b .image) ≡ 512
@@ -84,7 +84,7 @@ record Shows (r : Rules) (base : ℕ) (p : Placement) (v : List ℕ) (b : Buffer
   bytes : 0 < p .span .floating .count → Bytes v
   value : valueAt r base p b ≡ v
 
-module _ (r : Rules) (base : ℕ) (p : Placement) (v : List ℕ) (b : Buffers) (a : ℕ) (h : Shows r base p v b) (m : Homed r a p) where
+module _ (r : CallRules) (base : ℕ) (p : Placement) (v : List ℕ) (b : Buffers) (a : ℕ) (h : Shows r base p v b) (m : Homed r a p) where
   float-value : 0 < p .span .floating .count → floatValue r (p .ty) (floatAt (p .span) b) ≡ v
   unfolding valueAt
   float-value some = rw (lt-ltb 0 (p .span .floating .count) some) at (h .value)
@@ -223,33 +223,33 @@ module _ (r : Rules) (base : ℕ) (p : Placement) (v : List ℕ) (b : Buffers) (
 -- ---- several, whose homes follow each other
 
 -- each of several is read as the next part of v
-unfoldable AllShow : Rules → ℕ → List Placement → List ℕ → Buffers → Type 0
+unfoldable AllShow : CallRules → ℕ → List Placement → List ℕ → Buffers → Type 0
 AllShow r base [] v b = Unit {0}
 AllShow r base (p ∷ ps) v b = Shows r base p (take (p .size) v) b × AllShow r base ps (drop (p .size) v) b
 
-unfoldable HomesFrom : Rules → ℕ → List Placement → Type 0
+unfoldable HomesFrom : CallRules → ℕ → List Placement → Type 0
 HomesFrom r n [] = Unit {0}
 HomesFrom r n (p ∷ ps) = (n ≤ p .span .home .start) × HomesFrom r (p .span .home .start + roomOf r (p .size)) ps
 
-homes-from : (f : PowerRules) (c : Convention) (k : Cursor) (ts : List ValueType) → HomesFrom (Rules.Power f) (k .stack) (placements c ts (spansOf c (Rules.Power f) k ts))
+homes-from : (f : PowerRules) (c : Convention) (k : Cursor) (ts : List ValueType) → HomesFrom (CallRules.Power f) (k .stack) (placements c ts (spansOf c (CallRules.Power f) k ts))
 unfolding placements spansOf HomesFrom spanOf nextOf
 homes-from f c k [] = tt
-homes-from f c k (t ∷ ts) = (omega arith, homes-from f c (nextOf (Rules.Power f) k t (sizeOf c t)) ts)
+homes-from f c k (t ∷ ts) = (omega arith, homes-from f c (nextOf (CallRules.Power f) k t (sizeOf c t)) ts)
 
-homes-later : (r : Rules) (n m : ℕ) (ps : List Placement) → n ≤ m → HomesFrom r m ps → HomesFrom r n ps
+homes-later : (r : CallRules) (n m : ℕ) (ps : List Placement) → n ≤ m → HomesFrom r m ps → HomesFrom r n ps
 unfolding HomesFrom
 homes-later r n m [] l h = tt
 homes-later r n m (p ∷ ps) l h = (omega (arith, h .0), h .1)
 
 -- what lies before the homes stays
-homed-kept : (r : Rules) (ps : List Placement) (n q m : ℕ) (image l : List ℕ) → HomesFrom r n ps → q + m ≤ n → part q m (homed r ps image l) ≡ part q m l
+homed-kept : (r : CallRules) (ps : List Placement) (n q m : ℕ) (image l : List ℕ) → HomesFrom r n ps → q + m ≤ n → part q m (homed r ps image l) ≡ part q m l
 unfolding homed HomesFrom
 homed-kept r [] n q m image l h k = refl
 homed-kept r (p ∷ ps) n q m image l h k =
     homed-kept r ps (p .span .home .start + roomOf r (p .size)) q m image (splice l (p .span .home .start) (homedBytes r p image)) (h .1) (omega (arith, h .0))
     ∙ splice-other l (p .span .home .start) (homedBytes r p image) q m (inl (omega (arith, h .0)))
 
-all-over : (r : Rules) (base : ℕ) (ps : List Placement) (v : List ℕ) (b : Buffers) (a m n : ℕ) (bs : List ℕ) → AllShow r base ps v b → All (Homed r a) ps → HomesFrom r m ps → n + length bs ≤ m
+all-over : (r : CallRules) (base : ℕ) (ps : List Placement) (v : List ℕ) (b : Buffers) (a m n : ℕ) (bs : List ℕ) → AllShow r base ps v b → All (Homed r a) ps → HomesFrom r m ps → n + length bs ≤ m
     → AllShow r base ps v (buffers (b .image) (splice (b .area) n bs) (b .copies))
 unfolding AllShow All HomesFrom
 all-over r base [] v b a m n bs h homes from l = tt
@@ -258,7 +258,7 @@ all-over r base (p ∷ ps) v b a m n bs h homes from l = (
   all-over r base ps (drop (p .size) v) b a (p .span .home .start + roomOf r (p .size)) n bs (h .1) (homes .1) (from .1) (omega (arith, from .0)),
 )
 
-views : (r : Rules) (base : ℕ) (ps : List Placement) (v : List ℕ) (b : Buffers) (a m : ℕ) → AllShow r base ps v b → All (Homed r a) ps → HomesFrom r m ps → a ≤ length (b .area)
+views : (r : CallRules) (base : ℕ) (ps : List Placement) (v : List ℕ) (b : Buffers) (a m : ℕ) → AllShow r base ps v b → All (Homed r a) ps → HomesFrom r m ps → a ≤ length (b .area)
     → (i : ℕ) → i < length ps → ownBytes r (getD ps i noArgument) (homed r ps (b .image) (b .area)) ≡ getD (valueLists ps v) i []
 unfolding AllShow All HomesFrom homed valueLists
 views r base [] v b a m h homes from room i l = absurd (omega arith)
@@ -277,11 +277,11 @@ views r base (p ∷ ps) v b a m h homes from room (suc i) l =
 
 -- ---- a whole signature
 
-plan-homes : (c : Convention) (r : Rules) (k : Cursor) (ts : List ValueType) → homeless r ≡ false → HomesFrom r (k .stack) (placements c ts (spansOf c r k ts))
-plan-homes c (Rules.Power f) k ts e = homes-from f c k ts
-plan-homes c Rules.Z k ts e = let z : _≡_ {A = ℕ} 0 1 = cc in absurd (omega arith)
+plan-homes : (c : Convention) (r : CallRules) (k : Cursor) (ts : List ValueType) → homeless r ≡ false → HomesFrom r (k .stack) (placements c ts (spansOf c r k ts))
+plan-homes c (CallRules.Power f) k ts e = homes-from f c k ts
+plan-homes c CallRules.Z k ts e = let z : _≡_ {A = ℕ} 0 1 = cc in absurd (omega arith)
 
-none-homes : (r : Rules) (n : ℕ) (f : Fault) → HomesFrom r n (argumentsIn (signatureAnswer (no f)) (planAnswer (no f)))
+none-homes : (r : CallRules) (n : ℕ) (f : Fault) → HomesFrom r n (argumentsIn (signatureAnswer (no f)) (planAnswer (no f)))
 unfolding argumentsIn placements HomesFrom
 none-homes r n f = tt
 
@@ -299,7 +299,7 @@ homes-follow s n = go (signatureOf s)
     go (got g next m) q l =
         let c : Convention = g .convention in
         let k : Cursor = startIn c (resultType c (g .result)) in
-        let r : Rules = withEllipsis (g .ellipsis) (rulesOf c) in
+        let r : CallRules = withEllipsis (g .ellipsis) (rulesOf c) in
         subst (HomesFrom r n) (sym (arguments-got g next m)) (homes-later r n (k .stack) _ l (plan-homes c r k (typesOf c (g .arguments)) q))
     go (no f) q l = none-homes (rulesIn (signatureAnswer (no f))) n f
 
@@ -308,7 +308,7 @@ starts-any (got g next m) = omega arith
 starts-any (no f) = tt
 
 -- what can be read can be homed
-register-done : (r : Rules) (base : ℕ) (p : Placement) (b : Buffers) → argumentAnswer r base p b ≡ Answer.Done → registerAnswer r (p .ty) (p .span) (b .image) ≡ Answer.Done
+register-done : (r : CallRules) (base : ℕ) (p : Placement) (b : Buffers) → argumentAnswer r base p b ≡ Answer.Done → registerAnswer r (p .ty) (p .span) (b .image) ≡ Answer.Done
 unfolding argumentAnswer registerAnswer bytesAt
 register-done r base p b = go (wordsAnswer r base p b) (ltb 0 (p .span .floating .count))
   where
@@ -318,22 +318,22 @@ register-done r base p b = go (wordsAnswer r base p b) (ltb 0 (p .span .floating
     go x true e = or-done _ _ e .0
     go x false e = refl
 
-registers-done : (r : Rules) (base : ℕ) (ps : List Placement) (b : Buffers) → argumentsAnswer r base ps b ≡ Answer.Done → registersAnswer r ps (b .image) ≡ Answer.Done
+registers-done : (r : CallRules) (base : ℕ) (ps : List Placement) (b : Buffers) → argumentsAnswer r base ps b ≡ Answer.Done → registersAnswer r ps (b .image) ≡ Answer.Done
 unfolding argumentsAnswer registersAnswer firstOfAll
 registers-done r base [] b e = refl
 registers-done r base (p ∷ ps) b e =
     let both = or-done (argumentAnswer r base p b) (firstOfAll (λ (p : Placement). argumentAnswer r base p b) ps) e in
     ap₂ orElse (register-done r base p b (both .0)) (registers-done r base ps b (both .1))
 
-home-tests : (r : Rules) (i have area : ℕ) → homeless r ≡ false → i ≡ 512 → area ≤ have → firstOf (homeTests r i have area) ≡ Answer.Done
+home-tests : (r : CallRules) (i have area : ℕ) → homeless r ≡ false → i ≡ 512 → area ≤ have → firstOf (homeTests r i have area) ≡ Answer.Done
 unfolding firstOf homeTests
 home-tests r i have area e x y = simp (e, eq-eqb _ _ x, le-ltb _ _ y)
 
-view-tests : (r : Rules) (count index have area : ℕ) → homeless r ≡ false → index < count → area ≤ have → firstOf (viewTests r count index have area) ≡ Answer.Done
+view-tests : (r : CallRules) (count index have area : ℕ) → homeless r ≡ false → index < count → area ≤ have → firstOf (viewTests r count index have area) ≡ Answer.Done
 unfolding firstOf viewTests
 view-tests r count index have area e x y = simp (e, lt-leb _ _ x, le-ltb _ _ y)
 
-pub length-homed : (r : Rules) (ps : List Placement) (image l : List ℕ) → length (homed r ps image l) ≡ length l
+pub length-homed : (r : CallRules) (ps : List Placement) (image l : List ℕ) → length (homed r ps image l) ≡ length l
 unfolding homed
 length-homed r [] image l = refl
 length-homed r (p ∷ ps) image l =
@@ -354,11 +354,11 @@ unfolding viewOf
 view-shows s area i v done e = ap (λ (a : Answer). pick (isDone a) (ownBytes (rulesFor s) (getD (argumentsOf s) i noArgument) area) []) done ∙ e
 
 -- the bytes of a value in an FPR
-abbrev FloatBytes : Rules → ℕ → Buffers → Placement → Type 0
+abbrev FloatBytes : CallRules → ℕ → Buffers → Placement → Type 0
 FloatBytes r base b p = 0 < p .span .floating .count → Bytes (valueAt r base p b)
 
 -- what can be read is read as the parts of its values
-all-show : (r : Rules) (base : ℕ) (ps : List Placement) (b : Buffers) → All (λ (p : Placement). Readable r base p b) ps → All (FloatBytes r base b) ps
+all-show : (r : CallRules) (base : ℕ) (ps : List Placement) (b : Buffers) → All (λ (p : Placement). Readable r base p b) ps → All (FloatBytes r base b) ps
     → AllShow r base ps (valuesAt r base ps b) b
 unfolding All AllShow valuesAt
 all-show r base [] b h bytes = tt
@@ -372,7 +372,7 @@ all-show r base (p ∷ ps) b h bytes =
       subst (λ (v : List ℕ). AllShow r base ps v b) (sym (drop-at x rest (p .size) size)) (all-show r base ps b (h .1) (bytes .1)),
     )
 
-bytes-each : (r : Rules) (base : ℕ) (ps : List Placement) (b : Buffers) → All (λ (p : Placement). Readable r base p b) ps → Bytes (valuesAt r base ps b) → All (FloatBytes r base b) ps
+bytes-each : (r : CallRules) (base : ℕ) (ps : List Placement) (b : Buffers) → All (λ (p : Placement). Readable r base p b) ps → Bytes (valuesAt r base ps b) → All (FloatBytes r base b) ps
 unfolding All valuesAt
 bytes-each r base [] b h bytes = tt
 bytes-each r base (p ∷ ps) b h bytes =
@@ -387,13 +387,13 @@ narrowed-bytes : (n : Narrowed) → Bytes (narrowedBytes n)
 narrowed-bytes (Narrowed.Single x) = bytes-bytesOf 4 x
 narrowed-bytes Narrowed.NotWidened = λ i. omega arith
 
-float-bytes : (r : Rules) (e : Equivalent) (bs : List ℕ) → Bytes bs → Bytes (floatValueAs r e bs)
-float-bytes (Rules.Power f) Equivalent.Single bs h = narrowed-bytes (narrow (valueOf bs))
-float-bytes Rules.Z Equivalent.Single bs h = bytes-part 0 4 bs h
+float-bytes : (r : CallRules) (e : Equivalent) (bs : List ℕ) → Bytes bs → Bytes (floatValueAs r e bs)
+float-bytes (CallRules.Power f) Equivalent.Single bs h = narrowed-bytes (narrow (valueOf bs))
+float-bytes CallRules.Z Equivalent.Single bs h = bytes-part 0 4 bs h
 float-bytes r Equivalent.Double bs h = h
 float-bytes r Equivalent.Nothing bs h = h
 
-image-bytes : (r : Rules) (base : ℕ) (ps : List Placement) (b : Buffers) → Bytes (b .image) → All (FloatBytes r base b) ps
+image-bytes : (r : CallRules) (base : ℕ) (ps : List Placement) (b : Buffers) → Bytes (b .image) → All (FloatBytes r base b) ps
 unfolding All valueAt floatValue bytesAt
 image-bytes r base [] b h = tt
 image-bytes r base (p ∷ ps) b h = (
@@ -416,7 +416,7 @@ viewed : (s : List ℕ) (base : ℕ) (b : Buffers) → homeless (rulesFor s) ≡
 unfolding homeAnswer viewAnswer homeArea
 viewed s base b power answer image area done bytes =
     let p : Plan = planFor s in
-    let r : Rules = rulesFor s in
+    let r : CallRules = rulesFor s in
     let readable : All (λ (q : Placement). Readable r base q b) (argumentsOf s) = arguments-readable s base b image area done in
     let tests = home-tests r (length (b .image)) (length (b .area)) (p .area) power image area in
     let size : length (homedArea s b) ≡ length (b .area) = length-homed (rulesFor s) (argumentsOf s) (b .image) (b .area) in
@@ -434,7 +434,7 @@ pub view-as-read : ViewAsRead
 unfolding readAnswer readValues
 view-as-read s into base b bytes accepted power =
     let p : Plan = planFor s in
-    let have : Sizes = sizes into (b .image) (b .area) in
+    let have : ReadLengths = readLengths into (b .image) (b .area) in
     let passed = answer-passed (outcomeFor s) _ accepted Answer.Done refl .0 in
     let both = or-done (firstOf (readTests have (p .values) (p .area))) (argumentsAnswer (rulesFor s) base (argumentsOf s) b) passed in
     let lent = tests-passed have p (both .0) in
@@ -465,14 +465,14 @@ address-word Convention.Z q = let z : _≡_ {A = ℕ} 0 1 = cc in absurd (omega 
 address-word Convention.Aix q = address-power 4 Edition.Earlier (omega arith) (omega arith)
 address-word Convention.Ppc64b q = address-power 8 Edition.Later (omega arith) (omega arith)
 
-hidden-start : (c : Convention) (r : ResultType) (x : Span) → homeless (rulesOf c) ≡ false → resultIn c r ≡ ResultPlaces.Hidden x → wordOf (rulesOf c) ≤ startIn c r .stack
+hidden-start : (c : Convention) (r : ResultType) (x : Span) → homeless (rulesOf c) ≡ false → resultPlacesIn c r ≡ ResultPlaces.Hidden x → wordOf (rulesOf c) ≤ startIn c r .stack
 hidden-start c r x q e = rw (hidden-address c r x e .1) (address-word c q)
 
 starts-hidden : (y : Reading Signature) (x : Span) → homeless (rulesIn (signatureAnswer y)) ≡ false → planAnswer y .result ≡ ResultPlaces.Hidden x
     → StartsFrom (wordOf (rulesIn (signatureAnswer y))) y
 unfolding planAnswer planIn
 starts-hidden (got g next m) x q e =
-    let r : Rules = rulesOf (g .convention) in
+    let r : CallRules = rulesOf (g .convention) in
     rw (word-marked (g .ellipsis) r) (hidden-start (g .convention) (resultType (g .convention) (g .result)) x (sym (homeless-marked (g .ellipsis) r) ∙ q) e)
 starts-hidden (no f) x q e = tt
 

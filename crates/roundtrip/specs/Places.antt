@@ -7,7 +7,7 @@ use mathlib.Core.Logic.{_⊎_}
 use mathlib.Core.Bool.{true}
 use mathlib.Core.List.{List, [], _∷_}
 use lib.ListN.{length, getD, take, drop}
-use Rattle.places.specs.declared.Rules.{Rules}
+use Rattle.places.specs.declared.CallRules.{CallRules}
 use Rattle.places.specs.Step.{wordOf}
 use Rattle.places.specs.Spots.{Spot, general, floating, area, copies}
 use Rattle.slots.specs.declared.Answer.{Answer}
@@ -53,7 +53,7 @@ Touches [] x = ⊥
 Touches (s ∷ ss) x = CoversFrom (s .spot) (length (s .bytes)) x ⊎ Touches ss x
 
 -- the slots of each argument, in order
-unfoldable pub slotLists : Rules → ℕ → List Placement → List ℕ → List (List Slot)
+unfoldable pub slotLists : CallRules → ℕ → List Placement → List ℕ → List (List Slot)
 slotLists r base [] v = []
 slotLists r base (p ∷ ps) v = slotsOf r base p (take (p .size) v) ∷ slotLists r base ps (drop (p .size) v)
 
@@ -74,7 +74,7 @@ FillOnly = (s values : List ℕ) (base hidden : ℕ) (b : Buffers) (x : Byte) �
 -- ---- reading
 
 -- two sets of buffers that agree on the places that an argument has: its FPR, its words in general registers and memory, its copy
-pub record Agree (r : Rules) (base : ℕ) (p : Placement) (b c : Buffers) : Type 0 where
+pub record Agree (r : CallRules) (base : ℕ) (p : Placement) (b c : Buffers) : Type 0 where
   pub float : 0 < p .span .floating .count → floatAt (p .span) b ≡ floatAt (p .span) c
   pub words : wordsAt (wordOf r) (p .span) b ≡ wordsAt (wordOf r) (p .span) c
   pub copy : p .span .indirect ≡ true
@@ -82,4 +82,4 @@ pub record Agree (r : Rules) (base : ℕ) (p : Placement) (b c : Buffers) : Type
 
 -- the value that is read depends on these bytes alone
 abbrev pub ReadOwn : Type 0
-ReadOwn = (r : Rules) (base : ℕ) (p : Placement) (b c : Buffers) → Agree r base p b c → valueAt r base p b ≡ valueAt r base p c
+ReadOwn = (r : CallRules) (base : ℕ) (p : Placement) (b c : Buffers) → Agree r base p b c → valueAt r base p b ≡ valueAt r base p c

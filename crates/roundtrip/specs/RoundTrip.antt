@@ -12,14 +12,14 @@ use Rattle.places.specs.Spots.{general}
 use Rattle.slots.specs.declared.Answer.{Answer}
 use Rattle.slots.specs.Buffers.{Buffers, buffers, bytesAt}
 use Rattle.slots.specs.Arguments.{planFor}
-use Rattle.fill.specs.Fill.{lengths, fillAnswer, fillBuffers}
-use Rattle.read.specs.Read.{sizes, readAnswer, readValues}
+use Rattle.fill.specs.Fill.{fillLengths, fillAnswer, fillBuffers}
+use Rattle.read.specs.Read.{readLengths, readAnswer, readValues}
 
 -- an accepted filling: the signature s, the values, the lent buffers, the copy base and the hidden address
 pub record Filled (s values image area copies : List ℕ) (base hidden : ℕ) : Type 0 where
   pub bytes : Bytes values
   pub low : base < 2 ^ 64
-  pub accepted : fillAnswer s (lengths values image area copies) base hidden ≡ Answer.Done
+  pub accepted : fillAnswer s (fillLengths values image area copies) base hidden ≡ Answer.Done
 
 -- the buffers that it leaves
 abbrev pub left : List ℕ → List ℕ → List ℕ → List ℕ → List ℕ → ℕ → ℕ → Buffers
@@ -27,7 +27,7 @@ left s values image area copies base hidden = fillBuffers s values base hidden A
 
 -- reading them into a value buffer `into`
 pub record ReadBack (s values : List ℕ) (base : ℕ) (b : Buffers) (into : List ℕ) : Type 0 where
-  pub accepted : readAnswer s (sizes into (b .image) (b .area)) base b ≡ Answer.Done
+  pub accepted : readAnswer s (readLengths into (b .image) (b .area)) base b ≡ Answer.Done
   pub same : readValues s base Answer.Done b into ≡ values
 
 -- THE ROUND TRIP: for all inputs that fill accepts, read with the same signature and copy base on what fill left accepts, into a value

@@ -12,7 +12,7 @@ use Rattle.words.specs.Splice.{part}
 use Rattle.words.specs.Numbers.{Bytes}
 use Rattle.signature.specs.Read.{signatureOf}
 use Rattle.signature.specs.Answer.{signatureAnswer}
-use Rattle.places.specs.declared.Rules.{Rules}
+use Rattle.places.specs.declared.CallRules.{CallRules}
 use Rattle.places.specs.declared.Span.{Span}
 use Rattle.places.specs.declared.ResultPlaces.{ResultPlaces}
 use Rattle.places.specs.Step.{wordOf}
@@ -20,7 +20,7 @@ use Rattle.slots.specs.declared.Answer.{Answer}
 use Rattle.slots.specs.Buffers.{Buffers}
 use Rattle.slots.specs.Placements.{Placement}
 use Rattle.slots.specs.Arguments.{argumentsOf, planFor, rulesFor}
-use Rattle.read.specs.Read.{sizes, readAnswer, readValues}
+use Rattle.read.specs.Read.{readLengths, readAnswer, readValues}
 use Rattle.home_slot.specs.Homes.{homeless, homedBytes}
 use Rattle.home.specs.Home.{homeAnswer, homeArea}
 use Rattle.views.specs.View.{viewAnswer, viewOf, viewPart}
@@ -49,7 +49,7 @@ ViewAfterHome = (s values image area copies : List ℕ) (base hidden : ℕ) → 
 
 -- The same of any bytes, also where no filling left them: where read accepts on PowerPC, home accepts, and each view is the value that read gives
 abbrev pub ViewAsRead : Type 0
-ViewAsRead = (s into : List ℕ) (base : ℕ) (b : Buffers) → Bytes (b .image) → readAnswer s (sizes into (b .image) (b .area)) base b ≡ Answer.Done
+ViewAsRead = (s into : List ℕ) (base : ℕ) (b : Buffers) → Bytes (b .image) → readAnswer s (readLengths into (b .image) (b .area)) base b ≡ Answer.Done
     → homeless (rulesFor s) ≡ false → Viewed s (readValues s base Answer.Done b into) b
 
 -- "an empty part means refused": an accepted view has a byte or more
@@ -57,7 +57,7 @@ abbrev pub ViewSome : Type 0
 ViewSome = (s : List ℕ) (have index : ℕ) → viewAnswer s have index ≡ Answer.Done → 0 < viewPart s have index .length
 
 -- a byte of the area that home writes: of an argument's register words, in its home
-unfoldable pub HomeTouches : Rules → List Placement → List ℕ → ℕ → Type 0
+unfoldable pub HomeTouches : CallRules → List Placement → List ℕ → ℕ → Type 0
 HomeTouches r [] image i = ⊥
 HomeTouches r (p ∷ ps) image i = Among (p .span .home .start) (length (homedBytes r p image)) i ⊎ HomeTouches r ps image i
 

@@ -7,13 +7,13 @@ use mathlib.Core.List.{List, [], _∷_}
 use native.Mathlib.Omega.{arith}
 use lib.Dec.{leb, ltb}
 use borrow.Author.Tests.{ltb-true}
-use Rattle.rules.specs.Rules.{Convention, Ppc64, Z, Aix, Ppc64b, Span, inSpan, within, Bank, Rules, ppc64, rules}
+use Rattle.rules.specs.Rules.{Convention, Ppc64, Z, Aix, Ppc64b, RegisterSpan, inSpan, within, BankRules, FrameRules, ppc64, rules}
 use Rattle.rules.specs.Frames.{writable}
-use Rattle.rules.specs.Helpers.{apart, disjoint, before, BankLaw, Lawful}
+use Rattle.rules.specs.Helpers.{apart, disjoint, before, BankLaw, LawfulFrames}
 use Rattle.rules.proofs.Facts.{and-yes, or-yes, between}
 
 -- of codes 1 and 4
-ppc64-lawful : Lawful ppc64
+ppc64-lawful : LawfulFrames ppc64
 ppc64-lawful = record {
   word = omega arith;
   chain = omega arith;
@@ -36,7 +36,7 @@ ppc64-lawful = record {
   linkage = omega arith;
 }
 
-pub lawful : (c : Convention) → Lawful (rules c)
+pub lawful : (c : Convention) → LawfulFrames (rules c)
 lawful Ppc64 = ppc64-lawful
 lawful Z = record {
   word = omega arith;
@@ -82,7 +82,7 @@ lawful Aix = record {
 }
 lawful Ppc64b = ppc64-lawful
 
-apart-no : (v : Span) (ws : List Span) (n : ℕ) → apart v ws ≡ true → inSpan v n ≡ true → within ws n ≡ true → ⊥
+apart-no : (v : RegisterSpan) (ws : List RegisterSpan) (n : ℕ) → apart v ws ≡ true → inSpan v n ≡ true → within ws n ≡ true → ⊥
 apart-no v [] n a p q = false≢true q
 apart-no v (w ∷ ws) n a p q =
     let t = and-yes (ltb (v .last) (w .first) || ltb (w .last) (v .first)) (apart v ws) a in
@@ -93,19 +93,19 @@ apart-no v (w ∷ ws) n a p q =
     (λ i. apart-no v ws n (t .1) p i)
     (or-yes (inSpan w n) (within ws n) q)
 
-pub disjoint-no : (vs ws : List Span) (n : ℕ) → disjoint vs ws ≡ true → within vs n ≡ true → within ws n ≡ true → ⊥
+pub disjoint-no : (vs ws : List RegisterSpan) (n : ℕ) → disjoint vs ws ≡ true → within vs n ≡ true → within ws n ≡ true → ⊥
 disjoint-no [] ws n a p q = false≢true p
 disjoint-no (v ∷ vs) ws n a p q =
     let t = and-yes (apart v ws) (disjoint vs ws) a in
     ⊎-elim (λ i. apart-no v ws n (t .0) i q) (λ i. disjoint-no vs ws n (t .1) i q) (or-yes (inSpan v n) (within vs n) p)
 
-pub before-lt : (vs : List Span) (e n : ℕ) → before vs e ≡ true → within vs n ≡ true → n < e
+pub before-lt : (vs : List RegisterSpan) (e n : ℕ) → before vs e ≡ true → within vs n ≡ true → n < e
 before-lt [] e n a p = absurd (false≢true p)
 before-lt (v ∷ vs) e n a p =
     let t = and-yes (ltb (v .last) e) (before vs e) a in
     ⊎-elim (λ i. omega (arith, between (v .first) n (v .last) i, ltb-true (v .last) e (t .0))) (λ i. before-lt vs e n (t .1) i) (or-yes (inSpan v n) (within vs n) p)
 
-module _ (b : Bank) (e : ℕ) (law : BankLaw b e) (from n : ℕ) (p : writable b from n ≡ true) where
+module _ (b : BankRules) (e : ℕ) (law : BankLaw b e) (from n : ℕ) (p : writable b from n ≡ true) where
   -- a register that may be written is one of the 32
   pub writable-lt : n < 32
   writable-lt =
@@ -118,7 +118,7 @@ module _ (b : Bank) (e : ℕ) (law : BankLaw b e) (from n : ℕ) (p : writable b
       ⊎-elim (λ a. disjoint-no (b .volatile) (b .preserved) n (law .split) a (rw x at q)) (λ a. omega (arith, between from n (b .last) a))
       (or-yes (within (b .volatile) n) (leb from n && leb n (b .last)) p)
 
-module _ (k : Rules) (law : Lawful k) where
+module _ (k : FrameRules) (law : LawfulFrames k) where
   -- the stack pointer is not written, and not among the preserved
   pub pointer-unwritable : (from n : ℕ) → k .gpr .request .first ≤ from → writable (k .gpr) from n ≡ true → k .pointer ≡ n → ⊥
   pointer-unwritable from n r p e =

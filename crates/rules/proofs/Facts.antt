@@ -7,7 +7,7 @@ use mathlib.Core.List.{List, [], _∷_}
 use lib.ListN.{getD, set}
 use lib.Dec.{leb}
 use borrow.Author.Tests.{leb-true}
-use Rattle.rules.specs.Rules.{Linkage, Rules}
+use Rattle.rules.specs.Rules.{Linkage, FrameRules}
 use Rattle.rules.specs.Helpers.{LinkageLaw}
 
 -- by cases on a test
@@ -39,5 +39,5 @@ fit-set (x ∷ xs) (suc j) v n h p zero = h 0
 fit-set (x ∷ xs) (suc j) v n h p (suc i) = fit-set xs j v n (λ k. h (suc k)) p i
 
 -- the law of a linkage that is known
-pub law-at : (p q : Linkage) (k : Rules) → p ≡ q → LinkageLaw p k → LinkageLaw q k
+pub law-at : (p q : Linkage) (k : FrameRules) → p ≡ q → LinkageLaw p k → LinkageLaw q k
 law-at p q k e h = subst (λ (r : Linkage). LinkageLaw r k) e h

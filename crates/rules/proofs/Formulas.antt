@@ -7,7 +7,7 @@ use mathlib.Core.List.{[], _∷_}
 use native.Mathlib.Omega.{arith}
 use lib.ListN.{getD}
 use Rattle.words.specs.Basics.{roundUp}
-use Rattle.rules.specs.Rules.{ppc64, z, aix, LinkRegister, Rules, Frame, Registers}
+use Rattle.rules.specs.Rules.{ppc64, z, aix, LinkRegister, FrameRules, Frame, Registers}
 use Rattle.rules.specs.Frames.{firstGpr, firstFpr, savesCr, below, fullSize, gprAt, savesBy, saves, linkAt, wordSave, flag, returnAddress, preservedCondition, unitOf, withField}
 
 module _ (f : Frame) (s : ℕ) where
@@ -55,7 +55,7 @@ module _ (f : Frame) (s : ℕ) where
   saves-aix r = refl
 
 -- "the back chain (on Z the r15 slot instead)", with the frame's pointer at o and the caller's at s; PPC64 and AIX alike have a link register
-link-power : (k : Rules) (c l o s : ℕ) → linkAt (LinkRegister c l) k o s ≡ o
+link-power : (k : FrameRules) (c l o s : ℕ) → linkAt (LinkRegister c l) k o s ≡ o
 unfolding linkAt
 link-power k c l o s = refl
 

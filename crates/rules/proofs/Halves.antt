@@ -11,7 +11,7 @@ use lib.Seq.{getD-set-other}
 use lib.Dec.{leb}
 use borrow.Author.Tests.{leb-true, le-leb}
 use Rattle.saves.proofs.Taking.{le-or-lt}
-use Rattle.rules.specs.Rules.{Rules, Registers}
+use Rattle.rules.specs.Rules.{FrameRules, Registers}
 use Rattle.rules.specs.Frames.{allWithin, lowered, okRegisters, cleared}
 use Rattle.rules.proofs.Facts.{and-yes}
 

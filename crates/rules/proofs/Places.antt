@@ -10,19 +10,19 @@ use borrow.Author.Tests.{leb-true}
 use Rattle.words.proofs.Basics.{round-up-least, round-up-most}
 use Rattle.saves.specs.Saves.{Outside}
 use Rattle.saves.proofs.Saving.{Ascending}
-use Rattle.rules.specs.Rules.{Linkage, LinkRegister, SaveArea, Rules, Frame, Registers, inSpan}
+use Rattle.rules.specs.Rules.{Linkage, LinkRegister, SaveArea, FrameRules, Frame, Registers, inSpan}
 use Rattle.rules.specs.Frames.{firstGpr, firstFpr, savesCr, hasCondition, maxOutgoing, okLeaf, okRequest, outgoingLength, below, fullSize, frameSize, mostSize, chainWidth, flag, gprAt, savesBy, saves, linkAt}
-use Rattle.rules.specs.Helpers.{LinkageLaw, Lawful}
+use Rattle.rules.specs.Helpers.{LinkageLaw, LawfulFrames}
 use Rattle.rules.proofs.Facts.{either, and-yes, between}
 
 -- what the ranges of a request say
-pub record Ranges (k : Rules) (f : Frame) : Type 0 where
+pub record Ranges (k : FrameRules) (f : Frame) : Type 0 where
   pub gpr : (k .gpr .request .first ≤ firstGpr f) × (firstGpr f ≤ k .gpr .request .last)
   pub fpr : (k .fpr .request .first ≤ firstFpr f) × (firstFpr f ≤ k .fpr .request .last)
   pub locals : f .locals ≤ 32000
   pub outgoing : f .outgoing ≤ maxOutgoing
 
-pub ranges : (k : Rules) (f : Frame) → okRequest k f ≡ true → Ranges k f
+pub ranges : (k : FrameRules) (f : Frame) → okRequest k f ≡ true → Ranges k f
 unfolding okRequest
 ranges k f e =
     let p = and-yes (inSpan (k .gpr .request) (firstGpr f)) _ e in
@@ -39,24 +39,24 @@ ranges k f e =
 
 -- ---- a leaf, and a frame that is none
 
-pub leaf-size : (k : Rules) (f : Frame) → f .leaf ≡ true → frameSize k f ≡ 0
+pub leaf-size : (k : FrameRules) (f : Frame) → f .leaf ≡ true → frameSize k f ≡ 0
 unfolding frameSize
 leaf-size k f e = rw e
 
-pub solid-size : (k : Rules) (f : Frame) → f .leaf ≡ false → frameSize k f ≡ fullSize k f
+pub solid-size : (k : FrameRules) (f : Frame) → f .leaf ≡ false → frameSize k f ≡ fullSize k f
 unfolding frameSize
 solid-size k f e = rw e
 
-pub leaf-chain : (k : Rules) (f : Frame) → f .leaf ≡ true → chainWidth k f ≡ 0
+pub leaf-chain : (k : FrameRules) (f : Frame) → f .leaf ≡ true → chainWidth k f ≡ 0
 unfolding chainWidth
 leaf-chain k f e = rw e
 
-pub solid-chain : (k : Rules) (f : Frame) → f .leaf ≡ false → chainWidth k f ≡ k .word
+pub solid-chain : (k : FrameRules) (f : Frame) → f .leaf ≡ false → chainWidth k f ≡ k .word
 unfolding chainWidth
 solid-chain k f e = rw e
 
 -- a leaf is asked for only where there is a link register
-pub leaf-linkage : (k : Rules) (f : Frame) → okRequest k f ≡ true → f .leaf ≡ true → hasCondition (k .linkage) ≡ true
+pub leaf-linkage : (k : FrameRules) (f : Frame) → okRequest k f ≡ true → f .leaf ≡ true → hasCondition (k .linkage) ≡ true
 unfolding okRequest okLeaf
 leaf-linkage k f e l =
     let p = and-yes (inSpan (k .gpr .request) (firstGpr f)) _ e in
@@ -78,7 +78,7 @@ pub words-small : (w n : ℕ) → w ≤ 8 → n ≤ 32 → w * n ≤ 256
 words-small w n p q = omega (arith, mul-le-mul-left {m = n} {n = 32} w q)
 
 -- the highest address is one of 64 bits
-pub limit-64 : (k : Rules) → Lawful k → k .limit < 2 ^ 64
+pub limit-64 : (k : FrameRules) → LawfulFrames k → k .limit < 2 ^ 64
 limit-64 k law = omega (arith, law .limit, pow-le-pow-right {n = 2} (lit< tt) {i = 8 * k .word} {j = 64} (omega (arith, law .word)))
 
 flag-le : (b : Bool) → flag b ≤ 1
@@ -87,25 +87,25 @@ flag-le false = omega arith
 
 -- ---- by the linkage
 
-below-small : (p : Linkage) (k : Rules) → k .word ≤ 8 → k .end ≤ 32 → (f : Frame) → below p k f ≤ 512
+below-small : (p : Linkage) (k : FrameRules) → k .word ≤ 8 → k .end ≤ 32 → (f : Frame) → below p k f ≤ 512
 unfolding below
 below-small (LinkRegister c l) k w e f = omega (arith, words-small (k .word) (k .end - firstGpr f) w (omega arith))
 below-small (SaveArea r) k w e f = omega arith
 
 -- what a leaf saves below its caller's pointer lies in the floor
-below-floor : (p : Linkage) (k : Rules) → LinkageLaw p k → (f : Frame) → hasCondition p ≡ true → k .gpr .request .first ≤ firstGpr f → k .fpr .request .first ≤ firstFpr f
+below-floor : (p : Linkage) (k : FrameRules) → LinkageLaw p k → (f : Frame) → hasCondition p ≡ true → k .gpr .request .first ≤ firstGpr f → k .fpr .request .first ≤ firstFpr f
     → below p k f ≤ k .floor
 unfolding below
 below-floor (LinkRegister c l) k law f h g m =
     omega (arith, mul-le-mul-left {m = k .end - firstGpr f} {n = k .end - k .gpr .request .first} (k .word) (omega arith))
 below-floor (SaveArea r) k law f h g m = absurd (false≢true h)
 
-fpr-below : (p : Linkage) (k : Rules) (f : Frame) → 8 * (k .end - firstFpr f) ≤ below p k f
+fpr-below : (p : Linkage) (k : FrameRules) (f : Frame) → 8 * (k .end - firstFpr f) ≤ below p k f
 unfolding below
 fpr-below (LinkRegister c l) k f = omega arith
 fpr-below (SaveArea r) k f = omega arith
 
-ascending-by : (p : Linkage) (k : Rules) → LinkageLaw p k → (f : Frame) (s : ℕ) (r : Registers) → firstGpr f ≤ k .end → below p k f ≤ s
+ascending-by : (p : Linkage) (k : FrameRules) → LinkageLaw p k → (f : Frame) (s : ℕ) (r : Registers) → firstGpr f ≤ k .end → below p k f ≤ s
     → Ascending (s - below p k f) (savesBy p k f s r) (s + k .header)
 unfolding below savesBy gprAt
 ascending-by (LinkRegister c l) k law f s r e h =
@@ -114,7 +114,7 @@ ascending-by (LinkRegister c l) k law f s r e h =
     omega arith
 ascending-by (SaveArea n) k law f s r e h = omega (arith, words-split (k .word) (firstGpr f) (k .end) e)
 
-chain-outside-by : (p : Linkage) (k : Rules) → LinkageLaw p k → (f : Frame) (s : ℕ) (r : Registers) (b : ℕ) → k .gpr .request .first ≤ firstGpr f → below p k f ≤ s
+chain-outside-by : (p : Linkage) (k : FrameRules) → LinkageLaw p k → (f : Frame) (s : ℕ) (r : Registers) (b : ℕ) → k .gpr .request .first ≤ firstGpr f → below p k f ≤ s
     → s ≤ b → b < s + k .word → Outside b (savesBy p k f s r)
 unfolding below savesBy gprAt
 chain-outside-by (LinkRegister c l) k law f s r b e h p q = (inr (omega arith), (inr (omega arith), (inl (omega arith), (inl (omega arith), tt))))
@@ -122,24 +122,24 @@ chain-outside-by (SaveArea n) k law f s r b e h p q =
     (inr (omega arith), (inl (omega (arith, mul-le-mul-left {m = 1} {n = firstGpr f} (k .word) (omega arith))), tt))
 
 -- the general registers lie in the frame's own saves, or in the caller's header
-gpr-in-by : (p : Linkage) (k : Rules) → LinkageLaw p k → (f : Frame) (s : ℕ) → firstGpr f ≤ k .end → below p k f ≤ s
+gpr-in-by : (p : Linkage) (k : FrameRules) → LinkageLaw p k → (f : Frame) (s : ℕ) → firstGpr f ≤ k .end → below p k f ≤ s
     → gprAt p k f s + k .word * (k .end - firstGpr f) ≤ s + k .header
 unfolding below gprAt
 gpr-in-by (LinkRegister c l) k law f s e h = omega arith
 gpr-in-by (SaveArea n) k law f s e h = omega (arith, words-split (k .word) (firstGpr f) (k .end) e)
 
 -- where leave looks for the caller's pointer, in the frame or in the caller's header
-link-in-by : (p : Linkage) (k : Rules) → LinkageLaw p k → k .word ≤ k .header → (o s : ℕ) → o ≤ s → linkAt p k o s + k .word ≤ s + k .header
+link-in-by : (p : Linkage) (k : FrameRules) → LinkageLaw p k → k .word ≤ k .header → (o s : ℕ) → o ≤ s → linkAt p k o s + k .word ≤ s + k .header
 unfolding linkAt
 link-in-by (LinkRegister c l) k law h o s e = omega arith
 link-in-by (SaveArea n) k law h o s e = omega (arith, mul-suc (k .word) (k .pointer), mul-le-mul-left {m = suc (k .pointer)} {n = k .end} (k .word) (omega arith))
 
-pub link-in : (k : Rules) → Lawful k → (o s : ℕ) → o ≤ s → linkAt (k .linkage) k o s + k .word ≤ s + k .header
+pub link-in : (k : FrameRules) → LawfulFrames k → (o s : ℕ) → o ≤ s → linkAt (k .linkage) k o s + k .word ≤ s + k .header
 link-in k law o s e = link-in-by (k .linkage) k (law .linkage) (law .chain) o s e
 
 -- ---- over a lawful convention, for a request in range
 
-module _ (k : Rules) (law : Lawful k) (f : Frame) (r : okRequest k f ≡ true) where
+module _ (k : FrameRules) (law : LawfulFrames k) (f : Frame) (r : okRequest k f ≡ true) where
   pub gpr-end : firstGpr f ≤ k .end
   gpr-end = omega (arith, ranges k f r .gpr, law .gpr .most)
 

@@ -8,7 +8,7 @@ use lib.ListN.{getD}
 use Rattle.saves.specs.Saves.{load}
 use Rattle.saves.proofs.Saving.{Held, HeldAll}
 use Rattle.words.specs.Basics.{pick}
-use Rattle.rules.specs.Rules.{Linkage, LinkRegister, SaveArea, Rules, Frame, Registers}
+use Rattle.rules.specs.Rules.{Linkage, LinkRegister, SaveArea, FrameRules, Frame, Registers}
 use Rattle.rules.specs.Frames.{firstGpr, savesCr, flag, gprAt, gprSave, fprSave, savesBy, linkAt, preservedFields, mergeFields, restoredLr, restoredCr, returnAddress, preservedCondition}
 use Rattle.rules.specs.Helpers.{LinkageLaw}
 use Rattle.rules.proofs.Facts.{either}
@@ -26,7 +26,7 @@ merge-fit a b h = omega arith
 one-held : (l : List ℕ) (at w x : ℕ) → load l (at + w * 0) w ≡ x → load l at w ≡ x
 one-held l at w x h = let e : at + w * 0 ≡ at = omega arith in rw e at h
 
-module _ (k : Rules) (f : Frame) (s : ℕ) (t : Registers) (l : List ℕ) where
+module _ (k : FrameRules) (f : Frame) (s : ℕ) (t : Registers) (l : List ℕ) where
   pub gpr-held : (p : Linkage) → HeldAll l (savesBy p k f s t) → Held l (gprSave p k f s (t .gpr))
   unfolding savesBy
   gpr-held (LinkRegister c r) h = h .0

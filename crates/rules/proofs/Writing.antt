@@ -6,13 +6,13 @@ use mathlib.Core.Bool.{true, false, _&&_, false≢true}
 use native.Mathlib.Omega.{arith}
 use lib.Dec.{leb}
 use borrow.Author.Tests.{leb-true}
-use Rattle.rules.specs.Rules.{Linkage, LinkRegister, SaveArea, Rules, Frame, RegisterBank, General, Floating, Link, ConditionField, None}
+use Rattle.rules.specs.Rules.{Linkage, LinkRegister, SaveArea, FrameRules, Frame, RegisterBank, General, Floating, Link, ConditionField, None}
 use Rattle.rules.specs.Frames.{savesCr, hasCondition, writableField, withField, preservedFields, preservedCondition, firstGpr, firstFpr, writable, writableRegister}
-use Rattle.rules.specs.Helpers.{Lawful, Named}
+use Rattle.rules.specs.Helpers.{LawfulFrames, Named}
 use Rattle.rules.proofs.Conventions.{writable-lt}
 use Rattle.rules.proofs.Facts.{and-yes, or-yes, between}
 
-pub writable-field : (k : Rules) (f : Frame) (n v : ℕ) → writableField k f n v ≡ true
+pub writable-field : (k : FrameRules) (f : Frame) (n v : ℕ) → writableField k f n v ≡ true
     → (v ≤ 15) × ((n ≤ 1) ⊎ (((5 ≤ n) × (n ≤ 7)) ⊎ ((savesCr f ≡ true) × ((2 ≤ n) × (n ≤ 4)))))
 unfolding writableField
 writable-field k f n v e =
@@ -24,7 +24,7 @@ writable-field k f n v e =
           (or-yes (leb n 1) _ (p .1)),
     )
 
-pub field-number : (k : Rules) (f : Frame) (n v : ℕ) → writableField k f n v ≡ true → (n ≤ 7) × (v ≤ 15)
+pub field-number : (k : FrameRules) (f : Frame) (n v : ℕ) → writableField k f n v ≡ true → (n ≤ 7) × (v ≤ 15)
 field-number k f n v p =
     let q = writable-field k f n v p in
     (⊎-elim (λ a. omega arith) (λ a. ⊎-elim (λ b. omega arith) (λ b. omega arith) a) (q .1), q .0)
@@ -58,7 +58,7 @@ preserved-same (LinkRegister c l) a b e = e
 preserved-same (SaveArea n) a b e = refl
 
 -- fields 2 to 4 stay where the frame did not save them
-pub field-preserves : (k : Rules) (f : Frame) (n v c : ℕ) → writableField k f n v ≡ true → savesCr f ≡ false → c < 2 ^ 32
+pub field-preserves : (k : FrameRules) (f : Frame) (n v c : ℕ) → writableField k f n v ≡ true → savesCr f ≡ false → c < 2 ^ 32
     → preservedCondition (k .linkage) (withField c n v) ≡ preservedCondition (k .linkage) c
 field-preserves k f n v c p z h =
     let q = writable-field k f n v p in
@@ -66,7 +66,7 @@ field-preserves k f n v c p z h =
     (⊎-elim (λ a. inl a) (λ a. ⊎-elim (λ b. inr b) (λ b. absurd (false≢true (sym z ∙ b .0))) a) (q .1)))
 
 -- a register that may be written is there
-pub writable-named : (k : Rules) → Lawful k → (f : Frame) (b : RegisterBank) (n v : ℕ) → writableRegister k f b n v ≡ true → Named b n v
+pub writable-named : (k : FrameRules) → LawfulFrames k → (f : Frame) (b : RegisterBank) (n v : ℕ) → writableRegister k f b n v ≡ true → Named b n v
 unfolding writableRegister
 writable-named k law f General n v e = writable-lt (k .gpr) (k .end) (law .gpr) (firstGpr f) n (and-yes (writable (k .gpr) (firstGpr f) n) _ e .0)
 writable-named k law f Floating n v e = writable-lt (k .fpr) (k .end) (law .fpr) (firstFpr f) n e

@@ -8,7 +8,7 @@ use lib.ListN.{getD, set}
 use lib.Dec.{leb, eqb}
 use Rattle.words.specs.Basics.{pick, roundUp}
 use Rattle.saves.specs.Saves.{Save, load, taken}
-use Rattle.rules.specs.Rules.{inSpan, within, Bank, Linkage, LinkRegister, SaveArea, Rules, Frame, RegisterBank, General, Floating, Link, ConditionField, None, Registers}
+use Rattle.rules.specs.Rules.{inSpan, within, BankRules, Linkage, LinkRegister, SaveArea, FrameRules, Frame, RegisterBank, General, Floating, Link, ConditionField, None, Registers}
 
 -- the letters of document 01: g and m, the first general and floating register saved, and whether CR is
 abbrev pub firstGpr : Frame → ℕ
@@ -25,11 +25,11 @@ abbrev pub noFrame : Frame
 noFrame = record { «first_gpr» = 0; «first_fpr» = 0; «saves_cr» = false; locals = 0; outgoing = 0; leaf = false }
 
 -- the start as a frame: "At the start nothing counts as saved, with no locals, P 0"
-abbrev pub startFrame : Rules → Frame
+abbrev pub startFrame : FrameRules → Frame
 startFrame k = record { «first_gpr» = k .gpr .request .last; «first_fpr» = k .fpr .request .last; «saves_cr» = false; locals = 0; outgoing = 0; leaf = false }
 
 -- the registers with the stack pointer at p
-unfoldable pub withPointer : Rules → Registers → ℕ → Registers
+unfoldable pub withPointer : FrameRules → Registers → ℕ → Registers
 withPointer k r p = record { gpr = set (r .gpr) (k .pointer) p; fpr = r .fpr; lr = r .lr; cr = r .cr }
 
 -- ---- registers of a word: where it has 64 bits, every register fits and is as handed in
@@ -45,11 +45,11 @@ lowered m xs zero = xs
 lowered m xs (suc n) = lowered m (set xs n (getD xs n 0 % (m + 1))) n
 
 -- do the general registers and LR fit a word? 02, No. 1: "a GPR or LR write over 2^32 - 1 gives 20, a state holding one 23"
-unfoldable pub okRegisters : Rules → Registers → Bool
+unfoldable pub okRegisters : FrameRules → Registers → Bool
 okRegisters k r = allWithin (k .limit) (r .gpr) 32 && leb (r .lr) (k .limit)
 
 -- 02, No. 1: "Start clears the high halves of GPRs and LR"
-unfoldable pub cleared : Rules → Registers → Registers
+unfoldable pub cleared : FrameRules → Registers → Registers
 cleared k r = record { gpr = lowered (k .limit) (r .gpr) 32; fpr = r .fpr; lr = r .lr % (k .limit + 1); cr = r .cr }
 
 -- ---- requests and sizes
@@ -68,35 +68,35 @@ abbrev pub maxOutgoing : ℕ
 maxOutgoing = 32776
 
 -- may it be a leaf, if it asks for that? 02, No. 9: "PPC64 and AIX only; a leaf request on Z, or with L or P above 0, gives 17"
-unfoldable pub okLeaf : Rules → Frame → Bool
+unfoldable pub okLeaf : FrameRules → Frame → Bool
 okLeaf k f = not (f .leaf) || (hasCondition (k .linkage) && (eqb (f .locals) 0 && eqb (f .outgoing) 0))
 
 -- refusal 17's ranges: g and m; "CR or not; locals L up to 32,000; outgoing P, a multiple of 8 up to" the most
-unfoldable pub okRequest : Rules → Frame → Bool
+unfoldable pub okRequest : FrameRules → Frame → Bool
 okRequest k f =
     inSpan (k .gpr .request) (firstGpr f) && (inSpan (k .fpr .request) (firstFpr f)
     && (leb (f .locals) 32000 && (eqb (f .outgoing % 8) 0 && (leb (f .outgoing) maxOutgoing && (okLeaf k f && (hasCondition (k .linkage) || not (savesCr f)))))))
 
 -- the length of the outgoing area (the parameter save area): "at least 64 long, on PPC64"; 02, No. 1: "at least 32 long"
-abbrev pub outgoingLength : Rules → Frame → ℕ
+abbrev pub outgoingLength : FrameRules → Frame → ℕ
 outgoingLength k f = max (k .least) (f .outgoing)
 
 -- bytes saved below the caller's pointer: f(m) and up, on PPC64 and AIX also r(g) and up
-unfoldable pub below : Linkage → Rules → Frame → ℕ
+unfoldable pub below : Linkage → FrameRules → Frame → ℕ
 below (LinkRegister c l) k f = 8 * (k .end - firstFpr f) + k .word * (k .end - firstGpr f)
 below (SaveArea r) k f = 8 * (k .end - firstFpr f)
 
 -- "Size: 48 + max(64, P) + L + 8(32 - g) + 8(32 - m), rounded up to 16"; on Z "160 + P + L + 8(16 - m), rounded up to 8";
 -- 02, No. 1: "24 + max(32, P) + L and its saves, rounded up to 16"
-unfoldable pub fullSize : Rules → Frame → ℕ
+unfoldable pub fullSize : FrameRules → Frame → ℕ
 fullSize k f = roundUp (k .header + outgoingLength k f + f .locals + below (k .linkage) k f) (k .alignment)
 
 -- how far an enter moves the stack pointer: by the size; 02, No. 9, of a leaf: "stack pointer unmoved", "its size counts 0 in refusal 23"
-unfoldable pub frameSize : Rules → Frame → ℕ
+unfoldable pub frameSize : FrameRules → Frame → ℕ
 frameSize k f = pick (f .leaf) 0 (fullSize k f)
 
 -- the bytes of the back chain at the new pointer: a word; by a leaf "no back chain written"
-unfoldable pub chainWidth : Rules → Frame → ℕ
+unfoldable pub chainWidth : FrameRules → Frame → ℕ
 chainWidth k f = pick (f .leaf) 0 (k .word)
 
 -- no frame of a request in range is larger (law `size-small`): 32,000 bytes of locals, and the rest for the header, the saves and the rounding
@@ -111,16 +111,16 @@ flag true = 1
 flag false = 0
 
 -- the run of floating registers that is saved: "f(n) at S - 8(32 - n)"; on Z "at S - 8(16 - n)"
-abbrev pub fprSave : Rules → Frame → ℕ → List ℕ → Save
+abbrev pub fprSave : FrameRules → Frame → ℕ → List ℕ → Save
 fprSave k f s xs = record { values = xs; from = firstFpr f; count = k .end - firstFpr f; at = s - 8 * (k .end - firstFpr f); width = 8 }
 
 -- where the first general register saved stands, r(g): "r(n) at S - 8(32 - m) - 8(32 - n)", on AIX "r(n) at S - 8(32 - m) - 4(32 - n)"; on Z "at S + 8n"
-unfoldable pub gprAt : Linkage → Rules → Frame → ℕ → ℕ
+unfoldable pub gprAt : Linkage → FrameRules → Frame → ℕ → ℕ
 gprAt (LinkRegister c l) k f s = s - 8 * (k .end - firstFpr f) - k .word * (k .end - firstGpr f)
 gprAt (SaveArea r) k f s = s + k .word * firstGpr f
 
 -- the run of general registers that is saved
-abbrev pub gprSave : Linkage → Rules → Frame → ℕ → List ℕ → Save
+abbrev pub gprSave : Linkage → FrameRules → Frame → ℕ → List ℕ → Save
 gprSave p k f s xs = record { values = xs; from = firstGpr f; count = k .end - firstGpr f; at = gprAt p k f s; width = k .word }
 
 -- the number x in c words (one or none) of w bytes
@@ -129,19 +129,19 @@ wordSave x c at w = record { values = x ∷ []; from = 0; count = c; at = at; wi
 
 -- all that an enter saves besides the back chain, ascending: "CR in the 4 bytes at S + 8 if saved, LR at S + 16", on AIX "CR at 4, LR at 8"; 02, No. 9, of a leaf:
 -- "saves in the same slots below it", "LR is not saved", "CR is saved as usual"
-unfoldable pub savesBy : Linkage → Rules → Frame → ℕ → Registers → List Save
+unfoldable pub savesBy : Linkage → FrameRules → Frame → ℕ → Registers → List Save
 savesBy (LinkRegister c l) k f s r =
     gprSave (LinkRegister c l) k f s (r .gpr) ∷ fprSave k f s (r .fpr) ∷ wordSave (r .cr) (flag (savesCr f)) (s + c) 4 ∷ wordSave (r .lr) (flag (not (f .leaf))) (s + l) (k .word) ∷ []
 savesBy (SaveArea n) k f s r = fprSave k f s (r .fpr) ∷ gprSave (SaveArea n) k f s (r .gpr) ∷ []
 
 -- the same by the convention
-abbrev pub saves : Rules → Frame → ℕ → Registers → List Save
+abbrev pub saves : FrameRules → Frame → ℕ → Registers → List Save
 saves k f s r = savesBy (k .linkage) k f s r
 
 -- ---- what a leave looks at and gives back, with the frame's own stack pointer at o, the caller's at s
 
 -- where the caller's pointer must stand: "the back chain (on Z the r15 slot instead)"
-unfoldable pub linkAt : Linkage → Rules → ℕ → ℕ → ℕ
+unfoldable pub linkAt : Linkage → FrameRules → ℕ → ℕ → ℕ
 linkAt (LinkRegister c l) k o s = o
 linkAt (SaveArea r) k o s = s + k .word * k .pointer
 
@@ -154,7 +154,7 @@ unfoldable pub mergeFields : ℕ → ℕ → ℕ
 mergeFields old new = old / 16777216 * 16777216 + preservedFields new * 4096 + old % 4096
 
 -- LR and CR as "Leave restores these" from the memory m, whatever stands there; x is what the frame has in them. A leaf has saved no LR.
-unfoldable pub restoredLr : Linkage → Rules → Frame → ℕ → List ℕ → ℕ → ℕ
+unfoldable pub restoredLr : Linkage → FrameRules → Frame → ℕ → List ℕ → ℕ → ℕ
 restoredLr (LinkRegister c l) k f s m x = pick (f .leaf) x (load m (s + l) (k .word))
 restoredLr (SaveArea r) k f s m x = x
 
@@ -163,7 +163,7 @@ restoredCr (LinkRegister c l) f s m x = pick (savesCr f) (mergeFields x (load m 
 restoredCr (SaveArea r) f s m x = x
 
 -- the registers after a leave: those saved are restored, "Leave restores them all" on Z; p is the caller's pointer
-unfoldable pub restored : Rules → Frame → ℕ → List ℕ → ℕ → Registers → Registers
+unfoldable pub restored : FrameRules → Frame → ℕ → List ℕ → ℕ → Registers → Registers
 restored k f s m p r = record {
   gpr = set (taken (r .gpr) m (gprSave (k .linkage) k f s [])) (k .pointer) p;
   fpr = taken (r .fpr) m (fprSave k f s []);
@@ -186,11 +186,11 @@ preservedCondition (SaveArea n) cr = 0
 -- ---- what a frame may write
 
 -- a register that is volatile, or saved by the frame, whose first saved one is `from`
-abbrev pub writable : Bank → ℕ → ℕ → Bool
+abbrev pub writable : BankRules → ℕ → ℕ → Bool
 writable b from n = within (b .volatile) n || (leb from n && leb n (b .last))
 
 -- "CR fields 0, 1, 5, 6, 7, and 2 to 4 if saved .. a field value over 15 gives 20"
-unfoldable pub writableField : Rules → Frame → ℕ → ℕ → Bool
+unfoldable pub writableField : FrameRules → Frame → ℕ → ℕ → Bool
 writableField k f n v = hasCondition (k .linkage) && (leb v 15 && (leb n 1 || ((leb 5 n && leb n 7) || (savesCr f && (leb 2 n && leb n 4)))))
 
 -- the bank of a number: 0 general, 1 floating, 2 LR, 3 the fields of CR
@@ -199,7 +199,7 @@ bankOf b = pick (eqb b 0) General (pick (eqb b 1) Floating (pick (eqb b 2) Link 
 
 -- Is a write of v to register n of a bank permitted to the frame f? LR's number is not looked at; LR and CR are not writable on Z;
 -- 02, No. 1: "a GPR or LR write over 2^32 - 1 gives 20"; No. 9, of a leaf: "LR is not saved and so may not be written"
-unfoldable pub writableRegister : Rules → Frame → RegisterBank → ℕ → ℕ → Bool
+unfoldable pub writableRegister : FrameRules → Frame → RegisterBank → ℕ → ℕ → Bool
 writableRegister k f General n v = writable (k .gpr) (firstGpr f) n && leb v (k .limit)
 writableRegister k f Floating n v = writable (k .fpr) (firstFpr f) n
 writableRegister k f Link n v = hasCondition (k .linkage) && (not (f .leaf) && leb v (k .limit))

@@ -7,25 +7,25 @@ use mathlib.Core.Logic.{_⊎_}
 use mathlib.Core.Bool.{Bool, true, false, _&&_, _||_}
 use mathlib.Core.List.{List, [], _∷_}
 use lib.Dec.{ltb}
-use Rattle.rules.specs.Rules.{Span, within, Bank, Linkage, LinkRegister, SaveArea, Rules, Frame, RegisterBank, General, Floating, Link, ConditionField, None}
+use Rattle.rules.specs.Rules.{RegisterSpan, within, BankRules, Linkage, LinkRegister, SaveArea, FrameRules, Frame, RegisterBank, General, Floating, Link, ConditionField, None}
 use Rattle.rules.specs.Frames.{okRequest, below, maxMemory}
 
 -- no register of the span, and of the spans, is in the others
-abbrev pub apart : Span → List Span → Bool
+abbrev pub apart : RegisterSpan → List RegisterSpan → Bool
 apart v [] = true
 apart v (w ∷ ws) = (ltb (v .last) (w .first) || ltb (w .last) (v .first)) && apart v ws
 
-abbrev pub disjoint : List Span → List Span → Bool
+abbrev pub disjoint : List RegisterSpan → List RegisterSpan → Bool
 disjoint [] ws = true
 disjoint (v ∷ vs) ws = apart v ws && disjoint vs ws
 
 -- every register of the spans is below e
-abbrev pub before : List Span → ℕ → Bool
+abbrev pub before : List RegisterSpan → ℕ → Bool
 before [] e = true
 before (v ∷ vs) e = ltb (v .last) e && before vs e
 
 -- a bank whose saved registers end before `end`
-pub record BankLaw (b : Bank) (end : ℕ) : Type 0 where
+pub record BankLaw (b : BankRules) (end : ℕ) : Type 0 where
   pub most : b .request .last ≤ end
   pub last : b .last < 32
   pub free : before (b .volatile) 32 ≡ true
@@ -33,14 +33,14 @@ pub record BankLaw (b : Bank) (end : ℕ) : Type 0 where
   pub inside : before (b .preserved) end ≡ true
 
 -- the slots above the caller's pointer lie in its header, clear of the back chain; all that may be saved below it lies in the floor, as a leaf's saves must
-abbrev pub LinkageLaw : Linkage → Rules → Type 0
+abbrev pub LinkageLaw : Linkage → FrameRules → Type 0
 LinkageLaw (LinkRegister c l) k =
     (k .word ≤ c) × (c + 4 ≤ l) × (l + k .word ≤ k .header)
     × (8 * (k .end - k .fpr .request .first) + k .word * (k .end - k .gpr .request .first) ≤ k .floor)
 LinkageLaw (SaveArea r) k =
     (1 ≤ k .gpr .request .first) × (k .word * k .end ≤ k .header) × (k .gpr .request .last ≤ r) × (r < k .pointer) × (k .pointer < k .end)
 
-pub record Lawful (k : Rules) : Type 0 where
+pub record LawfulFrames (k : FrameRules) : Type 0 where
   pub word : k .word ≤ 8
   pub chain : k .word ≤ k .header
   pub head : k .header + k .least ≤ k .room
@@ -62,8 +62,8 @@ pub record Lawful (k : Rules) : Type 0 where
   pub linkage : LinkageLaw (k .linkage) k
 
 -- a request in range whose saves fit below the offset s of the caller's pointer, with the caller's header inside n bytes of memory
-pub record Placed (k : Rules) (f : Frame) (s n : ℕ) : Type 0 where
-  pub lawful : Lawful k
+pub record Placed (k : FrameRules) (f : Frame) (s n : ℕ) : Type 0 where
+  pub lawful : LawfulFrames k
   pub request : okRequest k f ≡ true
   pub fits : below (k .linkage) k f ≤ s
   pub room : s + k .header ≤ n

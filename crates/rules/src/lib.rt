@@ -1,5 +1,5 @@
 // The rules of a convention's stack frames as numbers. The definitions of what a request may ask, of its frame's size, of what is saved where and of what may be
-// written stand here too; `requests`, `saving`, `restoring` and `writing` have their code. Every function is written once over a `Rules`, so a convention is a value and no code.
+// written stand here too; `requests`, `saving`, `restoring` and `writing` have their code. Every function is written once over a `FrameRules`, so a convention is a value and no code.
 
 ghost use mathlib.Core.Path.{_≡_};
 ghost use Prim.Native.Nat.{_<_};
@@ -7,18 +7,18 @@ ghost use Rattle.rules.specs.Rules.{inSpan};
 ghost use Rattle.rules.specs.Frames.{startFrame, withPointer, hasCondition};
 
 // The registers `first` to `last`.
-pub struct Span {
+pub struct RegisterSpan {
     pub first: usize,
     pub last: usize,
 }
 
 // A bank of registers: the range of the first register that a request saves, the last register that a frame may write for having saved it,
 // and the volatile and the preserved registers. (A set of one span says it twice.)
-pub struct Bank {
-    pub request: Span,
+pub struct BankRules {
+    pub request: RegisterSpan,
     pub last: usize,
-    pub volatile: [Span; 2],
-    pub preserved: [Span; 2],
+    pub volatile: [RegisterSpan; 2],
+    pub preserved: [RegisterSpan; 2],
 }
 
 // Where the general registers are saved, and where the return address stands.
@@ -30,7 +30,7 @@ pub enum Linkage {
 }
 
 // A convention's numbers.
-pub struct Rules {
+pub struct FrameRules {
     // Bytes of a general register, and so of a back chain.
     pub word: usize,
     // Bytes of a frame before its outgoing area, and the least length of that area.
@@ -48,8 +48,8 @@ pub struct Rules {
     pub end: usize,
     // The highest address, and so the largest number in a general register.
     pub limit: u64,
-    pub gpr: Bank,
-    pub fpr: Bank,
+    pub gpr: BankRules,
+    pub fpr: BankRules,
     pub linkage: Linkage,
 }
 
@@ -85,7 +85,7 @@ pub struct Registers {
 // ---- requests and sizes
 
 // Is n among the registers of the span?
-pub fn in_span(v: Span, n: usize) -> bool
+pub fn in_span(v: RegisterSpan, n: usize) -> bool
     ensures { λ r. ⌜ r ≡ inSpan v n ⌝ }
 {
     if n < v.first {
@@ -95,7 +95,7 @@ pub fn in_span(v: Span, n: usize) -> bool
 }
 
 // The start as a frame: nothing saved, no locals, no outgoing area asked for.
-pub fn start_frame(k: Rules) -> Frame
+pub fn start_frame(k: FrameRules) -> Frame
     ensures { λ r. ⌜ r ≡ startFrame k ⌝ }
 {
     Frame {
@@ -119,7 +119,7 @@ pub fn has_condition(p: Linkage) -> bool
 }
 
 // The registers with the stack pointer at p.
-pub fn with_pointer(k: Rules, r: Registers, p: u64) -> Registers
+pub fn with_pointer(k: FrameRules, r: Registers, p: u64) -> Registers
     requires { ⌜ k .pointer < 32 ⌝ }
     ensures { λ q. ⌜ q ≡ withPointer k r p ⌝ }
 {

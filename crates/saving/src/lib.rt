@@ -7,12 +7,12 @@ ghost use Rattle.saves.specs.Saves.{saveRun, saveAll};
 ghost use Rattle.rules.specs.Frames.{flag, saves, gprAt, gprSave, fprSave};
 ghost use Rattle.rules.specs.Helpers.{Placed};
 use rules::Frame;
+use rules::FrameRules;
 use rules::Linkage;
 use rules::Registers;
-use rules::Rules;
 
 // Where the general registers of a frame are saved, with the caller's pointer at s.
-pub fn gpr_at(k: Rules, f: Frame, s: usize, n: usize) -> usize
+pub fn gpr_at(k: FrameRules, f: Frame, s: usize, n: usize) -> usize
     requires { ⌜ Placed k f s n ⌝ }
     ensures { λ r. ⌜ r ≡ gprAt (k .linkage) k f s ⌝ }
 {
@@ -37,7 +37,7 @@ fn save_word(memory: &mut [u8], at: usize, w: usize, on: bool, x: u64)
     }
 }
 
-fn save_general(memory: &mut [u8], k: Rules, f: Frame, r: Registers, s: usize)
+fn save_general(memory: &mut [u8], k: FrameRules, f: Frame, r: Registers, s: usize)
     requires { ⌜ Placed k f s (length (now memory)) ⌝ }
     ensures { λ _. ⌜ now (memory .exit) ≡ saveAll (now (memory .entry)) (gprSave (k .linkage) k f s (r .gpr) ∷ []) ⌝ }
 {
@@ -48,7 +48,7 @@ fn save_general(memory: &mut [u8], k: Rules, f: Frame, r: Registers, s: usize)
     saves::save_run(memory, &gpr, at, k.word, g, k.end - g);
 }
 
-fn save_floating(memory: &mut [u8], k: Rules, f: Frame, r: Registers, s: usize)
+fn save_floating(memory: &mut [u8], k: FrameRules, f: Frame, r: Registers, s: usize)
     requires { ⌜ Placed k f s (length (now memory)) ⌝ }
     ensures { λ _. ⌜ now (memory .exit) ≡ saveAll (now (memory .entry)) (fprSave k f s (r .fpr) ∷ []) ⌝ }
 {
@@ -59,7 +59,7 @@ fn save_floating(memory: &mut [u8], k: Rules, f: Frame, r: Registers, s: usize)
 }
 
 // All that an enter saves besides the back chain, with the caller's pointer at s.
-pub fn save_registers(memory: &mut [u8], k: Rules, f: Frame, r: Registers, s: usize)
+pub fn save_registers(memory: &mut [u8], k: FrameRules, f: Frame, r: Registers, s: usize)
     requires { ⌜ Placed k f s (length (now memory)) ⌝ }
     ensures { λ _. ⌜ now (memory .exit) ≡ saveAll (now (memory .entry)) (saves k f s r) ⌝ }
 {

@@ -17,7 +17,7 @@ use Rattle.signature.specs.Limits.{maxArguments}
 use Rattle.signature.specs.Answer.{resultType}
 use Rattle.signature.specs.Types.{typesOf, typesIn, valuesOf}
 use Rattle.reader.specs.declared.ArgumentRead.{ArgumentRead}
-use Rattle.reader.specs.Argument.{argumentAnswer}
+use Rattle.reader.specs.Argument.{argumentOf}
 use Rattle.parameters.specs.declared.Parameter.{Parameter}
 use Rattle.parameters.specs.declared.Returned.{Returned}
 use Rattle.parameters.specs.Values.{noParameter, tableWith}
@@ -96,7 +96,7 @@ headerOf (ArgumentRead.Refused f) = 0
 
 -- 02, No. 12: "give new refusal 29 at that argument's header, after reading": of argument number i, counted from 0
 abbrev pub straddlingFault : ℕ → Reading Signature → Fault
-straddlingFault i x = fault Refusal.UnclearPlace (headerOf (argumentAnswer i x)) 0
+straddlingFault i x = fault Refusal.UnclearPlace (headerOf (argumentOf i x)) 0
 
 unfoldable pub unlessStraddling : ℕ → Reading Signature → SecondPlan → SecondPlan
 unlessStraddling zero x p = p

@@ -24,7 +24,7 @@ use Rattle.types.specs.Sizes.{maxDepth}
 use Rattle.signature.specs.Signature.{Result, nothing, value, Signature}
 use Rattle.signature.specs.Limits.{maxLength, maxArguments}
 use Rattle.signature.specs.Read.{conventionAt, resultIn, resultAt, ellipsisAt, argumentsIn, argumentsAt, afterEllipsis, afterResult, afterConvention, signatureOf}
-use Rattle.signature.specs.Encode.{encodeResult, ellipsisItem, encode, resultItems, ellipsisItems, signatureItems, ResultWithin, Within}
+use Rattle.signature.specs.Encode.{encodeResult, ellipsisItem, encode, resultItems, ellipsisItems, signatureItems, ResultWithin, SignatureWithin}
 use Rattle.signature.proofs.Laws.{convention-by, result-none, result-to, ellipsis-none, ellipsis-one, arguments-to}
 use Rattle.signature.proofs.Sound.{length-encode}
 
@@ -36,7 +36,7 @@ module _ (s : List ℕ) where
       (sym (code-back c) ∙ ap conventionCode (sym (item-byte s 0x01 (codeOf c) 0 h)))
 
   module _ (c : Convention) where
-    value-reads : (t : Tree) (at b : ℕ) → limits.Within c t → Has s at (encodeTree t) → b ≡ at + length (encodeTree t) → resultIn c s at b ≡ got (value t) b (1 + itemsOf t)
+    value-reads : (t : Tree) (at b : ℕ) → limits.TypeWithin c t → Has s at (encodeTree t) → b ≡ at + length (encodeTree t) → resultIn c s at b ≡ got (value t) b (1 + itemsOf t)
     unfolding resultIn
     value-reads t at b w h q =
         let long = tree-long t in
@@ -88,7 +88,7 @@ module _ (s : List ℕ) where
       let end : length s ≤ length s = omega arith in
       rw (le-ltb maxLength (length s) short, first, second, mark, third, le-ltb (length s) (length s) end)
 
-pub encode-reads : (g : Signature) → Within g → signatureOf (encode g) ≡ got g (length (encode g)) (signatureItems g)
+pub encode-reads : (g : Signature) → SignatureWithin g → signatureOf (encode g) ≡ got g (length (encode g)) (signatureItems g)
 unfolding encode signatureItems
 encode-reads g w =
     let c = g .convention in

@@ -32,7 +32,7 @@ use Rattle.signature.specs.declared.HeadRead.{HeadRead}
 use Rattle.signature.specs.Signature.{Result, nothing, Signature, Head}
 use Rattle.signature.specs.Limits.{maxLength}
 use Rattle.signature.specs.Read.{conventionBy, conventionAt, resultIn, resultAt, ellipsisAt, argumentsIn, argumentsAt, afterEllipsis, afterResult, afterConvention, signatureOf, headBy, headThen, headAfter, headOf}
-use Rattle.signature.specs.Answer.{conventionAnswer, resultType, resultAnswer, ellipsisAnswer, headAnswer, refused, accepted, signatureAnswer}
+use Rattle.signature.specs.Answer.{conventionAnswer, resultType, resultAnswer, ellipsisAnswer, headAnswer, refusedSignature, accepted, signatureAnswer}
 use Rattle.signature.specs.Helpers.{withArguments}
 
 -- the convention
@@ -272,7 +272,7 @@ module _ (s : List ℕ) where
     where
       go : (more : Bool) →
           signatureAnswer (pick more (no (fault Refusal.TrailingBytes next (n + m))) (got (record { convention = c; result = r; ellipsis = v; arguments = ts }) next (n + m)))
-          ≡ pick more (refused (fault Refusal.TrailingBytes next (n + m))) (accepted c (resultType c r) v ts (n + m))
+          ≡ pick more (refusedSignature (fault Refusal.TrailingBytes next (n + m))) (accepted c (resultType c r) v ts (n + m))
       go true = refl
       go false = refl
   arguments-answer c r v n (no f) = refl

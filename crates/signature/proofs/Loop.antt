@@ -25,7 +25,7 @@ use Rattle.signature.specs.declared.ResultType.{ResultType}
 use Rattle.signature.specs.declared.SignatureRead.{SignatureRead}
 use Rattle.signature.specs.declared.Outcome.{Outcome}
 use Rattle.signature.specs.Read.{argumentsIn}
-use Rattle.signature.specs.Answer.{argument, noArguments, listed, table, refused}
+use Rattle.signature.specs.Answer.{argument, noArguments, listed, table, refusedSignature}
 use Rattle.signature.specs.Helpers.{withArguments}
 
 -- the table
@@ -125,7 +125,7 @@ module _ (c : Convention) (s : List ℕ) (start e : ℕ) where
         }
 
     module _ (last : e ≤ next) (result : ResultType) (v : Bool) (before : ℕ) where
-      pub tabled-trailing : next < length s → refused (fault Refusal.TrailingBytes next (before + n)) ≡ withArguments c result v before (length s) (argumentsIn c s start e)
+      pub tabled-trailing : next < length s → refusedSignature (fault Refusal.TrailingBytes next (before + n)) ≡ withArguments c result v before (length s) (argumentsIn c s start e)
       tabled-trailing h = rw (turn-last c s start e (tabled .ts) count next n (tabled .turn) last, lt-ltb next (length s) h)
 
       pub tabled-end : length s ≤ next →
@@ -134,5 +134,5 @@ module _ (c : Convention) (s : List ℕ) (start e : ℕ) where
       tabled-end h = rw (turn-last c s start e (tabled .ts) count next n (tabled .turn) last, le-ltb next (length s) h) (cc (tabled .turn .many, tabled .types))
 
   pub arguments-no : (f : Fault) → argumentsIn c s start e ≡ no f → (result : ResultType) (v : Bool) (before all : ℕ) →
-      refused (later before f) ≡ withArguments c result v before all (argumentsIn c s start e)
+      refusedSignature (later before f) ≡ withArguments c result v before all (argumentsIn c s start e)
   arguments-no f q result v before all = rw q

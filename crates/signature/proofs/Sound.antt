@@ -32,7 +32,7 @@ use Rattle.signature.specs.Signature.{Result, nothing, value, Signature,
 use Rattle.signature.specs.Limits.{maxLength, maxArguments}
 use Rattle.signature.specs.Read.{conventionBy, conventionAt, resultIn, resultAt, ellipsisAt, argumentsIn, argumentsAt, afterEllipsis, afterResult, afterConvention, signatureOf, headBy, headThen, headAfter, headOf}
 use Rattle.signature.proofs.Laws.{result-got, ellipsis-got, head-got}
-use Rattle.signature.specs.Encode.{encodeResult, ellipsisItem, encode, resultItems, ellipsisItems, signatureItems, ResultWithin, Within}
+use Rattle.signature.specs.Encode.{encodeResult, ellipsisItem, encode, resultItems, ellipsisItems, signatureItems, ResultWithin, SignatureWithin}
 
 -- an item of the signature that ends the item's framing
 pub framed-item : (s : List ℕ) (tag at b : ℕ) (body : List ℕ) → Framed s tag tag (length s) at b → b ≡ at + 3 + length body → Bytes s →
@@ -188,7 +188,7 @@ has-encode s g at last first second q mark-here u third =
 
 -- what is got of a signature; only that it has the encoding's bytes needs that it has bytes
 pub record SignatureSound (s : List ℕ) (g : Signature) (next n : ℕ) : Type 0 where
-  pub within : Within g
+  pub within : SignatureWithin g
   pub here : Bytes s → s ≡ encode g
   pub size : length s ≡ length (encode g)
   pub ends : next ≡ length s

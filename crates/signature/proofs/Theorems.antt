@@ -18,7 +18,7 @@ use Rattle.items.specs.Encode.{item, encodeTrees}
 use Rattle.items.proofs.Trees.{bytes-none, bytes-cons, bytes-item, tree-bytes, trees-bytes}
 use Rattle.signature.specs.Signature.{Result, nothing, value, Signature}
 use Rattle.signature.specs.Read.{signatureOf}
-use Rattle.signature.specs.Encode.{encodeResult, ellipsisItem, encode, signatureItems, ResultWithin, Within}
+use Rattle.signature.specs.Encode.{encodeResult, ellipsisItem, encode, signatureItems, ResultWithin, SignatureWithin}
 use Rattle.signature.specs.Exact.{ReadsExactly, ResultSized, Accepted}
 use Rattle.signature.proofs.Sound.{signature-read, length-encode, encode-third}
 use Rattle.signature.proofs.Complete.{encode-reads}
@@ -51,14 +51,14 @@ accepted s g next n q =
     }
 
 -- an encoding is never refused
-pub encode-not-refused : (g : Signature) → Within g → (f : Fault) → signatureOf (encode g) ≡ no f → ⊥
+pub encode-not-refused : (g : Signature) → SignatureWithin g → (f : Fault) → signatureOf (encode g) ≡ no f → ⊥
 encode-not-refused g w f q =
     let read = encode-reads g w in
     let z : _≡_ {A = ℕ} 0 1 = cc in
     omega arith
 
 -- two signatures within the limits have different bytes
-pub encode-injective : (g h : Signature) → Within g → Within h → encode g ≡ encode h → g ≡ h
+pub encode-injective : (g h : Signature) → SignatureWithin g → SignatureWithin h → encode g ≡ encode h → g ≡ h
 encode-injective g h w v q =
     let read : got g (length (encode g)) (signatureItems g) ≡ got h (length (encode h)) (signatureItems h) =
     sym (encode-reads g w) ∙ ap signatureOf q ∙ encode-reads h v in
@@ -76,7 +76,7 @@ unfolding ellipsisItem
 ellipsis-bytes true = bytes-item 0x04 [] (omega arith) (omega arith) bytes-none
 ellipsis-bytes false = bytes-none
 
-pub encode-bytes : (g : Signature) → Within g → Bytes (encode g)
+pub encode-bytes : (g : Signature) → SignatureWithin g → Bytes (encode g)
 unfolding encode
 encode-bytes g w =
     let size = length-encode g in

@@ -56,8 +56,8 @@ unfoldable pub table : Convention → Trees → List Argument
 table c ts = listed c ts ++ replicate (maxArguments - countOf ts) (argument (ValueType.Integer IntegerKind.I8))
 
 -- "Every refusal leaves all buffers and the state untouched"
-abbrev pub refused : Fault → SignatureRead
-refused f = record {
+abbrev pub refusedSignature : Fault → SignatureRead
+refusedSignature f = record {
   outcome = Outcome.Refused f;
   convention = Convention.Ppc64;
   result = ResultType.Nothing;
@@ -71,4 +71,4 @@ accepted c r v ts n = record { outcome = Outcome.Accepted n; convention = c; res
 
 abbrev pub signatureAnswer : Reading Signature → SignatureRead
 signatureAnswer (got g next n) = accepted (g .convention) (resultType (g .convention) (g .result)) (g .ellipsis) (g .arguments) n
-signatureAnswer (no f) = refused f
+signatureAnswer (no f) = refusedSignature f

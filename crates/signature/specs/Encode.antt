@@ -41,10 +41,10 @@ signatureItems g = 3 + resultItems (g .result) + ellipsisItems (g .ellipsis) + i
 
 unfoldable pub ResultWithin : Convention → Result → Type 0
 ResultWithin c nothing = Unit {0}
-ResultWithin c (value t) = types.Within c t
+ResultWithin c (value t) = types.TypeWithin c t
 
 -- the limits of refusals 1, 4 to 8
-pub record Within (g : Signature) : Type 0 where
+pub record SignatureWithin (g : Signature) : Type 0 where
   pub result : ResultWithin (g .convention) (g .result)
   pub arguments : types.AllWithin (g .convention) (g .arguments)
   pub few : countOf (g .arguments) ≤ maxArguments

@@ -13,11 +13,11 @@ use Rattle.items.specs.Reading.{fault, got, no}
 use Rattle.items.specs.HowFar.{walked, stopOf, metBy, HowFar}
 use Rattle.signature.specs.Signature.{Result, nothing, value, Signature}
 use Rattle.signature.specs.Read.{signatureOf}
-use Rattle.signature.specs.Encode.{encode, signatureItems, Within}
+use Rattle.signature.specs.Encode.{encode, signatureItems, SignatureWithin}
 
 -- the bytes s are those of the signature g, which has n items
 pub record Encodes (s : List ℕ) (g : Signature) (n : ℕ) : Type 0 where
-  pub within : Within g
+  pub within : SignatureWithin g
   pub bytes : s ≡ encode g
   pub items : n ≡ signatureItems g
 
@@ -34,7 +34,7 @@ ResultSized c (value t) = Sized c (typeOf c t)
 -- of an accepted signature: "its count of items .. is .. at most a third of the input length", and every type has a size of 1
 -- to 256 bytes and an alignment of 1 to 16
 pub record Accepted (s : List ℕ) (g : Signature) (n : ℕ) : Type 0 where
-  pub within : Within g
+  pub within : SignatureWithin g
   pub third : 3 * n ≤ length s
   pub result : ResultSized (g .convention) (g .result)
   pub arguments : AllSized (g .convention) (g .arguments)

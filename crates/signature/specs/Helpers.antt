@@ -10,7 +10,7 @@ use Rattle.types.specs.Sizes.{sizeOf, maxSize}
 use Rattle.signature.specs.declared.ResultType.{ResultType}
 use Rattle.signature.specs.declared.SignatureRead.{SignatureRead}
 use Rattle.signature.specs.Limits.{maxArguments}
-use Rattle.signature.specs.Answer.{argument, refused, accepted}
+use Rattle.signature.specs.Answer.{argument, refusedSignature, accepted}
 use mathlib.Core.Bool.{Bool}
 use lib.Dec.{ltb}
 use Rattle.words.specs.Basics.{pick}
@@ -34,5 +34,5 @@ pub record Plannable (g : SignatureRead) : Type 0 where
 
 -- from the arguments on, in a signature of `all` bytes, where the convention and the result's type took n items
 abbrev pub withArguments : Convention → ResultType → Bool → ℕ → ℕ → Reading Trees → SignatureRead
-withArguments c r v n all (got ts next m) = pick (ltb next all) (refused (fault Refusal.TrailingBytes next (n + m))) (accepted c r v ts (n + m))
-withArguments c r v n all (no f) = refused (later n f)
+withArguments c r v n all (got ts next m) = pick (ltb next all) (refusedSignature (fault Refusal.TrailingBytes next (n + m))) (accepted c r v ts (n + m))
+withArguments c r v n all (no f) = refusedSignature (later n f)

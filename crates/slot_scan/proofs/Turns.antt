@@ -19,7 +19,7 @@ use Rattle.slot_scan.specs.declared.Slot.{Slot}
 use Rattle.slot_scan.specs.declared.Copied.{Copied}
 use Rattle.parameters.specs.Values.{noParameter}
 use Rattle.slot_scan.specs.Slots.{initial, doubleOrFloat, copied, copyAt, inFloating, inGeneral, inOther, slotBy, slotOf, slotsFrom, scannedTo}
-use Rattle.slot_scan.specs.Helpers.{Roomy}
+use Rattle.slot_scan.specs.Helpers.{RoomyScan}
 
 -- ---- the slots
 
@@ -53,7 +53,7 @@ near-more s t n i h g = go (doubleOrFloat t) (copyAt (copied t n) (s .copies) n)
     go true k e = by true (ltb 6 (s .fr)) k e
     go false k e = by false (ltb 6 (s .gr)) k e
 
-pub near-roomy : (s : Scan) (i : ℕ) → i ≤ maxArguments → Near s i → Roomy s
+pub near-roomy : (s : Scan) (i : ℕ) → i ≤ maxArguments → Near s i → RoomyScan s
 near-roomy s i h g = (omega (arith, g .gr), omega (arith, g .fr), omega (arith, g .starg), omega (arith, g .copies))
 
 pub record Scanning (c : Convention) (start : Scan) (ts : List ValueType) (ps : List Parameter) (s : Scan) (i : ℕ) : Type 0 where

@@ -3,5 +3,5 @@
 use Prim.Native.Nat.{ℕ, _^_, _≤_}
 use Rattle.slot_scan.specs.declared.Scan.{Scan}
 
-abbrev pub Roomy : Scan → Type 0
-Roomy s = (s .gr ≤ 2 ^ 16) × (s .fr ≤ 2 ^ 16) × (s .starg ≤ 2 ^ 16) × (s .copies ≤ 2 ^ 16)
+abbrev pub RoomyScan : Scan → Type 0
+RoomyScan s = (s .gr ≤ 2 ^ 16) × (s .fr ≤ 2 ^ 16) × (s .starg ≤ 2 ^ 16) × (s .copies ≤ 2 ^ 16)

@@ -13,7 +13,7 @@ ghost use Prim.Native.Nat.{_≤_, _^_};
 ghost use Rattle.signature.specs.Types.{typesIn};
 ghost use Rattle.signature.specs.Helpers.{Plannable};
 ghost use Rattle.slot_scan.specs.Slots.{initial, doubleOrFloat, otherSize, copiedStruct, copied, copyAt, inFloating, inGeneral, inOther, slotBy, slotOf, scannedOf, zHidden, zReturned};
-ghost use Rattle.slot_scan.specs.Helpers.{Roomy};
+ghost use Rattle.slot_scan.specs.Helpers.{RoomyScan};
 ghost use Rattle.types.specs.Sizes.{maxSize};
 
 // 001's gr, fr and starg, and the end of the copies.
@@ -191,7 +191,7 @@ fn in_other(s: Scan, k: Copied) -> Slot
 }
 
 fn slot_by(float: bool, s: Scan, k: Copied) -> Slot
-    requires { ⌜ Roomy s ⌝ }
+    requires { ⌜ RoomyScan s ⌝ }
     ensures { λ r. ⌜ r ≡ slotBy float s k ⌝ }
 {
     if float {
@@ -207,7 +207,7 @@ fn slot_by(float: bool, s: Scan, k: Copied) -> Slot
 }
 
 fn slot_for(s: Scan, t: ValueType, size: usize) -> Slot
-    requires { ⌜ Roomy s × (size ≤ maxSize) ⌝ }
+    requires { ⌜ RoomyScan s × (size ≤ maxSize) ⌝ }
     ensures { λ r. ⌜ r ≡ slotOf s t size ⌝ }
 {
     let k = copy_at(is_copied(t, size), s.copies, size);

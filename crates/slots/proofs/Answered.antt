@@ -20,7 +20,7 @@ use Rattle.signature.specs.Types.{valuesOf, typesOf}
 use Rattle.signature.specs.Helpers.{Plannable}
 use Rattle.signature.proofs.Types.{table-types, answer-plannable, length-of-types}
 use Rattle.places.specs.declared.Cursor.{Cursor}
-use Rattle.places.specs.declared.Rules.{Rules}
+use Rattle.places.specs.declared.CallRules.{CallRules}
 use Rattle.places.specs.declared.Span.{Span}
 use Rattle.places.specs.Step.{rulesOf, withEllipsis}
 use Rattle.places.proofs.Marked.{named-marked}
@@ -52,7 +52,7 @@ pub arguments-got : (g : Signature) (next n : ℕ)
 unfolding argumentsIn planAnswer planIn tableOf
 arguments-got g next n =
     let c : Convention = g .convention in
-    let r : Rules = withEllipsis (g .ellipsis) (rulesOf c) in
+    let r : CallRules = withEllipsis (g .ellipsis) (rulesOf c) in
     let k : Cursor = startIn c (resultType c (g .result)) in
     let ts : List ValueType = typesOf c (g .arguments) in
     let ss : List Span = spansOf c r k ts in
@@ -63,7 +63,7 @@ arguments-got g next n =
 planned-room : (n : ℕ) (c : Convention) (v : Bool) (r : ResultType) (ts : List ValueType) (m : ℕ) → length ts ≡ m → m ≤ maxArguments → m ≤ length (planIn n c v r ts .spans)
 unfolding planIn tableOf
 planned-room n c v r ts m e h =
-    let q : Rules = withEllipsis v (rulesOf c) in
+    let q : CallRules = withEllipsis v (rulesOf c) in
     let ss : List Span = spansOf c q (startIn c r) ts in
     omega (arith, length-spans c q (startIn c r) ts, length-append ss (replicate (maxArguments - length ss) noSpan))
 

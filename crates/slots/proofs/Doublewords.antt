@@ -9,7 +9,7 @@ use lib.Seq.{take-all}
 use Rattle.words.specs.Splice.{part}
 use Rattle.words.specs.Numbers.{bytesOf}
 use Rattle.words.proofs.Numbers.{length-bytesOf}
-use Rattle.places.specs.declared.Rules.{Rules}
+use Rattle.places.specs.declared.CallRules.{CallRules}
 use Rattle.places.specs.declared.Span.{Span}
 use Rattle.places.specs.declared.ResultPlaces.{ResultPlaces}
 use Rattle.places.specs.Step.{wordOf}
@@ -20,7 +20,7 @@ use Rattle.slots.specs.Forms.{floatBytes}
 use Rattle.slots.specs.Placements.{Placement, standing, copyBytes, slotsOf, hiddenSlots, wordsAt}
 use Rattle.registers.proofs.Registers.{spread-doublewords, gather-doublewords}
 
-pub slots-doublewords : (r : Rules) (base : ℕ) (p : Placement) (v : List ℕ) → wordOf r ≡ 8
+pub slots-doublewords : (r : CallRules) (base : ℕ) (p : Placement) (v : List ℕ) → wordOf r ≡ 8
     → slotsOf r base p v
     ≡ slot (floating (p .span .floating .first)) (take (8 * p .span .floating .count) (floatBytes r (p .ty) v))
     ∷ slot (general (p .span .general .first)) (take (8 * p .span .general .count) (standing r base p v))

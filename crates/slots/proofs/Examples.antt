@@ -11,7 +11,7 @@ use Rattle.types.specs.declared.IntegerKind.{IntegerKind}
 use Rattle.types.specs.declared.FloatFormat.{FloatFormat}
 use Rattle.types.specs.declared.Equivalent.{Equivalent}
 use Rattle.types.specs.declared.ValueType.{ValueType}
-use Rattle.places.specs.declared.Rules.{Rules}
+use Rattle.places.specs.declared.CallRules.{CallRules}
 use Rattle.places.specs.Values.{cursor}
 use Rattle.places.specs.Spots.{general, floating, area, copies}
 use Rattle.places.specs.Power.{words, fprs, shareOf, powerShare}
@@ -42,7 +42,7 @@ unfolding homeBytes startsAtHead extended words bytesOf valueOf zeroExtended
 single-in-memory = refl
 
 -- "A Z single stands in the upper half of its FPR, lower half zero"
-z-single : floatBytes Rules.Z (ValueType.Float FloatFormat.Single) (0x3f ∷ 0x80 ∷ 0 ∷ 0 ∷ []) ≡ 0x3f ∷ 0x80 ∷ 0 ∷ 0 ∷ 0 ∷ 0 ∷ 0 ∷ 0 ∷ []
+z-single : floatBytes CallRules.Z (ValueType.Float FloatFormat.Single) (0x3f ∷ 0x80 ∷ 0 ∷ 0 ∷ []) ≡ 0x3f ∷ 0x80 ∷ 0 ∷ 0 ∷ 0 ∷ 0 ∷ 0 ∷ 0 ∷ []
 unfolding floatBytes bytesOf valueOf
 z-single = refl
 
@@ -61,7 +61,7 @@ unfolding homeBytes structAtHead startsAtHead words struct
 power-larger = refl
 
 -- on Z "other small ones are right-justified, zeros above"
-z-struct : homeBytes Rules.Z (struct 2) 2 (1 ∷ 2 ∷ []) ≡ 0 ∷ 0 ∷ 0 ∷ 0 ∷ 0 ∷ 0 ∷ 1 ∷ 2 ∷ []
+z-struct : homeBytes CallRules.Z (struct 2) 2 (1 ∷ 2 ∷ []) ≡ 0 ∷ 0 ∷ 0 ∷ 0 ∷ 0 ∷ 0 ∷ 1 ∷ 2 ∷ []
 unfolding homeBytes startsAtHead extended bytesOf valueOf zeroExtended struct
 z-struct = refl
 

@@ -15,7 +15,7 @@ use Rattle.types.specs.declared.Equivalent.{Equivalent}
 use Rattle.types.specs.declared.ValueType.{ValueType}
 use Rattle.types.specs.Sizes.{integerSize, sizeOf, equivalentOf}
 use Rattle.places.specs.declared.Cursor.{Cursor}
-use Rattle.places.specs.declared.Rules.{Rules}
+use Rattle.places.specs.declared.CallRules.{CallRules}
 use Rattle.places.specs.declared.ZClass.{ZClass}
 use Rattle.places.specs.Values.{share}
 use Rattle.places.specs.Power.{words, fprs, covered, shareOf, powerShare, powerSpan}
@@ -82,8 +82,8 @@ module _ (w : ℕ) (least : 4 ≤ w) (most : w ≤ 8) where
   whole-words (suc m) h = omega (arith, mul-suc w m)
 
   module _ (e : Edition) (v : Bool) where
-    abbrev rules : Rules
-    rules = Rules.Power (record { word = w; edition = e; ellipsis = v })
+    abbrev rules : CallRules
+    rules = CallRules.Power (record { word = w; edition = e; ellipsis = v })
 
     -- what stands at the end of its words has at most 64 bits
     end-small : (c : Convention) (t : ValueType) → Typed c t → startsAtHead rules t ≡ false → (1 ≤ sizeOf c t) × (sizeOf c t ≤ 8)
@@ -166,7 +166,7 @@ module _ (w : ℕ) (least : 4 ≤ w) (most : w ≤ 8) where
 -- ---- Z
 
 -- an FPR or eight bytes of the stack
-z-float : (k : Cursor) (t : ValueType) (n : ℕ) → FloatSized (equivalentOf t) 1 n → 1 ≤ n → n ≤ 8 → Held Rules.Z (placement t n (zSpanOf k ZClass.Float n))
+z-float : (k : Cursor) (t : ValueType) (n : ℕ) → FloatSized (equivalentOf t) 1 n → 1 ≤ n → n ≤ 8 → Held CallRules.Z (placement t n (zSpanOf k ZClass.Float n))
 unfolding zSpanOf startsAtHead
 z-float k t n f one eight = record {
   word = (omega arith, omega arith);
@@ -182,7 +182,7 @@ z-float k t n f one eight = record {
   copied = λ e. absurd-bool' e;
 }
 
-z-simple : (k : Cursor) (t : ValueType) (n : ℕ) → 1 ≤ n → n ≤ 8 → Held Rules.Z (placement t n (zSpanOf k ZClass.Simple n))
+z-simple : (k : Cursor) (t : ValueType) (n : ℕ) → 1 ≤ n → n ≤ 8 → Held CallRules.Z (placement t n (zSpanOf k ZClass.Simple n))
 unfolding zSpanOf startsAtHead
 z-simple k t n one eight = record {
   word = (omega arith, omega arith);
@@ -199,7 +199,7 @@ z-simple k t n one eight = record {
 }
 
 -- the address of a copy
-z-reference : (k : Cursor) (t : ValueType) (n : ℕ) → Held Rules.Z (placement t n (zSpanOf k ZClass.Reference n))
+z-reference : (k : Cursor) (t : ValueType) (n : ℕ) → Held CallRules.Z (placement t n (zSpanOf k ZClass.Reference n))
 unfolding zSpanOf startsAtHead
 z-reference k t n = record {
   word = (omega arith, omega arith);
@@ -216,38 +216,38 @@ z-reference k t n = record {
 }
 
 -- a struct of 1, 2, 4 or 8 bytes, or a copy
-z-sized : (k : Cursor) (t : ValueType) (n : ℕ) → Held Rules.Z (placement t n (zSpanOf k (bySize n) n))
+z-sized : (k : Cursor) (t : ValueType) (n : ℕ) → Held CallRules.Z (placement t n (zSpanOf k (bySize n) n))
 z-sized k t n = one (eqb n 1) refl
   where
-    simple : 1 ≤ n → n ≤ 8 → Held Rules.Z (placement t n (zSpanOf k ZClass.Simple n))
+    simple : 1 ≤ n → n ≤ 8 → Held CallRules.Z (placement t n (zSpanOf k ZClass.Simple n))
     simple a b = z-simple k t n a b
 
-    eight : (b : Bool) → eqb n 8 ≡ b → Held Rules.Z (placement t n (zSpanOf k (pick b ZClass.Simple ZClass.Reference) n))
+    eight : (b : Bool) → eqb n 8 ≡ b → Held CallRules.Z (placement t n (zSpanOf k (pick b ZClass.Simple ZClass.Reference) n))
     eight true e = let q = eqb-true n 8 e in simple (omega arith) (omega arith)
     eight false e = z-reference k t n
 
-    four : (b : Bool) → eqb n 4 ≡ b → Held Rules.Z (placement t n (zSpanOf k (pick b ZClass.Simple (pick (eqb n 8) ZClass.Simple ZClass.Reference)) n))
+    four : (b : Bool) → eqb n 4 ≡ b → Held CallRules.Z (placement t n (zSpanOf k (pick b ZClass.Simple (pick (eqb n 8) ZClass.Simple ZClass.Reference)) n))
     four true e = let q = eqb-true n 4 e in simple (omega arith) (omega arith)
     four false e = eight (eqb n 8) refl
 
     two : (b : Bool) → eqb n 2 ≡ b
-        → Held Rules.Z (placement t n (zSpanOf k (pick b ZClass.Simple (pick (eqb n 4) ZClass.Simple (pick (eqb n 8) ZClass.Simple ZClass.Reference))) n))
+        → Held CallRules.Z (placement t n (zSpanOf k (pick b ZClass.Simple (pick (eqb n 4) ZClass.Simple (pick (eqb n 8) ZClass.Simple ZClass.Reference))) n))
     two true e = let q = eqb-true n 2 e in simple (omega arith) (omega arith)
     two false e = four (eqb n 4) refl
 
     one : (b : Bool) → eqb n 1 ≡ b
-        → Held Rules.Z
+        → Held CallRules.Z
         (placement t n (zSpanOf k (pick b ZClass.Simple (pick (eqb n 2) ZClass.Simple (pick (eqb n 4) ZClass.Simple (pick (eqb n 8) ZClass.Simple ZClass.Reference)))) n))
     one true e = let q = eqb-true n 1 e in simple (omega arith) (omega arith)
     one false e = two (eqb n 2) refl
 
 z-struct : (k : Cursor) (t : ValueType) (n : ℕ) (e : Equivalent) → equivalentOf t ≡ e → EquivalentSized e n
-    → Held Rules.Z (placement t n (zSpanOf k (byEquivalent e n) n))
+    → Held CallRules.Z (placement t n (zSpanOf k (byEquivalent e n) n))
 z-struct k t n Equivalent.Nothing q f = z-sized k t n
 z-struct k t n Equivalent.Single q f = z-float k t n (rw q (refl, f)) (omega arith) (omega arith)
 z-struct k t n Equivalent.Double q f = z-float k t n (rw q (refl, f)) (omega arith) (omega arith)
 
-z-held : (k : Cursor) (t : ValueType) → Typed Convention.Z t → Held Rules.Z (placement t (sizeOf Convention.Z t) (spanOf Rules.Z k t (sizeOf Convention.Z t)))
+z-held : (k : Cursor) (t : ValueType) → Typed Convention.Z t → Held CallRules.Z (placement t (sizeOf Convention.Z t) (spanOf CallRules.Z k t (sizeOf Convention.Z t)))
 unfolding spanOf zClass
 z-held k (ValueType.Integer x) h = z-simple k (ValueType.Integer x) (integerSize Convention.Z x) (h .sized .some) (integer-small Convention.Z x)
 z-held k (ValueType.Float FloatFormat.Single) h = z-float k (ValueType.Float FloatFormat.Single) 4 (refl, refl) (omega arith) (omega arith)

@@ -3,21 +3,21 @@ use mathlib.Core.Path.{_≡_, refl}
 use mathlib.Core.Bool.{Bool}
 use Prim.Native.Nat.{ℕ}
 use Rattle.types.specs.declared.ValueType.{ValueType}
-use Rattle.places.specs.declared.Rules.{Rules}
+use Rattle.places.specs.declared.CallRules.{CallRules}
 use Rattle.places.specs.Step.{withEllipsis}
 use Rattle.slots.specs.Forms.{startsAtHead, ownStart}
 use Rattle.slots.specs.Placements.{Placement}
 use Rattle.slots.specs.Helpers.{Held}
 
-pub own-marked : (v : Bool) (r : Rules) (t : ValueType) (n : ℕ) → ownStart (withEllipsis v r) t n ≡ ownStart r t n
+pub own-marked : (v : Bool) (r : CallRules) (t : ValueType) (n : ℕ) → ownStart (withEllipsis v r) t n ≡ ownStart r t n
 unfolding withEllipsis ownStart startsAtHead
-own-marked v (Rules.Power f) t n = refl
-own-marked v Rules.Z t n = refl
+own-marked v (CallRules.Power f) t n = refl
+own-marked v CallRules.Z t n = refl
 
 -- what has room by the rules of a call has it by those without an ellipsis too
-pub held-marked : (v : Bool) (r : Rules) (p : Placement) → Held (withEllipsis v r) p → Held r p
+pub held-marked : (v : Bool) (r : CallRules) (p : Placement) → Held (withEllipsis v r) p → Held r p
 unfolding withEllipsis startsAtHead
-held-marked v (Rules.Power f) p h = record {
+held-marked v (CallRules.Power f) p h = record {
   word = h .word;
   direct = h .direct;
   float = h .float;
@@ -30,4 +30,4 @@ held-marked v (Rules.Power f) p h = record {
   address = h .address;
   copied = h .copied;
 }
-held-marked v Rules.Z p h = h
+held-marked v CallRules.Z p h = h

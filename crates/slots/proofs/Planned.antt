@@ -9,7 +9,7 @@ use Rattle.conventions.specs.declared.Convention.{Convention}
 use Rattle.types.specs.declared.ValueType.{ValueType}
 use Rattle.types.specs.Sizes.{sizeOf}
 use Rattle.places.specs.declared.Cursor.{Cursor}
-use Rattle.places.specs.declared.Rules.{Rules}
+use Rattle.places.specs.declared.CallRules.{CallRules}
 use Rattle.places.specs.declared.Span.{Span}
 use Rattle.places.specs.Step.{rulesOf, withEllipsis, spanOf, nextOf}
 use Rattle.places.proofs.Bounds.{Named, named-next}
@@ -24,7 +24,7 @@ use Rattle.slots.proofs.Typed.{AllTyped}
 use Rattle.slots.proofs.Held.{step-held}
 
 -- the table's spans after the last argument's are no argument's
-pub placements-table : (c : Convention) (r : Rules) (k : Cursor) (ts : List ValueType) (more : List Span)
+pub placements-table : (c : Convention) (r : CallRules) (k : Cursor) (ts : List ValueType) (more : List Span)
     → placements c ts (spansOf c r k ts ++ more) ≡ placements c ts (spansOf c r k ts)
 unfolding placements spansOf
 placements-table c r k [] more = refl
@@ -32,7 +32,7 @@ placements-table c r k (t ∷ ts) more =
     ap (λ (l : List Placement). placement t (sizeOf c t) (spanOf r k t (sizeOf c t)) ∷ l) (placements-table c r (nextOf r k t (sizeOf c t)) ts more)
 
 -- their values make up the value buffer
-pub placements-sizes : (c : Convention) (r : Rules) (k : Cursor) (ts : List ValueType) → sizesOf (placements c ts (spansOf c r k ts)) ≡ valuesOf c ts
+pub placements-sizes : (c : Convention) (r : CallRules) (k : Cursor) (ts : List ValueType) → sizesOf (placements c ts (spansOf c r k ts)) ≡ valuesOf c ts
 unfolding placements spansOf sizesOf valuesOf
 placements-sizes c r k [] = refl
 placements-sizes c r k (t ∷ ts) = ap (λ (n : ℕ). sizeOf c t + n) (placements-sizes c r (nextOf r k t (sizeOf c t)) ts)
@@ -46,14 +46,14 @@ all-held c v k [] h = tt
 all-held c v k (t ∷ ts) h = (step-held c v k t (h .0), all-held c v (nextOf (withEllipsis v (rulesOf c)) k t (sizeOf c t)) ts (h .1))
 
 -- one that ends at or before the last cursor
-step-fits : (r : Rules) (k : Cursor) (t : ValueType) (n a m : ℕ) → Named r k → nextOf r k t n .stack ≤ a → nextOf r k t n .copies ≤ m
+step-fits : (r : CallRules) (k : Cursor) (t : ValueType) (n a m : ℕ) → Named r k → nextOf r k t n .stack ≤ a → nextOf r k t n .copies ≤ m
     → Fits a m (placement t n (spanOf r k t n))
 step-fits r k t n a m named s c =
     let b = step-between r k t n in
     let q = step-numbered r k t n named in
     record { general = q .1; floating = q .0; memory = omega arith; copies = omega arith }
 
-pub all-fit : (c : Convention) (r : Rules) (k : Cursor) (ts : List ValueType) (a m : ℕ) → Named r k → lastOf c r k ts .stack ≤ a → lastOf c r k ts .copies ≤ m
+pub all-fit : (c : Convention) (r : CallRules) (k : Cursor) (ts : List ValueType) (a m : ℕ) → Named r k → lastOf c r k ts .stack ≤ a → lastOf c r k ts .copies ≤ m
     → All (Fits a m) (placements c ts (spansOf c r k ts))
 unfolding placements spansOf lastOf All
 all-fit c r k [] a m named s q = tt

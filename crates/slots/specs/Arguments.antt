@@ -5,7 +5,7 @@ use Rattle.signature.specs.declared.SignatureRead.{SignatureRead}
 use Rattle.signature.specs.Read.{signatureOf}
 use Rattle.signature.specs.Answer.{signatureAnswer}
 use Rattle.signature.specs.Types.{typesIn}
-use Rattle.places.specs.declared.Rules.{Rules}
+use Rattle.places.specs.declared.CallRules.{CallRules}
 use Rattle.places.specs.Step.{rulesOf, withEllipsis}
 use Rattle.plan.specs.declared.Plan.{Plan}
 use Rattle.plan.specs.declared.Measured.{Measured}
@@ -30,8 +30,8 @@ abbrev pub sizesFor : List ℕ → Measured
 sizesFor s = record { outcome = outcomeFor s; area = planFor s .area; values = planFor s .values; copies = planFor s .copies }
 
 -- the rules of a signature's arguments: its convention's, and whether it has an ellipsis
-abbrev pub rulesIn : SignatureRead → Rules
+abbrev pub rulesIn : SignatureRead → CallRules
 rulesIn g = withEllipsis (g .ellipsis) (rulesOf (g .convention))
 
-abbrev pub rulesFor : List ℕ → Rules
+abbrev pub rulesFor : List ℕ → CallRules
 rulesFor s = rulesIn (signatureAnswer (signatureOf s))

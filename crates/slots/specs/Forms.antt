@@ -17,15 +17,15 @@ use Rattle.types.specs.declared.FloatFormat.{FloatFormat}
 use Rattle.types.specs.declared.Equivalent.{Equivalent}
 use Rattle.types.specs.declared.ValueType.{ValueType}
 use Rattle.types.specs.Sizes.{equivalentOf}
-use Rattle.places.specs.declared.Rules.{Rules}
+use Rattle.places.specs.declared.CallRules.{CallRules}
 use Rattle.places.specs.Power.{words}
 use Rattle.places.specs.Step.{wordOf}
 
 -- the bytes of the words that a value takes: "Sizes in doublewords .. struct size / 8 rounded up"; AIX: "a double or 64-bit whole uses two words"; Z: "8
 -- stack bytes", or a register
-abbrev pub roomOf : Rules → ℕ → ℕ
-roomOf (Rules.Power f) n = f .word * words (f .word) n
-roomOf Rules.Z n = wordOf Rules.Z
+abbrev pub roomOf : CallRules → ℕ → ℕ
+roomOf (CallRules.Power f) n = f .word * words (f .word) n
+roomOf CallRules.Z n = wordOf CallRules.Z
 
 -- the integers in two's complement, those of the codes "i8 .. i16 .. i32 .. i64"
 abbrev pub signedKind : IntegerKind → Bool
@@ -59,40 +59,40 @@ headFirst w (ValueType.Float FloatFormat.Double) = false
 headFirst w (ValueType.Float FloatFormat.LongDouble) = true
 headFirst w (ValueType.Struct s) = structAtHead w (s .size)
 
-unfoldable pub startsAtHead : Rules → ValueType → Bool
-startsAtHead (Rules.Power f) t = headFirst (f .word) t
-startsAtHead Rules.Z t = false
+unfoldable pub startsAtHead : CallRules → ValueType → Bool
+startsAtHead (CallRules.Power f) t = headFirst (f .word) t
+startsAtHead CallRules.Z t = false
 
 -- "Wholes are sign- or zero-extended to 64 bits", of which an AIX word has the lowest 32; of everything else the bytes above are zeros
 unfoldable pub extended : ValueType → ℕ → ℕ → ℕ
 extended t n x = pick (isSigned t) (signExtended n x) (zeroExtended n x)
 
 -- the form of a value in general registers and memory
-unfoldable pub homeBytes : Rules → ValueType → ℕ → List ℕ → List ℕ
+unfoldable pub homeBytes : CallRules → ValueType → ℕ → List ℕ → List ℕ
 homeBytes r t n v =
     pick (startsAtHead r t) (v ++ replicate (roomOf r n - n) 0) (bytesOf (roomOf r n) (extended t n (valueOf v)))
 
 -- where in that form the value's own bytes start: "Reading takes a value's own bytes and ignores the slot's padding"
-unfoldable pub ownStart : Rules → ValueType → ℕ → ℕ
+unfoldable pub ownStart : CallRules → ValueType → ℕ → ℕ
 ownStart r t n = pick (startsAtHead r t) 0 (roomOf r n - n)
 
 -- ---- in floating registers
 
 -- a single's bits x as the 64 bits of its FPR: "A PPC64 single is widened bit for bit in an FPR, never quieted"; "A Z single stands
 -- in the upper half of its FPR, lower half zero (ours)"
-abbrev pub singleWord : Rules → ℕ → ℕ
-singleWord (Rules.Power f) x = widen x
-singleWord Rules.Z x = x * 2 ^ 32
+abbrev pub singleWord : CallRules → ℕ → ℕ
+singleWord (CallRules.Power f) x = widen x
+singleWord CallRules.Z x = x * 2 ^ 32
 
 -- "On Z, a struct placed as a float stands as that float": it is told by the float that the type is equivalent to. A double stands as
 -- it is; so does a long double in "two successive FPRs" (No. 12), a doubleword in each
-abbrev pub floatForm : Rules → Equivalent → List ℕ → List ℕ
+abbrev pub floatForm : CallRules → Equivalent → List ℕ → List ℕ
 floatForm r Equivalent.Single v = bytesOf 8 (singleWord r (valueOf v))
 floatForm r Equivalent.Double v = v
 floatForm r Equivalent.Nothing v = v
 
 -- the form of a value in FPRs, one after the other
-unfoldable pub floatBytes : Rules → ValueType → List ℕ → List ℕ
+unfoldable pub floatBytes : CallRules → ValueType → List ℕ → List ℕ
 floatBytes r t v = floatForm r (equivalentOf t) v
 
 -- the value's own bytes in those of its FPRs: a single's four, of which there are none where the FPR is no widened single (14)
@@ -100,14 +100,14 @@ abbrev pub narrowedBytes : Narrowed → List ℕ
 narrowedBytes (Narrowed.Single x) = bytesOf 4 x
 narrowedBytes Narrowed.NotWidened = []
 
-abbrev pub singleValue : Rules → List ℕ → List ℕ
-singleValue (Rules.Power f) bs = narrowedBytes (narrow (valueOf bs))
-singleValue Rules.Z bs = take 4 bs
+abbrev pub singleValue : CallRules → List ℕ → List ℕ
+singleValue (CallRules.Power f) bs = narrowedBytes (narrow (valueOf bs))
+singleValue CallRules.Z bs = take 4 bs
 
-abbrev pub floatValueAs : Rules → Equivalent → List ℕ → List ℕ
+abbrev pub floatValueAs : CallRules → Equivalent → List ℕ → List ℕ
 floatValueAs r Equivalent.Single bs = singleValue r bs
 floatValueAs r Equivalent.Double bs = bs
 floatValueAs r Equivalent.Nothing bs = bs
 
-unfoldable pub floatValue : Rules → ValueType → List ℕ → List ℕ
+unfoldable pub floatValue : CallRules → ValueType → List ℕ → List ℕ
 floatValue r t bs = floatValueAs r (equivalentOf t) bs

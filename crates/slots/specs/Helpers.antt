@@ -10,7 +10,7 @@ use Rattle.types.specs.declared.Equivalent.{Equivalent}
 use Rattle.types.specs.Sizes.{equivalentOf}
 use Rattle.signature.specs.Limits.{maxArguments}
 use Rattle.signature.specs.declared.SignatureRead.{SignatureRead}
-use Rattle.places.specs.declared.Rules.{Rules}
+use Rattle.places.specs.declared.CallRules.{CallRules}
 use Rattle.places.specs.Step.{wordOf}
 use Rattle.plan.specs.declared.Plan.{Plan}
 use Rattle.slots.specs.Forms.{roomOf, startsAtHead}
@@ -23,7 +23,7 @@ FloatSized Equivalent.Double m n = (m ≡ 1) × (n ≡ 8)
 FloatSized Equivalent.Nothing m n = (m ≡ 2) × (n ≡ 16)
 
 -- the span has room for exactly the argument's form
-pub record Held (r : Rules) (p : Placement) : Type 0 where
+pub record Held (r : CallRules) (p : Placement) : Type 0 where
   pub word : (4 ≤ wordOf r) × (wordOf r ≤ 8)
   -- FPRs hold a whole float
   pub direct : 0 < p .span .floating .count → p .span .indirect ≡ false

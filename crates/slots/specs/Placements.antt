@@ -10,7 +10,7 @@ use Rattle.words.specs.Numbers.{bytesOf, valueOf}
 use Rattle.conventions.specs.declared.Convention.{Convention}
 use Rattle.types.specs.declared.ValueType.{ValueType}
 use Rattle.types.specs.Sizes.{sizeOf}
-use Rattle.places.specs.declared.Rules.{Rules}
+use Rattle.places.specs.declared.CallRules.{CallRules}
 use Rattle.places.specs.declared.Span.{Span}
 use Rattle.places.specs.declared.ResultPlaces.{ResultPlaces}
 use Rattle.places.specs.Step.{wordOf}
@@ -37,7 +37,7 @@ placements c (t ∷ ts) (s ∷ ss) = placement t (sizeOf c t) s ∷ placements c
 
 -- what stands in an argument's general registers and memory, word after word: the value, or the address of its copy, which is its
 -- offset in the copy buffer from the buffer's base on
-unfoldable pub standing : Rules → ℕ → Placement → List ℕ → List ℕ
+unfoldable pub standing : CallRules → ℕ → Placement → List ℕ → List ℕ
 standing r base p v =
     pick (p .span .indirect) (bytesOf (wordOf r) (base + p .span .copy .start)) (homeBytes r (p .ty) (p .size) v)
 
@@ -47,7 +47,7 @@ copyBytes p v = pick (p .span .indirect) v []
 
 -- the floating registers, the general registers, the rest of the words in memory, and the copy; none of these is there where the span
 -- has none
-unfoldable pub slotsOf : Rules → ℕ → Placement → List ℕ → List Slot
+unfoldable pub slotsOf : CallRules → ℕ → Placement → List ℕ → List Slot
 slotsOf r base p v =
     slot (floating (p .span .floating .first)) (take (8 * p .span .floating .count) (floatBytes r (p .ty) v))
     ∷ slot (general (p .span .general .first)) (spread (wordOf r) (p .span .general .count) (standing r base p v))
@@ -56,7 +56,7 @@ slotsOf r base p v =
     ∷ []
 
 -- "The value buffer holds the arguments in order without gaps": the slots of all arguments, left to right
-unfoldable pub slotsOfAll : Rules → ℕ → List Placement → List ℕ → List Slot
+unfoldable pub slotsOfAll : CallRules → ℕ → List Placement → List ℕ → List Slot
 slotsOfAll r base [] v = []
 slotsOfAll r base (p ∷ ps) v = slotsOf r base p (take (p .size) v) ++ slotsOfAll r base ps (drop (p .size) v)
 
@@ -83,17 +83,17 @@ abbrev pub addressAt : ℕ → Span → Buffers → ℕ
 addressAt w s b = valueOf (wordsAt w s b)
 
 -- "Reading takes a value's own bytes and ignores the slot's padding": of its words; or, by the address in the slot, of the copies
-unfoldable pub wordsValue : Rules → ℕ → Placement → Buffers → List ℕ
+unfoldable pub wordsValue : CallRules → ℕ → Placement → Buffers → List ℕ
 wordsValue r base p b =
     pick (p .span .indirect) (bytesAt (copies (addressAt (wordOf r) (p .span) b - base)) (p .size) b)
     (part (ownStart r (p .ty) (p .size)) (p .size) (wordsAt (wordOf r) (p .span) b))
 
 -- "it prefers an FPR to memory"
-unfoldable pub valueAt : Rules → ℕ → Placement → Buffers → List ℕ
+unfoldable pub valueAt : CallRules → ℕ → Placement → Buffers → List ℕ
 valueAt r base p b =
     pick (ltb 0 (p .span .floating .count)) (floatValue r (p .ty) (floatAt (p .span) b)) (wordsValue r base p b)
 
 -- the value buffer: all arguments in order
-unfoldable pub valuesAt : Rules → ℕ → List Placement → Buffers → List ℕ
+unfoldable pub valuesAt : CallRules → ℕ → List Placement → Buffers → List ℕ
 valuesAt r base [] b = []
 valuesAt r base (p ∷ ps) b = valueAt r base p b ++ valuesAt r base ps b

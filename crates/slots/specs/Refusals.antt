@@ -10,7 +10,7 @@ use Rattle.ieee.specs.Narrowing.{narrow}
 use Rattle.types.specs.declared.Equivalent.{Equivalent}
 use Rattle.items.specs.Refusals as reading
 use Rattle.signature.specs.declared.Outcome.{Outcome}
-use Rattle.places.specs.declared.Rules.{Rules}
+use Rattle.places.specs.declared.CallRules.{CallRules}
 use Rattle.slots.specs.declared.Refusal.{Refusal}
 use Rattle.slots.specs.declared.Answer.{Answer}
 
@@ -88,8 +88,8 @@ narrowedAnswer (Narrowed.Single x) = Answer.Done
 narrowedAnswer Narrowed.NotWidened = Answer.Refused Refusal.NotWidened
 
 -- 14: "a single's PPC64 FPR that is no widened single"; x are the bits of a float's FPRs, which for a single are one FPR's 64
-abbrev pub floatAnswer : Rules → Equivalent → ℕ → Answer
-floatAnswer (Rules.Power f) Equivalent.Single x = narrowedAnswer (narrow x)
-floatAnswer (Rules.Power f) Equivalent.Double x = Answer.Done
-floatAnswer (Rules.Power f) Equivalent.Nothing x = Answer.Done
-floatAnswer Rules.Z e x = Answer.Done
+abbrev pub floatAnswer : CallRules → Equivalent → ℕ → Answer
+floatAnswer (CallRules.Power f) Equivalent.Single x = narrowedAnswer (narrow x)
+floatAnswer (CallRules.Power f) Equivalent.Double x = Answer.Done
+floatAnswer (CallRules.Power f) Equivalent.Nothing x = Answer.Done
+floatAnswer CallRules.Z e x = Answer.Done

@@ -2,7 +2,7 @@
 // of filling, reading, home and view.
 use ieee::Narrowed;
 use items::Fault;
-use places::Rules;
+use places::CallRules;
 use types::Equivalent;
 use types::FloatFormat;
 use types::IntegerKind;
@@ -101,12 +101,12 @@ fn head_first(word: usize, t: ValueType) -> bool
 }
 
 // Whether a value starts at the head of its first word, and zeros fill the last one; else it stands at the end of its words.
-pub fn starts_at_head(r: Rules, t: ValueType) -> bool
+pub fn starts_at_head(r: CallRules, t: ValueType) -> bool
     ensures { λ b. ⌜ b ≡ startsAtHead r t ⌝ }
 {
     match r {
-        Rules::Power(f) => head_first(f.word, t),
-        Rules::Z => false,
+        CallRules::Power(f) => head_first(f.word, t),
+        CallRules::Z => false,
     }
 }
 
@@ -124,19 +124,19 @@ pub fn value_word(t: ValueType, v: &[u8]) -> u64
 }
 
 // The 64 bits of an FPR that holds a single, or on Z a struct that is placed as one.
-pub fn single_word(r: Rules, x: u64) -> u64
+pub fn single_word(r: CallRules, x: u64) -> u64
     requires { ⌜ x < 2 ^ 32 ⌝ }
     ensures { λ d. ⌜ d ≡ singleWord r x ⌝ }
 {
     match r {
-        Rules::Power(_) => ieee::widen(x as u32),
-        Rules::Z => x * 0x1_0000_0000,
+        CallRules::Power(_) => ieee::widen(x as u32),
+        CallRules::Z => x * 0x1_0000_0000,
     }
 }
 
 // Where in its words, which have `room` bytes, a value's own bytes start: a value of n bytes that stands at the end of its words is in
 // the last n of them.
-pub fn own_start(r: Rules, t: ValueType, n: usize, room: usize) -> usize
+pub fn own_start(r: CallRules, t: ValueType, n: usize, room: usize) -> usize
     requires { ⌜ (room ≡ roomOf r n) × (n ≤ room) ⌝ }
     ensures { λ at. ⌜ at ≡ ownStart r t n ⌝ }
 {
@@ -156,16 +156,16 @@ fn narrowed_answer(x: u64) -> Answer
 }
 
 // Whether an FPR's 64 bits can be read.
-pub fn float_answer(r: Rules, e: Equivalent, x: u64) -> Answer
+pub fn float_answer(r: CallRules, e: Equivalent, x: u64) -> Answer
     ensures { λ a. ⌜ a ≡ floatAnswer r e x ⌝ }
 {
     match r {
-        Rules::Power(_) => match e {
+        CallRules::Power(_) => match e {
             Equivalent::Nothing => Answer::Done,
             Equivalent::Single => narrowed_answer(x),
             Equivalent::Double => Answer::Done,
         },
-        Rules::Z => Answer::Done,
+        CallRules::Z => Answer::Done,
     }
 }
 

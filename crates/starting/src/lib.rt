@@ -11,8 +11,8 @@ use machine::Outcome;
 use machine::Refusal;
 use machine::State;
 use rules::Frame;
+use rules::FrameRules;
 use rules::Registers;
-use rules::Rules;
 
 // A number less its high half, where a word has less than 64 bits.
 fn low(m: u64, x: u64) -> u64
@@ -38,7 +38,7 @@ fn lower(m: u64, xs: [u64; 32]) -> [u64; 32]
 }
 
 // The registers less the high halves of the general ones and of LR.
-fn clear(k: Rules, r: Registers) -> Registers
+fn clear(k: FrameRules, r: Registers) -> Registers
     ensures { λ q. ⌜ q ≡ cleared k r ⌝ }
 {
     let gpr = r.gpr;
@@ -55,7 +55,13 @@ fn clear(k: Rules, r: Registers) -> Registers
 
 // A machine on this memory with these registers: the stack pointer set, a zero word at it. A refused start hands back the convention and the registers
 // as they came, with base, size, depth and records 0, and leaves the memory.
-pub fn start(k: Rules, c: Convention, memory: &mut [u8], base: u64, registers: Registers) -> Outcome
+pub fn start(
+    k: FrameRules,
+    c: Convention,
+    memory: &mut [u8],
+    base: u64,
+    registers: Registers,
+) -> Outcome
     requires { ⌜ k ≡ rules c ⌝ }
     ensures { λ r. ⌜ r ≡ startOutcome c base (length (now (memory .entry))) registers ⌝ }
     ensures { λ _. ⌜ now (memory .exit) ≡ startMemory c base (now (memory .entry)) ⌝ }

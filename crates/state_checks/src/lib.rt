@@ -2,7 +2,7 @@
 ghost use mathlib.Core.Path.{_≡_};
 ghost use mathlib.Core.Bool.{true};
 ghost use Prim.Native.Nat.{_*_, _≤_};
-ghost use Rattle.rules.specs.Helpers.{Lawful};
+ghost use Rattle.rules.specs.Helpers.{LawfulFrames};
 ghost use Rattle.rules.specs.Frames.{mostSize};
 ghost use Rattle.machine.specs.Answers.{judge};
 ghost use Rattle.machine.specs.Machine.{stackPointer, topFrame, top, caller, okFrames, sizes, okState, stateTests};
@@ -10,10 +10,10 @@ use machine::Answer;
 use machine::Refusal;
 use machine::State;
 use rules::Frame;
-use rules::Rules;
+use rules::FrameRules;
 
 // The frame entered last of d; the start where there is none.
-fn frame_under(k: Rules, fs: [Frame; 32], d: usize) -> Frame
+fn frame_under(k: FrameRules, fs: [Frame; 32], d: usize) -> Frame
     requires { ⌜ d ≤ 32 ⌝ }
     ensures { λ r. ⌜ r ≡ topFrame k fs d ⌝ }
 {
@@ -23,7 +23,7 @@ fn frame_under(k: Rules, fs: [Frame; 32], d: usize) -> Frame
     fs[d - 1]
 }
 
-fn frames_ok(k: Rules, fs: [Frame; 32], depth: usize) -> bool
+fn frames_ok(k: FrameRules, fs: [Frame; 32], depth: usize) -> bool
     requires { ⌜ depth ≤ 32 ⌝ }
     ensures { λ r. ⌜ r ≡ okFrames k fs depth ⌝ }
 {
@@ -42,8 +42,8 @@ fn frames_ok(k: Rules, fs: [Frame; 32], depth: usize) -> bool
     true
 }
 
-fn sizes_of(k: Rules, fs: [Frame; 32], depth: usize) -> usize
-    requires { ⌜ (Lawful k) × (depth ≤ 32) × (okFrames k fs depth ≡ true) ⌝ }
+fn sizes_of(k: FrameRules, fs: [Frame; 32], depth: usize) -> usize
+    requires { ⌜ (LawfulFrames k) × (depth ≤ 32) × (okFrames k fs depth ≡ true) ⌝ }
     ensures { λ r. ⌜ (r ≡ sizes k fs depth) × (r ≤ 32 * mostSize) ⌝ }
 {
     let mut d = depth;
@@ -57,8 +57,8 @@ fn sizes_of(k: Rules, fs: [Frame; 32], depth: usize) -> usize
 }
 
 // The word of the stack pointer's register.
-pub fn stack_pointer(k: Rules, s: State) -> u64
-    requires { ⌜ Lawful k ⌝ }
+pub fn stack_pointer(k: FrameRules, s: State) -> u64
+    requires { ⌜ LawfulFrames k ⌝ }
     ensures { λ r. ⌜ r ≡ stackPointer k s ⌝ }
 {
     let i = k.pointer;
@@ -66,8 +66,8 @@ pub fn stack_pointer(k: Rules, s: State) -> u64
     registers.gpr[i]
 }
 
-fn state_ok(k: Rules, s: State) -> bool
-    requires { ⌜ Lawful k ⌝ }
+fn state_ok(k: FrameRules, s: State) -> bool
+    requires { ⌜ LawfulFrames k ⌝ }
     ensures { λ r. ⌜ r ≡ okState k s ⌝ }
 {
     let registers = s.registers;
@@ -100,8 +100,8 @@ fn state_ok(k: Rules, s: State) -> bool
 }
 
 // Refusals 23 and 16.
-pub fn judge_state(k: Rules, s: State, n: usize) -> Answer
-    requires { ⌜ Lawful k ⌝ }
+pub fn judge_state(k: FrameRules, s: State, n: usize) -> Answer
+    requires { ⌜ LawfulFrames k ⌝ }
     ensures { λ r. ⌜ r ≡ judge (stateTests k s n) ⌝ }
 {
     if !state_ok(k, s) {
@@ -114,7 +114,7 @@ pub fn judge_state(k: Rules, s: State, n: usize) -> Answer
 }
 
 // The frame entered last, and its caller; the start where there is none.
-pub fn top_frame(k: Rules, s: State) -> Frame
+pub fn top_frame(k: FrameRules, s: State) -> Frame
     requires { ⌜ s .depth ≤ 32 ⌝ }
     ensures { λ r. ⌜ r ≡ top k s ⌝ }
 {
@@ -122,7 +122,7 @@ pub fn top_frame(k: Rules, s: State) -> Frame
     frame_under(k, fs, s.depth)
 }
 
-pub fn caller_frame(k: Rules, s: State) -> Frame
+pub fn caller_frame(k: FrameRules, s: State) -> Frame
     requires { ⌜ s .depth ≤ 32 ⌝ }
     ensures { λ r. ⌜ r ≡ caller k s ⌝ }
 {

@@ -24,14 +24,14 @@ use Rattle.signature.proofs.Theorems.{accepted}
 use Rattle.signature.proofs.Types.{length-of-types}
 use Rattle.places.specs.declared.Cursor.{Cursor}
 use Rattle.places.specs.declared.Span.{Span}
-use Rattle.places.specs.declared.Rules.{Rules}
-use Rattle.places.specs.Helpers.{Lawful}
+use Rattle.places.specs.declared.CallRules.{CallRules}
+use Rattle.places.specs.Helpers.{LawfulCalls}
 use Rattle.places.specs.Step.{rulesOf, withEllipsis, spanOf, nextOf, startOf}
 use Rattle.places.proofs.Bounds.{near-next, rules-lawful}
 use Rattle.places.proofs.Between.{step-between}
 use Rattle.places.proofs.Registers.{step-numbered}
 use Rattle.places.proofs.Marked.{lawful-marked, start-marked}
-use Rattle.plan.specs.Plan.{spansOf, noSpan, hiddenIn, startIn, planIn, refused, planAnswer}
+use Rattle.plan.specs.Plan.{spansOf, noSpan, hiddenIn, startIn, planIn, refusedPlan, planAnswer}
 use Rattle.plan.specs.Call.{callOf, outcomeFor}
 use Rattle.plan.specs.Disjoint.{spanAt}
 use Rattle.plan.proofs.Fold.{Reached, reached-start, reached-more}
@@ -62,7 +62,7 @@ small-types c (ts ▸ t) h = small-more c (typesOf c ts) (typeOf c t) (small-typ
 none-storable : Storable noSpan
 none-storable = record { numbered = omega arith; home = omega arith; memory = omega arith; short = omega arith; copy = omega arith }
 
-span-storable : (r : Rules) (k : Cursor) (v i : ℕ) (t : ValueType) (n : ℕ) → Lawful r → n ≤ 256 → i ≤ maxArguments → Reached r k v i → Storable (spanOf r k t n)
+span-storable : (r : CallRules) (k : Cursor) (v i : ℕ) (t : ValueType) (n : ℕ) → LawfulCalls r → n ≤ 256 → i ≤ maxArguments → Reached r k v i → Storable (spanOf r k t n)
 span-storable r k v i t n l h few g =
     let b = step-between r k t n in
     let d = near-next r k t n l h in
@@ -74,7 +74,7 @@ span-storable r k v i t n l h few g =
       copy = omega (arith, b .copy-to, d .copies, g .copies);
     }
 
-spans-storable : (c : Convention) (r : Rules) (k : Cursor) (v i : ℕ) (ts : List ValueType) → Lawful r → AllSmall c ts → i + length ts ≤ maxArguments → Reached r k v i
+spans-storable : (c : Convention) (r : CallRules) (k : Cursor) (v i : ℕ) (ts : List ValueType) → LawfulCalls r → AllSmall c ts → i + length ts ≤ maxArguments → Reached r k v i
     → (j : ℕ) → Storable (getD (spansOf c r k ts) j noSpan)
 unfolding spansOf AllSmall
 spans-storable c r k v i [] l small few g j = none-storable
@@ -86,13 +86,13 @@ plan-storable : (n : ℕ) (c : Convention) (v : Bool) (r : ResultType) (ts : Lis
     → (i : ℕ) → Storable (spanAt (planIn n c v r ts) i)
 unfolding planIn
 plan-storable n c v r ts small few i =
-    let rules : Rules = withEllipsis v (rulesOf c) in
-    let lawful : Lawful rules = lawful-marked v (rulesOf c) (rules-lawful c) in
+    let rules : CallRules = withEllipsis v (rulesOf c) in
+    let lawful : LawfulCalls rules = lawful-marked v (rulesOf c) (rules-lawful c) in
     let start : Reached rules (startIn c r) 0 0 =
     subst (λ (k : Cursor). Reached rules k 0 0) (start-marked v (rulesOf c) (hiddenIn c r)) (reached-start rules (hiddenIn c r) lawful) in
     subst Storable (sym (in-table (spansOf c rules (startIn c r) ts) i)) (spans-storable c rules (startIn c r) 0 0 ts lawful small (omega arith) start i)
 
-refused-storable : (f : Fault) (i : ℕ) → Storable (spanAt (refused f) i)
+refused-storable : (f : Fault) (i : ℕ) → Storable (spanAt (refusedPlan f) i)
 refused-storable f i = subst Storable (sym (getD-blanks [] maxArguments i)) none-storable
 
 spans-read : (s : List ℕ) (x : Reading Signature) → callOf s ≡ x → (i : ℕ) → Storable (spanAt (planAnswer x) i)

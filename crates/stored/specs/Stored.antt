@@ -9,7 +9,7 @@ use Rattle.words.specs.Splice.{overlay}
 use Rattle.items.specs.Refusals.{numberOf}
 use Rattle.items.specs.Encode.{item}
 use Rattle.signature.specs.declared.Outcome.{Outcome}
-use Rattle.places.specs.declared.Rules.{Rules}
+use Rattle.places.specs.declared.CallRules.{CallRules}
 use Rattle.places.specs.declared.Span.{Span}
 use Rattle.places.specs.Step.{rulesOf}
 use Rattle.plan.specs.declared.Plan.{Plan}
@@ -21,7 +21,7 @@ use Rattle.stored.specs.declared.CheckAnswer.{CheckAnswer}
 
 -- ---- the bytes
 
-unfoldable pub argumentItems : Rules → List Span → List ℕ
+unfoldable pub argumentItems : CallRules → List Span → List ℕ
 argumentItems r [] = []
 argumentItems r (s ∷ ss) = argumentItem r s ++ argumentItems r ss
 

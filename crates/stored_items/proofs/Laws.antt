@@ -8,18 +8,18 @@ use native.Mathlib.Nat.{div-mul-le-self, mul-le-mul-left}
 use lib.ListN.{length, length-append}
 use Rattle.words.specs.Basics.{pick}
 use Rattle.items.specs.Encode.{item}
-use Rattle.places.specs.declared.Rules.{Rules}
+use Rattle.places.specs.declared.CallRules.{CallRules}
 use Rattle.places.specs.declared.Span.{Span}
 use Rattle.places.specs.declared.ResultPlaces.{ResultPlaces}
 use Rattle.places.specs.Step.{wordOf}
-use Rattle.places.specs.Helpers.{Lawful, ResultNumbered}
+use Rattle.places.specs.Helpers.{LawfulCalls, ResultNumbered}
 use Rattle.places.proofs.Bounds.{word-most}
 use Rattle.text.specs.Writing.{Wrote}
 use Rattle.text.proofs.Writing.{wrote-nothing, wrote-then}
 use Rattle.stored_items.specs.declared.StoredPlace.{StoredPlace}
 use Rattle.stored_items.specs.declared.PlaceRun.{PlaceRun}
 use Rattle.stored_items.specs.Places.{place, placeBytes, placesBytes, placesFrom, placesIn, placeRun, registerRun, ownBytes, listedFrom, floatingRun, generalRun, memoryRun, copyRun, directPlaces, argumentPlaces, argumentItem, resultFirst, resultSecond, resultItem}
-use Rattle.stored_items.specs.Helpers.{Fits, Storable}
+use Rattle.stored_items.specs.Helpers.{RunFits, Storable}
 
 -- ---- lengths
 
@@ -63,11 +63,11 @@ pub record Going (q : PlaceRun) (a b : List ℕ) (at next number offset left : �
   pub offsets : offset + 8 * left ≤ 65535
   pub end : next + 5 * left ≡ at + 5 * q .count
 
-pub going-start : (q : PlaceRun) (a : List ℕ) (at : ℕ) → Fits q → Going q a a at at (q .number) (q .offset) (q .count)
+pub going-start : (q : PlaceRun) (a : List ℕ) (at : ℕ) → RunFits q → Going q a a at at (q .number) (q .offset) (q .count)
 unfolding placesBytes placesIn
 going-start q a at f = record { done = []; wrote = wrote-nothing a at; rest = refl; numbers = f .numbers; offsets = f .offsets; end = refl }
 
-pub going-more : (q : PlaceRun) (a b d : List ℕ) (at next k number offset left : ℕ) → Fits q → 0 < left
+pub going-more : (q : PlaceRun) (a b d : List ℕ) (at next k number offset left : ℕ) → RunFits q → 0 < left
     → Going q a b at next number offset left
     → Wrote b d next k (placeBytes (place (q .kind) (q .bank) number offset)) → k ≡ next + 5
     → Going q a d at k (number + q .on) (offset + q .by) (left - 1)
@@ -93,22 +93,22 @@ going-end q a b at next number offset (suc n) h g = absurd (omega arith)
 
 -- ---- the runs of a plan fit their bytes, and are short
 
-own-most : (r : Rules) (n : ℕ) → ownBytes r n ≤ n
+own-most : (r : CallRules) (n : ℕ) → ownBytes r n ≤ n
 unfolding ownBytes
-own-most (Rules.Power f) n = omega arith
-own-most Rules.Z n = omega arith
+own-most (CallRules.Power f) n = omega arith
+own-most CallRules.Z n = omega arith
 
-from-most : (r : Rules) → listedFrom r ≤ 160
+from-most : (r : CallRules) → listedFrom r ≤ 160
 unfolding listedFrom
-from-most (Rules.Power f) = omega arith
-from-most Rules.Z = omega arith
+from-most (CallRules.Power f) = omega arith
+from-most CallRules.Z = omega arith
 
-word-least : (r : Rules) → Lawful r → 4 ≤ wordOf r
-word-least (Rules.Power f) h = omega arith
-word-least Rules.Z h = omega arith
+word-least : (r : CallRules) → LawfulCalls r → 4 ≤ wordOf r
+word-least (CallRules.Power f) h = omega arith
+word-least CallRules.Z h = omega arith
 
 -- the words in memory
-pub words-most : (r : Rules) (n : ℕ) → Lawful r → n ≤ 264 → n / wordOf r ≤ 66
+pub words-most : (r : CallRules) (n : ℕ) → LawfulCalls r → n ≤ 264 → n / wordOf r ≤ 66
 words-most r n l h =
     let q : ℕ = n / wordOf r in
     let least : q * 4 ≤ q * wordOf r = mul-le-mul-left q (word-least r l) in
@@ -119,10 +119,10 @@ one-most true = omega arith
 one-most false = omega arith
 
 pub record Short (q : PlaceRun) (n : ℕ) : Type 0 where
-  pub fits : Fits q
+  pub fits : RunFits q
   pub few : q .count ≤ n
 
-floating-short : (r : Rules) (s : Span) → Storable s → Short (floatingRun r s) 32
+floating-short : (r : CallRules) (s : Span) → Storable s → Short (floatingRun r s) 32
 unfolding floatingRun
 floating-short r s h = record {
   fits = record {
@@ -134,7 +134,7 @@ floating-short r s h = record {
   few = omega (arith, h .numbered .0);
 }
 
-general-short : (r : Rules) (s : Span) → Lawful r → Storable s → Short (generalRun r s) 32
+general-short : (r : CallRules) (s : Span) → LawfulCalls r → Storable s → Short (generalRun r s) 32
 unfolding generalRun
 general-short r s l h = record {
   fits = record {
@@ -146,7 +146,7 @@ general-short r s l h = record {
   few = omega (arith, h .numbered .1);
 }
 
-memory-short : (r : Rules) (s : Span) → Lawful r → Storable s → Short (memoryRun r s) 66
+memory-short : (r : CallRules) (s : Span) → LawfulCalls r → Storable s → Short (memoryRun r s) 66
 unfolding memoryRun
 memory-short r s l h =
     let few = words-most r (s .memory .length) l (h .short) in
@@ -191,38 +191,38 @@ second-short (ResultPlaces.Registers s) h = record {
 second-short (ResultPlaces.Hidden s) h = none-short
 
 -- a run of the program that is the definition's
-run-is : (d : PlaceRun) (n : ℕ) → Short d n → (q : PlaceRun) → q ≡ d → (q ≡ d) × Fits q × (q .count ≤ n)
-run-is d n h q e = (e, subst Fits (sym e) (h .fits), subst (λ (x : PlaceRun). x .count ≤ n) (sym e) (h .few))
+run-is : (d : PlaceRun) (n : ℕ) → Short d n → (q : PlaceRun) → q ≡ d → (q ≡ d) × RunFits q × (q .count ≤ n)
+run-is d n h q e = (e, subst RunFits (sym e) (h .fits), subst (λ (x : PlaceRun). x .count ≤ n) (sym e) (h .few))
 
-pub floating-run : (r : Rules) (s : Span) → Storable s → (q : PlaceRun) → q ≡ floatingRun r s → (q ≡ floatingRun r s) × Fits q × (q .count ≤ 32)
+pub floating-run : (r : CallRules) (s : Span) → Storable s → (q : PlaceRun) → q ≡ floatingRun r s → (q ≡ floatingRun r s) × RunFits q × (q .count ≤ 32)
 floating-run r s h = run-is (floatingRun r s) 32 (floating-short r s h)
 
-pub general-run : (r : Rules) (s : Span) → Lawful r → Storable s → (q : PlaceRun) → q ≡ generalRun r s → (q ≡ generalRun r s) × Fits q × (q .count ≤ 32)
+pub general-run : (r : CallRules) (s : Span) → LawfulCalls r → Storable s → (q : PlaceRun) → q ≡ generalRun r s → (q ≡ generalRun r s) × RunFits q × (q .count ≤ 32)
 general-run r s l h = run-is (generalRun r s) 32 (general-short r s l h)
 
-pub memory-run : (r : Rules) (s : Span) → Lawful r → Storable s → (q : PlaceRun) → q ≡ memoryRun r s → (q ≡ memoryRun r s) × Fits q × (q .count ≤ 66)
+pub memory-run : (r : CallRules) (s : Span) → LawfulCalls r → Storable s → (q : PlaceRun) → q ≡ memoryRun r s → (q ≡ memoryRun r s) × RunFits q × (q .count ≤ 66)
 memory-run r s l h = run-is (memoryRun r s) 66 (memory-short r s l h)
 
-pub copy-run : (s : Span) → Storable s → (q : PlaceRun) → q ≡ copyRun s → (q ≡ copyRun s) × Fits q × (q .count ≤ 1)
+pub copy-run : (s : Span) → Storable s → (q : PlaceRun) → q ≡ copyRun s → (q ≡ copyRun s) × RunFits q × (q .count ≤ 1)
 copy-run s h = run-is (copyRun s) 1 (copy-short s h)
 
-pub result-first-run : (x : ResultPlaces) → ResultNumbered x → (q : PlaceRun) → q ≡ resultFirst x → (q ≡ resultFirst x) × Fits q × (q .count ≤ 32)
+pub result-first-run : (x : ResultPlaces) → ResultNumbered x → (q : PlaceRun) → q ≡ resultFirst x → (q ≡ resultFirst x) × RunFits q × (q .count ≤ 32)
 result-first-run x h = run-is (resultFirst x) 32 (first-short x h)
 
-pub result-second-run : (x : ResultPlaces) → ResultNumbered x → (q : PlaceRun) → q ≡ resultSecond x → (q ≡ resultSecond x) × Fits q × (q .count ≤ 32)
+pub result-second-run : (x : ResultPlaces) → ResultNumbered x → (q : PlaceRun) → q ≡ resultSecond x → (q ≡ resultSecond x) × RunFits q × (q .count ≤ 32)
 result-second-run x h = run-is (resultSecond x) 32 (second-short x h)
 
 -- ---- items
 
 -- the places of an argument, in the definition's runs
-abbrev pub argumentCount : Rules → Span → ℕ
+abbrev pub argumentCount : CallRules → Span → ℕ
 argumentCount r s = floatingRun r s .count + (generalRun r s .count + (memoryRun r s .count + copyRun s .count))
 
 -- run after run
-abbrev argumentRuns : Rules → Span → List ℕ
+abbrev argumentRuns : CallRules → Span → List ℕ
 argumentRuns r s = placesBytes (placesIn (floatingRun r s)) ++ (placesBytes (placesIn (generalRun r s)) ++ (placesBytes (placesIn (memoryRun r s)) ++ placesBytes (placesIn (copyRun s))))
 
-argument-runs : (r : Rules) (s : Span) → placesBytes (argumentPlaces r s) ≡ argumentRuns r s
+argument-runs : (r : CallRules) (s : Span) → placesBytes (argumentPlaces r s) ≡ argumentRuns r s
 unfolding argumentPlaces directPlaces
 argument-runs r s =
     let f : List StoredPlace = placesIn (floatingRun r s) in
@@ -233,12 +233,12 @@ argument-runs r s =
     ap placesBytes flat ∙ places-append f (g ++ (m ++ k))
     ∙ ap (λ (l : List ℕ). placesBytes f ++ l) (places-append g (m ++ k) ∙ ap (λ (l : List ℕ). placesBytes g ++ l) (places-append m k))
 
-length-argument-places : (r : Rules) (s : Span) → length (placesBytes (argumentPlaces r s)) ≡ 5 * argumentCount r s
+length-argument-places : (r : CallRules) (s : Span) → length (placesBytes (argumentPlaces r s)) ≡ 5 * argumentCount r s
 length-argument-places r s =
     ap length (argument-runs r s)
     ∙ simp (length-append, length-run (floatingRun r s), length-run (generalRun r s), length-run (memoryRun r s), length-run (copyRun s)) (omega arith)
 
-pub length-argument : (r : Rules) (s : Span) → length (argumentItem r s) ≡ 3 + 5 * argumentCount r s
+pub length-argument : (r : CallRules) (s : Span) → length (argumentItem r s) ≡ 3 + 5 * argumentCount r s
 unfolding argumentItem item
 length-argument r s = omega (arith, length-argument-places r s)
 
@@ -252,7 +252,7 @@ unfolding resultItem item
 length-result x = omega (arith, length-result-places x)
 
 -- a header of the program, and after it runs that are the definition's
-pub wrote-argument : {a b : List ℕ} {n e : ℕ} (r : Rules) (s : Span) (f g m k : PlaceRun)
+pub wrote-argument : {a b : List ℕ} {n e : ℕ} (r : CallRules) (s : Span) (f g m k : PlaceRun)
     → f ≡ floatingRun r s → g ≡ generalRun r s → m ≡ memoryRun r s → k ≡ copyRun s
     → Wrote a b n e ((0x21 ∷ 5 * (f .count + (g .count + (m .count + k .count))) / 256 ∷ 5 * (f .count + (g .count + (m .count + k .count))) % 256 ∷ [])
     ++ (placesBytes (placesIn f) ++ (placesBytes (placesIn g) ++ (placesBytes (placesIn m) ++ placesBytes (placesIn k)))))

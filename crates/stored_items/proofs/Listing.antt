@@ -5,7 +5,7 @@ use Prim.Native.Nat.{ℕ, zero, suc, _+_, _-_, _/_}
 use native.Mathlib.Omega.{arith}
 use Rattle.places.specs.declared.Bank.{Bank}
 use Rattle.places.specs.declared.Place.{Place}
-use Rattle.places.specs.declared.Rules.{Rules}
+use Rattle.places.specs.declared.CallRules.{CallRules}
 use Rattle.places.specs.declared.Span.{Span}
 use Rattle.places.specs.Step.{wordOf}
 use Rattle.places.specs.Places.{upFrom, register, registersOf, memoryOf, placesOf}
@@ -13,19 +13,19 @@ use Rattle.stored_items.specs.declared.StoredPlace.{StoredPlace}
 use Rattle.stored_items.specs.Places.{placesFrom, placesIn, ownBytes, listedFrom, floatingRun, generalRun, memoryRun, directPlaces}
 use Rattle.stored_items.specs.Listed.{bankOf, listedPlace, StoredAsListed}
 
-map-append : (r : Rules) (ps qs : List StoredPlace) → map (listedPlace r) (ps ++ qs) ≡ map (listedPlace r) ps ++ map (listedPlace r) qs
+map-append : (r : CallRules) (ps qs : List StoredPlace) → map (listedPlace r) (ps ++ qs) ≡ map (listedPlace r) ps ++ map (listedPlace r) qs
 map-append r [] qs = refl
 map-append r (p ∷ ps) qs = ap (λ (l : List Place). listedPlace r p ∷ l) (map-append r ps qs)
 
 -- registers
-numbers-from : (r : Rules) (bank by number offset n : ℕ)
+numbers-from : (r : CallRules) (bank by number offset n : ℕ)
     → map (listedPlace r) (placesFrom 0 bank 1 by number offset n) ≡ map (register (bankOf bank)) (upFrom number 1 n)
 unfolding placesFrom upFrom listedPlace
 numbers-from r bank by number offset zero = refl
 numbers-from r bank by number offset (suc n) = ap (λ (l : List Place). register (bankOf bank) number ∷ l) (numbers-from r bank by (number + 1) (offset + by) n)
 
 -- memory, counted from k bytes before the area
-offsets-from : (r : Rules) (by number start n : ℕ) → map (listedPlace r) (placesFrom 1 0 0 by number (listedFrom r + start) n) ≡ map Place.Memory (upFrom start by n)
+offsets-from : (r : CallRules) (by number start n : ℕ) → map (listedPlace r) (placesFrom 1 0 0 by number (listedFrom r + start) n) ≡ map Place.Memory (upFrom start by n)
 unfolding placesFrom upFrom listedPlace
 offsets-from r by number start zero = refl
 offsets-from r by number start (suc n) =

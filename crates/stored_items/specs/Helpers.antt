@@ -5,7 +5,7 @@ use Rattle.places.specs.declared.Span.{Span}
 use Rattle.places.specs.Places.{Numbered}
 use Rattle.stored_items.specs.declared.PlaceRun.{PlaceRun}
 
-pub record Fits (q : PlaceRun) : Type 0 where
+pub record RunFits (q : PlaceRun) : Type 0 where
   pub on : q .on ≤ 1
   pub by : q .by ≤ 8
   pub numbers : q .number + q .count ≤ 255

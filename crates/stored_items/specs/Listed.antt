@@ -5,7 +5,7 @@ use mathlib.Core.Path.{_≡_}
 use mathlib.Core.List.{map}
 use Rattle.places.specs.declared.Bank.{Bank}
 use Rattle.places.specs.declared.Place.{Place}
-use Rattle.places.specs.declared.Rules.{Rules}
+use Rattle.places.specs.declared.CallRules.{CallRules}
 use Rattle.places.specs.declared.Span.{Span}
 use Rattle.places.specs.Step.{wordOf}
 use Rattle.places.specs.Places.{placesOf}
@@ -17,13 +17,13 @@ bankOf zero = Bank.General
 bankOf (suc n) = Bank.Floating
 
 -- of a kind, as a listing's place: kind 0 is a register, any other is memory at an offset in the area
-abbrev pub listedBy : ℕ → Rules → StoredPlace → Place
+abbrev pub listedBy : ℕ → CallRules → StoredPlace → Place
 listedBy zero r p = Place.Register (bankOf (p .bank)) (p .number)
 listedBy (suc n) r p = Place.Memory (p .offset - listedFrom r)
 
-unfoldable pub listedPlace : Rules → StoredPlace → Place
+unfoldable pub listedPlace : CallRules → StoredPlace → Place
 listedPlace r p = listedBy (p .kind) r p
 
 -- all but the copy
 abbrev pub StoredAsListed : Type 0
-StoredAsListed = (r : Rules) (s : Span) → map (listedPlace r) (directPlaces r s) ≡ placesOf (wordOf r) s
+StoredAsListed = (r : CallRules) (s : Span) → map (listedPlace r) (directPlaces r s) ≡ placesOf (wordOf r) s

@@ -9,7 +9,7 @@ use Rattle.conventions.specs.declared.Convention.{Convention}
 use Rattle.conventions.specs.Numbers.{headerBytes}
 use Rattle.items.specs.Encode.{item}
 use Rattle.places.specs.declared.RegisterRange.{RegisterRange}
-use Rattle.places.specs.declared.Rules.{Rules}
+use Rattle.places.specs.declared.CallRules.{CallRules}
 use Rattle.places.specs.declared.Span.{Span}
 use Rattle.places.specs.declared.ResultPlaces.{ResultPlaces}
 use Rattle.places.specs.Step.{wordOf}
@@ -53,24 +53,24 @@ noPlaces = placeRun 0 0 0 0 0 0 0
 
 -- Bytes of the area that a register stands for, as its offset counts them: on PowerPC every word has its own in the area, also one that is in a
 -- register; a Z register has none
-unfoldable pub ownBytes : Rules → ℕ → ℕ
-ownBytes (Rules.Power f) n = n
-ownBytes Rules.Z n = 0
+unfoldable pub ownBytes : CallRules → ℕ → ℕ
+ownBytes (CallRules.Power f) n = n
+ownBytes CallRules.Z n = 0
 
 -- where a listing counts the area from: its start, "Z prints `@` only after `mem` (from 160)"
-unfoldable pub listedFrom : Rules → ℕ
-listedFrom (Rules.Power f) = 0
-listedFrom Rules.Z = headerBytes Convention.Z
+unfoldable pub listedFrom : CallRules → ℕ
+listedFrom (CallRules.Power f) = 0
+listedFrom CallRules.Z = headerBytes Convention.Z
 
 -- a floating register has 8 bytes in every convention
-unfoldable pub floatingRun : Rules → Span → PlaceRun
+unfoldable pub floatingRun : CallRules → Span → PlaceRun
 floatingRun r s = registerRun 1 (s .floating) (ownBytes r (s .home .start)) (ownBytes r 8)
 
-unfoldable pub generalRun : Rules → Span → PlaceRun
+unfoldable pub generalRun : CallRules → Span → PlaceRun
 generalRun r s = registerRun 0 (s .general) (ownBytes r (s .home .start)) (ownBytes r (wordOf r))
 
 -- "1 memory"; "each doubleword (AIX: word) of memory is a place"
-unfoldable pub memoryRun : Rules → Span → PlaceRun
+unfoldable pub memoryRun : CallRules → Span → PlaceRun
 memoryRun r s = placeRun 1 0 0 (wordOf r) 0 (listedFrom r + s .memory .start) (s .memory .length / wordOf r)
 
 -- "2 copy (after its address)"; "a copy's in its buffer"
@@ -78,14 +78,14 @@ unfoldable pub copyRun : Span → PlaceRun
 copyRun s = placeRun 2 0 0 0 0 (s .copy .start) (pick (s .indirect) 1 0)
 
 -- what a listing names: floating registers, general ones, memory
-unfoldable pub directPlaces : Rules → Span → List StoredPlace
+unfoldable pub directPlaces : CallRules → Span → List StoredPlace
 directPlaces r s = placesIn (floatingRun r s) ++ (placesIn (generalRun r s) ++ placesIn (memoryRun r s))
 
-unfoldable pub argumentPlaces : Rules → Span → List StoredPlace
+unfoldable pub argumentPlaces : CallRules → Span → List StoredPlace
 argumentPlaces r s = directPlaces r s ++ placesIn (copyRun s)
 
 -- "then a tag 0x21 item for each argument its places"
-unfoldable pub argumentItem : Rules → Span → List ℕ
+unfoldable pub argumentItem : CallRules → Span → List ℕ
 argumentItem r s = item 0x21 (placesBytes (argumentPlaces r s))
 
 -- ---- the result

@@ -1,7 +1,7 @@
 // The items of places in a stored plan: an argument's and the result's. As with text, bytes past the end of the buffer are lost and still counted.
+use places::CallRules;
 use places::RegisterRange;
 use places::ResultPlaces;
-use places::Rules;
 use places::Span;
 use text::put_byte;
 ghost use mathlib.Core.Path.{_≡_};
@@ -9,11 +9,11 @@ ghost use mathlib.Core.List.{_∷_, [], _++_};
 ghost use Prim.Native.Nat.{_+_, _*_, _/_, _%_, _^_, _≤_, _<_};
 ghost use lib.ListN.{length};
 ghost use Rattle.words.specs.Basics.{pick};
-ghost use Rattle.places.specs.Helpers.{ResultNumbered, Lawful};
+ghost use Rattle.places.specs.Helpers.{ResultNumbered, LawfulCalls};
 ghost use Rattle.places.specs.Step.{wordOf};
 ghost use Rattle.text.specs.Writing.{Wrote};
 ghost use Rattle.stored_items.specs.Places.{placeBytes, placesBytes, placesIn, registerRun, noPlaces, ownBytes, listedFrom, floatingRun, generalRun, memoryRun, copyRun, argumentItem, resultFirst, resultSecond, resultItem};
-ghost use Rattle.stored_items.specs.Helpers.{Fits, Storable};
+ghost use Rattle.stored_items.specs.Helpers.{RunFits, Storable};
 
 // One place as it is stored.
 pub struct StoredPlace {
@@ -70,7 +70,7 @@ fn put_place(bytes: &mut [u8], at: usize, p: StoredPlace) -> usize
 }
 
 fn put_places(bytes: &mut [u8], at: usize, q: PlaceRun) -> usize
-    requires { ⌜ (at < 2 ^ 30) × Fits q ⌝ }
+    requires { ⌜ (at < 2 ^ 30) × RunFits q ⌝ }
     ensures { λ r. ⌜ Wrote (now (bytes .entry)) (now (bytes .exit)) at r (placesBytes (placesIn q)) × (r ≡ at + 5 * q .count) ⌝ }
 {
     let kind = q.kind;
@@ -96,27 +96,27 @@ fn put_places(bytes: &mut [u8], at: usize, q: PlaceRun) -> usize
     next
 }
 
-fn own_bytes(rules: Rules, n: usize) -> usize
+fn own_bytes(rules: CallRules, n: usize) -> usize
     ensures { λ r. ⌜ r ≡ ownBytes rules n ⌝ }
 {
     match rules {
-        Rules::Power(_) => n,
-        Rules::Z => 0,
+        CallRules::Power(_) => n,
+        CallRules::Z => 0,
     }
 }
 
-fn listed_from(rules: Rules) -> usize
+fn listed_from(rules: CallRules) -> usize
     ensures { λ r. ⌜ (r ≡ listedFrom rules) × (r ≤ 160) ⌝ }
 {
     match rules {
-        Rules::Power(_) => 0,
-        Rules::Z => abi::Z::HEADER,
+        CallRules::Power(_) => 0,
+        CallRules::Z => abi::Z::HEADER,
     }
 }
 
 // The words in `length` bytes of memory.
-fn words_in(rules: Rules, length: usize) -> usize
-    requires { ⌜ Lawful rules × (length ≤ 264) ⌝ }
+fn words_in(rules: CallRules, length: usize) -> usize
+    requires { ⌜ LawfulCalls rules × (length ≤ 264) ⌝ }
     ensures { λ r. ⌜ (r ≡ length / wordOf rules) × (r ≤ 66) ⌝ }
 {
     let word = places::word_of(rules);
@@ -141,9 +141,9 @@ fn register_run(bank: u8, g: RegisterRange, offset: usize, by: usize) -> PlaceRu
     }
 }
 
-fn floating_run(rules: Rules, s: Span) -> PlaceRun
+fn floating_run(rules: CallRules, s: Span) -> PlaceRun
     requires { ⌜ Storable s ⌝ }
-    ensures { λ q. ⌜ (q ≡ floatingRun rules s) × Fits q × (q .count ≤ 32) ⌝ }
+    ensures { λ q. ⌜ (q ≡ floatingRun rules s) × RunFits q × (q .count ≤ 32) ⌝ }
 {
     let home = s.home;
     let registers = s.floating;
@@ -152,9 +152,9 @@ fn floating_run(rules: Rules, s: Span) -> PlaceRun
     register_run(1, registers, offset, by)
 }
 
-fn general_run(rules: Rules, s: Span) -> PlaceRun
-    requires { ⌜ Lawful rules × Storable s ⌝ }
-    ensures { λ q. ⌜ (q ≡ generalRun rules s) × Fits q × (q .count ≤ 32) ⌝ }
+fn general_run(rules: CallRules, s: Span) -> PlaceRun
+    requires { ⌜ LawfulCalls rules × Storable s ⌝ }
+    ensures { λ q. ⌜ (q ≡ generalRun rules s) × RunFits q × (q .count ≤ 32) ⌝ }
 {
     let home = s.home;
     let registers = s.general;
@@ -164,9 +164,9 @@ fn general_run(rules: Rules, s: Span) -> PlaceRun
     register_run(0, registers, offset, by)
 }
 
-fn memory_run(rules: Rules, s: Span) -> PlaceRun
-    requires { ⌜ Lawful rules × Storable s ⌝ }
-    ensures { λ q. ⌜ (q ≡ memoryRun rules s) × Fits q × (q .count ≤ 66) ⌝ }
+fn memory_run(rules: CallRules, s: Span) -> PlaceRun
+    requires { ⌜ LawfulCalls rules × Storable s ⌝ }
+    ensures { λ q. ⌜ (q ≡ memoryRun rules s) × RunFits q × (q .count ≤ 66) ⌝ }
 {
     let memory = s.memory;
     let by = places::word_of(rules);
@@ -194,7 +194,7 @@ fn one_if(b: bool) -> usize
 
 fn copy_run(s: Span) -> PlaceRun
     requires { ⌜ Storable s ⌝ }
-    ensures { λ q. ⌜ (q ≡ copyRun s) × Fits q × (q .count ≤ 1) ⌝ }
+    ensures { λ q. ⌜ (q ≡ copyRun s) × RunFits q × (q .count ≤ 1) ⌝ }
 {
     let copy = s.copy;
     let indirect = s.indirect;
@@ -211,8 +211,8 @@ fn copy_run(s: Span) -> PlaceRun
 }
 
 // The item of one argument.
-pub fn put_argument(bytes: &mut [u8], at: usize, rules: Rules, s: Span) -> usize
-    requires { ⌜ (at < 2 ^ 29) × Lawful rules × Storable s ⌝ }
+pub fn put_argument(bytes: &mut [u8], at: usize, rules: CallRules, s: Span) -> usize
+    requires { ⌜ (at < 2 ^ 29) × LawfulCalls rules × Storable s ⌝ }
     ensures { λ r. ⌜ Wrote (now (bytes .entry)) (now (bytes .exit)) at r (argumentItem rules s) × (r ≤ at + 658) ⌝ }
 {
     let f = floating_run(rules, s);
@@ -228,8 +228,8 @@ pub fn put_argument(bytes: &mut [u8], at: usize, rules: Rules, s: Span) -> usize
 }
 
 // The length of that item.
-pub fn argument_length(rules: Rules, s: Span) -> usize
-    requires { ⌜ Lawful rules × Storable s ⌝ }
+pub fn argument_length(rules: CallRules, s: Span) -> usize
+    requires { ⌜ LawfulCalls rules × Storable s ⌝ }
     ensures { λ r. ⌜ (r ≡ length (argumentItem rules s)) × (r ≤ 658) ⌝ }
 {
     let floating = s.floating;
@@ -257,7 +257,7 @@ fn no_places() -> PlaceRun
 
 fn result_first(x: ResultPlaces) -> PlaceRun
     requires { ⌜ ResultNumbered x ⌝ }
-    ensures { λ q. ⌜ (q ≡ resultFirst x) × Fits q × (q .count ≤ 32) ⌝ }
+    ensures { λ q. ⌜ (q ≡ resultFirst x) × RunFits q × (q .count ≤ 32) ⌝ }
 {
     match x {
         ResultPlaces::Nothing => no_places(),
@@ -282,7 +282,7 @@ fn result_first(x: ResultPlaces) -> PlaceRun
 
 fn result_second(x: ResultPlaces) -> PlaceRun
     requires { ⌜ ResultNumbered x ⌝ }
-    ensures { λ q. ⌜ (q ≡ resultSecond x) × Fits q × (q .count ≤ 32) ⌝ }
+    ensures { λ q. ⌜ (q ≡ resultSecond x) × RunFits q × (q .count ≤ 32) ⌝ }
 {
     match x {
         ResultPlaces::Nothing => no_places(),

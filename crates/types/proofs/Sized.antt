@@ -4,7 +4,7 @@ use mathlib.Core.Bool.{Bool, true, false}
 use Rattle.conventions.specs.declared.Convention.{Convention}
 use Rattle.types.specs.Sizes.{Sized}
 use Rattle.types.specs.Trees.{Tree, Trees, integer, float, struct, none, _▸_, typeOf, fieldsOf}
-use Rattle.types.specs.Limits.{Some, Fits, AllFit, Within, AllWithin, AllSized}
+use Rattle.types.specs.Limits.{Some, Fits, AllFit, TypeWithin, AllWithin, AllSized}
 use Rattle.types.proofs.Laws.{integer-sized, float-sized, Aligned, none-aligned, more-aligned, more-some, shape-sized}
 
 mutual
@@ -23,7 +23,7 @@ mutual
   fields-some c none f s = absurd s
   fields-some c (ts ▸ t) f s = more-some c (fieldsOf c ts) (typeOf c t) (fits-sized c true t (f .1))
 
-pub within-sized : (c : Convention) (t : Tree) → Within c t → Sized c (typeOf c t)
+pub within-sized : (c : Convention) (t : Tree) → TypeWithin c t → Sized c (typeOf c t)
 within-sized c t w = fits-sized c false t (w .fits)
 
 pub all-within-sized : (c : Convention) (ts : Trees) → AllWithin c ts → AllSized c ts

@@ -44,14 +44,14 @@ unfoldable mutual
   AllFit c (ts ▸ t) = AllFit c ts × Fits c true t
 
 -- a result's or an argument's type within the limits; 6: no "struct depth over 8"
-pub record Within (c : Convention) (t : Tree) : Type 0 where
+pub record TypeWithin (c : Convention) (t : Tree) : Type 0 where
   pub depth : depthOf t ≤ maxDepth
   pub fits : Fits c false t
 
 -- and each of several
 unfoldable pub AllWithin : Convention → Trees → Type 0
 AllWithin c none = Unit {0}
-AllWithin c (ts ▸ t) = AllWithin c ts × Within c t
+AllWithin c (ts ▸ t) = AllWithin c ts × TypeWithin c t
 
 -- each type has a size of 1 to 256 bytes and an alignment of 1 to 16
 unfoldable pub AllSized : Convention → Trees → Type 0

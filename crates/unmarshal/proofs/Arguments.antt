@@ -17,7 +17,7 @@ use Rattle.ieee.specs.declared.Narrowed.{Narrowed}
 use Rattle.ieee.specs.Narrowing.{narrow}
 use Rattle.types.specs.declared.Equivalent.{Equivalent}
 use Rattle.types.specs.Sizes.{equivalentOf}
-use Rattle.places.specs.declared.Rules.{Rules}
+use Rattle.places.specs.declared.CallRules.{CallRules}
 use Rattle.places.specs.Step.{wordOf}
 use Rattle.places.specs.Spots.{copies}
 use Rattle.registers.specs.Registers.{gather}
@@ -28,15 +28,15 @@ use Rattle.slots.specs.Forms.{startsAtHead, ownStart, roomOf, narrowedBytes, fl
 use Rattle.slots.specs.Placements.{Placement, wordsAt, floatAt, addressAt, wordsValue, valueAt, valuesAt}
 use Rattle.slots.specs.Helpers.{FloatSized, Held, All, sizesOf}
 use Rattle.slots.specs.Refusals.{narrowedAnswer, floatAnswer}
-use Rattle.unmarshal.specs.Helpers.{Stored, FloatRoom, Readable}
+use Rattle.unmarshal.specs.Helpers.{Stored, FprsHold, Readable}
 
-pub float-room : (e : Equivalent) (m n l : ℕ) → FloatSized e m n → n ≤ l → FloatRoom e (8 * m) l
+pub float-room : (e : Equivalent) (m n l : ℕ) → FloatSized e m n → n ≤ l → FprsHold e (8 * m) l
 float-room Equivalent.Single m n l h k = (omega (arith, h .0), omega (arith, h .1))
 float-room Equivalent.Double m n l h k = (omega (arith, h .0), omega (arith, h .1))
 float-room Equivalent.Nothing m n l h k = omega (arith, h .0, h .1)
 
 -- a value's own bytes start in its first word
-pub own-first : (r : Rules) (p : Placement) → Held r p → p .span .indirect ≡ false → ownStart r (p .ty) (p .size) < wordOf r
+pub own-first : (r : CallRules) (p : Placement) → Held r p → p .span .indirect ≡ false → ownStart r (p .ty) (p .size) < wordOf r
 unfolding ownStart
 own-first r p h e = go (startsAtHead r (p .ty))
   where
@@ -48,7 +48,7 @@ stored-length : (s m : ℕ) (l : List ℕ) → Stored s m (length l) → length 
 stored-length s zero l h = refl
 stored-length s (suc m) l h = length-part s (suc m) l (h (omega arith))
 
-module _ (r : Rules) (base : ℕ) (p : Placement) (b : Buffers) (h : Readable r base p b) where
+module _ (r : CallRules) (base : ℕ) (p : Placement) (b : Buffers) (h : Readable r base p b) where
   -- the value's own bytes lie in its words
   pub own-within : p .span .floating .count ≤ 0 → p .span .indirect ≡ false
       → ownStart r (p .ty) (p .size) + p .size ≤ wordOf r * p .span .general .count + p .span .memory .length
@@ -83,10 +83,10 @@ narrowed-length : (q : Narrowed) → narrowedAnswer q ≡ Answer.Done → length
 narrowed-length (Narrowed.Single x) e = length-bytesOf 4 x
 narrowed-length Narrowed.NotWidened e = let z : _≡_ {A = ℕ} 0 1 = cc in absurd (omega arith)
 
-pub float-length : (r : Rules) (e : Equivalent) (bs : List ℕ) (m n : ℕ) → FloatSized e m n → length bs ≡ 8 * m → floatAnswer r e (valueOf bs) ≡ Answer.Done
+pub float-length : (r : CallRules) (e : Equivalent) (bs : List ℕ) (m n : ℕ) → FloatSized e m n → length bs ≡ 8 * m → floatAnswer r e (valueOf bs) ≡ Answer.Done
     → length (floatValueAs r e bs) ≡ n
-float-length (Rules.Power f) Equivalent.Single bs m n s l d = narrowed-length (narrow (valueOf bs)) d ∙ sym (s .1)
-float-length Rules.Z Equivalent.Single bs m n s l d = length-take-le 4 bs (omega (arith, s .0)) ∙ sym (s .1)
+float-length (CallRules.Power f) Equivalent.Single bs m n s l d = narrowed-length (narrow (valueOf bs)) d ∙ sym (s .1)
+float-length CallRules.Z Equivalent.Single bs m n s l d = length-take-le 4 bs (omega (arith, s .0)) ∙ sym (s .1)
 float-length r Equivalent.Double bs m n s l d = omega (arith, s .0, s .1)
 float-length r Equivalent.Nothing bs m n s l d = omega (arith, s .0, s .1)
 
@@ -95,7 +95,7 @@ unfolding bytesAt
 copy-length at n b h = length-part at n (b .copies) h
 
 -- every value that can be read has its size
-pub value-length : (r : Rules) (base : ℕ) (p : Placement) (b : Buffers) → Readable r base p b → length (valueAt r base p b) ≡ p .size
+pub value-length : (r : CallRules) (base : ℕ) (p : Placement) (b : Buffers) → Readable r base p b → length (valueAt r base p b) ≡ p .size
 unfolding valueAt wordsValue floatValue
 value-length r base p b h = go (ltb 0 (p .span .floating .count)) refl
   where
@@ -120,7 +120,7 @@ value-length r base p b h = go (ltb 0 (p .span .floating .count)) refl
     go false q = words (p .span .indirect) refl (ltb-false 0 (p .span .floating .count) q)
 
 -- and so have those of several, one after the other
-pub length-values : (r : Rules) (base : ℕ) (ps : List Placement) (b : Buffers) → All (λ (p : Placement). Readable r base p b) ps → length (valuesAt r base ps b) ≡ sizesOf ps
+pub length-values : (r : CallRules) (base : ℕ) (ps : List Placement) (b : Buffers) → All (λ (p : Placement). Readable r base p b) ps → length (valuesAt r base ps b) ≡ sizesOf ps
 unfolding All valuesAt sizesOf
 length-values r base [] b h = refl
 length-values r base (p ∷ ps) b h =

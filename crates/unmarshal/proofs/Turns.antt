@@ -7,14 +7,14 @@ use native.Mathlib.Numerals.{add-one}
 use lib.ListN.{length, drop}
 use Rattle.words.specs.Splice.{overlay, splice}
 use Rattle.words.proofs.Splices.{length-splice, splice-head, splice-nothing, splice-append}
-use Rattle.places.specs.declared.Rules.{Rules}
+use Rattle.places.specs.declared.CallRules.{CallRules}
 use Rattle.slots.specs.Buffers.{Buffers}
 use Rattle.slots.specs.Placements.{Placement, valueAt, valuesAt}
 use Rattle.slots.specs.Helpers.{All, sizesOf}
 use Rattle.unmarshal.specs.Helpers.{Readable}
 use Rattle.unmarshal.proofs.Arguments.{value-length}
 
-module _ (r : Rules) (base : ℕ) (ps : List Placement) (b : Buffers) where
+module _ (r : CallRules) (base : ℕ) (ps : List Placement) (b : Buffers) where
   -- i values, of v bytes, are taken, and the value buffer is l
   pub record Taking (l₀ l : List ℕ) (v i : ℕ) : Type 0 where
     pub same : length l ≡ length l₀

@@ -11,7 +11,7 @@ use Rattle.types.specs.declared.Equivalent.{Equivalent}
 use Rattle.types.specs.Sizes.{equivalentOf}
 use Rattle.signature.specs.declared.SignatureRead.{SignatureRead}
 use Rattle.signature.specs.Helpers.{Plannable}
-use Rattle.places.specs.declared.Rules.{Rules}
+use Rattle.places.specs.declared.CallRules.{CallRules}
 use Rattle.places.specs.declared.Span.{Span}
 use Rattle.places.specs.Step.{wordOf}
 use Rattle.places.specs.Spots.{imageBytes}
@@ -28,18 +28,18 @@ abbrev pub Stored : ℕ → ℕ → ℕ → Type 0
 Stored s m a = 0 < m → s + m ≤ a
 
 -- a span's words of w bytes lie in the image and the area
-abbrev pub WordsFit : ℕ → Span → List ℕ → List ℕ → Type 0
-WordsFit w s image area =
+abbrev pub SpanHolds : ℕ → Span → List ℕ → List ℕ → Type 0
+SpanHolds w s image area =
     (1 ≤ w) × (w ≤ 8) × (s .general .first + s .general .count ≤ 32) × (length image ≡ imageBytes) × Stored (s .memory .start) (s .memory .length) (length area)
 
 -- room of l bytes for a float whose FPRs have n bytes
-abbrev pub FloatRoom : Equivalent → ℕ → ℕ → Type 0
-FloatRoom Equivalent.Single n l = (n ≡ 8) × (4 ≤ l)
-FloatRoom Equivalent.Double n l = (n ≡ 8) × (8 ≤ l)
-FloatRoom Equivalent.Nothing n l = n ≤ l
+abbrev pub FprsHold : Equivalent → ℕ → ℕ → Type 0
+FprsHold Equivalent.Single n l = (n ≡ 8) × (4 ≤ l)
+FprsHold Equivalent.Double n l = (n ≡ 8) × (8 ≤ l)
+FprsHold Equivalent.Nothing n l = n ≤ l
 
 -- an argument, and the lengths of the image and the area
-pub record Ready (r : Rules) (i a : ℕ) (p : Placement) : Type 0 where
+pub record InBuffers (r : CallRules) (i a : ℕ) (p : Placement) : Type 0 where
   pub held : Held r p
   pub general : p .span .general .first + p .span .general .count ≤ 32
   pub floating : p .span .floating .first + p .span .floating .count ≤ 32
@@ -47,8 +47,8 @@ pub record Ready (r : Rules) (i a : ℕ) (p : Placement) : Type 0 where
   pub registers : i ≡ imageBytes
 
 -- an argument that can be read
-pub record Readable (r : Rules) (base : ℕ) (p : Placement) (b : Buffers) : Type 0 where
-  pub ready : Ready r (length (b .image)) (length (b .area)) p
+pub record Readable (r : CallRules) (base : ℕ) (p : Placement) (b : Buffers) : Type 0 where
+  pub ready : InBuffers r (length (b .image)) (length (b .area)) p
   -- 14 is not given
   pub exact : 0 < p .span .floating .count → floatAnswer r (equivalentOf (p .ty)) (valueOf (floatAt (p .span) b)) ≡ Answer.Done
   -- 13 is not given

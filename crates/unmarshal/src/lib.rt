@@ -1,7 +1,7 @@
 // The values of arguments taken out of their registers, memory and copies. An argument is taken only where nothing refuses its reading.
 use ieee::Narrowed;
+use places::CallRules;
 use places::FPRS_AT;
-use places::Rules;
 use places::Span;
 use signature::SignatureRead;
 use types::Equivalent;
@@ -17,11 +17,11 @@ ghost use Rattle.slots.specs.Forms.{narrowedBytes, floatValueAs};
 ghost use Rattle.slots.specs.Placements.{placement, wordsAt, addressAt, valueAt, valuesAt};
 ghost use Rattle.slots.specs.Arguments.{rulesIn};
 ghost use Rattle.arguments.specs.Table.{argumentsFrom};
-ghost use Rattle.unmarshal.specs.Helpers.{WordsFit, FloatRoom, Readable, AllReadable};
+ghost use Rattle.unmarshal.specs.Helpers.{SpanHolds, FprsHold, Readable, AllReadable};
 
 // The address in a span's only word, a doubleword: no convention with smaller words passes copies.
 pub fn word_at(image: &[u8], area: &[u8], s: Span) -> u64
-    requires { ⌜ WordsFit 8 s (now image) (now area) × (8 * s .general .count + s .memory .length ≡ 8) ⌝ }
+    requires { ⌜ SpanHolds 8 s (now image) (now area) × (8 * s .general .count + s .memory .length ≡ 8) ⌝ }
     ensures { λ x. ⌜ x ≡ addressAt 8 s (buffers (now (image .entry)) (now (area .entry)) []) ⌝ }
 {
     let general = s.general;
@@ -34,7 +34,7 @@ pub fn word_at(image: &[u8], area: &[u8], s: Span) -> u64
 
 // The bytes of a span's words from lo on, which is in the first word, n of them, at the head of out.
 fn take_words(out: &mut [u8], image: &[u8], area: &[u8], word: usize, s: Span, lo: usize, n: usize)
-    requires { ⌜ WordsFit word s (now image) (now area) × (lo < word) × (lo + n ≤ word * s .general .count + s .memory .length) × (n ≤ length (now out)) ⌝ }
+    requires { ⌜ SpanHolds word s (now image) (now area) × (lo < word) × (lo + n ≤ word * s .general .count + s .memory .length) × (n ≤ length (now out)) ⌝ }
     ensures { λ _. ⌜ now (out .exit) ≡ overlay (now (out .entry)) (part lo n (wordsAt word s (buffers (now (image .entry)) (now (area .entry)) []))) ⌝ }
 {
     let general = s.general;
@@ -70,8 +70,8 @@ fn take_narrowed(out: &mut [u8], x: u64)
 }
 
 // The value in FPRs, whose n bytes start at `at` of the image, at the head of out.
-pub fn take_float(out: &mut [u8], image: &[u8], r: Rules, e: Equivalent, at: usize, n: usize)
-    requires { ⌜ (at + n ≤ length (now image)) × (FloatRoom e n (length (now out))) ⌝ }
+pub fn take_float(out: &mut [u8], image: &[u8], r: CallRules, e: Equivalent, at: usize, n: usize)
+    requires { ⌜ (at + n ≤ length (now image)) × (FprsHold e n (length (now out))) ⌝ }
     ensures { λ _. ⌜ now (out .exit) ≡ overlay (now (out .entry)) (floatValueAs r e (part at n (now (image .entry)))) ⌝ }
 {
     match e {
@@ -82,10 +82,10 @@ pub fn take_float(out: &mut [u8], image: &[u8], r: Rules, e: Equivalent, at: usi
             registers::take_part(out, image, at, 8);
         }
         Equivalent::Single => match r {
-            Rules::Power(_) => {
+            CallRules::Power(_) => {
                 take_narrowed(out, words::load(image, at, 8));
             }
-            Rules::Z => {
+            CallRules::Z => {
                 registers::take_part(out, image, at, 4);
             }
         },
@@ -98,7 +98,7 @@ pub fn take_argument(
     image: &[u8],
     area: &[u8],
     copies: &[u8],
-    r: Rules,
+    r: CallRules,
     t: ValueType,
     n: usize,
     s: Span,

@@ -11,7 +11,7 @@ use Rattle.types.specs.declared.Equivalent.{Equivalent}
 use Rattle.places.specs.Step.{rulesOf}
 use Rattle.slots.specs.Refusals.{answerNumber, floatAnswer}
 use Rattle.listing.specs.Text.{listingOf}
-use Rattle.rules.specs.declared.Rules.{Rules}
+use Rattle.rules.specs.declared.FrameRules.{FrameRules}
 use Rattle.rules.specs.declared.Frame.{Frame}
 use Rattle.rules.specs.Rules.{ppc64, z}
 use Rattle.rules.specs.Frames.{frameSize}
@@ -24,7 +24,7 @@ pub data Vector : Type 0 where
   -- the bits of a single's PPC64 FPR, and the refusal that they give
   refused : ℕ → ℕ → Vector
   -- a convention's rules, a frame request's g, m, L and P, and the frame's size
-  sized : Rules → ℕ → ℕ → ℕ → ℕ → ℕ → Vector
+  sized : FrameRules → ℕ → ℕ → ℕ → ℕ → ℕ → Vector
 
 abbrev request : ℕ → ℕ → ℕ → ℕ → Frame
 request g m l p = record { «first_gpr» = g; «first_fpr» = m; «saves_cr» = false; locals = l; outgoing = p; leaf = false }

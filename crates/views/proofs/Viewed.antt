@@ -13,7 +13,7 @@ use Rattle.signature.specs.declared.Outcome.{Outcome}
 use Rattle.signature.specs.declared.SignatureRead.{SignatureRead}
 use Rattle.signature.specs.Read.{signatureOf}
 use Rattle.signature.specs.Answer.{signatureAnswer}
-use Rattle.places.specs.declared.Rules.{Rules}
+use Rattle.places.specs.declared.CallRules.{CallRules}
 use Rattle.places.specs.Step.{rulesOf}
 use Rattle.plan.specs.declared.Plan.{Plan}
 use Rattle.slots.specs.declared.Answer.{Answer}
@@ -40,18 +40,18 @@ pub reading-done : (o : Outcome) (x : Answer) → afterReading o x ≡ Answer.Do
 reading-done (Outcome.Accepted n) x e = e
 reading-done (Outcome.Refused f) x e = let z : _≡_ {A = ℕ} 0 1 = cc in absurd (omega arith)
 
-pub record Viewed (r : Rules) (count index have area : ℕ) : Type 0 where
+pub record Viewed (r : CallRules) (count index have area : ℕ) : Type 0 where
   pub homes : homeless r ≡ false
   pub there : index < count
   pub room : area ≤ have
 
-pub view-passed : (r : Rules) (count index have area : ℕ) → firstOf (viewTests r count index have area) ≡ Answer.Done → Viewed r count index have area
+pub view-passed : (r : CallRules) (count index have area : ℕ) → firstOf (viewTests r count index have area) ≡ Answer.Done → Viewed r count index have area
 unfolding viewTests
-view-passed (Rules.Power f) count index have area e =
+view-passed (CallRules.Power f) count index have area e =
     let a = first-done _ _ e in
     let b = first-done _ _ (a .1) in
     record { homes = refl; there = leb-false count index (a .0); room = ltb-false have area (b .0) }
-view-passed Rules.Z count index have area e = let a = first-done _ _ e in let q : true ≡ false = a .0 in let z : _≡_ {A = ℕ} 0 1 = cc in absurd (omega arith)
+view-passed CallRules.Z count index have area e = let a = first-done _ _ e in let q : true ≡ false = a .0 in let z : _≡_ {A = ℕ} 0 1 = cc in absurd (omega arith)
 
 -- ---- the argument that is viewed
 
@@ -83,7 +83,7 @@ hand s have index g p a read plan e d =
     let v = view-passed (rulesOf (g .convention)) (g .count) index have (p .area) (reading-done (outcomeFor s) _ (sym e ∙ d)) in
     let c : Carried g p = carried-same s g p read plan in
     let next = next-argument g p index (v .there) (c .tables .types) (c .tables .spans) in
-    let r : Rules = rulesOf (g .convention) in
+    let r : CallRules = rulesOf (g .convention) in
     let homes : All (Homed (rulesIn g) (p .area)) (argumentsIn g p) =
     rw (read, plan) (homed-all s (ap (λ (x : SignatureRead). homeless (rulesIn x)) (sym read) ∙ homeless-marked (g .ellipsis) r ∙ v .homes)) in
     record {
@@ -97,7 +97,7 @@ hand s have index g p a read plan e d =
 
 -- ---- the part that is viewed
 
-refused-part : (a : Answer) (r : Rules) (p : Placement) → isRefused a ≡ true → _≡_ {A = ViewPart} (record { answer = a; start = 0; length = 0 }) (ownPart a r p)
+refused-part : (a : Answer) (r : CallRules) (p : Placement) → isRefused a ≡ true → _≡_ {A = ViewPart} (record { answer = a; start = 0; length = 0 }) (ownPart a r p)
 refused-part Answer.Done r p q = let z : _≡_ {A = ℕ} 0 1 = cc in absurd (omega arith)
 refused-part (Answer.Unread f) r p q = refl
 refused-part (Answer.Refused reason) r p q = refl

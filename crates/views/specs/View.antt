@@ -11,7 +11,7 @@ use Rattle.types.specs.declared.IntegerKind.{IntegerKind}
 use Rattle.types.specs.declared.ValueType.{ValueType}
 use Rattle.signature.specs.Read.{signatureOf}
 use Rattle.signature.specs.Answer.{signatureAnswer}
-use Rattle.places.specs.declared.Rules.{Rules}
+use Rattle.places.specs.declared.CallRules.{CallRules}
 use Rattle.plan.specs.Plan.{noSpan}
 use Rattle.slots.specs.declared.Refusal.{Refusal}
 use Rattle.slots.specs.declared.Answer.{Answer}
@@ -24,11 +24,11 @@ use Rattle.views.specs.declared.ViewPart.{ViewPart}
 use Rattle.home_slot.specs.Homes.{homeless}
 
 -- 24: "home or view asked of Z, or a view of an argument that isn't there", of `count`
-abbrev pub noView : Rules → ℕ → ℕ → Bool
+abbrev pub noView : CallRules → ℕ → ℕ → Bool
 noView r count index = pick (homeless r) true (leb count index)
 
 -- "24, .. 11", where the plan asks for an area of this size
-unfoldable pub viewTests : Rules → ℕ → ℕ → ℕ → ℕ → List Test
+unfoldable pub viewTests : CallRules → ℕ → ℕ → ℕ → ℕ → List Test
 viewTests r count index have area = test (noView r count index) Refusal.NoView ∷ test (ltb have area) Refusal.AreaTooShort ∷ []
 
 unfoldable pub viewAnswer : List ℕ → ℕ → ℕ → Answer
@@ -40,18 +40,18 @@ abbrev pub noArgument : Placement
 noArgument = placement (ValueType.Integer IntegerKind.I8) 1 noSpan
 
 -- where an argument's own bytes start in the area
-abbrev pub ownAt : Rules → Placement → ℕ
+abbrev pub ownAt : CallRules → Placement → ℕ
 ownAt r p = p .span .home .start + ownStart r (p .ty) (p .size)
 
 -- an argument's own bytes in its home
-abbrev pub ownBytes : Rules → Placement → List ℕ → List ℕ
+abbrev pub ownBytes : CallRules → Placement → List ℕ → List ℕ
 ownBytes r p area = part (ownAt r p) (p .size) area
 
 unfoldable pub viewOf : List ℕ → List ℕ → ℕ → List ℕ
 viewOf s area index = pick (isDone (viewAnswer s (length area) index)) (ownBytes (rulesFor s) (getD (argumentsOf s) index noArgument) area) []
 
 -- the same bytes by their start and length
-abbrev pub ownPart : Answer → Rules → Placement → ViewPart
+abbrev pub ownPart : Answer → CallRules → Placement → ViewPart
 ownPart a r p = record { answer = a; start = pick (isDone a) (ownAt r p) 0; length = pick (isDone a) (p .size) 0 }
 
 unfoldable pub viewPart : List ℕ → ℕ → ℕ → ViewPart

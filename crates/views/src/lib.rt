@@ -1,5 +1,5 @@
 // Views of arguments in a homed parameter area: each is an argument's own bytes as a part of the caller's slice.
-use places::Rules;
+use places::CallRules;
 use signature::Outcome;
 use slots::Answer;
 use slots::Refusal;
@@ -16,7 +16,7 @@ pub struct ViewPart {
 }
 
 // Whether there is a view of argument `index` of `count` in an area of `have` bytes.
-fn view_tested(r: Rules, count: usize, index: usize, have: usize, area: usize) -> Answer
+fn view_tested(r: CallRules, count: usize, index: usize, have: usize, area: usize) -> Answer
     ensures { λ a. ⌜ a ≡ firstOf (viewTests r count index have area) ⌝ }
 {
     if home_slot::is_homeless(r) {
@@ -33,7 +33,7 @@ fn view_tested(r: Rules, count: usize, index: usize, have: usize, area: usize) -
 
 fn view_answer(
     outcome: Outcome,
-    r: Rules,
+    r: CallRules,
     count: usize,
     index: usize,
     have: usize,

@@ -7,7 +7,7 @@ use native.Mathlib.Omega.{arith}
 use borrow.Author.Tests.{le-leb, leb-true, eq-eqb, eqb-true}
 use lib.Dec.{eqb, leb}
 use Rattle.types.proofs.Sized.{all-within-sized}
-use Rattle.places.specs.declared.Rules.{Rules}
+use Rattle.places.specs.declared.CallRules.{CallRules}
 use Rattle.places.specs.Step.{rulesOf, startOf}
 use Rattle.places.proofs.Bounds.{rules-lawful}
 use Rattle.signature.specs.Types.{typesOf}
@@ -55,13 +55,13 @@ ways-back s g f (inl x) = either-left (leb s 160) (leb 7 g || leb 8 f) (le-leb s
 ways-back s g f (inr (inl x)) = either-right (leb s 160) (leb 7 g || leb 8 f) (either-left (leb 7 g) (leb 8 f) (le-leb 7 g x))
 ways-back s g f (inr (inr x)) = either-right (leb s 160) (leb 7 g || leb 8 f) (either-right (leb 7 g) (leb 8 f) (le-leb 8 f x))
 
-tested-possible : (r : Rules) (hidden : Bool) (k : Counters) → possible r hidden k ≡ true → Possible r hidden k
+tested-possible : (r : CallRules) (hidden : Bool) (k : Counters) → possible r hidden k ≡ true → Possible r hidden k
 unfolding possible powerPossible zPossible
-tested-possible (Rules.Power f) hidden k e =
+tested-possible (CallRules.Power f) hidden k e =
     let a = both-true _ _ e in
     let b = both-true _ _ (a .1) in
     (leb-true _ _ (a .0), leb-true _ _ (b .0), eqb-true _ _ (b .1))
-tested-possible Rules.Z hidden k e =
+tested-possible CallRules.Z hidden k e =
     let a = both-true _ _ e in
     let b = both-true _ _ (a .1) in
     let c = both-true _ _ (b .1) in
@@ -77,10 +77,10 @@ tested-possible Rules.Z hidden k e =
       ways (k .stack) (k .general) (k .floating) (g .1),
     )
 
-possible-tested : (r : Rules) (hidden : Bool) (k : Counters) → Possible r hidden k → possible r hidden k ≡ true
+possible-tested : (r : CallRules) (hidden : Bool) (k : Counters) → Possible r hidden k → possible r hidden k ≡ true
 unfolding possible powerPossible zPossible
-possible-tested (Rules.Power f) hidden k h = both-of _ _ (le-leb _ _ (h .0)) (both-of _ _ (le-leb _ _ (h .1)) (eq-eqb _ _ (h .2)))
-possible-tested Rules.Z hidden k h =
+possible-tested (CallRules.Power f) hidden k h = both-of _ _ (le-leb _ _ (h .0)) (both-of _ _ (le-leb _ _ (h .1)) (eq-eqb _ _ (h .2)))
+possible-tested CallRules.Z hidden k h =
     both-of _ _ (le-leb _ _ (h .0))
     (both-of _ _ (le-leb _ _ (h .1))
     (both-of _ _ (le-leb _ _ (h .2))

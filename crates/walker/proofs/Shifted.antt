@@ -12,7 +12,7 @@ use Rattle.words.specs.Splice.{part}
 use Rattle.types.specs.declared.ValueType.{ValueType}
 use Rattle.places.specs.declared.Cursor.{Cursor}
 use Rattle.places.specs.declared.Span.{Span}
-use Rattle.places.specs.declared.Rules.{Rules}
+use Rattle.places.specs.declared.CallRules.{CallRules}
 use Rattle.places.specs.declared.ZClass.{ZClass}
 use Rattle.places.specs.Power.{powerShare}
 use Rattle.places.specs.ZSeries.{zClass, zSpanOf}
@@ -34,8 +34,8 @@ z-shifts k ZClass.Reference n = record { general = refl; floating = refl; home-s
 -- at every cursor, for every type and size
 pub span-shifts : SpansShift
 unfolding spanOf powerShare
-span-shifts (Rules.Power f) k t n = record { general = refl; floating = refl; home-start = omega arith; home-length = refl; memory-start = omega arith; memory-length = refl; copy-length = refl; indirect = refl }
-span-shifts Rules.Z k t n = z-shifts k (zClass t n) n
+span-shifts (CallRules.Power f) k t n = record { general = refl; floating = refl; home-start = omega arith; home-length = refl; memory-start = omega arith; memory-length = refl; copy-length = refl; indirect = refl }
+span-shifts CallRules.Z k t n = z-shifts k (zClass t n) n
 
 -- ---- what is read
 
@@ -73,15 +73,15 @@ module _ (t : ValueType) (n d : ℕ) (s s′ : Span) (b : Buffers) (h : Shifted 
   unfolding wordsAt bytesAt
   words-shift w = rw (h .general, h .memory-start, h .memory-length, part-from d (s′ .memory .start) (s′ .memory .length) (b .area))
 
-  own-shift : (r : Rules) → ownHeld r (placement t n s) b ≡ ownHeld r (placement t n s′) (areaFrom d b)
+  own-shift : (r : CallRules) → ownHeld r (placement t n s) b ≡ ownHeld r (placement t n s′) (areaFrom d b)
   unfolding ownHeld bytesAt
   own-shift r = rw (h .general)
 
-  pub value-shift : (r : Rules) (base : ℕ) → valueAt r base (placement t n s) b ≡ valueAt r base (placement t n s′) (areaFrom d b)
+  pub value-shift : (r : CallRules) (base : ℕ) → valueAt r base (placement t n s) b ≡ valueAt r base (placement t n s′) (areaFrom d b)
   unfolding valueAt wordsValue bytesAt
   value-shift r base = rw (words-shift, h .floating, h .indirect)
 
-  pub answer-shift : (r : Rules) (base : ℕ) → argumentAnswer r base (placement t n s) b ≡ argumentAnswer r base (placement t n s′) (areaFrom d b)
+  pub answer-shift : (r : CallRules) (base : ℕ) → argumentAnswer r base (placement t n s) b ≡ argumentAnswer r base (placement t n s′) (areaFrom d b)
   unfolding argumentAnswer agrees bytesAt
   answer-shift r base = rw (words-shift, own-shift r, h .floating, h .indirect)
 

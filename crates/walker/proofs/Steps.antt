@@ -14,14 +14,14 @@ use Rattle.types.specs.Sizes.{sizeOf, Sized}
 use Rattle.types.specs.Trees.{Tree, none, _▸_, typeOf}
 use Rattle.types.specs.Limits.{AllSized}
 use Rattle.places.specs.declared.Cursor.{Cursor}
-use Rattle.places.specs.declared.Rules.{Rules}
+use Rattle.places.specs.declared.CallRules.{CallRules}
 use Rattle.places.specs.declared.Span.{Span}
 use Rattle.places.specs.declared.ZClass.{ZClass}
 use Rattle.places.specs.Values.{cursor}
 use Rattle.places.specs.Power.{powerShare, unclear}
 use Rattle.places.specs.ZSeries.{zClass, zNextOf}
 use Rattle.places.specs.Step.{rulesOf, spanOf, nextOf, unclearFor}
-use Rattle.places.specs.Helpers.{Lawful}
+use Rattle.places.specs.Helpers.{LawfulCalls}
 use Rattle.places.proofs.Between.{step-between}
 use Rattle.places.proofs.Marked.{next-marked}
 use Rattle.signature.specs.Types.{typesOf}
@@ -48,23 +48,23 @@ typed c t h = all-typed c (none ▸ t) (tt, h) .0
 abbrev pub uncopied : Cursor → Cursor
 uncopied d = cursor (d .general) (d .floating) (d .stack) 0
 
-z-uncopied : (d : Cursor) (class : ZClass) (n : ℕ) → countersOf Rules.Z (zNextOf (uncopied d) class n) ≡ countersOf Rules.Z (zNextOf d class n)
+z-uncopied : (d : Cursor) (class : ZClass) (n : ℕ) → countersOf CallRules.Z (zNextOf (uncopied d) class n) ≡ countersOf CallRules.Z (zNextOf d class n)
 unfolding countersOf zNextOf
 z-uncopied d ZClass.Float n = refl
 z-uncopied d ZClass.Simple n = refl
 z-uncopied d ZClass.Reference n = refl
 
-next-uncopied : (r : Rules) (d : Cursor) (t : ValueType) (n : ℕ) → countersOf r (nextOf r (uncopied d) t n) ≡ countersOf r (nextOf r d t n)
+next-uncopied : (r : CallRules) (d : Cursor) (t : ValueType) (n : ℕ) → countersOf r (nextOf r (uncopied d) t n) ≡ countersOf r (nextOf r d t n)
 unfolding nextOf powerShare countersOf
-next-uncopied (Rules.Power f) d t n = refl
-next-uncopied Rules.Z d t n = z-uncopied d (zClass t n) n
+next-uncopied (CallRules.Power f) d t n = refl
+next-uncopied CallRules.Z d t n = z-uncopied d (zClass t n) n
 
-clear-uncopied : (r : Rules) (d : Cursor) (t : ValueType) → unclearFor r (uncopied d) t ≡ unclearFor r d t
+clear-uncopied : (r : CallRules) (d : Cursor) (t : ValueType) → unclearFor r (uncopied d) t ≡ unclearFor r d t
 unfolding unclearFor unclear
-clear-uncopied (Rules.Power f) d t = refl
-clear-uncopied Rules.Z d t = refl
+clear-uncopied (CallRules.Power f) d t = refl
+clear-uncopied CallRules.Z d t = refl
 
-module _ (r : Rules) (base : ℕ) (d : Cursor) (t : ValueType) (n : ℕ) (b : Buffers) where
+module _ (r : CallRules) (base : ℕ) (d : Cursor) (t : ValueType) (n : ℕ) (b : Buffers) where
   answer-uncopied : argumentAnswer r base (placement t n (spanOf r (uncopied d) t n)) b ≡ argumentAnswer r base (placement t n (spanOf r d t n)) b
   answer-uncopied =
       answer-shift t n (d .stack) (spanOf r (uncopied d) t n) (spanOf r (local d) t n) b (span-shifts r (uncopied d) t n) r base
@@ -80,7 +80,7 @@ never true = refl
 never false = refl
 
 -- no length is refused where the next cursor lies in the area
-inside-passes : (r : Rules) (d : Cursor) (t : ValueType) (n l : ℕ) → nextOf r d t n .stack ≤ l → passes (spanOf r d t n) l ≡ false
+inside-passes : (r : CallRules) (d : Cursor) (t : ValueType) (n l : ℕ) → nextOf r d t n .stack ≤ l → passes (spanOf r d t n) l ≡ false
 unfolding passes
 inside-passes r d t n l h =
     let w = step-between r d t n in
@@ -94,12 +94,12 @@ z-stack d ZClass.Float n = refl
 z-stack d ZClass.Simple n = refl
 z-stack d ZClass.Reference n = refl
 
-next-stack : (r : Rules) (d : Cursor) (t : ValueType) (n : ℕ) → nextOf r (uncopied d) t n .stack ≡ nextOf r d t n .stack
+next-stack : (r : CallRules) (d : Cursor) (t : ValueType) (n : ℕ) → nextOf r (uncopied d) t n .stack ≡ nextOf r d t n .stack
 unfolding nextOf powerShare
-next-stack (Rules.Power f) d t n = refl
-next-stack Rules.Z d t n = z-stack d (zClass t n) n
+next-stack (CallRules.Power f) d t n = refl
+next-stack CallRules.Z d t n = z-stack d (zClass t n) n
 
-module _ (c : Convention) (v hidden : Bool) (d : Cursor) (h : Reached (rulesOf c) hidden d) (l : Lawful (rulesOf c)) (t : ValueType) (base : ℕ) (b : Buffers) where
+module _ (c : Convention) (v hidden : Bool) (d : Cursor) (h : Reached (rulesOf c) hidden d) (l : LawfulCalls (rulesOf c)) (t : ValueType) (base : ℕ) (b : Buffers) where
   -- the walker there
   abbrev pub here : Walker
   here = walker c v hidden (countersOf (rulesOf c) d)

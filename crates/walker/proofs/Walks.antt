@@ -14,7 +14,7 @@ use Rattle.conventions.specs.declared.Convention.{Convention}
 use Rattle.types.specs.declared.ValueType.{ValueType}
 use Rattle.types.specs.Sizes.{sizeOf}
 use Rattle.types.specs.Trees.{Tree, Trees, none, _▸_, typeOf, countOf}
-use Rattle.types.specs.Limits.{Within, AllWithin}
+use Rattle.types.specs.Limits.{TypeWithin, AllWithin}
 use Rattle.types.proofs.Sized.{within-sized}
 use Rattle.items.specs.Reading.{Reading, got, no}
 use Rattle.items.specs.Encode.{encodeTree, encodeTrees, itemsOf}
@@ -31,9 +31,9 @@ use Rattle.signature.proofs.Theorems.{accepted}
 use Rattle.signature.specs.Types.{valuesOf, typesOf}
 use Rattle.signature.proofs.Types.{length-of-types}
 use Rattle.places.specs.declared.Cursor.{Cursor}
-use Rattle.places.specs.declared.Rules.{Rules}
+use Rattle.places.specs.declared.CallRules.{CallRules}
 use Rattle.places.specs.Step.{rulesOf, spanOf, nextOf, unclearFor, startOf}
-use Rattle.places.specs.Helpers.{Lawful, Roomy}
+use Rattle.places.specs.Helpers.{LawfulCalls, Roomy}
 use Rattle.places.proofs.Bounds.{rules-lawful, area-holds}
 use Rattle.places.proofs.Marked.{next-marked}
 use Rattle.plan.specs.declared.Plan.{Plan}
@@ -50,10 +50,10 @@ use Rattle.slots.proofs.Typed.{Typed, AllTyped, all-typed}
 use Rattle.slots.proofs.Answered.{arguments-got}
 use Rattle.slots.proofs.Planned.{placements-sizes}
 use Rattle.slots.proofs.Refusals.{or-done}
-use Rattle.unmarshal.specs.Helpers.{Ready, Readable}
+use Rattle.unmarshal.specs.Helpers.{InBuffers, Readable}
 use Rattle.unmarshal.proofs.Arguments.{value-length, length-values}
-use Rattle.read.specs.declared.Sizes.{Sizes}
-use Rattle.read.specs.Read.{sizes, argumentAnswer, argumentsAnswer, readTests, readAnswer, readValues}
+use Rattle.read.specs.declared.ReadLengths.{ReadLengths}
+use Rattle.read.specs.Read.{readLengths, argumentAnswer, argumentsAnswer, readTests, readAnswer, readValues}
 use Rattle.read.proofs.Accepted.{Lent, tests-passed, each-ready}
 use Rattle.read.proofs.Arguments.{all-readable}
 use Rattle.walker.specs.declared.Answer.{Answer}
@@ -83,12 +83,12 @@ walk-step w t s next n base b v found read done =
     ∙ ap (λ (x : call.Answer). stepBy x (walkerWords w) w (typeOf (w .convention) t) base b v) done
 
 -- counters of a small cursor
-small-counters : (r : Rules) (hidden : Bool) (d : Cursor) → Reached r hidden d → d .stack ≤ 60000 → Small (countersOf r d)
+small-counters : (r : CallRules) (hidden : Bool) (d : Cursor) → Reached r hidden d → d .stack ≤ 60000 → Small (countersOf r d)
 unfolding countersOf
-small-counters (Rules.Power f) hidden d h s =
+small-counters (CallRules.Power f) hidden d h s =
     let q : d .stack / f .word ≤ d .stack = div-le-self (d .stack) (f .word) in
     record { general = omega (arith, q); floating = omega (arith, h .4); stack = omega arith }
-small-counters Rules.Z hidden d h s = record { general = omega (arith, h .1); floating = omega (arith, h .2); stack = omega arith }
+small-counters CallRules.Z hidden d h s = record { general = omega (arith, h .1); floating = omega (arith, h .2); stack = omega arith }
 
 clear-first : (u : Bool) (i m : ℕ) → pick u (suc i) m ≡ 0 → (u ≡ false) × (m ≡ 0)
 clear-first true i m e = absurd (omega arith)
@@ -97,14 +97,14 @@ clear-first false i m e = (refl, e)
 -- types within the limits, whose bytes are no longer than an item's may be
 AllAsked : Convention → List Tree → Type 0
 AllAsked c [] = Unit {0}
-AllAsked c (t ∷ ts) = Within c t × (length (encodeTree t) ≤ maxLength) × AllAsked c ts
+AllAsked c (t ∷ ts) = TypeWithin c t × (length (encodeTree t) ≤ maxLength) × AllAsked c ts
 
 -- what nothing refuses can be read, and its value has its size
-AllSizes : Rules → ℕ → List Placement → Buffers → Type 0
+AllSizes : CallRules → ℕ → List Placement → Buffers → Type 0
 AllSizes r base [] b = Unit {0}
 AllSizes r base (p ∷ ps) b = (length (valueAt r base p b) ≡ p .size) × AllSizes r base ps b
 
-all-sizes : (r : Rules) (base : ℕ) (ps : List Placement) (b : Buffers) → All (λ (p : Placement). Readable r base p b) ps → AllSizes r base ps b
+all-sizes : (r : CallRules) (base : ℕ) (ps : List Placement) (b : Buffers) → All (λ (p : Placement). Readable r base p b) ps → AllSizes r base ps b
 unfolding All AllSizes
 all-sizes r base [] b h = tt
 all-sizes r base (p ∷ ps) b h = (value-length r base p b (h .0), all-sizes r base ps b (h .1))
@@ -112,14 +112,14 @@ all-sizes r base (p ∷ ps) b h = (value-length r base p b (h .0), all-sizes r b
 -- ---- the whole walk, from any cursor that arguments lead to
 
 module _ (c : Convention) (e hidden : Bool) (base : ℕ) (b : Buffers) (image : length (b .image) ≡ 512) where
-  abbrev r : Rules
+  abbrev r : CallRules
   r = rulesOf c
 
   -- the walker at a cursor
   abbrev at : Cursor → Walker
   at d = walker c e hidden (countersOf r d)
 
-  abbrev marked : Rules
+  abbrev marked : CallRules
   marked = rulesBy (at (startOf r hidden))
 
   next-same : (d : Cursor) (t : ValueType) → nextOf marked d t (sizeOf c t) ≡ nextOf r d t (sizeOf c t)
@@ -189,7 +189,7 @@ all-asked c (ts ▸ t) w h =
     asked-append c (inOrder ts) (t ∷ []) (all-asked c ts (w .0) (omega arith)) (w .1, omega arith, tt)
 
 -- the cursors of a call have small offsets
-last-reached : (c : Convention) (r : Rules) (d : Cursor) (ts : List ValueType) (v i : ℕ) → Lawful r → AllTyped c ts → fold.Reached r d v i
+last-reached : (c : Convention) (r : CallRules) (d : Cursor) (ts : List ValueType) (v i : ℕ) → LawfulCalls r → AllTyped c ts → fold.Reached r d v i
     → fold.Reached r (lastOf c r d ts) (v + valuesOf c ts) (i + length ts)
 unfolding lastOf valuesOf AllTyped
 last-reached c r d [] v i l a h =
@@ -227,8 +227,8 @@ pub walks-alike : WalksAlike
 unfolding readAnswer readValues argumentsOf walkerOf planAnswer
 walks-alike s ws base b v accept = go (signatureOf s) refl accept
   where
-    have : Sizes
-    have = sizes v (b .image) (b .area)
+    have : ReadLengths
+    have = readLengths v (b .image) (b .area)
 
     go : (x : Reading Signature) → signatureOf s ≡ x
         → afterReading (planAnswer (called x) .outcome)
@@ -241,7 +241,7 @@ walks-alike s ws base b v accept = go (signatureOf s) refl accept
         let q : ResultType = resultType c (g .result) in
         let hidden : Bool = hiddenIn c q in
         let mark : Bool = g .ellipsis in
-        let r : Rules = rulesBy (walkerOf g) in
+        let r : CallRules = rulesBy (walkerOf g) in
         let l = rules-lawful c in
         let k : Cursor = startIn c q in
         let ts : List Tree = inOrder (g .arguments) in
@@ -257,7 +257,7 @@ walks-alike s ws base b v accept = go (signatureOf s) refl accept
         let whole : argumentsOf s ≡ ps = ap (λ (z : Reading Signature). argumentsIn (signatureAnswer z) (planAnswer z)) e ∙ same in
         let done : argumentsAnswer r base ps b ≡ call.Answer.Done = subst (λ (z : List Placement). argumentsAnswer r base z b ≡ call.Answer.Done) same (both .1) in
         let ready = each-ready s (signatureAnswer (got g next n)) (length (b .image)) (length (b .area)) (sym (ap signatureAnswer e)) (lent .image) (rw e (lent .area)) in
-        let readable = all-readable r base b ps (subst (All (Ready r (length (b .image)) (length (b .area)))) whole ready) done in
+        let readable = all-readable r base b ps (subst (All (InBuffers r (length (b .image)) (length (b .area)))) whole ready) done in
         let sized = all-sizes r base ps b readable in
         let size : length v ≡ valuesOf c types = lent .values ∙ (plan-values n c mark q (typesOf c (g .arguments)) ∙ ap (valuesOf c) (sym order)) in
         let short = length-encode g in

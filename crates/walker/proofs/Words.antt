@@ -13,7 +13,7 @@ use Rattle.conventions.specs.declared.ConventionCode.{ConventionCode}
 use Rattle.conventions.specs.Numbers.{codeOf, conventionCode}
 use Rattle.conventions.proofs.Laws.{code-back}
 use Rattle.types.specs.Trees.{Tree}
-use Rattle.types.specs.Limits.{Within}
+use Rattle.types.specs.Limits.{TypeWithin}
 use Rattle.types.specs.Sizes.{maxDepth}
 use Rattle.items.specs.Reading.{got}
 use Rattle.items.specs.Encode.{encodeTree, itemsOf}
@@ -43,7 +43,7 @@ words-back w h =
     ∙ rw (mark-small (w .ellipsis), mark-small (w .hidden), mark-back (w .ellipsis), mark-back (w .hidden), h)
 
 -- the bytes of a type within the limits are its item
-pub item-back : (c : Convention) (t : Tree) → Within c t → length (encodeTree t) ≤ maxLength → typeItem c (encodeTree t) ≡ got t (length (encodeTree t)) (itemsOf t)
+pub item-back : (c : Convention) (t : Tree) → TypeWithin c t → length (encodeTree t) ≤ maxLength → typeItem c (encodeTree t) ≡ got t (length (encodeTree t)) (itemsOf t)
 unfolding typeItem
 item-back c t w short =
     let s : List ℕ = encodeTree t in

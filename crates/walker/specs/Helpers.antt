@@ -6,7 +6,7 @@ use lib.ListN.{length}
 use Rattle.types.specs.declared.ValueType.{ValueType}
 use Rattle.places.specs.declared.Cursor.{Cursor}
 use Rattle.places.specs.declared.Span.{Span}
-use Rattle.places.specs.declared.Rules.{Rules}
+use Rattle.places.specs.declared.CallRules.{CallRules}
 use Rattle.places.specs.Values.{cursor}
 use Rattle.places.specs.Step.{spanOf}
 
@@ -27,4 +27,4 @@ pub record Shifted (d : ℕ) (s s′ : Span) : Type 0 where
 
 -- a step may start from offset 0 of the part of the area that starts at its own
 abbrev pub SpansShift : Type 0
-SpansShift = (r : Rules) (k : Cursor) (t : ValueType) (n : ℕ) → Shifted (k .stack) (spanOf r k t n) (spanOf r (local k) t n)
+SpansShift = (r : CallRules) (k : Cursor) (t : ValueType) (n : ℕ) → Shifted (k .stack) (spanOf r k t n) (spanOf r (local k) t n)

@@ -14,7 +14,7 @@ use Rattle.items.specs.declared.Refusal as item
 use Rattle.items.specs.Reading.{Reading, fault, got, no, choose, andThen}
 use Rattle.items.specs.Read.{itemAt}
 use Rattle.signature.specs.Limits.{maxLength}
-use Rattle.places.specs.declared.Rules.{Rules}
+use Rattle.places.specs.declared.CallRules.{CallRules}
 use Rattle.places.specs.declared.Span.{Span}
 use Rattle.places.specs.Step.{rulesOf, withEllipsis, spanOf, nextOf, unclearFor}
 use Rattle.places.specs.Spots.{imageBytes}
@@ -42,7 +42,7 @@ abbrev pub sizeBy : Walker → ValueType → ℕ
 sizeBy w t = sizeOf (w .convention) t
 
 -- the rules that spans and values go by; an ellipsis moves no cursor, so that cursors go by those without one
-abbrev pub rulesBy : Walker → Rules
+abbrev pub rulesBy : Walker → CallRules
 rulesBy w = withEllipsis (w .ellipsis) (rulesOf (w .convention))
 
 -- an argument of its type, where the walker is

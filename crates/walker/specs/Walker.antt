@@ -6,7 +6,7 @@ use lib.Dec.{eqb, leb}
 use Rattle.conventions.specs.declared.Convention.{Convention}
 use Rattle.conventions.specs.Numbers.{headerBytes}
 use Rattle.places.specs.declared.Cursor.{Cursor}
-use Rattle.places.specs.declared.Rules.{Rules}
+use Rattle.places.specs.declared.CallRules.{CallRules}
 use Rattle.places.specs.Values.{cursor}
 use Rattle.places.specs.Step.{rulesOf}
 use Rattle.signature.specs.Signature.{Signature}
@@ -26,13 +26,13 @@ areaOffset = headerBytes Convention.Z
 
 -- The planner's cursor that counters stand for. PowerPC counts the words passed, w: "r(3+w) while w < 8", and "Offset in the area is 8w"; Z has the next stack
 -- offset. Copies have no counter, since reading follows addresses.
-unfoldable pub cursorAt : Rules → Counters → Cursor
-cursorAt (Rules.Power f) k = cursor (3 + min (k .general) 8) (1 + k .floating) (f .word * k .general) 0
-cursorAt Rules.Z k = cursor (k .general) (k .floating) (k .stack - areaOffset) 0
+unfoldable pub cursorAt : CallRules → Counters → Cursor
+cursorAt (CallRules.Power f) k = cursor (3 + min (k .general) 8) (1 + k .floating) (f .word * k .general) 0
+cursorAt CallRules.Z k = cursor (k .general) (k .floating) (k .stack - areaOffset) 0
 
-unfoldable pub countersOf : Rules → Cursor → Counters
-countersOf (Rules.Power f) c = counters (c .stack / f .word) (c .floating - 1) 0
-countersOf Rules.Z c = counters (c .general) (c .floating) (areaOffset + c .stack)
+unfoldable pub countersOf : CallRules → Cursor → Counters
+countersOf (CallRules.Power f) c = counters (c .stack / f .word) (c .floating - 1) 0
+countersOf CallRules.Z c = counters (c .general) (c .floating) (areaOffset + c .stack)
 
 -- ---- the walker
 
@@ -67,9 +67,9 @@ zPossible hidden k =
     && (eqb (k .floating % 2) 0
     && (leb areaOffset (k .stack) && (eqb (k .stack % 8) 0 && (leb (k .stack) areaOffset || (leb 7 (k .general) || leb 8 (k .floating))))))))
 
-unfoldable pub possible : Rules → Bool → Counters → Bool
-possible (Rules.Power f) hidden k = powerPossible (mark hidden) k
-possible Rules.Z hidden k = zPossible (mark hidden) k
+unfoldable pub possible : CallRules → Bool → Counters → Bool
+possible (CallRules.Power f) hidden k = powerPossible (mark hidden) k
+possible CallRules.Z hidden k = zPossible (mark hidden) k
 
 -- the largest counter: none is "over 2^32"
 abbrev pub maxCounter : ℕ

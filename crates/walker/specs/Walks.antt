@@ -17,7 +17,7 @@ use Rattle.places.specs.Step.{rulesOf, startOf}
 use Rattle.plan.specs.Plan.{lastOf}
 use Rattle.slots.specs.declared.Answer as call
 use Rattle.slots.specs.Buffers.{Buffers}
-use Rattle.read.specs.Read.{sizes, readAnswer, readValues}
+use Rattle.read.specs.Read.{readLengths, readAnswer, readValues}
 use Rattle.walker.specs.declared.Answer.{Answer}
 use Rattle.walker.specs.declared.Counters.{Counters}
 use Rattle.walker.specs.declared.Walker.{Walker}
@@ -79,4 +79,4 @@ pub record SameWalk (s ws : List ℕ) (base : ℕ) (b : Buffers) (v : List ℕ) 
 
 -- of values v, the register image, the area and the copies b
 abbrev pub WalksAlike : Type 0
-WalksAlike = (s ws : List ℕ) (base : ℕ) (b : Buffers) (v : List ℕ) → readAnswer s (sizes v (b .image) (b .area)) base b ≡ call.Answer.Done → SameWalk s ws base b v
+WalksAlike = (s ws : List ℕ) (base : ℕ) (b : Buffers) (v : List ℕ) → readAnswer s (readLengths v (b .image) (b .area)) base b ≡ call.Answer.Done → SameWalk s ws base b v

@@ -1,7 +1,7 @@
 // A walker read from six 64-bit words, with refusal 23, and written to them.
 use conventions::Convention;
 use conventions::ConventionCode;
-use places::Rules;
+use places::CallRules;
 use walker::Counters;
 use walker::MAX_COUNTER;
 use walker::WALKER_WORDS;
@@ -70,13 +70,13 @@ fn z_possible(hidden: u64, k: Counters) -> bool
 }
 
 // Whether some arguments, however many, lead to these counters.
-fn is_possible(r: Rules, hidden: bool, k: Counters) -> bool
+fn is_possible(r: CallRules, hidden: bool, k: Counters) -> bool
     ensures { λ b. ⌜ b ≡ possible r hidden k ⌝ }
 {
     let h = mark_of(hidden);
     match r {
-        Rules::Power(_) => power_possible(h, k),
-        Rules::Z => z_possible(h, k),
+        CallRules::Power(_) => power_possible(h, k),
+        CallRules::Z => z_possible(h, k),
     }
 }
 

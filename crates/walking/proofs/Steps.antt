@@ -16,10 +16,10 @@ use Rattle.types.specs.Trees.{typeOf}
 use Rattle.items.specs.declared.Refusal as item
 use Rattle.items.specs.Reading.{fault}
 use Rattle.places.specs.declared.Cursor.{Cursor}
-use Rattle.places.specs.declared.Rules.{Rules}
+use Rattle.places.specs.declared.CallRules.{CallRules}
 use Rattle.places.specs.declared.Span.{Span}
 use Rattle.places.specs.Step.{rulesOf, spanOf, nextOf, unclearFor}
-use Rattle.places.specs.Helpers.{Lawful}
+use Rattle.places.specs.Helpers.{LawfulCalls}
 use Rattle.places.proofs.Bounds.{rules-lawful}
 use Rattle.places.proofs.Marked.{next-marked, named-marked}
 use Rattle.places.proofs.Registers.{step-numbered}
@@ -31,7 +31,7 @@ use Rattle.slots.specs.Refusals.{firstOf, orElse, firstOfAll, isRefused}
 use Rattle.slots.proofs.Typed.{Typed}
 use Rattle.slots.proofs.Held.{step-held}
 use Rattle.slots.proofs.Refusals.{first-done, differ-false, or-refused, not-refused}
-use Rattle.unmarshal.specs.Helpers.{Ready, Readable}
+use Rattle.unmarshal.specs.Helpers.{InBuffers, Readable}
 use Rattle.read.specs.Read.{argumentAnswer, argumentsAnswer}
 use Rattle.read.proofs.Arguments.{all-readable}
 use Rattle.walker.specs.declared.Answer.{Answer}
@@ -138,7 +138,7 @@ module _ (w : Walker) (t : ValueType) (base : ℕ) (b : Buffers) where
             ∙ ap (λ (x : call.Answer). stepBy x ws w t base b v) (sym (last ∙ not-refused a h))
 
   module _ (found : lost w ≡ false) (known : Declared (w .convention) t) where
-    lawful : Lawful (rulesOf (w .convention))
+    lawful : LawfulCalls (rulesOf (w .convention))
     lawful = rules-lawful (w .convention)
 
     -- "and moves on"
@@ -154,7 +154,7 @@ module _ (w : Walker) (t : ValueType) (base : ℕ) (b : Buffers) where
         (typed (w .convention) (known .tree) (subst (Sized (w .convention)) (sym (known .same)) (known .sized)))
 
     -- the argument can be looked at
-    pub step-ready : length (b .image) ≡ 512 → passes span (length part) ≡ false → Ready (rulesBy w) (length (b .image)) (length part) (placement t (sizeBy w t) span)
+    pub step-ready : length (b .image) ≡ 512 → passes span (length part) ≡ false → InBuffers (rulesBy w) (length (b .image)) (length part) (placement t (sizeBy w t) span)
     step-ready image inside =
         let q = step-numbered (rulesBy w) near t (sizeBy w t) (named-marked (w .ellipsis) (rulesOf (w .convention)) near (local-named (rulesOf (w .convention)) (w .hidden) (w .at) (found-possible w found))) in
         record {
@@ -166,7 +166,7 @@ module _ (w : Walker) (t : ValueType) (base : ℕ) (b : Buffers) where
         }
 
     -- and where nothing refuses it, be read
-    pub step-readable : Ready (rulesBy w) (length (b .image)) (length part) (placement t (sizeBy w t) span)
+    pub step-readable : InBuffers (rulesBy w) (length (b .image)) (length part) (placement t (sizeBy w t) span)
         → argumentAnswer (rulesBy w) base (placement t (sizeBy w t) span) (areaFrom (cursorOf w .stack) b) ≡ call.Answer.Done
         → Readable (rulesBy w) base (placement t (sizeBy w t) span) (areaFrom (cursorOf w .stack) b)
     unfolding All argumentsAnswer firstOfAll

@@ -11,10 +11,10 @@ use Rattle.items.specs.declared.Refusal as item
 use Rattle.items.specs.Reading.{fault}
 use Rattle.places.specs.declared.Cursor.{Cursor}
 use Rattle.places.specs.declared.Placed.{Placed}
-use Rattle.places.specs.declared.Rules.{Rules}
+use Rattle.places.specs.declared.CallRules.{CallRules}
 use Rattle.places.specs.declared.Span.{Span}
 use Rattle.places.specs.Step.{rulesOf, nextOf, unclearFor, placed}
-use Rattle.places.specs.Helpers.{Lawful, Roomy}
+use Rattle.places.specs.Helpers.{LawfulCalls, Roomy}
 use Rattle.places.proofs.Bounds.{rules-lawful}
 use Rattle.places.proofs.Marked.{lawful-marked, next-marked}
 use Rattle.slots.specs.declared.Answer as call
@@ -22,7 +22,7 @@ use Rattle.slots.specs.Buffers.{Buffers, buffers}
 use Rattle.slots.specs.Placements.{placement, valueAt}
 use Rattle.slots.specs.Refusals.{firstOf, isRefused}
 use Rattle.slots.proofs.Refusals.{not-refused}
-use Rattle.unmarshal.specs.Helpers.{Ready, Readable}
+use Rattle.unmarshal.specs.Helpers.{InBuffers, Readable}
 use Rattle.read.specs.Read.{argumentAnswer}
 use Rattle.walker.specs.declared.Answer.{Answer}
 use Rattle.walker.specs.declared.Counters.{Counters}
@@ -38,13 +38,13 @@ use Rattle.walking.proofs.Parts.{part-area, part-length, possible-offse
 use Rattle.walking.proofs.Steps.{near, span, Passed, lengths-passed, step-unclear, step-lengths, step-answer, step-done, step-moves, step-ready, step-readable}
 
 -- the rules without and with the mark, the cursor at offset 0 and the size
-pub record Went (w : Walker) (t : ValueType) (plain r : Rules) (d : Cursor) (n : ℕ) : Type 0 where
+pub record Went (w : Walker) (t : ValueType) (plain r : CallRules) (d : Cursor) (n : ℕ) : Type 0 where
   pub plain-is : plain ≡ rulesOf (w .convention)
   pub rules-is : r ≡ rulesBy w
   pub cursor-is : d ≡ local (cursorAt plain (w .at))
   pub size-is : n ≡ sizeBy w t
 
-module _ (w : Walker) (t : ValueType) (plain r : Rules) (d : Cursor) (n : ℕ) (g : Went w t plain r d n) (base : ℕ) (image area copies : List ℕ) where
+module _ (w : Walker) (t : ValueType) (plain r : CallRules) (d : Cursor) (n : ℕ) (g : Went w t plain r d n) (base : ℕ) (image area copies : List ℕ) where
   abbrev b : Buffers
   b = buffers image area copies
 
@@ -52,10 +52,10 @@ module _ (w : Walker) (t : ValueType) (plain r : Rules) (d : Cursor) (n : ℕ) (
   offset = cursorOf w .stack
 
   at-near : d ≡ near w t base b
-  at-near = g .cursor-is ∙ ap (λ (x : Rules). local (cursorAt x (w .at))) (g .plain-is)
+  at-near = g .cursor-is ∙ ap (λ (x : CallRules). local (cursorAt x (w .at))) (g .plain-is)
 
   clear-is : (u : Bool) → unclearFor plain d t ≡ u → unclearFor (rulesOf (w .convention)) (near w t base b) t ≡ u
-  clear-is u e = ap₂ (λ (x : Rules) (y : Cursor). unclearFor x y t) (sym (g .plain-is)) (sym at-near) ∙ e
+  clear-is u e = ap₂ (λ (x : CallRules) (y : Cursor). unclearFor x y t) (sym (g .plain-is)) (sym at-near) ∙ e
 
   -- ---- what the calls ask
 
@@ -63,7 +63,7 @@ module _ (w : Walker) (t : ValueType) (plain r : Rules) (d : Cursor) (n : ℕ) (
     pub went-roomy : Roomy d
     went-roomy = rw at-near (local-roomy (rulesOf (w .convention)) (w .hidden) (w .at) (found-possible w found))
 
-    pub went-lawful : Lawful r
+    pub went-lawful : LawfulCalls r
     went-lawful = rw (g .rules-is) (lawful-marked (w .ellipsis) (rulesOf (w .convention)) (rules-lawful (w .convention)))
 
     pub went-size : n ≤ 256
@@ -91,7 +91,7 @@ module _ (w : Walker) (t : ValueType) (plain r : Rules) (d : Cursor) (n : ℕ) (
     next-is = ap (λ (x : Placed). x .next) q ∙ rw (g .rules-is, at-near, g .size-is)
 
     from-is : m ≡ min offset (length area)
-    from-is = from ∙ ap (λ (x : ℕ). min x (length area)) (at ∙ ap (λ (x : Rules). cursorAt x (w .at) .stack) (g .plain-is))
+    from-is = from ∙ ap (λ (x : ℕ). min x (length area)) (at ∙ ap (λ (x : CallRules). cursorAt x (w .at) .stack) (g .plain-is))
 
     abbrev part : List ℕ
     part = take (length area - m) (drop m area)
@@ -120,7 +120,7 @@ module _ (w : Walker) (t : ValueType) (plain r : Rules) (d : Cursor) (n : ℕ) (
         pub went-value : n ≤ v
         went-value = omega (arith, passed .value, g .size-is)
 
-        pub went-ready : Ready r (length image) (length part) (placement t n (p .span))
+        pub went-ready : InBuffers r (length image) (length part) (placement t n (p .span))
         went-ready = rw (g .rules-is, g .size-is, span-is, part-is) (step-ready w t base b found known (passed .image) (passed .inside))
 
         pub went-readable : (a : call.Answer) → a ≡ argumentAnswer r base (placement t n (p .span)) (buffers image part copies) → isRefused a ≡ false

@@ -7,7 +7,7 @@ use Rattle.types.specs.declared.ValueType.{ValueType}
 use Rattle.types.specs.Sizes.{Sized}
 use Rattle.types.specs.Trees.{Tree, typeOf}
 use Rattle.places.specs.declared.Cursor.{Cursor}
-use Rattle.places.specs.declared.Rules.{Rules}
+use Rattle.places.specs.declared.CallRules.{CallRules}
 use Rattle.walker.specs.declared.Counters.{Counters}
 use Rattle.walker.specs.Walker.{counters, areaOffset, maxCounter}
 
@@ -18,16 +18,16 @@ pub record Declared (c : Convention) (t : ValueType) : Type 0 where
   pub sized : Sized c t
 
 -- counters whose offset in the area is a number: their words' bytes, or what is past the header
-abbrev pub Offset : Rules → Counters → Type 0
-Offset (Rules.Power f) k = f .word ≤ 8
-Offset Rules.Z k = areaOffset ≤ k .stack
+abbrev pub Offset : CallRules → Counters → Type 0
+Offset (CallRules.Power f) k = f .word ≤ 8
+Offset CallRules.Z k = areaOffset ≤ k .stack
 
 -- a cursor whose counters are numbers
-abbrev pub Countable : Rules → Cursor → Type 0
-Countable (Rules.Power f) d = (1 ≤ f .word) × (1 ≤ d .floating) × (d .stack ≤ maxCounter)
-Countable Rules.Z d = d .stack ≤ maxCounter
+abbrev pub Countable : CallRules → Cursor → Type 0
+Countable (CallRules.Power f) d = (1 ≤ f .word) × (1 ≤ d .floating) × (d .stack ≤ maxCounter)
+Countable CallRules.Z d = d .stack ≤ maxCounter
 
 -- the counters k, and from offset 0 on those of the cursor d
-unfoldable pub countersAfter : Rules → Counters → Cursor → Counters
-countersAfter (Rules.Power f) k d = counters (k .general + d .stack / f .word) (d .floating - 1) 0
-countersAfter Rules.Z k d = counters (d .general) (d .floating) (k .stack + d .stack)
+unfoldable pub countersAfter : CallRules → Counters → Cursor → Counters
+countersAfter (CallRules.Power f) k d = counters (k .general + d .stack / f .word) (d .floating - 1) 0
+countersAfter CallRules.Z k d = counters (d .general) (d .floating) (k .stack + d .stack)

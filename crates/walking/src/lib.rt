@@ -4,9 +4,9 @@ use conventions::Convention;
 use items::Fault;
 use items::ItemRead;
 use items::Refusal;
+use places::CallRules;
 use places::Cursor;
 use places::IMAGE_BYTES;
-use places::Rules;
 use places::Span;
 use signature::Outcome;
 use signature::ResultType;
@@ -37,17 +37,17 @@ ghost use Rattle.walking.specs.Helpers.{Declared, Offset, Countable, cou
 // ---- the counters
 
 // The counters k, and from offset 0 of the area on those of a cursor.
-fn counters_after(r: Rules, k: Counters, d: Cursor) -> Counters
+fn counters_after(r: CallRules, k: Counters, d: Cursor) -> Counters
     requires { ⌜ Small k × Countable r d ⌝ }
     ensures { λ x. ⌜ x ≡ countersAfter r k d ⌝ }
 {
     match r {
-        Rules::Power(f) => Counters {
+        CallRules::Power(f) => Counters {
             general: k.general + (d.stack / f.word) as u64,
             floating: (d.floating - 1) as u64,
             stack: 0,
         },
-        Rules::Z => Counters {
+        CallRules::Z => Counters {
             general: d.general as u64,
             floating: d.floating as u64,
             stack: k.stack + d.stack as u64,
@@ -56,18 +56,18 @@ fn counters_after(r: Rules, k: Counters, d: Cursor) -> Counters
 }
 
 // The cursor that counters stand for, at offset 0.
-fn local_cursor(r: Rules, k: Counters) -> Cursor
+fn local_cursor(r: CallRules, k: Counters) -> Cursor
     requires { ⌜ Small k ⌝ }
     ensures { λ d. ⌜ d ≡ local (cursorAt r k) ⌝ }
 {
     match r {
-        Rules::Power(_) => Cursor {
+        CallRules::Power(_) => Cursor {
             general: 3 + words::smaller(k.general as usize, 8),
             floating: 1 + k.floating as usize,
             stack: 0,
             copies: 0,
         },
-        Rules::Z => Cursor {
+        CallRules::Z => Cursor {
             general: k.general as usize,
             floating: k.floating as usize,
             stack: 0,
@@ -77,13 +77,13 @@ fn local_cursor(r: Rules, k: Counters) -> Cursor
 }
 
 // Its offset in the area.
-fn offset_of(r: Rules, k: Counters) -> usize
+fn offset_of(r: CallRules, k: Counters) -> usize
     requires { ⌜ Small k × Offset r k ⌝ }
     ensures { λ n. ⌜ n ≡ cursorAt r k .stack ⌝ }
 {
     match r {
-        Rules::Power(f) => f.word * (k.general as usize),
-        Rules::Z => (k.stack - walker_words::AREA_OFFSET) as usize,
+        CallRules::Power(f) => f.word * (k.general as usize),
+        CallRules::Z => (k.stack - walker_words::AREA_OFFSET) as usize,
     }
 }
 

@@ -33,7 +33,7 @@ use Rattle.roundtrip.proofs.Arguments.{AllPut}
 use Rattle.roundtrip.proofs.Theorems.{Left, filled-left, filled-answer, read-left}
 use Rattle.roundtrip.proofs.Views.{length-homed, view-as-read}
 use Rattle.roundtrip.proofs.Hidden.{hidden-stands}
-use Rattle.rules.specs.declared.Rules.{Rules}
+use Rattle.rules.specs.declared.FrameRules.{FrameRules}
 use Rattle.rules.specs.declared.Frame.{Frame}
 use Rattle.rules.specs.declared.Registers.{Registers}
 use Rattle.rules.specs.Rules.{rules}
@@ -121,7 +121,7 @@ module _ (s values image area copies : List ℕ) (base hidden : ℕ) (filled : F
   abbrev c : Convention
   c = p .convention
 
-  abbrev k : Rules
+  abbrev k : FrameRules
   k = rules c
 
   stands : Left s values base b

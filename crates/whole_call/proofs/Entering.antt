@@ -11,11 +11,11 @@ use Rattle.saves.proofs.Words.{store-length, store-above}
 use Rattle.saves.proofs.Saving.{all-length, all-outside, outside-above}
 use Rattle.places.specs.declared.Bank.{Bank}
 use Rattle.conventions.specs.declared.Convention.{Convention}
-use Rattle.rules.specs.declared.Rules.{Rules}
+use Rattle.rules.specs.declared.FrameRules.{FrameRules}
 use Rattle.rules.specs.declared.Frame.{Frame}
 use Rattle.rules.specs.Rules.{rules}
 use Rattle.rules.specs.Frames.{withPointer, below, frameSize, chainWidth, saves}
-use Rattle.rules.specs.Helpers.{Lawful}
+use Rattle.rules.specs.Helpers.{LawfulFrames}
 use Rattle.rules.proofs.Conventions.{lawful}
 use Rattle.rules.proofs.Places.{chain-in, below-reach, ascending}
 use Rattle.machine.specs.declared.Answer.the-variants.{Accepted}
@@ -31,7 +31,7 @@ use Rattle.whole_call.specs.Put.{fileOf}
 use Rattle.whole_call.proofs.Lists.{part-agree}
 
 -- bytes from the header's end on
-entered-part : (k : Rules) → Lawful k → (s : State) (l : List ℕ) (f : Frame) (at n : ℕ) → CanEnter k s f → offset k s + k .header ≤ at → part at n (enteredMemory k s l f) ≡ part at n l
+entered-part : (k : FrameRules) → LawfulFrames k → (s : State) (l : List ℕ) (f : Frame) (at n : ℕ) → CanEnter k s f → offset k s + k .header ≤ at → part at n (enteredMemory k s l f) ≡ part at n l
 unfolding enteredMemory
 entered-part k law s l f at n y above =
     let fits : frameSize k f ≤ offset k s = omega (arith, y .room) in
@@ -44,14 +44,14 @@ entered-part k law s l f at n y above =
     ∙ store-above l (offset k s - frameSize k f) (chainWidth k f) (stackPointer k s) b (omega (arith, chain-in k law f (y .request) (offset k s) fits)))
 
 -- registers but the stack pointer
-entered-register : (k : Rules) (s : State) (f : Frame) (b : Bank) (n : ℕ) → (n ≡ k .pointer → b ≡ Bank.General → ⊥)
+entered-register : (k : FrameRules) (s : State) (f : Frame) (b : Bank) (n : ℕ) → (n ≡ k .pointer → b ≡ Bank.General → ⊥)
     → getD (fileOf b (entered k s f .registers)) n 0 ≡ getD (fileOf b (s .registers)) n 0
 unfolding entered withPointer
 entered-register k s f Bank.General n h = getD-set-other (s .registers .gpr) (k .pointer) n (stackPointer k s - frameSize k f) 0 (λ e. h e refl)
 entered-register k s f Bank.Floating n h = refl
 
 module _ (c : Convention) (os : List OpenEnter) (m : Machine) (i : Invariant (rules c) os m) (f : Frame) (e : answer (enter f) m ≡ Accepted) where
-  abbrev k : Rules
+  abbrev k : FrameRules
   k = rules c
 
   base : Base k m
@@ -62,13 +62,13 @@ module _ (c : Convention) (os : List OpenEnter) (m : Machine) (i : Invariant (ru
   judged = e
 
   can : CanEnter k (m .state) f
-  can = enter-yes k (m .state) (length (m .memory)) f (subst (λ (r : Rules). enterAnswer r (m .state) (length (m .memory)) f ≡ Accepted) (base .rules) judged) .1
+  can = enter-yes k (m .state) (length (m .memory)) f (subst (λ (r : FrameRules). enterAnswer r (m .state) (length (m .memory)) f ≡ Accepted) (base .rules) judged) .1
 
   enter-state : after (enter f) m .state ≡ entered k (m .state) f
-  enter-state = ap (λ o. o .state) (enter-accepted (m .state) (m .memory) f judged .0) ∙ ap (λ (r : Rules). entered r (m .state) f) (base .rules)
+  enter-state = ap (λ o. o .state) (enter-accepted (m .state) (m .memory) f judged .0) ∙ ap (λ (r : FrameRules). entered r (m .state) f) (base .rules)
 
   enter-memory : after (enter f) m .memory ≡ enteredMemory k (m .state) (m .memory) f
-  enter-memory = enter-accepted (m .state) (m .memory) f judged .1 ∙ ap (λ (r : Rules). enteredMemory r (m .state) (m .memory) f) (base .rules)
+  enter-memory = enter-accepted (m .state) (m .memory) f judged .1 ∙ ap (λ (r : FrameRules). enteredMemory r (m .state) (m .memory) f) (base .rules)
 
   pub enter-part : (at n : ℕ) → offset k (m .state) + k .header ≤ at → part at n (after (enter f) m .memory) ≡ part at n (m .memory)
   enter-part at n h = ap (part at n) enter-memory ∙ entered-part k (lawful c) (m .state) (m .memory) f at n can h

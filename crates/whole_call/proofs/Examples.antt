@@ -36,7 +36,7 @@ use Rattle.slots.specs.Arguments as slots
 use Rattle.slots.specs.Arguments.{argumentsOf, planFor}
 use Rattle.slots.specs.declared.Answer.{Answer}
 use Rattle.slots.proofs.Buffers.{putAll-lengths}
-use Rattle.fill.specs.Fill.{lengths, badCopies, fillTests, fillAnswer, fillBuffers, filledSlots}
+use Rattle.fill.specs.Fill.{fillLengths, badCopies, fillTests, fillAnswer, fillBuffers, filledSlots}
 use Rattle.roundtrip.specs.RoundTrip.{Filled, left, ReadBack}
 use Rattle.saves.specs.Saves.{store, load, saveRun}
 use Rattle.rules.specs.declared.Frame.{Frame}
@@ -112,7 +112,7 @@ leftBy x = left (x .signature) (x .values) (replicate 512 7) (x .area) (x .copie
 record Computed (x : Example) : Type 0 where
   bytes : allBytes (x .values) ≡ true
   low : x .base < 2 ^ 64
-  accepted : fillAnswer (x .signature) (lengths (x .values) (replicate 512 7) (x .area) (x .copies)) (x .base) (x .hidden) ≡ Answer.Done
+  accepted : fillAnswer (x .signature) (fillLengths (x .values) (replicate 512 7) (x .area) (x .copies)) (x .base) (x .hidden) ≡ Answer.Done
   by : planFor (x .signature) .convention ≡ x .convention
   room : planFor (x .signature) .area ≡ x .size
   some : (1 ≤ length (take (x .size) (leftBy x .area))) × (length (take (x .size) (leftBy x .area)) ≤ 256)
@@ -190,7 +190,7 @@ ppc64 = record {
   puts = writeRegister 0 3 4660 ∷ writeRegister 0 4 (2 ^ 64 - 2) ∷ writeRegister 1 1 4614256656552045848 ∷ writeMemory 4672 (replicate 64 9) ∷ [];
 }
 
-ppc64-filled : (fillAnswer (ppc64 .signature) (lengths (ppc64 .values) (replicate 512 7) (ppc64 .area) (ppc64 .copies)) (ppc64 .base) (ppc64 .hidden) ≡ Answer.Done)
+ppc64-filled : (fillAnswer (ppc64 .signature) (fillLengths (ppc64 .values) (replicate 512 7) (ppc64 .area) (ppc64 .copies)) (ppc64 .base) (ppc64 .hidden) ≡ Answer.Done)
     × (planFor (ppc64 .signature) .convention ≡ Convention.Ppc64) × (planFor (ppc64 .signature) .area ≡ 64)
 unfolding roundUp withField shapeOf typeOf countOf listed table bodyAt integerCode floatCode integerAt floatOf floatAt sequence sizedAt contentsAt itemBy structAt itemAt conventionCode conventionAt resultIn resultAt argumentsIn argumentsAt ellipsisAt afterEllipsis afterResult afterConvention signatureOf withEllipsis words fprs shareOf powerShare unclear zClass zSpanOf zNextOf spanOf nextOf unclearFor fresh startOf areaOf hiddenFor returning resultOf upFrom spansOf lastOf valuesOf tableOf planIn typesOf planAnswer firstUnclear called badCopies fillTests firstOf fillAnswer
 ppc64-filled = (refl, refl, refl)
@@ -238,7 +238,7 @@ z = record {
   puts = writeRegister 0 2 1 ∷ writeRegister 0 3 2 ∷ writeRegister 0 4 3 ∷ writeRegister 0 5 4 ∷ writeRegister 0 6 5 ∷ writeMemory 4552 (0 ∷ 0 ∷ 0 ∷ 0 ∷ 0 ∷ 0 ∷ 17 ∷ 208 ∷ []) ∷ [];
 }
 
-z-filled : (fillAnswer (z .signature) (lengths (z .values) (replicate 512 7) (z .area) (z .copies)) (z .base) (z .hidden) ≡ Answer.Done)
+z-filled : (fillAnswer (z .signature) (fillLengths (z .values) (replicate 512 7) (z .area) (z .copies)) (z .base) (z .hidden) ≡ Answer.Done)
     × (planFor (z .signature) .convention ≡ Convention.Z) × (planFor (z .signature) .area ≡ 8)
 unfolding roundUp withField shapeOf typeOf countOf listed table bodyAt integerCode floatCode integerAt floatOf floatAt sequence sizedAt contentsAt itemBy structAt itemAt conventionCode conventionAt resultIn resultAt argumentsIn argumentsAt ellipsisAt afterEllipsis afterResult afterConvention signatureOf withEllipsis words fprs shareOf powerShare unclear zClass zSpanOf zNextOf spanOf nextOf unclearFor fresh startOf areaOf hiddenFor returning resultOf upFrom spansOf lastOf valuesOf tableOf planIn typesOf planAnswer firstUnclear called badCopies fillTests firstOf fillAnswer
 z-filled = (refl, refl, refl)
@@ -286,7 +286,7 @@ aix = record {
   puts = writeRegister 0 3 16909060 ∷ writeRegister 0 4 84281096 ∷ writeRegister 0 5 (2 ^ 32 - 1) ∷ writeRegister 0 6 2 ∷ writeRegister 0 7 3 ∷ writeRegister 0 8 4 ∷ writeRegister 0 9 5 ∷ writeRegister 0 10 6 ∷ writeMemory 4632 (replicate 32 9 ++ (0 ∷ 0 ∷ 0 ∷ 7 ∷ [])) ∷ [];
 }
 
-aix-filled : (fillAnswer (aix .signature) (lengths (aix .values) (replicate 512 7) (aix .area) (aix .copies)) (aix .base) (aix .hidden) ≡ Answer.Done)
+aix-filled : (fillAnswer (aix .signature) (fillLengths (aix .values) (replicate 512 7) (aix .area) (aix .copies)) (aix .base) (aix .hidden) ≡ Answer.Done)
     × (planFor (aix .signature) .convention ≡ Convention.Aix) × (planFor (aix .signature) .area ≡ 36)
 unfolding roundUp withField shapeOf typeOf countOf listed table bodyAt integerCode floatCode integerAt floatOf floatAt sequence sizedAt contentsAt itemBy structAt itemAt conventionCode conventionAt resultIn resultAt argumentsIn argumentsAt ellipsisAt afterEllipsis afterResult afterConvention signatureOf withEllipsis words fprs shareOf powerShare unclear zClass zSpanOf zNextOf spanOf nextOf unclearFor fresh startOf areaOf hiddenFor returning resultOf upFrom spansOf lastOf valuesOf tableOf planIn typesOf planAnswer firstUnclear called badCopies fillTests firstOf fillAnswer
 aix-filled = (refl, refl, refl)
@@ -334,7 +334,7 @@ ppc64b = record {
   puts = writeRegister 1 1 72623859790382856 ∷ writeRegister 1 2 651345242494996240 ∷ writeRegister 0 5 5 ∷ writeMemory 4672 (replicate 64 9) ∷ [];
 }
 
-ppc64b-filled : (fillAnswer (ppc64b .signature) (lengths (ppc64b .values) (replicate 512 7) (ppc64b .area) (ppc64b .copies)) (ppc64b .base) (ppc64b .hidden) ≡ Answer.Done)
+ppc64b-filled : (fillAnswer (ppc64b .signature) (fillLengths (ppc64b .values) (replicate 512 7) (ppc64b .area) (ppc64b .copies)) (ppc64b .base) (ppc64b .hidden) ≡ Answer.Done)
     × (planFor (ppc64b .signature) .convention ≡ Convention.Ppc64b) × (planFor (ppc64b .signature) .area ≡ 64)
 unfolding roundUp withField shapeOf typeOf countOf listed table bodyAt integerCode floatCode integerAt floatOf floatAt sequence sizedAt contentsAt itemBy structAt itemAt conventionCode conventionAt resultIn resultAt argumentsIn argumentsAt ellipsisAt afterEllipsis afterResult afterConvention signatureOf withEllipsis words fprs shareOf powerShare unclear zClass zSpanOf zNextOf spanOf nextOf unclearFor fresh startOf areaOf hiddenFor returning resultOf upFrom spansOf lastOf valuesOf tableOf planIn typesOf planAnswer firstUnclear called badCopies fillTests firstOf fillAnswer
 ppc64b-filled = (refl, refl, refl)
@@ -382,7 +382,7 @@ ellipsis = record {
   puts = writeRegister 0 3 1 ∷ writeRegister 0 4 2 ∷ writeRegister 0 5 3 ∷ writeRegister 0 6 4 ∷ writeRegister 0 7 5 ∷ writeRegister 0 8 6 ∷ writeRegister 0 9 7 ∷ writeRegister 1 1 4614256656552045848 ∷ writeRegister 0 10 1074340347 ∷ writeMemory 4632 (replicate 32 9 ++ (84 ∷ 68 ∷ 45 ∷ 24 ∷ [])) ∷ [];
 }
 
-ellipsis-filled : (fillAnswer (ellipsis .signature) (lengths (ellipsis .values) (replicate 512 7) (ellipsis .area) (ellipsis .copies)) (ellipsis .base) (ellipsis .hidden) ≡ Answer.Done)
+ellipsis-filled : (fillAnswer (ellipsis .signature) (fillLengths (ellipsis .values) (replicate 512 7) (ellipsis .area) (ellipsis .copies)) (ellipsis .base) (ellipsis .hidden) ≡ Answer.Done)
     × (planFor (ellipsis .signature) .convention ≡ Convention.Aix) × (planFor (ellipsis .signature) .area ≡ 36)
 unfolding roundUp withField shapeOf typeOf countOf listed table bodyAt integerCode floatCode integerAt floatOf floatAt sequence sizedAt contentsAt itemBy structAt itemAt conventionCode conventionAt resultIn resultAt argumentsIn argumentsAt ellipsisAt afterEllipsis afterResult afterConvention signatureOf withEllipsis words fprs shareOf powerShare unclear zClass zSpanOf zNextOf spanOf nextOf unclearFor fresh startOf areaOf hiddenFor returning resultOf upFrom spansOf lastOf valuesOf tableOf planIn typesOf planAnswer firstUnclear called badCopies fillTests firstOf fillAnswer
 ellipsis-filled = (refl, refl, refl)

@@ -25,7 +25,7 @@ use Rattle.signature.specs.Read.{signatureOf}
 use Rattle.signature.specs.Answer.{resultType, signatureAnswer}
 use Rattle.places.specs.declared.Bank.{Bank}
 use Rattle.places.specs.declared.Cursor.{Cursor}
-use Rattle.places.specs.declared.Rules.{Rules}
+use Rattle.places.specs.declared.CallRules.{CallRules}
 use Rattle.places.specs.declared.Span.{Span}
 use Rattle.places.specs.declared.ResultPlaces.{ResultPlaces}
 use Rattle.places.specs.Step.{rulesOf, withEllipsis, wordOf}
@@ -71,22 +71,22 @@ pick-bytes : (t : Bool) (a b : List ℕ) → Bytes a → Bytes b → Bytes (pick
 pick-bytes true a b h k = h
 pick-bytes false a b h k = k
 
-home-bytes : (r : Rules) (t : ValueType) (n : ℕ) (v : List ℕ) → Bytes v → Bytes (homeBytes r t n v)
+home-bytes : (r : CallRules) (t : ValueType) (n : ℕ) (v : List ℕ) → Bytes v → Bytes (homeBytes r t n v)
 unfolding homeBytes
 home-bytes r t n v h =
     pick-bytes (startsAtHead r t) _ _ (bytes-append v (replicate (roomOf r n - n) 0) h (bytes-replicate (roomOf r n - n) 0 (omega arith)))
     (bytes-bytesOf (roomOf r n) (extended t n (valueOf v)))
 
-standing-bytes : (r : Rules) (base : ℕ) (p : Placement) (v : List ℕ) → Bytes v → Bytes (standing r base p v)
+standing-bytes : (r : CallRules) (base : ℕ) (p : Placement) (v : List ℕ) → Bytes v → Bytes (standing r base p v)
 unfolding standing
 standing-bytes r base p v h = pick-bytes (p .span .indirect) _ _ (bytes-bytesOf (wordOf r) (base + p .span .copy .start)) (home-bytes r (p .ty) (p .size) v h)
 
-form-bytes : (r : Rules) (e : Equivalent) (v : List ℕ) → Bytes v → Bytes (floatForm r e v)
+form-bytes : (r : CallRules) (e : Equivalent) (v : List ℕ) → Bytes v → Bytes (floatForm r e v)
 form-bytes r Equivalent.Single v h = bytes-bytesOf 8 (singleWord r (valueOf v))
 form-bytes r Equivalent.Double v h = h
 form-bytes r Equivalent.Nothing v h = h
 
-float-bytes : (r : Rules) (t : ValueType) (v : List ℕ) → Bytes v → Bytes (floatBytes r t v)
+float-bytes : (r : CallRules) (t : ValueType) (v : List ℕ) → Bytes v → Bytes (floatBytes r t v)
 unfolding floatBytes
 float-bytes r t v h = form-bytes r (equivalentOf t) v h
 
@@ -153,7 +153,7 @@ run-part image b first count n p q =
     part-part (imageAt b first) (8 * count) (8 * i) 8 image (omega arith)
     ∙ ap (λ (at : ℕ). part at 8 image) (image-more b first i ∙ ap (imageAt b) e)
 
-span-bytes : (r : Rules) (base : ℕ) (p : Placement) (v : List ℕ) (b : Buffers) → Put r base p v b → OfSpan (OfBytes (wordOf r) (b .image)) (p .span)
+span-bytes : (r : CallRules) (base : ℕ) (p : Placement) (v : List ℕ) (b : Buffers) → Put r base p v b → OfSpan (OfBytes (wordOf r) (b .image)) (p .span)
 unfolding bytesAt
 span-bytes r base p v b h =
     let s : Span = p .span in
@@ -174,7 +174,7 @@ span-bytes r base p v b h =
           (spread-words (wordOf r) k (standing r base p v) (h .given .held .word .1) (standing-bytes r base p v (h .given .bytes)) size i (omega arith));
     }
 
-all-bytes : (r : Rules) (base : ℕ) (ps : List Placement) (v : List ℕ) (b : Buffers) → AllPut r base ps v b
+all-bytes : (r : CallRules) (base : ℕ) (ps : List Placement) (v : List ℕ) (b : Buffers) → AllPut r base ps v b
     → All (λ (p : Placement). OfSpan (OfBytes (wordOf r) (b .image)) (p .span)) ps
 unfolding AllPut All
 all-bytes r base [] v b h = tt
@@ -192,7 +192,7 @@ module _ (P : Register → Type 0) where
   none-each zero = tt
   none-each (suc n) = (none-of, none-each n)
 
-  fold-each : (c : Convention) (r : Rules) (k : Cursor) (ts : List ValueType) → All (λ (p : Placement). OfSpan P (p .span)) (placements c ts (spansOf c r k ts))
+  fold-each : (c : Convention) (r : CallRules) (k : Cursor) (ts : List ValueType) → All (λ (p : Placement). OfSpan P (p .span)) (placements c ts (spansOf c r k ts))
       → Each (OfSpan P) (spansOf c r k ts)
   unfolding placements spansOf All Each
   fold-each c r k [] h = tt
@@ -204,7 +204,7 @@ module _ (P : Register → Type 0) where
       let c : Convention = g .convention in
       let ts : List ValueType = typesOf c (g .arguments) in
       let k : Cursor = startIn c (resultType c (g .result)) in
-      let r : Rules = withEllipsis (g .ellipsis) (rulesOf c) in
+      let r : CallRules = withEllipsis (g .ellipsis) (rulesOf c) in
       let ss : List Span = spansOf c r k ts in
       each-both (OfSpan P) ss (replicate (maxArguments - length ss) noSpan) (fold-each c r k ts (subst (All (λ (p : Placement). OfSpan P (p .span))) (arguments-got g next n) h))
       (none-each (maxArguments - length ss))

@@ -9,11 +9,11 @@ use lib.ListN.{length, length-append}
 use Rattle.words.specs.Splice.{splice}
 use Rattle.words.proofs.Splices.{splice-append, splice-nothing}
 use Rattle.conventions.specs.declared.Convention.{Convention}
-use Rattle.rules.specs.declared.Rules.{Rules}
+use Rattle.rules.specs.declared.FrameRules.{FrameRules}
 use Rattle.rules.specs.declared.Frame.{Frame}
 use Rattle.rules.specs.Rules.{rules}
 use Rattle.rules.specs.Frames.{outgoingLength, below, frameSize}
-use Rattle.rules.specs.Helpers.{Lawful}
+use Rattle.rules.specs.Helpers.{LawfulFrames}
 use Rattle.rules.proofs.Places.{size-parts}
 use Rattle.machine.specs.declared.Answer.the-variants.{Accepted}
 use Rattle.machine.specs.declared.Refusal.the-variants.{NotPermitted}
@@ -32,11 +32,11 @@ use Rattle.whole_call.specs.Put.{callersArea, joined, Short}
 use Rattle.whole_call.proofs.Steps.{run, AllAccepted, openedBy, call-keeps}
 
 -- any 1 to 256 bytes from the address lo up to hi may be written
-abbrev pub Region : Rules → State → ℕ → ℕ → Type 0
+abbrev pub Region : FrameRules → State → ℕ → ℕ → Type 0
 Region k s lo hi = (a n : ℕ) → 1 ≤ n → n ≤ 256 → lo ≤ a → a + n ≤ hi → writableAddress k s a n ≡ true
 
 -- the own outgoing area
-area-region : (k : Rules) (s : State) (f : Frame) → top k s ≡ f → f .leaf ≡ false → s .base ≤ stackPointer k s
+area-region : (k : FrameRules) (s : State) (f : Frame) → top k s ≡ f → f .leaf ≡ false → s .base ≤ stackPointer k s
     → Region k s (stackPointer k s + k .header) (stackPointer k s + k .header + outgoingLength k f)
 unfolding writableAddress writableBytes
 area-region k s f e solid over a n some small low high =
@@ -51,7 +51,7 @@ area-region k s f e solid over a n some small low high =
     )
 
 -- the own locals, of a function that was entered
-locals-region : (k : Rules) (s : State) (f : Frame) → top k s ≡ f → f .leaf ≡ false → s .base ≤ stackPointer k s → 0 < s .depth
+locals-region : (k : FrameRules) (s : State) (f : Frame) → top k s ≡ f → f .leaf ≡ false → s .base ≤ stackPointer k s → 0 < s .depth
     → Region k s (stackPointer k s + k .header + outgoingLength k f) (stackPointer k s + frameSize k f - below (k .linkage) k f)
 unfolding writableAddress writableBytes
 locals-region k s f e solid over deep a n some small low high =
@@ -68,7 +68,7 @@ locals-region k s f e solid over deep a n some small low high =
     (or-right (inside (a - s .base) n (outgoingFrom k f (offset k s)) (localsFrom k f (offset k s))) true refl)
 
 -- the caller's outgoing area, of a function that was entered, a leaf or not
-callers-region : (k : Rules) (s : State) (f g : Frame) → top k s ≡ f → caller k s ≡ g → s .base ≤ stackPointer k s → 0 < s .depth
+callers-region : (k : FrameRules) (s : State) (f g : Frame) → top k s ≡ f → caller k s ≡ g → s .base ≤ stackPointer k s → 0 < s .depth
     → Region k s (stackPointer k s + frameSize k f + k .header) (stackPointer k s + frameSize k f + k .header + outgoingLength k g)
 unfolding writableAddress writableBytes
 callers-region k s f g e d over deep a n some small low high =
@@ -85,7 +85,7 @@ callers-region k s f g e d over deep a n some small low high =
     (or-right (inside (a - s .base) n (outgoingFrom k f (offset k s)) (localsFrom k f (offset k s))) _
     (or-right (inside (a - s .base) n (localsFrom k f (offset k s)) (offset k s + frameSize k f - below (k .linkage) k f)) true refl))
 
-module _ (k : Rules) where
+module _ (k : FrameRules) where
   pub own-area : (os : List OpenEnter) (m : Machine) → Invariant k os m → callerOf k os .leaf ≡ false
       → Region k (m .state) (stackPointer k (m .state) + k .header) (stackPointer k (m .state) + k .header + outgoingLength k (callerOf k os))
   own-area os m i solid = area-region k (m .state) (callerOf k os) (top-is k os m i) solid (omega (arith, base-of k os m i .sound .over))
@@ -103,7 +103,7 @@ module _ (k : Rules) where
 -- ---- one write
 
 module _ (c : Convention) (os : List OpenEnter) (m : Machine) (i : Invariant (rules c) os m) (a : ℕ) (bs : List ℕ) (may : writableAddress (rules c) (m .state) a (length bs) ≡ true) where
-  abbrev k : Rules
+  abbrev k : FrameRules
   k = rules c
 
   base : Base k m
@@ -117,7 +117,7 @@ module _ (c : Convention) (os : List OpenEnter) (m : Machine) (i : Invariant (ru
       ∙ rw may
 
   judged : writeMemoryAnswer (rulesOf (m .state)) (m .state) (length (m .memory)) a (length bs) ≡ Accepted
-  judged = subst (λ (r : Rules). writeMemoryAnswer r (m .state) (length (m .memory)) a (length bs) ≡ Accepted) (sym (base .rules)) allowed
+  judged = subst (λ (r : FrameRules). writeMemoryAnswer r (m .state) (length (m .memory)) a (length bs) ≡ Accepted) (sym (base .rules)) allowed
 
   put-accepted : answer (writeMemory a bs) m ≡ Accepted
   unfolding writeMemoryOutcome
@@ -184,7 +184,7 @@ pieces-fit a (bs ∷ rest) = (tt, pieces-fit (a + length bs) rest)
 -- ---- where it lies
 
 -- the running function's outgoing area lies in the memory
-pub area-inside : (k : Rules) → Lawful k → (os : List OpenEnter) (m : Machine) → Invariant k os m → callerOf k os .leaf ≡ false
+pub area-inside : (k : FrameRules) → LawfulFrames k → (os : List OpenEnter) (m : Machine) → Invariant k os m → callerOf k os .leaf ≡ false
     → offset k (m .state) + k .header + outgoingLength k (callerOf k os) ≤ length (m .memory)
 area-inside k law [] m i solid = omega (arith, law .head, i .0 .sound .sum, i .0 .sound .over, i .0 .sound .length)
 area-inside k law (o ∷ os) m i solid =
@@ -192,7 +192,7 @@ area-inside k law (o ∷ os) m i solid =
     omega (arith, size-parts k law (o .request) (i .1 .request) solid, i .1 .pointer, i .1 .base, i .1 .size, was .sound .sum, i .0 .sound .over, i .0 .sound .length)
 
 -- and so do its locals
-pub locals-inside : (k : Rules) → Lawful k → (o : OpenEnter) (os : List OpenEnter) (m : Machine) → Invariant k (o ∷ os) m
+pub locals-inside : (k : FrameRules) → LawfulFrames k → (o : OpenEnter) (os : List OpenEnter) (m : Machine) → Invariant k (o ∷ os) m
     → offset k (m .state) + frameSize k (o .request) ≤ length (m .memory)
 locals-inside k law o os m i =
     let was = base-of k os (o .before) (i .2) in

@@ -17,7 +17,7 @@ use Rattle.slots.specs.Buffers.{Buffers}
 use Rattle.slots.specs.Arguments.{planFor, rulesFor}
 use Rattle.roundtrip.specs.RoundTrip.{Filled, left}
 use Rattle.roundtrip.proofs.Theorems.{Left, filled-left}
-use Rattle.rules.specs.declared.Rules.{Rules}
+use Rattle.rules.specs.declared.FrameRules.{FrameRules}
 use Rattle.rules.specs.declared.Frame.{Frame}
 use Rattle.rules.specs.Rules.{rules}
 use Rattle.rules.specs.Frames.{outgoingLength}
@@ -55,7 +55,7 @@ module _ (s values image area copies : List ℕ) (base hidden : ℕ) (filled : F
   abbrev c : Convention
   c = p .convention
 
-  abbrev k : Rules
+  abbrev k : FrameRules
   k = rules c
 
   stands : Left s values base b

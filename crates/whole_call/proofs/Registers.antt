@@ -11,11 +11,11 @@ use lib.ListN.{length, getD, set}
 use lib.Seq.{getD-set-same, getD-set-other}
 use Rattle.places.specs.declared.Bank.{Bank}
 use Rattle.conventions.specs.declared.Convention.{Convention}
-use Rattle.rules.specs.declared.Rules.{Rules}
+use Rattle.rules.specs.declared.FrameRules.{FrameRules}
 use Rattle.rules.specs.declared.Registers.{Registers}
 use Rattle.rules.specs.Rules.{rules}
 use Rattle.rules.specs.Frames.{bankOf, writable, writableRegister, withRegister}
-use Rattle.rules.specs.Helpers.{Lawful}
+use Rattle.rules.specs.Helpers.{LawfulFrames}
 use Rattle.rules.proofs.Conventions.{lawful, writable-lt}
 use Rattle.rules.proofs.Places.{limit-64}
 use Rattle.machine.specs.declared.Answer.the-variants.{Accepted}
@@ -37,11 +37,11 @@ abbrev pub Holds : List ℕ → Registers → Register → Type 0
 Holds image r x = heldIn r x ≡ inImage image x
 
 -- the largest number that a register of a bank takes: a word's, and 64 bits in a floating register
-abbrev pub mostIn : Rules → Bank → ℕ
+abbrev pub mostIn : FrameRules → Bank → ℕ
 mostIn k Bank.General = k .limit
 mostIn k Bank.Floating = 2 ^ 64 - 1
 
-pub most-64 : (k : Rules) → Lawful k → (b : Bank) (v : ℕ) → v ≤ mostIn k b → v < 2 ^ 64
+pub most-64 : (k : FrameRules) → LawfulFrames k → (b : Bank) (v : ℕ) → v ≤ mostIn k b → v < 2 ^ 64
 most-64 k law Bank.General v h = omega (arith, limit-64 k law)
 most-64 k law Bank.Floating v h = omega arith
 
@@ -85,15 +85,15 @@ written-holds image r y h = go (y .bank) h
     go Bank.Floating h = getD-set-same (r .fpr) (y .number) _ 0 h
 
 -- what a frame may write is one of the 32
-pub free-below : (k : Rules) → Lawful k → (from n : ℕ) (b : Bank) → writable (bankIn k b) from n ≡ true → n < 32
+pub free-below : (k : FrameRules) → LawfulFrames k → (from n : ℕ) (b : Bank) → writable (bankIn k b) from n ≡ true → n < 32
 free-below k law from n Bank.General p = writable-lt (k .gpr) (k .end) (law .gpr) from n p
 free-below k law from n Bank.Floating p = writable-lt (k .fpr) (k .end) (law .fpr) from n p
 
-pub file-length : (k : Rules) (m : Machine) → Base k m → (b : Bank) → length (fileOf b (m .state .registers)) ≡ 32
+pub file-length : (k : FrameRules) (m : Machine) → Base k m → (b : Bank) → length (fileOf b (m .state .registers)) ≡ 32
 file-length k m h Bank.General = h .fit .gprs
 file-length k m h Bank.Floating = h .fit .fprs
 
-free-writable : (k : Rules) (f : _) (x : Register) (v : ℕ) → Free k f x → v ≤ mostIn k (x .bank) → writableRegister k f (bankOf (bankNumber (x .bank))) (x .number) v ≡ true
+free-writable : (k : FrameRules) (f : _) (x : Register) (v : ℕ) → Free k f x → v ≤ mostIn k (x .bank) → writableRegister k f (bankOf (bankNumber (x .bank))) (x .number) v ≡ true
 unfolding bankOf writableRegister
 free-writable k f x v = go (x .bank)
   where
@@ -102,7 +102,7 @@ free-writable k f x v = go (x .bank)
     go Bank.Floating p q = p
 
 module _ (c : Convention) (os : List OpenEnter) (image : List ℕ) where
-  abbrev k : Rules
+  abbrev k : FrameRules
   k = rules c
 
   -- a register that may be written, of a value that it takes
@@ -123,7 +123,7 @@ module _ (c : Convention) (os : List OpenEnter) (image : List ℕ) where
 
     judged : writeRegisterAnswer (rulesOf (m .state)) (m .state) (length (m .memory)) (bankNumber (y .bank)) (y .number) (inImage image y) ≡ Accepted
     judged =
-        subst (λ (r : Rules). writeRegisterAnswer r (m .state) (length (m .memory)) (bankNumber (y .bank)) (y .number) (inImage image y) ≡ Accepted) (sym (base .rules)) allowed
+        subst (λ (r : FrameRules). writeRegisterAnswer r (m .state) (length (m .memory)) (bankNumber (y .bank)) (y .number) (inImage image y) ≡ Accepted) (sym (base .rules)) allowed
 
     put-accepted : answer (writeOf image y) m ≡ Accepted
     unfolding writeRegisterOutcome

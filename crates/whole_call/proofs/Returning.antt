@@ -18,7 +18,7 @@ use Rattle.signature.specs.Read.{signatureOf}
 use Rattle.signature.specs.Answer.{resultType}
 use Rattle.places.specs.declared.Bank.{Bank}
 use Rattle.places.specs.declared.PowerRules.{PowerRules}
-use Rattle.places.specs.declared.Rules as arguments
+use Rattle.places.specs.declared.CallRules as arguments
 use Rattle.places.specs.declared.ResultPlaces.{ResultPlaces}
 use Rattle.places.specs.declared.ZClass.{ZClass}
 use Rattle.places.specs.Values.{pointer}
@@ -27,9 +27,9 @@ use Rattle.places.specs.Step.{rulesOf, wordOf, spanOf, fresh, hiddenFor, return
 use Rattle.places.specs.Spots.{general, floating}
 use Rattle.places.proofs.Bounds.{Named, named-fresh}
 use Rattle.places.proofs.Registers.{step-registers}
-use Rattle.plan.specs.Plan.{resultIn, planIn, planAnswer}
+use Rattle.plan.specs.Plan.{resultPlacesIn, planIn, planAnswer}
 use Rattle.slots.specs.Arguments.{planFor}
-use Rattle.rules.specs.declared.Rules.{Rules}
+use Rattle.rules.specs.declared.FrameRules.{FrameRules}
 use Rattle.rules.specs.declared.Frame.{Frame}
 use Rattle.rules.specs.declared.Registers.{Registers}
 use Rattle.rules.specs.Rules.{rules}
@@ -46,31 +46,31 @@ use Rattle.whole_call.specs.Caller.{Each, bankIn, firstSaved}
 use Rattle.whole_call.proofs.Named.{OfSpan, in-spans}
 
 -- a register below those that a request may save, and not the stack pointer
-pub record Volatile (k : Rules) (x : Register) : Type 0 where
+pub record Volatile (k : FrameRules) (x : Register) : Type 0 where
   pub low : x .number < bankIn k (x .bank) .request .first
   pub other : x .bank ≡ Bank.General → x .number ≡ k .pointer → ⊥
 
-float-volatile : (k : Rules) (n : ℕ) → n < k .fpr .request .first → Volatile k (register Bank.Floating n)
+float-volatile : (k : FrameRules) (n : ℕ) → n < k .fpr .request .first → Volatile k (register Bank.Floating n)
 float-volatile k n h = record { low = h; other = λ e q. let z : _≡_ {A = ℕ} 0 1 = cc in omega arith }
 
-general-volatile : (k : Rules) (n : ℕ) → n < k .gpr .request .first → (n ≡ k .pointer → ⊥) → Volatile k (register Bank.General n)
+general-volatile : (k : FrameRules) (n : ℕ) → n < k .gpr .request .first → (n ≡ k .pointer → ⊥) → Volatile k (register Bank.General n)
 general-volatile k n h q = record { low = h; other = λ e. q }
 
 -- ---- where a result is
 
 -- r2 or f0
-z-result : (class : ZClass) (n : ℕ) → OfSpan (Volatile (rules Convention.Z)) (zSpanOf (fresh arguments.Rules.Z) class n)
+z-result : (class : ZClass) (n : ℕ) → OfSpan (Volatile (rules Convention.Z)) (zSpanOf (fresh arguments.CallRules.Z) class n)
 unfolding zSpanOf fresh
 z-result ZClass.Float n = record { floats = λ i p. float-volatile _ i (omega arith); generals = λ i p. general-volatile _ i (omega arith) (λ e. omega arith) }
 z-result ZClass.Simple n = record { floats = λ i p. float-volatile _ i (omega arith); generals = λ i p. general-volatile _ i (omega arith) (λ e. omega arith) }
 z-result ZClass.Reference n = record { floats = λ i p. float-volatile _ i (omega arith); generals = λ i p. general-volatile _ i (omega arith) (λ e. omega arith) }
 
 -- argument registers of PowerPC, which are below those that any of its frames saves
-power-result : (k : Rules) → 11 ≤ k .gpr .request .first → 14 ≤ k .fpr .request .first → k .pointer ≡ 1 → (f : PowerRules) (t : ValueType) (n : ℕ)
-    → OfSpan (Volatile k) (spanOf (returning (arguments.Rules.Power f)) (fresh (arguments.Rules.Power f)) t n)
+power-result : (k : FrameRules) → 11 ≤ k .gpr .request .first → 14 ≤ k .fpr .request .first → k .pointer ≡ 1 → (f : PowerRules) (t : ValueType) (n : ℕ)
+    → OfSpan (Volatile k) (spanOf (returning (arguments.CallRules.Power f)) (fresh (arguments.CallRules.Power f)) t n)
 unfolding returning fresh
 power-result k gpr fpr one f t n =
-    let later : arguments.Rules = returning (arguments.Rules.Power f) in
+    let later : arguments.CallRules = returning (arguments.CallRules.Power f) in
     let first : Named later (fresh later) = named-fresh later in
     record {
       floats = λ i p. let a = step-registers later (fresh later) t n (floating i) first p in float-volatile k i (omega arith);
@@ -84,7 +84,7 @@ held-result Convention.Z t n = z-result (zClass t n) n
 held-result Convention.Aix t n = power-result (rules Convention.Aix) (omega arith) (omega arith) refl _ t n
 held-result Convention.Ppc64b t n = power-result (rules Convention.Ppc64b) (omega arith) (omega arith) refl _ t n
 
-result-in : (c : Convention) (r : ResultType) → Each (OfSpan (Volatile (rules c))) (resultSpans (resultIn c r))
+result-in : (c : Convention) (r : ResultType) → Each (OfSpan (Volatile (rules c))) (resultSpans (resultPlacesIn c r))
 unfolding resultOf Each
 result-in c ResultType.Nothing = tt
 result-in c (ResultType.Value t) = go (hiddenFor (rulesOf c) t)
@@ -107,18 +107,18 @@ result-volatile s = in-spans (Volatile (rules (planFor s .convention))) (resultS
 -- ---- a leave
 
 -- what is below the first register that the frame saved stays
-restored-volatile : (k : Rules) (f : Frame) (at : ℕ) (l : List ℕ) (p : ℕ) (r : Registers) (b : Bank) (n : ℕ) → Volatile k (register b n) → n < firstSaved b f
+restored-volatile : (k : FrameRules) (f : Frame) (at : ℕ) (l : List ℕ) (p : ℕ) (r : Registers) (b : Bank) (n : ℕ) → Volatile k (register b n) → n < firstSaved b f
     → heldIn (restored k f at l p r) (register b n) ≡ heldIn r (register b n)
 unfolding restored
 restored-volatile k f at l p r Bank.General n v h =
     getD-set-other (taken (r .gpr) l (gprSave (k .linkage) k f at [])) (k .pointer) n p 0 (v .other refl) ∙ taken-under (gprSave (k .linkage) k f at []) (r .gpr) l n h
 restored-volatile k f at l p r Bank.Floating n v h = taken-under (fprSave k f at []) (r .fpr) l n h
 
-least-saved : (k : Rules) (f : Frame) → okRequest k f ≡ true → (b : Bank) → bankIn k b .request .first ≤ firstSaved b f
+least-saved : (k : FrameRules) (f : Frame) → okRequest k f ≡ true → (b : Bank) → bankIn k b .request .first ≤ firstSaved b f
 least-saved k f e Bank.General = ranges k f e .gpr .0
 least-saved k f e Bank.Floating = ranges k f e .fpr .0
 
-pub leave-result : (k : Rules) (o : OpenEnter) (os : List OpenEnter) (m : Machine) → Invariant k (o ∷ os) m → answer leave m ≡ Accepted
+pub leave-result : (k : FrameRules) (o : OpenEnter) (os : List OpenEnter) (m : Machine) → Invariant k (o ∷ os) m → answer leave m ≡ Accepted
     → (x : Register) → Volatile k x → heldIn (after leave m .state .registers) x ≡ heldIn (m .state .registers) x
 unfolding leaveOutcome left
 leave-result k o os m i e x v =

@@ -14,15 +14,15 @@ use Rattle.words.proofs.Numbers.{bytes-bytesOf, bytes-append, bytesOf-value, va
 use Rattle.conventions.specs.declared.Convention.{Convention}
 use Rattle.types.specs.declared.ValueType.{ValueType}
 use Rattle.places.specs.declared.Bank.{Bank}
-use Rattle.places.specs.declared.Rules.{Rules}
+use Rattle.places.specs.declared.CallRules.{CallRules}
 use Rattle.places.specs.declared.Span.{Span}
 use Rattle.slots.specs.Buffers.{Buffers, buffers, bytesAt}
 use Rattle.slots.specs.Placements.{Placement, placements, copyBytes}
 use Rattle.slots.specs.Helpers.{Fits, All}
 use Rattle.roundtrip.proofs.Arguments.{Put, AllPut}
-use Rattle.rules.specs.declared.Rules as frames
+use Rattle.rules.specs.declared.FrameRules as frames
 use Rattle.rules.specs.declared.Registers.{Registers}
-use Rattle.rules.specs.Helpers.{Lawful}
+use Rattle.rules.specs.Helpers.{LawfulFrames}
 use Rattle.whole_call.specs.Put.{Register, register, fileOf, wordsOf, imageOf, imageAt, inImage}
 use Rattle.whole_call.specs.Caller.{Each}
 use Rattle.whole_call.proofs.Lists.{words-length, words-at}
@@ -42,7 +42,7 @@ part-eight : (image : List ℕ) → length image ≡ 512 → (b : Bank) (n : ℕ
 part-eight image size b n h = length-part (imageAt b n) 8 image (omega (arith, image-room b n h))
 
 -- what it has for a register is a number that the register takes
-pub image-fits : (k : frames.Rules) → Lawful k → (image : List ℕ) → length image ≡ 512 → (x : Register) → x .number < 32 → OfBytes (k .word) image x → inImage image x ≤ mostIn k (x .bank)
+pub image-fits : (k : frames.FrameRules) → LawfulFrames k → (image : List ℕ) → length image ≡ 512 → (x : Register) → x .number < 32 → OfBytes (k .word) image x → inImage image x ≤ mostIn k (x .bank)
 image-fits k law image size x h o = go (x .bank) o
   where
     go : (b : Bank) → OfBytes (k .word) image (register b (x .number)) → inImage image (register b (x .number)) ≤ mostIn k b
@@ -110,7 +110,7 @@ run-same i j b first (suc count) h =
 -- ---- the arguments
 
 -- of two sets of buffers: the image of the one has the same for an argument's registers, its area and copies are the first a and m bytes of the other's
-module _ (r : Rules) (base a m : ℕ) (b : Buffers) (image : List ℕ) (size : length image ≡ 512) (area-room : a ≤ length (b .area)) (copies-room : m ≤ length (b .copies)) where
+module _ (r : CallRules) (base a m : ℕ) (b : Buffers) (image : List ℕ) (size : length image ≡ 512) (area-room : a ≤ length (b .area)) (copies-room : m ≤ length (b .copies)) where
   abbrev c : Buffers
   c = buffers image (take a (b .area)) (take m (b .copies))
 

@@ -2,7 +2,7 @@
 use mathlib.Core.Path.{_≡_, refl, sym, subst}
 use mathlib.Core.List.{List, [], _∷_, _++_}
 use Rattle.conventions.specs.declared.Convention.{Convention}
-use Rattle.rules.specs.declared.Rules.{Rules}
+use Rattle.rules.specs.declared.FrameRules.{FrameRules}
 use Rattle.rules.specs.Rules.{rules}
 use Rattle.rules.proofs.Conventions.{lawful}
 use Rattle.machine.specs.declared.Answer.the-variants.{Accepted}
@@ -43,9 +43,9 @@ pub leave-holds : (c : Convention) (o : OpenEnter) (os : List OpenEnter) (m : Ma
     → (answer leave m ≡ Accepted) × Preserved (rules c) o os (after leave m)
 unfolding leaveOutcome
 leave-holds c o os m i =
-    let k : Rules = rules c in
+    let k : FrameRules = rules c in
     let e : answer leave m ≡ Accepted
-    = subst (λ (r : Rules). leaveAnswer r (m .state) (m .memory) ≡ Accepted) (sym (i .0 .rules)) (leave-accepted k (lawful c) o os m i) in
+    = subst (λ (r : FrameRules). leaveAnswer r (m .state) (m .memory) ≡ Accepted) (sym (i .0 .rules)) (leave-accepted k (lawful c) o os m i) in
     (e, step k (lawful c) leave tt (o ∷ os) m i Accepted e .0)
 
 -- ---- two lists of calls one after the other

@@ -10,8 +10,8 @@ use Rattle.places.specs.declared.Bank.{Bank}
 use Rattle.plan.specs.declared.Plan.{Plan}
 use Rattle.plan.specs.Call.{outcomeFor}
 use Rattle.slots.specs.Arguments.{planFor}
-use Rattle.rules.specs.declared.Bank as frames
-use Rattle.rules.specs.declared.Rules.{Rules}
+use Rattle.rules.specs.declared.BankRules as frames
+use Rattle.rules.specs.declared.FrameRules.{FrameRules}
 use Rattle.rules.specs.declared.Frame.{Frame}
 use Rattle.rules.specs.Rules.{rules}
 use Rattle.rules.specs.Frames.{firstGpr, firstFpr, outgoingLength, below, frameSize, writable}
@@ -29,7 +29,7 @@ Each P [] = Unit {0}
 Each P (x ∷ xs) = P x × Each P xs
 
 -- the frames' rules for a bank, and the first register of it that a frame saved
-abbrev pub bankIn : Rules → Bank → frames.Bank
+abbrev pub bankIn : FrameRules → Bank → frames.BankRules
 bankIn k Bank.General = k .gpr
 bankIn k Bank.Floating = k .fpr
 
@@ -38,7 +38,7 @@ firstSaved Bank.General f = firstGpr f
 firstSaved Bank.Floating f = firstFpr f
 
 -- the frame f may write a register: it is volatile, or f saved it
-abbrev pub Free : Rules → Frame → Register → Type 0
+abbrev pub Free : FrameRules → Frame → Register → Type 0
 Free k f x = writable (bankIn k (x .bank)) (firstSaved (x .bank) f) (x .number) ≡ true
 
 -- The running function, which is the latest open enter or the start, can call by the plan p: it is no leaf ("Enter above a leaf gives new refusal 28"), its outgoing area has
@@ -51,7 +51,7 @@ pub record CanCall (p : Plan) (os : List OpenEnter) (m : Lent) : Type 0 where
   pub free : Each (Free (rules (p .convention)) (callerOf (rules (p .convention)) os)) (named p)
 
 -- n bytes at the address a lie in the locals of the frame f, which is running: "own locals (all between the outgoing area and the saves)"
-pub record InLocals (k : Rules) (f : Frame) (m : Machine) (a n : ℕ) : Type 0 where
+pub record InLocals (k : FrameRules) (f : Frame) (m : Machine) (a n : ℕ) : Type 0 where
   pub from : ownArea k m + outgoingLength k f ≤ a
   pub to : a + n + below (k .linkage) k f ≤ stackPointer k (m .state) + frameSize k f
 

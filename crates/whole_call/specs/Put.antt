@@ -13,7 +13,7 @@ use Rattle.places.specs.declared.ResultPlaces.{ResultPlaces}
 use Rattle.places.specs.Places.{upFrom}
 use Rattle.plan.specs.declared.Plan.{Plan}
 use Rattle.slots.specs.Buffers.{Buffers, buffers, generalAt, floatingAt}
-use Rattle.rules.specs.declared.Rules.{Rules}
+use Rattle.rules.specs.declared.FrameRules.{FrameRules}
 use Rattle.rules.specs.declared.Frame.{Frame}
 use Rattle.rules.specs.declared.Registers.{Registers}
 use Rattle.rules.specs.Frames.{frameSize}
@@ -37,15 +37,15 @@ abbrev pub bytesIn : ℕ → ℕ → Machine → List ℕ
 bytesIn a n m = part (a - m .state .base) n (m .memory)
 
 -- where the running function's outgoing area starts: "Outgoing areas start at 48 .. on PPC64, at 160 on Z", on AIX "starting at 24"
-abbrev pub ownArea : Rules → Machine → ℕ
+abbrev pub ownArea : FrameRules → Machine → ℕ
 ownArea k m = stackPointer k (m .state) + k .header
 
 -- and where its caller's does, by its own stack pointer and the size of its own frame, which it entered by the request f; a leaf's is 0
-abbrev pub callersArea : Rules → Frame → Machine → ℕ
+abbrev pub callersArea : FrameRules → Frame → Machine → ℕ
 callersArea k f m = stackPointer k (m .state) + frameSize k f + k .header
 
 -- What a callee that was entered by the request f finds: its registers, n bytes of its caller's outgoing area, and the copies
-abbrev pub found : Rules → Frame → ℕ → List ℕ → Machine → Buffers
+abbrev pub found : FrameRules → Frame → ℕ → List ℕ → Machine → Buffers
 found k f n copies m = buffers (imageOf (m .state .registers)) (bytesIn (callersArea k f m) n m) copies
 
 -- ---- the registers that a plan names

@@ -14,7 +14,7 @@ use Rattle.slots.specs.Arguments.{planFor, rulesFor}
 use Rattle.home_slot.specs.Homes.{homeless}
 use Rattle.roundtrip.specs.RoundTrip.{Filled, left, ReadBack}
 use Rattle.roundtrip.specs.Views.{homedArea, Viewed}
-use Rattle.rules.specs.declared.Rules.{Rules}
+use Rattle.rules.specs.declared.FrameRules.{FrameRules}
 use Rattle.rules.specs.declared.Frame.{Frame}
 use Rattle.rules.specs.Rules.{rules}
 use Rattle.machine.specs.declared.Answer.the-variants.{Accepted}
@@ -30,7 +30,7 @@ use Rattle.whole_call.specs.Put.{bytesIn, ownArea, callersArea, found, R
 -- ---- what is claimed of the callee
 
 -- the frames' rules of a signature's bytes s; and what a callee that was entered by the request f finds of its call
-abbrev pub framesFor : List ℕ → Rules
+abbrev pub framesFor : List ℕ → FrameRules
 framesFor s = rules (planFor s .convention)
 
 abbrev pub seen : List ℕ → Frame → List ℕ → Machine → Buffers

@@ -13,11 +13,11 @@ ghost use mathlib.Core.Path.{_≡_};
 ghost use Prim.Native.Nat.{_+_, _^_, _≤_, _<_};
 ghost use lib.ListN.{length};
 ghost use Rattle.signature.specs.Read.{argumentsIn, signatureOf};
-ghost use Rattle.signature.specs.Answer.{refused, signatureAnswer};
+ghost use Rattle.signature.specs.Answer.{refusedSignature, signatureAnswer};
 ghost use Rattle.signature.specs.Helpers.{withArguments};
 
 fn refuse(fault: Fault) -> SignatureRead
-    ensures { λ r. ⌜ r ≡ refused fault ⌝ }
+    ensures { λ r. ⌜ r ≡ refusedSignature fault ⌝ }
 {
     let arguments = signature::no_arguments();
     SignatureRead {

@@ -3,7 +3,7 @@ use Prim.Native.Nat.{ℕ}
 use mathlib.Core.Path.{_≡_, sym, _∙_, subst}
 use mathlib.Core.List.{List, [], _∷_}
 use lib.ListN.{length}
-use Rattle.rules.specs.declared.Rules.{Rules}
+use Rattle.rules.specs.declared.FrameRules.{FrameRules}
 use Rattle.rules.specs.Rules.{rules}
 use Rattle.word_layout.specs.Words.{machineWords, registersIn}
 use Rattle.word_layout.proofs.Theorems.{start-state}
@@ -15,7 +15,7 @@ use Rattle.word_history.specs.Demand3.{machineIn, callIn, callsIn}
 use Rattle.word_history.specs.Floor.{FloorHolds, KeepsFloor}
 use Rattle.word_history.proofs.Theorem.{reading-after, words-length, start-length, registers-fit}
 
-floor-read : (k : Rules) (cs : List Call) (m : Lent) → length (m .words) ≡ machineWords → states-floor.FloorHolds k (callsIn cs) (machineIn m) → FloorHolds k cs m
+floor-read : (k : FrameRules) (cs : List Call) (m : Lent) → length (m .words) ≡ machineWords → states-floor.FloorHolds k (callsIn cs) (machineIn m) → FloorHolds k cs m
 floor-read k [] m h p = p
 floor-read k (c ∷ cs) m h p =
     let e = reading-after c m h in (

@@ -10,7 +10,7 @@ use lib.Seq.{getD-drop}
 use Rattle.words.specs.Splice.{part}
 use Rattle.words.proofs.Splices.{length-splice, length-part}
 use Rattle.conventions.specs.declared.Convention.{Convention}
-use Rattle.rules.specs.declared.Rules.{Rules}
+use Rattle.rules.specs.declared.FrameRules.{FrameRules}
 use Rattle.rules.specs.Rules.{rules}
 use Rattle.rules.specs.Frames.{noFrame, withPointer, cleared}
 use Rattle.rules.proofs.Halves.{lowered-length}
@@ -88,7 +88,7 @@ start-length c rs b n h = go (startAnswer c b n)
 
 -- ---- a list of calls
 
-holds-read : (k : Rules) (cs : List Call) (os : List OpenEnter) (m : Lent) → length (m .words) ≡ machineWords → states-kept.Holds k (callsIn cs) os (machineIn m) → Holds k cs os m
+holds-read : (k : FrameRules) (cs : List Call) (os : List OpenEnter) (m : Lent) → length (m .words) ≡ machineWords → states-kept.Holds k (callsIn cs) os (machineIn m) → Holds k cs os m
 holds-read k [] os m h p = tt
 holds-read k (c ∷ cs) os m h p =
     let e = reading-after c m h in

@@ -6,7 +6,7 @@ use mathlib.Core.Path.{_≡_}
 use mathlib.Core.List.{List, [], _∷_}
 use lib.ListN.{getD, length}
 use Rattle.conventions.specs.declared.Convention.{Convention}
-use Rattle.rules.specs.declared.Rules.{Rules}
+use Rattle.rules.specs.declared.FrameRules.{FrameRules}
 use Rattle.rules.specs.Rules.{rules}
 use Rattle.machine.specs.declared.Answer.the-variants.{Accepted}
 use Rattle.machine.specs.Machine.{startOutcome}
@@ -34,7 +34,7 @@ callsIn (c ∷ cs) = callIn c ∷ callsIn cs
 -- ---- a list of calls
 
 -- of a whole list of calls from what m lends, with the enters os open: a leave is refused exactly when no enter is open, and keeps what it must where it is accepted
-abbrev pub Holds : Rules → List Call → List OpenEnter → Lent → Type 0
+abbrev pub Holds : FrameRules → List Call → List OpenEnter → Lent → Type 0
 Holds k [] os m = Unit {0}
 Holds k (c ∷ cs) os m = CallHolds k (callIn c) (answer c m) os (machineIn (after c m)) × Holds k cs (openAfter (callIn c) (answer c m) (machineIn m) os) (after c m)
 

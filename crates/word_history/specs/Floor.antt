@@ -6,7 +6,7 @@ use mathlib.Core.Path.{_≡_}
 use mathlib.Core.List.{List, [], _∷_}
 use lib.ListN.{length}
 use Rattle.conventions.specs.declared.Convention.{Convention}
-use Rattle.rules.specs.declared.Rules.{Rules}
+use Rattle.rules.specs.declared.FrameRules.{FrameRules}
 use Rattle.rules.specs.Rules.{rules}
 use Rattle.machine.specs.declared.Answer.the-variants.{Accepted}
 use Rattle.machine.specs.Machine.{startOutcome}
@@ -18,7 +18,7 @@ use Rattle.word_history.specs.Demand3.{machineIn, callIn, callsIn, Words
 
 -- before the first of the calls and after each of them the floor is inside the memory, and each call leaves what lies below the stack pointer that it leaves behind,
 -- but for what is a leaf's
-abbrev pub FloorHolds : Rules → List Call → Lent → Type 0
+abbrev pub FloorHolds : FrameRules → List Call → Lent → Type 0
 FloorHolds k [] m = FloorInside k (machineIn m)
 FloorHolds k (c ∷ cs) m = FloorInside k (machineIn m) × Untouched k (callIn c) (machineIn m) (machineIn (after c m)) × FloorHolds k cs (after c m)
 

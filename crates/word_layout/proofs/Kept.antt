@@ -15,7 +15,7 @@ use Rattle.words.specs.Splice.{overlay, splice, part}
 use Rattle.words.proofs.Splices.{Apart, length-part, splice-one, splice-other}
 use Rattle.conventions.specs.declared.Convention.{Convention}
 use Rattle.conventions.specs.Numbers.{conventionCode}
-use Rattle.rules.specs.declared.Rules.{Rules}
+use Rattle.rules.specs.declared.FrameRules.{FrameRules}
 use Rattle.rules.specs.declared.RegisterBank.{RegisterBank}
 use Rattle.rules.specs.declared.RegisterBank.the-variants.{General, Floating, Link, ConditionField, None}
 use Rattle.rules.specs.Helpers.{Named}
@@ -108,7 +108,7 @@ module _ (ws : List ℕ) (n : length ws ≡ machineWords) (m : isMachine ws ≡ 
       ∙ rw (splice-part ws 4 32, splice-part ws 36 32, set-getD ws 68 0)
 
   -- a new stack pointer is one word
-  pub pointer-put : (k : Rules) (p : ℕ) → k .pointer < 32 → withRegisters ws (withPointer k (registersIn ws registersAt) p) ≡ set ws (4 + k .pointer) p
+  pub pointer-put : (k : FrameRules) (p : ℕ) → k .pointer < 32 → withRegisters ws (withPointer k (registersIn ws registersAt) p) ≡ set ws (4 + k .pointer) p
   unfolding withPointer registersIn
   pointer-put k p h = rw cr-kept (general-put (k .pointer) p h)
 
@@ -152,7 +152,7 @@ wordAfter ConditionField cr i v = withField cr i v
 wordAfter None cr i v = v
 
 module _ (ws : List ℕ) (n b i v : ℕ) (l : length ws ≡ machineWords) where
-  one-word : (k : Rules) → isMachine ws ≡ true → (c : RegisterBank) → Named c i v → writableRegister k (top k (stateIn ws)) c i v ≡ true
+  one-word : (k : FrameRules) → isMachine ws ≡ true → (c : RegisterBank) → Named c i v → writableRegister k (top k (stateIn ws)) c i v ≡ true
       → withRegisters ws (withRegister (registersIn ws registersAt) c i v) ≡ set ws (registerWord c i) (wordAfter c (getD ws 69 0) i v)
   unfolding registersIn withRegister writableRegister
   one-word k m General h w = rw (cr-kept ws l m) (general-put ws l m i v h)

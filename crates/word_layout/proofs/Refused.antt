@@ -9,7 +9,7 @@ use lib.Dec.{leb}
 use borrow.Author.Tests.{lt-leb}
 use Rattle.conventions.specs.declared.Convention.{Convention}
 use Rattle.conventions.specs.declared.Convention.the-variants.{Ppc64, Z, Aix, Ppc64b}
-use Rattle.rules.specs.declared.Rules.{Rules}
+use Rattle.rules.specs.declared.FrameRules.{FrameRules}
 use Rattle.rules.specs.Rules.{rules}
 use Rattle.rules.specs.Frames.{noFrame, okRegisters, okRequest}
 use Rattle.machine.specs.declared.Refusal.the-variants.{BadState}
@@ -23,17 +23,17 @@ and-no : (b : Bool) → (b && false) ≡ false
 and-no true = refl
 and-no false = refl
 
-no-state : (k : Rules) (ws : List ℕ) → isMachine ws ≡ false → okState k (stateIn ws) ≡ false
+no-state : (k : FrameRules) (ws : List ℕ) → isMachine ws ≡ false → okState k (stateIn ws) ≡ false
 unfolding okState stateIn depthIn
 no-state k ws h = rw h (and-no (okRegisters k (registersIn ws registersAt)))
 
 -- every answer but a start's is of this form
-pub no-machine : (k : Rules) (ws : List ℕ) (n : ℕ) (ts : List Test) → isMachine ws ≡ false → judge (stateTests k (stateIn ws) n ++ ts) ≡ Refused BadState
+pub no-machine : (k : FrameRules) (ws : List ℕ) (n : ℕ) (ts : List Test) → isMachine ws ≡ false → judge (stateTests k (stateIn ws) n ++ ts) ≡ Refused BadState
 unfolding judge
 no-machine k ws n ts h = rw (no-state k ws h)
 
 -- whatever the words rs handed in
-pub no-start : (c : Convention) (rs : List ℕ) (k : Rules) (n : ℕ) (ts : List Test) → judge (stateTests k (stateIn (refusedWords c rs)) n ++ ts) ≡ Refused BadState
+pub no-start : (c : Convention) (rs : List ℕ) (k : FrameRules) (n : ℕ) (ts : List Test) → judge (stateTests k (stateIn (refusedWords c rs)) n ++ ts) ≡ Refused BadState
 unfolding judge okState okMemory stateIn refusedWords
 no-start c rs k n ts =
     let s = stateIn (refusedWords c rs) in

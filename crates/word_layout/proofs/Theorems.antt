@@ -17,7 +17,7 @@ use Rattle.conventions.specs.declared.Convention.{Convention}
 use Rattle.conventions.specs.Numbers.{codeOf}
 use Rattle.conventions.proofs.Laws.{code-back}
 use Rattle.rules.specs.declared.Frame.{Frame}
-use Rattle.rules.specs.declared.Rules.{Rules}
+use Rattle.rules.specs.declared.FrameRules.{FrameRules}
 use Rattle.rules.specs.declared.Registers.{Registers}
 use Rattle.rules.specs.declared.RegisterBank.{RegisterBank}
 use Rattle.rules.specs.declared.RegisterBank.the-variants.{General, Floating, Link, ConditionField, None}
@@ -44,7 +44,7 @@ use Rattle.word_layout.proofs.ReadBack.{flag-back, cr-word, registers-s
 
 -- ---- what is read
 
-pub accepted-machine : (k : Rules) (ws : List ℕ) (n : ℕ) (ts : List Test) → judge (stateTests k (stateIn ws) n ++ ts) ≡ Accepted → isMachine ws ≡ true
+pub accepted-machine : (k : FrameRules) (ws : List ℕ) (n : ℕ) (ts : List Test) → judge (stateTests k (stateIn ws) n ++ ts) ≡ Accepted → isMachine ws ≡ true
 accepted-machine k ws n ts e = go (isMachine ws) refl
   where
     go : (b : Bool) → isMachine ws ≡ b → isMachine ws ≡ true
@@ -206,7 +206,7 @@ module _ (ws : List ℕ) (n b i v : ℕ) (l : length ws ≡ machineWords) where
 
 -- ---- leave
 
-restored-read : (k : Rules) (f : Frame) (s : ℕ) (m : List ℕ) (p : ℕ) (r : Registers) → Read r → Read (restored k f s m p r)
+restored-read : (k : FrameRules) (f : Frame) (s : ℕ) (m : List ℕ) (p : ℕ) (r : Registers) → Read r → Read (restored k f s m p r)
 unfolding restored
 restored-read k f s m p r y = record {
   gpr = simp length-set (taken-length (gprSave (k .linkage) k f s []) (r .gpr) m ∙ y .gpr);

@@ -1,13 +1,13 @@
 // Which bytes of the memory a frame may write: its own outgoing area and its locals, or a leaf's part of the floor; and its caller's outgoing area.
 ghost use mathlib.Core.Path.{_≡_};
 ghost use Prim.Native.Nat.{_+_, _≤_};
-ghost use Rattle.rules.specs.Helpers.{Lawful};
+ghost use Rattle.rules.specs.Helpers.{LawfulFrames};
 ghost use Rattle.rules.specs.Frames.{maxOutgoing, outgoingLength, maxMemory};
 ghost use Rattle.machine.specs.Machine.{inside, outgoingFrom, localsFrom, writableBytes, writableAddress};
 ghost use Rattle.machine.specs.Helpers.{Sound};
 use machine::State;
 use rules::Frame;
-use rules::Rules;
+use rules::FrameRules;
 
 // n bytes from offset a wholly inside the bytes from offset b up to e.
 fn lies_inside(a: usize, n: usize, b: usize, e: usize) -> bool
@@ -23,8 +23,8 @@ fn lies_inside(a: usize, n: usize, b: usize, e: usize) -> bool
 }
 
 // Where the own outgoing area and the locals of the frame f start, with its pointer at o.
-fn outgoing_from(k: Rules, f: Frame, o: usize) -> usize
-    requires { ⌜ (Lawful k) × (k .floor ≤ o) × (o ≤ maxMemory) ⌝ }
+fn outgoing_from(k: FrameRules, f: Frame, o: usize) -> usize
+    requires { ⌜ (LawfulFrames k) × (k .floor ≤ o) × (o ≤ maxMemory) ⌝ }
     ensures { λ r. ⌜ r ≡ outgoingFrom k f o ⌝ }
 {
     if f.leaf {
@@ -33,8 +33,8 @@ fn outgoing_from(k: Rules, f: Frame, o: usize) -> usize
     o + k.header
 }
 
-fn locals_from(k: Rules, f: Frame, o: usize) -> usize
-    requires { ⌜ (Lawful k) × (k .floor ≤ o) × (o ≤ maxMemory) × (outgoingLength k f ≤ maxOutgoing + 256) ⌝ }
+fn locals_from(k: FrameRules, f: Frame, o: usize) -> usize
+    requires { ⌜ (LawfulFrames k) × (k .floor ≤ o) × (o ≤ maxMemory) × (outgoingLength k f ≤ maxOutgoing + 256) ⌝ }
     ensures { λ r. ⌜ r ≡ localsFrom k f o ⌝ }
 {
     if f.leaf {
@@ -44,8 +44,8 @@ fn locals_from(k: Rules, f: Frame, o: usize) -> usize
 }
 
 // May the n bytes from offset a be written?
-fn bytes_writable(k: Rules, s: State, a: usize, n: usize, len: usize) -> bool
-    requires { ⌜ (Lawful k) × (Sound k s len) ⌝ }
+fn bytes_writable(k: FrameRules, s: State, a: usize, n: usize, len: usize) -> bool
+    requires { ⌜ (LawfulFrames k) × (Sound k s len) ⌝ }
     ensures { λ r. ⌜ r ≡ writableBytes k s a n ⌝ }
 {
     if n < 1 {
@@ -77,8 +77,8 @@ fn bytes_writable(k: Rules, s: State, a: usize, n: usize, len: usize) -> bool
 }
 
 // The same of n bytes at an address.
-pub fn address_writable(k: Rules, s: State, address: u64, n: usize, len: usize) -> bool
-    requires { ⌜ (Lawful k) × (Sound k s len) ⌝ }
+pub fn address_writable(k: FrameRules, s: State, address: u64, n: usize, len: usize) -> bool
+    requires { ⌜ (LawfulFrames k) × (Sound k s len) ⌝ }
     ensures { λ r. ⌜ r ≡ writableAddress k s address n ⌝ }
 {
     let b = s.base;

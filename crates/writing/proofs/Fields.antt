@@ -7,7 +7,7 @@ use native.Mathlib.Omega.{arith}
 use native.Mathlib.Nat.{div-add-mod', div-mul-le-self, pow-le-pow-right, mul-le-mul}
 use lib.Dec.{lit<}
 use lib.ListN.{length, getD}
-use Rattle.rules.specs.declared.Span.{Span}
+use Rattle.rules.specs.declared.RegisterSpan.{RegisterSpan}
 use Rattle.rules.specs.Rules.{span, inSpan, within}
 use Rattle.rules.specs.Frames.{unitOf}
 
@@ -16,11 +16,11 @@ or-false true = refl
 or-false false = refl
 
 -- a set of two spans
-pub two-left : (vs : List Span) (n : ℕ) → length vs ≡ 2 → inSpan (getD vs 0 (span 0 0)) n ≡ true → within vs n ≡ true
+pub two-left : (vs : List RegisterSpan) (n : ℕ) → length vs ≡ 2 → inSpan (getD vs 0 (span 0 0)) n ≡ true → within vs n ≡ true
 two-left [] n e h = absurd (omega arith)
 two-left (v ∷ vs) n e h = rw h
 
-pub two-right : (vs : List Span) (n : ℕ) → length vs ≡ 2 → inSpan (getD vs 0 (span 0 0)) n ≡ false → within vs n ≡ inSpan (getD vs 1 (span 0 0)) n
+pub two-right : (vs : List RegisterSpan) (n : ℕ) → length vs ≡ 2 → inSpan (getD vs 0 (span 0 0)) n ≡ false → within vs n ≡ inSpan (getD vs 1 (span 0 0)) n
 two-right [] n e h = absurd (omega arith)
 two-right (v ∷ []) n e h = absurd (omega arith)
 two-right (v ∷ w ∷ []) n e h = rw h (or-false (inSpan w n))

@@ -4,17 +4,17 @@ ghost use Prim.Native.Nat.{_≤_, _<_};
 ghost use Rattle.rules.specs.Rules.{within};
 ghost use Rattle.rules.specs.Frames.{writable, writableField, bankOf, writableRegister, unitOf, withField, withRegister};
 ghost use Rattle.rules.specs.Helpers.{Named};
-use rules::Bank;
+use rules::BankRules;
 use rules::Frame;
+use rules::FrameRules;
 use rules::RegisterBank;
+use rules::RegisterSpan;
 use rules::Registers;
-use rules::Rules;
-use rules::Span;
 
 // ---- what may be written
 
 // Is n among the registers of one of the spans?
-fn in_spans(vs: [Span; 2], n: usize) -> bool
+fn in_spans(vs: [RegisterSpan; 2], n: usize) -> bool
     ensures { λ r. ⌜ r ≡ within vs n ⌝ }
 {
     let a = vs[0];
@@ -26,7 +26,7 @@ fn in_spans(vs: [Span; 2], n: usize) -> bool
 }
 
 // May a frame that saves the registers of a bank from `from` on write register n?
-fn bank_writable(b: Bank, from: usize, n: usize) -> bool
+fn bank_writable(b: BankRules, from: usize, n: usize) -> bool
     ensures { λ r. ⌜ r ≡ writable b from n ⌝ }
 {
     let volatile = b.volatile;
@@ -39,7 +39,7 @@ fn bank_writable(b: Bank, from: usize, n: usize) -> bool
     n <= b.last
 }
 
-fn field_writable(k: Rules, f: Frame, n: usize, v: u64) -> bool
+fn field_writable(k: FrameRules, f: Frame, n: usize, v: u64) -> bool
     ensures { λ r. ⌜ r ≡ writableField k f n v ⌝ }
 {
     let linkage = k.linkage;
@@ -52,13 +52,13 @@ fn field_writable(k: Rules, f: Frame, n: usize, v: u64) -> bool
     if n <= 1 {
         return true;
     }
-    if rules::in_span(Span { first: 5, last: 7 }, n) {
+    if rules::in_span(RegisterSpan { first: 5, last: 7 }, n) {
         return true;
     }
     if !f.saves_cr {
         return false;
     }
-    rules::in_span(Span { first: 2, last: 4 }, n)
+    rules::in_span(RegisterSpan { first: 2, last: 4 }, n)
 }
 
 // The bank of a number.
@@ -80,7 +80,7 @@ pub fn bank_of(b: u64) -> RegisterBank
     RegisterBank::None
 }
 
-fn general_writable(k: Rules, f: Frame, n: usize, v: u64) -> bool
+fn general_writable(k: FrameRules, f: Frame, n: usize, v: u64) -> bool
     ensures { λ r. ⌜ r ≡ writableRegister k f RegisterBank.General n v ⌝ }
 {
     let general = k.gpr;
@@ -90,7 +90,7 @@ fn general_writable(k: Rules, f: Frame, n: usize, v: u64) -> bool
     v <= k.limit
 }
 
-fn link_writable(k: Rules, f: Frame, n: usize, v: u64) -> bool
+fn link_writable(k: FrameRules, f: Frame, n: usize, v: u64) -> bool
     ensures { λ r. ⌜ r ≡ writableRegister k f RegisterBank.Link n v ⌝ }
 {
     let linkage = k.linkage;
@@ -104,7 +104,7 @@ fn link_writable(k: Rules, f: Frame, n: usize, v: u64) -> bool
 }
 
 // May the frame f write v to register n of the bank b?
-pub fn register_writable(k: Rules, f: Frame, b: RegisterBank, n: usize, v: u64) -> bool
+pub fn register_writable(k: FrameRules, f: Frame, b: RegisterBank, n: usize, v: u64) -> bool
     ensures { λ r. ⌜ r ≡ writableRegister k f b n v ⌝ }
 {
     let floating = k.fpr;

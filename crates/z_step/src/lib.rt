@@ -1,7 +1,7 @@
 // One argument on Z: its class, and the register, the memory or the copy that the class asks for.
 ghost use mathlib.Core.Path.{_≡_};
 ghost use Prim.Native.Nat.{_+_, _-_, _*_, _≤_, min};
-ghost use Rattle.places.specs.declared.Rules.{Rules};
+ghost use Rattle.places.specs.declared.CallRules.{CallRules};
 ghost use Rattle.places.specs.ZSeries.{bySize, byEquivalent, zClass, zWord, zSpan, zNext, zSpanOf, zNextOf};
 ghost use Rattle.places.specs.Values.{bytes};
 ghost use Rattle.places.specs.Step.{placedAs, nextOf, placed};
@@ -165,7 +165,7 @@ fn place(c: Cursor, a: Taken) -> Placed
 
 pub fn step(c: Cursor, t: ValueType, size: usize) -> Placed
     requires { ⌜ Roomy c × (size ≤ maxSize) ⌝ }
-    ensures { λ r. ⌜ r ≡ placed Rules.Z c t size ⌝ }
+    ensures { λ r. ⌜ r ≡ placed CallRules.Z c t size ⌝ }
 {
     place(c, taken_of(c, class_of(t, size), size))
 }
@@ -173,7 +173,7 @@ pub fn step(c: Cursor, t: ValueType, size: usize) -> Placed
 // The next cursor of the step, without the span.
 pub fn advance(c: Cursor, t: ValueType, size: usize) -> Cursor
     requires { ⌜ Roomy c × (size ≤ maxSize) ⌝ }
-    ensures { λ k. ⌜ k ≡ nextOf Rules.Z c t size ⌝ }
+    ensures { λ k. ⌜ k ≡ nextOf CallRules.Z c t size ⌝ }
 {
     next_of(c, taken_of(c, class_of(t, size), size))
 }

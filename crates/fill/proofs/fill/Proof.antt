@@ -7,7 +7,7 @@ use Rattle.places.specs.Step.{wordOf}
 use Rattle.slots.specs.Arguments.{planFor, sizesFor, rulesFor}
 use Rattle.slots.proofs.Refusals.{not-refused}
 use Rattle.arguments.proofs.Table.{result-read}
-use Rattle.fill.specs.Fill.{lengths, fillAnswer, fillBuffers}
+use Rattle.fill.specs.Fill.{fillLengths, fillAnswer, fillBuffers}
 use Rattle.fill.proofs.Accepted.{tests-lent, all-ready, hidden-fits, word-size, word-read, answer-refused, answer-tested, hidden-length, buffers-kept, buffers-done}
 use borrow.Author.Needs.{needs}
 use Rattle.fill.proofs.fill.Statement.{statement}
@@ -52,7 +52,7 @@ result : (c : tie.After-high-address) → c .before .result-in .result ≡ planF
 result c = c .before .result-in .ensures ∙ sym (result-read _ _ (c .before .before .before .before .before .before .read-signature .ensures))
 
 -- so the tests give the answer
-answered : (c : tie.After-tested) → c .tested .result ≡ fillAnswer (c .before .before .before .before .before .before .before .before .before .before .before .before .before .args .sig .now) (lengths (c .before .before .before .before .before .before .before .before .before .before .before .before .before .args .values .now) (c .before .before .before .before .before .before .before .before .before .before .before .before .before .args .image .now) (c .before .before .before .before .before .before .before .before .before .before .before .before .before .args .area .now) (c .before .before .before .before .before .before .before .before .before .before .before .before .before .args .copies .now)) (c .before .before .before .before .before .before .before .before .before .before .before .before .before .args .base) (c .before .before .before .before .before .before .before .before .before .before .before .before .before .args .hidden)
+answered : (c : tie.After-tested) → c .tested .result ≡ fillAnswer (c .before .before .before .before .before .before .before .before .before .before .before .before .before .args .sig .now) (fillLengths (c .before .before .before .before .before .before .before .before .before .before .before .before .before .args .values .now) (c .before .before .before .before .before .before .before .before .before .before .before .before .before .args .image .now) (c .before .before .before .before .before .before .before .before .before .before .before .before .before .args .area .now) (c .before .before .before .before .before .before .before .before .before .before .before .before .before .args .copies .now)) (c .before .before .before .before .before .before .before .before .before .before .before .before .before .args .base) (c .before .before .before .before .before .before .before .before .before .before .before .before .before .args .hidden)
 answered c =
     let start = c .before .before .before .before .before .before .before .before .before .before .before .before .before in
     answer-tested (start .args .sig .now) _ (start .args .base) (start .args .hidden) _ _ _ _ _ _ (sizes (c .before .before .before .before .before .before)) (word (c .before)) (result (c .before)) (c .before .high-address .ensures) (c .before .before .before .before .enum-told .given .1) (c .tested .ensures)

@@ -15,7 +15,7 @@ use Rattle.slots.specs.Placements.{Placement, placement}
 use Rattle.slots.specs.Arguments.{rulesIn}
 use Rattle.arguments.specs.Table.{argumentsFrom}
 use Rattle.arguments.proofs.Table.{lawful-in, Walking, walking-start, walking-roomy, walking-hand, walking-more, walking-end}
-use Rattle.marshal.specs.Helpers.{Ready}
+use Rattle.marshal.specs.Helpers.{CanPut}
 use Rattle.fill.proofs.Turns.{Going, AtHand, going-start, at-hand, going-more, going-end}
 use Rattle.fill.proofs.put_arguments.Statement.{statement}
 use Rattle.fill.proofs.put_arguments.Tie as tie
@@ -23,7 +23,7 @@ use Rattle.fill.proofs.put_arguments.Tie as tie
 abbrev Inv-loop : tie.InvT-loop
 Inv-loop image₀ area₀ copies₀ values base g convention count rules c₀ v₀ i₀ image area copies c v i =
     Walking g c v i
-    × Going (rulesIn g) base (Ready (rulesIn g) base (length image₀) (length area₀) (length copies₀)) (argumentsFrom g) values (buffers image₀ area₀ copies₀) (buffers image area copies) v i
+    × Going (rulesIn g) base (CanPut (rulesIn g) base (length image₀) (length area₀) (length copies₀)) (argumentsFrom g) values (buffers image₀ area₀ copies₀) (buffers image area copies) v i
 
 abbrev μ-loop : tie.MeasureT-loop
 μ-loop image₀ area₀ copies₀ values base g convention count rules c₀ v₀ i₀ image area copies c v i = count - i
@@ -38,7 +38,7 @@ next c =
     rw (c .step .ensures, c .before .size-of .ensures, c .before .before .before .before .before .before .rules-in .ensures)
     (walking-hand (c .before .before .before .before .before .before .before .before .before .before .before .args .t4) (c .before .before .before .before .before .before .before .before .before .before .before .pre .plannable) _ _ _ (c .before .before .before .before .loop .inv .0) (c .before .before .before .loop-test .taken))
 
-known : (c : tie.After-step Inv-loop μ-loop) → AtHand (Ready (rulesIn (c .before .before .before .before .before .before .before .before .before .before .before .args .t4)) (c .before .before .before .before .before .before .before .before .before .before .before .args .base) (length (c .before .before .before .before .before .before .before .before .before .before .before .args .image .now)) (length (c .before .before .before .before .before .before .before .before .before .before .before .args .area .now)) (length (c .before .before .before .before .before .before .before .before .before .before .before .args .copies .now))) (hand c) (c .before .before .before .before .loop .v) (length (c .before .before .before .before .before .before .before .before .before .before .before .args .values .now))
+known : (c : tie.After-step Inv-loop μ-loop) → AtHand (CanPut (rulesIn (c .before .before .before .before .before .before .before .before .before .before .before .args .t4)) (c .before .before .before .before .before .before .before .before .before .before .before .args .base) (length (c .before .before .before .before .before .before .before .before .before .before .before .args .image .now)) (length (c .before .before .before .before .before .before .before .before .before .before .before .args .area .now)) (length (c .before .before .before .before .before .before .before .before .before .before .before .args .copies .now))) (hand c) (c .before .before .before .before .loop .v) (length (c .before .before .before .before .before .before .before .before .before .before .before .args .values .now))
 known c = at-hand _ _ _ _ _ _ _ _ _ _ (next c) (c .before .before .before .before .loop .inv .1)
 
 rules-in-requires : tie.Need-rules-in-requires Inv-loop μ-loop

@@ -1,7 +1,7 @@
 -- The answer decides: a refused call hands back what it was lent, an accepted one pushes the record and saves. Assumes nothing.
 use Rattle.machine.proofs.States.{enter-yes}
 use Rattle.machine.proofs.Outcomes.{enter-accepted, enter-refused}
-use Rattle.rules.specs.Helpers.{Lawful}
+use Rattle.rules.specs.Helpers.{LawfulFrames}
 use Rattle.rules.proofs.Conventions.{lawful}
 use denote.Ref.{now}
 use lib.ListN.{length}
@@ -29,7 +29,7 @@ push-requires c κs =
     let z = c .before .before .before .before .before in
     let frame-rules-of = c .before .before .before .frame-rules-of in
     let judge-enter = c .before .before .judge-enter in
-    let law : Lawful (frame-rules-of .result) = rw (frame-rules-of .ensures) (lawful (z .args .s .convention)) in
+    let law : LawfulFrames (frame-rules-of .result) = rw (frame-rules-of .ensures) (lawful (z .args .s .convention)) in
     (law, enter-yes (frame-rules-of .result) (z .args .s) (length (now (z .args .memory))) (z .args .f) (sym (judge-enter .ensures) ∙ c .enum-told .given .1) .1)
 
 save-frame-requires : tie.Need-save-frame-requires
@@ -38,7 +38,7 @@ save-frame-requires c κs =
     let frame-rules-of = c .before .before .before .before .before .frame-rules-of in
     let judge-enter = c .before .before .before .before .judge-enter in
     let enum-told = c .before .before .enum-told in
-    let law : Lawful (frame-rules-of .result) = rw (frame-rules-of .ensures) (lawful (z .args .s .convention)) in
+    let law : LawfulFrames (frame-rules-of .result) = rw (frame-rules-of .ensures) (lawful (z .args .s .convention)) in
     let y = enter-yes (frame-rules-of .result) (z .args .s) (length (now (z .args .memory))) (z .args .f) (sym (judge-enter .ensures) ∙ enum-told .given .1) in
     (law, y .0, y .1)
 

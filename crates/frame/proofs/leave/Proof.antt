@@ -1,7 +1,7 @@
 -- The answer decides: a refused call hands the state back, an accepted one pops the frame. Assumes nothing.
 use Rattle.machine.proofs.States.{leave-yes}
 use Rattle.machine.proofs.Outcomes.{leave-accepted, leave-refused}
-use Rattle.rules.specs.Helpers.{Lawful}
+use Rattle.rules.specs.Helpers.{LawfulFrames}
 use Rattle.rules.proofs.Conventions.{lawful}
 use denote.Ref.{now}
 use mathlib.Core.Path.{sym, _∙_}
@@ -28,7 +28,7 @@ pop-requires c κs =
     let z = c .before .before .before .before .before in
     let frame-rules-of = c .before .before .before .frame-rules-of in
     let judge-leave = c .before .before .judge-leave in
-    let law : Lawful (frame-rules-of .result) = rw (frame-rules-of .ensures) (lawful (z .args .s .convention)) in
+    let law : LawfulFrames (frame-rules-of .result) = rw (frame-rules-of .ensures) (lawful (z .args .s .convention)) in
     (law, leave-yes (frame-rules-of .result) (z .args .s) (now (z .args .memory)) (sym (judge-leave .ensures) ∙ c .enum-told .given .1))
 
 returns : tie.Need-returns

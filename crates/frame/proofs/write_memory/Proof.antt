@@ -4,7 +4,7 @@ use Rattle.machine.proofs.Areas.{address-yes}
 use Rattle.machine.proofs.States.{write-memory-yes}
 use Rattle.machine.proofs.Outcomes.{write-memory-accepted, write-memory-refused}
 use Rattle.machine.specs.Machine.{writtenMemory}
-use Rattle.rules.specs.Helpers.{Lawful}
+use Rattle.rules.specs.Helpers.{LawfulFrames}
 use Rattle.rules.proofs.Conventions.{lawful}
 use denote.Ref.{now}
 use lib.ListN.{length, length-take, length-drop}
@@ -36,7 +36,7 @@ sub-at c =
     let s = z .args .s in
     let frame-rules-of = c .before .before .before .frame-rules-of in
     let judge-write-memory = c .before .before .judge-write-memory in
-    let law : Lawful (frame-rules-of .result) = rw (frame-rules-of .ensures) (lawful (s .convention)) in
+    let law : LawfulFrames (frame-rules-of .result) = rw (frame-rules-of .ensures) (lawful (s .convention)) in
     let y = write-memory-yes (frame-rules-of .result) s (length l) (z .args .address) (length (now (z .args .bytes))) (sym (judge-write-memory .ensures) ∙ c .enum-told .given .1) in
     let at = address-yes (frame-rules-of .result) law s (length l) (y .0) (z .args .address) (length (now (z .args .bytes))) (y .1) in
     at .0
@@ -48,7 +48,7 @@ sub-put c =
     let s = z .args .s in
     let frame-rules-of = c .before .before .before .frame-rules-of in
     let judge-write-memory = c .before .before .judge-write-memory in
-    let law : Lawful (frame-rules-of .result) = rw (frame-rules-of .ensures) (lawful (s .convention)) in
+    let law : LawfulFrames (frame-rules-of .result) = rw (frame-rules-of .ensures) (lawful (s .convention)) in
     let y = write-memory-yes (frame-rules-of .result) s (length l) (z .args .address) (length (now (z .args .bytes))) (sym (judge-write-memory .ensures) ∙ c .enum-told .given .1) in
     let at = address-yes (frame-rules-of .result) law s (length l) (y .0) (z .args .address) (length (now (z .args .bytes))) (y .1) in
     omega arith
@@ -60,7 +60,7 @@ part-put-start c =
     let s = z .args .s in
     let frame-rules-of = c .before .before .before .frame-rules-of in
     let judge-write-memory = c .before .before .judge-write-memory in
-    let law : Lawful (frame-rules-of .result) = rw (frame-rules-of .ensures) (lawful (s .convention)) in
+    let law : LawfulFrames (frame-rules-of .result) = rw (frame-rules-of .ensures) (lawful (s .convention)) in
     let y = write-memory-yes (frame-rules-of .result) s (length l) (z .args .address) (length (now (z .args .bytes))) (sym (judge-write-memory .ensures) ∙ c .enum-told .given .1) in
     let at = address-yes (frame-rules-of .result) law s (length l) (y .0) (z .args .address) (length (now (z .args .bytes))) (y .1) in
     let h : z .args .address - s .base ≤ length l = omega arith in
@@ -76,7 +76,7 @@ put-requires c κs =
     let s = z .args .s in
     let frame-rules-of = c .before .before .before .before .frame-rules-of in
     let judge-write-memory = c .before .before .before .judge-write-memory in
-    let law : Lawful (frame-rules-of .result) = rw (frame-rules-of .ensures) (lawful (s .convention)) in
+    let law : LawfulFrames (frame-rules-of .result) = rw (frame-rules-of .ensures) (lawful (s .convention)) in
     let y = write-memory-yes (frame-rules-of .result) s (length l) (z .args .address) (length (now (z .args .bytes))) (sym (judge-write-memory .ensures) ∙ c .before .enum-told .given .1) in
     let at = address-yes (frame-rules-of .result) law s (length l) (y .0) (z .args .address) (length (now (z .args .bytes))) (y .1) in
     simp (length-take, length-drop) (omega arith)

@@ -6,7 +6,7 @@ use Rattle.machine.proofs.States.{write-register-yes}
 use Rattle.machine.proofs.Outcomes.{write-register-accepted, write-register-refused, registers-written}
 use Rattle.rules.specs.Frames.{bankOf}
 use Rattle.machine.specs.Machine.{top}
-use Rattle.rules.specs.Helpers.{Lawful}
+use Rattle.rules.specs.Helpers.{LawfulFrames}
 use Rattle.rules.proofs.Conventions.{lawful}
 use denote.Ref.{now}
 use lib.ListN.{length}
@@ -39,7 +39,7 @@ with-register-requires c κs =
     let frame-rules-of = c .before .before .before .before .before .frame-rules-of in
     let judge-write-register = c .before .before .before .before .judge-write-register in
     let enum-told = c .before .before .enum-told in
-    let law : Lawful (frame-rules-of .result) = rw (frame-rules-of .ensures) (lawful (s .convention)) in
+    let law : LawfulFrames (frame-rules-of .result) = rw (frame-rules-of .ensures) (lawful (s .convention)) in
     rw (c .before .bank-of .ensures) (writable-named (frame-rules-of .result) law (top (frame-rules-of .result) s) (bankOf (z .args .bank)) (z .args .number) (z .args .value) (write-register-yes (frame-rules-of .result) s (length (now (z .args .memory))) (z .args .bank) (z .args .number) (z .args .value) (sym (judge-write-register .ensures) ∙ enum-told .given .1) .1))
 
 returns : tie.Need-returns

@@ -14,7 +14,7 @@ use Rattle.places.specs.Step.{wordOf}
 use Rattle.slots.specs.Buffers.{buffers}
 use Rattle.slots.specs.Forms.{floatForm}
 use Rattle.slots.specs.Placements.{Placement, placement}
-use Rattle.marshal.specs.Helpers.{FloatRoom}
+use Rattle.marshal.specs.Helpers.{FprsTake}
 use Rattle.marshal.proofs.Arguments.{float-room, argument-float, argument-words, stands-address, stands-value, copy-none, copy-put}
 use Rattle.marshal.proofs.Pieces.{number-plain}
 use Rattle.slots.proofs.Limits.{one-address}
@@ -54,7 +54,7 @@ put-float-requires c κs =
     let at : ℕ = 256 + 8 * start .args .s .floating .first in
     let pre = start .pre in
     let room : 8 * start .args .s .floating .count ≤ length (take (length l - at) (drop at l)) = omega (arith, pre .fits .floating, pre .registers, length-take (length l - at) (drop at l), length-drop at l) in
-    subst (λ (e : Equivalent). FloatRoom e (length (start .args .v .now)) (length (take (length l - at) (drop at l)))) (sym (c .equivalent-of .ensures))
+    subst (λ (e : Equivalent). FprsTake e (length (start .args .v .now)) (length (take (length l - at) (drop at l)))) (sym (c .equivalent-of .ensures))
     (float-room (equivalentOf (start .args .t)) (start .args .s .floating .count) (length (start .args .v .now)) _ (pre .held .float (c .before .before .before .if1 .taken)) room)
 
 put-value-requires : tie.Need-put-value-requires

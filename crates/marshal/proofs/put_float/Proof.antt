@@ -9,7 +9,7 @@ use Rattle.words.specs.Numbers.{bytesOf, valueOf}
 use Rattle.words.proofs.Numbers.{value-below}
 use Rattle.types.specs.declared.Equivalent.{Equivalent}
 use Rattle.slots.specs.Forms.{singleWord}
-use Rattle.marshal.specs.Helpers.{FloatRoom}
+use Rattle.marshal.specs.Helpers.{FprsTake}
 use borrow.Author.Needs.{needs}
 use Rattle.marshal.proofs.put_float.Statement.{statement}
 use Rattle.marshal.proofs.put_float.Tie as tie
@@ -18,30 +18,30 @@ enum-told : tie.Need-enum-told
 enum-told c = search needs
 
 put-requires : tie.Need-put-requires
-put-requires c κs = subst (λ (e : Equivalent). FloatRoom e (length (c .before .before .before .before .before .args .v .now)) (length (c .before .before .before .before .before .args .place .now))) (c .before .enum-told .given .1) (c .before .before .before .before .before .pre)
+put-requires c κs = subst (λ (e : Equivalent). FprsTake e (length (c .before .before .before .before .before .args .v .now)) (length (c .before .before .before .before .before .args .place .now))) (c .before .enum-told .given .1) (c .before .before .before .before .before .pre)
 
 enum-told-2 : tie.Need-enum-told-2
 enum-told-2 c = search needs
 
 put-requires-2 : tie.Need-put-requires-2
-put-requires-2 c κs = subst (λ (e : Equivalent). FloatRoom e (length (c .before .before .before .before .before .args .v .now)) (length (c .before .before .before .before .before .args .place .now))) (c .before .enum-told2 .given .1) (c .before .before .before .before .before .pre)
+put-requires-2 c κs = subst (λ (e : Equivalent). FprsTake e (length (c .before .before .before .before .before .args .v .now)) (length (c .before .before .before .before .before .args .place .now))) (c .before .enum-told2 .given .1) (c .before .before .before .before .before .pre)
 
 enum-told-3 : tie.Need-enum-told-3
 enum-told-3 c = search needs
 
 load-requires : tie.Need-load-requires
-load-requires c κs = let room = subst (λ (e : Equivalent). FloatRoom e (length (c .before .before .before .before .before .args .v .now)) (length (c .before .before .before .before .before .args .place .now))) (c .before .enum-told3 .given .1) (c .before .before .before .before .before .pre) in omega arith
+load-requires c κs = let room = subst (λ (e : Equivalent). FprsTake e (length (c .before .before .before .before .before .args .v .now)) (length (c .before .before .before .before .before .args .place .now))) (c .before .enum-told3 .given .1) (c .before .before .before .before .before .pre) in omega arith
 
 single-word-requires : tie.Need-single-word-requires
 single-word-requires c κs =
     let v = c .before .before .before .before .before .before .args .v .now in
-    let room = subst (λ (e : Equivalent). FloatRoom e (length v) (length (c .before .before .before .before .before .before .args .place .now))) (c .before .before .enum-told3 .given .1) (c .before .before .before .before .before .before .pre) in
+    let room = subst (λ (e : Equivalent). FprsTake e (length v) (length (c .before .before .before .before .before .before .args .place .now))) (c .before .before .enum-told3 .given .1) (c .before .before .before .before .before .before .pre) in
     let all : part 0 4 v ≡ v = take-all 4 v (omega arith) in
     let low : valueOf v < 2 ^ (8 * length v) = value-below v (λ i. c .before .before .before .before .shared-slice-known .given i .fits) in
     rw (c .load .ensures ∙ ap valueOf all) (rw (room .0) at low)
 
 put-number-requires : tie.Need-put-number-requires
-put-number-requires c κs = let room = subst (λ (e : Equivalent). FloatRoom e (length (c .before .before .before .before .before .before .before .args .v .now)) (length (c .before .before .before .before .before .before .before .args .place .now))) (c .before .before .before .enum-told3 .given .1) (c .before .before .before .before .before .before .before .pre) in room .1
+put-number-requires c κs = let room = subst (λ (e : Equivalent). FprsTake e (length (c .before .before .before .before .before .before .before .args .v .now)) (length (c .before .before .before .before .before .before .before .args .place .now))) (c .before .before .before .enum-told3 .given .1) (c .before .before .before .before .before .before .before .pre) in room .1
 
 same-length : tie.Need-same-length
 same-length c = search needs
@@ -62,7 +62,7 @@ returns-3 : tie.Need-returns-3
 returns-3 c =
     let v = c .before .before .before .before .before .before .before .before .before .before .args .v .now in
     let l = c .before .before .before .before .before .before .before .before .before .before .args .place .now in
-    let room = subst (λ (e : Equivalent). FloatRoom e (length v) (length l)) (c .before .before .before .before .before .before .enum-told3 .given .1) (c .before .before .before .before .before .before .before .before .before .before .pre) in
+    let room = subst (λ (e : Equivalent). FprsTake e (length v) (length l)) (c .before .before .before .before .before .before .enum-told3 .given .1) (c .before .before .before .before .before .before .before .before .before .before .pre) in
     let all : part 0 4 v ≡ v = take-all 4 v (omega arith) in
     c .before .before .put-number .ensures
     ∙ ap (λ x. overlay l (bytesOf 8 x)) (c .before .before .before .single-word .ensures ∙ ap (singleWord (c .before .before .before .before .before .before .before .before .before .before .args .r)) (c .before .before .before .before .load .ensures ∙ ap valueOf all))

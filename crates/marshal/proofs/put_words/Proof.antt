@@ -1,7 +1,7 @@
 -- A doubleword is the only one of its number; smaller words go one by one.
 use mathlib.Core.Path.{_≡_, subst}
 use Prim.Native.Nat.{ℕ}
-use Rattle.marshal.specs.Helpers.{WordsFit}
+use Rattle.marshal.specs.Helpers.{SpanTakes}
 use Rattle.marshal.proofs.Pieces.{number-plain}
 use borrow.Author.Needs.{needs}
 use Rattle.marshal.proofs.put_words.Statement.{statement}
@@ -11,7 +11,7 @@ put-word-requires : tie.Need-put-word-requires
 put-word-requires c κs =
     let start = c .before .before .before .before .before in
     let e = c .before .before .if1 .taken in
-    (subst (λ (w : ℕ). WordsFit w (start .args .s) (start .args .image .now) (start .args .area .now)) e (start .pre .0), start .pre .1 .1 e)
+    (subst (λ (w : ℕ). SpanTakes w (start .args .s) (start .args .image .now) (start .args .area .now)) e (start .pre .0), start .pre .1 .1 e)
 
 same-length : tie.Need-same-length
 same-length c = search needs

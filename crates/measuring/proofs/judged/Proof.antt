@@ -3,7 +3,7 @@ use borrow.Author.Needs.{needs}
 use native.Mathlib.Omega.{arith}
 use mathlib.Core.Path.{ap, _∙_}
 use Rattle.items.specs.declared.Fault.{Fault}
-use Rattle.plan.specs.Plan.{refused, measureOf}
+use Rattle.plan.specs.Plan.{refusedPlan, measureOf}
 use Rattle.plan.specs.Helpers.{measuredBy}
 use Rattle.plan.proofs.Calls.{unclear-measured}
 use Rattle.measuring.proofs.judged.Statement.{statement}
@@ -25,7 +25,7 @@ no-measure-requires c κs = search needs
 returns-2 : tie.Need-returns-2
 returns-2 c =
     c .no-measure .ensures
-    ∙ ap (λ (f : Fault). measureOf (refused f)) (c .before .unclear-fault .ensures)
+    ∙ ap (λ (f : Fault). measureOf (refusedPlan f)) (c .before .unclear-fault .ensures)
     ∙ unclear-measured _ _ _ (omega (arith, c .before .before .if1 .left))
 
 pub judged-spec : {M : Type 1} → statement M

@@ -9,7 +9,7 @@ use Rattle.items.proofs.Laws.{later-later}
 use Rattle.items.proofs.Loop.{item-answered, fault-answered}
 use Rattle.signature.proofs.Loop.{turn-full, turn-no}
 use Rattle.places.proofs.Bounds.{rules-lawful}
-use Rattle.plan.specs.Plan.{refused, measureOf}
+use Rattle.plan.specs.Plan.{refusedPlan, measureOf}
 use Rattle.plan.proofs.Fold.{reached-roomy}
 use Rattle.plan.proofs.Measures.{Measuring, measuring-start, measuring-more, measure-no, measure-trailing, measure-end, unclear-no, unclear-trailing, unclear-end}
 use Rattle.measuring.proofs.measure_arguments.Statement.{statement}
@@ -103,7 +103,7 @@ not-passed-requires-2 c κs = search needs
 returns-2 : tie.Need-returns-2 Inv-loop μ-loop
 returns-2 c =
     let refused-by = turn-no _ _ _ _ _ _ _ _ (c .before .before .before .before .before .before .before .before .loop .inv .turn) (c .before .before .before .before .before .before .before .loop-test .taken) (c .before .before .before .before .before .before .if1 .left) _ (c .before .before .before .before .before .read-item .ensures) _ (c .before .before .before .fault .given .1) in (
-      c .not-passed2 .ensures .0 ∙ ap (λ (f : Fault). measureOf (refused f)) (c .before .later-by .ensures ∙ later-later _ _ _) ∙ measure-no _ _ _ _ _ _ _ refused-by,
+      c .not-passed2 .ensures .0 ∙ ap (λ (f : Fault). measureOf (refusedPlan f)) (c .before .later-by .ensures ∙ later-later _ _ _) ∙ measure-no _ _ _ _ _ _ _ refused-by,
       c .not-passed2 .ensures .1 ∙ unclear-no _ _ _ _ _ (c .before .before .before .before .before .before .before .before .before .before .before .before .before .args .earlier) _ refused-by,
     )
 

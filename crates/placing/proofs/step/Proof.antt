@@ -1,5 +1,5 @@
 -- By cases on the family.
-use Rattle.places.specs.Helpers.{Lawful}
+use Rattle.places.specs.Helpers.{LawfulCalls}
 use native.Mathlib.Omega.{arith}
 use mathlib.Core.Path.{subst}
 use borrow.Author.Needs.{needs}
@@ -10,7 +10,7 @@ enum-known-r : tie.Need-enum-known-r
 enum-known-r c = search needs
 
 step-requires : tie.Need-step-requires
-step-requires c κs = let h = subst Lawful (c .before .r .given .1) (c .before .before .before .pre .0) in (omega arith, omega arith, omega arith, omega arith)
+step-requires c κs = let h = subst LawfulCalls (c .before .r .given .1) (c .before .before .before .pre .0) in (omega arith, omega arith, omega arith, omega arith)
 
 enum-told : tie.Need-enum-told
 enum-told c = search needs

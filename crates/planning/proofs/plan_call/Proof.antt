@@ -2,7 +2,7 @@
 use mathlib.Core.Path.{_≡_, sym, ap, _∙_}
 use native.Mathlib.Omega.{arith}
 use Prim.Native.Nat.{suc, _-_}
-use Rattle.plan.specs.Plan.{refused}
+use Rattle.plan.specs.Plan.{refusedPlan}
 use Rattle.signature.proofs.Types.{answer-plannable}
 use Rattle.plan.proofs.Calls.{clear-plan, unclear-plan}
 use borrow.Author.Needs.{needs}
@@ -32,7 +32,7 @@ returns-2 c =
     let n = c .before .before .before .first-unclear .result in
     let some : n ≡ suc (n - 1) = omega (arith, c .before .before .if1 .left) in
     c .blank .ensures
-    ∙ ap refused (c .before .unclear-fault .ensures)
+    ∙ ap refusedPlan (c .before .unclear-fault .ensures)
     ∙ unclear-plan _ _ _ (c .before .before .before .before .before .pre) (sym (c .before .before .before .first-unclear .ensures) ∙ some)
 
 pub plan-call-spec : {M : Type 1} → statement M

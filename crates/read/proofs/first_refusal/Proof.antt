@@ -7,7 +7,7 @@ use Prim.Native.Nat.{ℕ, suc, _+_, _-_, _≤_}
 use native.Mathlib.Omega.{arith}
 use lib.ListN.{length, drop}
 use Rattle.places.specs.Step.{spanOf}
-use Rattle.places.specs.Helpers.{Lawful, Roomy}
+use Rattle.places.specs.Helpers.{LawfulCalls, Roomy}
 use Rattle.signature.specs.Helpers.{typeAt}
 use Rattle.slots.specs.Buffers.{buffers}
 use Rattle.slots.specs.Placements.{Placement, placement}
@@ -15,7 +15,7 @@ use Rattle.slots.proofs.Turns.{Checking, checking-start, checking-ready, checki
 use Rattle.slots.specs.Arguments.{rulesIn}
 use Rattle.arguments.specs.Table.{argumentsFrom}
 use Rattle.arguments.proofs.Table.{lawful-in, Walking, walking-start, walking-roomy, walking-hand, walking-more, walking-end}
-use Rattle.unmarshal.specs.Helpers.{Ready}
+use Rattle.unmarshal.specs.Helpers.{InBuffers}
 use Rattle.read.specs.Read.{argumentAnswer, argumentsAnswer}
 use Rattle.read.proofs.first_refusal.Statement.{statement}
 use Rattle.read.proofs.first_refusal.Tie as tie
@@ -23,7 +23,7 @@ use Rattle.read.proofs.first_refusal.Tie as tie
 abbrev Inv-loop : tie.InvT-loop
 Inv-loop image area copies base g convention count rules c₀ i₀ c i =
     (v : ℕ) × Walking g c v i
-    × Checking (λ (q : Placement). argumentAnswer (rulesIn g) base q (buffers image area copies)) (Ready (rulesIn g) (length image) (length area)) (argumentsFrom g) i
+    × Checking (λ (q : Placement). argumentAnswer (rulesIn g) base q (buffers image area copies)) (InBuffers (rulesIn g) (length image) (length area)) (argumentsFrom g) i
 
 abbrev μ-loop : tie.MeasureT-loop
 μ-loop image area copies base g convention count rules c₀ i₀ c i = count - i
@@ -39,7 +39,7 @@ next c =
 
 -- the rules, the cursor and the size are what a step asks for
 record Steps (c : tie.After-size-of Inv-loop μ-loop) : Type 0 where
-  lawful : Lawful (c .before .before .before .before .before .rules-in .result)
+  lawful : LawfulCalls (c .before .before .before .before .before .rules-in .result)
   roomy : Roomy (c .before .before .before .loop .c)
   small : c .size-of .result ≤ 256
 

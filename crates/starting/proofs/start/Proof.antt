@@ -4,7 +4,7 @@ use Rattle.saves.specs.Saves.{store}
 use Rattle.machine.proofs.States.{memory-yes}
 use Rattle.machine.proofs.Outcomes.{start-accepted, start-refused, accepted-start, refused-start}
 use Rattle.machine.specs.declared.Refusal.the-variants.{BadMemory}
-use Rattle.rules.specs.Helpers.{Lawful}
+use Rattle.rules.specs.Helpers.{LawfulFrames}
 use Rattle.rules.specs.Rules.{rules}
 use Rattle.machine.specs.Machine.{okMemory, started, startedMemory, notStarted}
 use Rattle.rules.proofs.Conventions.{lawful}
@@ -38,7 +38,7 @@ sub-at : tie.Need-sub-at
 sub-at c =
     let z = c .before .before .before .before in
     let memory-ok = c .before .before .memory-ok in
-    let law : Lawful (z .args .k) = rw (z .pre) (lawful (z .args .c)) in
+    let law : LawfulFrames (z .args .k) = rw (z .pre) (lawful (z .args .c)) in
     let yes = memory-yes (z .args .k) (z .args .base) (length (now (z .args .memory))) (sym (memory-ok .ensures) ∙ not-false (memory-ok .result) (c .before .if1 .left)) in
     omega (arith, law .room, yes)
 
@@ -49,21 +49,21 @@ add-with-pointer : tie.Need-add-with-pointer
 add-with-pointer c =
     let z = c .before .before .before .before .before in
     let memory-ok = c .before .before .before .memory-ok in
-    let law : Lawful (z .args .k) = rw (z .pre) (lawful (z .args .c)) in
+    let law : LawfulFrames (z .args .k) = rw (z .pre) (lawful (z .args .c)) in
     let yes = memory-yes (z .args .k) (z .args .base) (length (now (z .args .memory))) (sym (memory-ok .ensures) ∙ not-false (memory-ok .result) (c .before .before .if1 .left)) in
     omega (arith, law .room, yes, limit-64 (z .args .k) law)
 
 with-pointer-requires : tie.Need-with-pointer-requires
 with-pointer-requires c κs =
     let z = c .before .before .before .before .before in
-    let law : Lawful (z .args .k) = rw (z .pre) (lawful (z .args .c)) in law .pointer
+    let law : LawfulFrames (z .args .k) = rw (z .pre) (lawful (z .args .c)) in law .pointer
 
 store-requires : tie.Need-store-requires
 store-requires c κs =
     let z = c .before .before .before .before .before .before .before in
     let memory-ok = c .before .before .before .before .before .memory-ok in
     let if1 = c .before .before .before .before .if1 in
-    let law : Lawful (z .args .k) = rw (z .pre) (lawful (z .args .c)) in
+    let law : LawfulFrames (z .args .k) = rw (z .pre) (lawful (z .args .c)) in
     let yes = memory-yes (z .args .k) (z .args .base) (length (now (z .args .memory))) (sym (memory-ok .ensures) ∙ not-false (memory-ok .result) (if1 .left)) in
     omega (arith, law .room, law .head, law .chain, yes)
 
@@ -79,7 +79,7 @@ returns-2 c =
     let if1 = c .before .before .before .before .before .before .before .if1 in
     let with-pointer = c .before .before .before .before .with-pointer in
     let store = c .before .before .store in
-    let law : Lawful (z .args .k) = rw (z .pre) (lawful (z .args .c)) in
+    let law : LawfulFrames (z .args .k) = rw (z .pre) (lawful (z .args .c)) in
     let yes = memory-yes (z .args .k) (z .args .base) (length l) (sym (memory-ok .ensures) ∙ not-false (memory-ok .result) (if1 .left)) in
     let ok : okMemory (rules (z .args .c)) (z .args .base) (length l) ≡ true
     = sym (rw (z .pre) at (memory-ok .ensures)) ∙ not-false (memory-ok .result) (if1 .left) in

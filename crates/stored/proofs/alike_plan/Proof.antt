@@ -9,7 +9,7 @@ use lib.Seq.{take-length, length-take-le, getD-take}
 use Rattle.plan.specs.Plan.{noSpan}
 use Rattle.places.proofs.Bounds.{rules-lawful}
 use Rattle.places.specs.Step.{rulesOf}
-use Rattle.places.specs.Helpers.{Lawful}
+use Rattle.places.specs.Helpers.{LawfulCalls}
 use Rattle.text.proofs.Writing.{wrote-length}
 use Rattle.stored_items.specs.Places.{resultItem}
 use Rattle.stored.specs.Stored.{argumentItems, planBytes, alike}
@@ -72,7 +72,7 @@ slice-aggregate-put-argument : tie.Need-slice-aggregate-put-argument Inv-loop μ
 slice-aggregate-put-argument c = search needs
 
 put-argument-requires : tie.Need-put-argument-requires Inv-loop μ-loop
-put-argument-requires c κs = (omega arith, subst Lawful (sym (c .before .before .before .before .before .before .before .before .before .before .before .before .call-rules-of .ensures)) (rules-lawful (c .before .before .before .before .before .before .before .before .before .before .before .before .before .before .before .args .t3 .convention)), c .before .before .before .before .before .before .before .before .before .before .before .before .before .before .before .pre .1 .spans (c .before .before .before .loop .i))
+put-argument-requires c κs = (omega arith, subst LawfulCalls (sym (c .before .before .before .before .before .before .before .before .before .before .before .before .call-rules-of .ensures)) (rules-lawful (c .before .before .before .before .before .before .before .before .before .before .before .before .before .before .before .args .t3 .convention)), c .before .before .before .before .before .before .before .before .before .before .before .before .before .before .before .pre .1 .spans (c .before .before .before .loop .i))
 
 slice-aggregate-alike-from-2 : tie.Need-slice-aggregate-alike-from-2 Inv-loop μ-loop
 slice-aggregate-alike-from-2 c = search needs

@@ -1,7 +1,7 @@
 -- The lengths of the items so far are added up.
 use mathlib.Core.List.{_++_}
 use Rattle.stored_items.specs.Places.{argumentItem, resultItem}
-use Rattle.places.specs.Helpers.{Lawful}
+use Rattle.places.specs.Helpers.{LawfulCalls}
 use borrow.Author.Needs.{needs}
 use mathlib.Core.Path.{_≡_, sym, ap, subst, _∙_}
 use Prim.Native.Nat.{ℕ, _-_, _+_, _*_, _≤_, _<_}
@@ -40,7 +40,7 @@ element-copy-out-a : tie.Need-element-copy-out-a Inv-loop μ-loop
 element-copy-out-a c = omega (arith, c .before .before .before .before .pre .1 .printable .few)
 
 argument-length-requires : tie.Need-argument-length-requires Inv-loop μ-loop
-argument-length-requires c κs = (subst Lawful (sym (c .before .before .before .call-rules-of .ensures)) (rules-lawful (c .before .before .before .before .before .args .t2 .convention)), c .before .before .before .before .before .pre .1 .spans (c .before .before .loop .i))
+argument-length-requires c κs = (subst LawfulCalls (sym (c .before .before .before .call-rules-of .ensures)) (rules-lawful (c .before .before .before .before .before .args .t2 .convention)), c .before .before .before .before .before .pre .1 .spans (c .before .before .loop .i))
 
 add-next-2 : tie.Need-add-next-2 Inv-loop μ-loop
 add-next-2 c = omega (arith, c .before .before .before .loop .inv .1, c .before .before .before .loop .inv .2, c .argument-length .ensures .1, c .before .before .before .before .before .before .pre .0, c .before .before .before .before .before .before .pre .1 .printable .few)

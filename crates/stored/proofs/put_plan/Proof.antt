@@ -8,7 +8,7 @@ use lib.Seq.{take-all, length-take-le, getD-take}
 use Rattle.plan.specs.Plan.{noSpan}
 use Rattle.places.proofs.Bounds.{rules-lawful}
 use Rattle.places.specs.Step.{rulesOf}
-use Rattle.places.specs.Helpers.{Lawful}
+use Rattle.places.specs.Helpers.{LawfulCalls}
 use Rattle.items.specs.Encode.{item}
 use Rattle.text.specs.Writing.{Wrote}
 use Rattle.text.proofs.Writing.{wrote-length, wrote-nothing, wrote-then}
@@ -43,7 +43,7 @@ element-copy-out-a : tie.Need-element-copy-out-a Inv-loop μ-loop
 element-copy-out-a c = omega (arith, c .before .before .before .before .before .before .before .before .before .before .before .before .before .pre .1 .printable .few)
 
 put-argument-requires : tie.Need-put-argument-requires Inv-loop μ-loop
-put-argument-requires c κs = (omega (arith, c .before .before .before .loop .inv .1, c .before .before .before .loop .inv .2, c .before .before .before .before .before .before .before .before .before .before .before .before .before .before .before .pre .1 .printable .few), subst Lawful (sym (c .before .before .before .before .before .before .before .before .before .before .before .before .call-rules-of .ensures)) (rules-lawful (c .before .before .before .before .before .before .before .before .before .before .before .before .before .before .before .args .t3 .convention)), c .before .before .before .before .before .before .before .before .before .before .before .before .before .before .before .pre .1 .spans (c .before .before .before .loop .i))
+put-argument-requires c κs = (omega (arith, c .before .before .before .loop .inv .1, c .before .before .before .loop .inv .2, c .before .before .before .before .before .before .before .before .before .before .before .before .before .before .before .pre .1 .printable .few), subst LawfulCalls (sym (c .before .before .before .before .before .before .before .before .before .before .before .before .call-rules-of .ensures)) (rules-lawful (c .before .before .before .before .before .before .before .before .before .before .before .before .before .before .before .args .t3 .convention)), c .before .before .before .before .before .before .before .before .before .before .before .before .before .before .before .pre .1 .spans (c .before .before .before .loop .i))
 
 add-i : tie.Need-add-i Inv-loop μ-loop
 add-i c = omega arith

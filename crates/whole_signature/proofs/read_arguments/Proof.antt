@@ -6,7 +6,7 @@ use borrow.Author.Needs.{needs}
 use native.Mathlib.Omega.{arith}
 use Rattle.items.proofs.Loop.{item-answered, fault-answered}
 use Rattle.items.proofs.Laws.{later-later}
-use Rattle.signature.specs.Answer.{refused}
+use Rattle.signature.specs.Answer.{refusedSignature}
 use Rattle.signature.proofs.Loop.{Tabled, turn-full, turn-no, tabled-start, tabled-more, tabled-trailing, tabled-end, arguments-no}
 use Rattle.whole_signature.proofs.read_arguments.Tie as tie
 
@@ -68,7 +68,7 @@ refuse-requires-2 : tie.Need-refuse-requires-2 Inv-loop μ-loop
 refuse-requires-2 c κs = search needs
 
 returns-2 : tie.Need-returns-2 Inv-loop μ-loop
-returns-2 c = c .refuse2 .ensures ∙ ap refused (c .before .later-by .ensures ∙ later-later _ _ _) ∙ arguments-no _ _ _ _ _ (turn-no _ _ _ _ _ _ _ _ (c .before .before .before .before .before .before .before .before .loop .inv .turn) (c .before .before .before .before .before .before .before .loop-test .taken) (c .before .before .before .before .before .before .if1 .left) _ (c .before .before .before .before .before .read-item .ensures) _ (c .before .before .before .fault .given .1)) _ _ _ _
+returns-2 c = c .refuse2 .ensures ∙ ap refusedSignature (c .before .later-by .ensures ∙ later-later _ _ _) ∙ arguments-no _ _ _ _ _ (turn-no _ _ _ _ _ _ _ _ (c .before .before .before .before .before .before .before .before .loop .inv .turn) (c .before .before .before .before .before .before .before .loop-test .taken) (c .before .before .before .before .before .before .if1 .left) _ (c .before .before .before .before .before .read-item .ensures) _ (c .before .before .before .fault .given .1)) _ _ _ _
 
 add-counted : tie.Need-add-counted Inv-loop μ-loop
 add-counted c = omega arith
