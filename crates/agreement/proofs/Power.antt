@@ -11,11 +11,10 @@ use borrow.Author.Tests.{lt-ltb, le-ltb, ltb-true, ltb-false}
 use lib.Dec.{ltb}
 use Rattle.words.specs.Basics.{pick}
 use Rattle.conventions.specs.declared.Convention.{Convention}
-use Rattle.conventions.proofs.Laws.{word-bounds}
-use Rattle.types.specs.declared.IntegerKind.{IntegerKind}
 use Rattle.types.specs.declared.FloatFormat.{FloatFormat}
 use Rattle.types.specs.declared.ValueType.{ValueType}
 use Rattle.types.specs.Sizes.{sizeOf}
+use Rattle.types.proofs.Laws.{integer-most}
 use Rattle.signature.specs.declared.ResultType.{ResultType}
 use Rattle.places.specs.declared.Edition.{Edition}
 use Rattle.places.specs.declared.PowerRules.{PowerRules}
@@ -27,7 +26,7 @@ use Rattle.places.specs.Values.{share}
 use Rattle.places.specs.Power.{words, fprs, shareOf, powerShare, powerSpan, unclear}
 use Rattle.places.specs.Step.{power, spanOf, nextOf, fresh, hiddenFor, returning, resultOf, unclearFor}
 use Rattle.places.proofs.Shares.{share-words, share-memory, share-float, share-both, share-none, share-marked}
-use Rattle.places.proofs.Written.{counted, shareAt, next-counted}
+use Rattle.places.proofs.Written.{same-covered, counted, shareAt, next-counted}
 use Rattle.plan.specs.Plan.{spansOf, lastOf}
 use Rattle.plan.specs.Call.{firstUnclear}
 use Rattle.parameters.specs.declared.Run.{Run}
@@ -84,9 +83,6 @@ back : (n k : ℕ) → k ≤ n → n - (n - k) ≡ k
 back n k h = omega arith
 
 -- of n words at word j, those among the first eight: counted from r3 on, and by the structure
-cover : (n j : ℕ) → min n (11 - (3 + min j 8)) ≡ min n (8 - j)
-cover n j = omega arith
-
 covered : (n j : ℕ) → min (j + n) 8 - j ≡ min n (8 - j)
 covered n j = omega arith
 
@@ -196,7 +192,7 @@ module _ (f : PowerRules) (positive : 0 < f .word) where
       → laidOver (f .ellipsis) (f .word) (floats (paired (f .edition)) t) m (numbers j (wordsIn (f .word) n)) ≡ parameterOf (spanOf (CallRules.Power f) (at (f .word) j m) t n)
   unfolding spanOf powerShare words
   step-agrees j m t n h =
-      rw (floats-same (f .edition) t, words-counted (f .word) n positive, cover (words (f .word) n) j)
+      rw (floats-same (f .edition) t, words-counted (f .word) n positive, same-covered (words (f .word) n) j)
       (laid-agree (f .ellipsis) (f .word) j m (words (f .word) n) (fprs (f .edition) t) (rw (floats-same (f .edition) t) at h))
 
   next-agrees : (j m : ℕ) (t : ValueType) (n : ℕ) → Whole (floats (paired (f .edition)) t) m
@@ -254,17 +250,6 @@ pointer-words : (w : ℕ) → 0 < w → words w w ≡ 1
 unfolding words
 pointer-words w h = add-div-left (w - 1) h ∙ ap (λ (x : ℕ). x + 1) (div-eq-of-lt (omega arith))
 
-integer-small : (c : Convention) (k : IntegerKind) → sizeOf c (ValueType.Integer k) ≤ 8
-integer-small c IntegerKind.I8 = omega arith
-integer-small c IntegerKind.U8 = omega arith
-integer-small c IntegerKind.I16 = omega arith
-integer-small c IntegerKind.U16 = omega arith
-integer-small c IntegerKind.I32 = omega arith
-integer-small c IntegerKind.U32 = omega arith
-integer-small c IntegerKind.I64 = omega arith
-integer-small c IntegerKind.U64 = omega arith
-integer-small c IntegerKind.Pointer = omega (arith, word-bounds c)
-
 few-words : (w n : ℕ) → 0 < w → n ≤ 8 → words w n ≤ 8
 unfolding words
 few-words w n h s = div-le-of-le-mul w (omega arith)
@@ -274,7 +259,7 @@ pub result-agrees : (c : Convention) (w : ℕ) (e : Edition) (t : ValueType) →
 unfolding resultOf returnedOf hiddenFor returning fresh spanOf powerShare shareOf fprs words
 result-agrees c w e (ValueType.Integer k) h =
     let n : ℕ = words w (sizeOf c (ValueType.Integer k)) in
-    let few : n ≡ min n 8 = omega (arith, few-words w (sizeOf c (ValueType.Integer k)) h (integer-small c k)) in
+    let few : n ≡ min n 8 = omega (arith, few-words w (sizeOf c (ValueType.Integer k)) h (integer-most c k .1)) in
     ap (λ (x : ℕ). Returned.General (run 3 x)) (words-counted w (sizeOf c (ValueType.Integer k)) h ∙ few)
 result-agrees c w e (ValueType.Float FloatFormat.Single) h = refl
 result-agrees c w e (ValueType.Float FloatFormat.Double) h = refl

@@ -22,11 +22,11 @@ use Rattle.history.specs.Calls as states
 use Rattle.history.specs.Preserved.{OpenEnter, openAfter, callerOf, CallHolds, CallsFit}
 use Rattle.history.proofs.Invariant.{Invariant, base-of}
 use Rattle.history.proofs.Theorem.{step, start-invariant}
-use Rattle.word_history.specs.Calls.{Call, Lent, answer, after, fresh}
-use Rattle.word_history.specs.Demand3.{machineIn, callIn, callsIn, WordsFit}
+use Rattle.word_history.specs.Calls.{Call, Lent, answer, after, fresh, run}
+use Rattle.word_history.specs.Demand3.{machineIn, callIn, callsIn, WordsFit, openedBy}
 use Rattle.word_history.proofs.Theorem.{reading-after, answer-read, words-length, start-length, registers-fit}
 use Rattle.dump.specs.Walk.{frames, walk, walkInto, maxFrames}
-use Rattle.dump_history.specs.Shown.{run, opened, shown, pointerIn, WalkShows}
+use Rattle.dump_history.specs.Shown.{shown, pointerIn, WalkShows}
 use Rattle.dump_history.proofs.Pointers.{callers, callers-length, Stands, stands-step}
 use Rattle.dump_history.proofs.Chains.{chains}
 use Rattle.dump_history.proofs.Walking.{Aligned, aligned, memory-walk}
@@ -55,7 +55,8 @@ pub record Kept (k : FrameRules) (os : List OpenEnter) (m : Lent) (p : ℕ) : Ty
   pub invariant : Invariant k os (machineIn m)
   pub stands : Stands k os (machineIn m) p
 
-run-keeps : (k : FrameRules) → LawfulFrames k → (cs : List Call) → CallsFit (callsIn cs) → (os : List OpenEnter) (m : Lent) (p : ℕ) → Kept k os m p → Kept k (opened cs os m) (run cs m) p
+run-keeps : (k : FrameRules) → LawfulFrames k → (cs : List Call) → CallsFit (callsIn cs) → (os : List OpenEnter) (m : Lent) (p : ℕ) → Kept k os m p → Kept k (openedBy cs m os) (run cs m) p
+unfolding run openedBy
 run-keeps k law [] w os m p i = i
 run-keeps k law (c ∷ cs) w os m p i =
     let e = reading-after c m (i .words) in
@@ -84,7 +85,7 @@ pub walk-shows : WalkShows
 unfolding walkInto
 walk-shows c b l rs h e cs w z n s =
     let k = rules c in
-    let os = opened cs [] (fresh c b l rs) in
+    let os = openedBy cs (fresh c b l rs) [] in
     let i = run-keeps k (lawful c) cs w [] (fresh c b l rs) (pointerIn k (fresh c b l rs)) (start-kept c b l rs h e) in
     let p = pointerIn k (run cs (fresh c b l rs)) in
     let size : length (p ∷ callers k os) ≤ n = omega (arith, callers-length k os) in

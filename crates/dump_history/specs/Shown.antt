@@ -14,20 +14,10 @@ use Rattle.machine.specs.declared.Answer.the-variants.{Accepted}
 use Rattle.machine.specs.Machine.{stackPointer, startOutcome}
 use Rattle.word_layout.specs.Words.{registersWords, registersIn, stateIn}
 use Rattle.history.specs.Calls as states
-use Rattle.history.specs.Preserved.{OpenEnter, openAfter, callerOf, CallsFit}
-use Rattle.word_history.specs.Calls.{Call, Lent, answer, after, fresh}
-use Rattle.word_history.specs.Demand3.{machineIn, callIn, callsIn, WordsFit}
+use Rattle.history.specs.Preserved.{OpenEnter, callerOf, CallsFit}
+use Rattle.word_history.specs.Calls.{Call, Lent, run, fresh}
+use Rattle.word_history.specs.Demand3.{callsIn, openedBy, WordsFit}
 use Rattle.dump.specs.Walk.{Walked, frames, walkInto}
-
--- what a list of calls leaves in the words and in the memory
-abbrev pub run : List Call → Lent → Lent
-run [] m = m
-run (c ∷ cs) m = run cs (after c m)
-
--- the enters that are open after it, with the enters os open before it
-abbrev pub opened : List Call → List OpenEnter → Lent → List OpenEnter
-opened [] os m = os
-opened (c ∷ cs) os m = opened cs (openAfter (callIn c) (answer c m) (machineIn m) os) (after c m)
 
 -- the address of the frame that an enter opened: the stack pointer just after it
 abbrev pub frameAddress : FrameRules → OpenEnter → ℕ
@@ -46,6 +36,6 @@ pointerIn k m = stackPointer k (stateIn (m .words))
 -- the latest open enter can be one of a leaf. n is the length of the slice; what `fz_walk_dump_ppc64`, `_z` and `_aix` answer and write is told by `walkInto`.
 abbrev pub WalkShows : Type 0
 WalkShows = (c : Convention) (b : ℕ) (l rs : List ℕ) → WordsFit registersWords rs → startOutcome c b (length l) (registersIn rs 0) .answer ≡ Accepted → (cs : List Call) → CallsFit (callsIn cs)
-    → callerOf (rules c) (opened cs [] (fresh c b l rs)) .leaf ≡ false → (n : ℕ) → suc (length (opened cs [] (fresh c b l rs))) ≤ n
+    → callerOf (rules c) (openedBy cs (fresh c b l rs) []) .leaf ≡ false → (n : ℕ) → suc (length (openedBy cs (fresh c b l rs) [])) ≤ n
     → walkInto (rules c) (stateIn (run cs (fresh c b l rs) .words) .base) (run cs (fresh c b l rs) .memory) (pointerIn (rules c) (run cs (fresh c b l rs))) n
-    ≡ frames (shown (rules c) (opened cs [] (fresh c b l rs)) (pointerIn (rules c) (fresh c b l rs)))
+    ≡ frames (shown (rules c) (openedBy cs (fresh c b l rs) []) (pointerIn (rules c) (fresh c b l rs)))

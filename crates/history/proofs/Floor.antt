@@ -14,7 +14,7 @@ use Rattle.words.proofs.Splices.{splice-at-other}
 use Rattle.saves.specs.Saves.{store}
 use Rattle.saves.proofs.Words.{store-below}
 use Rattle.saves.proofs.Saving.{all-outside, outside-below}
-use Rattle.saves.proofs.Taking.{le-or-lt}
+use Rattle.words.proofs.Basics.{le-or-lt}
 use Rattle.rules.specs.declared.FrameRules.{FrameRules}
 use Rattle.rules.specs.declared.Frame.{Frame}
 use Rattle.rules.specs.Rules.{rules}

@@ -11,7 +11,8 @@ use lib.Dec.{ltb}
 use borrow.Author.Tests.{eq-eqb, lt-ltb}
 use Rattle.saves.specs.Saves.{Save, load, taken}
 use Rattle.saves.proofs.Saving.{Held, outside-above}
-use Rattle.saves.proofs.Taking.{le-or-lt, taken-length, taken-under, taken-in, taken-fit}
+use Rattle.words.proofs.Basics.{le-or-lt}
+use Rattle.saves.proofs.Taking.{taken-length, taken-under, taken-in, taken-fit}
 use Rattle.rules.specs.declared.FrameRules.{FrameRules}
 use Rattle.rules.specs.declared.Registers.{Registers}
 use Rattle.rules.specs.Rules.{within}

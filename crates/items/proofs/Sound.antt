@@ -40,6 +40,10 @@ abbrev pub Got : {A : Type 0} → (A → ℕ → ℕ → Type 0) → Reading A �
 Got P (got x next n) = P x next n
 Got P (no f) = Unit {0}
 
+pub got-map : {A : Type 0} (P Q : A → ℕ → ℕ → Type 0) (x : Reading A) → ((a : A) (next n : ℕ) → P a next n → Q a next n) → Got P x → Got Q x
+got-map P Q (got a next n) f p = f a next n p
+got-map P Q (no r) f p = tt
+
 pub by-then : {A B : Type 0} (P : A → ℕ → ℕ → Type 0) (Q : B → ℕ → ℕ → Type 0) (x : Reading A) (f : A → ℕ → ℕ → Reading B) →
     Got P x → ((a : A) (next n : ℕ) → P a next n → Got Q (f a next n)) → Got Q (andThen x f)
 by-then P Q (got a next n) f p q = q a next n p

@@ -7,7 +7,7 @@ use mathlib.Core.List.{List}
 use native.Mathlib.Omega.{arith}
 use lib.Dec.{leb, ltb}
 use borrow.Author.Tests.{leb-true, ltb-true}
-use Rattle.saves.proofs.Taking.{le-or-lt}
+use Rattle.words.proofs.Basics.{le-or-lt}
 use Rattle.rules.specs.declared.FrameRules.{FrameRules}
 use Rattle.rules.specs.declared.Frame.{Frame}
 use Rattle.rules.specs.Frames.{startFrame, okRequest, outgoingLength, below, frameSize}

@@ -7,8 +7,8 @@ use mathlib.Core.List.{List}
 use native.Mathlib.Omega.{arith}
 use lib.ListN.{length}
 use lib.Dec.{leb, eqb}
-use borrow.Author.Tests.{le-leb, lt-leb, eq-eqb, ne-eqb, eqb-true, eqb-false}
-use Rattle.saves.proofs.Taking.{le-or-lt}
+use borrow.Author.Tests.{eq-eqb, ne-eqb, eqb-true, eqb-false}
+use Rattle.words.proofs.Basics.{le-or-lt, leb-sub}
 use Rattle.rules.specs.declared.FrameRules.{FrameRules}
 use Rattle.rules.specs.declared.Frame.{Frame}
 use Rattle.rules.specs.Frames.{startFrame, maxOutgoing, okRequest, outgoingLength, frameSize}
@@ -21,9 +21,6 @@ use Rattle.machine.specs.Helpers.{Sound, CanEnter}
 use Rattle.machine.proofs.States.{memory-yes}
 
 -- ---- tests on differences
-
-pub leb-sub : (a n b : ℕ) → n ≤ b → leb a (b - n) ≡ leb (a + n) b
-leb-sub a n b h = ⊎-elim (λ p. le-leb a (b - n) (omega arith) ∙ sym (le-leb (a + n) b p)) (λ p. lt-leb a (b - n) (omega arith) ∙ sym (lt-leb (a + n) b p)) (le-or-lt (a + n) b)
 
 pub leb-sub-left : (n a e : ℕ) → a ≤ e → leb n (e - a) ≡ leb (a + n) e
 leb-sub-left n a e h = leb-sub n a e h ∙ (let x : n + a ≡ a + n = omega arith in ap (λ (y : ℕ). leb y e) x)

@@ -32,7 +32,7 @@ use Rattle.plan.specs.Plan.{lastOf, hiddenIn, startIn, endIn, planIn, planAnswe
 use Rattle.signature.specs.Types.{typesOf}
 use Rattle.plan.specs.Call.{called}
 use Rattle.plan.proofs.Fold.{last-more}
-use Rattle.saves.proofs.Taking.{le-or-lt}
+use Rattle.words.proofs.Basics.{le-or-lt}
 use Rattle.rules.specs.declared.FrameRules.{FrameRules}
 use Rattle.rules.specs.declared.Frame.{Frame}
 use Rattle.rules.specs.Rules.{span, inSpan, rules}

@@ -68,11 +68,6 @@ gone g i p h =
 
 -- ---- elements
 
-pub drop-at : {A : Type 0} (x : A) (l : List A) (i : ℕ) → i < length l → drop i l ≡ getD l i x ∷ drop (suc i) l
-drop-at x [] i h = absurd (omega arith)
-drop-at x (y ∷ l) zero h = refl
-drop-at x (y ∷ l) (suc i) h = drop-at x l i (omega arith)
-
 pub getD-table : {A : Type 0} (x : A) (l : List A) (n i : ℕ) → getD (l ++ replicate n x) i x ≡ getD l i x
 getD-table x [] zero i = refl
 getD-table x [] (suc n) zero = refl

@@ -55,7 +55,7 @@ pub offset-written : (f : PowerRules) (w m k : ℕ) (t : ValueType) (n : ℕ) �
 unfolding spanOf
 offset-written f w m k t n = refl
 
-same-covered : (n w : ℕ) → min n (11 - (3 + min w 8)) ≡ min n (8 - w)
+pub same-covered : (n w : ℕ) → min n (11 - (3 + min w 8)) ≡ min n (8 - w)
 same-covered n w = omega arith
 
 -- an argument at word w: how many of its words have a GPR, and what share it takes

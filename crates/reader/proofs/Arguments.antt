@@ -18,7 +18,7 @@ use Rattle.items.specs.Reading.{Reading, fault, got, no, choose, inBody}
 use Rattle.items.specs.Read.{lengthAt, bodyAt, sequence, itemAt}
 use Rattle.items.specs.Encode.{encodeTree, encodeTrees}
 use Rattle.items.proofs.Laws.{body-to}
-use Rattle.items.proofs.Sound.{by-pick, by-choose, by-then, by-next, Got, body-framed, Ended, none-read, sequence-sound, item-sound, item-read}
+use Rattle.items.proofs.Sound.{by-pick, by-choose, by-then, by-next, Got, body-framed, Ended, none-read, sequence-sound, item-sound, item-read, got-map}
 use Rattle.signature.specs.Limits.{maxLength, maxArguments}
 use Rattle.conventions.specs.declared.ConventionCode.{ConventionCode}
 use Rattle.conventions.specs.Numbers.{conventionCode}
@@ -36,10 +36,6 @@ use Rattle.stepping.proofs.Laws.{end-within, body-here, start-found, end-found}
 got-self : {A : Type 0} (x : Reading A) → Got (λ a next n. x ≡ got a next n) x
 got-self (got a next n) = refl
 got-self (no f) = tt
-
-got-map : {A : Type 0} (P Q : A → ℕ → ℕ → Type 0) (x : Reading A) → ((a : A) (next n : ℕ) → P a next n → Q a next n) → Got P x → Got Q x
-got-map P Q (got a next n) f p = f a next n p
-got-map P Q (no r) f p = tt
 
 -- one argument of types in order
 

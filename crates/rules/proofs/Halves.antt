@@ -10,7 +10,7 @@ use lib.ListN.{getD, set, length, length-set}
 use lib.Seq.{getD-set-other}
 use lib.Dec.{leb}
 use borrow.Author.Tests.{leb-true, le-leb}
-use Rattle.saves.proofs.Taking.{le-or-lt}
+use Rattle.words.proofs.Basics.{le-or-lt}
 use Rattle.rules.specs.Rules.{FrameRules, Registers}
 use Rattle.rules.specs.Frames.{allWithin, lowered, okRegisters, cleared}
 use Rattle.rules.proofs.Facts.{and-yes}

@@ -6,14 +6,10 @@ use mathlib.Core.Logic.{_⊎_, inl, inr, ⊎-elim}
 use mathlib.Core.List.{List}
 use native.Mathlib.Omega.{arith}
 use lib.ListN.{length, getD}
+use Rattle.words.proofs.Basics.{le-or-lt}
 use Rattle.saves.specs.Saves.{Save, taken}
 use Rattle.saves.proofs.Saving.{Held}
 use Rattle.saves.proofs.Runs.{load-length, load-under, load-over, load-in}
-
-pub le-or-lt : (a b : ℕ) → (a ≤ b) ⊎ (b < a)
-le-or-lt zero b = inl (omega arith)
-le-or-lt (suc a) zero = inr (omega arith)
-le-or-lt (suc a) (suc b) = ⊎-elim (λ h. inl (omega arith)) (λ h. inr (omega arith)) (le-or-lt a b)
 
 module _ (v : Save) (xs l : List ℕ) where
   pub taken-length : length (taken xs l v) ≡ length xs

@@ -1,15 +1,13 @@
 -- The laws of one word in memory: its length, the same place, another place.
 -- Assumes nothing.
 use Prim.Native.Nat.{ℕ, _+_, _*_, _^_, _<_, _≤_}
-use mathlib.Core.Path.{_≡_, sym, ap, _∙_}
+use mathlib.Core.Path.{_≡_, ap}
 use mathlib.Core.Logic.{inl, inr}
 use mathlib.Core.List.{List}
 use native.Mathlib.Omega.{arith}
-use lib.ListN.{length, getD, drop, length-take, length-drop}
-use lib.Seq.{ext-getD}
-use Rattle.words.specs.Splice.{part}
+use lib.ListN.{length, getD}
 use Rattle.words.specs.Numbers.{bytesOf, valueOf}
-use Rattle.words.proofs.Splices.{length-splice, splice-at-other, part-at}
+use Rattle.words.proofs.Splices.{length-splice, splice-at-other, part-agree}
 use Rattle.words.proofs.Numbers.{length-bytesOf, load-after-store}
 use Rattle.saves.specs.Saves.{store, load}
 
@@ -34,7 +32,4 @@ store-above l at w v b h = splice-at-other l at (bytesOf w v) b 0 (inr (omega (a
 -- two memories of one length that agree on a word's bytes hold the same number there
 pub load-agree : (l l′ : List ℕ) (at w : ℕ) → length l ≡ length l′ → ((b : ℕ) → at ≤ b → b < at + w → getD l b 0 ≡ getD l′ b 0) → load l at w ≡ load l′ at w
 unfolding load
-load-agree l l′ at w e same =
-    let size : (t : List ℕ) → length (part at w t) ≤ w = λ t. omega (arith, length-take w (drop at t)) in
-    ap valueOf (ext-getD 0 (part at w l) (part at w l′) (simp (length-take, length-drop, e))
-    (λ i h. let r = size l in part-at at w l i 0 (omega arith) ∙ same (at + i) (omega arith) (omega arith) ∙ sym (part-at at w l′ i 0 (omega arith))))
+load-agree l l′ at w e same = ap valueOf (part-agree l l′ at w e same)

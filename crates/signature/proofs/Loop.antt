@@ -30,7 +30,7 @@ use Rattle.signature.specs.Helpers.{withArguments}
 
 -- the table
 
-listed-length : (c : Convention) (ts : Trees) → length (listed c ts) ≡ countOf ts
+pub listed-length : (c : Convention) (ts : Trees) → length (listed c ts) ≡ countOf ts
 unfolding listed countOf
 listed-length c none = refl
 listed-length c (ts ▸ t) = simp (length-append, listed-length c ts)

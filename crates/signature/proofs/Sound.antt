@@ -18,7 +18,7 @@ use Rattle.items.specs.Encode.{item, encodeTree, encodeTrees, itemsIn}
 use Rattle.items.proofs.Levels.{left-within, all-left-within}
 use Rattle.items.proofs.Has.{Has, has-move, has-append, has-item, has-same, length-item}
 use Rattle.items.proofs.Trees.{tree-third, trees-third}
-use Rattle.items.proofs.Sound.{by-pick, by-choose, by-then, by-next, by-body, BodyIs, body-is, Got, Framed, Read, Ended, none-read, sequence-sound, item-sound}
+use Rattle.items.proofs.Sound.{by-pick, by-choose, by-then, by-next, by-body, BodyIs, body-is, Got, Framed, Read, Ended, none-read, sequence-sound, item-sound, got-map}
 use Rattle.conventions.specs.declared.ConventionCode.{ConventionCode}
 use Rattle.conventions.specs.Numbers.{conventionCode, codeOf}
 use Rattle.conventions.proofs.Laws.{CodeIs, code-is}
@@ -152,15 +152,11 @@ arguments-ended c s at b framed ts next n e =
       count = e .all .count;
     }
 
-weaken : {A : Type 0} (P Q : A → ℕ → ℕ → Type 0) (x : Reading A) → ((a : A) (next n : ℕ) → P a next n → Q a next n) → Got P x → Got Q x
-weaken P Q (got a next n) f p = f a next n p
-weaken P Q (no r) f p = tt
-
 pub arguments-sound : (c : Convention) (s : List ℕ) (at : ℕ) → Got (ArgumentsSound c s at) (argumentsAt c s at)
 unfolding argumentsAt argumentsIn countOf
 arguments-sound c s at = by-body (ArgumentsSound c s at) s 0x03 0x03 (length s) at _ (λ b framed.
     let ends = framed .ends in
-    weaken (Ended c maxDepth s b (at + 3) 1 maxArguments) (ArgumentsSound c s at) (argumentsIn c s (at + 3) b) (arguments-ended c s at b framed)
+    got-map (Ended c maxDepth s b (at + 3) 1 maxArguments) (ArgumentsSound c s at) (argumentsIn c s (at + 3) b) (arguments-ended c s at b framed)
     (sequence-sound c maxDepth s b (at + 3) 1 maxArguments (itemAt c maxDepth s b) (λ k. item-sound c maxDepth s b k) maxArguments (at + 3) 1 none
     (none-read c maxDepth s b (at + 3) 1 (omega arith)) refl))
 

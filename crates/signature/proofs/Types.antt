@@ -5,6 +5,7 @@ use Prim.Native.Nat.{ℕ, zero, suc, _-_, _≤_, _<_}
 use native.Mathlib.Omega.{arith}
 use lib.ListN.{length, getD, take, drop, replicate, length-append, List·getD-append}
 use lib.Seq.{take-at, getD-at}
+use Rattle.words.proofs.Basics.{map-append}
 use Rattle.conventions.specs.declared.Convention.{Convention}
 use Rattle.types.specs.declared.IntegerKind.{IntegerKind}
 use Rattle.types.specs.declared.ValueType.{ValueType}
@@ -20,30 +21,22 @@ use Rattle.signature.specs.Answer.{argument, listed, table, resultType, 
 use Rattle.signature.specs.Exact.{ResultSized}
 use Rattle.signature.specs.Types.{typesOf, typeIn}
 use Rattle.signature.specs.Helpers.{SmallResult, Plannable}
+use Rattle.signature.proofs.Loop.{listed-length}
 use Rattle.signature.proofs.Theorems.{accepted}
 
 abbrev pub blank : Argument
 blank = argument (ValueType.Integer IntegerKind.I8)
 
-map-append : (l m : List Argument) → map typeIn (l ++ m) ≡ map typeIn l ++ map typeIn m
-map-append [] m = refl
-map-append (a ∷ l) m = ap (λ (x : List ValueType). typeIn a ∷ x) (map-append l m)
-
-length-listed : (c : Convention) (ts : Trees) → length (listed c ts) ≡ countOf ts
-unfolding listed countOf
-length-listed c none = refl
-length-listed c (ts ▸ t) = simp length-append (omega (arith, length-listed c ts))
-
 listed-types : (c : Convention) (ts : Trees) → map typeIn (listed c ts) ≡ typesOf c ts
 unfolding listed typesOf
 listed-types c none = refl
-listed-types c (ts ▸ t) = map-append (listed c ts) (argument (typeOf c t) ∷ []) ∙ ap (λ (l : List ValueType). l ++ typeOf c t ∷ []) (listed-types c ts)
+listed-types c (ts ▸ t) = map-append typeIn (listed c ts) (argument (typeOf c t) ∷ []) ∙ ap (λ (l : List ValueType). l ++ typeOf c t ∷ []) (listed-types c ts)
 
 -- the types of the table's first places are the signature's
 pub table-types : (c : Convention) (ts : Trees) → map typeIn (take (countOf ts) (table c ts)) ≡ typesOf c ts
 unfolding table
 table-types c ts =
-    ap (map typeIn) (take-at (listed c ts) (replicate (maxArguments - countOf ts) blank) (countOf ts) (length-listed c ts)) ∙ listed-types c ts
+    ap (map typeIn) (take-at (listed c ts) (replicate (maxArguments - countOf ts) blank) (countOf ts) (listed-length c ts)) ∙ listed-types c ts
 
 listed-small : (c : Convention) (ts : Trees) → AllSized c ts → (i : ℕ) → i < countOf ts → sizeOf c (getD (listed c ts) i blank .ty) ≤ 256
 unfolding listed countOf AllSized
@@ -53,21 +46,21 @@ listed-small c (ts ▸ t) a i h = go (countOf ts - i) refl (listed-small c ts (a
     go : (n : ℕ) → countOf ts - i ≡ n → (i < countOf ts → sizeOf c (getD (listed c ts) i blank .ty) ≤ 256)
         → sizeOf c (getD (listed c ts ++ argument (typeOf c t) ∷ []) i blank .ty) ≤ 256
     go zero e ih =
-        let at : i ≡ length (listed c ts) = omega (arith, length-listed c ts) in
+        let at : i ≡ length (listed c ts) = omega (arith, listed-length c ts) in
         rw (getD-at (listed c ts) (argument (typeOf c t)) [] blank i (sym at)) (a .1 .small)
     go (suc n) e ih =
-        let before : i < length (listed c ts) = omega (arith, length-listed c ts) in
+        let before : i < length (listed c ts) = omega (arith, listed-length c ts) in
         rw (List·getD-append (listed c ts) (argument (typeOf c t) ∷ []) blank i before) (ih (omega arith))
 
 table-small : (c : Convention) (ts : Trees) → AllSized c ts → (i : ℕ) → i < countOf ts → sizeOf c (getD (table c ts) i blank .ty) ≤ 256
 unfolding table
 table-small c ts a i h =
-    let before : i < length (listed c ts) = omega (arith, length-listed c ts) in
+    let before : i < length (listed c ts) = omega (arith, listed-length c ts) in
     rw (List·getD-append (listed c ts) (replicate (maxArguments - countOf ts) blank) blank i before) (listed-small c ts a i h)
 
 length-table : (c : Convention) (ts : Trees) → countOf ts ≤ length (table c ts)
 unfolding table
-length-table c ts = simp length-append (omega (arith, length-listed c ts))
+length-table c ts = simp length-append (omega (arith, listed-length c ts))
 
 small-result : (c : Convention) (r : Result) → ResultSized c r → SmallResult c (resultType c r)
 small-result c nothing h = tt
@@ -88,7 +81,7 @@ answer-plannable s = go (signatureOf s) refl
     go (no f) e = record { few = omega arith; room = omega arith; result = tt; small = λ i h. absurd (omega arith) }
 
 pub length-of-types : (c : Convention) (ts : Trees) → length (typesOf c ts) ≡ countOf ts
-length-of-types c ts = sym (ap length (listed-types c ts)) ∙ length-map (listed c ts) ∙ length-listed c ts
+length-of-types c ts = sym (ap length (listed-types c ts)) ∙ length-map (listed c ts) ∙ listed-length c ts
   where
     length-map : (l : List Argument) → length (map typeIn l) ≡ length l
     length-map [] = refl

@@ -8,12 +8,11 @@ use borrow.Author.Tests.{eqb-true, leb-false}
 use lib.Dec.{leb, eqb}
 use Rattle.words.specs.Basics.{pick}
 use Rattle.conventions.specs.declared.Convention.{Convention}
-use Rattle.conventions.proofs.Laws.{word-bounds}
-use Rattle.types.specs.declared.IntegerKind.{IntegerKind}
 use Rattle.types.specs.declared.FloatFormat.{FloatFormat}
 use Rattle.types.specs.declared.Equivalent.{Equivalent}
 use Rattle.types.specs.declared.ValueType.{ValueType}
 use Rattle.types.specs.Sizes.{integerSize, sizeOf, equivalentOf}
+use Rattle.types.proofs.Laws.{integer-most}
 use Rattle.places.specs.declared.Cursor.{Cursor}
 use Rattle.places.specs.declared.CallRules.{CallRules}
 use Rattle.places.specs.declared.ZClass.{ZClass}
@@ -33,17 +32,6 @@ absurd-bool e = let z : _≡_ {A = ℕ} 0 1 = cc in absurd (omega arith)
 
 absurd-bool' : {A : Type 0} → _≡_ {A = Bool} false true → A
 absurd-bool' e = let z : _≡_ {A = ℕ} 0 1 = cc in absurd (omega arith)
-
-integer-small : (c : Convention) (k : IntegerKind) → integerSize c k ≤ 8
-integer-small c IntegerKind.I8 = omega arith
-integer-small c IntegerKind.U8 = omega arith
-integer-small c IntegerKind.I16 = omega arith
-integer-small c IntegerKind.U16 = omega arith
-integer-small c IntegerKind.I32 = omega arith
-integer-small c IntegerKind.U32 = omega arith
-integer-small c IntegerKind.I64 = omega arith
-integer-small c IntegerKind.U64 = omega arith
-integer-small c IntegerKind.Pointer = word-bounds c .1
 
 -- ---- PowerPC, over the bytes w of a word
 
@@ -88,7 +76,7 @@ module _ (w : ℕ) (least : 4 ≤ w) (most : w ≤ 8) where
     -- what stands at the end of its words has at most 64 bits
     end-small : (c : Convention) (t : ValueType) → Typed c t → startsAtHead rules t ≡ false → (1 ≤ sizeOf c t) × (sizeOf c t ≤ 8)
     unfolding startsAtHead
-    end-small c (ValueType.Integer x) h q = (h .sized .some, integer-small c x)
+    end-small c (ValueType.Integer x) h q = (h .sized .some, integer-most c x .1)
     end-small c (ValueType.Float FloatFormat.Single) h q = (omega arith, omega arith)
     end-small c (ValueType.Float FloatFormat.Double) h q = (omega arith, omega arith)
     end-small c (ValueType.Float FloatFormat.LongDouble) h q = absurd-bool q
@@ -249,7 +237,7 @@ z-struct k t n Equivalent.Double q f = z-float k t n (rw q (refl, f)) (omega ari
 
 z-held : (k : Cursor) (t : ValueType) → Typed Convention.Z t → Held CallRules.Z (placement t (sizeOf Convention.Z t) (spanOf CallRules.Z k t (sizeOf Convention.Z t)))
 unfolding spanOf zClass
-z-held k (ValueType.Integer x) h = z-simple k (ValueType.Integer x) (integerSize Convention.Z x) (h .sized .some) (integer-small Convention.Z x)
+z-held k (ValueType.Integer x) h = z-simple k (ValueType.Integer x) (integerSize Convention.Z x) (h .sized .some) (integer-most Convention.Z x .1)
 z-held k (ValueType.Float FloatFormat.Single) h = z-float k (ValueType.Float FloatFormat.Single) 4 (refl, refl) (omega arith) (omega arith)
 z-held k (ValueType.Float FloatFormat.Double) h = z-float k (ValueType.Float FloatFormat.Double) 8 (refl, refl) (omega arith) (omega arith)
 z-held k (ValueType.Float FloatFormat.LongDouble) h = z-reference k (ValueType.Float FloatFormat.LongDouble) 16

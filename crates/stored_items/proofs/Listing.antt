@@ -3,6 +3,7 @@ use mathlib.Core.Path.{_≡_, refl, sym, ap, ap₂, _∙_}
 use mathlib.Core.List.{List, [], _∷_, _++_, map, append-assoc}
 use Prim.Native.Nat.{ℕ, zero, suc, _+_, _-_, _/_}
 use native.Mathlib.Omega.{arith}
+use Rattle.words.proofs.Basics.{map-append}
 use Rattle.places.specs.declared.Bank.{Bank}
 use Rattle.places.specs.declared.Place.{Place}
 use Rattle.places.specs.declared.CallRules.{CallRules}
@@ -12,10 +13,6 @@ use Rattle.places.specs.Places.{upFrom, register, registersOf, memoryOf, places
 use Rattle.stored_items.specs.declared.StoredPlace.{StoredPlace}
 use Rattle.stored_items.specs.Places.{placesFrom, placesIn, ownBytes, listedFrom, floatingRun, generalRun, memoryRun, directPlaces}
 use Rattle.stored_items.specs.Listed.{bankOf, listedPlace, StoredAsListed}
-
-map-append : (r : CallRules) (ps qs : List StoredPlace) → map (listedPlace r) (ps ++ qs) ≡ map (listedPlace r) ps ++ map (listedPlace r) qs
-map-append r [] qs = refl
-map-append r (p ∷ ps) qs = ap (λ (l : List Place). listedPlace r p ∷ l) (map-append r ps qs)
 
 -- registers
 numbers-from : (r : CallRules) (bank by number offset n : ℕ)
@@ -42,7 +39,7 @@ stored-as-listed r s =
     let floats = numbers-from r 1 (ownBytes r 8) (s .floating .first) (ownBytes r (s .home .start)) (s .floating .count) in
     let generals = numbers-from r 0 (ownBytes r (wordOf r)) (s .general .first) (ownBytes r (s .home .start)) (s .general .count) in
     let memories = offsets-from r (wordOf r) 0 (s .memory .start) (s .memory .length / wordOf r) in
-    map-append r f (g ++ m) ∙ ap (λ (l : List Place). map (listedPlace r) f ++ l) (map-append r g m)
+    map-append (listedPlace r) f (g ++ m) ∙ ap (λ (l : List Place). map (listedPlace r) f ++ l) (map-append (listedPlace r) g m)
     ∙ ap₂ (λ (a l : List Place). a ++ l) floats (ap₂ (λ (a l : List Place). a ++ l) generals memories)
     ∙ sym (append-assoc (map (register Bank.Floating) (upFrom (s .floating .first) 1 (s .floating .count)))
     (map (register Bank.General) (upFrom (s .general .first) 1 (s .general .count)))

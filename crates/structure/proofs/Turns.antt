@@ -61,11 +61,6 @@ covering-more ellipsis paired w ts fs ps m i t f few two d e g = record {
   small = omega (arith, g .small);
 }
 
-pub drop-at : {A : Type 0} (x : A) (l : List A) (i : ℕ) → i < length l → drop i l ≡ getD l i x ∷ drop (suc i) l
-drop-at x [] i h = absurd (omega arith)
-drop-at x (y ∷ l) zero h = refl
-drop-at x (y ∷ l) (suc i) h = drop-at x l i (omega arith)
-
 -- ---- the first that straddles
 
 pub record Looking (paired : Bool) (ts : List ValueType) (m i : ℕ) : Type 0 where

@@ -31,7 +31,7 @@ integer-by-word c d IntegerKind.Pointer e = e
 
 -- a type that is no struct is small
 
-integer-most : (c : Convention) (k : IntegerKind) → (0 < integerSize c k) × (integerSize c k ≤ 16)
+pub integer-most : (c : Convention) (k : IntegerKind) → (0 < integerSize c k) × (integerSize c k ≤ 8)
 integer-most c IntegerKind.I8 = omega arith
 integer-most c IntegerKind.U8 = omega arith
 integer-most c IntegerKind.I16 = omega arith
@@ -48,7 +48,7 @@ float-most FloatFormat.Double = omega arith
 float-most FloatFormat.LongDouble = omega arith
 
 pub integer-sized : (c : Convention) (k : IntegerKind) → Sized c (ValueType.Integer k)
-integer-sized c k = let m = integer-most c k in record { some = m .0; small = omega arith; aligned = m .0; narrow = m .1 }
+integer-sized c k = let m = integer-most c k in record { some = m .0; small = omega arith; aligned = m .0; narrow = omega arith }
 
 pub float-sized : (c : Convention) (f : FloatFormat) → Sized c (ValueType.Float f)
 float-sized c f = let m = float-most f in record { some = m .0; small = omega arith; aligned = m .0; narrow = m .1 }

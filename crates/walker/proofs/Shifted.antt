@@ -48,10 +48,6 @@ part-from : (d n m : ℕ) (l : List ℕ) → part (d + n) m l ≡ part n m (drop
 part-from d n m l = ap (take m) (sym (drop-drop n d l))
 
 -- places that pass the area pass its part, and the other way round
-both-false : (a : Bool) → a && false ≡ false
-both-false true = refl
-both-false false = refl
-
 passes-shift : (d : ℕ) (s s′ : Span) (l : List ℕ) → Shifted d s s′ → passes s (length l) ≡ passes s′ (length (drop d l))
 unfolding passes
 passes-shift d s s′ l h = go (ltb (length l) (s .memory .start + s .memory .length)) refl (ltb 0 (s′ .memory .length)) refl

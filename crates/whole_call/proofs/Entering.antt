@@ -6,6 +6,7 @@ use native.Mathlib.Omega.{arith}
 use lib.ListN.{length, getD}
 use lib.Seq.{getD-set-other}
 use Rattle.words.specs.Splice.{part}
+use Rattle.words.proofs.Splices.{part-agree}
 use Rattle.saves.specs.Saves.{Save, store, saveAll}
 use Rattle.saves.proofs.Words.{store-length, store-above}
 use Rattle.saves.proofs.Saving.{all-length, all-outside, outside-above}
@@ -28,7 +29,6 @@ use Rattle.history.specs.Calls.{enter, Machine, answer, after}
 use Rattle.history.specs.Preserved.{OpenEnter}
 use Rattle.history.proofs.Invariant.{Base, Invariant, base-of}
 use Rattle.whole_call.specs.Put.{fileOf}
-use Rattle.whole_call.proofs.Lists.{part-agree}
 
 -- bytes from the header's end on
 entered-part : (k : FrameRules) → LawfulFrames k → (s : State) (l : List ℕ) (f : Frame) (at n : ℕ) → CanEnter k s f → offset k s + k .header ≤ at → part at n (enteredMemory k s l f) ≡ part at n l

@@ -51,10 +51,10 @@ use Rattle.word_layout.specs.Words.{registersWords, isMachine, depthIn, frameIn
 use Rattle.word_layout.specs.Calls.{changed, startWords, enterWords, writeRegisterWords}
 use Rattle.history.specs.Preserved.{OpenEnter, callerOf}
 use Rattle.word_history.specs.Calls as calls
-use Rattle.word_history.specs.Calls.{Call, enter, writeRegister, writeMemory, Lent, answer}
-use Rattle.word_history.specs.Demand3.{machineIn, WordsFit}
+use Rattle.word_history.specs.Calls.{Call, enter, writeRegister, writeMemory, Lent, answer, run}
+use Rattle.word_history.specs.Demand3.{machineIn, WordsFit, openedBy}
 use Rattle.whole_call.specs.Put.{bytesIn, ownArea, register, registersIn, registersOf, named, putPieces, putCalls, joined, Short, Cut}
-use Rattle.whole_call.specs.Reached.{run, openedBy, Reached}
+use Rattle.whole_call.specs.Reached.{Reached}
 use Rattle.whole_call.specs.Caller.{Each, Free, CanCall, InLocals, SavedSix}
 use Rattle.whole_call.specs.WholeCall.{seen, inCallee, Claims, putFilled}
 use Rattle.whole_call.proofs.Lists.{each-at}

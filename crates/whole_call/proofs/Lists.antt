@@ -1,13 +1,12 @@
 -- The laws of lists: each of several, numbers in eight bytes, and pieces. Assumes nothing.
-use mathlib.Core.Path.{_≡_, refl, sym, ap, _∙_}
+use mathlib.Core.Path.{_≡_, refl, ap, _∙_}
 use mathlib.Core.List.{List, [], _∷_, _++_}
-use Prim.Native.Nat.{ℕ, zero, suc, _+_, _*_, _≤_, _<_}
+use Prim.Native.Nat.{ℕ, zero, suc, _+_, _*_, _<_}
 use native.Mathlib.Omega.{arith}
-use lib.ListN.{length, getD, take, drop, length-append, length-take, length-drop}
-use lib.Seq.{take-at, drop-append-add, ext-getD}
+use lib.ListN.{length, getD, take, length-append}
+use lib.Seq.{take-at, drop-append-add}
 use Rattle.words.specs.Splice.{part}
 use Rattle.words.specs.Numbers.{bytesOf}
-use Rattle.words.proofs.Splices.{part-at}
 use Rattle.words.proofs.Numbers.{length-bytesOf}
 use Rattle.whole_call.specs.Put.{wordsOf}
 use Rattle.whole_call.specs.Caller.{Each}
@@ -71,10 +70,3 @@ words-at (x ∷ xs) (suc n) h =
     ap (λ (j : ℕ). part j 8 (bytesOf 8 x ++ wordsOf xs)) e ∙ ap (take 8) (drop-append-add (bytesOf 8 x) (wordsOf xs) (8 * n)) ∙ words-at xs n (omega arith)
 
 -- ---- bytes
-
--- two memories of one length that agree on some bytes have the same part there
-pub part-agree : (l l′ : List ℕ) (at n : ℕ) → length l ≡ length l′ → ((b : ℕ) → at ≤ b → b < at + n → getD l b 0 ≡ getD l′ b 0) → part at n l ≡ part at n l′
-part-agree l l′ at n e same =
-    let size : length (part at n l) ≤ n = omega (arith, length-take n (drop at l)) in
-    ext-getD 0 (part at n l) (part at n l′) (simp (length-take, length-drop, e))
-    (λ i h. part-at at n l i 0 (omega arith) ∙ same (at + i) (omega arith) (omega arith) ∙ sym (part-at at n l′ i 0 (omega arith)))

@@ -25,7 +25,7 @@ use Rattle.plan.specs.declared.Plan.{Plan}
 use Rattle.plan.specs.Plan.{noSpan, planIn, planAnswer}
 use Rattle.plan.proofs.Theorems as plans
 use Rattle.slots.specs.Arguments.{planFor}
-use Rattle.saves.proofs.Taking.{le-or-lt}
+use Rattle.words.proofs.Basics.{le-or-lt}
 use Rattle.rules.specs.declared.Frame.{Frame}
 use Rattle.rules.specs.Rules.{within, rules}
 use Rattle.rules.specs.Frames.{firstGpr, firstFpr}

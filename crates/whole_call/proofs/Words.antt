@@ -21,11 +21,11 @@ use Rattle.history.specs.Calls as states
 use Rattle.history.specs.Preserved.{OpenEnter, openAfter, Preserved, CallsFit}
 use Rattle.history.proofs.Invariant.{Invariant}
 use Rattle.history.proofs.Theorem.{start-invariant}
-use Rattle.word_history.specs.Calls.{Call, enter, leave, Lent, answer, after, fresh}
-use Rattle.word_history.specs.Demand3.{machineIn, callIn, callsIn}
+use Rattle.word_history.specs.Calls.{Call, enter, leave, Lent, answer, after, fresh, run}
+use Rattle.word_history.specs.Demand3.{machineIn, callIn, callsIn, openedBy}
 use Rattle.word_history.proofs.Theorem.{reading-after, answer-read, words-length, start-length, registers-fit}
 use Rattle.whole_call.specs.Put.{bytesIn, ownArea, callersArea, Register, heldIn, registersOf, resultSpans, named, putRegister, putPieces, putCalls}
-use Rattle.whole_call.specs.Reached.{run, AllAccepted, openedBy, Reached}
+use Rattle.whole_call.specs.Reached.{AllAccepted, Reached}
 use Rattle.whole_call.specs.Caller.{Each, CanCall}
 use Rattle.whole_call.specs.WholeCall.{framesFor, Passed, Homed, Returned, calling, inCallee, Claims, putFilled}
 use Rattle.whole_call.proofs.Steps as steps

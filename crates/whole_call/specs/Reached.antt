@@ -1,5 +1,4 @@
--- Lists of the exported calls of the frame machine: what they leave lent, whether all are accepted, which enters they leave open, and what is reached by them from an accepted
--- start. Assumes nothing.
+-- Lists of the exported calls of the frame machine: whether all are accepted, and what is reached by them from an accepted start. Assumes nothing.
 use Prim.Native.Nat.{ℕ}
 use mathlib.Core.Path.{_≡_}
 use mathlib.Core.List.{List, [], _∷_}
@@ -8,24 +7,14 @@ use Rattle.conventions.specs.declared.Convention.{Convention}
 use Rattle.machine.specs.declared.Answer.the-variants.{Accepted}
 use Rattle.machine.specs.Machine.{startOutcome}
 use Rattle.word_layout.specs.Words.{registersWords, registersIn}
-use Rattle.history.specs.Preserved.{OpenEnter, openAfter, CallsFit}
-use Rattle.word_history.specs.Calls.{Call, Lent, answer, after, fresh}
-use Rattle.word_history.specs.Demand3.{machineIn, callIn, callsIn, WordsFit}
-
--- what is lent after a list of calls
-unfoldable pub run : List Call → Lent → Lent
-run [] m = m
-run (c ∷ cs) m = run cs (after c m)
+use Rattle.history.specs.Preserved.{OpenEnter, CallsFit}
+use Rattle.word_history.specs.Calls.{Call, Lent, answer, after, run, fresh}
+use Rattle.word_history.specs.Demand3.{callsIn, openedBy, WordsFit}
 
 -- every call of a list is accepted
 unfoldable pub AllAccepted : List Call → Lent → Type 0
 AllAccepted [] m = Unit {0}
 AllAccepted (c ∷ cs) m = (answer c m ≡ Accepted) × AllAccepted cs (after c m)
-
--- the enters that are open after a list of calls, of which os were open before it
-unfoldable pub openedBy : List Call → Lent → List OpenEnter → List OpenEnter
-openedBy [] m os = os
-openedBy (c ∷ cs) m os = openedBy cs (after c m) (openAfter (callIn c) (answer c m) (machineIn m) os)
 
 -- m, with the enters os open, was reached by a list of calls from an accepted start: what `Demand3` asks for, and no more
 pub record Reached (c : Convention) (os : List OpenEnter) (m : Lent) : Type 0 where

@@ -21,9 +21,9 @@ use Rattle.machine.specs.declared.Answer.the-variants.{Accepted}
 use Rattle.word_layout.specs.Words.{frameIn}
 use Rattle.history.specs.Calls.{Machine}
 use Rattle.history.specs.Preserved.{OpenEnter, Preserved, CallsFit}
-use Rattle.word_history.specs.Calls.{Call, enter, leave, Lent, answer, after}
-use Rattle.word_history.specs.Demand3.{machineIn, callsIn}
-use Rattle.whole_call.specs.Reached.{run, AllAccepted, openedBy, Reached}
+use Rattle.word_history.specs.Calls.{Call, enter, leave, Lent, answer, after, run}
+use Rattle.word_history.specs.Demand3.{machineIn, callsIn, openedBy}
+use Rattle.whole_call.specs.Reached.{AllAccepted, Reached}
 use Rattle.whole_call.specs.Caller.{Each, CanCall, InLocals}
 use Rattle.whole_call.specs.Put.{bytesIn, ownArea, callersArea, found, Register, heldIn, registersOf, resultSpans, putPieces, putCalls, Cut}
 

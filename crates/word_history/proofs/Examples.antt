@@ -18,16 +18,12 @@ use Rattle.machine.specs.Answers.{answerNumber, judge}
 use Rattle.machine.specs.Machine.{topFrame, okFrames, sizes, okMemory, okState, startAnswer, started, startedMemory, enterAnswer, entered, enteredMemory, writeRegisterAnswer, writtenRegister, leaveAnswer, left, startOutcome, startMemory, enterOutcome, enterMemory, writeRegisterOutcome, leaveOutcome}
 use Rattle.word_layout.specs.Words.{registersWords, isMachine, depthIn, registersIn, frameIn, framesIn, stateIn, registerWords, frameWords, framesWords, stateWords}
 use Rattle.word_layout.specs.Calls.{changed, startWords, enterWords, writeRegisterWords, leaveWords}
-use Rattle.word_history.specs.Calls.{Call, enter, writeRegister, leave, Lent, answer, after, fresh}
+use Rattle.word_history.specs.Calls.{Call, enter, writeRegister, leave, Lent, answer, after, fresh, run}
 
 -- the numbers of the answers to a list of calls, and what is lent after them
 abbrev numbers : List Call → Lent → List ℕ
 numbers [] m = []
 numbers (c ∷ cs) m = answerNumber (answer c m) ∷ numbers cs (after c m)
-
-abbrev run : List Call → Lent → Lent
-run [] m = m
-run (c ∷ cs) m = run cs (after c m)
 
 abbrev start : Convention → Lent
 start c = fresh c 4096 (replicate 640 1) (replicate registersWords 7)
@@ -54,7 +50,7 @@ pub worked : (startOutcome Ppc64 4096 640 (registersIn (replicate registersWords
     × (run calls-z (start Z) .words ≡ start Z .words)
     × (numbers calls-leaf (start Ppc64) ≡ 22 ∷ 0 ∷ 0 ∷ 0 ∷ 22 ∷ [])
     × (run calls-leaf (start Ppc64) .words ≡ start Ppc64 .words)
-unfolding conventionCode overlay splice bytesOf valueOf store load saveRun loadRun withPointer allWithin lowered okRegisters cleared okLeaf okRequest below roundUp fullSize frameSize chainWidth gprAt savesBy linkAt mergeFields restoredLr restoredCr restored bankOf writableRegister withRegister judge topFrame okFrames sizes okMemory okState startAnswer started startedMemory enterAnswer entered enteredMemory writeRegisterAnswer writtenRegister leaveAnswer left startOutcome startMemory enterOutcome enterMemory writeRegisterOutcome leaveOutcome isMachine depthIn registersIn frameIn framesIn stateIn registerWords frameWords framesWords stateWords changed startWords enterWords writeRegisterWords leaveWords
+unfolding conventionCode overlay splice bytesOf valueOf store load saveRun loadRun withPointer allWithin lowered okRegisters cleared okLeaf okRequest below roundUp fullSize frameSize chainWidth gprAt savesBy linkAt mergeFields restoredLr restoredCr restored bankOf writableRegister withRegister judge topFrame okFrames sizes okMemory okState startAnswer started startedMemory enterAnswer entered enteredMemory writeRegisterAnswer writtenRegister leaveAnswer left startOutcome startMemory enterOutcome enterMemory writeRegisterOutcome leaveOutcome isMachine depthIn registersIn frameIn framesIn stateIn registerWords frameWords framesWords stateWords changed startWords enterWords writeRegisterWords leaveWords run
 worked = (refl, refl, refl, refl, refl, refl, refl, refl)
 
 -- on AIX, with 2^32 in each word of the registers: a frame that saves r13 and up
@@ -82,5 +78,5 @@ pub worked-aix : (startOutcome Aix (2 ^ 32 - 656) 640 (registersIn wide 0) .answ
     × (numbers calls-leaf start-aix ≡ 22 ∷ 0 ∷ 0 ∷ 0 ∷ 22 ∷ [])
     × (run calls-leaf start-aix .words ≡ start-aix .words)
     × ((leaveWith 4 Aix ≡ 23) × (leaveWith 35 Aix ≡ 23) × (leaveWith 68 Aix ≡ 23) × (leaveWith 36 Aix ≡ 22) × (leaveWith 4 Ppc64 ≡ 22) × (leaveWith 68 Ppc64 ≡ 22))
-unfolding conventionCode overlay splice bytesOf valueOf store load saveRun loadRun withPointer allWithin lowered okRegisters cleared okLeaf okRequest below roundUp fullSize frameSize chainWidth gprAt savesBy linkAt mergeFields restoredLr restoredCr restored bankOf writableRegister withRegister judge topFrame okFrames sizes okMemory okState startAnswer started startedMemory enterAnswer entered enteredMemory writeRegisterAnswer writtenRegister leaveAnswer left startOutcome startMemory enterOutcome enterMemory writeRegisterOutcome leaveOutcome isMachine depthIn registersIn frameIn framesIn stateIn registerWords frameWords framesWords stateWords changed startWords enterWords writeRegisterWords leaveWords
+unfolding conventionCode overlay splice bytesOf valueOf store load saveRun loadRun withPointer allWithin lowered okRegisters cleared okLeaf okRequest below roundUp fullSize frameSize chainWidth gprAt savesBy linkAt mergeFields restoredLr restoredCr restored bankOf writableRegister withRegister judge topFrame okFrames sizes okMemory okState startAnswer started startedMemory enterAnswer entered enteredMemory writeRegisterAnswer writtenRegister leaveAnswer left startOutcome startMemory enterOutcome enterMemory writeRegisterOutcome leaveOutcome isMachine depthIn registersIn frameIn framesIn stateIn registerWords frameWords framesWords stateWords changed startWords enterWords writeRegisterWords leaveWords run
 worked-aix = (refl, refl, refl, refl, refl, refl, refl, refl, (refl, refl, refl, refl, refl, refl))

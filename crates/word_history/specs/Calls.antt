@@ -2,7 +2,7 @@
 -- the memory stand here as the contracts of `fz_start_ppc64`, `fz_start_z`, `fz_start_aix`, `fz_start_ppc64b`, `fz_enter`, `fz_write_register`, `fz_write_memory` and `fz_leave` give them
 -- (crates/bridge_starts/src/lib.rt, crates/bridge_frames/src/lib.rt). What a contract does not speak of is lent for reading only, and stays. Assumes nothing.
 use Prim.Native.Nat.{ℕ}
-use mathlib.Core.List.{List}
+use mathlib.Core.List.{List, [], _∷_}
 use lib.ListN.{length}
 use Rattle.conventions.specs.declared.Convention.{Convention}
 use Rattle.machine.specs.declared.Answer.{Answer}
@@ -45,6 +45,11 @@ memoryAfter leave m = m .memory
 
 abbrev pub after : Call → Lent → Lent
 after c m = record { words = wordsAfter c m; memory = memoryAfter c m }
+
+-- what is lent after a list of calls
+unfoldable pub run : List Call → Lent → Lent
+run [] m = m
+run (c ∷ cs) m = run cs (after c m)
 
 -- what an accepted or refused start in a convention leaves, from a base b, the memory l and the words rs of the registers; it writes all the machine's words
 abbrev pub fresh : Convention → ℕ → List ℕ → List ℕ → Lent

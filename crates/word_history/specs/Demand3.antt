@@ -38,6 +38,11 @@ abbrev pub Holds : FrameRules → List Call → List OpenEnter → Lent → Type
 Holds k [] os m = Unit {0}
 Holds k (c ∷ cs) os m = CallHolds k (callIn c) (answer c m) os (machineIn (after c m)) × Holds k cs (openAfter (callIn c) (answer c m) (machineIn m) os) (after c m)
 
+-- the enters that are open after a list of calls, of which os were open before it
+unfoldable pub openedBy : List Call → Lent → List OpenEnter → List OpenEnter
+openedBy [] m os = os
+openedBy (c ∷ cs) m os = openedBy cs (after c m) (openAfter (callIn c) (answer c m) (machineIn m) os)
+
 -- ---- numbers are values of their types
 
 -- what an array of n 64-bit words is

@@ -6,8 +6,8 @@ use mathlib.Core.List.{List, [], _∷_, _++_, append-nil}
 use Prim.Native.Nat.{ℕ, zero, suc, _+_, _-_, _≤_, _<_}
 use native.Mathlib.Nat.{le-of-suc-le-suc, not-suc-le-zero, add-zero, zero-add, suc-add}
 use native.Mathlib.Omega.{arith}
-use lib.ListN.{length, getD, take, drop, set, length-drop, drop-of-length-le}
-use lib.Seq.{take-all, take-take, length-take-le, take-add, drop-drop, getD-take, getD-drop}
+use lib.ListN.{length, getD, take, drop, set, length-take, length-drop, drop-of-length-le}
+use lib.Seq.{take-all, take-take, length-take-le, take-add, drop-drop, getD-take, getD-drop, ext-getD}
 use borrow.Rule.Slice.PartMut.{putMid, midOf}
 use Rattle.words.specs.Splice.{overlay, splice, part}
 
@@ -85,6 +85,13 @@ lent-tail l n bs =
 
 pub part-at : (n m : ℕ) (l : List ℕ) (i d : ℕ) → i < m → getD (part n m l) i d ≡ getD l (n + i) d
 part-at n m l i d h = getD-take m (drop n l) i d h ∙ getD-drop n l i d
+
+-- parts are the same where the lists are
+pub part-agree : (l l′ : List ℕ) (at n : ℕ) → length l ≡ length l′ → ((b : ℕ) → at ≤ b → b < at + n → getD l b 0 ≡ getD l′ b 0) → part at n l ≡ part at n l′
+part-agree l l′ at n e same =
+    let size : length (part at n l) ≤ n = omega (arith, length-take n (drop at l)) in
+    ext-getD 0 (part at n l) (part at n l′) (simp (length-take, length-drop, e))
+    (λ i h. part-at at n l i 0 (omega arith) ∙ same (at + i) (omega arith) (omega arith) ∙ sym (part-at at n l′ i 0 (omega arith)))
 
 pub part-add : (n a b : ℕ) (l : List ℕ) → part n (a + b) l ≡ part n a l ++ part (n + a) b l
 part-add n a b l = take-add a b (drop n l) ∙ rw drop-drop

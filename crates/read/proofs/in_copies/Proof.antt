@@ -1,19 +1,10 @@
 -- The tests in turn, each without a wrap.
-use mathlib.Core.Path.{_≡_, refl, sym}
-use mathlib.Core.Bool.{Bool, true, false}
-use Prim.Native.Nat.{ℕ, _+_, _-_, _≤_, _<_}
+use Prim.Native.Nat.{_+_, _-_, _<_}
 use native.Mathlib.Omega.{arith}
-use borrow.Author.Tests.{le-leb, lt-leb, leb-true, leb-false}
-use lib.Dec.{leb}
+use borrow.Author.Tests.{le-leb, lt-leb}
+use Rattle.words.proofs.Basics.{leb-sub}
 use Rattle.read.proofs.in_copies.Statement.{statement}
 use Rattle.read.proofs.in_copies.Tie as tie
-
-moved : (x n l : ℕ) → n ≤ l → leb x (l - n) ≡ leb (x + n) l
-moved x n l h = go (leb x (l - n)) refl
-  where
-    go : (b : Bool) → leb x (l - n) ≡ b → b ≡ leb (x + n) l
-    go true q = let k : x ≤ l - n = leb-true x (l - n) q in sym (le-leb (x + n) l (omega arith))
-    go false q = let k : l - n < x = leb-false x (l - n) q in sym (lt-leb (x + n) l (omega arith))
 
 returns : tie.Need-returns
 returns c = simp (lt-leb _ _ (c .if1 .taken))
@@ -27,7 +18,7 @@ returns-2 c =
 returns-3 : tie.Need-returns-3
 returns-3 c =
     let a = c .before .before .args in
-    simp (le-leb _ _ (c .before .if1 .left)) (moved (a .address - a .base) (a .n) (a .length) (c .if2 .left))
+    simp (le-leb _ _ (c .before .if1 .left)) (leb-sub (a .address - a .base) (a .n) (a .length) (c .if2 .left))
 
 pub in-copies-spec : {M : Type 1} → statement M
 in-copies-spec = tie.close (tie.spec returns returns-2 returns-3)

@@ -1,10 +1,11 @@
 -- The FPRs that were asked for so far tell where the next float goes.
+use lib.Seq.{drop-cons}
 use Rattle.structure.specs.Structure.{registersOver}
 use Rattle.parameters.specs.Values.{noRun}
 use Rattle.signature.specs.Types.{typesIn}
 use Prim.Native.Nat.{_-_}
 use Rattle.structure.proofs.Turns.{Covering, covering-start, covering-more}
-use Rattle.parameters.proofs.Turns.{drop-at, table-end, here, gone}
+use Rattle.parameters.proofs.Turns.{table-end, here, gone}
 use borrow.Author.Needs.{needs}
 use native.Mathlib.Omega.{arith}
 use Rattle.structure.proofs.lay_registers.Statement.{statement}
@@ -59,7 +60,7 @@ loop-again : tie.Need-loop-again Inv-loop μ-loop
 loop-again c =
     let h = here _ (c .before .before .before .before .before .loop .i) (c .before .before .before .before .before .before .before .pre .1) (omega arith) in
     let two = rw (c .before .floats-of .ensures .0) at (c .before .floats-of .ensures .1) in
-    let field = drop-at noRun (c .before .before .before .before .before .before .before .args .t5 .fields) (c .before .before .before .before .before .loop .i) (omega (arith, h .few, c .before .before .before .before .before .before .before .pre .2 .room)) in
+    let field = drop-cons (c .before .before .before .before .before .before .before .args .t5 .fields) (c .before .before .before .before .before .loop .i) noRun (omega (arith, h .few, c .before .before .before .before .before .before .before .pre .2 .room)) in
     rw (c .lay-over .ensures, c .before .floats-of .ensures .0) (covering-more _ _ _ _ _ _ _ _ _ _ (h .few) two (h .next) field (c .before .before .before .before .before .loop .inv))
 
 returns : tie.Need-returns Inv-loop μ-loop
