@@ -171,6 +171,22 @@ fn what_is_not_there_is_found() {
     assert_eq!(faults(&page), expected);
 }
 
+/// A file of definitions that only proofs and helpers need says so, and the page cites none.
+#[test]
+fn no_claim_cites_what_is_for_helpers() {
+    let crates = fs::read_dir(root().join("crates")).expect("the crates");
+    let files = crates.map(|entry| entry.expect("a crate").path().join("specs/Helpers.antt"));
+    let mut found = 0;
+    for file in files.filter(|file| file.exists()) {
+        let text = fs::read_to_string(&file).expect("definitions");
+        let first = "-- For proofs and helpers alone: no claim cites this file.\n";
+        assert!(text.starts_with(first), "{}", file.display());
+        found += 1;
+    }
+    assert!(found > 10, "only {found} such files");
+    assert!(!page().contains("Helpers.antt"));
+}
+
 #[test]
 fn quotations_are_word_for_word() {
     let page = page();
