@@ -10,8 +10,9 @@ use lib.Dec.{leb}
 use lib.Pow.{pow-mono, shl-shr, shr-lt}
 use borrow.Author.Tests.{le-leb, lt-leb}
 use Rattle.ieee.specs.Format.{Format, Fields, single, double, positive, join, split}
-use Rattle.ieee.specs.Widening.{Class, signed-zero, subnormal, normal, infinity-or-nan, classOf, rebias, shift, widenAs, widenFields, widen, magnitude}
-use Rattle.ieee.specs.Narrowing.{candidateAs, candidateFields, candidate, candidateMagnitude}
+use Rattle.ieee.specs.Widening.{Class, signed-zero, subnormal, normal, infinity-or-nan, classOf, rebias, shift, widenAs, widenFields, widen}
+use Rattle.ieee.specs.Helpers.{magnitude, candidateMagnitude}
+use Rattle.ieee.specs.Narrowing.{candidateAs, candidateFields, candidate}
 use Rattle.ieee.proofs.Fields.{Fit, fields-equal}
 use Rattle.ieee.proofs.Classes.{Is, of-its-class, only-class, normalised, restored}
 

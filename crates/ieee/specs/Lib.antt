@@ -2,3 +2,4 @@
 pub mod Format
 pub mod Widening
 pub mod Narrowing
+pub mod Helpers

@@ -9,7 +9,7 @@ use mathlib.Core.Bool.{Bool, true, false, cond}
 use lib.Dec.{eqb, leb}
 use Rattle.ieee.specs.declared.Narrowed.{Narrowed}
 use Rattle.ieee.specs.declared.Narrowed.the-variants.{Single, NotWidened}
-use Rattle.ieee.specs.Format.{Format, Fields, single, double, width, allOnes, hiddenBit, positive, join, split}
+use Rattle.ieee.specs.Format.{Format, Fields, single, double, width, allOnes, hiddenBit, join, split}
 use Rattle.ieee.specs.Widening.{rebias, widen}
 
 -- The fields of the only datum of S that can widen to a datum of T with the fields x. Where the exponent field is one
@@ -34,10 +34,6 @@ candidateFields S T x = candidateAs S T (leb (x .exponent) (rebias S T)) x
 -- The only single that can widen to the 64 bits d.
 unfoldable pub candidate : ℕ → ℕ
 candidate d = join single (candidateFields single double (split double d))
-
--- The same of a double without its sign, by its other two fields: what the sign is put above.
-unfoldable pub candidateMagnitude : ℕ → ℕ → ℕ
-candidateMagnitude e f = join single (candidateFields single double (positive e f))
 
 -- The single that widens to the 64 bits d, if there is one.
 unfoldable pub narrow : ℕ → Narrowed

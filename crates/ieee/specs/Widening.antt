@@ -9,7 +9,7 @@ use mathlib.Core.Bool.{cond}
 use Prim.Native.Nat.{ℕ, _+_, _-_, _*_, _^_, _<_}
 use lib.Dec.{eqb}
 use lib.Count.{leadingZeros}
-use Rattle.ieee.specs.Format.{Format, Fields, single, double, bias, allOnes, hiddenBit, positive, join, split}
+use Rattle.ieee.specs.Format.{Format, Fields, single, double, bias, allOnes, hiddenBit, join, split}
 
 -- The classes of data that widening tells apart.
 pub data Class : Type 0 where
@@ -58,10 +58,6 @@ widenFields S T x = widenAs S T (classOf S x) x
 -- A single's 32 bits as the 64 bits of a double.
 unfoldable pub widen : ℕ → ℕ
 widen x = join double (widenFields single double (split single x))
-
--- The same of a single without its sign, by its other two fields: what the sign is put above.
-unfoldable pub magnitude : ℕ → ℕ → ℕ
-magnitude e f = join double (widenFields single double (positive e f))
 
 -- The value of a finite datum without its sign, counted in the format's least subnormal, 2^(1 - bias - fractionBits):
 -- IEEE 754-2008, 3.4, c and d. A normal number's significand has the hidden bit, and its unit doubles with each exponent.

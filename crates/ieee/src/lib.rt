@@ -2,8 +2,9 @@
 // the bits as integers and never on floats, so no NaN is quieted.
 ghost use mathlib.Core.Path.{_≡_};
 ghost use Prim.Native.Nat.{_/_, _%_, _^_, _<_};
-ghost use Rattle.ieee.specs.Widening.{widen as widenOf, magnitude as magnitudeOf};
-ghost use Rattle.ieee.specs.Narrowing.{narrow as narrowOf, candidate as candidateOf, candidateMagnitude};
+ghost use Rattle.ieee.specs.Widening.{widen as widenOf};
+ghost use Rattle.ieee.specs.Narrowing.{narrow as narrowOf, candidate as candidateOf};
+ghost use Rattle.ieee.specs.Helpers.{magnitude as magnitudeOf, candidateMagnitude};
 
 // A single's sign bit.
 const SINGLE_SIGN: u64 = 0x8000_0000;

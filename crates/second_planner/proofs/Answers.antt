@@ -13,7 +13,13 @@ use Rattle.signature.specs.Answer.{resultType, signatureAnswer}
 use Rattle.signature.specs.Types.{typesIn}
 use Rattle.signature.proofs.Types.{table-types}
 use Rattle.second_planner.specs.declared.SecondPlan.{SecondPlan}
-use Rattle.second_planner.specs.Answer.{secondIn, noPlan, straddlingIn, straddlingFault, unlessStraddling, secondAnswer, secondAs}
+use Rattle.second_planner.specs.Answer.{secondIn, noPlan, straddlingIn, straddlingFault, unlessStraddling, secondAnswer}
+
+-- the second plan by the reader's answer g on x
+abbrev secondAs : Outcome → SignatureRead → Reading Signature → SecondPlan
+secondAs (Outcome.Accepted n) g x =
+    unlessStraddling (straddlingIn (g .convention) (typesIn g)) x (secondIn n (g .convention) (g .ellipsis) (g .result) (typesIn g))
+secondAs (Outcome.Refused f) g x = noPlan f
 
 pub second-answer : (x : Reading Signature) → secondAs (signatureAnswer x .outcome) (signatureAnswer x) x ≡ secondAnswer x
 unfolding secondAnswer

@@ -11,11 +11,10 @@ use Rattle.items.specs.declared.Fault.{Fault}
 use Rattle.items.specs.Reading.{Reading, fault, got, no}
 use Rattle.signature.specs.declared.Outcome.{Outcome}
 use Rattle.signature.specs.declared.ResultType.{ResultType}
-use Rattle.signature.specs.declared.SignatureRead.{SignatureRead}
 use Rattle.signature.specs.Signature.{Signature}
 use Rattle.signature.specs.Limits.{maxArguments}
 use Rattle.signature.specs.Answer.{resultType}
-use Rattle.signature.specs.Types.{typesOf, typesIn, valuesOf}
+use Rattle.signature.specs.Types.{typesOf, valuesOf}
 use Rattle.reader.specs.declared.ArgumentRead.{ArgumentRead}
 use Rattle.reader.specs.Argument.{argumentOf}
 use Rattle.parameters.specs.declared.Parameter.{Parameter}
@@ -110,9 +109,3 @@ secondAnswer (got g next n) =
     unlessStraddling (straddlingIn (g .convention) (typesOf (g .convention) (g .arguments))) (got g next n)
     (secondIn n (g .convention) (g .ellipsis) (resultType (g .convention) (g .result)) (typesOf (g .convention) (g .arguments)))
 secondAnswer (no f) = noPlan f
-
--- the same by the reader's answer g on x
-abbrev pub secondAs : Outcome → SignatureRead → Reading Signature → SecondPlan
-secondAs (Outcome.Accepted n) g x =
-    unlessStraddling (straddlingIn (g .convention) (typesIn g)) x (secondIn n (g .convention) (g .ellipsis) (g .result) (typesIn g))
-secondAs (Outcome.Refused f) g x = noPlan f

@@ -5,7 +5,7 @@ use mathlib.Core.Path.{_≡_, ap}
 use Prim.Native.Nat.{ℕ, _+_, _-_, _/_, _^_}
 use native.Mathlib.Omega.{arith}
 use Rattle.ieee.specs.Format.{single, positive, join}
-use Rattle.ieee.specs.Narrowing.{candidateMagnitude}
+use Rattle.ieee.specs.Helpers.{candidateMagnitude}
 use Rattle.ieee.proofs.Magnitudes.{candidate-low, candidate-high, candidate-none}
 use Rattle.ieee.proofs.candidate_magnitude.Statement.{statement}
 use Rattle.ieee.proofs.candidate_magnitude.Tie as tie

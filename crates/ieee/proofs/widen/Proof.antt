@@ -3,7 +3,7 @@ use borrow.Author.Needs.{needs}
 use mathlib.Core.Path.{_≡_, ap₂}
 use Prim.Native.Nat.{ℕ, _/_, _%_, _^_}
 use native.Mathlib.Omega.{arith}
-use Rattle.ieee.specs.Widening.{magnitude}
+use Rattle.ieee.specs.Helpers.{magnitude}
 use Rattle.ieee.proofs.Magnitudes.{magnitude-below, widen-sign}
 use Rattle.ieee.proofs.widen.Statement.{statement}
 use Rattle.ieee.proofs.widen.Tie as tie

@@ -8,7 +8,8 @@ use native.Mathlib.Nat.{pos-of-ne-zero}
 use native.Mathlib.Omega.{arith}
 use lib.Count.{leadingZeros}
 use Rattle.ieee.specs.Format.{single, join}
-use Rattle.ieee.specs.Widening.{signed-zero, subnormal, normal, infinity-or-nan, magnitude, shift}
+use Rattle.ieee.specs.Widening.{signed-zero, subnormal, normal, infinity-or-nan, shift}
+use Rattle.ieee.specs.Helpers.{magnitude}
 use Rattle.ieee.proofs.Classes.{Normalised, normalised, leading-longer}
 use Rattle.ieee.proofs.Magnitudes.{magnitude-as}
 use Rattle.ieee.proofs.widen_magnitude.Statement.{statement}
