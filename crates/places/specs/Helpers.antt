@@ -23,7 +23,7 @@ abbrev pub isEarlier : Edition → Bool
 isEarlier Edition.Earlier = true
 isEarlier Edition.Later = false
 
--- the rules that never do: all but the later edition's
+-- the rules by which no argument's place is open (29): all but the later edition's
 unfoldable pub alwaysClear : CallRules → Bool
 alwaysClear (CallRules.Power f) = isEarlier (f .edition)
 alwaysClear CallRules.Z = true
@@ -34,9 +34,11 @@ unclearAfter zero true i = suc i
 unclearAfter zero false i = 0
 unclearAfter (suc u) b i = suc u
 
+-- how many registers a span names
 abbrev pub registerCount : Span → ℕ
 registerCount s = s .floating .count + s .general .count
 
+-- register numbers of a result that fit their type
 abbrev pub ResultNumbered : ResultPlaces → Type 0
 ResultNumbered ResultPlaces.Nothing = Unit {0}
 ResultNumbered (ResultPlaces.Registers s) = Numbered s

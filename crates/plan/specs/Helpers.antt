@@ -25,6 +25,7 @@ use Rattle.plan.specs.Plan.{planIn, refusedPlan, startIn, measureOf}
 use Rattle.plan.specs.Call.{firstUnclear, unclearFault}
 use Rattle.plan.specs.Disjoint.{spanAt}
 
+-- the plan of the reader's answer, as `planAnswer` of its reading (law `planned-answer`)
 abbrev pub plannedAs : Outcome → SignatureRead → Plan
 plannedAs (Outcome.Accepted n) g = planIn n (g .convention) (g .ellipsis) (g .result) (typesIn g)
 plannedAs (Outcome.Refused f) g = refusedPlan f
@@ -37,7 +38,7 @@ abbrev pub planWith : Convention → Bool → ResultType → ℕ → ℕ → Rea
 planWith c v r n all (got ts next m) = pick (ltb next all) (refusedPlan (fault Refusal.TrailingBytes next (n + m))) (planIn (n + m) c v r (typesOf c ts))
 planWith c v r n all (no f) = refusedPlan (later n f)
 
--- the same of the reader's answer
+-- the number of the first unclear argument of the reader's answer, counted from 1, as `unclearIn` of its reading
 abbrev pub unclearOf : SignatureRead → ℕ
 unclearOf g = firstUnclear (g .convention) (rulesOf (g .convention)) (startIn (g .convention) (g .result)) 0 (typesIn g)
 
