@@ -32,7 +32,7 @@ CC = gcc
 # the inputs of a proof: a change of any file or folder here proves the library again
 PROVED_FROM := crates.txt $(shell find crates -print 2>/dev/null)
 # the crates that export functions
-BRIDGES := bridge bridge_plans bridge_listing bridge_values bridge_walk bridge_stored bridge_starts bridge_frames bridge_dump
+BRIDGES := c_signatures c_plans c_listing c_values c_walk c_stored c_starts c_frames c_dump
 ARCHIVE := build/libflakuzhen.a
 # the second planner, for the comparisons: no part of the library, and not installed
 SECOND := build/libsecond.a
@@ -92,8 +92,8 @@ $(ARCHIVE): $(PROVED_FROM)
 
 $(SECOND): $(PROVED_FROM) | $(ARCHIVE)
 	@scripts/check-toolchain
-	rt staticlib bridge_second
-	cp target/staticlib/libbridge_second.a $@
+	rt staticlib c_second
+	cp target/staticlib/libc_second.a $@
 
 $(SHARED): $(ARCHIVE) include/flakuzhen.map host/Cargo.toml
 	$(call MAKE_SHARED,$(CC))

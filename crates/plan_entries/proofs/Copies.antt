@@ -7,8 +7,8 @@ use native.Mathlib.Numerals.{add-one}
 use borrow.Author.Tests.{le-ltb, lt-ltb}
 use lib.ListN.{length, getD, set, take}
 use lib.Seq.{take-suc, length-take-le}
-use Rattle.words.specs.Splice.{overlay}
-use Rattle.words.proofs.Splices.{overlay-nothing, overlay-more}
+use Rattle.base_words.specs.Splice.{overlay}
+use Rattle.base_words.proofs.Splices.{overlay-nothing, overlay-more}
 use Rattle.plan_entries.specs.Words.{tabled}
 
 pub tabled-nothing : (table : List ℕ) → table ≡ tabled table []

@@ -3,8 +3,8 @@ use Prim.Native.Nat.{ℕ, _+_}
 use mathlib.Core.Path.{_≡_, sym, _∙_}
 use mathlib.Core.List.{List, [], _∷_}
 use lib.ListN.{set}
-use Rattle.words.specs.Splice.{overlay, splice}
-use Rattle.words.proofs.Splices.{splice-head, splice-nothing, splice-next}
+use Rattle.base_words.specs.Splice.{overlay, splice}
+use Rattle.base_words.proofs.Splices.{splice-head, splice-nothing, splice-next}
 
 -- the words xs, stored from number i on
 unfoldable pub stored : List ℕ → ℕ → List ℕ → List ℕ

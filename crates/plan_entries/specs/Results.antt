@@ -1,7 +1,7 @@
 -- A result's places in words. Assumes nothing.
 use Prim.Native.Nat.{ℕ}
-use Rattle.places.specs.declared.Span.{Span}
-use Rattle.places.specs.declared.ResultPlaces.{ResultPlaces}
+use Rattle.plan_places.specs.declared.Span.{Span}
+use Rattle.plan_places.specs.declared.ResultPlaces.{ResultPlaces}
 use Rattle.plan_entries.specs.declared.ResultWords.{ResultWords}
 use Rattle.plan_entries.specs.Words.{firstWord}
 

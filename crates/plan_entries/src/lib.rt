@@ -1,12 +1,12 @@
 // The words of a plan: an argument's entry, what a result's are, and the table that the caller lends.
-use places::ByteRange;
-use places::RegisterRange;
-use places::Span;
+use plan_places::ByteRange;
+use plan_places::RegisterRange;
+use plan_places::Span;
 ghost use mathlib.Core.Path.{_≡_};
 ghost use Prim.Native.Nat.{_+_, _*_, _^_, _≤_, _<_};
 ghost use lib.ListN.{length, take};
-ghost use Rattle.words.specs.Splice.{overlay, splice};
-ghost use Rattle.plan_entries.specs.Words.{firstWord, startWord, entryWords, tabled};
+ghost use Rattle.base_words.specs.Splice.{overlay, splice};
+ghost use Rattle.plan_entries.specs.Words.{firstWord, startWord, entryWords, tabled, entryLength};
 
 // The words of an entry.
 pub const ENTRY: usize = 13;
@@ -42,7 +42,7 @@ fn start_word(r: ByteRange) -> u16
 
 // The entry of one argument, at the head of `kept`: 16 bits are enough for each of its words.
 fn put_entry(kept: &mut [u16], item: usize, size: usize, value: usize, s: Span)
-    requires { ⌜ (13 ≤ length (now kept)) × (item < 2 ^ 16) × (size < 2 ^ 16) × (value < 2 ^ 16) ⌝ }
+    requires { ⌜ (entryLength ≤ length (now kept)) × (item < 2 ^ 16) × (size < 2 ^ 16) × (value < 2 ^ 16) ⌝ }
     ensures { λ _. ⌜ now (kept .exit) ≡ overlay (now (kept .entry)) (entryWords item size value s) ⌝ }
 {
     let general = s.general;
@@ -67,8 +67,8 @@ fn put_entry(kept: &mut [u16], item: usize, size: usize, value: usize, s: Span)
 
 // The entry of argument i among those that are kept.
 pub fn keep_entry(kept: &mut [u16], i: usize, item: usize, size: usize, value: usize, s: Span)
-    requires { ⌜ (13 * i + 13 ≤ length (now kept)) × (item < 2 ^ 16) × (size < 2 ^ 16) × (value < 2 ^ 16) ⌝ }
-    ensures { λ _. ⌜ now (kept .exit) ≡ splice (now (kept .entry)) (13 * i) (entryWords item size value s) ⌝ }
+    requires { ⌜ (entryLength * i + entryLength ≤ length (now kept)) × (item < 2 ^ 16) × (size < 2 ^ 16) × (value < 2 ^ 16) ⌝ }
+    ensures { λ _. ⌜ now (kept .exit) ≡ splice (now (kept .entry)) (entryLength * i) (entryWords item size value s) ⌝ }
 {
     let at = ENTRY * i;
     put_entry(&mut kept[at..], item, size, value, s);

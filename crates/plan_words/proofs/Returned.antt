@@ -2,46 +2,46 @@
 use Prim.Native.Nat.{ℕ, _≤_}
 use mathlib.Core.Path.{_≡_, refl}
 use lib.Dec.{ltb}
-use Rattle.words.specs.Basics.{pick}
-use Rattle.conventions.specs.declared.Convention.{Convention}
-use Rattle.conventions.specs.Numbers.{wordBytes}
-use Rattle.types.specs.declared.IntegerKind.{IntegerKind}
-use Rattle.types.specs.declared.FloatFormat.{FloatFormat}
-use Rattle.types.specs.declared.Shape.{Shape}
-use Rattle.types.specs.declared.ValueType.{ValueType}
-use Rattle.types.specs.Sizes.{integerSize}
-use Rattle.places.specs.declared.PowerRules.{PowerRules}
-use Rattle.places.specs.declared.Rules.{Rules}
-use Rattle.places.specs.Power.{words, fprs, shareOf, powerShare}
-use Rattle.places.specs.ZSeries.{zClass, zSpanOf}
-use Rattle.places.specs.Step.{rulesOf, spanOf, fresh, hiddenFor, returning, resultOf}
+use Rattle.base_words.specs.Basics.{pick}
+use Rattle.base_conventions.specs.declared.Convention.{Convention}
+use Rattle.base_conventions.specs.Numbers.{wordBytes}
+use Rattle.sig_types.specs.declared.IntegerKind.{IntegerKind}
+use Rattle.sig_types.specs.declared.FloatFormat.{FloatFormat}
+use Rattle.sig_types.specs.declared.Shape.{Shape}
+use Rattle.sig_types.specs.declared.ValueType.{ValueType}
+use Rattle.sig_types.specs.Sizes.{integerSize}
+use Rattle.plan_places.specs.declared.PowerRules.{PowerRules}
+use Rattle.plan_places.specs.declared.CallRules.{CallRules}
+use Rattle.plan_places.specs.Power.{words, fprs, shareOf, powerShare}
+use Rattle.plan_places.specs.ZSeries.{zClass, zSpanOf}
+use Rattle.plan_places.specs.Step.{rulesOf, spanOf, fresh, hiddenFor, returning, resultOf}
 use Rattle.plan_entries.specs.declared.ResultWords.{ResultWords}
 use Rattle.plan_entries.specs.Results.{resultWords}
 
 -- n registers from the first on
-abbrev pub inGeneral : ℕ → Rules → ℕ → ResultWords
+abbrev pub inGeneral : ℕ → CallRules → ℕ → ResultWords
 inGeneral kind r n = record { kind = kind; gpr = fresh r .general; gprs = n; fpr = 0; fprs = 0 }
 
-abbrev pub inFloating : Rules → ℕ → ResultWords
+abbrev pub inFloating : CallRules → ℕ → ResultWords
 inFloating r n = record { kind = 1; gpr = 0; gprs = 0; fpr = fresh r .floating; fprs = n }
 
 -- a float in one FPR
-pub single-result : (r : Rules) (n : ℕ) → inFloating r 1 ≡ resultWords (resultOf r (ValueType.Float FloatFormat.Single) n)
+pub single-result : (r : CallRules) (n : ℕ) → inFloating r 1 ≡ resultWords (resultOf r (ValueType.Float FloatFormat.Single) n)
 unfolding resultOf hiddenFor returning spanOf fresh powerShare fprs shareOf zClass zSpanOf
-single-result (Rules.Power f) n = refl
-single-result Rules.Z n = refl
+single-result (CallRules.Power f) n = refl
+single-result CallRules.Z n = refl
 
-pub double-result : (r : Rules) (n : ℕ) → inFloating r 1 ≡ resultWords (resultOf r (ValueType.Float FloatFormat.Double) n)
+pub double-result : (r : CallRules) (n : ℕ) → inFloating r 1 ≡ resultWords (resultOf r (ValueType.Float FloatFormat.Double) n)
 unfolding resultOf hiddenFor returning spanOf fresh powerShare fprs shareOf zClass zSpanOf
-double-result (Rules.Power f) n = refl
-double-result Rules.Z n = refl
+double-result (CallRules.Power f) n = refl
+double-result CallRules.Z n = refl
 
 -- a long double: in two, or hidden
-pub long-power : (f : PowerRules) (n : ℕ) → inFloating (Rules.Power f) 2 ≡ resultWords (resultOf (Rules.Power f) (ValueType.Float FloatFormat.LongDouble) n)
+pub long-power : (f : PowerRules) (n : ℕ) → inFloating (CallRules.Power f) 2 ≡ resultWords (resultOf (CallRules.Power f) (ValueType.Float FloatFormat.LongDouble) n)
 unfolding resultOf hiddenFor returning spanOf fresh powerShare fprs shareOf
 long-power f n = refl
 
-pub long-z : (n : ℕ) → inGeneral 2 Rules.Z 1 ≡ resultWords (resultOf Rules.Z (ValueType.Float FloatFormat.LongDouble) n)
+pub long-z : (n : ℕ) → inGeneral 2 CallRules.Z 1 ≡ resultWords (resultOf CallRules.Z (ValueType.Float FloatFormat.LongDouble) n)
 unfolding resultOf hiddenFor spanOf fresh zClass zSpanOf
 long-z n = refl
 

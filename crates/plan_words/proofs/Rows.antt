@@ -9,47 +9,49 @@ use lib.ListN.{length, getD, replicate, List·getD-append}
 use lib.Seq.{getD-at}
 use lib.Dec.{ltb}
 use borrow.Author.Tests.{le-ltb, eq-eqb, ne-eqb}
-use Rattle.words.specs.Basics.{pick}
-use Rattle.conventions.specs.declared.Convention.{Convention}
-use Rattle.types.specs.declared.ValueType.{ValueType}
-use Rattle.types.specs.Sizes.{sizeOf}
-use Rattle.types.specs.Trees.{Tree, Trees, none, _▸_, typeOf, countOf}
-use Rattle.items.specs.declared.Refusal.{Refusal}
-use Rattle.items.specs.declared.Fault.{Fault}
-use Rattle.items.specs.Reading.{Reading, fault, got, no, later}
-use Rattle.signature.specs.declared.ResultType.{ResultType}
-use Rattle.signature.specs.declared.HeadRead.{HeadRead}
-use Rattle.signature.specs.declared.SignatureRead.{SignatureRead}
-use Rattle.signature.specs.Signature.{Result, Signature}
-use Rattle.signature.specs.Limits.{maxArguments}
-use Rattle.signature.specs.Read.{argumentsIn, signatureOf, headOf}
-use Rattle.signature.specs.Answer.{accepted, withArguments, resultType, headAnswer, signatureAnswer}
-use Rattle.signature.proofs.Laws.{thenArguments, signature-arguments}
-use Rattle.signature.specs.Types.{valuesOf, typesOf}
-use Rattle.signature.proofs.Types.{length-of-types, answer-plannable}
-use Rattle.reader.specs.declared.ArgumentRead.{ArgumentRead}
-use Rattle.reader.specs.Argument.{argumentIn, argumentsPlace, argumentAnswer}
-use Rattle.reader.proofs.Found.{begun}
-use Rattle.places.specs.declared.Cursor.{Cursor}
-use Rattle.places.specs.declared.Span.{Span}
-use Rattle.places.specs.declared.Rules.{Rules}
-use Rattle.places.specs.Step.{rulesOf, withEllipsis, spanOf, nextOf}
-use Rattle.plan.specs.Plan.{spansOf, lastOf, noSpan, tableOf, startIn, endIn, planIn, refused, planAnswer}
-use Rattle.plan.specs.Disjoint.{spanAt}
-use Rattle.plan.proofs.Fold.{length-spans, last-marked, values-more}
-use Rattle.plan.specs.Call.{itemIn, unclearOf, unclearFault, called, callOf}
-use Rattle.plan.proofs.Calls.{called-clear, unclear-plan}
+use Rattle.base_words.specs.Basics.{pick}
+use Rattle.base_conventions.specs.declared.Convention.{Convention}
+use Rattle.sig_types.specs.declared.ValueType.{ValueType}
+use Rattle.sig_types.specs.Sizes.{sizeOf}
+use Rattle.sig_types.specs.Trees.{Tree, Trees, none, _▸_, typeOf, countOf}
+use Rattle.sig_items.specs.declared.Refusal.{Refusal}
+use Rattle.sig_items.specs.declared.Fault.{Fault}
+use Rattle.sig_items.specs.Reading.{Reading, fault, got, no, later}
+use Rattle.sig_signatures.specs.declared.ResultType.{ResultType}
+use Rattle.sig_signatures.specs.declared.HeadRead.{HeadRead}
+use Rattle.sig_signatures.specs.declared.SignatureRead.{SignatureRead}
+use Rattle.sig_signatures.specs.Signature.{Result, Signature}
+use Rattle.sig_signatures.specs.Limits.{maxArguments}
+use Rattle.sig_signatures.specs.Read.{argumentsIn, signatureOf, headOf}
+use Rattle.sig_signatures.specs.Answer.{accepted, resultType, headAnswer, signatureAnswer}
+use Rattle.sig_signatures.specs.Helpers.{withArguments, SmallResult}
+use Rattle.sig_signatures.proofs.Laws.{thenArguments, signature-arguments}
+use Rattle.sig_signatures.specs.Types.{valuesOf, typesOf}
+use Rattle.sig_signatures.proofs.Types.{length-of-types, answer-plannable}
+use Rattle.sig_reader.specs.declared.ArgumentRead.{ArgumentRead}
+use Rattle.sig_reader.specs.Argument.{argumentIn, argumentsPlace, argumentOf}
+use Rattle.sig_reader.proofs.Found.{begun}
+use Rattle.plan_places.specs.declared.Cursor.{Cursor}
+use Rattle.plan_places.specs.declared.Span.{Span}
+use Rattle.plan_places.specs.declared.CallRules.{CallRules}
+use Rattle.plan_places.specs.Step.{rulesOf, withEllipsis, spanOf, nextOf}
+use Rattle.plan_plans.specs.Plan.{spansOf, lastOf, noSpan, tableOf, startIn, endIn, planIn, refusedPlan, planAnswer}
+use Rattle.plan_plans.specs.Disjoint.{spanAt}
+use Rattle.plan_plans.proofs.Fold.{length-spans, last-marked, values-more}
+use Rattle.plan_plans.specs.Call.{itemIn, unclearFault, called, callOf}
+use Rattle.plan_plans.specs.Helpers.{unclearOf}
+use Rattle.plan_plans.proofs.Calls.{called-clear, unclear-plan}
 use Rattle.plan_words.specs.declared.Planned.{Planned}
 use Rattle.plan_words.specs.Planned.{plannedOf}
 use Rattle.plan_words.specs.Entries.{sizeIn, sizeAt, valueAt, entriesUpTo, entriesOf}
-use Rattle.plan_words.specs.Rows.{itemAfter, rowsOf, rowsWith, plannedBy, rowsBy}
+use Rattle.plan_words.specs.Helpers.{itemAfter, rowsOf, rowsWith, plannedBy, rowsBy}
 use Rattle.plan_words.proofs.Turns.{same-words}
 
 same-append : {a b x y : List ℕ} → a ≡ b → x ≡ y → a ++ x ≡ b ++ y
 same-append p q = cc
 
 -- one argument's span more
-spans-more : (c : Convention) (r : Rules) (k : Cursor) (ts : List ValueType) (t : ValueType) →
+spans-more : (c : Convention) (r : CallRules) (k : Cursor) (ts : List ValueType) (t : ValueType) →
     spansOf c r k (ts ++ t ∷ []) ≡ spansOf c r k ts ++ spanOf r (lastOf c r k ts) t (sizeOf c t) ∷ []
 unfolding spansOf lastOf
 spans-more c r k [] t = refl
@@ -88,11 +90,11 @@ module _ (c : Convention) (g : Result) (v : Bool) (next n : ℕ) where
         spans-more c (withEllipsis v (rulesOf c)) (startIn c r) (typesOf c ts) (typeOf c t)
         ∙ ap (λ (k : Cursor). spans ts ++ spanOf (withEllipsis v (rulesOf c)) k (typeOf c t) (sizeOf c (typeOf c t)) ∷ []) (last-marked c v (rulesOf c) (startIn c r) (typesOf c ts))
 
-    argument-same : (i : ℕ) → i < countOf ts → argumentAnswer i (read (ts ▸ t)) ≡ argumentAnswer i (read ts)
+    argument-same : (i : ℕ) → i < countOf ts → argumentOf i (read (ts ▸ t)) ≡ argumentOf i (read ts)
     unfolding argumentIn
     argument-same i h = rw (ne-eqb i (countOf ts) (λ q. omega arith))
 
-    argument-last : argumentAnswer (countOf ts) (read (ts ▸ t)) ≡ ArgumentRead.Argument (typeOf c t) (itemAfter start ts)
+    argument-last : argumentOf (countOf ts) (read (ts ▸ t)) ≡ ArgumentRead.Argument (typeOf c t) (itemAfter start ts)
     unfolding argumentIn
     argument-last = rw (eq-eqb (countOf ts) (countOf ts) refl)
 
@@ -152,7 +154,7 @@ module _ (c : Convention) (g : Result) (v : Bool) (next n : ℕ) where
   accepted-rows ts = entries-all ts ∙ ap (entriesUpTo (read ts)) (sym (length-of-types c ts))
 
 -- a refused one
-refused-rows : (y : Reading Signature) (f : Fault) → planAnswer y ≡ refused f → [] ≡ entriesOf y
+refused-rows : (y : Reading Signature) (f : Fault) → planAnswer y ≡ refusedPlan f → [] ≡ entriesOf y
 unfolding entriesOf entriesUpTo
 refused-rows y f plan = rw plan
 

@@ -7,44 +7,45 @@ use native.Mathlib.Omega.{arith}
 use lib.ListN.{length, take, drop, length-append}
 use lib.Seq.{take-at}
 use borrow.Author.Tests.{lt-ltb, le-ltb}
-use Rattle.words.specs.Splice.{overlay, splice}
-use Rattle.words.proofs.Splices.{length-overlay, overlay-is, overlay-nothing, overlay-append}
-use Rattle.conventions.specs.declared.Convention.{Convention}
-use Rattle.types.specs.declared.ValueType.{ValueType}
-use Rattle.types.specs.Sizes.{sizeOf}
-use Rattle.types.specs.Trees.{Trees, none, _▸_, typeOf, countOf}
-use Rattle.items.specs.declared.Refusal.{Refusal}
-use Rattle.items.specs.declared.Fault.{Fault}
-use Rattle.items.specs.declared.ItemRead.{ItemRead}
-use Rattle.items.specs.Reading.{fault, got, no, later}
-use Rattle.items.specs.Read.{itemAt}
-use Rattle.items.specs.Answer.{itemAnswer}
-use Rattle.items.specs.Encode.{encodeTrees}
-use Rattle.items.proofs.Loop.{item-answered}
-use Rattle.signature.specs.Limits.{maxArguments}
-use Rattle.signature.specs.declared.Outcome.{Outcome}
-use Rattle.signature.specs.declared.ResultType.{ResultType}
-use Rattle.signature.specs.Read.{argumentsIn, signatureOf}
-use Rattle.signature.proofs.Loop.{Turn, turn-start, turn-last}
-use Rattle.signature.specs.Types.{valuesOf, typesOf}
-use Rattle.signature.proofs.Types.{length-of-types}
-use Rattle.reader.proofs.Found.{further}
-use Rattle.places.specs.declared.Cursor.{Cursor}
-use Rattle.places.specs.declared.Span.{Span}
-use Rattle.places.specs.declared.Rules.{Rules}
-use Rattle.places.specs.Step.{rulesOf, withEllipsis, spanOf, nextOf, unclearFor, unclearAfter, areaOf}
-use Rattle.places.proofs.Bounds.{rules-lawful}
-use Rattle.places.proofs.Marked.{next-marked, unclear-marked}
-use Rattle.plan.specs.Plan.{lastOf, hiddenIn, startIn, endIn, resultIn, planIn, refused}
-use Rattle.plan.specs.Call.{firstUnclear, unclearFault}
-use Rattle.plan.proofs.Calls.{unclear-more}
-use Rattle.plan.proofs.Fold.{last-more, values-more, Reached, reached-start, reached-more}
+use Rattle.base_words.specs.Splice.{overlay, splice}
+use Rattle.base_words.proofs.Splices.{length-overlay, overlay-is, overlay-nothing, overlay-append}
+use Rattle.base_conventions.specs.declared.Convention.{Convention}
+use Rattle.sig_types.specs.declared.ValueType.{ValueType}
+use Rattle.sig_types.specs.Sizes.{sizeOf}
+use Rattle.sig_types.specs.Trees.{Trees, none, _▸_, typeOf, countOf}
+use Rattle.sig_items.specs.declared.Refusal.{Refusal}
+use Rattle.sig_items.specs.declared.Fault.{Fault}
+use Rattle.sig_items.specs.declared.ItemRead.{ItemRead}
+use Rattle.sig_items.specs.Reading.{fault, got, no, later}
+use Rattle.sig_items.specs.Read.{itemAt}
+use Rattle.sig_items.specs.Answer.{itemAnswer}
+use Rattle.sig_items.specs.Encode.{encodeTrees}
+use Rattle.sig_items.proofs.Loop.{item-answered}
+use Rattle.sig_signatures.specs.Limits.{maxArguments}
+use Rattle.sig_signatures.specs.declared.Outcome.{Outcome}
+use Rattle.sig_signatures.specs.declared.ResultType.{ResultType}
+use Rattle.sig_signatures.specs.Read.{argumentsIn, signatureOf}
+use Rattle.sig_signatures.proofs.Loop.{Turn, turn-start, turn-last}
+use Rattle.sig_signatures.specs.Types.{valuesOf, typesOf}
+use Rattle.sig_signatures.proofs.Types.{length-of-types}
+use Rattle.sig_reader.proofs.Found.{further}
+use Rattle.plan_places.specs.declared.Cursor.{Cursor}
+use Rattle.plan_places.specs.declared.Span.{Span}
+use Rattle.plan_places.specs.declared.CallRules.{CallRules}
+use Rattle.plan_places.specs.Step.{rulesOf, withEllipsis, spanOf, nextOf, unclearFor, areaOf}
+use Rattle.plan_places.specs.Helpers.{unclearAfter}
+use Rattle.plan_places.proofs.Bounds.{rules-lawful}
+use Rattle.plan_places.proofs.Marked.{next-marked, unclear-marked}
+use Rattle.plan_plans.specs.Plan.{lastOf, hiddenIn, startIn, endIn, resultPlacesIn, planIn, refusedPlan}
+use Rattle.plan_plans.specs.Call.{firstUnclear, unclearFault}
+use Rattle.plan_plans.proofs.Calls.{unclear-more}
+use Rattle.plan_plans.proofs.Fold.{last-more, values-more, Reached, reached-start, reached-more}
 use Rattle.plan_entries.specs.Words.{entryWords, tabled}
 use Rattle.plan_entries.proofs.Copies.{tabled-nothing}
 use Rattle.plan_entries.specs.Results.{resultWords}
 use Rattle.plan_words.specs.declared.Planned.{Planned}
 use Rattle.plan_words.specs.Planned.{plannedOf}
-use Rattle.plan_words.specs.Rows.{itemAfter, rowsOf, rowsBy, plannedBy, planCalled, rowsCalled}
+use Rattle.plan_words.specs.Helpers.{itemAfter, rowsOf, rowsBy, plannedBy, planCalled, rowsCalled}
 
 length-rows : (c : Convention) (mark : Bool) (r : ResultType) (at : ℕ) (ts : Trees) → length (rowsOf c mark r at ts) ≡ 13 * countOf ts
 unfolding rowsOf countOf entryWords
@@ -54,13 +55,13 @@ length-rows c mark r at (ts ▸ t) = simp length-append (omega (arith, length-ro
 pub same-words : {i j n m v w : ℕ} {s u : Span} → i ≡ j → n ≡ m → v ≡ w → s ≡ u → entryWords i n v s ≡ entryWords j m w u
 same-words p q x y = cc
 
-same-span : (c : Convention) (r : Rules) {k l : Cursor} {t u : ValueType} → k ≡ l → t ≡ u → spanOf r k t (sizeOf c t) ≡ spanOf r l u (sizeOf c u)
+same-span : (c : Convention) (r : CallRules) {k l : Cursor} {t u : ValueType} → k ≡ l → t ≡ u → spanOf r k t (sizeOf c t) ≡ spanOf r l u (sizeOf c u)
 same-span c r p q = cc
 
 same-next : (c : Convention) {k l : Cursor} {t u : ValueType} → k ≡ l → t ≡ u → nextOf (rulesOf c) k t (sizeOf c t) ≡ nextOf (rulesOf c) l u (sizeOf c u)
 same-next c p q = cc
 
-same-unclear : (r : Rules) {u x : ℕ} {k l : Cursor} {t w : ValueType} {i j : ℕ} → u ≡ x → k ≡ l → t ≡ w → i ≡ j
+same-unclear : (r : CallRules) {u x : ℕ} {k l : Cursor} {t w : ValueType} {i j : ℕ} → u ≡ x → k ≡ l → t ≡ w → i ≡ j
     → unclearAfter u (unclearFor r k t) i ≡ unclearAfter x (unclearFor r l w) j
 same-unclear r p q h e = cc
 
@@ -102,7 +103,7 @@ module _ (c : Convention) (mark : Bool) (s : List ℕ) (at e : ℕ) (r : ResultT
         let so-far : List ValueType = typesOf c (m .ts) in
         let w : ValueType = typeOf c (more .tree) in
         let rows : List ℕ = rowsOf c mark r at (m .ts) in
-        let rules : Rules = withEllipsis mark (rulesOf c) in
+        let rules : CallRules = withEllipsis mark (rulesOf c) in
         let next-same : nextOf rules k t (sizeOf c t) ≡ nextOf (rulesOf c) k t (sizeOf c t) = next-marked mark (rulesOf c) k t (sizeOf c t) in
         let here : List ℕ = entryWords (itemAfter at (m .ts)) (sizeOf c w) (valuesOf c so-far) (spanOf rules (endIn c r so-far) w (sizeOf c w)) in
         let many : count ≡ 0 + length so-far = omega (arith, m .turn .many, length-of-types c (m .ts)) in
@@ -139,7 +140,7 @@ module _ (c : Convention) (mark : Bool) (s : List ℕ) (at e : ℕ) (r : ResultT
 
 module _ (c : Convention) (mark : Bool) (s : List ℕ) (at e : ℕ) (r : ResultType) (earlier : ℕ) where
   pub plan-no : (f : Fault) → argumentsIn c s at e ≡ no f →
-      plannedOf (refused (later earlier f)) ≡ planCalled c mark r earlier (length s) (argumentsIn c s at e) (signatureOf s)
+      plannedOf (refusedPlan (later earlier f)) ≡ planCalled c mark r earlier (length s) (argumentsIn c s at e) (signatureOf s)
   unfolding plannedBy
   plan-no f q = rw q
 
@@ -149,7 +150,7 @@ module _ (c : Convention) (mark : Bool) (s : List ℕ) (at e : ℕ) (r : ResultT
 
   module _ (l : List ℕ) (k : Cursor) (kept : List ℕ) (v u count next n : ℕ) (m : Keeping c mark s at e r l k kept v u count next n) (last : e ≤ next) where
     pub plan-trailing : next < length s →
-        plannedOf (refused (fault Refusal.TrailingBytes next (earlier + n))) ≡ planCalled c mark r earlier (length s) (argumentsIn c s at e) (signatureOf s)
+        plannedOf (refusedPlan (fault Refusal.TrailingBytes next (earlier + n))) ≡ planCalled c mark r earlier (length s) (argumentsIn c s at e) (signatureOf s)
     unfolding plannedBy
     plan-trailing h = rw (turn-last c s at e (m .ts) count next n (m .turn) last, lt-ltb next (length s) h)
 
@@ -159,7 +160,7 @@ module _ (c : Convention) (mark : Bool) (s : List ℕ) (at e : ℕ) (r : ResultT
 
     pub plan-end : length s ≤ next → u ≡ 0 →
         _≡_ {A = Planned}
-        (record { outcome = Outcome.Accepted (earlier + n); convention = c; ellipsis = mark; result = resultWords (resultIn c r); count = count; area = areaOf c k; values = v; copies = k .copies })
+        (record { outcome = Outcome.Accepted (earlier + n); convention = c; ellipsis = mark; result = resultWords (resultPlacesIn c r); count = count; area = areaOf c k; values = v; copies = k .copies })
         (planCalled c mark r earlier (length s) (argumentsIn c s at e) (signatureOf s))
     unfolding planIn plannedBy
     plan-end h z =
@@ -170,7 +171,7 @@ module _ (c : Convention) (mark : Bool) (s : List ℕ) (at e : ℕ) (r : ResultT
     unfolding rowsBy
     rows-end h z room = rw (turn-last c s at e (m .ts) count next n (m .turn) last, le-ltb next (length s) h, sym (m .unclear) ∙ z) (keeping-all c mark s at e r l k kept v u count next n m room)
 
-    pub plan-unclear : length s ≤ next → 0 < u → plannedOf (refused (unclearFault (u - 1) (signatureOf s))) ≡ planCalled c mark r earlier (length s) (argumentsIn c s at e) (signatureOf s)
+    pub plan-unclear : length s ≤ next → 0 < u → plannedOf (refusedPlan (unclearFault (u - 1) (signatureOf s))) ≡ planCalled c mark r earlier (length s) (argumentsIn c s at e) (signatureOf s)
     unfolding plannedBy
     plan-unclear h z =
         let some : u ≡ suc (u - 1) = omega arith in

@@ -3,15 +3,15 @@
 -- signature's bytes" by the reader's arguments. Assumes nothing.
 use Prim.Native.Nat.{ℕ, zero, suc, _+_}
 use mathlib.Core.List.{List, [], _++_}
-use Rattle.conventions.specs.declared.Convention.{Convention}
-use Rattle.types.specs.Sizes.{sizeOf}
-use Rattle.items.specs.Reading.{Reading}
-use Rattle.signature.specs.Signature.{Signature}
-use Rattle.reader.specs.declared.ArgumentRead.{ArgumentRead}
-use Rattle.reader.specs.Argument.{argumentAnswer}
-use Rattle.plan.specs.Plan.{planAnswer}
-use Rattle.plan.specs.Disjoint.{spanAt}
-use Rattle.plan.specs.Call.{itemIn}
+use Rattle.base_conventions.specs.declared.Convention.{Convention}
+use Rattle.sig_types.specs.Sizes.{sizeOf}
+use Rattle.sig_items.specs.Reading.{Reading}
+use Rattle.sig_signatures.specs.Signature.{Signature}
+use Rattle.sig_reader.specs.declared.ArgumentRead.{ArgumentRead}
+use Rattle.sig_reader.specs.Argument.{argumentOf}
+use Rattle.plan_plans.specs.Plan.{planAnswer}
+use Rattle.plan_plans.specs.Disjoint.{spanAt}
+use Rattle.plan_plans.specs.Call.{itemIn}
 use Rattle.plan_entries.specs.Words.{entryWords}
 
 -- of what the reader says of an argument
@@ -22,7 +22,7 @@ sizeIn c (ArgumentRead.Refused f) = 0
 
 -- the bytes of argument i
 abbrev pub sizeAt : Reading Signature → ℕ → ℕ
-sizeAt x i = sizeIn (planAnswer x .convention) (argumentAnswer i x)
+sizeAt x i = sizeIn (planAnswer x .convention) (argumentOf i x)
 
 -- "The value buffer holds the arguments in order without gaps": where argument i's value starts
 unfoldable pub valueAt : Reading Signature → ℕ → ℕ
@@ -30,7 +30,7 @@ valueAt x zero = 0
 valueAt x (suc i) = valueAt x i + sizeAt x i
 
 abbrev pub entryAt : Reading Signature → ℕ → List ℕ
-entryAt x i = entryWords (itemIn (argumentAnswer i x)) (sizeAt x i) (valueAt x i) (spanAt (planAnswer x) i)
+entryAt x i = entryWords (itemIn (argumentOf i x)) (sizeAt x i) (valueAt x i) (spanAt (planAnswer x) i)
 
 -- those of the first n arguments
 unfoldable pub entriesUpTo : Reading Signature → ℕ → List ℕ

@@ -1,4 +1,4 @@
 -- A plan in 64-bit words. Assumes nothing.
 pub mod Entries
-pub mod Rows
+pub mod Helpers
 pub mod Planned

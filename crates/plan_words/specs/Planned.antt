@@ -1,5 +1,5 @@
 -- What is said of a plan beside its arguments' places. Assumes nothing.
-use Rattle.plan.specs.declared.Plan.{Plan}
+use Rattle.plan_plans.specs.declared.Plan.{Plan}
 use Rattle.plan_entries.specs.Results.{resultWords}
 use Rattle.plan_words.specs.declared.Planned.{Planned}
 

@@ -1,34 +1,34 @@
 // A plan in 64-bit words: an entry for each argument in a table that the caller lends, and beside the table the sizes and the
 // result's places.
-use conventions::Convention;
-use items::Fault;
-use items::ItemRead;
-use items::Refusal;
-use places::Rules;
+use base_conventions::Convention;
 use plan_entries::ENTRY;
 use plan_entries::ResultWords;
-use signature::HeadRead;
-use signature::MAX_ARGUMENTS;
-use signature::Outcome;
-use signature::ResultType;
-use types::FloatFormat;
-use types::ValueType;
+use plan_places::CallRules;
+use sig_items::Fault;
+use sig_items::ItemRead;
+use sig_items::Refusal;
+use sig_signatures::HeadRead;
+use sig_signatures::MAX_ARGUMENTS;
+use sig_signatures::Outcome;
+use sig_signatures::ResultType;
+use sig_types::FloatFormat;
+use sig_types::ValueType;
 ghost use mathlib.Core.Path.{_≡_};
 ghost use lib.Dec.{ltb};
 ghost use Prim.Native.Nat.{_^_, _≤_, _<_};
 ghost use lib.ListN.{length};
-ghost use Rattle.signature.specs.Limits.{maxLength};
-ghost use Rattle.signature.specs.Read.{argumentsIn, signatureOf};
-ghost use Rattle.words.specs.Basics.{pick};
-ghost use Rattle.types.specs.Sizes.{sizeOf};
-ghost use Rattle.places.specs.declared.ResultPlaces.{ResultPlaces};
-ghost use Rattle.places.specs.Step.{rulesOf, resultOf};
-ghost use Rattle.plan.specs.Plan.{refused, resultIn, planAnswer};
-ghost use Rattle.plan.specs.Call.{callOf};
+ghost use Rattle.sig_signatures.specs.Limits.{maxLength};
+ghost use Rattle.sig_signatures.specs.Read.{argumentsIn, signatureOf};
+ghost use Rattle.base_words.specs.Basics.{pick};
+ghost use Rattle.sig_types.specs.Sizes.{sizeOf};
+ghost use Rattle.plan_places.specs.declared.ResultPlaces.{ResultPlaces};
+ghost use Rattle.plan_places.specs.Step.{rulesOf, resultOf};
+ghost use Rattle.plan_plans.specs.Plan.{refusedPlan, resultPlacesIn, planAnswer};
+ghost use Rattle.plan_plans.specs.Call.{callOf};
 ghost use Rattle.plan_entries.specs.Words.{tabled};
 ghost use Rattle.plan_entries.specs.Results.{resultWords};
 ghost use Rattle.plan_words.specs.Entries.{entriesOf};
-ghost use Rattle.plan_words.specs.Rows.{planCalled, rowsCalled, KeepsAll};
+ghost use Rattle.plan_words.specs.Helpers.{planCalled, rowsCalled, KeepsAll};
 ghost use Rattle.plan_words.specs.Planned.{plannedOf};
 
 // A plan without the places of its arguments.
@@ -73,7 +73,7 @@ fn integer_words(word: usize, size: usize) -> u64
 fn value_words(c: Convention, t: ValueType) -> ResultWords
     ensures { λ w. ⌜ w ≡ resultWords (resultOf (rulesOf c) t (sizeOf c t)) ⌝ }
 {
-    let k = abi::cursor_of(c);
+    let k = both_abi::cursor_of(c);
     let general = k.general as u64;
     let floating = k.floating as u64;
     let address = ResultWords {
@@ -92,7 +92,10 @@ fn value_words(c: Convention, t: ValueType) -> ResultWords
     };
     match t {
         ValueType::Integer(i) => {
-            let gprs = integer_words(conventions::word_bytes(c), types::integer_size(c, i));
+            let gprs = integer_words(
+                base_conventions::word_bytes(c),
+                sig_types::integer_size(c, i),
+            );
             ResultWords {
                 kind: 1,
                 gpr: general,
@@ -104,15 +107,15 @@ fn value_words(c: Convention, t: ValueType) -> ResultWords
         ValueType::Float(f) => match f {
             FloatFormat::Single => float,
             FloatFormat::Double => float,
-            FloatFormat::LongDouble => match abi::call_rules_of(c) {
-                Rules::Power(_) => ResultWords {
+            FloatFormat::LongDouble => match both_abi::call_rules_of(c) {
+                CallRules::Power(_) => ResultWords {
                     kind: 1,
                     gpr: 0,
                     gprs: 0,
                     fpr: floating,
                     fprs: 2,
                 },
-                Rules::Z => address,
+                CallRules::Z => address,
             },
         },
         ValueType::Struct(_) => address,
@@ -120,7 +123,7 @@ fn value_words(c: Convention, t: ValueType) -> ResultWords
 }
 
 fn result_words(c: Convention, result: ResultType) -> ResultWords
-    ensures { λ w. ⌜ w ≡ resultWords (resultIn c result) ⌝ }
+    ensures { λ w. ⌜ w ≡ resultWords (resultPlacesIn c result) ⌝ }
 {
     match result {
         ResultType::Nothing => no_result(),
@@ -129,7 +132,7 @@ fn result_words(c: Convention, result: ResultType) -> ResultWords
 }
 
 fn no_plan(fault: Fault) -> Planned
-    ensures { λ p. ⌜ p ≡ plannedOf (refused fault) ⌝ }
+    ensures { λ p. ⌜ p ≡ plannedOf (refusedPlan fault) ⌝ }
 {
     Planned {
         outcome: Outcome::Refused(fault),
@@ -160,9 +163,9 @@ fn plan_arguments(
     ensures { λ p. ⌜ p ≡ planCalled convention ellipsis returned earlier (length (now (sig .entry))) (argumentsIn convention (now (sig .entry)) at end) (signatureOf (now (sig .entry))) ⌝ }
     ensures { λ p. ⌜ now (places .exit) ≡ tabled (now (places .entry)) (rowsCalled convention ellipsis returned at (length (now (sig .entry))) (argumentsIn convention (now (sig .entry)) at end)) ⌝ }
 {
-    let rules = places::with_ellipsis(abi::call_rules_of(convention), ellipsis);
-    let hidden = planning::hidden_in(convention, returned);
-    let mut c = placing::start(convention, hidden);
+    let rules = plan_places::with_ellipsis(both_abi::call_rules_of(convention), ellipsis);
+    let hidden = plan_planning::hidden_in(convention, returned);
+    let mut c = plan_placing::start(convention, hidden);
     let mut values: usize = 0;
     let mut unclear: usize = 0;
     let mut count: usize = 0;
@@ -176,15 +179,15 @@ fn plan_arguments(
                 passed: earlier + items,
             });
         }
-        match nested_items::read_item(sig, convention, next, end, 8) {
+        match sig_nested_items::read_item(sig, convention, next, end, 8) {
             ItemRead::Item {
                 ty,
                 next: after,
                 items: more,
             } => {
-                let size = types::size_of(convention, ty);
-                unclear = placing::unclear_after(unclear, rules, c, ty, count);
-                let p = placing::step(rules, c, ty, size);
+                let size = sig_types::size_of(convention, ty);
+                unclear = plan_placing::unclear_after(unclear, rules, c, ty, count);
+                let p = plan_placing::step(rules, c, ty, size);
                 let s = p.span;
                 plan_entries::keep_entry(kept, count, next, size, values, s);
                 c = p.next;
@@ -194,7 +197,7 @@ fn plan_arguments(
                 items = items + more;
             }
             ItemRead::Refused(fault) => {
-                return no_plan(items::later_by(earlier + items, fault));
+                return no_plan(sig_items::later_by(earlier + items, fault));
             }
         }
     }
@@ -207,11 +210,11 @@ fn plan_arguments(
         });
     }
     if unclear != 0 {
-        return no_plan(planning::unclear_fault(sig, unclear - 1));
+        return no_plan(plan_planning::unclear_fault(sig, unclear - 1));
     }
     plan_entries::write_table(places, kept, ENTRY * count);
     let result = result_words(convention, returned);
-    let area = placing::area_of(convention, c);
+    let area = plan_placing::area_of(convention, c);
     Planned {
         outcome: Outcome::Accepted(counted),
         convention,
@@ -272,7 +275,7 @@ pub fn plan_words(sig: &[u8], places: &mut [u64]) -> Planned
     ensures { λ p. ⌜ p ≡ plannedOf (planAnswer (callOf (now (sig .entry)))) ⌝ }
     ensures { λ p. ⌜ now (places .exit) ≡ tabled (now (places .entry)) (entriesOf (callOf (now (sig .entry)))) ⌝ }
 {
-    match signature_head::read_head(sig) {
+    match sig_head::read_head(sig) {
         HeadRead::Refused(fault) => no_plan(fault),
         HeadRead::Head {
             convention,

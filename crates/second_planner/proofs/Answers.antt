@@ -3,17 +3,23 @@ use mathlib.Core.Path.{_≡_, refl, sym, ap, ap₂, _∙_}
 use mathlib.Core.List.{List}
 use Prim.Native.Nat.{ℕ, zero, suc}
 use native.Mathlib.Omega.{arith}
-use Rattle.types.specs.declared.ValueType.{ValueType}
-use Rattle.items.specs.declared.Fault.{Fault}
-use Rattle.items.specs.Reading.{Reading, got, no}
-use Rattle.signature.specs.declared.Outcome.{Outcome}
-use Rattle.signature.specs.declared.SignatureRead.{SignatureRead}
-use Rattle.signature.specs.Signature.{Signature}
-use Rattle.signature.specs.Answer.{resultType, signatureAnswer}
-use Rattle.signature.specs.Types.{typesIn}
-use Rattle.signature.proofs.Types.{table-types}
+use Rattle.sig_types.specs.declared.ValueType.{ValueType}
+use Rattle.sig_items.specs.declared.Fault.{Fault}
+use Rattle.sig_items.specs.Reading.{Reading, got, no}
+use Rattle.sig_signatures.specs.declared.Outcome.{Outcome}
+use Rattle.sig_signatures.specs.declared.SignatureRead.{SignatureRead}
+use Rattle.sig_signatures.specs.Signature.{Signature}
+use Rattle.sig_signatures.specs.Answer.{resultType, signatureAnswer}
+use Rattle.sig_signatures.specs.Types.{typesIn}
+use Rattle.sig_signatures.proofs.Types.{table-types}
 use Rattle.second_planner.specs.declared.SecondPlan.{SecondPlan}
-use Rattle.second_planner.specs.Answer.{secondIn, noPlan, straddlingIn, straddlingFault, unlessStraddling, secondAnswer, secondAs}
+use Rattle.second_planner.specs.Answer.{secondIn, noPlan, straddlingIn, straddlingFault, unlessStraddling, secondAnswer}
+
+-- the second plan by the reader's answer g on x
+abbrev secondAs : Outcome → SignatureRead → Reading Signature → SecondPlan
+secondAs (Outcome.Accepted n) g x =
+    unlessStraddling (straddlingIn (g .convention) (typesIn g)) x (secondIn n (g .convention) (g .ellipsis) (g .result) (typesIn g))
+secondAs (Outcome.Refused f) g x = noPlan f
 
 pub second-answer : (x : Reading Signature) → secondAs (signatureAnswer x .outcome) (signatureAnswer x) x ≡ secondAnswer x
 unfolding secondAnswer

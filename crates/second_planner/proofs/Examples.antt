@@ -3,17 +3,17 @@ use mathlib.Core.Path.{_≡_, refl}
 use mathlib.Core.Bool.{Bool, true, false}
 use mathlib.Core.List.{List, [], _∷_, map}
 use Prim.Native.Nat.{ℕ}
-use Rattle.words.specs.Basics.{roundUp}
-use Rattle.conventions.specs.declared.Convention.{Convention}
-use Rattle.types.specs.declared.Equivalent.{Equivalent}
-use Rattle.types.specs.declared.IntegerKind.{IntegerKind}
-use Rattle.types.specs.declared.FloatFormat.{FloatFormat}
-use Rattle.types.specs.declared.ValueType.{ValueType}
-use Rattle.parameters.specs.declared.Run.{Run}
-use Rattle.parameters.specs.declared.Parameter.{Parameter}
-use Rattle.parameters.specs.Values.{numbers, run, noRun}
-use Rattle.structure.specs.Structure.{wordsIn, fieldsFrom, wordsTo, areaBytes, overWords, overFloats, overNothing, floats, laidOver, registersOver, firstStraddling}
-use Rattle.slot_scan.specs.Slots.{initial, copied, slotBy, slotOf, slotsFrom}
+use Rattle.base_words.specs.Basics.{roundUp}
+use Rattle.base_conventions.specs.declared.Convention.{Convention}
+use Rattle.sig_types.specs.declared.Equivalent.{Equivalent}
+use Rattle.sig_types.specs.declared.IntegerKind.{IntegerKind}
+use Rattle.sig_types.specs.declared.FloatFormat.{FloatFormat}
+use Rattle.sig_types.specs.declared.ValueType.{ValueType}
+use Rattle.second_parameters.specs.declared.Run.{Run}
+use Rattle.second_parameters.specs.declared.Parameter.{Parameter}
+use Rattle.second_parameters.specs.Values.{numbers, run, noRun}
+use Rattle.second_structure.specs.Structure.{wordsIn, fieldsFrom, wordsTo, areaBytes, overWords, overFloats, overNothing, floats, laidOver, registersOver, firstStraddling}
+use Rattle.second_slot_scan.specs.Slots.{initial, copied, slotBy, slotOf, slotsFrom}
 
 -- where a parameter is: GPRs, FPRs, memory
 record Where : Type 0 where

@@ -5,10 +5,10 @@ use Prim.Native.Nat.{ℕ, suc, _+_, _*_, _≤_}
 use native.Mathlib.Omega.{arith}
 use native.Mathlib.Numerals.{add-one}
 use lib.ListN.{drop}
-use Rattle.conventions.specs.declared.Convention.{Convention}
-use Rattle.types.specs.declared.ValueType.{ValueType}
-use Rattle.types.specs.Sizes.{sizeOf}
-use Rattle.signature.specs.Types.{valuesOf}
+use Rattle.base_conventions.specs.declared.Convention.{Convention}
+use Rattle.sig_types.specs.declared.ValueType.{ValueType}
+use Rattle.sig_types.specs.Sizes.{sizeOf}
+use Rattle.sig_signatures.specs.Types.{valuesOf}
 
 -- ---- the values
 

@@ -4,25 +4,24 @@ use Prim.Native.Nat.{ℕ, zero, suc}
 use mathlib.Core.Bool.{Bool, true, false}
 use mathlib.Core.List.{List}
 use lib.ListN.{length, replicate}
-use Rattle.conventions.specs.declared.Convention.{Convention}
-use Rattle.types.specs.declared.ValueType.{ValueType}
-use Rattle.items.specs.declared.Refusal.{Refusal}
-use Rattle.items.specs.declared.Fault.{Fault}
-use Rattle.items.specs.Reading.{Reading, fault, got, no}
-use Rattle.signature.specs.declared.Outcome.{Outcome}
-use Rattle.signature.specs.declared.ResultType.{ResultType}
-use Rattle.signature.specs.declared.SignatureRead.{SignatureRead}
-use Rattle.signature.specs.Signature.{Signature}
-use Rattle.signature.specs.Limits.{maxArguments}
-use Rattle.signature.specs.Answer.{resultType}
-use Rattle.signature.specs.Types.{typesOf, typesIn, valuesOf}
-use Rattle.reader.specs.declared.ArgumentRead.{ArgumentRead}
-use Rattle.reader.specs.Argument.{argumentAnswer}
-use Rattle.parameters.specs.declared.Parameter.{Parameter}
-use Rattle.parameters.specs.declared.Returned.{Returned}
-use Rattle.parameters.specs.Values.{noParameter, tableWith}
-use Rattle.structure.specs.Structure.{fieldsFrom, wordsTo, firstWord, areaBytes, registersOver, firstStraddling, powerHidden, powerReturned}
-use Rattle.slot_scan.specs.Slots.{initial, slotsFrom, scannedTo, zHidden, zReturned}
+use Rattle.base_conventions.specs.declared.Convention.{Convention}
+use Rattle.sig_types.specs.declared.ValueType.{ValueType}
+use Rattle.sig_items.specs.declared.Refusal.{Refusal}
+use Rattle.sig_items.specs.declared.Fault.{Fault}
+use Rattle.sig_items.specs.Reading.{Reading, fault, got, no}
+use Rattle.sig_signatures.specs.declared.Outcome.{Outcome}
+use Rattle.sig_signatures.specs.declared.ResultType.{ResultType}
+use Rattle.sig_signatures.specs.Signature.{Signature}
+use Rattle.sig_signatures.specs.Limits.{maxArguments}
+use Rattle.sig_signatures.specs.Answer.{resultType}
+use Rattle.sig_signatures.specs.Types.{typesOf, valuesOf}
+use Rattle.sig_reader.specs.declared.ArgumentRead.{ArgumentRead}
+use Rattle.sig_reader.specs.Argument.{argumentOf}
+use Rattle.second_parameters.specs.declared.Parameter.{Parameter}
+use Rattle.second_parameters.specs.declared.Returned.{Returned}
+use Rattle.second_parameters.specs.Values.{noParameter, tableWith}
+use Rattle.second_structure.specs.Structure.{fieldsFrom, wordsTo, firstWord, areaBytes, registersOver, firstStraddling, powerHidden, powerReturned}
+use Rattle.second_slot_scan.specs.Slots.{initial, slotsFrom, scannedTo, zHidden, zReturned}
 use Rattle.second_planner.specs.declared.SecondPlan.{SecondPlan}
 
 -- ---- an accepted signature's
@@ -96,7 +95,7 @@ headerOf (ArgumentRead.Refused f) = 0
 
 -- 02, No. 12: "give new refusal 29 at that argument's header, after reading": of argument number i, counted from 0
 abbrev pub straddlingFault : ℕ → Reading Signature → Fault
-straddlingFault i x = fault Refusal.UnclearPlace (headerOf (argumentAnswer i x)) 0
+straddlingFault i x = fault Refusal.UnclearPlace (headerOf (argumentOf i x)) 0
 
 unfoldable pub unlessStraddling : ℕ → Reading Signature → SecondPlan → SecondPlan
 unlessStraddling zero x p = p
@@ -110,9 +109,3 @@ secondAnswer (got g next n) =
     unlessStraddling (straddlingIn (g .convention) (typesOf (g .convention) (g .arguments))) (got g next n)
     (secondIn n (g .convention) (g .ellipsis) (resultType (g .convention) (g .result)) (typesOf (g .convention) (g .arguments)))
 secondAnswer (no f) = noPlan f
-
--- the same by the reader's answer g on x
-abbrev pub secondAs : Outcome → SignatureRead → Reading Signature → SecondPlan
-secondAs (Outcome.Accepted n) g x =
-    unlessStraddling (straddlingIn (g .convention) (typesIn g)) x (secondIn n (g .convention) (g .ellipsis) (g .result) (typesIn g))
-secondAs (Outcome.Refused f) g x = noPlan f

@@ -1,20 +1,20 @@
 // A second planner, which knows nothing of the first: any signature's plan, by the structure of its parameters or slot by slot.
-use conventions::Convention;
-use items::Fault;
-use items::Refusal;
-use parameters::Parameter;
-use parameters::Returned;
-use reader::ArgumentRead;
-use signature::MAX_ARGUMENTS;
-use signature::Outcome;
-use signature::SignatureRead;
+use base_conventions::Convention;
+use second_parameters::Parameter;
+use second_parameters::Returned;
+use sig_items::Fault;
+use sig_items::Refusal;
+use sig_reader::ArgumentRead;
+use sig_signatures::MAX_ARGUMENTS;
+use sig_signatures::Outcome;
+use sig_signatures::SignatureRead;
 ghost use mathlib.Core.Path.{_≡_};
 ghost use Prim.Native.Nat.{_≤_, _<_};
-ghost use Rattle.signature.specs.declared.Outcome.{Outcome};
-ghost use Rattle.signature.specs.Read.{signatureOf};
-ghost use Rattle.signature.specs.Answer.{signatureAnswer};
-ghost use Rattle.signature.specs.Types.{typesIn, valuesOf};
-ghost use Rattle.signature.specs.Plannable.{Plannable};
+ghost use Rattle.sig_signatures.specs.declared.Outcome.{Outcome};
+ghost use Rattle.sig_signatures.specs.Read.{signatureOf};
+ghost use Rattle.sig_signatures.specs.Answer.{signatureAnswer};
+ghost use Rattle.sig_signatures.specs.Types.{typesIn, valuesOf};
+ghost use Rattle.sig_signatures.specs.Helpers.{Plannable};
 ghost use Rattle.second_planner.specs.Answer.{powerPlan, zPlan, noPlan, secondIn, straddlingIn, headerOf, straddlingFault, secondAnswer};
 
 pub struct SecondPlan {
@@ -41,7 +41,7 @@ fn values_in(g: SignatureRead) -> usize
     while i < count {
         let a = g.arguments[i];
         let t = a.ty;
-        values = values + types::size_of(convention, t);
+        values = values + sig_types::size_of(convention, t);
         i = i + 1;
     }
     values
@@ -56,15 +56,15 @@ fn power_plan(paired: bool, word: usize, n: usize, g: SignatureRead) -> SecondPl
     let ellipsis = g.ellipsis;
     let count = g.count;
     let returned = g.result;
-    let result = structure::power_returned(convention, word, returned);
+    let result = second_structure::power_returned(convention, word, returned);
     let values = values_in(g);
-    let s = structure::lay_out(
+    let s = second_structure::lay_out(
         word,
-        structure::first_word(structure::power_hidden(returned)),
+        second_structure::first_word(second_structure::power_hidden(returned)),
         g,
     );
-    let area = structure::area_bytes(word, s.words);
-    let laid = structure::lay_registers(ellipsis, paired, word, g, s);
+    let area = second_structure::area_bytes(word, s.words);
+    let laid = second_structure::lay_registers(ellipsis, paired, word, g, s);
     SecondPlan {
         outcome: Outcome::Accepted(n),
         convention,
@@ -87,9 +87,9 @@ fn z_plan(n: usize, g: SignatureRead) -> SecondPlan
     let ellipsis = g.ellipsis;
     let count = g.count;
     let returned = g.result;
-    let result = slot_scan::z_returned(returned);
+    let result = second_slot_scan::z_returned(returned);
     let values = values_in(g);
-    let s = slot_scan::scan_all(g, slot_scan::z_hidden(returned));
+    let s = second_slot_scan::scan_all(g, second_slot_scan::z_hidden(returned));
     let scanned = s.parameters;
     let end = s.end;
     SecondPlan {
@@ -121,7 +121,7 @@ fn accepted_plan(n: usize, g: SignatureRead) -> SecondPlan
 fn no_plan(fault: Fault) -> SecondPlan
     ensures { λ p. ⌜ p ≡ noPlan fault ⌝ }
 {
-    let none = parameters::no_parameters();
+    let none = second_parameters::no_parameters();
     SecondPlan {
         outcome: Outcome::Refused(fault),
         convention: Convention::Ppc64,
@@ -142,10 +142,10 @@ fn straddling_in(g: SignatureRead) -> usize
 {
     let convention = g.convention;
     match convention {
-        Convention::Ppc64 => structure::first_straddling(false, g),
+        Convention::Ppc64 => second_structure::first_straddling(false, g),
         Convention::Z => 0,
-        Convention::Aix => structure::first_straddling(false, g),
-        Convention::Ppc64b => structure::first_straddling(true, g),
+        Convention::Aix => second_structure::first_straddling(false, g),
+        Convention::Ppc64b => second_structure::first_straddling(true, g),
     }
 }
 
@@ -164,7 +164,7 @@ fn header_of(a: ArgumentRead) -> usize
 fn straddling_fault(sig: &[u8], index: usize) -> Fault
     ensures { λ f. ⌜ f ≡ straddlingFault index (signatureOf (now (sig .entry))) ⌝ }
 {
-    let a = reader::argument_at(sig, index);
+    let a = sig_reader::argument_at(sig, index);
     let place = header_of(a);
     Fault {
         reason: Refusal::UnclearPlace,
@@ -200,5 +200,5 @@ fn second(sig: &[u8], g: SignatureRead) -> SecondPlan
 pub fn second_plan_of(s: &[u8]) -> SecondPlan
     ensures { λ p. ⌜ p ≡ secondAnswer (signatureOf (now (s .entry))) ⌝ }
 {
-    second(s, whole_signature::read_signature(s))
+    second(s, sig_whole::read_signature(s))
 }

@@ -9,7 +9,7 @@ use crate::Difference;
 use flakuzhen::surface::marshal::{self as surface, Part};
 use flakuzhen::surface::stored as stored_surface;
 use flakuzhen::surface::Answer;
-use reference::{compact, marshal as second, stored as second_stored, Convention, Refusal};
+use reference::{marshal as second, stored as second_stored, Convention, Refusal};
 use std::collections::BTreeMap;
 use std::fmt;
 use std::hint::black_box;

@@ -10,8 +10,8 @@ use crate::Difference;
 use flakuzhen::surface::plans::{self as surface, Planned, Sizes};
 use reference::table::{self, Table, ENTRY};
 use reference::{
-    compact, float_equivalent, ArgumentPlan, Convention, Float, Integer, Place, Plan, ResultPlan,
-    Signature, Type,
+    float_equivalent, ArgumentPlan, Convention, Float, Integer, Place, Plan, ResultPlan, Signature,
+    Type,
 };
 use std::collections::BTreeMap;
 use std::fmt;

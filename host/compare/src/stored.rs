@@ -10,7 +10,7 @@ use crate::signatures::{hex, refused, ACCEPTED};
 use crate::Difference;
 use flakuzhen::surface::stored::{self as surface, Stored};
 use flakuzhen::surface::Answer;
-use reference::{compact, stored as second, Convention, Integer, Refusal, Signature, Type};
+use reference::{stored as second, Convention, Integer, Refusal, Signature, Type};
 use std::collections::hash_map::DefaultHasher;
 use std::collections::{BTreeMap, HashMap};
 use std::fmt;

@@ -144,11 +144,15 @@ fn the_second_planner_knows_nothing_of_the_first() {
         assert!(all.insert(name.to_string()));
         all
     };
-    let reading = &with_below("reader") | &with_below("whole_signature");
-    let first = &with_below("planning") - &reading;
+    let reading = &with_below("sig_reader") | &with_below("sig_whole");
+    let first = &with_below("plan_planning") - &reading;
     let second = with_below("second_planner");
-    assert!(first.contains("plan") && first.contains("places") && first.contains("power_step"));
-    assert!(second.contains("reader"));
+    assert!(
+        first.contains("plan_plans")
+            && first.contains("plan_places")
+            && first.contains("plan_power_step")
+    );
+    assert!(second.contains("sig_reader"));
     let known: Vec<&String> = second.intersection(&first).collect();
     assert!(known.is_empty(), "the second planner knows {known:?}");
 }

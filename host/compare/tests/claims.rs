@@ -155,20 +155,36 @@ fn what_the_claims_name_is_there() {
 fn what_is_not_there_is_found() {
     let page = page()
         .replace(
-            "signature_head/refuse_everything",
+            "sig_head/refuse_everything",
             "signature_head/refuse_nothing",
         )
         .replace("`fillAnswer`", "`fillAnswering`")
         .replace(
-            "crates/plan/specs/Disjoint.antt",
-            "crates/plan/specs/Apart.antt",
+            "crates/plan_plans/specs/Disjoint.antt",
+            "crates/plan_plans/specs/Apart.antt",
         );
     let expected = [
-        "no file crates/plan/specs/Apart.antt",
+        "no file crates/plan_plans/specs/Apart.antt",
         "no edit signature_head/refuse_nothing",
         "nothing is called fillAnswering",
     ];
     assert_eq!(faults(&page), expected);
+}
+
+/// A file of definitions that only proofs and helpers need says so, and the page cites none.
+#[test]
+fn no_claim_cites_what_is_for_helpers() {
+    let crates = fs::read_dir(root().join("crates")).expect("the crates");
+    let files = crates.map(|entry| entry.expect("a crate").path().join("specs/Helpers.antt"));
+    let mut found = 0;
+    for file in files.filter(|file| file.exists()) {
+        let text = fs::read_to_string(&file).expect("definitions");
+        let first = "-- For proofs and helpers alone: no claim cites this file.\n";
+        assert!(text.starts_with(first), "{}", file.display());
+        found += 1;
+    }
+    assert!(found > 10, "only {found} such files");
+    assert!(!page().contains("Helpers.antt"));
 }
 
 #[test]
@@ -181,7 +197,7 @@ fn quotations_are_word_for_word() {
 
 #[test]
 fn misquotations_are_found() {
-    let file = "crates/history/specs/Preserved.antt";
+    let file = "crates/frame_history/specs/Preserved.antt";
     let quote = |file: &str, lines: &str| format!("In {file}:\n\n```\n{lines}\n```\n\nAnd on.\n");
     let closing = "closeLatest [] = []\ncloseLatest (o ∷ os) = os";
     let opening = "openAfter leave Accepted m os = closeLatest os";
@@ -198,7 +214,7 @@ fn misquotations_are_found() {
         (file, other),
         (file, &joined),
         (file, ""),
-        ("crates/history/specs/Calls.antt", closing),
+        ("crates/frame_history/specs/Calls.antt", closing),
         ("crates/none/none.antt", closing),
     ];
     for (file, lines) in wrong {

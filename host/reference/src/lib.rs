@@ -1,11 +1,10 @@
 //! The second program. It answers what the proved library answers, and was written from documents
 //! 01 and 02 alone, without looking at the proved code or its definitions, so that the two can be
 //! compared. It is written to be read next to the document: owned trees, plain recursion, no care
-//! for speed, except in [`compact`].
+//! for speed; `compact` is for that.
 
 #![forbid(unsafe_code)]
 
-pub mod compact;
 pub mod dump;
 pub mod float_bits;
 mod listing;
@@ -39,7 +38,7 @@ pub struct Refusal {
 impl Refusal {
     /// A refusal of an input whose signature is accepted, or that has none: it names no place, and
     /// "counts are 0".
-    fn without_place(number: u64) -> Refusal {
+    pub fn without_place(number: u64) -> Refusal {
         Refusal {
             number,
             place: 0,

@@ -1,6 +1,6 @@
 //! The second planner (`crates/second_planner`): PowerPC's registers laid over one structure of all
 //! parameters, Z slot by slot. That it agrees with the library's planner is proved
-//! (`crates/agreement`); here it is run. It is no part of the library.
+//! (`crates/second_agreement`); here it is run. It is no part of the library.
 
 mod listing;
 

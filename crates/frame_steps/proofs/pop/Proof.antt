@@ -1,9 +1,9 @@
-use Rattle.machine.proofs.Outcomes.{registers-restored}
+use Rattle.frame_machine.proofs.Outcomes.{registers-restored}
 -- The top frame lies below its caller's pointer, whose header is in the memory. Assumes nothing.
-use Rattle.rules.proofs.Places.{limit-64}
-use Rattle.machine.proofs.Coding.{top-request, top-room, top-placed, memory-small, pointer-limit}
-use Rattle.rules.specs.Frames.{frameSize}
-use Rattle.machine.specs.Machine.{top}
+use Rattle.frame_rules.proofs.Places.{limit-64}
+use Rattle.frame_machine.proofs.Coding.{top-request, top-room, top-placed, memory-small, pointer-limit}
+use Rattle.frame_rules.specs.Frames.{frameSize}
+use Rattle.frame_machine.specs.Machine.{top}
 use denote.Ref.{now}
 use lib.ListN.{length}
 use native.Mathlib.Omega.{arith}

@@ -1,5 +1,5 @@
 -- The stack pointer, the record and the depth are stored. Assumes nothing.
-use Rattle.machine.specs.Machine.{entered}
+use Rattle.frame_machine.specs.Machine.{entered}
 use borrow.Author.Needs.{needs}
 use Rattle.frame_steps.proofs.push.Statement.{statement}
 use Rattle.frame_steps.proofs.push.Tie as tie

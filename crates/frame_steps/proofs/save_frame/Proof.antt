@@ -1,9 +1,9 @@
 -- The back chain, then the saves, in the definition's order. Assumes nothing.
-use Rattle.saves.specs.Saves.{store}
-use Rattle.rules.specs.Frames.{frameSize}
-use Rattle.rules.proofs.Places.{chain-in}
-use Rattle.machine.specs.Machine.{offset, enteredMemory}
-use Rattle.machine.proofs.Coding.{pointer-room, enter-placed}
+use Rattle.frame_saves.specs.Saves.{store}
+use Rattle.frame_rules.specs.Frames.{frameSize}
+use Rattle.frame_rules.proofs.Places.{chain-in}
+use Rattle.frame_machine.specs.Machine.{offset, enteredMemory}
+use Rattle.frame_machine.proofs.Coding.{pointer-room, enter-placed}
 use denote.Ref.{now}
 use lib.ListN.{length}
 use Prim.Native.Nat.{_≤_}

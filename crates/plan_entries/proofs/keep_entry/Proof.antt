@@ -5,7 +5,7 @@ use native.Mathlib.Omega.{arith}
 use Prim.Native.Nat.{_-_, _*_}
 use lib.ListN.{length}
 use borrow.Rule.Slice.PartMut.{putMid}
-use Rattle.words.proofs.Splices.{lent-tail, length-part}
+use Rattle.base_words.proofs.Splices.{lent-tail, length-part}
 use Rattle.plan_entries.specs.Words.{entryWords}
 use Rattle.plan_entries.proofs.keep_entry.Statement.{statement}
 use Rattle.plan_entries.proofs.keep_entry.Tie as tie

@@ -4,8 +4,8 @@ use mathlib.Core.Path.{_≡_, ap, _∙_}
 use Prim.Native.Nat.{ℕ, _-_, _≤_}
 use native.Mathlib.Omega.{arith}
 use lib.ListN.{length, take}
-use Rattle.words.specs.Splice.{overlay}
-use Rattle.words.proofs.Splices.{length-overlay}
+use Rattle.base_words.specs.Splice.{overlay}
+use Rattle.base_words.proofs.Splices.{length-overlay}
 use Rattle.plan_entries.proofs.Copies.{copy-start, copy-more, copy-none, copy-all}
 use Rattle.plan_entries.proofs.write_table.Statement.{statement}
 use Rattle.plan_entries.proofs.write_table.Tie as tie

@@ -3,15 +3,15 @@ use borrow.Author.Needs.{needs}
 use mathlib.Core.Path.{refl, sym, ap, _∙_}
 use native.Mathlib.Omega.{arith}
 use Prim.Native.Nat.{_+_, _-_}
-use Rattle.items.specs.declared.Fault.{Fault}
-use Rattle.items.proofs.Laws.{later-later}
-use Rattle.items.proofs.Loop.{item-answered, fault-answered}
-use Rattle.signature.proofs.Loop.{turn-full, turn-no}
-use Rattle.places.specs.Step.{placed}
-use Rattle.places.proofs.Bounds.{rules-lawful}
-use Rattle.places.proofs.Marked.{lawful-marked}
-use Rattle.plan.specs.Plan.{refused}
-use Rattle.plan.proofs.Fold.{reached-roomy}
+use Rattle.sig_items.specs.declared.Fault.{Fault}
+use Rattle.sig_items.proofs.Laws.{later-later}
+use Rattle.sig_items.proofs.Loop.{item-answered, fault-answered}
+use Rattle.sig_signatures.proofs.Loop.{turn-full, turn-no}
+use Rattle.plan_places.specs.Step.{placed}
+use Rattle.plan_places.proofs.Bounds.{rules-lawful}
+use Rattle.plan_places.proofs.Marked.{lawful-marked}
+use Rattle.plan_plans.specs.Plan.{refusedPlan}
+use Rattle.plan_plans.proofs.Fold.{reached-roomy}
 use Rattle.plan_entries.specs.Words.{tabled}
 use Rattle.plan_words.specs.Planned.{plannedOf}
 use Rattle.plan_words.proofs.Turns.{Keeping, keeping-start, keeping-more, keeping-length, plan-no, rows-no, plan-trailing, rows-trailing, plan-end, rows-end, plan-unclear, rows-unclear}
@@ -134,7 +134,7 @@ same-length-2 c = keeping-length _ _ _ _ _ _ _ _ _ _ _ _ _ _ (c .before .before 
 returns-2 : tie.Need-returns-2 Inv-loop μ-loop
 returns-2 c =
     let stopped = turn-no _ _ _ _ _ _ _ _ (c .before .before .before .before .before .before .before .before .loop .inv .turn) (c .before .before .before .before .before .before .before .loop-test .taken) (c .before .before .before .before .before .before .if1 .left) _ (c .before .before .before .before .before .read-item .ensures) _ (c .before .before .before .fault .given .1) in (
-      c .no-plan2 .ensures ∙ ap (λ (f : Fault). plannedOf (refused f)) (c .before .later-by .ensures ∙ later-later _ _ _) ∙ plan-no _ _ _ _ _ _ _ _ stopped,
+      c .no-plan2 .ensures ∙ ap (λ (f : Fault). plannedOf (refusedPlan f)) (c .before .later-by .ensures ∙ later-later _ _ _) ∙ plan-no _ _ _ _ _ _ _ _ stopped,
       rows-no _ _ _ _ _ _ (c .before .before .before .before .before .before .before .before .before .before .before .before .before .before .before .before .args .earlier) _ stopped _,
     )
 
@@ -168,7 +168,7 @@ returns-4 c =
     let left = c .before .before .before .before .loop-test .left in
     let last = c .before .before .before .if2 .left in
     let some = c .before .before .if3 .taken in (
-      c .no-plan4 .ensures ∙ ap (λ (f : Fault). plannedOf (refused f)) (c .before .unclear-fault .ensures) ∙ plan-unclear _ _ _ _ _ _ _ _ _ _ _ _ _ _ _ m left last (omega (arith, some)),
+      c .no-plan4 .ensures ∙ ap (λ (f : Fault). plannedOf (refusedPlan f)) (c .before .unclear-fault .ensures) ∙ plan-unclear _ _ _ _ _ _ _ _ _ _ _ _ _ _ _ m left last (omega (arith, some)),
       rows-unclear _ _ _ _ _ _ (c .before .before .before .before .before .before .before .before .before .before .before .before .before .args .earlier) _ _ _ _ _ _ _ _ m left last (omega (arith, some)) _,
     )
 

@@ -2,11 +2,11 @@
 use borrow.Author.Needs.{needs}
 use mathlib.Core.Path.{sym, ap, _∙_}
 use native.Mathlib.Omega.{arith}
-use Rattle.signature.proofs.Laws.{signature-refused}
-use Rattle.signature.proofs.Sound.{head-bounded}
-use Rattle.plan.specs.Plan.{planAnswer}
-use Rattle.plan.specs.Call.{called}
-use Rattle.plan.proofs.Measures.{plan-arguments, unclear-arguments}
+use Rattle.sig_signatures.proofs.Laws.{signature-refused}
+use Rattle.sig_signatures.proofs.Sound.{head-bounded}
+use Rattle.plan_plans.specs.Plan.{planAnswer}
+use Rattle.plan_plans.specs.Call.{called}
+use Rattle.plan_plans.proofs.Measures.{plan-arguments, unclear-arguments}
 use Rattle.plan_words.specs.Planned.{plannedOf}
 use Rattle.plan_entries.specs.Words.{tabled}
 use Rattle.plan_entries.proofs.Copies.{tabled-nothing}

@@ -2,7 +2,7 @@
 use mathlib.Core.Path.{_≡_, sym, ap, _∙_}
 use Prim.Native.Nat.{suc, _-_}
 use native.Mathlib.Omega.{arith}
-use Rattle.signature.proofs.Types.{answer-plannable}
+use Rattle.sig_signatures.proofs.Types.{answer-plannable}
 use Rattle.second_planner.specs.Answer.{noPlan}
 use Rattle.second_planner.proofs.Answers.{answer-clear, answer-straddling}
 use borrow.Author.Needs.{needs}

@@ -1,8 +1,8 @@
 -- Each part is the definition's; the registers take the table of fields, whose places past the last are not looked at.
-use Rattle.signature.specs.Types.{typesIn}
-use Rattle.signature.proofs.Types.{length-types}
-use Rattle.structure.specs.Structure.{firstWord, powerHidden}
-use Rattle.structure.proofs.Turns.{fields-bounded, over-table}
+use Rattle.sig_signatures.specs.Types.{typesIn}
+use Rattle.sig_signatures.proofs.Types.{length-types}
+use Rattle.second_structure.specs.Structure.{firstWord, powerHidden}
+use Rattle.second_structure.proofs.Turns.{fields-bounded, over-table}
 use Rattle.second_planner.specs.Answer.{powerPlan, powerParameters}
 use borrow.Author.Needs.{needs}
 use Rattle.second_planner.proofs.power_plan.Statement.{statement}

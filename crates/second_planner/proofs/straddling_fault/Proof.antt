@@ -1,8 +1,8 @@
 -- The reader finds the argument, and its place is where the fault is.
 use mathlib.Core.Path.{ap, _∙_}
 use Prim.Native.Nat.{ℕ}
-use Rattle.items.specs.declared.Refusal.{Refusal}
-use Rattle.items.specs.Reading.{fault}
+use Rattle.sig_items.specs.declared.Refusal.{Refusal}
+use Rattle.sig_items.specs.Reading.{fault}
 use Rattle.second_planner.specs.Answer.{headerOf}
 use borrow.Author.Needs.{needs}
 use Rattle.second_planner.proofs.straddling_fault.Statement.{statement}

@@ -1,8 +1,8 @@
 -- The sum so far and what is left make up the whole.
-use Rattle.signature.specs.Types.{valuesOf, typesIn}
+use Rattle.sig_signatures.specs.Types.{valuesOf, typesIn}
 use Prim.Native.Nat.{_-_}
 use Rattle.second_planner.proofs.Turns.{Adding, adding-start, adding-more}
-use Rattle.parameters.proofs.Turns.{here, gone}
+use Rattle.second_parameters.proofs.Turns.{here, gone}
 use borrow.Author.Needs.{needs}
 use native.Mathlib.Omega.{arith}
 use Rattle.second_planner.proofs.values_in.Statement.{statement}

@@ -1,6 +1,6 @@
 -- Each part is the definition's.
 use Rattle.second_planner.specs.Answer.{zPlan}
-use Rattle.signature.proofs.Types.{length-types}
+use Rattle.sig_signatures.proofs.Types.{length-types}
 use borrow.Author.Needs.{needs}
 use Rattle.second_planner.proofs.z_plan.Statement.{statement}
 use Rattle.second_planner.proofs.z_plan.Tie as tie

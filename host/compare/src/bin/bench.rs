@@ -11,7 +11,7 @@ use compare::random::Random;
 use compare::timing::{self, Quartiles};
 use compare::usual::{self, Group};
 use flakuzhen::surface::{machine, marshal, plans, stored, walker};
-use reference::{compact, Convention};
+use reference::Convention;
 use std::cell::RefCell;
 use std::hint::black_box;
 use std::process::ExitCode;

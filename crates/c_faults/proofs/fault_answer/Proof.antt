@@ -1,0 +1,15 @@
+-- The number is the reason's.
+use borrow.Author.Needs.{needs}
+use Rattle.c_faults.specs.Faults.{faultAnswer}
+use Rattle.c_faults.proofs.fault_answer.Statement.{statement}
+use Rattle.c_faults.proofs.fault_answer.Tie as tie
+
+number-of-requires : tie.Need-number-of-requires
+number-of-requires c κs = search needs
+
+returns : tie.Need-returns
+unfolding faultAnswer
+returns c = rw (c .number-of .ensures)
+
+pub fault-answer-spec : {M : Type 1} → statement M
+fault-answer-spec = tie.close (tie.spec number-of-requires returns)

@@ -1,0 +1,3 @@
+-- What filling does. Assumes nothing.
+pub mod Fill
+pub mod Helpers

@@ -1,0 +1,2 @@
+-- What putting a value asks of the buffers. Assumes nothing.
+pub mod Helpers

@@ -1,0 +1,3 @@
+-- What reading does. Assumes nothing.
+pub mod Read
+pub mod Helpers

@@ -1,0 +1,3 @@
+-- Words in the general registers of an image. Assumes nothing.
+pub mod Registers
+pub mod Helpers

@@ -1,0 +1,62 @@
+-- For proofs and helpers alone: no claim cites this file.
+-- What taking values asks: places that lie in the buffers, and that neither 13 nor 14 refuses an argument. Every
+-- reading that nothing refuses has it (law `all-readable` of the crate call_read). Assumes nothing.
+use Prim.Native.Nat.{ℕ, _+_, _-_, _≤_, _<_}
+use mathlib.Core.Path.{_≡_}
+use mathlib.Core.Bool.{true}
+use mathlib.Core.List.{List}
+use lib.ListN.{length}
+use Rattle.base_words.specs.Numbers.{valueOf}
+use Rattle.sig_types.specs.declared.Equivalent.{Equivalent}
+use Rattle.sig_types.specs.Sizes.{equivalentOf}
+use Rattle.sig_signatures.specs.declared.SignatureRead.{SignatureRead}
+use Rattle.sig_signatures.specs.Helpers.{Plannable}
+use Rattle.plan_places.specs.declared.CallRules.{CallRules}
+use Rattle.plan_places.specs.declared.Span.{Span}
+use Rattle.plan_places.specs.Step.{wordOf}
+use Rattle.plan_places.specs.Spots.{imageBytes}
+use Rattle.call_slots.specs.declared.Answer.{Answer}
+use Rattle.call_slots.specs.Buffers.{Buffers}
+use Rattle.call_slots.specs.Placements.{Placement, floatAt, addressAt}
+use Rattle.call_slots.specs.Refusals.{floatAnswer}
+use Rattle.call_slots.specs.Helpers.{Held, All, sizesOf}
+use Rattle.call_slots.specs.Arguments.{rulesIn}
+use Rattle.call_arguments.specs.Table.{argumentsFrom}
+
+-- m bytes at s lie in an area of a bytes; none may start anywhere: an argument in registers asks nothing of the area
+abbrev pub Stored : ℕ → ℕ → ℕ → Type 0
+Stored s m a = 0 < m → s + m ≤ a
+
+-- a span's words of w bytes lie in the image and the area
+abbrev pub SpanHolds : ℕ → Span → List ℕ → List ℕ → Type 0
+SpanHolds w s image area =
+    (1 ≤ w) × (w ≤ 8) × (s .general .first + s .general .count ≤ 32) × (length image ≡ imageBytes) × Stored (s .memory .start) (s .memory .length) (length area)
+
+-- room of l bytes for a float whose FPRs have n bytes
+abbrev pub FprsHold : Equivalent → ℕ → ℕ → Type 0
+FprsHold Equivalent.Single n l = (n ≡ 8) × (4 ≤ l)
+FprsHold Equivalent.Double n l = (n ≡ 8) × (8 ≤ l)
+FprsHold Equivalent.Nothing n l = n ≤ l
+
+-- an argument, and the lengths of the image and the area
+pub record InBuffers (r : CallRules) (i a : ℕ) (p : Placement) : Type 0 where
+  pub held : Held r p
+  pub general : p .span .general .first + p .span .general .count ≤ 32
+  pub floating : p .span .floating .first + p .span .floating .count ≤ 32
+  pub memory : Stored (p .span .memory .start) (p .span .memory .length) a
+  pub registers : i ≡ imageBytes
+
+-- an argument that can be read
+pub record Readable (r : CallRules) (base : ℕ) (p : Placement) (b : Buffers) : Type 0 where
+  pub ready : InBuffers r (length (b .image)) (length (b .area)) p
+  -- 14 is not given
+  pub exact : 0 < p .span .floating .count → floatAnswer r (equivalentOf (p .ty)) (valueOf (floatAt (p .span) b)) ≡ Answer.Done
+  -- 13 is not given
+  pub inside : p .span .floating .count ≤ 0 → p .span .indirect ≡ true
+      → (base ≤ addressAt (wordOf r) (p .span) b) × (addressAt (wordOf r) (p .span) b - base + p .size ≤ length (b .copies))
+
+-- all arguments of a signature that was read, into values of v bytes
+pub record AllReadable (g : SignatureRead) (base v : ℕ) (b : Buffers) : Type 0 where
+  pub plannable : Plannable g
+  pub each : All (λ (q : Placement). Readable (rulesIn g) base q b) (argumentsFrom g)
+  pub total : sizesOf (argumentsFrom g) ≡ v

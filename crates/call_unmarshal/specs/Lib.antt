@@ -1,0 +1,2 @@
+-- What taking values asks of the buffers. Assumes nothing.
+pub mod Helpers

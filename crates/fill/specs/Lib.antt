@@ -1,2 +1,0 @@
--- What filling does. Assumes nothing.
-pub mod Fill

@@ -1,0 +1,90 @@
+// What a leave looks at and gives back: the slot of the caller's stack pointer, and the registers that the frame saved, from the lent memory.
+ghost use mathlib.Core.Path.{_≡_};
+ghost use Prim.Native.Nat.{_+_, _≤_};
+ghost use lib.ListN.{length};
+ghost use Rattle.frame_rules.specs.Frames.{linkAt, mergeFields, restoredLr, restoredCr, restored};
+ghost use Rattle.frame_rules.specs.Helpers.{LawfulFrames, Placed};
+use frame_rules::Frame;
+use frame_rules::FrameRules;
+use frame_rules::Linkage;
+use frame_rules::Registers;
+
+// Where the caller's pointer must stand, with the frame's own pointer at o and the caller's at s.
+pub fn link_at(k: FrameRules, o: usize, s: usize) -> usize
+    requires { ⌜ (LawfulFrames k) × (s ≤ 100000) ⌝ }
+    ensures { λ r. ⌜ r ≡ linkAt (k .linkage) k o s ⌝ }
+{
+    let linkage = k.linkage;
+    match linkage {
+        Linkage::LinkRegister(_, _) => o,
+        Linkage::SaveArea(_) => s + k.word * k.pointer,
+    }
+}
+
+// Condition fields 2 to 4 of new in old.
+fn merge_fields(old: u32, new: u64) -> u32
+    ensures { λ r. ⌜ r ≡ mergeFields old new ⌝ }
+{
+    let n = (new / 4096 % 4096) as u32;
+    old / 16777216 * 16777216 + n * 4096 + old % 4096
+}
+
+fn restore_lr(memory: &[u8], k: FrameRules, f: Frame, s: usize, x: u64) -> u64
+    requires { ⌜ (LawfulFrames k) × (s + k .header ≤ length (now memory)) ⌝ }
+    ensures { λ r. ⌜ r ≡ restoredLr (k .linkage) k f s (now (memory .entry)) x ⌝ }
+{
+    let linkage = k.linkage;
+    match linkage {
+        Linkage::LinkRegister(_, lr_at) => {
+            if f.leaf {
+                x
+            } else {
+                base_words::load(memory, s + lr_at, k.word)
+            }
+        }
+        Linkage::SaveArea(_) => x,
+    }
+}
+
+fn restore_cr(memory: &[u8], k: FrameRules, f: Frame, s: usize, x: u32) -> u32
+    requires { ⌜ (LawfulFrames k) × (s + k .header ≤ length (now memory)) ⌝ }
+    ensures { λ r. ⌜ r ≡ restoredCr (k .linkage) f s (now (memory .entry)) x ⌝ }
+{
+    let linkage = k.linkage;
+    match linkage {
+        Linkage::LinkRegister(cr_at, _) => {
+            if f.saves_cr {
+                let v = base_words::load(memory, s + cr_at, 4);
+                merge_fields(x, v)
+            } else {
+                x
+            }
+        }
+        Linkage::SaveArea(_) => x,
+    }
+}
+
+// The registers after a leave, with the caller's pointer p at the offset s.
+pub fn restore(memory: &[u8], k: FrameRules, f: Frame, s: usize, p: u64, r: Registers) -> Registers
+    requires { ⌜ Placed k f s (length (now memory)) ⌝ }
+    ensures { λ q. ⌜ q ≡ restored k f s (now (memory .entry)) p r ⌝ }
+{
+    let at = frame_saving::gpr_at(k, f, s, memory.len());
+    let gpr = r.gpr;
+    let fpr = r.fpr;
+    let g = f.first_gpr;
+    let m = f.first_fpr;
+    let c = k.end - m;
+    let i = k.pointer;
+    let mut general = frame_saves::load_run(memory, gpr, at, k.word, g, k.end - g);
+    general[i] = p;
+    let floating = frame_saves::load_run(memory, fpr, s - 8 * c, 8, m, c);
+    let lr = restore_lr(memory, k, f, s, r.lr);
+    let cr = restore_cr(memory, k, f, s, r.cr);
+    Registers {
+        gpr: general,
+        fpr: floating,
+        lr: lr,
+        cr: cr,
+    }
+}

@@ -1,2 +1,0 @@
--- What home is, and a view of what it left. Assumes nothing.
-pub mod Home

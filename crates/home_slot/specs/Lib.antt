@@ -1,2 +1,0 @@
--- The home of one argument. Assumes nothing.
-pub mod Homes

@@ -1,2 +1,0 @@
--- What putting a value asks of the buffers. Assumes nothing.
-pub mod Room

@@ -1,4 +1,0 @@
--- What the plan of a signature means. Assumes nothing.
-pub mod Plan
-pub mod Call
-pub mod Disjoint

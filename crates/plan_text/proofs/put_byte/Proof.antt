@@ -1,0 +1,28 @@
+-- A byte within the buffer is a store, and one past its end is lost.
+use Rattle.plan_text.proofs.Writing.{wrote-byte, wrote-past}
+use native.Mathlib.Omega.{arith}
+use borrow.Author.Needs.{needs}
+use Rattle.plan_text.proofs.put_byte.Statement.{statement}
+use Rattle.plan_text.proofs.put_byte.Tie as tie
+
+slice-write-text : tie.Need-slice-write-text
+slice-write-text c = search needs
+
+add-result : tie.Need-add-result
+add-result c = search needs
+
+same-length : tie.Need-same-length
+same-length c = search needs
+
+returns : tie.Need-returns
+returns c = wrote-byte _ _ _
+
+add-result-2 : tie.Need-add-result-2
+add-result-2 c = search needs
+
+returns-2 : tie.Need-returns-2
+returns-2 c = wrote-past _ _ _ (omega arith)
+
+pub put-byte-spec : {M : Type 1} → statement M
+put-byte-spec =
+    tie.close (tie.spec slice-write-text add-result same-length returns add-result-2 returns-2)

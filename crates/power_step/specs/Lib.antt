@@ -1,2 +1,0 @@
--- What the code counts of one argument on PowerPC. Assumes nothing.
-pub mod Counted

@@ -1,2 +1,0 @@
--- What reading does. Assumes nothing.
-pub mod Read

@@ -1,2 +1,0 @@
--- Words in the general registers of an image. Assumes nothing.
-pub mod Registers

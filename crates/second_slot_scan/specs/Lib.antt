@@ -1,0 +1,3 @@
+-- Z slot by slot. Assumes nothing.
+pub mod Slots
+pub mod Helpers

@@ -1,3 +1,0 @@
--- Z slot by slot. Assumes nothing.
-pub mod Slots
-pub mod Limits

@@ -1,2 +1,0 @@
--- What taking values asks of the buffers. Assumes nothing.
-pub mod Readable

@@ -1,2 +1,0 @@
--- What the functions below a step ask and give. Assumes nothing.
-pub mod Part
