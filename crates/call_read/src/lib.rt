@@ -274,7 +274,7 @@ pub fn read(
             if call_slots::is_refused(answer) {
                 return answer;
             }
-            call_unmarshal::take_arguments(values, image, area, copies, g, base);
+            call_unmarshal::take_table(values, image, area, copies, g, base);
             Answer::Done
         }
     }

@@ -1,4 +1,5 @@
 // The values of arguments taken out of their registers, memory and copies. An argument is taken only where nothing refuses its reading.
+use base_conventions::Convention;
 use base_ieee::Narrowed;
 use plan_places::CallRules;
 use plan_places::FPRS_AT;
@@ -14,9 +15,11 @@ ghost use Rattle.base_words.specs.Splice.{overlay, part};
 ghost use Rattle.base_ieee.specs.Narrowing.{narrow as narrowOf};
 ghost use Rattle.call_slots.specs.Buffers.{buffers};
 ghost use Rattle.call_slots.specs.Forms.{narrowedBytes, floatValueAs};
-ghost use Rattle.call_slots.specs.Placements.{placement, wordsAt, addressAt, valueAt, valuesAt};
+ghost use Rattle.call_slots.specs.Placements.{Placement, placement, wordsAt, addressAt, valueAt, valuesAt};
 ghost use Rattle.call_slots.specs.Arguments.{rulesIn};
+ghost use Rattle.call_slots.specs.Helpers.{sizesOf};
 ghost use Rattle.call_arguments.specs.Table.{argumentsFrom};
+ghost use Rattle.call_kept.specs.Helpers.{keptAll, KeptEach};
 ghost use Rattle.call_unmarshal.specs.Helpers.{SpanHolds, FprsHold, Readable, AllReadable};
 
 // The address in a span's only word, a doubleword: no convention with smaller words passes copies.
@@ -135,8 +138,35 @@ pub fn take_argument(
     );
 }
 
-// The values of all arguments of a signature that was read, one after the other.
+// The values of all arguments that are kept, one after the other.
 pub fn take_arguments(
+    values: &mut [u8],
+    image: &[u8],
+    area: &[u8],
+    copies: &[u8],
+    rules: CallRules,
+    convention: Convention,
+    count: usize,
+    kept: &[u16],
+    base: u64,
+)
+    requires { ⌜ KeptEach (λ (q : Placement). Readable rules base q (buffers (now image) (now area) (now copies))) convention (now kept) count × (sizesOf (keptAll convention (now kept) count) ≡ length (now values)) ⌝ }
+    ensures { λ _. ⌜ now (values .exit) ≡ overlay (now (values .entry)) (valuesAt rules base (keptAll convention (now (kept .entry)) count) (buffers (now (image .entry)) (now (area .entry)) (now (copies .entry)))) ⌝ }
+{
+    let mut v: usize = 0;
+    let mut i: usize = 0;
+    while i < count {
+        let t = call_kept::type_at(kept, i);
+        let s = call_kept::span_at(kept, i);
+        let n = sig_types::size_of(convention, t);
+        take_argument(&mut values[v..], image, area, copies, rules, t, n, s, base);
+        v = v + n;
+        i = i + 1;
+    }
+}
+
+// The same of a signature that was read into a table.
+pub fn take_table(
     values: &mut [u8],
     image: &[u8],
     area: &[u8],

@@ -71,8 +71,8 @@ returns-3 c =
       values-kept (start .args .sig .now) (start .args .base) _ _ (start .args .values .now) refused,
     )
 
-take-arguments-requires : tie.Need-take-arguments-requires
-take-arguments-requires c κs =
+take-table-requires : tie.Need-take-table-requires
+take-table-requires c κs =
     let measured = c .before .before .before .before .before .before .before .before .before .before .before in
     let start = measured .before .before .before .before .before .before .before in
     let read = measured .before .read-signature .ensures in
@@ -98,7 +98,7 @@ returns-5 c =
     let read = measured .before .read-signature .ensures in
     let done = not-refused _ (sym (c .before .before .before .before .before .is-refused2 .ensures) ∙ c .before .before .before .before .if3 .left) in (
       answer-arguments (start .args .sig .now) _ (start .args .base) _ _ (sizes measured) _ read _ (c .before .before .before .before .before .before .before .before .before .before .before .before .enum-told .given .1) _ Answer.Done (c .before .before .before .before .before .before .before .before .before .before .before .tested .ensures) (sym (c .before .before .before .before .before .before .before .before .before .before .is-refused .ensures) ∙ c .before .before .before .before .before .before .before .before .before .if1 .left) (sym done ∙ c .before .before .before .before .before .before .first-refusal .ensures),
-      values-taken (start .args .sig .now) (start .args .base) (buffers (start .args .image .now) (start .args .area .now) (start .args .copies .now)) (start .args .values .now) _ _ read (c .before .before .take-arguments .ensures),
+      values-taken (start .args .sig .now) (start .args .base) (buffers (start .args .image .now) (start .args .area .now) (start .args .copies .now)) (start .args .values .now) _ _ read (c .before .before .take-table .ensures),
     )
 
 pub read-spec : {M : Type 1} → statement M
@@ -116,7 +116,7 @@ read-spec =
     first-refusal-requires
     is-refused-requires-2
     returns-3
-    take-arguments-requires
+    take-table-requires
     returns-4
     same-length
     returns-5)
