@@ -29,7 +29,7 @@ use Rattle.call_slots.specs.Helpers.{All}
 use Rattle.call_slots.proofs.Refusals.{or-done, or-refused, not-refused}
 use Rattle.call_unmarshal.specs.Helpers.{InBuffers, Readable}
 use Rattle.call_read.specs.Read.{inCopies, copyAnswer, agrees, agreeAnswer, argumentAnswer, argumentsAnswer}
-use Rattle.call_read.specs.Helpers.{canRefuse}
+use Rattle.call_read.specs.Helpers.{asks, canRefuse}
 use Rattle.call_read.proofs.Agree.{agrees-alone}
 
 inside-facts : (address base n c : ℕ) → copyAnswer (inCopies address base n c) ≡ Answer.Done → (base ≤ address) × (address - base + n ≤ c)
@@ -69,6 +69,19 @@ module _ (r : CallRules) (base : ℕ) (p : Placement) (b : Buffers) (some : 0 < 
       simp (lt-ltb 0 (p .span .floating .count) some) (q ∙ ap (λ (x : Answer). orElse x (agreeAnswer (agrees r p b))) (sym done))
 
 -- ---- what is never refused
+
+-- neither in FPRs nor by pointer
+pub nothing-asked : (r : CallRules) (base : ℕ) (p : Placement) (b : Buffers) → asks (p .span) ≡ false → Answer.Done ≡ argumentAnswer r base p b
+unfolding argumentAnswer
+nothing-asked r base p b = go (ltb 0 (p .span .floating .count)) (p .span .indirect)
+  where
+    go : (f i : Bool) → pick f true i ≡ false
+        → Answer.Done
+        ≡ pick f (orElse (floatAnswer r (equivalentOf (p .ty)) (valueOf (floatAt (p .span) b))) (agreeAnswer (agrees r p b)))
+        (pick i (copyAnswer (inCopies (addressAt (wordOf r) (p .span) b) base (p .size) (length (b .copies)))) Answer.Done)
+    go true i e = let z : _≡_ {A = ℕ} 0 1 = cc in absurd (omega arith)
+    go false true e = let z : _≡_ {A = ℕ} 0 1 = cc in absurd (omega arith)
+    go false false e = refl
 
 both-done : (x : Bool) → pick x Answer.Done Answer.Done ≡ Answer.Done
 both-done true = refl

@@ -3,7 +3,9 @@
 use Prim.Native.Nat.{ℕ, _+_, _≤_, _<_}
 use mathlib.Core.Path.{_≡_}
 use mathlib.Core.Bool.{Bool, true, false}
+use lib.Dec.{ltb}
 use lib.ListN.{length}
+use Rattle.base_words.specs.Basics.{pick}
 use Rattle.base_words.specs.Numbers.{valueOf}
 use Rattle.sig_types.specs.declared.FloatFormat.{FloatFormat}
 use Rattle.sig_types.specs.declared.ValueType.{ValueType}
@@ -11,6 +13,7 @@ use Rattle.sig_types.specs.Sizes.{equivalentOf}
 use Rattle.sig_signatures.specs.declared.SignatureRead.{SignatureRead}
 use Rattle.sig_signatures.specs.Helpers.{Plannable}
 use Rattle.plan_places.specs.declared.CallRules.{CallRules}
+use Rattle.plan_places.specs.declared.Span.{Span}
 use Rattle.call_slots.specs.declared.Answer.{Answer}
 use Rattle.plan_places.specs.Spots.{general, imageBytes}
 use Rattle.call_slots.specs.Buffers.{Buffers}
@@ -20,6 +23,10 @@ use Rattle.call_slots.specs.Helpers.{Held, All}
 use Rattle.call_slots.specs.Arguments.{rulesIn}
 use Rattle.call_arguments.specs.Table.{argumentsFrom}
 use Rattle.call_unmarshal.specs.Helpers.{InBuffers}
+
+-- what 13, 14 or 26 can refuse: an argument in FPRs, or one that is passed by pointer to a copy (law `nothing-asked`)
+abbrev pub asks : Span → Bool
+asks s = pick (ltb 0 (s .floating .count)) true (s .indirect)
 
 -- the types whose arguments 13, 14 or 26 can refuse: on PowerPC a single, whose FPR is tested, and with an ellipsis every float; on Z those
 -- that may be passed by pointer to a copy (law `never-refused`)

@@ -1,5 +1,6 @@
 // Reading: the values of a call's arguments out of its registers, memory and copies. A first pass over the arguments finds the first
 // that can't be read, and only then are the values taken, so that a refused reading leaves the value buffer as it was.
+use base_conventions::Convention;
 use call_slots::Answer;
 use call_slots::Refusal;
 use plan_places::CallRules;
@@ -22,9 +23,10 @@ ghost use Rattle.call_slots.specs.Placements.{placement};
 ghost use Rattle.call_slots.specs.Refusals.{firstOf};
 ghost use Rattle.call_slots.specs.Arguments.{rulesIn};
 ghost use Rattle.call_arguments.specs.Table.{argumentsFrom};
+ghost use Rattle.call_kept.specs.Helpers.{keptAll, KeptEach};
 ghost use Rattle.call_unmarshal.specs.Helpers.{InBuffers};
 ghost use Rattle.call_read.specs.Read.{inCopies, copyAnswer, sameBytes, agrees, agreeAnswer, argumentAnswer, argumentsAnswer, readTests, readAnswer, readValues, readLengths};
-ghost use Rattle.call_read.specs.Helpers.{Compared, canRefuse, AllInBuffers};
+ghost use Rattle.call_read.specs.Helpers.{Compared, asks as asksOf, canRefuse, AllInBuffers};
 ghost use Rattle.sig_types.specs.Sizes.{maxSize};
 
 // The lengths of the lent buffers that are tested.
@@ -191,8 +193,49 @@ fn answer_at(
     Answer::Done
 }
 
-// The refusal of the first argument of a signature that was read, left to right, that can't be read.
+// Whether anything is asked of an argument before it is read. Of most nothing is, and then nobody need know their types.
+fn asks(s: Span) -> bool
+    ensures { λ b. ⌜ b ≡ asksOf s ⌝ }
+{
+    let floating = s.floating;
+    if 0 < floating.count {
+        return true;
+    }
+    s.indirect
+}
+
+// The refusal of the first kept argument, left to right, that can't be read.
 pub fn first_refusal(
+    image: &[u8],
+    area: &[u8],
+    copies: &[u8],
+    rules: CallRules,
+    convention: Convention,
+    count: usize,
+    kept: &[u16],
+    base: u64,
+) -> Answer
+    requires { ⌜ KeptEach (InBuffers rules (length (now image)) (length (now area))) convention (now kept) count ⌝ }
+    ensures { λ a. ⌜ a ≡ argumentsAnswer rules base (keptAll convention (now (kept .entry)) count) (buffers (now (image .entry)) (now (area .entry)) (now (copies .entry))) ⌝ }
+{
+    let mut i: usize = 0;
+    while i < count {
+        let s = call_kept::span_at(kept, i);
+        if asks(s) {
+            let t = call_kept::type_at(kept, i);
+            let n = sig_types::size_of(convention, t);
+            let answer = argument_answer(image, area, copies, rules, t, n, s, base);
+            if call_slots::is_refused(answer) {
+                return answer;
+            }
+        }
+        i = i + 1;
+    }
+    Answer::Done
+}
+
+// The same of a signature that was read into a table.
+fn table_refusal(
     image: &[u8],
     area: &[u8],
     copies: &[u8],
@@ -270,7 +313,7 @@ pub fn read(
             if g.count == 0 {
                 return Answer::Done;
             }
-            let answer = first_refusal(image, area, copies, g, base);
+            let answer = table_refusal(image, area, copies, g, base);
             if call_slots::is_refused(answer) {
                 return answer;
             }

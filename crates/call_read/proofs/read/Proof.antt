@@ -52,8 +52,8 @@ returns-2 c =
       values-taken (start .args .sig .now) (start .args .base) (buffers (start .args .image .now) (start .args .area .now) (start .args .copies .now)) (start .args .values .now) _ _ read (none-taken _ _ _ _ none _),
     )
 
-first-refusal-requires : tie.Need-first-refusal-requires
-first-refusal-requires c κs =
+table-refusal-requires : tie.Need-table-refusal-requires
+table-refusal-requires c κs =
     let measured = c .before .before .before .before .before .before .before in
     let start = measured .before .before .before .before .before .before .before in
     let lent = tests-lent (start .args .sig .now) _ _ (sizes measured) (sym (c .before .before .before .before .tested .ensures) ∙ not-refused _ (sym (c .before .before .before .is-refused .ensures) ∙ c .before .before .if1 .left)) in
@@ -67,7 +67,7 @@ returns-3 c =
     let measured = c .before .before .before .before .before .before .before .before .before .before in
     let start = measured .before .before .before .before .before .before .before in
     let refused = sym (c .before .is-refused2 .ensures) ∙ c .if3 .taken in (
-      answer-arguments (start .args .sig .now) _ (start .args .base) _ _ (sizes measured) _ (measured .before .read-signature .ensures) _ (c .before .before .before .before .before .before .before .before .enum-told .given .1) _ _ (c .before .before .before .before .before .before .before .tested .ensures) (sym (c .before .before .before .before .before .before .is-refused .ensures) ∙ c .before .before .before .before .before .if1 .left) (c .before .before .first-refusal .ensures),
+      answer-arguments (start .args .sig .now) _ (start .args .base) _ _ (sizes measured) _ (measured .before .read-signature .ensures) _ (c .before .before .before .before .before .before .before .before .enum-told .given .1) _ _ (c .before .before .before .before .before .before .before .tested .ensures) (sym (c .before .before .before .before .before .before .is-refused .ensures) ∙ c .before .before .before .before .before .if1 .left) (c .before .before .table-refusal .ensures),
       values-kept (start .args .sig .now) (start .args .base) _ _ (start .args .values .now) refused,
     )
 
@@ -78,7 +78,7 @@ take-table-requires c κs =
     let read = measured .before .read-signature .ensures in
     let lent = tests-lent (start .args .sig .now) _ _ (sizes measured) (sym (c .before .before .before .before .before .before .before .before .tested .ensures) ∙ not-refused _ (sym (c .before .before .before .before .before .before .before .is-refused .ensures) ∙ c .before .before .before .before .before .before .if1 .left)) in
     let ready = all-ready (start .args .sig .now) _ _ _ read (lent .image) (lent .area) in
-    let done = sym (c .before .before .before .first-refusal .ensures) ∙ not-refused _ (sym (c .before .before .is-refused2 .ensures) ∙ c .before .if3 .left) in
+    let done = sym (c .before .before .before .table-refusal .ensures) ∙ not-refused _ (sym (c .before .before .is-refused2 .ensures) ∙ c .before .if3 .left) in
     record { plannable = ready .plannable; each = all-readable _ _ _ _ (ready .each) done; total = all-sizes (start .args .sig .now) _ read ∙ sym (lent .values) }
 
 returns-4 : tie.Need-returns-4
@@ -97,7 +97,7 @@ returns-5 c =
     let start = measured .before .before .before .before .before .before .before in
     let read = measured .before .read-signature .ensures in
     let done = not-refused _ (sym (c .before .before .before .before .before .is-refused2 .ensures) ∙ c .before .before .before .before .if3 .left) in (
-      answer-arguments (start .args .sig .now) _ (start .args .base) _ _ (sizes measured) _ read _ (c .before .before .before .before .before .before .before .before .before .before .before .before .enum-told .given .1) _ Answer.Done (c .before .before .before .before .before .before .before .before .before .before .before .tested .ensures) (sym (c .before .before .before .before .before .before .before .before .before .before .is-refused .ensures) ∙ c .before .before .before .before .before .before .before .before .before .if1 .left) (sym done ∙ c .before .before .before .before .before .before .first-refusal .ensures),
+      answer-arguments (start .args .sig .now) _ (start .args .base) _ _ (sizes measured) _ read _ (c .before .before .before .before .before .before .before .before .before .before .before .before .enum-told .given .1) _ Answer.Done (c .before .before .before .before .before .before .before .before .before .before .before .tested .ensures) (sym (c .before .before .before .before .before .before .before .before .before .before .is-refused .ensures) ∙ c .before .before .before .before .before .before .before .before .before .if1 .left) (sym done ∙ c .before .before .before .before .before .before .table-refusal .ensures),
       values-taken (start .args .sig .now) (start .args .base) (buffers (start .args .image .now) (start .args .area .now) (start .args .copies .now)) (start .args .values .now) _ _ read (c .before .before .take-table .ensures),
     )
 
@@ -113,7 +113,7 @@ read-spec =
     is-refused-requires
     returns
     returns-2
-    first-refusal-requires
+    table-refusal-requires
     is-refused-requires-2
     returns-3
     take-table-requires
