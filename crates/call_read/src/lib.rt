@@ -235,13 +235,7 @@ pub fn first_refusal(
 }
 
 // The same of a signature that was read into a table.
-fn table_refusal(
-    image: &[u8],
-    area: &[u8],
-    copies: &[u8],
-    g: SignatureRead,
-    base: u64,
-) -> Answer
+fn table_refusal(image: &[u8], area: &[u8], copies: &[u8], g: SignatureRead, base: u64) -> Answer
     requires { ⌜ AllInBuffers g (length (now image)) (length (now area)) ⌝ }
     ensures { λ a. ⌜ a ≡ argumentsAnswer (rulesIn g) base (argumentsFrom g) (buffers (now (image .entry)) (now (area .entry)) (now (copies .entry))) ⌝ }
 {
