@@ -4,7 +4,6 @@ use base_ieee::Narrowed;
 use plan_places::CallRules;
 use plan_places::FPRS_AT;
 use plan_places::Span;
-use sig_signatures::SignatureRead;
 use sig_types::Equivalent;
 use sig_types::ValueType;
 ghost use mathlib.Core.Path.{_≡_};
@@ -16,11 +15,9 @@ ghost use Rattle.base_ieee.specs.Narrowing.{narrow as narrowOf};
 ghost use Rattle.call_slots.specs.Buffers.{buffers};
 ghost use Rattle.call_slots.specs.Forms.{narrowedBytes, floatValueAs};
 ghost use Rattle.call_slots.specs.Placements.{Placement, placement, wordsAt, addressAt, valueAt, valuesAt};
-ghost use Rattle.call_slots.specs.Arguments.{rulesIn};
 ghost use Rattle.call_slots.specs.Helpers.{sizesOf};
-ghost use Rattle.call_arguments.specs.Table.{argumentsFrom};
 ghost use Rattle.call_kept.specs.Helpers.{keptAll, KeptEach};
-ghost use Rattle.call_unmarshal.specs.Helpers.{SpanHolds, FprsHold, Readable, AllReadable};
+ghost use Rattle.call_unmarshal.specs.Helpers.{SpanHolds, FprsHold, Readable};
 
 // The address in a span's only word, a doubleword: no convention with smaller words passes copies.
 pub fn word_at(image: &[u8], area: &[u8], s: Span) -> u64
@@ -161,38 +158,6 @@ pub fn take_arguments(
         let n = sig_types::size_of(convention, t);
         take_argument(&mut values[v..], image, area, copies, rules, t, n, s, base);
         v = v + n;
-        i = i + 1;
-    }
-}
-
-// The same of a signature that was read into a table.
-pub fn take_table(
-    values: &mut [u8],
-    image: &[u8],
-    area: &[u8],
-    copies: &[u8],
-    g: SignatureRead,
-    base: u64,
-)
-    requires { ⌜ AllReadable g base (length (now values)) (buffers (now image) (now area) (now copies)) ⌝ }
-    ensures { λ _. ⌜ now (values .exit) ≡ overlay (now (values .entry)) (valuesAt (rulesIn g) base (argumentsFrom g) (buffers (now (image .entry)) (now (area .entry)) (now (copies .entry)))) ⌝ }
-{
-    let convention = g.convention;
-    let result = g.result;
-    let count = g.count;
-    let rules = call_arguments::rules_in(convention, g.ellipsis);
-    let mut c = call_arguments::first_cursor(convention, result);
-    let mut v: usize = 0;
-    let mut i: usize = 0;
-    while i < count {
-        let a = g.arguments[i];
-        let t = a.ty;
-        let n = sig_types::size_of(convention, t);
-        let p = plan_placing::step(rules, c, t, n);
-        let s = p.span;
-        take_argument(&mut values[v..], image, area, copies, rules, t, n, s, base);
-        v = v + n;
-        c = p.next;
         i = i + 1;
     }
 }
