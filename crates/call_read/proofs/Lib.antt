@@ -2,4 +2,5 @@
 pub mod Agree
 pub mod Examples
 pub mod Arguments
+pub mod Heads
 pub mod Accepted

@@ -405,7 +405,7 @@ image-bytes r base (p ∷ ps) b h = (
 arguments-readable : (s : List ℕ) (base : ℕ) (b : Buffers) → length (b .image) ≡ 512 → planFor s .area ≤ length (b .area)
     → argumentsAnswer (rulesFor s) base (argumentsOf s) b ≡ Answer.Done → All (λ (p : Placement). Readable (rulesFor s) base p b) (argumentsOf s)
 arguments-readable s base b image area done =
-    all-readable (rulesFor s) base b (argumentsOf s) (each-ready s (signatureAnswer (signatureOf s)) (length (b .image)) (length (b .area)) refl image area) done
+    all-readable (rulesFor s) base b (argumentsOf s) (each-ready s (rulesFor s) (length (b .image)) (length (b .area)) refl image area) done
 
 -- what can be read can be homed, and then each view is the value read
 viewed : (s : List ℕ) (base : ℕ) (b : Buffers) → homeless (rulesFor s) ≡ false

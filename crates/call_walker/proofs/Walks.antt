@@ -256,7 +256,7 @@ walks-alike s ws base b v accept = go (signatureOf s) refl accept
         arguments-got g next n ∙ ap (λ (z : List ValueType). placements c z (spansOf c r k z)) (sym order) in
         let whole : argumentsOf s ≡ ps = ap (λ (z : Reading Signature). argumentsIn (signatureAnswer z) (planAnswer z)) e ∙ same in
         let done : argumentsAnswer r base ps b ≡ call.Answer.Done = subst (λ (z : List Placement). argumentsAnswer r base z b ≡ call.Answer.Done) same (both .1) in
-        let ready = each-ready s (signatureAnswer (got g next n)) (length (b .image)) (length (b .area)) (sym (ap signatureAnswer e)) (lent .image) (rw e (lent .area)) in
+        let ready = each-ready s (rulesIn (signatureAnswer (got g next n))) (length (b .image)) (length (b .area)) (sym (ap (λ (x : Reading Signature). rulesIn (signatureAnswer x)) e)) (lent .image) (rw e (lent .area)) in
         let readable = all-readable r base b ps (subst (All (InBuffers r (length (b .image)) (length (b .area)))) whole ready) done in
         let sized = all-sizes r base ps b readable in
         let size : length v ≡ valuesOf c types = lent .values ∙ (plan-values n c mark q (typesOf c (g .arguments)) ∙ ap (valuesOf c) (sym order)) in
