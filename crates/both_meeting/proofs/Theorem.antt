@@ -28,7 +28,7 @@ use Rattle.plan_places.specs.Values.{pointer}
 use Rattle.plan_places.specs.Power.{words}
 use Rattle.plan_places.specs.ZSeries.{zClass, zNextOf}
 use Rattle.plan_places.specs.Step.{rulesOf, nextOf, fresh, startOf, areaOf}
-use Rattle.plan_plans.specs.Plan.{lastOf, hiddenIn, startIn, endIn, planIn, planAnswer}
+use Rattle.plan_plans.specs.Plan.{lastOf, hiddenIn, startIn, lastCursorIn, planIn, planAnswer}
 use Rattle.sig_signatures.specs.Types.{typesOf}
 use Rattle.plan_plans.specs.Call.{called}
 use Rattle.plan_plans.proofs.Fold.{last-more}
@@ -178,7 +178,7 @@ requested-in g next n sized few =
     let r : ResultType = resultType c (g .result) in
     let first = start-moves c (hiddenIn c r) in
     let last = last-moves c (startIn c r) (g .arguments) sized (first .1) in
-    let d : Cursor = endIn c r (typesOf c (g .arguments)) in
+    let d : Cursor = lastCursorIn c r (typesOf c (g .arguments)) in
     let a : Area c (areaOf c d) (d .stack) = area-is c d (last .1) in
     let up = round (areaOf c d) maxOutgoing refl (omega (arith, first .0, last .0, a .most)) in
     record {

@@ -41,7 +41,7 @@ use Rattle.call_slots.specs.Buffers.{Buffers, bytesAt}
 use Rattle.call_slots.specs.Forms.{startsAtHead, extended, roomOf, homeBytes, singleWord, floatForm, floatBytes}
 use Rattle.call_slots.specs.Placements.{Placement, placements, standing}
 use Rattle.call_slots.specs.Helpers.{All}
-use Rattle.call_slots.specs.Arguments.{argumentsIn, argumentsOf, planFor, rulesIn, rulesFor}
+use Rattle.call_slots.specs.Arguments.{placementsIn, argumentsOf, planFor, rulesIn, rulesFor}
 use Rattle.call_slots.proofs.Answered.{arguments-got}
 use Rattle.call_fill.specs.Fill.{highAddress, fillAnswer}
 use Rattle.call_fill.proofs.Accepted.{tests-low}
@@ -198,7 +198,7 @@ module _ (P : Register → Type 0) where
   fold-each c r k [] h = tt
   fold-each c r k (t ∷ ts) h = (h .0, fold-each c r _ ts (h .1))
 
-  table-each : (x : Reading Signature) → All (λ (p : Placement). OfSpan P (p .span)) (argumentsIn (signatureAnswer x) (planAnswer x)) → Each (OfSpan P) (planAnswer x .spans)
+  table-each : (x : Reading Signature) → All (λ (p : Placement). OfSpan P (p .span)) (placementsIn (signatureAnswer x) (planAnswer x)) → Each (OfSpan P) (planAnswer x .spans)
   unfolding planAnswer planIn tableOf
   table-each (got g next n) h =
       let c : Convention = g .convention in

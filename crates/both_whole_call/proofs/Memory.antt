@@ -19,7 +19,7 @@ use Rattle.frame_machine.specs.declared.Answer.the-variants.{Accepted}
 use Rattle.frame_machine.specs.declared.Refusal.the-variants.{NotPermitted}
 use Rattle.frame_machine.specs.declared.State.{State}
 use Rattle.frame_machine.specs.Answers.{require, judge}
-use Rattle.frame_machine.specs.Machine.{rulesOf, stackPointer, offset, top, caller, stateTests, inside, outgoingFrom, localsFrom, writableBytes, writableAddress, writeMemoryAnswer, writtenMemory, writeMemoryOutcome}
+use Rattle.frame_machine.specs.Machine.{stateRules, stackPointer, offset, top, caller, stateTests, inside, outgoingFrom, localsFrom, writableBytes, writableAddress, writeMemoryAnswer, writtenMemory, writeMemoryOutcome}
 use Rattle.frame_machine.proofs.Judging.{judge-next}
 use Rattle.frame_machine.proofs.States.{state-accepted}
 use Rattle.frame_machine.proofs.Outcomes.{write-memory-accepted}
@@ -116,7 +116,7 @@ module _ (c : Convention) (os : List OpenEnter) (m : Machine) (i : Invariant (ru
       (state-accepted k (m .state) (length (m .memory)) (base .sound))
       ∙ rw may
 
-  judged : writeMemoryAnswer (rulesOf (m .state)) (m .state) (length (m .memory)) a (length bs) ≡ Accepted
+  judged : writeMemoryAnswer (stateRules (m .state)) (m .state) (length (m .memory)) a (length bs) ≡ Accepted
   judged = subst (λ (r : FrameRules). writeMemoryAnswer r (m .state) (length (m .memory)) a (length bs) ≡ Accepted) (sym (base .rules)) allowed
 
   put-accepted : answer (writeMemory a bs) m ≡ Accepted

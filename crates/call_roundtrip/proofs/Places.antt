@@ -32,7 +32,7 @@ use Rattle.call_slots.specs.Placements.{Placement, placement, placements, stand
 use Rattle.call_slots.specs.Helpers.{Held, All}
 use Rattle.call_slots.specs.Forms.{floatBytes}
 use Rattle.call_registers.proofs.Registers.{spread-short}
-use Rattle.call_slots.specs.Arguments.{argumentsIn, argumentsOf, rulesIn, rulesFor}
+use Rattle.call_slots.specs.Arguments.{placementsIn, argumentsOf, rulesIn, rulesFor}
 use Rattle.call_slots.proofs.Answered.{Carried, arguments-got, carried}
 use Rattle.call_roundtrip.specs.Places.{Byte, inImage, inArea, inCopies, CoversFrom, Touches, slotLists, SlotsApart}
 use Rattle.call_roundtrip.proofs.Kept.{Upto, Banked, AllLater, all-later, take-short}
@@ -147,8 +147,8 @@ ordered-apart c r base k (y ∷ ts) v (suc i) (suc j) x named h l s t =
 -- ---- every signature
 
 none-touched : (base : ℕ) (v : List ℕ) (f : Fault) (i : ℕ) (x : Byte)
-    → Touches (getD (slotLists (rulesIn (signatureAnswer (no f))) base (argumentsIn (signatureAnswer (no f)) (planAnswer (no f))) v) i []) x → ⊥
-unfolding argumentsIn placements planAnswer slotLists Touches
+    → Touches (getD (slotLists (rulesIn (signatureAnswer (no f))) base (placementsIn (signatureAnswer (no f)) (planAnswer (no f))) v) i []) x → ⊥
+unfolding placementsIn placements planAnswer slotLists Touches
 none-touched base v f zero x t = t
 none-touched base v f (suc i) x t = t
 
@@ -158,8 +158,8 @@ unfolding argumentsOf
 sorted s base v i j x l = go (signatureOf s) (carried s)
   where
     go : (q : Reading Signature) → Carried (signatureAnswer q) (planAnswer q)
-        → Touches (getD (slotLists (rulesIn (signatureAnswer q)) base (argumentsIn (signatureAnswer q) (planAnswer q)) v) i []) x
-        → Touches (getD (slotLists (rulesIn (signatureAnswer q)) base (argumentsIn (signatureAnswer q) (planAnswer q)) v) j []) x → ⊥
+        → Touches (getD (slotLists (rulesIn (signatureAnswer q)) base (placementsIn (signatureAnswer q) (planAnswer q)) v) i []) x
+        → Touches (getD (slotLists (rulesIn (signatureAnswer q)) base (placementsIn (signatureAnswer q) (planAnswer q)) v) j []) x → ⊥
     go (got g next n) h a b =
         let c : Convention = g .convention in
         let r : CallRules = withEllipsis (g .ellipsis) (rulesOf c) in

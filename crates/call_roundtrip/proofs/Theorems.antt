@@ -38,7 +38,7 @@ use Rattle.call_slots.specs.Placements.{Placement, placement, placements, copyB
 use Rattle.call_slots.specs.Helpers.{Held, Fits, All, sizesOf}
 use Rattle.call_slots.specs.Refusals.{firstOf, orElse, firstOfAll, afterReading}
 use Rattle.plan_plans.specs.Call.{outcomeFor}
-use Rattle.call_slots.specs.Arguments.{argumentsIn, argumentsOf, planFor, rulesIn, rulesFor}
+use Rattle.call_slots.specs.Arguments.{placementsIn, argumentsOf, planFor, rulesIn, rulesFor}
 use Rattle.call_slots.proofs.Buffers.{SameLengths, same-then, putAll-lengths, putAll-append}
 use Rattle.call_slots.proofs.Answered.{Carried, carried, arguments-got}
 use Rattle.call_fill.specs.Fill.{fillLengths, fillAnswer, filledSlots, fillBuffers}
@@ -159,8 +159,8 @@ reading-done (Outcome.Refused f) x e y q = let z : _≡_ {A = ℕ} 0 1 = cc in a
 
 -- a refused signature has no arguments
 none-put : (base : ℕ) (v : List ℕ) (b : Buffers) (f : Fault)
-    → AllPut (rulesIn (signatureAnswer (no f))) base (argumentsIn (signatureAnswer (no f)) (planAnswer (no f))) v b
-unfolding AllPut argumentsIn placements
+    → AllPut (rulesIn (signatureAnswer (no f))) base (placementsIn (signatureAnswer (no f)) (planAnswer (no f))) v b
+unfolding AllPut placementsIn placements
 none-put base v b f = tt
 
 -- a signature's arguments, after its slots are put in any buffers that have room for them
@@ -172,8 +172,8 @@ plan-put s base v b bytes values image area copies low = go (signatureOf s) (car
   where
     go : (x : Reading Signature) → Carried (signatureAnswer x) (planAnswer x) → length v ≡ planAnswer x .values → planAnswer x .area ≤ length (b .area)
         → planAnswer x .copies ≤ length (b .copies) → base + planAnswer x .copies < 2 ^ 64
-        → AllPut (rulesIn (signatureAnswer x)) base (argumentsIn (signatureAnswer x) (planAnswer x)) v
-        (putAll (slotsOfAll (rulesIn (signatureAnswer x)) base (argumentsIn (signatureAnswer x) (planAnswer x)) v) b)
+        → AllPut (rulesIn (signatureAnswer x)) base (placementsIn (signatureAnswer x) (planAnswer x)) v
+        (putAll (slotsOfAll (rulesIn (signatureAnswer x)) base (placementsIn (signatureAnswer x) (planAnswer x)) v) b)
     go (got g next n) h e i j k =
         let c : Convention = g .convention in
         let r : CallRules = withEllipsis (g .ellipsis) (rulesOf c) in

@@ -45,7 +45,7 @@ use Rattle.call_slots.specs.Placements.{Placement, placements, wordsAt, floatAt
 use Rattle.call_slots.specs.Helpers.{Held, All, sizesOf}
 use Rattle.call_slots.specs.Refusals.{firstOf, orElse, firstOfAll, floatAnswer, afterReading, isDone}
 use Rattle.plan_plans.specs.Call.{outcomeFor}
-use Rattle.call_slots.specs.Arguments.{argumentsIn, argumentsOf, planFor, rulesIn, rulesFor}
+use Rattle.call_slots.specs.Arguments.{placementsIn, argumentsOf, planFor, rulesIn, rulesFor}
 use Rattle.call_registers.specs.Registers.{gather}
 use Rattle.call_registers.proofs.Registers.{length-gather}
 use Rattle.call_slots.proofs.Held.{words-room}
@@ -281,8 +281,8 @@ plan-homes : (c : Convention) (r : CallRules) (k : Cursor) (ts : List ValueType)
 plan-homes c (CallRules.Power f) k ts e = homes-from f c k ts
 plan-homes c CallRules.Z k ts e = let z : _≡_ {A = ℕ} 0 1 = cc in absurd (omega arith)
 
-none-homes : (r : CallRules) (n : ℕ) (f : Fault) → HomesFrom r n (argumentsIn (signatureAnswer (no f)) (planAnswer (no f)))
-unfolding argumentsIn placements HomesFrom
+none-homes : (r : CallRules) (n : ℕ) (f : Fault) → HomesFrom r n (placementsIn (signatureAnswer (no f)) (planAnswer (no f)))
+unfolding placementsIn placements HomesFrom
 none-homes r n f = tt
 
 -- of a signature whose hidden address, if it has one, is the first word
@@ -295,7 +295,7 @@ unfolding argumentsOf
 homes-follow s n = go (signatureOf s)
   where
     go : (x : Reading Signature) → homeless (rulesIn (signatureAnswer x)) ≡ false → StartsFrom n x
-        → HomesFrom (rulesIn (signatureAnswer x)) n (argumentsIn (signatureAnswer x) (planAnswer x))
+        → HomesFrom (rulesIn (signatureAnswer x)) n (placementsIn (signatureAnswer x) (planAnswer x))
     go (got g next m) q l =
         let c : Convention = g .convention in
         let k : Cursor = startIn c (resultType c (g .result)) in
@@ -347,7 +347,7 @@ counted s i l =
     let p : Plan = planFor s in
     let c : Carried g p = carried s in
     let e = next-argument g p i l (c .tables .types) (c .tables .spans) in
-    omega (arith, length-drop i (argumentsIn g p), ap (λ (x : List Placement). length x) e)
+    omega (arith, length-drop i (placementsIn g p), ap (λ (x : List Placement). length x) e)
 
 view-shows : (s area : List ℕ) (i : ℕ) (v : List ℕ) → viewAnswer s (length area) i ≡ Answer.Done → ownBytes (rulesFor s) (getD (argumentsOf s) i noArgument) area ≡ v → viewOf s area i ≡ v
 unfolding viewOf

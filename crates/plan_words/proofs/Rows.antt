@@ -35,7 +35,7 @@ use Rattle.plan_places.specs.declared.Cursor.{Cursor}
 use Rattle.plan_places.specs.declared.Span.{Span}
 use Rattle.plan_places.specs.declared.CallRules.{CallRules}
 use Rattle.plan_places.specs.Step.{rulesOf, withEllipsis, spanOf, nextOf}
-use Rattle.plan_plans.specs.Plan.{spansOf, lastOf, noSpan, tableOf, startIn, endIn, planIn, refusedPlan, planAnswer}
+use Rattle.plan_plans.specs.Plan.{spansOf, lastOf, noSpan, tableOf, startIn, lastCursorIn, planIn, refusedPlan, planAnswer}
 use Rattle.plan_plans.specs.Disjoint.{spanAt}
 use Rattle.plan_plans.proofs.Fold.{length-spans, last-marked, values-more}
 use Rattle.plan_plans.specs.Call.{itemIn, unclearFault, called, callOf}
@@ -82,7 +82,7 @@ module _ (c : Convention) (g : Result) (v : Bool) (next n : ℕ) where
 
   module _ (ts : Trees) (t : Tree) where
     abbrev here : Span
-    here = spanOf (withEllipsis v (rulesOf c)) (endIn c r (typesOf c ts)) (typeOf c t) (sizeOf c (typeOf c t))
+    here = spanOf (withEllipsis v (rulesOf c)) (lastCursorIn c r (typesOf c ts)) (typeOf c t) (sizeOf c (typeOf c t))
 
     spans-then : spans (ts ▸ t) ≡ spans ts ++ here ∷ []
     unfolding typesOf

@@ -36,7 +36,7 @@ use Rattle.plan_places.specs.Step.{rulesOf, withEllipsis, spanOf, nextOf, uncle
 use Rattle.plan_places.specs.Helpers.{unclearAfter}
 use Rattle.plan_places.proofs.Bounds.{rules-lawful}
 use Rattle.plan_places.proofs.Marked.{next-marked, unclear-marked}
-use Rattle.plan_plans.specs.Plan.{lastOf, hiddenIn, startIn, endIn, resultPlacesIn, planIn, refusedPlan}
+use Rattle.plan_plans.specs.Plan.{lastOf, hiddenIn, startIn, lastCursorIn, resultPlacesIn, planIn, refusedPlan}
 use Rattle.plan_plans.specs.Call.{firstUnclear, unclearFault}
 use Rattle.plan_plans.proofs.Calls.{unclear-more}
 use Rattle.plan_plans.proofs.Fold.{last-more, values-more, Reached, reached-start, reached-more}
@@ -71,7 +71,7 @@ pub record Keeping (c : Convention) (mark : Bool) (s : List ℕ) (at e : ℕ) (r
   pub turn : Turn c s at e ts count next n
   pub ends : next ≡ itemAfter at ts
   pub apart : at + 3 * count ≤ next
-  pub last : k ≡ endIn c r (typesOf c ts)
+  pub last : k ≡ lastCursorIn c r (typesOf c ts)
   pub total : v ≡ valuesOf c (typesOf c ts)
   pub unclear : u ≡ firstUnclear c (rulesOf c) (startIn c r) 0 (typesOf c ts)
   pub reached : Reached (rulesOf c) k v count
@@ -105,7 +105,7 @@ module _ (c : Convention) (mark : Bool) (s : List ℕ) (at e : ℕ) (r : ResultT
         let rows : List ℕ = rowsOf c mark r at (m .ts) in
         let rules : CallRules = withEllipsis mark (rulesOf c) in
         let next-same : nextOf rules k t (sizeOf c t) ≡ nextOf (rulesOf c) k t (sizeOf c t) = next-marked mark (rulesOf c) k t (sizeOf c t) in
-        let here : List ℕ = entryWords (itemAfter at (m .ts)) (sizeOf c w) (valuesOf c so-far) (spanOf rules (endIn c r so-far) w (sizeOf c w)) in
+        let here : List ℕ = entryWords (itemAfter at (m .ts)) (sizeOf c w) (valuesOf c so-far) (spanOf rules (lastCursorIn c r so-far) w (sizeOf c w)) in
         let many : count ≡ 0 + length so-far = omega (arith, m .turn .many, length-of-types c (m .ts)) in
         let place : 13 * count ≡ length rows = omega (arith, length-rows c mark r at (m .ts), m .turn .many) in
         record {
