@@ -7,11 +7,13 @@ use mathlib.Core.List.{List, [], _∷_, _++_, append-nil}
 use native.Mathlib.Omega.{arith}
 use borrow.Author.Tests.{ltb-true}
 use lib.Dec.{ltb}
-use lib.ListN.{length, replicate, take, getD}
+use lib.ListN.{length, replicate, take}
 use lib.Seq.{length-take-le}
 use Rattle.base_words.specs.Basics.{roundUp}
 use Rattle.base_words.specs.Splice.{overlay, splice}
 use Rattle.base_words.specs.Numbers.{Bytes, bytesOf, valueOf, zeroExtended, signBit, signExtended}
+use Rattle.base_words.proofs.Tests.{and-yes}
+use Rattle.base_words.proofs.Fitting.{fit-replicate}
 use Rattle.base_conventions.specs.declared.Convention.{Convention}
 use Rattle.base_conventions.specs.Numbers.{conventionCode}
 use Rattle.sig_types.specs.Structs.{withField, shapeOf}
@@ -41,7 +43,6 @@ use Rattle.frame_saves.specs.Saves.{store, load, saveRun}
 use Rattle.frame_rules.specs.declared.Frame.{Frame}
 use Rattle.frame_rules.specs.Rules.{rules}
 use Rattle.frame_rules.specs.Frames.{outgoingLength, withPointer, allWithin, lowered, okRegisters, cleared, okLeaf, okRequest, below, fullSize, frameSize, chainWidth, gprAt, savesBy, bankOf, writableRegister, withRegister}
-use Rattle.frame_rules.proofs.Facts.{and-yes}
 use Rattle.frame_machine.specs.declared.Answer.the-variants.{Accepted}
 use Rattle.frame_machine.specs.Answers.{judge}
 use Rattle.frame_machine.specs.Machine.{topFrame, callerFrame, okFrames, sizes, okMemory, okState, startAnswer, started, startedMemory, enterAnswer, entered, enteredMemory, writableBytes, writableAddress, writeRegisterAnswer, writeMemoryAnswer, writtenRegister, writtenMemory, startOutcome, startMemory, enterOutcome, enterMemory, writeRegisterOutcome, writeMemoryOutcome, writeMemoryMemory}
@@ -71,17 +72,12 @@ bytes-tested [] e i = omega arith
 bytes-tested (x ∷ l) e zero = ltb-true x 256 (and-yes (ltb x 256) (allBytes l) e .0)
 bytes-tested (x ∷ l) e (suc i) = bytes-tested l (and-yes (ltb x 256) (allBytes l) e .1) i
 
-below-all : (n x m i : ℕ) → x < m → getD (replicate n x) i 0 < m
-below-all zero x m i h = omega arith
-below-all (suc n) x m zero h = h
-below-all (suc n) x m (suc i) h = below-all n x m i h
-
 -- a start of 640 bytes, all registers 7
 abbrev start : Convention → Lent
 start c = calls.fresh c 4096 (replicate 640 1) (replicate registersWords 7)
 
 sevens : WordsFit registersWords (replicate registersWords 7)
-sevens = record { count = refl; fit = λ i. below-all 66 7 (2 ^ 64) i (omega arith) }
+sevens = record { count = refl; fit = fit-replicate 66 7 (2 ^ 64) (omega arith) }
 
 -- one piece
 one-piece : (bs : List ℕ) → (1 ≤ length bs) → (length bs ≤ 256) → Cut (bs ∷ []) bs

@@ -8,6 +8,7 @@ use borrow.Author.Tests.{le-leb, lt-ltb}
 use lib.ListN.{length, length-append}
 use Rattle.base_words.specs.Splice.{splice}
 use Rattle.base_words.proofs.Splices.{splice-append, splice-nothing}
+use Rattle.base_words.proofs.Tests.{or-right}
 use Rattle.base_conventions.specs.declared.Convention.{Convention}
 use Rattle.frame_rules.specs.declared.FrameRules.{FrameRules}
 use Rattle.frame_rules.specs.declared.Frame.{Frame}
@@ -27,7 +28,6 @@ use Rattle.frame_history.specs.Calls.{Call, writeMemory, Machine, answer, after
 use Rattle.frame_history.specs.Preserved.{OpenEnter, callerOf, CallsFit}
 use Rattle.frame_history.proofs.Writing.{caller-is}
 use Rattle.frame_history.proofs.Invariant.{Base, Invariant, base-of, top-is}
-use Rattle.both_meeting.proofs.Theorem.{or-right}
 use Rattle.both_whole_call.specs.Put.{callersArea, joined, Short}
 use Rattle.both_whole_call.proofs.Steps.{run, AllAccepted, openedBy, call-keeps}
 

@@ -30,12 +30,12 @@ use Rattle.plan_plans.specs.Plan.{lastOf, startIn, lastCursorIn, planIn, planAn
 use Rattle.sig_signatures.specs.Types.{typesOf, valuesOf}
 use Rattle.plan_plans.specs.Disjoint.{spanAt}
 use Rattle.plan_plans.specs.Call.{firstUnclear, unclearIn, unclearFault, itemIn, clearRead, called, callOf, outcomeFor}
-use Rattle.plan_plans.proofs.Fold.{last-forward}
+use Rattle.plan_plans.proofs.Fold.{last-forward, last-append, values-append}
 use Rattle.sig_signatures.proofs.Types.{length-of-types}
-use Rattle.plan_plans.proofs.Calls.{unclearFrom, called-got, called-accepted}
+use Rattle.plan_plans.proofs.Calls.{unclearFrom, unclear-append, called-got, called-accepted}
 use Rattle.plan_words.specs.Entries.{sizeAt, valueAt, entryAt}
 use Rattle.call_appending.specs.Appending.{joined, Appends, Appended, Kept, Stays, PlacesStay, ShorterAccepted, RefusedAlike}
-use Rattle.call_appending.proofs.Folds.{types-joined, joined-count, last-append, values-append, area-grows, table-append, unclear-append, unclear-within}
+use Rattle.call_appending.proofs.Folds.{types-joined, joined-count, area-grows, table-append, unclear-within}
 use Rattle.call_appending.proofs.Encoded.{extended, appends-extended, shorter-within}
 
 -- ---- an argument's type and the place of its item

@@ -23,7 +23,7 @@ use Rattle.call_slots.specs.Helpers.{Held, Fits, All}
 use Rattle.call_slots.specs.Refusals.{firstOf, orElse, afterReading, isRefused}
 use Rattle.plan_plans.specs.Call.{outcomeFor}
 use Rattle.call_slots.specs.Arguments.{placementsIn, argumentsOf, planFor, rulesIn, rulesFor}
-use Rattle.call_slots.proofs.Planned.{all-with}
+use Rattle.call_slots.proofs.Planned.{in-image, all-with}
 use Rattle.call_slots.proofs.Refusals.{first-done, differ-false, or-refused, not-refused}
 use Rattle.call_slots.proofs.Answered.{Carried, carried-same}
 use Rattle.call_home.specs.Home.{homeTests, homeAnswer, registersAnswer, homeArea, homed}
@@ -105,7 +105,7 @@ all-registered s g p i read plan power image =
     Lies q = Held r q × Fits (p .area) (p .copies) q
 
     registered : (q : Placement) → Lies q → Homed r (p .area) q → Registered r (p .area) i q
-    registered q x y = record { held = x .0; homed = y; general = x .1 .general; floating = x .1 .floating; image = image }
+    registered q x y = record { registers = in-image r i (p .area) (p .copies) q (x .0) (x .1) image; homed = y }
 
 -- ---- the answer and the area
 

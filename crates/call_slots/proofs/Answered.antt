@@ -76,7 +76,7 @@ planned-fit n c v r ts =
     all-fit c (withEllipsis v (rulesOf c)) (startIn c r) ts _ _ (named-marked v (rulesOf c) (startIn c r) (named-start (rulesOf c) (hiddenIn c r)))
     (rw last (area-holds c (lastCursorIn c r ts))) (rw last (omega arith))
 
-planned-values : (n : ℕ) (c : Convention) (v : Bool) (r : ResultType) (ts : List ValueType) → valuesOf c ts ≡ planIn n c v r ts .values
+pub planned-values : (n : ℕ) (c : Convention) (v : Bool) (r : ResultType) (ts : List ValueType) → valuesOf c ts ≡ planIn n c v r ts .values
 unfolding planIn
 planned-values n c v r ts = refl
 

@@ -47,7 +47,7 @@ use Rattle.call_slots.specs.Helpers.{All, sizesOf}
 use Rattle.call_slots.specs.Refusals.{firstOf, orElse, firstOfAll, afterReading}
 use Rattle.call_slots.specs.Arguments.{rulesIn, placementsIn, argumentsOf}
 use Rattle.call_slots.proofs.Typed.{Typed, AllTyped, all-typed}
-use Rattle.call_slots.proofs.Answered.{arguments-got}
+use Rattle.call_slots.proofs.Answered.{planned-values, arguments-got}
 use Rattle.call_slots.proofs.Planned.{placements-sizes}
 use Rattle.call_slots.proofs.Refusals.{or-done}
 use Rattle.call_unmarshal.specs.Helpers.{InBuffers, Readable}
@@ -219,10 +219,6 @@ plan-area : (n : ℕ) (c : Convention) (e : Bool) (q : ResultType) (ts : List Va
 unfolding planIn
 plan-area n c e q ts = area-holds c (lastCursorIn c q ts)
 
-plan-values : (n : ℕ) (c : Convention) (e : Bool) (q : ResultType) (ts : List ValueType) → planIn n c e q ts .values ≡ valuesOf c ts
-unfolding planIn
-plan-values n c e q ts = refl
-
 pub walks-alike : WalksAlike
 unfolding readAnswer readValues argumentsOf walkerOf planAnswer
 walks-alike s ws base b v accept = go (signatureOf s) refl accept
@@ -259,7 +255,7 @@ walks-alike s ws base b v accept = go (signatureOf s) refl accept
         let ready = each-ready s (signatureAnswer (got g next n)) (length (b .image)) (length (b .area)) (sym (ap signatureAnswer e)) (lent .image) (rw e (lent .area)) in
         let readable = all-readable r base b ps (subst (All (InBuffers r (length (b .image)) (length (b .area)))) whole ready) done in
         let sized = all-sizes r base ps b readable in
-        let size : length v ≡ valuesOf c types = lent .values ∙ (plan-values n c mark q (typesOf c (g .arguments)) ∙ ap (valuesOf c) (sym order)) in
+        let size : length v ≡ valuesOf c types = lent .values ∙ (sym (planned-values n c mark q (typesOf c (g .arguments))) ∙ ap (valuesOf c) (sym order)) in
         let short = length-encode g in
         let asked = all-asked c (g .arguments) (a .within .arguments) (omega (arith, short, a .within .short)) in
         let clear : firstUnclear c (rulesOf c) k 0 types ≡ 0 = ap (firstUnclear c (rulesOf c) k 0) order ∙ read .0 in

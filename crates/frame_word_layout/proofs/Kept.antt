@@ -13,6 +13,7 @@ use lib.Seq.{set-getD, getD-set-same, getD-set-other}
 use borrow.Author.Tests.{leb-true}
 use Rattle.base_words.specs.Splice.{overlay, splice, part}
 use Rattle.base_words.proofs.Splices.{Apart, length-part, splice-one, splice-other}
+use Rattle.base_words.proofs.Tests.{and-yes}
 use Rattle.base_conventions.specs.declared.Convention.{Convention}
 use Rattle.base_conventions.specs.Numbers.{conventionCode}
 use Rattle.frame_rules.specs.declared.FrameRules.{FrameRules}
@@ -21,7 +22,6 @@ use Rattle.frame_rules.specs.declared.RegisterBank.the-variants.{General, Float
 use Rattle.frame_rules.specs.Helpers.{Named}
 use Rattle.frame_rules.specs.Rules.{rules}
 use Rattle.frame_rules.specs.Frames.{noFrame, frameSize, withPointer, restored, bankOf, writableRegister, withField, withRegister}
-use Rattle.frame_rules.proofs.Facts.{and-yes}
 use Rattle.frame_rules.proofs.Conventions.{lawful}
 use Rattle.frame_rules.proofs.Writing.{writable-named}
 use Rattle.frame_machine.specs.declared.Answer.the-variants.{Accepted}

@@ -6,6 +6,7 @@ use Prim.Native.Nat.{ℕ, _<_}
 use native.Mathlib.Omega.{arith}
 use lib.ListN.{getD, replicate}
 use Rattle.base_words.specs.Basics.{pick}
+use Rattle.base_words.proofs.Basics.{getD-filled}
 use Rattle.base_conventions.specs.declared.Convention.{Convention}
 use Rattle.sig_types.specs.declared.ValueType.{ValueType}
 use Rattle.sig_types.specs.Sizes.{sizeOf}
@@ -30,7 +31,7 @@ use Rattle.plan_places.proofs.Registers.{step-numbered, step-registers}
 use Rattle.plan_plans.specs.Plan.{spansOf, noSpan, hiddenIn, resultPlacesIn, startIn, lastCursorIn, planIn, refusedPlan, planAnswer}
 use Rattle.plan_plans.specs.Disjoint.{spanAt, Disjoint, PlansDisjoint, SpanWithin, PlanWithin, PlansWithin}
 use Rattle.plan_plans.proofs.Fold.{last-forward, last-marked}
-use Rattle.plan_plans.proofs.Apart.{in-table, getD-blanks, spanIn, none-owned, owned-from, owned-before, owned-register, owned-apart, span-numbered, span-homed, Homed}
+use Rattle.plan_plans.proofs.Apart.{in-table, spanIn, none-owned, owned-from, owned-before, owned-register, owned-apart, span-numbered, span-homed, Homed}
 
 -- ---- an accepted signature
 
@@ -144,7 +145,7 @@ module _ (n : ℕ) (c : Convention) (v : Bool) (r : ResultType) (ts : List Value
 -- ---- a refused one
 
 none-at : (i : ℕ) → getD (replicate maxArguments noSpan) i noSpan ≡ noSpan
-none-at i = getD-blanks [] maxArguments i
+none-at i = getD-filled noSpan [] maxArguments i
 
 none : (i : ℕ) (x : Spot) → Owns (getD (replicate maxArguments noSpan) i noSpan) x → ⊥
 none i x o = none-owned x (subst (λ (s : Span). Owns s x) (none-at i) o)

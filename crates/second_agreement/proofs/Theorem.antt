@@ -5,6 +5,7 @@ use mathlib.Core.List.{List, [], _∷_, map}
 use Prim.Native.Nat.{ℕ, zero, suc, _+_, _-_, _*_, _<_, min, max}
 use native.Mathlib.Omega.{arith}
 use lib.ListN.{length, getD, replicate}
+use Rattle.base_words.proofs.Basics.{getD-filled}
 use Rattle.base_conventions.specs.declared.Convention.{Convention}
 use Rattle.base_conventions.specs.Numbers.{wordBytes, leastWords}
 use Rattle.sig_types.specs.declared.FloatFormat.{FloatFormat}
@@ -40,7 +41,6 @@ use Rattle.second_parameters.specs.Values.{run, noParameter, tableWith}
 use Rattle.second_structure.specs.Structure.{fieldsFrom, wordsTo, areaBytes, registersOver, firstWord, firstStraddling, powerHidden, powerReturned}
 use Rattle.second_slot_scan.specs.Slots.{initial, slotsFrom, scannedTo, zHidden, zReturned}
 use Rattle.second_planner.specs.Answer.{powerParameters, powerPlan, zPlan, secondIn, noPlan, straddlingIn, headerOf, straddlingFault, unlessStraddling, secondAnswer}
-use Rattle.second_parameters.proofs.Turns.{getD-table}
 use Rattle.second_agreement.specs.Agreement.{parameterOf, returnedOf, Agree, PlannersAgree}
 use Rattle.second_agreement.proofs.Power as powerpc
 use Rattle.second_agreement.proofs.Power.{paired, at, AllWhole, none-straddling, askedTo}
@@ -58,7 +58,7 @@ getD-map (s ∷ l) (suc i) = getD-map l i
 table-agrees : (ps : List Parameter) (l : List Span) → ps ≡ map parameterOf l → (i : ℕ) → getD (tableWith noParameter ps) i noParameter ≡ parameterOf (getD (tableOf l) i noSpan)
 unfolding tableWith
 table-agrees ps l e i =
-    getD-table noParameter ps (maxArguments - length ps) i
+    getD-filled noParameter ps (maxArguments - length ps) i
     ∙ ap (λ (q : List Parameter). getD q i noParameter) e
     ∙ getD-map l i
     ∙ sym (ap parameterOf (in-table l i))

@@ -53,7 +53,7 @@ element-copy-out-s c = omega (arith, c .before .before .before .before .before .
 register-answer-requires : tie.Need-register-answer-requires Inv-loop μ-loop
 register-answer-requires c κs =
     let h = checking-ready _ _ _ _ (hand c) (next c) (c .before .before .before .loop .inv) in
-    (h .floating, h .image, λ some. (_, h .held .float some))
+    (h .registers .floating, h .registers .image, λ some. (_, h .registers .held .float some))
 
 is-refused-requires : tie.Need-is-refused-requires Inv-loop μ-loop
 is-refused-requires c κs = search needs
