@@ -49,7 +49,7 @@ use Rattle.call_kept.specs.Helpers.{keptAll, KeptEach}
 use Rattle.call_arguments.specs.Helpers.{KeptOf}
 use Rattle.call_arguments.proofs.Kept.{Headed}
 use Rattle.call_slots.proofs.Buffers.{putAll-lengths, putAll-append}
-use Rattle.call_slots.proofs.Planned.{all-with}
+use Rattle.call_slots.proofs.Planned.{in-image, all-with}
 use Rattle.call_slots.proofs.Refusals.{first-done, differ-false}
 use Rattle.call_marshal.specs.Helpers.{CanPut}
 use Rattle.call_fill.specs.declared.FillLengths.{FillLengths}
@@ -135,9 +135,9 @@ all-ready s r c l n base i a k rules kept image area copies low =
   where
     ready : (q : Placement) → Held (rulesFor s) q → Fits (planFor s .area) (planFor s .copies) q → CanPut (rulesFor s) base i a k q
     ready q x y = record {
-      held = x;
-      fits = record { general = y .general; floating = y .floating; memory = omega (arith, y .memory); copies = omega (arith, y .copies) };
-      registers = image;
+      registers = in-image (rulesFor s) i (planFor s .area) (planFor s .copies) q x y image;
+      memory = omega (arith, y .memory);
+      copies = omega (arith, y .copies);
       low = omega (arith, y .copies);
     }
 

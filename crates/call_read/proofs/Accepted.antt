@@ -24,7 +24,7 @@ use Rattle.call_slots.specs.Arguments.{argumentsOf, planFor, rulesFor, sizesFor
 use Rattle.call_slots.proofs.Answered.{carried}
 use Rattle.call_kept.specs.Helpers.{keptAll, KeptEach}
 use Rattle.call_arguments.specs.Helpers.{KeptOf, KeptWhere}
-use Rattle.call_slots.proofs.Planned.{all-with}
+use Rattle.call_slots.proofs.Planned.{in-image, all-with}
 use Rattle.call_slots.proofs.Refusals.{first-done, differ-false, or-refused, not-refused}
 use Rattle.call_unmarshal.specs.Helpers.{InBuffers}
 use Rattle.call_read.specs.declared.ReadLengths.{ReadLengths}
@@ -69,7 +69,7 @@ each-ready s r i a same image area =
     (subst (λ (x : CallRules). All (Held x) (argumentsOf s)) (sym same) (h .held)) (h .fit)
   where
     ready : (q : Placement) → Held r q → Fits (planFor s .area) (planFor s .copies) q → InBuffers r i a q
-    ready q x y = record { held = x; general = y .general; floating = y .floating; memory = λ _. omega (arith, y .memory); registers = image }
+    ready q x y = record { registers = in-image r i (planFor s .area) (planFor s .copies) q x y image; memory = λ _. omega (arith, y .memory) }
 
 -- and so is each that is kept
 pub all-ready : (s : List ℕ) (r : CallRules) (i a : ℕ) → r ≡ rulesFor s → i ≡ 512 → planFor s .area ≤ a

@@ -25,7 +25,7 @@ use Rattle.plan_plans.specs.Call.{called, outcomeFor}
 use Rattle.call_slots.specs.declared.Answer.{Answer}
 use Rattle.call_slots.specs.Buffers.{Buffers}
 use Rattle.call_slots.specs.Placements.{placements}
-use Rattle.call_slots.specs.Arguments.{argumentsIn, argumentsOf}
+use Rattle.call_slots.specs.Arguments.{placementsIn, argumentsOf}
 use Rattle.call_arguments.specs.Helpers.{HeadIs}
 use Rattle.call_arguments.proofs.Kept.{none-arguments}
 use Rattle.call_read.specs.declared.ReadLengths.{ReadLengths}
@@ -49,7 +49,7 @@ head-refused s x found f q have base b =
 
 -- where nothing stands after it, there are no arguments, whatever comes after their item
 pub head-none : (s : List ℕ) (c : Convention) (t : ResultType) (v : Bool) (e n : ℕ) → HeadIs s c t v e e n → argumentsOf s ≡ []
-unfolding argumentsOf argumentsIn placements
+unfolding argumentsOf placementsIn placements
 head-none s c t v e n head = go (ltb e (length s)) refl
   where
     go : (more : Bool) → ltb e (length s) ≡ more → argumentsOf s ≡ []

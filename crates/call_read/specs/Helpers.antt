@@ -1,6 +1,6 @@
 -- For proofs and helpers alone: no claim cites this file.
 -- What the parts of reading ask and answer, and the arguments that the first pass need not look at. Assumes nothing.
-use Prim.Native.Nat.{ℕ, _+_, _≤_, _<_}
+use Prim.Native.Nat.{ℕ, _<_}
 use mathlib.Core.Path.{_≡_}
 use mathlib.Core.Bool.{Bool, true}
 use mathlib.Core.List.{List}
@@ -12,11 +12,10 @@ use Rattle.sig_types.specs.Sizes.{equivalentOf}
 use Rattle.plan_places.specs.declared.CallRules.{CallRules}
 use Rattle.plan_places.specs.declared.Span.{Span}
 use Rattle.call_slots.specs.declared.Answer.{Answer}
-use Rattle.plan_places.specs.Spots.{imageBytes}
 use Rattle.call_slots.specs.Buffers.{Buffers}
 use Rattle.call_slots.specs.Placements.{Placement, floatAt}
 use Rattle.call_slots.specs.Refusals.{firstOf, afterReading, floatAnswer}
-use Rattle.call_slots.specs.Helpers.{Held}
+use Rattle.call_slots.specs.Helpers.{InImage}
 use Rattle.call_slots.specs.Arguments.{planFor}
 use Rattle.plan_plans.specs.Call.{outcomeFor}
 use Rattle.call_read.specs.declared.ReadLengths.{ReadLengths}
@@ -28,12 +27,9 @@ asks s = pick (ltb 0 (s .floating .count)) true (s .indirect)
 
 -- what comparing asks: a float in FPRs that 14 doesn't refuse, and in general registers, all of them in the image
 pub record Compared (r : CallRules) (p : Placement) (b : Buffers) : Type 0 where
-  pub held : Held r p
+  pub registers : InImage r (length (b .image)) p
   pub float : 0 < p .span .floating .count
   pub also : 0 < p .span .general .count
-  pub general : p .span .general .first + p .span .general .count ≤ 32
-  pub floating : p .span .floating .first + p .span .floating .count ≤ 32
-  pub registers : length (b .image) ≡ imageBytes
   pub exact : floatAnswer r (equivalentOf (p .ty)) (valueOf (floatAt (p .span) b)) ≡ Answer.Done
 
 -- the answer for a call without arguments: of the lengths alone
