@@ -23,7 +23,7 @@ use Rattle.call_slots.specs.Refusals.{firstOf, afterReading, orElse, firstOfAll
 use Rattle.call_slots.specs.Arguments.{argumentsOf, planFor, rulesFor, sizesFor}
 use Rattle.call_slots.proofs.Answered.{carried}
 use Rattle.call_kept.specs.Helpers.{keptAll, KeptEach}
-use Rattle.call_arguments.specs.Helpers.{KeptOf, KeptWhere}
+use Rattle.call_arguments.specs.Helpers.{KeptOf}
 use Rattle.call_slots.proofs.Planned.{in-image, all-with}
 use Rattle.call_slots.proofs.Refusals.{first-done, differ-false, or-refused, not-refused}
 use Rattle.call_unmarshal.specs.Helpers.{InBuffers}
@@ -54,11 +54,6 @@ tests-passed have p e =
 pub tests-lent : (s : List ℕ) (have : ReadLengths) (m : Measured) → m ≡ sizesFor s
     → firstOf (readTests have (m .values) (m .area)) ≡ Answer.Done → Lent have (planFor s)
 tests-lent s have m p e = tests-passed have (planFor s) (rw p at e)
-
--- what is kept of a call that is accepted
-pub kept-accepted : (o : Outcome) (k : ℕ) → o ≡ Outcome.Accepted k → (s : List ℕ) (c : Convention) (l : List ℕ) (n : ℕ) → KeptWhere o s c l n → KeptOf s c l n
-kept-accepted (Outcome.Accepted j) k e s c l n h = h
-kept-accepted (Outcome.Refused f) k e s c l n h = let z : _≡_ {A = ℕ} 0 1 = cc in absurd (omega arith)
 
 -- each argument is then one that the first pass can look at, by the signature's rules r
 pub each-ready : (s : List ℕ) (r : CallRules) (i a : ℕ) → r ≡ rulesFor s → i ≡ 512 → planFor s .area ≤ a → All (InBuffers r i a) (argumentsOf s)

@@ -200,7 +200,7 @@ fn tested(have: ReadLengths, values: usize, area: usize) -> Answer
     Answer::Done
 }
 
-// The reading of a call, what stands before its arguments being read. These are kept until all tests are made.
+// The reading of a call once what stands before its arguments is read: they are kept, so that both passes go over them without the signature.
 fn read_part(
     sig: &[u8],
     values: &mut [u8],

@@ -1,16 +1,17 @@
 -- The arguments are read and kept, the lengths are tested, every argument is checked, and only then are the values taken.
 use borrow.Author.Needs.{needs}
-use mathlib.Core.Path.{_≡_, refl, sym, ap, _∙_}
+use mathlib.Core.Path.{_≡_, refl, sym, ap, _∙_, subst}
+use Rattle.sig_signatures.specs.declared.Outcome.{Outcome}
 use Rattle.plan_plans.specs.declared.Measured.{Measured}
 use Rattle.call_slots.specs.declared.Answer.{Answer}
 use Rattle.call_slots.specs.Buffers.{Buffers, buffers}
 use Rattle.call_slots.specs.Arguments.{sizesFor, planFor, rulesFor}
 use Rattle.call_slots.proofs.Refusals.{not-refused}
-use Rattle.call_arguments.specs.Helpers.{KeptOf}
+use Rattle.call_arguments.specs.Helpers.{KeptOf, KeptWhere}
 use Rattle.call_arguments.proofs.Kept.{headed}
 use Rattle.call_read.specs.Read.{readLengths, readValues}
 use Rattle.call_read.proofs.Arguments.{all-readable}
-use Rattle.call_read.proofs.Accepted.{Lent, tests-lent, kept-accepted, all-ready, all-sizes, answer-refused, answer-lengths, answer-arguments, values-kept, values-taken}
+use Rattle.call_read.proofs.Accepted.{Lent, tests-lent, all-ready, all-sizes, answer-refused, answer-lengths, answer-arguments, values-kept, values-taken}
 use Rattle.call_read.proofs.read_part.Statement.{statement}
 use Rattle.call_read.proofs.read_part.Tie as tie
 
@@ -26,7 +27,9 @@ sizes c = c .keep-call .ensures .0
 
 -- where the call is accepted, its arguments are kept, and its rules are known
 rows : (c : tie.After-enum-told) → KeptOf (c .before .before .before .before .before .before .before .before .before .before .before .before .before .args .sig .now) (c .before .before .before .before .before .before .before .before .before .before .before .before .before .args .convention) (c .before .before .before .before .before .keep-call .last .1 .1 .1 .1 .1 .1 .1 .0) (c .before .before .before .before .before .keep-call .result .count)
-rows c = kept-accepted _ _ (c .enum-told .given .1) _ _ _ _ (c .before .before .before .before .before .keep-call .ensures .1)
+rows c =
+    let read = c .before .before .before .before .before .keep-call in
+    subst (λ (o : Outcome). KeptWhere o (c .before .before .before .before .before .before .before .before .before .before .before .before .before .args .sig .now) (c .before .before .before .before .before .before .before .before .before .before .before .before .before .args .convention) (read .last .1 .1 .1 .1 .1 .1 .1 .0) (read .result .count)) (c .enum-told .given .1) (read .ensures .1)
 
 rules : (c : tie.After-rules-in) → c .rules-in .result ≡ rulesFor (c .before .before .before .before .before .before .before .before .before .before .before .before .before .before .before .before .before .args .sig .now)
 rules c =
