@@ -22,7 +22,7 @@
 # make lib TARGET=..   build/TARGET/libflakuzhen.a and build/TARGET/libflakuzhen.so
 # make run TARGET=..   the command there, under emulation
 # make dist TARGET=..  the same to deploy there
-# make test-targets    a file of cases replayed on both, under emulation
+# make test-targets    a file of cases replayed on both, under emulation; -j2 takes both at a time
 # make bench-targets   the archives' sizes and the instructions of a plan
 
 SECONDS = 600
