@@ -26,7 +26,7 @@ use Rattle.sig_signatures.specs.declared.ResultType.{ResultType}
 use Rattle.sig_signatures.specs.declared.Outcome.{Outcome}
 use Rattle.sig_signatures.specs.declared.SignatureRead.{SignatureRead}
 use Rattle.sig_signatures.specs.Signature.{Result, Signature}
-use Rattle.sig_signatures.specs.Read.{placementsIn, signatureOf, headOf}
+use Rattle.sig_signatures.specs.Read.{argumentsIn, signatureOf, headOf}
 use Rattle.sig_signatures.specs.Answer.{resultType, headAnswer, signatureAnswer}
 use Rattle.sig_signatures.specs.Types.{typesOf}
 use Rattle.sig_signatures.proofs.Laws.{thenArguments, signature-then}
@@ -43,12 +43,12 @@ use Rattle.plan_plans.specs.declared.Measured.{Measured}
 use Rattle.plan_plans.specs.Plan.{spansOf, lastOf, hiddenIn, startIn, refusedPlan, resultPlacesIn, planIn, planAnswer, measureOf}
 use Rattle.plan_plans.specs.Helpers.{planWith, unclearOf, unclearWith}
 use Rattle.plan_plans.specs.Call.{unclearFault, called, outcomeFor}
-use Rattle.plan_plans.proofs.Fold.{last-more}
+use Rattle.plan_plans.proofs.Fold.{last-more, same-next}
 use Rattle.plan_plans.proofs.Measures.{Measuring, measuring-start, measuring-more, measure-trailing, measure-end, unclear-trailing, unclear-end, measured-arguments, unclear-arguments}
 use Rattle.plan_plans.proofs.Answers.{outcome-read}
 use Rattle.plan_plans.proofs.Calls.{called-accepted, called-clear, called-unclear}
 use Rattle.call_slots.specs.Placements.{Placement, placement, placements}
-use Rattle.call_slots.specs.Arguments.{placementsIn as placedIn, argumentsOf, planFor, rulesFor, sizesFor}
+use Rattle.call_slots.specs.Arguments.{placementsIn, argumentsOf, planFor, rulesFor, sizesFor}
 use Rattle.call_slots.proofs.Answered.{arguments-got}
 use Rattle.call_kept.specs.Helpers.{rowOf, keptAll, keptFrom}
 use Rattle.call_kept.proofs.Codes.{sized-codable}
@@ -72,9 +72,6 @@ placements-more c r k (u ∷ ts) t =
 same-placement : (c : Convention) (r : CallRules) {k l : Cursor} {t u : ValueType} → k ≡ l → t ≡ u
     → placement t (sizeOf c t) (spanOf r k t (sizeOf c t)) ≡ placement u (sizeOf c u) (spanOf r l u (sizeOf c u))
 same-placement c r p q = cc
-
-same-next : (c : Convention) (r : CallRules) {k l : Cursor} {t u : ValueType} → k ≡ l → t ≡ u → nextOf r k t (sizeOf c t) ≡ nextOf r l u (sizeOf c u)
-same-next c r p q = cc
 
 -- the sizes of the arguments so far, and the arguments ts themselves, whose rows are kept in place of what was there, l
 pub record Keeping (c : Convention) (v : Bool) (s : List ℕ) (at e : ℕ) (start : Cursor) (l : List ℕ) (k : Cursor) (kept : List ℕ) (bytes u count next n : ℕ) : Type 0 where
@@ -134,14 +131,14 @@ module _ (c : Convention) (v : Bool) (s : List ℕ) (at e : ℕ) (l : List ℕ) 
 -- ---- what is kept in the end
 
 module _ (c : Convention) (v : Bool) (s : List ℕ) (at e : ℕ) (r : ResultType) where
-  pub kept-no : (f : Fault) → placementsIn c s at e ≡ no f → (l : List ℕ) (n : ℕ) → KeptWith c v r (length s) (placementsIn c s at e) l n
+  pub kept-no : (f : Fault) → argumentsIn c s at e ≡ no f → (l : List ℕ) (n : ℕ) → KeptWith c v r (length s) (argumentsIn c s at e) l n
   kept-no f q l n = rw q tt
 
   module _ (l : List ℕ) (room : KeepsRows at e (length l)) (k : Cursor) (kept : List ℕ) (bytes u count next n : ℕ) (m : Keeping c v s at e (startIn c r) l k kept bytes u count next n) (last : e ≤ next) where
-    pub kept-trailing : next < length s → (j : ℕ) → KeptWith c v r (length s) (placementsIn c s at e) kept j
+    pub kept-trailing : next < length s → (j : ℕ) → KeptWith c v r (length s) (argumentsIn c s at e) kept j
     kept-trailing h j = rw (turn-last c s at e (m .ts) count next n (m .turn) last) (λ more. let z : _≡_ {A = ℕ} 0 1 = cc (lt-ltb next (length s) h, more) in absurd (omega arith))
 
-    pub kept-end : KeptWith c v r (length s) (placementsIn c s at e) kept count
+    pub kept-end : KeptWith c v r (length s) (argumentsIn c s at e) kept count
     kept-end =
         rw (turn-last c s at e (m .ts) count next n (m .turn) last)
         (λ _. (room-of, m .rows))
@@ -159,12 +156,12 @@ arguments-then s c r v n ts next m end read = rw (read, end) (arguments-got (rec
 
 module _ (s : List ℕ) (c : Convention) (t : ResultType) (v : Bool) (at b n : ℕ) (head : HeadIs s c t v at b n) where
   -- what is kept of what is read, where that is accepted
-  kept-read : (l : List ℕ) (count : ℕ) → KeptWith c v t (length s) (placementsIn c s at b) l count
-      → KeptWhere (measureOf (planWith c false t n (length s) (placementsIn c s at b)) .outcome) s c l count
+  kept-read : (l : List ℕ) (count : ℕ) → KeptWith c v t (length s) (argumentsIn c s at b) l count
+      → KeptWhere (measureOf (planWith c false t n (length s) (argumentsIn c s at b)) .outcome) s c l count
   unfolding planIn
-  kept-read l count = go (placementsIn c s at b) refl
+  kept-read l count = go (argumentsIn c s at b) refl
     where
-      ended : (ts : Trees) (next m : ℕ) → placementsIn c s at b ≡ got ts next m → ltb next (length s) ≡ false → KeptWith c v t (length s) (got ts next m) l count → KeptOf s c l count
+      ended : (ts : Trees) (next m : ℕ) → argumentsIn c s at b ≡ got ts next m → ltb next (length s) ≡ false → KeptWith c v t (length s) (got ts next m) l count → KeptOf s c l count
       ended ts next m e end h =
           let (r, read, same) = signature-then s (headAnswer (headOf s)) refl c t v at b n head in
           let (room, rows) = h end in
@@ -175,18 +172,18 @@ module _ (s : List ℕ) (c : Convention) (t : ResultType) (v : Bool) (at b n : �
             same = rows ∙ ap (λ (u : ResultType). placements c (typesOf c ts) (spansOf c (withEllipsis v (rulesOf c)) (startIn c u) (typesOf c ts))) same ∙ sym arguments;
           }
 
-      by-end : (more : Bool) (ts : Trees) (next m : ℕ) → placementsIn c s at b ≡ got ts next m → ltb next (length s) ≡ more → KeptWith c v t (length s) (got ts next m) l count
+      by-end : (more : Bool) (ts : Trees) (next m : ℕ) → argumentsIn c s at b ≡ got ts next m → ltb next (length s) ≡ more → KeptWith c v t (length s) (got ts next m) l count
           → KeptWhere (measureOf (pick more (refusedPlan (fault Refusal.TrailingBytes next (n + m))) (planIn (n + m) c false t (typesOf c ts))) .outcome) s c l count
       by-end true ts next m e q h = tt
       by-end false ts next m e q h = ended ts next m e q h
 
-      go : (x : Reading Trees) → placementsIn c s at b ≡ x → KeptWith c v t (length s) x l count → KeptWhere (measureOf (planWith c false t n (length s) x) .outcome) s c l count
+      go : (x : Reading Trees) → argumentsIn c s at b ≡ x → KeptWith c v t (length s) x l count → KeptWhere (measureOf (planWith c false t n (length s) x) .outcome) s c l count
       go (no f) e h = tt
       go (got ts next m) e h = by-end (ltb next (length s)) ts next m e refl h
 
   -- and of the call
-  pub kept-where : (m : Measured) (u : ℕ) (l : List ℕ) (count : ℕ) → m ≡ measureOf (planWith c false t n (length s) (placementsIn c s at b))
-      → KeptWith c v t (length s) (placementsIn c s at b) l count → KeptWhere (outcomeBy u (m .outcome) (signatureOf s)) s c l count
+  pub kept-where : (m : Measured) (u : ℕ) (l : List ℕ) (count : ℕ) → m ≡ measureOf (planWith c false t n (length s) (argumentsIn c s at b))
+      → KeptWith c v t (length s) (argumentsIn c s at b) l count → KeptWhere (outcomeBy u (m .outcome) (signatureOf s)) s c l count
   unfolding outcomeBy
   kept-where m zero l count e h = rw e (kept-read l count h)
   kept-where m (suc i) l count e h = tt
@@ -196,7 +193,7 @@ module _ (s : List ℕ) (c : Convention) (t : ResultType) (v : Bool) (at b n : �
   outcome-by x zero q = ap (λ (y : Reading Signature). planAnswer y .outcome) (sym (called-clear x (sym q)))
   outcome-by x (suc i) q = ap (λ (y : Reading Signature). planAnswer y .outcome) (sym (called-unclear x i (sym q)))
 
-  pub sizes-of : (m : Measured) (u : ℕ) → m ≡ measureOf (planWith c false t n (length s) (placementsIn c s at b)) → u ≡ unclearWith c t (length s) (placementsIn c s at b)
+  pub sizes-of : (m : Measured) (u : ℕ) → m ≡ measureOf (planWith c false t n (length s) (argumentsIn c s at b)) → u ≡ unclearWith c t (length s) (argumentsIn c s at b)
       → _≡_ {A = Measured} (record { outcome = outcomeBy u (m .outcome) (signatureOf s); area = m .area; values = m .values; copies = m .copies }) (sizesFor s)
   sizes-of m u e q =
       let same = e ∙ measured-arguments s (headAnswer (headOf s)) refl c t v at b n head in
@@ -231,7 +228,7 @@ module _ (s : List ℕ) (c : Convention) (t : ResultType) (v : Bool) (e n : ℕ)
       (unclear-end c s e e t n (startIn c t) 0 0 0 e 1 no-turn (omega arith) h)
 
   pub none-arguments : argumentsOf s ≡ []
-  unfolding typesOf placements argumentsOf placedIn
+  unfolding typesOf placements argumentsOf placementsIn
   none-arguments =
       let (r, read, same) = signature-then s (headAnswer (headOf s)) refl c t v e e n head in
       let ended = turn-last c s e e none 0 e 1 (turn-start c s e e (omega arith)) (omega arith) in
@@ -254,7 +251,7 @@ module _ (s : List ℕ) (c : Convention) (t : ResultType) (v : Bool) (at b n : �
   headed k accepted =
       let (r, read, same) = signature-then s (headAnswer (headOf s)) refl c t v at b n head in
       let plain : planAnswer (signatureOf s) .outcome ≡ Outcome.Accepted k = sym (ap (λ (y : Reading Signature). planAnswer y .outcome) (called-accepted (signatureOf s) k accepted)) ∙ accepted in
-      go r same (placementsIn c s at b) read (sym (ap (λ (y : Reading Signature). planAnswer y .outcome) read) ∙ plain)
+      go r same (argumentsIn c s at b) read (sym (ap (λ (y : Reading Signature). planAnswer y .outcome) read) ∙ plain)
     where
       known : (r : Result) → t ≡ resultType c r → (ts : Trees) (next m : ℕ) → signatureOf s ≡ got (record { convention = c; result = r; ellipsis = v; arguments = ts }) next m → Headed s c t v
       known r same ts next m q = record { rules = rw q; result = rw (q, same) }

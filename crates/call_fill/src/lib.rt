@@ -1,5 +1,6 @@
 // Filling: the values of a call's arguments are put where its signature's plan says, unless a buffer is too small or its base unfit.
 use base_conventions::Convention;
+use call_arguments::FEW_BYTES;
 use call_slots::Answer;
 use call_slots::Refusal;
 use plan_places::CallRules;
@@ -21,9 +22,6 @@ ghost use Rattle.call_kept.specs.Helpers.{keptAll, KeptEach};
 ghost use Rattle.call_arguments.specs.Helpers.{HeadIs, NoneLeft, KeepsRows};
 ghost use Rattle.call_fill.specs.Fill.{badCopies, highAddress, fillTests, fillAnswer, fillBuffers, fillLengths};
 ghost use Rattle.call_fill.specs.Helpers.{addressPlaces};
-
-// An argument takes three bytes or more of the signature: where the arguments' part has at most this many bytes, a few rows are enough for them.
-const FEW_BYTES: usize = 36;
 
 // The lengths of the lent buffers.
 pub struct FillLengths {

@@ -1,6 +1,7 @@
 // Reading: the values of a call's arguments out of its registers, memory and copies. A first pass over the arguments finds the first
 // that can't be read, and only then are the values taken, so that a refused reading leaves the value buffer as it was.
 use base_conventions::Convention;
+use call_arguments::FEW_BYTES;
 use call_slots::Answer;
 use call_slots::Refusal;
 use plan_places::CallRules;
@@ -23,9 +24,6 @@ ghost use Rattle.call_kept.specs.Helpers.{keptAll, KeptEach};
 ghost use Rattle.call_unmarshal.specs.Helpers.{InBuffers};
 ghost use Rattle.call_read.specs.Read.{inCopies, copyAnswer, sameBytes, agrees, agreeAnswer, argumentAnswer, argumentsAnswer, readTests, readAnswer, readValues, readLengths};
 ghost use Rattle.call_read.specs.Helpers.{Compared, asks as asksOf, lengthsAnswer};
-
-// Most signatures have few arguments, and words for these are cleared sooner: an item has three bytes or more, and in so many bytes stand 12 at most.
-const FEW_BYTES: usize = 36;
 
 // The lengths of the lent buffers that are tested.
 pub struct ReadLengths {

@@ -1,8 +1,8 @@
 -- By the part that is viewed.
-use Rattle.c_values.proofs.Laws.{part-answer}
+use Rattle.c_homes.proofs.Laws.{part-answer}
 use borrow.Author.Needs.{needs}
-use Rattle.c_values.proofs.fz_view.Statement.{statement}
-use Rattle.c_values.proofs.fz_view.Tie as tie
+use Rattle.c_homes.proofs.fz_view.Statement.{statement}
+use Rattle.c_homes.proofs.fz_view.Tie as tie
 
 view-part-requires : tie.Need-view-part-requires
 view-part-requires c κs = search needs

@@ -4,8 +4,8 @@ use Rattle.call_slots.specs.declared.Answer as slots
 use Rattle.call_home.specs.Home.{homeArea}
 use Rattle.c_call_answers.specs.Calls.{callAnswer}
 use borrow.Author.Needs.{needs}
-use Rattle.c_values.proofs.fz_home.Statement.{statement}
-use Rattle.c_values.proofs.fz_home.Tie as tie
+use Rattle.c_homes.proofs.fz_home.Statement.{statement}
+use Rattle.c_homes.proofs.fz_home.Tie as tie
 
 home-requires : tie.Need-home-requires
 home-requires c κs = search needs

@@ -5,8 +5,8 @@ use Rattle.call_slots.specs.Buffers.{buffers}
 use Rattle.call_read.specs.Read.{readValues}
 use Rattle.c_call_answers.specs.Calls.{callAnswer}
 use borrow.Author.Needs.{needs}
-use Rattle.c_values.proofs.fz_read.Statement.{statement}
-use Rattle.c_values.proofs.fz_read.Tie as tie
+use Rattle.c_read.proofs.fz_read.Statement.{statement}
+use Rattle.c_read.proofs.fz_read.Tie as tie
 
 read-requires : tie.Need-read-requires
 read-requires c κs = search needs

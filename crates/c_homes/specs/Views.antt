@@ -1,6 +1,6 @@
 -- The words of a view's answer, with where it lies in the area. Assumes nothing.
 use Rattle.c_call_answers.specs.Calls.{callAnswer}
-use Rattle.c_values.specs.declared.Part.{Part}
+use Rattle.c_homes.specs.declared.Part.{Part}
 use Rattle.call_views.specs.declared.ViewPart.{ViewPart}
 
 unfoldable pub partAnswer : ViewPart → Part

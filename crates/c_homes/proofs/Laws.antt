@@ -2,8 +2,8 @@
 use mathlib.Core.Path.{_≡_, ap}
 use Rattle.c_answers.specs.declared.Answer.{Answer}
 use Rattle.c_call_answers.specs.Calls.{callAnswer}
-use Rattle.c_values.specs.declared.Part.{Part}
-use Rattle.c_values.specs.Values.{partAnswer}
+use Rattle.c_homes.specs.declared.Part.{Part}
+use Rattle.c_homes.specs.Views.{partAnswer}
 use Rattle.call_views.specs.declared.ViewPart.{ViewPart}
 
 pub part-answer : (p v : ViewPart) (a : Answer) → p ≡ v → a ≡ callAnswer (p .answer)

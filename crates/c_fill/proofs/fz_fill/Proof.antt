@@ -5,8 +5,8 @@ use Rattle.call_slots.specs.Buffers.{buffers}
 use Rattle.call_fill.specs.Fill.{fillBuffers}
 use Rattle.c_call_answers.specs.Calls.{callAnswer}
 use borrow.Author.Needs.{needs}
-use Rattle.c_values.proofs.fz_fill.Statement.{statement}
-use Rattle.c_values.proofs.fz_fill.Tie as tie
+use Rattle.c_fill.proofs.fz_fill.Statement.{statement}
+use Rattle.c_fill.proofs.fz_fill.Tie as tie
 
 fill-requires : tie.Need-fill-requires
 fill-requires c κs = search needs
