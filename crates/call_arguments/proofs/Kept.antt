@@ -48,12 +48,12 @@ use Rattle.plan_plans.proofs.Measures.{Measuring, measuring-start, measuring-mo
 use Rattle.plan_plans.proofs.Answers.{outcome-read}
 use Rattle.plan_plans.proofs.Calls.{called-accepted, called-clear, called-unclear}
 use Rattle.call_slots.specs.Placements.{Placement, placement, placements}
-use Rattle.call_slots.specs.Arguments.{argumentsOf, planFor, rulesFor, sizesFor}
+use Rattle.call_slots.specs.Arguments.{argumentsIn as placedIn, argumentsOf, planFor, rulesFor, sizesFor}
 use Rattle.call_slots.proofs.Answered.{arguments-got}
 use Rattle.call_kept.specs.Helpers.{rowOf, keptAll, keptFrom}
 use Rattle.call_kept.proofs.Codes.{sized-codable}
 use Rattle.call_kept.proofs.Rows.{kept-more}
-use Rattle.call_arguments.specs.Helpers.{HeadIs, KeepsRows, KeptWith, KeptOf, KeptWhere, outcomeBy}
+use Rattle.call_arguments.specs.Helpers.{HeadIs, NoneLeft, KeepsRows, KeptWith, KeptOf, KeptWhere, outcomeBy}
 
 pub lawful-in : (c : Convention) (v : Bool) → LawfulCalls (withEllipsis v (rulesOf c))
 lawful-in c v = lawful-marked v (rulesOf c) (rules-lawful c)
@@ -211,6 +211,9 @@ unclear-by (suc i) o x h = let same : suc i - 1 ≡ i = omega arith in rw same
 
 -- ---- a call without arguments
 
+pub none-left : (s : List ℕ) (c : Convention) (t : ResultType) (v : Bool) (at e n : ℕ) → HeadIs s c t v at e n → at ≡ e → NoneLeft s c t e n
+none-left s c t v at e n head same = (v, rw same at head)
+
 module _ (s : List ℕ) (c : Convention) (t : ResultType) (v : Bool) (e n : ℕ) (head : HeadIs s c t v e e n) where
   no-turn : Measuring c s e e (rulesOf c) (startIn c t) (startIn c t) 0 0 0 e 1
   no-turn = measuring-start c s e e (rulesOf c) (hiddenIn c t) (rules-lawful c) (omega arith)
@@ -227,12 +230,16 @@ module _ (s : List ℕ) (c : Convention) (t : ResultType) (v : Bool) (e n : ℕ)
       sizes-of s c t v e e n head _ 0 (measure-end c s e e t n (startIn c t) 0 0 0 e 1 no-turn (omega arith) h)
       (unclear-end c s e e t n (startIn c t) 0 0 0 e 1 no-turn (omega arith) h)
 
-  pub none-arguments : length s ≤ e → argumentsOf s ≡ []
-  unfolding typesOf placements
-  none-arguments h =
+  pub none-arguments : argumentsOf s ≡ []
+  unfolding typesOf placements argumentsOf placedIn
+  none-arguments =
       let (r, read, same) = signature-then s (headAnswer (headOf s)) refl c t v e e n head in
       let ended = turn-last c s e e none 0 e 1 (turn-start c s e e (omega arith)) (omega arith) in
-      arguments-then s c r v n none e 1 (le-ltb e (length s) h) (read ∙ ap (thenArguments s c r v n) ended)
+      go r (ltb e (length s)) refl (read ∙ ap (thenArguments s c r v n) ended)
+    where
+      go : (r : Result) (more : Bool) → ltb e (length s) ≡ more → signatureOf s ≡ thenArguments s c r v n (got none e 1) → argumentsOf s ≡ []
+      go r true q read = rw (read, q)
+      go r false q read = arguments-then s c r v n none e 1 q read
 
 -- ---- what an accepted call is known by
 

@@ -40,6 +40,12 @@ module _ (c : Convention) (l : List ℕ) where
   pub kept-hand : (i n : ℕ) → i < n → drop i (keptAll c l n) ≡ keptAt c l i ∷ drop (suc i) (keptAll c l n)
   kept-hand i n h = let q : i + 0 ≡ i = omega arith in hand-from 0 i n h ∙ ap (λ (k : ℕ). keptAt c l k ∷ drop (suc i) (keptAll c l n)) q
 
+  -- as its type, its size and its span
+  pub kept-placed : (i n : ℕ) → i < n → (t : ValueType) (m : ℕ) (s : Span) → t ≡ typeFrom (getD l (10 * i) 0) → m ≡ sizeOf c t → s ≡ spanFrom l (10 * i)
+      → drop i (keptAll c l n) ≡ placement t m s ∷ drop (suc i) (keptAll c l n)
+  unfolding keptAt
+  kept-placed i n h t m s p q e = rw (q, p, e) (kept-hand i n h)
+
   pub kept-end : (i n : ℕ) → n ≤ i → drop i (keptAll c l n) ≡ []
   kept-end i n h = let all : length (keptAll c l n) ≤ i = omega (arith, kept-length 0 n) in drop-of-length-le (keptAll c l n) all
 
