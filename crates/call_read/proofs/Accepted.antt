@@ -12,9 +12,13 @@ use Rattle.base_conventions.specs.declared.Convention.{Convention}
 use Rattle.sig_signatures.specs.declared.Outcome.{Outcome}
 use Rattle.plan_plans.specs.declared.Plan.{Plan}
 use Rattle.plan_plans.specs.declared.Measured.{Measured}
-use Rattle.plan_plans.specs.Call.{outcomeFor}
+use Rattle.plan_plans.specs.Plan.{planAnswer}
+use Rattle.plan_plans.specs.Call.{called, outcomeFor}
 use Rattle.call_slots.specs.declared.Answer.{Answer}
 use Rattle.sig_items.specs.declared.Fault.{Fault}
+use Rattle.sig_items.specs.Reading.{Reading, no}
+use Rattle.sig_signatures.specs.Signature.{Signature}
+use Rattle.sig_signatures.specs.Read.{signatureOf}
 use Rattle.call_slots.specs.Buffers.{Buffers}
 use Rattle.plan_places.specs.declared.CallRules.{CallRules}
 use Rattle.call_slots.specs.Placements.{Placement, valuesAt}
@@ -77,6 +81,10 @@ unfolding argumentsOf
 all-sizes s c l n kept = ap sizesOf (kept .same) ∙ carried s .total
 
 -- ---- the answer
+
+pub answer-unread : (s : List ℕ) (have : ReadLengths) (base : ℕ) (b : Buffers) (f : Fault) → signatureOf s ≡ no f → Answer.Unread f ≡ readAnswer s have base b
+unfolding readAnswer called planAnswer
+answer-unread s have base b f q = let o : outcomeFor s ≡ Outcome.Refused f = ap (λ (x : Reading Signature). planAnswer (called x) .outcome) q in rw o
 
 module _ (s : List ℕ) (have : ReadLengths) (base : ℕ) (b : Buffers) (m : Measured) (p : m ≡ sizesFor s) where
   pub answer-refused : (f : Fault) → m .outcome ≡ Outcome.Refused f → Answer.Unread f ≡ readAnswer s have base b

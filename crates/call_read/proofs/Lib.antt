@@ -2,5 +2,4 @@
 pub mod Agree
 pub mod Examples
 pub mod Arguments
-pub mod Heads
 pub mod Accepted

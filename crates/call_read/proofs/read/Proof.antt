@@ -1,12 +1,13 @@
 -- What stands before the arguments is read; then all that follows, with words for few arguments or for as many as there can be.
 use borrow.Author.Needs.{needs}
 use native.Mathlib.Omega.{arith}
-use mathlib.Core.Path.{refl}
+use mathlib.Core.Path.{refl, sym, _∙_}
+use Rattle.sig_signatures.proofs.Laws.{signature-refused}
 use Rattle.sig_signatures.proofs.Sound.{head-bounded}
 use Rattle.call_slots.specs.Buffers.{Buffers, buffers}
+use Rattle.call_arguments.proofs.Kept.{none-left, none-arguments}
 use Rattle.call_read.specs.Read.{readValues}
-use Rattle.call_read.proofs.Heads.{head-is, head-empty, head-refused, head-none}
-use Rattle.call_read.proofs.Accepted.{answer-none, values-none}
+use Rattle.call_read.proofs.Accepted.{answer-unread, answer-none, values-none}
 use Rattle.call_read.proofs.read.Statement.{statement}
 use Rattle.call_read.proofs.read.Tie as tie
 
@@ -23,7 +24,7 @@ enum-known-convention : tie.Need-enum-known-convention
 enum-known-convention c = search needs
 
 read-none-requires : tie.Need-read-none-requires
-read-none-requires c κs = (_, head-empty _ _ (c .before .before .before .before .before .read-head .ensures) _ _ _ _ _ _ (c .before .before .before .convention .given .1) (c .before .if1 .taken))
+read-none-requires c κs = let head = sym (c .before .before .before .before .before .read-head .ensures) ∙ c .before .before .before .convention .given .1 in none-left _ _ _ _ _ _ _ head (c .before .if1 .taken)
 
 same-length : tie.Need-same-length
 same-length c = search needs
@@ -31,7 +32,8 @@ same-length c = search needs
 returns : tie.Need-returns
 returns c =
     let start = c .before .before .before .before .before .before .before .before .before .before .before .before in
-    let none = head-none _ _ _ _ _ _ (head-empty _ _ (c .before .before .before .before .before .before .read-head .ensures) _ _ _ _ _ _ (c .before .before .before .before .convention .given .1) (c .before .before .if1 .taken)) in
+    let head = sym (c .before .before .before .before .before .before .read-head .ensures) ∙ c .before .before .before .before .convention .given .1 in
+    let none = none-arguments (start .args .sig .now) _ _ _ _ _ (none-left (start .args .sig .now) _ _ _ _ _ _ head (c .before .before .if1 .taken) .1) in
     (answer-none (start .args .sig .now) none (start .args .base) (lent start) _ _ (c .read-none .ensures), values-none (start .args .sig .now) none (start .args .base) (lent start) _ (start .args .values .now))
 
 sub-if2 : tie.Need-sub-if2
@@ -41,7 +43,7 @@ slice-aggregate-read-part : tie.Need-slice-aggregate-read-part
 slice-aggregate-read-part c = search needs
 
 read-part-requires : tie.Need-read-part-requires
-read-part-requires c κs = (head-is _ _ (c .before .before .before .before .before .before .before .read-head .ensures) _ _ _ _ _ _ (c .before .before .before .before .before .convention .given .1), λ i few within. omega (arith, c .before .before .if2 .taken))
+read-part-requires c κs = (sym (c .before .before .before .before .before .before .before .read-head .ensures) ∙ c .before .before .before .before .before .convention .given .1, λ i few within. omega (arith, c .before .before .if2 .taken))
 
 same-length-2 : tie.Need-same-length-2
 same-length-2 c = search needs
@@ -53,11 +55,11 @@ slice-aggregate-read-part-2 : tie.Need-slice-aggregate-read-part-2
 slice-aggregate-read-part-2 c = search needs
 
 read-part-requires-2 : tie.Need-read-part-requires-2
-read-part-requires-2 c κs = (head-is _ _ (c .before .before .before .before .before .before .before .read-head .ensures) _ _ _ _ _ _ (c .before .before .before .before .before .convention .given .1), λ i few within. omega arith)
+read-part-requires-2 c κs = (sym (c .before .before .before .before .before .before .before .read-head .ensures) ∙ c .before .before .before .before .before .convention .given .1, λ i few within. omega arith)
 
 returns-3 : tie.Need-returns-3
 unfolding readValues
-returns-3 c = (head-refused _ _ (c .before .before .before .read-head .ensures) _ (c .before .fault .given .1) _ _ _, refl)
+returns-3 c = (answer-unread _ _ _ _ _ (signature-refused _ _ (c .before .before .before .read-head .ensures) _ (c .before .fault .given .1)), refl)
 
 same-length-3 : tie.Need-same-length-3
 same-length-3 c = search needs

@@ -10,8 +10,8 @@ use Rattle.base_words.specs.Splice.{splice}
 use Rattle.base_words.proofs.Splices.{lent-tail}
 use Rattle.call_slots.specs.Buffers.{Buffers, buffers}
 use Rattle.call_slots.specs.Placements.{Placement, placement, valueAt}
-use Rattle.call_kept.specs.Helpers.{keptAt, keptAll}
-use Rattle.call_kept.proofs.Rows.{kept-hand, kept-end}
+use Rattle.call_kept.specs.Helpers.{keptAll}
+use Rattle.call_kept.proofs.Rows.{kept-placed, kept-end}
 use Rattle.call_unmarshal.proofs.Turns.{Taking, taking-start, taking-readable, taking-within, taking-more, taking-end}
 use Rattle.call_unmarshal.proofs.take_arguments.Statement.{statement}
 use Rattle.call_unmarshal.proofs.take_arguments.Tie as tie
@@ -34,11 +34,9 @@ abbrev hand : (c : tie.After-size-of Inv-loop μ-loop) → Placement
 hand c = placement (c .before .before .type-at .result) (c .size-of .result) (c .before .span-at .result)
 
 next : (c : tie.After-size-of Inv-loop μ-loop) → drop (c .before .before .before .before .loop .i) (all (c .before .before .before .before .before .before .before .before .before .before)) ≡ hand c ∷ drop (suc (c .before .before .before .before .loop .i)) (all (c .before .before .before .before .before .before .before .before .before .before))
-unfolding keptAt
 next c =
     let start = c .before .before .before .before .before .before .before .before .before .before in
-    rw (c .size-of .ensures, c .before .span-at .ensures, c .before .before .type-at .ensures)
-    (kept-hand (start .args .convention) (start .args .kept .now) (c .before .before .before .before .loop .i) (start .args .count) (c .before .before .before .loop-test .taken))
+    kept-placed (start .args .convention) (start .args .kept .now) (c .before .before .before .before .loop .i) (start .args .count) (c .before .before .before .loop-test .taken) _ _ _ (c .before .before .type-at .ensures) (c .size-of .ensures) (c .before .span-at .ensures)
 
 within : (c : tie.After-size-of Inv-loop μ-loop) → c .before .before .before .before .loop .v + hand c .size ≤ length (c .before .before .before .before .loop .values)
 within c = taking-within _ _ _ _ _ _ _ _ (hand c) (next c) (c .before .before .before .before .loop .inv)
