@@ -41,7 +41,7 @@ use Rattle.call_slots.specs.declared.Answer.{Answer}
 use Rattle.call_slots.specs.declared.Refusal.{Refusal}
 use Rattle.call_slots.specs.Buffers.{Buffers, buffers, Slot, put, putAll}
 use Rattle.call_slots.specs.Placements.{Placement, hiddenSlots, slotsOfAll}
-use Rattle.call_slots.specs.Helpers.{Held, Fits, All, sizesOf}
+use Rattle.call_slots.specs.Helpers.{Held, Fits, sizesOf}
 use Rattle.call_slots.specs.Refusals.{test, differ, firstOf, isRefused}
 use Rattle.call_slots.specs.Arguments.{argumentsOf, planFor, sizesFor, rulesFor}
 use Rattle.call_slots.proofs.Answered.{carried}

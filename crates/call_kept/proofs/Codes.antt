@@ -5,7 +5,7 @@ use mathlib.Core.Bool.{Bool, true, false}
 use native.Mathlib.Omega.{arith}
 use borrow.Author.Tests.{lt-ltb, le-ltb}
 use lib.Dec.{ltb}
-use Rattle.base_words.specs.Basics.{pick}
+use Rattle.base_words.specs.Basics.{pick, flag}
 use Rattle.base_conventions.specs.declared.Convention.{Convention}
 use Rattle.sig_types.specs.declared.IntegerKind.{IntegerKind}
 use Rattle.sig_types.specs.declared.FloatFormat.{FloatFormat}
@@ -14,7 +14,7 @@ use Rattle.sig_types.specs.declared.Shape.{Shape}
 use Rattle.sig_types.specs.declared.ValueType.{ValueType}
 use Rattle.sig_types.specs.Sizes.{Sized}
 use Rattle.plan_places.specs.declared.RegisterRange.{RegisterRange}
-use Rattle.call_kept.specs.Helpers.{kindCode, kindFrom, formatCode, formatFrom, equivalentCode, equivalentFrom, Codable, typeCode, typeFrom, rangeCode, rangeFrom, flagCode, flagFrom}
+use Rattle.call_kept.specs.Helpers.{kindCode, kindFrom, formatCode, formatFrom, equivalentCode, equivalentFrom, Codable, typeCode, typeFrom, rangeCode, rangeFrom, flagFrom}
 
 kind-back : (k : IntegerKind) → kindFrom (kindCode k) ≡ k
 unfolding kindFrom
@@ -95,6 +95,6 @@ range-back r h =
     let count : (256 * r .first + r .count) % 256 ≡ r .count = omega arith in
     rw (first, count)
 
-pub flag-back : (b : Bool) → flagFrom (flagCode b) ≡ b
+pub flag-back : (b : Bool) → flagFrom (flag b) ≡ b
 flag-back true = refl
 flag-back false = refl

@@ -5,7 +5,7 @@ use mathlib.Core.Bool.{Bool, true, false}
 use mathlib.Core.List.{List, [], _∷_}
 use lib.Dec.{eqb, ltb}
 use lib.ListN.{length, getD}
-use Rattle.base_words.specs.Basics.{pick}
+use Rattle.base_words.specs.Basics.{pick, All, flag}
 use Rattle.base_conventions.specs.declared.Convention.{Convention}
 use Rattle.sig_types.specs.declared.IntegerKind.{IntegerKind}
 use Rattle.sig_types.specs.declared.FloatFormat.{FloatFormat}
@@ -17,7 +17,6 @@ use Rattle.plan_places.specs.declared.RegisterRange.{RegisterRange}
 use Rattle.plan_places.specs.declared.ByteRange.{ByteRange}
 use Rattle.plan_places.specs.declared.Span.{Span}
 use Rattle.call_slots.specs.Placements.{Placement, placement}
-use Rattle.call_slots.specs.Helpers.{All}
 
 -- ---- a type in a word
 
@@ -87,10 +86,6 @@ rangeCode r = 256 * r .first + r .count
 unfoldable pub rangeFrom : ℕ → RegisterRange
 rangeFrom x = record { first = x / 256; count = x % 256 }
 
-abbrev pub flagCode : Bool → ℕ
-flagCode true = 1
-flagCode false = 0
-
 abbrev pub flagFrom : ℕ → Bool
 flagFrom x = pick (eqb x 0) false true
 
@@ -105,7 +100,7 @@ rowOf t s =
     ∷ s .memory .length
     ∷ s .copy .start
     ∷ s .copy .length
-    ∷ flagCode (s .indirect)
+    ∷ flag (s .indirect)
     ∷ []
 
 unfoldable pub spanFrom : List ℕ → ℕ → Span

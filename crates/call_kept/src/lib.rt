@@ -11,8 +11,9 @@ use sig_types::ValueType;
 ghost use mathlib.Core.Path.{_≡_};
 ghost use Prim.Native.Nat.{_+_, _*_, _≤_};
 ghost use lib.ListN.{length, getD};
+ghost use Rattle.base_words.specs.Basics.{flag};
 ghost use Rattle.base_words.specs.Splice.{overlay, splice};
-ghost use Rattle.call_kept.specs.Helpers.{rowLength, Codable, kindCode, kindFrom, formatCode, formatFrom, equivalentCode, equivalentFrom, typeCode, typeFrom, rangeCode, rangeFrom, flagCode, flagFrom, rowOf, spanFrom};
+ghost use Rattle.call_kept.specs.Helpers.{rowLength, Codable, kindCode, kindFrom, formatCode, formatFrom, equivalentCode, equivalentFrom, typeCode, typeFrom, rangeCode, rangeFrom, flagFrom, rowOf, spanFrom};
 
 // The words of a row.
 pub const ROW: usize = 10;
@@ -140,7 +141,7 @@ fn range_from(x: u16) -> RegisterRange
 }
 
 fn flag_code(b: bool) -> u16
-    ensures { λ n. ⌜ n ≡ flagCode b ⌝ }
+    ensures { λ n. ⌜ n ≡ flag b ⌝ }
 {
     if b {
         return 1;

@@ -5,7 +5,7 @@ use mathlib.Core.List.{List, []}
 use Prim.Native.Nat.{ℕ, _≤_}
 use native.Mathlib.Omega.{arith}
 use borrow.Author.Tests.{ltb-false}
-use Rattle.base_words.specs.Basics.{pick}
+use Rattle.base_words.specs.Basics.{pick, All}
 use Rattle.base_words.specs.Splice.{overlay}
 use Rattle.base_words.proofs.Splices.{overlay-nothing}
 use Rattle.base_conventions.specs.declared.Convention.{Convention}
@@ -22,7 +22,7 @@ use Rattle.sig_signatures.specs.Read.{signatureOf}
 use Rattle.call_slots.specs.Buffers.{Buffers}
 use Rattle.plan_places.specs.declared.CallRules.{CallRules}
 use Rattle.call_slots.specs.Placements.{Placement, valuesAt}
-use Rattle.call_slots.specs.Helpers.{Held, Fits, All, sizesOf}
+use Rattle.call_slots.specs.Helpers.{Held, Fits, sizesOf}
 use Rattle.call_slots.specs.Refusals.{firstOf, afterReading, orElse, firstOfAll, isRefused, isDone}
 use Rattle.call_slots.specs.Arguments.{argumentsOf, planFor, rulesFor, sizesFor}
 use Rattle.call_slots.proofs.Answered.{carried}

@@ -7,7 +7,7 @@ use native.Mathlib.Omega.{arith}
 use borrow.Author.Tests.{lt-ltb, le-ltb, leb-true}
 use lib.Dec.{ltb, leb}
 use lib.ListN.{length}
-use Rattle.base_words.specs.Basics.{pick}
+use Rattle.base_words.specs.Basics.{pick, All}
 use Rattle.base_words.specs.Numbers.{valueOf}
 use Rattle.sig_types.specs.Sizes.{equivalentOf}
 use Rattle.plan_places.specs.declared.CallRules.{CallRules}
@@ -16,7 +16,6 @@ use Rattle.call_slots.specs.declared.Answer.{Answer}
 use Rattle.call_slots.specs.Buffers.{Buffers}
 use Rattle.call_slots.specs.Placements.{Placement, floatAt, addressAt}
 use Rattle.call_slots.specs.Refusals.{orElse, firstOfAll, isRefused, floatAnswer}
-use Rattle.call_slots.specs.Helpers.{All}
 use Rattle.call_slots.proofs.Refusals.{or-done, or-refused, not-refused}
 use Rattle.call_unmarshal.specs.Helpers.{InBuffers, Readable}
 use Rattle.call_read.specs.Read.{inCopies, copyAnswer, agrees, agreeAnswer, argumentAnswer, argumentsAnswer}

@@ -7,7 +7,7 @@ use native.Mathlib.Omega.{arith}
 use native.Mathlib.Nat.{div-le-self}
 use lib.ListN.{length, take, drop, length-append, length-drop}
 use lib.Seq.{length-take-le}
-use Rattle.base_words.specs.Basics.{pick}
+use Rattle.base_words.specs.Basics.{pick, All}
 use Rattle.base_words.specs.Splice.{overlay}
 use Rattle.base_words.proofs.Splices.{overlay-whole}
 use Rattle.base_conventions.specs.declared.Convention.{Convention}
@@ -43,7 +43,7 @@ use Rattle.plan_plans.proofs.Fold as fold
 use Rattle.call_slots.specs.declared.Answer as call
 use Rattle.call_slots.specs.Buffers.{Buffers}
 use Rattle.call_slots.specs.Placements.{Placement, placement, placements, valueAt, valuesAt}
-use Rattle.call_slots.specs.Helpers.{All, sizesOf}
+use Rattle.call_slots.specs.Helpers.{sizesOf}
 use Rattle.call_slots.specs.Refusals.{firstOf, orElse, firstOfAll, afterReading}
 use Rattle.call_slots.specs.Arguments.{rulesIn, placementsIn, argumentsOf}
 use Rattle.call_slots.proofs.Typed.{Typed, AllTyped, all-typed}
