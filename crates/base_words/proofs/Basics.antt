@@ -1,13 +1,14 @@
 -- Small facts of numbers: one rounded up is at least the number, and less than one alignment above it; the order of two;
--- tests on differences; and a map over two lists. Assumes nothing.
-use Prim.Native.Nat.{ℕ, zero, suc, _+_, _-_, _≤_, _<_}
-use native.Mathlib.Nat.{div-add-mod', mod-lt}
+-- words in two parts; tests on differences; and a map and an element of a list made of two. Assumes nothing.
+use Prim.Native.Nat.{ℕ, zero, suc, _+_, _-_, _*_, _≤_, _<_}
+use native.Mathlib.Nat.{div-add-mod', mod-lt, mul-add}
 use native.Mathlib.Omega.{arith}
-use mathlib.Core.Path.{_≡_, refl, sym, ap}
+use mathlib.Core.Path.{_≡_, refl, sym, ap, _∙_}
 use mathlib.Core.Logic.{_⊎_, inl, inr, ⊎-elim}
 use mathlib.Core.List.{List, [], _∷_, _++_, map}
 use mathlib.Core.Bool.{Bool, true, false}
 use lib.Dec.{leb}
+use lib.ListN.{getD, replicate}
 use borrow.Author.Tests.{le-leb, lt-leb, leb-true, leb-false}
 use Rattle.base_words.specs.Basics.{roundUp}
 
@@ -24,6 +25,10 @@ le-or-lt zero b = inl (omega arith)
 le-or-lt (suc a) zero = inr (omega arith)
 le-or-lt (suc a) (suc b) = ⊎-elim (λ h. inl (omega arith)) (λ h. inr (omega arith)) (le-or-lt a b)
 
+-- n words of w bytes: the first m, and those after them
+pub words-split : (w m n : ℕ) → m ≤ n → w * m + w * (n - m) ≡ w * n
+words-split w m n h = let x : m + (n - m) ≡ n = omega arith in sym (mul-add w m (n - m)) ∙ ap (λ (y : ℕ). w * y) x
+
 pub leb-sub : (x n l : ℕ) → n ≤ l → leb x (l - n) ≡ leb (x + n) l
 leb-sub x n l h = go (leb x (l - n)) refl
   where
@@ -34,3 +39,11 @@ leb-sub x n l h = go (leb x (l - n)) refl
 pub map-append : {A B : Type 0} (f : A → B) (l m : List A) → map f (l ++ m) ≡ map f l ++ map f m
 map-append f [] m = refl
 map-append {A} {B} f (x ∷ l) m = ap (λ (t : List B). f x ∷ t) (map-append f l m)
+
+-- a list that is filled up with what stands past its end
+pub getD-filled : {A : Type 0} (x : A) (l : List A) (n i : ℕ) → getD (l ++ replicate n x) i x ≡ getD l i x
+getD-filled x [] zero i = refl
+getD-filled x [] (suc n) zero = refl
+getD-filled x [] (suc n) (suc i) = getD-filled x [] n i
+getD-filled x (y ∷ l) n zero = refl
+getD-filled x (y ∷ l) n (suc i) = getD-filled x l n i

@@ -5,11 +5,12 @@ use mathlib.Core.List.{List, [], _∷_, _++_}
 use Prim.Native.Nat.{ℕ, zero, suc, _+_, _-_, _*_, _/_, _%_, _^_, _≤_, _<_}
 use native.Mathlib.Nat.{mul-suc, mul-add, mul-assoc, add-mul, add-assoc, mod-one, mod-lt, div-eq-of-lt, div-eq-of-lt-le, mod-eq-of-lt, mul-le-mul-right, mul-le-mul-left, mul-left-comm, mul-add-mod-self-right, mul-add-div-right, mul-sub, one-mul, zero-add, zero-mul, suc-add}
 use native.Mathlib.Omega.{arith}
-use lib.ListN.{length, take, replicate, length-append, length-replicate}
+use lib.ListN.{length, drop, replicate, length-append, length-replicate}
 use lib.Pow.{pow-pos, pow-mono, pow-add, mod-pow-add, high, split, field, shr-shr, high-ones}
 use Rattle.base_words.specs.Splice.{overlay, splice, part}
 use Rattle.base_words.specs.Numbers.{Bytes, bytesOf, valueOf, zeroExtended, signBit, signExtended}
 use Rattle.base_words.proofs.Splices.{splice-same}
+use Rattle.base_words.proofs.Fitting.{fit-replicate, fit-append, fit-take, fit-drop}
 
 -- the range of one byte more
 pub wider : (n : ℕ) → 2 ^ (8 * suc n) ≡ 256 * 2 ^ (8 * n)
@@ -29,25 +30,16 @@ bytes-bytesOf (suc n) x zero = omega arith
 bytes-bytesOf (suc n) x (suc i) = bytes-bytesOf n x i
 
 pub bytes-replicate : (n b : ℕ) → b < 256 → Bytes (replicate n b)
-bytes-replicate zero b h i = omega arith
-bytes-replicate (suc n) b h zero = h
-bytes-replicate (suc n) b h (suc i) = bytes-replicate n b h i
+bytes-replicate n b h = fit-replicate n b 256 h
 
 pub bytes-append : (a b : List ℕ) → Bytes a → Bytes b → Bytes (a ++ b)
-bytes-append [] b ha hb i = hb i
-bytes-append (x ∷ a) b ha hb zero = ha 0
-bytes-append (x ∷ a) b ha hb (suc i) = bytes-append a b (λ j. ha (suc j)) hb i
+bytes-append a b ha hb = fit-append a b 256 ha hb
 
-bytes-take : (m : ℕ) (l : List ℕ) → Bytes l → Bytes (take m l)
-bytes-take zero l h i = omega arith
-bytes-take (suc m) [] h i = h i
-bytes-take (suc m) (x ∷ l) h zero = h 0
-bytes-take (suc m) (x ∷ l) h (suc i) = bytes-take m l (λ j. h (suc j)) i
+pub bytes-drop : (n : ℕ) (l : List ℕ) → Bytes l → Bytes (drop n l)
+bytes-drop n l h = fit-drop n l 256 h
 
 pub bytes-part : (n m : ℕ) (l : List ℕ) → Bytes l → Bytes (part n m l)
-bytes-part zero m l h = bytes-take m l h
-bytes-part (suc n) m [] h = bytes-take m [] h
-bytes-part (suc n) m (x ∷ l) h = bytes-part n m l (λ j. h (suc j))
+bytes-part n m l h = fit-take m (drop n l) 256 (bytes-drop n l h)
 
 bytes-overlay : (l bs : List ℕ) → Bytes l → Bytes bs → Bytes (overlay l bs)
 unfolding overlay

@@ -28,16 +28,16 @@ use Rattle.plan_places.specs.Values.{pointer}
 use Rattle.plan_places.specs.Power.{words}
 use Rattle.plan_places.specs.ZSeries.{zClass, zNextOf}
 use Rattle.plan_places.specs.Step.{rulesOf, nextOf, fresh, startOf, areaOf}
-use Rattle.plan_plans.specs.Plan.{lastOf, hiddenIn, startIn, endIn, planIn, planAnswer}
+use Rattle.plan_plans.specs.Plan.{lastOf, hiddenIn, startIn, lastCursorIn, planIn, planAnswer}
 use Rattle.sig_signatures.specs.Types.{typesOf}
 use Rattle.plan_plans.specs.Call.{called}
 use Rattle.plan_plans.proofs.Fold.{last-more}
 use Rattle.base_words.proofs.Basics.{le-or-lt}
+use Rattle.base_words.proofs.Tests.{and-yes, or-left, or-right}
 use Rattle.frame_rules.specs.declared.FrameRules.{FrameRules}
 use Rattle.frame_rules.specs.declared.Frame.{Frame}
 use Rattle.frame_rules.specs.Rules.{span, inSpan, rules}
 use Rattle.frame_rules.specs.Frames.{firstGpr, firstFpr, savesCr, hasCondition, maxOutgoing, okLeaf, okRequest}
-use Rattle.frame_rules.proofs.Facts.{and-yes}
 use Rattle.both_meeting.specs.Meeting.{FamiliesAgree, asking, Requested, AreaRequested}
 
 -- ---- the numbers
@@ -45,13 +45,6 @@ use Rattle.both_meeting.specs.Meeting.{FamiliesAgree, asking, Requested,
 -- a number from a to b is in the span
 in-span : (a n b : ℕ) → a ≤ n → n ≤ b → inSpan (span a b) n ≡ true
 in-span a n b p q = rw (le-leb a n p, le-leb n b q)
-
-pub or-left : (a b : Bool) → a ≡ true → (a || b) ≡ true
-or-left a b e = rw e
-
-pub or-right : (a b : Bool) → b ≡ true → (a || b) ≡ true
-or-right true b e = refl
-or-right false b e = e
 
 -- r3 to r10 and f1 to f13 of any PowerPC convention
 power-general : (n : ℕ) → 3 ≤ n → n ≤ 10 → (inSpan (span 0 0) n || (inSpan (span 3 12) n || false)) ≡ true
@@ -178,7 +171,7 @@ requested-in g next n sized few =
     let r : ResultType = resultType c (g .result) in
     let first = start-moves c (hiddenIn c r) in
     let last = last-moves c (startIn c r) (g .arguments) sized (first .1) in
-    let d : Cursor = endIn c r (typesOf c (g .arguments)) in
+    let d : Cursor = lastCursorIn c r (typesOf c (g .arguments)) in
     let a : Area c (areaOf c d) (d .stack) = area-is c d (last .1) in
     let up = round (areaOf c d) maxOutgoing refl (omega (arith, first .0, last .0, a .most)) in
     record {

@@ -22,7 +22,7 @@ use Rattle.plan_plans.specs.declared.Plan.{Plan}
 use Rattle.sig_signatures.specs.Types.{typesIn}
 use Rattle.call_slots.specs.Buffers.{Buffers, buffers, bytesAt}
 use Rattle.call_slots.specs.Helpers.{Fits, All}
-use Rattle.call_slots.specs.Arguments.{argumentsIn, argumentsOf, planFor, rulesFor}
+use Rattle.call_slots.specs.Arguments.{placementsIn, argumentsOf, planFor, rulesFor}
 use Rattle.call_slots.proofs.Planned.{all-with}
 use Rattle.call_slots.proofs.Answered.{carried}
 use Rattle.call_home_slot.specs.Homes.{homeless}
@@ -185,7 +185,7 @@ module _ (s values image area copies : List ℕ) (base hidden : ℕ) (filled : F
         (λ q x y. record { general = x .general; floating = x .floating; memory = x .memory; copies = omega (arith, x .copies, ready .least) }) (argumentsOf s) (carried s .fit) (carried s .fit)
 
     found-put : AllPut (rulesFor s) base (argumentsOf s) values (buffers (imageOf r) (take (p .area) (b .area)) (take n (b .copies)))
-    unfolding argumentsOf argumentsIn
+    unfolding argumentsOf placementsIn
     found-put =
         let g : SignatureRead = signatureAnswer (signatureOf s) in
         let spans = each-right (OfSpan (Same (imageOf r) (b .image))) (hiddenSpans (p .result)) (p .spans)

@@ -21,7 +21,7 @@ use Rattle.frame_rules.proofs.Conventions.{lawful}
 use Rattle.frame_rules.proofs.Places.{chain-in, below-reach, ascending}
 use Rattle.frame_machine.specs.declared.Answer.the-variants.{Accepted}
 use Rattle.frame_machine.specs.declared.State.{State}
-use Rattle.frame_machine.specs.Machine.{rulesOf, stackPointer, offset, enterAnswer, entered, enteredMemory, enterOutcome}
+use Rattle.frame_machine.specs.Machine.{stateRules, stackPointer, offset, enterAnswer, entered, enteredMemory, enterOutcome}
 use Rattle.frame_machine.specs.Helpers.{CanEnter}
 use Rattle.frame_machine.proofs.States.{enter-yes}
 use Rattle.frame_machine.proofs.Outcomes.{enter-accepted}
@@ -57,7 +57,7 @@ module _ (c : Convention) (os : List OpenEnter) (m : Machine) (i : Invariant (ru
   base : Base k m
   base = base-of k os m i
 
-  judged : enterAnswer (rulesOf (m .state)) (m .state) (length (m .memory)) f ≡ Accepted
+  judged : enterAnswer (stateRules (m .state)) (m .state) (length (m .memory)) f ≡ Accepted
   unfolding enterOutcome
   judged = e
 

@@ -7,11 +7,13 @@ use mathlib.Core.List.{List, [], _∷_, _++_, append-nil}
 use native.Mathlib.Omega.{arith}
 use borrow.Author.Tests.{ltb-true}
 use lib.Dec.{ltb}
-use lib.ListN.{length, replicate, take, getD}
+use lib.ListN.{length, replicate, take}
 use lib.Seq.{length-take-le}
 use Rattle.base_words.specs.Basics.{roundUp}
 use Rattle.base_words.specs.Splice.{overlay, splice}
 use Rattle.base_words.specs.Numbers.{Bytes, bytesOf, valueOf, zeroExtended, signBit, signExtended}
+use Rattle.base_words.proofs.Tests.{and-yes}
+use Rattle.base_words.proofs.Fitting.{fit-replicate}
 use Rattle.base_conventions.specs.declared.Convention.{Convention}
 use Rattle.base_conventions.specs.Numbers.{conventionCode}
 use Rattle.sig_types.specs.Structs.{withField, shapeOf}
@@ -32,8 +34,7 @@ use Rattle.call_slots.specs.Buffers.{Buffers, buffers, put, putAll, bytesAt}
 use Rattle.call_slots.specs.Forms.{structAtHead, startsAtHead, extended, homeBytes, floatBytes}
 use Rattle.call_slots.specs.Placements.{placements, standing, slotsOf, slotsOfAll}
 use Rattle.call_slots.specs.Refusals.{firstOf}
-use Rattle.call_slots.specs.Arguments as slots
-use Rattle.call_slots.specs.Arguments.{argumentsOf, planFor}
+use Rattle.call_slots.specs.Arguments.{placementsIn, argumentsOf, planFor}
 use Rattle.call_slots.specs.declared.Answer.{Answer}
 use Rattle.call_slots.proofs.Buffers.{putAll-lengths}
 use Rattle.call_fill.specs.Fill.{fillLengths, badCopies, fillTests, fillAnswer, fillBuffers, filledSlots}
@@ -42,18 +43,16 @@ use Rattle.frame_saves.specs.Saves.{store, load, saveRun}
 use Rattle.frame_rules.specs.declared.Frame.{Frame}
 use Rattle.frame_rules.specs.Rules.{rules}
 use Rattle.frame_rules.specs.Frames.{outgoingLength, withPointer, allWithin, lowered, okRegisters, cleared, okLeaf, okRequest, below, fullSize, frameSize, chainWidth, gprAt, savesBy, bankOf, writableRegister, withRegister}
-use Rattle.frame_rules.proofs.Facts.{and-yes}
 use Rattle.frame_machine.specs.declared.Answer.the-variants.{Accepted}
 use Rattle.frame_machine.specs.Answers.{judge}
 use Rattle.frame_machine.specs.Machine.{topFrame, callerFrame, okFrames, sizes, okMemory, okState, startAnswer, started, startedMemory, enterAnswer, entered, enteredMemory, writableBytes, writableAddress, writeRegisterAnswer, writeMemoryAnswer, writtenRegister, writtenMemory, startOutcome, startMemory, enterOutcome, enterMemory, writeRegisterOutcome, writeMemoryOutcome, writeMemoryMemory}
-use Rattle.frame_word_layout.specs.Words as layout
-use Rattle.frame_word_layout.specs.Words.{registersWords, isMachine, depthIn, frameIn, framesIn, stateIn, registerWords, frameWords, framesWords, stateWords}
+use Rattle.frame_word_layout.specs.Words.{registersIn, registersWords, isMachine, depthIn, frameIn, framesIn, stateIn, registerWords, frameWords, framesWords, stateWords}
 use Rattle.frame_word_layout.specs.Calls.{changed, startWords, enterWords, writeRegisterWords}
 use Rattle.frame_history.specs.Preserved.{OpenEnter, callerOf}
 use Rattle.frame_word_history.specs.Calls as calls
 use Rattle.frame_word_history.specs.Calls.{Call, enter, writeRegister, writeMemory, Lent, answer, run}
 use Rattle.frame_word_history.specs.Demand3.{machineIn, WordsFit, openedBy}
-use Rattle.both_whole_call.specs.Put.{bytesIn, ownArea, register, registersIn, registersOf, named, putPieces, putCalls, joined, Short, Cut}
+use Rattle.both_whole_call.specs.Put.{bytesIn, ownArea, register, rangeRegisters, registersOf, named, putPieces, putCalls, joined, Short, Cut}
 use Rattle.both_whole_call.specs.Reached.{Reached}
 use Rattle.both_whole_call.specs.Caller.{Each, Free, CanCall, InLocals, SavedSix}
 use Rattle.both_whole_call.specs.WholeCall.{seen, inCallee, Claims, putFilled}
@@ -73,17 +72,12 @@ bytes-tested [] e i = omega arith
 bytes-tested (x ∷ l) e zero = ltb-true x 256 (and-yes (ltb x 256) (allBytes l) e .0)
 bytes-tested (x ∷ l) e (suc i) = bytes-tested l (and-yes (ltb x 256) (allBytes l) e .1) i
 
-below-all : (n x m i : ℕ) → x < m → getD (replicate n x) i 0 < m
-below-all zero x m i h = omega arith
-below-all (suc n) x m zero h = h
-below-all (suc n) x m (suc i) h = below-all n x m i h
-
 -- a start of 640 bytes, all registers 7
 abbrev start : Convention → Lent
 start c = calls.fresh c 4096 (replicate 640 1) (replicate registersWords 7)
 
 sevens : WordsFit registersWords (replicate registersWords 7)
-sevens = record { count = refl; fit = λ i. below-all 66 7 (2 ^ 64) i (omega arith) }
+sevens = record { count = refl; fit = fit-replicate 66 7 (2 ^ 64) (omega arith) }
 
 -- one piece
 one-piece : (bs : List ℕ) → (1 ≤ length bs) → (length bs ≤ 256) → Cut (bs ∷ []) bs
@@ -136,7 +130,7 @@ worked x h can =
     (take (x .size) (leftBy x .area) ∷ []) (piece x h))
 
 -- from the start, and from a function that the start called
-from-start : (c : Convention) → startOutcome c 4096 640 (layout.registersIn (replicate registersWords 7) 0) .answer ≡ Accepted → Reached c [] (start c)
+from-start : (c : Convention) → startOutcome c 4096 640 (registersIn (replicate registersWords 7) 0) .answer ≡ Accepted → Reached c [] (start c)
 unfolding run openedBy
 from-start c e = record {
   base = 4096;
@@ -153,7 +147,7 @@ from-start c e = record {
 abbrev entering : Convention → List ℕ → OpenEnter
 entering c q = record { before = machineIn (start c); request = frameIn q 0 }
 
-from-caller : (c : Convention) (q : List ℕ) → startOutcome c 4096 640 (layout.registersIn (replicate registersWords 7) 0) .answer ≡ Accepted → answer (enter q) (start c) ≡ Accepted
+from-caller : (c : Convention) (q : List ℕ) → startOutcome c 4096 640 (registersIn (replicate registersWords 7) 0) .answer ≡ Accepted → answer (enter q) (start c) ≡ Accepted
     → Reached c (entering c q ∷ []) (calls.after (enter q) (start c))
 unfolding run openedBy
 from-caller c q e a = record {
@@ -196,11 +190,11 @@ unfolding roundUp withField shapeOf typeOf countOf listed table bodyAt integerCo
 ppc64-filled = (refl, refl, refl)
 
 ppc64-at : ownArea (rules Convention.Ppc64) (machineIn (ppc64 .m)) ≡ 4672
-unfolding roundUp overlay splice bytesOf valueOf conventionCode store load saveRun withPointer allWithin lowered okRegisters cleared okLeaf okRequest below fullSize frameSize chainWidth gprAt savesBy bankOf writableRegister withRegister judge topFrame callerFrame okFrames sizes okMemory okState startAnswer started startedMemory enterAnswer entered enteredMemory writableBytes writableAddress writeRegisterAnswer writeMemoryAnswer writtenRegister writtenMemory startOutcome startMemory enterOutcome enterMemory writeRegisterOutcome writeMemoryOutcome writeMemoryMemory isMachine depthIn layout.registersIn frameIn framesIn stateIn registerWords frameWords framesWords stateWords changed startWords enterWords writeRegisterWords run
+unfolding roundUp overlay splice bytesOf valueOf conventionCode store load saveRun withPointer allWithin lowered okRegisters cleared okLeaf okRequest below fullSize frameSize chainWidth gprAt savesBy bankOf writableRegister withRegister judge topFrame callerFrame okFrames sizes okMemory okState startAnswer started startedMemory enterAnswer entered enteredMemory writableBytes writableAddress writeRegisterAnswer writeMemoryAnswer writtenRegister writtenMemory startOutcome startMemory enterOutcome enterMemory writeRegisterOutcome writeMemoryOutcome writeMemoryMemory isMachine depthIn registersIn frameIn framesIn stateIn registerWords frameWords framesWords stateWords changed startWords enterWords writeRegisterWords run
 ppc64-at = refl
 
 ppc64-calls : putCalls (planFor (ppc64 .signature)) (leftBy ppc64 .image) 4672 (take 64 (leftBy ppc64 .area) ∷ []) ≡ ppc64 .puts
-unfolding roundUp withField shapeOf typeOf countOf listed table bodyAt integerCode floatCode integerAt floatOf floatAt sequence sizedAt contentsAt itemBy structAt itemAt conventionCode conventionAt resultIn resultAt argumentsIn argumentsAt ellipsisAt afterEllipsis afterResult afterConvention signatureOf withEllipsis words fprs shareOf powerShare unclear zClass zSpanOf zNextOf spanOf nextOf unclearFor fresh startOf areaOf hiddenFor returning resultOf upFrom spansOf lastOf valuesOf tableOf planIn typesOf planAnswer firstUnclear called overlay splice bytesOf valueOf zeroExtended signBit signExtended spread put putAll bytesAt structAtHead startsAtHead extended homeBytes floatBytes standing slotsOf slotsOfAll placements slots.argumentsIn argumentsOf fillBuffers filledSlots registersIn registersOf putPieces putCalls
+unfolding roundUp withField shapeOf typeOf countOf listed table bodyAt integerCode floatCode integerAt floatOf floatAt sequence sizedAt contentsAt itemBy structAt itemAt conventionCode conventionAt resultIn resultAt argumentsIn argumentsAt ellipsisAt afterEllipsis afterResult afterConvention signatureOf withEllipsis words fprs shareOf powerShare unclear zClass zSpanOf zNextOf spanOf nextOf unclearFor fresh startOf areaOf hiddenFor returning resultOf upFrom spansOf lastOf valuesOf tableOf planIn typesOf planAnswer firstUnclear called overlay splice bytesOf valueOf zeroExtended signBit signExtended spread put putAll bytesAt structAtHead startsAtHead extended homeBytes floatBytes standing slotsOf slotsOfAll placements placementsIn argumentsOf fillBuffers filledSlots rangeRegisters registersOf putPieces putCalls
 ppc64-calls = refl
 
 ppc64-length : length (leftBy ppc64 .area) ≡ length (ppc64 .area)
@@ -244,11 +238,11 @@ unfolding roundUp withField shapeOf typeOf countOf listed table bodyAt integerCo
 z-filled = (refl, refl, refl)
 
 z-at : ownArea (rules Convention.Z) (machineIn (z .m)) ≡ 4552
-unfolding roundUp overlay splice bytesOf valueOf conventionCode store load saveRun withPointer allWithin lowered okRegisters cleared okLeaf okRequest below fullSize frameSize chainWidth gprAt savesBy bankOf writableRegister withRegister judge topFrame callerFrame okFrames sizes okMemory okState startAnswer started startedMemory enterAnswer entered enteredMemory writableBytes writableAddress writeRegisterAnswer writeMemoryAnswer writtenRegister writtenMemory startOutcome startMemory enterOutcome enterMemory writeRegisterOutcome writeMemoryOutcome writeMemoryMemory isMachine depthIn layout.registersIn frameIn framesIn stateIn registerWords frameWords framesWords stateWords changed startWords enterWords writeRegisterWords run
+unfolding roundUp overlay splice bytesOf valueOf conventionCode store load saveRun withPointer allWithin lowered okRegisters cleared okLeaf okRequest below fullSize frameSize chainWidth gprAt savesBy bankOf writableRegister withRegister judge topFrame callerFrame okFrames sizes okMemory okState startAnswer started startedMemory enterAnswer entered enteredMemory writableBytes writableAddress writeRegisterAnswer writeMemoryAnswer writtenRegister writtenMemory startOutcome startMemory enterOutcome enterMemory writeRegisterOutcome writeMemoryOutcome writeMemoryMemory isMachine depthIn registersIn frameIn framesIn stateIn registerWords frameWords framesWords stateWords changed startWords enterWords writeRegisterWords run
 z-at = refl
 
 z-calls : putCalls (planFor (z .signature)) (leftBy z .image) 4552 (take 8 (leftBy z .area) ∷ []) ≡ z .puts
-unfolding roundUp withField shapeOf typeOf countOf listed table bodyAt integerCode floatCode integerAt floatOf floatAt sequence sizedAt contentsAt itemBy structAt itemAt conventionCode conventionAt resultIn resultAt argumentsIn argumentsAt ellipsisAt afterEllipsis afterResult afterConvention signatureOf withEllipsis words fprs shareOf powerShare unclear zClass zSpanOf zNextOf spanOf nextOf unclearFor fresh startOf areaOf hiddenFor returning resultOf upFrom spansOf lastOf valuesOf tableOf planIn typesOf planAnswer firstUnclear called overlay splice bytesOf valueOf zeroExtended signBit signExtended spread put putAll bytesAt structAtHead startsAtHead extended homeBytes floatBytes standing slotsOf slotsOfAll placements slots.argumentsIn argumentsOf fillBuffers filledSlots registersIn registersOf putPieces putCalls
+unfolding roundUp withField shapeOf typeOf countOf listed table bodyAt integerCode floatCode integerAt floatOf floatAt sequence sizedAt contentsAt itemBy structAt itemAt conventionCode conventionAt resultIn resultAt argumentsIn argumentsAt ellipsisAt afterEllipsis afterResult afterConvention signatureOf withEllipsis words fprs shareOf powerShare unclear zClass zSpanOf zNextOf spanOf nextOf unclearFor fresh startOf areaOf hiddenFor returning resultOf upFrom spansOf lastOf valuesOf tableOf planIn typesOf planAnswer firstUnclear called overlay splice bytesOf valueOf zeroExtended signBit signExtended spread put putAll bytesAt structAtHead startsAtHead extended homeBytes floatBytes standing slotsOf slotsOfAll placements placementsIn argumentsOf fillBuffers filledSlots rangeRegisters registersOf putPieces putCalls
 z-calls = refl
 
 z-length : length (leftBy z .area) ≡ length (z .area)
@@ -292,11 +286,11 @@ unfolding roundUp withField shapeOf typeOf countOf listed table bodyAt integerCo
 aix-filled = (refl, refl, refl)
 
 aix-at : ownArea (rules Convention.Aix) (machineIn (aix .m)) ≡ 4632
-unfolding roundUp overlay splice bytesOf valueOf conventionCode store load saveRun withPointer allWithin lowered okRegisters cleared okLeaf okRequest below fullSize frameSize chainWidth gprAt savesBy bankOf writableRegister withRegister judge topFrame callerFrame okFrames sizes okMemory okState startAnswer started startedMemory enterAnswer entered enteredMemory writableBytes writableAddress writeRegisterAnswer writeMemoryAnswer writtenRegister writtenMemory startOutcome startMemory enterOutcome enterMemory writeRegisterOutcome writeMemoryOutcome writeMemoryMemory isMachine depthIn layout.registersIn frameIn framesIn stateIn registerWords frameWords framesWords stateWords changed startWords enterWords writeRegisterWords run
+unfolding roundUp overlay splice bytesOf valueOf conventionCode store load saveRun withPointer allWithin lowered okRegisters cleared okLeaf okRequest below fullSize frameSize chainWidth gprAt savesBy bankOf writableRegister withRegister judge topFrame callerFrame okFrames sizes okMemory okState startAnswer started startedMemory enterAnswer entered enteredMemory writableBytes writableAddress writeRegisterAnswer writeMemoryAnswer writtenRegister writtenMemory startOutcome startMemory enterOutcome enterMemory writeRegisterOutcome writeMemoryOutcome writeMemoryMemory isMachine depthIn registersIn frameIn framesIn stateIn registerWords frameWords framesWords stateWords changed startWords enterWords writeRegisterWords run
 aix-at = refl
 
 aix-calls : putCalls (planFor (aix .signature)) (leftBy aix .image) 4632 (take 36 (leftBy aix .area) ∷ []) ≡ aix .puts
-unfolding roundUp withField shapeOf typeOf countOf listed table bodyAt integerCode floatCode integerAt floatOf floatAt sequence sizedAt contentsAt itemBy structAt itemAt conventionCode conventionAt resultIn resultAt argumentsIn argumentsAt ellipsisAt afterEllipsis afterResult afterConvention signatureOf withEllipsis words fprs shareOf powerShare unclear zClass zSpanOf zNextOf spanOf nextOf unclearFor fresh startOf areaOf hiddenFor returning resultOf upFrom spansOf lastOf valuesOf tableOf planIn typesOf planAnswer firstUnclear called overlay splice bytesOf valueOf zeroExtended signBit signExtended spread put putAll bytesAt structAtHead startsAtHead extended homeBytes floatBytes standing slotsOf slotsOfAll placements slots.argumentsIn argumentsOf fillBuffers filledSlots registersIn registersOf putPieces putCalls
+unfolding roundUp withField shapeOf typeOf countOf listed table bodyAt integerCode floatCode integerAt floatOf floatAt sequence sizedAt contentsAt itemBy structAt itemAt conventionCode conventionAt resultIn resultAt argumentsIn argumentsAt ellipsisAt afterEllipsis afterResult afterConvention signatureOf withEllipsis words fprs shareOf powerShare unclear zClass zSpanOf zNextOf spanOf nextOf unclearFor fresh startOf areaOf hiddenFor returning resultOf upFrom spansOf lastOf valuesOf tableOf planIn typesOf planAnswer firstUnclear called overlay splice bytesOf valueOf zeroExtended signBit signExtended spread put putAll bytesAt structAtHead startsAtHead extended homeBytes floatBytes standing slotsOf slotsOfAll placements placementsIn argumentsOf fillBuffers filledSlots rangeRegisters registersOf putPieces putCalls
 aix-calls = refl
 
 aix-length : length (leftBy aix .area) ≡ length (aix .area)
@@ -340,11 +334,11 @@ unfolding roundUp withField shapeOf typeOf countOf listed table bodyAt integerCo
 ppc64b-filled = (refl, refl, refl)
 
 ppc64b-at : ownArea (rules Convention.Ppc64b) (machineIn (ppc64b .m)) ≡ 4672
-unfolding roundUp overlay splice bytesOf valueOf conventionCode store load saveRun withPointer allWithin lowered okRegisters cleared okLeaf okRequest below fullSize frameSize chainWidth gprAt savesBy bankOf writableRegister withRegister judge topFrame callerFrame okFrames sizes okMemory okState startAnswer started startedMemory enterAnswer entered enteredMemory writableBytes writableAddress writeRegisterAnswer writeMemoryAnswer writtenRegister writtenMemory startOutcome startMemory enterOutcome enterMemory writeRegisterOutcome writeMemoryOutcome writeMemoryMemory isMachine depthIn layout.registersIn frameIn framesIn stateIn registerWords frameWords framesWords stateWords changed startWords enterWords writeRegisterWords run
+unfolding roundUp overlay splice bytesOf valueOf conventionCode store load saveRun withPointer allWithin lowered okRegisters cleared okLeaf okRequest below fullSize frameSize chainWidth gprAt savesBy bankOf writableRegister withRegister judge topFrame callerFrame okFrames sizes okMemory okState startAnswer started startedMemory enterAnswer entered enteredMemory writableBytes writableAddress writeRegisterAnswer writeMemoryAnswer writtenRegister writtenMemory startOutcome startMemory enterOutcome enterMemory writeRegisterOutcome writeMemoryOutcome writeMemoryMemory isMachine depthIn registersIn frameIn framesIn stateIn registerWords frameWords framesWords stateWords changed startWords enterWords writeRegisterWords run
 ppc64b-at = refl
 
 ppc64b-calls : putCalls (planFor (ppc64b .signature)) (leftBy ppc64b .image) 4672 (take 64 (leftBy ppc64b .area) ∷ []) ≡ ppc64b .puts
-unfolding roundUp withField shapeOf typeOf countOf listed table bodyAt integerCode floatCode integerAt floatOf floatAt sequence sizedAt contentsAt itemBy structAt itemAt conventionCode conventionAt resultIn resultAt argumentsIn argumentsAt ellipsisAt afterEllipsis afterResult afterConvention signatureOf withEllipsis words fprs shareOf powerShare unclear zClass zSpanOf zNextOf spanOf nextOf unclearFor fresh startOf areaOf hiddenFor returning resultOf upFrom spansOf lastOf valuesOf tableOf planIn typesOf planAnswer firstUnclear called overlay splice bytesOf valueOf zeroExtended signBit signExtended spread put putAll bytesAt structAtHead startsAtHead extended homeBytes floatBytes standing slotsOf slotsOfAll placements slots.argumentsIn argumentsOf fillBuffers filledSlots registersIn registersOf putPieces putCalls
+unfolding roundUp withField shapeOf typeOf countOf listed table bodyAt integerCode floatCode integerAt floatOf floatAt sequence sizedAt contentsAt itemBy structAt itemAt conventionCode conventionAt resultIn resultAt argumentsIn argumentsAt ellipsisAt afterEllipsis afterResult afterConvention signatureOf withEllipsis words fprs shareOf powerShare unclear zClass zSpanOf zNextOf spanOf nextOf unclearFor fresh startOf areaOf hiddenFor returning resultOf upFrom spansOf lastOf valuesOf tableOf planIn typesOf planAnswer firstUnclear called overlay splice bytesOf valueOf zeroExtended signBit signExtended spread put putAll bytesAt structAtHead startsAtHead extended homeBytes floatBytes standing slotsOf slotsOfAll placements placementsIn argumentsOf fillBuffers filledSlots rangeRegisters registersOf putPieces putCalls
 ppc64b-calls = refl
 
 ppc64b-length : length (leftBy ppc64b .area) ≡ length (ppc64b .area)
@@ -388,11 +382,11 @@ unfolding roundUp withField shapeOf typeOf countOf listed table bodyAt integerCo
 ellipsis-filled = (refl, refl, refl)
 
 ellipsis-at : ownArea (rules Convention.Aix) (machineIn (ellipsis .m)) ≡ 4632
-unfolding roundUp overlay splice bytesOf valueOf conventionCode store load saveRun withPointer allWithin lowered okRegisters cleared okLeaf okRequest below fullSize frameSize chainWidth gprAt savesBy bankOf writableRegister withRegister judge topFrame callerFrame okFrames sizes okMemory okState startAnswer started startedMemory enterAnswer entered enteredMemory writableBytes writableAddress writeRegisterAnswer writeMemoryAnswer writtenRegister writtenMemory startOutcome startMemory enterOutcome enterMemory writeRegisterOutcome writeMemoryOutcome writeMemoryMemory isMachine depthIn layout.registersIn frameIn framesIn stateIn registerWords frameWords framesWords stateWords changed startWords enterWords writeRegisterWords run
+unfolding roundUp overlay splice bytesOf valueOf conventionCode store load saveRun withPointer allWithin lowered okRegisters cleared okLeaf okRequest below fullSize frameSize chainWidth gprAt savesBy bankOf writableRegister withRegister judge topFrame callerFrame okFrames sizes okMemory okState startAnswer started startedMemory enterAnswer entered enteredMemory writableBytes writableAddress writeRegisterAnswer writeMemoryAnswer writtenRegister writtenMemory startOutcome startMemory enterOutcome enterMemory writeRegisterOutcome writeMemoryOutcome writeMemoryMemory isMachine depthIn registersIn frameIn framesIn stateIn registerWords frameWords framesWords stateWords changed startWords enterWords writeRegisterWords run
 ellipsis-at = refl
 
 ellipsis-calls : putCalls (planFor (ellipsis .signature)) (leftBy ellipsis .image) 4632 (take 36 (leftBy ellipsis .area) ∷ []) ≡ ellipsis .puts
-unfolding roundUp withField shapeOf typeOf countOf listed table bodyAt integerCode floatCode integerAt floatOf floatAt sequence sizedAt contentsAt itemBy structAt itemAt conventionCode conventionAt resultIn resultAt argumentsIn argumentsAt ellipsisAt afterEllipsis afterResult afterConvention signatureOf withEllipsis words fprs shareOf powerShare unclear zClass zSpanOf zNextOf spanOf nextOf unclearFor fresh startOf areaOf hiddenFor returning resultOf upFrom spansOf lastOf valuesOf tableOf planIn typesOf planAnswer firstUnclear called overlay splice bytesOf valueOf zeroExtended signBit signExtended spread put putAll bytesAt structAtHead startsAtHead extended homeBytes floatBytes standing slotsOf slotsOfAll placements slots.argumentsIn argumentsOf fillBuffers filledSlots registersIn registersOf putPieces putCalls
+unfolding roundUp withField shapeOf typeOf countOf listed table bodyAt integerCode floatCode integerAt floatOf floatAt sequence sizedAt contentsAt itemBy structAt itemAt conventionCode conventionAt resultIn resultAt argumentsIn argumentsAt ellipsisAt afterEllipsis afterResult afterConvention signatureOf withEllipsis words fprs shareOf powerShare unclear zClass zSpanOf zNextOf spanOf nextOf unclearFor fresh startOf areaOf hiddenFor returning resultOf upFrom spansOf lastOf valuesOf tableOf planIn typesOf planAnswer firstUnclear called overlay splice bytesOf valueOf zeroExtended signBit signExtended spread put putAll bytesAt structAtHead startsAtHead extended homeBytes floatBytes standing slotsOf slotsOfAll placements placementsIn argumentsOf fillBuffers filledSlots rangeRegisters registersOf putPieces putCalls
 ellipsis-calls = refl
 
 ellipsis-length : length (leftBy ellipsis .area) ≡ length (ellipsis .area)
@@ -415,13 +409,13 @@ ellipsis-computed =
 -- ---- what the theorem says of them
 
 -- every start, and both callers, are accepted
-starts-are : (startOutcome Convention.Ppc64 4096 640 (layout.registersIn (replicate registersWords 7) 0) .answer ≡ Accepted)
-    × (startOutcome Convention.Z 4096 640 (layout.registersIn (replicate registersWords 7) 0) .answer ≡ Accepted)
-    × (startOutcome Convention.Aix 4096 640 (layout.registersIn (replicate registersWords 7) 0) .answer ≡ Accepted)
-    × (startOutcome Convention.Ppc64b 4096 640 (layout.registersIn (replicate registersWords 7) 0) .answer ≡ Accepted)
+starts-are : (startOutcome Convention.Ppc64 4096 640 (registersIn (replicate registersWords 7) 0) .answer ≡ Accepted)
+    × (startOutcome Convention.Z 4096 640 (registersIn (replicate registersWords 7) 0) .answer ≡ Accepted)
+    × (startOutcome Convention.Aix 4096 640 (registersIn (replicate registersWords 7) 0) .answer ≡ Accepted)
+    × (startOutcome Convention.Ppc64b 4096 640 (registersIn (replicate registersWords 7) 0) .answer ≡ Accepted)
     × (answer (enter (6 ∷ 16 ∷ 0 ∷ 16 ∷ 8 ∷ 0 ∷ [])) (start Convention.Z) ≡ Accepted)
     × (answer (enter (32 ∷ 32 ∷ 0 ∷ 0 ∷ 40 ∷ 0 ∷ [])) (start Convention.Aix) ≡ Accepted)
-unfolding roundUp overlay splice bytesOf valueOf conventionCode store load saveRun withPointer allWithin lowered okRegisters cleared okLeaf okRequest below fullSize frameSize chainWidth gprAt savesBy bankOf writableRegister withRegister judge topFrame callerFrame okFrames sizes okMemory okState startAnswer started startedMemory enterAnswer entered enteredMemory writableBytes writableAddress writeRegisterAnswer writeMemoryAnswer writtenRegister writtenMemory startOutcome startMemory enterOutcome enterMemory writeRegisterOutcome writeMemoryOutcome writeMemoryMemory isMachine depthIn layout.registersIn frameIn framesIn stateIn registerWords frameWords framesWords stateWords changed startWords enterWords writeRegisterWords run
+unfolding roundUp overlay splice bytesOf valueOf conventionCode store load saveRun withPointer allWithin lowered okRegisters cleared okLeaf okRequest below fullSize frameSize chainWidth gprAt savesBy bankOf writableRegister withRegister judge topFrame callerFrame okFrames sizes okMemory okState startAnswer started startedMemory enterAnswer entered enteredMemory writableBytes writableAddress writeRegisterAnswer writeMemoryAnswer writtenRegister writtenMemory startOutcome startMemory enterOutcome enterMemory writeRegisterOutcome writeMemoryOutcome writeMemoryMemory isMachine depthIn registersIn frameIn framesIn stateIn registerWords frameWords framesWords stateWords changed startWords enterWords writeRegisterWords run
 starts-are = (refl, refl, refl, refl, refl, refl)
 
 -- a frame is entered as the callee, and on PowerPC a leaf too
@@ -444,7 +438,7 @@ enters-are : (answer (enter frame) (run (ppc64 .puts) (ppc64 .m)) ≡ Accepted)
     × (answer (enter leaf) (run (ppc64b .puts) (ppc64b .m)) ≡ Accepted)
     × (answer (enter leaf) (run (ellipsis .puts) (ellipsis .m)) ≡ Accepted)
     × (answer (enter z-frame) (run z-puts (z .m)) ≡ Accepted)
-unfolding roundUp overlay splice bytesOf valueOf conventionCode store load saveRun withPointer allWithin lowered okRegisters cleared okLeaf okRequest below fullSize frameSize chainWidth gprAt savesBy bankOf writableRegister withRegister judge topFrame callerFrame okFrames sizes okMemory okState startAnswer started startedMemory enterAnswer entered enteredMemory writableBytes writableAddress writeRegisterAnswer writeMemoryAnswer writtenRegister writtenMemory startOutcome startMemory enterOutcome enterMemory writeRegisterOutcome writeMemoryOutcome writeMemoryMemory isMachine depthIn layout.registersIn frameIn framesIn stateIn registerWords frameWords framesWords stateWords changed startWords enterWords writeRegisterWords run
+unfolding roundUp overlay splice bytesOf valueOf conventionCode store load saveRun withPointer allWithin lowered okRegisters cleared okLeaf okRequest below fullSize frameSize chainWidth gprAt savesBy bankOf writableRegister withRegister judge topFrame callerFrame okFrames sizes okMemory okState startAnswer started startedMemory enterAnswer entered enteredMemory writableBytes writableAddress writeRegisterAnswer writeMemoryAnswer writtenRegister writtenMemory startOutcome startMemory enterOutcome enterMemory writeRegisterOutcome writeMemoryOutcome writeMemoryMemory isMachine depthIn registersIn frameIn framesIn stateIn registerWords frameWords framesWords stateWords changed startWords enterWords writeRegisterWords run
 enters-are = (refl, refl, refl, refl, refl, refl, refl)
 
 -- what `CanCall` asks, on numbers
@@ -494,11 +488,11 @@ ppc64b-claims =
 
 -- Z's copy lies in all of the locals
 z-copies : (planFor (z .signature) .copies ≡ 16) × (take 16 (leftBy z .copies) ≡ 101 ∷ 102 ∷ 103 ∷ 104 ∷ 105 ∷ 106 ∷ 107 ∷ 108 ∷ 109 ∷ 110 ∷ 111 ∷ 112 ∷ 113 ∷ 114 ∷ 115 ∷ 116 ∷ [])
-unfolding roundUp withField shapeOf typeOf countOf listed table bodyAt integerCode floatCode integerAt floatOf floatAt sequence sizedAt contentsAt itemBy structAt itemAt conventionCode conventionAt resultIn resultAt argumentsIn argumentsAt ellipsisAt afterEllipsis afterResult afterConvention signatureOf withEllipsis words fprs shareOf powerShare unclear zClass zSpanOf zNextOf spanOf nextOf unclearFor fresh startOf areaOf hiddenFor returning resultOf upFrom spansOf lastOf valuesOf tableOf planIn typesOf planAnswer firstUnclear called overlay splice bytesOf valueOf zeroExtended signBit signExtended spread put putAll bytesAt structAtHead startsAtHead extended homeBytes floatBytes standing slotsOf slotsOfAll placements slots.argumentsIn argumentsOf fillBuffers filledSlots registersIn registersOf putPieces putCalls
+unfolding roundUp withField shapeOf typeOf countOf listed table bodyAt integerCode floatCode integerAt floatOf floatAt sequence sizedAt contentsAt itemBy structAt itemAt conventionCode conventionAt resultIn resultAt argumentsIn argumentsAt ellipsisAt afterEllipsis afterResult afterConvention signatureOf withEllipsis words fprs shareOf powerShare unclear zClass zSpanOf zNextOf spanOf nextOf unclearFor fresh startOf areaOf hiddenFor returning resultOf upFrom spansOf lastOf valuesOf tableOf planIn typesOf planAnswer firstUnclear called overlay splice bytesOf valueOf zeroExtended signBit signExtended spread put putAll bytesAt structAtHead startsAtHead extended homeBytes floatBytes standing slotsOf slotsOfAll placements placementsIn argumentsOf fillBuffers filledSlots rangeRegisters registersOf putPieces putCalls
 z-copies = (refl, refl)
 
 z-locals : InLocals (rules Convention.Z) (frameIn (6 ∷ 16 ∷ 0 ∷ 16 ∷ 8 ∷ 0 ∷ []) 0) (machineIn (z .m)) 4560 16
-unfolding roundUp overlay splice bytesOf valueOf conventionCode store load saveRun withPointer allWithin lowered okRegisters cleared okLeaf okRequest below fullSize frameSize chainWidth gprAt savesBy bankOf writableRegister withRegister judge topFrame callerFrame okFrames sizes okMemory okState startAnswer started startedMemory enterAnswer entered enteredMemory writableBytes writableAddress writeRegisterAnswer writeMemoryAnswer writtenRegister writtenMemory startOutcome startMemory enterOutcome enterMemory writeRegisterOutcome writeMemoryOutcome writeMemoryMemory isMachine depthIn layout.registersIn frameIn framesIn stateIn registerWords frameWords framesWords stateWords changed startWords enterWords writeRegisterWords run
+unfolding roundUp overlay splice bytesOf valueOf conventionCode store load saveRun withPointer allWithin lowered okRegisters cleared okLeaf okRequest below fullSize frameSize chainWidth gprAt savesBy bankOf writableRegister withRegister judge topFrame callerFrame okFrames sizes okMemory okState startAnswer started startedMemory enterAnswer entered enteredMemory writableBytes writableAddress writeRegisterAnswer writeMemoryAnswer writtenRegister writtenMemory startOutcome startMemory enterOutcome enterMemory writeRegisterOutcome writeMemoryOutcome writeMemoryMemory isMachine depthIn registersIn frameIn framesIn stateIn registerWords frameWords framesWords stateWords changed startWords enterWords writeRegisterWords run
 z-locals = record { from = omega arith; to = omega arith }
 
 z-claims : Claims (z .signature) (z .values) (bytesIn 4560 (planFor (z .signature) .copies)) 4560 0 (z .os) (z .m) z-puts

@@ -13,7 +13,7 @@ use Rattle.base_words.specs.Basics.{pick}
 use Rattle.base_words.specs.Splice.{part}
 use Rattle.base_words.specs.Numbers.{Bytes, bytesOf, valueOf}
 use Rattle.base_words.proofs.Splices.{part-part, length-part}
-use Rattle.base_words.proofs.Numbers.{bytes-bytesOf, bytes-replicate, bytes-append, bytes-part, value-below, value-back, value-append}
+use Rattle.base_words.proofs.Numbers.{bytes-bytesOf, bytes-replicate, bytes-append, bytes-drop, bytes-part, value-below, value-back, value-append}
 use Rattle.base_conventions.specs.declared.Convention.{Convention}
 use Rattle.sig_types.specs.declared.Equivalent.{Equivalent}
 use Rattle.sig_types.specs.declared.ValueType.{ValueType}
@@ -41,13 +41,13 @@ use Rattle.call_slots.specs.Buffers.{Buffers, bytesAt}
 use Rattle.call_slots.specs.Forms.{startsAtHead, extended, roomOf, homeBytes, singleWord, floatForm, floatBytes}
 use Rattle.call_slots.specs.Placements.{Placement, placements, standing}
 use Rattle.call_slots.specs.Helpers.{All}
-use Rattle.call_slots.specs.Arguments.{argumentsIn, argumentsOf, planFor, rulesIn, rulesFor}
+use Rattle.call_slots.specs.Arguments.{placementsIn, argumentsOf, planFor, rulesIn, rulesFor}
 use Rattle.call_slots.proofs.Answered.{arguments-got}
 use Rattle.call_fill.specs.Fill.{highAddress, fillAnswer}
 use Rattle.call_fill.proofs.Accepted.{tests-low}
 use Rattle.call_roundtrip.specs.RoundTrip.{Filled, left}
 use Rattle.call_roundtrip.proofs.Arguments.{Put, AllPut}
-use Rattle.call_roundtrip.proofs.Theorems.{bytes-drop, reading-done}
+use Rattle.call_roundtrip.proofs.Theorems.{reading-done}
 use Rattle.call_roundtrip.proofs.Hidden.{hidden-stands}
 use Rattle.frame_rules.specs.Rules.{rules}
 use Rattle.frame_rules.proofs.Conventions.{lawful}
@@ -160,7 +160,7 @@ span-bytes r base p v b h =
     let k : ℕ = s .general .count in
     let words : List ℕ = spread (wordOf r) k (standing r base p v) in
     let size : length words ≡ 8 * k = ap length (sym (h .stands .registers))
-    ∙ length-part (8 * s .general .first) (8 * k) (b .image) (omega (arith, h .given .fits .general, h .given .image)) in
+    ∙ length-part (8 * s .general .first) (8 * k) (b .image) (omega (arith, h .given .room .registers .general, h .given .room .registers .image)) in
     record {
       floats = λ n q. (
         subst Bytes (run-part (b .image) Bank.Floating (s .floating .first) (s .floating .count) n (q .0) (q .1))
@@ -171,7 +171,7 @@ span-bytes r base p v b h =
       generals = λ n q.
           let i : ℕ = n - s .general .first in
           subst (Word (wordOf r)) (ap (part (8 * i) 8) (sym (h .stands .registers)) ∙ run-part (b .image) Bank.General (s .general .first) k n (q .0) (q .1))
-          (spread-words (wordOf r) k (standing r base p v) (h .given .held .word .1) (standing-bytes r base p v (h .given .bytes)) size i (omega arith));
+          (spread-words (wordOf r) k (standing r base p v) (h .given .room .registers .held .word .1) (standing-bytes r base p v (h .given .bytes)) size i (omega arith));
     }
 
 all-bytes : (r : CallRules) (base : ℕ) (ps : List Placement) (v : List ℕ) (b : Buffers) → AllPut r base ps v b
@@ -198,7 +198,7 @@ module _ (P : Register → Type 0) where
   fold-each c r k [] h = tt
   fold-each c r k (t ∷ ts) h = (h .0, fold-each c r _ ts (h .1))
 
-  table-each : (x : Reading Signature) → All (λ (p : Placement). OfSpan P (p .span)) (argumentsIn (signatureAnswer x) (planAnswer x)) → Each (OfSpan P) (planAnswer x .spans)
+  table-each : (x : Reading Signature) → All (λ (p : Placement). OfSpan P (p .span)) (placementsIn (signatureAnswer x) (planAnswer x)) → Each (OfSpan P) (planAnswer x .spans)
   unfolding planAnswer planIn tableOf
   table-each (got g next n) h =
       let c : Convention = g .convention in

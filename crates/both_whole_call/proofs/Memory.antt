@@ -8,6 +8,7 @@ use borrow.Author.Tests.{le-leb, lt-ltb}
 use lib.ListN.{length, length-append}
 use Rattle.base_words.specs.Splice.{splice}
 use Rattle.base_words.proofs.Splices.{splice-append, splice-nothing}
+use Rattle.base_words.proofs.Tests.{or-right}
 use Rattle.base_conventions.specs.declared.Convention.{Convention}
 use Rattle.frame_rules.specs.declared.FrameRules.{FrameRules}
 use Rattle.frame_rules.specs.declared.Frame.{Frame}
@@ -19,7 +20,7 @@ use Rattle.frame_machine.specs.declared.Answer.the-variants.{Accepted}
 use Rattle.frame_machine.specs.declared.Refusal.the-variants.{NotPermitted}
 use Rattle.frame_machine.specs.declared.State.{State}
 use Rattle.frame_machine.specs.Answers.{require, judge}
-use Rattle.frame_machine.specs.Machine.{rulesOf, stackPointer, offset, top, caller, stateTests, inside, outgoingFrom, localsFrom, writableBytes, writableAddress, writeMemoryAnswer, writtenMemory, writeMemoryOutcome}
+use Rattle.frame_machine.specs.Machine.{stateRules, stackPointer, offset, top, caller, stateTests, inside, outgoingFrom, localsFrom, writableBytes, writableAddress, writeMemoryAnswer, writtenMemory, writeMemoryOutcome}
 use Rattle.frame_machine.proofs.Judging.{judge-next}
 use Rattle.frame_machine.proofs.States.{state-accepted}
 use Rattle.frame_machine.proofs.Outcomes.{write-memory-accepted}
@@ -27,7 +28,6 @@ use Rattle.frame_history.specs.Calls.{Call, writeMemory, Machine, answer, after
 use Rattle.frame_history.specs.Preserved.{OpenEnter, callerOf, CallsFit}
 use Rattle.frame_history.proofs.Writing.{caller-is}
 use Rattle.frame_history.proofs.Invariant.{Base, Invariant, base-of, top-is}
-use Rattle.both_meeting.proofs.Theorem.{or-right}
 use Rattle.both_whole_call.specs.Put.{callersArea, joined, Short}
 use Rattle.both_whole_call.proofs.Steps.{run, AllAccepted, openedBy, call-keeps}
 
@@ -116,7 +116,7 @@ module _ (c : Convention) (os : List OpenEnter) (m : Machine) (i : Invariant (ru
       (state-accepted k (m .state) (length (m .memory)) (base .sound))
       ∙ rw may
 
-  judged : writeMemoryAnswer (rulesOf (m .state)) (m .state) (length (m .memory)) a (length bs) ≡ Accepted
+  judged : writeMemoryAnswer (stateRules (m .state)) (m .state) (length (m .memory)) a (length bs) ≡ Accepted
   judged = subst (λ (r : FrameRules). writeMemoryAnswer r (m .state) (length (m .memory)) a (length bs) ≡ Accepted) (sym (base .rules)) allowed
 
   put-accepted : answer (writeMemory a bs) m ≡ Accepted

@@ -26,11 +26,12 @@ use Rattle.plan_plans.specs.Plan.{noSpan, planIn, planAnswer}
 use Rattle.plan_plans.proofs.Theorems as plans
 use Rattle.call_slots.specs.Arguments.{planFor}
 use Rattle.base_words.proofs.Basics.{le-or-lt}
+use Rattle.base_words.proofs.Tests.{or-left, or-right}
 use Rattle.frame_rules.specs.declared.Frame.{Frame}
 use Rattle.frame_rules.specs.Rules.{within, rules}
 use Rattle.frame_rules.specs.Frames.{firstGpr, firstFpr}
-use Rattle.both_meeting.proofs.Theorem.{agree, or-left, or-right}
-use Rattle.both_whole_call.specs.Put.{Register, register, registersIn, registersOf, hiddenSpans, named}
+use Rattle.both_meeting.proofs.Theorem.{agree}
+use Rattle.both_whole_call.specs.Put.{Register, register, rangeRegisters, registersOf, hiddenSpans, named}
 use Rattle.both_whole_call.specs.Caller.{Each, Free, SavedSix}
 use Rattle.both_whole_call.proofs.Lists.{each-both, each-left, each-right, each-with, each-at}
 
@@ -54,20 +55,20 @@ module _ (P : Register → Type 0) where
       ⊎-elim (λ u. of-range b (first + 1) count (h .1) n u (omega arith)) (λ u. let e : n ≡ first = omega arith in rw e (h .0)) (le-or-lt (first + 1) n)
 
   pub in-spans : (ss : List Span) → Each OfSpan ss → Each P (registersOf ss)
-  unfolding registersOf registersIn Each
+  unfolding registersOf rangeRegisters Each
   in-spans [] h = tt
   in-spans (s ∷ ss) h =
-      let f : List Register = registersIn Bank.Floating (s .floating) in
-      let g : List Register = registersIn Bank.General (s .general) in
+      let f : List Register = rangeRegisters Bank.Floating (s .floating) in
+      let g : List Register = rangeRegisters Bank.General (s .general) in
       each-both P f (g ++ registersOf ss) (in-range Bank.Floating (s .floating .first) (s .floating .count) (λ n p q. h .0 .floats n (p, q)))
       (each-both P g (registersOf ss) (in-range Bank.General (s .general .first) (s .general .count) (λ n p q. h .0 .generals n (p, q))) (in-spans ss (h .1)))
 
   pub of-spans : (ss : List Span) → Each P (registersOf ss) → Each OfSpan ss
-  unfolding registersOf registersIn Each
+  unfolding registersOf rangeRegisters Each
   of-spans [] h = tt
   of-spans (s ∷ ss) h =
-      let f : List Register = registersIn Bank.Floating (s .floating) in
-      let g : List Register = registersIn Bank.General (s .general) in
+      let f : List Register = rangeRegisters Bank.Floating (s .floating) in
+      let g : List Register = rangeRegisters Bank.General (s .general) in
       let rest = each-right P f (g ++ registersOf ss) h in (
         record {
           floats = λ n p. of-range Bank.Floating (s .floating .first) (s .floating .count) (each-left P f (g ++ registersOf ss) h) n (p .0) (p .1);

@@ -21,7 +21,7 @@ use Rattle.frame_rules.proofs.Places.{limit-64}
 use Rattle.frame_machine.specs.declared.Answer.the-variants.{Accepted}
 use Rattle.frame_machine.specs.declared.Refusal.the-variants.{NotPermitted}
 use Rattle.frame_machine.specs.Answers.{require, judge}
-use Rattle.frame_machine.specs.Machine.{rulesOf, stackPointer, top, sizes, stateTests, writeRegisterAnswer, writtenRegister, writeRegisterOutcome}
+use Rattle.frame_machine.specs.Machine.{stateRules, stackPointer, top, sizes, stateTests, writeRegisterAnswer, writtenRegister, writeRegisterOutcome}
 use Rattle.frame_machine.proofs.Judging.{judge-next}
 use Rattle.frame_machine.proofs.States.{state-accepted}
 use Rattle.frame_machine.proofs.Outcomes.{write-register-accepted}
@@ -121,7 +121,7 @@ module _ (c : Convention) (os : List OpenEnter) (image : List ℕ) where
         (state-accepted k (m .state) (length (m .memory)) (base .sound))
         ∙ rw (top-is k os m i, free-writable k (callerOf k os) y v (p .0) (p .1))
 
-    judged : writeRegisterAnswer (rulesOf (m .state)) (m .state) (length (m .memory)) (bankNumber (y .bank)) (y .number) (inImage image y) ≡ Accepted
+    judged : writeRegisterAnswer (stateRules (m .state)) (m .state) (length (m .memory)) (bankNumber (y .bank)) (y .number) (inImage image y) ≡ Accepted
     judged =
         subst (λ (r : FrameRules). writeRegisterAnswer r (m .state) (length (m .memory)) (bankNumber (y .bank)) (y .number) (inImage image y) ≡ Accepted) (sym (base .rules)) allowed
 

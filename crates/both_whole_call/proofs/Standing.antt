@@ -1,12 +1,10 @@
 -- An argument stands in what a callee finds, where it stands in what filling left and the two agree on its registers, its memory and the copies. Assumes nothing.
 use mathlib.Core.Path.{_≡_, refl, sym, ap, ap₂, _∙_, subst}
-use mathlib.Core.Bool.{Bool, true, false}
 use mathlib.Core.List.{List, [], _∷_, _++_}
 use Prim.Native.Nat.{ℕ, zero, suc, _+_, _*_, _^_, _≤_, _<_}
 use native.Mathlib.Omega.{arith}
 use lib.ListN.{length, getD, take, drop, length-append, length-drop, length-take}
 use lib.Seq.{take-append-le, drop-append-le, drop-append-add}
-use Rattle.base_words.specs.Basics.{pick}
 use Rattle.base_words.specs.Splice.{part}
 use Rattle.base_words.specs.Numbers.{Bytes, bytesOf, valueOf}
 use Rattle.base_words.proofs.Splices.{part-add, part-part, length-part}
@@ -19,6 +17,7 @@ use Rattle.plan_places.specs.declared.Span.{Span}
 use Rattle.call_slots.specs.Buffers.{Buffers, buffers, bytesAt}
 use Rattle.call_slots.specs.Placements.{Placement, placements, copyBytes}
 use Rattle.call_slots.specs.Helpers.{Fits, All}
+use Rattle.call_slots.proofs.Planned.{in-image, copy-in}
 use Rattle.call_roundtrip.proofs.Arguments.{Put, AllPut}
 use Rattle.frame_rules.specs.declared.FrameRules as frames
 use Rattle.frame_rules.specs.declared.Registers.{Registers}
@@ -116,11 +115,7 @@ module _ (r : CallRules) (base a m : ℕ) (b : Buffers) (image : List ℕ) (size
 
   -- the copy of an argument lies in the copies
   copied : (p : Placement) (v : List ℕ) → Fits a m p → Put r base p v b → p .span .copy .start + length (copyBytes p v) ≤ m
-  copied p v fits h = go (p .span .indirect) refl
-    where
-      go : (i : Bool) → p .span .indirect ≡ i → p .span .copy .start + length (pick i v []) ≤ m
-      go true q = omega (arith, h .given .held .copied q, h .given .size, fits .copies)
-      go false q = omega (arith, fits .copies)
+  copied p v fits h = copy-in r p v m (h .given .room .registers .held) (omega (arith, h .given .size)) (fits .copies)
 
   stands-found : (p : Placement) (v : List ℕ) → Fits a m p → OfSpan (Same image (b .image)) (p .span) → Put r base p v b → Put r base p v c
   unfolding bytesAt
@@ -129,17 +124,14 @@ module _ (r : CallRules) (base a m : ℕ) (b : Buffers) (image : List ℕ) (size
       let plain : (n : ℕ) → 0 + n ≡ n = λ n. omega arith in
       record {
         given = record {
-          held = h .given .held;
-          fits = record {
-            general = h .given .fits .general;
-            floating = h .given .fits .floating;
+          room = record {
+            registers = in-image r (length image) a m p (h .given .room .registers .held) fits size;
             memory = omega (arith, fits .memory, length-take a (b .area));
             copies = omega (arith, fits .copies, length-take m (b .copies));
+            low = h .given .room .low;
           };
-          image = size;
           size = h .given .size;
           bytes = h .given .bytes;
-          low = h .given .low;
         };
         stands = record {
           floats = run-same image (b .image) Bank.Floating (s .floating .first) (s .floating .count) (λ n u w. same .floats n (u, w)) ∙ h .stands .floats;

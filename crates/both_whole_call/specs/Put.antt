@@ -66,13 +66,13 @@ fileOf Bank.Floating r = r .fpr
 abbrev pub heldIn : Registers → Register → ℕ
 heldIn r x = getD (fileOf (x .bank) r) (x .number) 0
 
-unfoldable pub registersIn : Bank → RegisterRange → List Register
-registersIn b r = map (register b) (upFrom (r .first) 1 (r .count))
+unfoldable pub rangeRegisters : Bank → RegisterRange → List Register
+rangeRegisters b r = map (register b) (upFrom (r .first) 1 (r .count))
 
 -- of several arguments, in order
 unfoldable pub registersOf : List Span → List Register
 registersOf [] = []
-registersOf (s ∷ ss) = registersIn Bank.Floating (s .floating) ++ (registersIn Bank.General (s .general) ++ registersOf ss)
+registersOf (s ∷ ss) = rangeRegisters Bank.Floating (s .floating) ++ (rangeRegisters Bank.General (s .general) ++ registersOf ss)
 
 -- where the hidden address is
 abbrev pub hiddenSpans : ResultPlaces → List Span

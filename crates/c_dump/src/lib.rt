@@ -8,7 +8,7 @@ ghost use mathlib.Core.Path.{_≡_};
 ghost use lib.ListN.{length};
 ghost use Rattle.base_conventions.specs.declared.Convention.the-variants as convention;
 ghost use Rattle.frame_rules.specs.Rules.{rules};
-ghost use Rattle.frame_dump.specs.Walk.{walkInto, counted, listed};
+ghost use Rattle.frame_dump.specs.Walk.{walkInto, counted, framesListed};
 ghost use Rattle.c_dump.specs.Dump.{walkedAnswer};
 
 // `fz_walked` of include/flakuzhen.h.
@@ -49,7 +49,7 @@ pub extern "C" fn fz_walk_dump_ppc64(
     list: &mut [u64],
 ) -> Walked
     ensures { λ r. ⌜ r ≡ walkedAnswer (counted 0 (walkInto (rules convention.Ppc64) base (now (memory .entry)) pointer (length (now (list .entry))))) ⌝ }
-    ensures { λ _. ⌜ now (list .exit) ≡ listed (walkInto (rules convention.Ppc64) base (now (memory .entry)) pointer (length (now (list .entry)))) (now (list .entry)) ⌝ }
+    ensures { λ _. ⌜ now (list .exit) ≡ framesListed (walkInto (rules convention.Ppc64) base (now (memory .entry)) pointer (length (now (list .entry)))) (now (list .entry)) ⌝ }
 {
     let k = Ppc64::frame_rules();
     let f = frame_dump_walk::walk(memory, k, base, pointer, list);
@@ -59,7 +59,7 @@ pub extern "C" fn fz_walk_dump_ppc64(
 #[no_mangle]
 pub extern "C" fn fz_walk_dump_z(memory: &[u8], base: u64, pointer: u64, list: &mut [u64]) -> Walked
     ensures { λ r. ⌜ r ≡ walkedAnswer (counted 0 (walkInto (rules convention.Z) base (now (memory .entry)) pointer (length (now (list .entry))))) ⌝ }
-    ensures { λ _. ⌜ now (list .exit) ≡ listed (walkInto (rules convention.Z) base (now (memory .entry)) pointer (length (now (list .entry)))) (now (list .entry)) ⌝ }
+    ensures { λ _. ⌜ now (list .exit) ≡ framesListed (walkInto (rules convention.Z) base (now (memory .entry)) pointer (length (now (list .entry)))) (now (list .entry)) ⌝ }
 {
     let k = Z::frame_rules();
     let f = frame_dump_walk::walk(memory, k, base, pointer, list);
@@ -74,7 +74,7 @@ pub extern "C" fn fz_walk_dump_aix(
     list: &mut [u64],
 ) -> Walked
     ensures { λ r. ⌜ r ≡ walkedAnswer (counted 0 (walkInto (rules convention.Aix) base (now (memory .entry)) pointer (length (now (list .entry))))) ⌝ }
-    ensures { λ _. ⌜ now (list .exit) ≡ listed (walkInto (rules convention.Aix) base (now (memory .entry)) pointer (length (now (list .entry)))) (now (list .entry)) ⌝ }
+    ensures { λ _. ⌜ now (list .exit) ≡ framesListed (walkInto (rules convention.Aix) base (now (memory .entry)) pointer (length (now (list .entry)))) (now (list .entry)) ⌝ }
 {
     let k = Aix::frame_rules();
     let f = frame_dump_walk::walk(memory, k, base, pointer, list);

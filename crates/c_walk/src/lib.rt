@@ -5,7 +5,7 @@ use call_walker::WALKER_WORDS;
 ghost use mathlib.Core.Path.{_≡_};
 ghost use Rattle.sig_signatures.specs.Read.{signatureOf};
 ghost use Rattle.call_slots.specs.Buffers.{buffers};
-ghost use Rattle.call_walker.specs.Words.{startAnswer, startWords, walk};
+ghost use Rattle.call_walker.specs.Words.{walkStartAnswer, startWords, walk};
 ghost use Rattle.c_walk.specs.Walk.{walkAnswer};
 
 fn answer_of(a: call_walker::Answer) -> Answer
@@ -23,7 +23,7 @@ fn answer_of(a: call_walker::Answer) -> Answer
 
 #[no_mangle]
 pub extern "C" fn fz_walk_start(walker: &mut [u64; WALKER_WORDS], sig: &[u8]) -> Answer
-    ensures { λ r. ⌜ r ≡ walkAnswer (startAnswer (signatureOf (now (sig .entry)))) ⌝ }
+    ensures { λ r. ⌜ r ≡ walkAnswer (walkStartAnswer (signatureOf (now (sig .entry)))) ⌝ }
     ensures { λ _. ⌜ now (walker .exit) ≡ startWords (signatureOf (now (sig .entry))) (now (walker .entry)) ⌝ }
 {
     let a = call_walking::start(walker, sig);

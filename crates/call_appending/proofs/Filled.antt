@@ -23,7 +23,7 @@ use Rattle.sig_signatures.specs.Types.{valuesOf, typesOf}
 use Rattle.call_slots.specs.Buffers.{Slot}
 use Rattle.call_slots.specs.Placements.{Placement, placement, placements, slotsOf, slotsOfAll, hiddenSlots}
 use Rattle.call_slots.specs.Helpers.{sizesOf}
-use Rattle.call_slots.specs.Arguments.{argumentsIn, argumentsOf, planFor, rulesIn, rulesFor}
+use Rattle.call_slots.specs.Arguments.{placementsIn, argumentsOf, planFor, rulesIn, rulesFor}
 use Rattle.call_slots.proofs.Planned.{placements-sizes}
 use Rattle.call_slots.proofs.Answered.{arguments-got}
 use Rattle.call_fill.specs.Fill.{filledSlots}
@@ -66,8 +66,8 @@ module _ (g : Signature) (us : Trees) where
   others = placements c (typesOf c us) (spansOf c r (lastOf c r k (typesOf c (g .arguments))) (typesOf c us))
 
   pub arguments-extended : (next n l m : ℕ)
-      → argumentsIn (signatureAnswer (got (extended g us) l m)) (planAnswer (got (extended g us) l m))
-      ≡ argumentsIn (signatureAnswer (got g next n)) (planAnswer (got g next n)) ++ others
+      → placementsIn (signatureAnswer (got (extended g us) l m)) (planAnswer (got (extended g us) l m))
+      ≡ placementsIn (signatureAnswer (got g next n)) (planAnswer (got g next n)) ++ others
   unfolding c k others
   arguments-extended next n l m =
       arguments-got (extended g us) l m
@@ -76,7 +76,7 @@ module _ (g : Signature) (us : Trees) where
       ∙ ap (λ (ps : List Placement). ps ++ others) (sym (arguments-got g next n))
 
 -- what the values of g's arguments come to
-arguments-total : (g : Signature) (next n : ℕ) → sizesOf (argumentsIn (signatureAnswer (got g next n)) (planAnswer (got g next n))) ≡ planAnswer (got g next n) .values
+arguments-total : (g : Signature) (next n : ℕ) → sizesOf (placementsIn (signatureAnswer (got g next n)) (planAnswer (got g next n))) ≡ planAnswer (got g next n) .values
 unfolding planAnswer planIn
 arguments-total g next n = ap sizesOf (arguments-got g next n) ∙ placements-sizes (g .convention) _ _ (typesOf (g .convention) (g .arguments))
 
@@ -84,13 +84,13 @@ arguments-total g next n = ap sizesOf (arguments-got g next n) ∙ placements-si
 abbrev slotsIn : Reading Signature → List ℕ → ℕ → ℕ → List Slot
 slotsIn x values base hidden =
     hiddenSlots (wordOf (rulesIn (signatureAnswer x))) (planAnswer x .result) hidden
-    ++ slotsOfAll (rulesIn (signatureAnswer x)) base (argumentsIn (signatureAnswer x) (planAnswer x)) values
+    ++ slotsOfAll (rulesIn (signatureAnswer x)) base (placementsIn (signatureAnswer x) (planAnswer x)) values
 
 slots-kept : (g : Signature) (us : Trees) (next n l m : ℕ) (values more : List ℕ) (base hidden : ℕ) → length values ≡ planAnswer (got g next n) .values
     → Begins (slotsIn (got g next n) values base hidden) (slotsIn (got (extended g us) l m) (values ++ more) base hidden)
 slots-kept g us next n l m values more base hidden e =
     let q : CallRules = withEllipsis (g .ellipsis) (rulesOf (g .convention)) in
-    let ps : List Placement = argumentsIn (signatureAnswer (got g next n)) (planAnswer (got g next n)) in
+    let ps : List Placement = placementsIn (signatureAnswer (got g next n)) (planAnswer (got g next n)) in
     let hs : List Slot = hiddenSlots (wordOf q) (planAnswer (got g next n) .result) hidden in
     let rest : List Slot = slotsOfAll q base (others g us) more in
     record {

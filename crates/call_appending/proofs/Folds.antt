@@ -1,9 +1,9 @@
 -- What is folded from left to right does not look ahead: a list with more after it gives the same, and goes on from there. Over any
 -- rules. Assumes nothing.
-use mathlib.Core.Path.{_≡_, refl, sym, ap, _∙_}
+use mathlib.Core.Path.{_≡_, sym, ap, _∙_}
 use mathlib.Core.Bool.{Bool, true, false}
 use mathlib.Core.List.{List, [], _∷_, _++_, append-assoc, append-nil}
-use Prim.Native.Nat.{ℕ, zero, suc, _+_, _≤_, _<_}
+use Prim.Native.Nat.{ℕ, suc, _+_, _≤_, _<_}
 use native.Mathlib.Omega.{arith}
 use lib.ListN.{length, getD, List·getD-append}
 use Rattle.base_words.specs.Basics.{pick}
@@ -14,13 +14,12 @@ use Rattle.sig_types.specs.Trees.{Trees, none, _▸_, typeOf, countOf}
 use Rattle.plan_places.specs.declared.Cursor.{Cursor}
 use Rattle.plan_places.specs.declared.Span.{Span}
 use Rattle.plan_places.specs.declared.CallRules.{CallRules}
-use Rattle.plan_places.specs.Step.{spanOf, nextOf, unclearFor, areaOf}
+use Rattle.plan_places.specs.Step.{nextOf, unclearFor, areaOf}
 use Rattle.plan_plans.specs.Plan.{spansOf, lastOf, noSpan, tableOf}
-use Rattle.sig_signatures.specs.Types.{valuesOf, typesOf}
+use Rattle.sig_signatures.specs.Types.{typesOf}
 use Rattle.plan_plans.specs.Call.{firstUnclear}
-use Rattle.plan_plans.proofs.Fold.{length-spans}
+use Rattle.plan_plans.proofs.Fold.{length-spans, spans-append}
 use Rattle.plan_plans.proofs.Apart.{in-table}
-use Rattle.plan_plans.proofs.Calls.{unclearFrom}
 use Rattle.call_appending.specs.Appending.{joined}
 
 -- ---- types
@@ -37,21 +36,6 @@ joined-count ts (us ▸ u) = omega (arith, joined-count ts us)
 
 -- ---- spans, cursors and sizes
 
-pub spans-append : (c : Convention) (r : CallRules) (k : Cursor) (ts us : List ValueType) → spansOf c r k (ts ++ us) ≡ spansOf c r k ts ++ spansOf c r (lastOf c r k ts) us
-unfolding spansOf lastOf
-spans-append c r k [] us = refl
-spans-append c r k (t ∷ ts) us = ap (λ (l : List Span). spanOf r k t (sizeOf c t) ∷ l) (spans-append c r (nextOf r k t (sizeOf c t)) ts us)
-
-pub last-append : (c : Convention) (r : CallRules) (k : Cursor) (ts us : List ValueType) → lastOf c r k (ts ++ us) ≡ lastOf c r (lastOf c r k ts) us
-unfolding lastOf
-last-append c r k [] us = refl
-last-append c r k (t ∷ ts) us = last-append c r (nextOf r k t (sizeOf c t)) ts us
-
-pub values-append : (c : Convention) (ts us : List ValueType) → valuesOf c (ts ++ us) ≡ valuesOf c ts + valuesOf c us
-unfolding valuesOf
-values-append c [] us = omega arith
-values-append c (t ∷ ts) us = omega (arith, values-append c ts us)
-
 pub area-grows : (c : Convention) (d e : Cursor) → d .stack ≤ e .stack → areaOf c d ≤ areaOf c e
 unfolding areaOf
 area-grows c d e h = omega arith
@@ -66,25 +50,7 @@ table-append c r k ts us i h =
     ∙ List·getD-append (spansOf c r k ts) (spansOf c r d us) noSpan i (omega (arith, length-spans c r k ts))
     ∙ sym (in-table (spansOf c r k ts) i)
 
--- ---- 29: the first unclear argument of the first ones, or the first after them
-
-pub unclear-append : (c : Convention) (r : CallRules) (k : Cursor) (i : ℕ) (ts us : List ValueType)
-    → firstUnclear c r k i (ts ++ us) ≡ unclearFrom c r (firstUnclear c r k i ts) (lastOf c r k ts) (i + length ts) us
-unfolding firstUnclear lastOf
-unclear-append c r k i [] us = let same : i ≡ i + 0 = omega arith in ap (λ (j : ℕ). firstUnclear c r k j us) same
-unclear-append c r k i (t ∷ ts) us = go (unclearFor r k t) (unclear-append c r (nextOf r k t (sizeOf c t)) (suc i) ts us)
-  where
-    next : Cursor
-    next = nextOf r k t (sizeOf c t)
-
-    go : (b : Bool)
-        → firstUnclear c r next (suc i) (ts ++ us) ≡ unclearFrom c r (firstUnclear c r next (suc i) ts) (lastOf c r next ts) (suc i + length ts) us
-        → pick b (suc i) (firstUnclear c r next (suc i) (ts ++ us))
-        ≡ unclearFrom c r (pick b (suc i) (firstUnclear c r next (suc i) ts)) (lastOf c r next ts) (i + suc (length ts)) us
-    go true e = refl
-    go false e =
-        let same : suc i + length ts ≡ i + suc (length ts) = omega arith in
-        e ∙ ap (λ (j : ℕ). unclearFrom c r (firstUnclear c r next (suc i) ts) (lastOf c r next ts) j us) same
+-- ---- 29
 
 -- the first unclear one is one of them
 pub unclear-within : (c : Convention) (r : CallRules) (k : Cursor) (i : ℕ) (ts : List ValueType) (j : ℕ) → firstUnclear c r k i ts ≡ suc j → j < i + length ts

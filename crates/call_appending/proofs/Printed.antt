@@ -19,12 +19,12 @@ use Rattle.plan_places.specs.declared.Span.{Span}
 use Rattle.plan_places.specs.Step.{rulesOf, withEllipsis}
 use Rattle.plan_plans.specs.Plan.{spansOf, lastOf, noSpan, tableOf, startIn, planIn, planAnswer}
 use Rattle.sig_signatures.specs.Types.{typesOf}
-use Rattle.plan_plans.proofs.Fold.{length-spans}
+use Rattle.plan_plans.proofs.Fold.{length-spans, spans-append}
 use Rattle.plan_line.specs.Line.{lineText}
 use Rattle.plan_listing.specs.Text.{linesText, headText, resultText, acceptedText, planText, listingOf}
 use Rattle.call_appending.specs.Appending.{joined}
 use Rattle.call_appending.specs.Printed.{LinesKept, LinesStay}
-use Rattle.call_appending.proofs.Folds.{types-joined, spans-append}
+use Rattle.call_appending.proofs.Folds.{types-joined}
 use Rattle.call_appending.proofs.Encoded.{extended}
 use Rattle.call_appending.proofs.Theorems.{kept, readings}
 

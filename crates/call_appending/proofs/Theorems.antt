@@ -26,16 +26,16 @@ use Rattle.sig_reader.specs.Argument.{argumentIn, argumentsPlace, argumentOf}
 use Rattle.plan_places.specs.declared.Cursor.{Cursor}
 use Rattle.plan_places.specs.declared.CallRules.{CallRules}
 use Rattle.plan_places.specs.Step.{rulesOf, withEllipsis}
-use Rattle.plan_plans.specs.Plan.{lastOf, startIn, endIn, planIn, planAnswer}
+use Rattle.plan_plans.specs.Plan.{lastOf, startIn, lastCursorIn, planIn, planAnswer}
 use Rattle.sig_signatures.specs.Types.{typesOf, valuesOf}
 use Rattle.plan_plans.specs.Disjoint.{spanAt}
 use Rattle.plan_plans.specs.Call.{firstUnclear, unclearIn, unclearFault, itemIn, clearRead, called, callOf, outcomeFor}
-use Rattle.plan_plans.proofs.Fold.{last-forward}
+use Rattle.plan_plans.proofs.Fold.{last-forward, last-append, values-append}
 use Rattle.sig_signatures.proofs.Types.{length-of-types}
-use Rattle.plan_plans.proofs.Calls.{unclearFrom, called-got, called-accepted}
+use Rattle.plan_plans.proofs.Calls.{unclearFrom, unclear-append, called-got, called-accepted}
 use Rattle.plan_words.specs.Entries.{sizeAt, valueAt, entryAt}
 use Rattle.call_appending.specs.Appending.{joined, Appends, Appended, Kept, Stays, PlacesStay, ShorterAccepted, RefusedAlike}
-use Rattle.call_appending.proofs.Folds.{types-joined, joined-count, last-append, values-append, area-grows, table-append, unclear-append, unclear-within}
+use Rattle.call_appending.proofs.Folds.{types-joined, joined-count, area-grows, table-append, unclear-within}
 use Rattle.call_appending.proofs.Encoded.{extended, appends-extended, shorter-within}
 
 -- ---- an argument's type and the place of its item
@@ -90,7 +90,7 @@ module _ (g : Signature) (us : Trees) (k n l m : ℕ) where
       let ts : List ValueType = typesOf c (g .arguments) in
       let vs : List ValueType = typesOf c us in
       let r : ResultType = resultType c (g .result) in
-      let on = last-forward c (rulesOf c) (endIn c r ts) vs in
+      let on = last-forward c (rulesOf c) (lastCursorIn c r ts) vs in
       let types = types-joined c (g .arguments) us in
       let last = last-append c (rulesOf c) (startIn c r) ts vs in
       record {
@@ -101,7 +101,7 @@ module _ (g : Signature) (us : Trees) (k n l m : ℕ) where
         places = span-kept;
         offset = λ i h. value-kept i (omega arith);
         words = entry-kept;
-        area = rw (types, last) (area-grows c (endIn c r ts) (lastOf c (rulesOf c) (endIn c r ts) vs) (on .stack));
+        area = rw (types, last) (area-grows c (lastCursorIn c r ts) (lastOf c (rulesOf c) (lastCursorIn c r ts) vs) (on .stack));
         values = rw types (omega (arith, values-append c ts vs));
         copies = rw (types, last) (on .copies);
       }
@@ -111,7 +111,7 @@ module _ (g : Signature) (us : Trees) (k n l m : ℕ) where
 unclear-joined : (g : Signature) (us : Trees)
     → unclearIn (extended g us)
     ≡ unclearFrom (g .convention) (rulesOf (g .convention)) (unclearIn g)
-    (endIn (g .convention) (resultType (g .convention) (g .result)) (typesOf (g .convention) (g .arguments)))
+    (lastCursorIn (g .convention) (resultType (g .convention) (g .result)) (typesOf (g .convention) (g .arguments)))
     (0 + length (typesOf (g .convention) (g .arguments))) (typesOf (g .convention) us)
 unclear-joined g us =
     let c : Convention = g .convention in
@@ -132,7 +132,7 @@ unclear-first : (g : Signature) (us : Trees) (i : ℕ) → unclearIn g ≡ suc i
 unclear-first g us i e =
     let c : Convention = g .convention in
     unclear-joined g us
-    ∙ ap (λ (u : ℕ). unclearFrom c (rulesOf c) u (endIn c (resultType c (g .result)) (typesOf c (g .arguments))) (0 + length (typesOf c (g .arguments))) (typesOf c us)) e
+    ∙ ap (λ (u : ℕ). unclearFrom c (rulesOf c) u (lastCursorIn c (resultType c (g .result)) (typesOf c (g .arguments))) (0 + length (typesOf c (g .arguments))) (typesOf c us)) e
 
 -- ---- on bytes
 

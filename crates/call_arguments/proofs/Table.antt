@@ -24,19 +24,19 @@ use Rattle.plan_places.specs.Helpers.{LawfulCalls, Roomy}
 use Rattle.plan_places.proofs.Bounds.{rules-lawful}
 use Rattle.plan_places.proofs.Marked.{lawful-marked, next-marked, start-marked}
 use Rattle.plan_plans.specs.declared.Measured.{Measured}
-use Rattle.plan_plans.specs.Plan.{spansOf, lastOf, hiddenIn, startIn, endIn, resultPlacesIn, planIn, planAnswer, measureOf}
+use Rattle.plan_plans.specs.Plan.{spansOf, lastOf, hiddenIn, startIn, lastCursorIn, resultPlacesIn, planIn, planAnswer, measureOf}
 use Rattle.plan_plans.specs.Helpers.{planned, unclearOf}
 use Rattle.plan_plans.proofs.Fold.{last-marked, Reached, reached-start, reached-more, reached-roomy}
 use Rattle.plan_plans.proofs.Answers.{planned-answer, outcome-read}
 use Rattle.plan_plans.proofs.Calls.{clear-outcome}
 use Rattle.call_slots.specs.Placements.{Placement, placement, placements}
-use Rattle.call_slots.specs.Arguments.{argumentsIn, argumentsOf, planFor, rulesIn, sizesFor}
+use Rattle.call_slots.specs.Arguments.{placementsIn, argumentsOf, planFor, rulesIn, sizesFor}
 use Rattle.call_slots.proofs.Answered.{arguments-got}
 use Rattle.call_arguments.specs.Table.{argumentsFrom}
 
 -- the table's arguments are the signature's
-arguments-same : (x : Reading Signature) → argumentsFrom (signatureAnswer x) ≡ argumentsIn (signatureAnswer x) (planAnswer x)
-unfolding argumentsFrom argumentsIn planAnswer placements
+arguments-same : (x : Reading Signature) → argumentsFrom (signatureAnswer x) ≡ placementsIn (signatureAnswer x) (planAnswer x)
+unfolding argumentsFrom placementsIn planAnswer placements
 arguments-same (got g next n) =
     ap (λ (ts : List ValueType). placements (g .convention) ts (spansOf (g .convention) (withEllipsis (g .ellipsis) (rulesOf (g .convention))) (startIn (g .convention) (resultType (g .convention) (g .result))) ts)) (table-types (g .convention) (g .arguments))
     ∙ sym (arguments-got g next n)
@@ -81,7 +81,7 @@ module _ (g : SignatureRead) where
   pub record Walking (k : Cursor) (v i : ℕ) : Type 0 where
     pub within : i ≤ g .count
     pub rest : drop i (argumentsFrom g) ≡ placements (g .convention) (drop i (typesIn g)) (spansOf (g .convention) (rulesIn g) k (drop i (typesIn g)))
-    pub last : lastOf (g .convention) (rulesIn g) k (drop i (typesIn g)) ≡ endIn (g .convention) (g .result) (typesIn g)
+    pub last : lastOf (g .convention) (rulesIn g) k (drop i (typesIn g)) ≡ lastCursorIn (g .convention) (g .result) (typesIn g)
     pub total : v + valuesOf (g .convention) (drop i (typesIn g)) ≡ valuesOf (g .convention) (typesIn g)
     pub reached : Reached (rulesIn g) k v i
 
@@ -103,7 +103,7 @@ module _ (g : SignatureRead) where
     -- past the last argument
     pub record Ended : Type 0 where
       pub none : drop i (argumentsFrom g) ≡ []
-      pub last : k ≡ endIn (g .convention) (g .result) (typesIn g)
+      pub last : k ≡ lastCursorIn (g .convention) (g .result) (typesIn g)
       pub total : v ≡ valuesOf (g .convention) (typesIn g)
 
     pub walking-end : g .count ≤ i → Ended

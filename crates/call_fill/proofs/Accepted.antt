@@ -46,7 +46,7 @@ use Rattle.call_slots.proofs.Answered.{carried}
 use Rattle.call_arguments.specs.Table.{argumentsFrom}
 use Rattle.call_arguments.proofs.Table.{arguments-read}
 use Rattle.call_slots.proofs.Buffers.{putAll-lengths, putAll-append}
-use Rattle.call_slots.proofs.Planned.{all-with}
+use Rattle.call_slots.proofs.Planned.{in-image, all-with}
 use Rattle.call_slots.proofs.Refusals.{first-done, differ-false}
 use Rattle.call_marshal.specs.Helpers.{CanPut}
 use Rattle.call_fill.specs.declared.FillLengths.{FillLengths}
@@ -132,9 +132,9 @@ all-ready s g base v i a k same values image area copies low =
   where
     ready : (q : Placement) → Held (rulesIn g) q → Fits (planFor s .area) (planFor s .copies) q → CanPut (rulesIn g) base i a k q
     ready q x y = record {
-      held = x;
-      fits = record { general = y .general; floating = y .floating; memory = omega (arith, y .memory); copies = omega (arith, y .copies) };
-      registers = image;
+      registers = in-image (rulesIn g) i (planFor s .area) (planFor s .copies) q x y image;
+      memory = omega (arith, y .memory);
+      copies = omega (arith, y .copies);
       low = omega (arith, y .copies);
     }
 

@@ -22,8 +22,8 @@ use Rattle.call_slots.specs.Placements.{Placement}
 use Rattle.call_slots.specs.Helpers.{Held, Fits, All}
 use Rattle.call_slots.specs.Refusals.{firstOf, orElse, afterReading, isRefused}
 use Rattle.plan_plans.specs.Call.{outcomeFor}
-use Rattle.call_slots.specs.Arguments.{argumentsIn, argumentsOf, planFor, rulesIn, rulesFor}
-use Rattle.call_slots.proofs.Planned.{all-with}
+use Rattle.call_slots.specs.Arguments.{placementsIn, argumentsOf, planFor, rulesIn, rulesFor}
+use Rattle.call_slots.proofs.Planned.{in-image, all-with}
 use Rattle.call_slots.proofs.Refusals.{first-done, differ-false, or-refused, not-refused}
 use Rattle.call_slots.proofs.Answered.{Carried, carried-same}
 use Rattle.call_home.specs.Home.{homeTests, homeAnswer, registersAnswer, homeArea, homed}
@@ -90,12 +90,12 @@ pub all-registered : (s : List ℕ) (g : SignatureRead) (p : Plan) (i : ℕ) →
 unfolding argumentsOf
 all-registered s g p i read plan power image =
     let c : Carried g p = carried-same s g p read plan in
-    let homes : All (Homed (rulesIn g) (p .area)) (argumentsIn g p) =
+    let homes : All (Homed (rulesIn g) (p .area)) (placementsIn g p) =
     rw (read, plan) (homed-all s (ap (λ (x : SignatureRead). homeless (rulesIn x)) (sym read) ∙ power)) in
     record {
       tables = c .tables;
-      each = all-with Lies (Homed r (p .area)) (Registered r (p .area) i) registered (argumentsIn g p)
-          (all-with (Held r) (Fits (p .area) (p .copies)) Lies (λ q x y. (x, y)) (argumentsIn g p) (c .held) (c .fit)) homes;
+      each = all-with Lies (Homed r (p .area)) (Registered r (p .area) i) registered (placementsIn g p)
+          (all-with (Held r) (Fits (p .area) (p .copies)) Lies (λ q x y. (x, y)) (placementsIn g p) (c .held) (c .fit)) homes;
     }
   where
     r : CallRules
@@ -105,7 +105,7 @@ all-registered s g p i read plan power image =
     Lies q = Held r q × Fits (p .area) (p .copies) q
 
     registered : (q : Placement) → Lies q → Homed r (p .area) q → Registered r (p .area) i q
-    registered q x y = record { held = x .0; homed = y; general = x .1 .general; floating = x .1 .floating; image = image }
+    registered q x y = record { registers = in-image r i (p .area) (p .copies) q (x .0) (x .1) image; homed = y }
 
 -- ---- the answer and the area
 
@@ -118,18 +118,18 @@ module _ (s image : List ℕ) (have : ℕ) where
   module _ (g : SignatureRead) (p : Plan) (n : ℕ) (read : g ≡ signatureAnswer (signatureOf s)) (plan : p ≡ planFor s) (e : outcomeFor s ≡ Outcome.Accepted n) where
     -- of the lengths l and the registers a
     whole : (l a : Answer) → l ≡ firstOf (homeTests (rulesIn g) (length image) have (p .area))
-        → a ≡ registersAnswer (rulesIn g) (argumentsIn g p) image → orElse l a ≡ homeAnswer s image have
+        → a ≡ registersAnswer (rulesIn g) (placementsIn g p) image → orElse l a ≡ homeAnswer s image have
     unfolding homeAnswer argumentsOf
     whole l a x y =
         ap₂ orElse x y
-        ∙ ap₂ (λ (g : SignatureRead) (p : Plan). orElse (firstOf (homeTests (rulesIn g) (length image) have (p .area))) (registersAnswer (rulesIn g) (argumentsIn g p) image)) read plan
+        ∙ ap₂ (λ (g : SignatureRead) (p : Plan). orElse (firstOf (homeTests (rulesIn g) (length image) have (p .area))) (registersAnswer (rulesIn g) (placementsIn g p) image)) read plan
         ∙ sym (ap (λ (o : Outcome). afterReading o (orElse (firstOf (homeTests (rulesFor s) (length image) have (planFor s .area))) (registersAnswer (rulesFor s) (argumentsOf s) image))) e)
 
     pub home-lengths : (l : Answer) → l ≡ firstOf (homeTests (rulesIn g) (length image) have (p .area)) → isRefused l ≡ true → l ≡ homeAnswer s image have
-    home-lengths l x t = sym (or-refused l _ t) ∙ whole l (registersAnswer (rulesIn g) (argumentsIn g p) image) x refl
+    home-lengths l x t = sym (or-refused l _ t) ∙ whole l (registersAnswer (rulesIn g) (placementsIn g p) image) x refl
 
     pub home-registers : (l a : Answer) → l ≡ firstOf (homeTests (rulesIn g) (length image) have (p .area)) → isRefused l ≡ false
-        → a ≡ registersAnswer (rulesIn g) (argumentsIn g p) image → a ≡ homeAnswer s image have
+        → a ≡ registersAnswer (rulesIn g) (placementsIn g p) image → a ≡ homeAnswer s image have
     home-registers l a x t y = ap (λ (z : Answer). orElse z a) (sym (not-refused l t)) ∙ whole l a x y
 
 pub area-kept : (s : List ℕ) (a : Answer) (image area : List ℕ) → isRefused a ≡ true → area ≡ homeArea s a image area
@@ -139,6 +139,6 @@ area-kept s (Answer.Unread f) image area e = refl
 area-kept s (Answer.Refused reason) image area e = refl
 
 pub area-homed : (s image area last : List ℕ) (g : SignatureRead) (p : Plan) → g ≡ signatureAnswer (signatureOf s) → p ≡ planFor s
-    → last ≡ homed (rulesIn g) (argumentsIn g p) image area → last ≡ homeArea s Answer.Done image area
+    → last ≡ homed (rulesIn g) (placementsIn g p) image area → last ≡ homeArea s Answer.Done image area
 unfolding homeArea argumentsOf
 area-homed s image area last g p read plan e = rw (← read, ← plan) e

@@ -4,10 +4,10 @@ use Prim.Native.Nat.{ℕ}
 use Rattle.sig_signatures.specs.declared.SignatureRead.{SignatureRead}
 use Rattle.plan_plans.specs.declared.Plan.{Plan}
 use Rattle.call_slots.specs.Helpers.{All, Tabled}
-use Rattle.call_slots.specs.Arguments.{argumentsIn, rulesIn}
+use Rattle.call_slots.specs.Arguments.{placementsIn, rulesIn}
 use Rattle.call_home_slot.specs.Helpers.{Registered}
 
 -- all arguments
 pub record AllRegistered (g : SignatureRead) (p : Plan) (i : ℕ) : Type 0 where
   pub tables : Tabled g p
-  pub each : All (Registered (rulesIn g) (p .area) i) (argumentsIn g p)
+  pub each : All (Registered (rulesIn g) (p .area) i) (placementsIn g p)

@@ -10,14 +10,14 @@ ghost use mathlib.Core.Path.{_≡_};
 ghost use Prim.Native.Nat.{_≤_};
 ghost use lib.ListN.{length};
 ghost use Rattle.call_slots.specs.Refusals.{firstOf};
-ghost use Rattle.call_slots.specs.Arguments.{argumentsIn, rulesIn};
+ghost use Rattle.call_slots.specs.Arguments.{placementsIn, rulesIn};
 ghost use Rattle.call_home.specs.Home.{registersAnswer, homeTests, homeAnswer, homed, homeArea};
 ghost use Rattle.call_home.specs.Helpers.{AllRegistered};
 
 // The refusal of the first argument, left to right, that can't be homed.
 fn first_unwidened(image: &[u8], g: SignatureRead, p: Plan) -> Answer
     requires { ⌜ AllRegistered g p (length (now image)) ⌝ }
-    ensures { λ a. ⌜ a ≡ registersAnswer (rulesIn g) (argumentsIn g p) (now (image .entry)) ⌝ }
+    ensures { λ a. ⌜ a ≡ registersAnswer (rulesIn g) (placementsIn g p) (now (image .entry)) ⌝ }
 {
     let convention = g.convention;
     let count = g.count;
@@ -39,7 +39,7 @@ fn first_unwidened(image: &[u8], g: SignatureRead, p: Plan) -> Answer
 // All arguments, each in the part of the area that starts at its home.
 fn put_homes(area: &mut [u8], image: &[u8], g: SignatureRead, p: Plan)
     requires { ⌜ AllRegistered g p (length (now image)) × (p .area ≤ length (now area)) ⌝ }
-    ensures { λ _. ⌜ now (area .exit) ≡ homed (rulesIn g) (argumentsIn g p) (now (image .entry)) (now (area .entry)) ⌝ }
+    ensures { λ _. ⌜ now (area .exit) ≡ homed (rulesIn g) (placementsIn g p) (now (image .entry)) (now (area .entry)) ⌝ }
 {
     let convention = g.convention;
     let count = g.count;

@@ -72,17 +72,17 @@ module _ (r : CallRules) (a i : ℕ) (p : Placement) (image : List ℕ) (h : Reg
     where
       go : (r : CallRules) → homeless r ≡ false → startsAtHead r (p .ty) ≡ fillsWords (equivalentOf (p .ty))
           → homeBytes r (p .ty) (p .size) (floatValue r (p .ty) (fprsOf (p .span) image)) ≡ floatHome (roomOf r (p .size)) (8 * p .span .floating .count) (equivalentOf (p .ty)) (fprsOf (p .span) image)
-      go (CallRules.Power f) e q = memory-form f (p .ty) (p .span .floating .count) (p .size) (fprsOf (p .span) image) (h .held .float some) q low
+      go (CallRules.Power f) e q = memory-form f (p .ty) (p .span .floating .count) (p .size) (fprsOf (p .span) image) (h .registers .held .float some) q low
       go CallRules.Z e q = let z : _≡_ {A = ℕ} 0 1 = cc in absurd (omega arith)
 
   -- which it has room for
   pub float-sized : 0 < p .span .floating .count → HomeSized (equivalentOf (p .ty)) (8 * p .span .floating .count) (p .span .home .length)
-  float-sized some = go (equivalentOf (p .ty)) (h .held .float some)
+  float-sized some = go (equivalentOf (p .ty)) (h .registers .held .float some)
     where
       go : (e : Equivalent) → FloatSized e (p .span .floating .count) (p .size) → HomeSized e (8 * p .span .floating .count) (p .span .home .length)
       go Equivalent.Single s = omega (arith, s .0)
       go Equivalent.Double s = omega (arith, s .0)
-      go Equivalent.Nothing s = omega (arith, s .0, s .1, h .homed .room, h .held .room (h .homed .direct))
+      go Equivalent.Nothing s = omega (arith, s .0, s .1, h .homed .room, h .registers .held .room (h .homed .direct))
 
   pub float-room : p .span .home .start + p .span .home .length ≤ a
   float-room = omega (arith, h .homed .within, h .homed .room)
@@ -90,7 +90,7 @@ module _ (r : CallRules) (a i : ℕ) (p : Placement) (image : List ℕ) (h : Reg
   pub general-room : p .span .floating .count ≤ 0 → p .span .home .start + wordOf r * p .span .general .count ≤ a
   general-room none =
       let no : p .span .floating .count ≡ 0 = omega arith in
-      omega (arith, h .homed .within, h .held .words no)
+      omega (arith, h .homed .within, h .registers .held .words no)
 
   pub homed-general : p .span .floating .count ≤ 0
       → homedBytes r p image ≡ gather (wordOf r) (p .span .general .count) (part (8 * p .span .general .first) (8 * p .span .general .count) image)
@@ -100,9 +100,6 @@ module _ (r : CallRules) (a i : ℕ) (p : Placement) (image : List ℕ) (h : Reg
 -- in a longer area
 pub registered-at : (r : CallRules) (a b i : ℕ) (p : Placement) → a ≤ b → Registered r a i p → Registered r b i p
 registered-at r a b i p l h = record {
-  held = h .held;
+  registers = h .registers;
   homed = record { homes = h .homed .homes; direct = h .homed .direct; room = h .homed .room; within = omega (arith, h .homed .within); float = h .homed .float; follows = h .homed .follows };
-  general = h .general;
-  floating = h .floating;
-  image = h .image;
 }

@@ -26,12 +26,12 @@ use Rattle.plan_places.specs.declared.Edition.{Edition}
 use Rattle.plan_places.specs.Power.{words, fprs, covered, shareOf, powerShare}
 use Rattle.plan_places.specs.Step.{rulesOf, withEllipsis, spanOf, nextOf}
 use Rattle.plan_places.proofs.Bounds.{area-holds}
-use Rattle.plan_plans.specs.Plan.{spansOf, lastOf, startIn, endIn, planIn, planAnswer}
+use Rattle.plan_plans.specs.Plan.{spansOf, lastOf, startIn, lastCursorIn, planIn, planAnswer}
 use Rattle.plan_plans.proofs.Fold.{last-forward, last-marked}
 use Rattle.call_slots.specs.Forms.{roomOf, startsAtHead, ownStart}
 use Rattle.call_slots.specs.Placements.{Placement, placement, placements}
 use Rattle.call_slots.specs.Helpers.{Held, All}
-use Rattle.call_slots.specs.Arguments.{argumentsIn, argumentsOf, planFor, rulesIn, rulesFor}
+use Rattle.call_slots.specs.Arguments.{placementsIn, argumentsOf, planFor, rulesIn, rulesFor}
 use Rattle.call_slots.proofs.Answered.{arguments-got}
 use Rattle.call_home_slot.specs.Homes.{homeless}
 use Rattle.call_home_slot.specs.Helpers.{fillsWords, Homed}
@@ -93,10 +93,10 @@ rules-homed Convention.Ppc64b v k ts a e h = all-homed 8 (omega arith) (omega ar
 plan-homed : (n : ℕ) (c : Convention) (v : Bool) (r : ResultType) (ts : List ValueType) → homeless (withEllipsis v (rulesOf c)) ≡ false
     → All (Homed (withEllipsis v (rulesOf c)) (planIn n c v r ts .area)) (placements c ts (spansOf c (withEllipsis v (rulesOf c)) (startIn c r) ts))
 unfolding planIn
-plan-homed n c v r ts e = rules-homed c v (startIn c r) ts _ e (rw (last-marked c v (rulesOf c) (startIn c r) ts) (area-holds c (endIn c r ts)))
+plan-homed n c v r ts e = rules-homed c v (startIn c r) ts _ e (rw (last-marked c v (rulesOf c) (startIn c r) ts) (area-holds c (lastCursorIn c r ts)))
 
-refused-homed : (r : CallRules) (f : Fault) → All (Homed r (planAnswer (no f) .area)) (argumentsIn (signatureAnswer (no f)) (planAnswer (no f)))
-unfolding argumentsIn placements All
+refused-homed : (r : CallRules) (f : Fault) → All (Homed r (planAnswer (no f) .area)) (placementsIn (signatureAnswer (no f)) (planAnswer (no f)))
+unfolding placementsIn placements All
 refused-homed r f = tt
 
 pub homed-all : (s : List ℕ) → homeless (rulesFor s) ≡ false → All (Homed (rulesFor s) (planFor s .area)) (argumentsOf s)
@@ -104,7 +104,7 @@ unfolding argumentsOf planAnswer
 homed-all s e = go (signatureOf s) e
   where
     go : (x : Reading Signature) → homeless (rulesIn (signatureAnswer x)) ≡ false
-        → All (Homed (rulesIn (signatureAnswer x)) (planAnswer x .area)) (argumentsIn (signatureAnswer x) (planAnswer x))
+        → All (Homed (rulesIn (signatureAnswer x)) (planAnswer x .area)) (placementsIn (signatureAnswer x) (planAnswer x))
     go (got g next n) q =
         subst (All (Homed (withEllipsis (g .ellipsis) (rulesOf (g .convention))) (planAnswer (got g next n) .area))) (sym (arguments-got g next n))
         (plan-homed n (g .convention) (g .ellipsis) (resultType (g .convention) (g .result)) (typesOf (g .convention) (g .arguments)) q)

@@ -54,9 +54,6 @@ homed-marked v CallRules.Z a p h = h
 
 pub registered-marked : (v : Bool) (r : CallRules) (a i : ℕ) (p : Placement) → Registered (withEllipsis v r) a i p → Registered r a i p
 registered-marked v r a i p h = record {
-  held = held-marked v r p (h .held);
+  registers = record { held = held-marked v r p (h .registers .held); general = h .registers .general; floating = h .registers .floating; image = h .registers .image };
   homed = homed-marked v r a p (h .homed);
-  general = h .general;
-  floating = h .floating;
-  image = h .image;
 }

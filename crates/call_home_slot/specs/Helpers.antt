@@ -17,7 +17,7 @@ use Rattle.plan_places.specs.Step.{wordOf}
 use Rattle.plan_places.specs.Spots.{imageBytes}
 use Rattle.call_slots.specs.Forms.{roomOf, startsAtHead}
 use Rattle.call_slots.specs.Placements.{Placement}
-use Rattle.call_slots.specs.Helpers.{FloatSized, Held}
+use Rattle.call_slots.specs.Helpers.{FloatSized, InImage}
 use Rattle.call_home_slot.specs.Homes.{homeless}
 
 -- the 64 bits in memory of a single or a double whose FPR has the bits x; 0 of a single that is none
@@ -65,8 +65,5 @@ FprsFit t s i =
 
 -- such an argument, and that its registers lie in an image of i bytes
 pub record Registered (r : CallRules) (a i : ℕ) (p : Placement) : Type 0 where
-  pub held : Held r p
+  pub registers : InImage r i p
   pub homed : Homed r a p
-  pub general : p .span .general .first + p .span .general .count ≤ 32
-  pub floating : p .span .floating .first + p .span .floating .count ≤ 32
-  pub image : i ≡ imageBytes

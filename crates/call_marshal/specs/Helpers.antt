@@ -9,7 +9,7 @@ use Rattle.plan_places.specs.declared.CallRules.{CallRules}
 use Rattle.plan_places.specs.declared.Span.{Span}
 use Rattle.plan_places.specs.Spots.{imageBytes}
 use Rattle.call_slots.specs.Placements.{Placement}
-use Rattle.call_slots.specs.Helpers.{Held, Fits}
+use Rattle.call_slots.specs.Helpers.{InImage}
 
 -- v, and zeros to the end of a span's words of w bytes
 abbrev pub padded : ℕ → Span → List ℕ → List ℕ
@@ -37,7 +37,7 @@ FprsTake Equivalent.Nothing n l = n ≤ l
 
 -- an argument, and the lengths of the buffers that it is put in
 pub record CanPut (r : CallRules) (base i a c : ℕ) (p : Placement) : Type 0 where
-  pub held : Held r p
-  pub fits : Fits a c p
-  pub registers : i ≡ imageBytes
+  pub registers : InImage r i p
+  pub memory : p .span .memory .start + p .span .memory .length ≤ a
+  pub copies : p .span .copy .start + p .span .copy .length ≤ c
   pub low : base + (p .span .copy .start + p .span .copy .length) < 2 ^ 64

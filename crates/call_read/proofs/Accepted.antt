@@ -26,7 +26,7 @@ use Rattle.call_slots.specs.Arguments.{argumentsOf, planFor, rulesIn, sizesFor}
 use Rattle.call_slots.proofs.Answered.{carried}
 use Rattle.call_arguments.specs.Table.{argumentsFrom}
 use Rattle.call_arguments.proofs.Table.{arguments-read}
-use Rattle.call_slots.proofs.Planned.{all-with}
+use Rattle.call_slots.proofs.Planned.{in-image, all-with}
 use Rattle.call_slots.proofs.Refusals.{first-done, differ-false, or-refused, not-refused}
 use Rattle.call_unmarshal.specs.Helpers.{InBuffers}
 use Rattle.call_read.specs.declared.ReadLengths.{ReadLengths}
@@ -66,7 +66,7 @@ each-ready s g i a same image area =
     (subst (λ (x : SignatureRead). All (Held (rulesIn x)) (argumentsOf s)) (sym same) (h .held)) (h .fit)
   where
     ready : (q : Placement) → Held (rulesIn g) q → Fits (planFor s .area) (planFor s .copies) q → InBuffers (rulesIn g) i a q
-    ready q x y = record { held = x; general = y .general; floating = y .floating; memory = λ _. omega (arith, y .memory); registers = image }
+    ready q x y = record { registers = in-image (rulesIn g) i (planFor s .area) (planFor s .copies) q x y image; memory = λ _. omega (arith, y .memory) }
 
 pub all-ready : (s : List ℕ) (g : SignatureRead) (i a : ℕ) → g ≡ signatureAnswer (signatureOf s) → i ≡ 512 → planFor s .area ≤ a → AllInBuffers g i a
 all-ready s g i a same image area = record {

@@ -124,24 +124,24 @@ module _ (r : CallRules) (p : Placement) (b : Buffers) where
 
     pub words-length : length (gather (wordOf r) (p .span .general .count) image) ≡ held
     words-length =
-        let size = length-part (8 * p .span .general .first) (8 * p .span .general .count) (b .image) (omega (arith, h .general, h .registers)) in
-        length-gather (wordOf r) (p .span .general .count) image (h .held .word .1) (omega arith)
+        let size = length-part (8 * p .span .general .first) (8 * p .span .general .count) (b .image) (omega (arith, h .registers .general, h .registers .image)) in
+        length-gather (wordOf r) (p .span .general .count) image (h .registers .held .word .1) (omega arith)
 
     -- the first of its own bytes is in a general register
     pub own-held : own < held
     own-held =
-        let first = own-first r p (h .held) (h .held .direct (h .float)) in
+        let first = own-first r p (h .registers .held) (h .registers .held .direct (h .float)) in
         let some : 1 ≤ p .span .general .count = h .also in
         omega (arith, mul-le-mul-left (wordOf r) some)
 
     value-size : (floats : List ℕ) → floats ≡ floatAt (p .span) b → length (floatValueAs r (equivalentOf (p .ty)) floats) ≡ p .size
     unfolding bytesAt
     value-size floats e =
-        let size = length-part (256 + 8 * p .span .floating .first) (8 * p .span .floating .count) (b .image) (omega (arith, h .floating, h .registers)) in
-        rw e (float-length r (equivalentOf (p .ty)) (floatAt (p .span) b) (p .span .floating .count) (p .size) (h .held .float (h .float)) size (h .exact))
+        let size = length-part (256 + 8 * p .span .floating .first) (8 * p .span .floating .count) (b .image) (omega (arith, h .registers .floating, h .registers .image)) in
+        rw e (float-length r (equivalentOf (p .ty)) (floatAt (p .span) b) (p .span .floating .count) (p .size) (h .registers .held .float (h .float)) size (h .exact))
 
     pub value-most : p .size ≤ 16
-    value-most = float-most (equivalentOf (p .ty)) (p .span .floating .count) (p .size) (h .held .float (h .float))
+    value-most = float-most (equivalentOf (p .ty)) (p .span .floating .count) (p .size) (h .registers .held .float (h .float))
 
     -- the m of its own bytes that stand in general registers, and as many of the value, each at the head of a buffer
     pub agrees-compared : (x y : List ℕ) (m : ℕ) → length x ≡ 16 → length y ≡ 16 → m ≡ min (p .size) (held - own)

@@ -1,6 +1,6 @@
 -- For proofs and helpers alone: no claim cites this file.
 -- What the passes of reading ask, and the arguments that the first of them need not look at. Assumes nothing.
-use Prim.Native.Nat.{ℕ, _+_, _≤_, _<_}
+use Prim.Native.Nat.{ℕ, _<_}
 use mathlib.Core.Path.{_≡_}
 use mathlib.Core.Bool.{Bool, true, false}
 use lib.ListN.{length}
@@ -12,11 +12,10 @@ use Rattle.sig_signatures.specs.declared.SignatureRead.{SignatureRead}
 use Rattle.sig_signatures.specs.Helpers.{Plannable}
 use Rattle.plan_places.specs.declared.CallRules.{CallRules}
 use Rattle.call_slots.specs.declared.Answer.{Answer}
-use Rattle.plan_places.specs.Spots.{general, imageBytes}
 use Rattle.call_slots.specs.Buffers.{Buffers}
 use Rattle.call_slots.specs.Placements.{Placement, floatAt}
 use Rattle.call_slots.specs.Refusals.{floatAnswer}
-use Rattle.call_slots.specs.Helpers.{Held, All}
+use Rattle.call_slots.specs.Helpers.{InImage, All}
 use Rattle.call_slots.specs.Arguments.{rulesIn}
 use Rattle.call_arguments.specs.Table.{argumentsFrom}
 use Rattle.call_unmarshal.specs.Helpers.{InBuffers}
@@ -37,12 +36,9 @@ canRefuse CallRules.Z (ValueType.Struct s) = true
 
 -- what comparing asks: a float in FPRs that 14 doesn't refuse, and in general registers, all of them in the image
 pub record Compared (r : CallRules) (p : Placement) (b : Buffers) : Type 0 where
-  pub held : Held r p
+  pub registers : InImage r (length (b .image)) p
   pub float : 0 < p .span .floating .count
   pub also : 0 < p .span .general .count
-  pub general : p .span .general .first + p .span .general .count ≤ 32
-  pub floating : p .span .floating .first + p .span .floating .count ≤ 32
-  pub registers : length (b .image) ≡ imageBytes
   pub exact : floatAnswer r (equivalentOf (p .ty)) (valueOf (floatAt (p .span) b)) ≡ Answer.Done
 
 -- what the first pass asks: all arguments of a signature that was read, and the lengths of the image and the area

@@ -1,10 +1,10 @@
 -- One argument: what its slots hold once they are put, that later slots leave it, and that reading it gives the value back.
 -- Assumes nothing.
-use mathlib.Core.Path.{_≡_, refl, sym, ap, ap₂, _∙_}
+use mathlib.Core.Path.{_≡_, refl, sym, ap, ap₂, subst, _∙_}
 use mathlib.Core.Logic.{inr}
 use mathlib.Core.Bool.{Bool, true, false}
 use mathlib.Core.List.{List, [], _∷_, _++_}
-use Prim.Native.Nat.{ℕ, zero, suc, _+_, _-_, _*_, _^_, _≤_, _<_}
+use Prim.Native.Nat.{ℕ, zero, suc, _+_, _-_, _*_, _≤_, _<_}
 use native.Mathlib.Omega.{arith}
 use native.Mathlib.Nat.{add-sub-cancel-left}
 use borrow.Author.Tests.{ltb-true, ltb-false, le-leb}
@@ -25,12 +25,14 @@ use Rattle.call_slots.specs.declared.Answer.{Answer}
 use Rattle.call_slots.specs.Buffers.{Buffers, Slot, put, putAll, bytesAt}
 use Rattle.call_slots.specs.Forms.{roomOf, homeBytes, ownStart, floatForm, floatBytes, floatValueAs, floatValue}
 use Rattle.call_slots.specs.Placements.{Placement, standing, copyBytes, slotsOf, wordsAt, floatAt, addressAt, wordsValue, valueAt}
-use Rattle.call_slots.specs.Helpers.{FloatSized, Held, Fits}
+use Rattle.call_slots.specs.Helpers.{FloatSized, InImage}
 use Rattle.call_slots.proofs.Limits.{form-length, one-word}
+use Rattle.call_slots.proofs.Planned.{copy-in}
 use Rattle.call_registers.specs.Registers.{spread, gather}
 use Rattle.call_registers.proofs.Registers.{length-spread, gather-spread}
 use Rattle.call_slots.proofs.Buffers.{SameLengths}
 use Rattle.call_slots.specs.Refusals.{orElse, floatAnswer}
+use Rattle.call_marshal.specs.Helpers.{CanPut}
 use Rattle.call_read.specs.Read.{inCopies, copyAnswer, ownHeld, agrees, agreeAnswer, argumentAnswer}
 use Rattle.call_read.proofs.Agree.{same-refl}
 use Rattle.call_roundtrip.proofs.Kept.{Upto, Banked, AllLater, kept-all}
@@ -44,14 +46,11 @@ pub record Stands (r : CallRules) (base : ℕ) (p : Placement) (v : List ℕ) (b
       ≡ part (wordOf r * p .span .general .count) (p .span .memory .length) (standing r base p v)
   pub copy : bytesAt (copies (p .span .copy .start)) (length (copyBytes p v)) b ≡ copyBytes p v
 
--- an argument, its value, and the lengths of the buffers
+-- an argument that can be put in the buffers, and its value
 pub record Given (r : CallRules) (base : ℕ) (p : Placement) (v : List ℕ) (b : Buffers) : Type 0 where
-  pub held : Held r p
-  pub fits : Fits (length (b .area)) (length (b .copies)) p
-  pub image : length (b .image) ≡ 512
+  pub room : CanPut r base (length (b .image)) (length (b .area)) (length (b .copies)) p
   pub size : length v ≡ p .size
   pub bytes : Bytes v
-  pub low : base + (p .span .copy .start + p .span .copy .length) < 2 ^ 64
 
 module _ (r : CallRules) (base : ℕ) (p : Placement) (v : List ℕ) (b : Buffers) (g : Given r base p v b) where
   -- ---- lengths
@@ -60,7 +59,7 @@ module _ (r : CallRules) (base : ℕ) (p : Placement) (v : List ℕ) (b : Buffer
   value-length : p .span .indirect ≡ false → length (homeBytes r (p .ty) (p .size) v) ≡ roomOf r (p .size)
   value-length q =
       ap (λ (n : ℕ). length (homeBytes r (p .ty) n v)) (sym (g .size))
-      ∙ length-home r (p .ty) v (λ e. rw (g .size) (g .held .room q .0))
+      ∙ length-home r (p .ty) v (λ e. rw (g .size) (g .room .registers .held .room q .0))
       ∙ ap (roomOf r) (g .size)
 
   value-stands : p .span .indirect ≡ false → standing r base p v ≡ homeBytes r (p .ty) (p .size) v
@@ -77,11 +76,11 @@ module _ (r : CallRules) (base : ℕ) (p : Placement) (v : List ℕ) (b : Buffer
 
       go : (i : Bool) → p .span .indirect ≡ i
           → length (pick i (bytesOf (wordOf r) (base + p .span .copy .start)) (homeBytes r (p .ty) (p .size) v)) ≡ wordOf r * p .span .general .count + p .span .memory .length
-      go true q = length-bytesOf (wordOf r) (base + p .span .copy .start) ∙ sym (one-word r p (g .held) none q)
-      go false q = value-length q ∙ sym (g .held .words no)
+      go true q = length-bytesOf (wordOf r) (base + p .span .copy .start) ∙ sym (one-word r p (g .room .registers .held) none q)
+      go false q = value-length q ∙ sym (g .room .registers .held .words no)
 
   sized : 0 < p .span .floating .count → FloatSized (equivalentOf (p .ty)) (p .span .floating .count) (length v)
-  sized some = rw (g .size) (g .held .float some)
+  sized some = rw (g .size) (g .room .registers .held .float some)
 
   run-length : 0 < p .span .floating .count → length (floatForm r (equivalentOf (p .ty)) v) ≡ 8 * p .span .floating .count
   run-length some = form-length r (equivalentOf (p .ty)) (p .span .floating .count) v (sized some)
@@ -104,24 +103,20 @@ module _ (r : CallRules) (base : ℕ) (p : Placement) (v : List ℕ) (b : Buffer
     where
       words : (n : ℕ) → wordOf r * p .span .general .count + p .span .memory .length ≡ n → p .span .indirect ≡ false → n ≤ length (standing r base p v)
       words zero e q = omega arith
-      words (suc n) e q = omega (arith, g .held .also (omega arith), ap length (value-stands q), value-length q)
+      words (suc n) e q = omega (arith, g .room .registers .held .also (omega arith), ap length (value-stands q), value-length q)
 
       go : (f : Bool) → ltb 0 (p .span .floating .count) ≡ f → wordOf r * p .span .general .count + p .span .memory .length ≤ length (standing r base p v)
-      go true q = words (wordOf r * p .span .general .count + p .span .memory .length) refl (g .held .direct (ltb-true 0 (p .span .floating .count) q))
+      go true q = words (wordOf r * p .span .general .count + p .span .memory .length) refl (g .room .registers .held .direct (ltb-true 0 (p .span .floating .count) q))
       go false q = let none : p .span .floating .count ≤ 0 = ltb-false 0 (p .span .floating .count) q in omega (arith, words-length none)
 
   registers-length : length (spread (wordOf r) (p .span .general .count) (standing r base p v)) ≡ 8 * p .span .general .count
-  registers-length = length-spread (wordOf r) (p .span .general .count) (standing r base p v) (g .held .word .1) (omega (arith, word-room))
+  registers-length = length-spread (wordOf r) (p .span .general .count) (standing r base p v) (g .room .registers .held .word .1) (omega (arith, word-room))
 
   memory-length : length (part (wordOf r * p .span .general .count) (p .span .memory .length) (standing r base p v)) ≡ p .span .memory .length
   memory-length = length-part (wordOf r * p .span .general .count) (p .span .memory .length) (standing r base p v) (omega (arith, word-room))
 
   copy-room : p .span .copy .start + length (copyBytes p v) ≤ length (b .copies)
-  copy-room = go (p .span .indirect) refl
-    where
-      go : (i : Bool) → p .span .indirect ≡ i → p .span .copy .start + length (pick i v []) ≤ length (b .copies)
-      go true q = omega (arith, g .held .copied q, g .size, g .fits .copies)
-      go false q = omega (arith, g .fits .copies)
+  copy-room = copy-in r p v (length (b .copies)) (g .room .registers .held) (omega (arith, g .size)) (g .room .copies)
 
   -- ---- put
   pub stands-put : Stands r base p v (putAll (slotsOf r base p v) b)
@@ -139,14 +134,14 @@ module _ (r : CallRules) (base : ℕ) (p : Placement) (v : List ℕ) (b : Buffer
       record {
         floats =
             ap (λ (m : ℕ). part f m (splice i a ws)) (sym floats-length)
-            ∙ splice-other i a ws f (length fs) (inr (omega (arith, g .fits)))
-            ∙ splice-same (b .image) f fs (omega (arith, g .fits, g .image));
+            ∙ splice-other i a ws f (length fs) (inr (omega (arith, g .room)))
+            ∙ splice-same (b .image) f fs (omega (arith, g .room));
         registers =
             ap (λ (m : ℕ). part a m (splice i a ws)) (sym registers-length)
-            ∙ splice-same i a ws (omega (arith, g .fits, g .image));
+            ∙ splice-same i a ws (omega (arith, g .room));
         memory =
             ap (λ (m : ℕ). part (p .span .memory .start) m (splice (b .area) (p .span .memory .start) ms)) (sym memory-length)
-            ∙ splice-same (b .area) (p .span .memory .start) ms (omega (arith, g .fits, memory-length));
+            ∙ splice-same (b .area) (p .span .memory .start) ms (omega (arith, g .room, memory-length));
         copy = splice-same (b .copies) (p .span .copy .start) (copyBytes p v) copy-room;
       }
 
@@ -158,7 +153,7 @@ module _ (r : CallRules) (base : ℕ) (p : Placement) (v : List ℕ) (b : Buffer
         let k : ℕ = p .span .general .count in
         let ws : List ℕ = standing r base p v in
         ap₂ (λ (x y : List ℕ). gather (wordOf r) k x ++ y) (s .registers) (s .memory)
-        ∙ ap (λ (x : List ℕ). x ++ part (wordOf r * k) (p .span .memory .length) ws) (gather-spread (wordOf r) k ws (g .held .word .1) (omega (arith, words-length none)))
+        ∙ ap (λ (x : List ℕ). x ++ part (wordOf r * k) (p .span .memory .length) ws) (gather-spread (wordOf r) k ws (g .room .registers .held .word .1) (omega (arith, words-length none)))
         ∙ sym (take-add (wordOf r * k) (p .span .memory .length) ws)
         ∙ take-all (wordOf r * k + p .span .memory .length) ws (omega (arith, words-length none))
 
@@ -176,26 +171,26 @@ module _ (r : CallRules) (base : ℕ) (p : Placement) (v : List ℕ) (b : Buffer
     float-agrees : 0 < p .span .floating .count → agrees r p c ≡ true
     unfolding agrees ownHeld floatValue
     float-agrees some =
-        let q : p .span .indirect ≡ false = g .held .direct some in
+        let q : p .span .indirect ≡ false = g .room .registers .held .direct some in
         let o : ℕ = ownStart r (p .ty) (p .size) in
         let k : ℕ = p .span .general .count in
         let hs : List ℕ = homeBytes r (p .ty) (p .size) v in
         let own : List ℕ = part o (p .size) (take (wordOf r * k) hs) in
         let held : gather (wordOf r) k (bytesAt (general (p .span .general .first)) (8 * k) c) ≡ take (wordOf r * k) hs =
         ap (gather (wordOf r) k) (s .registers)
-        ∙ gather-spread (wordOf r) k (standing r base p v) (g .held .word .1) (omega (arith, word-room))
+        ∙ gather-spread (wordOf r) k (standing r base p v) (g .room .registers .held .word .1) (omega (arith, word-room))
         ∙ ap (take (wordOf r * k)) (value-stands q) in
         let value : part o (p .size) hs ≡ v =
         ap (λ (n : ℕ). part (ownStart r (p .ty) n) n (homeBytes r (p .ty) n v)) (sym (g .size))
-        ∙ own-back r (p .ty) v (g .bytes) (λ e. rw (g .size) (g .held .small e q .1, g .held .room q .0)) in
+        ∙ own-back r (p .ty) v (g .bytes) (λ e. rw (g .size) (g .room .registers .held .small e q .1, g .room .registers .held .room q .0)) in
         let same : take (length own) v ≡ own = ap (take (length own)) (sym value) ∙ prefix-part o (p .size) (wordOf r * k) hs in
         rw (held, float-read some .1, same) (same-refl own)
 
     address-back : p .span .floating .count ≤ 0 → p .span .indirect ≡ true → addressAt (wordOf r) (p .span) c ≡ base + p .span .copy .start
     unfolding standing
     address-back none q =
-        let m : standing r base p v ≡ bytesOf 8 (base + p .span .copy .start) = rw (q, g .held .address q .0) in
-        ap valueOf (words-back none ∙ m) ∙ value-back 8 (base + p .span .copy .start) (omega (arith, g .low))
+        let m : standing r base p v ≡ bytesOf 8 (base + p .span .copy .start) = rw (q, g .room .registers .held .address q .0) in
+        ap valueOf (words-back none ∙ m) ∙ value-back 8 (base + p .span .copy .start) (omega (arith, g .room .low))
 
     copied-back : p .span .indirect ≡ true → bytesAt (copies (p .span .copy .start)) (p .size) c ≡ v
     copied-back q =
@@ -208,13 +203,13 @@ module _ (r : CallRules) (base : ℕ) (p : Placement) (v : List ℕ) (b : Buffer
         let m : standing r base p v ≡ homeBytes r (p .ty) (p .size) v = rw q in
         ap (part (ownStart r (p .ty) (p .size)) (p .size)) (words-back none ∙ m)
         ∙ ap (λ (n : ℕ). part (ownStart r (p .ty) n) n (homeBytes r (p .ty) n v)) (sym (g .size))
-        ∙ own-back r (p .ty) v (g .bytes) (λ e. rw (g .size) (g .held .small e q .1, g .held .room q .0))
+        ∙ own-back r (p .ty) v (g .bytes) (λ e. rw (g .size) (g .room .registers .held .small e q .1, g .room .registers .held .room q .0))
 
     in-copies : p .span .indirect ≡ true → inCopies (base + p .span .copy .start) base (p .size) (length (c .copies)) ≡ true
     in-copies q =
         let e : base + p .span .copy .start - base ≡ p .span .copy .start = add-sub-cancel-left base (p .span .copy .start) in
         let x : base ≤ base + p .span .copy .start = omega arith in
-        let y : p .span .copy .start + p .size ≤ length (c .copies) = omega (arith, g .held .copied q, g .fits .copies) in
+        let y : p .span .copy .start + p .size ≤ length (c .copies) = omega (arith, g .room .registers .held .copied q, g .room .copies) in
         simp (le-leb base (base + p .span .copy .start) x, e, le-leb (p .span .copy .start + p .size) (length (c .copies)) y)
 
     pub stands-done : argumentAnswer r base p c ≡ Answer.Done
@@ -291,10 +286,12 @@ AllPut r base (p ∷ ps) v b = Put r base p (take (p .size) v) b × AllPut r bas
 -- room depends on lengths alone
 pub given-same : (r : CallRules) (base : ℕ) (p : Placement) (v : List ℕ) (b c : Buffers) → SameLengths b c → Given r base p v b → Given r base p v c
 given-same r base p v b c l g = record {
-  held = g .held;
-  fits = record { general = g .fits .general; floating = g .fits .floating; memory = omega (arith, g .fits .memory, l .area); copies = omega (arith, g .fits .copies, l .copies) };
-  image = l .image ∙ g .image;
+  room = record {
+    registers = subst (λ (i : ℕ). InImage r i p) (sym (l .image)) (g .room .registers);
+    memory = omega (arith, g .room .memory, l .area);
+    copies = omega (arith, g .room .copies, l .copies);
+    low = g .room .low;
+  };
   size = g .size;
   bytes = g .bytes;
-  low = g .low;
 }

@@ -34,7 +34,7 @@ use Rattle.call_slots.specs.declared.Answer.{Answer}
 use Rattle.call_slots.specs.Buffers.{Buffers, buffers, Slot, put, putAll, bytesAt}
 use Rattle.call_slots.specs.Placements.{slotsOfAll, hiddenSlots}
 use Rattle.plan_plans.specs.Call.{outcomeFor}
-use Rattle.call_slots.specs.Arguments.{argumentsIn, argumentsOf, planFor, rulesIn, rulesFor}
+use Rattle.call_slots.specs.Arguments.{placementsIn, argumentsOf, planFor, rulesIn, rulesFor}
 use Rattle.call_slots.proofs.Buffers.{putAll-append}
 use Rattle.call_slots.proofs.Answered.{arguments-got}
 use Rattle.call_fill.specs.Fill.{highAddress, fillAnswer, filledSlots, fillBuffers}
@@ -59,7 +59,7 @@ register-first c r x e = let h = hidden-address c r x e in rw (h .0, h .1) (addr
 
 -- the arguments' slots leave it
 hidden-kept : (y : Reading Signature) (base : ℕ) (v : List ℕ) (x : Span) (b : Buffers) → planAnswer y .result ≡ ResultPlaces.Hidden x
-    → bytesAt (general (x .general .first)) 8 (putAll (slotsOfAll (rulesIn (signatureAnswer y)) base (argumentsIn (signatureAnswer y) (planAnswer y)) v) b)
+    → bytesAt (general (x .general .first)) 8 (putAll (slotsOfAll (rulesIn (signatureAnswer y)) base (placementsIn (signatureAnswer y) (planAnswer y)) v) b)
     ≡ bytesAt (general (x .general .first)) 8 b
 unfolding planAnswer planIn
 hidden-kept (got g next n) base v x b e =

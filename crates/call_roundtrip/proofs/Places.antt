@@ -8,7 +8,6 @@ use native.Mathlib.Omega.{arith}
 use borrow.Author.Tests.{ltb-true, ltb-false}
 use lib.Dec.{ltb}
 use lib.ListN.{length, getD, take, drop}
-use Rattle.base_words.specs.Basics.{pick}
 use Rattle.base_conventions.specs.declared.Convention.{Convention}
 use Rattle.sig_types.specs.declared.ValueType.{ValueType}
 use Rattle.sig_types.specs.Sizes.{sizeOf}
@@ -28,11 +27,12 @@ use Rattle.plan_places.proofs.Between.{From, step-between}
 use Rattle.plan_places.proofs.Registers.{step-numbered}
 use Rattle.plan_plans.specs.Plan.{spansOf, hiddenIn, startIn, planAnswer}
 use Rattle.call_slots.specs.Buffers.{Slot}
-use Rattle.call_slots.specs.Placements.{Placement, placement, placements, standing, copyBytes, slotsOf, slotsOfAll}
+use Rattle.call_slots.specs.Placements.{Placement, placement, placements, standing, slotsOf, slotsOfAll}
 use Rattle.call_slots.specs.Helpers.{Held, All}
 use Rattle.call_slots.specs.Forms.{floatBytes}
 use Rattle.call_registers.proofs.Registers.{spread-short}
-use Rattle.call_slots.specs.Arguments.{argumentsIn, argumentsOf, rulesIn, rulesFor}
+use Rattle.call_slots.specs.Arguments.{placementsIn, argumentsOf, rulesIn, rulesFor}
+use Rattle.call_slots.proofs.Planned.{copy-in}
 use Rattle.call_slots.proofs.Answered.{Carried, arguments-got, carried}
 use Rattle.call_roundtrip.specs.Places.{Byte, inImage, inArea, inCopies, CoversFrom, Touches, slotLists, SlotsApart}
 use Rattle.call_roundtrip.proofs.Kept.{Upto, Banked, AllLater, all-later, take-short}
@@ -106,14 +106,6 @@ touches-some r base (p ∷ ps) v (suc i) x t =
 
 -- ---- the arguments of a plan
 
-copy-before : (r : CallRules) (p : Placement) (v : List ℕ) (d : Cursor) → Held r p → length v ≤ p .size → p .span .copy .start + p .span .copy .length ≤ d .copies
-    → p .span .copy .start + length (copyBytes p v) ≤ d .copies
-copy-before r p v d h l k = go (p .span .indirect) refl
-  where
-    go : (i : Bool) → p .span .indirect ≡ i → p .span .copy .start + length (pick i v []) ≤ d .copies
-    go true q = omega (arith, h .copied q)
-    go false q = omega arith
-
 slots-before : (r : CallRules) (base : ℕ) (k : Cursor) (t : ValueType) (n : ℕ) (v : List ℕ) → Named r k → Held r (placement t n (spanOf r k t n)) → length v ≤ n
     → AllBefore (nextOf r k t n) (slotsOf r base (placement t n (spanOf r k t n)) v)
 unfolding slotsOf AllBefore
@@ -124,7 +116,7 @@ slots-before r base k t n v named h l =
     let f = take-short (8 * p .span .floating .count) (floatBytes r t v) in
     let g = spread-short (wordOf r) (p .span .general .count) (standing r base p v) (h .word .1) in
     let m = take-short (p .span .memory .length) (drop (wordOf r * p .span .general .count) (standing r base p v)) in
-    (omega arith, omega arith, (omega arith, omega arith, (omega arith, tt, (copy-before r p v (nextOf r k t n) h l (b .copy-to), tt, tt))))
+    (omega arith, omega arith, (omega arith, omega arith, (omega arith, tt, (copy-in r p v (nextOf r k t n .copies) h l (b .copy-to), tt, tt))))
 
 ordered-apart : (c : Convention) (r : CallRules) (base : ℕ) (k : Cursor) (ts : List ValueType) (v : List ℕ) (i j : ℕ) (x : Byte) → Named r k
     → All (Held r) (placements c ts (spansOf c r k ts)) → i < j
@@ -147,8 +139,8 @@ ordered-apart c r base k (y ∷ ts) v (suc i) (suc j) x named h l s t =
 -- ---- every signature
 
 none-touched : (base : ℕ) (v : List ℕ) (f : Fault) (i : ℕ) (x : Byte)
-    → Touches (getD (slotLists (rulesIn (signatureAnswer (no f))) base (argumentsIn (signatureAnswer (no f)) (planAnswer (no f))) v) i []) x → ⊥
-unfolding argumentsIn placements planAnswer slotLists Touches
+    → Touches (getD (slotLists (rulesIn (signatureAnswer (no f))) base (placementsIn (signatureAnswer (no f)) (planAnswer (no f))) v) i []) x → ⊥
+unfolding placementsIn placements planAnswer slotLists Touches
 none-touched base v f zero x t = t
 none-touched base v f (suc i) x t = t
 
@@ -158,8 +150,8 @@ unfolding argumentsOf
 sorted s base v i j x l = go (signatureOf s) (carried s)
   where
     go : (q : Reading Signature) → Carried (signatureAnswer q) (planAnswer q)
-        → Touches (getD (slotLists (rulesIn (signatureAnswer q)) base (argumentsIn (signatureAnswer q) (planAnswer q)) v) i []) x
-        → Touches (getD (slotLists (rulesIn (signatureAnswer q)) base (argumentsIn (signatureAnswer q) (planAnswer q)) v) j []) x → ⊥
+        → Touches (getD (slotLists (rulesIn (signatureAnswer q)) base (placementsIn (signatureAnswer q) (planAnswer q)) v) i []) x
+        → Touches (getD (slotLists (rulesIn (signatureAnswer q)) base (placementsIn (signatureAnswer q) (planAnswer q)) v) j []) x → ⊥
     go (got g next n) h a b =
         let c : Convention = g .convention in
         let r : CallRules = withEllipsis (g .ellipsis) (rulesOf c) in

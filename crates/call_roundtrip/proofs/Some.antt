@@ -19,7 +19,7 @@ use Rattle.plan_places.specs.Step.{rulesOf, withEllipsis, nextOf}
 use Rattle.plan_plans.specs.Plan.{spansOf, startIn, planAnswer}
 use Rattle.call_slots.specs.Placements.{Placement, placements}
 use Rattle.call_slots.specs.Helpers.{All}
-use Rattle.call_slots.specs.Arguments.{argumentsIn, argumentsOf}
+use Rattle.call_slots.specs.Arguments.{placementsIn, argumentsOf}
 use Rattle.call_slots.proofs.Answered.{arguments-got}
 use Rattle.call_slots.proofs.Typed.{AllTyped, all-typed}
 use Rattle.call_roundtrip.specs.Views.{ViewSome}
@@ -38,10 +38,10 @@ unfolding All
 none-some = tt
 
 arguments-some : (s : List ℕ) → All Some (argumentsOf s)
-unfolding argumentsOf argumentsIn placements
+unfolding argumentsOf placementsIn placements
 arguments-some s = go (signatureOf s) refl
   where
-    go : (x : Reading Signature) → signatureOf s ≡ x → All Some (argumentsIn (signatureAnswer x) (planAnswer x))
+    go : (x : Reading Signature) → signatureOf s ≡ x → All Some (placementsIn (signatureAnswer x) (planAnswer x))
     go (got g next n) e =
         subst (All Some) (sym (arguments-got g next n))
         (all-some (g .convention) (withEllipsis (g .ellipsis) (rulesOf (g .convention))) (startIn (g .convention) (resultType (g .convention) (g .result))) (typesOf (g .convention) (g .arguments))

@@ -1,18 +1,16 @@
 -- Reading after filling gives the values back (specs/RoundTrip.antt states it). Assumes nothing.
 -- ---- the arguments of a plan, from the cursor k on
 use mathlib.Core.Path.{_≡_, refl, sym, ap, ap₂, _∙_, subst}
-use mathlib.Core.Bool.{Bool, true, false}
 use mathlib.Core.List.{List, [], _∷_, _++_}
 use Prim.Native.Nat.{ℕ, _+_, _^_, _≤_, _<_}
 use native.Mathlib.Omega.{arith}
 use borrow.Author.Tests.{eq-eqb, le-ltb}
-use lib.ListN.{length, take, drop, length-drop}
-use lib.Seq.{length-take-le, take-add, take-all}
-use Rattle.base_words.specs.Basics.{pick}
+use lib.ListN.{length, take, drop, length-drop, take-append-drop}
+use lib.Seq.{length-take-le}
 use Rattle.base_words.specs.Splice.{overlay}
 use Rattle.base_words.specs.Numbers.{Bytes}
 use Rattle.base_words.proofs.Splices.{overlay-whole}
-use Rattle.base_words.proofs.Numbers.{bytes-part}
+use Rattle.base_words.proofs.Numbers.{bytes-drop, bytes-part}
 use Rattle.base_conventions.specs.declared.Convention.{Convention}
 use Rattle.sig_types.specs.declared.ValueType.{ValueType}
 use Rattle.sig_types.specs.Sizes.{sizeOf}
@@ -34,11 +32,12 @@ use Rattle.plan_plans.specs.declared.Plan.{Plan}
 use Rattle.plan_plans.specs.Plan.{spansOf, hiddenIn, startIn, planAnswer}
 use Rattle.call_slots.specs.declared.Answer.{Answer}
 use Rattle.call_slots.specs.Buffers.{Buffers, buffers, Slot, putAll}
-use Rattle.call_slots.specs.Placements.{Placement, placement, placements, copyBytes, slotsOf, slotsOfAll, hiddenSlots, valuesAt}
+use Rattle.call_slots.specs.Placements.{Placement, placement, placements, slotsOf, slotsOfAll, hiddenSlots, valuesAt}
 use Rattle.call_slots.specs.Helpers.{Held, Fits, All, sizesOf}
 use Rattle.call_slots.specs.Refusals.{firstOf, orElse, firstOfAll, afterReading}
 use Rattle.plan_plans.specs.Call.{outcomeFor}
-use Rattle.call_slots.specs.Arguments.{argumentsIn, argumentsOf, planFor, rulesIn, rulesFor}
+use Rattle.call_slots.specs.Arguments.{placementsIn, argumentsOf, planFor, rulesIn, rulesFor}
+use Rattle.call_slots.proofs.Planned.{in-image, copy-in}
 use Rattle.call_slots.proofs.Buffers.{SameLengths, same-then, putAll-lengths, putAll-append}
 use Rattle.call_slots.proofs.Answered.{Carried, carried, arguments-got}
 use Rattle.call_fill.specs.Fill.{fillLengths, fillAnswer, filledSlots, fillBuffers}
@@ -60,14 +59,6 @@ record Roomy (r : CallRules) (base : ℕ) (ps : List Placement) (a m : ℕ) (v :
   total : length v ≡ sizesOf ps
   bytes : Bytes v
 
-copy-behind : (p : Placement) (v : List ℕ) (d : Cursor) → (p .span .indirect ≡ true → length v ≤ p .span .copy .length)
-    → p .span .copy .start + p .span .copy .length ≤ d .copies → p .span .copy .start + length (copyBytes p v) ≤ d .copies
-copy-behind p v d h k = go (p .span .indirect) refl
-  where
-    go : (i : Bool) → p .span .indirect ≡ i → p .span .copy .start + length (pick i v []) ≤ d .copies
-    go true q = omega (arith, h q)
-    go false q = omega arith
-
 step-behind : (r : CallRules) (k : Cursor) (t : ValueType) (n : ℕ) (v : List ℕ) → Named r k → Held r (placement t n (spanOf r k t n)) → length v ≡ n
     → Behind (nextOf r k t n) (placement t n (spanOf r k t n)) v
 step-behind r k t n v named held size =
@@ -79,17 +70,8 @@ step-behind r k t n v named held size =
       registers = omega arith;
       registers-bank = omega arith;
       memory = omega arith;
-      copy = copy-behind (placement t n (spanOf r k t n)) v (nextOf r k t n) (λ e. omega (arith, held .copied e)) (b .copy-to);
+      copy = copy-in r (placement t n (spanOf r k t n)) v (nextOf r k t n .copies) held (omega arith) (b .copy-to);
     }
-
-split-whole : (n : ℕ) (v : List ℕ) → take n v ++ drop n v ≡ v
-split-whole n v =
-    let m : ℕ = length (drop n v) in
-    ap (λ (l : List ℕ). take n v ++ l) (sym (take-all m (drop n v) (omega arith)))
-    ∙ sym (take-add n m v) ∙ take-all (n + m) v (omega (arith, length-drop n v))
-
-pub bytes-drop : (n : ℕ) (v : List ℕ) → Bytes v → Bytes (drop n v)
-bytes-drop n v h = subst Bytes (take-all (length (drop n v)) (drop n v) (omega arith)) (bytes-part n (length (drop n v)) v h)
 
 -- every argument stands once all are put: those after it leave its slots
 all-put : (c : Convention) (r : CallRules) (base a m : ℕ) (k : Cursor) (ts : List ValueType) (v : List ℕ) (b : Buffers) → Named r k
@@ -109,12 +91,14 @@ all-put c r base a m k (t ∷ ts) v b named h =
     let total : length v ≡ n + sizesOf ps = h .total in
     let size : length x ≡ n = length-take-le n v (omega arith) in
     let given : Given r base p x b = record {
-      held = h .held .0;
-      fits = record { general = h .fit .0 .general; floating = h .fit .0 .floating; memory = omega (arith, h .fit .0 .memory, h .area); copies = omega (arith, h .fit .0 .copies, h .copies) };
-      image = h .image;
+      room = record {
+        registers = in-image r (length (b .image)) a m p (h .held .0) (h .fit .0) (h .image);
+        memory = omega (arith, h .fit .0 .memory, h .area);
+        copies = omega (arith, h .fit .0 .copies, h .copies);
+        low = omega (arith, h .fit .0 .copies, h .low);
+      };
       size = size;
       bytes = bytes-part 0 n v (h .bytes);
-      low = omega (arith, h .fit .0 .copies, h .low);
     } in
     let b1 : Buffers = putAll xs b in
     let b2 : Buffers = putAll ys b1 in
@@ -145,7 +129,7 @@ put-back r base (p ∷ ps) v b h e =
     let rest = put-back r base ps (drop (p .size) v) b (h .1) (omega (arith, length-drop (p .size) v)) in
     let done : argumentAnswer r base p b ≡ Answer.Done = stands-done r base p x b (h .0 .given) b (h .0 .stands) refl in
     let value = stands-value r base p x b (h .0 .given) b (h .0 .stands) refl in
-    (ap₂ orElse done (rest .0), ap₂ (λ (i j : List ℕ). i ++ j) value (rest .1) ∙ split-whole (p .size) v)
+    (ap₂ orElse done (rest .0), ap₂ (λ (i j : List ℕ). i ++ j) value (rest .1) ∙ take-append-drop (p .size) v)
 
 -- ---- a whole signature
 
@@ -159,8 +143,8 @@ reading-done (Outcome.Refused f) x e y q = let z : _≡_ {A = ℕ} 0 1 = cc in a
 
 -- a refused signature has no arguments
 none-put : (base : ℕ) (v : List ℕ) (b : Buffers) (f : Fault)
-    → AllPut (rulesIn (signatureAnswer (no f))) base (argumentsIn (signatureAnswer (no f)) (planAnswer (no f))) v b
-unfolding AllPut argumentsIn placements
+    → AllPut (rulesIn (signatureAnswer (no f))) base (placementsIn (signatureAnswer (no f)) (planAnswer (no f))) v b
+unfolding AllPut placementsIn placements
 none-put base v b f = tt
 
 -- a signature's arguments, after its slots are put in any buffers that have room for them
@@ -172,8 +156,8 @@ plan-put s base v b bytes values image area copies low = go (signatureOf s) (car
   where
     go : (x : Reading Signature) → Carried (signatureAnswer x) (planAnswer x) → length v ≡ planAnswer x .values → planAnswer x .area ≤ length (b .area)
         → planAnswer x .copies ≤ length (b .copies) → base + planAnswer x .copies < 2 ^ 64
-        → AllPut (rulesIn (signatureAnswer x)) base (argumentsIn (signatureAnswer x) (planAnswer x)) v
-        (putAll (slotsOfAll (rulesIn (signatureAnswer x)) base (argumentsIn (signatureAnswer x) (planAnswer x)) v) b)
+        → AllPut (rulesIn (signatureAnswer x)) base (placementsIn (signatureAnswer x) (planAnswer x)) v
+        (putAll (slotsOfAll (rulesIn (signatureAnswer x)) base (placementsIn (signatureAnswer x) (planAnswer x)) v) b)
     go (got g next n) h e i j k =
         let c : Convention = g .convention in
         let r : CallRules = withEllipsis (g .ellipsis) (rulesOf c) in

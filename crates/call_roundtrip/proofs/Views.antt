@@ -13,7 +13,7 @@ use Rattle.base_words.specs.Basics.{pick}
 use Rattle.base_words.specs.Splice.{splice, part}
 use Rattle.base_words.specs.Numbers.{Bytes, valueOf}
 use Rattle.base_words.proofs.Splices.{overlay-whole, splice-same, splice-other, length-splice, length-part, part-add, part-part}
-use Rattle.base_words.proofs.Numbers.{bytes-bytesOf, bytes-part}
+use Rattle.base_words.proofs.Numbers.{bytes-bytesOf, bytes-drop, bytes-part}
 use Rattle.base_ieee.specs.declared.Narrowed.{Narrowed}
 use Rattle.base_ieee.specs.Narrowing.{narrow}
 use Rattle.base_conventions.specs.declared.Convention.{Convention}
@@ -42,10 +42,10 @@ use Rattle.call_slots.specs.declared.Answer.{Answer}
 use Rattle.call_slots.specs.Buffers.{Buffers, buffers, bytesAt}
 use Rattle.call_slots.specs.Forms.{roomOf, startsAtHead, homeBytes, ownStart, narrowedBytes, floatValueAs, floatValue}
 use Rattle.call_slots.specs.Placements.{Placement, placements, wordsAt, floatAt, wordsValue, valueAt, valuesAt}
-use Rattle.call_slots.specs.Helpers.{Held, All, sizesOf}
+use Rattle.call_slots.specs.Helpers.{InImage, All, sizesOf}
 use Rattle.call_slots.specs.Refusals.{firstOf, orElse, firstOfAll, floatAnswer, afterReading, isDone}
 use Rattle.plan_plans.specs.Call.{outcomeFor}
-use Rattle.call_slots.specs.Arguments.{argumentsIn, argumentsOf, planFor, rulesIn, rulesFor}
+use Rattle.call_slots.specs.Arguments.{placementsIn, argumentsOf, planFor, rulesIn, rulesFor}
 use Rattle.call_registers.specs.Registers.{gather}
 use Rattle.call_registers.proofs.Registers.{length-gather}
 use Rattle.call_slots.proofs.Held.{words-room}
@@ -71,15 +71,13 @@ use Rattle.call_roundtrip.specs.Places.{Agree}
 use Rattle.call_roundtrip.specs.Views.{valueLists, homedArea, Viewed, ViewAfterHome, ViewAsRead, HiddenStays}
 use Rattle.call_roundtrip.proofs.Alone.{read-own}
 use Rattle.call_roundtrip.proofs.Forms.{own-back, length-home}
-use Rattle.call_roundtrip.proofs.Theorems.{reading-done as answer-passed, bytes-drop, put-back, values-total, Left, filled-left, filled-answer}
+use Rattle.call_roundtrip.proofs.Theorems.{reading-done as answer-passed, put-back, values-total, Left, filled-left, filled-answer}
 
 -- ---- one argument
 
 -- an argument that is read as v; a value in an FPR is made of bytes
 record Shows (r : CallRules) (base : ℕ) (p : Placement) (v : List ℕ) (b : Buffers) : Type 0 where
-  held : Held r p
-  registers : p .span .general .first + p .span .general .count ≤ 32
-  image : length (b .image) ≡ 512
+  registers : InImage r (length (b .image)) p
   size : length v ≡ p .size
   bytes : 0 < p .span .floating .count → Bytes v
   value : valueAt r base p b ≡ v
@@ -101,7 +99,7 @@ module _ (r : CallRules) (base : ℕ) (p : Placement) (v : List ℕ) (b : Buffer
   float-length : length (homeBytes r (p .ty) (p .size) v) ≡ roomOf r (p .size)
   float-length =
       ap (λ (n : ℕ). length (homeBytes r (p .ty) n v)) (sym (h .size))
-      ∙ length-home r (p .ty) v (λ e. rw (h .size) (h .held .room (m .direct) .0))
+      ∙ length-home r (p .ty) v (λ e. rw (h .size) (h .registers .held .room (m .direct) .0))
       ∙ ap (roomOf r) (h .size)
 
   -- the words in its general registers
@@ -112,8 +110,8 @@ module _ (r : CallRules) (base : ℕ) (p : Placement) (v : List ℕ) (b : Buffer
   registers-length =
       let k : ℕ = p .span .general .count in
       let bs : List ℕ = part (8 * p .span .general .first) (8 * k) (b .image) in
-      let size : length bs ≡ 8 * k = length-part (8 * p .span .general .first) (8 * k) (b .image) (omega (arith, h .registers, h .image)) in
-      length-gather (wordOf r) k bs (h .held .word .1) (omega arith)
+      let size : length bs ≡ 8 * k = length-part (8 * p .span .general .first) (8 * k) (b .image) (omega (arith, h .registers .general, h .registers .image)) in
+      length-gather (wordOf r) k bs (h .registers .held .word .1) (omega arith)
 
   homed-held : p .span .floating .count ≤ 0 → homedBytes r p (b .image) ≡ held
   unfolding homedBytes
@@ -128,15 +126,15 @@ module _ (r : CallRules) (base : ℕ) (p : Placement) (v : List ℕ) (b : Buffer
       go false q =
           let none : p .span .floating .count ≤ 0 = ltb-false 0 (p .span .floating .count) q in
           let no : p .span .floating .count ≡ 0 = omega arith in
-          rw (homed-held none) (omega (arith, registers-length, h .held .words no))
+          rw (homed-held none) (omega (arith, registers-length, h .registers .held .words no))
 
   own-within : ownStart r (p .ty) (p .size) + p .size ≤ roomOf r (p .size)
   unfolding ownStart
   own-within = go (startsAtHead r (p .ty))
     where
       go : (s : Bool) → pick s 0 (roomOf r (p .size) - p .size) + p .size ≤ roomOf r (p .size)
-      go true = omega (arith, h .held .room (m .direct))
-      go false = omega (arith, h .held .room (m .direct))
+      go true = omega (arith, h .registers .held .room (m .direct))
+      go false = omega (arith, h .registers .held .room (m .direct))
 
   -- an area whose home of the argument is as home left it shows the value
   module _ (room : a ≤ length (b .area)) (l : List ℕ)
@@ -152,7 +150,7 @@ module _ (r : CallRules) (base : ℕ) (p : Placement) (v : List ℕ) (b : Buffer
         ∙ splice-same (b .area) start hs (omega (arith, float-length, m .within)) in
         ap (part (ownStart r (p .ty) (p .size)) (p .size)) whole
         ∙ ap (λ (n : ℕ). part (ownStart r (p .ty) n) n (homeBytes r (p .ty) n v)) (sym (h .size))
-        ∙ own-back r (p .ty) v (h .bytes some) (λ e. rw (h .size) (h .held .small e (m .direct) .1, h .held .room (m .direct) .0))
+        ∙ own-back r (p .ty) v (h .bytes some) (λ e. rw (h .size) (h .registers .held .small e (m .direct) .1, h .registers .held .room (m .direct) .0))
 
     words-own : p .span .floating .count ≤ 0 → part (ownStart r (p .ty) (p .size)) (p .size) (part (p .span .home .start) (roomOf r (p .size)) l) ≡ v
     unfolding wordsAt bytesAt
@@ -162,7 +160,7 @@ module _ (r : CallRules) (base : ℕ) (p : Placement) (v : List ℕ) (b : Buffer
         let n : ℕ = p .span .memory .length in
         let ws : List ℕ = held in
         let no : p .span .floating .count ≡ 0 = omega arith in
-        let all : k + n ≡ roomOf r (p .size) = h .held .words no in
+        let all : k + n ≡ roomOf r (p .size) = h .registers .held .words no in
         let put : List ℕ = splice (b .area) start ws in
         let first : part start k put ≡ ws = ap (λ (z : ℕ). part start z put) (sym registers-length) ∙ splice-same (b .area) start ws (omega (arith, registers-length, m .within)) in
         let second : part (start + k) n put ≡ part (p .span .memory .start) n (b .area) =
@@ -212,9 +210,7 @@ module _ (r : CallRules) (base : ℕ) (p : Placement) (v : List ℕ) (b : Buffer
 
   shows-over : (n : ℕ) (bs : List ℕ) → n + length bs ≤ p .span .home .start → Shows r base p v (over n bs)
   shows-over n bs l = record {
-    held = h .held;
     registers = h .registers;
-    image = h .image;
     size = h .size;
     bytes = h .bytes;
     value = read-own r base p (over n bs) b (agree-over n bs l) ∙ h .value;
@@ -281,8 +277,8 @@ plan-homes : (c : Convention) (r : CallRules) (k : Cursor) (ts : List ValueType)
 plan-homes c (CallRules.Power f) k ts e = homes-from f c k ts
 plan-homes c CallRules.Z k ts e = let z : _≡_ {A = ℕ} 0 1 = cc in absurd (omega arith)
 
-none-homes : (r : CallRules) (n : ℕ) (f : Fault) → HomesFrom r n (argumentsIn (signatureAnswer (no f)) (planAnswer (no f)))
-unfolding argumentsIn placements HomesFrom
+none-homes : (r : CallRules) (n : ℕ) (f : Fault) → HomesFrom r n (placementsIn (signatureAnswer (no f)) (planAnswer (no f)))
+unfolding placementsIn placements HomesFrom
 none-homes r n f = tt
 
 -- of a signature whose hidden address, if it has one, is the first word
@@ -295,7 +291,7 @@ unfolding argumentsOf
 homes-follow s n = go (signatureOf s)
   where
     go : (x : Reading Signature) → homeless (rulesIn (signatureAnswer x)) ≡ false → StartsFrom n x
-        → HomesFrom (rulesIn (signatureAnswer x)) n (argumentsIn (signatureAnswer x) (planAnswer x))
+        → HomesFrom (rulesIn (signatureAnswer x)) n (placementsIn (signatureAnswer x) (planAnswer x))
     go (got g next m) q l =
         let c : Convention = g .convention in
         let k : Cursor = startIn c (resultType c (g .result)) in
@@ -347,7 +343,7 @@ counted s i l =
     let p : Plan = planFor s in
     let c : Carried g p = carried s in
     let e = next-argument g p i l (c .tables .types) (c .tables .spans) in
-    omega (arith, length-drop i (argumentsIn g p), ap (λ (x : List Placement). length x) e)
+    omega (arith, length-drop i (placementsIn g p), ap (λ (x : List Placement). length x) e)
 
 view-shows : (s area : List ℕ) (i : ℕ) (v : List ℕ) → viewAnswer s (length area) i ≡ Answer.Done → ownBytes (rulesFor s) (getD (argumentsOf s) i noArgument) area ≡ v → viewOf s area i ≡ v
 unfolding viewOf
@@ -367,7 +363,7 @@ all-show r base (p ∷ ps) b h bytes =
     let rest : List ℕ = valuesAt r base ps b in
     let size : length x ≡ p .size = value-length r base p b (h .0) in
     let q : Readable r base p b = h .0 in
-    let shows : Shows r base p x b = record { held = q .ready .held; registers = q .ready .general; image = q .ready .registers; size = size; bytes = bytes .0; value = refl } in (
+    let shows : Shows r base p x b = record { registers = q .ready .registers; size = size; bytes = bytes .0; value = refl } in (
       subst (λ (v : List ℕ). Shows r base p v b) (sym (take-at x rest (p .size) size)) shows,
       subst (λ (v : List ℕ). AllShow r base ps v b) (sym (drop-at x rest (p .size) size)) (all-show r base ps b (h .1) (bytes .1)),
     )

@@ -26,13 +26,13 @@ use Rattle.plan_places.specs.Step.{rulesOf, withEllipsis}
 use Rattle.plan_places.proofs.Marked.{named-marked}
 use Rattle.plan_places.proofs.Bounds.{named-start, area-holds}
 use Rattle.plan_plans.specs.declared.Plan.{Plan}
-use Rattle.plan_plans.specs.Plan.{spansOf, lastOf, noSpan, tableOf, hiddenIn, startIn, endIn, planIn, planAnswer}
+use Rattle.plan_plans.specs.Plan.{spansOf, lastOf, noSpan, tableOf, hiddenIn, startIn, lastCursorIn, planIn, planAnswer}
 use Rattle.plan_plans.specs.Helpers.{planned}
 use Rattle.plan_plans.proofs.Fold.{length-spans, last-marked}
 use Rattle.plan_plans.proofs.Answers.{planned-answer}
 use Rattle.call_slots.specs.Placements.{Placement, placements}
 use Rattle.call_slots.specs.Helpers.{Held, Fits, All, sizesOf, Tabled}
-use Rattle.call_slots.specs.Arguments.{argumentsIn, planFor, rulesIn}
+use Rattle.call_slots.specs.Arguments.{placementsIn, planFor, rulesIn}
 use Rattle.call_slots.proofs.Typed.{all-typed}
 use Rattle.call_slots.proofs.Planned.{placements-table, placements-sizes, all-held, all-fit}
 
@@ -40,16 +40,16 @@ use Rattle.call_slots.proofs.Planned.{placements-table, placements-size
 -- lies in the area and the copies of its plan; their sizes are those of the values.
 pub record Carried (g : SignatureRead) (p : Plan) : Type 0 where
   pub tables : Tabled g p
-  pub held : All (Held (rulesIn g)) (argumentsIn g p)
-  pub fit : All (Fits (p .area) (p .copies)) (argumentsIn g p)
-  pub total : sizesOf (argumentsIn g p) ≡ p .values
+  pub held : All (Held (rulesIn g)) (placementsIn g p)
+  pub fit : All (Fits (p .area) (p .copies)) (placementsIn g p)
+  pub total : sizesOf (placementsIn g p) ≡ p .values
 
 -- the arguments of an accepted signature are those of its plan's fold
 pub arguments-got : (g : Signature) (next n : ℕ)
-    → argumentsIn (signatureAnswer (got g next n)) (planAnswer (got g next n))
+    → placementsIn (signatureAnswer (got g next n)) (planAnswer (got g next n))
     ≡ placements (g .convention) (typesOf (g .convention) (g .arguments))
     (spansOf (g .convention) (withEllipsis (g .ellipsis) (rulesOf (g .convention))) (startIn (g .convention) (resultType (g .convention) (g .result))) (typesOf (g .convention) (g .arguments)))
-unfolding argumentsIn planAnswer planIn tableOf
+unfolding placementsIn planAnswer planIn tableOf
 arguments-got g next n =
     let c : Convention = g .convention in
     let r : CallRules = withEllipsis (g .ellipsis) (rulesOf c) in
@@ -72,11 +72,11 @@ planned-fit : (n : ℕ) (c : Convention) (v : Bool) (r : ResultType) (ts : List 
     → All (Fits (planIn n c v r ts .area) (planIn n c v r ts .copies)) (placements c ts (spansOf c (withEllipsis v (rulesOf c)) (startIn c r) ts))
 unfolding planIn
 planned-fit n c v r ts =
-    let last : lastOf c (withEllipsis v (rulesOf c)) (startIn c r) ts ≡ endIn c r ts = last-marked c v (rulesOf c) (startIn c r) ts in
+    let last : lastOf c (withEllipsis v (rulesOf c)) (startIn c r) ts ≡ lastCursorIn c r ts = last-marked c v (rulesOf c) (startIn c r) ts in
     all-fit c (withEllipsis v (rulesOf c)) (startIn c r) ts _ _ (named-marked v (rulesOf c) (startIn c r) (named-start (rulesOf c) (hiddenIn c r)))
-    (rw last (area-holds c (endIn c r ts))) (rw last (omega arith))
+    (rw last (area-holds c (lastCursorIn c r ts))) (rw last (omega arith))
 
-planned-values : (n : ℕ) (c : Convention) (v : Bool) (r : ResultType) (ts : List ValueType) → valuesOf c ts ≡ planIn n c v r ts .values
+pub planned-values : (n : ℕ) (c : Convention) (v : Bool) (r : ResultType) (ts : List ValueType) → valuesOf c ts ≡ planIn n c v r ts .values
 unfolding planIn
 planned-values n c v r ts = refl
 
@@ -86,7 +86,7 @@ unfolding All
 none-all P = tt
 
 pub carried : (s : List ℕ) → Carried (signatureAnswer (signatureOf s)) (planAnswer (signatureOf s))
-unfolding planAnswer argumentsIn placements sizesOf
+unfolding planAnswer placementsIn placements sizesOf
 carried s = go (signatureOf s) refl
   where
     go : (x : Reading Signature) → signatureOf s ≡ x → Carried (signatureAnswer x) (planAnswer x)

@@ -7,6 +7,7 @@ use native.Mathlib.Nat.{mul-zero, mul-suc, mul-comm, mod-lt, div-add-mod'}
 use borrow.Author.Tests.{eqb-true, leb-false}
 use lib.Dec.{leb, eqb}
 use Rattle.base_words.specs.Basics.{pick}
+use Rattle.base_words.proofs.Basics.{words-split}
 use Rattle.base_conventions.specs.declared.Convention.{Convention}
 use Rattle.sig_types.specs.declared.FloatFormat.{FloatFormat}
 use Rattle.sig_types.specs.declared.Equivalent.{Equivalent}
@@ -21,7 +22,6 @@ use Rattle.plan_places.specs.Power.{words, fprs, covered, shareOf, powerShare, 
 use Rattle.plan_places.specs.ZSeries.{zClass, zFloating, zSpanOf, bySize, byEquivalent}
 use Rattle.plan_places.specs.declared.Edition.{Edition}
 use Rattle.plan_places.specs.Step.{rulesOf, withEllipsis, spanOf}
-use Rattle.plan_places.proofs.Shares.{words-split}
 use Rattle.call_slots.specs.Forms.{structAtHead, startsAtHead}
 use Rattle.call_slots.specs.Placements.{placement}
 use Rattle.call_slots.specs.Helpers.{FloatSized, Held}
@@ -88,7 +88,7 @@ module _ (w : ℕ) (least : 4 ≤ w) (most : w ≤ 8) where
           → Held rules (placement t n (powerSpan w k (words w n) (share (covered k (words w n)) m (words w n - covered k (words w n)))))
       power-words m f =
           let g : ℕ = covered k (words w n) in
-          let s = words-split w (words w n) g (omega arith) in
+          let s = words-split w g (words w n) (omega arith) in
           record {
             word = (least, most);
             direct = λ q. refl;

@@ -1,10 +1,12 @@
 -- The arguments of a whole plan: each is held by its span, and its places lie in the buffers. Assumes nothing.
 -- ---- shape
 use mathlib.Core.Path.{_≡_, refl, ap}
-use mathlib.Core.Bool.{Bool}
+use mathlib.Core.Bool.{Bool, true, false}
 use mathlib.Core.List.{List, [], _∷_, _++_}
 use Prim.Native.Nat.{ℕ, _+_, _≤_}
 use native.Mathlib.Omega.{arith}
+use lib.ListN.{length}
+use Rattle.base_words.specs.Basics.{pick}
 use Rattle.base_conventions.specs.declared.Convention.{Convention}
 use Rattle.sig_types.specs.declared.ValueType.{ValueType}
 use Rattle.sig_types.specs.Sizes.{sizeOf}
@@ -12,16 +14,30 @@ use Rattle.plan_places.specs.declared.Cursor.{Cursor}
 use Rattle.plan_places.specs.declared.CallRules.{CallRules}
 use Rattle.plan_places.specs.declared.Span.{Span}
 use Rattle.plan_places.specs.Step.{rulesOf, withEllipsis, spanOf, nextOf}
+use Rattle.plan_places.specs.Spots.{imageBytes}
 use Rattle.plan_places.proofs.Bounds.{Named, named-next}
 use Rattle.plan_places.proofs.Between.{step-between}
 use Rattle.plan_places.proofs.Registers.{step-numbered}
 use Rattle.sig_signatures.specs.Types.{valuesOf}
 use Rattle.plan_plans.specs.Plan.{spansOf, lastOf}
 use Rattle.plan_plans.proofs.Fold.{last-forward}
-use Rattle.call_slots.specs.Placements.{Placement, placement, placements}
-use Rattle.call_slots.specs.Helpers.{Held, Fits, All, sizesOf}
+use Rattle.call_slots.specs.Placements.{Placement, placement, placements, copyBytes}
+use Rattle.call_slots.specs.Helpers.{Held, Fits, InImage, All, sizesOf}
 use Rattle.call_slots.proofs.Typed.{AllTyped}
 use Rattle.call_slots.proofs.Held.{step-held}
+
+-- what fits in its places has its registers in an image
+pub in-image : (r : CallRules) (i a c : ℕ) (p : Placement) → Held r p → Fits a c p → i ≡ imageBytes → InImage r i p
+in-image r i a c p held fits image = record { held = held; general = fits .general; floating = fits .floating; image = image }
+
+-- a copy has the value's bytes, or none
+pub copy-in : (r : CallRules) (p : Placement) (v : List ℕ) (n : ℕ) → Held r p → length v ≤ p .size → p .span .copy .start + p .span .copy .length ≤ n
+    → p .span .copy .start + length (copyBytes p v) ≤ n
+copy-in r p v n h l k = go (p .span .indirect) refl
+  where
+    go : (i : Bool) → p .span .indirect ≡ i → p .span .copy .start + length (pick i v []) ≤ n
+    go true q = omega (arith, h .copied q)
+    go false q = omega arith
 
 -- the table's spans after the last argument's are no argument's
 pub placements-table : (c : Convention) (r : CallRules) (k : Cursor) (ts : List ValueType) (more : List Span)

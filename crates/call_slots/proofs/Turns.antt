@@ -22,7 +22,7 @@ use Rattle.call_slots.specs.declared.Answer.{Answer}
 use Rattle.call_slots.specs.Placements.{Placement, placement, placements}
 use Rattle.call_slots.specs.Helpers.{All}
 use Rattle.call_slots.specs.Refusals.{orElse, firstOfAll, isRefused}
-use Rattle.call_slots.specs.Arguments.{argumentsIn}
+use Rattle.call_slots.specs.Arguments.{placementsIn}
 use Rattle.call_slots.proofs.Refusals.{or-refused, not-refused}
 
 drop-placements : (c : Convention) (ts : List ValueType) (ss : List Span) (i : ℕ) → drop i (placements c ts ss) ≡ placements c (drop i ts) (drop i ss)
@@ -44,16 +44,16 @@ argumentAt g p i =
 
 -- the argument at hand and those after it
 pub next-argument : (g : SignatureRead) (p : Plan) (i : ℕ) → i < g .count → g .count ≤ length (g .arguments) → g .count ≤ length (p .spans)
-    → drop i (argumentsIn g p) ≡ argumentAt g p i ∷ drop (suc i) (argumentsIn g p)
-unfolding argumentsIn placements
+    → drop i (placementsIn g p) ≡ argumentAt g p i ∷ drop (suc i) (placementsIn g p)
+unfolding placementsIn placements
 next-argument g p i h types spans =
     drop-placements (g .convention) (typesIn g) (p .spans) i
     ∙ rw (types-drop (g .count) (g .arguments) i h types, drop-cons (p .spans) i noSpan (omega arith))
     (ap (λ (l : List Placement). argumentAt g p i ∷ l) (sym (drop-placements (g .convention) (typesIn g) (p .spans) (suc i))))
 
 -- none is left
-pub no-argument : (g : SignatureRead) (p : Plan) (i : ℕ) → g .count ≤ i → g .count ≤ length (g .arguments) → drop i (argumentsIn g p) ≡ []
-unfolding argumentsIn placements
+pub no-argument : (g : SignatureRead) (p : Plan) (i : ℕ) → g .count ≤ i → g .count ≤ length (g .arguments) → drop i (placementsIn g p) ≡ []
+unfolding placementsIn placements
 no-argument g p i h types =
     drop-placements (g .convention) (typesIn g) (p .spans) i ∙ rw (none (typesIn g) i (omega (arith, length-types (g .count) (g .arguments) types)))
   where

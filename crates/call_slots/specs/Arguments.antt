@@ -14,12 +14,12 @@ use Rattle.plan_plans.specs.Call.{outcomeFor}
 use Rattle.call_slots.specs.Placements.{Placement, placements}
 
 -- of a signature that was read, with its plan
-unfoldable pub argumentsIn : SignatureRead → Plan → List Placement
-argumentsIn g p = placements (g .convention) (typesIn g) (p .spans)
+unfoldable pub placementsIn : SignatureRead → Plan → List Placement
+placementsIn g p = placements (g .convention) (typesIn g) (p .spans)
 
 -- of a signature's bytes; none of a refused one
 unfoldable pub argumentsOf : List ℕ → List Placement
-argumentsOf s = argumentsIn (signatureAnswer (signatureOf s)) (planAnswer (signatureOf s))
+argumentsOf s = placementsIn (signatureAnswer (signatureOf s)) (planAnswer (signatureOf s))
 
 -- the plan of a signature's bytes
 abbrev pub planFor : List ℕ → Plan

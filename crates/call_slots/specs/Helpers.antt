@@ -12,6 +12,7 @@ use Rattle.sig_signatures.specs.Limits.{maxArguments}
 use Rattle.sig_signatures.specs.declared.SignatureRead.{SignatureRead}
 use Rattle.plan_places.specs.declared.CallRules.{CallRules}
 use Rattle.plan_places.specs.Step.{wordOf}
+use Rattle.plan_places.specs.Spots.{imageBytes}
 use Rattle.plan_plans.specs.declared.Plan.{Plan}
 use Rattle.call_slots.specs.Forms.{roomOf, startsAtHead}
 use Rattle.call_slots.specs.Placements.{Placement}
@@ -48,6 +49,13 @@ pub record Fits (a c : ℕ) (p : Placement) : Type 0 where
   pub floating : p .span .floating .first + p .span .floating .count ≤ 32
   pub memory : p .span .memory .start + p .span .memory .length ≤ a
   pub copies : p .span .copy .start + p .span .copy .length ≤ c
+
+-- an argument whose registers lie in an image of i bytes
+pub record InImage (r : CallRules) (i : ℕ) (p : Placement) : Type 0 where
+  pub held : Held r p
+  pub general : p .span .general .first + p .span .general .count ≤ 32
+  pub floating : p .span .floating .first + p .span .floating .count ≤ 32
+  pub image : i ≡ imageBytes
 
 -- each of several
 unfoldable pub All : (Placement → Type 0) → List Placement → Type 0

@@ -59,8 +59,8 @@ module _ (r : CallRules) (base : ℕ) (p : Placement) (b : Buffers) (h : Readabl
       no = omega arith
 
       go : (s : Bool) → pick s 0 (roomOf r (p .size) - p .size) + p .size ≤ wordOf r * p .span .general .count + p .span .memory .length
-      go true = omega (arith, h .ready .held .room e, h .ready .held .words no)
-      go false = omega (arith, h .ready .held .room e, h .ready .held .words no)
+      go true = omega (arith, h .ready .registers .held .room e, h .ready .registers .held .words no)
+      go false = omega (arith, h .ready .registers .held .room e, h .ready .registers .held .words no)
 
   length-words : length (wordsAt (wordOf r) (p .span) b) ≡ wordOf r * p .span .general .count + p .span .memory .length
   unfolding wordsAt bytesAt
@@ -70,7 +70,7 @@ module _ (r : CallRules) (base : ℕ) (p : Placement) (b : Buffers) (h : Readabl
       let size : length bs ≡ 8 * k = length-part (8 * p .span .general .first) (8 * k) (b .image) (omega (arith, h .ready)) in
       length-append (gather (wordOf r) k bs) (part (p .span .memory .start) (p .span .memory .length) (b .area))
       ∙ rw (
-        length-gather (wordOf r) k bs (h .ready .held .word .1) (omega arith),
+        length-gather (wordOf r) k bs (h .ready .registers .held .word .1) (omega arith),
         stored-length (p .span .memory .start) (p .span .memory .length) (b .area) (h .ready .memory),
       )
 
@@ -115,7 +115,7 @@ value-length r base p b h = go (ltb 0 (p .span .floating .count)) refl
         ≡ p .size
     go true q =
         let some : 0 < p .span .floating .count = ltb-true 0 (p .span .floating .count) q in
-        float-length r (equivalentOf (p .ty)) (floatAt (p .span) b) (p .span .floating .count) (p .size) (h .ready .held .float some) (length-fprs r base p b h)
+        float-length r (equivalentOf (p .ty)) (floatAt (p .span) b) (p .span .floating .count) (p .size) (h .ready .registers .held .float some) (length-fprs r base p b h)
         (h .exact some)
     go false q = words (p .span .indirect) refl (ltb-false 0 (p .span .floating .count) q)
 

@@ -19,7 +19,7 @@ use Rattle.call_slots.specs.declared.Answer.{Answer}
 use Rattle.call_slots.specs.Buffers.{Buffers}
 use Rattle.call_slots.specs.Placements.{Placement, floatAt, addressAt}
 use Rattle.call_slots.specs.Refusals.{floatAnswer}
-use Rattle.call_slots.specs.Helpers.{Held, All, sizesOf}
+use Rattle.call_slots.specs.Helpers.{InImage, All, sizesOf}
 use Rattle.call_slots.specs.Arguments.{rulesIn}
 use Rattle.call_arguments.specs.Table.{argumentsFrom}
 
@@ -40,11 +40,8 @@ FprsHold Equivalent.Nothing n l = n ≤ l
 
 -- an argument, and the lengths of the image and the area
 pub record InBuffers (r : CallRules) (i a : ℕ) (p : Placement) : Type 0 where
-  pub held : Held r p
-  pub general : p .span .general .first + p .span .general .count ≤ 32
-  pub floating : p .span .floating .first + p .span .floating .count ≤ 32
+  pub registers : InImage r i p
   pub memory : Stored (p .span .memory .start) (p .span .memory .length) a
-  pub registers : i ≡ imageBytes
 
 -- an argument that can be read
 pub record Readable (r : CallRules) (base : ℕ) (p : Placement) (b : Buffers) : Type 0 where

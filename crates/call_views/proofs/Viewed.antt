@@ -22,7 +22,7 @@ use Rattle.call_slots.specs.Placements.{Placement}
 use Rattle.call_slots.specs.Helpers.{Held, All}
 use Rattle.call_slots.specs.Refusals.{Test, firstOf, afterReading, isDone, isRefused}
 use Rattle.plan_plans.specs.Call.{outcomeFor}
-use Rattle.call_slots.specs.Arguments.{argumentsIn, argumentsOf, planFor, rulesIn, rulesFor}
+use Rattle.call_slots.specs.Arguments.{placementsIn, argumentsOf, planFor, rulesIn, rulesFor}
 use Rattle.call_slots.proofs.Answered.{Carried, carried-same}
 use Rattle.call_slots.proofs.Marked.{own-marked, held-marked}
 use Rattle.call_slots.proofs.Turns.{argumentAt, next-argument}
@@ -84,15 +84,15 @@ hand s have index g p a read plan e d =
     let c : Carried g p = carried-same s g p read plan in
     let next = next-argument g p index (v .there) (c .tables .types) (c .tables .spans) in
     let r : CallRules = rulesOf (g .convention) in
-    let homes : All (Homed (rulesIn g) (p .area)) (argumentsIn g p) =
+    let homes : All (Homed (rulesIn g) (p .area)) (placementsIn g p) =
     rw (read, plan) (homed-all s (ap (λ (x : SignatureRead). homeless (rulesIn x)) (sym read) ∙ homeless-marked (g .ellipsis) r ∙ v .homes)) in
     record {
       done = sym (answer-same s have index g p a read plan e) ∙ d;
       small = omega (arith, v .there, c .tables .few);
       room = v .room;
-      held = held-marked (g .ellipsis) r _ (all-at (Held (rulesIn g)) (argumentsIn g p) index (argumentAt g p index) _ next (c .held));
-      homed = homed-marked (g .ellipsis) r _ _ (all-at (Homed (rulesIn g) (p .area)) (argumentsIn g p) index (argumentAt g p index) _ next homes);
-      at = ap₂ (λ (g : SignatureRead) (p : Plan). getD (argumentsIn g p) index noArgument) (sym read) (sym plan) ∙ getD-at (argumentsIn g p) index (argumentAt g p index) noArgument _ next;
+      held = held-marked (g .ellipsis) r _ (all-at (Held (rulesIn g)) (placementsIn g p) index (argumentAt g p index) _ next (c .held));
+      homed = homed-marked (g .ellipsis) r _ _ (all-at (Homed (rulesIn g) (p .area)) (placementsIn g p) index (argumentAt g p index) _ next homes);
+      at = ap₂ (λ (g : SignatureRead) (p : Plan). getD (placementsIn g p) index noArgument) (sym read) (sym plan) ∙ getD-at (placementsIn g p) index (argumentAt g p index) noArgument _ next;
     }
 
 -- ---- the part that is viewed

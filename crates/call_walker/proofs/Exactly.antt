@@ -6,6 +6,7 @@ use Prim.Native.Nat.{ℕ, _+_, _%_, _^_, _≤_}
 use native.Mathlib.Omega.{arith}
 use borrow.Author.Tests.{le-leb, leb-true, eq-eqb, eqb-true}
 use lib.Dec.{eqb, leb}
+use Rattle.base_words.proofs.Tests.{and-yes, and-both, or-yes, or-left, or-right}
 use Rattle.sig_types.proofs.Sized.{all-within-sized}
 use Rattle.plan_places.specs.declared.CallRules.{CallRules}
 use Rattle.plan_places.specs.Step.{rulesOf, startOf}
@@ -20,27 +21,9 @@ use Rattle.call_walker.proofs.Reached.{Possible, reached-start, reached
 
 -- ---- the test
 
-both-true : (a b : Bool) → a && b ≡ true → (a ≡ true) × (b ≡ true)
-both-true true b e = (refl, e)
-both-true false b e = let z : _≡_ {A = ℕ} 0 1 = cc in absurd (omega arith)
-
-both-of : (a b : Bool) → a ≡ true → b ≡ true → a && b ≡ true
-both-of a b x y = rw (x, y)
-
-either-true : (a b : Bool) → a || b ≡ true → (a ≡ true) ⊎ (b ≡ true)
-either-true true b e = inl refl
-either-true false b e = inr e
-
-either-left : (a b : Bool) → a ≡ true → a || b ≡ true
-either-left a b x = rw x
-
-either-right : (a b : Bool) → b ≡ true → a || b ≡ true
-either-right true b x = refl
-either-right false b x = x
-
 -- three ways to stand on the stack
 ways : (s g f : ℕ) → (leb s 160 || (leb 7 g || leb 8 f)) ≡ true → (s ≤ 160) ⊎ ((7 ≤ g) ⊎ (8 ≤ f))
-ways s g f e = first (either-true (leb s 160) (leb 7 g || leb 8 f) e)
+ways s g f e = first (or-yes (leb s 160) (leb 7 g || leb 8 f) e)
   where
     second : (leb 7 g ≡ true) ⊎ (leb 8 f ≡ true) → (s ≤ 160) ⊎ ((7 ≤ g) ⊎ (8 ≤ f))
     second (inl x) = inr (inl (leb-true 7 g x))
@@ -48,26 +31,26 @@ ways s g f e = first (either-true (leb s 160) (leb 7 g || leb 8 f) e)
 
     first : (leb s 160 ≡ true) ⊎ ((leb 7 g || leb 8 f) ≡ true) → (s ≤ 160) ⊎ ((7 ≤ g) ⊎ (8 ≤ f))
     first (inl x) = inl (leb-true s 160 x)
-    first (inr x) = second (either-true (leb 7 g) (leb 8 f) x)
+    first (inr x) = second (or-yes (leb 7 g) (leb 8 f) x)
 
 ways-back : (s g f : ℕ) → (s ≤ 160) ⊎ ((7 ≤ g) ⊎ (8 ≤ f)) → (leb s 160 || (leb 7 g || leb 8 f)) ≡ true
-ways-back s g f (inl x) = either-left (leb s 160) (leb 7 g || leb 8 f) (le-leb s 160 x)
-ways-back s g f (inr (inl x)) = either-right (leb s 160) (leb 7 g || leb 8 f) (either-left (leb 7 g) (leb 8 f) (le-leb 7 g x))
-ways-back s g f (inr (inr x)) = either-right (leb s 160) (leb 7 g || leb 8 f) (either-right (leb 7 g) (leb 8 f) (le-leb 8 f x))
+ways-back s g f (inl x) = or-left (leb s 160) (leb 7 g || leb 8 f) (le-leb s 160 x)
+ways-back s g f (inr (inl x)) = or-right (leb s 160) (leb 7 g || leb 8 f) (or-left (leb 7 g) (leb 8 f) (le-leb 7 g x))
+ways-back s g f (inr (inr x)) = or-right (leb s 160) (leb 7 g || leb 8 f) (or-right (leb 7 g) (leb 8 f) (le-leb 8 f x))
 
 tested-possible : (r : CallRules) (hidden : Bool) (k : Counters) → possible r hidden k ≡ true → Possible r hidden k
 unfolding possible powerPossible zPossible
 tested-possible (CallRules.Power f) hidden k e =
-    let a = both-true _ _ e in
-    let b = both-true _ _ (a .1) in
+    let a = and-yes _ _ e in
+    let b = and-yes _ _ (a .1) in
     (leb-true _ _ (a .0), leb-true _ _ (b .0), eqb-true _ _ (b .1))
 tested-possible CallRules.Z hidden k e =
-    let a = both-true _ _ e in
-    let b = both-true _ _ (a .1) in
-    let c = both-true _ _ (b .1) in
-    let d = both-true _ _ (c .1) in
-    let f = both-true _ _ (d .1) in
-    let g = both-true _ _ (f .1) in (
+    let a = and-yes _ _ e in
+    let b = and-yes _ _ (a .1) in
+    let c = and-yes _ _ (b .1) in
+    let d = and-yes _ _ (c .1) in
+    let f = and-yes _ _ (d .1) in
+    let g = and-yes _ _ (f .1) in (
       leb-true _ _ (a .0),
       leb-true _ _ (b .0),
       leb-true _ _ (c .0),
@@ -79,13 +62,13 @@ tested-possible CallRules.Z hidden k e =
 
 possible-tested : (r : CallRules) (hidden : Bool) (k : Counters) → Possible r hidden k → possible r hidden k ≡ true
 unfolding possible powerPossible zPossible
-possible-tested (CallRules.Power f) hidden k h = both-of _ _ (le-leb _ _ (h .0)) (both-of _ _ (le-leb _ _ (h .1)) (eq-eqb _ _ (h .2)))
+possible-tested (CallRules.Power f) hidden k h = and-both _ _ (le-leb _ _ (h .0)) (and-both _ _ (le-leb _ _ (h .1)) (eq-eqb _ _ (h .2)))
 possible-tested CallRules.Z hidden k h =
-    both-of _ _ (le-leb _ _ (h .0))
-    (both-of _ _ (le-leb _ _ (h .1))
-    (both-of _ _ (le-leb _ _ (h .2))
-    (both-of _ _ (eq-eqb _ _ (h .3))
-    (both-of _ _ (le-leb _ _ (h .4)) (both-of _ _ (eq-eqb _ _ (h .5)) (ways-back (k .stack) (k .general) (k .floating) (h .6)))))))
+    and-both _ _ (le-leb _ _ (h .0))
+    (and-both _ _ (le-leb _ _ (h .1))
+    (and-both _ _ (le-leb _ _ (h .2))
+    (and-both _ _ (eq-eqb _ _ (h .3))
+    (and-both _ _ (le-leb _ _ (h .4)) (and-both _ _ (eq-eqb _ _ (h .5)) (ways-back (k .stack) (k .general) (k .floating) (h .6)))))))
 
 not-false : (a b : Bool) → not (a && b) ≡ false → (a ≡ true) × (b ≡ true)
 not-false true true e = (refl, refl)
@@ -102,15 +85,15 @@ module _ (w : Walker) (e : lost w ≡ false) where
   pub found-small : Small (w .at)
   unfolding lost inRange
   found-small =
-      let a = both-true _ _ (not-false (inRange (w .at)) _ e .0) in
-      let b = both-true _ _ (a .1) in
+      let a = and-yes _ _ (not-false (inRange (w .at)) _ e .0) in
+      let b = and-yes _ _ (a .1) in
       record { general = leb-true _ _ (a .0); floating = leb-true _ _ (b .0); stack = leb-true _ _ (b .1) }
 
 pub possible-found : (w : Walker) → Small (w .at) → Possible (rulesOf (w .convention)) (w .hidden) (w .at) → lost w ≡ false
 unfolding lost inRange
 possible-found w s h =
     ap not
-    (both-of _ _ (both-of _ _ (le-leb _ _ (s .general)) (both-of _ _ (le-leb _ _ (s .floating)) (le-leb _ _ (s .stack))))
+    (and-both _ _ (and-both _ _ (le-leb _ _ (s .general)) (and-both _ _ (le-leb _ _ (s .floating)) (le-leb _ _ (s .stack))))
     (possible-tested (rulesOf (w .convention)) (w .hidden) (w .at) h))
 
 -- the theorem

@@ -8,6 +8,7 @@ use borrow.Author.Tests.{eq-eqb, lt-ltb, le-ltb, ltb-true, ltb-false}
 use lib.Dec.{ltb}
 use lib.ListN.{length}
 use Rattle.base_words.specs.Basics.{pick}
+use Rattle.base_words.proofs.Tests.{and-no}
 use Rattle.base_conventions.specs.declared.Convention.{Convention}
 use Rattle.sig_types.specs.declared.ValueType.{ValueType}
 use Rattle.sig_types.specs.Sizes.{sizeOf, Sized}
@@ -75,10 +76,6 @@ module _ (r : CallRules) (base : ℕ) (d : Cursor) (t : ValueType) (n : ℕ) (b 
       value-shift t n (d .stack) (spanOf r (uncopied d) t n) (spanOf r (local d) t n) b (span-shifts r (uncopied d) t n) r base
       ∙ sym (value-shift t n (d .stack) (spanOf r d t n) (spanOf r (local d) t n) b (span-shifts r d t n) r base)
 
-never : (a : Bool) → a && false ≡ false
-never true = refl
-never false = refl
-
 -- no length is refused where the next cursor lies in the area
 inside-passes : (r : CallRules) (d : Cursor) (t : ValueType) (n l : ℕ) → nextOf r d t n .stack ≤ l → passes (spanOf r d t n) l ≡ false
 unfolding passes
@@ -86,7 +83,7 @@ inside-passes r d t n l h =
     let w = step-between r d t n in
     let s : Span = spanOf r d t n in
     let inside : s .memory .start + s .memory .length ≤ l = omega (arith, w .memory-to, w .home-to) in
-    ap (λ (x : Bool). ltb 0 (s .memory .length) && x) (le-ltb l (s .memory .start + s .memory .length) inside) ∙ never (ltb 0 (s .memory .length))
+    ap (λ (x : Bool). ltb 0 (s .memory .length) && x) (le-ltb l (s .memory .start + s .memory .length) inside) ∙ and-no (ltb 0 (s .memory .length))
 
 z-stack : (d : Cursor) (class : ZClass) (n : ℕ) → zNextOf (uncopied d) class n .stack ≡ zNextOf d class n .stack
 unfolding zNextOf

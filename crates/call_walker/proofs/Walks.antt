@@ -37,7 +37,7 @@ use Rattle.plan_places.specs.Helpers.{LawfulCalls, Roomy}
 use Rattle.plan_places.proofs.Bounds.{rules-lawful, area-holds}
 use Rattle.plan_places.proofs.Marked.{next-marked}
 use Rattle.plan_plans.specs.declared.Plan.{Plan}
-use Rattle.plan_plans.specs.Plan.{spansOf, lastOf, hiddenIn, startIn, endIn, planIn, planAnswer}
+use Rattle.plan_plans.specs.Plan.{spansOf, lastOf, hiddenIn, startIn, lastCursorIn, planIn, planAnswer}
 use Rattle.plan_plans.specs.Call.{firstUnclear, unclearIn, clearRead, called, outcomeFor}
 use Rattle.plan_plans.proofs.Fold as fold
 use Rattle.call_slots.specs.declared.Answer as call
@@ -45,9 +45,9 @@ use Rattle.call_slots.specs.Buffers.{Buffers}
 use Rattle.call_slots.specs.Placements.{Placement, placement, placements, valueAt, valuesAt}
 use Rattle.call_slots.specs.Helpers.{All, sizesOf}
 use Rattle.call_slots.specs.Refusals.{firstOf, orElse, firstOfAll, afterReading}
-use Rattle.call_slots.specs.Arguments.{rulesIn, argumentsIn, argumentsOf}
+use Rattle.call_slots.specs.Arguments.{rulesIn, placementsIn, argumentsOf}
 use Rattle.call_slots.proofs.Typed.{Typed, AllTyped, all-typed}
-use Rattle.call_slots.proofs.Answered.{arguments-got}
+use Rattle.call_slots.proofs.Answered.{planned-values, arguments-got}
 use Rattle.call_slots.proofs.Planned.{placements-sizes}
 use Rattle.call_slots.proofs.Refusals.{or-done}
 use Rattle.call_unmarshal.specs.Helpers.{InBuffers, Readable}
@@ -215,13 +215,9 @@ accepted-read : (f : _) (x : call.Answer) → afterReading (planAnswer (called (
 unfolding called planAnswer
 accepted-read f x e = let z : _≡_ {A = ℕ} 0 1 = cc in omega arith
 
-plan-area : (n : ℕ) (c : Convention) (e : Bool) (q : ResultType) (ts : List ValueType) → endIn c q ts .stack ≤ planIn n c e q ts .area
+plan-area : (n : ℕ) (c : Convention) (e : Bool) (q : ResultType) (ts : List ValueType) → lastCursorIn c q ts .stack ≤ planIn n c e q ts .area
 unfolding planIn
-plan-area n c e q ts = area-holds c (endIn c q ts)
-
-plan-values : (n : ℕ) (c : Convention) (e : Bool) (q : ResultType) (ts : List ValueType) → planIn n c e q ts .values ≡ valuesOf c ts
-unfolding planIn
-plan-values n c e q ts = refl
+plan-area n c e q ts = area-holds c (lastCursorIn c q ts)
 
 pub walks-alike : WalksAlike
 unfolding readAnswer readValues argumentsOf walkerOf planAnswer
@@ -233,7 +229,7 @@ walks-alike s ws base b v accept = go (signatureOf s) refl accept
     go : (x : Reading Signature) → signatureOf s ≡ x
         → afterReading (planAnswer (called x) .outcome)
         (orElse (firstOf (readTests have (planAnswer x .values) (planAnswer x .area)))
-        (argumentsAnswer (rulesIn (signatureAnswer x)) base (argumentsIn (signatureAnswer x) (planAnswer x)) b)) ≡ call.Answer.Done
+        (argumentsAnswer (rulesIn (signatureAnswer x)) base (placementsIn (signatureAnswer x) (planAnswer x)) b)) ≡ call.Answer.Done
         → SameWalk s ws base b v
     go (no f) e y = absurd (accepted-read f _ y)
     go (got g next n) e y =
@@ -252,23 +248,23 @@ walks-alike s ws base b v accept = go (signatureOf s) refl accept
         let both = or-done _ _ (read .1) in
         let lent : Lent have (planAnswer (got g next n)) = tests-passed have (planAnswer (got g next n)) (both .0) in
         let ps : List Placement = placements c types (spansOf c r k types) in
-        let same : argumentsIn (signatureAnswer (got g next n)) (planAnswer (got g next n)) ≡ ps =
+        let same : placementsIn (signatureAnswer (got g next n)) (planAnswer (got g next n)) ≡ ps =
         arguments-got g next n ∙ ap (λ (z : List ValueType). placements c z (spansOf c r k z)) (sym order) in
-        let whole : argumentsOf s ≡ ps = ap (λ (z : Reading Signature). argumentsIn (signatureAnswer z) (planAnswer z)) e ∙ same in
+        let whole : argumentsOf s ≡ ps = ap (λ (z : Reading Signature). placementsIn (signatureAnswer z) (planAnswer z)) e ∙ same in
         let done : argumentsAnswer r base ps b ≡ call.Answer.Done = subst (λ (z : List Placement). argumentsAnswer r base z b ≡ call.Answer.Done) same (both .1) in
         let ready = each-ready s (signatureAnswer (got g next n)) (length (b .image)) (length (b .area)) (sym (ap signatureAnswer e)) (lent .image) (rw e (lent .area)) in
         let readable = all-readable r base b ps (subst (All (InBuffers r (length (b .image)) (length (b .area)))) whole ready) done in
         let sized = all-sizes r base ps b readable in
-        let size : length v ≡ valuesOf c types = lent .values ∙ (plan-values n c mark q (typesOf c (g .arguments)) ∙ ap (valuesOf c) (sym order)) in
+        let size : length v ≡ valuesOf c types = lent .values ∙ (sym (planned-values n c mark q (typesOf c (g .arguments))) ∙ ap (valuesOf c) (sym order)) in
         let short = length-encode g in
         let asked = all-asked c (g .arguments) (a .within .arguments) (omega (arith, short, a .within .short)) in
         let clear : firstUnclear c (rulesOf c) k 0 types ≡ 0 = ap (firstUnclear c (rulesOf c) k 0) order ∙ read .0 in
-        let last : lastOf c (rulesOf c) k types ≡ endIn c q (typesOf c (g .arguments)) = ap (lastOf c (rulesOf c) k) order in
+        let last : lastOf c (rulesOf c) k types ≡ lastCursorIn c q (typesOf c (g .arguments)) = ap (lastOf c (rulesOf c) k) order in
         let typed = all-typed c (g .arguments) (a .arguments) in
         let bounds = last-reached c (rulesOf c) k (typesOf c (g .arguments)) 0 0 l typed (fold.reached-start (rulesOf c) hidden l) in
         let few = a .within .few in
-        let small : endIn c q (typesOf c (g .arguments)) .stack ≤ 60000 = omega (arith, bounds .stack, length-of-types c (g .arguments), few) in
-        let room : endIn c q (typesOf c (g .arguments)) .stack ≤ length (b .area) = omega (arith, plan-area n c mark q (typesOf c (g .arguments)), lent .area) in
+        let small : lastCursorIn c q (typesOf c (g .arguments)) .stack ≤ 60000 = omega (arith, bounds .stack, length-of-types c (g .arguments), few) in
+        let room : lastCursorIn c q (typesOf c (g .arguments)) .stack ≤ length (b .area) = omega (arith, plan-area n c mark q (typesOf c (g .arguments)), lent .area) in
         let walk = walk-fold c mark hidden base b (lent .image) ts k 0 v asked (reached-start (rulesOf c) hidden l) clear (rw last small) (rw last room) done sized size in
         let total : length v ≡ length (valuesAt r base ps b) = size ∙ sym (length-values r base ps b readable ∙ placements-sizes c r k types) in
         record {

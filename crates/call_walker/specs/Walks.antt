@@ -22,7 +22,7 @@ use Rattle.call_walker.specs.declared.Answer.{Answer}
 use Rattle.call_walker.specs.declared.Counters.{Counters}
 use Rattle.call_walker.specs.declared.Walker.{Walker}
 use Rattle.call_walker.specs.Walker.{countersOf, lost, maxCounter}
-use Rattle.call_walker.specs.Words.{Walked, walked, walk, startAnswer, startWords}
+use Rattle.call_walker.specs.Words.{Walked, walked, walk, walkStartAnswer, startWords}
 
 -- ---- 23: counters "that no arguments, however many, lead to"
 
@@ -70,10 +70,10 @@ walkOver c ws (t ∷ ts) base b v =
 -- of a signature that was read, walked from its start, whatever the words ws were before
 abbrev pub walkWhole : Reading Signature → List ℕ → ℕ → Buffers → List ℕ → Walked
 walkWhole (got g next n) ws base b v = walkOver (g .convention) (startWords (got g next n) ws) (inOrder (g .arguments)) base b v
-walkWhole (no f) ws base b v = walked (startAnswer (no f)) ws []
+walkWhole (no f) ws base b v = walked (walkStartAnswer (no f)) ws []
 
 pub record SameWalk (s ws : List ℕ) (base : ℕ) (b : Buffers) (v : List ℕ) : Type 0 where
-  pub start : startAnswer (signatureOf s) ≡ Answer.Called call.Answer.Done
+  pub start : walkStartAnswer (signatureOf s) ≡ Answer.Called call.Answer.Done
   pub answer : walkWhole (signatureOf s) ws base b v .answer ≡ Answer.Called call.Answer.Done
   pub values : walkWhole (signatureOf s) ws base b v .value ≡ readValues s base call.Answer.Done b v
 

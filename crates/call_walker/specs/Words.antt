@@ -48,9 +48,9 @@ walkerWords w = codeOf (w .convention) ∷ mark (w .ellipsis) ∷ mark (w .hidde
 -- ---- the start
 
 -- the answer and the words after it, ws before: an accepted signature's walker; "A refused start leaves the walker as it was"
-abbrev pub startAnswer : Reading Signature → Answer
-startAnswer (got g next n) = Answer.Called call.Answer.Done
-startAnswer (no f) = Answer.Called (call.Answer.Unread f)
+abbrev pub walkStartAnswer : Reading Signature → Answer
+walkStartAnswer (got g next n) = Answer.Called call.Answer.Done
+walkStartAnswer (no f) = Answer.Called (call.Answer.Unread f)
 
 abbrev pub startWords : Reading Signature → List ℕ → List ℕ
 startWords (got g next n) ws = walkerWords (walkerOf g)

@@ -35,7 +35,7 @@ use Rattle.call_walker.specs.declared.Walker.{Walker}
 use Rattle.call_walker.specs.declared.WalkerRead.{WalkerRead}
 use Rattle.call_walker.specs.Walker.{countersOf, walker, walkerOf, lost}
 use Rattle.call_walker.specs.Step.{typeItem}
-use Rattle.call_walker.specs.Words.{unlost, walkerBy, walkerIn, walkerWords, startAnswer, startWords, walked, stepFor, itemBy, walkBy, walk}
+use Rattle.call_walker.specs.Words.{unlost, walkerBy, walkerIn, walkerWords, walkStartAnswer, startWords, walked, stepFor, itemBy, walkBy, walk}
 use Rattle.call_walking.specs.Helpers.{Declared}
 
 -- ---- the item
@@ -155,18 +155,18 @@ unfolding walkerOf
 read-walker g next n = refl
 
 module _ (x : Reading Signature) (g : SignatureRead) (ws : List ℕ) where
-  pub start-refused : g ≡ signatureAnswer x → (f : Fault) → g .outcome ≡ Outcome.Refused f → (Answer.Called (call.Answer.Unread f) ≡ startAnswer x) × (ws ≡ startWords x ws)
+  pub start-refused : g ≡ signatureAnswer x → (f : Fault) → g .outcome ≡ Outcome.Refused f → (Answer.Called (call.Answer.Unread f) ≡ walkStartAnswer x) × (ws ≡ startWords x ws)
   start-refused e f q = go x (sym (ap (λ (y : SignatureRead). y .outcome) e) ∙ q)
     where
-      go : (y : Reading Signature) → signatureAnswer y .outcome ≡ Outcome.Refused f → (Answer.Called (call.Answer.Unread f) ≡ startAnswer y) × (ws ≡ startWords y ws)
+      go : (y : Reading Signature) → signatureAnswer y .outcome ≡ Outcome.Refused f → (Answer.Called (call.Answer.Unread f) ≡ walkStartAnswer y) × (ws ≡ startWords y ws)
       go (got h next n) p = let z : _≡_ {A = ℕ} 0 1 = cc in absurd (omega arith)
       go (no k) p = let same : f ≡ k = cc in (rw same, refl)
 
   pub start-accepted : g ≡ signatureAnswer x → (n : ℕ) → g .outcome ≡ Outcome.Accepted n → (w : Walker) → w ≡ walkerRead g
-      → (Answer.Called call.Answer.Done ≡ startAnswer x) × (walkerWords w ≡ startWords x ws)
+      → (Answer.Called call.Answer.Done ≡ walkStartAnswer x) × (walkerWords w ≡ startWords x ws)
   start-accepted e n q w r = go x (sym (ap (λ (y : SignatureRead). y .outcome) e) ∙ q) (r ∙ ap walkerRead e)
     where
       go : (y : Reading Signature) → signatureAnswer y .outcome ≡ Outcome.Accepted n → w ≡ walkerRead (signatureAnswer y)
-          → (Answer.Called call.Answer.Done ≡ startAnswer y) × (walkerWords w ≡ startWords y ws)
+          → (Answer.Called call.Answer.Done ≡ walkStartAnswer y) × (walkerWords w ≡ startWords y ws)
       go (got h next m) p o = (refl, ap walkerWords (o ∙ read-walker h next m))
       go (no k) p o = let z : _≡_ {A = ℕ} 0 1 = cc in absurd (omega arith)

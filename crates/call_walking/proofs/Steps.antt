@@ -158,11 +158,8 @@ module _ (w : Walker) (t : ValueType) (base : ℕ) (b : Buffers) where
     step-ready image inside =
         let q = step-numbered (rulesBy w) near t (sizeBy w t) (named-marked (w .ellipsis) (rulesOf (w .convention)) near (local-named (rulesOf (w .convention)) (w .hidden) (w .at) (found-possible w found))) in
         record {
-          held = step-held (w .convention) (w .ellipsis) near t is-typed;
-          general = q .1;
-          floating = q .0;
+          registers = record { held = step-held (w .convention) (w .ellipsis) near t is-typed; general = q .1; floating = q .0; image = image };
           memory = stored span (length part) inside;
-          registers = image;
         }
 
     -- and where nothing refuses it, be read

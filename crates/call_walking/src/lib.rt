@@ -29,7 +29,7 @@ ghost use Rattle.call_slots.specs.Buffers.{buffers};
 ghost use Rattle.call_slots.specs.Refusals.{firstOf};
 ghost use Rattle.call_walker.specs.Walker.{walker as walkerAt, counters, countersOf, cursorAt, lost};
 ghost use Rattle.call_walker.specs.Step.{typeItem, passes, stepTests};
-ghost use Rattle.call_walker.specs.Words.{startAnswer, startWords, stepFor, walk as walkOf};
+ghost use Rattle.call_walker.specs.Words.{walkStartAnswer, startWords, stepFor, walk as walkOf};
 ghost use Rattle.call_walker.specs.Walks.{Small};
 ghost use Rattle.call_walker.specs.Helpers.{local};
 ghost use Rattle.call_walking.specs.Helpers.{Declared, Offset, Countable, countersAfter};
@@ -111,7 +111,7 @@ fn walker_of(c: Convention, ellipsis: bool, result: ResultType) -> Walker
 
 // The walker of a signature, at its first argument. A refused start leaves the words as they were.
 pub fn start(words: &mut [u64; WALKER_WORDS], sig: &[u8]) -> Answer
-    ensures { λ a. ⌜ a ≡ startAnswer (signatureOf (now (sig .entry))) ⌝ }
+    ensures { λ a. ⌜ a ≡ walkStartAnswer (signatureOf (now (sig .entry))) ⌝ }
     ensures { λ _. ⌜ now (words .exit) ≡ startWords (signatureOf (now (sig .entry))) (now (words .entry)) ⌝ }
 {
     let g = sig_whole::read_signature(sig);

@@ -8,9 +8,9 @@ use lib.ListN.{length}
 use lib.Dec.{leb, eqb}
 use borrow.Author.Tests.{leb-true, le-leb, lt-leb, eq-eqb, eqb-true}
 use Rattle.base_words.specs.Basics.{pick}
+use Rattle.base_words.proofs.Tests.{and-yes, either}
 use Rattle.frame_saves.specs.Saves.{load}
 use Rattle.frame_rules.specs.declared.FrameRules.{FrameRules}
-use Rattle.frame_rules.proofs.Facts.{and-yes, either}
 use Rattle.frame_dump.specs.Walk.{BadAddress, ListTooShort, Walked, frames, refused, okAddress, prepend, walkFrom, maxFrames, walk, fitted, walkInto, foundIn}
 use Rattle.frame_dump.specs.Chain.{firstOf, Linked, Inside, Ascending, Chain, WalksExactly}
 use Rattle.frame_dump.proofs.Laws.{walk-last, walk-more}

@@ -12,9 +12,9 @@ use Rattle.base_words.proofs.Splices.{splice-next}
 use lib.Dec.{leb, eqb}
 use borrow.Author.Tests.{leb-true, lt-leb, le-leb, ne-eqb}
 use Rattle.base_words.specs.Basics.{pick}
+use Rattle.base_words.proofs.Tests.{and-yes}
 use Rattle.frame_saves.specs.Saves.{load}
 use Rattle.frame_rules.specs.declared.FrameRules.{FrameRules}
-use Rattle.frame_rules.proofs.Facts.{and-yes}
 use Rattle.frame_rules.specs.Helpers.{LawfulFrames}
 use Rattle.frame_dump.specs.Walk.{Refusal, BadAddress, ChainTooLong, ListTooShort, Found, Frames, Refused, Walked, frames, refused, okAddress, prepend, walkFrom, maxFrames, walk, fitted, walkInto, foundIn, counted}
 

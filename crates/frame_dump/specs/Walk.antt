@@ -66,9 +66,9 @@ counted c (frames xs) = Frames (c + length xs)
 counted c (refused r) = Refused r
 
 -- "The list is written to a lent slice of 64-bit numbers; it goes in walking order": the slice l after the walk. Numbers past the list stay, and all do where it is refused.
-abbrev pub listed : Walked → List ℕ → List ℕ
-listed (frames xs) l = splice l 0 xs
-listed (refused r) l = l
+abbrev pub framesListed : Walked → List ℕ → List ℕ
+framesListed (frames xs) l = splice l 0 xs
+framesListed (refused r) l = l
 
 -- ---- numbers
 

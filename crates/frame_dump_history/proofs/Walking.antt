@@ -10,6 +10,7 @@ use lib.ListN.{length, getD}
 use lib.Dec.{leb, eqb}
 use borrow.Author.Tests.{le-leb, eq-eqb, ne-eqb, eqb-true}
 use Rattle.base_words.specs.Basics.{roundUp}
+use Rattle.base_words.proofs.Tests.{and-yes, either}
 use Rattle.frame_saves.specs.Saves.{load}
 use Rattle.base_conventions.specs.declared.Convention.{Convention}
 use Rattle.base_conventions.specs.declared.Convention.the-variants.{Ppc64, Z, Aix, Ppc64b}
@@ -18,7 +19,6 @@ use Rattle.frame_rules.specs.declared.Frame.{Frame}
 use Rattle.frame_rules.specs.Rules.{rules}
 use Rattle.frame_rules.specs.Frames.{outgoingLength, below, fullSize, frameSize}
 use Rattle.frame_rules.specs.Helpers.{LawfulFrames}
-use Rattle.frame_rules.proofs.Facts.{and-yes, either}
 use Rattle.frame_rules.proofs.Places.{leaf-size, solid-size, size-parts}
 use Rattle.frame_machine.specs.declared.State.{State}
 use Rattle.frame_machine.specs.Machine.{stackPointer, offset, frameAt, okMemory, sizes}

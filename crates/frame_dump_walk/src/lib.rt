@@ -4,7 +4,7 @@ ghost use Prim.Native.Nat.{_+_, _-_, _^_, _≤_};
 ghost use lib.ListN.{length};
 ghost use Rattle.base_words.specs.Splice.{splice};
 ghost use Rattle.frame_rules.specs.Helpers.{LawfulFrames};
-ghost use Rattle.frame_dump.specs.Walk.{okAddress, walkFrom, maxFrames, walkInto, foundIn, counted, listed};
+ghost use Rattle.frame_dump.specs.Walk.{okAddress, walkFrom, maxFrames, walkInto, foundIn, counted, framesListed};
 use frame_dump::Found;
 use frame_dump::Refusal;
 use frame_rules::FrameRules;
@@ -78,7 +78,7 @@ fn put(memory: &[u8], k: FrameRules, base: u64, pointer: u64, list: &mut [u64], 
 pub fn walk(memory: &[u8], k: FrameRules, base: u64, pointer: u64, list: &mut [u64]) -> Found
     requires { ⌜ LawfulFrames k ⌝ }
     ensures { λ r. ⌜ r ≡ counted 0 (walkInto k base (now (memory .entry)) pointer (length (now (list .entry)))) ⌝ }
-    ensures { λ _. ⌜ now (list .exit) ≡ listed (walkInto k base (now (memory .entry)) pointer (length (now (list .entry)))) (now (list .entry)) ⌝ }
+    ensures { λ _. ⌜ now (list .exit) ≡ framesListed (walkInto k base (now (memory .entry)) pointer (length (now (list .entry)))) (now (list .entry)) ⌝ }
 {
     let length = memory.len();
     if 18446744073709551615 - (length as u64) < base {

@@ -7,6 +7,7 @@ use native.Mathlib.Omega.{arith}
 use native.Mathlib.Numerals.{add-one}
 use lib.ListN.{length, getD, set, length-set}
 use lib.Seq.{getD-set-same, getD-set-other}
+use Rattle.base_words.proofs.Fitting.{fit-set}
 use Rattle.frame_saves.specs.Saves.{store, saveAll}
 use Rattle.frame_saves.proofs.Words.{load-agree, load-store, store-length, store-above}
 use Rattle.frame_saves.proofs.Saving.{FitAll, all-length, all-outside, all-held, outside-below}
@@ -17,7 +18,6 @@ use Rattle.frame_rules.specs.declared.Linkage.{Linkage}
 use Rattle.frame_rules.specs.declared.Linkage.the-variants.{LinkRegister, SaveArea}
 use Rattle.frame_rules.specs.Frames.{noFrame, withPointer, below, frameSize, chainWidth, savesBy, saves}
 use Rattle.frame_rules.specs.Helpers.{LawfulFrames}
-use Rattle.frame_rules.proofs.Facts.{fit-set}
 use Rattle.frame_rules.proofs.Conventions.{pointer-unpreserved}
 use Rattle.frame_rules.proofs.Places.{solid-chain, below-reach, chain-in, ascending}
 use Rattle.frame_machine.specs.declared.Answer.the-variants.{Accepted}

@@ -15,12 +15,12 @@ use Rattle.frame_saves.specs.Saves.{store}
 use Rattle.frame_saves.proofs.Words.{store-below}
 use Rattle.frame_saves.proofs.Saving.{all-outside, outside-below}
 use Rattle.base_words.proofs.Basics.{le-or-lt}
+use Rattle.base_words.proofs.Tests.{either, and-yes}
 use Rattle.frame_rules.specs.declared.FrameRules.{FrameRules}
 use Rattle.frame_rules.specs.declared.Frame.{Frame}
 use Rattle.frame_rules.specs.Rules.{rules}
 use Rattle.frame_rules.specs.Frames.{withPointer, below, frameSize, chainWidth, saves}
 use Rattle.frame_rules.specs.Helpers.{LawfulFrames}
-use Rattle.frame_rules.proofs.Facts.{either, and-yes}
 use Rattle.frame_rules.proofs.Conventions.{lawful}
 use Rattle.frame_rules.proofs.Places.{leaf-size, size-parts, below-reach, ascending}
 use Rattle.frame_machine.specs.declared.Answer.{Answer}

@@ -18,7 +18,7 @@ use Rattle.frame_rules.specs.Frames.{firstGpr, firstFpr, savesCr, okRegisters, 
 use Rattle.frame_rules.specs.Helpers.{LawfulFrames}
 use Rattle.frame_rules.proofs.Halves.{each-within}
 use Rattle.frame_rules.proofs.Places.{solid-chain, below-reach, ascending}
-use Rattle.frame_machine.specs.Machine.{rulesOf, stackPointer, offset, frameAt, topFrame}
+use Rattle.frame_machine.specs.Machine.{stateRules, stackPointer, offset, frameAt, topFrame}
 use Rattle.frame_machine.specs.Helpers.{Sound}
 use Rattle.frame_history.specs.Calls.{Machine}
 use Rattle.frame_history.specs.Preserved.{OpenEnter, callerOf}
@@ -41,7 +41,7 @@ fit-small k law r w =
 pub record Base (k : FrameRules) (m : Machine) : Type 0 where
   pub fit : Fit k (m .state .registers)
   pub frames : length (m .state .frames) ≡ 32
-  pub rules : rulesOf (m .state) ≡ k
+  pub rules : stateRules (m .state) ≡ k
   pub sound : Sound k (m .state) (length (m .memory))
 
 -- the latest open enter o, with the enters os open below it

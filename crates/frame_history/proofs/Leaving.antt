@@ -12,13 +12,14 @@ use borrow.Author.Tests.{eq-eqb, lt-ltb}
 use Rattle.frame_saves.specs.Saves.{Save, load, taken}
 use Rattle.frame_saves.proofs.Saving.{Held, outside-above}
 use Rattle.base_words.proofs.Basics.{le-or-lt}
+use Rattle.base_words.proofs.Tests.{either}
+use Rattle.base_words.proofs.Fitting.{fit-set}
 use Rattle.frame_saves.proofs.Taking.{taken-length, taken-under, taken-in, taken-fit}
 use Rattle.frame_rules.specs.declared.FrameRules.{FrameRules}
 use Rattle.frame_rules.specs.declared.Registers.{Registers}
 use Rattle.frame_rules.specs.Rules.{within}
 use Rattle.frame_rules.specs.Frames.{firstGpr, firstFpr, noFrame, below, frameSize, saves, gprSave, fprSave, linkAt, restored, returnAddress, preservedCondition}
 use Rattle.frame_rules.specs.Helpers.{LawfulFrames}
-use Rattle.frame_rules.proofs.Facts.{either, fit-set}
 use Rattle.frame_rules.proofs.Conventions.{pointer-unpreserved, before-lt}
 use Rattle.frame_rules.proofs.Places.{ranges, solid-chain, gpr-end, fpr-end, room-for, ascending, chain-outside}
 use Rattle.frame_rules.proofs.Restoring.{gpr-held, fpr-held, link-held, lr-fit, cr-fit, cr-held, return-held}

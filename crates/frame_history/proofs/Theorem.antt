@@ -1,12 +1,13 @@
 -- Demand 3, proved: every list of calls from every accepted start of any convention. The invariant holds at the start and each call keeps it. Assumes nothing.
-use Prim.Native.Nat.{ℕ, zero, suc, _+_, _-_, _*_, _^_, _≤_, _<_}
+use Prim.Native.Nat.{ℕ, _+_, _-_, _*_, _^_, _≤_, _<_}
 use mathlib.Core.Path.{_≡_, refl, sym, _∙_}
 use mathlib.Core.Bool.{true}
 use mathlib.Core.List.{List, [], _∷_}
 use native.Mathlib.Omega.{arith}
 use native.Mathlib.Nat.{mod-lt}
-use lib.ListN.{length, getD, set, length-set}
+use lib.ListN.{length, getD, set, length-set, List·getD-eq-default}
 use lib.Seq.{getD-set-same}
+use Rattle.base_words.proofs.Fitting.{fit-set}
 use Rattle.frame_saves.specs.Saves.{load}
 use Rattle.frame_saves.proofs.Words.{store-length, load-store}
 use Rattle.base_conventions.specs.declared.Convention.{Convention}
@@ -15,7 +16,6 @@ use Rattle.frame_rules.specs.declared.Registers.{Registers}
 use Rattle.frame_rules.specs.Rules.{rules}
 use Rattle.frame_rules.specs.Frames.{withPointer, lowered, cleared}
 use Rattle.frame_rules.specs.Helpers.{LawfulFrames}
-use Rattle.frame_rules.proofs.Facts.{fit-set}
 use Rattle.frame_rules.proofs.Halves.{lowered-length, lowered-fit}
 use Rattle.frame_rules.proofs.Conventions.{lawful}
 use Rattle.frame_machine.specs.declared.Answer.{Answer}
@@ -60,12 +60,6 @@ module _ (k : FrameRules) (law : LawfulFrames k) where
 
 -- ---- the start
 
--- there are no registers past the last
-past : (xs : List ℕ) (i : ℕ) → length xs ≤ i → getD xs i 0 ≡ 0
-past [] i h = refl
-past (x ∷ xs) zero h = absurd (omega arith)
-past (x ∷ xs) (suc i) h = past xs i (omega arith)
-
 module _ (c : Convention) (b : ℕ) (l : List ℕ) (r : Registers) (fit : RegistersFit r) (e : startAnswer c b (length l) ≡ Accepted) where
   abbrev k : FrameRules
   k = rules c
@@ -89,7 +83,7 @@ module _ (c : Convention) (b : ℕ) (l : List ℕ) (r : Registers) (fit : Regist
 
   low-fit : (i : ℕ) → getD low i 0 < 2 ^ (8 * k .word)
   low-fit i =
-      omega (arith, law .limit, lowered-fit (k .limit) 32 (r .gpr) (λ j p. omega (arith, past (r .gpr) j (omega (arith, fit .gprs)))) i)
+      omega (arith, law .limit, lowered-fit (k .limit) 32 (r .gpr) (λ j p. omega (arith, List·getD-eq-default (r .gpr) 0 {n = j} (omega (arith, fit .gprs)))) i)
 
   pointer : getD (set low (k .pointer) (b + n - k .room)) (k .pointer) 0 ≡ b + n - k .room
   pointer = getD-set-same low (k .pointer) (b + n - k .room) 0 (omega (arith, fit .gprs, law .pointer, lowered-length (k .limit) (r .gpr) 32))

@@ -11,13 +11,14 @@ use lib.Dec.{leb}
 use borrow.Author.Tests.{leb-true}
 use Rattle.base_words.specs.Splice.{splice}
 use Rattle.base_words.proofs.Splices.{length-splice, splice-at-other}
+use Rattle.base_words.proofs.Tests.{either, and-yes, not-yes}
+use Rattle.base_words.proofs.Fitting.{fit-set}
 use Rattle.frame_rules.specs.declared.FrameRules.{FrameRules}
 use Rattle.frame_rules.specs.declared.Registers.{Registers}
 use Rattle.frame_rules.specs.declared.RegisterBank.{RegisterBank}
 use Rattle.frame_rules.specs.declared.RegisterBank.the-variants.{General, Floating, Link, ConditionField, None}
 use Rattle.frame_rules.specs.Frames.{firstGpr, firstFpr, startFrame, hasCondition, outgoingLength, below, frameSize, chainWidth, bankOf, writable, writableField, writableRegister, withRegister}
 use Rattle.frame_rules.specs.Helpers.{LawfulFrames}
-use Rattle.frame_rules.proofs.Facts.{either, and-yes, not-yes, fit-set}
 use Rattle.frame_rules.proofs.Conventions.{writable-apart, pointer-unwritable}
 use Rattle.frame_rules.proofs.Places.{ranges, leaf-chain, solid-chain}
 use Rattle.frame_rules.proofs.Writing.{field-number, field-fit, field-preserves}

@@ -8,11 +8,11 @@ use native.Mathlib.Omega.{arith}
 use lib.Dec.{leb, ltb}
 use borrow.Author.Tests.{leb-true, ltb-true}
 use Rattle.base_words.proofs.Basics.{le-or-lt}
+use Rattle.base_words.proofs.Tests.{either, and-yes, or-yes}
 use Rattle.frame_rules.specs.declared.FrameRules.{FrameRules}
 use Rattle.frame_rules.specs.declared.Frame.{Frame}
 use Rattle.frame_rules.specs.Frames.{startFrame, okRequest, outgoingLength, below, frameSize}
 use Rattle.frame_rules.specs.Helpers.{LawfulFrames}
-use Rattle.frame_rules.proofs.Facts.{either, and-yes, or-yes}
 use Rattle.frame_rules.proofs.Places.{leaf-size, size-parts, below-reach}
 use Rattle.frame_machine.specs.Machine.{State, offset, frameAt, topFrame, callerFrame, top, caller, okFrames, sizes, inside, outgoingFrom, localsFrom, writableBytes, writableAddress}
 use Rattle.frame_machine.specs.Helpers.{Sound}

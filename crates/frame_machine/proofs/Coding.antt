@@ -9,11 +9,11 @@ use lib.ListN.{length}
 use lib.Dec.{leb, eqb}
 use borrow.Author.Tests.{eq-eqb, ne-eqb, eqb-true, eqb-false}
 use Rattle.base_words.proofs.Basics.{le-or-lt, leb-sub}
+use Rattle.base_words.proofs.Tests.{and-yes, not-yes}
 use Rattle.frame_rules.specs.declared.FrameRules.{FrameRules}
 use Rattle.frame_rules.specs.declared.Frame.{Frame}
 use Rattle.frame_rules.specs.Frames.{startFrame, maxOutgoing, okRequest, outgoingLength, frameSize}
 use Rattle.frame_rules.specs.Helpers.{LawfulFrames, Placed}
-use Rattle.frame_rules.proofs.Facts.{and-yes, not-yes}
 use Rattle.frame_rules.proofs.Conventions.{lawful}
 use Rattle.frame_rules.proofs.Places.{ranges, below-reach}
 use Rattle.frame_machine.specs.Machine.{State, offset, frameAt, topFrame, callerFrame, top, caller, okFrames, sizes}

@@ -11,7 +11,7 @@ use Rattle.frame_rules.specs.declared.Registers.{Registers}
 use Rattle.frame_rules.specs.Rules.{rules}
 use Rattle.frame_rules.specs.Frames.{noFrame, frameSize, restored, bankOf, withRegister}
 use Rattle.frame_machine.specs.Answers.{Accepted, Refused, Refusal, BadMemory, judge}
-use Rattle.frame_machine.specs.Machine.{State, rulesOf, stackPointer, offset, top, okMemory, startAnswer, started, startedMemory, notStarted, enterAnswer, entered, enteredMemory, writeRegisterAnswer, writeMemoryAnswer, writtenRegister, writtenMemory, leaveAnswer, left, startOutcome, startMemory, enterOutcome, enterMemory, writeRegisterOutcome, writeMemoryOutcome, writeMemoryMemory, leaveOutcome}
+use Rattle.frame_machine.specs.Machine.{State, stateRules, stackPointer, offset, top, okMemory, startAnswer, started, startedMemory, notStarted, enterAnswer, entered, enteredMemory, writeRegisterAnswer, writeMemoryAnswer, writtenRegister, writtenMemory, leaveAnswer, left, startOutcome, startMemory, enterOutcome, enterMemory, writeRegisterOutcome, writeMemoryOutcome, writeMemoryMemory, leaveOutcome}
 
 pub accepted-start : (c : Convention) (b n : ℕ) → okMemory (rules c) b n ≡ true → startAnswer c b n ≡ Accepted
 unfolding startAnswer judge
@@ -33,22 +33,22 @@ module _ (c : Convention) (b : ℕ) (l : List ℕ) (r : Registers) where
   start-refused x e = (rw e, rw e)
 
 module _ (s : State) (l : List ℕ) (f : Frame) where
-  pub enter-accepted : enterAnswer (rulesOf s) s (length l) f ≡ Accepted
-      → (enterOutcome s (length l) f ≡ record { answer = Accepted; state = entered (rulesOf s) s f }) × (enterMemory s l f ≡ enteredMemory (rulesOf s) s l f)
+  pub enter-accepted : enterAnswer (stateRules s) s (length l) f ≡ Accepted
+      → (enterOutcome s (length l) f ≡ record { answer = Accepted; state = entered (stateRules s) s f }) × (enterMemory s l f ≡ enteredMemory (stateRules s) s l f)
   unfolding enterOutcome enterMemory
   enter-accepted e = (rw e, rw e)
 
-  pub enter-refused : (x : Refusal) → enterAnswer (rulesOf s) s (length l) f ≡ Refused x
+  pub enter-refused : (x : Refusal) → enterAnswer (stateRules s) s (length l) f ≡ Refused x
       → (enterOutcome s (length l) f ≡ record { answer = Refused x; state = s }) × (enterMemory s l f ≡ l)
   unfolding enterOutcome enterMemory
   enter-refused x e = (rw e, rw e)
 
 module _ (s : State) (n b i v : ℕ) where
-  pub write-register-accepted : writeRegisterAnswer (rulesOf s) s n b i v ≡ Accepted → writeRegisterOutcome s n b i v ≡ record { answer = Accepted; state = writtenRegister s b i v }
+  pub write-register-accepted : writeRegisterAnswer (stateRules s) s n b i v ≡ Accepted → writeRegisterOutcome s n b i v ≡ record { answer = Accepted; state = writtenRegister s b i v }
   unfolding writeRegisterOutcome
   write-register-accepted e = rw e
 
-  pub write-register-refused : (x : Refusal) → writeRegisterAnswer (rulesOf s) s n b i v ≡ Refused x → writeRegisterOutcome s n b i v ≡ record { answer = Refused x; state = s }
+  pub write-register-refused : (x : Refusal) → writeRegisterAnswer (stateRules s) s n b i v ≡ Refused x → writeRegisterOutcome s n b i v ≡ record { answer = Refused x; state = s }
   unfolding writeRegisterOutcome
   write-register-refused x e = rw e
 
@@ -59,22 +59,22 @@ unfolding writtenRegister
 registers-written s b i v r e = rw e
 
 module _ (s : State) (l : List ℕ) (a : ℕ) (bs : List ℕ) where
-  pub write-memory-accepted : writeMemoryAnswer (rulesOf s) s (length l) a (length bs) ≡ Accepted
+  pub write-memory-accepted : writeMemoryAnswer (stateRules s) s (length l) a (length bs) ≡ Accepted
       → (writeMemoryOutcome s (length l) a (length bs) ≡ record { answer = Accepted; state = s }) × (writeMemoryMemory s l a bs ≡ writtenMemory s l a bs)
   unfolding writeMemoryOutcome writeMemoryMemory
   write-memory-accepted e = (rw e, rw e)
 
-  pub write-memory-refused : (x : Refusal) → writeMemoryAnswer (rulesOf s) s (length l) a (length bs) ≡ Refused x
+  pub write-memory-refused : (x : Refusal) → writeMemoryAnswer (stateRules s) s (length l) a (length bs) ≡ Refused x
       → (writeMemoryOutcome s (length l) a (length bs) ≡ record { answer = Refused x; state = s }) × (writeMemoryMemory s l a bs ≡ l)
   unfolding writeMemoryOutcome writeMemoryMemory
   write-memory-refused x e = (rw e, rw e)
 
 module _ (s : State) (l : List ℕ) where
-  pub leave-accepted : leaveAnswer (rulesOf s) s l ≡ Accepted → leaveOutcome s l ≡ record { answer = Accepted; state = left (rulesOf s) s l }
+  pub leave-accepted : leaveAnswer (stateRules s) s l ≡ Accepted → leaveOutcome s l ≡ record { answer = Accepted; state = left (stateRules s) s l }
   unfolding leaveOutcome
   leave-accepted e = rw e
 
-  pub leave-refused : (x : Refusal) → leaveAnswer (rulesOf s) s l ≡ Refused x → leaveOutcome s l ≡ record { answer = Refused x; state = s }
+  pub leave-refused : (x : Refusal) → leaveAnswer (stateRules s) s l ≡ Refused x → leaveOutcome s l ≡ record { answer = Refused x; state = s }
   unfolding leaveOutcome
   leave-refused x e = rw e
 

@@ -7,10 +7,10 @@ use native.Mathlib.Omega.{arith}
 use lib.ListN.{length}
 use lib.Dec.{leb, eqb}
 use borrow.Author.Tests.{leb-true, ltb-true, eqb-true, le-leb, eq-eqb}
+use Rattle.base_words.proofs.Tests.{and-yes, not-yes}
 use Rattle.frame_rules.specs.declared.FrameRules.{FrameRules}
 use Rattle.frame_rules.specs.declared.Frame.{Frame}
 use Rattle.frame_rules.specs.Frames.{okRegisters, frameSize, bankOf, writableRegister}
-use Rattle.frame_rules.proofs.Facts.{and-yes, not-yes}
 use Rattle.frame_machine.specs.Answers.{Accepted, judge}
 use Rattle.frame_machine.specs.Machine.{State, stackPointer, frameAt, topFrame, okFrames, sizes, okMemory, okState, stateTests, enterAnswer, top, writableAddress, writeRegisterAnswer, writeMemoryAnswer, leaveTests, leaveAnswer}
 use Rattle.frame_machine.specs.Helpers.{Sound, CanEnter, CanLeave}

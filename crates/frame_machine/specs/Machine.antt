@@ -23,8 +23,8 @@ pub use Rattle.frame_machine.specs.declared.Outcome.{Outcome}
 -- ---- a state
 
 -- the rules that a state goes by
-abbrev pub rulesOf : State → FrameRules
-rulesOf s = rules (s .convention)
+abbrev pub stateRules : State → FrameRules
+stateRules s = rules (s .convention)
 
 -- the stack pointer, and its offset in the memory
 abbrev pub stackPointer : FrameRules → State → ℕ
@@ -218,19 +218,19 @@ unfoldable pub startMemory : Convention → ℕ → List ℕ → List ℕ
 startMemory c b l = settle (startAnswer c b (length l)) (startedMemory (rules c) l) l
 
 unfoldable pub enterOutcome : State → ℕ → Frame → Outcome
-enterOutcome s n f = let a = enterAnswer (rulesOf s) s n f in record { answer = a; state = settle a (entered (rulesOf s) s f) s }
+enterOutcome s n f = let a = enterAnswer (stateRules s) s n f in record { answer = a; state = settle a (entered (stateRules s) s f) s }
 
 unfoldable pub enterMemory : State → List ℕ → Frame → List ℕ
-enterMemory s l f = settle (enterAnswer (rulesOf s) s (length l) f) (enteredMemory (rulesOf s) s l f) l
+enterMemory s l f = settle (enterAnswer (stateRules s) s (length l) f) (enteredMemory (stateRules s) s l f) l
 
 unfoldable pub writeRegisterOutcome : State → ℕ → ℕ → ℕ → ℕ → Outcome
-writeRegisterOutcome s n b number v = let a = writeRegisterAnswer (rulesOf s) s n b number v in record { answer = a; state = settle a (writtenRegister s b number v) s }
+writeRegisterOutcome s n b number v = let a = writeRegisterAnswer (stateRules s) s n b number v in record { answer = a; state = settle a (writtenRegister s b number v) s }
 
 unfoldable pub writeMemoryOutcome : State → ℕ → ℕ → ℕ → Outcome
-writeMemoryOutcome s n a m = record { answer = writeMemoryAnswer (rulesOf s) s n a m; state = s }
+writeMemoryOutcome s n a m = record { answer = writeMemoryAnswer (stateRules s) s n a m; state = s }
 
 unfoldable pub writeMemoryMemory : State → List ℕ → ℕ → List ℕ → List ℕ
-writeMemoryMemory s l a bs = settle (writeMemoryAnswer (rulesOf s) s (length l) a (length bs)) (writtenMemory s l a bs) l
+writeMemoryMemory s l a bs = settle (writeMemoryAnswer (stateRules s) s (length l) a (length bs)) (writtenMemory s l a bs) l
 
 unfoldable pub leaveOutcome : State → List ℕ → Outcome
-leaveOutcome s l = let a = leaveAnswer (rulesOf s) s l in record { answer = a; state = settle a (left (rulesOf s) s l) s }
+leaveOutcome s l = let a = leaveAnswer (stateRules s) s l in record { answer = a; state = settle a (left (stateRules s) s l) s }

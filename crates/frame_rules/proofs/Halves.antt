@@ -7,13 +7,13 @@ use mathlib.Core.List.{List, [], _∷_}
 use native.Mathlib.Omega.{arith}
 use native.Mathlib.Nat.{mod-lt, mod-eq-of-lt}
 use lib.ListN.{getD, set, length, length-set}
-use lib.Seq.{getD-set-other}
+use lib.Seq.{getD-set-other, set-getD}
 use lib.Dec.{leb}
 use borrow.Author.Tests.{leb-true, le-leb}
 use Rattle.base_words.proofs.Basics.{le-or-lt}
+use Rattle.base_words.proofs.Tests.{and-yes}
 use Rattle.frame_rules.specs.Rules.{FrameRules, Registers}
 use Rattle.frame_rules.specs.Frames.{allWithin, lowered, okRegisters, cleared}
-use Rattle.frame_rules.proofs.Facts.{and-yes}
 
 -- all of the first n are at most m exactly where each is
 pub within-each : (m : ℕ) (xs : List ℕ) (n : ℕ) → allWithin m xs n ≡ true → (i : ℕ) → i < n → getD xs i 0 ≤ m
@@ -75,9 +75,4 @@ lowered-fit m (suc n) xs h i =
 pub lowered-same : (m n : ℕ) (xs : List ℕ) → ((i : ℕ) → getD xs i 0 ≤ m) → lowered m xs n ≡ xs
 unfolding lowered
 lowered-same m zero xs h = refl
-lowered-same m (suc n) xs h = let e : getD xs n 0 % (m + 1) ≡ getD xs n 0 = mod-eq-of-lt (omega (arith, h n)) in rw (e, set-same xs n) (lowered-same m n xs h)
-  where
-    set-same : (ys : List ℕ) (j : ℕ) → set ys j (getD ys j 0) ≡ ys
-    set-same [] j = refl
-    set-same (y ∷ ys) zero = refl
-    set-same (y ∷ ys) (suc j) = rw (set-same ys j)
+lowered-same m (suc n) xs h = let e : getD xs n 0 % (m + 1) ≡ getD xs n 0 = mod-eq-of-lt (omega (arith, h n)) in rw (e, set-getD xs n 0) (lowered-same m n xs h)

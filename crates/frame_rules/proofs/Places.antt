@@ -1,19 +1,20 @@
 -- Where the parts of a frame lie: header, outgoing area, locals and saves in this order below the caller's pointer, other saves in the caller's header. Assumes nothing.
 use Prim.Native.Nat.{ℕ, suc, _+_, _-_, _*_, _%_, _^_, _≤_, _<_}
-use mathlib.Core.Path.{_≡_, refl, sym, ap, _∙_}
+use mathlib.Core.Path.{_≡_}
 use mathlib.Core.Logic.{inl, inr}
 use mathlib.Core.Bool.{Bool, true, false, not, false≢true}
 use native.Mathlib.Omega.{arith}
-use native.Mathlib.Nat.{mul-add, mul-suc, mul-le-mul-left, pow-le-pow-right}
+use native.Mathlib.Nat.{mul-suc, mul-le-mul-left, pow-le-pow-right}
 use lib.Dec.{lit<, leb, eqb}
 use borrow.Author.Tests.{leb-true}
-use Rattle.base_words.proofs.Basics.{round-up-least, round-up-most}
+use Rattle.base_words.proofs.Basics.{round-up-least, round-up-most, words-split}
+use Rattle.base_words.proofs.Tests.{either, and-yes}
 use Rattle.frame_saves.specs.Saves.{Outside}
 use Rattle.frame_saves.proofs.Saving.{Ascending}
 use Rattle.frame_rules.specs.Rules.{Linkage, LinkRegister, SaveArea, FrameRules, Frame, Registers, inSpan}
 use Rattle.frame_rules.specs.Frames.{firstGpr, firstFpr, savesCr, hasCondition, maxOutgoing, okLeaf, okRequest, outgoingLength, below, fullSize, frameSize, mostSize, chainWidth, flag, gprAt, savesBy, saves, linkAt}
 use Rattle.frame_rules.specs.Helpers.{LinkageLaw, LawfulFrames}
-use Rattle.frame_rules.proofs.Facts.{either, and-yes, between}
+use Rattle.frame_rules.proofs.Facts.{between}
 
 -- what the ranges of a request say
 pub record Ranges (k : FrameRules) (f : Frame) : Type 0 where
@@ -68,10 +69,6 @@ leaf-linkage k f e l =
     and-yes (hasCondition (k .linkage)) _ (rw l at (w .0)) .0
 
 -- ---- arithmetic
-
--- words up to n, and from n to e
-pub words-split : (w n e : ℕ) → n ≤ e → w * n + w * (e - n) ≡ w * e
-words-split w n e h = let x : n + (e - n) ≡ e = omega arith in sym (mul-add w n (e - n)) ∙ ap (λ (y : ℕ). w * y) x
 
 -- n words of w bytes
 pub words-small : (w n : ℕ) → w ≤ 8 → n ≤ 32 → w * n ≤ 256

@@ -8,11 +8,11 @@ use lib.ListN.{getD}
 use Rattle.frame_saves.specs.Saves.{load}
 use Rattle.frame_saves.proofs.Saving.{Held, HeldAll}
 use Rattle.base_words.specs.Basics.{pick}
+use Rattle.base_words.proofs.Basics.{words-split}
+use Rattle.base_words.proofs.Tests.{either}
 use Rattle.frame_rules.specs.Rules.{Linkage, LinkRegister, SaveArea, FrameRules, Frame, Registers}
 use Rattle.frame_rules.specs.Frames.{firstGpr, savesCr, flag, gprAt, gprSave, fprSave, savesBy, linkAt, preservedFields, mergeFields, restoredLr, restoredCr, returnAddress, preservedCondition}
 use Rattle.frame_rules.specs.Helpers.{LinkageLaw}
-use Rattle.frame_rules.proofs.Facts.{either}
-use Rattle.frame_rules.proofs.Places.{words-split}
 
 pub merge-preserved : (a b : ℕ) → preservedFields (mergeFields a b) ≡ preservedFields b
 unfolding mergeFields

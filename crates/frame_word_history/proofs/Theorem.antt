@@ -1,14 +1,14 @@
 -- Demand 3 of the exported calls, proved from that of the machine's own calls: reading the words after a call gives the state after the machine's call of what was read
 -- before it, so a list over words holds where its reading does. Assumes nothing.
-use Prim.Native.Nat.{ℕ, zero, suc, _+_, _^_, _<_}
+use Prim.Native.Nat.{ℕ, _+_, _^_}
 use mathlib.Core.Path.{_≡_, refl, ap, _∙_}
 use mathlib.Core.List.{List, [], _∷_}
 use native.Mathlib.Omega.{arith}
 use native.Mathlib.Nat.{mod-lt}
-use lib.ListN.{length, getD, take, drop, length-set, length-append, replicate}
-use lib.Seq.{getD-drop}
+use lib.ListN.{length, getD, drop, length-set, length-append, replicate}
 use Rattle.base_words.specs.Splice.{part}
 use Rattle.base_words.proofs.Splices.{length-splice, length-part}
+use Rattle.base_words.proofs.Fitting.{fit-take, fit-drop}
 use Rattle.base_conventions.specs.declared.Convention.{Convention}
 use Rattle.frame_rules.specs.declared.FrameRules.{FrameRules}
 use Rattle.frame_rules.specs.Rules.{rules}
@@ -97,22 +97,13 @@ holds-read k (c ∷ cs) os m h p =
 
 -- ---- numbers are values of their types
 
-fit-drop : (n : ℕ) (l : List ℕ) (b : ℕ) → ((i : ℕ) → getD l i 0 < b) → (i : ℕ) → getD (drop n l) i 0 < b
-fit-drop n l b h i = rw (getD-drop n l i 0) (h (n + i))
-
-fit-take : (n : ℕ) (l : List ℕ) (b : ℕ) → 0 < b → ((i : ℕ) → getD l i 0 < b) → (i : ℕ) → getD (take n l) i 0 < b
-fit-take zero l b z h i = z
-fit-take (suc n) [] b z h i = z
-fit-take (suc n) (x ∷ l) b z h zero = h 0
-fit-take (suc n) (x ∷ l) b z h (suc i) = fit-take n l b z (λ j. h (suc j)) i
-
 pub registers-fit : (rs : List ℕ) → WordsFit registersWords rs → RegistersFit (registersIn rs 0)
 unfolding registersIn
 registers-fit rs h = record {
   gprs = length-part 0 32 rs (omega (arith, h .count));
   fprs = length-part (0 + 32) 32 rs (omega (arith, h .count));
-  gpr = fit-take 32 (drop 0 rs) (2 ^ 64) (omega arith) (fit-drop 0 rs (2 ^ 64) (h .fit));
-  fpr = fit-take 32 (drop (0 + 32) rs) (2 ^ 64) (omega arith) (fit-drop (0 + 32) rs (2 ^ 64) (h .fit));
+  gpr = fit-take 32 (drop 0 rs) (2 ^ 64) (fit-drop 0 rs (2 ^ 64) (h .fit));
+  fpr = fit-take 32 (drop (0 + 32) rs) (2 ^ 64) (fit-drop (0 + 32) rs (2 ^ 64) (h .fit));
   lr = h .fit (0 + 64);
   cr = mod-lt (getD rs (0 + 65) 0) (omega arith);
 }

@@ -13,6 +13,7 @@ use lib.Seq.{set-getD, getD-set-same, getD-set-other}
 use borrow.Author.Tests.{leb-true}
 use Rattle.base_words.specs.Splice.{overlay, splice, part}
 use Rattle.base_words.proofs.Splices.{Apart, length-part, splice-one, splice-other}
+use Rattle.base_words.proofs.Tests.{and-yes}
 use Rattle.base_conventions.specs.declared.Convention.{Convention}
 use Rattle.base_conventions.specs.Numbers.{conventionCode}
 use Rattle.frame_rules.specs.declared.FrameRules.{FrameRules}
@@ -21,11 +22,10 @@ use Rattle.frame_rules.specs.declared.RegisterBank.the-variants.{General, Float
 use Rattle.frame_rules.specs.Helpers.{Named}
 use Rattle.frame_rules.specs.Rules.{rules}
 use Rattle.frame_rules.specs.Frames.{noFrame, frameSize, withPointer, restored, bankOf, writableRegister, withField, withRegister}
-use Rattle.frame_rules.proofs.Facts.{and-yes}
 use Rattle.frame_rules.proofs.Conventions.{lawful}
 use Rattle.frame_rules.proofs.Writing.{writable-named}
 use Rattle.frame_machine.specs.declared.Answer.the-variants.{Accepted}
-use Rattle.frame_machine.specs.Machine.{rulesOf, stackPointer, offset, top, enterAnswer, entered, enterOutcome, writeRegisterAnswer, writtenRegister, writeRegisterOutcome, leaveAnswer, left, leaveOutcome}
+use Rattle.frame_machine.specs.Machine.{stateRules, stackPointer, offset, top, enterAnswer, entered, enterOutcome, writeRegisterAnswer, writtenRegister, writeRegisterOutcome, leaveAnswer, left, leaveOutcome}
 use Rattle.frame_machine.proofs.States.{enter-yes, write-register-yes, leave-yes}
 use Rattle.frame_word_layout.specs.Words.{machineWords, registersAt, isKnown, isMachine, registersIn, frameIn, stateIn, withRegisters, withFrame}
 use Rattle.frame_word_layout.specs.Calls.{changed, enterWords, writeRegisterWords, leaveWords}
@@ -119,13 +119,13 @@ pointer-small c = lawful c .pointer
 
 module _ (ws : List ℕ) (n : ℕ) (qs : List ℕ) (l : length ws ≡ machineWords) where
   -- the depth, the stack pointer's word and the record
-  pub enter-changes : enterAnswer (rulesOf (stateIn ws)) (stateIn ws) n (frameIn qs 0) ≡ Accepted
+  pub enter-changes : enterAnswer (stateRules (stateIn ws)) (stateIn ws) n (frameIn qs 0) ≡ Accepted
       → enterWords ws n qs
-      ≡ withFrame (set (set ws 3 (stateIn ws .depth + 1)) (4 + rulesOf (stateIn ws) .pointer) (stackPointer (rulesOf (stateIn ws)) (stateIn ws) - frameSize (rulesOf (stateIn ws)) (frameIn qs 0))) (stateIn ws .depth) (frameIn qs 0)
+      ≡ withFrame (set (set ws 3 (stateIn ws .depth + 1)) (4 + stateRules (stateIn ws) .pointer) (stackPointer (stateRules (stateIn ws)) (stateIn ws) - frameSize (stateRules (stateIn ws)) (frameIn qs 0))) (stateIn ws .depth) (frameIn qs 0)
   unfolding enterWords enterOutcome enterAnswer entered changed stateIn
   enter-changes e =
       let s = stateIn ws in
-      let k = rulesOf s in
+      let k = stateRules s in
       let f = frameIn qs 0 in
       let deep : List ℕ = set ws 3 (s .depth + 1) in
       let can = enter-yes k s n f e .1 in
@@ -162,12 +162,12 @@ module _ (ws : List ℕ) (n b i v : ℕ) (l : length ws ≡ machineWords) where
   one-word k m None h w = absurd (false≢true w)
 
   -- the one register's word
-  pub write-changes : writeRegisterAnswer (rulesOf (stateIn ws)) (stateIn ws) n b i v ≡ Accepted
+  pub write-changes : writeRegisterAnswer (stateRules (stateIn ws)) (stateIn ws) n b i v ≡ Accepted
       → writeRegisterWords ws n b i v ≡ set ws (registerWord (bankOf b) i) (wordAfter (bankOf b) (getD ws 69 0) i v)
   unfolding writeRegisterWords writeRegisterOutcome writeRegisterAnswer writtenRegister stateIn
   write-changes e =
       let s = stateIn ws in
-      let k = rulesOf s in
+      let k = stateRules s in
       let yes = write-register-yes k s n b i v e .1 in
       rw e (one-word k (accepted-machine k ws n _ e) (bankOf b) (writable-named k (lawful (s .convention)) (top k s) (bankOf b) i v yes) yes)
 
@@ -175,15 +175,15 @@ module _ (ws : List ℕ) (n b i v : ℕ) (l : length ws ≡ machineWords) where
 
 module _ (ws m : List ℕ) where
   -- the depth, the registers as restored, and the record
-  pub leave-changes : leaveAnswer (rulesOf (stateIn ws)) (stateIn ws) m ≡ Accepted
+  pub leave-changes : leaveAnswer (stateRules (stateIn ws)) (stateIn ws) m ≡ Accepted
       → leaveWords ws m
       ≡ (let s = stateIn ws in
-      let k = rulesOf s in
+      let k = stateRules s in
       let size = frameSize k (top k s) in
       withFrame (withRegisters (set ws 3 (s .depth - 1)) (restored k (top k s) (offset k s + size) m (stackPointer k s + size) (s .registers))) (s .depth - 1) noFrame)
   unfolding leaveWords leaveOutcome left changed
   leave-changes e =
       let s = stateIn ws in
-      let can = leave-yes (rulesOf s) s m e in
+      let can = leave-yes (stateRules s) s m e in
       let there : s .depth - 1 < length (s .frames) = omega (arith, can .deep, can .sound .shallow, frames-32 ws) in
       rw (e, getD-set-same (s .frames) (s .depth - 1) noFrame noFrame there)

@@ -18,7 +18,7 @@ use Rattle.frame_machine.specs.declared.Refusal.{Refusal}
 use Rattle.frame_machine.specs.declared.Answer.{Answer}
 use Rattle.frame_machine.specs.declared.Answer.the-variants.{Accepted, Refused}
 use Rattle.frame_machine.specs.Answers.{settle}
-use Rattle.frame_machine.specs.Machine.{rulesOf, startAnswer, started, notStarted, startOutcome, enterOutcome, writeRegisterOutcome, leaveOutcome, left}
+use Rattle.frame_machine.specs.Machine.{stateRules, startAnswer, started, notStarted, startOutcome, enterOutcome, writeRegisterOutcome, leaveOutcome, left}
 use Rattle.frame_machine.proofs.States.{enter-yes, leave-yes}
 use Rattle.frame_word_layout.specs.Words.{machineWords, registersWords, recordWords, registersAt, recordsAt, registersIn, frameIn, framesIn, stateIn, registerWords, frameWords, framesWords, stateWords, withRegisters}
 use Rattle.frame_word_layout.specs.Calls.{changed, refusedWords, startWords, enterWords, writeRegisterWords, leaveWords}
@@ -193,7 +193,7 @@ module _ (rs : List ℕ) (l : length rs ≡ registersWords) where
 module _ (ws : List ℕ) (n : ℕ) (qs : List ℕ) where
   pub enter-depth : enterOutcome (stateIn ws) n (frameIn qs 0) .answer ≡ Accepted → stateIn ws .depth < 32
   unfolding enterOutcome
-  enter-depth h = enter-yes (rulesOf (stateIn ws)) (stateIn ws) n (frameIn qs 0) h .1 .shallow
+  enter-depth h = enter-yes (stateRules (stateIn ws)) (stateIn ws) n (frameIn qs 0) h .1 .shallow
 
   pub enter-yes-words : enterOutcome (stateIn ws) n (frameIn qs 0) .answer ≡ Accepted
       → changed ws (enterOutcome (stateIn ws) n (frameIn qs 0) .state) (stateIn ws .depth) ≡ enterWords ws n qs
@@ -218,7 +218,7 @@ module _ (ws l : List ℕ) where
   pub leave-depth : leaveOutcome (stateIn ws) l .answer ≡ Accepted → leaveOutcome (stateIn ws) l .state .depth < 32
   unfolding leaveOutcome left
   leave-depth h =
-      let can = leave-yes (rulesOf (stateIn ws)) (stateIn ws) l h in
+      let can = leave-yes (stateRules (stateIn ws)) (stateIn ws) l h in
       rw h (omega (arith, can .deep, can .sound .shallow))
 
   pub leave-yes-words : leaveOutcome (stateIn ws) l .answer ≡ Accepted

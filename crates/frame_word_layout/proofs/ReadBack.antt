@@ -15,8 +15,8 @@ use Rattle.base_words.proofs.Splices.{Apart, length-splice, splice-one, splice-
 use Rattle.frame_rules.specs.declared.Frame.{Frame}
 use Rattle.frame_rules.specs.declared.Registers.{Registers}
 use Rattle.base_words.specs.Basics.{pick}
+use Rattle.base_words.proofs.Tests.{and-yes}
 use Rattle.frame_rules.specs.Frames.{noFrame, flag}
-use Rattle.frame_rules.proofs.Facts.{and-yes}
 use Rattle.frame_machine.specs.declared.State.{State}
 use Rattle.frame_machine.specs.Machine.{frameAt}
 use Rattle.base_conventions.specs.Numbers.{conventionCode}

@@ -2,11 +2,12 @@
 -- 0 nor 1 gives 17. Assumes nothing.
 use Prim.Native.Nat.{ℕ, _+_, _<_}
 use mathlib.Core.Path.{_≡_, refl}
-use mathlib.Core.Bool.{Bool, true, false, _&&_}
+use mathlib.Core.Bool.{true, false, _&&_}
 use mathlib.Core.List.{List, _++_}
 use lib.ListN.{getD}
 use lib.Dec.{leb}
 use borrow.Author.Tests.{lt-leb}
+use Rattle.base_words.proofs.Tests.{and-no}
 use Rattle.base_conventions.specs.declared.Convention.{Convention}
 use Rattle.base_conventions.specs.declared.Convention.the-variants.{Ppc64, Z, Aix, Ppc64b}
 use Rattle.frame_rules.specs.declared.FrameRules.{FrameRules}
@@ -18,10 +19,6 @@ use Rattle.frame_machine.specs.Answers.{Test, judge}
 use Rattle.frame_machine.specs.Machine.{okFrames, okMemory, okState, stateTests}
 use Rattle.frame_word_layout.specs.Words.{registersAt, isMachine, depthIn, registersIn, frameIn, stateIn}
 use Rattle.frame_word_layout.specs.Calls.{refusedWords}
-
-and-no : (b : Bool) → (b && false) ≡ false
-and-no true = refl
-and-no false = refl
 
 no-state : (k : FrameRules) (ws : List ℕ) → isMachine ws ≡ false → okState k (stateIn ws) ≡ false
 unfolding okState stateIn depthIn

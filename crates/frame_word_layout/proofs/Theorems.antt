@@ -33,7 +33,7 @@ use Rattle.frame_machine.specs.declared.Answer.{Answer}
 use Rattle.frame_machine.specs.declared.Answer.the-variants.{Accepted, Refused}
 use Rattle.frame_machine.specs.declared.Refusal.the-variants.{BadState}
 use Rattle.frame_machine.specs.Answers.{Test, judge, settle}
-use Rattle.frame_machine.specs.Machine.{rulesOf, stackPointer, offset, top, stateTests, startAnswer, started, notStarted, startOutcome, enterAnswer, entered, writeRegisterAnswer, writtenRegister, leaveAnswer, left, enterOutcome, writeRegisterOutcome, leaveOutcome}
+use Rattle.frame_machine.specs.Machine.{stateRules, stackPointer, offset, top, stateTests, startAnswer, started, notStarted, startOutcome, enterAnswer, entered, writeRegisterAnswer, writtenRegister, leaveAnswer, left, enterOutcome, writeRegisterOutcome, leaveOutcome}
 use Rattle.frame_machine.proofs.Judging.{never}
 use Rattle.frame_machine.proofs.States.{enter-yes, write-register-yes, leave-yes}
 use Rattle.frame_word_layout.specs.Words.{machineWords, registersWords, recordWords, registersAt, recordsAt, isMachine, depthIn, registersIn, frameIn, framesIn, stateIn, registerWords, frameWords, framesWords, stateWords, withRegisters}
@@ -156,12 +156,12 @@ module _ (c : Convention) (rs : List ℕ) (b n : ℕ) (l : length rs ≡ registe
 -- ---- enter
 
 module _ (ws : List ℕ) (n : ℕ) (qs : List ℕ) (l : length ws ≡ machineWords) where
-  entered-back : enterAnswer (rulesOf (stateIn ws)) (stateIn ws) n (frameIn qs 0) ≡ Accepted
-      → stateIn (changed ws (entered (rulesOf (stateIn ws)) (stateIn ws) (frameIn qs 0)) (stateIn ws .depth)) ≡ entered (rulesOf (stateIn ws)) (stateIn ws) (frameIn qs 0)
+  entered-back : enterAnswer (stateRules (stateIn ws)) (stateIn ws) n (frameIn qs 0) ≡ Accepted
+      → stateIn (changed ws (entered (stateRules (stateIn ws)) (stateIn ws) (frameIn qs 0)) (stateIn ws .depth)) ≡ entered (stateRules (stateIn ws)) (stateIn ws) (frameIn qs 0)
   unfolding entered withPointer enterAnswer
   entered-back e =
       let s = stateIn ws in
-      let k = rulesOf s in
+      let k = stateRules s in
       let can = enter-yes k s n (frameIn qs 0) e .1 in
       let r = state-read ws l in
       let there : s .depth < length (s .frames) = omega (arith, can .shallow, frames-32 ws) in
@@ -169,9 +169,9 @@ module _ (ws : List ℕ) (n : ℕ) (qs : List ℕ) (l : length ws ≡ machineWor
 
   pub enter-state : stateIn (enterWords ws n qs) ≡ enterOutcome (stateIn ws) n (frameIn qs 0) .state
   unfolding enterWords enterOutcome
-  enter-state = go (enterAnswer (rulesOf (stateIn ws)) (stateIn ws) n (frameIn qs 0)) refl
+  enter-state = go (enterAnswer (stateRules (stateIn ws)) (stateIn ws) n (frameIn qs 0)) refl
     where
-      go : (a : Answer) → enterAnswer (rulesOf (stateIn ws)) (stateIn ws) n (frameIn qs 0) ≡ a → stateIn (enterWords ws n qs) ≡ enterOutcome (stateIn ws) n (frameIn qs 0) .state
+      go : (a : Answer) → enterAnswer (stateRules (stateIn ws)) (stateIn ws) n (frameIn qs 0) ≡ a → stateIn (enterWords ws n qs) ≡ enterOutcome (stateIn ws) n (frameIn qs 0) .state
       go Accepted e = rw e (entered-back e)
       go (Refused x) e = rw e
 
@@ -186,21 +186,21 @@ with-register-read r ConditionField i v h y = record { gpr = y .gpr; fpr = y .fp
 with-register-read r None i v h y = y
 
 module _ (ws : List ℕ) (n b i v : ℕ) (l : length ws ≡ machineWords) where
-  written-back : writeRegisterAnswer (rulesOf (stateIn ws)) (stateIn ws) n b i v ≡ Accepted
+  written-back : writeRegisterAnswer (stateRules (stateIn ws)) (stateIn ws) n b i v ≡ Accepted
       → stateIn (withRegisters ws (writtenRegister (stateIn ws) b i v .registers)) ≡ writtenRegister (stateIn ws) b i v
   unfolding writtenRegister writeRegisterAnswer
   written-back e =
       let s = stateIn ws in
-      let k = rulesOf s in
+      let k = stateRules s in
       let named = writable-named k (lawful (s .convention)) (top k s) (bankOf b) i v (write-register-yes k s n b i v e .1) in
       let r = with-register-read (s .registers) (bankOf b) i v named (state-read ws l) in
       registers-back ws l (accepted-machine k ws n _ e) (withRegister (s .registers) (bankOf b) i v) (r .gpr) (r .fpr) (r .cr)
 
   pub write-register-state : stateIn (writeRegisterWords ws n b i v) ≡ writeRegisterOutcome (stateIn ws) n b i v .state
   unfolding writeRegisterWords writeRegisterOutcome
-  write-register-state = go (writeRegisterAnswer (rulesOf (stateIn ws)) (stateIn ws) n b i v) refl
+  write-register-state = go (writeRegisterAnswer (stateRules (stateIn ws)) (stateIn ws) n b i v) refl
     where
-      go : (a : Answer) → writeRegisterAnswer (rulesOf (stateIn ws)) (stateIn ws) n b i v ≡ a → stateIn (writeRegisterWords ws n b i v) ≡ writeRegisterOutcome (stateIn ws) n b i v .state
+      go : (a : Answer) → writeRegisterAnswer (stateRules (stateIn ws)) (stateIn ws) n b i v ≡ a → stateIn (writeRegisterWords ws n b i v) ≡ writeRegisterOutcome (stateIn ws) n b i v .state
       go Accepted e = rw e (written-back e)
       go (Refused x) e = rw e
 
@@ -215,12 +215,12 @@ restored-read k f s m p r y = record {
 }
 
 module _ (ws m : List ℕ) (l : length ws ≡ machineWords) where
-  left-back : leaveAnswer (rulesOf (stateIn ws)) (stateIn ws) m ≡ Accepted
-      → stateIn (changed ws (left (rulesOf (stateIn ws)) (stateIn ws) m) (left (rulesOf (stateIn ws)) (stateIn ws) m .depth)) ≡ left (rulesOf (stateIn ws)) (stateIn ws) m
+  left-back : leaveAnswer (stateRules (stateIn ws)) (stateIn ws) m ≡ Accepted
+      → stateIn (changed ws (left (stateRules (stateIn ws)) (stateIn ws) m) (left (stateRules (stateIn ws)) (stateIn ws) m .depth)) ≡ left (stateRules (stateIn ws)) (stateIn ws) m
   unfolding left leaveAnswer
   left-back e =
       let s = stateIn ws in
-      let k = rulesOf s in
+      let k = stateRules s in
       let can = leave-yes k s m e in
       let size = frameSize k (top k s) in
       let r = restored-read k (top k s) (offset k s + size) m (stackPointer k s + size) (s .registers) (state-read ws l) in
@@ -230,8 +230,8 @@ module _ (ws m : List ℕ) (l : length ws ≡ machineWords) where
 
   pub leave-state : stateIn (leaveWords ws m) ≡ leaveOutcome (stateIn ws) m .state
   unfolding leaveWords leaveOutcome
-  leave-state = go (leaveAnswer (rulesOf (stateIn ws)) (stateIn ws) m) refl
+  leave-state = go (leaveAnswer (stateRules (stateIn ws)) (stateIn ws) m) refl
     where
-      go : (a : Answer) → leaveAnswer (rulesOf (stateIn ws)) (stateIn ws) m ≡ a → stateIn (leaveWords ws m) ≡ leaveOutcome (stateIn ws) m .state
+      go : (a : Answer) → leaveAnswer (stateRules (stateIn ws)) (stateIn ws) m ≡ a → stateIn (leaveWords ws m) ≡ leaveOutcome (stateIn ws) m .state
       go Accepted e = rw e (left-back e)
       go (Refused x) e = rw e

@@ -3,6 +3,7 @@
 use Prim.Native.Nat.{ℕ, _+_, _-_, _≤_, _<_}
 use native.Mathlib.Omega.{arith}
 use Rattle.base_words.specs.Basics.{roundUp}
+use Rattle.base_words.proofs.Basics.{words-split}
 use Rattle.sig_types.specs.declared.ValueType.{ValueType}
 use Rattle.plan_places.specs.declared.Cursor.{Cursor}
 use Rattle.plan_places.specs.declared.Span.{Span}
@@ -14,7 +15,7 @@ use Rattle.plan_places.specs.Helpers.{Shared}
 use Rattle.plan_places.specs.ZSeries.{zClass, zSpanOf, zNextOf}
 use Rattle.plan_places.specs.Step.{spanOf, nextOf}
 use Rattle.plan_places.specs.Spots.{Spot, general, floating, area, copies, Owns}
-use Rattle.plan_places.proofs.Shares.{share-shared, fprs-most, words-split}
+use Rattle.plan_places.proofs.Shares.{share-shared, fprs-most}
 
 -- each run starts at or after the cursor's counter and ends at or before the next one's; what is in memory lies in the home
 pub record Between (c : Cursor) (s : Span) (d : Cursor) : Type 0 where
@@ -31,7 +32,7 @@ pub record Between (c : Cursor) (s : Span) (d : Cursor) : Type 0 where
 
 power-between : (w : ℕ) (c : Cursor) (n : ℕ) (s : Share) → Shared s n (covered c n) → Between c (powerSpan w c n s) (powerNext w c n s)
 power-between w c n s h =
-    let a = words-split w n (s .memory) (h .memory) in
+    let a = words-split w (s .memory) n (h .memory) in
     record {
       general-from = omega arith;
       general-to = omega arith;

@@ -20,7 +20,7 @@ use Rattle.plan_places.specs.ZSeries.{zClass, zSpanOf}
 use Rattle.plan_places.specs.Values.{pointer}
 use Rattle.plan_places.specs.Step.{wordOf, spanOf, nextOf, fresh, hiddenFor, returning, resultOf}
 use Rattle.plan_places.specs.Spots.{Spot, general, floating, area, copies, Owns, ArgumentRegister}
-use Rattle.plan_places.specs.Places.{upFrom, register, registersIn, registersOf, Numbered, noPlace}
+use Rattle.plan_places.specs.Places.{upFrom, register, rangePlaces, registersOf, Numbered, noPlace}
 use Rattle.plan_places.specs.Helpers.{registerCount, ResultNumbered}
 use Rattle.plan_places.proofs.Between.{step-between}
 use Rattle.plan_places.proofs.Bounds.{Named, named-fresh, named-next}
@@ -35,7 +35,7 @@ length-in b first (suc n) = ap suc (length-in b (first + 1) n)
 pub length-registers : (s : Span) → length (registersOf s) ≡ registerCount s
 unfolding registersOf
 length-registers s =
-    length-append (registersIn Bank.Floating (s .floating)) (registersIn Bank.General (s .general))
+    length-append (rangePlaces Bank.Floating (s .floating)) (rangePlaces Bank.General (s .general))
     ∙ rw (length-in Bank.Floating (s .floating .first) (s .floating .count), length-in Bank.General (s .general .first) (s .general .count))
 
 -- ---- by index
@@ -51,17 +51,17 @@ register-in b first (suc n) (suc i) h =
 pub register-floating : (s : Span) (i : ℕ) → i < s .floating .count → getD (registersOf s) i noPlace ≡ register Bank.Floating (s .floating .first + i)
 unfolding registersOf
 register-floating s i h =
-    let a : List Place = registersIn Bank.Floating (s .floating) in
+    let a : List Place = rangePlaces Bank.Floating (s .floating) in
     let n : length a ≡ s .floating .count = length-in Bank.Floating (s .floating .first) (s .floating .count) in
-    List·getD-append a (registersIn Bank.General (s .general)) noPlace i (omega arith)
+    List·getD-append a (rangePlaces Bank.General (s .general)) noPlace i (omega arith)
     ∙ register-in Bank.Floating (s .floating .first) (s .floating .count) i h
 
 pub register-general : (s : Span) (i : ℕ) → s .floating .count ≤ i → i < registerCount s
     → getD (registersOf s) i noPlace ≡ register Bank.General (s .general .first + (i - s .floating .count))
 unfolding registersOf
 register-general s i l h =
-    let a : List Place = registersIn Bank.Floating (s .floating) in
-    let b : List Place = registersIn Bank.General (s .general) in
+    let a : List Place = rangePlaces Bank.Floating (s .floating) in
+    let b : List Place = rangePlaces Bank.General (s .general) in
     let n : length a ≡ s .floating .count = length-in Bank.Floating (s .floating .first) (s .floating .count) in
     let e : i ≡ length a + (i - s .floating .count) = omega arith in
     ap (λ (j : ℕ). getD (a ++ b) j noPlace) e

@@ -1,9 +1,9 @@
 -- The ways through `shareOf`, and the bounds of what it gives. Assumes nothing.
-use mathlib.Core.Path.{_≡_, refl}
+use mathlib.Core.Path.{_≡_, refl, ap, _∙_}
 use mathlib.Core.Bool.{Bool, true, false}
-use Prim.Native.Nat.{ℕ, zero, suc, _+_, _-_, _*_, _≤_, _<_}
-use native.Mathlib.Nat.{mul-sub, mul-le-mul-left}
+use Prim.Native.Nat.{ℕ, zero, suc, _+_, _-_, _≤_, _<_}
 use native.Mathlib.Omega.{arith}
+use native.Mathlib.Nat.{add-div-left, div-eq-of-lt}
 use borrow.Author.Tests.{le-leb, lt-leb, leb-true}
 use lib.Dec.{leb}
 use Rattle.base_words.specs.Basics.{pick}
@@ -11,8 +11,13 @@ use Rattle.sig_types.specs.declared.FloatFormat.{FloatFormat}
 use Rattle.sig_types.specs.declared.ValueType.{ValueType}
 use Rattle.plan_places.specs.declared.Edition.{Edition}
 use Rattle.plan_places.specs.Values.{share}
-use Rattle.plan_places.specs.Power.{fprs, shareOf}
+use Rattle.plan_places.specs.Power.{words, fprs, shareOf}
 use Rattle.plan_places.specs.Helpers.{Shared}
+
+-- a word is one word
+pub words-word : (w : ℕ) → 0 < w → words w w ≡ 1
+unfolding words
+words-word w h = add-div-left (w - 1) h ∙ ap (λ (x : ℕ). x + 1) (div-eq-of-lt (omega arith))
 
 pub share-words : (v : Bool) (m room n k : ℕ) → m ≡ 0 → share k 0 (n - k) ≡ shareOf v m room n k
 unfolding shareOf
@@ -98,7 +103,3 @@ share-room false (suc m) room n k = go (leb (suc m) room) refl
     go : (b : Bool) → leb (suc m) room ≡ b → pick b (share 0 (suc m) 0) (share 0 0 n) .floating ≤ room
     go true q = omega (arith, leb-true (suc m) room q)
     go false q = omega arith
-
--- of n words of w bytes, the m in memory and those before them are all
-pub words-split : (w n m : ℕ) → m ≤ n → w * (n - m) + w * m ≡ w * n
-words-split w n m h = omega (arith, mul-sub w n m, mul-le-mul-left w h)

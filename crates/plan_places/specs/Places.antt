@@ -15,12 +15,12 @@ upFrom first by (suc n) = first ∷ upFrom (first + by) by n
 abbrev pub register : Bank → ℕ → Place
 register b n = Place.Register b n
 
-abbrev pub registersIn : Bank → RegisterRange → List Place
-registersIn b r = map (register b) (upFrom (r .first) 1 (r .count))
+abbrev pub rangePlaces : Bank → RegisterRange → List Place
+rangePlaces b r = map (register b) (upFrom (r .first) 1 (r .count))
 
 -- the registers: floating ones before general ones
 unfoldable pub registersOf : Span → List Place
-registersOf s = registersIn Bank.Floating (s .floating) ++ registersIn Bank.General (s .general)
+registersOf s = rangePlaces Bank.Floating (s .floating) ++ rangePlaces Bank.General (s .general)
 
 -- register numbers that fit their type
 abbrev pub Numbered : Span → Type 0

@@ -1,23 +1,16 @@
 -- The cursor after a hidden address: a general register more and, on PowerPC, a word. Assumes nothing.
-use Prim.Native.Nat.{ℕ, _+_, _-_, _≤_, _<_}
+use Prim.Native.Nat.{ℕ, _+_, _≤_}
 use mathlib.Core.Path.{_≡_, refl, ap}
 use mathlib.Core.Bool.{true}
 use native.Mathlib.Omega.{arith}
-use native.Mathlib.Nat.{add-div-left, div-eq-of-lt}
 use Rattle.plan_places.specs.declared.PowerRules.{PowerRules}
 use Rattle.plan_places.specs.declared.CallRules.{CallRules}
 use Rattle.plan_places.specs.declared.Cursor.{Cursor}
 use Rattle.plan_places.specs.Values.{cursor}
-use Rattle.plan_places.specs.Power.{words, fprs, shareOf, powerShare}
+use Rattle.plan_places.specs.Power.{fprs, shareOf, powerShare}
 use Rattle.plan_places.specs.ZSeries.{zClass, zNextOf}
 use Rattle.plan_places.specs.Step.{nextOf, fresh, startOf}
-
--- a word is one word
-words-word : (w : ℕ) → 0 < w → words w w ≡ 1
-unfolding words
-words-word w h =
-    let below : w - 1 < w = omega arith in
-    rw (add-div-left (w - 1) h, div-eq-of-lt below)
+use Rattle.plan_places.proofs.Shares.{words-word}
 
 pub power-past : (f : PowerRules) (k : Cursor) → 4 ≤ f .word → k ≡ fresh (CallRules.Power f) → cursor (k .general + 1) (k .floating) (f .word) 0 ≡ startOf (CallRules.Power f) true
 unfolding startOf nextOf fresh powerShare fprs shareOf

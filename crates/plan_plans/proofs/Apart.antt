@@ -1,12 +1,13 @@
 -- The spans of the fold, over any rules: what they own lies in order, so that no two of them meet. Assumes nothing.
 use mathlib.Core.Path.{_≡_, refl}
 use mathlib.Core.Bool.{Bool, true, false}
-use mathlib.Core.List.{List, [], _∷_, _++_}
+use mathlib.Core.List.{List, [], _∷_}
 use Prim.Native.Nat.{ℕ, zero, suc, _+_, _-_, _≤_, _<_}
 use native.Mathlib.Omega.{arith}
 use borrow.Author.Tests.{ltb-true, ltb-false}
 use lib.Dec.{ltb}
-use lib.ListN.{length, getD, replicate}
+use lib.ListN.{length, getD}
+use Rattle.base_words.proofs.Basics.{getD-filled}
 use Rattle.base_conventions.specs.declared.Convention.{Convention}
 use Rattle.sig_types.specs.declared.ValueType.{ValueType}
 use Rattle.sig_types.specs.Sizes.{sizeOf}
@@ -25,19 +26,9 @@ use Rattle.plan_plans.proofs.Fold.{last-forward}
 
 -- ---- the table
 
-blanks : (n i : ℕ) → getD (replicate n noSpan) i noSpan ≡ noSpan
-blanks zero i = refl
-blanks (suc n) zero = refl
-blanks (suc n) (suc i) = blanks n i
-
-pub getD-blanks : (l : List Span) (n i : ℕ) → getD (l ++ replicate n noSpan) i noSpan ≡ getD l i noSpan
-getD-blanks [] n i = blanks n i
-getD-blanks (s ∷ l) n zero = refl
-getD-blanks (s ∷ l) n (suc i) = getD-blanks l n i
-
 pub in-table : (l : List Span) (i : ℕ) → getD (tableOf l) i noSpan ≡ getD l i noSpan
 unfolding tableOf
-in-table l i = getD-blanks l (maxArguments - length l) i
+in-table l i = getD-filled noSpan l (maxArguments - length l) i
 
 -- ---- one span
 

@@ -56,32 +56,45 @@ module _ (c : Convention) (r : CallRules) where
   from-end zero k i = refl
   from-end (suc u) k i = refl
 
+  -- the first unclear one of the first arguments, or of those after them
+  pub unclear-append : (k : Cursor) (i : ℕ) (ts us : List ValueType)
+      → firstUnclear c r k i (ts ++ us) ≡ unclearFrom (firstUnclear c r k i ts) (lastOf c r k ts) (i + length ts) us
+  unfolding firstUnclear lastOf
+  unclear-append k i [] us = let same : i ≡ i + 0 = omega arith in ap (λ (j : ℕ). firstUnclear c r k j us) same
+  unclear-append k i (t ∷ ts) us = go (unclearFor r k t) (unclear-append (nextOf r k t (sizeOf c t)) (suc i) ts us)
+    where
+      next : Cursor
+      next = nextOf r k t (sizeOf c t)
+
+      go : (b : Bool)
+          → firstUnclear c r next (suc i) (ts ++ us) ≡ unclearFrom (firstUnclear c r next (suc i) ts) (lastOf c r next ts) (suc i + length ts) us
+          → pick b (suc i) (firstUnclear c r next (suc i) (ts ++ us))
+          ≡ unclearFrom (pick b (suc i) (firstUnclear c r next (suc i) ts)) (lastOf c r next ts) (i + suc (length ts)) us
+      go true e = refl
+      go false e =
+          let same : suc i + length ts ≡ i + suc (length ts) = omega arith in
+          e ∙ ap (λ (j : ℕ). unclearFrom (firstUnclear c r next (suc i) ts) (lastOf c r next ts) j us) same
+
   -- one argument more
   pub unclear-more : (k : Cursor) (i : ℕ) (ts : List ValueType) (t : ValueType)
       → firstUnclear c r k i (ts ++ t ∷ []) ≡ unclearAfter (firstUnclear c r k i ts) (unclearFor r (lastOf c r k ts) t) (i + length ts)
-  unfolding firstUnclear unclearAfter lastOf
-  unclear-more k i [] t = go (unclearFor r k t)
-    where
-      go : (b : Bool) → pick b (suc i) 0 ≡ unclearAfter 0 b (i + 0)
-      go true = omega arith
-      go false = refl
-  unclear-more k i (u ∷ ts) t = go (unclearFor r k u) (unclear-more (nextOf r k u (sizeOf c u)) (suc i) ts t)
-    where
-      next : Cursor
-      next = nextOf r k u (sizeOf c u)
-
-      go : (b : Bool)
-          → firstUnclear c r next (suc i) (ts ++ t ∷ []) ≡ unclearAfter (firstUnclear c r next (suc i) ts) (unclearFor r (lastOf c r next ts) t) (suc i + length ts)
-          → pick b (suc i) (firstUnclear c r next (suc i) (ts ++ t ∷ []))
-          ≡ unclearAfter (pick b (suc i) (firstUnclear c r next (suc i) ts)) (unclearFor r (lastOf c r next ts) t) (i + suc (length ts))
-      go true e = refl
-      go false e = let same : suc i + length ts ≡ i + suc (length ts) = omega arith in e ∙ ap (unclearAfter (firstUnclear c r next (suc i) ts) (unclearFor r (lastOf c r next ts) t)) same
+  unclear-more k i ts t =
+      let u : ℕ = firstUnclear c r k i ts in
+      let d : Cursor = lastOf c r k ts in
+      unclear-append k i ts (t ∷ [])
+      ∙ from-more u d (i + length ts) t []
+      ∙ from-end (unclearAfter u (unclearFor r d t) (i + length ts)) (nextOf r d t (sizeOf c t)) (suc (i + length ts))
 
   -- rules that are clear everywhere have none
   pub none-unclear : alwaysClear r ≡ true → (k : Cursor) (i : ℕ) (ts : List ValueType) → firstUnclear c r k i ts ≡ 0
   unfolding firstUnclear
   none-unclear e k i [] = refl
   none-unclear e k i (t ∷ ts) = rw (always-clear r k t e) (none-unclear e (nextOf r k t (sizeOf c t)) (suc i) ts)
+
+-- the same argument from the same cursor
+pub same-unclear : (r : CallRules) {u x : ℕ} {k l : Cursor} {t w : ValueType} {i j : ℕ} → u ≡ x → k ≡ l → t ≡ w → i ≡ j
+    → unclearAfter u (unclearFor r k t) i ≡ unclearAfter x (unclearFor r l w) j
+same-unclear r p q h e = cc
 
 -- ---- the loop that looks for it
 

@@ -9,8 +9,9 @@ use Rattle.base_conventions.specs.declared.Convention.{Convention}
 use Rattle.sig_types.specs.declared.ValueType.{ValueType}
 use Rattle.sig_types.specs.Sizes.{sizeOf}
 use Rattle.plan_places.specs.declared.Cursor.{Cursor}
+use Rattle.plan_places.specs.declared.Span.{Span}
 use Rattle.plan_places.specs.declared.CallRules.{CallRules}
-use Rattle.plan_places.specs.Step.{withEllipsis, nextOf, startOf}
+use Rattle.plan_places.specs.Step.{withEllipsis, spanOf, nextOf, startOf}
 use Rattle.plan_places.specs.Helpers.{LawfulCalls, Roomy}
 use Rattle.plan_places.proofs.Bounds.{Named, named-start, named-next, named-roomy, near-next, start-bytes}
 use Rattle.plan_places.proofs.Marked.{next-marked}
@@ -40,17 +41,41 @@ unfolding lastOf
 last-marked c v r k [] = refl
 last-marked c v r k (t ∷ ts) = rw (next-marked v r k t (sizeOf c t)) (last-marked c v r (nextOf r k t (sizeOf c t)) ts)
 
+-- more arguments after the first ones: they go on from there
+
+pub spans-append : (c : Convention) (r : CallRules) (k : Cursor) (ts us : List ValueType) → spansOf c r k (ts ++ us) ≡ spansOf c r k ts ++ spansOf c r (lastOf c r k ts) us
+unfolding spansOf lastOf
+spans-append c r k [] us = refl
+spans-append c r k (t ∷ ts) us = ap (λ (l : List Span). spanOf r k t (sizeOf c t) ∷ l) (spans-append c r (nextOf r k t (sizeOf c t)) ts us)
+
+pub last-append : (c : Convention) (r : CallRules) (k : Cursor) (ts us : List ValueType) → lastOf c r k (ts ++ us) ≡ lastOf c r (lastOf c r k ts) us
+unfolding lastOf
+last-append c r k [] us = refl
+last-append c r k (t ∷ ts) us = last-append c r (nextOf r k t (sizeOf c t)) ts us
+
+pub values-append : (c : Convention) (ts us : List ValueType) → valuesOf c (ts ++ us) ≡ valuesOf c ts + valuesOf c us
+unfolding valuesOf
+values-append c [] us = omega arith
+values-append c (t ∷ ts) us = omega (arith, values-append c ts us)
+
 -- one argument more
+
+pub spans-more : (c : Convention) (r : CallRules) (k : Cursor) (ts : List ValueType) (t : ValueType)
+    → spansOf c r k (ts ++ t ∷ []) ≡ spansOf c r k ts ++ spanOf r (lastOf c r k ts) t (sizeOf c t) ∷ []
+unfolding spansOf
+spans-more c r k ts t = spans-append c r k ts (t ∷ [])
 
 pub last-more : (c : Convention) (r : CallRules) (k : Cursor) (ts : List ValueType) (t : ValueType) → lastOf c r k (ts ++ t ∷ []) ≡ nextOf r (lastOf c r k ts) t (sizeOf c t)
 unfolding lastOf
-last-more c r k [] t = refl
-last-more c r k (u ∷ ts) t = last-more c r (nextOf r k u (sizeOf c u)) ts t
+last-more c r k ts t = last-append c r k ts (t ∷ [])
+
+-- the same argument from the same cursor
+pub same-next : (c : Convention) (r : CallRules) {k l : Cursor} {t u : ValueType} → k ≡ l → t ≡ u → nextOf r k t (sizeOf c t) ≡ nextOf r l u (sizeOf c u)
+same-next c r p q = cc
 
 pub values-more : (c : Convention) (ts : List ValueType) (t : ValueType) → valuesOf c (ts ++ t ∷ []) ≡ valuesOf c ts + sizeOf c t
 unfolding valuesOf
-values-more c [] t = omega arith
-values-more c (u ∷ ts) t = omega (arith, values-more c ts t)
+values-more c ts t = omega (arith, values-append c ts (t ∷ []))
 
 -- where the cursor is, and the bytes of the values, after i arguments
 

@@ -38,8 +38,8 @@ use Rattle.plan_plans.specs.declared.Measured.{Measured}
 use Rattle.plan_plans.specs.Plan.{lastOf, startIn, planIn, refusedPlan, planAnswer, measureOf}
 use Rattle.plan_plans.specs.Helpers.{planWith, unclearOf, unclearWith}
 use Rattle.plan_plans.specs.Call.{firstUnclear}
-use Rattle.plan_plans.proofs.Calls.{unclear-more}
-use Rattle.plan_plans.proofs.Fold.{last-more, values-more, Reached, reached-start, reached-more}
+use Rattle.plan_plans.proofs.Calls.{unclear-more, same-unclear}
+use Rattle.plan_plans.proofs.Fold.{last-more, same-next, values-more, Reached, reached-start, reached-more}
 
 -- ---- the loop
 
@@ -51,13 +51,6 @@ pub record Measuring (c : Convention) (s : List ℕ) (at e : ℕ) (r : CallRules
   pub total : v ≡ valuesOf c (typesOf c ts)
   pub unclear : u ≡ firstUnclear c r start 0 (typesOf c ts)
   pub reached : Reached r k v count
-
-same-next : (c : Convention) (r : CallRules) {k l : Cursor} {t u : ValueType} → k ≡ l → t ≡ u → nextOf r k t (sizeOf c t) ≡ nextOf r l u (sizeOf c u)
-same-next c r p q = cc
-
-same-unclear : (r : CallRules) {u x : ℕ} {k l : Cursor} {t w : ValueType} {i j : ℕ} → u ≡ x → k ≡ l → t ≡ w → i ≡ j
-    → unclearAfter u (unclearFor r k t) i ≡ unclearAfter x (unclearFor r l w) j
-same-unclear r p q h e = cc
 
 -- so many arguments are read
 count-types : (c : Convention) (s : List ℕ) (at e : ℕ) (ts : Trees) (count next n : ℕ) → Turn c s at e ts count next n → count ≡ 0 + length (typesOf c ts)

@@ -6,6 +6,7 @@ use Prim.Native.Nat.{ℕ, _<_}
 use native.Mathlib.Omega.{arith}
 use lib.ListN.{getD, replicate}
 use Rattle.base_words.specs.Basics.{pick}
+use Rattle.base_words.proofs.Basics.{getD-filled}
 use Rattle.base_conventions.specs.declared.Convention.{Convention}
 use Rattle.sig_types.specs.declared.ValueType.{ValueType}
 use Rattle.sig_types.specs.Sizes.{sizeOf}
@@ -27,10 +28,10 @@ use Rattle.plan_places.proofs.Bounds.{named-fresh, named-start, area-holds, lea
 use Rattle.plan_places.proofs.Marked.{named-marked, register-marked}
 use Rattle.plan_places.proofs.Between.{Before, before-from, before-later, step-between, owns-before}
 use Rattle.plan_places.proofs.Registers.{step-numbered, step-registers}
-use Rattle.plan_plans.specs.Plan.{spansOf, noSpan, hiddenIn, resultPlacesIn, startIn, endIn, planIn, refusedPlan, planAnswer}
+use Rattle.plan_plans.specs.Plan.{spansOf, noSpan, hiddenIn, resultPlacesIn, startIn, lastCursorIn, planIn, refusedPlan, planAnswer}
 use Rattle.plan_plans.specs.Disjoint.{spanAt, Disjoint, PlansDisjoint, SpanWithin, PlanWithin, PlansWithin}
 use Rattle.plan_plans.proofs.Fold.{last-forward, last-marked}
-use Rattle.plan_plans.proofs.Apart.{in-table, getD-blanks, spanIn, none-owned, owned-from, owned-before, owned-register, owned-apart, span-numbered, span-homed, Homed}
+use Rattle.plan_plans.proofs.Apart.{in-table, spanIn, none-owned, owned-from, owned-before, owned-register, owned-apart, span-numbered, span-homed, Homed}
 
 -- ---- an accepted signature
 
@@ -92,7 +93,7 @@ plan-disjoint n c v r ts =
 
 module _ (n : ℕ) (c : Convention) (v : Bool) (r : ResultType) (ts : List ValueType) where
   -- what an argument owns is before the end, which an ellipsis doesn't move
-  owned-within : (i : ℕ) (x : Spot) → Owns (spanAt (planIn n c v r ts) i) x → Before (endIn c r ts) x
+  owned-within : (i : ℕ) (x : Spot) → Owns (spanAt (planIn n c v r ts) i) x → Before (lastCursorIn c r ts) x
   owned-within i x o =
       subst (λ (e : Cursor). Before e x) (last-marked c v (rulesOf c) (startIn c r) ts) (owned-before c (rulesFor c v) (startIn c r) ts i x (owned n c v r ts i x o))
 
@@ -100,7 +101,7 @@ module _ (n : ℕ) (c : Convention) (v : Bool) (r : ResultType) (ts : List Value
   unfolding planIn
   argument-within i =
       let k : Cursor = startIn c r in
-      let e : Cursor = endIn c r ts in
+      let e : Cursor = lastCursorIn c r ts in
       let named = named-marked v (rulesOf c) k (named-start (rulesOf c) (hiddenIn c r)) in
       let homed : Homed (spanAt (planIn n c v r ts) i) = subst Homed (sym (in-plan n c v r ts i)) (span-homed c (rulesFor c v) k ts i) in
       record {
@@ -113,7 +114,7 @@ module _ (n : ℕ) (c : Convention) (v : Bool) (r : ResultType) (ts : List Value
       }
 
   -- what is before the first argument is before the end
-  address-before : (x : Spot) → startIn c r ≡ startOf (rulesOf c) true → Owns (spanOf (rulesOf c) (fresh (rulesOf c)) pointer (wordOf (rulesOf c))) x → Before (endIn c r ts) x
+  address-before : (x : Spot) → startIn c r ≡ startOf (rulesOf c) true → Owns (spanOf (rulesOf c) (fresh (rulesOf c)) pointer (wordOf (rulesOf c))) x → Before (lastCursorIn c r ts) x
   unfolding startOf
   address-before x e o =
       before-later (last-forward c (rulesOf c) (startIn c r) ts) x
@@ -122,7 +123,7 @@ module _ (n : ℕ) (c : Convention) (v : Bool) (r : ResultType) (ts : List Value
   address-within : startIn c r ≡ startOf (rulesOf c) true → SpanWithin (planIn n c v r ts) (spanOf (rulesOf c) (fresh (rulesOf c)) pointer (wordOf (rulesOf c)))
   unfolding planIn
   address-within q =
-      let e : Cursor = endIn c r ts in
+      let e : Cursor = lastCursorIn c r ts in
       let between = step-between (rulesOf c) (fresh (rulesOf c)) pointer (wordOf (rulesOf c)) in
       record {
         registers = λ x o. step-registers (rulesOf c) (fresh (rulesOf c)) pointer (wordOf (rulesOf c)) x (named-fresh (rulesOf c)) o;
@@ -138,13 +139,13 @@ module _ (n : ℕ) (c : Convention) (v : Bool) (r : ResultType) (ts : List Value
   plan-within = record {
     arguments = argument-within;
     hidden = λ s e. let h = hidden-address c r s e in subst (SpanWithin (planIn n c v r ts)) (sym (h .0)) (address-within (h .1));
-    least = λ m a. least-area c (endIn c r ts);
+    least = λ m a. least-area c (lastCursorIn c r ts);
   }
 
 -- ---- a refused one
 
 none-at : (i : ℕ) → getD (replicate maxArguments noSpan) i noSpan ≡ noSpan
-none-at i = getD-blanks [] maxArguments i
+none-at i = getD-filled noSpan [] maxArguments i
 
 none : (i : ℕ) (x : Spot) → Owns (getD (replicate maxArguments noSpan) i noSpan) x → ⊥
 none i x o = none-owned x (subst (λ (s : Span). Owns s x) (none-at i) o)

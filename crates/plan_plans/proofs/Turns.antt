@@ -22,7 +22,7 @@ use Rattle.plan_places.specs.Helpers.{LawfulCalls}
 use Rattle.plan_places.proofs.Bounds.{rules-lawful}
 use Rattle.plan_places.proofs.Marked.{lawful-marked, start-marked}
 use Rattle.plan_plans.specs.declared.Plan.{Plan}
-use Rattle.plan_plans.specs.Plan.{spansOf, lastOf, resultPlacesIn, noSpan, tableOf, startIn, endIn, planIn}
+use Rattle.plan_plans.specs.Plan.{spansOf, lastOf, resultPlacesIn, noSpan, tableOf, startIn, lastCursorIn, planIn}
 use Rattle.plan_plans.proofs.Fold.{length-spans, last-marked, Reached, reached-start, reached-more}
 
 -- ---- the loop
@@ -125,7 +125,7 @@ pub gone-plan : (n : ℕ) (c : Convention) (v : Bool) (q : ResultType) (ts : Lis
     }) (planIn n c v q ts)
 unfolding planIn
 gone-plan n c v q ts r start k p values area rules from gone outcome convention ellipsis result count size =
-    let last : k ≡ endIn c q ts = gone .last ∙ rw (rules, from) (last-marked c v (rulesOf c) (startIn c q) ts) in
+    let last : k ≡ lastCursorIn c q ts = gone .last ∙ rw (rules, from) (last-marked c v (rulesOf c) (startIn c q) ts) in
     let table : p .spans ≡ tableOf (spansOf c (withEllipsis v (rulesOf c)) (startIn c q) ts) = gone .table ∙ rw (rules, from) in
     cc (gone .total)
 

@@ -59,8 +59,8 @@ tableOf l = l ++ replicate (maxArguments - length l) noSpan
 abbrev pub startIn : Convention → ResultType → Cursor
 startIn c r = startOf (rulesOf c) (hiddenIn c r)
 
-abbrev pub endIn : Convention → ResultType → List ValueType → Cursor
-endIn c r ts = lastOf c (rulesOf c) (startIn c r) ts
+abbrev pub lastCursorIn : Convention → ResultType → List ValueType → Cursor
+lastCursorIn c r ts = lastOf c (rulesOf c) (startIn c r) ts
 
 -- a signature of n items: its convention, whether it has an ellipsis, its result and its arguments' types. 02, No. 5: an ellipsis puts floats in
 -- more places, and moves none, so that the cursors and the sizes are by the convention's own rules
@@ -71,9 +71,9 @@ planIn n c v r ts = record {
   ellipsis = v;
   result = resultPlacesIn c r;
   count = length ts;
-  area = areaOf c (endIn c r ts);
+  area = areaOf c (lastCursorIn c r ts);
   values = valuesOf c ts;
-  copies = endIn c r ts .copies;
+  copies = lastCursorIn c r ts .copies;
   spans = tableOf (spansOf c (withEllipsis v (rulesOf c)) (startIn c r) ts);
 }
 

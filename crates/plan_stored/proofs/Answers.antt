@@ -5,6 +5,7 @@ use mathlib.Core.List.{List, [], _∷_, _++_}
 use Prim.Native.Nat.{ℕ, zero, suc, _+_, _*_, _≤_}
 use native.Mathlib.Omega.{arith}
 use lib.ListN.{length, getD}
+use Rattle.base_words.proofs.Basics.{getD-filled}
 use Rattle.base_conventions.specs.declared.Convention.{Convention}
 use Rattle.sig_types.specs.declared.ValueType.{ValueType}
 use Rattle.sig_types.specs.Sizes.{sizeOf}
@@ -35,7 +36,7 @@ use Rattle.plan_plans.specs.Plan.{spansOf, noSpan, hiddenIn, startIn, planIn, r
 use Rattle.plan_plans.specs.Call.{callOf, outcomeFor}
 use Rattle.plan_plans.specs.Disjoint.{spanAt}
 use Rattle.plan_plans.proofs.Fold.{Reached, reached-start, reached-more}
-use Rattle.plan_plans.proofs.Apart.{in-table, getD-blanks}
+use Rattle.plan_plans.proofs.Apart.{in-table}
 use Rattle.plan_plans.proofs.Calls.{called-got}
 use Rattle.plan_plans.proofs.Printable.{answer-printable}
 use Rattle.plan_stored_items.specs.Helpers.{Storable}
@@ -93,7 +94,7 @@ plan-storable n c v r ts small few i =
     subst Storable (sym (in-table (spansOf c rules (startIn c r) ts) i)) (spans-storable c rules (startIn c r) 0 0 ts lawful small (omega arith) start i)
 
 refused-storable : (f : Fault) (i : ℕ) → Storable (spanAt (refusedPlan f) i)
-refused-storable f i = subst Storable (sym (getD-blanks [] maxArguments i)) none-storable
+refused-storable f i = subst Storable (sym (getD-filled noSpan [] maxArguments i)) none-storable
 
 spans-read : (s : List ℕ) (x : Reading Signature) → callOf s ≡ x → (i : ℕ) → Storable (spanAt (planAnswer x) i)
 unfolding planAnswer

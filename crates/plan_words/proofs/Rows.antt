@@ -11,7 +11,6 @@ use lib.Dec.{ltb}
 use borrow.Author.Tests.{le-ltb, eq-eqb, ne-eqb}
 use Rattle.base_words.specs.Basics.{pick}
 use Rattle.base_conventions.specs.declared.Convention.{Convention}
-use Rattle.sig_types.specs.declared.ValueType.{ValueType}
 use Rattle.sig_types.specs.Sizes.{sizeOf}
 use Rattle.sig_types.specs.Trees.{Tree, Trees, none, _▸_, typeOf, countOf}
 use Rattle.sig_items.specs.declared.Refusal.{Refusal}
@@ -33,11 +32,10 @@ use Rattle.sig_reader.specs.Argument.{argumentIn, argumentsPlace, argumentOf}
 use Rattle.sig_reader.proofs.Found.{begun}
 use Rattle.plan_places.specs.declared.Cursor.{Cursor}
 use Rattle.plan_places.specs.declared.Span.{Span}
-use Rattle.plan_places.specs.declared.CallRules.{CallRules}
-use Rattle.plan_places.specs.Step.{rulesOf, withEllipsis, spanOf, nextOf}
-use Rattle.plan_plans.specs.Plan.{spansOf, lastOf, noSpan, tableOf, startIn, endIn, planIn, refusedPlan, planAnswer}
+use Rattle.plan_places.specs.Step.{rulesOf, withEllipsis, spanOf}
+use Rattle.plan_plans.specs.Plan.{spansOf, noSpan, tableOf, startIn, lastCursorIn, planIn, refusedPlan, planAnswer}
 use Rattle.plan_plans.specs.Disjoint.{spanAt}
-use Rattle.plan_plans.proofs.Fold.{length-spans, last-marked, values-more}
+use Rattle.plan_plans.proofs.Fold.{length-spans, last-marked, spans-more, values-more}
 use Rattle.plan_plans.specs.Call.{itemIn, unclearFault, called, callOf}
 use Rattle.plan_plans.specs.Helpers.{unclearOf}
 use Rattle.plan_plans.proofs.Calls.{called-clear, unclear-plan}
@@ -49,13 +47,6 @@ use Rattle.plan_words.proofs.Turns.{same-words}
 
 same-append : {a b x y : List ℕ} → a ≡ b → x ≡ y → a ++ x ≡ b ++ y
 same-append p q = cc
-
--- one argument's span more
-spans-more : (c : Convention) (r : CallRules) (k : Cursor) (ts : List ValueType) (t : ValueType) →
-    spansOf c r k (ts ++ t ∷ []) ≡ spansOf c r k ts ++ spanOf r (lastOf c r k ts) t (sizeOf c t) ∷ []
-unfolding spansOf lastOf
-spans-more c r k [] t = refl
-spans-more c r k (u ∷ ts) t = ap (λ (l : List Span). spanOf r k u (sizeOf c u) ∷ l) (spans-more c r (nextOf r k u (sizeOf c u)) ts t)
 
 -- A reading of the arguments ts, and its entries one by one: an argument more changes nothing of those before it.
 module _ (c : Convention) (g : Result) (v : Bool) (next n : ℕ) where
@@ -82,7 +73,7 @@ module _ (c : Convention) (g : Result) (v : Bool) (next n : ℕ) where
 
   module _ (ts : Trees) (t : Tree) where
     abbrev here : Span
-    here = spanOf (withEllipsis v (rulesOf c)) (endIn c r (typesOf c ts)) (typeOf c t) (sizeOf c (typeOf c t))
+    here = spanOf (withEllipsis v (rulesOf c)) (lastCursorIn c r (typesOf c ts)) (typeOf c t) (sizeOf c (typeOf c t))
 
     spans-then : spans (ts ▸ t) ≡ spans ts ++ here ∷ []
     unfolding typesOf

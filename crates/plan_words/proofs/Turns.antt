@@ -36,10 +36,10 @@ use Rattle.plan_places.specs.Step.{rulesOf, withEllipsis, spanOf, nextOf, uncle
 use Rattle.plan_places.specs.Helpers.{unclearAfter}
 use Rattle.plan_places.proofs.Bounds.{rules-lawful}
 use Rattle.plan_places.proofs.Marked.{next-marked, unclear-marked}
-use Rattle.plan_plans.specs.Plan.{lastOf, hiddenIn, startIn, endIn, resultPlacesIn, planIn, refusedPlan}
+use Rattle.plan_plans.specs.Plan.{lastOf, hiddenIn, startIn, lastCursorIn, resultPlacesIn, planIn, refusedPlan}
 use Rattle.plan_plans.specs.Call.{firstUnclear, unclearFault}
-use Rattle.plan_plans.proofs.Calls.{unclear-more}
-use Rattle.plan_plans.proofs.Fold.{last-more, values-more, Reached, reached-start, reached-more}
+use Rattle.plan_plans.proofs.Calls.{unclear-more, same-unclear}
+use Rattle.plan_plans.proofs.Fold.{last-more, same-next, values-more, Reached, reached-start, reached-more}
 use Rattle.plan_entries.specs.Words.{entryWords, tabled}
 use Rattle.plan_entries.proofs.Copies.{tabled-nothing}
 use Rattle.plan_entries.specs.Results.{resultWords}
@@ -58,20 +58,13 @@ same-words p q x y = cc
 same-span : (c : Convention) (r : CallRules) {k l : Cursor} {t u : ValueType} → k ≡ l → t ≡ u → spanOf r k t (sizeOf c t) ≡ spanOf r l u (sizeOf c u)
 same-span c r p q = cc
 
-same-next : (c : Convention) {k l : Cursor} {t u : ValueType} → k ≡ l → t ≡ u → nextOf (rulesOf c) k t (sizeOf c t) ≡ nextOf (rulesOf c) l u (sizeOf c u)
-same-next c p q = cc
-
-same-unclear : (r : CallRules) {u x : ℕ} {k l : Cursor} {t w : ValueType} {i j : ℕ} → u ≡ x → k ≡ l → t ≡ w → i ≡ j
-    → unclearAfter u (unclearFor r k t) i ≡ unclearAfter x (unclearFor r l w) j
-same-unclear r p q h e = cc
-
 -- reading on from here gives all arguments; the entries of those so far, by the mark of an ellipsis, are put over what was there, l
 pub record Keeping (c : Convention) (mark : Bool) (s : List ℕ) (at e : ℕ) (r : ResultType) (l : List ℕ) (k : Cursor) (kept : List ℕ) (v u count next n : ℕ) : Type 0 where
   pub ts : Trees
   pub turn : Turn c s at e ts count next n
   pub ends : next ≡ itemAfter at ts
   pub apart : at + 3 * count ≤ next
-  pub last : k ≡ endIn c r (typesOf c ts)
+  pub last : k ≡ lastCursorIn c r (typesOf c ts)
   pub total : v ≡ valuesOf c (typesOf c ts)
   pub unclear : u ≡ firstUnclear c (rulesOf c) (startIn c r) 0 (typesOf c ts)
   pub reached : Reached (rulesOf c) k v count
@@ -105,7 +98,7 @@ module _ (c : Convention) (mark : Bool) (s : List ℕ) (at e : ℕ) (r : ResultT
         let rows : List ℕ = rowsOf c mark r at (m .ts) in
         let rules : CallRules = withEllipsis mark (rulesOf c) in
         let next-same : nextOf rules k t (sizeOf c t) ≡ nextOf (rulesOf c) k t (sizeOf c t) = next-marked mark (rulesOf c) k t (sizeOf c t) in
-        let here : List ℕ = entryWords (itemAfter at (m .ts)) (sizeOf c w) (valuesOf c so-far) (spanOf rules (endIn c r so-far) w (sizeOf c w)) in
+        let here : List ℕ = entryWords (itemAfter at (m .ts)) (sizeOf c w) (valuesOf c so-far) (spanOf rules (lastCursorIn c r so-far) w (sizeOf c w)) in
         let many : count ≡ 0 + length so-far = omega (arith, m .turn .many, length-of-types c (m .ts)) in
         let place : 13 * count ≡ length rows = omega (arith, length-rows c mark r at (m .ts), m .turn .many) in
         record {
@@ -113,7 +106,7 @@ module _ (c : Convention) (mark : Bool) (s : List ℕ) (at e : ℕ) (r : ResultT
           turn = more .turn;
           ends = more .ends;
           apart = omega (arith, m .apart, a .on);
-          last = next-same ∙ same-next c (m .last) (more .same) ∙ sym (last-more c (rulesOf c) (startIn c r) so-far w);
+          last = next-same ∙ same-next c (rulesOf c) (m .last) (more .same) ∙ sym (last-more c (rulesOf c) (startIn c r) so-far w);
           total = omega (arith, m .total, ap (sizeOf c) (more .same), values-more c so-far w);
           unclear =
               ap (λ (b : Bool). unclearAfter u b count) (unclear-marked mark (rulesOf c) k t)

@@ -16,7 +16,7 @@ use Rattle.sig_signatures.specs.declared.ResultType.{ResultType}
 use Rattle.sig_signatures.specs.Signature.{Signature}
 use Rattle.sig_signatures.specs.Types.{valuesOf, typesOf}
 use Rattle.plan_places.specs.Step.{rulesOf, withEllipsis, spanOf}
-use Rattle.plan_plans.specs.Plan.{endIn, refusedPlan}
+use Rattle.plan_plans.specs.Plan.{lastCursorIn, refusedPlan}
 use Rattle.plan_plans.specs.Helpers.{planWith, unclearWith}
 use Rattle.plan_plans.specs.Call.{unclearFault}
 use Rattle.plan_entries.specs.Words.{entryWords, entryLength}
@@ -33,7 +33,7 @@ unfoldable pub rowsOf : Convention → Bool → ResultType → ℕ → Trees →
 rowsOf c v r at none = []
 rowsOf c v r at (ts ▸ t) =
     rowsOf c v r at ts
-    ++ entryWords (itemAfter at ts) (sizeOf c (typeOf c t)) (valuesOf c (typesOf c ts)) (spanOf (withEllipsis v (rulesOf c)) (endIn c r (typesOf c ts)) (typeOf c t) (sizeOf c (typeOf c t)))
+    ++ entryWords (itemAfter at ts) (sizeOf c (typeOf c t)) (valuesOf c (typesOf c ts)) (spanOf (withEllipsis v (rulesOf c)) (lastCursorIn c r (typesOf c ts)) (typeOf c t) (sizeOf c (typeOf c t)))
 
 -- from the arguments on, in a signature of `all` bytes, as `planWith` of the plan
 abbrev pub rowsWith : Convention → Bool → ResultType → ℕ → ℕ → Reading Trees → List ℕ

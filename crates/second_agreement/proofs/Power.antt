@@ -6,7 +6,7 @@ use mathlib.Core.Logic.{_⊎_, inl, inr}
 use mathlib.Core.List.{List, [], _∷_, map}
 use Prim.Native.Nat.{ℕ, zero, suc, _+_, _-_, _*_, _/_, _≤_, _<_, min, max}
 use native.Mathlib.Omega.{arith}
-use native.Mathlib.Nat.{mul-zero, mul-add, add-zero, add-div-left, div-eq-of-lt, div-le-of-le-mul}
+use native.Mathlib.Nat.{mul-zero, mul-add, add-zero, div-le-of-le-mul}
 use borrow.Author.Tests.{lt-ltb, le-ltb, ltb-true, ltb-false}
 use lib.Dec.{ltb}
 use Rattle.base_words.specs.Basics.{pick}
@@ -25,7 +25,7 @@ use Rattle.plan_places.specs.declared.Span.{Span}
 use Rattle.plan_places.specs.Values.{share}
 use Rattle.plan_places.specs.Power.{words, fprs, shareOf, powerShare, powerSpan, unclear}
 use Rattle.plan_places.specs.Step.{power, spanOf, nextOf, fresh, hiddenFor, returning, resultOf, unclearFor}
-use Rattle.plan_places.proofs.Shares.{share-words, share-memory, share-float, share-both, share-none, share-marked}
+use Rattle.plan_places.proofs.Shares.{words-word, share-words, share-memory, share-float, share-both, share-none, share-marked}
 use Rattle.plan_places.proofs.Written.{same-covered, counted, shareAt, next-counted}
 use Rattle.plan_plans.specs.Plan.{spansOf, lastOf}
 use Rattle.plan_plans.specs.Call.{firstUnclear}
@@ -246,10 +246,6 @@ module _ (f : PowerRules) (positive : 0 < f .word) where
 
 -- ---- the result
 
-pointer-words : (w : ℕ) → 0 < w → words w w ≡ 1
-unfolding words
-pointer-words w h = add-div-left (w - 1) h ∙ ap (λ (x : ℕ). x + 1) (div-eq-of-lt (omega arith))
-
 few-words : (w n : ℕ) → 0 < w → n ≤ 8 → words w n ≤ 8
 unfolding words
 few-words w n h s = div-le-of-le-mul w (omega arith)
@@ -264,4 +260,4 @@ result-agrees c w e (ValueType.Integer k) h =
 result-agrees c w e (ValueType.Float FloatFormat.Single) h = refl
 result-agrees c w e (ValueType.Float FloatFormat.Double) h = refl
 result-agrees c w e (ValueType.Float FloatFormat.LongDouble) h = refl
-result-agrees c w e (ValueType.Struct s) h = rw (pointer-words w h)
+result-agrees c w e (ValueType.Struct s) h = rw (words-word w h)

@@ -5,6 +5,7 @@ use mathlib.Core.List.{List, [], _∷_, map}
 use Prim.Native.Nat.{ℕ, zero, suc, _+_, _-_, _*_, _<_, min, max}
 use native.Mathlib.Omega.{arith}
 use lib.ListN.{length, getD, replicate}
+use Rattle.base_words.proofs.Basics.{getD-filled}
 use Rattle.base_conventions.specs.declared.Convention.{Convention}
 use Rattle.base_conventions.specs.Numbers.{wordBytes, leastWords}
 use Rattle.sig_types.specs.declared.FloatFormat.{FloatFormat}
@@ -30,7 +31,7 @@ use Rattle.plan_places.specs.Step.{rulesOf, withEllipsis, power, startOf, areaO
 use Rattle.plan_places.specs.Helpers.{alwaysClear}
 use Rattle.plan_places.proofs.Written.{counted, start-written, hidden-written, area-written, z-start-written, z-hidden-written, z-area-written}
 use Rattle.plan_plans.specs.declared.Plan.{Plan}
-use Rattle.plan_plans.specs.Plan.{spansOf, lastOf, noSpan, tableOf, hiddenIn, resultPlacesIn, startIn, endIn, planIn, refusedPlan, planAnswer}
+use Rattle.plan_plans.specs.Plan.{spansOf, lastOf, noSpan, tableOf, hiddenIn, resultPlacesIn, startIn, lastCursorIn, planIn, refusedPlan, planAnswer}
 use Rattle.plan_plans.specs.Call.{firstUnclear, unclearIn, itemIn, unclearFault, clearRead, called}
 use Rattle.plan_plans.proofs.Calls.{none-unclear}
 use Rattle.plan_plans.proofs.Apart.{in-table}
@@ -40,7 +41,6 @@ use Rattle.second_parameters.specs.Values.{run, noParameter, tableWith}
 use Rattle.second_structure.specs.Structure.{fieldsFrom, wordsTo, areaBytes, registersOver, firstWord, firstStraddling, powerHidden, powerReturned}
 use Rattle.second_slot_scan.specs.Slots.{initial, slotsFrom, scannedTo, zHidden, zReturned}
 use Rattle.second_planner.specs.Answer.{powerParameters, powerPlan, zPlan, secondIn, noPlan, straddlingIn, headerOf, straddlingFault, unlessStraddling, secondAnswer}
-use Rattle.second_parameters.proofs.Turns.{getD-table}
 use Rattle.second_agreement.specs.Agreement.{parameterOf, returnedOf, Agree, PlannersAgree}
 use Rattle.second_agreement.proofs.Power as powerpc
 use Rattle.second_agreement.proofs.Power.{paired, at, AllWhole, none-straddling, askedTo}
@@ -58,7 +58,7 @@ getD-map (s ∷ l) (suc i) = getD-map l i
 table-agrees : (ps : List Parameter) (l : List Span) → ps ≡ map parameterOf l → (i : ℕ) → getD (tableWith noParameter ps) i noParameter ≡ parameterOf (getD (tableOf l) i noSpan)
 unfolding tableWith
 table-agrees ps l e i =
-    getD-table noParameter ps (maxArguments - length ps) i
+    getD-filled noParameter ps (maxArguments - length ps) i
     ∙ ap (λ (q : List Parameter). getD q i noParameter) e
     ∙ getD-map l i
     ∙ sym (ap parameterOf (in-table l i))
@@ -93,11 +93,11 @@ module _ (w : ℕ) (e : Edition) (positive : 0 < w) (c : Convention) (same : rul
   marked v = ap (withEllipsis v) same
 
   -- the cursor past the last argument, by the convention's own rules
-  end-agrees : (r : ResultType) (ts : List ValueType) → endIn c r ts ≡ lastOf c (power w e) (at w (firstWord (powerHidden r)) 0) ts
+  end-agrees : (r : ResultType) (ts : List ValueType) → lastCursorIn c r ts ≡ lastOf c (power w e) (at w (firstWord (powerHidden r)) 0) ts
   end-agrees r ts = ap₂ (λ (u : CallRules) (k : Cursor). lastOf c u k ts) same (start-agrees r)
 
   area-agrees : (r : ResultType) (ts : List ValueType) → AllWhole (paired e) 0 ts
-      → areaBytes w (wordsTo c w (firstWord (powerHidden r)) ts) ≡ areaOf c (endIn c r ts)
+      → areaBytes w (wordsTo c w (firstWord (powerHidden r)) ts) ≡ areaOf c (lastCursorIn c r ts)
   unfolding areaBytes
   area-agrees r ts h =
       let j : ℕ = firstWord (powerHidden r) in
@@ -176,7 +176,7 @@ z-agrees n v r ts =
       places =
           table-agrees (slotsFrom Convention.Z s ts) (spansOf Convention.Z CallRules.Z (startIn Convention.Z r) ts)
           (zseries.slots-agree Convention.Z s ts (z-even (zHidden r)) ∙ ap (λ (k : Cursor). map parameterOf (spansOf Convention.Z CallRules.Z k ts)) (z-start r));
-      area = ap (λ (k : Cursor). k .stack) end ∙ sym (z-area-written (endIn Convention.Z r ts));
+      area = ap (λ (k : Cursor). k .stack) end ∙ sym (z-area-written (lastCursorIn Convention.Z r ts));
       values = refl;
       copies = ap (λ (k : Cursor). k .copies) end;
       result = z-result r;

@@ -1,9 +1,9 @@
 -- A turn of a loop over the arguments: what is in the table so far and what is left make up the whole list. Assumes nothing.
 use mathlib.Core.Path.{_≡_, refl, sym, ap, _∙_}
 use mathlib.Core.List.{List, [], _∷_, _++_, append-assoc, append-nil}
-use Prim.Native.Nat.{ℕ, zero, suc, _+_, _-_, _≤_, _<_}
+use Prim.Native.Nat.{ℕ, suc, _+_, _-_, _≤_, _<_}
 use native.Mathlib.Omega.{arith}
-use lib.ListN.{length, getD, set, drop, replicate, length-append, drop-of-length-le}
+use lib.ListN.{length, set, drop, replicate, length-append, drop-of-length-le}
 use lib.Seq.{set-at}
 use Rattle.sig_types.specs.Sizes.{sizeOf}
 use Rattle.sig_signatures.specs.Limits.{maxArguments}
@@ -65,12 +65,3 @@ gone g i p h =
     let many = length-types (g .count) (g .arguments) (p .room) in
     let past : length (typesIn g) ≤ i = omega arith in
     drop-of-length-le (typesIn g) past
-
--- ---- elements
-
-pub getD-table : {A : Type 0} (x : A) (l : List A) (n i : ℕ) → getD (l ++ replicate n x) i x ≡ getD l i x
-getD-table x [] zero i = refl
-getD-table x [] (suc n) zero = refl
-getD-table x [] (suc n) (suc i) = getD-table x [] n i
-getD-table x (y ∷ l) n zero = refl
-getD-table x (y ∷ l) n (suc i) = getD-table x l n i

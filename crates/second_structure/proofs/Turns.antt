@@ -7,6 +7,7 @@ use native.Mathlib.Omega.{arith}
 use native.Mathlib.Numerals.{add-one}
 use lib.ListN.{length, getD, set, drop, replicate, length-append, length-replicate}
 use Rattle.base_words.specs.Basics.{pick}
+use Rattle.base_words.proofs.Basics.{getD-filled}
 use Rattle.base_conventions.specs.declared.Convention.{Convention}
 use Rattle.sig_types.specs.declared.ValueType.{ValueType}
 use Rattle.sig_types.specs.Sizes.{sizeOf}
@@ -14,7 +15,7 @@ use Rattle.sig_signatures.specs.Limits.{maxArguments}
 use Rattle.second_parameters.specs.declared.Run.{Run}
 use Rattle.second_parameters.specs.declared.Parameter.{Parameter}
 use Rattle.second_parameters.specs.Values.{numbers, noRun, noParameter, tableWith}
-use Rattle.second_parameters.proofs.Turns.{Table, table-start, table-more, getD-table}
+use Rattle.second_parameters.proofs.Turns.{Table, table-start, table-more}
 use Rattle.second_structure.specs.Structure.{wordsIn, fieldsFrom, wordsTo, floats, laidOver, registersOver, straddles, firstStraddling}
 use Rattle.second_structure.specs.Helpers.{Bounded}
 use Rattle.second_structure.proofs.Laws.{words-few}
@@ -106,7 +107,7 @@ pub fields-bounded : (c : Convention) (w at : ℕ) (ts : List ValueType) → wor
 unfolding tableWith
 fields-bounded c w at ts h = record {
   room = simp (length-append, length-replicate) (omega arith);
-  ends = λ i. rw (getD-table noRun (fieldsFrom c w at ts) (maxArguments - length (fieldsFrom c w at ts)) i) (omega (arith, fields-end c w at ts i));
+  ends = λ i. rw (getD-filled noRun (fieldsFrom c w at ts) (maxArguments - length (fieldsFrom c w at ts)) i) (omega (arith, fields-end c w at ts i));
 }
 
 -- ---- places of the table past the last field are not looked at

@@ -40,6 +40,11 @@ abbrev pub Got : {A : Type 0} → (A → ℕ → ℕ → Type 0) → Reading A �
 Got P (got x next n) = P x next n
 Got P (no f) = Unit {0}
 
+-- what was got is what the reading is
+pub got-self : {A : Type 0} (x : Reading A) → Got (λ a next n. x ≡ got a next n) x
+got-self (got a next n) = refl
+got-self (no f) = tt
+
 pub got-map : {A : Type 0} (P Q : A → ℕ → ℕ → Type 0) (x : Reading A) → ((a : A) (next n : ℕ) → P a next n → Q a next n) → Got P x → Got Q x
 got-map P Q (got a next n) f p = f a next n p
 got-map P Q (no r) f p = tt

@@ -18,7 +18,7 @@ use Rattle.sig_items.specs.Reading.{Reading, fault, got, no, choose, inBody}
 use Rattle.sig_items.specs.Read.{lengthAt, bodyAt, sequence, itemAt}
 use Rattle.sig_items.specs.Encode.{encodeTree, encodeTrees}
 use Rattle.sig_items.proofs.Laws.{body-to}
-use Rattle.sig_items.proofs.Sound.{by-pick, by-choose, by-then, by-next, Got, body-framed, Ended, none-read, sequence-sound, item-sound, item-read, got-map}
+use Rattle.sig_items.proofs.Sound.{by-pick, by-choose, by-then, by-next, Got, body-framed, Ended, none-read, sequence-sound, item-sound, item-read, got-self, got-map}
 use Rattle.sig_signatures.specs.Limits.{maxLength, maxArguments}
 use Rattle.base_conventions.specs.declared.ConventionCode.{ConventionCode}
 use Rattle.base_conventions.specs.Numbers.{conventionCode}
@@ -30,12 +30,6 @@ use Rattle.sig_reader.specs.declared.ArgumentRead.{ArgumentRead}
 use Rattle.sig_stepping.specs.Step.{bodyIn, bodyStart, bodyEnd, typeIn}
 use Rattle.sig_reader.specs.Argument.{argumentIn, argumentsPlace, pastEllipsis, argumentsStart, steppedTo}
 use Rattle.sig_stepping.proofs.Laws.{end-within, body-here, start-found, end-found}
-
--- readings: what was got is what the reading is, and what follows from what holds of it
-
-got-self : {A : Type 0} (x : Reading A) → Got (λ a next n. x ≡ got a next n) x
-got-self (got a next n) = refl
-got-self (no f) = tt
 
 -- one argument of types in order
 

@@ -21,7 +21,7 @@ use Rattle.sig_items.specs.Answer.{itemAnswer}
 use Rattle.sig_items.specs.Encode.{encodeTree, encodeTrees}
 use Rattle.sig_items.proofs.Laws.{sequence-more, item-got}
 use Rattle.sig_items.proofs.Loop.{item-answered}
-use Rattle.sig_items.proofs.Sound.{by-choose, by-then, by-next, Got, item-read}
+use Rattle.sig_items.proofs.Sound.{by-choose, by-then, by-next, Got, got-self, item-read}
 use Rattle.sig_signatures.specs.Limits.{maxLength, maxArguments}
 use Rattle.sig_signatures.specs.declared.ResultType.{ResultType}
 use Rattle.sig_signatures.specs.declared.HeadRead.{HeadRead}
@@ -49,10 +49,6 @@ head-starts s = by-choose (Got Starts) (ltb maxLength (length s)) _ _ (λ _. tt)
   where
     Starts : Head → ℕ → ℕ → Type 0
     Starts h next n = next ≡ argumentsPlace (h .result) (h .ellipsis)
-
-    got-self : {A : Type 0} (x : Reading A) → Got (λ a next n. x ≡ got a next n) x
-    got-self (got a next n) = refl
-    got-self (no f) = tt
 
     go : (c : Convention) (at n : ℕ) → conventionAt s ≡ got c at n → (r : Result) (next m : ℕ) → resultAt c s at ≡ got r next m →
         (v : Bool) (last k : ℕ) → ellipsisAt s next ≡ got v last k → (x : Body) → Got Starts (headBy c r v last (n + m + k) x)

@@ -19,7 +19,7 @@ use Rattle.sig_signatures.specs.Limits.{maxArguments}
 use Rattle.sig_signatures.specs.Read.{signatureOf}
 use Rattle.sig_signatures.specs.Answer.{argument, listed, table, resultType, signatureAnswer}
 use Rattle.sig_signatures.specs.Exact.{ResultSized}
-use Rattle.sig_signatures.specs.Types.{typesOf, typeIn}
+use Rattle.sig_signatures.specs.Types.{typesOf, argumentType}
 use Rattle.sig_signatures.specs.Helpers.{SmallResult, Plannable}
 use Rattle.sig_signatures.proofs.Loop.{listed-length}
 use Rattle.sig_signatures.proofs.Theorems.{accepted}
@@ -27,16 +27,16 @@ use Rattle.sig_signatures.proofs.Theorems.{accepted}
 abbrev pub blank : Argument
 blank = argument (ValueType.Integer IntegerKind.I8)
 
-listed-types : (c : Convention) (ts : Trees) → map typeIn (listed c ts) ≡ typesOf c ts
+listed-types : (c : Convention) (ts : Trees) → map argumentType (listed c ts) ≡ typesOf c ts
 unfolding listed typesOf
 listed-types c none = refl
-listed-types c (ts ▸ t) = map-append typeIn (listed c ts) (argument (typeOf c t) ∷ []) ∙ ap (λ (l : List ValueType). l ++ typeOf c t ∷ []) (listed-types c ts)
+listed-types c (ts ▸ t) = map-append argumentType (listed c ts) (argument (typeOf c t) ∷ []) ∙ ap (λ (l : List ValueType). l ++ typeOf c t ∷ []) (listed-types c ts)
 
 -- the types of the table's first places are the signature's
-pub table-types : (c : Convention) (ts : Trees) → map typeIn (take (countOf ts) (table c ts)) ≡ typesOf c ts
+pub table-types : (c : Convention) (ts : Trees) → map argumentType (take (countOf ts) (table c ts)) ≡ typesOf c ts
 unfolding table
 table-types c ts =
-    ap (map typeIn) (take-at (listed c ts) (replicate (maxArguments - countOf ts) blank) (countOf ts) (listed-length c ts)) ∙ listed-types c ts
+    ap (map argumentType) (take-at (listed c ts) (replicate (maxArguments - countOf ts) blank) (countOf ts) (listed-length c ts)) ∙ listed-types c ts
 
 listed-small : (c : Convention) (ts : Trees) → AllSized c ts → (i : ℕ) → i < countOf ts → sizeOf c (getD (listed c ts) i blank .ty) ≤ 256
 unfolding listed countOf AllSized
@@ -83,18 +83,18 @@ answer-plannable s = go (signatureOf s) refl
 pub length-of-types : (c : Convention) (ts : Trees) → length (typesOf c ts) ≡ countOf ts
 length-of-types c ts = sym (ap length (listed-types c ts)) ∙ length-map (listed c ts) ∙ listed-length c ts
   where
-    length-map : (l : List Argument) → length (map typeIn l) ≡ length l
+    length-map : (l : List Argument) → length (map argumentType l) ≡ length l
     length-map [] = refl
     length-map (a ∷ l) = ap suc (length-map l)
 
-pub length-types : (n : ℕ) (l : List Argument) → n ≤ length l → length (map typeIn (take n l)) ≡ n
+pub length-types : (n : ℕ) (l : List Argument) → n ≤ length l → length (map argumentType (take n l)) ≡ n
 length-types zero l h = refl
 length-types (suc n) [] h = absurd (omega arith)
 length-types (suc n) (a ∷ l) h = ap suc (length-types n l (omega arith))
 
 -- the next type, and those after it
 pub types-drop : (n : ℕ) (l : List Argument) (i : ℕ) → i < n → n ≤ length l
-    → drop i (map typeIn (take n l)) ≡ getD l i blank .ty ∷ drop (suc i) (map typeIn (take n l))
+    → drop i (map argumentType (take n l)) ≡ getD l i blank .ty ∷ drop (suc i) (map argumentType (take n l))
 types-drop zero l i h k = absurd (omega arith)
 types-drop (suc n) [] i h k = absurd (omega arith)
 types-drop (suc n) (a ∷ l) zero h k = refl

@@ -19,8 +19,8 @@ unfoldable pub valuesOf : Convention → List ValueType → ℕ
 valuesOf c [] = 0
 valuesOf c (t ∷ ts) = sizeOf c t + valuesOf c ts
 
-abbrev pub typeIn : Argument → ValueType
-typeIn a = a .ty
+abbrev pub argumentType : Argument → ValueType
+argumentType a = a .ty
 
 abbrev pub typesIn : SignatureRead → List ValueType
-typesIn g = map typeIn (take (g .count) (g .arguments))
+typesIn g = map argumentType (take (g .count) (g .arguments))

@@ -9,7 +9,7 @@ use Prim.Native.Nat.{suc, _-_}
 use native.Mathlib.Omega.{arith}
 use lib.ListN.{length, drop}
 use Rattle.call_slots.specs.Placements.{Placement}
-use Rattle.call_slots.specs.Arguments.{argumentsIn, rulesIn}
+use Rattle.call_slots.specs.Arguments.{placementsIn, rulesIn}
 use Rattle.call_slots.proofs.Turns.{argumentAt, next-argument, no-argument, Checking, checking-start, checking-ready, checking-refused, checking-more, checking-end}
 use Rattle.call_home.specs.Home.{registersAnswer}
 use Rattle.call_home.proofs.first_unwidened.Statement.{statement}
@@ -17,7 +17,7 @@ use Rattle.call_home.proofs.first_unwidened.Tie as tie
 
 abbrev Inv-loop : tie.InvT-loop
 Inv-loop image g p count rules i₀ i =
-    Checking (λ (q : Placement). registerAnswer (rulesIn g) (q .ty) (q .span) image) (Registered (rulesIn g) (p .area) (length image)) (argumentsIn g p) i
+    Checking (λ (q : Placement). registerAnswer (rulesIn g) (q .ty) (q .span) image) (Registered (rulesIn g) (p .area) (length image)) (placementsIn g p) i
 
 abbrev μ-loop : tie.MeasureT-loop
 μ-loop image g p count rules i₀ i = count - i
@@ -26,7 +26,7 @@ abbrev μ-loop : tie.MeasureT-loop
 abbrev hand : (c : tie.After-s Inv-loop μ-loop) → Placement
 hand c = argumentAt (c .before .before .before .before .before .before .args .t2) (c .before .before .before .before .before .before .args .t3) (c .before .before .before .loop .i)
 
-next : (c : tie.After-s Inv-loop μ-loop) → drop (c .before .before .before .loop .i) (argumentsIn (c .before .before .before .before .before .before .args .t2) (c .before .before .before .before .before .before .args .t3)) ≡ hand c ∷ drop (suc (c .before .before .before .loop .i)) (argumentsIn (c .before .before .before .before .before .before .args .t2) (c .before .before .before .before .before .before .args .t3))
+next : (c : tie.After-s Inv-loop μ-loop) → drop (c .before .before .before .loop .i) (placementsIn (c .before .before .before .before .before .before .args .t2) (c .before .before .before .before .before .before .args .t3)) ≡ hand c ∷ drop (suc (c .before .before .before .loop .i)) (placementsIn (c .before .before .before .before .before .before .args .t2) (c .before .before .before .before .before .before .args .t3))
 next c = next-argument (c .before .before .before .before .before .before .args .t2) (c .before .before .before .before .before .before .args .t3) (c .before .before .before .loop .i) (c .before .before .loop-test .taken) (c .before .before .before .before .before .before .pre .tables .types) (c .before .before .before .before .before .before .pre .tables .spans)
 
 asked : (c : tie.After-register-answer Inv-loop μ-loop) → c .register-answer .result ≡ registerAnswer (rulesIn (c .before .before .before .before .before .before .before .args .t2)) (hand (c .before) .ty) (hand (c .before) .span) (c .before .before .before .before .before .before .before .args .image .now)
@@ -53,7 +53,7 @@ element-copy-out-s c = omega (arith, c .before .before .before .before .before .
 register-answer-requires : tie.Need-register-answer-requires Inv-loop μ-loop
 register-answer-requires c κs =
     let h = checking-ready _ _ _ _ (hand c) (next c) (c .before .before .before .loop .inv) in
-    (h .floating, h .image, λ some. (_, h .held .float some))
+    (h .registers .floating, h .registers .image, λ some. (_, h .registers .held .float some))
 
 is-refused-requires : tie.Need-is-refused-requires Inv-loop μ-loop
 is-refused-requires c κs = search needs

@@ -14,14 +14,14 @@ use Rattle.base_words.specs.Splice.{overlay, splice, part}
 use Rattle.base_words.proofs.Splices.{lent-tail, length-part}
 use Rattle.plan_places.specs.Step.{rulesOf}
 use Rattle.call_slots.specs.Placements.{Placement}
-use Rattle.call_slots.specs.Arguments.{argumentsIn, rulesIn}
+use Rattle.call_slots.specs.Arguments.{placementsIn, rulesIn}
 use Rattle.call_slots.proofs.Turns.{argumentAt, next-argument, no-argument}
 use Rattle.call_home.proofs.Registers.{Homing, homing-start, homing-ready, homing-more, homing-end}
 use Rattle.call_home.proofs.put_homes.Statement.{statement}
 use Rattle.call_home.proofs.put_homes.Tie as tie
 
 abbrev Inv-loop : tie.InvT-loop
-Inv-loop area₀ image g p convention count i₀ area i = Homing (p .area) (length image) (rulesIn g) (argumentsIn g p) image area₀ area i
+Inv-loop area₀ image g p convention count i₀ area i = Homing (p .area) (length image) (rulesIn g) (placementsIn g p) image area₀ area i
 
 abbrev μ-loop : tie.MeasureT-loop
 μ-loop area₀ image g p convention count i₀ area i = count - i
@@ -30,7 +30,7 @@ abbrev μ-loop : tie.MeasureT-loop
 abbrev hand : (c : tie.After-s Inv-loop μ-loop) → Placement
 hand c = argumentAt (c .before .before .before .before .before .before .args .t3) (c .before .before .before .before .before .before .args .t4) (c .before .before .before .loop .i)
 
-next : (c : tie.After-s Inv-loop μ-loop) → drop (c .before .before .before .loop .i) (argumentsIn (c .before .before .before .before .before .before .args .t3) (c .before .before .before .before .before .before .args .t4)) ≡ hand c ∷ drop (suc (c .before .before .before .loop .i)) (argumentsIn (c .before .before .before .before .before .before .args .t3) (c .before .before .before .before .before .before .args .t4))
+next : (c : tie.After-s Inv-loop μ-loop) → drop (c .before .before .before .loop .i) (placementsIn (c .before .before .before .before .before .before .args .t3) (c .before .before .before .before .before .before .args .t4)) ≡ hand c ∷ drop (suc (c .before .before .before .loop .i)) (placementsIn (c .before .before .before .before .before .before .args .t3) (c .before .before .before .before .before .before .args .t4))
 next c = next-argument (c .before .before .before .before .before .before .args .t3) (c .before .before .before .before .before .before .args .t4) (c .before .before .before .loop .i) (c .before .before .loop-test .taken) (c .before .before .before .before .before .before .pre .0 .tables .types) (c .before .before .before .before .before .before .pre .0 .tables .spans)
 
 ready : (c : tie.After-s Inv-loop μ-loop) → Registered (rulesIn (c .before .before .before .before .before .before .args .t3)) (c .before .before .before .before .before .before .args .t4 .area) (length (c .before .before .before .before .before .before .args .image .now)) (hand c)

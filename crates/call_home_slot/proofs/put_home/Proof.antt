@@ -50,7 +50,7 @@ home-float-requires : tie.Need-home-float-requires
 home-float-requires c κs =
     let start = c .before .before .before .before .before .before .before .before .before .before .before .before in
     let h = start .pre in
-    (omega (arith, h .floating, h .image), omega (arith, float-room _ _ _ _ [] h), rw (c .equivalent-of .ensures) (float-sized _ _ _ _ [] h (c .before .before .before .before .before .if1 .taken)))
+    (omega (arith, h .registers .floating, h .registers .image), omega (arith, float-room _ _ _ _ [] h), rw (c .equivalent-of .ensures) (float-sized _ _ _ _ [] h (c .before .before .before .before .before .if1 .taken)))
 
 same-length : tie.Need-same-length
 same-length c = search needs
@@ -63,7 +63,7 @@ returns c =
     let at : ℕ = 256 + 8 * s .floating .first in
     let k : ℕ = s .floating .count in
     let bs : List ℕ = part at (8 * k) image in
-    let size : length bs ≡ 8 * k = length-part at (8 * k) image (omega (arith, start .pre .floating, start .pre .image)) in
+    let size : length bs ≡ 8 * k = length-part at (8 * k) image (omega (arith, start .pre .registers .floating, start .pre .registers .image)) in
     let low : valueOf bs < 2 ^ (8 * length bs) = value-below bs (bytes-part at (8 * k) image (λ i. c .before .before .before .before .before .before .before .before .before .before .before .before .before .shared-slice-known .given i .fits)) in
     let one : k ≡ 1 → valueOf bs < 2 ^ 64 = λ e. subst (λ (n : ℕ). valueOf bs < 2 ^ (8 * n)) (size ∙ ap (λ (m : ℕ). 8 * m) e) low in
     c .before .before .home-float .ensures
@@ -80,13 +80,13 @@ cast-count : tie.Need-cast-count
 cast-count c = search needs
 
 mul-take-registers : tie.Need-mul-take-registers
-mul-take-registers c = rw (word c) (omega (arith, c .before .before .before .before .before .before .before .before .before .before .before .pre .general, mul-le-mul-right (c .before .before .before .before .before .before .before .before .before .before .before .args .s .general .count) (c .before .before .before .before .before .before .before .before .before .before .before .pre .held .word .1)))
+mul-take-registers c = rw (word c) (omega (arith, c .before .before .before .before .before .before .before .before .before .before .before .pre .registers .general, mul-le-mul-right (c .before .before .before .before .before .before .before .before .before .before .before .args .s .general .count) (c .before .before .before .before .before .before .before .before .before .before .before .pre .registers .held .word .1)))
 
 take-registers-requires : tie.Need-take-registers-requires
 take-registers-requires c κs =
     let start = c .before .before .before .before .before .before .before .before .before .before .before in
     let h = start .pre in
-    rw (word c) ((omega (arith, h .held .word), h .held .word .1, omega (arith, h .held .word), omega arith, omega (arith, h .general, h .image)), omega (arith, general-room _ _ _ _ [] h (c .before .before .before .before .if1 .left)))
+    rw (word c) ((omega (arith, h .registers .held .word), h .registers .held .word .1, omega (arith, h .registers .held .word), omega arith, omega (arith, h .registers .general, h .registers .image)), omega (arith, general-room _ _ _ _ [] h (c .before .before .before .before .if1 .left)))
 
 same-length-2 : tie.Need-same-length-2
 same-length-2 c = search needs
@@ -99,10 +99,10 @@ returns-2 c =
     let w : ℕ = wordOf (rulesOf (start .args .c)) in
     let h = start .pre in
     let bs : List ℕ = part (8 * s .general .first) (8 * k) (start .args .image .now) in
-    let size : length bs ≡ 8 * k = length-part (8 * s .general .first) (8 * k) (start .args .image .now) (omega (arith, h .general, h .image)) in
+    let size : length bs ≡ 8 * k = length-part (8 * s .general .first) (8 * k) (start .args .image .now) (omega (arith, h .registers .general, h .registers .image)) in
     let put = rw (word (c .before .before .before)) at (c .before .before .take-registers .ensures) in
     put
-    ∙ ap (overlay (start .args .place .now)) (take-all (w * k) (gather w k bs) (omega (arith, length-gather w k bs (h .held .word .1) (omega arith))))
+    ∙ ap (overlay (start .args .place .now)) (take-all (w * k) (gather w k bs) (omega (arith, length-gather w k bs (h .registers .held .word .1) (omega arith))))
     ∙ ap (overlay (start .args .place .now)) (sym (homed-general _ _ _ _ (start .args .image .now) h (c .before .before .before .before .before .before .before .if1 .left)))
 
 pub put-home-spec : {M : Type 1} → statement M

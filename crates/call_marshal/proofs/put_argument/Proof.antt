@@ -53,9 +53,9 @@ put-float-requires c κs =
     let l : List ℕ = start .args .image .now in
     let at : ℕ = 256 + 8 * start .args .s .floating .first in
     let pre = start .pre in
-    let room : 8 * start .args .s .floating .count ≤ length (take (length l - at) (drop at l)) = omega (arith, pre .fits .floating, pre .registers, length-take (length l - at) (drop at l), length-drop at l) in
+    let room : 8 * start .args .s .floating .count ≤ length (take (length l - at) (drop at l)) = omega (arith, pre .registers .floating, pre .registers .image, length-take (length l - at) (drop at l), length-drop at l) in
     subst (λ (e : Equivalent). FprsTake e (length (start .args .v .now)) (length (take (length l - at) (drop at l)))) (sym (c .equivalent-of .ensures))
-    (float-room (equivalentOf (start .args .t)) (start .args .s .floating .count) (length (start .args .v .now)) _ (pre .held .float (c .before .before .before .if1 .taken)) room)
+    (float-room (equivalentOf (start .args .t)) (start .args .s .floating .count) (length (start .args .v .now)) _ (pre .registers .held .float (c .before .before .before .if1 .taken)) room)
 
 put-value-requires : tie.Need-put-value-requires
 put-value-requires c κs =
@@ -63,9 +63,9 @@ put-value-requires c κs =
     let l : List ℕ = start .args .image .now in
     let at : ℕ = 256 + 8 * start .args .s .floating .first in
     let pre = start .pre in
-    let least : 1 ≤ wordOf (start .args .r) = omega (arith, pre .held .word) in
+    let least : 1 ≤ wordOf (start .args .r) = omega (arith, pre .registers .held .word) in
     let put = ap (putMid at (length l - at) l) (c .before .before .before .before .put-float .ensures) ∙ lent-tail l at _ in
-    ((least, pre .held .word .1, pre .fits .general, ap length put ∙ length-splice l at _ ∙ pre .registers, pre .fits .memory, pre .held .stored), pre .held, pre .held .direct (c .before .before .before .before .before .before .before .before .if1 .taken))
+    ((least, pre .registers .held .word .1, pre .registers .general, ap length put ∙ length-splice l at _ ∙ pre .registers .image, pre .memory, pre .registers .held .stored), pre .registers .held, pre .registers .held .direct (c .before .before .before .before .before .before .before .before .if1 .taken))
 
 same-length : tie.Need-same-length
 same-length c = search needs
@@ -80,7 +80,7 @@ returns c =
     let v : List ℕ = start .args .v .now in
     let at : ℕ = 256 + 8 * start .args .s .floating .first in
     let put = ap (putMid at (length l - at) l) (c .before .before .before .before .before .before .before .before .before .put-float .ensures) ∙ lent-tail l at _ ∙ ap (λ (e : Equivalent). splice l at (floatForm (start .args .r) e v)) (c .before .before .before .before .before .before .before .before .before .before .equivalent-of .ensures) in
-    argument-float (start .args .r) (start .args .base) (argument start) v l (start .args .area .now) (start .args .copies .now) (start .pre .held)
+    argument-float (start .args .r) (start .args .base) (argument start) v l (start .args .area .now) (start .args .copies .now) (start .pre .registers .held)
     _ _ _ (c .before .before .before .before .before .before .before .before .before .before .before .before .before .if1 .taken) refl put (c .before .before .before .before .put-value .ensures .0) (c .before .before .before .before .put-value .ensures .1)
 
 cast-start : tie.Need-cast-start
@@ -98,7 +98,7 @@ part-put-end c = search needs
 put-requires : tie.Need-put-requires
 put-requires c κs =
     let pre = c .before .before .before .before .before .before .before .before .before .before .before .pre in
-    omega (arith, pre .held .copied (c .before .before .if2 .taken), pre .fits .copies)
+    omega (arith, pre .registers .held .copied (c .before .before .if2 .taken), pre .copies)
 
 add-put-word : tie.Need-add-put-word
 add-put-word c = search needs
@@ -108,8 +108,8 @@ put-word-requires c κs =
     let start = c .before .before .before .before .before .before .before .before .before .before .before .before .before .before .before .before in
     let pre = start .pre in
     let stored : 0 < start .args .s .memory .length → 8 ≤ start .args .s .memory .length =
-    subst (λ (w : ℕ). 0 < start .args .s .memory .length → w ≤ start .args .s .memory .length) (pre .held .address (c .before .before .before .before .before .before .before .if2 .taken) .0) (pre .held .stored) in
-    ((omega arith, omega arith, pre .fits .general, pre .registers, pre .fits .memory, stored), one-address (start .args .r) (argument start) (pre .held) (c .before .before .before .before .before .before .before .before .if1 .left) (c .before .before .before .before .before .before .before .if2 .taken))
+    subst (λ (w : ℕ). 0 < start .args .s .memory .length → w ≤ start .args .s .memory .length) (pre .registers .held .address (c .before .before .before .before .before .before .before .if2 .taken) .0) (pre .registers .held .stored) in
+    ((omega arith, omega arith, pre .registers .general, pre .registers .image, pre .memory, stored), one-address (start .args .r) (argument start) (pre .registers .held) (c .before .before .before .before .before .before .before .before .if1 .left) (c .before .before .before .before .before .before .before .if2 .taken))
 
 same-length-3 : tie.Need-same-length-3
 same-length-3 c = search needs
@@ -128,19 +128,19 @@ returns-2 c =
     let at : ℕ = start .args .s .copy .start in
     let s = start .args .s in
     let pre = start .pre in
-    let put = number-plain _ _ _ _ _ _ _ (wordOf (start .args .r)) _ _ (pre .held .address (c .before .before .before .before .before .before .before .before .before .before .before .before .if2 .taken) .0) (one-address (start .args .r) (argument start) (pre .held) (c .before .before .before .before .before .before .before .before .before .before .before .before .before .if1 .left) (c .before .before .before .before .before .before .before .before .before .before .before .before .if2 .taken)) (c .before .before .before .before .put-word .ensures) in
+    let put = number-plain _ _ _ _ _ _ _ (wordOf (start .args .r)) _ _ (pre .registers .held .address (c .before .before .before .before .before .before .before .before .before .before .before .before .if2 .taken) .0) (one-address (start .args .r) (argument start) (pre .registers .held) (c .before .before .before .before .before .before .before .before .before .before .before .before .before .if1 .left) (c .before .before .before .before .before .before .before .before .before .before .before .before .if2 .taken)) (c .before .before .before .before .put-word .ensures) in
     let copied = ap (putMid at (length l - at) l) (c .before .before .before .before .before .before .before .before .before .put .ensures) ∙ lent-tail l at v in
-    argument-words (start .args .r) (start .args .base) (argument start) v (start .args .image .now) (start .args .area .now) l (pre .held)
+    argument-words (start .args .r) (start .args .base) (argument start) v (start .args .image .now) (start .args .area .now) l (pre .registers .held)
     (bytesOf (wordOf (start .args .r) * s .general .count + s .memory .length) (start .args .base + at)) _ _ _ (c .before .before .before .before .before .before .before .before .before .before .before .before .before .if1 .left)
-    (stands-address (start .args .r) (start .args .base) (argument start) v (pre .held) (c .before .before .before .before .before .before .before .before .before .before .before .before .before .if1 .left) (c .before .before .before .before .before .before .before .before .before .before .before .before .if2 .taken))
+    (stands-address (start .args .r) (start .args .base) (argument start) v (pre .registers .held) (c .before .before .before .before .before .before .before .before .before .before .before .before .before .if1 .left) (c .before .before .before .before .before .before .before .before .before .before .before .before .if2 .taken))
     (put .0) (put .1)
     (copied ∙ sym (copy-put (argument start) v l (c .before .before .before .before .before .before .before .before .before .before .before .before .if2 .taken)))
 
 put-value-requires-2 : tie.Need-put-value-requires-2
 put-value-requires-2 c κs =
     let pre = c .before .before .before .before .before .before .before .before .before .before .before .pre in
-    let least : 1 ≤ wordOf (c .before .before .before .before .before .before .before .before .before .before .before .args .r) = omega (arith, pre .held .word) in
-    ((least, pre .held .word .1, pre .fits .general, pre .registers, pre .fits .memory, pre .held .stored), pre .held, c .before .before .if2 .left)
+    let least : 1 ≤ wordOf (c .before .before .before .before .before .before .before .before .before .before .before .args .r) = omega (arith, pre .registers .held .word) in
+    ((least, pre .registers .held .word .1, pre .registers .general, pre .registers .image, pre .memory, pre .registers .held .stored), pre .registers .held, c .before .before .if2 .left)
 
 same-length-6 : tie.Need-same-length-6
 same-length-6 c = search needs
@@ -152,7 +152,7 @@ returns-3 : tie.Need-returns-3
 returns-3 c =
     let start = c .before .before .before .before .before .before .before .before .before .before .before .before .before .before .before .before in
     let v : List ℕ = start .args .v .now in
-    argument-words (start .args .r) (start .args .base) (argument start) v (start .args .image .now) (start .args .area .now) (start .args .copies .now) (start .pre .held)
+    argument-words (start .args .r) (start .args .base) (argument start) v (start .args .image .now) (start .args .area .now) (start .args .copies .now) (start .pre .registers .held)
     _ _ _ _ (c .before .before .before .before .before .before .before .before .if1 .left)
     (stands-value (start .args .r) (start .args .base) (argument start) v (c .before .before .before .before .before .before .before .if2 .left) refl)
     (c .before .before .before .before .put-value2 .ensures .0) (c .before .before .before .before .put-value2 .ensures .1)

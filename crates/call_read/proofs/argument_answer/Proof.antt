@@ -31,7 +31,7 @@ asked c =
     let s = start .args .s in
     c .float-answer .ensures
     ∙ rw (c .before .equivalent-of .ensures, c .before .before .load .ensures)
-    (answer-first (start .args .r) (equivalentOf (start .args .t)) (s .floating .count) (start .args .n) (256 + 8 * s .floating .first) (start .args .image .now) (start .pre .held .float (c .before .before .before .before .if1 .taken)))
+    (answer-first (start .args .r) (equivalentOf (start .args .t)) (s .floating .count) (start .args .n) (256 + 8 * s .floating .first) (start .args .image .now) (start .pre .registers .held .float (c .before .before .before .before .if1 .taken)))
 
 cast-load : tie.Need-cast-load
 cast-load c = search needs
@@ -71,12 +71,9 @@ floats-agree-requires c κs =
     let pre = start .pre in
     let some : 0 < start .args .s .general .count = omega (arith, c .before .before .if2 .left) in
     record {
-      held = pre .held;
+      registers = pre .registers;
       float = c .before .before .before .before .before .before .before .before .if1 .taken;
       also = some;
-      general = pre .general;
-      floating = pre .floating;
-      registers = pre .registers;
       exact = sym (asked (c .before .before .before .before)) ∙ not-refused _ (sym (c .before .is-refused .ensures) ∙ c .if3 .left);
     }
 
@@ -94,7 +91,7 @@ word-at-requires : tie.Need-word-at-requires
 word-at-requires c κs =
     let start = c .before .before .before .before .before .before .before .before in
     let pre = start .pre in
-    ((omega arith, omega arith, pre .general, pre .registers, pre .memory), one-address (start .args .r) (argument start) (pre .held) (c .before .if1 .left) (c .if4 .taken))
+    ((omega arith, omega arith, pre .registers .general, pre .registers .image, pre .memory), one-address (start .args .r) (argument start) (pre .registers .held) (c .before .if1 .left) (c .if4 .taken))
 
 in-copies-requires : tie.Need-in-copies-requires
 in-copies-requires c κs = search needs
@@ -104,7 +101,7 @@ copy-answer-requires c κs = search needs
 
 returns-4 : tie.Need-returns-4
 unfolding argumentAnswer wordsAt bytesAt
-returns-4 c = simp (le-ltb _ _ (c .before .before .before .before .if1 .left)) (rw (c .before .before .before .if4 .taken) (c .copy-answer .ensures ∙ rw (c .before .in-copies .ensures, c .before .before .word-at .ensures, c .before .before .before .before .before .before .before .before .before .before .before .pre .held .address (c .before .before .before .if4 .taken) .0)))
+returns-4 c = simp (le-ltb _ _ (c .before .before .before .before .if1 .left)) (rw (c .before .before .before .if4 .taken) (c .copy-answer .ensures ∙ rw (c .before .in-copies .ensures, c .before .before .word-at .ensures, c .before .before .before .before .before .before .before .before .before .before .before .pre .registers .held .address (c .before .before .before .if4 .taken) .0)))
 
 returns-5 : tie.Need-returns-5
 unfolding argumentAnswer

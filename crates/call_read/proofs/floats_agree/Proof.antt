@@ -27,13 +27,13 @@ lent c = buffers (c .args .image .now) [] []
 
 -- the words in registers fit in them
 held-most : (c : tie.Start) → wordOf (c .args .r) * c .args .s .general .count ≤ 256
-held-most c = omega (arith, c .pre .general, mul-le-mul-right (c .args .s .general .count) (c .pre .held .word .1))
+held-most c = omega (arith, c .pre .registers .general, mul-le-mul-right (c .args .s .general .count) (c .pre .registers .held .word .1))
 
 -- its words hold the whole value
 room : (c : tie.Start) → wordOf (c .args .r) * c .args .s .general .count + c .args .s .memory .length ≡ roomOf (c .args .r) (c .args .n)
 room c =
     let own = own-held (c .args .r) (argument c) (lent c) (c .pre) in
-    c .pre .held .also (omega arith)
+    c .pre .registers .held .also (omega arith)
 
 word-of-requires : tie.Need-word-of-requires
 word-of-requires c κs = search needs
@@ -54,7 +54,7 @@ own-start-requires : tie.Need-own-start-requires
 own-start-requires c κs =
     let start = c .before .before .before .before .before .before .before in
     let all = room start in
-    rw (c .before .before .word-of .ensures) (all, omega (arith, all, start .pre .held .room (start .pre .held .direct (start .pre .float))))
+    rw (c .before .before .word-of .ensures) (all, omega (arith, all, start .pre .registers .held .room (start .pre .registers .held .direct (start .pre .float))))
 
 sub-smaller : tie.Need-sub-smaller
 sub-smaller c = rw (c .before .before .before .word-of .ensures, c .own-start .ensures) (omega (arith, own-held (c .before .before .before .before .before .before .before .before .args .r) (argument (c .before .before .before .before .before .before .before .before)) (lent (c .before .before .before .before .before .before .before .before)) (c .before .before .before .before .before .before .before .before .pre)))
@@ -72,12 +72,12 @@ take-registers-requires : tie.Need-take-registers-requires
 take-registers-requires c κs =
     let start = c .before .before .before .before .before .before .before .before .before .before .before in
     let pre = start .pre in
-    let least : 1 ≤ wordOf (start .args .r) = omega (arith, pre .held .word) in
-    let first = own-first (start .args .r) (argument start) (pre .held) (pre .held .direct (pre .float)) in
+    let least : 1 ≤ wordOf (start .args .r) = omega (arith, pre .registers .held .word) in
+    let first = own-first (start .args .r) (argument start) (pre .registers .held) (pre .registers .held .direct (pre .float)) in
     let own = own-held (start .args .r) (argument start) (lent start) pre in
     let m = rw (c .before .before .before .before .before .before .word-of .ensures, c .before .before .before .own-start .ensures) at (c .before .before .smaller .ensures) in
     rw (c .before .before .before .before .before .before .word-of .ensures, c .before .before .before .own-start .ensures)
-    ((least, pre .held .word .1, first, omega (arith, own, m), omega (arith, pre .general, pre .registers)), omega (arith, m, value-most (start .args .r) (argument start) (lent start) pre))
+    ((least, pre .registers .held .word .1, first, omega (arith, own, m), omega (arith, pre .registers .general, pre .registers .image)), omega (arith, m, value-most (start .args .r) (argument start) (lent start) pre))
 
 cast-at : tie.Need-cast-at
 cast-at c = search needs
@@ -104,7 +104,7 @@ take-float-requires : tie.Need-take-float-requires
 take-float-requires c κs =
     let start = c .before .before .before .before .before .before .before .before .before .before .before .before .before .before .before .before .before in
     let pre = start .pre in
-    (omega (arith, pre .floating, pre .registers), rw (c .before .equivalent-of .ensures) (float-room (equivalentOf (start .args .t)) (start .args .s .floating .count) (start .args .n) 16 (pre .held .float (pre .float)) (value-most (start .args .r) (argument start) (lent start) pre)))
+    (omega (arith, pre .registers .floating, pre .registers .image), rw (c .before .equivalent-of .ensures) (float-room (equivalentOf (start .args .t)) (start .args .s .floating .count) (start .args .n) 16 (pre .registers .held .float (pre .float)) (value-most (start .args .r) (argument start) (lent start) pre)))
 
 slice-aggregate-same-bytes : tie.Need-slice-aggregate-same-bytes
 slice-aggregate-same-bytes c = search needs

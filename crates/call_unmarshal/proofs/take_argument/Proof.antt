@@ -32,11 +32,11 @@ address : (c : tie.After-word-at) → c .word-at .result ≡ addressAt (wordOf (
 unfolding wordsAt bytesAt
 address c =
     let start = c .before .before .before .before .before .before .before .before .before in
-    c .word-at .ensures ∙ ap (λ (w : ℕ). addressAt w (start .args .s) (lent start)) (sym (start .pre .0 .ready .held .address (c .before .if2 .taken) .0))
+    c .word-at .ensures ∙ ap (λ (w : ℕ). addressAt w (start .args .s) (lent start)) (sym (start .pre .0 .ready .registers .held .address (c .before .if2 .taken) .0))
 
 -- the bytes of a word
 least : (c : tie.Start) → 1 ≤ wordOf (c .args .r)
-least c = omega (arith, c .pre .0 .ready .held .word)
+least c = omega (arith, c .pre .0 .ready .registers .held .word)
 
 cast-at : tie.Need-cast-at
 cast-at c = search needs
@@ -60,7 +60,7 @@ take-float-requires : tie.Need-take-float-requires
 take-float-requires c κs =
     let start = c .before .before .before .before .before .before .before .before .before .before .before in
     let ready = start .pre .0 .ready in
-    (omega (arith, ready), rw (c .equivalent-of .ensures) (float-room (equivalentOf (start .args .t)) (start .args .s .floating .count) (start .args .n) (length (start .args .out .now)) (ready .held .float (c .before .before .before .before .if1 .taken)) (start .pre .1)))
+    (omega (arith, ready), rw (c .equivalent-of .ensures) (float-room (equivalentOf (start .args .t)) (start .args .s .floating .count) (start .args .n) (length (start .args .out .now)) (ready .registers .held .float (c .before .before .before .before .if1 .taken)) (start .pre .1)))
 
 same-length : tie.Need-same-length
 same-length c = search needs
@@ -75,7 +75,7 @@ word-at-requires : tie.Need-word-at-requires
 word-at-requires c κs =
     let start = c .before .before .before .before .before .before .before .before in
     let ready = start .pre .0 .ready in
-    ((omega arith, omega arith, ready .general, ready .registers, ready .memory), one-address (start .args .r) (argument start) (ready .held) (c .before .if1 .left) (c .if2 .taken))
+    ((omega arith, omega arith, ready .registers .general, ready .registers .image, ready .memory), one-address (start .args .r) (argument start) (ready .registers .held) (c .before .if1 .left) (c .if2 .taken))
 
 sub-from : tie.Need-sub-from
 sub-from c =
@@ -107,18 +107,18 @@ cast-room : tie.Need-cast-room
 cast-room c = search needs
 
 mul-room : tie.Need-mul-room
-mul-room c = rw (c .before .before .before .word-of .ensures) (omega (arith, c .before .before .before .before .before .before .before .before .before .before .before .before .pre .0 .ready .general, mul-le-mul-right (c .before .before .before .before .before .before .before .before .before .before .before .before .args .s .general .count) (c .before .before .before .before .before .before .before .before .before .before .before .before .pre .0 .ready .held .word .1)))
+mul-room c = rw (c .before .before .before .word-of .ensures) (omega (arith, c .before .before .before .before .before .before .before .before .before .before .before .before .pre .0 .ready .registers .general, mul-le-mul-right (c .before .before .before .before .before .before .before .before .before .before .before .before .args .s .general .count) (c .before .before .before .before .before .before .before .before .before .before .before .before .pre .0 .ready .registers .held .word .1)))
 
 cast-room-2 : tie.Need-cast-room-2
 cast-room-2 c = search needs
 
 add-room : tie.Need-add-room
-add-room c = rw (c .before .before .before .before .word-of .ensures) (omega (arith, c .before .before .before .before .before .before .before .before .before .before .before .before .before .pre .0 .ready .general, mul-le-mul-right (c .before .before .before .before .before .before .before .before .before .before .before .before .before .args .s .general .count) (c .before .before .before .before .before .before .before .before .before .before .before .before .before .pre .0 .ready .held .word .1)))
+add-room c = rw (c .before .before .before .before .word-of .ensures) (omega (arith, c .before .before .before .before .before .before .before .before .before .before .before .before .before .pre .0 .ready .registers .general, mul-le-mul-right (c .before .before .before .before .before .before .before .before .before .before .before .before .before .args .s .general .count) (c .before .before .before .before .before .before .before .before .before .before .before .before .before .pre .0 .ready .registers .held .word .1)))
 
 own-start-requires : tie.Need-own-start-requires
 own-start-requires c κs =
     let start = c .before .before .before .before .before .before .before .before .before .before .before .before .before .before in
-    let held = start .pre .0 .ready .held in
+    let held = start .pre .0 .ready .registers .held in
     let words = held .words (omega (arith, c .before .before .before .before .before .before .before .if1 .left)) in
     rw (c .before .before .before .before .before .word-of .ensures) (words, omega (arith, words, held .room (c .before .before .before .before .before .before .if2 .left)))
 
@@ -127,9 +127,9 @@ take-words-requires c κs =
     let start = c .before .before .before .before .before .before .before .before .before .before .before .before .before .before .before in
     let ready = start .pre .0 .ready in
     let own = own-within (start .args .r) (start .args .base) (argument start) (lent start) (start .pre .0) (c .before .before .before .before .before .before .before .before .if1 .left) (c .before .before .before .before .before .before .before .if2 .left) in
-    let first = own-first (start .args .r) (argument start) (ready .held) (c .before .before .before .before .before .before .before .if2 .left) in
+    let first = own-first (start .args .r) (argument start) (ready .registers .held) (c .before .before .before .before .before .before .before .if2 .left) in
     rw (c .before .before .before .before .before .before .word-of .ensures, c .own-start .ensures)
-    ((least start, ready .held .word .1, ready .general, ready .registers, ready .memory), first, own, start .pre .1)
+    ((least start, ready .registers .held .word .1, ready .registers .general, ready .registers .image, ready .memory), first, own, start .pre .1)
 
 same-length-3 : tie.Need-same-length-3
 same-length-3 c = search needs

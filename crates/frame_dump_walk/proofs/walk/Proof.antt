@@ -1,6 +1,6 @@
 -- The sum is tested first; then what the count says is what the walk gives, and only frames that fit are put. Assumes nothing.
 use Rattle.frame_dump.specs.declared.Found.the-variants.{Frames}
-use Rattle.frame_dump.specs.Walk.{Walked, frames, walkFrom, maxFrames, walkInto, foundIn, counted, listed}
+use Rattle.frame_dump.specs.Walk.{Walked, frames, walkFrom, maxFrames, walkInto, foundIn, counted, framesListed}
 use Rattle.frame_dump.proofs.Laws.{into-over, into-refused, into-short, into-frames, counted-length}
 use denote.Ref.{now}
 use lib.ListN.{length}

@@ -1,5 +1,5 @@
 -- The words in memory are the last of the argument's, so that all its parts lie within its home.
-use Rattle.plan_places.proofs.Shares.{words-split}
+use Rattle.base_words.proofs.Basics.{words-split}
 use native.Mathlib.Omega.{arith}
 use borrow.Author.Needs.{needs}
 use Rattle.plan_power_step.proofs.place.Statement.{statement}
@@ -21,16 +21,16 @@ sub-byte-range : tie.Need-sub-byte-range
 sub-byte-range c = search needs
 
 mul-byte-range-2 : tie.Need-mul-byte-range-2
-mul-byte-range-2 c = omega (arith, words-split (c .before .before .before .before .args .word) (c .before .before .before .before .args .a .count) (c .before .before .before .before .args .a .share .memory) (omega arith))
+mul-byte-range-2 c = omega (arith, words-split (c .before .before .before .before .args .word) (c .before .before .before .before .args .a .share .memory) (c .before .before .before .before .args .a .count) (omega arith))
 
 add-byte-range : tie.Need-add-byte-range
-add-byte-range c = omega (arith, words-split (c .before .before .before .before .args .word) (c .before .before .before .before .args .a .count) (c .before .before .before .before .args .a .share .memory) (omega arith))
+add-byte-range c = omega (arith, words-split (c .before .before .before .before .args .word) (c .before .before .before .before .args .a .share .memory) (c .before .before .before .before .args .a .count) (omega arith))
 
 mul-byte-range-3 : tie.Need-mul-byte-range-3
-mul-byte-range-3 c = omega (arith, words-split (c .before .before .before .before .args .word) (c .before .before .before .before .args .a .count) (c .before .before .before .before .args .a .share .memory) (omega arith))
+mul-byte-range-3 c = omega (arith, words-split (c .before .before .before .before .args .word) (c .before .before .before .before .args .a .share .memory) (c .before .before .before .before .args .a .count) (omega arith))
 
 byte-range-requires-2 : tie.Need-byte-range-requires-2
-byte-range-requires-2 c κs = omega (arith, words-split (c .before .before .before .before .args .word) (c .before .before .before .before .args .a .count) (c .before .before .before .before .args .a .share .memory) (omega arith))
+byte-range-requires-2 c κs = omega (arith, words-split (c .before .before .before .before .args .word) (c .before .before .before .before .args .a .share .memory) (c .before .before .before .before .args .a .count) (omega arith))
 
 byte-range-requires-3 : tie.Need-byte-range-requires-3
 byte-range-requires-3 c κs = search needs
