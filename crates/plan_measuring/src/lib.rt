@@ -30,6 +30,69 @@ fn no_measure(fault: Fault) -> Measured
     }
 }
 
+// The sizes by the reading alone, from the arguments on, which stand from `at` to `end`; `earlier` items came before theirs. Each is read, placed and
+// let go: no table is made. No size depends on an ellipsis, so that none is asked for.
+fn measure_plain(
+    s: &[u8],
+    convention: Convention,
+    returned: ResultType,
+    at: usize,
+    end: usize,
+    earlier: usize,
+) -> Measured
+    requires { ⌜ (at ≤ end) × (end ≤ length (now s)) × (end ≤ 2 ^ 16) × (earlier ≤ 2 ^ 16) ⌝ }
+    ensures { λ m. ⌜ m ≡ measureOf (planWith convention false returned earlier (length (now (s .entry))) (argumentsIn convention (now (s .entry)) at end)) ⌝ }
+{
+    let rules = both_abi::call_rules_of(convention);
+    let hidden = plan_planning::hidden_in(convention, returned);
+    let mut c = plan_placing::start(convention, hidden);
+    let mut values: usize = 0;
+    let mut count: usize = 0;
+    let mut place = at;
+    let mut items: usize = 1;
+    while place < end {
+        if count == MAX_ARGUMENTS {
+            return no_measure(Fault {
+                reason: Refusal::TooManyArguments,
+                place,
+                passed: earlier + items,
+            });
+        }
+        match sig_nested_items::read_item(s, convention, place, end, 8) {
+            ItemRead::Item {
+                ty,
+                next,
+                items: more,
+            } => {
+                let size = sig_types::size_of(convention, ty);
+                c = plan_placing::advance(rules, c, ty, size);
+                values = values + size;
+                count = count + 1;
+                place = next;
+                items = items + more;
+            }
+            ItemRead::Refused(fault) => {
+                return no_measure(sig_items::later_by(earlier + items, fault));
+            }
+        }
+    }
+    let counted = earlier + items;
+    if place < s.len() {
+        return no_measure(Fault {
+            reason: Refusal::TrailingBytes,
+            place,
+            passed: counted,
+        });
+    }
+    let area = plan_placing::area_of(convention, c);
+    Measured {
+        outcome: Outcome::Accepted(counted),
+        area,
+        values,
+        copies: c.copies,
+    }
+}
+
 // The sizes of a plan by the reading alone, and the number of its first unclear argument, counted from 1; 0 where none is.
 struct Passed {
     measured: Measured,
@@ -45,8 +108,7 @@ fn not_passed(fault: Fault) -> Passed
     }
 }
 
-// The sizes from the arguments on, which stand from `at` to `end`; `earlier` items came before theirs. Each is read, placed and
-// let go: no table is made. No size depends on an ellipsis, so that none is asked for.
+// The same, and the first unclear argument. The loop above does without that: short as it is, the compiler makes one of it for each family of rules.
 fn measure_arguments(
     s: &[u8],
     convention: Convention,
@@ -124,6 +186,25 @@ fn judged(s: &[u8], a: Passed) -> Measured
     no_measure(plan_planning::unclear_fault(s, unclear - 1))
 }
 
+// The sizes of a call, from the arguments on: where the rules are always clear, no argument is looked at for that.
+fn measure_call(
+    s: &[u8],
+    convention: Convention,
+    returned: ResultType,
+    at: usize,
+    end: usize,
+    earlier: usize,
+) -> Measured
+    requires { ⌜ (at ≤ end) × (end ≤ length (now s)) × (end ≤ 2 ^ 16) × (earlier ≤ 2 ^ 16) ⌝ }
+    ensures { λ m. ⌜ m ≡ measuredBy (unclearWith convention returned (length (now (s .entry))) (argumentsIn convention (now (s .entry)) at end)) (measureOf (planWith convention false returned earlier (length (now (s .entry))) (argumentsIn convention (now (s .entry)) at end))) (signatureOf (now (s .entry))) ⌝ }
+{
+    if plan_placing::always_clear(both_abi::call_rules_of(convention)) {
+        return measure_plain(s, convention, returned, at, end, earlier);
+    }
+    let a = measure_arguments(s, convention, returned, at, end, earlier);
+    judged(s, a)
+}
+
 // The sizes of the plan of a signature's bytes: any bytes at all.
 pub fn measure(s: &[u8]) -> Measured
     ensures { λ m. ⌜ m ≡ measureOf (planAnswer (callOf (now (s .entry)))) ⌝ }
@@ -137,10 +218,7 @@ pub fn measure(s: &[u8]) -> Measured
             at,
             end,
             earlier,
-        } => {
-            let a = measure_arguments(s, convention, result, at, end, earlier);
-            judged(s, a)
-        }
+        } => measure_call(s, convention, result, at, end, earlier),
     }
 }
 
@@ -158,8 +236,7 @@ pub fn outcome_of(s: &[u8]) -> Outcome
             end,
             earlier,
         } => {
-            let a = measure_arguments(s, convention, result, at, end, earlier);
-            let m = a.measured;
+            let m = measure_plain(s, convention, result, at, end, earlier);
             m.outcome
         }
     }

@@ -21,22 +21,18 @@ no-measure-requires c κs = search needs
 enum-known-convention : tie.Need-enum-known-convention
 enum-known-convention c = search needs
 
-measure-arguments-requires : tie.Need-measure-arguments-requires
-measure-arguments-requires c κs = let k = head-bounded _ _ _ _ _ _ _ _ (c .before .before .before .read-head .ensures) (c .before .convention .given .1) in omega arith
-
-judged-requires : tie.Need-judged-requires
-judged-requires c κs = search needs
+measure-call-requires : tie.Need-measure-call-requires
+measure-call-requires c κs = let k = head-bounded _ _ _ _ _ _ _ _ (c .before .before .before .read-head .ensures) (c .before .convention .given .1) in omega arith
 
 returns : tie.Need-returns
 returns c = c .no-measure .ensures ∙ measured-refused _ _ (signature-refused _ _ (c .before .before .before .before .read-head .ensures) _ (c .before .before .fault .given .1))
 
 returns-2 : tie.Need-returns-2
 returns-2 c =
-    let head = c .before .before .before .before .before .read-head .ensures in
-    let given = c .before .before .before .convention .given .1 in
-    let a = c .before .measure-arguments .ensures in
-    c .judged .ensures
-    ∙ measured-called _ _ _ (a .0 ∙ measured-arguments _ _ head _ _ _ _ _ _ given) (a .1 ∙ sym (unclear-arguments _ _ head _ _ _ _ _ _ given))
+    let head = c .before .before .before .before .read-head .ensures in
+    let given = c .before .before .convention .given .1 in
+    c .measure-call .ensures
+    ∙ measured-called _ _ _ (measured-arguments _ _ head _ _ _ _ _ _ given) (sym (unclear-arguments _ _ head _ _ _ _ _ _ given))
 
 pub measure-spec : {M : Type 1} → statement M
 measure-spec =
@@ -46,7 +42,6 @@ measure-spec =
     enum-known-fault
     no-measure-requires
     enum-known-convention
-    measure-arguments-requires
-    judged-requires
+    measure-call-requires
     returns
     returns-2)

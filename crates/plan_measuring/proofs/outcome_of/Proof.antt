@@ -19,17 +19,17 @@ enum-known-fault c = search needs
 enum-known-convention : tie.Need-enum-known-convention
 enum-known-convention c = search needs
 
-measure-arguments-requires : tie.Need-measure-arguments-requires
-measure-arguments-requires c κs = let k = head-bounded _ _ _ _ _ _ _ _ (c .before .before .before .read-head .ensures) (c .before .convention .given .1) in omega arith
+measure-plain-requires : tie.Need-measure-plain-requires
+measure-plain-requires c κs = let k = head-bounded _ _ _ _ _ _ _ _ (c .before .before .before .read-head .ensures) (c .before .convention .given .1) in omega arith
 
 returns : tie.Need-returns
 returns c = outcome-refused _ _ (signature-refused _ _ (c .before .before .before .read-head .ensures) _ (c .before .fault .given .1))
 
 returns-2 : tie.Need-returns-2
 returns-2 c =
-    let head = c .before .before .before .before .before .read-head .ensures in
-    let given = c .before .before .before .convention .given .1 in
-    ap (λ (m : Measured). m .outcome) (c .before .measure-arguments .ensures .0 ∙ measured-arguments _ _ head _ _ _ _ _ _ given) ∙ outcome-read _
+    let head = c .before .before .before .before .read-head .ensures in
+    let given = c .before .before .convention .given .1 in
+    ap (λ (m : Measured). m .outcome) (c .measure-plain .ensures ∙ measured-arguments _ _ head _ _ _ _ _ _ given) ∙ outcome-read _
 
 pub outcome-of-spec : {M : Type 1} → statement M
 outcome-of-spec =
@@ -38,6 +38,6 @@ outcome-of-spec =
     read-head-requires
     enum-known-fault
     enum-known-convention
-    measure-arguments-requires
+    measure-plain-requires
     returns
     returns-2)
