@@ -22,7 +22,7 @@
 # make lib TARGET=..   build/TARGET/libflakuzhen.a and build/TARGET/libflakuzhen.so
 # make run TARGET=..   the command there, under emulation
 # make dist TARGET=..  the same to deploy there
-# make test-targets    a file of cases replayed on both, under emulation
+# make test-targets    a file of cases replayed on both, under emulation; -j2 takes both at a time
 # make bench-targets   the archives' sizes and the instructions of a plan
 
 SECONDS = 600
@@ -33,6 +33,8 @@ CC = gcc
 PROVED_FROM := crates.txt $(shell find crates -print 2>/dev/null)
 # the crates that export functions
 BRIDGES := c_signatures c_plans c_listing c_values c_walk c_stored c_starts c_frames c_dump
+# what is proved of these and of the second planner, for compiling
+PROVED := build/proved/all
 ARCHIVE := build/libflakuzhen.a
 # the second planner, for the comparisons: no part of the library, and not installed
 SECOND := build/libsecond.a
@@ -78,22 +80,18 @@ build/flakuzhen: $(COMMAND_FROM) $(ARCHIVE)
 test:
 	@.ci/run
 
-# rt writes a bridge's archive, which has one object, only where the bridge and all below it are proved,
-# and fails else; the library has the objects of all bridges
-$(ARCHIVE): $(PROVED_FROM)
+# each crate that exports functions is proved once, and compiled from that for every machine; no archive
+# is written where one of them or anything below is not proved
+$(PROVED): $(PROVED_FROM)
 	@scripts/check-toolchain
-	@rm -rf $@ build/objects
-	@mkdir -p build/objects
-	set -e; for bridge in $(BRIDGES); do \
-	    rt staticlib $$bridge; \
-	    ar x --output build/objects target/staticlib/lib$$bridge.a; \
-	done
-	ar rcsD $@ $(BRIDGES:%=build/objects/%.o)
+	scripts/static-lib prove $(BRIDGES) c_second
+	@touch $@
 
-$(SECOND): $(PROVED_FROM) | $(ARCHIVE)
-	@scripts/check-toolchain
-	rt staticlib c_second
-	cp target/staticlib/libc_second.a $@
+$(ARCHIVE): $(PROVED)
+	scripts/static-lib build x86_64 $@ $(BRIDGES)
+
+$(SECOND): $(PROVED)
+	scripts/static-lib build x86_64 $@ c_second
 
 $(SHARED): $(ARCHIVE) include/flakuzhen.map host/Cargo.toml
 	$(call MAKE_SHARED,$(CC))

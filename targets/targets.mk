@@ -8,7 +8,7 @@ ifneq ($(filter-out $(TARGETS),$(CHOSEN)),)
 $(error TARGET is $(TARGET), and can be: $(TARGETS))
 endif
 
-.PHONY: test-targets bench-targets build/cases
+.PHONY: test-targets $(TARGETS:%=test-%) bench-targets build/cases
 
 ifdef TARGET
 run: build/$(TARGET)/flakuzhen
@@ -20,9 +20,9 @@ lib: build/$(TARGET)/libflakuzhen.a build/$(TARGET)/libflakuzhen.so
 command: build/$(TARGET)/flakuzhen
 endif
 
-# one run for all that are asked for, so that each bridge is proved once
-$(CHOSEN:%=build/%/libflakuzhen.a) &: $(ARCHIVE) scripts/target-lib scripts/target-clang
-	scripts/target-lib "$(BRIDGES)" $(CHOSEN)
+$(TARGETS:%=build/%/libflakuzhen.a): build/%/libflakuzhen.a: $(PROVED) \
+    scripts/static-lib scripts/target-clang
+	scripts/static-lib build $* $@ $(BRIDGES)
 
 $(TARGETS:%=build/%/libflakuzhen.so): build/%/libflakuzhen.so: build/%/libflakuzhen.a \
     include/flakuzhen.map host/Cargo.toml
@@ -52,14 +52,13 @@ $(TARGETS:%=build/%/flakuzhen): build/%/flakuzhen: $(COMMAND_FROM) build/%/libfl
 build/cases: $(ARCHIVE) $(SECOND)
 	cd host && cargo run $(CARGO_WORDS) --quiet -p compare --bin write-cases -- ../$@
 
-test-targets: build/cases $(SHARED) \
-    $(foreach target,$(CHOSEN),$(addprefix build/$(target)/, \
-        flakuzhen replay $(HEADER_TESTS) $(HEADER_TESTS:%=%-shared)))
-	@scripts/target-tools run $(CHOSEN)
-	@set -e; for target in $(CHOSEN); do \
-	    $(MAKE) --no-print-directory dist TARGET=$$target > /dev/null; \
-	    scripts/test-target $$target $(HEADER_TESTS); \
-	done
+test-targets: $(CHOSEN:%=test-%)
+
+$(TARGETS:%=test-%): test-%: build/cases $(SHARED) \
+    $(addprefix build/%/,flakuzhen replay $(HEADER_TESTS) $(HEADER_TESTS:=-shared))
+	@scripts/target-tools run $*
+	@$(MAKE) --no-print-directory dist TARGET=$* > /dev/null
+	@scripts/test-target $* $(HEADER_TESTS)
 
 build/x86_64/plan build/x86_64/stack: build/x86_64/%: targets/%.c include/flakuzhen.h $(ARCHIVE)
 	@mkdir -p $(@D)
