@@ -192,7 +192,7 @@ module _ (P : Register → Type 0) where
 
   fold-each : (c : Convention) (r : CallRules) (k : Cursor) (ts : List ValueType) → All (λ (p : Placement). OfSpan P (p .span)) (placements c ts (spansOf c r k ts))
       → All (OfSpan P) (spansOf c r k ts)
-  unfolding placements spansOf All All
+  unfolding placements spansOf All
   fold-each c r k [] h = tt
   fold-each c r k (t ∷ ts) h = (h .0, fold-each c r _ ts (h .1))
 

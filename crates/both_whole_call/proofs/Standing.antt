@@ -155,7 +155,7 @@ module _ (r : CallRules) (base a m : ℕ) (b : Buffers) (image : List ℕ) (size
 
 -- what holds of every span of a table holds of every argument's
 pub of-arguments : (P : Span → Type 0) (c : Convention) (ts : List ValueType) (ss : List Span) → All P ss → All (λ (p : Placement). P (p .span)) (placements c ts ss)
-unfolding placements All All
+unfolding placements All
 of-arguments P c [] ss h = tt
 of-arguments P c (t ∷ ts) [] h = tt
 of-arguments P c (t ∷ ts) (s ∷ ss) h = (h .0, of-arguments P c ts ss (h .1))
