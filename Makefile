@@ -32,7 +32,7 @@ CC = gcc
 # the inputs of a proof: a change of any file or folder here proves the library again
 PROVED_FROM := crates.txt $(shell find crates -print 2>/dev/null)
 # the crates that export functions
-BRIDGES := c_signatures c_plans c_listing c_values c_walk c_stored c_starts c_frames c_dump
+BRIDGES := c_signatures c_plans c_listing c_fill c_read c_homes c_walk c_stored c_starts c_frames c_dump
 # what is proved of these and of the second planner, for compiling
 PROVED := build/proved/all
 ARCHIVE := build/libflakuzhen.a

@@ -4,7 +4,9 @@
 -- Assumes nothing.
 use Prim.Native.Nat.{ℕ, zero, suc}
 use mathlib.Core.List.{List, [], _∷_}
-use lib.ListN.{take, drop}
+use lib.Dec.{ltb}
+use lib.ListN.{length, take, drop}
+use Rattle.base_words.specs.Basics.{pick}
 
 -- bs over the head of l; what of bs would pass the end of l is lost. What a writer leaves in a part that "starts at its offset" and is "written there"
 -- ("Choosing the form by place")
@@ -12,6 +14,10 @@ unfoldable pub overlay : List ℕ → List ℕ → List ℕ
 overlay l [] = l
 overlay [] (b ∷ bs) = []
 overlay (x ∷ l) (b ∷ bs) = b ∷ overlay l bs
+
+-- the same, but nothing where not all of bs has room: a lent buffer or table that is too short "is left as it was" (docs/DECISIONS.md, 5)
+abbrev pub overlayWhole : List ℕ → List ℕ → List ℕ
+overlayWhole l bs = pick (ltb (length l) (length bs)) l (overlay l bs)
 
 -- bs over l from the offset n on: the same write seen from the whole buffer, which "changes nothing else" ("Frames")
 unfoldable pub splice : List ℕ → ℕ → List ℕ → List ℕ

@@ -7,6 +7,7 @@ use Prim.Native.Nat.{ℕ, _+_, _-_, _≤_}
 use native.Mathlib.Omega.{arith}
 use lib.ListN.{length, getD, take, length-take}
 use lib.Seq.{length-take-le}
+use Rattle.base_words.specs.Basics.{All}
 use Rattle.base_words.specs.Splice.{splice, part}
 use Rattle.base_words.specs.Numbers.{valueOf}
 use Rattle.base_words.proofs.Splices.{splice-same}
@@ -21,7 +22,7 @@ use Rattle.plan_places.specs.Step.{wordOf}
 use Rattle.plan_plans.specs.declared.Plan.{Plan}
 use Rattle.sig_signatures.specs.Types.{typesIn}
 use Rattle.call_slots.specs.Buffers.{Buffers, buffers, bytesAt}
-use Rattle.call_slots.specs.Helpers.{Fits, All}
+use Rattle.call_slots.specs.Helpers.{Fits}
 use Rattle.call_slots.specs.Arguments.{placementsIn, argumentsOf, planFor, rulesFor}
 use Rattle.call_slots.proofs.Planned.{all-with}
 use Rattle.call_slots.proofs.Answered.{carried}
@@ -48,7 +49,7 @@ use Rattle.frame_history.specs.Preserved.{OpenEnter, openAfter, callerOf, Prese
 use Rattle.frame_history.proofs.Invariant.{Invariant, base-of}
 use Rattle.both_meeting.proofs.Theorem.{agree}
 use Rattle.both_whole_call.specs.Put.{bytesIn, ownArea, callersArea, imageOf, joined, Cut, Register, heldIn, registersOf, hiddenSpans, resultSpans, named}
-use Rattle.both_whole_call.specs.Caller.{Each, firstSaved, Free}
+use Rattle.both_whole_call.specs.Caller.{firstSaved, Free}
 use Rattle.both_whole_call.specs.WholeCall.{framesFor, seen, Passed}
 use Rattle.both_whole_call.proofs.Lists.{each-left, each-right, each-more, each-with, each-three}
 use Rattle.both_whole_call.proofs.Steps.{run, AllAccepted, openedBy, call-keeps, calls-keep, leave-holds}
@@ -67,7 +68,7 @@ pub record Able (p : Plan) (os : List OpenEnter) (m : Machine) : Type 0 where
   pub invariant : Invariant (rules (p .convention)) os m
   pub solid : callerOf (rules (p .convention)) os .leaf ≡ false
   pub room : p .area ≤ outgoingLength (rules (p .convention)) (callerOf (rules (p .convention)) os)
-  pub free : Each (Free (rules (p .convention)) (callerOf (rules (p .convention)) os)) (named p)
+  pub free : All (Free (rules (p .convention)) (callerOf (rules (p .convention)) os)) (named p)
 
 pub record Homed (s values copies : List ℕ) (f : Frame) (m : Machine) : Type 0 where
   pub viewed : Viewed s values (seen s f copies m)
@@ -79,7 +80,7 @@ pub record Homed (s values copies : List ℕ) (f : Frame) (m : Machine) : Type 0
 pub record Returned (p : Plan) (o : OpenEnter) (os : List OpenEnter) (m : Machine) : Type 0 where
   pub accepted : answer leave m ≡ Accepted
   pub kept : Preserved (rules (p .convention)) o os (after leave m)
-  pub result : Each (λ (x : Register). heldIn (after leave m .state .registers) x ≡ heldIn (m .state .registers) x) (registersOf (resultSpans (p .result)))
+  pub result : All (λ (x : Register). heldIn (after leave m .state .registers) x ≡ heldIn (m .state .registers) x) (registersOf (resultSpans (p .result)))
 
 abbrev pub calling : List Call → Machine → Frame → OpenEnter
 calling puts m f = record { before = run puts m; request = f }
@@ -105,7 +106,7 @@ pub record Ready (s : List ℕ) (b : Buffers) (cs : Machine → List ℕ) (n : �
   pub opened : openedBy puts m os ≡ os
   pub fit : CallsFit puts
   pub invariant : Invariant (framesFor s) os (run puts m)
-  pub holds : Each (Holds (b .image) (run puts m .state .registers)) (named (planFor s))
+  pub holds : All (Holds (b .image) (run puts m .state .registers)) (named (planFor s))
   pub area : bytesIn (ownArea (framesFor s) (run puts m)) (planFor s .area) (run puts m) ≡ take (planFor s .area) (b .area)
   pub least : planFor s .copies ≤ n
   pub most : n ≤ length (b .copies)
@@ -127,7 +128,7 @@ module _ (s values image area copies : List ℕ) (base hidden : ℕ) (filled : F
   stands : Left s values base b
   stands = filled-left s values image area copies base hidden filled
 
-  pub all-bytes : Each (OfBytes (wordOf (rulesFor s)) (b .image)) (named p)
+  pub all-bytes : All (OfBytes (wordOf (rulesFor s)) (b .image)) (named p)
   all-bytes = named-bytes s values image area copies base hidden filled (stands .all)
 
   module _ (os : List OpenEnter) (m : Machine) (able : Able p os m) (cs : Machine → List ℕ) (n : ℕ) (puts : List Call) (ready : Ready s b cs n os m puts)
@@ -160,10 +161,10 @@ module _ (s values image area copies : List ℕ) (base hidden : ℕ) (filled : F
     entered-holds : (x : Register) → Holds (b .image) (m₁ .state .registers) x → Argument c x → Holds (b .image) r x
     entered-holds x h arg = enter-register c os m₁ (ready .invariant) f e (x .bank) (x .number) (λ u v. agree c .pointer (rw (u, v) at arg)) ∙ h
 
-    all-hold : Each (Holds (b .image) r) (named p)
+    all-hold : All (Holds (b .image) r) (named p)
     all-hold = each-with (Holds (b .image) (m₁ .state .registers)) (Argument c) (Holds (b .image) r) entered-holds (named p) (ready .holds) (named-arguments s)
 
-    same : Each (Same (imageOf r) (b .image)) (named p)
+    same : All (Same (imageOf r) (b .image)) (named p)
     same =
         each-three (Holds (b .image) r) (Free k (callerOf k os)) (OfBytes (wordOf (rulesFor s)) (b .image)) (Same (imageOf r) (b .image))
         (λ x h free bytes. image-same r (callee .0 .fit .gprs) (callee .0 .fit .fprs) (b .image) (stands .image) x
@@ -210,11 +211,11 @@ module _ (s values image area copies : List ℕ) (base hidden : ℕ) (filled : F
     -- ---- the hidden address
 
     found-address : (x : Span) → p .result ≡ ResultPlaces.Hidden x → getD (r .gpr) (x .general .first) 0 ≡ hidden
-    unfolding bytesAt Each
+    unfolding bytesAt All
     found-address x q =
-        let holds : Each (OfSpan (Holds (b .image) r)) (hiddenSpans (p .result)) = each-left (OfSpan (Holds (b .image) r)) (hiddenSpans (p .result)) (p .spans)
+        let holds : All (OfSpan (Holds (b .image) r)) (hiddenSpans (p .result)) = each-left (OfSpan (Holds (b .image) r)) (hiddenSpans (p .result)) (p .spans)
         (of-spans (Holds (b .image) r) (hiddenSpans (p .result) ++ p .spans) all-hold) in
-        let here : Each (OfSpan (Holds (b .image) r)) (x ∷ []) = subst (λ (y : ResultPlaces). Each (OfSpan (Holds (b .image) r)) (hiddenSpans y)) q holds in
+        let here : All (OfSpan (Holds (b .image) r)) (x ∷ []) = subst (λ (y : ResultPlaces). All (OfSpan (Holds (b .image) r)) (hiddenSpans y)) q holds in
         here .0 .generals (x .general .first) (omega arith, omega (arith, hidden-one (signatureOf s) x q .0))
         ∙ ap valueOf (hidden-stands s values image area copies base hidden x filled q)
         ∙ value-back 8 hidden (hidden-64 s values image area copies base hidden x filled q)

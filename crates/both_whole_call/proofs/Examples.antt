@@ -9,7 +9,7 @@ use borrow.Author.Tests.{ltb-true}
 use lib.Dec.{ltb}
 use lib.ListN.{length, replicate, take}
 use lib.Seq.{length-take-le}
-use Rattle.base_words.specs.Basics.{roundUp}
+use Rattle.base_words.specs.Basics.{roundUp, All}
 use Rattle.base_words.specs.Splice.{overlay, splice}
 use Rattle.base_words.specs.Numbers.{Bytes, bytesOf, valueOf, zeroExtended, signBit, signExtended}
 use Rattle.base_words.proofs.Tests.{and-yes}
@@ -54,7 +54,7 @@ use Rattle.frame_word_history.specs.Calls.{Call, enter, writeRegister, writeMem
 use Rattle.frame_word_history.specs.Demand3.{machineIn, WordsFit, openedBy}
 use Rattle.both_whole_call.specs.Put.{bytesIn, ownArea, register, rangeRegisters, registersOf, named, putPieces, putCalls, joined, Short, Cut}
 use Rattle.both_whole_call.specs.Reached.{Reached}
-use Rattle.both_whole_call.specs.Caller.{Each, Free, CanCall, InLocals, SavedSix}
+use Rattle.both_whole_call.specs.Caller.{Free, CanCall, InLocals, SavedSix}
 use Rattle.both_whole_call.specs.WholeCall.{seen, inCallee, Claims, putFilled}
 use Rattle.both_whole_call.proofs.Lists.{each-at}
 use Rattle.both_whole_call.proofs.Named.{named-free}
@@ -451,7 +451,7 @@ can x h reached solid room six =
       reached = subst (λ (c : Convention). Reached c (x .os) (x .m)) (sym (h .by)) reached;
       solid = rw (h .by) solid;
       room = rw (h .by, h .room) room;
-      free = subst (λ (c : Convention). Each (Free (rules (p .convention)) (callerOf (rules c) (x .os))) (named p)) (sym (h .by))
+      free = subst (λ (c : Convention). All (Free (rules (p .convention)) (callerOf (rules c) (x .os))) (named p)) (sym (h .by))
           (named-free (x .signature) (callerOf (rules (x .convention)) (x .os)) six);
     }
 

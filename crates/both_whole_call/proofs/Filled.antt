@@ -9,7 +9,7 @@ use borrow.Author.Tests.{ltb-false}
 use lib.Pow.{pow-pos, pow-mono}
 use lib.ListN.{length, take, drop, replicate, length-append, length-take, length-replicate}
 use lib.Seq.{take-at, drop-append-add}
-use Rattle.base_words.specs.Basics.{pick}
+use Rattle.base_words.specs.Basics.{pick, All}
 use Rattle.base_words.specs.Splice.{part}
 use Rattle.base_words.specs.Numbers.{Bytes, bytesOf, valueOf}
 use Rattle.base_words.proofs.Splices.{part-part, length-part}
@@ -40,7 +40,6 @@ use Rattle.call_slots.specs.declared.Answer.{Answer}
 use Rattle.call_slots.specs.Buffers.{Buffers, bytesAt}
 use Rattle.call_slots.specs.Forms.{startsAtHead, extended, roomOf, homeBytes, singleWord, floatForm, floatBytes}
 use Rattle.call_slots.specs.Placements.{Placement, placements, standing}
-use Rattle.call_slots.specs.Helpers.{All}
 use Rattle.call_slots.specs.Arguments.{placementsIn, argumentsOf, planFor, rulesIn, rulesFor}
 use Rattle.call_slots.proofs.Answered.{arguments-got}
 use Rattle.call_fill.specs.Fill.{highAddress, fillAnswer}
@@ -53,7 +52,6 @@ use Rattle.frame_rules.specs.Rules.{rules}
 use Rattle.frame_rules.proofs.Conventions.{lawful}
 use Rattle.both_meeting.proofs.Theorem.{agree}
 use Rattle.both_whole_call.specs.Put.{Register, imageAt, inImage, hiddenSpans, named}
-use Rattle.both_whole_call.specs.Caller.{Each}
 use Rattle.both_whole_call.proofs.Lists.{each-both}
 use Rattle.both_whole_call.proofs.Named.{OfSpan, in-spans, hidden-one}
 
@@ -187,18 +185,18 @@ module _ (P : Register → Type 0) where
   none-of : OfSpan P noSpan
   none-of = record { floats = λ n q. absurd (omega arith); generals = λ n q. absurd (omega arith) }
 
-  none-each : (n : ℕ) → Each (OfSpan P) (replicate n noSpan)
-  unfolding Each
+  none-each : (n : ℕ) → All (OfSpan P) (replicate n noSpan)
+  unfolding All
   none-each zero = tt
   none-each (suc n) = (none-of, none-each n)
 
   fold-each : (c : Convention) (r : CallRules) (k : Cursor) (ts : List ValueType) → All (λ (p : Placement). OfSpan P (p .span)) (placements c ts (spansOf c r k ts))
-      → Each (OfSpan P) (spansOf c r k ts)
-  unfolding placements spansOf All Each
+      → All (OfSpan P) (spansOf c r k ts)
+  unfolding placements spansOf All
   fold-each c r k [] h = tt
   fold-each c r k (t ∷ ts) h = (h .0, fold-each c r _ ts (h .1))
 
-  table-each : (x : Reading Signature) → All (λ (p : Placement). OfSpan P (p .span)) (placementsIn (signatureAnswer x) (planAnswer x)) → Each (OfSpan P) (planAnswer x .spans)
+  table-each : (x : Reading Signature) → All (λ (p : Placement). OfSpan P (p .span)) (placementsIn (signatureAnswer x) (planAnswer x)) → All (OfSpan P) (planAnswer x .spans)
   unfolding planAnswer planIn tableOf
   table-each (got g next n) h =
       let c : Convention = g .convention in
@@ -238,8 +236,8 @@ hidden-64 s values image area copies base hidden x h e =
 
 -- the hidden address's register
 hidden-bytes : (s values image area copies : List ℕ) (base hidden : ℕ) (q : ResultPlaces) → Filled s values image area copies base hidden → planFor s .result ≡ q
-    → Each (OfSpan (OfBytes (wordOf (rulesFor s)) (left s values image area copies base hidden .image))) (hiddenSpans q)
-unfolding Each bytesAt
+    → All (OfSpan (OfBytes (wordOf (rulesFor s)) (left s values image area copies base hidden .image))) (hiddenSpans q)
+unfolding All bytesAt
 hidden-bytes s values image area copies base hidden ResultPlaces.Nothing h e = tt
 hidden-bytes s values image area copies base hidden (ResultPlaces.Registers x) h e = tt
 hidden-bytes s values image area copies base hidden (ResultPlaces.Hidden x) h e =
@@ -256,7 +254,7 @@ hidden-bytes s values image area copies base hidden (ResultPlaces.Hidden x) h e 
 
 pub named-bytes : (s values image area copies : List ℕ) (base hidden : ℕ) → Filled s values image area copies base hidden
     → AllPut (rulesFor s) base (argumentsOf s) values (left s values image area copies base hidden)
-    → Each (OfBytes (wordOf (rulesFor s)) (left s values image area copies base hidden .image)) (named (planFor s))
+    → All (OfBytes (wordOf (rulesFor s)) (left s values image area copies base hidden .image)) (named (planFor s))
 unfolding argumentsOf
 named-bytes s values image area copies base hidden filled h =
     let p : Plan = planFor s in

@@ -7,6 +7,7 @@ use Prim.Native.Nat.{ℕ, zero, suc, _+_, _≤_, _<_}
 use native.Mathlib.Omega.{arith}
 use borrow.Author.Tests.{le-leb}
 use lib.Dec.{leb}
+use Rattle.base_words.specs.Basics.{All}
 use Rattle.base_conventions.specs.declared.Convention.{Convention}
 use Rattle.sig_items.specs.Reading.{Reading, got, no}
 use Rattle.sig_signatures.specs.Signature.{Signature}
@@ -32,7 +33,7 @@ use Rattle.frame_rules.specs.Rules.{within, rules}
 use Rattle.frame_rules.specs.Frames.{firstGpr, firstFpr}
 use Rattle.both_meeting.proofs.Theorem.{agree}
 use Rattle.both_whole_call.specs.Put.{Register, register, rangeRegisters, registersOf, hiddenSpans, named}
-use Rattle.both_whole_call.specs.Caller.{Each, Free, SavedSix}
+use Rattle.both_whole_call.specs.Caller.{Free, SavedSix}
 use Rattle.both_whole_call.proofs.Lists.{each-both, each-left, each-right, each-with, each-at}
 
 -- ---- registers of spans
@@ -43,19 +44,19 @@ module _ (P : Register → Type 0) where
     pub floats : (n : ℕ) → InRegisters (s .floating) n → P (register Bank.Floating n)
     pub generals : (n : ℕ) → InRegisters (s .general) n → P (register Bank.General n)
 
-  in-range : (b : Bank) (first count : ℕ) → ((n : ℕ) → first ≤ n → n < first + count → P (register b n)) → Each P (map (register b) (upFrom first 1 count))
-  unfolding upFrom Each
+  in-range : (b : Bank) (first count : ℕ) → ((n : ℕ) → first ≤ n → n < first + count → P (register b n)) → All P (map (register b) (upFrom first 1 count))
+  unfolding upFrom All
   in-range b first zero h = tt
   in-range b first (suc count) h = (h first (omega arith) (omega arith), in-range b (first + 1) count (λ n p q. h n (omega arith) (omega arith)))
 
-  of-range : (b : Bank) (first count : ℕ) → Each P (map (register b) (upFrom first 1 count)) → (n : ℕ) → first ≤ n → n < first + count → P (register b n)
-  unfolding upFrom Each
+  of-range : (b : Bank) (first count : ℕ) → All P (map (register b) (upFrom first 1 count)) → (n : ℕ) → first ≤ n → n < first + count → P (register b n)
+  unfolding upFrom All
   of-range b first zero h n p q = absurd (omega arith)
   of-range b first (suc count) h n p q =
       ⊎-elim (λ u. of-range b (first + 1) count (h .1) n u (omega arith)) (λ u. let e : n ≡ first = omega arith in rw e (h .0)) (le-or-lt (first + 1) n)
 
-  pub in-spans : (ss : List Span) → Each OfSpan ss → Each P (registersOf ss)
-  unfolding registersOf rangeRegisters Each
+  pub in-spans : (ss : List Span) → All OfSpan ss → All P (registersOf ss)
+  unfolding registersOf rangeRegisters All
   in-spans [] h = tt
   in-spans (s ∷ ss) h =
       let f : List Register = rangeRegisters Bank.Floating (s .floating) in
@@ -63,8 +64,8 @@ module _ (P : Register → Type 0) where
       each-both P f (g ++ registersOf ss) (in-range Bank.Floating (s .floating .first) (s .floating .count) (λ n p q. h .0 .floats n (p, q)))
       (each-both P g (registersOf ss) (in-range Bank.General (s .general .first) (s .general .count) (λ n p q. h .0 .generals n (p, q))) (in-spans ss (h .1)))
 
-  pub of-spans : (ss : List Span) → Each P (registersOf ss) → Each OfSpan ss
-  unfolding registersOf rangeRegisters Each
+  pub of-spans : (ss : List Span) → All P (registersOf ss) → All OfSpan ss
+  unfolding registersOf rangeRegisters All
   of-spans [] h = tt
   of-spans (s ∷ ss) h =
       let f : List Register = rangeRegisters Bank.Floating (s .floating) in
@@ -86,14 +87,14 @@ spotOf Bank.Floating n = floating n
 abbrev pub Argument : Convention → Register → Type 0
 Argument c x = ArgumentRegister (rulesOf c) (spotOf (x .bank) (x .number))
 
-hidden-arguments : (s : List ℕ) (q : ResultPlaces) → planFor s .result ≡ q → Each (OfSpan (Argument (planFor s .convention))) (hiddenSpans q)
-unfolding Each
+hidden-arguments : (s : List ℕ) (q : ResultPlaces) → planFor s .result ≡ q → All (OfSpan (Argument (planFor s .convention))) (hiddenSpans q)
+unfolding All
 hidden-arguments s ResultPlaces.Nothing e = tt
 hidden-arguments s (ResultPlaces.Registers x) e = tt
 hidden-arguments s (ResultPlaces.Hidden x) e =
     let w = plans.within (signatureOf s) .hidden x e in (record { floats = λ n o. w .registers (floating n) o; generals = λ n o. w .registers (general n) o }, tt)
 
-pub named-arguments : (s : List ℕ) → Each (Argument (planFor s .convention)) (named (planFor s))
+pub named-arguments : (s : List ℕ) → All (Argument (planFor s .convention)) (named (planFor s))
 named-arguments s =
     let p : Plan = planFor s in
     let w = plans.within (signatureOf s) in
@@ -141,13 +142,13 @@ free c f x a saved = go (x .bank) a (λ z e. saved z e)
         six : (c ≡ Convention.Z) × (x .number ≡ 6) → own ≡ true
         six v = rw (v .0, v .1, le-leb (firstGpr f) 6 (saved (v .0) (ap (register Bank.General) (v .1))))
 
-sixes : (c : Convention) (f : Frame) (xs : List Register) → (c ≡ Convention.Z → Each (λ (x : Register). x ≡ register Bank.General 6 → firstGpr f ≤ 6) xs) → Each (Six c f) xs
-unfolding Each
+sixes : (c : Convention) (f : Frame) (xs : List Register) → (c ≡ Convention.Z → All (λ (x : Register). x ≡ register Bank.General 6 → firstGpr f ≤ 6) xs) → All (Six c f) xs
+unfolding All
 sixes c f [] h = tt
 sixes c f (x ∷ xs) h = (λ z e. h z .0 e, sixes c f xs (λ z. h z .1))
 
 -- a frame may write all registers that a plan names, but on Z for r6, which it must have saved
-pub named-free : (s : List ℕ) (f : Frame) → SavedSix (planFor s) f → Each (Free (rules (planFor s .convention)) f) (named (planFor s))
+pub named-free : (s : List ℕ) (f : Frame) → SavedSix (planFor s) f → All (Free (rules (planFor s .convention)) f) (named (planFor s))
 named-free s f saved =
     let c : Convention = planFor s .convention in
     each-with (Argument c) (Six c f) (Free (rules c) f) (λ x a z. free c f x a z) (named (planFor s)) (named-arguments s) (sixes c f (named (planFor s)) saved)

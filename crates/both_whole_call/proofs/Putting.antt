@@ -8,6 +8,7 @@ use Prim.Native.Nat.{ℕ, _+_, _-_, _≤_}
 use native.Mathlib.Omega.{arith}
 use lib.ListN.{length, take}
 use lib.Seq.{length-take-le, take-length}
+use Rattle.base_words.specs.Basics.{All}
 use Rattle.base_words.specs.Splice.{splice, part}
 use Rattle.base_words.proofs.Splices.{splice-same, splice-other}
 use Rattle.base_conventions.specs.declared.Convention.{Convention}
@@ -29,7 +30,7 @@ use Rattle.frame_history.specs.Calls.{Call, enter, Machine, answer}
 use Rattle.frame_history.specs.Preserved.{OpenEnter, callerOf, CallsFit}
 use Rattle.frame_history.proofs.Invariant.{Invariant, base-of}
 use Rattle.both_whole_call.specs.Put.{bytesIn, ownArea, Register, named, joined, Cut}
-use Rattle.both_whole_call.specs.Caller.{Each, firstSaved, Free, InLocals}
+use Rattle.both_whole_call.specs.Caller.{firstSaved, Free, InLocals}
 use Rattle.both_whole_call.proofs.Lists.{each-with}
 use Rattle.both_whole_call.proofs.Steps.{run, AllAccepted, openedBy, run-both, opened-both, accepted-both, fit-both}
 use Rattle.both_whole_call.proofs.Registers.{Holds, writeOf, free-below, Putable, AfterPut, after-put, registers-fit}
@@ -73,7 +74,7 @@ module _ (s values image area copies : List ℕ) (base hidden : ℕ) (filled : F
         (subst (λ (w : ℕ). OfBytes w (b .image) x) (word-is s) bytes),
   )
 
-  all-putable : Each (Putable c os (b .image)) (named p)
+  all-putable : All (Putable c os (b .image)) (named p)
   all-putable =
       each-with (Free k (callerOf k os)) (OfBytes (wordOf (rulesFor s)) (b .image)) (Putable c os (b .image)) putable (named p) (able .free)
       (all-bytes s values image area copies base hidden filled)
@@ -137,7 +138,7 @@ module _ (s values image area copies : List ℕ) (base hidden : ℕ) (filled : F
   puts-fit = fit-both registers (putPieces a pieces) (registers-fit c os (b .image) (named p) all-putable) (pieces-fit a pieces)
 
   -- the registers hold, after more that leaves the state
-  still-hold : (m′ : Machine) → m′ .state ≡ m₁ .state → Each (λ x. Holds (b .image) (m′ .state .registers) x) (named p)
+  still-hold : (m′ : Machine) → m′ .state ≡ m₁ .state → All (λ x. Holds (b .image) (m′ .state .registers) x) (named p)
   still-hold m′ e = rw e (first .holds)
 
   -- ---- the copies outside the machine

@@ -9,6 +9,7 @@ use borrow.Author.Tests.{eqb-true, eqb-false, le-leb}
 use lib.Dec.{eqb}
 use lib.ListN.{length, getD, set}
 use lib.Seq.{getD-set-same, getD-set-other}
+use Rattle.base_words.specs.Basics.{All}
 use Rattle.plan_places.specs.declared.Bank.{Bank}
 use Rattle.base_conventions.specs.declared.Convention.{Convention}
 use Rattle.frame_rules.specs.declared.FrameRules.{FrameRules}
@@ -29,7 +30,7 @@ use Rattle.frame_history.specs.Calls.{Call, writeRegister, Machine, answer, aft
 use Rattle.frame_history.specs.Preserved.{OpenEnter, callerOf, CallsFit}
 use Rattle.frame_history.proofs.Invariant.{Base, Invariant, base-of, top-is}
 use Rattle.both_whole_call.specs.Put.{Register, fileOf, heldIn, bankNumber, inImage}
-use Rattle.both_whole_call.specs.Caller.{Each, bankIn, firstSaved, Free}
+use Rattle.both_whole_call.specs.Caller.{bankIn, firstSaved, Free}
 use Rattle.both_whole_call.proofs.Steps.{run, AllAccepted, openedBy, call-keeps}
 
 -- register x holds what the image has for it
@@ -168,11 +169,11 @@ pub record AfterPut (c : Convention) (os : List OpenEnter) (image : List ℕ) (y
   pub base : m′ .state .base ≡ m .state .base
   pub pointer : stackPointer (rules c) (m′ .state) ≡ stackPointer (rules c) (m .state)
   pub keeps : (x : Register) → Holds image (m .state .registers) x → Holds image (m′ .state .registers) x
-  pub holds : Each (Holds image (m′ .state .registers)) ys
+  pub holds : All (Holds image (m′ .state .registers)) ys
 
-pub after-put : (c : Convention) (os : List OpenEnter) (image : List ℕ) (ys : List Register) (m : Machine) → Invariant (rules c) os m → Each (Putable c os image) ys
+pub after-put : (c : Convention) (os : List OpenEnter) (image : List ℕ) (ys : List Register) (m : Machine) → Invariant (rules c) os m → All (Putable c os image) ys
     → AfterPut c os image ys m (run (map (writeOf image) ys) m)
-unfolding AllAccepted openedBy run Each
+unfolding AllAccepted openedBy run All
 after-put c os image [] m i p = record {
   accepted = tt;
   opened = refl;
@@ -197,7 +198,7 @@ after-put c os image (y ∷ ys) m i p =
       holds = (r .keeps y (put-holds c os image m i y (p .0)), r .holds);
     }
 
-pub registers-fit : (c : Convention) (os : List OpenEnter) (image : List ℕ) (ys : List Register) → Each (Putable c os image) ys → CallsFit (map (writeOf image) ys)
-unfolding Each
+pub registers-fit : (c : Convention) (os : List OpenEnter) (image : List ℕ) (ys : List Register) → All (Putable c os image) ys → CallsFit (map (writeOf image) ys)
+unfolding All
 registers-fit c os image [] p = tt
 registers-fit c os image (y ∷ ys) p = (most-64 (rules c) (lawful c) (y .bank) (inImage image y) (p .0 .1), registers-fit c os image ys (p .1))

@@ -5,7 +5,7 @@ use mathlib.Core.List.{List, [], _∷_}
 use Prim.Native.Nat.{ℕ, _+_, _≤_, _<_}
 use native.Mathlib.Omega.{arith}
 use lib.Seq.{getD-set-other}
-use Rattle.base_words.specs.Basics.{pick}
+use Rattle.base_words.specs.Basics.{pick, All}
 use Rattle.frame_saves.specs.Saves.{taken}
 use Rattle.frame_saves.proofs.Taking.{taken-under}
 use Rattle.base_conventions.specs.declared.Convention.{Convention}
@@ -42,7 +42,7 @@ use Rattle.frame_history.specs.Calls.{leave, Machine, answer, after}
 use Rattle.frame_history.specs.Preserved.{OpenEnter}
 use Rattle.frame_history.proofs.Invariant.{Invariant, top-is}
 use Rattle.both_whole_call.specs.Put.{Register, register, heldIn, registersOf, resultSpans}
-use Rattle.both_whole_call.specs.Caller.{Each, bankIn, firstSaved}
+use Rattle.both_whole_call.specs.Caller.{bankIn, firstSaved}
 use Rattle.both_whole_call.proofs.Named.{OfSpan, in-spans}
 
 -- a register below those that a request may save, and not the stack pointer
@@ -84,24 +84,24 @@ held-result Convention.Z t n = z-result (zClass t n) n
 held-result Convention.Aix t n = power-result (rules Convention.Aix) (omega arith) (omega arith) refl _ t n
 held-result Convention.Ppc64b t n = power-result (rules Convention.Ppc64b) (omega arith) (omega arith) refl _ t n
 
-result-in : (c : Convention) (r : ResultType) → Each (OfSpan (Volatile (rules c))) (resultSpans (resultPlacesIn c r))
-unfolding resultOf Each
+result-in : (c : Convention) (r : ResultType) → All (OfSpan (Volatile (rules c))) (resultSpans (resultPlacesIn c r))
+unfolding resultOf All
 result-in c ResultType.Nothing = tt
 result-in c (ResultType.Value t) = go (hiddenFor (rulesOf c) t)
   where
     go : (b : Bool)
-        → Each (OfSpan (Volatile (rules c)))
+        → All (OfSpan (Volatile (rules c)))
         (resultSpans (pick b (ResultPlaces.Hidden (spanOf (rulesOf c) (fresh (rulesOf c)) pointer (wordOf (rulesOf c))))
         (ResultPlaces.Registers (spanOf (returning (rulesOf c)) (fresh (rulesOf c)) t (sizeOf c t)))))
     go true = tt
     go false = (held-result c t (sizeOf c t), tt)
 
-result-of : (x : Reading Signature) → Each (OfSpan (Volatile (rules (planAnswer x .convention)))) (resultSpans (planAnswer x .result))
-unfolding planAnswer planIn Each
+result-of : (x : Reading Signature) → All (OfSpan (Volatile (rules (planAnswer x .convention)))) (resultSpans (planAnswer x .result))
+unfolding planAnswer planIn All
 result-of (got g next n) = result-in (g .convention) (resultType (g .convention) (g .result))
 result-of (no f) = tt
 
-pub result-volatile : (s : List ℕ) → Each (Volatile (rules (planFor s .convention))) (registersOf (resultSpans (planFor s .result)))
+pub result-volatile : (s : List ℕ) → All (Volatile (rules (planFor s .convention))) (registersOf (resultSpans (planFor s .result)))
 result-volatile s = in-spans (Volatile (rules (planFor s .convention))) (resultSpans (planFor s .result)) (result-of (signatureOf s))
 
 -- ---- a leave

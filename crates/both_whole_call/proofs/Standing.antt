@@ -5,6 +5,7 @@ use Prim.Native.Nat.{ℕ, zero, suc, _+_, _*_, _^_, _≤_, _<_}
 use native.Mathlib.Omega.{arith}
 use lib.ListN.{length, getD, take, drop, length-append, length-drop, length-take}
 use lib.Seq.{take-append-le, drop-append-le, drop-append-add}
+use Rattle.base_words.specs.Basics.{All}
 use Rattle.base_words.specs.Splice.{part}
 use Rattle.base_words.specs.Numbers.{Bytes, bytesOf, valueOf}
 use Rattle.base_words.proofs.Splices.{part-add, part-part, length-part}
@@ -16,14 +17,13 @@ use Rattle.plan_places.specs.declared.CallRules.{CallRules}
 use Rattle.plan_places.specs.declared.Span.{Span}
 use Rattle.call_slots.specs.Buffers.{Buffers, buffers, bytesAt}
 use Rattle.call_slots.specs.Placements.{Placement, placements, copyBytes}
-use Rattle.call_slots.specs.Helpers.{Fits, All}
+use Rattle.call_slots.specs.Helpers.{Fits}
 use Rattle.call_slots.proofs.Planned.{in-image, copy-in}
 use Rattle.call_roundtrip.proofs.Arguments.{Put, AllPut}
 use Rattle.frame_rules.specs.declared.FrameRules as frames
 use Rattle.frame_rules.specs.declared.Registers.{Registers}
 use Rattle.frame_rules.specs.Helpers.{LawfulFrames}
 use Rattle.both_whole_call.specs.Put.{Register, register, fileOf, wordsOf, imageOf, imageAt, inImage}
-use Rattle.both_whole_call.specs.Caller.{Each}
 use Rattle.both_whole_call.proofs.Lists.{words-length, words-at}
 use Rattle.both_whole_call.proofs.Registers.{Holds, mostIn}
 use Rattle.both_whole_call.proofs.Named.{OfSpan}
@@ -154,8 +154,8 @@ module _ (r : CallRules) (base a m : ℕ) (b : Buffers) (image : List ℕ) (size
   all-found (p ∷ ps) v f s h = (stands-found p (take (p .size) v) (f .0) (s .0) (h .0), all-found ps (drop (p .size) v) (f .1) (s .1) (h .1))
 
 -- what holds of every span of a table holds of every argument's
-pub of-arguments : (P : Span → Type 0) (c : Convention) (ts : List ValueType) (ss : List Span) → Each P ss → All (λ (p : Placement). P (p .span)) (placements c ts ss)
-unfolding placements All Each
+pub of-arguments : (P : Span → Type 0) (c : Convention) (ts : List ValueType) (ss : List Span) → All P ss → All (λ (p : Placement). P (p .span)) (placements c ts ss)
+unfolding placements All
 of-arguments P c [] ss h = tt
 of-arguments P c (t ∷ ts) [] h = tt
 of-arguments P c (t ∷ ts) (s ∷ ss) h = (h .0, of-arguments P c ts ss (h .1))

@@ -5,6 +5,7 @@ use mathlib.Core.List.{List, [], _∷_, _++_, map}
 use Prim.Native.Nat.{ℕ, _+_}
 use native.Mathlib.Omega.{arith}
 use lib.ListN.{length}
+use Rattle.base_words.specs.Basics.{All}
 use Rattle.base_conventions.specs.declared.Convention.{Convention}
 use Rattle.plan_plans.specs.declared.Plan.{Plan}
 use Rattle.call_slots.specs.Buffers.{Buffers}
@@ -26,7 +27,7 @@ use Rattle.frame_word_history.specs.Demand3.{machineIn, callIn, callsIn, opened
 use Rattle.frame_word_history.proofs.Theorem.{reading-after, answer-read, words-length, start-length, registers-fit}
 use Rattle.both_whole_call.specs.Put.{bytesIn, ownArea, callersArea, Register, heldIn, registersOf, resultSpans, named, putRegister, putPieces, putCalls}
 use Rattle.both_whole_call.specs.Reached.{AllAccepted, Reached}
-use Rattle.both_whole_call.specs.Caller.{Each, CanCall}
+use Rattle.both_whole_call.specs.Caller.{CanCall}
 use Rattle.both_whole_call.specs.WholeCall.{framesFor, Passed, Homed, Returned, calling, inCallee, Claims, putFilled}
 use Rattle.both_whole_call.proofs.Steps as steps
 use Rattle.both_whole_call.proofs.Registers.{writeOf}
@@ -243,7 +244,7 @@ module _ (s values : List ℕ) (copies : states.Machine → List ℕ) (base hidd
       returns = record {
         accepted = back .accepted;
         kept = subst (Preserved (rules c) o os) (sym left) (back .kept);
-        result = subst (λ (x : states.Machine). Each (λ (y : Register). heldIn (x .state .registers) y ≡ heldIn (machineIn m″ .state .registers) y) (registersOf (resultSpans (planFor s .result)))) (sym left) (back .result);
+        result = subst (λ (x : states.Machine). All (λ (y : Register). heldIn (x .state .registers) y ≡ heldIn (machineIn m″ .state .registers) y) (registersOf (resultSpans (planFor s .result)))) (sym left) (back .result);
         reached = after-leave;
       }
 

@@ -4,6 +4,7 @@ use Prim.Native.Nat.{ℕ, _+_, _≤_}
 use mathlib.Core.Path.{_≡_}
 use mathlib.Core.Bool.{true, false}
 use mathlib.Core.List.{List, [], _∷_}
+use Rattle.base_words.specs.Basics.{All}
 use Rattle.base_conventions.specs.declared.Convention.{Convention}
 use Rattle.sig_signatures.specs.declared.Outcome.{Outcome}
 use Rattle.plan_places.specs.declared.Bank.{Bank}
@@ -22,11 +23,6 @@ use Rattle.frame_word_history.specs.Calls.{Lent}
 use Rattle.both_meeting.specs.Meeting.{askedArea, asking}
 use Rattle.both_whole_call.specs.Put.{ownArea, Register, register, named}
 use Rattle.both_whole_call.specs.Reached.{Reached}
-
--- each of several
-unfoldable pub Each : {A : Type 0} → (A → Type 0) → List A → Type 0
-Each P [] = Unit {0}
-Each P (x ∷ xs) = P x × Each P xs
 
 -- the frames' rules for a bank, and the first register of it that a frame saved
 abbrev pub bankIn : FrameRules → Bank → frames.BankRules
@@ -48,7 +44,7 @@ pub record CanCall (p : Plan) (os : List OpenEnter) (m : Lent) : Type 0 where
   pub reached : Reached (p .convention) os m
   pub solid : callerOf (rules (p .convention)) os .leaf ≡ false
   pub room : p .area ≤ outgoingLength (rules (p .convention)) (callerOf (rules (p .convention)) os)
-  pub free : Each (Free (rules (p .convention)) (callerOf (rules (p .convention)) os)) (named p)
+  pub free : All (Free (rules (p .convention)) (callerOf (rules (p .convention)) os)) (named p)
 
 -- n bytes at the address a lie in the locals of the frame f, which is running: "own locals (all between the outgoing area and the saves)"
 pub record InLocals (k : FrameRules) (f : Frame) (m : Machine) (a n : ℕ) : Type 0 where
@@ -59,7 +55,7 @@ pub record InLocals (k : FrameRules) (f : Frame) (m : Machine) (a n : ℕ) : Typ
 
 -- on Z, where the plan names r6, the frame f saved it: "r(g) to r15, g 6 to 14"
 abbrev pub SavedSix : Plan → Frame → Type 0
-SavedSix p f = p .convention ≡ Convention.Z → Each (λ (x : Register). x ≡ register Bank.General 6 → firstGpr f ≤ 6) (named p)
+SavedSix p f = p .convention ≡ Convention.Z → All (λ (x : Register). x ≡ register Bank.General 6 → firstGpr f ≤ 6) (named p)
 
 -- A running function that is no leaf and asked for the area of an accepted call, rounded up to a multiple of 8, and on Z saved r6 where the call uses it, can make that call. An
 -- enter accepts such a request wherever it accepts the request with another area (`AreaRequested`, crates/both_meeting) and has the room.

@@ -6,6 +6,7 @@ use mathlib.Core.Path.{_≡_}
 use mathlib.Core.Bool.{false}
 use mathlib.Core.List.{List, [], _∷_, _++_}
 use lib.ListN.{length, getD, take}
+use Rattle.base_words.specs.Basics.{All}
 use Rattle.plan_places.specs.declared.Span.{Span}
 use Rattle.plan_places.specs.declared.ResultPlaces.{ResultPlaces}
 use Rattle.plan_plans.specs.declared.Plan.{Plan}
@@ -24,7 +25,7 @@ use Rattle.frame_history.specs.Preserved.{OpenEnter, Preserved, CallsFit}
 use Rattle.frame_word_history.specs.Calls.{Call, enter, leave, Lent, answer, after, run}
 use Rattle.frame_word_history.specs.Demand3.{machineIn, callsIn, openedBy}
 use Rattle.both_whole_call.specs.Reached.{AllAccepted, Reached}
-use Rattle.both_whole_call.specs.Caller.{Each, CanCall, InLocals}
+use Rattle.both_whole_call.specs.Caller.{CanCall, InLocals}
 use Rattle.both_whole_call.specs.Put.{bytesIn, ownArea, callersArea, found, Register, heldIn, registersOf, resultSpans, putPieces, putCalls, Cut}
 
 -- ---- what is claimed of the callee
@@ -56,7 +57,7 @@ pub record Homed (s values copies : List ℕ) (f : Frame) (m : Lent) : Type 0 wh
 pub record Returned (p : Plan) (o : OpenEnter) (os : List OpenEnter) (m : Lent) : Type 0 where
   pub accepted : answer leave m ≡ Accepted
   pub kept : Preserved (rules (p .convention)) o os (machineIn (after leave m))
-  pub result : Each (λ (x : Register). heldIn (machineIn (after leave m) .state .registers) x ≡ heldIn (machineIn m .state .registers) x) (registersOf (resultSpans (p .result)))
+  pub result : All (λ (x : Register). heldIn (machineIn (after leave m) .state .registers) x ≡ heldIn (machineIn m .state .registers) x) (registersOf (resultSpans (p .result)))
   pub reached : Reached (p .convention) os (after leave m)
 
 -- ---- what is claimed of the calls that put the arguments

@@ -2,6 +2,7 @@
 use Prim.Native.Nat.{ℕ}
 use mathlib.Core.Path.{_≡_, ap, _∙_}
 use native.Mathlib.Omega.{arith}
+use Rattle.base_words.specs.Basics.{flag}
 use Rattle.sig_items.specs.declared.Fault.{Fault}
 use Rattle.sig_items.specs.Reading.{Reading, got, no}
 use Rattle.sig_signatures.specs.declared.Outcome.{Outcome}
@@ -16,7 +17,7 @@ use Rattle.c_answers.specs.Answers.{yes}
 use Rattle.c_faults.specs.Faults.{faultAnswer}
 use Rattle.c_plans.specs.declared.Sizes.{Sizes}
 use Rattle.c_plans.specs.declared.PlanAnswer.{PlanAnswer}
-use Rattle.c_plans.specs.Plans.{sizesAnswer, markWord, plannedAnswer}
+use Rattle.c_plans.specs.Plans.{sizesAnswer, plannedAnswer}
 
 module _ (m : Measured) where
   pub accepted-sizes : (x : Reading Signature) → m ≡ measureOf (planAnswer x) → (n : ℕ) → m .outcome ≡ Outcome.Accepted n →
@@ -38,7 +39,7 @@ module _ (m : Measured) where
 
 module _ (m : Planned) where
   pub accepted-plan : (x : Reading Signature) → m ≡ plannedOf (planAnswer x) → (n : ℕ) → m .outcome ≡ Outcome.Accepted n →
-      (code : ℕ) → code ≡ codeOf (m .convention) → (mark : ℕ) → mark ≡ markWord (m .ellipsis) →
+      (code : ℕ) → code ≡ codeOf (m .convention) → (mark : ℕ) → mark ≡ flag (m .ellipsis) →
       _≡_ {A = PlanAnswer}
       (record {
         answer = yes;

@@ -1,7 +1,7 @@
 -- The words of the answers on plans. Assumes nothing.
 use Prim.Native.Nat.{ℕ}
 use mathlib.Core.Bool.{Bool}
-use Rattle.base_words.specs.Basics.{pick}
+use Rattle.base_words.specs.Basics.{pick, flag}
 use Rattle.base_conventions.specs.Numbers.{codeOf}
 use Rattle.sig_items.specs.Reading.{Reading, got, no}
 use Rattle.sig_signatures.specs.Signature.{Signature}
@@ -23,16 +23,12 @@ unfoldable pub sizesAnswer : Reading Signature → Sizes
 sizesAnswer (got g next n) = planSizes yes (planAnswer (got g next n))
 sizesAnswer (no f) = record { answer = faultAnswer f; values = 0; area = 0; copies = 0 }
 
--- 02, No. 5: whether a signature has an ellipsis
-abbrev pub markWord : Bool → ℕ
-markWord v = pick v 1 0
-
 -- of a plan without its arguments' places: what is known of the call, and its result's places in words
 abbrev pub planWords : Answer → Plan → ResultWords → PlanAnswer
 planWords a p r = record {
   answer = a;
   convention = codeOf (p .convention);
-  ellipsis = markWord (p .ellipsis);
+  ellipsis = flag (p .ellipsis);
   arguments = p .count;
   values = p .values;
   area = p .area;

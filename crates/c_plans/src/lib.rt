@@ -3,10 +3,11 @@
 use c_answers::Answer;
 use sig_signatures::Outcome;
 ghost use mathlib.Core.Path.{_≡_};
+ghost use Rattle.base_words.specs.Basics.{flag};
+ghost use Rattle.base_words.specs.Splice.{overlayWhole};
 ghost use Rattle.plan_plans.specs.Call.{callOf};
-ghost use Rattle.plan_entries.specs.Words.{tabled};
 ghost use Rattle.plan_words.specs.Entries.{entriesOf};
-ghost use Rattle.c_plans.specs.Plans.{sizesAnswer, markWord, plannedAnswer};
+ghost use Rattle.c_plans.specs.Plans.{sizesAnswer, plannedAnswer};
 
 // `fz_sizes`: the bytes that the values, the parameter area and the copies of a call take.
 #[repr(C)]
@@ -36,7 +37,7 @@ pub struct PlanAnswer {
 }
 
 fn mark_word(mark: bool) -> u64
-    ensures { λ n. ⌜ n ≡ markWord mark ⌝ }
+    ensures { λ n. ⌜ n ≡ flag mark ⌝ }
 {
     if mark {
         return 1;
@@ -76,7 +77,7 @@ pub extern "C" fn fz_measure(sig: &[u8]) -> Sizes
 // The plan, with an entry for each argument at the head of the table where there is room for all of them.
 #[no_mangle]
 pub extern "C" fn fz_plan(sig: &[u8], places: &mut [u64]) -> PlanAnswer
-    ensures { λ r. ⌜ (r ≡ plannedAnswer (callOf (now (sig .entry)))) × (now (places .exit) ≡ tabled (now (places .entry)) (entriesOf (callOf (now (sig .entry))))) ⌝ }
+    ensures { λ r. ⌜ (r ≡ plannedAnswer (callOf (now (sig .entry)))) × (now (places .exit) ≡ overlayWhole (now (places .entry)) (entriesOf (callOf (now (sig .entry))))) ⌝ }
 {
     let p = plan_words::plan_words(sig, places);
     let outcome = p.outcome;

@@ -3,7 +3,7 @@ use Prim.Native.Nat.{ℕ}
 use mathlib.Core.Bool.{Bool}
 use lib.ListN.{getD}
 use lib.Dec.{ltb}
-use Rattle.base_words.specs.Basics.{pick}
+use Rattle.base_words.specs.Basics.{pick, flag}
 use Rattle.base_conventions.specs.Numbers.{codeOf}
 use Rattle.sig_signatures.specs.declared.Outcome.{Outcome}
 use Rattle.sig_signatures.specs.Limits.{maxArguments}
@@ -17,9 +17,6 @@ use Rattle.c_faults.specs.Faults.{faultAnswer}
 use Rattle.c_second.specs.declared.ReturnedWords.{ReturnedWords}
 use Rattle.c_second.specs.declared.SecondAnswer.{SecondAnswer}
 use Rattle.c_second.specs.declared.SecondPlace.{SecondPlace}
-
-abbrev pub markWord : Bool → ℕ
-markWord v = pick v 1 0
 
 -- accepted, with the count of items, or refused
 abbrev pub outcomeWords : Outcome → Answer
@@ -39,7 +36,7 @@ abbrev pub planWords : SecondPlan → SecondAnswer
 planWords p = record {
   answer = outcomeWords (p .outcome);
   convention = codeOf (p .convention);
-  ellipsis = markWord (p .ellipsis);
+  ellipsis = flag (p .ellipsis);
   arguments = p .count;
   values = p .values;
   area = p .area;
@@ -61,7 +58,7 @@ placeWords p = record {
   «memory_length» = p .memory .count;
   copy = p .copy .first;
   «copy_length» = p .copy .count;
-  reference = markWord (p .reference);
+  reference = flag (p .reference);
 }
 
 -- of argument number i; a table has no more places than a signature may have arguments

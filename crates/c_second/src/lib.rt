@@ -5,9 +5,10 @@ use second_parameters::Returned;
 use sig_signatures::MAX_ARGUMENTS;
 use sig_signatures::Outcome;
 ghost use mathlib.Core.Path.{_≡_};
+ghost use Rattle.base_words.specs.Basics.{flag};
 ghost use Rattle.sig_signatures.specs.Read.{signatureOf};
 ghost use Rattle.second_planner.specs.Answer.{secondAnswer};
-ghost use Rattle.c_second.specs.Words.{markWord, outcomeWords, returnedWords, planWords, placeWords, noPlace, placeAt};
+ghost use Rattle.c_second.specs.Words.{outcomeWords, returnedWords, planWords, placeWords, noPlace, placeAt};
 
 // A result: 0 none, 1 in general registers, 2 in floating registers, 3 in memory whose address is in a general register; with the first and the count
 // of the registers.
@@ -49,7 +50,7 @@ pub struct SecondPlace {
 }
 
 fn mark_word(mark: bool) -> u64
-    ensures { λ n. ⌜ n ≡ markWord mark ⌝ }
+    ensures { λ n. ⌜ n ≡ flag mark ⌝ }
 {
     if mark {
         return 1;

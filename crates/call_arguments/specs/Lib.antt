@@ -1,2 +1,2 @@
--- A signature's arguments one after the other. Assumes nothing.
-pub mod Table
+-- A call's arguments, read and kept. Assumes nothing.
+pub mod Helpers

@@ -1,7 +1,7 @@
 -- A filling that no test refuses has room for every slot: what its helpers ask. Assumes nothing.
-use mathlib.Core.Path.{_≡_, refl, sym, ap, _∙_, subst}
+use mathlib.Core.Path.{_≡_, refl, sym, ap, ap₂, _∙_}
 use mathlib.Core.Bool.{Bool, true, false}
-use mathlib.Core.List.{List, []}
+use mathlib.Core.List.{List, [], _++_}
 use Prim.Native.Nat.{ℕ, _+_, _-_, _*_, _%_, _^_, _≤_, _<_}
 use native.Mathlib.Omega.{arith}
 use native.Mathlib.Nat.{mod-lt, mod-eq-of-lt}
@@ -9,6 +9,7 @@ use lib.Pow.{pow-pos}
 use borrow.Author.Tests.{lt-ltb, le-ltb, ltb-true, ltb-false, eqb-true}
 use lib.Dec.{eqb, ltb}
 use Rattle.base_words.specs.Basics.{pick}
+use Rattle.base_words.specs.Splice.{splice}
 use Rattle.base_words.specs.Numbers.{bytesOf, zeroExtended}
 use Rattle.base_words.proofs.Numbers.{length-bytesOf}
 use Rattle.base_conventions.specs.Numbers.{wordBytes}
@@ -22,36 +23,38 @@ use Rattle.sig_types.specs.Sizes.{sizeOf}
 use Rattle.sig_items.specs.declared.Fault.{Fault}
 use lib.ListN.{length}
 use Rattle.sig_signatures.specs.declared.Outcome.{Outcome}
-use Rattle.sig_signatures.specs.declared.ResultType.{ResultType}
-use Rattle.sig_signatures.specs.declared.SignatureRead.{SignatureRead}
+use Rattle.sig_items.specs.Reading.{Reading, no}
+use Rattle.sig_signatures.specs.Signature.{Signature}
 use Rattle.sig_signatures.specs.Read.{signatureOf}
-use Rattle.sig_signatures.specs.Answer.{signatureAnswer}
-use Rattle.sig_signatures.proofs.Types.{answer-plannable}
+use Rattle.plan_plans.specs.Call.{called, outcomeFor}
+use Rattle.sig_signatures.specs.declared.ResultType.{ResultType}
 use Rattle.plan_places.specs.declared.ResultPlaces.{ResultPlaces}
 use Rattle.plan_places.specs.declared.Span.{Span}
 use Rattle.plan_places.specs.Values.{pointer}
-use Rattle.plan_places.specs.Step.{rulesOf, wordOf, spanOf, fresh, hiddenFor, returning, resultOf}
+use Rattle.plan_places.specs.declared.CallRules.{CallRules}
+use Rattle.plan_places.specs.Step.{rulesOf, withEllipsis, wordOf, spanOf, fresh, hiddenFor, returning, resultOf}
 use Rattle.plan_places.specs.ZSeries.{zClass, zSpanOf}
 use Rattle.plan_plans.specs.declared.Plan.{Plan}
 use Rattle.plan_plans.specs.declared.Measured.{Measured}
-use Rattle.plan_plans.specs.Plan.{resultPlacesIn}
+use Rattle.plan_plans.specs.Plan.{hiddenIn, resultPlacesIn, planAnswer}
 use Rattle.call_slots.specs.declared.Answer.{Answer}
 use Rattle.call_slots.specs.declared.Refusal.{Refusal}
 use Rattle.call_slots.specs.Buffers.{Buffers, buffers, Slot, put, putAll}
 use Rattle.call_slots.specs.Placements.{Placement, hiddenSlots, slotsOfAll}
-use Rattle.call_slots.specs.Helpers.{Held, Fits, All, sizesOf}
+use Rattle.call_slots.specs.Helpers.{Held, Fits, sizesOf}
 use Rattle.call_slots.specs.Refusals.{test, differ, firstOf, isRefused}
-use Rattle.call_slots.specs.Arguments.{argumentsOf, planFor, sizesFor, rulesIn, rulesFor}
+use Rattle.call_slots.specs.Arguments.{argumentsOf, planFor, sizesFor, rulesFor}
 use Rattle.call_slots.proofs.Answered.{carried}
-use Rattle.call_arguments.specs.Table.{argumentsFrom}
-use Rattle.call_arguments.proofs.Table.{arguments-read}
+use Rattle.call_kept.specs.Helpers.{keptAll, KeptEach}
+use Rattle.call_arguments.specs.Helpers.{KeptOf}
+use Rattle.call_arguments.proofs.Kept.{Headed}
 use Rattle.call_slots.proofs.Buffers.{putAll-lengths, putAll-append}
 use Rattle.call_slots.proofs.Planned.{in-image, all-with}
 use Rattle.call_slots.proofs.Refusals.{first-done, differ-false}
 use Rattle.call_marshal.specs.Helpers.{CanPut}
 use Rattle.call_fill.specs.declared.FillLengths.{FillLengths}
 use Rattle.call_fill.specs.Fill.{badCopies, highAddress, fillTests, fillAnswer, filledSlots, fillBuffers}
-use Rattle.call_fill.specs.Helpers.{HiddenFits, WordSize, AllCanPut}
+use Rattle.call_fill.specs.Helpers.{addressPlaces}
 
 -- ---- the tests
 copies-good : (e n base : ℕ) → base < 2 ^ 64 → badCopies e n base ≡ false → (e ≤ n) × (base + e < 2 ^ 64)
@@ -116,70 +119,114 @@ tests-lent s have base m high low p e = tests-passed have (planFor s) base high 
 
 -- ---- the arguments
 
-pub all-ready : (s : List ℕ) (g : SignatureRead) (base v i a k : ℕ) → g ≡ signatureAnswer (signatureOf s)
-    → v ≡ planFor s .values → i ≡ 512 → planFor s .area ≤ a → planFor s .copies ≤ k → base + planFor s .copies < 2 ^ 64 → AllCanPut g base v i a k
+-- those that are kept have room
+pub all-ready : (s : List ℕ) (r : CallRules) (c : Convention) (l : List ℕ) (n base i a k : ℕ) → r ≡ rulesFor s → KeptOf s c l n
+    → i ≡ 512 → planFor s .area ≤ a → planFor s .copies ≤ k → base + planFor s .copies < 2 ^ 64 → KeptEach (CanPut r base i a k) c l n
 unfolding argumentsOf
-all-ready s g base v i a k same values image area copies low =
+all-ready s r c l n base i a k rules kept image area copies low =
     let h = carried s in
-    record {
-      plannable = rw same (answer-plannable s);
+    rw rules
+    (record {
+      room = kept .room;
       each =
-          rw (arguments-read s g same)
-          (all-with (Held (rulesIn g)) (Fits (planFor s .area) (planFor s .copies)) (CanPut (rulesIn g) base i a k) ready (argumentsOf s)
-          (subst (λ (x : SignatureRead). All (Held (rulesIn x)) (argumentsOf s)) (sym same) (h .held)) (h .fit));
-      total = ap sizesOf (arguments-read s g same) ∙ h .total ∙ sym values;
-    }
+          rw (kept .same)
+          (all-with (Held (rulesFor s)) (Fits (planFor s .area) (planFor s .copies)) (CanPut (rulesFor s) base i a k) ready (argumentsOf s) (h .held) (h .fit));
+    })
   where
-    ready : (q : Placement) → Held (rulesIn g) q → Fits (planFor s .area) (planFor s .copies) q → CanPut (rulesIn g) base i a k q
+    ready : (q : Placement) → Held (rulesFor s) q → Fits (planFor s .area) (planFor s .copies) q → CanPut (rulesFor s) base i a k q
     ready q x y = record {
-      registers = in-image (rulesIn g) i (planFor s .area) (planFor s .copies) q x y image;
+      registers = in-image (rulesFor s) i (planFor s .area) (planFor s .copies) q x y image;
       memory = omega (arith, y .memory);
       copies = omega (arith, y .copies);
       low = omega (arith, y .copies);
     }
 
+pub all-sizes : (s : List ℕ) (c : Convention) (l : List ℕ) (n v : ℕ) → KeptOf s c l n → v ≡ planFor s .values → sizesOf (keptAll c l n) ≡ v
+unfolding argumentsOf
+all-sizes s c l n v kept values = ap sizesOf (kept .same) ∙ carried s .total ∙ sym values
+
 -- ---- the hidden address
 
-address-first : (c : Convention) → spanOf (rulesOf c) (fresh (rulesOf c)) pointer (wordOf (rulesOf c)) .general .first < 32
+-- its register is the first
+pub address-register : (c : Convention) → spanOf (rulesOf c) (fresh (rulesOf c)) pointer (wordOf (rulesOf c)) .general .first ≡ fresh (rulesOf c) .general
 unfolding spanOf fresh zClass zSpanOf
-address-first Convention.Ppc64 = omega arith
-address-first Convention.Z = omega arith
-address-first Convention.Aix = omega arith
-address-first Convention.Ppc64b = omega arith
+address-register Convention.Ppc64 = refl
+address-register Convention.Z = refl
+address-register Convention.Aix = refl
+address-register Convention.Ppc64b = refl
 
-result-fits : (c : Convention) (r : ResultType) → HiddenFits (resultPlacesIn c r) 512
+pub register-low : (c : Convention) → fresh (rulesOf c) .general < 32
+unfolding fresh
+register-low Convention.Ppc64 = omega arith
+register-low Convention.Z = omega arith
+register-low Convention.Aix = omega arith
+register-low Convention.Ppc64b = omega arith
+
+-- a result's other places are none of it
+slots-address : (c : Convention) (t : ResultType) (w x : ℕ) → hiddenSlots w (addressPlaces c (hiddenIn c t)) x ≡ hiddenSlots w (resultPlacesIn c t) x
 unfolding resultOf
-result-fits c ResultType.Nothing = tt
-result-fits c (ResultType.Value t) = go (hiddenFor (rulesOf c) t)
+slots-address c ResultType.Nothing w x = refl
+slots-address c (ResultType.Value t) w x = go (hiddenFor (rulesOf c) t)
   where
-    go : (b : Bool)
-        → HiddenFits
+    go : (b : Bool) → hiddenSlots w (addressPlaces c b) x
+        ≡ hiddenSlots w
         (pick b (ResultPlaces.Hidden (spanOf (rulesOf c) (fresh (rulesOf c)) pointer (wordOf (rulesOf c))))
-        (ResultPlaces.Registers (spanOf (returning (rulesOf c)) (fresh (rulesOf c)) t (sizeOf c t))))
-        512
-    go true = (address-first c, refl)
-    go false = tt
+        (ResultPlaces.Registers (spanOf (returning (rulesOf c)) (fresh (rulesOf c)) t (sizeOf c t)))) x
+    go true = refl
+    go false = refl
 
-pub hidden-fits : (c : Convention) (t : ResultType) (q : ResultPlaces) (i : ℕ) → q ≡ resultPlacesIn c t → i ≡ 512 → HiddenFits q i
-hidden-fits c t q i p e = rw (p, e) (result-fits c t)
+high-of-address : (c : Convention) (t : ResultType) (w x : ℕ) → highAddress w (addressPlaces c (hiddenIn c t)) x ≡ highAddress w (resultPlacesIn c t) x
+unfolding resultOf
+high-of-address c ResultType.Nothing w x = refl
+high-of-address c (ResultType.Value t) w x = go (hiddenFor (rulesOf c) t)
+  where
+    go : (b : Bool) → highAddress w (addressPlaces c b) x
+        ≡ highAddress w
+        (pick b (ResultPlaces.Hidden (spanOf (rulesOf c) (fresh (rulesOf c)) pointer (wordOf (rulesOf c))))
+        (ResultPlaces.Registers (spanOf (returning (rulesOf c)) (fresh (rulesOf c)) t (sizeOf c t)))) x
+    go true = refl
+    go false = refl
 
 -- ---- the answer and the buffers
 
+-- a signature that is not read
+pub answer-unread : (s : List ℕ) (have : FillLengths) (base address : ℕ) (f : Fault) → signatureOf s ≡ no f → Answer.Unread f ≡ fillAnswer s have base address
+unfolding fillAnswer called planAnswer
+answer-unread s have base address f q = let o : outcomeFor s ≡ Outcome.Refused f = ap (λ (x : Reading Signature). planAnswer (called x) .outcome) q in rw o
+
 module _ (s : List ℕ) where
-  pub answer-refused : (have : FillLengths) (base hidden : ℕ) (m : Measured) (f : Fault) → m ≡ sizesFor s → m .outcome ≡ Outcome.Refused f
-      → Answer.Unread f ≡ fillAnswer s have base hidden
+  pub answer-refused : (have : FillLengths) (base address : ℕ) (m : Measured) (f : Fault) → m ≡ sizesFor s → m .outcome ≡ Outcome.Refused f
+      → Answer.Unread f ≡ fillAnswer s have base address
   unfolding fillAnswer
-  answer-refused have base hidden m f p e = rw (rw p at e)
+  answer-refused have base address m f p e = rw (rw p at e)
 
-  pub answer-tested : (have : FillLengths) (base hidden n w : ℕ) (m : Measured) (q : ResultPlaces) (high : Bool) (a : Answer)
-      → m ≡ sizesFor s → w ≡ wordOf (rulesFor s) → q ≡ planFor s .result → high ≡ highAddress w q hidden → m .outcome ≡ Outcome.Accepted n
-      → a ≡ firstOf (fillTests have (m .values) (m .area) (m .copies) base high) → a ≡ fillAnswer s have base hidden
-  unfolding fillAnswer
-  answer-tested have base hidden n w m q high a p x y z e t = rw (rw p at e) (rw (p, z, x, y) at t)
+  module _ (c : Convention) (t : ResultType) (v : Bool) (head : Headed s c t v) where
+    -- the word of the signature's convention
+    word-read : wordBytes c ≡ wordOf (rulesFor s)
+    word-read = sym (word-marked v (rulesOf c) ∙ rules-word c) ∙ ap wordOf (head .rules)
 
-  -- the word of the signature's convention
-  pub word-read : (g : SignatureRead) (w : ℕ) → g ≡ signatureAnswer (signatureOf s) → w ≡ wordBytes (g .convention) → w ≡ wordOf (rulesFor s)
-  word-read g w e q = q ∙ sym (word-marked (g .ellipsis) (rulesOf (g .convention)) ∙ rules-word (g .convention)) ∙ ap (λ (x : SignatureRead). wordOf (rulesIn x)) e
+    pub answer-tested : (have : FillLengths) (base address n : ℕ) (m : Measured) (hidden high : Bool) (a : Answer)
+        → m ≡ sizesFor s → hidden ≡ hiddenIn c t → high ≡ highAddress (wordBytes c) (addressPlaces c hidden) address → m .outcome ≡ Outcome.Accepted n
+        → a ≡ firstOf (fillTests have (m .values) (m .area) (m .copies) base high) → a ≡ fillAnswer s have base address
+    unfolding fillAnswer
+    answer-tested have base address n m hidden high a p x z e q =
+        let high-so : high ≡ highAddress (wordOf (rulesFor s)) (planFor s .result) address
+        = z
+        ∙ ap (λ (b : Bool). highAddress (wordBytes c) (addressPlaces c b) address) x
+        ∙ high-of-address c t (wordBytes c) address
+        ∙ ap₂ (λ (w : ℕ) (r : ResultPlaces). highAddress w r address) word-read (head .result) in
+        rw (rw p at e) (rw (p, high-so) at q)
+
+    -- the slots of a filling
+    pub slots-are : (values : List ℕ) (base address : ℕ) (hidden : Bool) (ps : List Placement) → hidden ≡ hiddenIn c t → ps ≡ argumentsOf s
+        → hiddenSlots (wordBytes c) (addressPlaces c hidden) address ++ slotsOfAll (withEllipsis v (rulesOf c)) base ps values ≡ filledSlots s values base address
+    unfolding filledSlots
+    slots-are values base address hidden ps x same =
+        ap₂ (λ (a b : List Slot). a ++ b)
+        (ap (λ (b : Bool). hiddenSlots (wordBytes c) (addressPlaces c b) address) x
+        ∙ slots-address c t (wordBytes c) address
+        ∙ ap₂ (λ (w : ℕ) (r : ResultPlaces). hiddenSlots w r address) word-read (head .result))
+        (ap₂ (λ (r : CallRules) (qs : List Placement). slotsOfAll r base qs values) (head .rules) same)
 
 -- ---- the hidden address
 
@@ -207,6 +254,12 @@ never-high (ResultPlaces.Hidden s) x h = le-ltb (2 ^ 64 - 1) x (omega arith)
 pub address-word : (w x : ℕ) → w ≤ 8 → bytesOf 8 (zeroExtended w x) ≡ spread w 1 (bytesOf w x)
 address-word w x h = register-number w x h ∙ sym (spread-one w (bytesOf w x) (length-bytesOf w x))
 
+pub hidden-put : (c : Convention) (image : List ℕ) (x : ℕ)
+    → buffers (splice image (8 * fresh (rulesOf c) .general) (bytesOf 8 (zeroExtended (wordBytes c) x))) [] [] ≡ putAll (hiddenSlots (wordBytes c) (addressPlaces c true) x) (buffers image [] [])
+unfolding putAll put
+hidden-put c image x =
+    rw (address-register c) (ap (λ (bs : List ℕ). buffers (splice image (8 * fresh (rulesOf c) .general) bs) [] []) (address-word (wordBytes c) x (word-bounds c .1)))
+
 -- which is the whole address where that is not too high
 pub low-address : (w x : ℕ) (s : Span) → w ≤ 8 → highAddress w (ResultPlaces.Hidden s) x ≡ false → spread w 1 (bytesOf w x) ≡ bytesOf 8 x
 unfolding zeroExtended
@@ -214,9 +267,6 @@ low-address w x s h e =
     let l : x ≤ 2 ^ (8 * w) - 1 = ltb-false (2 ^ (8 * w) - 1) x e in
     let low : x < 2 ^ (8 * w) = omega (arith, pow-pos (8 * w)) in
     sym (address-word w x h) ∙ ap (bytesOf 8) (mod-eq-of-lt low)
-
-pub word-size : (c : Convention) → WordSize (wordBytes c)
-word-size c = let b = word-bounds c in (omega arith, omega arith)
 
 -- a hidden address changes the image alone
 hidden-whole : (w : ℕ) (q : ResultPlaces) (address : ℕ) (image area copies i : List ℕ) → buffers i [] [] ≡ putAll (hiddenSlots w q address) (buffers image [] [])
@@ -236,13 +286,13 @@ buffers-kept s values base hidden Answer.Done b e = let z : _≡_ {A = ℕ} 0 1 
 buffers-kept s values base hidden (Answer.Unread f) b e = refl
 buffers-kept s values base hidden (Answer.Refused reason) b e = refl
 
-pub buffers-done : (s values image area copies i : List ℕ) (base hidden w : ℕ) (g : SignatureRead) (q : ResultPlaces) (b : Buffers)
-    → g ≡ signatureAnswer (signatureOf s) → w ≡ wordOf (rulesFor s) → planFor s .result ≡ q
-    → buffers i [] [] ≡ putAll (hiddenSlots w q hidden) (buffers image [] [])
-    → b ≡ putAll (slotsOfAll (rulesIn g) base (argumentsFrom g) values) (buffers i area copies)
-    → b ≡ fillBuffers s values base hidden Answer.Done (buffers image area copies)
-unfolding fillBuffers filledSlots
-buffers-done s values image area copies i base hidden w g q b e n p x y =
-    let slots : List Slot = slotsOfAll (rulesIn g) base (argumentsFrom g) values in
-    let whole = hidden-whole w q hidden image area copies i x in
-    rw (← n, ← e, ← arguments-read s g e, p) (y ∙ ap (putAll slots) whole ∙ sym (putAll-append (hiddenSlots w q hidden) slots (buffers image area copies)))
+-- the hidden address is put, and then the arguments' slots
+pub buffers-done : (s values image area copies i : List ℕ) (base address w : ℕ) (q : ResultPlaces) (slots : List Slot) (b : Buffers)
+    → hiddenSlots w q address ++ slots ≡ filledSlots s values base address
+    → buffers i [] [] ≡ putAll (hiddenSlots w q address) (buffers image [] [])
+    → b ≡ putAll slots (buffers i area copies)
+    → b ≡ fillBuffers s values base address Answer.Done (buffers image area copies)
+unfolding fillBuffers
+buffers-done s values image area copies i base address w q slots b e x y =
+    let whole = hidden-whole w q address image area copies i x in
+    rw (← e) (y ∙ ap (putAll slots) whole ∙ sym (putAll-append (hiddenSlots w q address) slots (buffers image area copies)))

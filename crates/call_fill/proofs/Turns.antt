@@ -7,11 +7,12 @@ use native.Mathlib.Omega.{arith}
 use native.Mathlib.Numerals.{add-one}
 use lib.ListN.{length, take, drop}
 use lib.Seq.{drop-drop}
+use Rattle.base_words.specs.Basics.{All}
 use Rattle.sig_signatures.specs.Answer.{argument}
 use Rattle.plan_places.specs.declared.CallRules.{CallRules}
 use Rattle.call_slots.specs.Buffers.{Buffers, Slot, putAll}
 use Rattle.call_slots.specs.Placements.{Placement, slotsOf, slotsOfAll}
-use Rattle.call_slots.specs.Helpers.{All, sizesOf}
+use Rattle.call_slots.specs.Helpers.{sizesOf}
 use Rattle.call_slots.proofs.Buffers.{SameLengths, same-then, putAll-lengths, putAll-append}
 
 -- ---- the loop

@@ -8,6 +8,7 @@ use native.Mathlib.Omega.{arith}
 use native.Mathlib.Numerals.{add-one}
 use borrow.Author.Tests.{ltb-false}
 use lib.ListN.{length, drop}
+use Rattle.base_words.specs.Basics.{All}
 use Rattle.base_words.specs.Splice.{splice}
 use Rattle.base_words.proofs.Splices.{length-splice}
 use Rattle.sig_signatures.specs.declared.Outcome.{Outcome}
@@ -19,7 +20,7 @@ use Rattle.plan_plans.specs.declared.Plan.{Plan}
 use Rattle.call_slots.specs.declared.Answer.{Answer}
 use Rattle.sig_items.specs.declared.Fault.{Fault}
 use Rattle.call_slots.specs.Placements.{Placement}
-use Rattle.call_slots.specs.Helpers.{Held, Fits, All}
+use Rattle.call_slots.specs.Helpers.{Held, Fits}
 use Rattle.call_slots.specs.Refusals.{firstOf, orElse, afterReading, isRefused}
 use Rattle.plan_plans.specs.Call.{outcomeFor}
 use Rattle.call_slots.specs.Arguments.{placementsIn, argumentsOf, planFor, rulesIn, rulesFor}

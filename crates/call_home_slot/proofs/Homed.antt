@@ -7,7 +7,7 @@ use native.Mathlib.Omega.{arith}
 use native.Mathlib.Nat.{mul-zero}
 use lib.Dec.{leb}
 use lib.ListN.{getD, drop}
-use Rattle.base_words.specs.Basics.{pick}
+use Rattle.base_words.specs.Basics.{pick, All}
 use Rattle.base_conventions.specs.declared.Convention.{Convention}
 use Rattle.sig_types.specs.declared.FloatFormat.{FloatFormat}
 use Rattle.sig_types.specs.declared.ValueType.{ValueType}
@@ -30,7 +30,7 @@ use Rattle.plan_plans.specs.Plan.{spansOf, lastOf, startIn, lastCursorIn, planI
 use Rattle.plan_plans.proofs.Fold.{last-forward, last-marked}
 use Rattle.call_slots.specs.Forms.{roomOf, startsAtHead, ownStart}
 use Rattle.call_slots.specs.Placements.{Placement, placement, placements}
-use Rattle.call_slots.specs.Helpers.{Held, All}
+use Rattle.call_slots.specs.Helpers.{Held}
 use Rattle.call_slots.specs.Arguments.{placementsIn, argumentsOf, planFor, rulesIn, rulesFor}
 use Rattle.call_slots.proofs.Answered.{arguments-got}
 use Rattle.call_home_slot.specs.Homes.{homeless}

@@ -1,35 +1,25 @@
--- What no refusal of an argument tells: it can be read; and which types nothing refuses. Assumes nothing.
-use mathlib.Core.Path.{_≡_, refl, sym, ap, ap₂, _∙_}
+-- What no refusal of an argument tells: it can be read; and which arguments nothing refuses. Assumes nothing.
+use mathlib.Core.Path.{_≡_, refl, sym, ap, _∙_}
 use mathlib.Core.Bool.{Bool, true, false}
 use mathlib.Core.List.{List, [], _∷_}
-use Prim.Native.Nat.{ℕ, zero, suc, _+_, _-_, _≤_, _<_}
+use Prim.Native.Nat.{ℕ, _+_, _-_, _≤_, _<_}
 use native.Mathlib.Omega.{arith}
-use borrow.Author.Tests.{lt-ltb, le-ltb, ltb-true, leb-true}
+use borrow.Author.Tests.{lt-ltb, le-ltb, leb-true}
 use lib.Dec.{ltb, leb}
 use lib.ListN.{length}
-use Rattle.base_words.specs.Basics.{pick}
+use Rattle.base_words.specs.Basics.{pick, All}
 use Rattle.base_words.specs.Numbers.{valueOf}
-use Rattle.sig_types.specs.declared.FloatFormat.{FloatFormat}
-use Rattle.sig_types.specs.declared.ValueType.{ValueType}
 use Rattle.sig_types.specs.Sizes.{equivalentOf}
 use Rattle.plan_places.specs.declared.CallRules.{CallRules}
-use Rattle.plan_places.specs.declared.Cursor.{Cursor}
-use Rattle.plan_places.specs.declared.PowerRules.{PowerRules}
-use Rattle.plan_places.specs.declared.Share.{Share}
-use Rattle.plan_places.specs.declared.ZClass.{ZClass}
-use Rattle.plan_places.specs.Values.{share}
-use Rattle.plan_places.specs.Power.{words, fprs, covered, shareOf, powerShare, powerSpan}
-use Rattle.plan_places.specs.Step.{wordOf, spanOf}
-use Rattle.plan_places.specs.ZSeries.{zClass, zFloating, zSpanOf}
+use Rattle.plan_places.specs.Step.{wordOf}
 use Rattle.call_slots.specs.declared.Answer.{Answer}
 use Rattle.call_slots.specs.Buffers.{Buffers}
-use Rattle.call_slots.specs.Placements.{Placement, placement, floatAt, addressAt}
+use Rattle.call_slots.specs.Placements.{Placement, floatAt, addressAt}
 use Rattle.call_slots.specs.Refusals.{orElse, firstOfAll, isRefused, floatAnswer}
-use Rattle.call_slots.specs.Helpers.{All}
 use Rattle.call_slots.proofs.Refusals.{or-done, or-refused, not-refused}
 use Rattle.call_unmarshal.specs.Helpers.{InBuffers, Readable}
 use Rattle.call_read.specs.Read.{inCopies, copyAnswer, agrees, agreeAnswer, argumentAnswer, argumentsAnswer}
-use Rattle.call_read.specs.Helpers.{canRefuse}
+use Rattle.call_read.specs.Helpers.{asks}
 use Rattle.call_read.proofs.Agree.{agrees-alone}
 
 inside-facts : (address base n c : ℕ) → copyAnswer (inCopies address base n c) ≡ Answer.Done → (base ≤ address) × (address - base + n ≤ c)
@@ -43,7 +33,7 @@ inside-facts address base n c = go (leb base address) refl
     go true q e = last (leb (address - base + n) c) refl (leb-true base address q) e
     go false q e = let z : _≡_ {A = ℕ} 0 1 = cc in absurd (omega arith)
 
-or-done-right : (a : Answer) → orElse a Answer.Done ≡ a
+pub or-done-right : (a : Answer) → orElse a Answer.Done ≡ a
 or-done-right Answer.Done = refl
 or-done-right (Answer.Unread f) = refl
 or-done-right (Answer.Refused reason) = refl
@@ -70,60 +60,18 @@ module _ (r : CallRules) (base : ℕ) (p : Placement) (b : Buffers) (some : 0 < 
 
 -- ---- what is never refused
 
-both-done : (x : Bool) → pick x Answer.Done Answer.Done ≡ Answer.Done
-both-done true = refl
-both-done false = refl
-
--- without an ellipsis a float in FPRs is nowhere else
-share-alone : (v : Bool) (m room n k : ℕ) → v ≡ false → 0 < shareOf v m room n k .floating → shareOf v m room n k .general ≡ 0
-unfolding shareOf
-share-alone v zero room n k e h = absurd (omega arith)
-share-alone true (suc m) room n k e h = let z : _≡_ {A = ℕ} 0 1 = cc in absurd (omega arith)
-share-alone false (suc m) room n k e h = go (leb (suc m) room)
+-- neither in FPRs nor by pointer
+pub nothing-asked : (r : CallRules) (base : ℕ) (p : Placement) (b : Buffers) → asks (p .span) ≡ false → Answer.Done ≡ argumentAnswer r base p b
+unfolding argumentAnswer
+nothing-asked r base p b = go (ltb 0 (p .span .floating .count)) (p .span .indirect)
   where
-    go : (b : Bool) → pick b (share 0 (suc m) 0) (share 0 0 n) .general ≡ 0
-    go true = refl
-    go false = refl
-
--- and 14, which looks at singles alone, refuses nothing
-float-done : (f : PowerRules) (base : ℕ) (c : Cursor) (t : ValueType) (n : ℕ) (b : Buffers) → f .ellipsis ≡ false
-    → ((x : ℕ) → floatAnswer (CallRules.Power f) (equivalentOf t) x ≡ Answer.Done)
-    → argumentAnswer (CallRules.Power f) base (placement t n (spanOf (CallRules.Power f) c t n)) b ≡ Answer.Done
-unfolding argumentAnswer spanOf powerShare
-float-done f base c t n b e done =
-    go (shareOf (f .ellipsis) (fprs (f .edition) t) (14 - c .floating) (words (f .word) n) (covered c (words (f .word) n))) (share-alone (f .ellipsis) (fprs (f .edition) t) (14 - c .floating) (words (f .word) n) (covered c (words (f .word) n)) e)
-  where
-    at : (s : Share) (x : Bool) → ltb 0 (s .floating) ≡ x → (0 < s .floating → s .general ≡ 0)
-        → pick x
-        (orElse (floatAnswer (CallRules.Power f) (equivalentOf t) (valueOf (floatAt (powerSpan (f .word) c (words (f .word) n) s) b))) (agreeAnswer (agrees (CallRules.Power f) (placement t n (powerSpan (f .word) c (words (f .word) n) s)) b)))
-        Answer.Done ≡ Answer.Done
-    at s true q alone =
-        ap₂ (λ (x : Answer) (y : Bool). orElse x (agreeAnswer y)) (done _) (agrees-alone (CallRules.Power f) (placement t n (powerSpan (f .word) c (words (f .word) n) s)) b (alone (ltb-true 0 (s .floating) q)))
-    at s false q alone = refl
-
-    go : (s : Share) → (0 < s .floating → s .general ≡ 0)
-        → argumentAnswer (CallRules.Power f) base (placement t n (powerSpan (f .word) c (words (f .word) n) s)) b ≡ Answer.Done
-    go s alone = at s (ltb 0 (s .floating)) refl alone
-
--- on Z a float in an FPR is nowhere else, and nothing is asked of it
-z-done : (base : ℕ) (c : Cursor) (t : ValueType) (n : ℕ) (b : Buffers) → argumentAnswer CallRules.Z base (placement t n (zSpanOf c ZClass.Float n)) b ≡ Answer.Done
-unfolding argumentAnswer zSpanOf
-z-done base c t n b =
-    rw (agrees-alone CallRules.Z (placement t n (zSpanOf c ZClass.Float n)) b refl) (both-done (ltb 0 (zFloating c)))
-
-pub never-refused : (r : CallRules) (base : ℕ) (c : Cursor) (t : ValueType) (n : ℕ) (b : Buffers) → canRefuse r t ≡ false
-    → Answer.Done ≡ argumentAnswer r base (placement t n (spanOf r c t n)) b
-unfolding argumentAnswer spanOf powerShare shareOf fprs zClass zSpanOf
-never-refused (CallRules.Power f) base c (ValueType.Integer k) n b h = refl
-never-refused (CallRules.Power f) base c (ValueType.Float FloatFormat.Single) n b h = let z : _≡_ {A = ℕ} 0 1 = cc in absurd (omega arith)
-never-refused (CallRules.Power f) base c (ValueType.Float FloatFormat.Double) n b h = sym (float-done f base c (ValueType.Float FloatFormat.Double) n b h (λ x. refl))
-never-refused (CallRules.Power f) base c (ValueType.Float FloatFormat.LongDouble) n b h = sym (float-done f base c (ValueType.Float FloatFormat.LongDouble) n b h (λ x. refl))
-never-refused (CallRules.Power f) base c (ValueType.Struct s) n b h = refl
-never-refused CallRules.Z base c (ValueType.Integer k) n b h = refl
-never-refused CallRules.Z base c (ValueType.Float FloatFormat.Single) n b h = sym (z-done base c (ValueType.Float FloatFormat.Single) n b)
-never-refused CallRules.Z base c (ValueType.Float FloatFormat.Double) n b h = sym (z-done base c (ValueType.Float FloatFormat.Double) n b)
-never-refused CallRules.Z base c (ValueType.Float FloatFormat.LongDouble) n b h = let z : _≡_ {A = ℕ} 0 1 = cc in absurd (omega arith)
-never-refused CallRules.Z base c (ValueType.Struct s) n b h = let z : _≡_ {A = ℕ} 0 1 = cc in absurd (omega arith)
+    go : (f i : Bool) → pick f true i ≡ false
+        → Answer.Done
+        ≡ pick f (orElse (floatAnswer r (equivalentOf (p .ty)) (valueOf (floatAt (p .span) b))) (agreeAnswer (agrees r p b)))
+        (pick i (copyAnswer (inCopies (addressAt (wordOf r) (p .span) b) base (p .size) (length (b .copies)))) Answer.Done)
+    go true i e = let z : _≡_ {A = ℕ} 0 1 = cc in absurd (omega arith)
+    go false true e = let z : _≡_ {A = ℕ} 0 1 = cc in absurd (omega arith)
+    go false false e = refl
 
 -- ---- what is read
 

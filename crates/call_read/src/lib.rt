@@ -1,31 +1,29 @@
 // Reading: the values of a call's arguments out of its registers, memory and copies. A first pass over the arguments finds the first
 // that can't be read, and only then are the values taken, so that a refused reading leaves the value buffer as it was.
+use base_conventions::Convention;
+use call_arguments::FEW_BYTES;
 use call_slots::Answer;
 use call_slots::Refusal;
 use plan_places::CallRules;
-use plan_places::Cursor;
 use plan_places::FPRS_AT;
 use plan_places::IMAGE_BYTES;
 use plan_places::Span;
+use sig_signatures::HeadRead;
 use sig_signatures::Outcome;
-use sig_signatures::SignatureRead;
-use sig_types::FloatFormat;
+use sig_signatures::ResultType;
 use sig_types::ValueType;
 ghost use mathlib.Core.Path.{_≡_};
 ghost use mathlib.Core.List.{[]};
 ghost use Prim.Native.Nat.{_≤_};
 ghost use lib.ListN.{length, take};
-ghost use Rattle.plan_places.specs.Step.{spanOf};
-ghost use Rattle.plan_places.specs.Helpers.{LawfulCalls, Roomy};
 ghost use Rattle.call_slots.specs.Buffers.{buffers};
 ghost use Rattle.call_slots.specs.Placements.{placement};
 ghost use Rattle.call_slots.specs.Refusals.{firstOf};
-ghost use Rattle.call_slots.specs.Arguments.{rulesIn};
-ghost use Rattle.call_arguments.specs.Table.{argumentsFrom};
+ghost use Rattle.call_arguments.specs.Helpers.{HeadIs, NoneLeft, KeepsRows};
+ghost use Rattle.call_kept.specs.Helpers.{keptAll, KeptEach};
 ghost use Rattle.call_unmarshal.specs.Helpers.{InBuffers};
 ghost use Rattle.call_read.specs.Read.{inCopies, copyAnswer, sameBytes, agrees, agreeAnswer, argumentAnswer, argumentsAnswer, readTests, readAnswer, readValues, readLengths};
-ghost use Rattle.call_read.specs.Helpers.{Compared, canRefuse, AllInBuffers};
-ghost use Rattle.sig_types.specs.Sizes.{maxSize};
+ghost use Rattle.call_read.specs.Helpers.{Compared, asks as asksOf, lengthsAnswer};
 
 // The lengths of the lent buffers that are tested.
 pub struct ReadLengths {
@@ -143,80 +141,42 @@ pub fn argument_answer(
     Answer::Done
 }
 
-// Whether reading an argument of a type can be refused at all. Most can't, and then nobody need know its places.
-fn can_refuse(r: CallRules, t: ValueType) -> bool
-    ensures { λ b. ⌜ b ≡ canRefuse r t ⌝ }
+// Whether anything is asked of an argument before it is read. Of most nothing is, and then nobody need know their types.
+fn asks(s: Span) -> bool
+    ensures { λ b. ⌜ b ≡ asksOf s ⌝ }
 {
-    match r {
-        CallRules::Power(f) => match t {
-            ValueType::Integer(_) => false,
-            ValueType::Float(x) => match x {
-                FloatFormat::Single => true,
-                FloatFormat::Double => f.ellipsis,
-                FloatFormat::LongDouble => f.ellipsis,
-            },
-            ValueType::Struct(_) => false,
-        },
-        CallRules::Z => match t {
-            ValueType::Integer(_) => false,
-            ValueType::Float(f) => match f {
-                FloatFormat::Single => false,
-                FloatFormat::Double => false,
-                FloatFormat::LongDouble => true,
-            },
-            ValueType::Struct(_) => true,
-        },
+    let floating = s.floating;
+    if 0 < floating.count {
+        return true;
     }
+    s.indirect
 }
 
-// Whether the argument at a cursor, of a type and its size, can be read.
-fn answer_at(
-    image: &[u8],
-    area: &[u8],
-    copies: &[u8],
-    r: CallRules,
-    c: Cursor,
-    t: ValueType,
-    n: usize,
-    base: u64,
-) -> Answer
-    requires { ⌜ LawfulCalls r × Roomy c × (n ≤ maxSize) × InBuffers r (length (now image)) (length (now area)) (placement t n (spanOf r c t n)) ⌝ }
-    ensures { λ a. ⌜ a ≡ argumentAnswer r base (placement t n (spanOf r c t n)) (buffers (now (image .entry)) (now (area .entry)) (now (copies .entry))) ⌝ }
-{
-    if can_refuse(r, t) {
-        let p = plan_placing::step(r, c, t, n);
-        let s = p.span;
-        return argument_answer(image, area, copies, r, t, n, s, base);
-    }
-    Answer::Done
-}
-
-// The refusal of the first argument of a signature that was read, left to right, that can't be read.
+// The refusal of the first kept argument, left to right, that can't be read.
 pub fn first_refusal(
     image: &[u8],
     area: &[u8],
     copies: &[u8],
-    g: SignatureRead,
+    rules: CallRules,
+    convention: Convention,
+    count: usize,
+    kept: &[u16],
     base: u64,
 ) -> Answer
-    requires { ⌜ AllInBuffers g (length (now image)) (length (now area)) ⌝ }
-    ensures { λ a. ⌜ a ≡ argumentsAnswer (rulesIn g) base (argumentsFrom g) (buffers (now (image .entry)) (now (area .entry)) (now (copies .entry))) ⌝ }
+    requires { ⌜ KeptEach (InBuffers rules (length (now image)) (length (now area))) convention (now kept) count ⌝ }
+    ensures { λ a. ⌜ a ≡ argumentsAnswer rules base (keptAll convention (now (kept .entry)) count) (buffers (now (image .entry)) (now (area .entry)) (now (copies .entry))) ⌝ }
 {
-    let convention = g.convention;
-    let result = g.result;
-    let count = g.count;
-    let rules = call_arguments::rules_in(convention, g.ellipsis);
-    let mut c = call_arguments::first_cursor(convention, result);
     let mut i: usize = 0;
     while i < count {
-        let a = g.arguments[i];
-        let t = a.ty;
-        let n = sig_types::size_of(convention, t);
-        let answer = answer_at(image, area, copies, rules, c, t, n, base);
-        if call_slots::is_refused(answer) {
-            return answer;
+        let s = call_kept::span_at(kept, i);
+        if asks(s) {
+            let t = call_kept::type_at(kept, i);
+            let n = sig_types::size_of(convention, t);
+            let answer = argument_answer(image, area, copies, rules, t, n, s, base);
+            if call_slots::is_refused(answer) {
+                return answer;
+            }
         }
-        c = plan_placing::advance(rules, c, t, n);
         i = i + 1;
     }
     Answer::Done
@@ -238,21 +198,29 @@ fn tested(have: ReadLengths, values: usize, area: usize) -> Answer
     Answer::Done
 }
 
-// Takes the values of a call's arguments out of the register image, the parameter area and the copies. Takes any bytes as signature,
-// and buffers of any lengths.
-pub fn read(
+// The reading of a call once what stands before its arguments is read: they are kept, so that both passes go over them without the signature.
+fn read_part(
     sig: &[u8],
     values: &mut [u8],
     image: &[u8],
     area: &[u8],
     copies: &[u8],
     base: u64,
+    convention: Convention,
+    returned: ResultType,
+    ellipsis: bool,
+    at: usize,
+    end: usize,
+    earlier: usize,
+    kept: &mut [u16],
 ) -> Answer
+    requires { ⌜ HeadIs (now sig) convention returned ellipsis at end earlier × KeepsRows at end (length (now kept)) ⌝ }
     ensures { λ a. ⌜ a ≡ readAnswer (now (sig .entry)) (readLengths (now (values .entry)) (now (image .entry)) (now (area .entry))) base (buffers (now (image .entry)) (now (area .entry)) (now (copies .entry))) ⌝ }
     ensures { λ a. ⌜ now (values .exit) ≡ readValues (now (sig .entry)) base a (buffers (now (image .entry)) (now (area .entry)) (now (copies .entry))) (now (values .entry)) ⌝ }
 {
-    let g = sig_whole::read_signature(sig);
-    let m = call_arguments::measure_call(sig, g);
+    let k = call_arguments::keep_call(sig, convention, ellipsis, returned, at, end, earlier, kept);
+    let count = k.count;
+    let m = k.sizes;
     let outcome = m.outcome;
     match outcome {
         Outcome::Refused(fault) => Answer::Unread(fault),
@@ -266,16 +234,116 @@ pub fn read(
             if call_slots::is_refused(lengths) {
                 return lengths;
             }
-            // what was read is copied to whoever looks at its arguments
-            if g.count == 0 {
-                return Answer::Done;
-            }
-            let answer = first_refusal(image, area, copies, g, base);
+            let rules = call_arguments::rules_in(convention, ellipsis);
+            let answer = first_refusal(image, area, copies, rules, convention, count, kept, base);
             if call_slots::is_refused(answer) {
                 return answer;
             }
-            call_unmarshal::take_arguments(values, image, area, copies, g, base);
+            call_unmarshal::take_arguments(
+                values,
+                image,
+                area,
+                copies,
+                rules,
+                convention,
+                count,
+                kept,
+                base,
+            );
             Answer::Done
+        }
+    }
+}
+
+// The same of a call without arguments: only the lengths are tested.
+fn read_none(
+    sig: &[u8],
+    values: &[u8],
+    image: &[u8],
+    area: &[u8],
+    convention: Convention,
+    returned: ResultType,
+    end: usize,
+    earlier: usize,
+) -> Answer
+    requires { ⌜ NoneLeft (now sig) convention returned end earlier ⌝ }
+    ensures { λ a. ⌜ a ≡ lengthsAnswer (now (sig .entry)) (readLengths (now (values .entry)) (now (image .entry)) (now (area .entry))) ⌝ }
+{
+    let m = call_arguments::measure_none(sig, convention, returned, end, earlier);
+    let outcome = m.outcome;
+    match outcome {
+        Outcome::Refused(fault) => Answer::Unread(fault),
+        Outcome::Accepted(_) => {
+            let have = ReadLengths {
+                values: values.len(),
+                image: image.len(),
+                area: area.len(),
+            };
+            tested(have, m.values, m.area)
+        }
+    }
+}
+
+// Takes the values of a call's arguments out of the register image, the parameter area and the copies. Takes any bytes as signature,
+// and buffers of any lengths.
+pub fn read(
+    sig: &[u8],
+    values: &mut [u8],
+    image: &[u8],
+    area: &[u8],
+    copies: &[u8],
+    base: u64,
+) -> Answer
+    ensures { λ a. ⌜ a ≡ readAnswer (now (sig .entry)) (readLengths (now (values .entry)) (now (image .entry)) (now (area .entry))) base (buffers (now (image .entry)) (now (area .entry)) (now (copies .entry))) ⌝ }
+    ensures { λ a. ⌜ now (values .exit) ≡ readValues (now (sig .entry)) base a (buffers (now (image .entry)) (now (area .entry)) (now (copies .entry))) (now (values .entry)) ⌝ }
+{
+    match sig_head::read_head(sig) {
+        HeadRead::Refused(fault) => Answer::Unread(fault),
+        HeadRead::Head {
+            convention,
+            result,
+            ellipsis,
+            at,
+            end,
+            earlier,
+        } => {
+            if at == end {
+                return read_none(sig, values, image, area, convention, result, end, earlier);
+            }
+            if end - at <= FEW_BYTES {
+                let mut few = [0u16; 120];
+                return read_part(
+                    sig,
+                    values,
+                    image,
+                    area,
+                    copies,
+                    base,
+                    convention,
+                    result,
+                    ellipsis,
+                    at,
+                    end,
+                    earlier,
+                    &mut few,
+                );
+            }
+            let mut many = [0u16; 1280];
+            read_part(
+                sig,
+                values,
+                image,
+                area,
+                copies,
+                base,
+                convention,
+                result,
+                ellipsis,
+                at,
+                end,
+                earlier,
+                &mut many,
+            )
         }
     }
 }

@@ -8,6 +8,7 @@ use native.Mathlib.Omega.{arith}
 use borrow.Author.Tests.{ltb-true, ltb-false}
 use lib.Dec.{ltb}
 use lib.ListN.{length, getD, take, drop}
+use Rattle.base_words.specs.Basics.{All}
 use Rattle.base_conventions.specs.declared.Convention.{Convention}
 use Rattle.sig_types.specs.declared.ValueType.{ValueType}
 use Rattle.sig_types.specs.Sizes.{sizeOf}
@@ -28,7 +29,7 @@ use Rattle.plan_places.proofs.Registers.{step-numbered}
 use Rattle.plan_plans.specs.Plan.{spansOf, hiddenIn, startIn, planAnswer}
 use Rattle.call_slots.specs.Buffers.{Slot}
 use Rattle.call_slots.specs.Placements.{Placement, placement, placements, standing, slotsOf, slotsOfAll}
-use Rattle.call_slots.specs.Helpers.{Held, All}
+use Rattle.call_slots.specs.Helpers.{Held}
 use Rattle.call_slots.specs.Forms.{floatBytes}
 use Rattle.call_registers.proofs.Registers.{spread-short}
 use Rattle.call_slots.specs.Arguments.{placementsIn, argumentsOf, rulesIn, rulesFor}

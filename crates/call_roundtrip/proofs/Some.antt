@@ -4,6 +4,7 @@ use mathlib.Core.List.{List, [], _∷_}
 use Prim.Native.Nat.{ℕ, zero, suc, _<_}
 use native.Mathlib.Omega.{arith}
 use lib.ListN.{getD}
+use Rattle.base_words.specs.Basics.{All}
 use Rattle.base_conventions.specs.declared.Convention.{Convention}
 use Rattle.sig_types.specs.declared.ValueType.{ValueType}
 use Rattle.sig_types.specs.Sizes.{sizeOf}
@@ -18,7 +19,6 @@ use Rattle.plan_places.specs.declared.CallRules.{CallRules}
 use Rattle.plan_places.specs.Step.{rulesOf, withEllipsis, nextOf}
 use Rattle.plan_plans.specs.Plan.{spansOf, startIn, planAnswer}
 use Rattle.call_slots.specs.Placements.{Placement, placements}
-use Rattle.call_slots.specs.Helpers.{All}
 use Rattle.call_slots.specs.Arguments.{placementsIn, argumentsOf}
 use Rattle.call_slots.proofs.Answered.{arguments-got}
 use Rattle.call_slots.proofs.Typed.{AllTyped, all-typed}

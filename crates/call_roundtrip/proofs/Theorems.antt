@@ -7,6 +7,7 @@ use native.Mathlib.Omega.{arith}
 use borrow.Author.Tests.{eq-eqb, le-ltb}
 use lib.ListN.{length, take, drop, length-drop, take-append-drop}
 use lib.Seq.{length-take-le}
+use Rattle.base_words.specs.Basics.{All}
 use Rattle.base_words.specs.Splice.{overlay}
 use Rattle.base_words.specs.Numbers.{Bytes}
 use Rattle.base_words.proofs.Splices.{overlay-whole}
@@ -33,7 +34,7 @@ use Rattle.plan_plans.specs.Plan.{spansOf, hiddenIn, startIn, planAnswer}
 use Rattle.call_slots.specs.declared.Answer.{Answer}
 use Rattle.call_slots.specs.Buffers.{Buffers, buffers, Slot, putAll}
 use Rattle.call_slots.specs.Placements.{Placement, placement, placements, slotsOf, slotsOfAll, hiddenSlots, valuesAt}
-use Rattle.call_slots.specs.Helpers.{Held, Fits, All, sizesOf}
+use Rattle.call_slots.specs.Helpers.{Held, Fits, sizesOf}
 use Rattle.call_slots.specs.Refusals.{firstOf, orElse, firstOfAll, afterReading}
 use Rattle.plan_plans.specs.Call.{outcomeFor}
 use Rattle.call_slots.specs.Arguments.{placementsIn, argumentsOf, planFor, rulesIn, rulesFor}

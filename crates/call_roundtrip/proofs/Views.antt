@@ -9,7 +9,7 @@ use borrow.Author.Tests.{lt-ltb, le-ltb, ltb-true, ltb-false, eq-eqb, lt-leb}
 use lib.Dec.{ltb}
 use lib.ListN.{length, getD, take, drop, length-drop, length-append}
 use lib.Seq.{take-at, drop-at}
-use Rattle.base_words.specs.Basics.{pick}
+use Rattle.base_words.specs.Basics.{pick, All}
 use Rattle.base_words.specs.Splice.{splice, part}
 use Rattle.base_words.specs.Numbers.{Bytes, valueOf}
 use Rattle.base_words.proofs.Splices.{overlay-whole, splice-same, splice-other, length-splice, length-part, part-add, part-part}
@@ -42,7 +42,7 @@ use Rattle.call_slots.specs.declared.Answer.{Answer}
 use Rattle.call_slots.specs.Buffers.{Buffers, buffers, bytesAt}
 use Rattle.call_slots.specs.Forms.{roomOf, startsAtHead, homeBytes, ownStart, narrowedBytes, floatValueAs, floatValue}
 use Rattle.call_slots.specs.Placements.{Placement, placements, wordsAt, floatAt, wordsValue, valueAt, valuesAt}
-use Rattle.call_slots.specs.Helpers.{InImage, All, sizesOf}
+use Rattle.call_slots.specs.Helpers.{InImage, sizesOf}
 use Rattle.call_slots.specs.Refusals.{firstOf, orElse, firstOfAll, floatAnswer, afterReading, isDone}
 use Rattle.plan_plans.specs.Call.{outcomeFor}
 use Rattle.call_slots.specs.Arguments.{placementsIn, argumentsOf, planFor, rulesIn, rulesFor}
@@ -401,7 +401,7 @@ image-bytes r base (p ∷ ps) b h = (
 arguments-readable : (s : List ℕ) (base : ℕ) (b : Buffers) → length (b .image) ≡ 512 → planFor s .area ≤ length (b .area)
     → argumentsAnswer (rulesFor s) base (argumentsOf s) b ≡ Answer.Done → All (λ (p : Placement). Readable (rulesFor s) base p b) (argumentsOf s)
 arguments-readable s base b image area done =
-    all-readable (rulesFor s) base b (argumentsOf s) (each-ready s (signatureAnswer (signatureOf s)) (length (b .image)) (length (b .area)) refl image area) done
+    all-readable (rulesFor s) base b (argumentsOf s) (each-ready s (rulesFor s) (length (b .image)) (length (b .area)) refl image area) done
 
 -- what can be read can be homed, and then each view is the value read
 viewed : (s : List ℕ) (base : ℕ) (b : Buffers) → homeless (rulesFor s) ≡ false

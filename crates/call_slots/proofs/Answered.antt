@@ -5,6 +5,7 @@ use mathlib.Core.List.{List, [], _++_}
 use Prim.Native.Nat.{ℕ, _+_, _-_, _≤_}
 use native.Mathlib.Omega.{arith}
 use lib.ListN.{length, replicate, length-append}
+use Rattle.base_words.specs.Basics.{All}
 use Rattle.base_conventions.specs.declared.Convention.{Convention}
 use Rattle.sig_types.specs.declared.ValueType.{ValueType}
 use Rattle.sig_types.specs.Trees.{countOf}
@@ -31,7 +32,7 @@ use Rattle.plan_plans.specs.Helpers.{planned}
 use Rattle.plan_plans.proofs.Fold.{length-spans, last-marked}
 use Rattle.plan_plans.proofs.Answers.{planned-answer}
 use Rattle.call_slots.specs.Placements.{Placement, placements}
-use Rattle.call_slots.specs.Helpers.{Held, Fits, All, sizesOf, Tabled}
+use Rattle.call_slots.specs.Helpers.{Held, Fits, sizesOf, Tabled}
 use Rattle.call_slots.specs.Arguments.{placementsIn, planFor, rulesIn}
 use Rattle.call_slots.proofs.Typed.{all-typed}
 use Rattle.call_slots.proofs.Planned.{placements-table, placements-sizes, all-held, all-fit}

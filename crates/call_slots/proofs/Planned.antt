@@ -6,7 +6,7 @@ use mathlib.Core.List.{List, [], _∷_, _++_}
 use Prim.Native.Nat.{ℕ, _+_, _≤_}
 use native.Mathlib.Omega.{arith}
 use lib.ListN.{length}
-use Rattle.base_words.specs.Basics.{pick}
+use Rattle.base_words.specs.Basics.{pick, All}
 use Rattle.base_conventions.specs.declared.Convention.{Convention}
 use Rattle.sig_types.specs.declared.ValueType.{ValueType}
 use Rattle.sig_types.specs.Sizes.{sizeOf}
@@ -22,7 +22,7 @@ use Rattle.sig_signatures.specs.Types.{valuesOf}
 use Rattle.plan_plans.specs.Plan.{spansOf, lastOf}
 use Rattle.plan_plans.proofs.Fold.{last-forward}
 use Rattle.call_slots.specs.Placements.{Placement, placement, placements, copyBytes}
-use Rattle.call_slots.specs.Helpers.{Held, Fits, InImage, All, sizesOf}
+use Rattle.call_slots.specs.Helpers.{Held, Fits, InImage, sizesOf}
 use Rattle.call_slots.proofs.Typed.{AllTyped}
 use Rattle.call_slots.proofs.Held.{step-held}
 

@@ -7,6 +7,7 @@ use native.Mathlib.Omega.{arith}
 use native.Mathlib.Numerals.{add-one}
 use lib.ListN.{length, getD, drop}
 use lib.Seq.{drop-cons}
+use Rattle.base_words.specs.Basics.{All}
 use Rattle.base_conventions.specs.declared.Convention.{Convention}
 use Rattle.sig_types.specs.declared.IntegerKind.{IntegerKind}
 use Rattle.sig_types.specs.declared.ValueType.{ValueType}
@@ -20,7 +21,6 @@ use Rattle.plan_plans.specs.declared.Plan.{Plan}
 use Rattle.plan_plans.specs.Plan.{noSpan}
 use Rattle.call_slots.specs.declared.Answer.{Answer}
 use Rattle.call_slots.specs.Placements.{Placement, placement, placements}
-use Rattle.call_slots.specs.Helpers.{All}
 use Rattle.call_slots.specs.Refusals.{orElse, firstOfAll, isRefused}
 use Rattle.call_slots.specs.Arguments.{placementsIn}
 use Rattle.call_slots.proofs.Refusals.{or-refused, not-refused}

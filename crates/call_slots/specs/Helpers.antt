@@ -57,11 +57,6 @@ pub record InImage (r : CallRules) (i : ℕ) (p : Placement) : Type 0 where
   pub floating : p .span .floating .first + p .span .floating .count ≤ 32
   pub image : i ≡ imageBytes
 
--- each of several
-unfoldable pub All : (Placement → Type 0) → List Placement → Type 0
-All P [] = Unit {0}
-All P (p ∷ ps) = P p × All P ps
-
 -- the bytes of all values
 unfoldable pub sizesOf : List Placement → ℕ
 sizesOf [] = 0

@@ -8,7 +8,7 @@ use borrow.Author.Tests.{ltb-true, ltb-false}
 use lib.Dec.{ltb}
 use lib.ListN.{length, length-append}
 use lib.Seq.{length-take-le}
-use Rattle.base_words.specs.Basics.{pick}
+use Rattle.base_words.specs.Basics.{pick, All}
 use Rattle.base_words.specs.Splice.{part}
 use Rattle.base_words.specs.Numbers.{valueOf}
 use Rattle.base_words.proofs.Splices.{length-part}
@@ -26,7 +26,7 @@ use Rattle.call_slots.specs.declared.Answer.{Answer}
 use Rattle.call_slots.specs.Buffers.{Buffers, bytesAt}
 use Rattle.call_slots.specs.Forms.{startsAtHead, ownStart, roomOf, narrowedBytes, floatValueAs, floatValue}
 use Rattle.call_slots.specs.Placements.{Placement, wordsAt, floatAt, addressAt, wordsValue, valueAt, valuesAt}
-use Rattle.call_slots.specs.Helpers.{FloatSized, Held, All, sizesOf}
+use Rattle.call_slots.specs.Helpers.{FloatSized, Held, sizesOf}
 use Rattle.call_slots.specs.Refusals.{narrowedAnswer, floatAnswer}
 use Rattle.call_unmarshal.specs.Helpers.{Stored, FprsHold, Readable}
 

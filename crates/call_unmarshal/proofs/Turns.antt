@@ -5,12 +5,13 @@ use Prim.Native.Nat.{ℕ, suc, _+_, _≤_}
 use native.Mathlib.Omega.{arith}
 use native.Mathlib.Numerals.{add-one}
 use lib.ListN.{length, drop}
+use Rattle.base_words.specs.Basics.{All}
 use Rattle.base_words.specs.Splice.{overlay, splice}
 use Rattle.base_words.proofs.Splices.{length-splice, splice-head, splice-nothing, splice-append}
 use Rattle.plan_places.specs.declared.CallRules.{CallRules}
 use Rattle.call_slots.specs.Buffers.{Buffers}
 use Rattle.call_slots.specs.Placements.{Placement, valueAt, valuesAt}
-use Rattle.call_slots.specs.Helpers.{All, sizesOf}
+use Rattle.call_slots.specs.Helpers.{sizesOf}
 use Rattle.call_unmarshal.specs.Helpers.{Readable}
 use Rattle.call_unmarshal.proofs.Arguments.{value-length}
 

@@ -9,8 +9,6 @@ use lib.ListN.{length}
 use Rattle.base_words.specs.Numbers.{valueOf}
 use Rattle.sig_types.specs.declared.Equivalent.{Equivalent}
 use Rattle.sig_types.specs.Sizes.{equivalentOf}
-use Rattle.sig_signatures.specs.declared.SignatureRead.{SignatureRead}
-use Rattle.sig_signatures.specs.Helpers.{Plannable}
 use Rattle.plan_places.specs.declared.CallRules.{CallRules}
 use Rattle.plan_places.specs.declared.Span.{Span}
 use Rattle.plan_places.specs.Step.{wordOf}
@@ -19,9 +17,7 @@ use Rattle.call_slots.specs.declared.Answer.{Answer}
 use Rattle.call_slots.specs.Buffers.{Buffers}
 use Rattle.call_slots.specs.Placements.{Placement, floatAt, addressAt}
 use Rattle.call_slots.specs.Refusals.{floatAnswer}
-use Rattle.call_slots.specs.Helpers.{InImage, All, sizesOf}
-use Rattle.call_slots.specs.Arguments.{rulesIn}
-use Rattle.call_arguments.specs.Table.{argumentsFrom}
+use Rattle.call_slots.specs.Helpers.{InImage}
 
 -- m bytes at s lie in an area of a bytes; none may start anywhere: an argument in registers asks nothing of the area
 abbrev pub Stored : ℕ → ℕ → ℕ → Type 0
@@ -51,9 +47,3 @@ pub record Readable (r : CallRules) (base : ℕ) (p : Placement) (b : Buffers) :
   -- 13 is not given
   pub inside : p .span .floating .count ≤ 0 → p .span .indirect ≡ true
       → (base ≤ addressAt (wordOf r) (p .span) b) × (addressAt (wordOf r) (p .span) b - base + p .size ≤ length (b .copies))
-
--- all arguments of a signature that was read, into values of v bytes
-pub record AllReadable (g : SignatureRead) (base v : ℕ) (b : Buffers) : Type 0 where
-  pub plannable : Plannable g
-  pub each : All (λ (q : Placement). Readable (rulesIn g) base q b) (argumentsFrom g)
-  pub total : sizesOf (argumentsFrom g) ≡ v

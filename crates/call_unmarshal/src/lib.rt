@@ -1,9 +1,9 @@
 // The values of arguments taken out of their registers, memory and copies. An argument is taken only where nothing refuses its reading.
+use base_conventions::Convention;
 use base_ieee::Narrowed;
 use plan_places::CallRules;
 use plan_places::FPRS_AT;
 use plan_places::Span;
-use sig_signatures::SignatureRead;
 use sig_types::Equivalent;
 use sig_types::ValueType;
 ghost use mathlib.Core.Path.{_≡_};
@@ -14,10 +14,10 @@ ghost use Rattle.base_words.specs.Splice.{overlay, part};
 ghost use Rattle.base_ieee.specs.Narrowing.{narrow as narrowOf};
 ghost use Rattle.call_slots.specs.Buffers.{buffers};
 ghost use Rattle.call_slots.specs.Forms.{narrowedBytes, floatValueAs};
-ghost use Rattle.call_slots.specs.Placements.{placement, wordsAt, addressAt, valueAt, valuesAt};
-ghost use Rattle.call_slots.specs.Arguments.{rulesIn};
-ghost use Rattle.call_arguments.specs.Table.{argumentsFrom};
-ghost use Rattle.call_unmarshal.specs.Helpers.{SpanHolds, FprsHold, Readable, AllReadable};
+ghost use Rattle.call_slots.specs.Placements.{Placement, placement, wordsAt, addressAt, valueAt, valuesAt};
+ghost use Rattle.call_slots.specs.Helpers.{sizesOf};
+ghost use Rattle.call_kept.specs.Helpers.{keptAll, KeptEach};
+ghost use Rattle.call_unmarshal.specs.Helpers.{SpanHolds, FprsHold, Readable};
 
 // The address in a span's only word, a doubleword: no convention with smaller words passes copies.
 pub fn word_at(image: &[u8], area: &[u8], s: Span) -> u64
@@ -135,34 +135,29 @@ pub fn take_argument(
     );
 }
 
-// The values of all arguments of a signature that was read, one after the other.
+// The values of all arguments that are kept, one after the other.
 pub fn take_arguments(
     values: &mut [u8],
     image: &[u8],
     area: &[u8],
     copies: &[u8],
-    g: SignatureRead,
+    rules: CallRules,
+    convention: Convention,
+    count: usize,
+    kept: &[u16],
     base: u64,
 )
-    requires { ⌜ AllReadable g base (length (now values)) (buffers (now image) (now area) (now copies)) ⌝ }
-    ensures { λ _. ⌜ now (values .exit) ≡ overlay (now (values .entry)) (valuesAt (rulesIn g) base (argumentsFrom g) (buffers (now (image .entry)) (now (area .entry)) (now (copies .entry)))) ⌝ }
+    requires { ⌜ KeptEach (λ (q : Placement). Readable rules base q (buffers (now image) (now area) (now copies))) convention (now kept) count × (sizesOf (keptAll convention (now kept) count) ≡ length (now values)) ⌝ }
+    ensures { λ _. ⌜ now (values .exit) ≡ overlay (now (values .entry)) (valuesAt rules base (keptAll convention (now (kept .entry)) count) (buffers (now (image .entry)) (now (area .entry)) (now (copies .entry)))) ⌝ }
 {
-    let convention = g.convention;
-    let result = g.result;
-    let count = g.count;
-    let rules = call_arguments::rules_in(convention, g.ellipsis);
-    let mut c = call_arguments::first_cursor(convention, result);
     let mut v: usize = 0;
     let mut i: usize = 0;
     while i < count {
-        let a = g.arguments[i];
-        let t = a.ty;
+        let t = call_kept::type_at(kept, i);
+        let s = call_kept::span_at(kept, i);
         let n = sig_types::size_of(convention, t);
-        let p = plan_placing::step(rules, c, t, n);
-        let s = p.span;
         take_argument(&mut values[v..], image, area, copies, rules, t, n, s, base);
         v = v + n;
-        c = p.next;
         i = i + 1;
     }
 }

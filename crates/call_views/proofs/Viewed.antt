@@ -7,7 +7,7 @@ use native.Mathlib.Omega.{arith}
 use borrow.Author.Tests.{ltb-false, leb-false}
 use native.Mathlib.Nat.{add-sub-cancel-left}
 use lib.ListN.{length, getD, take, drop}
-use Rattle.base_words.specs.Basics.{pick}
+use Rattle.base_words.specs.Basics.{pick, All}
 use Rattle.sig_signatures.specs.Limits.{maxArguments}
 use Rattle.sig_signatures.specs.declared.Outcome.{Outcome}
 use Rattle.sig_signatures.specs.declared.SignatureRead.{SignatureRead}
@@ -19,7 +19,7 @@ use Rattle.plan_plans.specs.declared.Plan.{Plan}
 use Rattle.call_slots.specs.declared.Answer.{Answer}
 use Rattle.call_slots.specs.Forms.{ownStart}
 use Rattle.call_slots.specs.Placements.{Placement}
-use Rattle.call_slots.specs.Helpers.{Held, All}
+use Rattle.call_slots.specs.Helpers.{Held}
 use Rattle.call_slots.specs.Refusals.{Test, firstOf, afterReading, isDone, isRefused}
 use Rattle.plan_plans.specs.Call.{outcomeFor}
 use Rattle.call_slots.specs.Arguments.{placementsIn, argumentsOf, planFor, rulesIn, rulesFor}

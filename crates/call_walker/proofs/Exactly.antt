@@ -15,7 +15,7 @@ use Rattle.sig_signatures.specs.Types.{typesOf}
 use Rattle.call_slots.proofs.Typed.{all-typed}
 use Rattle.call_walker.specs.declared.Counters.{Counters}
 use Rattle.call_walker.specs.declared.Walker.{Walker}
-use Rattle.call_walker.specs.Walker.{countersOf, mark, powerPossible, zPossible, possible, inRange, lost}
+use Rattle.call_walker.specs.Walker.{countersOf, powerPossible, zPossible, possible, inRange, lost}
 use Rattle.call_walker.specs.Walks.{Led, Small, LostExactly}
 use Rattle.call_walker.proofs.Reached.{Possible, reached-start, reached-last, reached-possible, counters-back, possible-led}
 

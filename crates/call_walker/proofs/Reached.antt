@@ -8,7 +8,7 @@ use native.Mathlib.Omega.{arith}
 use native.Mathlib.Nat.{mul-add, mul-div-cancel-left, add-div-left, div-eq-of-lt}
 use borrow.Author.Tests.{le-leb}
 use lib.Dec.{leb}
-use Rattle.base_words.specs.Basics.{pick}
+use Rattle.base_words.specs.Basics.{pick, flag}
 use Rattle.base_conventions.specs.declared.Convention.{Convention}
 use Rattle.sig_types.specs.declared.FloatFormat.{FloatFormat}
 use Rattle.sig_types.specs.declared.IntegerKind.{IntegerKind}
@@ -33,13 +33,13 @@ use Rattle.plan_plans.specs.Plan.{lastOf}
 use Rattle.plan_plans.proofs.Fold.{last-more}
 use Rattle.call_slots.proofs.Typed.{AllTyped}
 use Rattle.call_walker.specs.declared.Counters.{Counters}
-use Rattle.call_walker.specs.Walker.{counters, cursorAt, countersOf, mark}
+use Rattle.call_walker.specs.Walker.{counters, cursorAt, countersOf}
 
 -- what the test of 23 says of counters
 abbrev pub Possible : CallRules → Bool → Counters → Type 0
-Possible (CallRules.Power f) hidden k = (k .floating ≤ 13) × (k .floating + mark hidden ≤ k .general) × (k .stack ≡ 0)
+Possible (CallRules.Power f) hidden k = (k .floating ≤ 13) × (k .floating + flag hidden ≤ k .general) × (k .stack ≡ 0)
 Possible CallRules.Z hidden k =
-    (2 + mark hidden ≤ k .general) × (k .general ≤ 7) × (k .floating ≤ 8) × (k .floating % 2 ≡ 0) × (160 ≤ k .stack) × (k .stack % 8 ≡ 0)
+    (2 + flag hidden ≤ k .general) × (k .general ≤ 7) × (k .floating ≤ 8) × (k .floating % 2 ≡ 0) × (160 ≤ k .stack) × (k .stack % 8 ≡ 0)
     × ((k .stack ≤ 160) ⊎ ((7 ≤ k .general) ⊎ (8 ≤ k .floating)))
 
 -- ---- from the start on
@@ -47,9 +47,9 @@ Possible CallRules.Z hidden k =
 -- what holds of every cursor that arguments lead to
 abbrev pub Reached : CallRules → Bool → Cursor → Type 0
 Reached (CallRules.Power f) hidden d =
-    (w : ℕ) × (d .stack ≡ f .word * w) × (d .general ≡ 3 + min w 8) × (1 ≤ d .floating) × (d .floating ≤ 14) × (d .floating + mark hidden ≤ w + 1)
+    (w : ℕ) × (d .stack ≡ f .word * w) × (d .general ≡ 3 + min w 8) × (1 ≤ d .floating) × (d .floating ≤ 14) × (d .floating + flag hidden ≤ w + 1)
 Reached CallRules.Z hidden d =
-    (2 + mark hidden ≤ d .general) × (d .general ≤ 7) × (d .floating ≤ 8) × (d .floating % 2 ≡ 0) × (d .stack % 8 ≡ 0)
+    (2 + flag hidden ≤ d .general) × (d .general ≤ 7) × (d .floating ≤ 8) × (d .floating % 2 ≡ 0) × (d .stack % 8 ≡ 0)
     × ((d .stack ≤ 0) ⊎ ((7 ≤ d .general) ⊎ (8 ≤ d .floating)))
 
 words-some : (w n : ℕ) → 0 < w → 0 < n → 1 ≤ words w n
@@ -285,16 +285,16 @@ module _ (c : Convention) (f : PowerRules) (hidden : Bool) (l : LawfulCalls (Cal
       let g : m + suc n ≡ m + 1 + n = omega arith in
       rw (e, g) (power-singles n (w + 1) (m + 1) (omega arith) (lead-more c (CallRules.Power f) hidden _ _ single (within-single c) (power-single w m (omega arith)) d))
 
-  power-start : (v : Bool) → startOf (CallRules.Power f) v ≡ counted (f .word) (mark v) 1 0
+  power-start : (v : Bool) → startOf (CallRules.Power f) v ≡ counted (f .word) (flag v) 1 0
   power-start false = start-written f
   power-start true = hidden-written f (omega arith)
 
-  power-led : (w m : ℕ) → m ≤ 13 → m + mark hidden ≤ w → LeadTo c (CallRules.Power f) hidden (counted (f .word) w (1 + m) 0)
+  power-led : (w m : ℕ) → m ≤ 13 → m + flag hidden ≤ w → LeadTo c (CallRules.Power f) hidden (counted (f .word) w (1 + m) 0)
   power-led w m few enough =
-      let rest : mark hidden + m + (w - (mark hidden + m)) ≡ w = omega arith in
+      let rest : flag hidden + m + (w - (flag hidden + m)) ≡ w = omega arith in
       subst (λ (x : ℕ). LeadTo c (CallRules.Power f) hidden (counted (f .word) x (1 + m) 0)) rest
-      (power-ints (w - (mark hidden + m)) (mark hidden + m) (1 + m)
-      (power-singles m (mark hidden) 1 (omega arith) (lead-start c (CallRules.Power f) hidden _ (power-start hidden))))
+      (power-ints (w - (flag hidden + m)) (flag hidden + m) (1 + m)
+      (power-singles m (flag hidden) 1 (omega arith) (lead-start c (CallRules.Power f) hidden _ (power-start hidden))))
 
 -- Z: registers while they are left, then eight bytes each
 module _ (c : Convention) (hidden : Bool) where
@@ -346,19 +346,19 @@ module _ (c : Convention) (hidden : Bool) where
       let e : s + 8 * suc n ≡ s + 8 + 8 * n = omega arith in
       rw e (z-singles-stack n g (s + 8) (lead-more c CallRules.Z hidden _ _ single (within-single c) (z-single-stack g s) d))
 
-  z-start : (v : Bool) → startOf CallRules.Z v ≡ cursor (2 + mark v) 0 0 0
+  z-start : (v : Bool) → startOf CallRules.Z v ≡ cursor (2 + flag v) 0 0 0
   z-start false = z-start-written
   z-start true = z-hidden-written
 
-  z-registers : (g m : ℕ) → 2 + mark hidden ≤ g → g ≤ 7 → m ≤ 8 → m % 2 ≡ 0 → LeadTo c CallRules.Z hidden (cursor g m 0 0)
+  z-registers : (g m : ℕ) → 2 + flag hidden ≤ g → g ≤ 7 → m ≤ 8 → m % 2 ≡ 0 → LeadTo c CallRules.Z hidden (cursor g m 0 0)
   z-registers g m a b d e =
-      let x : 2 + mark hidden + (g - (2 + mark hidden)) ≡ g = omega arith in
+      let x : 2 + flag hidden + (g - (2 + flag hidden)) ≡ g = omega arith in
       let y : 0 + 2 * (m / 2) ≡ m = omega arith in
       let start = lead-start c CallRules.Z hidden _ (z-start hidden) in
-      let ints : LeadTo c CallRules.Z hidden (cursor g 0 0 0) = subst (λ (z : ℕ). LeadTo c CallRules.Z hidden (cursor z 0 0 0)) x (z-ints (g - (2 + mark hidden)) (2 + mark hidden) 0 0 (omega arith) start) in
+      let ints : LeadTo c CallRules.Z hidden (cursor g 0 0 0) = subst (λ (z : ℕ). LeadTo c CallRules.Z hidden (cursor z 0 0 0)) x (z-ints (g - (2 + flag hidden)) (2 + flag hidden) 0 0 (omega arith) start) in
       subst (λ (z : ℕ). LeadTo c CallRules.Z hidden (cursor g z 0 0)) y (z-singles (m / 2) g 0 0 (omega arith) ints)
 
-  z-led : (g m s : ℕ) → 2 + mark hidden ≤ g → g ≤ 7 → m ≤ 8 → m % 2 ≡ 0 → s % 8 ≡ 0 → (s ≤ 0) ⊎ ((7 ≤ g) ⊎ (8 ≤ m)) → LeadTo c CallRules.Z hidden (cursor g m s 0)
+  z-led : (g m s : ℕ) → 2 + flag hidden ≤ g → g ≤ 7 → m ≤ 8 → m % 2 ≡ 0 → s % 8 ≡ 0 → (s ≤ 0) ⊎ ((7 ≤ g) ⊎ (8 ≤ m)) → LeadTo c CallRules.Z hidden (cursor g m s 0)
   z-led g m s a b d e q (inl x) = let z : s ≡ 0 = omega arith in rw z (z-registers g m a b d e)
   z-led g m s a b d e q (inr (inl x)) =
       let z : g ≡ 7 = omega arith in

@@ -7,7 +7,7 @@ use native.Mathlib.Omega.{arith}
 use native.Mathlib.Nat.{div-le-self}
 use lib.ListN.{length, take, drop, length-append, length-drop}
 use lib.Seq.{length-take-le}
-use Rattle.base_words.specs.Basics.{pick}
+use Rattle.base_words.specs.Basics.{pick, All}
 use Rattle.base_words.specs.Splice.{overlay}
 use Rattle.base_words.proofs.Splices.{overlay-whole}
 use Rattle.base_conventions.specs.declared.Convention.{Convention}
@@ -43,7 +43,7 @@ use Rattle.plan_plans.proofs.Fold as fold
 use Rattle.call_slots.specs.declared.Answer as call
 use Rattle.call_slots.specs.Buffers.{Buffers}
 use Rattle.call_slots.specs.Placements.{Placement, placement, placements, valueAt, valuesAt}
-use Rattle.call_slots.specs.Helpers.{All, sizesOf}
+use Rattle.call_slots.specs.Helpers.{sizesOf}
 use Rattle.call_slots.specs.Refusals.{firstOf, orElse, firstOfAll, afterReading}
 use Rattle.call_slots.specs.Arguments.{rulesIn, placementsIn, argumentsOf}
 use Rattle.call_slots.proofs.Typed.{Typed, AllTyped, all-typed}
@@ -252,7 +252,7 @@ walks-alike s ws base b v accept = go (signatureOf s) refl accept
         arguments-got g next n ∙ ap (λ (z : List ValueType). placements c z (spansOf c r k z)) (sym order) in
         let whole : argumentsOf s ≡ ps = ap (λ (z : Reading Signature). placementsIn (signatureAnswer z) (planAnswer z)) e ∙ same in
         let done : argumentsAnswer r base ps b ≡ call.Answer.Done = subst (λ (z : List Placement). argumentsAnswer r base z b ≡ call.Answer.Done) same (both .1) in
-        let ready = each-ready s (signatureAnswer (got g next n)) (length (b .image)) (length (b .area)) (sym (ap signatureAnswer e)) (lent .image) (rw e (lent .area)) in
+        let ready = each-ready s (rulesIn (signatureAnswer (got g next n))) (length (b .image)) (length (b .area)) (sym (ap (λ (x : Reading Signature). rulesIn (signatureAnswer x)) e)) (lent .image) (rw e (lent .area)) in
         let readable = all-readable r base b ps (subst (All (InBuffers r (length (b .image)) (length (b .area)))) whole ready) done in
         let sized = all-sizes r base ps b readable in
         let size : length v ≡ valuesOf c types = lent .values ∙ (sym (planned-values n c mark q (typesOf c (g .arguments))) ∙ ap (valuesOf c) (sym order)) in

@@ -7,7 +7,7 @@ use native.Mathlib.Omega.{arith}
 use borrow.Author.Tests.{le-ltb}
 use lib.Dec.{leb, eqb}
 use lib.ListN.{length}
-use Rattle.base_words.specs.Basics.{pick}
+use Rattle.base_words.specs.Basics.{pick, flag}
 use Rattle.base_conventions.specs.declared.Convention.{Convention}
 use Rattle.base_conventions.specs.declared.ConventionCode.{ConventionCode}
 use Rattle.base_conventions.specs.Numbers.{codeOf, conventionCode}
@@ -23,15 +23,15 @@ use Rattle.sig_items.proofs.Complete.{tree-reads}
 use Rattle.sig_signatures.specs.Limits.{maxLength}
 use Rattle.call_walker.specs.declared.Walker.{Walker}
 use Rattle.call_walker.specs.declared.WalkerRead.{WalkerRead}
-use Rattle.call_walker.specs.Walker.{walker, mark, lost}
+use Rattle.call_walker.specs.Walker.{walker, lost}
 use Rattle.call_walker.specs.Step.{typeItem}
 use Rattle.call_walker.specs.Words.{unlost, walkerBy, walkerIn, walkerWords}
 
-mark-small : (b : Bool) → leb (mark b) 1 ≡ true
+mark-small : (b : Bool) → leb (flag b) 1 ≡ true
 mark-small true = refl
 mark-small false = refl
 
-mark-back : (b : Bool) → eqb (mark b) 1 ≡ b
+mark-back : (b : Bool) → eqb (flag b) 1 ≡ b
 mark-back true = refl
 mark-back false = refl
 

@@ -3,6 +3,7 @@
 use Prim.Native.Nat.{ℕ, _+_, _-_, _*_, _/_, _%_, _^_, min}
 use mathlib.Core.Bool.{Bool, true, false, not, _&&_, _||_}
 use lib.Dec.{eqb, leb}
+use Rattle.base_words.specs.Basics.{flag}
 use Rattle.base_conventions.specs.declared.Convention.{Convention}
 use Rattle.base_conventions.specs.Numbers.{headerBytes}
 use Rattle.plan_places.specs.declared.Cursor.{Cursor}
@@ -50,10 +51,6 @@ walkerOf g =
 
 -- ---- 23
 
-abbrev pub mark : Bool → ℕ
-mark true = 1
-mark false = 0
-
 -- Counters that some arguments lead to from the walker's start (`LostExactly` says that these are they). PowerPC: at most 13 FPRs are used, each has taken a word, and so has
 -- a hidden address. Z: of r2 to r6 a hidden address has the first; FPRs go by two; the stack, in doublewords from 160 on, is used only where no register of a bank is left.
 unfoldable pub powerPossible : ℕ → Counters → Bool
@@ -68,8 +65,8 @@ zPossible hidden k =
     && (leb areaOffset (k .stack) && (eqb (k .stack % 8) 0 && (leb (k .stack) areaOffset || (leb 7 (k .general) || leb 8 (k .floating))))))))
 
 unfoldable pub possible : CallRules → Bool → Counters → Bool
-possible (CallRules.Power f) hidden k = powerPossible (mark hidden) k
-possible CallRules.Z hidden k = zPossible (mark hidden) k
+possible (CallRules.Power f) hidden k = powerPossible (flag hidden) k
+possible CallRules.Z hidden k = zPossible (flag hidden) k
 
 -- the largest counter: none is "over 2^32"
 abbrev pub maxCounter : ℕ

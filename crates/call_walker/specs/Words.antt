@@ -5,7 +5,7 @@ use mathlib.Core.Bool.{Bool, _&&_}
 use mathlib.Core.List.{List, [], _∷_}
 use lib.Dec.{leb, eqb}
 use lib.ListN.{length, getD}
-use Rattle.base_words.specs.Basics.{pick}
+use Rattle.base_words.specs.Basics.{pick, flag}
 use Rattle.base_words.specs.Splice.{overlay}
 use Rattle.base_conventions.specs.declared.ConventionCode.{ConventionCode}
 use Rattle.base_conventions.specs.Numbers.{codeOf, conventionCode}
@@ -19,7 +19,7 @@ use Rattle.call_slots.specs.Buffers.{Buffers}
 use Rattle.call_walker.specs.declared.Answer.{Answer}
 use Rattle.call_walker.specs.declared.Walker.{Walker}
 use Rattle.call_walker.specs.declared.WalkerRead.{WalkerRead}
-use Rattle.call_walker.specs.Walker.{counters, walker, walkerOf, mark, lost}
+use Rattle.call_walker.specs.Walker.{counters, walker, walkerOf, lost}
 use Rattle.call_walker.specs.Step.{typeItem, stepAnswer, stepValue, stepOn}
 
 -- ---- the words
@@ -43,7 +43,7 @@ abbrev pub walkerLength : ℕ
 walkerLength = 6
 
 unfoldable pub walkerWords : Walker → List ℕ
-walkerWords w = codeOf (w .convention) ∷ mark (w .ellipsis) ∷ mark (w .hidden) ∷ w .at .general ∷ w .at .floating ∷ w .at .stack ∷ []
+walkerWords w = codeOf (w .convention) ∷ flag (w .ellipsis) ∷ flag (w .hidden) ∷ w .at .general ∷ w .at .floating ∷ w .at .stack ∷ []
 
 -- ---- the start
 

@@ -10,15 +10,16 @@ use plan_places::CallRules;
 ghost use mathlib.Core.Path.{_≡_};
 ghost use Prim.Native.Nat.{_≤_};
 ghost use lib.ListN.{length};
+ghost use Rattle.base_words.specs.Basics.{flag};
 ghost use Rattle.base_conventions.specs.declared.ConventionCode.the-variants.{Known};
-ghost use Rattle.call_walker.specs.Walker.{mark, possible, powerPossible, zPossible, inRange, lost};
+ghost use Rattle.call_walker.specs.Walker.{possible, powerPossible, zPossible, inRange, lost};
 ghost use Rattle.call_walker.specs.Words.{walkerBy, walkerIn, walkerWords, walkerLength};
 
 // Z's stack offset of the area's first byte.
 pub const AREA_OFFSET: u64 = both_abi::Z::HEADER as u64;
 
 fn mark_of(b: bool) -> u64
-    ensures { λ n. ⌜ n ≡ mark b ⌝ }
+    ensures { λ n. ⌜ n ≡ flag b ⌝ }
 {
     if b { 1 } else { 0 }
 }

@@ -7,7 +7,7 @@ use native.Mathlib.Omega.{arith}
 use borrow.Author.Tests.{lt-ltb, ltb-false}
 use lib.Dec.{ltb}
 use lib.ListN.{length, drop}
-use Rattle.base_words.specs.Basics.{pick}
+use Rattle.base_words.specs.Basics.{pick, All}
 use Rattle.base_words.specs.Splice.{overlay}
 use Rattle.base_conventions.specs.declared.Convention.{Convention}
 use Rattle.sig_types.specs.declared.ValueType.{ValueType}
@@ -26,7 +26,6 @@ use Rattle.plan_places.proofs.Registers.{step-numbered}
 use Rattle.call_slots.specs.declared.Answer as call
 use Rattle.call_slots.specs.Buffers.{Buffers, buffers}
 use Rattle.call_slots.specs.Placements.{Placement, placement, valueAt}
-use Rattle.call_slots.specs.Helpers.{All}
 use Rattle.call_slots.specs.Refusals.{firstOf, orElse, firstOfAll, isRefused}
 use Rattle.call_slots.proofs.Typed.{Typed}
 use Rattle.call_slots.proofs.Held.{step-held}

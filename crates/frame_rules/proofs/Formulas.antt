@@ -6,9 +6,9 @@ use mathlib.Core.Bool.{not}
 use mathlib.Core.List.{[], _∷_}
 use native.Mathlib.Omega.{arith}
 use lib.ListN.{getD}
-use Rattle.base_words.specs.Basics.{roundUp}
+use Rattle.base_words.specs.Basics.{roundUp, flag}
 use Rattle.frame_rules.specs.Rules.{ppc64, z, aix, LinkRegister, FrameRules, Frame, Registers}
-use Rattle.frame_rules.specs.Frames.{firstGpr, firstFpr, savesCr, below, fullSize, gprAt, savesBy, saves, linkAt, wordSave, flag, returnAddress, preservedCondition, unitOf, withField}
+use Rattle.frame_rules.specs.Frames.{firstGpr, firstFpr, savesCr, below, fullSize, gprAt, savesBy, saves, linkAt, wordSave, returnAddress, preservedCondition, unitOf, withField}
 
 module _ (f : Frame) (s : ℕ) where
   -- "48 + max(64, P) + L + 8(32 - g) + 8(32 - m), rounded up to 16"

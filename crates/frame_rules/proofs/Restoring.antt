@@ -7,11 +7,11 @@ use native.Mathlib.Omega.{arith}
 use lib.ListN.{getD}
 use Rattle.frame_saves.specs.Saves.{load}
 use Rattle.frame_saves.proofs.Saving.{Held, HeldAll}
-use Rattle.base_words.specs.Basics.{pick}
+use Rattle.base_words.specs.Basics.{pick, flag}
 use Rattle.base_words.proofs.Basics.{words-split}
 use Rattle.base_words.proofs.Tests.{either}
 use Rattle.frame_rules.specs.Rules.{Linkage, LinkRegister, SaveArea, FrameRules, Frame, Registers}
-use Rattle.frame_rules.specs.Frames.{firstGpr, savesCr, flag, gprAt, gprSave, fprSave, savesBy, linkAt, preservedFields, mergeFields, restoredLr, restoredCr, returnAddress, preservedCondition}
+use Rattle.frame_rules.specs.Frames.{firstGpr, savesCr, gprAt, gprSave, fprSave, savesBy, linkAt, preservedFields, mergeFields, restoredLr, restoredCr, returnAddress, preservedCondition}
 use Rattle.frame_rules.specs.Helpers.{LinkageLaw}
 
 pub merge-preserved : (a b : ℕ) → preservedFields (mergeFields a b) ≡ preservedFields b

@@ -6,7 +6,7 @@ use mathlib.Core.Bool.{Bool, true, false, not, _&&_, _||_}
 use mathlib.Core.List.{List, [], _∷_}
 use lib.ListN.{getD, set}
 use lib.Dec.{leb, eqb}
-use Rattle.base_words.specs.Basics.{pick, roundUp}
+use Rattle.base_words.specs.Basics.{pick, roundUp, flag}
 use Rattle.frame_saves.specs.Saves.{Save, load, taken}
 use Rattle.frame_rules.specs.Rules.{inSpan, within, BankRules, Linkage, LinkRegister, SaveArea, FrameRules, Frame, RegisterBank, General, Floating, Link, ConditionField, None, Registers}
 
@@ -104,11 +104,6 @@ abbrev pub mostSize : ℕ
 mostSize = maxOutgoing + 33208
 
 -- ---- what an enter saves
-
--- a count: 1 where the test holds, else 0
-abbrev pub flag : Bool → ℕ
-flag true = 1
-flag false = 0
 
 -- the run of floating registers that is saved: "f(n) at S - 8(32 - n)"; on Z "at S - 8(16 - n)"
 abbrev pub fprSave : FrameRules → Frame → ℕ → List ℕ → Save

@@ -3,13 +3,14 @@ use Prim.Native.Nat.{ℕ, _+_}
 use mathlib.Core.Path.{_≡_}
 use mathlib.Core.Bool.{not}
 use mathlib.Core.List.{List, [], _∷_}
+use Rattle.base_words.specs.Basics.{flag}
 use Rattle.frame_saves.specs.Saves.{saveRun, saved, saveAll}
 use Rattle.frame_rules.specs.declared.Linkage.{Linkage}
 use Rattle.frame_rules.specs.declared.Linkage.the-variants.{LinkRegister, SaveArea}
 use Rattle.frame_rules.specs.declared.FrameRules.{FrameRules}
 use Rattle.frame_rules.specs.declared.Frame.{Frame}
 use Rattle.frame_rules.specs.declared.Registers.{Registers}
-use Rattle.frame_rules.specs.Frames.{savesCr, flag, gprSave, fprSave, savesBy}
+use Rattle.frame_rules.specs.Frames.{savesCr, gprSave, fprSave, savesBy}
 
 pub saves-link : (p : Linkage) (c l : ℕ) (k : FrameRules) (f : Frame) (s : ℕ) (r : Registers) (m : List ℕ) → p ≡ LinkRegister c l
     → saveAll m (savesBy p k f s r)

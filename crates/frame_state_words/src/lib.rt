@@ -2,8 +2,8 @@
 ghost use mathlib.Core.Path.{_≡_};
 ghost use Prim.Native.Nat.{_+_, _≤_, _<_};
 ghost use lib.ListN.{length};
+ghost use Rattle.base_words.specs.Basics.{flag};
 ghost use Rattle.base_words.specs.Splice.{splice, part};
-ghost use Rattle.frame_rules.specs.Frames.{flag};
 ghost use Rattle.frame_word_layout.specs.Words.{machineWords, registersWords, recordWords, recordsAt, conventionOf, isKnown, depthIn, registersIn, frameIn, framesIn, stateIn, registerWords, framesWords, stateWords, withRegisters, withFrame};
 ghost use Rattle.frame_word_layout.specs.Calls.{changed};
 use base_conventions::Convention;

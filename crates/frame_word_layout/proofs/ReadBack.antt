@@ -14,9 +14,9 @@ use Rattle.base_words.specs.Splice.{splice, part}
 use Rattle.base_words.proofs.Splices.{Apart, length-splice, splice-one, splice-same, splice-at-same, splice-other, splice-at-other}
 use Rattle.frame_rules.specs.declared.Frame.{Frame}
 use Rattle.frame_rules.specs.declared.Registers.{Registers}
-use Rattle.base_words.specs.Basics.{pick}
+use Rattle.base_words.specs.Basics.{pick, flag}
 use Rattle.base_words.proofs.Tests.{and-yes}
-use Rattle.frame_rules.specs.Frames.{noFrame, flag}
+use Rattle.frame_rules.specs.Frames.{noFrame}
 use Rattle.frame_machine.specs.declared.State.{State}
 use Rattle.frame_machine.specs.Machine.{frameAt}
 use Rattle.base_conventions.specs.Numbers.{conventionCode}

@@ -14,8 +14,8 @@ use Rattle.base_conventions.specs.declared.ConventionCode.{ConventionCode}
 use Rattle.base_conventions.specs.Numbers.{codeOf, conventionCode}
 use Rattle.frame_rules.specs.declared.Frame.{Frame}
 use Rattle.frame_rules.specs.declared.Registers.{Registers}
-use Rattle.base_words.specs.Basics.{pick}
-use Rattle.frame_rules.specs.Frames.{firstGpr, firstFpr, savesCr, noFrame, flag}
+use Rattle.base_words.specs.Basics.{pick, flag}
+use Rattle.frame_rules.specs.Frames.{firstGpr, firstFpr, savesCr, noFrame}
 use Rattle.frame_machine.specs.declared.State.{State}
 
 -- ---- the numbers of the layout

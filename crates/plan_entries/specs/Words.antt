@@ -32,7 +32,3 @@ entryWords item size value s =
     ∷ startWord (s .memory) ∷ s .memory .length
     ∷ startWord (s .copy) ∷ s .copy .length
     ∷ []
-
--- One that is too short for all entries is left as it was, and what lies past the last entry stays (docs/DECISIONS.md).
-abbrev pub tabled : List ℕ → List ℕ → List ℕ
-tabled table ws = pick (ltb (length table) (length ws)) table (overlay table ws)

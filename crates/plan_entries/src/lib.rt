@@ -5,8 +5,8 @@ use plan_places::Span;
 ghost use mathlib.Core.Path.{_≡_};
 ghost use Prim.Native.Nat.{_+_, _*_, _^_, _≤_, _<_};
 ghost use lib.ListN.{length, take};
-ghost use Rattle.base_words.specs.Splice.{overlay, splice};
-ghost use Rattle.plan_entries.specs.Words.{firstWord, startWord, entryWords, tabled, entryLength};
+ghost use Rattle.base_words.specs.Splice.{overlay, splice, overlayWhole};
+ghost use Rattle.plan_entries.specs.Words.{firstWord, startWord, entryWords, entryLength};
 
 // The words of an entry.
 pub const ENTRY: usize = 13;
@@ -83,7 +83,7 @@ fn wide(word: u16) -> u64
 // The first n words that are kept, at the head of the table; one that is too short for them is left as it was.
 pub fn write_table(table: &mut [u64], kept: &[u16], n: usize)
     requires { ⌜ n ≤ length (now kept) ⌝ }
-    ensures { λ _. ⌜ now (table .exit) ≡ tabled (now (table .entry)) (take n (now (kept .entry))) ⌝ }
+    ensures { λ _. ⌜ now (table .exit) ≡ overlayWhole (now (table .entry)) (take n (now (kept .entry))) ⌝ }
 {
     if table.len() < n {
         return;

@@ -1,4 +1,3 @@
 -- What the printed plan of a signature is. Assumes nothing.
 pub mod Words
 pub mod Text
-pub mod Writing

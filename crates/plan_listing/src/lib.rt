@@ -13,10 +13,10 @@ use sig_signatures::Outcome;
 ghost use mathlib.Core.Path.{_≡_};
 ghost use Prim.Native.Nat.{_+_, _^_, _≤_, _<_};
 ghost use lib.ListN.{length};
+ghost use Rattle.base_words.specs.Splice.{overlayWhole};
 ghost use Rattle.plan_places.specs.Helpers.{ResultNumbered};
 ghost use Rattle.plan_text.specs.Writing.{Wrote};
 ghost use Rattle.plan_listing.specs.Text.{nameOf, ellipsisText, headText, resultPlacesText, resultText, refusalText, acceptedText, planText, listingOf};
-ghost use Rattle.plan_listing.specs.Writing.{printed};
 ghost use Rattle.plan_plans.specs.Helpers.{Printable};
 
 fn put_name(text: &mut [u8], at: usize, c: Convention) -> usize
@@ -127,7 +127,7 @@ fn put_plan(text: &mut [u8], p: Plan) -> usize
 // The printed plan of a signature's bytes, any bytes at all, at the head of `text`; its length is returned. Where `text` is
 // too short it is left as it was.
 pub fn listing(s: &[u8], text: &mut [u8]) -> usize
-    ensures { λ r. ⌜ (r ≡ length (listingOf (now (s .entry)))) × (now (text .exit) ≡ printed (now (text .entry)) (listingOf (now (s .entry)))) ⌝ }
+    ensures { λ r. ⌜ (r ≡ length (listingOf (now (s .entry)))) × (now (text .exit) ≡ overlayWhole (now (text .entry)) (listingOf (now (s .entry)))) ⌝ }
 {
     let p = plan_planning::plan_of(s);
     let mut unused = [0u8; 1];

@@ -7,7 +7,7 @@ use native.Mathlib.Omega.{arith}
 use lib.ListN.{length, take, drop, length-append}
 use lib.Seq.{take-at}
 use borrow.Author.Tests.{lt-ltb, le-ltb}
-use Rattle.base_words.specs.Splice.{overlay, splice}
+use Rattle.base_words.specs.Splice.{overlay, splice, overlayWhole}
 use Rattle.base_words.proofs.Splices.{length-overlay, overlay-is, overlay-nothing, overlay-append}
 use Rattle.base_conventions.specs.declared.Convention.{Convention}
 use Rattle.sig_types.specs.declared.ValueType.{ValueType}
@@ -40,7 +40,7 @@ use Rattle.plan_plans.specs.Plan.{lastOf, hiddenIn, startIn, lastCursorIn, resu
 use Rattle.plan_plans.specs.Call.{firstUnclear, unclearFault}
 use Rattle.plan_plans.proofs.Calls.{unclear-more, same-unclear}
 use Rattle.plan_plans.proofs.Fold.{last-more, same-next, values-more, Reached, reached-start, reached-more}
-use Rattle.plan_entries.specs.Words.{entryWords, tabled}
+use Rattle.plan_entries.specs.Words.{entryWords}
 use Rattle.plan_entries.proofs.Copies.{tabled-nothing}
 use Rattle.plan_entries.specs.Results.{resultWords}
 use Rattle.plan_words.specs.declared.Planned.{Planned}
@@ -137,7 +137,7 @@ module _ (c : Convention) (mark : Bool) (s : List ℕ) (at e : ℕ) (r : ResultT
   unfolding plannedBy
   plan-no f q = rw q
 
-  pub rows-no : (f : Fault) → argumentsIn c s at e ≡ no f → (table : List ℕ) → table ≡ tabled table (rowsCalled c mark r at (length s) (argumentsIn c s at e))
+  pub rows-no : (f : Fault) → argumentsIn c s at e ≡ no f → (table : List ℕ) → table ≡ overlayWhole table (rowsCalled c mark r at (length s) (argumentsIn c s at e))
   unfolding rowsBy
   rows-no f q table = rw q (tabled-nothing table)
 
@@ -147,7 +147,7 @@ module _ (c : Convention) (mark : Bool) (s : List ℕ) (at e : ℕ) (r : ResultT
     unfolding plannedBy
     plan-trailing h = rw (turn-last c s at e (m .ts) count next n (m .turn) last, lt-ltb next (length s) h)
 
-    pub rows-trailing : next < length s → (table : List ℕ) → table ≡ tabled table (rowsCalled c mark r at (length s) (argumentsIn c s at e))
+    pub rows-trailing : next < length s → (table : List ℕ) → table ≡ overlayWhole table (rowsCalled c mark r at (length s) (argumentsIn c s at e))
     unfolding rowsBy
     rows-trailing h table = rw (turn-last c s at e (m .ts) count next n (m .turn) last, lt-ltb next (length s) h) (tabled-nothing table)
 
@@ -170,7 +170,7 @@ module _ (c : Convention) (mark : Bool) (s : List ℕ) (at e : ℕ) (r : ResultT
         let some : u ≡ suc (u - 1) = omega arith in
         rw (turn-last c s at e (m .ts) count next n (m .turn) last, le-ltb next (length s) h, sym (m .unclear) ∙ some)
 
-    pub rows-unclear : length s ≤ next → 0 < u → (table : List ℕ) → table ≡ tabled table (rowsCalled c mark r at (length s) (argumentsIn c s at e))
+    pub rows-unclear : length s ≤ next → 0 < u → (table : List ℕ) → table ≡ overlayWhole table (rowsCalled c mark r at (length s) (argumentsIn c s at e))
     unfolding rowsBy
     rows-unclear h z table =
         let some : u ≡ suc (u - 1) = omega arith in

@@ -17,6 +17,7 @@ ghost use mathlib.Core.Path.{_≡_};
 ghost use lib.Dec.{ltb};
 ghost use Prim.Native.Nat.{_^_, _≤_, _<_};
 ghost use lib.ListN.{length};
+ghost use Rattle.base_words.specs.Splice.{overlayWhole};
 ghost use Rattle.sig_signatures.specs.Limits.{maxLength};
 ghost use Rattle.sig_signatures.specs.Read.{argumentsIn, signatureOf};
 ghost use Rattle.base_words.specs.Basics.{pick};
@@ -25,7 +26,6 @@ ghost use Rattle.plan_places.specs.declared.ResultPlaces.{ResultPlaces};
 ghost use Rattle.plan_places.specs.Step.{rulesOf, resultOf};
 ghost use Rattle.plan_plans.specs.Plan.{refusedPlan, resultPlacesIn, planAnswer};
 ghost use Rattle.plan_plans.specs.Call.{callOf};
-ghost use Rattle.plan_entries.specs.Words.{tabled};
 ghost use Rattle.plan_entries.specs.Results.{resultWords};
 ghost use Rattle.plan_words.specs.Entries.{entriesOf};
 ghost use Rattle.plan_words.specs.Helpers.{planCalled, rowsCalled, KeepsAll};
@@ -161,7 +161,7 @@ fn plan_arguments(
 ) -> Planned
     requires { ⌜ (at ≤ end) × (end ≤ length (now sig)) × (length (now sig) ≤ maxLength) × (earlier ≤ 2 ^ 16) × KeepsAll at end (length (now kept)) ⌝ }
     ensures { λ p. ⌜ p ≡ planCalled convention ellipsis returned earlier (length (now (sig .entry))) (argumentsIn convention (now (sig .entry)) at end) (signatureOf (now (sig .entry))) ⌝ }
-    ensures { λ p. ⌜ now (places .exit) ≡ tabled (now (places .entry)) (rowsCalled convention ellipsis returned at (length (now (sig .entry))) (argumentsIn convention (now (sig .entry)) at end)) ⌝ }
+    ensures { λ p. ⌜ now (places .exit) ≡ overlayWhole (now (places .entry)) (rowsCalled convention ellipsis returned at (length (now (sig .entry))) (argumentsIn convention (now (sig .entry)) at end)) ⌝ }
 {
     let rules = plan_places::with_ellipsis(both_abi::call_rules_of(convention), ellipsis);
     let hidden = plan_planning::hidden_in(convention, returned);
@@ -240,7 +240,7 @@ fn plan_part(
 ) -> Planned
     requires { ⌜ (at ≤ end) × (end ≤ length (now sig)) × (length (now sig) ≤ maxLength) × (earlier ≤ 2 ^ 16) ⌝ }
     ensures { λ p. ⌜ p ≡ planCalled convention ellipsis returned earlier (length (now (sig .entry))) (argumentsIn convention (now (sig .entry)) at end) (signatureOf (now (sig .entry))) ⌝ }
-    ensures { λ p. ⌜ now (places .exit) ≡ tabled (now (places .entry)) (rowsCalled convention ellipsis returned at (length (now (sig .entry))) (argumentsIn convention (now (sig .entry)) at end)) ⌝ }
+    ensures { λ p. ⌜ now (places .exit) ≡ overlayWhole (now (places .entry)) (rowsCalled convention ellipsis returned at (length (now (sig .entry))) (argumentsIn convention (now (sig .entry)) at end)) ⌝ }
 {
     if end - at <= FEW_BYTES {
         let mut few = [0u16; 156];
@@ -273,7 +273,7 @@ fn plan_part(
 // The plan of a signature's bytes, any bytes at all. A table that is too short for all arguments is left as it was.
 pub fn plan_words(sig: &[u8], places: &mut [u64]) -> Planned
     ensures { λ p. ⌜ p ≡ plannedOf (planAnswer (callOf (now (sig .entry)))) ⌝ }
-    ensures { λ p. ⌜ now (places .exit) ≡ tabled (now (places .entry)) (entriesOf (callOf (now (sig .entry)))) ⌝ }
+    ensures { λ p. ⌜ now (places .exit) ≡ overlayWhole (now (places .entry)) (entriesOf (callOf (now (sig .entry)))) ⌝ }
 {
     match sig_head::read_head(sig) {
         HeadRead::Refused(fault) => no_plan(fault),

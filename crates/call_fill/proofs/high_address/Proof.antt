@@ -1,38 +1,33 @@
 -- An address is too high where it is more than its lowest bytes.
-use mathlib.Core.Path.{_≡_, refl, sym, ap, _∙_}
+use mathlib.Core.Path.{sym, ap, _∙_}
 use lib.Dec.{ltb}
 use Prim.Native.Nat.{ℕ}
-use Rattle.plan_places.specs.declared.ResultPlaces.{ResultPlaces}
+use mathlib.Core.Bool.{Bool}
+use native.Mathlib.Omega.{arith}
+use Rattle.base_words.specs.Numbers.{zeroExtended}
+use Rattle.base_conventions.specs.Numbers.{wordBytes}
+use Rattle.base_conventions.proofs.Laws.{word-bounds}
 use Rattle.call_fill.specs.Fill.{highAddress}
+use Rattle.call_fill.specs.Helpers.{addressPlaces}
 use Rattle.call_fill.proofs.Accepted.{high-is}
 use borrow.Author.Needs.{needs}
 use Rattle.call_fill.proofs.high_address.Statement.{statement}
 use Rattle.call_fill.proofs.high_address.Tie as tie
 
-enum-told : tie.Need-enum-told
-enum-told c = search needs
-
-enum-told-2 : tie.Need-enum-told-2
-enum-told-2 c = search needs
-
-enum-told-3 : tie.Need-enum-told-3
-enum-told-3 c = search needs
+word-bytes-requires : tie.Need-word-bytes-requires
+word-bytes-requires c κs = search needs
 
 zero-extend-requires : tie.Need-zero-extend-requires
-zero-extend-requires c κs = search needs
+zero-extend-requires c κs = let b = word-bounds (c .before .before .args .c) in omega (arith, b, c .word-bytes .ensures)
 
 returns : tie.Need-returns
-returns c = search needs
+returns c =
+    let args = c .before .before .before .args in
+    ap (λ (y : ℕ). ltb y (args .address)) (c .zero-extend .ensures ∙ ap (λ (w : ℕ). zeroExtended w (args .address)) (c .before .word-bytes .ensures)) ∙ high-is (wordBytes (args .c)) (args .address)
+    ∙ sym (ap (λ (b : Bool). highAddress (wordBytes (args .c)) (addressPlaces (args .c) b) (args .address)) (c .before .before .if1 .taken))
 
 returns-2 : tie.Need-returns-2
 returns-2 c = search needs
 
-returns-3 : tie.Need-returns-3
-returns-3 c =
-    let args = c .before .before .before .args in
-    ap (λ (y : ℕ). ltb y (args .address)) (c .zero-extend .ensures) ∙ high-is (args .word) (args .address)
-    ∙ sym (ap (λ (q : ResultPlaces). highAddress (args .word) q (args .address)) (c .before .enum-told3 .given .1))
-
 pub high-address-spec : {M : Type 1} → statement M
-high-address-spec =
-    tie.close (tie.spec enum-told enum-told-2 enum-told-3 zero-extend-requires returns returns-2 returns-3)
+high-address-spec = tie.close (tie.spec word-bytes-requires zero-extend-requires returns returns-2)

@@ -1,94 +1,80 @@
 -- A hidden address is put in its register, through the part of the image that starts there.
-use mathlib.Core.Path.{sym, ap, _∙_, subst}
+use mathlib.Core.Path.{_≡_, sym, ap, _∙_}
+use mathlib.Core.Bool.{Bool}
 use mathlib.Core.List.{List, []}
-use Prim.Native.Nat.{ℕ, _-_, _*_}
+use Prim.Native.Nat.{ℕ, _-_, _*_, _≤_}
 use native.Mathlib.Omega.{arith}
 use lib.ListN.{length}
 use borrow.Rule.Slice.PartMut.{putMid}
 use Rattle.base_words.specs.Splice.{splice}
-use Rattle.base_words.specs.Numbers.{bytesOf}
+use Rattle.base_words.specs.Numbers.{bytesOf, zeroExtended}
 use Rattle.base_words.proofs.Splices.{lent-tail}
-use Rattle.plan_places.specs.declared.ResultPlaces.{ResultPlaces}
+use Rattle.base_conventions.specs.Numbers.{wordBytes}
+use Rattle.base_conventions.proofs.Laws.{word-bounds}
+use Rattle.plan_places.specs.declared.Cursor.{Cursor}
+use Rattle.plan_places.specs.Step.{rulesOf, fresh}
 use Rattle.call_slots.specs.Buffers.{buffers, put, putAll}
 use Rattle.call_slots.specs.Placements.{hiddenSlots}
-use Rattle.call_fill.specs.Helpers.{HiddenFits}
-use Rattle.call_fill.proofs.Accepted.{address-word}
+use Rattle.call_fill.specs.Helpers.{addressPlaces}
+use Rattle.call_fill.proofs.Accepted.{address-word, hidden-put, register-low}
 use borrow.Author.Needs.{needs}
 use Rattle.call_fill.proofs.put_hidden.Statement.{statement}
 use Rattle.call_fill.proofs.put_hidden.Tie as tie
 
--- the register lies in the image
-room : (c : tie.After-struct-known) → HiddenFits (ResultPlaces.Hidden (c .before .before .before .result .given .0 .0)) (length (c .before .before .before .before .before .before .args .image .now))
-room c = subst (λ (q : ResultPlaces). HiddenFits q (length (c .before .before .before .before .before .before .args .image .now))) (c .before .before .before .result .given .1) (c .before .before .before .before .before .before .pre .0)
-
-enum-told : tie.Need-enum-told
-enum-told c = search needs
-
-enum-told-2 : tie.Need-enum-told-2
-enum-told-2 c = search needs
-
-enum-known-result : tie.Need-enum-known-result
-enum-known-result c = search needs
-
-cast-at : tie.Need-cast-at
-cast-at c = search needs
+cursor-of-requires : tie.Need-cursor-of-requires
+cursor-of-requires c κs = search needs
 
 mul-at : tie.Need-mul-at
-mul-at c = search needs
+mul-at c = omega (arith, ap (λ (k : Cursor). k .general) (c .cursor-of .ensures), register-low (c .before .before .before .args .c))
+
+word-bytes-requires : tie.Need-word-bytes-requires
+word-bytes-requires c κs = search needs
 
 sub-put-number : tie.Need-sub-put-number
-sub-put-number c = omega (arith, room c)
+sub-put-number c = omega (arith, ap (λ (k : Cursor). k .general) (c .before .cursor-of .ensures), register-low (c .before .before .before .before .args .c), c .before .before .before .before .pre)
 
 part-put-number-start : tie.Need-part-put-number-start
-part-put-number-start c = omega (arith, room c)
+part-put-number-start c = omega (arith, ap (λ (k : Cursor). k .general) (c .before .cursor-of .ensures), register-low (c .before .before .before .before .args .c), c .before .before .before .before .pre)
 
 part-put-number-end : tie.Need-part-put-number-end
 part-put-number-end c = search needs
 
 zero-extend-requires : tie.Need-zero-extend-requires
-zero-extend-requires c κs = search needs
+zero-extend-requires c κs = let b = word-bounds (c .before .before .before .before .before .args .c) in omega (arith, b, c .before .word-bytes .ensures)
 
 put-number-requires : tie.Need-put-number-requires
-put-number-requires c κs = omega (arith, room (c .before .before))
+put-number-requires c κs = omega (arith, ap (λ (k : Cursor). k .general) (c .before .before .before .cursor-of .ensures), register-low (c .before .before .before .before .before .before .args .c), c .before .before .before .before .before .before .pre)
 
 returns : tie.Need-returns
-unfolding putAll
-returns c = sym (ap (λ (q : ResultPlaces). putAll (hiddenSlots (c .before .before .before .args .word) q (c .before .before .before .args .address)) (buffers (c .before .before .before .args .image .now) [] [])) (c .enum-told .given .1))
+returns c =
+    let args = c .before .before .before .before .before .before .before .before .before .args in
+    let l : List ℕ = args .image .now in
+    let at : ℕ = 8 * c .before .before .before .before .before .before .cursor-of .result .general in
+    ap (λ (i : List ℕ). buffers i [] []) (ap (putMid at (length l - at) l) (c .before .before .put-number .ensures) ∙ lent-tail l at (bytesOf 8 (c .before .before .before .zero-extend .result)))
+    ∙ rw (c .before .before .before .zero-extend .ensures, c .before .before .before .before .before .before .cursor-of .ensures, c .before .before .before .before .before .word-bytes .ensures) (hidden-put (args .c) l (args .address))
+    ∙ sym (ap (λ (b : Bool). putAll (hiddenSlots (wordBytes (args .c)) (addressPlaces (args .c) b) (args .address)) (buffers l [] [])) (c .before .before .before .before .before .before .before .if1 .taken))
 
 returns-2 : tie.Need-returns-2
 unfolding putAll
-returns-2 c = sym (ap (λ (q : ResultPlaces). putAll (hiddenSlots (c .before .before .before .args .word) q (c .before .before .before .args .address)) (buffers (c .before .before .before .args .image .now) [] [])) (c .enum-told2 .given .1))
+returns-2 c =
+    let args = c .before .before .args in
+    sym (ap (λ (b : Bool). putAll (hiddenSlots (wordBytes (args .c)) (addressPlaces (args .c) b) (args .address)) (buffers (args .image .now) [] [])) (c .if1 .left))
 
 same-length : tie.Need-same-length
 same-length c = search needs
-
-returns-3 : tie.Need-returns-3
-unfolding putAll put
-returns-3 c =
-    let args = c .before .before .before .before .before .before .before .before .before .before .before .args in
-    let l : List ℕ = args .image .now in
-    let w : ℕ = args .word in
-    let at : ℕ = 8 * c .before .before .before .before .before .before .before .before .result .given .0 .0 .general .first in
-    ap (λ (i : List ℕ). buffers i [] [])
-    (ap (putMid at (length l - at) l) (c .before .before .put-number .ensures) ∙ lent-tail l at (bytesOf 8 (c .before .before .before .zero-extend .result))
-    ∙ ap (splice l at) (ap (bytesOf 8) (c .before .before .before .zero-extend .ensures) ∙ address-word w (args .address) (c .before .before .before .before .before .before .before .before .before .before .before .pre .1 .1)))
-    ∙ sym (ap (λ (q : ResultPlaces). putAll (hiddenSlots w q (args .address)) (buffers l [] [])) (c .before .before .before .before .before .before .before .before .result .given .1))
 
 pub put-hidden-spec : {M : Type 1} → statement M
 put-hidden-spec =
     tie.close
     (tie.spec
-    enum-told
-    enum-told-2
-    enum-known-result
-    cast-at
+    cursor-of-requires
     mul-at
+    word-bytes-requires
     sub-put-number
     part-put-number-start
     part-put-number-end
     zero-extend-requires
     put-number-requires
-    returns
-    returns-2
     same-length
-    returns-3)
+    returns
+    returns-2)

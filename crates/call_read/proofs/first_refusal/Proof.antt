@@ -1,85 +1,75 @@
--- The loop checks one argument a turn; those that are left give what all give (`Checking`), and its cursor walks over the signature's
--- table (`Walking`).
+-- The loop checks one argument a turn, or finds that nothing is asked of it; those that are left give what all give (`Checking`).
 use borrow.Author.Needs.{needs}
-use mathlib.Core.Path.{_≡_, sym, _∙_}
-use mathlib.Core.List.{_∷_}
-use Prim.Native.Nat.{ℕ, suc, _+_, _-_, _≤_}
+use mathlib.Core.Path.{_≡_, refl, sym, ap, _∙_}
+use mathlib.Core.Bool.{false}
+use mathlib.Core.Logic.{⊎-elim}
+use mathlib.Core.List.{List, _∷_}
+use Prim.Native.Nat.{suc, _-_}
 use native.Mathlib.Omega.{arith}
 use lib.ListN.{length, drop}
-use Rattle.plan_places.specs.Step.{spanOf}
-use Rattle.plan_places.specs.Helpers.{LawfulCalls, Roomy}
-use Rattle.sig_signatures.specs.Helpers.{typeAt}
-use Rattle.call_slots.specs.Buffers.{buffers}
+use Rattle.call_slots.specs.declared.Answer.{Answer}
+use Rattle.call_slots.specs.Buffers.{Buffers, buffers}
 use Rattle.call_slots.specs.Placements.{Placement, placement}
 use Rattle.call_slots.proofs.Turns.{Checking, checking-start, checking-ready, checking-refused, checking-more, checking-end}
-use Rattle.call_slots.specs.Arguments.{rulesIn}
-use Rattle.call_arguments.specs.Table.{argumentsFrom}
-use Rattle.call_arguments.proofs.Table.{lawful-in, Walking, walking-start, walking-roomy, walking-hand, walking-more, walking-end}
+use Rattle.call_kept.specs.Helpers.{keptAt, keptAll}
+use Rattle.call_kept.proofs.Rows.{kept-hand, kept-end}
 use Rattle.call_unmarshal.specs.Helpers.{InBuffers}
 use Rattle.call_read.specs.Read.{argumentAnswer, argumentsAnswer}
+use Rattle.call_read.specs.Helpers.{asks}
+use Rattle.call_read.proofs.Arguments.{nothing-asked}
 use Rattle.call_read.proofs.first_refusal.Statement.{statement}
 use Rattle.call_read.proofs.first_refusal.Tie as tie
 
 abbrev Inv-loop : tie.InvT-loop
-Inv-loop image area copies base g convention count rules c₀ i₀ c i =
-    (v : ℕ) × Walking g c v i
-    × Checking (λ (q : Placement). argumentAnswer (rulesIn g) base q (buffers image area copies)) (InBuffers (rulesIn g) (length image) (length area)) (argumentsFrom g) i
+Inv-loop image area copies rules convention count kept base i₀ i =
+    Checking (λ (q : Placement). argumentAnswer rules base q (buffers image area copies)) (InBuffers rules (length image) (length area)) (keptAll convention kept count) i
 
 abbrev μ-loop : tie.MeasureT-loop
-μ-loop image area copies base g convention count rules c₀ i₀ c i = count - i
+μ-loop image area copies rules convention count kept base i₀ i = count - i
+
+abbrev lent : (c : tie.Start Inv-loop μ-loop) → Buffers
+lent c = buffers (c .args .image .now) (c .args .area .now) (c .args .copies .now)
+
+abbrev all : (c : tie.Start Inv-loop μ-loop) → List Placement
+all c = keptAll (c .args .convention) (c .args .kept .now) (c .args .count)
 
 -- the argument at hand
-abbrev hand : (c : tie.After-size-of Inv-loop μ-loop) → Placement
-hand c = placement (typeAt (c .before .before .before .before .before .before .before .before .before .args .t4) (c .before .before .before .loop .i)) (c .size-of .result) (spanOf (c .before .before .before .before .before .rules-in .result) (c .before .before .before .loop .c) (typeAt (c .before .before .before .before .before .before .before .before .before .args .t4) (c .before .before .before .loop .i)) (c .size-of .result))
+abbrev hand : (c : tie.In-loop Inv-loop μ-loop) → Placement
+hand c = keptAt (c .before .before .before .before .before .before .args .convention) (c .before .before .before .before .before .before .args .kept .now) (c .before .loop .i)
 
-next : (c : tie.After-size-of Inv-loop μ-loop) → drop (c .before .before .before .loop .i) (argumentsFrom (c .before .before .before .before .before .before .before .before .before .args .t4)) ≡ hand c ∷ drop (suc (c .before .before .before .loop .i)) (argumentsFrom (c .before .before .before .before .before .before .before .before .before .args .t4))
-next c =
-    rw (c .size-of .ensures, c .before .before .before .before .before .rules-in .ensures)
-    (walking-hand (c .before .before .before .before .before .before .before .before .before .args .t4) (c .before .before .before .before .before .before .before .before .before .pre .plannable) _ _ _ (c .before .before .before .loop .inv .1) (c .before .before .loop-test .taken))
+next : (c : tie.In-loop Inv-loop μ-loop) → drop (c .before .loop .i) (all (c .before .before .before .before .before .before)) ≡ hand c ∷ drop (suc (c .before .loop .i)) (all (c .before .before .before .before .before .before))
+next c = kept-hand (c .before .before .before .before .before .before .args .convention) (c .before .before .before .before .before .before .args .kept .now) (c .before .loop .i) (c .before .before .before .before .before .before .args .count) (c .loop-test .taken)
 
--- the rules, the cursor and the size are what a step asks for
-record Steps (c : tie.After-size-of Inv-loop μ-loop) : Type 0 where
-  lawful : LawfulCalls (c .before .before .before .before .before .rules-in .result)
-  roomy : Roomy (c .before .before .before .loop .c)
-  small : c .size-of .result ≤ 256
+ready : (c : tie.After-size-of Inv-loop μ-loop) → InBuffers (c .before .before .before .before .before .before .before .before .before .before .before .args .rules) (length (c .before .before .before .before .before .before .before .before .before .before .before .args .image .now)) (length (c .before .before .before .before .before .before .before .before .before .before .before .args .area .now)) (placement (c .before .type-at .result) (c .size-of .result) (c .before .before .before .before .span-at .result))
+unfolding keptAt
+ready c = rw (c .size-of .ensures, c .before .type-at .ensures, c .before .before .before .before .span-at .ensures) (checking-ready _ _ _ _ (hand (c .before .before .before .before .before)) (next (c .before .before .before .before .before)) (c .before .before .before .before .before .before .loop .inv))
 
-steps : (c : tie.After-size-of Inv-loop μ-loop) → Steps c
-steps c =
-    let start = c .before .before .before .before .before .before .before .before .before in
-    record {
-      lawful = rw (c .before .before .before .before .before .rules-in .ensures) (lawful-in (start .args .t4));
-      roomy = walking-roomy (start .args .t4) (start .pre .plannable) _ _ _ (c .before .before .before .loop .inv .1);
-      small = rw (c .size-of .ensures) (start .pre .plannable .small (c .before .before .before .loop .i) (c .before .before .loop-test .taken));
-    }
+-- what is found of it
+asked : (c : tie.After-argument-answer Inv-loop μ-loop) → c .argument-answer .result ≡ argumentAnswer (c .before .before .before .before .before .before .before .before .before .before .before .before .args .rules) (c .before .before .before .before .before .before .before .before .before .before .before .before .args .base) (hand (c .before .before .before .before .before .before)) (lent (c .before .before .before .before .before .before .before .before .before .before .before .before))
+unfolding keptAt
+asked c = c .argument-answer .ensures ∙ rw (c .before .size-of .ensures, c .before .before .type-at .ensures, c .before .before .before .before .before .span-at .ensures)
 
-asked : (c : tie.After-answer-at Inv-loop μ-loop) → c .answer-at .result ≡ argumentAnswer (rulesIn (c .before .before .before .before .before .before .before .before .before .before .args .t4)) (c .before .before .before .before .before .before .before .before .before .before .args .base) (hand (c .before)) (buffers (c .before .before .before .before .before .before .before .before .before .before .args .image .now) (c .before .before .before .before .before .before .before .before .before .before .args .area .now) (c .before .before .before .before .before .before .before .before .before .before .args .copies .now))
-asked c = c .answer-at .ensures ∙ rw (c .before .before .before .before .before .before .rules-in .ensures)
-
-rules-in-requires : tie.Need-rules-in-requires Inv-loop μ-loop
-rules-in-requires c κs = search needs
-
-first-cursor-requires : tie.Need-first-cursor-requires Inv-loop μ-loop
-first-cursor-requires c κs = search needs
+unasked : (c : tie.After-asks Inv-loop μ-loop) → c .asks .result ≡ false → Answer.Done ≡ argumentAnswer (c .before .before .before .before .before .before .before .before .args .rules) (c .before .before .before .before .before .before .before .before .args .base) (hand (c .before .before)) (lent (c .before .before .before .before .before .before .before .before))
+unfolding keptAt
+unasked c e = nothing-asked (c .before .before .before .before .before .before .before .before .args .rules) (c .before .before .before .before .before .before .before .before .args .base) (hand (c .before .before)) (lent (c .before .before .before .before .before .before .before .before)) (ap asks (sym (c .before .span-at .ensures)) ∙ sym (c .asks .ensures) ∙ e)
 
 loop-holds : tie.Need-loop-holds Inv-loop μ-loop
-loop-holds c =
-    let start = c .before .before .before .before .before in
-    (0, walking-start (start .args .t4) _ (c .first-cursor .ensures), checking-start _ _ _ (start .pre .each))
+loop-holds c = checking-start _ _ _ (c .before .before .before .before .pre .each)
 
-mul-a : tie.Need-mul-a Inv-loop μ-loop
-mul-a c = omega (arith, c .before .before .before .before .before .before .before .pre .plannable .few)
+span-at-requires : tie.Need-span-at-requires Inv-loop μ-loop
+span-at-requires c κs = omega (arith, c .before .before .before .before .before .before .pre .room, c .loop-test .taken)
 
-element-copy-out-a : tie.Need-element-copy-out-a Inv-loop μ-loop
-element-copy-out-a c = omega (arith, c .before .before .before .before .before .before .before .pre .plannable .few)
+asks-requires : tie.Need-asks-requires Inv-loop μ-loop
+asks-requires c κs = search needs
+
+type-at-requires : tie.Need-type-at-requires Inv-loop μ-loop
+type-at-requires c κs = omega (arith, c .before .before .before .before .before .before .before .before .before .pre .room, c .before .before .before .loop-test .taken)
 
 size-of-requires : tie.Need-size-of-requires Inv-loop μ-loop
 size-of-requires c κs = search needs
 
-answer-at-requires : tie.Need-answer-at-requires Inv-loop μ-loop
-answer-at-requires c κs =
-    let fit = steps c in
-    let ready = checking-ready _ _ _ _ (hand c) (next c) (c .before .before .before .loop .inv .2) in
-    (fit .lawful, fit .roomy, fit .small, rw (c .before .before .before .before .before .rules-in .ensures) (rw (c .before .before .before .before .before .rules-in .ensures) at ready))
+argument-answer-requires : tie.Need-argument-answer-requires Inv-loop μ-loop
+argument-answer-requires c κs = ready c
 
 is-refused-requires : tie.Need-is-refused-requires Inv-loop μ-loop
 is-refused-requires c κs = search needs
@@ -87,34 +77,30 @@ is-refused-requires c κs = search needs
 returns : tie.Need-returns Inv-loop μ-loop
 unfolding argumentsAnswer
 returns c =
-    let sized = c .before .before .before in
-    checking-refused _ _ _ _ (hand sized) (next sized) (sized .before .before .before .loop .inv .2) _ (asked (c .before .before)) (sym (c .before .is-refused .ensures) ∙ c .if1 .taken)
-
-advance-requires : tie.Need-advance-requires Inv-loop μ-loop
-advance-requires c κs = let fit = steps (c .before .before .before) in (fit .lawful, fit .roomy, fit .small)
+    let turn = c .before .before .before .before .before .before .before .before in
+    checking-refused _ _ _ _ (hand turn) (next turn) (turn .before .loop .inv) _ (asked (c .before .before)) (sym (c .before .is-refused .ensures) ∙ c .if2 .taken)
 
 add-i : tie.Need-add-i Inv-loop μ-loop
-add-i c = omega (arith, c .before .before .before .before .before .before .before .before .before .before .before .before .before .pre .plannable .few, c .before .before .before .before .before .before .loop-test .taken)
+add-i c = omega (arith, c .before .before .before .before .before .before .before .before .before .fits .count, c .before .before .before .loop-test .taken)
 
 loop-less : tie.Need-loop-less Inv-loop μ-loop
-loop-less c = omega (arith, c .before .before .before .before .before .before .loop-test .taken)
+loop-less c = omega (arith, c .before .before .before .loop-test .taken)
 
 loop-again : tie.Need-loop-again Inv-loop μ-loop
 loop-again c =
-    let sized = c .before .before .before .before in
-    let start = sized .before .before .before .before .before .before .before .before .before in (
-      sized .before .before .before .loop .inv .0 + sized .size-of .result,
-      rw (c .advance .ensures, sized .size-of .ensures, sized .before .before .before .before .before .rules-in .ensures)
-          (walking-more (start .args .t4) (start .pre .plannable) _ _ _ (sized .before .before .before .loop .inv .1) (sized .before .before .loop-test .taken)),
-      checking-more _ _ _ _ (hand sized) (next sized) (sized .before .before .before .loop .inv .2) _ (asked (c .before .before .before)) (sym (c .before .before .is-refused .ensures) ∙ c .before .if1 .left),
-    )
+    let turn = c .before .before .before in
+    ⊎-elim
+    (λ w. checking-more _ _ _ _ (hand turn) (next turn) (turn .before .loop .inv) _
+    (asked record { before = record { before = record { before = record { before = c .before; if1 = w .0 }; type-at = w .1 }; size-of = w .2 }; argument-answer = w .3 })
+    (sym (w .4 .ensures) ∙ w .5 .left))
+    (λ w. checking-more _ _ _ _ (hand turn) (next turn) (turn .before .loop .inv) Answer.Done (unasked (c .before) (w .left)) refl)
+    (c .if1 .came)
 
 returns-2 : tie.Need-returns-2 Inv-loop μ-loop
 unfolding argumentsAnswer
 returns-2 c =
-    let start = c .before .before .before .before .before .before .before in
-    let ended = walking-end (start .args .t4) (start .pre .plannable) _ _ _ (c .before .loop .inv .1) (omega (arith, c .loop-test .left)) in
-    checking-end _ _ _ _ (ended .none) (c .before .loop .inv .2)
+    let start = c .before .before .before .before .before .before in
+    checking-end _ _ _ _ (kept-end (start .args .convention) (start .args .kept .now) (c .before .loop .i) (start .args .count) (omega (arith, c .loop-test .left))) (c .before .loop .inv)
 
 pub first-refusal-spec : {M : Type 1} → statement M
 first-refusal-spec =
@@ -122,16 +108,14 @@ first-refusal-spec =
     (tie.spec
     Inv-loop
     μ-loop
-    rules-in-requires
-    first-cursor-requires
     loop-holds
-    mul-a
-    element-copy-out-a
+    span-at-requires
+    asks-requires
+    type-at-requires
     size-of-requires
-    answer-at-requires
+    argument-answer-requires
     is-refused-requires
     returns
-    advance-requires
     add-i
     loop-less
     loop-again

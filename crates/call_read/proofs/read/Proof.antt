@@ -1,122 +1,89 @@
--- The signature is read and its table measured, the lengths are tested, every argument is checked, and only then are the values taken.
-use mathlib.Core.Path.{_≡_, refl, sym, _∙_}
-use Rattle.call_slots.specs.declared.Answer.{Answer}
-use Rattle.call_slots.specs.Buffers.{buffers}
-use Rattle.call_slots.specs.Arguments.{sizesFor}
-use Rattle.call_slots.proofs.Refusals.{not-refused}
-use Rattle.call_read.specs.Read.{readValues}
-use Rattle.call_read.proofs.Arguments.{all-readable}
-use Rattle.call_read.proofs.Accepted.{tests-lent, all-ready, all-sizes, answer-refused, answer-lengths, answer-arguments, values-kept, values-taken, none-from, none-refused, none-taken}
+-- What stands before the arguments is read; then all that follows, with words for few arguments or for as many as there can be.
 use borrow.Author.Needs.{needs}
+use native.Mathlib.Omega.{arith}
+use mathlib.Core.Path.{refl, sym, _∙_}
+use Rattle.sig_signatures.proofs.Laws.{signature-refused}
+use Rattle.sig_signatures.proofs.Sound.{head-bounded}
+use Rattle.call_slots.specs.Buffers.{Buffers, buffers}
+use Rattle.call_arguments.proofs.Kept.{none-left, none-arguments}
+use Rattle.call_read.specs.Read.{readValues}
+use Rattle.call_read.proofs.Accepted.{answer-unread, answer-none, values-none}
 use Rattle.call_read.proofs.read.Statement.{statement}
 use Rattle.call_read.proofs.read.Tie as tie
 
-read-signature-requires : tie.Need-read-signature-requires
-read-signature-requires c κs = search needs
+abbrev lent : (c : tie.Start) → Buffers
+lent c = buffers (c .args .image .now) (c .args .area .now) (c .args .copies .now)
 
-measure-call-requires : tie.Need-measure-call-requires
-measure-call-requires c κs = c .read-signature .ensures
+read-head-requires : tie.Need-read-head-requires
+read-head-requires c κs = search needs
 
--- what is measured are the sizes of the plan
-sizes : (c : tie.After-measure-call) → c .measure-call .result ≡ sizesFor (c .before .before .before .before .before .before .before .args .sig .now)
-sizes c = c .measure-call .ensures
+enum-known-fault : tie.Need-enum-known-fault
+enum-known-fault c = search needs
 
-enum-known-outcome : tie.Need-enum-known-outcome
-enum-known-outcome c = search needs
+enum-known-convention : tie.Need-enum-known-convention
+enum-known-convention c = search needs
 
-enum-told : tie.Need-enum-told
-enum-told c = search needs
-
-tested-requires : tie.Need-tested-requires
-tested-requires c κs = search needs
-
-is-refused-requires : tie.Need-is-refused-requires
-is-refused-requires c κs = search needs
-
-returns : tie.Need-returns
-returns c =
-    let measured = c .before .before .before .before .before in
-    let start = measured .before .before .before .before .before .before .before in
-    let refused = sym (c .before .is-refused .ensures) ∙ c .if1 .taken in (
-      answer-lengths (start .args .sig .now) _ (start .args .base) _ _ (sizes measured) _ (measured .before .read-signature .ensures) _ (c .before .before .before .enum-told .given .1) _ (c .before .before .tested .ensures) refused,
-      values-kept (start .args .sig .now) (start .args .base) _ _ (start .args .values .now) refused,
-    )
-
-returns-2 : tie.Need-returns-2
-returns-2 c =
-    let measured = c .before .before .before .before .before .before .before in
-    let start = measured .before .before .before .before .before .before .before in
-    let read = measured .before .read-signature .ensures in
-    let none = none-from _ (c .if2 .taken) in (
-      answer-arguments (start .args .sig .now) _ (start .args .base) _ _ (sizes measured) _ read _ (c .before .before .before .before .before .enum-told .given .1) _ Answer.Done (c .before .before .before .before .tested .ensures) (sym (c .before .before .before .is-refused .ensures) ∙ c .before .before .if1 .left) (none-refused _ _ _ _ none),
-      values-taken (start .args .sig .now) (start .args .base) (buffers (start .args .image .now) (start .args .area .now) (start .args .copies .now)) (start .args .values .now) _ _ read (none-taken _ _ _ _ none _),
-    )
-
-first-refusal-requires : tie.Need-first-refusal-requires
-first-refusal-requires c κs =
-    let measured = c .before .before .before .before .before .before .before in
-    let start = measured .before .before .before .before .before .before .before in
-    let lent = tests-lent (start .args .sig .now) _ _ (sizes measured) (sym (c .before .before .before .before .tested .ensures) ∙ not-refused _ (sym (c .before .before .before .is-refused .ensures) ∙ c .before .before .if1 .left)) in
-    all-ready (start .args .sig .now) _ _ _ (measured .before .read-signature .ensures) (lent .image) (lent .area)
-
-is-refused-requires-2 : tie.Need-is-refused-requires-2
-is-refused-requires-2 c κs = search needs
-
-returns-3 : tie.Need-returns-3
-returns-3 c =
-    let measured = c .before .before .before .before .before .before .before .before .before .before in
-    let start = measured .before .before .before .before .before .before .before in
-    let refused = sym (c .before .is-refused2 .ensures) ∙ c .if3 .taken in (
-      answer-arguments (start .args .sig .now) _ (start .args .base) _ _ (sizes measured) _ (measured .before .read-signature .ensures) _ (c .before .before .before .before .before .before .before .before .enum-told .given .1) _ _ (c .before .before .before .before .before .before .before .tested .ensures) (sym (c .before .before .before .before .before .before .is-refused .ensures) ∙ c .before .before .before .before .before .if1 .left) (c .before .before .first-refusal .ensures),
-      values-kept (start .args .sig .now) (start .args .base) _ _ (start .args .values .now) refused,
-    )
-
-take-arguments-requires : tie.Need-take-arguments-requires
-take-arguments-requires c κs =
-    let measured = c .before .before .before .before .before .before .before .before .before .before .before in
-    let start = measured .before .before .before .before .before .before .before in
-    let read = measured .before .read-signature .ensures in
-    let lent = tests-lent (start .args .sig .now) _ _ (sizes measured) (sym (c .before .before .before .before .before .before .before .before .tested .ensures) ∙ not-refused _ (sym (c .before .before .before .before .before .before .before .is-refused .ensures) ∙ c .before .before .before .before .before .before .if1 .left)) in
-    let ready = all-ready (start .args .sig .now) _ _ _ read (lent .image) (lent .area) in
-    let done = sym (c .before .before .before .first-refusal .ensures) ∙ not-refused _ (sym (c .before .before .is-refused2 .ensures) ∙ c .before .if3 .left) in
-    record { plannable = ready .plannable; each = all-readable _ _ _ _ (ready .each) done; total = all-sizes (start .args .sig .now) _ read ∙ sym (lent .values) }
-
-returns-4 : tie.Need-returns-4
-unfolding readValues
-returns-4 c =
-    let measured = c .before .before .before in
-    let start = measured .before .before .before .before .before .before .before in
-    (answer-refused (start .args .sig .now) _ (start .args .base) _ _ (sizes measured) _ (c .before .outcome .given .1), refl)
+read-none-requires : tie.Need-read-none-requires
+read-none-requires c κs = let head = sym (c .before .before .before .before .before .read-head .ensures) ∙ c .before .before .before .convention .given .1 in none-left _ _ _ _ _ _ _ head (c .before .if1 .taken)
 
 same-length : tie.Need-same-length
 same-length c = search needs
 
-returns-5 : tie.Need-returns-5
-returns-5 c =
-    let measured = c .before .before .before .before .before .before .before .before .before .before .before .before .before .before in
-    let start = measured .before .before .before .before .before .before .before in
-    let read = measured .before .read-signature .ensures in
-    let done = not-refused _ (sym (c .before .before .before .before .before .is-refused2 .ensures) ∙ c .before .before .before .before .if3 .left) in (
-      answer-arguments (start .args .sig .now) _ (start .args .base) _ _ (sizes measured) _ read _ (c .before .before .before .before .before .before .before .before .before .before .before .before .enum-told .given .1) _ Answer.Done (c .before .before .before .before .before .before .before .before .before .before .before .tested .ensures) (sym (c .before .before .before .before .before .before .before .before .before .before .is-refused .ensures) ∙ c .before .before .before .before .before .before .before .before .before .if1 .left) (sym done ∙ c .before .before .before .before .before .before .first-refusal .ensures),
-      values-taken (start .args .sig .now) (start .args .base) (buffers (start .args .image .now) (start .args .area .now) (start .args .copies .now)) (start .args .values .now) _ _ read (c .before .before .take-arguments .ensures),
-    )
+returns : tie.Need-returns
+returns c =
+    let start = c .before .before .before .before .before .before .before .before .before .before .before .before in
+    let head = sym (c .before .before .before .before .before .before .read-head .ensures) ∙ c .before .before .before .before .convention .given .1 in
+    let none = none-arguments (start .args .sig .now) _ _ _ _ _ (none-left (start .args .sig .now) _ _ _ _ _ _ head (c .before .before .if1 .taken) .1) in
+    (answer-none (start .args .sig .now) none (start .args .base) (lent start) _ _ (c .read-none .ensures), values-none (start .args .sig .now) none (start .args .base) (lent start) _ (start .args .values .now))
+
+sub-if2 : tie.Need-sub-if2
+sub-if2 c = let k = head-bounded _ _ _ _ _ _ _ _ (c .before .before .before .before .read-head .ensures) (c .before .before .convention .given .1) in omega arith
+
+slice-aggregate-read-part : tie.Need-slice-aggregate-read-part
+slice-aggregate-read-part c = search needs
+
+read-part-requires : tie.Need-read-part-requires
+read-part-requires c κs = (sym (c .before .before .before .before .before .before .before .read-head .ensures) ∙ c .before .before .before .before .before .convention .given .1, λ i few within. omega (arith, c .before .before .if2 .taken))
+
+same-length-2 : tie.Need-same-length-2
+same-length-2 c = search needs
+
+returns-2 : tie.Need-returns-2
+returns-2 c = c .before .before .before .read-part .ensures
+
+slice-aggregate-read-part-2 : tie.Need-slice-aggregate-read-part-2
+slice-aggregate-read-part-2 c = search needs
+
+read-part-requires-2 : tie.Need-read-part-requires-2
+read-part-requires-2 c κs = (sym (c .before .before .before .before .before .before .before .read-head .ensures) ∙ c .before .before .before .before .before .convention .given .1, λ i few within. omega arith)
+
+returns-3 : tie.Need-returns-3
+unfolding readValues
+returns-3 c = (answer-unread _ _ _ _ _ (signature-refused _ _ (c .before .before .before .read-head .ensures) _ (c .before .fault .given .1)), refl)
+
+same-length-3 : tie.Need-same-length-3
+same-length-3 c = search needs
+
+returns-4 : tie.Need-returns-4
+returns-4 c = c .before .before .before .read-part2 .ensures
 
 pub read-spec : {M : Type 1} → statement M
 read-spec =
     tie.close
     (tie.spec
-    read-signature-requires
-    measure-call-requires
-    enum-known-outcome
-    enum-told
-    tested-requires
-    is-refused-requires
-    returns
-    returns-2
-    first-refusal-requires
-    is-refused-requires-2
-    returns-3
-    take-arguments-requires
-    returns-4
+    read-head-requires
+    enum-known-fault
+    enum-known-convention
+    read-none-requires
     same-length
-    returns-5)
+    returns
+    sub-if2
+    slice-aggregate-read-part
+    read-part-requires
+    same-length-2
+    returns-2
+    slice-aggregate-read-part-2
+    read-part-requires-2
+    returns-3
+    same-length-3
+    returns-4)

@@ -3,12 +3,13 @@ use mathlib.Core.Path.{_∙_}
 use mathlib.Core.Bool.{Bool, true, false}
 use Prim.Native.Nat.{_≤_}
 use native.Mathlib.Omega.{arith}
-use Rattle.call_walker.specs.Walker.{mark, possible}
+use Rattle.base_words.specs.Basics.{flag}
+use Rattle.call_walker.specs.Walker.{possible}
 use borrow.Author.Needs.{needs}
 use Rattle.call_walker_words.proofs.is_possible.Statement.{statement}
 use Rattle.call_walker_words.proofs.is_possible.Tie as tie
 
-most : (b : Bool) → mark b ≤ 1
+most : (b : Bool) → flag b ≤ 1
 most true = omega arith
 most false = omega arith
 

@@ -1,5 +1,5 @@
 -- Six stores are a splice. Assumes nothing.
-use Rattle.frame_rules.specs.Frames.{flag}
+use Rattle.base_words.specs.Basics.{flag}
 use Rattle.frame_word_layout.specs.Words.{recordWords, recordsAt, frameWords}
 use Rattle.frame_word_layout.proofs.Laws.{six-words}
 use denote.Ref.{now}

@@ -3,6 +3,7 @@ use borrow.Author.Needs.{needs}
 use mathlib.Core.Path.{refl, sym, ap, _∙_}
 use native.Mathlib.Omega.{arith}
 use Prim.Native.Nat.{_+_, _-_}
+use Rattle.base_words.specs.Splice.{overlayWhole}
 use Rattle.sig_items.specs.declared.Fault.{Fault}
 use Rattle.sig_items.proofs.Laws.{later-later}
 use Rattle.sig_items.proofs.Loop.{item-answered, fault-answered}
@@ -12,7 +13,6 @@ use Rattle.plan_places.proofs.Bounds.{rules-lawful}
 use Rattle.plan_places.proofs.Marked.{lawful-marked}
 use Rattle.plan_plans.specs.Plan.{refusedPlan}
 use Rattle.plan_plans.proofs.Fold.{reached-roomy}
-use Rattle.plan_entries.specs.Words.{tabled}
 use Rattle.plan_words.specs.Planned.{plannedOf}
 use Rattle.plan_words.proofs.Turns.{Keeping, keeping-start, keeping-more, keeping-length, plan-no, rows-no, plan-trailing, rows-trailing, plan-end, rows-end, plan-unclear, rows-unclear}
 use Rattle.plan_words.proofs.plan_arguments.Statement.{statement}
@@ -198,7 +198,7 @@ returns-5 c =
     let m = c .before .before .before .before .before .before .before .before .before .before .loop .inv in
     let room = c .before .before .before .before .before .before .before .before .before .before .before .before .before .before .before .before .before .before .pre .4 (c .before .before .before .before .before .before .before .before .before .before .loop .count) (omega (arith, m .turn .few)) (omega (arith, m .apart, m .turn .within)) in (
       rw (c .area-of .ensures, c .before .result-words .ensures) (plan-end _ _ _ _ _ _ _ _ _ _ _ _ _ _ _ m (c .before .before .before .before .before .before .before .before .before .loop-test .left) (c .before .before .before .before .before .before .before .before .if2 .left) (omega (arith, c .before .before .before .before .before .before .before .if3 .left))),
-      c .before .before .before .before .write-table .ensures ∙ ap (tabled (c .before .before .before .before .before .before .before .before .before .before .before .before .before .before .before .before .before .before .args .places .now)) (rows-end _ _ _ _ _ _ (c .before .before .before .before .before .before .before .before .before .before .before .before .before .before .before .before .before .before .args .earlier) _ _ _ _ _ _ _ _ m (c .before .before .before .before .before .before .before .before .before .loop-test .left) (c .before .before .before .before .before .before .before .before .if2 .left) (omega (arith, c .before .before .before .before .before .before .before .if3 .left)) room),
+      c .before .before .before .before .write-table .ensures ∙ ap (overlayWhole (c .before .before .before .before .before .before .before .before .before .before .before .before .before .before .before .before .before .before .args .places .now)) (rows-end _ _ _ _ _ _ (c .before .before .before .before .before .before .before .before .before .before .before .before .before .before .before .before .before .before .args .earlier) _ _ _ _ _ _ _ _ m (c .before .before .before .before .before .before .before .before .before .loop-test .left) (c .before .before .before .before .before .before .before .before .if2 .left) (omega (arith, c .before .before .before .before .before .before .before .if3 .left)) room),
     )
 
 pub plan-arguments-spec : {M : Type 1} → statement M

@@ -1,0 +1,2 @@
+-- What the exported calls on homes and views answer. Assumes nothing.
+pub mod Views

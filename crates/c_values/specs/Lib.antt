@@ -1,2 +1,0 @@
--- What the exported calls on values answer. Assumes nothing.
-pub mod Values

@@ -1,0 +1,2 @@
+-- The arguments of a call in words. Assumes nothing.
+pub mod Helpers
