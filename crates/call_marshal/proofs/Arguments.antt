@@ -2,6 +2,7 @@
 use mathlib.Core.Path.{_≡_, refl, sym, ap, ap₂, subst, _∙_}
 use mathlib.Core.Bool.{Bool, true, false}
 use mathlib.Core.List.{List, _++_}
+use mathlib.Core.Logic.{_⊎_, inl, inr}
 use Prim.Native.Nat.{ℕ, _+_, _-_, _*_, _≤_, _<_}
 use native.Mathlib.Omega.{arith}
 use native.Mathlib.Nat.{mul-le-mul-right}
@@ -11,6 +12,7 @@ use lib.ListN.{length, take, replicate}
 use lib.Seq.{take-all}
 use Rattle.base_words.specs.Splice.{splice, part}
 use Rattle.base_words.specs.Numbers.{bytesOf, valueOf}
+use Rattle.base_words.proofs.Basics.{le-or-lt}
 use Rattle.base_words.proofs.Splices.{splice-nothing}
 use Rattle.sig_types.specs.declared.Equivalent.{Equivalent}
 use Rattle.sig_types.specs.declared.ValueType.{ValueType}
@@ -32,20 +34,34 @@ float-room Equivalent.Double m n l h k = omega (arith, h .0, h .1)
 float-room Equivalent.Nothing m n l h k = omega (arith, h .0, h .1)
 
 module _ (r : CallRules) (base : ℕ) (p : Placement) (v image area copies : List ℕ) (h : Held r p) where
-  -- in FPRs, and as well in words, which are those of the value
-  pub argument-float : (i j a : List ℕ) → 0 < p .span .floating .count → length v ≡ p .size
-      → i ≡ splice image (floatingAt (p .span .floating .first)) (floatForm r (equivalentOf (p .ty)) v)
-      → j ≡ splice i (generalAt (p .span .general .first)) (spread (wordOf r) (p .span .general .count) (homeBytes r (p .ty) (length v) v))
-      → a ≡ splice area (p .span .memory .start) (part (wordOf r * p .span .general .count) (p .span .memory .length) (homeBytes r (p .ty) (length v) v))
-      → buffers j a copies ≡ putAll (slotsOf r base p v) (buffers image area copies)
-  unfolding slotsOf putAll put floatBytes standing
-  argument-float i j a some size x y z =
-      let direct : p .span .indirect ≡ false = h .direct some in
+  -- what FPRs have room for is the whole form
+  pub fprs-some : 0 < p .span .floating .count → length v ≡ p .size → floatForm r (equivalentOf (p .ty)) v ≡ take (8 * p .span .floating .count) (floatBytes r (p .ty) v)
+  unfolding floatBytes
+  fprs-some some size =
       let k : ℕ = p .span .floating .count in
       let f : List ℕ = floatForm r (equivalentOf (p .ty)) v in
       let sized : FloatSized (equivalentOf (p .ty)) k (length v) = rw size (h .float some) in
-      let all : take (8 * k) f ≡ f = take-all (8 * k) f (omega (arith, form-length r (equivalentOf (p .ty)) k v sized)) in
-      rw (direct, all, splice-nothing, ← size, ← x, ← y, ← z)
+      sym (take-all (8 * k) f (omega (arith, form-length r (equivalentOf (p .ty)) k v sized)))
+
+  pub fprs-none : p .span .floating .count ≤ 0 → splice image (floatingAt (p .span .floating .first)) (take (8 * p .span .floating .count) (floatBytes r (p .ty) v)) ≡ image
+  fprs-none none = let no : p .span .floating .count ≡ 0 = omega arith in rw (no, splice-nothing)
+
+  -- who is passed by a pointer has no FPR
+  pub pointer-alone : p .span .indirect ≡ true → p .span .floating .count ≤ 0
+  pointer-alone e = go (le-or-lt (p .span .floating .count) 0)
+    where
+      go : (p .span .floating .count ≤ 0) ⊎ (0 < p .span .floating .count) → p .span .floating .count ≤ 0
+      go (inl none) = none
+      go (inr some) = let z : _≡_ {A = ℕ} 0 1 = cc (h .direct some, e) in absurd (omega arith)
+
+  -- in FPRs, where it has any, and in words, which are those of the value
+  pub argument-direct : (i j a : List ℕ) → p .span .indirect ≡ false → length v ≡ p .size
+      → i ≡ splice image (floatingAt (p .span .floating .first)) (take (8 * p .span .floating .count) (floatBytes r (p .ty) v))
+      → j ≡ splice i (generalAt (p .span .general .first)) (spread (wordOf r) (p .span .general .count) (homeBytes r (p .ty) (length v) v))
+      → a ≡ splice area (p .span .memory .start) (part (wordOf r * p .span .general .count) (p .span .memory .length) (homeBytes r (p .ty) (length v) v))
+      → buffers j a copies ≡ putAll (slotsOf r base p v) (buffers image area copies)
+  unfolding slotsOf putAll put standing
+  argument-direct i j a direct size x y z = rw (direct, splice-nothing, ← size, ← x, ← y, ← z)
 
   -- in general registers and memory, where the words bs stand there
   pub argument-words : (bs i a c : List ℕ) → p .span .floating .count ≤ 0 → standing r base p v ≡ bs
@@ -55,9 +71,8 @@ module _ (r : CallRules) (base : ℕ) (p : Placement) (v image area copies : Lis
       → buffers i a c ≡ putAll (slotsOf r base p v) (buffers image area copies)
   unfolding slotsOf putAll put
   argument-words bs i a c none e x y z =
-      let no : p .span .floating .count ≡ 0 = omega arith in
       let f : List ℕ = floatBytes r (p .ty) v in
-      let fpr : splice image (floatingAt (p .span .floating .first)) (take (8 * p .span .floating .count) f) ≡ image = rw (no, splice-nothing) in
+      let fpr = fprs-none none in
       let i' : splice (splice image (floatingAt (p .span .floating .first)) (take (8 * p .span .floating .count) f)) (generalAt (p .span .general .first)) (spread (wordOf r) (p .span .general .count) (standing r base p v)) ≡ i =
       ap₂ (λ (l m : List ℕ). splice l (generalAt (p .span .general .first)) (spread (wordOf r) (p .span .general .count) m)) fpr e ∙ sym x in
       let a' : splice area (p .span .memory .start) (part (wordOf r * p .span .general .count) (p .span .memory .length) (standing r base p v)) ≡ a =

@@ -14,10 +14,10 @@ ghost use Rattle.base_words.specs.Splice.{overlay, splice, part};
 ghost use Rattle.base_words.specs.Numbers.{bytesOf};
 ghost use Rattle.plan_places.specs.Step.{wordOf};
 ghost use Rattle.call_registers.specs.Registers.{spread};
-ghost use Rattle.call_slots.specs.Buffers.{buffers, putAll};
-ghost use Rattle.call_slots.specs.Forms.{homeBytes, floatForm};
+ghost use Rattle.call_slots.specs.Buffers.{buffers, floatingAt, putAll};
+ghost use Rattle.call_slots.specs.Forms.{homeBytes, floatForm, floatBytes};
 ghost use Rattle.call_slots.specs.Placements.{placement, slotsOf};
-ghost use Rattle.call_slots.specs.Helpers.{Held};
+ghost use Rattle.call_slots.specs.Helpers.{Held, InImage};
 ghost use Rattle.call_marshal.specs.Helpers.{padded, SpanTakes, NumberFits, FprsTake, CanPut};
 
 // The eight bytes of x in the only word of a span, where a word is a doubleword: a general register or a doubleword of memory.
@@ -131,6 +131,18 @@ fn put_value(image: &mut [u8], area: &mut [u8], r: CallRules, t: ValueType, s: S
     put_words(image, area, word, s, call_slots::value_word(t, v));
 }
 
+// The form of a value in its FPRs, where it has any. The words of the value are then put in one place for all: so that is compiled in line.
+fn put_fprs(image: &mut [u8], r: CallRules, t: ValueType, s: Span, v: &[u8])
+    requires { ⌜ InImage r (length (now image)) (placement t (length (now v)) s) ⌝ }
+    ensures { λ _. ⌜ now (image .exit) ≡ splice (now (image .entry)) (floatingAt (s .floating .first)) (take (8 * s .floating .count) (floatBytes r t (now (v .entry)))) ⌝ }
+{
+    let floating = s.floating;
+    if 0 < floating.count {
+        let at = FPRS_AT + 8 * (floating.first as usize);
+        put_float(&mut image[at..], r, sig_types::equivalent_of(t), v);
+    }
+}
+
 // One argument of type t and value v in its span s: a float in its FPRs, and as well in the words that its span has.
 pub fn put_argument(
     image: &mut [u8],
@@ -145,20 +157,14 @@ pub fn put_argument(
     requires { ⌜ CanPut r base (length (now image)) (length (now area)) (length (now copies)) (placement t (length (now v)) s) ⌝ }
     ensures { λ _. ⌜ buffers (now (image .exit)) (now (area .exit)) (now (copies .exit)) ≡ putAll (slotsOf r base (placement t (length (now (v .entry))) s) (now (v .entry))) (buffers (now (image .entry)) (now (area .entry)) (now (copies .entry))) ⌝ }
 {
-    let floating = s.floating;
     let copy = s.copy;
     let indirect = s.indirect;
-    if 0 < floating.count {
-        let at = FPRS_AT + 8 * (floating.first as usize);
-        put_float(&mut image[at..], r, sig_types::equivalent_of(t), v);
-        put_value(image, area, r, t, s, v);
-        return;
-    }
     if indirect {
         let start = copy.start as usize;
         base_words::put(&mut copies[start..], v);
         put_word(image, area, s, base + start as u64);
         return;
     }
+    put_fprs(image, r, t, s, v);
     put_value(image, area, r, t, s, v);
 }
