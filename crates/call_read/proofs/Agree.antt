@@ -1,18 +1,16 @@
 -- A float in FPRs and in general registers: which bytes 26 compares. Assumes nothing.
 use mathlib.Core.Path.{_≡_, refl, sym, ap, ap₂, _∙_}
-use mathlib.Core.Bool.{Bool, true, false}
-use mathlib.Core.List.{List, [], _∷_, _++_}
+use mathlib.Core.Bool.{true, false}
+use mathlib.Core.List.{List, [], _∷_}
 use Prim.Native.Nat.{ℕ, zero, suc, _+_, _-_, _*_, _≤_, _<_, min}
 use native.Mathlib.Omega.{arith}
 use native.Mathlib.Nat.{mul-le-mul-left}
 use native.Mathlib.Numerals.{add-one}
-use borrow.Author.Tests.{eq-eqb, ne-eqb, leb-true, leb-false}
-use lib.Dec.{eqb, leb}
-use lib.ListN.{length, take, drop, getD, drop-of-length-le, length-drop}
-use lib.Seq.{take-all, take-append-le, length-take-le, getD-take, drop-cons}
-use Rattle.base_words.specs.Basics.{pick}
+use borrow.Author.Tests.{eq-eqb, ne-eqb}
+use lib.ListN.{length, take, drop, getD, drop-of-length-le}
+use lib.Seq.{take-all, length-take-le, getD-take, drop-cons}
 use Rattle.base_words.specs.Splice.{overlay, part}
-use Rattle.base_words.proofs.Splices.{overlay-is, length-part}
+use Rattle.base_words.proofs.Splices.{length-part, part-short, take-overlay}
 use Rattle.sig_types.specs.declared.Equivalent.{Equivalent}
 use Rattle.sig_types.specs.Sizes.{equivalentOf}
 use Rattle.plan_places.specs.declared.CallRules.{CallRules}
@@ -74,25 +72,6 @@ module _ (a b : List ℕ) (n : ℕ) (within : n ≤ length a) (within' : n ≤ l
       sym same-none ∙ ap₂ sameBytes (sym (drop-of-length-le (take n a) x)) (sym (drop-of-length-le (take n b) y)) ∙ c .rest
 
 -- ---- the bytes that are compared
-
--- a part that passes the end is short
-part-short : (lo n : ℕ) (l : List ℕ) → part lo n l ≡ part lo (min n (length l - lo)) l
-part-short lo n l = go (leb n (length l - lo)) refl
-  where
-    go : (b : Bool) → leb n (length l - lo) ≡ b → part lo n l ≡ part lo (min n (length l - lo)) l
-    go true q =
-        let h = leb-true n (length l - lo) q in
-        let e : min n (length l - lo) ≡ n = omega arith in
-        rw e
-    go false q =
-        let h = leb-false n (length l - lo) q in
-        let e : min n (length l - lo) ≡ length l - lo = omega arith in
-        let d = length-drop lo l in
-        rw e (take-all n (drop lo l) (omega arith) ∙ sym (take-all (length l - lo) (drop lo l) (omega arith)))
-
--- the first bytes of what was put at the head of a buffer
-take-put : (z xs : List ℕ) (m : ℕ) → m ≤ length xs → length xs ≤ length z → take m (overlay z xs) ≡ take m xs
-take-put z xs m h k = ap (take m) (overlay-is z xs k) ∙ take-append-le m xs (drop (length xs) z) h
 
 -- no float has more than sixteen bytes
 float-most : (e : Equivalent) (m n : ℕ) → FloatSized e m n → n ≤ 16
@@ -157,6 +136,6 @@ module _ (r : CallRules) (p : Placement) (b : Buffers) where
         let v : List ℕ = floatValueAs r (equivalentOf (p .ty)) (floatAt (p .span) b) in
         let lv : length v ≡ p .size = value-size (floatAt (p .span) b) refl in
         let whole : part own (p .size) g ≡ o = part-short own (p .size) g ∙ ap (λ (z : ℕ). part own z g) (ap (λ (z : ℕ). min (p .size) (z - own)) lg ∙ sym e) in
-        let left : take m (overlay x o) ≡ o = take-put x o m (omega arith) (omega (arith, value-most)) ∙ take-all m o (omega arith) in
-        let right : take m (overlay y v) ≡ take m v = take-put y v m (omega arith) (omega (arith, value-most)) in
+        let left : take m (overlay x o) ≡ o = take-overlay x o m (omega arith) (omega (arith, value-most)) ∙ take-all m o (omega arith) in
+        let right : take m (overlay y v) ≡ take m v = take-overlay y v m (omega arith) (omega (arith, value-most)) in
         ap₂ sameBytes left right ∙ sym (ap (λ (l : List ℕ). sameBytes l (take (length l) v)) whole ∙ ap (λ (z : ℕ). sameBytes o (take z v)) lo)

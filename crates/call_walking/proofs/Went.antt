@@ -6,6 +6,7 @@ use Prim.Native.Nat.{ℕ, _+_, _-_, _≤_, _<_, min}
 use native.Mathlib.Omega.{arith}
 use lib.ListN.{length, take, drop}
 use Rattle.base_words.specs.Splice.{overlay}
+use Rattle.base_words.proofs.Splices.{part-clipped, length-clipped}
 use Rattle.sig_types.specs.declared.ValueType.{ValueType}
 use Rattle.sig_items.specs.declared.Refusal as item
 use Rattle.sig_items.specs.Reading.{fault}
@@ -34,7 +35,7 @@ use Rattle.call_walker.specs.Helpers.{local}
 use Rattle.call_walker.proofs.Shifted.{areaFrom}
 use Rattle.call_walker.proofs.Exactly.{found-possible}
 use Rattle.call_walking.specs.Helpers.{Declared, Offset, Countable, countersAfter}
-use Rattle.call_walking.proofs.Parts.{part-area, part-length, possible-offset, local-roomy, next-countable}
+use Rattle.call_walking.proofs.Parts.{possible-offset, local-roomy, next-countable}
 use Rattle.call_walking.proofs.Steps.{near, span, Passed, lengths-passed, step-unclear, step-lengths, step-answer, step-done, step-moves, step-ready, step-readable}
 
 -- the rules without and with the mark, the cursor at offset 0 and the size
@@ -97,11 +98,11 @@ module _ (w : Walker) (t : ValueType) (plain r : CallRules) (d : Cursor) (n : �
     part = take (length area - m) (drop m area)
 
     part-is : part ≡ drop offset area
-    part-is = part-area offset m area from-is
+    part-is = part-clipped offset m area from-is
 
     lengths-is : (v i : ℕ) (l : call.Answer) → l ≡ firstOf (stepTests n (p .span) v i (length area - m))
         → l ≡ firstOf (stepTests (sizeBy w t) (span w t base b) v i (length (drop offset area)))
-    lengths-is v i l e = e ∙ rw (g .size-is, span-is, part-length offset m area from-is)
+    lengths-is v i l e = e ∙ rw (g .size-is, span-is, length-clipped offset m area from-is)
 
     answer-is : (a : call.Answer) → a ≡ argumentAnswer r base (placement t n (p .span)) (buffers image part copies)
         → a ≡ argumentAnswer (rulesBy w) base (placement t (sizeBy w t) (span w t base b)) (areaFrom offset b)

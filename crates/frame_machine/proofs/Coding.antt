@@ -1,14 +1,12 @@
--- Small facts that the proofs of the functions cite: tests on differences, the records of a sound state, and where its top frame lies. Assumes nothing.
+-- Small facts that the proofs of the functions cite: the records of a sound state, and where its top frame lies. Assumes nothing.
 use Prim.Native.Nat.{ℕ, zero, suc, _+_, _-_, _≤_, _<_}
-use mathlib.Core.Path.{_≡_, refl, sym, ap, _∙_, subst}
+use mathlib.Core.Path.{_≡_, refl, sym, _∙_, subst}
 use mathlib.Core.Logic.{⊎-elim}
-use mathlib.Core.Bool.{Bool, true, false, not, _&&_}
+use mathlib.Core.Bool.{true, false, not, _&&_}
 use mathlib.Core.List.{List}
 use native.Mathlib.Omega.{arith}
 use lib.ListN.{length}
-use lib.Dec.{leb, eqb}
-use borrow.Author.Tests.{eq-eqb, ne-eqb, eqb-true, eqb-false}
-use Rattle.base_words.proofs.Basics.{le-or-lt, leb-sub}
+use Rattle.base_words.proofs.Basics.{le-or-lt}
 use Rattle.base_words.proofs.Tests.{and-yes, not-yes}
 use Rattle.frame_rules.specs.declared.FrameRules.{FrameRules}
 use Rattle.frame_rules.specs.declared.Frame.{Frame}
@@ -19,18 +17,6 @@ use Rattle.frame_rules.proofs.Places.{ranges, below-reach}
 use Rattle.frame_machine.specs.Machine.{State, offset, frameAt, topFrame, callerFrame, top, caller, okFrames, sizes}
 use Rattle.frame_machine.specs.Helpers.{Sound, CanEnter}
 use Rattle.frame_machine.proofs.States.{memory-yes}
-
--- ---- tests on differences
-
-pub leb-sub-left : (n a e : ℕ) → a ≤ e → leb n (e - a) ≡ leb (a + n) e
-leb-sub-left n a e h = leb-sub n a e h ∙ (let x : n + a ≡ a + n = omega arith in ap (λ (y : ℕ). leb y e) x)
-
-pub eqb-sub : (p u e : ℕ) → u ≤ e → eqb p (e - u) ≡ eqb (p + u) e
-eqb-sub p u e h = go (eqb (p + u) e) refl
-  where
-    go : (b : Bool) → eqb (p + u) e ≡ b → eqb p (e - u) ≡ b
-    go true x = let y = eqb-true (p + u) e x in eq-eqb p (e - u) (omega arith)
-    go false x = let y = eqb-false (p + u) e x in ne-eqb p (e - u) (λ z. y (omega arith))
 
 -- ---- the records, one turn of a loop
 

@@ -8,14 +8,13 @@ use native.Mathlib.Nat.{mul-suc, mul-le-mul-left, pow-le-pow-right}
 use lib.Dec.{lit<, leb, eqb}
 use borrow.Author.Tests.{leb-true}
 use Rattle.base_words.specs.Basics.{flag}
-use Rattle.base_words.proofs.Basics.{round-up-least, round-up-most, words-split}
+use Rattle.base_words.proofs.Basics.{round-up-least, round-up-most, words-split, between}
 use Rattle.base_words.proofs.Tests.{either, and-yes}
 use Rattle.frame_saves.specs.Saves.{Outside}
 use Rattle.frame_saves.proofs.Saving.{Ascending}
 use Rattle.frame_rules.specs.Rules.{Linkage, LinkRegister, SaveArea, FrameRules, Frame, Registers, inSpan}
 use Rattle.frame_rules.specs.Frames.{firstGpr, firstFpr, savesCr, hasCondition, maxOutgoing, okLeaf, okRequest, outgoingLength, below, fullSize, frameSize, mostSize, chainWidth, gprAt, savesBy, saves, linkAt}
 use Rattle.frame_rules.specs.Helpers.{LinkageLaw, LawfulFrames}
-use Rattle.frame_rules.proofs.Facts.{between}
 
 -- what the ranges of a request say
 pub record Ranges (k : FrameRules) (f : Frame) : Type 0 where

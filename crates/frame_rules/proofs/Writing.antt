@@ -7,11 +7,11 @@ use native.Mathlib.Omega.{arith}
 use lib.Dec.{leb}
 use borrow.Author.Tests.{leb-true}
 use Rattle.base_words.proofs.Tests.{and-yes, or-yes}
+use Rattle.base_words.proofs.Basics.{between}
 use Rattle.frame_rules.specs.Rules.{Linkage, LinkRegister, SaveArea, FrameRules, Frame, RegisterBank, General, Floating, Link, ConditionField, None}
 use Rattle.frame_rules.specs.Frames.{savesCr, hasCondition, writableField, withField, preservedFields, preservedCondition, firstGpr, firstFpr, writable, writableRegister}
 use Rattle.frame_rules.specs.Helpers.{LawfulFrames, Named}
 use Rattle.frame_rules.proofs.Conventions.{writable-lt}
-use Rattle.frame_rules.proofs.Facts.{between}
 
 pub writable-field : (k : FrameRules) (f : Frame) (n v : ℕ) → writableField k f n v ≡ true
     → (v ≤ 15) × ((n ≤ 1) ⊎ (((5 ≤ n) × (n ≤ 7)) ⊎ ((savesCr f ≡ true) × ((2 ≤ n) × (n ≤ 4)))))

@@ -5,9 +5,10 @@ use native.Mathlib.Omega.{arith}
 use mathlib.Core.Path.{_≡_, refl, sym, ap, _∙_}
 use mathlib.Core.List.{List, [], _∷_, _++_}
 use lib.ListN.{length, getD, drop, set, replicate, length-append, take-append-drop, drop-of-length-le}
-use lib.Seq.{drop-cons, drop-drop, take-all, set-append-left}
-use Rattle.base_words.specs.Splice.{overlay, splice, part}
-use Rattle.base_words.proofs.Splices.{length-part, splice-one, splice-nothing, splice-append, splice-next, splice-head}
+use lib.Seq.{drop-cons, drop-drop, set-append-left}
+use Rattle.base_words.specs.Splice.{splice, part}
+use Rattle.base_words.proofs.Splices.{length-part, splice-one, splice-nothing, splice-append, splice-next, splice-whole, part-next}
+use Rattle.base_words.proofs.Basics.{set-behind}
 use Rattle.base_conventions.specs.declared.Convention.{Convention}
 use Rattle.base_conventions.specs.Numbers.{codeOf}
 use Rattle.frame_rules.specs.declared.Frame.{Frame}
@@ -25,20 +26,6 @@ use Rattle.frame_word_layout.specs.Calls.{changed, refusedWords, startWo
 
 -- ---- lengths and shape
 
-overlay-all : (l bs : List ℕ) → length bs ≡ length l → overlay l bs ≡ bs
-unfolding overlay
-overlay-all [] [] h = refl
-overlay-all [] (b ∷ bs) h = absurd (omega arith)
-overlay-all (x ∷ l) [] h = absurd (omega arith)
-overlay-all (x ∷ l) (b ∷ bs) h = ap (λ (t : List ℕ). b ∷ t) (overlay-all l bs (omega arith))
-
--- what is put over a whole list is all that is left
-pub splice-all : (l bs : List ℕ) → length bs ≡ length l → splice l 0 bs ≡ bs
-splice-all l bs h = splice-head l bs ∙ overlay-all l bs h
-
-pub part-whole : (n : ℕ) (l : List ℕ) → length l ≡ n → part 0 n l ≡ l
-part-whole n l h = take-all n l (omega arith)
-
 pub length-frames-words : (fs : List Frame) → length (framesWords fs) ≡ 6 * length fs
 unfolding framesWords frameWords
 length-frames-words [] = refl
@@ -49,9 +36,6 @@ unfolding registerWords
 length-register-words r g h = simp length-append (omega arith)
 
 -- ---- word by word
-
-part-next : (a m : ℕ) (l : List ℕ) → a < length l → part a (suc m) l ≡ getD l a 0 ∷ part (a + 1) m l
-part-next a m l h = rw (add-one, drop-cons l a 0)
 
 module _ (l f : List ℕ) (at s n i : ℕ) (h : i < n) (k : s + n ≤ length f) where
   pub copy-turn : splice (set l (at + i) (getD f (s + i) 0)) (at + (i + 1)) (part (s + (i + 1)) (n - (i + 1)) f) ≡ splice l (at + i) (part (s + i) (n - i) f)
@@ -137,14 +121,9 @@ module _ (l : List ℕ) (s : State) (n : length l ≡ machineWords) (r : length 
       let a : splice l 0 (stateWords s) ≡ splice l3 4 rest
       = sym (splice-next l 0 (codeOf (s .convention)) (s .base ∷ s .size ∷ s .depth ∷ rest)) ∙ sym (splice-next l0 1 (s .base) (s .size ∷ s .depth ∷ rest)) ∙ sym (splice-next l1 2 (s .size) (s .depth ∷ rest)) ∙ sym (splice-next l2 3 (s .depth) rest) in
       let b : splice l3 4 rest ≡ splice (splice l3 registersAt (registerWords (s .registers))) (4 + length (registerWords (s .registers))) (framesWords (s .frames)) = splice-append l3 4 (registerWords (s .registers)) (framesWords (s .frames)) in
-      sym (rw r at b) ∙ sym a ∙ splice-all l (stateWords s) (whole ∙ sym n)
+      sym (rw r at b) ∙ sym a ∙ splice-whole l (stateWords s) (whole ∙ sym n)
 
 -- ---- a start
-
-set-behind : (xs ys : List ℕ) (n i v : ℕ) → length xs ≡ n → set (xs ++ ys) (n + i) v ≡ xs ++ set ys i v
-set-behind [] ys n i v h = let e : n + i ≡ i = omega arith in rw e
-set-behind (x ∷ xs) ys zero i v h = absurd (omega arith)
-set-behind (x ∷ xs) ys (suc n) i v h = let e : suc n + i ≡ suc (n + i) = omega arith in rw e (ap (λ (t : List ℕ). x ∷ t) (set-behind xs ys n i v (omega arith)))
 
 module _ (rs : List ℕ) (l : length rs ≡ registersWords) where
   cut : part 0 32 rs ++ (part 32 32 rs ++ getD rs 64 0 ∷ getD rs 65 0 ∷ []) ≡ rs

@@ -8,6 +8,7 @@ use lib.ListN.{length, getD}
 use lib.Dec.{ltb, eqb}
 use native.Mathlib.Omega.{arith}
 use borrow.Author.Tests.{ltb-false, eqb-true, eqb-false}
+use Rattle.base_words.proofs.Tests.{by-pick}
 use Rattle.base_conventions.specs.declared.Convention.{Convention}
 use Rattle.sig_types.specs.Trees.{none}
 use Rattle.sig_items.specs.declared.Refusal.{Refusal}
@@ -15,7 +16,7 @@ use Rattle.sig_items.specs.declared.Fault.{Fault}
 use Rattle.sig_items.specs.Reading.{Reading, got, no, after}
 use Rattle.sig_items.specs.Read.{itemAt}
 use Rattle.sig_items.specs.HowFar.{walked, Passed, HowFar}
-use Rattle.sig_items.proofs.Sound.{by-pick, by-choose, Framed}
+use Rattle.sig_items.proofs.Sound.{by-choose, Framed}
 use Rattle.sig_items.proofs.HowFar.{Goes, walked-over, walked-into, passed-none, passed-one, framed-here, stops, stops-here, goes-after, goes-within, fills-goes, goes-then, goes-body, sequence-goes, item-goes, walked-ascends, far-before, far-third, far-unique}
 use Rattle.base_conventions.specs.declared.ConventionCode.{ConventionCode}
 use Rattle.base_conventions.specs.Numbers.{conventionCode}

@@ -9,6 +9,7 @@ use lib.Dec.{ltb, eqb}
 use native.Mathlib.Omega.{arith}
 use borrow.Author.Tests.{lt-ltb, le-ltb, eq-eqb, ne-eqb}
 use Rattle.base_words.specs.Basics.{pick}
+use Rattle.base_words.proofs.Tests.{by-pick}
 use Rattle.base_conventions.specs.declared.Convention.{Convention}
 use Rattle.sig_types.specs.declared.ValueType.{ValueType}
 use Rattle.sig_types.specs.Trees.{Trees}
@@ -20,7 +21,6 @@ use Rattle.sig_items.specs.Reading.{Reading, fault, got, no, later, after, choo
 use Rattle.sig_items.specs.Read.{bodyAt, itemAt}
 use Rattle.sig_items.specs.Answer.{itemAnswer}
 use Rattle.sig_items.proofs.Laws.{item-got, item-no}
-use Rattle.sig_items.proofs.Sound.{by-pick}
 use Rattle.base_conventions.specs.declared.ConventionCode.{ConventionCode}
 use Rattle.base_conventions.specs.Numbers.{conventionCode}
 use Rattle.sig_types.specs.Sizes.{maxDepth}

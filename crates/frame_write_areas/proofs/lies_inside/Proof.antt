@@ -1,8 +1,8 @@
 -- The end is compared by the difference, which cannot wrap. Assumes nothing.
-use Rattle.frame_machine.proofs.Coding.{leb-sub-left}
 use borrow.Author.Tests.{lt-leb, le-leb}
 use Prim.Native.Nat.{_+_}
 use native.Mathlib.Omega.{arith}
+use Rattle.base_words.proofs.Basics.{leb-sub-left}
 use Rattle.frame_write_areas.proofs.lies_inside.Statement.{statement}
 use Rattle.frame_write_areas.proofs.lies_inside.Tie as tie
 
