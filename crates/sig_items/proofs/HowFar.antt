@@ -8,8 +8,9 @@ use mathlib.Core.List.{List}
 use lib.ListN.{getD}
 use lib.Dec.{ltb, eqb}
 use native.Mathlib.Omega.{arith}
-use borrow.Author.Tests.{ltb-false, ltb-true, eqb-true, eqb-false, eq-eqb}
+use borrow.Author.Tests.{ltb-false, ltb-true, eqb-true, eqb-false}
 use Rattle.base_words.specs.Basics.{pick}
+use Rattle.base_words.proofs.Tests.{by-pick}
 use Rattle.base_conventions.specs.declared.Convention.{Convention}
 use Rattle.sig_types.specs.declared.FloatFormat.{FloatFormat}
 use Rattle.sig_types.specs.Sizes.{lacksFloat}
@@ -17,13 +18,12 @@ use Rattle.sig_types.specs.Structs.{shapeOf}
 use Rattle.sig_types.specs.Trees.{Tree, Trees, none, _▸_, fieldsOf}
 use Rattle.sig_items.specs.declared.Refusal.{Refusal}
 use Rattle.sig_items.specs.declared.Fault.{Fault}
-use Rattle.sig_items.specs.declared.Body.{Body}
 use Rattle.sig_items.specs.declared.IntegerCode.{IntegerCode}
 use Rattle.sig_items.specs.declared.FloatCode.{FloatCode}
-use Rattle.sig_items.specs.Reading.{Reading, fault, got, no, later, after, choose, andThen, inBody}
+use Rattle.sig_items.specs.Reading.{Reading, fault, got, no, later, after, andThen, inBody}
 use Rattle.sig_items.specs.Read.{lengthAt, bodyAt, integerCode, floatCode, integerBy, integerAt, floatOf, floatBy, floatAt, sequence, sizedAt, contentsAt, itemBy, structAt, itemAt}
 use Rattle.sig_items.specs.HowFar.{encloses, nextHeader, walked, isLarge, stopOf, metBy, IsTag, Header, Passed, HowFar}
-use Rattle.sig_items.proofs.Sound.{by-pick, by-choose, Framed, BodyIs, body-is}
+use Rattle.sig_items.proofs.Sound.{by-choose, Framed, body-cases}
 
 -- the walk
 
@@ -170,26 +170,10 @@ module _ {A : Type 0} (s : List ℕ) (e at : ℕ) where
   goes-then G (no f) g h j k = j f h
 
 -- a header's refusal is of the header
-
-abbrev Small : Body → Type 0
-Small (Body.To b) = Unit {0}
-Small (Body.Refused r) = isLarge r ≡ false
-
-small-body : (s : List ℕ) (low high e at : ℕ) → Small (bodyAt s low high e at)
-unfolding bodyAt
-small-body s low high e at =
-    by-pick Small (ltb e (at + 3)) _ _ (λ _. refl)
-    (λ _. by-pick Small (ltb (getD s at 0) low) _ _ (λ _. refl)
-    (λ _. by-pick Small (ltb high (getD s at 0)) _ _ (λ _. refl)
-    (λ _. by-pick Small (ltb e (at + 3 + lengthAt s at)) _ _ (λ _. refl) (λ _. tt))))
-
 pub goes-body : {A : Type 0} (s : List ℕ) (low high e at : ℕ) (f : ℕ → Reading A) → at ≤ e →
     ((b : ℕ) → Framed s low high e at b → Goes s e at (f b)) → Goes s e at (inBody (bodyAt s low high e at) at f)
-goes-body s low high e at f room g = go (bodyAt s low high e at) (body-is s low high e at) (small-body s low high e at)
-  where
-    go : (x : Body) → BodyIs s low high e at x → Small x → Goes s e at (inBody x at f)
-    go (Body.To b) i q = g b i
-    go (Body.Refused r) i q = stops-here s e at r q room
+goes-body s low high e at f room g =
+    body-cases (λ x. Goes s e at (inBody x at f)) s low high e at (stops-here s e at Refusal.Truncated refl room) (stops-here s e at Refusal.UnexpectedTag refl room) g
 
 -- the bodies of one byte
 
