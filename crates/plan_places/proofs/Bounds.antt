@@ -12,9 +12,9 @@ use Rattle.plan_places.specs.declared.Cursor.{Cursor}
 use Rattle.plan_places.specs.declared.CallRules.{CallRules}
 use Rattle.plan_places.specs.declared.ZClass.{ZClass}
 use Rattle.plan_places.specs.Values.{pointer}
-use Rattle.plan_places.specs.Power.{words, fprs, covered, powerShare}
+use Rattle.plan_places.specs.Power.{words, fprs, covered, powerShare, unclear}
 use Rattle.plan_places.specs.ZSeries.{zClass, zNextOf}
-use Rattle.plan_places.specs.Step.{rulesOf, wordOf, nextOf, fresh, startOf, areaOf, returning}
+use Rattle.plan_places.specs.Step.{rulesOf, wordOf, nextOf, unclearFor, fresh, startOf, areaOf, returning}
 use Rattle.plan_places.specs.Helpers.{LawfulCalls, Roomy, unclearAfter}
 use Rattle.plan_places.proofs.Shares.{share-room}
 
@@ -127,6 +127,12 @@ unfolding areaOf
 area-holds c e = omega arith
 
 -- ---- the first unclear argument
+
+-- 29 looks at the FPRs alone: at neither the offset nor the copies
+pub unclear-floating : (r : CallRules) (k d : Cursor) (t : ValueType) → k .floating ≡ d .floating → unclearFor r k t ≡ unclearFor r d t
+unfolding unclearFor unclear
+unclear-floating (CallRules.Power f) k d t e = rw e
+unclear-floating CallRules.Z k d t e = refl
 
 pub unclear-kept : (u : ℕ) (b : Bool) (i : ℕ) → 0 < u → u ≡ unclearAfter u b i
 unfolding unclearAfter

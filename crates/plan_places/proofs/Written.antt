@@ -5,7 +5,7 @@ use mathlib.Core.Bool.{Bool, true, false}
 use mathlib.Core.List.{List, [], _∷_, _++_, map, append-nil, append-assoc}
 use Prim.Native.Nat.{ℕ, zero, suc, _+_, _-_, _*_, _/_, _≤_, _<_, min, max}
 use native.Mathlib.Omega.{arith}
-use native.Mathlib.Nat.{mul-add, mul-suc, mul-zero, mul-div-cancel-left, add-zero, zero-add, add-div-left, div-eq-of-lt, mul-le-mul-left}
+use native.Mathlib.Nat.{mul-add, mul-suc, mul-zero, mul-div-cancel-left, add-zero, zero-add, sub-zero, suc-sub-suc, add-div-left, div-eq-of-lt, mul-le-mul-left}
 use mathlib.Core.Logic.{_⊎_, inl, inr}
 use borrow.Author.Tests.{ltb-true, ltb-false, le-ltb, le-leb}
 use lib.Dec.{ltb, leb}
@@ -105,14 +105,8 @@ low w h = omega arith
 next-low : (w : ℕ) → w < 8 → 3 + w + 1 ≡ 3 + min (w + 1) 8
 next-low w h = omega arith
 
-less-suc : (n x : ℕ) → suc n - suc x ≡ n - x
-less-suc n x = omega arith
-
 more-suc : (w x : ℕ) → w + suc x ≡ w + 1 + x
 more-suc w x = omega arith
-
-none-less : (n : ℕ) → n - 0 ≡ n
-none-less n = omega arith
 
 none-more : (w : ℕ) → w + 1 + 0 ≡ suc (w + 0)
 none-more w = omega arith
@@ -132,14 +126,14 @@ straddle word (suc n) w = go (ltb w 8) refl (straddle word n (w + 1))
         ≡ pick b (register Bank.General (3 + w)) (Place.Memory (word * w)) ∷ map (wordPlace word) (upFrom (w + 1) 1 n)
     go true e ih =
         let h : w < 8 = ltb-true w 8 e in
-        rw (cover-low n w h, low w h, less-suc n (min n (8 - (w + 1))), more-suc w (min n (8 - (w + 1))), next-low w h)
+        rw (cover-low n w h, low w h, suc-sub-suc n (min n (8 - (w + 1))), more-suc w (min n (8 - (w + 1))), next-low w h)
         (ap (λ (l : List Place). register Bank.General (3 + w) ∷ l) ih)
     go false e ih =
         let h : 8 ≤ w = ltb-false w 8 e in
         let i : map Place.Memory (upFrom (word * (w + 1 + 0)) word (n - 0)) ≡ map (wordPlace word) (upFrom (w + 1) 1 n) = rw (cover-high n (w + 1) (omega arith)) at ih in
         let d : word * (w + 1 + 0) ≡ word * (w + 0) + word = ap (λ (x : ℕ). word * x) (none-more w) ∙ mul-suc word (w + 0) in
-        rw (cover-high (suc n) w h, none-less (suc n))
-        (ap₂ (λ (p : Place) (l : List Place). p ∷ l) (ap (λ (y : ℕ). Place.Memory (word * y)) (add-zero w)) (rw (d, none-less n) at i))
+        rw (cover-high (suc n) w h, sub-zero (suc n))
+        (ap₂ (λ (p : Place) (l : List Place). p ∷ l) (ap (λ (y : ℕ). Place.Memory (word * y)) (add-zero w)) (rw (d, sub-zero n) at i))
 
 -- "Each doubleword of a whole, struct or long double goes to r(3+w) while w < 8, then to memory; one argument may straddle"
 pub words-written : (f : PowerRules) (w m k : ℕ) (t : ValueType) (n : ℕ) → 0 < f .word → fprs (f .edition) t ≡ 0

@@ -1,15 +1,16 @@
 -- PowerPC: registers laid over one structure are those that the first planner's cursor comes to. Proved once over the word width, the
 -- edition and the ellipsis. Assumes nothing.
-use mathlib.Core.Path.{_≡_, refl, sym, ap, ap₂, subst, _∙_}
+use mathlib.Core.Path.{_≡_, refl, sym, ap, ap₂, _∙_}
 use mathlib.Core.Bool.{Bool, true, false}
 use mathlib.Core.Logic.{_⊎_, inl, inr}
 use mathlib.Core.List.{List, [], _∷_, map}
-use Prim.Native.Nat.{ℕ, zero, suc, _+_, _-_, _*_, _/_, _≤_, _<_, min, max}
+use Prim.Native.Nat.{ℕ, zero, suc, _+_, _-_, _*_, _≤_, _<_, min, max}
 use native.Mathlib.Omega.{arith}
 use native.Mathlib.Nat.{mul-zero, mul-add, add-zero, div-le-of-le-mul}
 use borrow.Author.Tests.{lt-ltb, le-ltb, ltb-true, ltb-false}
 use lib.Dec.{ltb}
 use Rattle.base_words.specs.Basics.{pick}
+use Rattle.base_words.proofs.Basics.{same-ltb}
 use Rattle.base_conventions.specs.declared.Convention.{Convention}
 use Rattle.sig_types.specs.declared.FloatFormat.{FloatFormat}
 use Rattle.sig_types.specs.declared.ValueType.{ValueType}
@@ -21,12 +22,11 @@ use Rattle.plan_places.specs.declared.PowerRules.{PowerRules}
 use Rattle.plan_places.specs.declared.CallRules.{CallRules}
 use Rattle.plan_places.specs.declared.Cursor.{Cursor}
 use Rattle.plan_places.specs.declared.Share.{Share}
-use Rattle.plan_places.specs.declared.Span.{Span}
 use Rattle.plan_places.specs.Values.{share}
 use Rattle.plan_places.specs.Power.{words, fprs, shareOf, powerShare, powerSpan, unclear}
 use Rattle.plan_places.specs.Step.{power, spanOf, nextOf, fresh, hiddenFor, returning, resultOf, unclearFor}
-use Rattle.plan_places.proofs.Shares.{words-word, share-words, share-memory, share-float, share-both, share-none, share-marked}
-use Rattle.plan_places.proofs.Written.{same-covered, counted, shareAt, next-counted}
+use Rattle.plan_places.proofs.Shares.{words-one, share-words, share-memory, share-float, share-both, share-none, share-marked}
+use Rattle.plan_places.proofs.Written.{same-covered, counted, next-counted}
 use Rattle.plan_plans.specs.Plan.{spansOf, lastOf}
 use Rattle.plan_plans.specs.Call.{firstUnclear}
 use Rattle.second_parameters.specs.declared.Run.{Run}
@@ -165,21 +165,13 @@ used-plain (suc k) j m n (inr h) =
 used : (v : Bool) (k j m n : ℕ) → Whole k m → 1 + min m 13 + shareHere v k j m n .floating ≡ 1 + min (m + k) 13
 used v k j m n h = ap (λ (x : ℕ). 1 + min m 13 + x) (share-marked v k (14 - (1 + min m 13)) n (min n (8 - j))) ∙ used-plain k j m n h
 
--- some FPRs are left, but fewer than k: in both counts
-same-test : (a b c d : ℕ) → (c < d → a < b) → (d ≤ c → b ≤ a) → ltb a b ≡ ltb c d
-same-test a b c d h l = go (ltb c d) refl
-  where
-    go : (x : Bool) → ltb c d ≡ x → ltb a b ≡ x
-    go true q = lt-ltb a b (h (ltb-true c d q))
-    go false q = le-ltb a b (l (ltb-false c d q))
-
 straddles-same : (k m : ℕ) → pick (ltb 0 (14 - (1 + min m 13))) (ltb (14 - (1 + min m 13)) k) false ≡ straddles m k
 straddles-same k m = go (ltb m 13) refl
   where
     go : (b : Bool) → ltb m 13 ≡ b → pick (ltb 0 (14 - (1 + min m 13))) (ltb (14 - (1 + min m 13)) k) false ≡ pick b (ltb 13 (m + k)) false
     go true q =
         let h : m < 13 = ltb-true m 13 q in
-        rw (lt-ltb 0 (14 - (1 + min m 13)) (omega arith)) (same-test (14 - (1 + min m 13)) k 13 (m + k) (λ l. omega arith) (λ l. omega arith))
+        rw (lt-ltb 0 (14 - (1 + min m 13)) (omega arith)) (same-ltb (14 - (1 + min m 13)) k 13 (m + k) (λ l. omega arith) (λ l. omega arith))
     go false q = let h : 13 ≤ m = ltb-false m 13 q in rw (le-ltb 0 (14 - (1 + min m 13)) (omega arith))
 
 -- the FPRs that were asked for in the end
@@ -260,4 +252,4 @@ result-agrees c w e (ValueType.Integer k) h =
 result-agrees c w e (ValueType.Float FloatFormat.Single) h = refl
 result-agrees c w e (ValueType.Float FloatFormat.Double) h = refl
 result-agrees c w e (ValueType.Float FloatFormat.LongDouble) h = refl
-result-agrees c w e (ValueType.Struct s) h = rw (words-word w h)
+result-agrees c w e (ValueType.Struct s) h = rw (words-one w w h (omega arith))
