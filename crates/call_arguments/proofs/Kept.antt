@@ -43,7 +43,7 @@ use Rattle.plan_plans.specs.declared.Measured.{Measured}
 use Rattle.plan_plans.specs.Plan.{spansOf, lastOf, hiddenIn, startIn, refusedPlan, resultPlacesIn, planIn, planAnswer, measureOf}
 use Rattle.plan_plans.specs.Helpers.{planWith, unclearOf, unclearWith}
 use Rattle.plan_plans.specs.Call.{unclearFault, called, outcomeFor}
-use Rattle.plan_plans.proofs.Fold.{last-more, same-next}
+use Rattle.plan_plans.proofs.Fold.{last-more, same-step}
 use Rattle.plan_plans.proofs.Measures.{Measuring, measuring-start, measuring-more, measure-trailing, measure-end, unclear-trailing, unclear-end, measured-arguments, unclear-arguments}
 use Rattle.plan_plans.proofs.Answers.{outcome-read}
 use Rattle.plan_plans.proofs.Calls.{called-accepted, called-clear, called-unclear}
@@ -119,7 +119,7 @@ module _ (c : Convention) (v : Bool) (s : List ℕ) (at e : ℕ) (l : List ℕ) 
             sizes = rw (next-marked v (rulesOf c) k t (sizeOf c t), unclear-marked v (rulesOf c) k t) (measuring-more c s at e (rulesOf c) start k bytes u count next n (m .sizes) (rules-lawful c) h some x found t after j q);
             ts = m .ts ▸ more .tree;
             turn = more .turn;
-            last = same-next c rules (m .last) (more .same) ∙ sym (last-more c rules start so-far w);
+            last = same-step (nextOf rules) c (m .last) (more .same) ∙ sym (last-more c rules start so-far w);
             apart = omega (arith, m .apart, a .on);
             long = length-splice kept (10 * count) (rowOf t span) ∙ m .long;
             rows =

@@ -4,14 +4,15 @@ use mathlib.Core.Bool.{Bool, true, false}
 use mathlib.Core.List.{List, [], _++_}
 use Prim.Native.Nat.{ℕ, _+_, _-_, _*_, _%_, _^_, _≤_, _<_}
 use native.Mathlib.Omega.{arith}
-use native.Mathlib.Nat.{mod-lt, mod-eq-of-lt}
+use native.Mathlib.Nat.{mod-eq-of-lt}
 use lib.Pow.{pow-pos}
-use borrow.Author.Tests.{lt-ltb, le-ltb, ltb-true, ltb-false, eqb-true}
+use borrow.Author.Tests.{le-ltb, ltb-false, eqb-true}
 use lib.Dec.{eqb, ltb}
 use Rattle.base_words.specs.Basics.{pick}
 use Rattle.base_words.specs.Splice.{splice}
 use Rattle.base_words.specs.Numbers.{bytesOf, zeroExtended}
 use Rattle.base_words.proofs.Numbers.{length-bytesOf}
+use Rattle.base_words.proofs.Each.{each-with}
 use Rattle.base_conventions.specs.Numbers.{wordBytes}
 use Rattle.base_conventions.proofs.Laws.{word-bounds}
 use Rattle.plan_places.proofs.Bounds.{rules-word}
@@ -38,18 +39,17 @@ use Rattle.plan_plans.specs.declared.Plan.{Plan}
 use Rattle.plan_plans.specs.declared.Measured.{Measured}
 use Rattle.plan_plans.specs.Plan.{hiddenIn, resultPlacesIn, planAnswer}
 use Rattle.call_slots.specs.declared.Answer.{Answer}
-use Rattle.call_slots.specs.declared.Refusal.{Refusal}
 use Rattle.call_slots.specs.Buffers.{Buffers, buffers, Slot, put, putAll}
 use Rattle.call_slots.specs.Placements.{Placement, hiddenSlots, slotsOfAll}
 use Rattle.call_slots.specs.Helpers.{Held, Fits, sizesOf}
-use Rattle.call_slots.specs.Refusals.{test, differ, firstOf, isRefused}
+use Rattle.call_slots.specs.Refusals.{differ, firstOf, isRefused}
 use Rattle.call_slots.specs.Arguments.{argumentsOf, planFor, sizesFor, rulesFor}
 use Rattle.call_slots.proofs.Answered.{carried}
 use Rattle.call_kept.specs.Helpers.{keptAll, KeptEach}
 use Rattle.call_arguments.specs.Helpers.{KeptOf}
 use Rattle.call_arguments.proofs.Kept.{Headed}
 use Rattle.call_slots.proofs.Buffers.{putAll-lengths, putAll-append}
-use Rattle.call_slots.proofs.Planned.{in-image, all-with}
+use Rattle.call_slots.proofs.Planned.{in-image}
 use Rattle.call_slots.proofs.Refusals.{first-done, differ-false}
 use Rattle.call_marshal.specs.Helpers.{CanPut}
 use Rattle.call_fill.specs.declared.FillLengths.{FillLengths}
@@ -130,7 +130,7 @@ all-ready s r c l n base i a k rules kept image area copies low =
       room = kept .room;
       each =
           rw (kept .same)
-          (all-with (Held (rulesFor s)) (Fits (planFor s .area) (planFor s .copies)) (CanPut (rulesFor s) base i a k) ready (argumentsOf s) (h .held) (h .fit));
+          (each-with (Held (rulesFor s)) (Fits (planFor s .area) (planFor s .copies)) (CanPut (rulesFor s) base i a k) ready (argumentsOf s) (h .held) (h .fit));
     })
   where
     ready : (q : Placement) → Held (rulesFor s) q → Fits (planFor s .area) (planFor s .copies) q → CanPut (rulesFor s) base i a k q
@@ -162,30 +162,18 @@ register-low Convention.Z = omega arith
 register-low Convention.Aix = omega arith
 register-low Convention.Ppc64b = omega arith
 
--- a result's other places are none of it
-slots-address : (c : Convention) (t : ResultType) (w x : ℕ) → hiddenSlots w (addressPlaces c (hiddenIn c t)) x ≡ hiddenSlots w (resultPlacesIn c t) x
+-- a result's other places are none to whoever looks for the hidden address alone
+hidden-alone : {A : Type 0} (f : ResultPlaces → A) → ((s : Span) → f (ResultPlaces.Registers s) ≡ f ResultPlaces.Nothing) → (c : Convention) (t : ResultType)
+    → f (addressPlaces c (hiddenIn c t)) ≡ f (resultPlacesIn c t)
 unfolding resultOf
-slots-address c ResultType.Nothing w x = refl
-slots-address c (ResultType.Value t) w x = go (hiddenFor (rulesOf c) t)
+hidden-alone f none c ResultType.Nothing = refl
+hidden-alone f none c (ResultType.Value t) = go (hiddenFor (rulesOf c) t)
   where
-    go : (b : Bool) → hiddenSlots w (addressPlaces c b) x
-        ≡ hiddenSlots w
-        (pick b (ResultPlaces.Hidden (spanOf (rulesOf c) (fresh (rulesOf c)) pointer (wordOf (rulesOf c))))
-        (ResultPlaces.Registers (spanOf (returning (rulesOf c)) (fresh (rulesOf c)) t (sizeOf c t)))) x
+    go : (b : Bool) → f (addressPlaces c b)
+        ≡ f (pick b (ResultPlaces.Hidden (spanOf (rulesOf c) (fresh (rulesOf c)) pointer (wordOf (rulesOf c))))
+        (ResultPlaces.Registers (spanOf (returning (rulesOf c)) (fresh (rulesOf c)) t (sizeOf c t))))
     go true = refl
-    go false = refl
-
-high-of-address : (c : Convention) (t : ResultType) (w x : ℕ) → highAddress w (addressPlaces c (hiddenIn c t)) x ≡ highAddress w (resultPlacesIn c t) x
-unfolding resultOf
-high-of-address c ResultType.Nothing w x = refl
-high-of-address c (ResultType.Value t) w x = go (hiddenFor (rulesOf c) t)
-  where
-    go : (b : Bool) → highAddress w (addressPlaces c b) x
-        ≡ highAddress w
-        (pick b (ResultPlaces.Hidden (spanOf (rulesOf c) (fresh (rulesOf c)) pointer (wordOf (rulesOf c))))
-        (ResultPlaces.Registers (spanOf (returning (rulesOf c)) (fresh (rulesOf c)) t (sizeOf c t)))) x
-    go true = refl
-    go false = refl
+    go false = sym (none (spanOf (returning (rulesOf c)) (fresh (rulesOf c)) t (sizeOf c t)))
 
 -- ---- the answer and the buffers
 
@@ -213,7 +201,7 @@ module _ (s : List ℕ) where
         let high-so : high ≡ highAddress (wordOf (rulesFor s)) (planFor s .result) address
         = z
         ∙ ap (λ (b : Bool). highAddress (wordBytes c) (addressPlaces c b) address) x
-        ∙ high-of-address c t (wordBytes c) address
+        ∙ hidden-alone (λ q. highAddress (wordBytes c) q address) (λ p. refl) c t
         ∙ ap₂ (λ (w : ℕ) (r : ResultPlaces). highAddress w r address) word-read (head .result) in
         rw (rw p at e) (rw (p, high-so) at q)
 
@@ -224,25 +212,11 @@ module _ (s : List ℕ) where
     slots-are values base address hidden ps x same =
         ap₂ (λ (a b : List Slot). a ++ b)
         (ap (λ (b : Bool). hiddenSlots (wordBytes c) (addressPlaces c b) address) x
-        ∙ slots-address c t (wordBytes c) address
+        ∙ hidden-alone (λ q. hiddenSlots (wordBytes c) q address) (λ p. refl) c t
         ∙ ap₂ (λ (w : ℕ) (r : ResultPlaces). hiddenSlots w r address) word-read (head .result))
         (ap₂ (λ (r : CallRules) (qs : List Placement). slotsOfAll r base qs values) (head .rules) same)
 
 -- ---- the hidden address
-
--- one that is too high is more than its lowest bytes
-pub high-is : (w x : ℕ) → ltb (zeroExtended w x) x ≡ ltb (2 ^ (8 * w) - 1) x
-unfolding zeroExtended
-high-is w x = go (ltb (2 ^ (8 * w) - 1) x) refl
-  where
-    go : (b : Bool) → ltb (2 ^ (8 * w) - 1) x ≡ b → ltb (x % 2 ^ (8 * w)) x ≡ b
-    go true e =
-        let l : 2 ^ (8 * w) - 1 < x = ltb-true (2 ^ (8 * w) - 1) x e in
-        lt-ltb (x % 2 ^ (8 * w)) x (omega (arith, mod-lt x (pow-pos (8 * w)), pow-pos (8 * w)))
-    go false e =
-        let l : x ≤ 2 ^ (8 * w) - 1 = ltb-false (2 ^ (8 * w) - 1) x e in
-        let low : x < 2 ^ (8 * w) = omega (arith, pow-pos (8 * w)) in
-        rw (mod-eq-of-lt low) (le-ltb x x (omega arith))
 
 -- none is where a word is a doubleword
 pub never-high : (q : ResultPlaces) (x : ℕ) → x < 2 ^ 64 → highAddress 8 q x ≡ false
