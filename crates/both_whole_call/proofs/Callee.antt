@@ -12,6 +12,7 @@ use Rattle.base_words.specs.Splice.{splice, part}
 use Rattle.base_words.specs.Numbers.{valueOf}
 use Rattle.base_words.proofs.Splices.{splice-same}
 use Rattle.base_words.proofs.Numbers.{value-back}
+use Rattle.base_words.proofs.Each.{each-left, each-right, each-more, each-with, each-three}
 use Rattle.base_conventions.specs.declared.Convention.{Convention}
 use Rattle.sig_signatures.specs.declared.SignatureRead.{SignatureRead}
 use Rattle.sig_signatures.specs.Read.{signatureOf}
@@ -24,7 +25,6 @@ use Rattle.sig_signatures.specs.Types.{typesIn}
 use Rattle.call_slots.specs.Buffers.{Buffers, buffers, bytesAt}
 use Rattle.call_slots.specs.Helpers.{Fits}
 use Rattle.call_slots.specs.Arguments.{placementsIn, argumentsOf, planFor, rulesFor}
-use Rattle.call_slots.proofs.Planned.{all-with}
 use Rattle.call_slots.proofs.Answered.{carried}
 use Rattle.call_home_slot.specs.Homes.{homeless}
 use Rattle.call_home.specs.Home.{homeArea}
@@ -51,7 +51,6 @@ use Rattle.both_meeting.proofs.Theorem.{agree}
 use Rattle.both_whole_call.specs.Put.{bytesIn, ownArea, callersArea, imageOf, joined, Cut, Register, heldIn, registersOf, hiddenSpans, resultSpans, named}
 use Rattle.both_whole_call.specs.Caller.{firstSaved, Free}
 use Rattle.both_whole_call.specs.WholeCall.{framesFor, seen, Passed}
-use Rattle.both_whole_call.proofs.Lists.{each-left, each-right, each-more, each-with, each-three}
 use Rattle.both_whole_call.proofs.Steps.{run, AllAccepted, openedBy, call-keeps, calls-keep, leave-holds}
 use Rattle.both_whole_call.proofs.Registers.{Holds, free-below}
 use Rattle.both_whole_call.proofs.Memory.{callers-area, putPieces, AfterPieces, after-pieces, area-inside}
@@ -182,7 +181,7 @@ module _ (s values image area copies : List ℕ) (base hidden : ℕ) (filled : F
     fits : All (Fits (p .area) n) (argumentsOf s)
     unfolding argumentsOf
     fits =
-        all-with (Fits (p .area) (p .copies)) (Fits (p .area) (p .copies)) (Fits (p .area) n)
+        each-with (Fits (p .area) (p .copies)) (Fits (p .area) (p .copies)) (Fits (p .area) n)
         (λ q x y. record { general = x .general; floating = x .floating; memory = x .memory; copies = omega (arith, x .copies, ready .least) }) (argumentsOf s) (carried s .fit) (carried s .fit)
 
     found-put : AllPut (rulesFor s) base (argumentsOf s) values (buffers (imageOf r) (take (p .area) (b .area)) (take n (b .copies)))

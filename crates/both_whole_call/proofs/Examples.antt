@@ -14,6 +14,7 @@ use Rattle.base_words.specs.Splice.{overlay, splice}
 use Rattle.base_words.specs.Numbers.{Bytes, bytesOf, valueOf, zeroExtended, signBit, signExtended}
 use Rattle.base_words.proofs.Tests.{and-yes}
 use Rattle.base_words.proofs.Fitting.{fit-replicate}
+use Rattle.base_words.proofs.Each.{each-at}
 use Rattle.base_conventions.specs.declared.Convention.{Convention}
 use Rattle.base_conventions.specs.Numbers.{conventionCode}
 use Rattle.sig_types.specs.Structs.{withField, shapeOf}
@@ -56,7 +57,6 @@ use Rattle.both_whole_call.specs.Put.{bytesIn, ownArea, register, rangeR
 use Rattle.both_whole_call.specs.Reached.{Reached}
 use Rattle.both_whole_call.specs.Caller.{Free, CanCall, InLocals, SavedSix}
 use Rattle.both_whole_call.specs.WholeCall.{seen, inCallee, Claims, putFilled}
-use Rattle.both_whole_call.proofs.Lists.{each-at}
 use Rattle.both_whole_call.proofs.Named.{named-free}
 use Rattle.both_whole_call.proofs.Theorem.{whole-call}
 

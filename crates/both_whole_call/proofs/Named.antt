@@ -28,13 +28,13 @@ use Rattle.plan_plans.proofs.Theorems as plans
 use Rattle.call_slots.specs.Arguments.{planFor}
 use Rattle.base_words.proofs.Basics.{le-or-lt}
 use Rattle.base_words.proofs.Tests.{or-left, or-right}
+use Rattle.base_words.proofs.Each.{each-both, each-left, each-right, each-with, each-at}
 use Rattle.frame_rules.specs.declared.Frame.{Frame}
 use Rattle.frame_rules.specs.Rules.{within, rules}
 use Rattle.frame_rules.specs.Frames.{firstGpr, firstFpr}
 use Rattle.both_meeting.proofs.Theorem.{agree}
 use Rattle.both_whole_call.specs.Put.{Register, register, rangeRegisters, registersOf, hiddenSpans, named}
 use Rattle.both_whole_call.specs.Caller.{Free, SavedSix}
-use Rattle.both_whole_call.proofs.Lists.{each-both, each-left, each-right, each-with, each-at}
 
 -- ---- registers of spans
 

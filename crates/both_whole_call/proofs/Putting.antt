@@ -11,6 +11,7 @@ use lib.Seq.{length-take-le, take-length}
 use Rattle.base_words.specs.Basics.{All}
 use Rattle.base_words.specs.Splice.{splice, part}
 use Rattle.base_words.proofs.Splices.{splice-same, splice-other}
+use Rattle.base_words.proofs.Each.{each-with}
 use Rattle.base_conventions.specs.declared.Convention.{Convention}
 use Rattle.plan_places.specs.Step.{wordOf}
 use Rattle.plan_plans.specs.declared.Plan.{Plan}
@@ -31,7 +32,6 @@ use Rattle.frame_history.specs.Preserved.{OpenEnter, callerOf, CallsFit}
 use Rattle.frame_history.proofs.Invariant.{Invariant, base-of}
 use Rattle.both_whole_call.specs.Put.{bytesIn, ownArea, Register, named, joined, Cut}
 use Rattle.both_whole_call.specs.Caller.{firstSaved, Free, InLocals}
-use Rattle.both_whole_call.proofs.Lists.{each-with}
 use Rattle.both_whole_call.proofs.Steps.{run, AllAccepted, openedBy, run-both, opened-both, accepted-both, fit-both}
 use Rattle.both_whole_call.proofs.Registers.{Holds, writeOf, free-below, Putable, AfterPut, after-put, registers-fit}
 use Rattle.both_whole_call.proofs.Memory.{own-area, own-locals, putPieces, AfterPieces, after-pieces, pieces-fit, area-inside, locals-inside}

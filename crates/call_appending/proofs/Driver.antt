@@ -25,7 +25,7 @@ use Rattle.call_slots.specs.Arguments.{argumentsOf, planFor, rulesIn, rulesFor}
 use Rattle.call_fill.specs.Fill.{fillAnswer}
 use Rattle.call_read.specs.Read.{readLengths, readTests, readAnswer, readValues}
 use Rattle.call_roundtrip.specs.RoundTrip.{Filled, left}
-use Rattle.call_roundtrip.proofs.Arguments.{Put, AllPut}
+use Rattle.call_roundtrip.proofs.Arguments.{Put, AllPut, EachValue}
 use Rattle.call_roundtrip.proofs.Theorems.{put-back, read-tests, Left, filled-left, values-total}
 use Rattle.call_appending.specs.Appending.{Appended}
 use Rattle.call_appending.specs.Driver.{OldDriverReads}
@@ -36,7 +36,7 @@ use Rattle.call_appending.proofs.Filled.{others, arguments-extended}
 -- the first arguments of those that stand
 all-put-first : (r : CallRules) (base : ℕ) (ps qs : List Placement) (v w : List ℕ) (b : Buffers) → length v ≡ sizesOf ps → AllPut r base (ps ++ qs) (v ++ w) b
     → AllPut r base ps v b
-unfolding AllPut sizesOf
+unfolding EachValue sizesOf
 all-put-first r base [] qs v w b e h = tt
 all-put-first r base (p ∷ ps) qs v w b e h = (
   subst (λ (x : List ℕ). Put r base p x b) (take-append-le (p .size) v w (omega arith)) (h .0),

@@ -11,6 +11,7 @@ use lib.ListN.{length, drop}
 use Rattle.base_words.specs.Basics.{All}
 use Rattle.base_words.specs.Splice.{splice}
 use Rattle.base_words.proofs.Splices.{length-splice}
+use Rattle.base_words.proofs.Each.{each-with}
 use Rattle.sig_signatures.specs.declared.Outcome.{Outcome}
 use Rattle.sig_signatures.specs.declared.SignatureRead.{SignatureRead}
 use Rattle.sig_signatures.specs.Read.{signatureOf}
@@ -24,7 +25,7 @@ use Rattle.call_slots.specs.Helpers.{Held, Fits}
 use Rattle.call_slots.specs.Refusals.{firstOf, orElse, afterReading, isRefused}
 use Rattle.plan_plans.specs.Call.{outcomeFor}
 use Rattle.call_slots.specs.Arguments.{placementsIn, argumentsOf, planFor, rulesIn, rulesFor}
-use Rattle.call_slots.proofs.Planned.{in-image, all-with}
+use Rattle.call_slots.proofs.Planned.{in-image}
 use Rattle.call_slots.proofs.Refusals.{first-done, differ-false, or-refused, not-refused}
 use Rattle.call_slots.proofs.Answered.{Carried, carried-same}
 use Rattle.call_home.specs.Home.{homeTests, homeAnswer, registersAnswer, homeArea, homed}
@@ -95,8 +96,8 @@ all-registered s g p i read plan power image =
     rw (read, plan) (homed-all s (ap (λ (x : SignatureRead). homeless (rulesIn x)) (sym read) ∙ power)) in
     record {
       tables = c .tables;
-      each = all-with Lies (Homed r (p .area)) (Registered r (p .area) i) registered (placementsIn g p)
-          (all-with (Held r) (Fits (p .area) (p .copies)) Lies (λ q x y. (x, y)) (placementsIn g p) (c .held) (c .fit)) homes;
+      each = each-with Lies (Homed r (p .area)) (Registered r (p .area) i) registered (placementsIn g p)
+          (each-with (Held r) (Fits (p .area) (p .copies)) Lies (λ q x y. (x, y)) (placementsIn g p) (c .held) (c .fit)) homes;
     }
   where
     r : CallRules

@@ -8,6 +8,7 @@ use borrow.Author.Tests.{ltb-false}
 use Rattle.base_words.specs.Basics.{pick, All}
 use Rattle.base_words.specs.Splice.{overlay}
 use Rattle.base_words.proofs.Splices.{overlay-nothing}
+use Rattle.base_words.proofs.Each.{each-with}
 use Rattle.base_conventions.specs.declared.Convention.{Convention}
 use Rattle.sig_signatures.specs.declared.Outcome.{Outcome}
 use Rattle.plan_plans.specs.declared.Plan.{Plan}
@@ -28,7 +29,7 @@ use Rattle.call_slots.specs.Arguments.{argumentsOf, planFor, rulesFor, sizesFor
 use Rattle.call_slots.proofs.Answered.{carried}
 use Rattle.call_kept.specs.Helpers.{keptAll, KeptEach}
 use Rattle.call_arguments.specs.Helpers.{KeptOf}
-use Rattle.call_slots.proofs.Planned.{in-image, all-with}
+use Rattle.call_slots.proofs.Planned.{in-image}
 use Rattle.call_slots.proofs.Refusals.{first-done, differ-false, or-refused, not-refused}
 use Rattle.call_unmarshal.specs.Helpers.{InBuffers}
 use Rattle.call_read.specs.declared.ReadLengths.{ReadLengths}
@@ -64,7 +65,7 @@ pub each-ready : (s : List ℕ) (r : CallRules) (i a : ℕ) → r ≡ rulesFor s
 unfolding argumentsOf
 each-ready s r i a same image area =
     let h = carried s in
-    all-with (Held r) (Fits (planFor s .area) (planFor s .copies)) (InBuffers r i a) ready (argumentsOf s)
+    each-with (Held r) (Fits (planFor s .area) (planFor s .copies)) (InBuffers r i a) ready (argumentsOf s)
     (subst (λ (x : CallRules). All (Held x) (argumentsOf s)) (sym same) (h .held)) (h .fit)
   where
     ready : (q : Placement) → Held r q → Fits (planFor s .area) (planFor s .copies) q → InBuffers r i a q

@@ -11,10 +11,10 @@ use borrow.Author.Tests.{ltb-true, ltb-false, le-leb}
 use lib.Dec.{ltb}
 use lib.ListN.{length, take, drop}
 use lib.Seq.{take-all, take-add, length-take-le}
-use Rattle.base_words.specs.Basics.{pick}
+use Rattle.base_words.specs.Basics.{pick, All}
 use Rattle.base_words.specs.Splice.{splice, part}
 use Rattle.base_words.specs.Numbers.{Bytes, bytesOf, valueOf}
-use Rattle.base_words.proofs.Splices.{splice-same, splice-other, length-splice, length-part}
+use Rattle.base_words.proofs.Splices.{splice-same, splice-other, length-splice, length-part, part-prefix}
 use Rattle.base_words.proofs.Numbers.{length-bytesOf, value-back}
 use Rattle.sig_types.specs.Sizes.{equivalentOf}
 use Rattle.plan_places.specs.declared.Cursor.{Cursor}
@@ -35,8 +35,8 @@ use Rattle.call_slots.specs.Refusals.{orElse, floatAnswer}
 use Rattle.call_marshal.specs.Helpers.{CanPut}
 use Rattle.call_read.specs.Read.{inCopies, copyAnswer, ownHeld, agrees, agreeAnswer, argumentAnswer}
 use Rattle.call_read.proofs.Agree.{same-refl}
-use Rattle.call_roundtrip.proofs.Kept.{Upto, Banked, AllLater, kept-all}
-use Rattle.call_roundtrip.proofs.Forms.{float-back, own-back, length-home, prefix-part}
+use Rattle.call_roundtrip.proofs.Kept.{Upto, Banked, Later, kept-all}
+use Rattle.call_roundtrip.proofs.Forms.{float-back, own-back, length-home}
 
 -- what the buffers b hold of the argument p, of value v
 pub record Stands (r : CallRules) (base : ℕ) (p : Placement) (v : List ℕ) (b : Buffers) : Type 0 where
@@ -183,7 +183,7 @@ module _ (r : CallRules) (base : ℕ) (p : Placement) (v : List ℕ) (b : Buffer
         let value : part o (p .size) hs ≡ v =
         ap (λ (n : ℕ). part (ownStart r (p .ty) n) n (homeBytes r (p .ty) n v)) (sym (g .size))
         ∙ own-back r (p .ty) v (g .bytes) (λ e. rw (g .size) (g .room .registers .held .small e q .1, g .room .registers .held .room q .0)) in
-        let same : take (length own) v ≡ own = ap (take (length own)) (sym value) ∙ prefix-part o (p .size) (wordOf r * k) hs in
+        let same : take (length own) v ≡ own = ap (take (length own)) (sym value) ∙ part-prefix o (p .size) (wordOf r * k) hs in
         rw (held, float-read some .1, same) (same-refl own)
 
     address-back : p .span .floating .count ≤ 0 → p .span .indirect ≡ true → addressAt (wordOf r) (p .span) c ≡ base + p .span .copy .start
@@ -262,7 +262,7 @@ pub record Behind (d : Cursor) (p : Placement) (v : List ℕ) : Type 0 where
   pub memory : Upto d (area (p .span .memory .start)) (p .span .memory .length)
   pub copy : Upto d (copies (p .span .copy .start)) (length (copyBytes p v))
 
-pub stands-kept : (r : CallRules) (base : ℕ) (p : Placement) (v : List ℕ) (b : Buffers) (d : Cursor) (ss : List Slot) → Behind d p v → AllLater d ss
+pub stands-kept : (r : CallRules) (base : ℕ) (p : Placement) (v : List ℕ) (b : Buffers) (d : Cursor) (ss : List Slot) → Behind d p v → All (Later d) ss
     → Stands r base p v b → Stands r base p v (putAll ss b)
 stands-kept r base p v b d ss h l s = record {
   floats = kept-all d _ _ ss b (h .floats) (h .floats-bank) l ∙ s .floats;
@@ -278,10 +278,13 @@ pub record Put (r : CallRules) (base : ℕ) (p : Placement) (v : List ℕ) (b : 
   pub given : Given r base p v b
   pub stands : Stands r base p v b
 
--- each of several, the values one after the other
-unfoldable pub AllPut : CallRules → ℕ → List Placement → List ℕ → Buffers → Type 0
-AllPut r base [] v b = Unit {0}
-AllPut r base (p ∷ ps) v b = Put r base p (take (p .size) v) b × AllPut r base ps (drop (p .size) v) b
+-- each of several, with its own of the values that stand one after the other in v
+unfoldable pub EachValue : (Placement → List ℕ → Type 0) → List Placement → List ℕ → Type 0
+EachValue P [] v = Unit {0}
+EachValue P (p ∷ ps) v = P p (take (p .size) v) × EachValue P ps (drop (p .size) v)
+
+abbrev pub AllPut : CallRules → ℕ → List Placement → List ℕ → Buffers → Type 0
+AllPut r base ps v b = EachValue (λ (p : Placement) (x : List ℕ). Put r base p x b) ps v
 
 -- room depends on lengths alone
 pub given-same : (r : CallRules) (base : ℕ) (p : Placement) (v : List ℕ) (b c : Buffers) → SameLengths b c → Given r base p v b → Given r base p v c

@@ -47,7 +47,7 @@ use Rattle.call_read.specs.declared.ReadLengths.{ReadLengths}
 use Rattle.call_read.specs.Read.{readLengths, argumentAnswer, argumentsAnswer, readTests, readAnswer, readValues}
 use Rattle.call_roundtrip.specs.RoundTrip.{Filled, left, ReadBack, ReadAfterFill}
 use Rattle.call_roundtrip.proofs.Kept.{all-later}
-use Rattle.call_roundtrip.proofs.Arguments.{Stands, Given, stands-put, stands-done, stands-value, Behind, stands-kept, AllPut, given-same}
+use Rattle.call_roundtrip.proofs.Arguments.{Stands, Given, stands-put, stands-done, stands-value, Behind, stands-kept, AllPut, given-same, EachValue}
 
 -- the buffers have room for the arguments ps of a copies' end at m
 record Roomy (r : CallRules) (base : ℕ) (ps : List Placement) (a m : ℕ) (v : List ℕ) (b : Buffers) : Type 0 where
@@ -78,7 +78,7 @@ step-behind r k t n v named held size =
 all-put : (c : Convention) (r : CallRules) (base a m : ℕ) (k : Cursor) (ts : List ValueType) (v : List ℕ) (b : Buffers) → Named r k
     → Roomy r base (placements c ts (spansOf c r k ts)) a m v b
     → AllPut r base (placements c ts (spansOf c r k ts)) v (putAll (slotsOfAll r base (placements c ts (spansOf c r k ts)) v) b)
-unfolding placements spansOf slotsOfAll AllPut All sizesOf
+unfolding placements spansOf slotsOfAll EachValue All sizesOf
 all-put c r base a m k [] v b named h = tt
 all-put c r base a m k (t ∷ ts) v b named h =
     let n : ℕ = sizeOf c t in
@@ -122,7 +122,7 @@ all-put c r base a m k (t ∷ ts) v b named h =
 -- every argument can be read, and the values are those that were put
 pub put-back : (r : CallRules) (base : ℕ) (ps : List Placement) (v : List ℕ) (b : Buffers) → AllPut r base ps v b → length v ≡ sizesOf ps
     → (argumentsAnswer r base ps b ≡ Answer.Done) × (valuesAt r base ps b ≡ v)
-unfolding AllPut argumentsAnswer firstOfAll valuesAt sizesOf
+unfolding EachValue argumentsAnswer firstOfAll valuesAt sizesOf
 put-back r base [] [] b h e = (refl, refl)
 put-back r base [] (x ∷ v) b h e = absurd (omega arith)
 put-back r base (p ∷ ps) v b h e =
@@ -145,7 +145,7 @@ reading-done (Outcome.Refused f) x e y q = let z : _≡_ {A = ℕ} 0 1 = cc in a
 -- a refused signature has no arguments
 none-put : (base : ℕ) (v : List ℕ) (b : Buffers) (f : Fault)
     → AllPut (rulesIn (signatureAnswer (no f))) base (placementsIn (signatureAnswer (no f)) (planAnswer (no f))) v b
-unfolding AllPut placementsIn placements
+unfolding EachValue placementsIn placements
 none-put base v b f = tt
 
 -- a signature's arguments, after its slots are put in any buffers that have room for them

@@ -72,6 +72,7 @@ use Rattle.call_roundtrip.specs.Views.{valueLists, homedArea, Viewed, Vi
 use Rattle.call_roundtrip.proofs.Alone.{read-own}
 use Rattle.call_roundtrip.proofs.Forms.{own-back, length-home}
 use Rattle.call_roundtrip.proofs.Theorems.{reading-done as answer-passed, put-back, values-total, Left, filled-left, filled-answer}
+use Rattle.call_roundtrip.proofs.Arguments.{EachValue}
 
 -- ---- one argument
 
@@ -219,9 +220,8 @@ module _ (r : CallRules) (base : ℕ) (p : Placement) (v : List ℕ) (b : Buffer
 -- ---- several, whose homes follow each other
 
 -- each of several is read as the next part of v
-unfoldable AllShow : CallRules → ℕ → List Placement → List ℕ → Buffers → Type 0
-AllShow r base [] v b = Unit {0}
-AllShow r base (p ∷ ps) v b = Shows r base p (take (p .size) v) b × AllShow r base ps (drop (p .size) v) b
+abbrev AllShow : CallRules → ℕ → List Placement → List ℕ → Buffers → Type 0
+AllShow r base ps v b = EachValue (λ (p : Placement) (x : List ℕ). Shows r base p x b) ps v
 
 unfoldable HomesFrom : CallRules → ℕ → List Placement → Type 0
 HomesFrom r n [] = Unit {0}
@@ -247,7 +247,7 @@ homed-kept r (p ∷ ps) n q m image l h k =
 
 all-over : (r : CallRules) (base : ℕ) (ps : List Placement) (v : List ℕ) (b : Buffers) (a m n : ℕ) (bs : List ℕ) → AllShow r base ps v b → All (Homed r a) ps → HomesFrom r m ps → n + length bs ≤ m
     → AllShow r base ps v (buffers (b .image) (splice (b .area) n bs) (b .copies))
-unfolding AllShow All HomesFrom
+unfolding EachValue All HomesFrom
 all-over r base [] v b a m n bs h homes from l = tt
 all-over r base (p ∷ ps) v b a m n bs h homes from l = (
   shows-over r base p (take (p .size) v) b a (h .0) (homes .0) n bs (omega (arith, from .0)),
@@ -256,7 +256,7 @@ all-over r base (p ∷ ps) v b a m n bs h homes from l = (
 
 views : (r : CallRules) (base : ℕ) (ps : List Placement) (v : List ℕ) (b : Buffers) (a m : ℕ) → AllShow r base ps v b → All (Homed r a) ps → HomesFrom r m ps → a ≤ length (b .area)
     → (i : ℕ) → i < length ps → ownBytes r (getD ps i noArgument) (homed r ps (b .image) (b .area)) ≡ getD (valueLists ps v) i []
-unfolding AllShow All HomesFrom homed valueLists
+unfolding EachValue All HomesFrom homed valueLists
 views r base [] v b a m h homes from room i l = absurd (omega arith)
 views r base (p ∷ ps) v b a m h homes from room zero l =
     let l1 : List ℕ = splice (b .area) (p .span .home .start) (homedBytes r p (b .image)) in
@@ -356,7 +356,7 @@ FloatBytes r base b p = 0 < p .span .floating .count → Bytes (valueAt r base p
 -- what can be read is read as the parts of its values
 all-show : (r : CallRules) (base : ℕ) (ps : List Placement) (b : Buffers) → All (λ (p : Placement). Readable r base p b) ps → All (FloatBytes r base b) ps
     → AllShow r base ps (valuesAt r base ps b) b
-unfolding All AllShow valuesAt
+unfolding All EachValue valuesAt
 all-show r base [] b h bytes = tt
 all-show r base (p ∷ ps) b h bytes =
     let x : List ℕ = valueAt r base p b in

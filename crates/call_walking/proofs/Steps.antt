@@ -20,14 +20,14 @@ use Rattle.plan_places.specs.declared.CallRules.{CallRules}
 use Rattle.plan_places.specs.declared.Span.{Span}
 use Rattle.plan_places.specs.Step.{rulesOf, spanOf, nextOf, unclearFor}
 use Rattle.plan_places.specs.Helpers.{LawfulCalls}
-use Rattle.plan_places.proofs.Bounds.{rules-lawful}
+use Rattle.plan_places.proofs.Bounds.{rules-lawful, unclear-floating}
 use Rattle.plan_places.proofs.Marked.{next-marked, named-marked}
 use Rattle.plan_places.proofs.Registers.{step-numbered}
 use Rattle.call_slots.specs.declared.Answer as call
 use Rattle.call_slots.specs.Buffers.{Buffers, buffers}
 use Rattle.call_slots.specs.Placements.{Placement, placement, valueAt}
 use Rattle.call_slots.specs.Refusals.{firstOf, orElse, firstOfAll, isRefused}
-use Rattle.call_slots.proofs.Typed.{Typed}
+use Rattle.call_slots.proofs.Typed.{Typed, typed}
 use Rattle.call_slots.proofs.Held.{step-held}
 use Rattle.call_slots.proofs.Refusals.{first-done, differ-false, or-refused, not-refused}
 use Rattle.call_unmarshal.specs.Helpers.{InBuffers, Readable}
@@ -41,9 +41,8 @@ use Rattle.call_walker.specs.Words.{walkerWords, walked, stepBy, stepFor}
 use Rattle.call_walker.specs.Helpers.{local, Shifted}
 use Rattle.call_walker.proofs.Shifted.{areaFrom, span-shifts, value-shift, answer-shift, tests-shift}
 use Rattle.call_walker.proofs.Exactly.{found-possible}
-use Rattle.call_walker.proofs.Steps.{typed}
 use Rattle.call_walking.specs.Helpers.{Declared, countersAfter}
-use Rattle.call_walking.proofs.Parts.{local-named, unclear-local, next-after}
+use Rattle.call_walking.proofs.Parts.{local-named, next-after}
 
 -- ---- what the lengths tell
 
@@ -100,7 +99,7 @@ module _ (w : Walker) (t : ValueType) (base : ℕ) (b : Buffers) where
       let s : Span = spanOf (rulesBy w) (cursorOf w) t (sizeBy w t) in
       let tests = tests-shift t (sizeBy w t) (cursorOf w .stack) s span b shifted v in
       let answer = answer-shift t (sizeBy w t) (cursorOf w .stack) s span b shifted (rulesBy w) base in
-      ap₂ (λ (u : Bool) (x : call.Answer). pick u unclear x) (sym (unclear-local (rulesOf (w .convention)) (cursorOf w) t)) (ap₂ orElse tests answer)
+      ap₂ (λ (u : Bool) (x : call.Answer). pick u unclear x) (sym (unclear-floating (rulesOf (w .convention)) (local (cursorOf w)) (cursorOf w) t refl)) (ap₂ orElse tests answer)
 
   module _ (ws v : List ℕ) where
     by-answer : (a : call.Answer) → stepAnswer w t (length v) base b ≡ a → isRefused a ≡ true → walked (Answer.Called a) ws v ≡ stepFor ws w t base b v

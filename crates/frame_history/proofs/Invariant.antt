@@ -8,9 +8,10 @@ use mathlib.Core.List.{List, [], _∷_}
 use native.Mathlib.Omega.{arith}
 use lib.ListN.{length, getD}
 use borrow.Author.Tests.{le-leb}
+use Rattle.base_words.specs.Basics.{All}
 use Rattle.frame_saves.specs.Saves.{load, Outside}
 use Rattle.frame_saves.proofs.Words.{load-agree}
-use Rattle.frame_saves.proofs.Saving.{HeldAll, all-agree}
+use Rattle.frame_saves.proofs.Saving.{Held, all-agree}
 use Rattle.frame_rules.specs.declared.FrameRules.{FrameRules}
 use Rattle.frame_rules.specs.declared.Registers.{Registers}
 use Rattle.frame_rules.specs.Rules.{within}
@@ -56,7 +57,7 @@ pub record Top (k : FrameRules) (o : OpenEnter) (os : List OpenEnter) (m : Machi
   pub gprs : (n : ℕ) → within (k .gpr .preserved) n ≡ true → n < firstGpr (o .request) → getD (m .state .registers .gpr) n 0 ≡ getD (o .before .state .registers .gpr) n 0
   pub fprs : (n : ℕ) → within (k .fpr .preserved) n ≡ true → n < firstFpr (o .request) → getD (m .state .registers .fpr) n 0 ≡ getD (o .before .state .registers .fpr) n 0
   pub fields : savesCr (o .request) ≡ false → preservedCondition (k .linkage) (m .state .registers .cr) ≡ preservedCondition (k .linkage) (o .before .state .registers .cr)
-  pub held : HeldAll (m .memory) (saves k (o .request) (offset k (o .before .state)) (o .before .state .registers))
+  pub held : All (Held (m .memory)) (saves k (o .request) (offset k (o .before .state)) (o .before .state .registers))
   -- the caller is no leaf; a leaf keeps LR, any other frame its back chain
   pub solid : callerOf k os .leaf ≡ false
   pub lr : o .request .leaf ≡ true → m .state .registers .lr ≡ o .before .state .registers .lr
