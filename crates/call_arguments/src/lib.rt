@@ -21,10 +21,6 @@ ghost use Rattle.plan_plans.specs.Plan.{refusedPlan, startIn, measureOf};
 ghost use Rattle.plan_plans.specs.Helpers.{planWith, unclearWith};
 ghost use Rattle.call_arguments.specs.Helpers.{HeadIs, NoneLeft, KeepsRows, KeptWith, KeptWhere, outcomeBy};
 
-// An argument takes three bytes or more of the signature: where the arguments' part has at most this many bytes, twelve rows are enough for them. Room is cleared
-// before it is used, so that a little of it is worth a test.
-pub const FEW_BYTES: usize = 36;
-
 // The sizes of a call, with its outcome, and how many arguments are kept.
 pub struct KeptCall {
     pub sizes: Measured,
