@@ -4,6 +4,7 @@ use plan_places::ByteRange;
 use plan_places::RegisterRange;
 use plan_places::ResultPlaces;
 use plan_places::Span;
+use plan_plans::Measured;
 use plan_plans::Plan;
 use sig_items::Fault;
 use sig_items::Refusal;
@@ -14,7 +15,7 @@ use sig_signatures::ResultType;
 use sig_signatures::SignatureRead;
 ghost use mathlib.Core.Path.{_≡_};
 ghost use Rattle.sig_signatures.specs.Read.{signatureOf};
-ghost use Rattle.plan_plans.specs.Plan.{hiddenIn, resultPlacesIn, blankPlan, planAnswer};
+ghost use Rattle.plan_plans.specs.Plan.{hiddenIn, resultPlacesIn, blankPlan, refusedPlan, planAnswer, measureOf};
 ghost use Rattle.plan_plans.specs.Helpers.{planned, unclearOf};
 ghost use Rattle.sig_signatures.specs.Answer.{signatureAnswer};
 ghost use Rattle.sig_signatures.specs.Helpers.{SmallResult, Plannable};
@@ -53,6 +54,18 @@ fn blank(
             indirect: false,
         }; MAX_ARGUMENTS],
     }
+// The sizes of a call that is refused.
+pub fn no_measure(fault: Fault) -> Measured
+    ensures { λ m. ⌜ m ≡ measureOf (refusedPlan fault) ⌝ }
+{
+    Measured {
+        outcome: Outcome::Refused(fault),
+        area: 0,
+        values: 0,
+        copies: 0,
+    }
+}
+
 }
 
 // Whether a result is handed over through memory, at a hidden address.
