@@ -139,7 +139,7 @@ fn outcome_of(sig: &[u8], unclear: usize, read: Outcome) -> Outcome
     if unclear == 0 {
         return read;
     }
-    Outcome::Refused(plan_planning::unclear_fault(sig, unclear - 1))
+    Outcome::Refused(sig_reader::unclear_fault(sig, unclear - 1))
 }
 
 // A call by its bytes, what stands before its arguments being read.

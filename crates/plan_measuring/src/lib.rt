@@ -172,7 +172,7 @@ fn judged(s: &[u8], a: Passed) -> Measured
     if unclear == 0 {
         return a.measured;
     }
-    plan_planning::no_measure(plan_planning::unclear_fault(s, unclear - 1))
+    plan_planning::no_measure(sig_reader::unclear_fault(s, unclear - 1))
 }
 
 // The sizes of a call, from the arguments on: where the rules are always clear, no argument is looked at for that.

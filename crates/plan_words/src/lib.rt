@@ -209,7 +209,7 @@ fn plan_arguments(
         });
     }
     if unclear != 0 {
-        return no_plan(plan_planning::unclear_fault(sig, unclear - 1));
+        return no_plan(sig_reader::unclear_fault(sig, unclear - 1));
     }
     plan_entries::write_table(places, kept, ENTRY * count);
     let result = result_words(convention, returned);
