@@ -89,7 +89,7 @@ fn keep_arguments(
                 passed: earlier + items,
             });
         }
-        match sig_nested_items::read_item(s, convention, next, end, 8) {
+        match sig_nested_items::read_item(s, convention, next, end, sig_types::MAX_DEPTH) {
             ItemRead::Item {
                 ty,
                 next: after,

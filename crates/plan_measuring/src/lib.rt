@@ -47,7 +47,7 @@ fn measure_plain(
                 passed: earlier + items,
             });
         }
-        match sig_nested_items::read_item(s, convention, place, end, 8) {
+        match sig_nested_items::read_item(s, convention, place, end, sig_types::MAX_DEPTH) {
             ItemRead::Item {
                 ty,
                 next,
@@ -125,7 +125,7 @@ fn measure_arguments(
                 passed: earlier + items,
             });
         }
-        match sig_nested_items::read_item(s, convention, next, end, 8) {
+        match sig_nested_items::read_item(s, convention, next, end, sig_types::MAX_DEPTH) {
             ItemRead::Item {
                 ty,
                 next: after,

@@ -178,7 +178,7 @@ fn plan_arguments(
                 passed: earlier + items,
             });
         }
-        match sig_nested_items::read_item(sig, convention, next, end, 8) {
+        match sig_nested_items::read_item(sig, convention, next, end, sig_types::MAX_DEPTH) {
             ItemRead::Item {
                 ty,
                 next: after,
