@@ -1,8 +1,10 @@
--- What tests say of two tests joined, of one turned round, and of a choice by one. Assumes nothing.
+-- What tests say of two tests joined, of one turned round, and of a choice by one; a test as a number. Assumes nothing.
 use mathlib.Core.Path.{_≡_, refl, sym}
 use mathlib.Core.Logic.{_⊎_, inl, inr}
 use mathlib.Core.Bool.{Bool, true, false, not, _&&_, _||_, false≢true}
-use Rattle.base_words.specs.Basics.{pick}
+use Prim.Native.Nat.{_≤_}
+use native.Mathlib.Omega.{arith}
+use Rattle.base_words.specs.Basics.{pick, flag}
 
 -- by cases on a test
 pub either : {A : Type 0} (b : Bool) → (b ≡ true → A) → (b ≡ false → A) → A
@@ -34,6 +36,16 @@ and-both a b x y = rw (x, y)
 pub and-no : (b : Bool) → (b && false) ≡ false
 and-no true = refl
 and-no false = refl
+
+-- as a number
+
+pub flag-le : (b : Bool) → flag b ≤ 1
+flag-le true = omega arith
+flag-le false = omega arith
+
+pub flag-pick : (b : Bool) → flag b ≡ pick b 1 0
+flag-pick true = refl
+flag-pick false = refl
 
 -- one at least
 

@@ -5,7 +5,6 @@ use second_parameters::Returned;
 use sig_signatures::MAX_ARGUMENTS;
 use sig_signatures::Outcome;
 ghost use mathlib.Core.Path.{_≡_};
-ghost use Rattle.base_words.specs.Basics.{flag};
 ghost use Rattle.sig_signatures.specs.Read.{signatureOf};
 ghost use Rattle.second_planner.specs.Answer.{secondAnswer};
 ghost use Rattle.c_second.specs.Words.{outcomeWords, returnedWords, planWords, placeWords, noPlace, placeAt};
@@ -47,15 +46,6 @@ pub struct SecondPlace {
     pub copy: u64,
     pub copy_length: u64,
     pub reference: u64,
-}
-
-fn mark_word(mark: bool) -> u64
-    ensures { λ n. ⌜ n ≡ flag mark ⌝ }
-{
-    if mark {
-        return 1;
-    }
-    0
 }
 
 fn outcome_words(o: Outcome) -> Answer
@@ -117,7 +107,7 @@ fn place_words(p: Parameter) -> SecondPlace
         memory_length: memory.count as u64,
         copy: copy.first as u64,
         copy_length: copy.count as u64,
-        reference: mark_word(p.reference),
+        reference: base_words::flag(p.reference),
     }
 }
 
@@ -133,7 +123,7 @@ pub extern "C" fn fz_second_plan(sig: &[u8]) -> SecondAnswer
     SecondAnswer {
         answer: outcome_words(outcome),
         convention: base_conventions::code_of(convention),
-        ellipsis: mark_word(p.ellipsis),
+        ellipsis: base_words::flag(p.ellipsis),
         arguments: p.count as u64,
         values: p.values as u64,
         area: p.area as u64,

@@ -22,14 +22,14 @@ use Rattle.sig_signatures.specs.Encode.{encode, signatureItems, SignatureWithin
 use Rattle.sig_signatures.proofs.Theorems.{accepted}
 use Rattle.sig_signatures.proofs.Complete.{encode-reads}
 use Rattle.sig_reader.specs.declared.ArgumentRead.{ArgumentRead}
-use Rattle.sig_reader.specs.Argument.{argumentIn, argumentsPlace, argumentOf}
+use Rattle.sig_reader.specs.Argument.{argumentIn, argumentsPlace, argumentOf, itemIn, unclearFault}
 use Rattle.plan_places.specs.declared.Cursor.{Cursor}
 use Rattle.plan_places.specs.declared.CallRules.{CallRules}
 use Rattle.plan_places.specs.Step.{rulesOf, withEllipsis}
 use Rattle.plan_plans.specs.Plan.{lastOf, startIn, lastCursorIn, planIn, planAnswer}
 use Rattle.sig_signatures.specs.Types.{typesOf, valuesOf}
 use Rattle.plan_plans.specs.Disjoint.{spanAt}
-use Rattle.plan_plans.specs.Call.{firstUnclear, unclearIn, unclearFault, itemIn, clearRead, called, callOf, outcomeFor}
+use Rattle.plan_plans.specs.Call.{firstUnclear, unclearIn, clearRead, called, callOf, outcomeFor}
 use Rattle.plan_plans.proofs.Fold.{last-forward, last-append, values-append}
 use Rattle.sig_signatures.proofs.Types.{length-of-types}
 use Rattle.plan_plans.proofs.Calls.{unclearFrom, unclear-append, called-got, called-accepted}

@@ -31,6 +31,7 @@ use Rattle.sig_signatures.specs.Answer.{resultType, headAnswer, signatureAnswer
 use Rattle.sig_signatures.specs.Types.{typesOf}
 use Rattle.sig_signatures.proofs.Laws.{thenArguments, signature-then}
 use Rattle.sig_signatures.proofs.Loop.{Turn, turn-start, turn-last, turn-more}
+use Rattle.sig_reader.specs.Argument.{unclearFault}
 use Rattle.plan_places.specs.declared.Cursor.{Cursor}
 use Rattle.plan_places.specs.declared.Span.{Span}
 use Rattle.plan_places.specs.declared.CallRules.{CallRules}
@@ -42,7 +43,7 @@ use Rattle.plan_places.proofs.Registers.{step-numbered}
 use Rattle.plan_plans.specs.declared.Measured.{Measured}
 use Rattle.plan_plans.specs.Plan.{spansOf, lastOf, hiddenIn, startIn, refusedPlan, resultPlacesIn, planIn, planAnswer, measureOf}
 use Rattle.plan_plans.specs.Helpers.{planWith, unclearOf, unclearWith}
-use Rattle.plan_plans.specs.Call.{unclearFault, called, outcomeFor}
+use Rattle.plan_plans.specs.Call.{called, outcomeFor}
 use Rattle.plan_plans.proofs.Fold.{last-more, same-step}
 use Rattle.plan_plans.proofs.Measures.{Measuring, measuring-start, measuring-more, measure-trailing, measure-end, unclear-trailing, unclear-end, measured-arguments, unclear-arguments}
 use Rattle.plan_plans.proofs.Answers.{outcome-read}

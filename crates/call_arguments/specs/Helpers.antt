@@ -17,9 +17,9 @@ use Rattle.sig_signatures.specs.Signature.{Signature}
 use Rattle.sig_signatures.specs.Read.{headOf}
 use Rattle.sig_signatures.specs.Answer.{headAnswer}
 use Rattle.sig_signatures.specs.Types.{typesOf}
+use Rattle.sig_reader.specs.Argument.{unclearFault}
 use Rattle.plan_places.specs.Step.{rulesOf, withEllipsis}
 use Rattle.plan_plans.specs.Plan.{spansOf, startIn}
-use Rattle.plan_plans.specs.Call.{unclearFault}
 use Rattle.call_slots.specs.Placements.{placements}
 use Rattle.call_slots.specs.Arguments.{argumentsOf}
 use Rattle.call_kept.specs.Helpers.{rowLength, keptAll}

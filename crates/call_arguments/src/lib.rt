@@ -21,10 +21,6 @@ ghost use Rattle.plan_plans.specs.Plan.{refusedPlan, startIn, measureOf};
 ghost use Rattle.plan_plans.specs.Helpers.{planWith, unclearWith};
 ghost use Rattle.call_arguments.specs.Helpers.{HeadIs, NoneLeft, KeepsRows, KeptWith, KeptWhere, outcomeBy};
 
-// An argument takes three bytes or more of the signature: where the arguments' part has at most this many bytes, twelve rows are enough for them. Room is cleared
-// before it is used, so that a little of it is worth a test.
-pub const FEW_BYTES: usize = 36;
-
 // The sizes of a call, with its outcome, and how many arguments are kept.
 pub struct KeptCall {
     pub sizes: Measured,
@@ -47,28 +43,17 @@ pub fn rules_in(c: Convention, ellipsis: bool) -> CallRules
 }
 
 // The sizes by the reading alone, the number of the first unclear argument, counted from 1, or 0, and how many are kept.
-struct Passed {
+struct KeptArguments {
     measured: Measured,
     unclear: usize,
     count: usize,
 }
 
-fn no_measure(fault: Fault) -> Measured
-    ensures { λ m. ⌜ m ≡ measureOf (refusedPlan fault) ⌝ }
-{
-    Measured {
-        outcome: Outcome::Refused(fault),
-        area: 0,
-        values: 0,
-        copies: 0,
-    }
-}
-
-fn not_passed(fault: Fault) -> Passed
+fn none_kept(fault: Fault) -> KeptArguments
     ensures { λ a. ⌜ (a .measured ≡ measureOf (refusedPlan fault)) × (a .unclear ≡ 0) ⌝ }
 {
-    Passed {
-        measured: no_measure(fault),
+    KeptArguments {
+        measured: plan_planning::no_measure(fault),
         unclear: 0,
         count: 0,
     }
@@ -84,7 +69,7 @@ fn keep_arguments(
     end: usize,
     earlier: usize,
     kept: &mut [u16],
-) -> Passed
+) -> KeptArguments
     requires { ⌜ (at ≤ end) × (end ≤ length (now s)) × (end ≤ 2 ^ 16) × (earlier ≤ 2 ^ 16) × KeepsRows at end (length (now kept)) ⌝ }
     ensures { λ a. ⌜ (a .measured ≡ measureOf (planWith convention false returned earlier (length (now (s .entry))) (argumentsIn convention (now (s .entry)) at end))) × (a .unclear ≡ unclearWith convention returned (length (now (s .entry))) (argumentsIn convention (now (s .entry)) at end)) ⌝ }
     ensures { λ a. ⌜ KeptWith convention ellipsis returned (length (now (s .entry))) (argumentsIn convention (now (s .entry)) at end) (now (kept .exit)) (a .count) ⌝ }
@@ -98,13 +83,13 @@ fn keep_arguments(
     let mut items: usize = 1;
     while next < end {
         if count == MAX_ARGUMENTS {
-            return not_passed(Fault {
+            return none_kept(Fault {
                 reason: Refusal::TooManyArguments,
                 place: next,
                 passed: earlier + items,
             });
         }
-        match sig_nested_items::read_item(s, convention, next, end, 8) {
+        match sig_nested_items::read_item(s, convention, next, end, sig_types::MAX_DEPTH) {
             ItemRead::Item {
                 ty,
                 next: after,
@@ -122,20 +107,20 @@ fn keep_arguments(
                 items = items + more;
             }
             ItemRead::Refused(fault) => {
-                return not_passed(sig_items::later_by(earlier + items, fault));
+                return none_kept(sig_items::later_by(earlier + items, fault));
             }
         }
     }
     let counted = earlier + items;
     if next < s.len() {
-        return not_passed(Fault {
+        return none_kept(Fault {
             reason: Refusal::TrailingBytes,
             place: next,
             passed: counted,
         });
     }
     let area = plan_placing::area_of(convention, c);
-    Passed {
+    KeptArguments {
         measured: Measured {
             outcome: Outcome::Accepted(counted),
             area,
@@ -154,7 +139,7 @@ fn outcome_of(sig: &[u8], unclear: usize, read: Outcome) -> Outcome
     if unclear == 0 {
         return read;
     }
-    Outcome::Refused(plan_planning::unclear_fault(sig, unclear - 1))
+    Outcome::Refused(sig_reader::unclear_fault(sig, unclear - 1))
 }
 
 // A call by its bytes, what stands before its arguments being read.
@@ -200,7 +185,7 @@ pub fn measure_none(
 {
     let counted = earlier + 1;
     if end < sig.len() {
-        return no_measure(Fault {
+        return plan_planning::no_measure(Fault {
             reason: Refusal::TrailingBytes,
             place: end,
             passed: counted,

@@ -1,11 +1,14 @@
 // Filling: the values of a call's arguments are put where its signature's plan says, unless a buffer is too small or its base unfit.
 use base_conventions::Convention;
-use call_arguments::FEW_BYTES;
+use call_kept::ROW;
 use call_slots::Answer;
 use call_slots::Refusal;
 use plan_places::CallRules;
 use plan_places::IMAGE_BYTES;
+use sig_signatures::FEW_ARGUMENTS;
+use sig_signatures::FEW_BYTES;
 use sig_signatures::HeadRead;
+use sig_signatures::MAX_ARGUMENTS;
 use sig_signatures::Outcome;
 use sig_signatures::ResultType;
 ghost use mathlib.Core.Path.{_≡_};
@@ -266,7 +269,7 @@ pub fn fill(
                 );
             }
             if end - at <= FEW_BYTES {
-                let mut few = [0u16; 120];
+                let mut few = [0u16; ROW * FEW_ARGUMENTS];
                 return fill_part(
                     sig,
                     values,
@@ -284,7 +287,7 @@ pub fn fill(
                     &mut few,
                 );
             }
-            let mut many = [0u16; 1280];
+            let mut many = [0u16; ROW * MAX_ARGUMENTS];
             fill_part(
                 sig,
                 values,

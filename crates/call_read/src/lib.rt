@@ -1,14 +1,17 @@
 // Reading: the values of a call's arguments out of its registers, memory and copies. A first pass over the arguments finds the first
 // that can't be read, and only then are the values taken, so that a refused reading leaves the value buffer as it was.
 use base_conventions::Convention;
-use call_arguments::FEW_BYTES;
+use call_kept::ROW;
 use call_slots::Answer;
 use call_slots::Refusal;
 use plan_places::CallRules;
 use plan_places::FPRS_AT;
 use plan_places::IMAGE_BYTES;
 use plan_places::Span;
+use sig_signatures::FEW_ARGUMENTS;
+use sig_signatures::FEW_BYTES;
 use sig_signatures::HeadRead;
+use sig_signatures::MAX_ARGUMENTS;
 use sig_signatures::Outcome;
 use sig_signatures::ResultType;
 use sig_types::ValueType;
@@ -311,7 +314,7 @@ pub fn read(
                 return read_none(sig, values, image, area, convention, result, end, earlier);
             }
             if end - at <= FEW_BYTES {
-                let mut few = [0u16; 120];
+                let mut few = [0u16; ROW * FEW_ARGUMENTS];
                 return read_part(
                     sig,
                     values,
@@ -328,7 +331,7 @@ pub fn read(
                     &mut few,
                 );
             }
-            let mut many = [0u16; 1280];
+            let mut many = [0u16; ROW * MAX_ARGUMENTS];
             read_part(
                 sig,
                 values,

@@ -2,7 +2,6 @@
 ghost use mathlib.Core.Path.{_≡_};
 ghost use Prim.Native.Nat.{_+_, _≤_, _<_};
 ghost use lib.ListN.{length};
-ghost use Rattle.base_words.specs.Basics.{flag};
 ghost use Rattle.base_words.specs.Splice.{splice, part};
 ghost use Rattle.frame_word_layout.specs.Words.{machineWords, registersWords, recordWords, recordsAt, conventionOf, isKnown, depthIn, registersIn, frameIn, framesIn, stateIn, registerWords, framesWords, stateWords, withRegisters, withFrame};
 ghost use Rattle.frame_word_layout.specs.Calls.{changed};
@@ -189,12 +188,6 @@ pub fn put_registers(words: &mut [u64], r: Registers)
     words[CR_AT] = r.cr as u64;
 }
 
-fn flag_word(b: bool) -> u64
-    ensures { λ r. ⌜ r ≡ flag b ⌝ }
-{
-    if b { 1 } else { 0 }
-}
-
 // The record i.
 fn put_frame(words: &mut [u64], i: usize, f: Frame)
     requires { ⌜ (length (now words) ≡ machineWords) × (i < 32) ⌝ }
@@ -203,10 +196,10 @@ fn put_frame(words: &mut [u64], i: usize, f: Frame)
     let at = RECORDS_AT + RECORD_WORDS * i;
     words[at] = f.first_gpr as u64;
     words[at + 1] = f.first_fpr as u64;
-    words[at + 2] = flag_word(f.saves_cr);
+    words[at + 2] = base_words::flag(f.saves_cr);
     words[at + 3] = f.locals as u64;
     words[at + 4] = f.outgoing as u64;
-    words[at + 5] = flag_word(f.leaf);
+    words[at + 5] = base_words::flag(f.leaf);
 }
 
 // All 32 records.

@@ -12,6 +12,8 @@ use both_abi::Ppc64b;
 use both_abi::Z;
 use frame_machine::Answer;
 use frame_machine::Outcome;
+use frame_word_layout::CR_AT;
+use frame_word_layout::CR_IN;
 use frame_word_layout::MACHINE_WORDS;
 use frame_word_layout::REGISTERS_WORDS;
 
@@ -29,7 +31,7 @@ fn put_start(
     let a = o.answer;
     match a {
         Answer::Refused(r) => {
-            words[69] = registers[65];
+            words[CR_AT] = registers[CR_IN];
             Answer::Refused(r)
         }
         Answer::Accepted => Answer::Accepted,

@@ -114,10 +114,6 @@ words-most r n l h =
     let least : q * 4 ≤ q * wordOf r = mul-le-mul-left q (word-least r l) in
     omega (arith, least, div-mul-le-self n (wordOf r))
 
-pub one-most : (b : Bool) → pick b 1 0 ≤ 1
-one-most true = omega arith
-one-most false = omega arith
-
 pub record Short (q : PlaceRun) (n : ℕ) : Type 0 where
   pub fits : RunFits q
   pub few : q .count ≤ n

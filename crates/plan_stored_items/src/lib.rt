@@ -8,7 +8,6 @@ ghost use mathlib.Core.Path.{_≡_};
 ghost use mathlib.Core.List.{_∷_, [], _++_};
 ghost use Prim.Native.Nat.{_+_, _*_, _/_, _%_, _^_, _≤_, _<_};
 ghost use lib.ListN.{length};
-ghost use Rattle.base_words.specs.Basics.{pick};
 ghost use Rattle.plan_places.specs.Helpers.{ResultNumbered, LawfulCalls};
 ghost use Rattle.plan_places.specs.Step.{wordOf};
 ghost use Rattle.plan_text.specs.Writing.{Wrote};
@@ -183,22 +182,13 @@ fn memory_run(rules: CallRules, s: Span) -> PlaceRun
     }
 }
 
-fn one_if(b: bool) -> usize
-    ensures { λ r. ⌜ r ≡ pick b 1 0 ⌝ }
-{
-    if b {
-        return 1;
-    }
-    0
-}
-
 fn copy_run(s: Span) -> PlaceRun
     requires { ⌜ Storable s ⌝ }
     ensures { λ q. ⌜ (q ≡ copyRun s) × RunFits q × (q .count ≤ 1) ⌝ }
 {
     let copy = s.copy;
     let indirect = s.indirect;
-    let count = one_if(indirect);
+    let count = base_words::flag(indirect) as usize;
     PlaceRun {
         kind: 2,
         bank: 0,
@@ -237,7 +227,7 @@ pub fn argument_length(rules: CallRules, s: Span) -> usize
     let memory = s.memory;
     let indirect = s.indirect;
     let words = words_in(rules, memory.length as usize);
-    let copies = one_if(indirect);
+    let copies = base_words::flag(indirect) as usize;
     3 + 5 * (floating.count as usize + (general.count as usize + (words + copies)))
 }
 

@@ -28,7 +28,7 @@ use Rattle.sig_signatures.proofs.Laws.{thenArguments, signature-arguments}
 use Rattle.sig_signatures.specs.Types.{valuesOf, typesOf}
 use Rattle.sig_signatures.proofs.Types.{length-of-types, answer-plannable}
 use Rattle.sig_reader.specs.declared.ArgumentRead.{ArgumentRead}
-use Rattle.sig_reader.specs.Argument.{argumentIn, argumentsPlace, argumentOf}
+use Rattle.sig_reader.specs.Argument.{argumentIn, argumentsPlace, argumentOf, itemIn, unclearFault}
 use Rattle.sig_reader.proofs.Found.{begun}
 use Rattle.plan_places.specs.declared.Cursor.{Cursor}
 use Rattle.plan_places.specs.declared.Span.{Span}
@@ -36,7 +36,7 @@ use Rattle.plan_places.specs.Step.{rulesOf, withEllipsis, spanOf}
 use Rattle.plan_plans.specs.Plan.{spansOf, noSpan, tableOf, startIn, lastCursorIn, planIn, refusedPlan, planAnswer}
 use Rattle.plan_plans.specs.Disjoint.{spanAt}
 use Rattle.plan_plans.proofs.Fold.{length-spans, last-marked, spans-more, values-more}
-use Rattle.plan_plans.specs.Call.{itemIn, unclearFault, called, callOf}
+use Rattle.plan_plans.specs.Call.{called, callOf}
 use Rattle.plan_plans.specs.Helpers.{unclearOf}
 use Rattle.plan_plans.proofs.Calls.{called-clear, unclear-plan}
 use Rattle.plan_words.specs.declared.Planned.{Planned}

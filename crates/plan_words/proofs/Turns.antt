@@ -29,6 +29,7 @@ use Rattle.sig_signatures.proofs.Loop.{Turn, turn-start, turn-last}
 use Rattle.sig_signatures.specs.Types.{valuesOf, typesOf}
 use Rattle.sig_signatures.proofs.Types.{length-of-types}
 use Rattle.sig_reader.proofs.Found.{further}
+use Rattle.sig_reader.specs.Argument.{unclearFault}
 use Rattle.plan_places.specs.declared.Cursor.{Cursor}
 use Rattle.plan_places.specs.declared.Span.{Span}
 use Rattle.plan_places.specs.declared.CallRules.{CallRules}
@@ -37,7 +38,7 @@ use Rattle.plan_places.specs.Helpers.{unclearAfter}
 use Rattle.plan_places.proofs.Bounds.{rules-lawful}
 use Rattle.plan_places.proofs.Marked.{next-marked, unclear-marked}
 use Rattle.plan_plans.specs.Plan.{lastOf, hiddenIn, startIn, lastCursorIn, resultPlacesIn, planIn, refusedPlan}
-use Rattle.plan_plans.specs.Call.{firstUnclear, unclearFault}
+use Rattle.plan_plans.specs.Call.{firstUnclear}
 use Rattle.plan_plans.proofs.Calls.{unclear-more, same-unclear}
 use Rattle.plan_plans.proofs.Fold.{last-more, same-step, values-more, Reached, reached-start, reached-more}
 use Rattle.plan_entries.specs.Words.{entryWords}

@@ -8,10 +8,9 @@ use Rattle.sig_types.specs.Sizes.{sizeOf}
 use Rattle.sig_items.specs.Reading.{Reading}
 use Rattle.sig_signatures.specs.Signature.{Signature}
 use Rattle.sig_reader.specs.declared.ArgumentRead.{ArgumentRead}
-use Rattle.sig_reader.specs.Argument.{argumentOf}
+use Rattle.sig_reader.specs.Argument.{argumentOf, itemIn}
 use Rattle.plan_plans.specs.Plan.{planAnswer}
 use Rattle.plan_plans.specs.Disjoint.{spanAt}
-use Rattle.plan_plans.specs.Call.{itemIn}
 use Rattle.plan_entries.specs.Words.{entryWords}
 
 -- of what the reader says of an argument

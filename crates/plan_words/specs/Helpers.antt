@@ -15,10 +15,10 @@ use Rattle.sig_signatures.specs.Limits.{maxArguments}
 use Rattle.sig_signatures.specs.declared.ResultType.{ResultType}
 use Rattle.sig_signatures.specs.Signature.{Signature}
 use Rattle.sig_signatures.specs.Types.{valuesOf, typesOf}
+use Rattle.sig_reader.specs.Argument.{unclearFault}
 use Rattle.plan_places.specs.Step.{rulesOf, withEllipsis, spanOf}
 use Rattle.plan_plans.specs.Plan.{lastCursorIn, refusedPlan}
 use Rattle.plan_plans.specs.Helpers.{planWith, unclearWith}
-use Rattle.plan_plans.specs.Call.{unclearFault}
 use Rattle.plan_entries.specs.Words.{entryWords, entryLength}
 use Rattle.plan_words.specs.declared.Planned.{Planned}
 use Rattle.plan_words.specs.Planned.{plannedOf}

@@ -7,6 +7,8 @@ use plan_places::CallRules;
 use sig_items::Fault;
 use sig_items::ItemRead;
 use sig_items::Refusal;
+use sig_signatures::FEW_ARGUMENTS;
+use sig_signatures::FEW_BYTES;
 use sig_signatures::HeadRead;
 use sig_signatures::MAX_ARGUMENTS;
 use sig_signatures::Outcome;
@@ -42,9 +44,6 @@ pub struct Planned {
     pub values: usize,
     pub copies: usize,
 }
-
-// An argument takes three bytes or more of the signature: where the arguments' part has at most this many bytes, they are few.
-const FEW_BYTES: usize = 36;
 
 fn no_result() -> ResultWords
     ensures { λ w. ⌜ w ≡ resultWords ResultPlaces.Nothing ⌝ }
@@ -179,7 +178,7 @@ fn plan_arguments(
                 passed: earlier + items,
             });
         }
-        match sig_nested_items::read_item(sig, convention, next, end, 8) {
+        match sig_nested_items::read_item(sig, convention, next, end, sig_types::MAX_DEPTH) {
             ItemRead::Item {
                 ty,
                 next: after,
@@ -210,7 +209,7 @@ fn plan_arguments(
         });
     }
     if unclear != 0 {
-        return no_plan(plan_planning::unclear_fault(sig, unclear - 1));
+        return no_plan(sig_reader::unclear_fault(sig, unclear - 1));
     }
     plan_entries::write_table(places, kept, ENTRY * count);
     let result = result_words(convention, returned);
@@ -243,7 +242,7 @@ fn plan_part(
     ensures { λ p. ⌜ now (places .exit) ≡ overlayWhole (now (places .entry)) (rowsCalled convention ellipsis returned at (length (now (sig .entry))) (argumentsIn convention (now (sig .entry)) at end)) ⌝ }
 {
     if end - at <= FEW_BYTES {
-        let mut few = [0u16; 156];
+        let mut few = [0u16; ENTRY * FEW_ARGUMENTS];
         return plan_arguments(
             sig,
             convention,
@@ -256,7 +255,7 @@ fn plan_part(
             places,
         );
     }
-    let mut many = [0u16; 1664];
+    let mut many = [0u16; ENTRY * MAX_ARGUMENTS];
     plan_arguments(
         sig,
         convention,

@@ -12,16 +12,14 @@ use Rattle.sig_types.specs.declared.FloatFormat.{FloatFormat}
 use Rattle.sig_types.specs.declared.ValueType.{ValueType}
 use Rattle.sig_types.specs.Sizes.{sizeOf}
 use Rattle.sig_items.specs.declared.Fault.{Fault}
-use Rattle.sig_items.specs.declared.Refusal.{Refusal}
-use Rattle.sig_items.specs.Reading.{Reading, fault, got, no}
+use Rattle.sig_items.specs.Reading.{Reading, got, no}
 use Rattle.sig_signatures.specs.declared.ResultType.{ResultType}
 use Rattle.sig_signatures.specs.Signature.{Signature}
 use Rattle.sig_signatures.specs.Limits.{maxArguments}
 use Rattle.sig_signatures.specs.Read.{signatureOf}
 use Rattle.sig_signatures.specs.Answer.{resultType}
 use Rattle.sig_signatures.specs.Types.{typesOf}
-use Rattle.sig_reader.specs.declared.ArgumentRead.{ArgumentRead}
-use Rattle.sig_reader.specs.Argument.{argumentOf}
+use Rattle.sig_reader.specs.Argument.{unclearFault}
 use Rattle.plan_places.specs.declared.Cursor.{Cursor}
 use Rattle.plan_places.specs.declared.PowerRules.{PowerRules}
 use Rattle.plan_places.specs.declared.Edition.{Edition}
@@ -32,7 +30,7 @@ use Rattle.plan_places.specs.Helpers.{alwaysClear}
 use Rattle.plan_places.proofs.Written.{counted, start-written, hidden-written, area-written, z-start-written, z-hidden-written, z-area-written}
 use Rattle.plan_plans.specs.declared.Plan.{Plan}
 use Rattle.plan_plans.specs.Plan.{spansOf, lastOf, noSpan, tableOf, hiddenIn, resultPlacesIn, startIn, lastCursorIn, planIn, refusedPlan, planAnswer}
-use Rattle.plan_plans.specs.Call.{firstUnclear, unclearIn, itemIn, unclearFault, clearRead, called}
+use Rattle.plan_plans.specs.Call.{firstUnclear, unclearIn, clearRead, called}
 use Rattle.plan_plans.proofs.Calls.{none-unclear}
 use Rattle.plan_plans.proofs.Apart.{in-table}
 use Rattle.second_parameters.specs.declared.Parameter.{Parameter}
@@ -40,7 +38,7 @@ use Rattle.second_planner.specs.declared.SecondPlan.{SecondPlan}
 use Rattle.second_parameters.specs.Values.{run, noParameter, tableWith}
 use Rattle.second_structure.specs.Structure.{fieldsFrom, wordsTo, areaBytes, registersOver, firstWord, firstStraddling, powerHidden, powerReturned}
 use Rattle.second_slot_scan.specs.Slots.{initial, slotsFrom, scannedTo, zHidden, zReturned}
-use Rattle.second_planner.specs.Answer.{powerParameters, powerPlan, zPlan, secondIn, noPlan, straddlingIn, headerOf, straddlingFault, unlessStraddling, secondAnswer}
+use Rattle.second_planner.specs.Answer.{powerParameters, powerPlan, zPlan, secondIn, noPlan, straddlingIn, unlessStraddling, secondAnswer}
 use Rattle.second_agreement.specs.Agreement.{parameterOf, returnedOf, Agree, PlannersAgree}
 use Rattle.second_agreement.proofs.Power as powerpc
 use Rattle.second_agreement.proofs.Power.{paired, at, AllWhole, none-straddling, askedTo}
@@ -221,16 +219,6 @@ refused-agree f = record {
   result = refl;
 }
 
--- the place of 29 is where the reader finds the argument
-same-header : (a : ArgumentRead) → headerOf a ≡ itemIn a
-same-header (ArgumentRead.Argument t place) = refl
-same-header ArgumentRead.Missing = refl
-same-header (ArgumentRead.Refused f) = refl
-
-same-fault : (i k : ℕ) (x : Reading Signature) → i ≡ k → unclearFault i x ≡ straddlingFault k x
-same-fault i k x e =
-    ap (λ (m : ℕ). fault Refusal.UnclearPlace m 0) (ap (λ (m : ℕ). itemIn (argumentOf m x)) e ∙ sym (same-header (argumentOf k x)))
-
 readings-agree : (x : Reading Signature) → Agree (planAnswer (called x)) (secondAnswer x)
 unfolding called secondAnswer planAnswer unlessStraddling
 readings-agree (got g next n) =
@@ -247,7 +235,8 @@ readings-agree (got g next n) =
     go zero (suc k) e h = absurd (omega arith)
     go (suc i) zero e h = absurd (omega arith)
     go (suc i) (suc k) e h =
-        subst (λ (f : Fault). Agree (refusedPlan (unclearFault i (got g next n))) (noPlan f)) (same-fault i k (got g next n) (omega arith)) (refused-agree (unclearFault i (got g next n)))
+        let same : i ≡ k = omega arith in
+        subst (λ (m : ℕ). Agree (refusedPlan (unclearFault i (got g next n))) (noPlan (unclearFault m (got g next n)))) same (refused-agree (unclearFault i (got g next n)))
 readings-agree (no f) = refused-agree f
 
 pub planners-agree : PlannersAgree

@@ -6,17 +6,15 @@ use mathlib.Core.List.{List}
 use lib.ListN.{length, replicate}
 use Rattle.base_conventions.specs.declared.Convention.{Convention}
 use Rattle.sig_types.specs.declared.ValueType.{ValueType}
-use Rattle.sig_items.specs.declared.Refusal.{Refusal}
 use Rattle.sig_items.specs.declared.Fault.{Fault}
-use Rattle.sig_items.specs.Reading.{Reading, fault, got, no}
+use Rattle.sig_items.specs.Reading.{Reading, got, no}
 use Rattle.sig_signatures.specs.declared.Outcome.{Outcome}
 use Rattle.sig_signatures.specs.declared.ResultType.{ResultType}
 use Rattle.sig_signatures.specs.Signature.{Signature}
 use Rattle.sig_signatures.specs.Limits.{maxArguments}
 use Rattle.sig_signatures.specs.Answer.{resultType}
 use Rattle.sig_signatures.specs.Types.{typesOf, valuesOf}
-use Rattle.sig_reader.specs.declared.ArgumentRead.{ArgumentRead}
-use Rattle.sig_reader.specs.Argument.{argumentOf}
+use Rattle.sig_reader.specs.Argument.{unclearFault}
 use Rattle.second_parameters.specs.declared.Parameter.{Parameter}
 use Rattle.second_parameters.specs.declared.Returned.{Returned}
 use Rattle.second_parameters.specs.Values.{noParameter, tableWith}
@@ -87,19 +85,10 @@ straddlingIn Convention.Z ts = 0
 straddlingIn Convention.Aix ts = firstStraddling false 0 0 ts
 straddlingIn Convention.Ppc64b ts = firstStraddling true 0 0 ts
 
--- "at that argument's header", which is where the reader finds it
-abbrev pub headerOf : ArgumentRead → ℕ
-headerOf (ArgumentRead.Argument t place) = place
-headerOf ArgumentRead.Missing = 0
-headerOf (ArgumentRead.Refused f) = 0
-
--- 02, No. 12: "give new refusal 29 at that argument's header, after reading": of argument number i, counted from 0
-abbrev pub straddlingFault : ℕ → Reading Signature → Fault
-straddlingFault i x = fault Refusal.UnclearPlace (headerOf (argumentOf i x)) 0
-
+-- 02, No. 12: "give new refusal 29 at that argument's header, after reading"
 unfoldable pub unlessStraddling : ℕ → Reading Signature → SecondPlan → SecondPlan
 unlessStraddling zero x p = p
-unlessStraddling (suc i) x p = noPlan (straddlingFault i x)
+unlessStraddling (suc i) x p = noPlan (unclearFault i x)
 
 -- ---- the answer
 

@@ -1,12 +1,12 @@
 -- The reader finds the argument, and its place is where the fault is.
 use Rattle.sig_items.specs.declared.Refusal.{Refusal}
 use Rattle.sig_items.specs.Reading.{fault}
-use Rattle.plan_plans.specs.Call.{itemIn}
+use Rattle.sig_reader.specs.Argument.{itemIn}
 use Prim.Native.Nat.{ℕ}
 use mathlib.Core.Path.{ap, _∙_}
 use borrow.Author.Needs.{needs}
-use Rattle.plan_planning.proofs.unclear_fault.Statement.{statement}
-use Rattle.plan_planning.proofs.unclear_fault.Tie as tie
+use Rattle.sig_reader.proofs.unclear_fault.Statement.{statement}
+use Rattle.sig_reader.proofs.unclear_fault.Tie as tie
 
 argument-at-requires : tie.Need-argument-at-requires
 argument-at-requires c κs = search needs
