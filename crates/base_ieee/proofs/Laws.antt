@@ -6,7 +6,7 @@ use native.Mathlib.Omega.{arith}
 use lib.Dec.{eqb}
 use borrow.Author.Tests.{eq-eqb, eqb-true}
 use Rattle.base_ieee.specs.declared.Narrowed.the-variants.{Single, NotWidened}
-use Rattle.base_ieee.specs.Format.{Fields, single, double, join, split}
+use Rattle.base_ieee.specs.Format.{FloatFields, single, double, join, split}
 use Rattle.base_ieee.specs.Widening.{widen, widenFields}
 use Rattle.base_ieee.specs.Narrowing.{candidate, candidateFields, narrow, WidensTo}
 use Rattle.base_ieee.proofs.Fields.{split-fits, join-below, split-join, join-split}
@@ -35,7 +35,7 @@ split-widen x = split-join double _ (widen-fits _ (split-fits single x))
 pub candidate-of-widen : (x : ℕ) → x < 2 ^ 32 → candidate (widen x) ≡ x
 unfolding candidate
 candidate-of-widen x h =
-    ap (λ (y : Fields). join single (candidateFields single double y)) (split-widen x)
+    ap (λ (y : FloatFields). join single (candidateFields single double y)) (split-widen x)
     ∙ ap (join single) (candidate-widen _ (split-fits single x))
     ∙ join-split single x h
 

@@ -28,7 +28,7 @@ use Rattle.call_slots.specs.Arguments.{placementsIn, argumentsOf, planFor, rule
 use Rattle.call_slots.proofs.Answered.{carried}
 use Rattle.call_home_slot.specs.Homes.{homeless}
 use Rattle.call_home.specs.Home.{homeArea}
-use Rattle.call_roundtrip.specs.RoundTrip.{Filled, left}
+use Rattle.call_roundtrip.specs.RoundTrip.{Filled, leftByFill}
 use Rattle.call_roundtrip.specs.Views.{homedArea, Viewed}
 use Rattle.call_roundtrip.proofs.Arguments.{AllPut}
 use Rattle.call_roundtrip.proofs.Theorems.{Left, filled-left, filled-answer, read-left}
@@ -40,17 +40,17 @@ use Rattle.frame_rules.specs.declared.Registers.{Registers}
 use Rattle.frame_rules.specs.Rules.{rules}
 use Rattle.frame_rules.specs.Frames.{outgoingLength}
 use Rattle.frame_rules.proofs.Conventions.{lawful}
-use Rattle.frame_machine.specs.declared.Answer.{Answer}
-use Rattle.frame_machine.specs.declared.Answer.the-variants.{Accepted}
+use Rattle.frame_machine.specs.declared.FrameAnswer.{FrameAnswer}
+use Rattle.frame_machine.specs.declared.FrameAnswer.the-variants.{Accepted}
 use Rattle.frame_machine.specs.declared.State.{State}
 use Rattle.frame_machine.specs.Machine.{offset}
 use Rattle.frame_history.specs.Calls.{Call, enter, leave, Machine, answer, after}
 use Rattle.frame_history.specs.Preserved.{OpenEnter, openAfter, callerOf, Preserved, CallsFit}
 use Rattle.frame_history.proofs.Invariant.{Invariant, base-of}
 use Rattle.both_meeting.proofs.Theorem.{agree}
-use Rattle.both_whole_call.specs.Put.{bytesIn, ownArea, callersArea, imageOf, joined, Cut, Register, heldIn, registersOf, hiddenSpans, resultSpans, named}
+use Rattle.both_whole_call.specs.Put.{bytesIn, ownArea, callersArea, imageOf, piecesJoined, Cut, Register, heldIn, spanRegisters, hiddenSpans, resultSpans, named}
 use Rattle.both_whole_call.specs.Caller.{firstSaved, Free}
-use Rattle.both_whole_call.specs.WholeCall.{framesFor, seen, Passed}
+use Rattle.both_whole_call.specs.WholeCall.{framesFor, seen, PassedToCallee}
 use Rattle.both_whole_call.proofs.Steps.{run, AllAccepted, openedBy, call-keeps, calls-keep, leave-holds}
 use Rattle.both_whole_call.proofs.Registers.{Holds, free-below}
 use Rattle.both_whole_call.proofs.Memory.{callers-area, putPieces, AfterPieces, after-pieces, area-inside}
@@ -79,7 +79,7 @@ pub record Homed (s values copies : List ℕ) (f : Frame) (m : Machine) : Type 0
 pub record Returned (p : Plan) (o : OpenEnter) (os : List OpenEnter) (m : Machine) : Type 0 where
   pub accepted : answer leave m ≡ Accepted
   pub kept : Preserved (rules (p .convention)) o os (after leave m)
-  pub result : All (λ (x : Register). heldIn (after leave m .state .registers) x ≡ heldIn (m .state .registers) x) (registersOf (resultSpans (p .result)))
+  pub result : All (λ (x : Register). heldIn (after leave m .state .registers) x ≡ heldIn (m .state .registers) x) (spanRegisters (resultSpans (p .result)))
 
 abbrev pub calling : List Call → Machine → Frame → OpenEnter
 calling puts m f = record { before = run puts m; request = f }
@@ -92,7 +92,7 @@ pub record Claims (s values : List ℕ) (copies : Machine → List ℕ) (base hi
   pub opened : openedBy puts m os ≡ os
   pub fit : CallsFit puts
   pub passed : (f : Frame) → answer (enter f) (run puts m) ≡ Accepted
-      → Passed s values (copies (inCallee puts m f)) base hidden f (inCallee puts m f)
+      → PassedToCallee s values (copies (inCallee puts m f)) base hidden f (inCallee puts m f)
   pub homed : homeless (rulesFor s) ≡ false → (f : Frame) → answer (enter f) (run puts m) ≡ Accepted
       → Homed s values (copies (inCallee puts m f)) f (inCallee puts m f)
   pub returned : (f : Frame) → answer (enter f) (run puts m) ≡ Accepted → (body : List Call) → CallsFit body
@@ -116,7 +116,7 @@ module _ (s values image area copies : List ℕ) (base hidden : ℕ) (filled : F
   p = planFor s
 
   abbrev b : Buffers
-  b = left s values image area copies base hidden
+  b = leftByFill s values image area copies base hidden
 
   abbrev c : Convention
   c = p .convention
@@ -142,7 +142,7 @@ module _ (s values image area copies : List ℕ) (base hidden : ℕ) (filled : F
     r = m′ .state .registers
 
     callee : Invariant k (calling puts m f ∷ os) m′
-    callee = subst (λ (x : Answer). Invariant k (openAfter (enter f) x m₁ os) m′) e (call-keeps c (enter f) tt os m₁ (ready .invariant))
+    callee = subst (λ (x : FrameAnswer). Invariant k (openAfter (enter f) x m₁ os) m′) e (call-keeps c (enter f) tt os m₁ (ready .invariant))
 
     -- what the callee takes for its caller's outgoing area is that
     area-at : callersArea k f m′ ≡ ownArea k m₁
@@ -219,7 +219,7 @@ module _ (s values image area copies : List ℕ) (base hidden : ℕ) (filled : F
         ∙ ap valueOf (hidden-stands s values image area copies base hidden x filled q)
         ∙ value-back 8 hidden (hidden-64 s values image area copies base hidden x filled q)
 
-    passes : Passed s values (cs m′) base hidden f m′
+    passes : PassedToCallee s values (cs m′) base hidden f m′
     passes = record {
       read = λ into size. read-left s values into base found (filled-answer s values image area copies base hidden filled) found-left size;
       address = found-address;
@@ -236,7 +236,7 @@ module _ (s values image area copies : List ℕ) (base hidden : ℕ) (filled : F
       abbrev a : ℕ
       a = callersArea k f m′
 
-      length-home : length (joined pieces) ≡ p .area
+      length-home : length (piecesJoined pieces) ≡ p .area
       unfolding homeArea
       length-home =
           ap length (cut .whole) ∙ length-homed (rulesFor s) (argumentsOf s) (found .image) (found .area) ∙ ap length found-area ∙ length-take-le (p .area) (b .area) (stands .area)
@@ -252,8 +252,8 @@ module _ (s values image area copies : List ℕ) (base hidden : ℕ) (filled : F
           let at : ℕ = a - m′ .state .base in
           ap (λ (y : State). part (callersArea k f (record { state = y; memory = m′ .memory }) - y .base) (p .area) (run (putPieces a pieces) m′ .memory)) (homes .state)
           ∙ ap (part at (p .area)) (homes .memory)
-          ∙ ap (λ (i : ℕ). part at i (splice (m′ .memory) at (joined pieces))) (sym length-home)
-          ∙ splice-same (m′ .memory) at (joined pieces)
+          ∙ ap (λ (i : ℕ). part at i (splice (m′ .memory) at (piecesJoined pieces))) (sym length-home)
+          ∙ splice-same (m′ .memory) at (piecesJoined pieces)
           (omega (arith, area-from, area-offset, length-home, able .room, inside, callee .0 .sound .length, callee .1 .size, base-of k os m₁ (ready .invariant) .sound .length))
           ∙ cut .whole
 
@@ -274,7 +274,7 @@ module _ (s values image area copies : List ℕ) (base hidden : ℕ) (filled : F
         record {
           accepted = h .0;
           kept = h .1;
-          result = each-more (Volatile k) _ (leave-result k (calling puts m f) os (run body m′) i (h .0)) (registersOf (resultSpans (p .result))) (result-volatile s);
+          result = each-more (Volatile k) _ (leave-result k (calling puts m f) os (run body m′) i (h .0)) (spanRegisters (resultSpans (p .result))) (result-volatile s);
         }
 
   pub claims : (os : List OpenEnter) (m : Machine) → Able p os m → (cs : Machine → List ℕ) (n : ℕ) (puts : List Call) → Ready s b cs n os m puts

@@ -11,7 +11,7 @@ use Rattle.call_slots.specs.Arguments.{planFor}
 use Rattle.frame_rules.specs.declared.Frame.{Frame}
 use Rattle.both_meeting.specs.Meeting.{askedArea, asking}
 use Rattle.both_meeting.proofs.Theorem.{requested}
-use Rattle.both_whole_call.specs.Put.{joined, Short, Cut}
+use Rattle.both_whole_call.specs.Put.{piecesJoined, Short, Cut}
 use Rattle.both_whole_call.specs.Caller.{AskedCanCall}
 use Rattle.both_whole_call.proofs.Named.{named-free}
 
@@ -33,12 +33,12 @@ unfoldable pub inWords : ℕ → ℕ → List ℕ → List (List ℕ)
 inWords w zero bs = []
 inWords w (suc n) bs = take w bs ∷ inWords w n (drop w bs)
 
-words-whole : (w n : ℕ) (bs : List ℕ) → length bs ≡ w * n → joined (inWords w n bs) ≡ bs
-unfolding inWords joined
+words-whole : (w n : ℕ) (bs : List ℕ) → length bs ≡ w * n → piecesJoined (inWords w n bs) ≡ bs
+unfolding inWords piecesJoined
 words-whole w zero [] h = refl
 words-whole w zero (x ∷ bs) h = absurd (omega (arith, mul-zero w))
 words-whole w (suc n) bs h =
-    let rest : joined (inWords w n (drop w bs)) ≡ drop w bs = words-whole w n (drop w bs) (omega (arith, length-drop w bs, mul-suc w n)) in
+    let rest : piecesJoined (inWords w n (drop w bs)) ≡ drop w bs = words-whole w n (drop w bs) (omega (arith, length-drop w bs, mul-suc w n)) in
     ap (λ (l : List ℕ). take w bs ++ l) rest ∙ take-append-drop w bs
 
 words-short : (w n : ℕ) (bs : List ℕ) → 1 ≤ w → w ≤ 256 → length bs ≡ w * n → Short (inWords w n bs)

@@ -38,7 +38,7 @@ use Rattle.sig_signatures.specs.Types.{typesOf}
 use Rattle.plan_plans.specs.Call.{outcomeFor}
 use Rattle.call_registers.specs.Registers.{inRegister, spread}
 use Rattle.call_registers.proofs.Registers.{spread-short}
-use Rattle.call_slots.specs.declared.Answer.{Answer}
+use Rattle.call_slots.specs.declared.CallAnswer.{CallAnswer}
 use Rattle.call_slots.specs.Buffers.{Buffers, bytesAt}
 use Rattle.call_slots.specs.Forms.{startsAtHead, extended, roomOf, homeBytes, singleWord, floatForm, floatBytes}
 use Rattle.call_slots.specs.Placements.{Placement, placements, standing}
@@ -46,7 +46,7 @@ use Rattle.call_slots.specs.Arguments.{placementsIn, argumentsOf, planFor, rule
 use Rattle.call_slots.proofs.Answered.{arguments-got}
 use Rattle.call_fill.specs.Fill.{highAddress, fillAnswer}
 use Rattle.call_fill.proofs.Accepted.{tests-low}
-use Rattle.call_roundtrip.specs.RoundTrip.{Filled, left}
+use Rattle.call_roundtrip.specs.RoundTrip.{Filled, leftByFill}
 use Rattle.call_roundtrip.proofs.Arguments.{Put, AllPut, EachValue}
 use Rattle.call_roundtrip.proofs.Theorems.{reading-done}
 use Rattle.call_roundtrip.proofs.Hidden.{hidden-stands}
@@ -206,7 +206,7 @@ pub hidden-low : (s values image area copies : List ℕ) (base hidden : ℕ) (x 
 unfolding fillAnswer
 hidden-low s values image area copies base hidden x h e =
     let w : ℕ = wordOf (rulesFor s) in
-    let low = tests-low _ _ _ _ _ _ (reading-done (outcomeFor s) _ (h .accepted) Answer.Done refl .0) in
+    let low = tests-low _ _ _ _ _ _ (reading-done (outcomeFor s) _ (h .accepted) CallAnswer.Done refl .0) in
     let most : hidden ≤ 2 ^ (8 * w) - 1 = ltb-false (2 ^ (8 * w) - 1) hidden (subst (λ (q : ResultPlaces). highAddress w q hidden ≡ false) e low) in
     omega (arith, pow-pos (8 * w))
 
@@ -228,7 +228,7 @@ hidden-64 s values image area copies base hidden x h e =
 
 -- the hidden address's register
 hidden-bytes : (s values image area copies : List ℕ) (base hidden : ℕ) (q : ResultPlaces) → Filled s values image area copies base hidden → planFor s .result ≡ q
-    → All (OfSpan (OfBytes (wordOf (rulesFor s)) (left s values image area copies base hidden .image))) (hiddenSpans q)
+    → All (OfSpan (OfBytes (wordOf (rulesFor s)) (leftByFill s values image area copies base hidden .image))) (hiddenSpans q)
 unfolding All bytesAt
 hidden-bytes s values image area copies base hidden ResultPlaces.Nothing h e = tt
 hidden-bytes s values image area copies base hidden (ResultPlaces.Registers x) h e = tt
@@ -245,12 +245,12 @@ hidden-bytes s values image area copies base hidden (ResultPlaces.Hidden x) h e 
     )
 
 pub named-bytes : (s values image area copies : List ℕ) (base hidden : ℕ) → Filled s values image area copies base hidden
-    → AllPut (rulesFor s) base (argumentsOf s) values (left s values image area copies base hidden)
-    → All (OfBytes (wordOf (rulesFor s)) (left s values image area copies base hidden .image)) (named (planFor s))
+    → AllPut (rulesFor s) base (argumentsOf s) values (leftByFill s values image area copies base hidden)
+    → All (OfBytes (wordOf (rulesFor s)) (leftByFill s values image area copies base hidden .image)) (named (planFor s))
 unfolding argumentsOf
 named-bytes s values image area copies base hidden filled h =
     let p : Plan = planFor s in
-    let b : Buffers = left s values image area copies base hidden in
+    let b : Buffers = leftByFill s values image area copies base hidden in
     let P : Register → Type 0 = OfBytes (wordOf (rulesFor s)) (b .image) in
     in-spans P (hiddenSpans (p .result) ++ p .spans)
     (each-both (OfSpan P) (hiddenSpans (p .result)) (p .spans) (hidden-bytes s values image area copies base hidden (p .result) filled refl)

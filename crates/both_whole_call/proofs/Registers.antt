@@ -19,8 +19,8 @@ use Rattle.frame_rules.specs.Frames.{bankOf, writable, writableRegister, withRe
 use Rattle.frame_rules.specs.Helpers.{LawfulFrames}
 use Rattle.frame_rules.proofs.Conventions.{lawful, writable-lt}
 use Rattle.frame_rules.proofs.Places.{limit-64}
-use Rattle.frame_machine.specs.declared.Answer.the-variants.{Accepted}
-use Rattle.frame_machine.specs.declared.Refusal.the-variants.{NotPermitted}
+use Rattle.frame_machine.specs.declared.FrameAnswer.the-variants.{Accepted}
+use Rattle.frame_machine.specs.declared.FrameRefusal.the-variants.{NotPermitted}
 use Rattle.frame_machine.specs.Answers.{require, judge}
 use Rattle.frame_machine.specs.Machine.{stateRules, stackPointer, top, sizes, stateTests, writeRegisterAnswer, writtenRegister, writeRegisterOutcome}
 use Rattle.frame_machine.proofs.Judging.{judge-next}

@@ -5,7 +5,7 @@ use Rattle.base_conventions.specs.declared.Convention.{Convention}
 use Rattle.frame_rules.specs.declared.FrameRules.{FrameRules}
 use Rattle.frame_rules.specs.Rules.{rules}
 use Rattle.frame_rules.proofs.Conventions.{lawful}
-use Rattle.frame_machine.specs.declared.Answer.the-variants.{Accepted}
+use Rattle.frame_machine.specs.declared.FrameAnswer.the-variants.{Accepted}
 use Rattle.frame_machine.specs.Machine.{leaveAnswer, leaveOutcome}
 use Rattle.frame_history.specs.Calls.{Call, leave, Machine, answer, after}
 use Rattle.frame_history.specs.Preserved.{OpenEnter, openAfter, Preserved, CallFits, CallsFit}

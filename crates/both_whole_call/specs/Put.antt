@@ -70,9 +70,9 @@ unfoldable pub rangeRegisters : Bank → RegisterRange → List Register
 rangeRegisters b r = map (register b) (upFrom (r .first) 1 (r .count))
 
 -- of several arguments, in order
-unfoldable pub registersOf : List Span → List Register
-registersOf [] = []
-registersOf (s ∷ ss) = rangeRegisters Bank.Floating (s .floating) ++ (rangeRegisters Bank.General (s .general) ++ registersOf ss)
+unfoldable pub spanRegisters : List Span → List Register
+spanRegisters [] = []
+spanRegisters (s ∷ ss) = rangeRegisters Bank.Floating (s .floating) ++ (rangeRegisters Bank.General (s .general) ++ spanRegisters ss)
 
 -- where the hidden address is
 abbrev pub hiddenSpans : ResultPlaces → List Span
@@ -88,7 +88,7 @@ resultSpans (ResultPlaces.Hidden s) = []
 
 -- the hidden address's and the arguments'; spans past the last argument have none
 abbrev pub named : Plan → List Register
-named p = registersOf (hiddenSpans (p .result) ++ p .spans)
+named p = spanRegisters (hiddenSpans (p .result) ++ p .spans)
 
 -- ---- the calls
 
@@ -120,9 +120,9 @@ putCalls p image a pieces = map (putRegister image) (named p) ++ putPieces a pie
 
 -- ---- bytes in pieces
 
-unfoldable pub joined : List (List ℕ) → List ℕ
-joined [] = []
-joined (bs ∷ rest) = bs ++ joined rest
+unfoldable pub piecesJoined : List (List ℕ) → List ℕ
+piecesJoined [] = []
+piecesJoined (bs ∷ rest) = bs ++ piecesJoined rest
 
 -- "Memory, 1 to 256 bytes"
 unfoldable pub Short : List (List ℕ) → Type 0
@@ -131,5 +131,5 @@ Short (bs ∷ rest) = ((1 ≤ length bs) × (length bs ≤ 256)) × Short rest
 
 -- the bytes bs, cut in pieces that a write may have
 pub record Cut (pieces : List (List ℕ)) (bs : List ℕ) : Type 0 where
-  pub whole : joined pieces ≡ bs
+  pub whole : piecesJoined pieces ≡ bs
   pub short : Short pieces

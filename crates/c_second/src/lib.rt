@@ -7,7 +7,7 @@ use sig_signatures::Outcome;
 ghost use mathlib.Core.Path.{_≡_};
 ghost use Rattle.sig_signatures.specs.Read.{signatureOf};
 ghost use Rattle.second_planner.specs.Answer.{secondAnswer};
-ghost use Rattle.c_second.specs.Words.{outcomeWords, returnedWords, planWords, placeWords, noPlace, placeAt};
+ghost use Rattle.c_second.specs.Words.{outcomeWords, returnedWords, secondPlanWords, placeWords, noSecondPlace, placeAt};
 
 // A result: 0 none, 1 in general registers, 2 in floating registers, 3 in memory whose address is in a general register; with the first and the count
 // of the registers.
@@ -113,7 +113,7 @@ fn place_words(p: Parameter) -> SecondPlace
 
 #[no_mangle]
 pub extern "C" fn fz_second_plan(sig: &[u8]) -> SecondAnswer
-    ensures { λ r. ⌜ r ≡ planWords (secondAnswer (signatureOf (now (sig .entry)))) ⌝ }
+    ensures { λ r. ⌜ r ≡ secondPlanWords (secondAnswer (signatureOf (now (sig .entry)))) ⌝ }
 {
     let p = second_planner::second_plan_of(sig);
     let outcome = p.outcome;

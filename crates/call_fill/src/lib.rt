@@ -1,8 +1,8 @@
 // Filling: the values of a call's arguments are put where its signature's plan says, unless a buffer is too small or its base unfit.
 use base_conventions::Convention;
 use call_kept::ROW;
-use call_slots::Answer;
-use call_slots::Refusal;
+use call_slots::CallAnswer;
+use call_slots::CallRefusal;
 use plan_places::CallRules;
 use plan_places::IMAGE_BYTES;
 use sig_signatures::FEW_ARGUMENTS;
@@ -109,25 +109,25 @@ fn tested(
     copies: usize,
     base: u64,
     high: bool,
-) -> Answer
+) -> CallAnswer
     ensures { λ a. ⌜ a ≡ firstOf (fillTests have values area copies base high) ⌝ }
 {
     if have.image != IMAGE_BYTES {
-        return Answer::Refused(Refusal::ImageSize);
+        return CallAnswer::Refused(CallRefusal::ImageSize);
     }
     if have.values != values {
-        return Answer::Refused(Refusal::ValuesSize);
+        return CallAnswer::Refused(CallRefusal::ValuesSize);
     }
     if have.area < area {
-        return Answer::Refused(Refusal::AreaTooShort);
+        return CallAnswer::Refused(CallRefusal::AreaTooShort);
     }
     if bad_copies(copies, have.copies, base) {
-        return Answer::Refused(Refusal::BadCopies);
+        return CallAnswer::Refused(CallRefusal::BadCopies);
     }
     if high {
-        return Answer::Refused(Refusal::BadCopies);
+        return CallAnswer::Refused(CallRefusal::BadCopies);
     }
-    Answer::Done
+    CallAnswer::Done
 }
 
 // A call without arguments, what stands before them being read: nothing is kept, and only the hidden address is put.
@@ -143,7 +143,7 @@ fn fill_none(
     returned: ResultType,
     end: usize,
     earlier: usize,
-) -> Answer
+) -> CallAnswer
     requires { ⌜ NoneLeft (now sig) convention returned end earlier ⌝ }
     ensures { λ a. ⌜ a ≡ fillAnswer (now (sig .entry)) (fillLengths (now (values .entry)) (now (image .entry)) (now (area .entry)) (now (copies .entry))) base address ⌝ }
     ensures { λ a. ⌜ buffers (now (image .exit)) (now (area .exit)) (now (copies .exit)) ≡ fillBuffers (now (sig .entry)) (now (values .entry)) base address a (buffers (now (image .entry)) (now (area .entry)) (now (copies .entry))) ⌝ }
@@ -151,7 +151,7 @@ fn fill_none(
     let m = call_arguments::measure_none(sig, convention, returned, end, earlier);
     let outcome = m.outcome;
     match outcome {
-        Outcome::Refused(fault) => Answer::Unread(fault),
+        Outcome::Refused(fault) => CallAnswer::Unread(fault),
         Outcome::Accepted(_) => {
             let hidden = plan_planning::hidden_in(convention, returned);
             let high = high_address(convention, hidden, address);
@@ -166,7 +166,7 @@ fn fill_none(
                 return answer;
             }
             put_hidden(image, convention, hidden, address);
-            Answer::Done
+            CallAnswer::Done
         }
     }
 }
@@ -187,7 +187,7 @@ fn fill_part(
     end: usize,
     earlier: usize,
     kept: &mut [u16],
-) -> Answer
+) -> CallAnswer
     requires { ⌜ HeadIs (now sig) convention returned ellipsis at end earlier × KeepsRows at end (length (now kept)) ⌝ }
     ensures { λ a. ⌜ a ≡ fillAnswer (now (sig .entry)) (fillLengths (now (values .entry)) (now (image .entry)) (now (area .entry)) (now (copies .entry))) base address ⌝ }
     ensures { λ a. ⌜ buffers (now (image .exit)) (now (area .exit)) (now (copies .exit)) ≡ fillBuffers (now (sig .entry)) (now (values .entry)) base address a (buffers (now (image .entry)) (now (area .entry)) (now (copies .entry))) ⌝ }
@@ -197,7 +197,7 @@ fn fill_part(
     let m = p.sizes;
     let outcome = m.outcome;
     match outcome {
-        Outcome::Refused(fault) => Answer::Unread(fault),
+        Outcome::Refused(fault) => CallAnswer::Unread(fault),
         Outcome::Accepted(_) => {
             let hidden = plan_planning::hidden_in(convention, returned);
             let high = high_address(convention, hidden, address);
@@ -224,7 +224,7 @@ fn fill_part(
                 values,
                 base,
             );
-            Answer::Done
+            CallAnswer::Done
         }
     }
 }
@@ -239,12 +239,12 @@ pub fn fill(
     copies: &mut [u8],
     base: u64,
     hidden: u64,
-) -> Answer
+) -> CallAnswer
     ensures { λ a. ⌜ a ≡ fillAnswer (now (sig .entry)) (fillLengths (now (values .entry)) (now (image .entry)) (now (area .entry)) (now (copies .entry))) base hidden ⌝ }
     ensures { λ a. ⌜ buffers (now (image .exit)) (now (area .exit)) (now (copies .exit)) ≡ fillBuffers (now (sig .entry)) (now (values .entry)) base hidden a (buffers (now (image .entry)) (now (area .entry)) (now (copies .entry))) ⌝ }
 {
     match sig_head::read_head(sig) {
-        HeadRead::Refused(fault) => Answer::Unread(fault),
+        HeadRead::Refused(fault) => CallAnswer::Unread(fault),
         HeadRead::Head {
             convention,
             result,

@@ -19,7 +19,7 @@ use Rattle.call_registers.specs.Registers.{gather}
 use Rattle.call_registers.proofs.Registers.{length-gather}
 use Rattle.call_slots.specs.Buffers.{Buffers, bytesAt}
 use Rattle.call_slots.specs.Forms.{ownStart, floatValueAs, floatValue}
-use Rattle.call_slots.specs.Placements.{Placement, floatAt}
+use Rattle.call_slots.specs.Placements.{Placement, fprBytesAt}
 use Rattle.call_slots.specs.Helpers.{FloatSized}
 use Rattle.call_unmarshal.proofs.Arguments.{own-first, float-length}
 use Rattle.call_read.specs.Read.{sameBytes, ownHeld, agrees}
@@ -85,7 +85,7 @@ module _ (r : CallRules) (p : Placement) (b : Buffers) where
   unfolding agrees ownHeld gather sameBytes
   agrees-alone e = rw e (none (ownStart r (p .ty) (p .size)) (p .size))
     where
-      none : (lo n : ℕ) → sameBytes (part lo n []) (take (length (part lo n [])) (floatValue r (p .ty) (floatAt (p .span) b))) ≡ true
+      none : (lo n : ℕ) → sameBytes (part lo n []) (take (length (part lo n [])) (floatValue r (p .ty) (fprBytesAt (p .span) b))) ≡ true
       none zero zero = refl
       none zero (suc n) = refl
       none (suc lo) zero = refl
@@ -113,18 +113,18 @@ module _ (r : CallRules) (p : Placement) (b : Buffers) where
         let some : 1 ≤ p .span .general .count = h .also in
         omega (arith, mul-le-mul-left (wordOf r) some)
 
-    value-size : (floats : List ℕ) → floats ≡ floatAt (p .span) b → length (floatValueAs r (equivalentOf (p .ty)) floats) ≡ p .size
+    value-size : (floats : List ℕ) → floats ≡ fprBytesAt (p .span) b → length (floatValueAs r (equivalentOf (p .ty)) floats) ≡ p .size
     unfolding bytesAt
     value-size floats e =
         let size = length-part (256 + 8 * p .span .floating .first) (8 * p .span .floating .count) (b .image) (omega (arith, h .registers .floating, h .registers .image)) in
-        rw e (float-length r (equivalentOf (p .ty)) (floatAt (p .span) b) (p .span .floating .count) (p .size) (h .registers .held .float (h .float)) size (h .exact))
+        rw e (float-length r (equivalentOf (p .ty)) (fprBytesAt (p .span) b) (p .span .floating .count) (p .size) (h .registers .held .float (h .float)) size (h .exact))
 
     pub value-most : p .size ≤ 16
     value-most = float-most (equivalentOf (p .ty)) (p .span .floating .count) (p .size) (h .registers .held .float (h .float))
 
     -- the m of its own bytes that stand in general registers, and as many of the value, each at the head of a buffer
     pub agrees-compared : (x y : List ℕ) (m : ℕ) → length x ≡ 16 → length y ≡ 16 → m ≡ min (p .size) (held - own)
-        → sameBytes (take m (overlay x (part own m (gather (wordOf r) (p .span .general .count) image)))) (take m (overlay y (floatValueAs r (equivalentOf (p .ty)) (floatAt (p .span) b))))
+        → sameBytes (take m (overlay x (part own m (gather (wordOf r) (p .span .general .count) image)))) (take m (overlay y (floatValueAs r (equivalentOf (p .ty)) (fprBytesAt (p .span) b))))
         ≡ agrees r p b
     unfolding agrees ownHeld floatValue bytesAt
     agrees-compared x y m lx ly e =
@@ -133,8 +133,8 @@ module _ (r : CallRules) (p : Placement) (b : Buffers) where
         let few : own + m ≤ held = omega (arith, own-held) in
         let o : List ℕ = part own m g in
         let lo : length o ≡ m = length-part own m g (omega arith) in
-        let v : List ℕ = floatValueAs r (equivalentOf (p .ty)) (floatAt (p .span) b) in
-        let lv : length v ≡ p .size = value-size (floatAt (p .span) b) refl in
+        let v : List ℕ = floatValueAs r (equivalentOf (p .ty)) (fprBytesAt (p .span) b) in
+        let lv : length v ≡ p .size = value-size (fprBytesAt (p .span) b) refl in
         let whole : part own (p .size) g ≡ o = part-short own (p .size) g ∙ ap (λ (z : ℕ). part own z g) (ap (λ (z : ℕ). min (p .size) (z - own)) lg ∙ sym e) in
         let left : take m (overlay x o) ≡ o = take-overlay x o m (omega arith) (omega (arith, value-most)) ∙ take-all m o (omega arith) in
         let right : take m (overlay y v) ≡ take m v = take-overlay y v m (omega arith) (omega (arith, value-most)) in

@@ -2,8 +2,8 @@
 // that can't be read, and only then are the values taken, so that a refused reading leaves the value buffer as it was.
 use base_conventions::Convention;
 use call_kept::ROW;
-use call_slots::Answer;
-use call_slots::Refusal;
+use call_slots::CallAnswer;
+use call_slots::CallRefusal;
 use plan_places::CallRules;
 use plan_places::FPRS_AT;
 use plan_places::IMAGE_BYTES;
@@ -48,13 +48,13 @@ fn in_copies(address: u64, base: u64, n: usize, length: usize) -> bool
     address - base <= (length - n) as u64
 }
 
-fn copy_answer(inside: bool) -> Answer
+fn copy_answer(inside: bool) -> CallAnswer
     ensures { λ a. ⌜ a ≡ copyAnswer inside ⌝ }
 {
     if inside {
-        return Answer::Done;
+        return CallAnswer::Done;
     }
-    Answer::Refused(Refusal::OutsideCopies)
+    CallAnswer::Refused(CallRefusal::OutsideCopies)
 }
 
 // Whether the first n bytes of a and of b are the same.
@@ -100,13 +100,13 @@ fn floats_agree(image: &[u8], r: CallRules, t: ValueType, n: usize, s: Span) -> 
     same_bytes(&own, &value, m)
 }
 
-fn agree_answer(same: bool) -> Answer
+fn agree_answer(same: bool) -> CallAnswer
     ensures { λ a. ⌜ a ≡ agreeAnswer same ⌝ }
 {
     if same {
-        return Answer::Done;
+        return CallAnswer::Done;
     }
-    Answer::Refused(Refusal::FloatsDiffer)
+    CallAnswer::Refused(CallRefusal::FloatsDiffer)
 }
 
 // Whether one argument can be read, of a type and its size. Most floats have no general registers, and then 14 is all that is asked.
@@ -119,7 +119,7 @@ pub fn argument_answer(
     n: usize,
     s: Span,
     base: u64,
-) -> Answer
+) -> CallAnswer
     requires { ⌜ InBuffers r (length (now image)) (length (now area)) (placement t n s) ⌝ }
     ensures { λ a. ⌜ a ≡ argumentAnswer r base (placement t n s) (buffers (now (image .entry)) (now (area .entry)) (now (copies .entry))) ⌝ }
 {
@@ -141,7 +141,7 @@ pub fn argument_answer(
         let address = call_unmarshal::word_at(image, area, s);
         return copy_answer(in_copies(address, base, n, copies.len()));
     }
-    Answer::Done
+    CallAnswer::Done
 }
 
 // Whether anything is asked of an argument before it is read. Of most nothing is, and then nobody need know their types.
@@ -165,7 +165,7 @@ pub fn first_refusal(
     count: usize,
     kept: &[u16],
     base: u64,
-) -> Answer
+) -> CallAnswer
     requires { ⌜ KeptEach (InBuffers rules (length (now image)) (length (now area))) convention (now kept) count ⌝ }
     ensures { λ a. ⌜ a ≡ argumentsAnswer rules base (keptAll convention (now (kept .entry)) count) (buffers (now (image .entry)) (now (area .entry)) (now (copies .entry))) ⌝ }
 {
@@ -182,23 +182,23 @@ pub fn first_refusal(
         }
         i = i + 1;
     }
-    Answer::Done
+    CallAnswer::Done
 }
 
 // Whether the buffers have the lengths that a plan asks for.
-fn tested(have: ReadLengths, values: usize, area: usize) -> Answer
+fn tested(have: ReadLengths, values: usize, area: usize) -> CallAnswer
     ensures { λ a. ⌜ a ≡ firstOf (readTests have values area) ⌝ }
 {
     if have.image != IMAGE_BYTES {
-        return Answer::Refused(Refusal::ImageSize);
+        return CallAnswer::Refused(CallRefusal::ImageSize);
     }
     if have.values != values {
-        return Answer::Refused(Refusal::ValuesSize);
+        return CallAnswer::Refused(CallRefusal::ValuesSize);
     }
     if have.area < area {
-        return Answer::Refused(Refusal::AreaTooShort);
+        return CallAnswer::Refused(CallRefusal::AreaTooShort);
     }
-    Answer::Done
+    CallAnswer::Done
 }
 
 // The reading of a call once what stands before its arguments is read: they are kept, so that both passes go over them without the signature.
@@ -216,7 +216,7 @@ fn read_part(
     end: usize,
     earlier: usize,
     kept: &mut [u16],
-) -> Answer
+) -> CallAnswer
     requires { ⌜ HeadIs (now sig) convention returned ellipsis at end earlier × KeepsRows at end (length (now kept)) ⌝ }
     ensures { λ a. ⌜ a ≡ readAnswer (now (sig .entry)) (readLengths (now (values .entry)) (now (image .entry)) (now (area .entry))) base (buffers (now (image .entry)) (now (area .entry)) (now (copies .entry))) ⌝ }
     ensures { λ a. ⌜ now (values .exit) ≡ readValues (now (sig .entry)) base a (buffers (now (image .entry)) (now (area .entry)) (now (copies .entry))) (now (values .entry)) ⌝ }
@@ -226,7 +226,7 @@ fn read_part(
     let m = k.sizes;
     let outcome = m.outcome;
     match outcome {
-        Outcome::Refused(fault) => Answer::Unread(fault),
+        Outcome::Refused(fault) => CallAnswer::Unread(fault),
         Outcome::Accepted(_) => {
             let have = ReadLengths {
                 values: values.len(),
@@ -253,7 +253,7 @@ fn read_part(
                 kept,
                 base,
             );
-            Answer::Done
+            CallAnswer::Done
         }
     }
 }
@@ -268,14 +268,14 @@ fn read_none(
     returned: ResultType,
     end: usize,
     earlier: usize,
-) -> Answer
+) -> CallAnswer
     requires { ⌜ NoneLeft (now sig) convention returned end earlier ⌝ }
     ensures { λ a. ⌜ a ≡ lengthsAnswer (now (sig .entry)) (readLengths (now (values .entry)) (now (image .entry)) (now (area .entry))) ⌝ }
 {
     let m = call_arguments::measure_none(sig, convention, returned, end, earlier);
     let outcome = m.outcome;
     match outcome {
-        Outcome::Refused(fault) => Answer::Unread(fault),
+        Outcome::Refused(fault) => CallAnswer::Unread(fault),
         Outcome::Accepted(_) => {
             let have = ReadLengths {
                 values: values.len(),
@@ -296,12 +296,12 @@ pub fn read(
     area: &[u8],
     copies: &[u8],
     base: u64,
-) -> Answer
+) -> CallAnswer
     ensures { λ a. ⌜ a ≡ readAnswer (now (sig .entry)) (readLengths (now (values .entry)) (now (image .entry)) (now (area .entry))) base (buffers (now (image .entry)) (now (area .entry)) (now (copies .entry))) ⌝ }
     ensures { λ a. ⌜ now (values .exit) ≡ readValues (now (sig .entry)) base a (buffers (now (image .entry)) (now (area .entry)) (now (copies .entry))) (now (values .entry)) ⌝ }
 {
     match sig_head::read_head(sig) {
-        HeadRead::Refused(fault) => Answer::Unread(fault),
+        HeadRead::Refused(fault) => CallAnswer::Unread(fault),
         HeadRead::Head {
             convention,
             result,

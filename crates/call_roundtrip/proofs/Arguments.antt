@@ -21,10 +21,10 @@ use Rattle.plan_places.specs.declared.Cursor.{Cursor}
 use Rattle.plan_places.specs.declared.CallRules.{CallRules}
 use Rattle.plan_places.specs.Step.{wordOf}
 use Rattle.plan_places.specs.Spots.{general, floating, area, copies}
-use Rattle.call_slots.specs.declared.Answer.{Answer}
+use Rattle.call_slots.specs.declared.CallAnswer.{CallAnswer}
 use Rattle.call_slots.specs.Buffers.{Buffers, Slot, put, putAll, bytesAt}
 use Rattle.call_slots.specs.Forms.{roomOf, homeBytes, ownStart, floatForm, floatBytes, floatValueAs, floatValue}
-use Rattle.call_slots.specs.Placements.{Placement, standing, copyBytes, slotsOf, wordsAt, floatAt, addressAt, wordsValue, valueAt}
+use Rattle.call_slots.specs.Placements.{Placement, standing, copyBytes, slotsOf, wordsAt, fprBytesAt, addressAt, wordsValue, valueAt}
 use Rattle.call_slots.specs.Helpers.{FloatSized, InImage}
 use Rattle.call_slots.proofs.Limits.{form-length, one-word}
 use Rattle.call_slots.proofs.Planned.{copy-in}
@@ -157,12 +157,12 @@ module _ (r : CallRules) (base : ℕ) (p : Placement) (v : List ℕ) (b : Buffer
         ∙ sym (take-add (wordOf r * k) (p .span .memory .length) ws)
         ∙ take-all (wordOf r * k + p .span .memory .length) ws (omega (arith, words-length none))
 
-    pub float-stands : 0 < p .span .floating .count → floatAt (p .span) c ≡ floatForm r (equivalentOf (p .ty)) v
+    pub float-stands : 0 < p .span .floating .count → fprBytesAt (p .span) c ≡ floatForm r (equivalentOf (p .ty)) v
     unfolding floatBytes
     float-stands some = s .floats ∙ take-all (8 * p .span .floating .count) (floatForm r (equivalentOf (p .ty)) v) (omega (arith, run-length some))
 
     pub float-read : 0 < p .span .floating .count
-        → (floatAnswer r (equivalentOf (p .ty)) (valueOf (floatAt (p .span) c)) ≡ Answer.Done) × (floatValueAs r (equivalentOf (p .ty)) (floatAt (p .span) c) ≡ v)
+        → (floatAnswer r (equivalentOf (p .ty)) (valueOf (fprBytesAt (p .span) c)) ≡ CallAnswer.Done) × (floatValueAs r (equivalentOf (p .ty)) (fprBytesAt (p .span) c) ≡ v)
     float-read some =
         let back = float-back r (equivalentOf (p .ty)) (p .span .floating .count) v (sized some) (g .bytes) in
         (ap (λ (l : List ℕ). floatAnswer r (equivalentOf (p .ty)) (valueOf l)) (float-stands some) ∙ back .0, ap (floatValueAs r (equivalentOf (p .ty))) (float-stands some) ∙ back .1)
@@ -212,20 +212,20 @@ module _ (r : CallRules) (base : ℕ) (p : Placement) (v : List ℕ) (b : Buffer
         let y : p .span .copy .start + p .size ≤ length (c .copies) = omega (arith, g .room .registers .held .copied q, g .room .copies) in
         simp (le-leb base (base + p .span .copy .start) x, e, le-leb (p .span .copy .start + p .size) (length (c .copies)) y)
 
-    pub stands-done : argumentAnswer r base p c ≡ Answer.Done
+    pub stands-done : argumentAnswer r base p c ≡ CallAnswer.Done
     unfolding argumentAnswer
     stands-done = go (ltb 0 (p .span .floating .count)) refl
       where
         words : (i : Bool) → p .span .indirect ≡ i → p .span .floating .count ≤ 0
-            → pick i (copyAnswer (inCopies (addressAt (wordOf r) (p .span) c) base (p .size) (length (c .copies)))) Answer.Done ≡ Answer.Done
+            → pick i (copyAnswer (inCopies (addressAt (wordOf r) (p .span) c) base (p .size) (length (c .copies)))) CallAnswer.Done ≡ CallAnswer.Done
         words true q none =
             ap (λ (x : ℕ). copyAnswer (inCopies x base (p .size) (length (c .copies)))) (address-back none q) ∙ ap copyAnswer (in-copies q)
         words false q none = refl
 
         go : (f : Bool) → ltb 0 (p .span .floating .count) ≡ f
-            → pick f (orElse (floatAnswer r (equivalentOf (p .ty)) (valueOf (floatAt (p .span) c))) (agreeAnswer (agrees r p c)))
-            (pick (p .span .indirect) (copyAnswer (inCopies (addressAt (wordOf r) (p .span) c) base (p .size) (length (c .copies)))) Answer.Done)
-            ≡ Answer.Done
+            → pick f (orElse (floatAnswer r (equivalentOf (p .ty)) (valueOf (fprBytesAt (p .span) c))) (agreeAnswer (agrees r p c)))
+            (pick (p .span .indirect) (copyAnswer (inCopies (addressAt (wordOf r) (p .span) c) base (p .size) (length (c .copies)))) CallAnswer.Done)
+            ≡ CallAnswer.Done
         go true q =
             let some : 0 < p .span .floating .count = ltb-true 0 (p .span .floating .count) q in
             ap₂ orElse (float-read some .0) (ap agreeAnswer (float-agrees some))
@@ -244,7 +244,7 @@ module _ (r : CallRules) (base : ℕ) (p : Placement) (v : List ℕ) (b : Buffer
         words false q none = own-value none q
 
         go : (f : Bool) → ltb 0 (p .span .floating .count) ≡ f
-            → pick f (floatValueAs r (equivalentOf (p .ty)) (floatAt (p .span) c))
+            → pick f (floatValueAs r (equivalentOf (p .ty)) (fprBytesAt (p .span) c))
             (pick (p .span .indirect) (bytesAt (copies (addressAt (wordOf r) (p .span) c - base)) (p .size) c)
             (part (ownStart r (p .ty) (p .size)) (p .size) (wordsAt (wordOf r) (p .span) c)))
             ≡ v

@@ -17,7 +17,7 @@ use Rattle.base_ieee.proofs.Laws.{widen-below, narrow-widen}
 use Rattle.sig_types.specs.declared.Equivalent.{Equivalent}
 use Rattle.sig_types.specs.declared.ValueType.{ValueType}
 use Rattle.plan_places.specs.declared.CallRules.{CallRules}
-use Rattle.call_slots.specs.declared.Answer.{Answer}
+use Rattle.call_slots.specs.declared.CallAnswer.{CallAnswer}
 use Rattle.call_slots.specs.Forms.{roomOf, isSigned, startsAtHead, extended, homeBytes, ownStart, floatForm, narrowedBytes, floatValueAs}
 use Rattle.call_slots.specs.Helpers.{FloatSized}
 use Rattle.call_slots.specs.Refusals.{narrowedAnswer, floatAnswer}
@@ -25,7 +25,7 @@ use Rattle.call_slots.specs.Refusals.{narrowedAnswer, floatAnswer}
 -- ---- in FPRs
 
 pub float-back : (r : CallRules) (e : Equivalent) (m : ℕ) (v : List ℕ) → FloatSized e m (length v) → Bytes v
-    → (floatAnswer r e (valueOf (floatForm r e v)) ≡ Answer.Done) × (floatValueAs r e (floatForm r e v) ≡ v)
+    → (floatAnswer r e (valueOf (floatForm r e v)) ≡ CallAnswer.Done) × (floatValueAs r e (floatForm r e v) ≡ v)
 float-back (CallRules.Power f) Equivalent.Single m v s h =
     let x : ℕ = valueOf v in
     let bits : valueOf (bytesOf 8 (widen x)) ≡ widen x = value-back 8 (widen x) (widen-below x) in

@@ -22,7 +22,7 @@ use Rattle.plan_places.specs.Helpers.{LawfulCalls}
 use Rattle.plan_places.proofs.Between.{step-between}
 use Rattle.plan_places.proofs.Marked.{next-marked}
 use Rattle.plan_places.proofs.Bounds.{unclear-floating}
-use Rattle.call_slots.specs.declared.Answer.{Answer}
+use Rattle.call_slots.specs.declared.CallAnswer.{CallAnswer}
 use Rattle.call_slots.specs.Buffers.{Buffers}
 use Rattle.call_slots.specs.Placements.{placement, valueAt}
 use Rattle.call_slots.specs.Refusals.{firstOf}
@@ -90,8 +90,8 @@ module _ (c : Convention) (v hidden : Bool) (d : Cursor) (h : Reached (rulesOf c
   at-cursor = reached-cursor (rulesOf c) hidden d l h
 
   pub step-done : unclearFor (rulesOf c) d t ≡ false → length (b .image) ≡ 512 → nextOf (rulesOf c) d t (sizeOf c t) .stack ≤ length (b .area)
-      → argumentAnswer (rulesBy here) base (placement t (sizeOf c t) (spanOf (rulesBy here) d t (sizeOf c t))) b ≡ Answer.Done
-      → (m : ℕ) → m ≡ sizeOf c t → stepAnswer here t m base b ≡ Answer.Done
+      → argumentAnswer (rulesBy here) base (placement t (sizeOf c t) (spanOf (rulesBy here) d t (sizeOf c t))) b ≡ CallAnswer.Done
+      → (m : ℕ) → m ≡ sizeOf c t → stepAnswer here t m base b ≡ CallAnswer.Done
   unfolding stepAnswer stepTests firstOf asked
   step-done clear image area done m size =
       let inside = inside-passes (rulesBy here) (uncopied d) t (sizeOf c t) (length (b .area)) (omega (arith, next-stack (rulesBy here) d t (sizeOf c t), ap (λ (k : Cursor). k .stack) (next-marked v (rulesOf c) d t (sizeOf c t)))) in

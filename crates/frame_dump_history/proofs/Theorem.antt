@@ -13,7 +13,7 @@ use Rattle.frame_rules.specs.Rules.{rules}
 use Rattle.frame_rules.specs.Helpers.{LawfulFrames}
 use Rattle.frame_rules.proofs.Conventions.{lawful}
 use Rattle.frame_rules.proofs.Places.{limit-64}
-use Rattle.frame_machine.specs.declared.Answer.the-variants.{Accepted}
+use Rattle.frame_machine.specs.declared.FrameAnswer.the-variants.{Accepted}
 use Rattle.frame_machine.specs.Machine.{stackPointer, startOutcome}
 use Rattle.frame_machine.proofs.States.{memory-yes}
 use Rattle.frame_word_layout.specs.Words.{machineWords, registersWords, registersIn}

@@ -2,36 +2,36 @@
 ghost use mathlib.Core.Path.{_≡_};
 ghost use Rattle.frame_rules.specs.Helpers.{LawfulFrames};
 ghost use Rattle.frame_machine.specs.Machine.{enterAnswer};
-use frame_machine::Answer;
-use frame_machine::Refusal;
+use frame_machine::FrameAnswer;
+use frame_machine::FrameRefusal;
 use frame_machine::State;
 use frame_rules::Frame;
 use frame_rules::FrameRules;
 
-pub fn judge_enter(k: FrameRules, s: State, n: usize, f: Frame) -> Answer
+pub fn judge_enter(k: FrameRules, s: State, n: usize, f: Frame) -> FrameAnswer
     requires { ⌜ LawfulFrames k ⌝ }
     ensures { λ r. ⌜ r ≡ enterAnswer k s n f ⌝ }
 {
     let a = frame_state_checks::judge_state(k, s, n);
     match a {
-        Answer::Refused(r) => Answer::Refused(r),
-        Answer::Accepted => {
+        FrameAnswer::Refused(r) => FrameAnswer::Refused(r),
+        FrameAnswer::Accepted => {
             if !frame_requests::request_ok(k, f) {
-                return Answer::Refused(Refusal::BadRequest);
+                return FrameAnswer::Refused(FrameRefusal::BadRequest);
             }
             let u = frame_state_checks::top_frame(k, s);
             if u.leaf {
-                return Answer::Refused(Refusal::AboveLeaf);
+                return FrameAnswer::Refused(FrameRefusal::AboveLeaf);
             }
             if 32 <= s.depth {
-                return Answer::Refused(Refusal::TooManyFrames);
+                return FrameAnswer::Refused(FrameRefusal::TooManyFrames);
             }
             let p = frame_state_checks::stack_pointer(k, s);
             let z = frame_requests::frame_size(k, f);
             if p - s.base < (z + k.floor) as u64 {
-                return Answer::Refused(Refusal::NoRoom);
+                return FrameAnswer::Refused(FrameRefusal::NoRoom);
             }
-            Answer::Accepted
+            FrameAnswer::Accepted
         }
     }
 }

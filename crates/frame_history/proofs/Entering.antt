@@ -21,7 +21,7 @@ use Rattle.frame_rules.specs.Frames.{noFrame, withPointer, below, frameSize, ch
 use Rattle.frame_rules.specs.Helpers.{LawfulFrames}
 use Rattle.frame_rules.proofs.Conventions.{pointer-unpreserved}
 use Rattle.frame_rules.proofs.Places.{solid-chain, below-reach, chain-in, ascending}
-use Rattle.frame_machine.specs.declared.Answer.the-variants.{Accepted}
+use Rattle.frame_machine.specs.declared.FrameAnswer.the-variants.{Accepted}
 use Rattle.frame_machine.specs.declared.State.{State}
 use Rattle.frame_machine.specs.Machine.{stackPointer, offset, frameAt, okFrames, sizes, enterAnswer, entered, enteredMemory}
 use Rattle.frame_machine.specs.Helpers.{CanEnter}

@@ -23,8 +23,8 @@ use Rattle.frame_rules.specs.Helpers.{LawfulFrames}
 use Rattle.frame_rules.proofs.Conventions.{pointer-unpreserved, before-lt}
 use Rattle.frame_rules.proofs.Places.{ranges, solid-chain, gpr-end, fpr-end, room-for, ascending, chain-outside}
 use Rattle.frame_rules.proofs.Restoring.{gpr-held, fpr-held, link-held, lr-fit, cr-fit, cr-held, return-held}
-use Rattle.frame_machine.specs.declared.Answer.the-variants.{Accepted, Refused}
-use Rattle.frame_machine.specs.declared.Refusal.the-variants.{NothingEntered}
+use Rattle.frame_machine.specs.declared.FrameAnswer.the-variants.{Accepted, Refused}
+use Rattle.frame_machine.specs.declared.FrameRefusal.the-variants.{NothingEntered}
 use Rattle.frame_machine.specs.declared.State.{State}
 use Rattle.frame_machine.specs.Answers.{judge}
 use Rattle.frame_machine.specs.Machine.{stackPointer, offset, frameAt, topFrame, okFrames, sizes, stateTests, leaveTests, leaveAnswer, left}

@@ -18,8 +18,8 @@ use Rattle.frame_rules.specs.Frames.{withPointer, lowered, cleared}
 use Rattle.frame_rules.specs.Helpers.{LawfulFrames}
 use Rattle.frame_rules.proofs.Halves.{lowered-length, lowered-fit}
 use Rattle.frame_rules.proofs.Conventions.{lawful}
-use Rattle.frame_machine.specs.declared.Answer.{Answer}
-use Rattle.frame_machine.specs.declared.Answer.the-variants.{Accepted, Refused}
+use Rattle.frame_machine.specs.declared.FrameAnswer.{FrameAnswer}
+use Rattle.frame_machine.specs.declared.FrameAnswer.the-variants.{Accepted, Refused}
 use Rattle.frame_machine.specs.Machine.{okMemory, okFrames, sizes, startAnswer, started, startedMemory, startOutcome, startMemory, enterOutcome, enterMemory, writeRegisterOutcome, writeMemoryOutcome, writeMemoryMemory, leaveOutcome}
 use Rattle.frame_machine.proofs.Judging.{never, holds-yes}
 use Rattle.frame_machine.proofs.States.{memory-yes}
@@ -33,7 +33,7 @@ use Rattle.frame_history.proofs.Leaving.{leave-refused, leave-accepted,
 -- ---- one call
 
 module _ (k : FrameRules) (law : LawfulFrames k) where
-  pub step : (c : Call) → CallFits c → (os : List OpenEnter) (m : Machine) → Invariant k os m → (a : Answer) → answer c m ≡ a
+  pub step : (c : Call) → CallFits c → (os : List OpenEnter) (m : Machine) → Invariant k os m → (a : FrameAnswer) → answer c m ≡ a
       → CallHolds k c a os (after c m) × Invariant k (openAfter c a m os) (after c m)
   unfolding enterOutcome enterMemory writeRegisterOutcome writeMemoryOutcome writeMemoryMemory leaveOutcome
   step (enter f) w os m i Accepted e =

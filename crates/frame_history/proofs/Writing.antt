@@ -22,7 +22,7 @@ use Rattle.frame_rules.specs.Helpers.{LawfulFrames}
 use Rattle.frame_rules.proofs.Conventions.{writable-apart, pointer-unwritable}
 use Rattle.frame_rules.proofs.Places.{ranges, leaf-chain, solid-chain}
 use Rattle.frame_rules.proofs.Writing.{field-number, field-fit, field-preserves}
-use Rattle.frame_machine.specs.declared.Answer.the-variants.{Accepted}
+use Rattle.frame_machine.specs.declared.FrameAnswer.the-variants.{Accepted}
 use Rattle.frame_machine.specs.declared.State.{State}
 use Rattle.frame_machine.specs.Machine.{stackPointer, offset, topFrame, callerFrame, stateTests, outgoingFrom, writableBytes, writableAddress, writeRegisterAnswer, writeMemoryAnswer, writtenRegister, writtenMemory}
 use Rattle.frame_machine.proofs.Areas.{solid-outgoing, outgoing-le, locals-le, areas}

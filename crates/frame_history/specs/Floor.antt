@@ -12,7 +12,7 @@ use Rattle.frame_rules.specs.declared.FrameRules.{FrameRules}
 use Rattle.frame_rules.specs.declared.Registers.{Registers}
 use Rattle.frame_rules.specs.Rules.{rules}
 use Rattle.frame_rules.specs.Frames.{below}
-use Rattle.frame_machine.specs.declared.Answer.the-variants.{Accepted}
+use Rattle.frame_machine.specs.declared.FrameAnswer.the-variants.{Accepted}
 use Rattle.frame_machine.specs.Machine.{stackPointer, offset, top, startOutcome}
 use Rattle.frame_history.specs.Calls.{Call, enter, writeRegister, writeMemory, leave, Machine, after, fresh}
 use Rattle.frame_history.specs.Preserved.{RegistersFit, CallsFit}

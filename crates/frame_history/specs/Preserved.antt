@@ -13,8 +13,8 @@ use Rattle.frame_rules.specs.declared.Frame.{Frame}
 use Rattle.frame_rules.specs.declared.Registers.{Registers}
 use Rattle.frame_rules.specs.Rules.{within, rules}
 use Rattle.frame_rules.specs.Frames.{startFrame, outgoingLength, saves, returnAddress, preservedCondition}
-use Rattle.frame_machine.specs.declared.Answer.{Answer}
-use Rattle.frame_machine.specs.declared.Answer.the-variants.{Accepted, Refused}
+use Rattle.frame_machine.specs.declared.FrameAnswer.{FrameAnswer}
+use Rattle.frame_machine.specs.declared.FrameAnswer.the-variants.{Accepted, Refused}
 use Rattle.frame_machine.specs.Machine.{stackPointer, offset, startOutcome}
 use Rattle.frame_history.specs.Calls.{Call, enter, writeRegister, writeMemory, leave, Machine, answer, after, fresh}
 
@@ -31,7 +31,7 @@ closeLatest (o ∷ os) = os
 
 -- The open enters after a call, latest first. "An accepted enter is open until an accepted leave closes it; such a leave closes the latest enter still open, and that is
 -- its matching enter. Writes and refused calls open and close nothing."
-abbrev pub openAfter : Call → Answer → Machine → List OpenEnter → List OpenEnter
+abbrev pub openAfter : Call → FrameAnswer → Machine → List OpenEnter → List OpenEnter
 openAfter (enter f) Accepted m os = record { before = m; request = f } ∷ os
 openAfter (enter f) (Refused r) m os = os
 openAfter (writeRegister b n v) a m os = os
@@ -61,13 +61,13 @@ pub record Preserved (k : FrameRules) (o : OpenEnter) (os : List OpenEnter) (m :
       → getD (m .memory) b 0 ≡ getD (o .before .memory) b 0
 
 -- Of a leave with this answer, the enters open before it and the machine after it: it is refused exactly when no enter is open, and preserves where it is accepted.
-abbrev pub LeaveHolds : FrameRules → Answer → List OpenEnter → Machine → Type 0
+abbrev pub LeaveHolds : FrameRules → FrameAnswer → List OpenEnter → Machine → Type 0
 LeaveHolds k (Refused r) [] m = Unit {0}
 LeaveHolds k (Refused r) (o ∷ os) m = ⊥
 LeaveHolds k Accepted [] m = ⊥
 LeaveHolds k Accepted (o ∷ os) m = Preserved k o os m
 
-abbrev pub CallHolds : FrameRules → Call → Answer → List OpenEnter → Machine → Type 0
+abbrev pub CallHolds : FrameRules → Call → FrameAnswer → List OpenEnter → Machine → Type 0
 CallHolds k (enter f) a os m = Unit {0}
 CallHolds k (writeRegister b n v) a os m = Unit {0}
 CallHolds k (writeMemory at bs) a os m = Unit {0}

@@ -11,7 +11,7 @@ use Rattle.base_words.proofs.Tests.{and-yes, not-yes}
 use Rattle.frame_rules.specs.declared.FrameRules.{FrameRules}
 use Rattle.frame_rules.specs.declared.Frame.{Frame}
 use Rattle.frame_rules.specs.Frames.{startFrame, maxOutgoing, okRequest, outgoingLength, frameSize}
-use Rattle.frame_rules.specs.Helpers.{LawfulFrames, Placed}
+use Rattle.frame_rules.specs.Helpers.{LawfulFrames, SavesFit}
 use Rattle.frame_rules.proofs.Conventions.{lawful}
 use Rattle.frame_rules.proofs.Places.{ranges, below-reach}
 use Rattle.frame_machine.specs.Machine.{State, offset, frameAt, topFrame, callerFrame, top, caller, okFrames, sizes}
@@ -123,7 +123,7 @@ module _ (k : FrameRules) (law : LawfulFrames k) (s : State) (n : ℕ) (sound : 
         = sizes-down k (s .frames) (s .depth) deep ∙ rw (top-some k (s .frames) (s .depth) deep) in
         omega (arith, e, pointer-room)
 
-    pub top-placed : Placed k (top k s) (offset k s + frameSize k (top k s)) n
+    pub top-placed : SavesFit k (top k s) (offset k s + frameSize k (top k s)) n
     top-placed = record {
       lawful = law;
       request = top-request;
@@ -132,5 +132,5 @@ module _ (k : FrameRules) (law : LawfulFrames k) (s : State) (n : ℕ) (sound : 
     }
 
 -- a request that may be entered lies below the present pointer, whose header is in the memory
-pub enter-placed : (k : FrameRules) → LawfulFrames k → (s : State) (n : ℕ) → Sound k s n → (f : Frame) → CanEnter k s f → Placed k f (offset k s) n
+pub enter-placed : (k : FrameRules) → LawfulFrames k → (s : State) (n : ℕ) → Sound k s n → (f : Frame) → CanEnter k s f → SavesFit k f (offset k s) n
 enter-placed k law s n sound f can = record { lawful = law; request = can .request; fits = omega (arith, can .room, below-reach k law f (can .request)); room = omega (arith, pointer-room k law s n sound, law .head) }

@@ -16,9 +16,9 @@ use Rattle.frame_rules.specs.declared.Frame.{Frame}
 use Rattle.frame_rules.specs.declared.Registers.{Registers}
 use Rattle.frame_rules.specs.Rules.{rules}
 use Rattle.frame_rules.specs.Frames.{noFrame, startFrame, withPointer, okRegisters, cleared, okRequest, outgoingLength, below, frameSize, chainWidth, saves, linkAt, restored, bankOf, writableRegister, withRegister, maxMemory}
-use Rattle.frame_machine.specs.Answers.{Answer, BadMemory, BadRequest, TooManyFrames, NoRoom, NotPermitted, BrokenChain, NothingEntered, BadState, AboveLeaf, Test, require, judge, settle}
+use Rattle.frame_machine.specs.Answers.{FrameAnswer, BadMemory, BadRequest, TooManyFrames, NoRoom, NotPermitted, BrokenChain, NothingEntered, BadState, AboveLeaf, Requirement, require, judge, settle}
 pub use Rattle.frame_machine.specs.declared.State.{State}
-pub use Rattle.frame_machine.specs.declared.Outcome.{Outcome}
+pub use Rattle.frame_machine.specs.declared.FrameOutcome.{FrameOutcome}
 
 -- ---- a state
 
@@ -75,13 +75,13 @@ okState k s =
     && (leb (s .base + k .floor) (stackPointer k s) && eqb (stackPointer k s + sizes k (s .frames) (s .depth) + k .room) (s .base + s .size)))))
 
 -- what every call but start tests first, with n bytes of memory lent: "otherwise 23, 16"
-abbrev pub stateTests : FrameRules → State → ℕ → List Test
+abbrev pub stateTests : FrameRules → State → ℕ → List Requirement
 stateTests k s n = require (okState k s) BadState ∷ require (eqb n (s .size)) BadMemory ∷ []
 
 -- ---- start
 
 -- "Machine: start 16"
-unfoldable pub startAnswer : Convention → ℕ → ℕ → Answer
+unfoldable pub startAnswer : Convention → ℕ → ℕ → FrameAnswer
 startAnswer c b n = judge (require (okMemory (rules c) b n) BadMemory ∷ [])
 
 -- "Start writes 8 zero bytes at the stack pointer: B + N - 112 (PPC64), B + N - 160 (Z). Other registers are as handed in, depth and all records 0";
@@ -108,12 +108,12 @@ notStarted c r = record { convention = c; base = 0; size = 0; depth = 0; registe
 
 -- "enter 17, 18, 19", and 19 is "new stack pointer below B"; 02, No. 8: "Enter now also needs 288 free bytes under the new stack pointer on PPC64 and 220 on AIX, else 19";
 -- No. 9: "Enter above a leaf gives new refusal 28, tested after 17"
-abbrev pub enterTests : FrameRules → State → Frame → List Test
+abbrev pub enterTests : FrameRules → State → Frame → List Requirement
 enterTests k s f =
     require (okRequest k f) BadRequest ∷ require (not (top k s .leaf)) AboveLeaf ∷ require (ltb (s .depth) 32) TooManyFrames ∷ require (leb (s .base + frameSize k f + k .floor) (stackPointer k s)) NoRoom ∷ []
 
 -- what an enter answers, with n bytes of memory lent
-unfoldable pub enterAnswer : FrameRules → State → ℕ → Frame → Answer
+unfoldable pub enterAnswer : FrameRules → State → ℕ → Frame → FrameAnswer
 enterAnswer k s n f = judge (stateTests k s n ++ enterTests k s f)
 
 -- "An accepted enter changes only the stack pointer, the slots named above, its record and the depth"
@@ -157,14 +157,14 @@ writableBytes k s a n =
     || inside a n (c + k .header) (c + k .header + outgoingLength k (caller k s))))))
 
 -- "write 20", with n bytes of memory lent: of the value v to register `number` of bank b
-unfoldable pub writeRegisterAnswer : FrameRules → State → ℕ → ℕ → ℕ → ℕ → Answer
+unfoldable pub writeRegisterAnswer : FrameRules → State → ℕ → ℕ → ℕ → ℕ → FrameAnswer
 writeRegisterAnswer k s n b number v = judge (stateTests k s n ++ (require (writableRegister k (top k s) (bankOf b) number v) NotPermitted ∷ []))
 
 -- the same of m bytes at the address a
 unfoldable pub writableAddress : FrameRules → State → ℕ → ℕ → Bool
 writableAddress k s a m = leb (s .base) a && writableBytes k s (a - s .base) m
 
-unfoldable pub writeMemoryAnswer : FrameRules → State → ℕ → ℕ → ℕ → Answer
+unfoldable pub writeMemoryAnswer : FrameRules → State → ℕ → ℕ → ℕ → FrameAnswer
 writeMemoryAnswer k s n a m = judge (stateTests k s n ++ (require (writableAddress k s a m) NotPermitted ∷ []))
 
 -- "An accepted write puts the given value or bytes in the place named and changes nothing else"
@@ -185,7 +185,7 @@ writtenMemory s l a bs = splice l (a - s .base) bs
 
 -- "leave 22, 21": 21 where "the back chain (on Z the r15 slot instead) isn't the caller's stack pointer"; 02, No. 9: "Leave skips the back chain
 -- test for a leaf"
-abbrev pub leaveTests : FrameRules → State → List ℕ → List Test
+abbrev pub leaveTests : FrameRules → State → List ℕ → List Requirement
 leaveTests k s l =
     let z = frameSize k (top k s) in
     require (ltb 0 (s .depth)) NothingEntered
@@ -193,7 +193,7 @@ leaveTests k s l =
     ∷ []
 
 -- what a leave answers with the memory l lent
-unfoldable pub leaveAnswer : FrameRules → State → List ℕ → Answer
+unfoldable pub leaveAnswer : FrameRules → State → List ℕ → FrameAnswer
 leaveAnswer k s l = judge (stateTests k s (length l) ++ leaveTests k s l)
 
 -- "an accepted leave only the stack pointer, what it restores, the record and the depth, and no memory"; it "zeroes the record"
@@ -211,26 +211,26 @@ left k s l =
 
 -- ---- what the contracts cite: the answer and the state, and the memory, after each call
 
-unfoldable pub startOutcome : Convention → ℕ → ℕ → Registers → Outcome
+unfoldable pub startOutcome : Convention → ℕ → ℕ → Registers → FrameOutcome
 startOutcome c b n r = record { answer = startAnswer c b n; state = settle (startAnswer c b n) (started c b n r) (notStarted c r) }
 
 unfoldable pub startMemory : Convention → ℕ → List ℕ → List ℕ
 startMemory c b l = settle (startAnswer c b (length l)) (startedMemory (rules c) l) l
 
-unfoldable pub enterOutcome : State → ℕ → Frame → Outcome
+unfoldable pub enterOutcome : State → ℕ → Frame → FrameOutcome
 enterOutcome s n f = let a = enterAnswer (stateRules s) s n f in record { answer = a; state = settle a (entered (stateRules s) s f) s }
 
 unfoldable pub enterMemory : State → List ℕ → Frame → List ℕ
 enterMemory s l f = settle (enterAnswer (stateRules s) s (length l) f) (enteredMemory (stateRules s) s l f) l
 
-unfoldable pub writeRegisterOutcome : State → ℕ → ℕ → ℕ → ℕ → Outcome
+unfoldable pub writeRegisterOutcome : State → ℕ → ℕ → ℕ → ℕ → FrameOutcome
 writeRegisterOutcome s n b number v = let a = writeRegisterAnswer (stateRules s) s n b number v in record { answer = a; state = settle a (writtenRegister s b number v) s }
 
-unfoldable pub writeMemoryOutcome : State → ℕ → ℕ → ℕ → Outcome
+unfoldable pub writeMemoryOutcome : State → ℕ → ℕ → ℕ → FrameOutcome
 writeMemoryOutcome s n a m = record { answer = writeMemoryAnswer (stateRules s) s n a m; state = s }
 
 unfoldable pub writeMemoryMemory : State → List ℕ → ℕ → List ℕ → List ℕ
 writeMemoryMemory s l a bs = settle (writeMemoryAnswer (stateRules s) s (length l) a (length bs)) (writtenMemory s l a bs) l
 
-unfoldable pub leaveOutcome : State → List ℕ → Outcome
+unfoldable pub leaveOutcome : State → List ℕ → FrameOutcome
 leaveOutcome s l = let a = leaveAnswer (stateRules s) s l in record { answer = a; state = settle a (left (stateRules s) s l) s }

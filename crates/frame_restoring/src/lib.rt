@@ -3,7 +3,7 @@ ghost use mathlib.Core.Path.{_≡_};
 ghost use Prim.Native.Nat.{_+_, _≤_};
 ghost use lib.ListN.{length};
 ghost use Rattle.frame_rules.specs.Frames.{linkAt, mergeFields, restoredLr, restoredCr, restored};
-ghost use Rattle.frame_rules.specs.Helpers.{LawfulFrames, Placed};
+ghost use Rattle.frame_rules.specs.Helpers.{LawfulFrames, SavesFit};
 use frame_rules::Frame;
 use frame_rules::FrameRules;
 use frame_rules::Linkage;
@@ -66,7 +66,7 @@ fn restore_cr(memory: &[u8], k: FrameRules, f: Frame, s: usize, x: u32) -> u32
 
 // The registers after a leave, with the caller's pointer p at the offset s.
 pub fn restore(memory: &[u8], k: FrameRules, f: Frame, s: usize, p: u64, r: Registers) -> Registers
-    requires { ⌜ Placed k f s (length (now memory)) ⌝ }
+    requires { ⌜ SavesFit k f s (length (now memory)) ⌝ }
     ensures { λ q. ⌜ q ≡ restored k f s (now (memory .entry)) p r ⌝ }
 {
     let at = frame_saving::gpr_at(k, f, s, memory.len());

@@ -205,13 +205,13 @@ writableRegister k f None n v = false
 abbrev pub unitOf : ℕ → ℕ
 unitOf n = 16 ^ (7 - n)
 
-unfoldable pub withField : ℕ → ℕ → ℕ → ℕ
-withField c n v = c / (16 * unitOf n) * (16 * unitOf n) + v * unitOf n + c % unitOf n
+unfoldable pub withConditionField : ℕ → ℕ → ℕ → ℕ
+withConditionField c n v = c / (16 * unitOf n) * (16 * unitOf n) + v * unitOf n + c % unitOf n
 
 -- the registers after an accepted write: "An accepted write puts the given value .. in the place named and changes nothing else"
 unfoldable pub withRegister : Registers → RegisterBank → ℕ → ℕ → Registers
 withRegister r General n v = record { gpr = set (r .gpr) n v; fpr = r .fpr; lr = r .lr; cr = r .cr }
 withRegister r Floating n v = record { gpr = r .gpr; fpr = set (r .fpr) n v; lr = r .lr; cr = r .cr }
 withRegister r Link n v = record { gpr = r .gpr; fpr = r .fpr; lr = v; cr = r .cr }
-withRegister r ConditionField n v = record { gpr = r .gpr; fpr = r .fpr; lr = r .lr; cr = withField (r .cr) n v }
+withRegister r ConditionField n v = record { gpr = r .gpr; fpr = r .fpr; lr = r .lr; cr = withConditionField (r .cr) n v }
 withRegister r None n v = r

@@ -6,7 +6,7 @@ ghost use lib.ListN.{length};
 ghost use Rattle.base_words.specs.Basics.{flag};
 ghost use Rattle.frame_saves.specs.Saves.{saveRun, saveAll};
 ghost use Rattle.frame_rules.specs.Frames.{saves, gprAt, gprSave, fprSave};
-ghost use Rattle.frame_rules.specs.Helpers.{Placed};
+ghost use Rattle.frame_rules.specs.Helpers.{SavesFit};
 use frame_rules::Frame;
 use frame_rules::FrameRules;
 use frame_rules::Linkage;
@@ -14,7 +14,7 @@ use frame_rules::Registers;
 
 // Where the general registers of a frame are saved, with the caller's pointer at s.
 pub fn gpr_at(k: FrameRules, f: Frame, s: usize, n: usize) -> usize
-    requires { ⌜ Placed k f s n ⌝ }
+    requires { ⌜ SavesFit k f s n ⌝ }
     ensures { λ r. ⌜ r ≡ gprAt (k .linkage) k f s ⌝ }
 {
     let e = k.end;
@@ -39,7 +39,7 @@ fn save_word(memory: &mut [u8], at: usize, w: usize, on: bool, x: u64)
 }
 
 fn save_general(memory: &mut [u8], k: FrameRules, f: Frame, r: Registers, s: usize)
-    requires { ⌜ Placed k f s (length (now memory)) ⌝ }
+    requires { ⌜ SavesFit k f s (length (now memory)) ⌝ }
     ensures { λ _. ⌜ now (memory .exit) ≡ saveAll (now (memory .entry)) (gprSave (k .linkage) k f s (r .gpr) ∷ []) ⌝ }
 {
     let n = memory.len();
@@ -50,7 +50,7 @@ fn save_general(memory: &mut [u8], k: FrameRules, f: Frame, r: Registers, s: usi
 }
 
 fn save_floating(memory: &mut [u8], k: FrameRules, f: Frame, r: Registers, s: usize)
-    requires { ⌜ Placed k f s (length (now memory)) ⌝ }
+    requires { ⌜ SavesFit k f s (length (now memory)) ⌝ }
     ensures { λ _. ⌜ now (memory .exit) ≡ saveAll (now (memory .entry)) (fprSave k f s (r .fpr) ∷ []) ⌝ }
 {
     let fpr = r.fpr;
@@ -61,7 +61,7 @@ fn save_floating(memory: &mut [u8], k: FrameRules, f: Frame, r: Registers, s: us
 
 // All that an enter saves besides the back chain, with the caller's pointer at s.
 pub fn save_registers(memory: &mut [u8], k: FrameRules, f: Frame, r: Registers, s: usize)
-    requires { ⌜ Placed k f s (length (now memory)) ⌝ }
+    requires { ⌜ SavesFit k f s (length (now memory)) ⌝ }
     ensures { λ _. ⌜ now (memory .exit) ≡ saveAll (now (memory .entry)) (saves k f s r) ⌝ }
 {
     let linkage = k.linkage;

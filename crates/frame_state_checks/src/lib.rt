@@ -6,8 +6,8 @@ ghost use Rattle.frame_rules.specs.Helpers.{LawfulFrames};
 ghost use Rattle.frame_rules.specs.Frames.{mostSize};
 ghost use Rattle.frame_machine.specs.Answers.{judge};
 ghost use Rattle.frame_machine.specs.Machine.{stackPointer, topFrame, top, caller, okFrames, sizes, okState, stateTests};
-use frame_machine::Answer;
-use frame_machine::Refusal;
+use frame_machine::FrameAnswer;
+use frame_machine::FrameRefusal;
 use frame_machine::State;
 use frame_rules::Frame;
 use frame_rules::FrameRules;
@@ -100,17 +100,17 @@ fn state_ok(k: FrameRules, s: State) -> bool
 }
 
 // Refusals 23 and 16.
-pub fn judge_state(k: FrameRules, s: State, n: usize) -> Answer
+pub fn judge_state(k: FrameRules, s: State, n: usize) -> FrameAnswer
     requires { ⌜ LawfulFrames k ⌝ }
     ensures { λ r. ⌜ r ≡ judge (stateTests k s n) ⌝ }
 {
     if !state_ok(k, s) {
-        return Answer::Refused(Refusal::BadState);
+        return FrameAnswer::Refused(FrameRefusal::BadState);
     }
     if n != s.size {
-        return Answer::Refused(Refusal::BadMemory);
+        return FrameAnswer::Refused(FrameRefusal::BadMemory);
     }
-    Answer::Accepted
+    FrameAnswer::Accepted
 }
 
 // The frame entered last, and its caller; the start where there is none.

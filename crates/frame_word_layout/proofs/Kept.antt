@@ -20,10 +20,10 @@ use Rattle.frame_rules.specs.declared.RegisterBank.{RegisterBank}
 use Rattle.frame_rules.specs.declared.RegisterBank.the-variants.{General, Floating, Link, ConditionField, None}
 use Rattle.frame_rules.specs.Helpers.{Named}
 use Rattle.frame_rules.specs.Rules.{rules}
-use Rattle.frame_rules.specs.Frames.{noFrame, frameSize, withPointer, restored, bankOf, writableRegister, withField, withRegister}
+use Rattle.frame_rules.specs.Frames.{noFrame, frameSize, withPointer, restored, bankOf, writableRegister, withConditionField, withRegister}
 use Rattle.frame_rules.proofs.Conventions.{lawful}
 use Rattle.frame_rules.proofs.Writing.{writable-named}
-use Rattle.frame_machine.specs.declared.Answer.the-variants.{Accepted}
+use Rattle.frame_machine.specs.declared.FrameAnswer.the-variants.{Accepted}
 use Rattle.frame_machine.specs.Machine.{stateRules, stackPointer, offset, top, enterAnswer, entered, enterOutcome, writeRegisterAnswer, writtenRegister, writeRegisterOutcome, leaveAnswer, left, leaveOutcome}
 use Rattle.frame_machine.proofs.States.{enter-yes, write-register-yes, leave-yes}
 use Rattle.frame_word_layout.specs.Words.{machineWords, registersAt, isKnown, isMachine, registersIn, frameIn, stateIn, withRegisters, withFrame}
@@ -118,7 +118,7 @@ abbrev pub wordAfter : RegisterBank → ℕ → ℕ → ℕ → ℕ
 wordAfter General cr i v = v
 wordAfter Floating cr i v = v
 wordAfter Link cr i v = v
-wordAfter ConditionField cr i v = withField cr i v
+wordAfter ConditionField cr i v = withConditionField cr i v
 wordAfter None cr i v = v
 
 module _ (ws : List ℕ) (n b i v : ℕ) (l : length ws ≡ machineWords) where
@@ -128,7 +128,7 @@ module _ (ws : List ℕ) (n b i v : ℕ) (l : length ws ≡ machineWords) where
   one-word k m General h w = rw (cr-kept ws l m) (general-put ws l m i v h)
   one-word k m Floating h w = rw (cr-kept ws l m) (floating-put ws l m i v h)
   one-word k m Link h w = rw (cr-kept ws l m) (lr-put ws l m v)
-  one-word k m ConditionField h w = rw (cr-kept ws l m) (cr-put ws l m (withField (getD ws 69 0) i v))
+  one-word k m ConditionField h w = rw (cr-kept ws l m) (cr-put ws l m (withConditionField (getD ws 69 0) i v))
   one-word k m None h w = absurd (false≢true w)
 
   -- the one register's word

@@ -15,9 +15,9 @@ use Rattle.frame_rules.specs.declared.Frame.{Frame}
 use Rattle.frame_rules.specs.declared.Registers.{Registers}
 use Rattle.frame_rules.specs.Frames.{noFrame}
 use Rattle.frame_machine.specs.declared.State.{State}
-use Rattle.frame_machine.specs.declared.Refusal.{Refusal}
-use Rattle.frame_machine.specs.declared.Answer.{Answer}
-use Rattle.frame_machine.specs.declared.Answer.the-variants.{Accepted, Refused}
+use Rattle.frame_machine.specs.declared.FrameRefusal.{FrameRefusal}
+use Rattle.frame_machine.specs.declared.FrameAnswer.{FrameAnswer}
+use Rattle.frame_machine.specs.declared.FrameAnswer.the-variants.{Accepted, Refused}
 use Rattle.frame_machine.specs.Answers.{settle}
 use Rattle.frame_machine.specs.Machine.{stateRules, startAnswer, started, notStarted, startOutcome, enterOutcome, writeRegisterOutcome, leaveOutcome, left}
 use Rattle.frame_machine.proofs.States.{enter-yes, leave-yes}
@@ -162,7 +162,7 @@ module _ (rs : List ℕ) (l : length rs ≡ registersWords) where
       r : Registers
       r = registersIn rs 0
 
-      go : (a : Answer) → settle a (stateWords (settle a (started c b n r) (notStarted c r))) (set (stateWords (settle a (started c b n r) (notStarted c r))) 69 (getD rs 65 0))
+      go : (a : FrameAnswer) → settle a (stateWords (settle a (started c b n r) (notStarted c r))) (set (stateWords (settle a (started c b n r) (notStarted c r))) 69 (getD rs 65 0))
           ≡ settle a (stateWords (settle a (started c b n r) (notStarted c r))) (refusedWords c rs)
       go Accepted = refl
       go (Refused x) = refused-back c
@@ -179,7 +179,7 @@ module _ (ws : List ℕ) (n : ℕ) (qs : List ℕ) where
   unfolding enterWords
   enter-yes-words h = rw h
 
-  pub enter-no-words : (x : Refusal) → enterOutcome (stateIn ws) n (frameIn qs 0) .answer ≡ Refused x → ws ≡ enterWords ws n qs
+  pub enter-no-words : (x : FrameRefusal) → enterOutcome (stateIn ws) n (frameIn qs 0) .answer ≡ Refused x → ws ≡ enterWords ws n qs
   unfolding enterWords
   enter-no-words x h = rw h
 
@@ -189,7 +189,7 @@ module _ (ws : List ℕ) (n b i v : ℕ) where
   unfolding writeRegisterWords
   write-yes-words h = rw h
 
-  pub write-no-words : (x : Refusal) → writeRegisterOutcome (stateIn ws) n b i v .answer ≡ Refused x → ws ≡ writeRegisterWords ws n b i v
+  pub write-no-words : (x : FrameRefusal) → writeRegisterOutcome (stateIn ws) n b i v .answer ≡ Refused x → ws ≡ writeRegisterWords ws n b i v
   unfolding writeRegisterWords
   write-no-words x h = rw h
 
@@ -205,6 +205,6 @@ module _ (ws l : List ℕ) where
   unfolding leaveWords
   leave-yes-words h = rw h
 
-  pub leave-no-words : (x : Refusal) → leaveOutcome (stateIn ws) l .answer ≡ Refused x → ws ≡ leaveWords ws l
+  pub leave-no-words : (x : FrameRefusal) → leaveOutcome (stateIn ws) l .answer ≡ Refused x → ws ≡ leaveWords ws l
   unfolding leaveWords
   leave-no-words x h = rw h

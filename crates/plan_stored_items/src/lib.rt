@@ -11,7 +11,7 @@ ghost use lib.ListN.{length};
 ghost use Rattle.plan_places.specs.Helpers.{ResultNumbered, LawfulCalls};
 ghost use Rattle.plan_places.specs.Step.{wordOf};
 ghost use Rattle.plan_text.specs.Writing.{Wrote};
-ghost use Rattle.plan_stored_items.specs.Places.{placeBytes, placesBytes, placesIn, registerRun, noPlaces, ownBytes, listedFrom, floatingRun, generalRun, memoryRun, copyRun, argumentItem, resultFirst, resultSecond, resultItem};
+ghost use Rattle.plan_stored_items.specs.Places.{placeBytes, placesBytes, placesIn, registerRun, noPlaces, bytesInArea, listedFrom, floatingRun, generalRun, memoryRun, copyRun, argumentItem, resultFirst, resultSecond, resultItem};
 ghost use Rattle.plan_stored_items.specs.Helpers.{RunFits, Storable};
 
 // One place as it is stored.
@@ -95,8 +95,8 @@ fn put_places(bytes: &mut [u8], at: usize, q: PlaceRun) -> usize
     next
 }
 
-fn own_bytes(rules: CallRules, n: usize) -> usize
-    ensures { λ r. ⌜ r ≡ ownBytes rules n ⌝ }
+fn bytes_in_area(rules: CallRules, n: usize) -> usize
+    ensures { λ r. ⌜ r ≡ bytesInArea rules n ⌝ }
 {
     match rules {
         CallRules::Power(_) => n,
@@ -146,8 +146,8 @@ fn floating_run(rules: CallRules, s: Span) -> PlaceRun
 {
     let home = s.home;
     let registers = s.floating;
-    let offset = own_bytes(rules, home.start as usize);
-    let by = own_bytes(rules, 8);
+    let offset = bytes_in_area(rules, home.start as usize);
+    let by = bytes_in_area(rules, 8);
     register_run(1, registers, offset, by)
 }
 
@@ -157,9 +157,9 @@ fn general_run(rules: CallRules, s: Span) -> PlaceRun
 {
     let home = s.home;
     let registers = s.general;
-    let offset = own_bytes(rules, home.start as usize);
+    let offset = bytes_in_area(rules, home.start as usize);
     let word = plan_places::word_of(rules);
-    let by = own_bytes(rules, word);
+    let by = bytes_in_area(rules, word);
     register_run(0, registers, offset, by)
 }
 

@@ -24,12 +24,12 @@ abbrev pub sizeAt : Reading Signature → ℕ → ℕ
 sizeAt x i = sizeIn (planAnswer x .convention) (argumentOf i x)
 
 -- "The value buffer holds the arguments in order without gaps": where argument i's value starts
-unfoldable pub valueAt : Reading Signature → ℕ → ℕ
-valueAt x zero = 0
-valueAt x (suc i) = valueAt x i + sizeAt x i
+unfoldable pub valueStart : Reading Signature → ℕ → ℕ
+valueStart x zero = 0
+valueStart x (suc i) = valueStart x i + sizeAt x i
 
 abbrev pub entryAt : Reading Signature → ℕ → List ℕ
-entryAt x i = entryWords (itemIn (argumentOf i x)) (sizeAt x i) (valueAt x i) (spanAt (planAnswer x) i)
+entryAt x i = entryWords (itemIn (argumentOf i x)) (sizeAt x i) (valueStart x i) (spanAt (planAnswer x) i)
 
 -- those of the first n arguments
 unfoldable pub entriesUpTo : Reading Signature → ℕ → List ℕ

@@ -24,7 +24,7 @@ use Rattle.plan_places.specs.declared.Cursor.{Cursor}
 use Rattle.plan_places.specs.declared.Share.{Share}
 use Rattle.plan_places.specs.Values.{share}
 use Rattle.plan_places.specs.Power.{words, fprs, shareOf, powerShare, powerSpan, unclear}
-use Rattle.plan_places.specs.Step.{power, spanOf, nextOf, fresh, hiddenFor, returning, resultOf, unclearFor}
+use Rattle.plan_places.specs.Step.{power, spanOf, nextOf, freshCursor, hiddenFor, returning, resultOf, unclearFor}
 use Rattle.plan_places.proofs.Shares.{words-one, share-words, share-memory, share-float, share-both, share-none, share-marked}
 use Rattle.plan_places.proofs.Written.{same-covered, counted, next-counted}
 use Rattle.plan_plans.specs.Plan.{spansOf, lastOf}
@@ -32,7 +32,7 @@ use Rattle.plan_plans.specs.Call.{firstUnclear}
 use Rattle.second_parameters.specs.declared.Run.{Run}
 use Rattle.second_parameters.specs.declared.Parameter.{Parameter}
 use Rattle.second_parameters.specs.declared.Returned.{Returned}
-use Rattle.second_parameters.specs.Values.{numbers, run, noRun}
+use Rattle.second_parameters.specs.Values.{numbers, runOf, noRun}
 use Rattle.second_structure.specs.Structure.{wordsIn, fieldsFrom, wordsTo, fieldBytes, overWords, overFloats, overNothing, floats, fprsFrom, laidOver, registersOver, straddles, firstStraddling, powerReturned}
 use Rattle.second_structure.proofs.Laws.{words-counted, laid-words, laid-nothing, laid-open, laid-floats, laid-both, straddles-not}
 use Rattle.second_agreement.specs.Agreement.{parameterOf, returnedOf}
@@ -96,37 +96,37 @@ excess-first : (n j : ℕ) → 0 < j + n - max j 8 → max j 8 ≡ j + min n (8 
 excess-first n j h = omega arith
 
 -- n words, of which the first eight of all have a GPR, and k FPRs beside them
-words-agree : (w j m n k : ℕ) (f : Run) → f ≡ run (1 + min m 13) k
+words-agree : (w j m n k : ℕ) (f : Run) → f ≡ runOf (1 + min m 13) k
     → overWords w f (numbers j n) ≡ parameterOf (powerSpan w (at w j m) n (share (min n (8 - j)) k (n - min n (8 - j))))
-unfolding overWords parameterOf run
+unfolding overWords parameterOf runOf
 words-agree w j m n k f e =
     ap₂ (λ (g s : Run). record { general = g; floating = f; field = fieldBytes w (numbers j n); memory = s; copy = noRun; reference = false }) general memory
-    ∙ ap (λ (h : Run). record { general = run (3 + min j 8) c; floating = h; field = fieldBytes w (numbers j n); memory = run (w * j + w * (n - (n - c))) (w * (n - c)); copy = noRun; reference = false }) e
+    ∙ ap (λ (h : Run). record { general = runOf (3 + min j 8) c; floating = h; field = fieldBytes w (numbers j n); memory = runOf (w * j + w * (n - (n - c))) (w * (n - c)); copy = noRun; reference = false }) e
   where
     c : ℕ
     c = min n (8 - j)
 
-    general : run (3 + j) (min (j + n) 8 - j) ≡ run (3 + min j 8) c
+    general : runOf (3 + j) (min (j + n) 8 - j) ≡ runOf (3 + min j 8) c
     general = run-same (3 + j) (3 + min j 8) (min (j + n) 8 - j) c (covered n j) (covered-first n j)
 
-    memory : run (w * max j 8) (w * (j + n - max j 8)) ≡ run (w * j + w * (n - (n - c))) (w * (n - c))
+    memory : runOf (w * max j 8) (w * (j + n - max j 8)) ≡ runOf (w * j + w * (n - (n - c))) (w * (n - c))
     memory =
         rw (back n c (omega arith))
         (run-scaled w (w * max j 8) (w * j + w * c) (j + n - max j 8) (n - c) (excess n j) (λ h. ap (λ (x : ℕ). w * x) (excess-first n j h) ∙ mul-add w j c))
 
-no-fprs : (m : ℕ) → noRun ≡ run (1 + min m 13) 0
-unfolding run
+no-fprs : (m : ℕ) → noRun ≡ runOf (1 + min m 13) 0
+unfolding runOf
 no-fprs m = refl
 
-all-fprs : (m k : ℕ) → m + k ≤ 13 → 0 < k → fprsFrom m k ≡ run (1 + min m 13) k
-all-fprs m k h z = let low : m ≡ min m 13 = omega arith in ap (λ (x : ℕ). run (1 + x) k) low
+all-fprs : (m k : ℕ) → m + k ≤ 13 → 0 < k → fprsFrom m k ≡ runOf (1 + min m 13) k
+all-fprs m k h z = let low : m ≡ min m 13 = omega arith in ap (λ (x : ℕ). runOf (1 + x) k) low
 
 floats-agree : (w j m n k : ℕ) → m + k ≤ 13 → overFloats w (fprsFrom m k) (numbers j n) ≡ parameterOf (powerSpan w (at w j m) n (share 0 k 0))
-unfolding overFloats parameterOf run
+unfolding overFloats parameterOf runOf
 floats-agree w j m n k h = let low : min m 13 ≡ m = omega arith in rw (low, mul-zero w)
 
 nothing-agree : (w j m n : ℕ) → overNothing w (numbers j n) ≡ parameterOf (powerSpan w (at w j m) n (share 0 0 n))
-unfolding overNothing parameterOf run
+unfolding overNothing parameterOf runOf
 nothing-agree w j m n = let none : n - n ≡ 0 = omega arith in rw (none, mul-zero w, add-zero (w * j))
 
 abbrev shareHere : Bool → ℕ → ℕ → ℕ → ℕ → Share
@@ -244,11 +244,11 @@ few-words w n h s = div-le-of-le-mul w (omega arith)
 
 -- "FPR1 (or FPR1 and FPR2 for long double values)", "GPR3", and for a struct the address in GPR3
 pub result-agrees : (c : Convention) (w : ℕ) (e : Edition) (t : ValueType) → 0 < w → powerReturned c w (ResultType.Value t) ≡ returnedOf (resultOf (power w e) t (sizeOf c t))
-unfolding resultOf returnedOf hiddenFor returning fresh spanOf powerShare shareOf fprs words
+unfolding resultOf returnedOf hiddenFor returning freshCursor spanOf powerShare shareOf fprs words
 result-agrees c w e (ValueType.Integer k) h =
     let n : ℕ = words w (sizeOf c (ValueType.Integer k)) in
     let few : n ≡ min n 8 = omega (arith, few-words w (sizeOf c (ValueType.Integer k)) h (integer-most c k .1)) in
-    ap (λ (x : ℕ). Returned.General (run 3 x)) (words-counted w (sizeOf c (ValueType.Integer k)) h ∙ few)
+    ap (λ (x : ℕ). Returned.General (runOf 3 x)) (words-counted w (sizeOf c (ValueType.Integer k)) h ∙ few)
 result-agrees c w e (ValueType.Float FloatFormat.Single) h = refl
 result-agrees c w e (ValueType.Float FloatFormat.Double) h = refl
 result-agrees c w e (ValueType.Float FloatFormat.LongDouble) h = refl

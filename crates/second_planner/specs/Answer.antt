@@ -18,7 +18,7 @@ use Rattle.sig_reader.specs.Argument.{unclearFault}
 use Rattle.second_parameters.specs.declared.Parameter.{Parameter}
 use Rattle.second_parameters.specs.declared.Returned.{Returned}
 use Rattle.second_parameters.specs.Values.{noParameter, tableWith}
-use Rattle.second_structure.specs.Structure.{fieldsFrom, wordsTo, firstWord, areaBytes, registersOver, firstStraddling, powerHidden, powerReturned}
+use Rattle.second_structure.specs.Structure.{fieldsFrom, wordsTo, hiddenWords, areaBytes, registersOver, firstStraddling, powerHidden, powerReturned}
 use Rattle.second_slot_scan.specs.Slots.{initial, slotsFrom, scannedTo, zHidden, zReturned}
 use Rattle.second_planner.specs.declared.SecondPlan.{SecondPlan}
 
@@ -26,7 +26,7 @@ use Rattle.second_planner.specs.declared.SecondPlan.{SecondPlan}
 
 -- PowerPC: registers over the structure of all parameters
 unfoldable pub powerParameters : Bool → Bool → ℕ → Convention → ResultType → List ValueType → List Parameter
-powerParameters ellipsis paired w c r ts = registersOver ellipsis paired w 0 ts (fieldsFrom c w (firstWord (powerHidden r)) ts)
+powerParameters ellipsis paired w c r ts = registersOver ellipsis paired w 0 ts (fieldsFrom c w (hiddenWords (powerHidden r)) ts)
 
 unfoldable pub powerPlan : Bool → Bool → ℕ → ℕ → Convention → ResultType → List ValueType → SecondPlan
 powerPlan ellipsis paired w n c r ts = record {
@@ -35,7 +35,7 @@ powerPlan ellipsis paired w n c r ts = record {
   ellipsis = ellipsis;
   result = powerReturned c w r;
   count = length ts;
-  area = areaBytes w (wordsTo c w (firstWord (powerHidden r)) ts);
+  area = areaBytes w (wordsTo c w (hiddenWords (powerHidden r)) ts);
   values = valuesOf c ts;
   copies = 0;
   parameters = tableWith noParameter (powerParameters ellipsis paired w c r ts);

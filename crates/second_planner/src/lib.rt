@@ -58,7 +58,7 @@ fn power_plan(paired: bool, word: usize, n: usize, g: SignatureRead) -> SecondPl
     let values = values_in(g);
     let s = second_structure::lay_out(
         word,
-        second_structure::first_word(second_structure::power_hidden(returned)),
+        second_structure::hidden_words(second_structure::power_hidden(returned)),
         g,
     );
     let area = second_structure::area_bytes(word, s.words);

@@ -15,7 +15,7 @@ use Rattle.sig_types.specs.Sizes.{sizeOf}
 use Rattle.sig_signatures.specs.Limits.{maxArguments}
 use Rattle.second_parameters.specs.declared.Parameter.{Parameter}
 use Rattle.second_slot_scan.specs.declared.Scan.{Scan}
-use Rattle.second_slot_scan.specs.declared.Slot.{Slot}
+use Rattle.second_slot_scan.specs.declared.ScannedSlot.{ScannedSlot}
 use Rattle.second_slot_scan.specs.declared.Copied.{Copied}
 use Rattle.second_parameters.specs.Values.{noParameter}
 use Rattle.second_slot_scan.specs.Slots.{initial, doubleOrFloat, copied, copyAt, inFloating, inGeneral, inOther, slotBy, slotOf, slotsFrom, scannedTo}
@@ -69,7 +69,7 @@ pub scanning-more : (c : Convention) (start : Scan) (ts : List ValueType) (ps : 
     → Scanning c start ts (set ps i (slotOf s t (sizeOf c t) .parameter)) (slotOf s t (sizeOf c t) .next) (i + 1)
 unfolding slotsFrom scannedTo
 scanning-more c start ts ps s i t few small d g =
-    let p : Slot = slotOf s t (sizeOf c t) in
+    let p : ScannedSlot = slotOf s t (sizeOf c t) in
     record {
       table = table-more maxArguments noParameter (p .parameter) ps (slotsFrom c (p .next) (drop (i + 1) ts)) (slotsFrom c start ts) i few (rw add-one (rw d at (g .table)));
       last = rw add-one (rw d at (g .last));

@@ -15,8 +15,8 @@ use Rattle.sig_types.specs.Structs.{shapeOf, tooLarge}
 use Rattle.sig_types.specs.Trees.{Tree, Trees, none, _▸_, fieldsOf}
 use Rattle.sig_items.specs.declared.IntegerCode.{IntegerCode}
 use Rattle.sig_items.specs.declared.FloatCode.{FloatCode}
-use Rattle.sig_items.specs.Reading.{Reading, got, no, after, andThen, inBody}
-use Rattle.sig_items.specs.Refusals.{numberOf}
+use Rattle.sig_items.specs.Reading.{Reading, got, no, laterReading, andThen, inBody}
+use Rattle.sig_items.specs.Refusals.{refusalNumber}
 use Rattle.sig_items.specs.Read.{integerCode, floatCode, integerBy, integerAt, floatOf, floatBy, floatAt, sequence, sizedAt, contentsAt, byTag, itemBy, structAt, itemAt}
 use Rattle.sig_items.specs.Seven.{Other, NotSeven, ItemsNotSeven, StructsNotSeven}
 use Rattle.sig_items.proofs.Sound.{Got, Read, by-choose, item-sound, body-cases}
@@ -51,9 +51,9 @@ float-not-seven c s inside at b = by-pick NotSeven (eqb b (at + 4)) _ _ (λ _. g
 -- an item at `at` that moves on, or that 7 does not refuse
 abbrev Moves : ℕ → Reading Tree → Type 0
 Moves at (got t next n) = at < next
-Moves at (no f) = Other (numberOf (f .reason))
+Moves at (no f) = Other (refusalNumber (f .reason))
 
-moves-after : (at n : ℕ) (x : Reading Tree) → Moves at x → Moves at (after n x)
+moves-after : (at n : ℕ) (x : Reading Tree) → Moves at x → Moves at (laterReading n x)
 moves-after at n (got t next m) h = h
 moves-after at n (no f) h = h
 
@@ -66,7 +66,7 @@ module _ (item : ℕ → Reading Tree) (b : ℕ) (moves : (k : ℕ) → Moves k 
   unfolding sequence
   sequence-not-seven zero next n ts room = by-pick NotSeven (ltb next b) _ _ (λ q _. omega (arith, ltb-true next b q)) (λ _ q. omega arith)
   sequence-not-seven (suc most) next n ts room =
-      by-choose NotSeven (ltb next b) _ _ (λ _. then-not-seven next (after n (item next)) _ (moves-after next n (item next) (moves next)) (λ t onward m on. sequence-not-seven most onward m (ts ▸ t) (omega arith))) (λ _ q. omega arith)
+      by-choose NotSeven (ltb next b) _ _ (λ _. then-not-seven next (laterReading n (item next)) _ (moves-after next n (item next) (moves next)) (λ t onward m on. sequence-not-seven most onward m (ts ▸ t) (omega arith))) (λ _ q. omega arith)
 
   contents-not-seven : (c : Convention) (at : ℕ) → NotSeven (contentsAt c item at b)
   unfolding contentsAt sizedAt

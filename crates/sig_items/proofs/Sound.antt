@@ -20,7 +20,7 @@ use Rattle.sig_items.specs.declared.IntegerCode.{IntegerCode}
 use Rattle.sig_items.specs.declared.FloatCode.{FloatCode}
 use Rattle.sig_items.specs.declared.Body.{Body}
 use Rattle.sig_items.specs.declared.Refusal.{Refusal}
-use Rattle.sig_items.specs.Reading.{Reading, got, no, after, choose, andThen, inBody}
+use Rattle.sig_items.specs.Reading.{Reading, got, no, laterReading, choose, andThen, inBody}
 use Rattle.sig_items.specs.Read.{lengthAt, bodyAt, integerCode, floatCode, integerBy, integerAt, floatOf, floatBy, floatAt, sequence, sizedAt, contentsAt, itemBy, structAt, itemAt}
 use Rattle.sig_items.specs.Encode.{integerNumber, floatNumber, item, encodeTree, encodeTrees, itemsOf, itemsIn}
 use Rattle.sig_items.proofs.Levels.{FloatLeft, Left, AllLeft, left-sized}
@@ -57,7 +57,7 @@ by-then P Q (no r) f p q = tt
 
 -- the same where n headers came before the first
 pub by-next : {A B : Type 0} (P : A → ℕ → ℕ → Type 0) (Q : B → ℕ → ℕ → Type 0) (n : ℕ) (x : Reading A) (f : A → ℕ → ℕ → Reading B) →
-    Got P x → ((a : A) (next m : ℕ) → P a next m → Got Q (f a next (n + m))) → Got Q (andThen (after n x) f)
+    Got P x → ((a : A) (next m : ℕ) → P a next m → Got Q (f a next (n + m))) → Got Q (andThen (laterReading n x) f)
 by-next P Q n (got a next m) f p q = q a next m p
 by-next P Q n (no r) f p q = tt
 
@@ -185,10 +185,10 @@ pub none-read : (c : Convention) (d : ℕ) (s : List ℕ) (b start n₀ : ℕ) �
 unfolding encodeTrees Has AllLeft itemsIn
 none-read c d s b start n₀ h = record { within = tt; here = λ _. tt; ends = omega arith; inside = h; count = omega arith }
 
-pub one-read : (c : Convention) (d : ℕ) (s : List ℕ) (b start n₀ : ℕ) (ts : Trees) (next n : ℕ) (t : Tree) (after m : ℕ) →
-    AllRead c d s b start n₀ ts next n → Read c d s b next t after m → AllRead c d s b start n₀ (ts ▸ t) after (n + m)
+pub one-read : (c : Convention) (d : ℕ) (s : List ℕ) (b start n₀ : ℕ) (ts : Trees) (next n : ℕ) (t : Tree) (laterReading m : ℕ) →
+    AllRead c d s b start n₀ ts next n → Read c d s b next t laterReading m → AllRead c d s b start n₀ (ts ▸ t) laterReading (n + m)
 unfolding encodeTrees AllLeft itemsIn
-one-read c d s b start n₀ ts next n t after m a r =
+one-read c d s b start n₀ ts next n t laterReading m a r =
     let size = length-append (encodeTrees ts) (encodeTree t) in
     record {
       within = (a .within, r .within);

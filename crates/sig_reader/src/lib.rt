@@ -16,7 +16,7 @@ ghost use Rattle.sig_items.specs.Answer.{itemAnswer};
 ghost use Rattle.sig_signatures.specs.Limits.{maxLength};
 ghost use Rattle.sig_signatures.specs.Read.{argumentsIn, signatureOf};
 ghost use Rattle.sig_stepping.specs.Step.{leftAt, headerIn, typeIn};
-ghost use Rattle.sig_reader.specs.Reader.{started, skipped, entered, advanced};
+ghost use Rattle.sig_reader.specs.Reader.{readerStarted, skipped, readerEntered, advanced};
 ghost use Rattle.sig_reader.specs.Argument.{argumentOf, itemIn, unclearFault};
 ghost use Rattle.sig_reader.specs.Helpers.{argumentWith, notedAs};
 
@@ -37,7 +37,7 @@ pub enum ArgumentRead {
 impl<'a> Reader<'a> {
     // At the first item of the whole signature.
     pub fn new(signature: &'a [u8]) -> Reader<'a>
-        ensures { λ r. ⌜ r ≡ started (signature .entry) ⌝ }
+        ensures { λ r. ⌜ r ≡ readerStarted (signature .entry) ⌝ }
     {
         Reader {
             signature,
@@ -74,7 +74,7 @@ impl<'a> Reader<'a> {
 
     // Into the item's body; nothing is left there if the header is refused.
     pub fn enter(self) -> Reader<'a>
-        ensures { λ r. ⌜ r ≡ entered (self .entry) ⌝ }
+        ensures { λ r. ⌜ r ≡ readerEntered (self .entry) ⌝ }
     {
         let at = sig_stepping::body_start(self.signature, self.at, self.end);
         let end = sig_stepping::body_end(self.signature, self.at, self.end);

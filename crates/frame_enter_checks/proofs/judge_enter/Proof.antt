@@ -4,7 +4,7 @@ use Rattle.frame_machine.proofs.Judging.{judge-next, judge-stops}
 use Rattle.frame_rules.specs.declared.Frame.{Frame}
 use Rattle.frame_rules.specs.Frames.{frameSize}
 use Rattle.frame_rules.proofs.Places.{size-small}
-use Rattle.frame_machine.specs.declared.Answer.the-variants.{Accepted}
+use Rattle.frame_machine.specs.declared.FrameAnswer.the-variants.{Accepted}
 use Rattle.frame_machine.specs.Answers.{judge}
 use Rattle.frame_machine.specs.Machine.{stackPointer, top, stateTests, enterTests, enterAnswer}
 use lib.Dec.{leb}

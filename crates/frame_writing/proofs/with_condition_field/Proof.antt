@@ -2,11 +2,11 @@
 -- The definition's own arithmetic in 64 bits; the sum fits 32. Assumes nothing.
 use Rattle.frame_rules.proofs.Writing.{field-fit}
 use Rattle.frame_writing.proofs.Fields.{field-parts}
-use Rattle.frame_rules.specs.Frames.{withField}
+use Rattle.frame_rules.specs.Frames.{withConditionField}
 use native.Mathlib.Omega.{arith}
 use borrow.Author.Needs.{needs}
-use Rattle.frame_writing.proofs.with_field.Statement.{statement}
-use Rattle.frame_writing.proofs.with_field.Tie as tie
+use Rattle.frame_writing.proofs.with_condition_field.Statement.{statement}
+use Rattle.frame_writing.proofs.with_condition_field.Tie as tie
 
 unit-requires : tie.Need-unit-requires
 unit-requires c κs = search needs
@@ -44,17 +44,17 @@ add-result-2 c =
     omega (arith, field-parts (z .args .c) (c .unit .result) (z .args .v) (omega arith) (omega arith))
 
 cast-result : tie.Need-cast-result
-unfolding withField
+unfolding withConditionField
 cast-result c =
     let z = c .before in
     let h = field-fit (z .args .n) (z .args .c) (z .args .v) (omega arith) (omega arith) (omega arith) in rw (c .unit .ensures .0) (omega (arith, h))
 
 returns : tie.Need-returns
-unfolding withField
+unfolding withConditionField
 returns c = rw (c .unit .ensures .0)
 
-pub with-field-spec : {M : Type 1} → statement M
-with-field-spec =
+pub with-condition-field-spec : {M : Type 1} → statement M
+with-condition-field-spec =
     tie.close
     (tie.spec
     unit-requires
