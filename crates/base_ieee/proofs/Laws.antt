@@ -1,9 +1,10 @@
 -- The laws of widening and narrowing. Assumes nothing.
 use mathlib.Core.Path.{_≡_, refl, sym, ap, _∙_, subst}
-use mathlib.Core.Bool.{Bool, true, false, cond}
+use mathlib.Core.Bool.{Bool, true, false}
 use Prim.Native.Nat.{ℕ, _^_, _<_}
 use native.Mathlib.Omega.{arith}
 use lib.Dec.{eqb}
+use Rattle.base_words.specs.Basics.{pick}
 use borrow.Author.Tests.{eq-eqb, eqb-true}
 use Rattle.base_ieee.specs.declared.Narrowed.the-variants.{Single, NotWidened}
 use Rattle.base_ieee.specs.Format.{FloatFields, single, double, join, split}
@@ -53,7 +54,7 @@ pub widen-narrow : (d x : ℕ) → narrow d ≡ Single x → WidensTo x d
 unfolding narrow
 widen-narrow d x = go (eqb (widen (candidate d)) d) refl
   where
-    go : (b : Bool) → eqb (widen (candidate d)) d ≡ b → cond b (Single (candidate d)) NotWidened ≡ Single x → WidensTo x d
+    go : (b : Bool) → eqb (widen (candidate d)) d ≡ b → pick b (Single (candidate d)) NotWidened ≡ Single x → WidensTo x d
     go true t e = let q : candidate d ≡ x = cc in subst (λ (y : ℕ). WidensTo y d) q (candidate-below d, eqb-true _ _ t)
     go false t e = let z : _≡_ {A = ℕ} 0 1 = cc in absurd (omega arith)
 

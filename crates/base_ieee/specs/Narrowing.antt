@@ -5,8 +5,9 @@
 use Prim.Native.Nat.{ℕ, _+_, _-_, _/_, _^_, _<_, min}
 use mathlib.Core.Path.{_≡_}
 use mathlib.Core.Logic.{_↔_}
-use mathlib.Core.Bool.{Bool, true, false, cond}
+use mathlib.Core.Bool.{Bool, true, false}
 use lib.Dec.{eqb, leb}
+use Rattle.base_words.specs.Basics.{pick}
 use Rattle.base_ieee.specs.declared.Narrowed.{Narrowed}
 use Rattle.base_ieee.specs.declared.Narrowed.the-variants.{Single, NotWidened}
 use Rattle.base_ieee.specs.Format.{Format, FloatFields, single, double, width, allOnes, hiddenBit, join, split}
@@ -37,7 +38,7 @@ candidate d = join single (candidateFields single double (split double d))
 
 -- The single that widens to the 64 bits d, if there is one.
 unfoldable pub narrow : ℕ → Narrowed
-narrow d = cond (eqb (widen (candidate d)) d) (Single (candidate d)) NotWidened
+narrow d = pick (eqb (widen (candidate d)) d) (Single (candidate d)) NotWidened
 
 -- d is the widening of the single x.
 abbrev pub WidensTo : ℕ → ℕ → Type 0

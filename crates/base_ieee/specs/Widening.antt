@@ -5,10 +5,10 @@
 -- `WidenExactly` says what widening keeps without the formulas of `widenAs`; proofs/Theorems.antt has it of every single.
 -- Assumes nothing.
 use mathlib.Core.Path.{_≡_}
-use mathlib.Core.Bool.{cond}
 use Prim.Native.Nat.{ℕ, _+_, _-_, _*_, _^_, _<_}
 use lib.Dec.{eqb}
 use lib.Count.{leadingZeros}
+use Rattle.base_words.specs.Basics.{pick}
 use Rattle.base_ieee.specs.Format.{Format, FloatFields, single, double, bias, allOnes, hiddenBit, join, split}
 
 -- The classes of data that widening tells apart.
@@ -22,8 +22,8 @@ pub data Class : Type 0 where
 -- NaN's.
 abbrev pub classOf : Format → FloatFields → Class
 classOf F x =
-    cond (eqb (x .exponent) 0) (cond (eqb (x .fraction) 0) signed-zero subnormal)
-    (cond (eqb (x .exponent) (allOnes F)) infinity-or-nan normal)
+    pick (eqb (x .exponent) 0) (pick (eqb (x .fraction) 0) signed-zero subnormal)
+    (pick (eqb (x .exponent) (allOnes F)) infinity-or-nan normal)
 
 -- How much larger the bias of the wider format T is: 896 from single to double.
 abbrev pub rebias : Format → Format → ℕ
@@ -62,7 +62,7 @@ widen x = join double (widenFields single double (split single x))
 -- The value of a finite datum without its sign, counted in the format's least subnormal, 2^(1 - bias - fractionBits):
 -- IEEE 754-2008, 3.4, c and d. A normal number's significand has the hidden bit, and its unit doubles with each exponent.
 unfoldable pub value : Format → FloatFields → ℕ
-value F x = cond (eqb (x .exponent) 0) (x .fraction) ((hiddenBit F + x .fraction) * 2 ^ (x .exponent - 1))
+value F x = pick (eqb (x .exponent) 0) (x .fraction) ((hiddenBit F + x .fraction) * 2 ^ (x .exponent - 1))
 
 -- How many of the least subnormals of the wider format T make one of S: 2^925 from single to double.
 abbrev pub finer : Format → Format → ℕ

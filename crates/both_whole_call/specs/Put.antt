@@ -17,7 +17,7 @@ use Rattle.frame_rules.specs.declared.FrameRules.{FrameRules}
 use Rattle.frame_rules.specs.declared.Frame.{Frame}
 use Rattle.frame_rules.specs.declared.Registers.{Registers}
 use Rattle.frame_rules.specs.Frames.{frameSize}
-use Rattle.frame_machine.specs.Machine.{stackPointer}
+use Rattle.frame_machine.specs.Machine.{stackPointer, maxWrite}
 use Rattle.frame_history.specs.Calls.{Machine}
 use Rattle.frame_word_history.specs.Calls.{Call, writeRegister, writeMemory}
 
@@ -127,7 +127,7 @@ piecesJoined (bs ∷ rest) = bs ++ piecesJoined rest
 -- "Memory, 1 to 256 bytes"
 unfoldable pub Short : List (List ℕ) → Type 0
 Short [] = Unit {0}
-Short (bs ∷ rest) = ((1 ≤ length bs) × (length bs ≤ 256)) × Short rest
+Short (bs ∷ rest) = ((1 ≤ length bs) × (length bs ≤ maxWrite)) × Short rest
 
 -- the bytes bs, cut in pieces that a write may have
 pub record Cut (pieces : List (List ℕ)) (bs : List ℕ) : Type 0 where

@@ -22,6 +22,10 @@ pub use Rattle.frame_machine.specs.declared.FrameOutcome.{FrameOutcome}
 
 -- ---- a state
 
+-- refusal 18: "more than 32 frames"
+abbrev pub maxEntered : ℕ
+maxEntered = 32
+
 -- the rules that a state goes by
 abbrev pub stateRules : State → FrameRules
 stateRules s = rules (s .convention)
@@ -62,16 +66,20 @@ unfoldable pub sizes : FrameRules → List Frame → ℕ → ℕ
 sizes k fs zero = 0
 sizes k fs (suc d) = sizes k fs d + frameSize k (frameAt fs d)
 
+-- refusal 16: "machine memory N .. under 256"
+abbrev pub leastMemory : ℕ
+leastMemory = 256
+
 -- refusal 16: "machine memory N not a multiple of 16, under 256, over 65,536, base B not a multiple of 16, B + N over 2^64 - 1"; 02, No. 1, of AIX: "B + N over
 -- 2^32 - 1 gives 16"; No. 8: "Start gives 16 unless the start pointer has that room", which is the floor
 unfoldable pub okMemory : FrameRules → ℕ → ℕ → Bool
-okMemory k b n = eqb (n % 16) 0 && (leb 256 n && (leb n maxMemory && (eqb (b % 16) 0 && (leb (b + n) (k .limit) && leb (k .room + k .floor) n))))
+okMemory k b n = eqb (n % 16) 0 && (leb leastMemory n && (leb n maxMemory && (eqb (b % 16) 0 && (leb (b + n) (k .limit) && leb (k .room + k .floor) n))))
 
 -- refusal 23: "depth over 32, an entered frame's record that 17 would refuse, B or N as in 16, or stack pointer below B or not the start's less the sum of frame sizes";
 -- 02, No. 1: "a GPR or LR write over 2^32 - 1 gives 20, a state holding one 23"; No. 8: "In 23, less room than this counts as below B"
 unfoldable pub okState : FrameRules → State → Bool
 okState k s =
-    okRegisters k (s .registers) && (leb (s .depth) 32 && (okFrames k (s .frames) (s .depth) && (okMemory k (s .base) (s .size)
+    okRegisters k (s .registers) && (leb (s .depth) maxEntered && (okFrames k (s .frames) (s .depth) && (okMemory k (s .base) (s .size)
     && (leb (s .base + k .floor) (stackPointer k s) && eqb (stackPointer k s + sizes k (s .frames) (s .depth) + k .room) (s .base + s .size)))))
 
 -- what every call but start tests first, with n bytes of memory lent: "otherwise 23, 16"
@@ -93,7 +101,7 @@ started c b n r = record {
   size = n;
   depth = 0;
   registers = withPointer (rules c) (cleared (rules c) r) (b + n - rules c .room);
-  frames = replicate 32 noFrame;
+  frames = replicate maxEntered noFrame;
 }
 
 -- the memory with the start's zero word
@@ -102,7 +110,7 @@ startedMemory k l = store l (length l - k .room) (k .word) 0
 
 -- "a refused start hands the registers back as they came, all else 0": base, size, depth and records are 0; the convention is the one asked for
 unfoldable pub notStarted : Convention → Registers → State
-notStarted c r = record { convention = c; base = 0; size = 0; depth = 0; registers = r; frames = replicate 32 noFrame }
+notStarted c r = record { convention = c; base = 0; size = 0; depth = 0; registers = r; frames = replicate maxEntered noFrame }
 
 -- ---- enter
 
@@ -110,7 +118,7 @@ notStarted c r = record { convention = c; base = 0; size = 0; depth = 0; registe
 -- No. 9: "Enter above a leaf gives new refusal 28, tested after 17"
 abbrev pub enterTests : FrameRules → State → Frame → List Requirement
 enterTests k s f =
-    require (okRequest k f) BadRequest ∷ require (not (top k s .leaf)) AboveLeaf ∷ require (ltb (s .depth) 32) TooManyFrames ∷ require (leb (s .base + frameSize k f + k .floor) (stackPointer k s)) NoRoom ∷ []
+    require (okRequest k f) BadRequest ∷ require (not (top k s .leaf)) AboveLeaf ∷ require (ltb (s .depth) maxEntered) TooManyFrames ∷ require (leb (s .base + frameSize k f + k .floor) (stackPointer k s)) NoRoom ∷ []
 
 -- what an enter answers, with n bytes of memory lent
 unfoldable pub enterAnswer : FrameRules → State → ℕ → Frame → FrameAnswer
@@ -145,6 +153,10 @@ outgoingFrom k f o = pick (f .leaf) (o - k .floor) (o + k .header)
 abbrev pub localsFrom : FrameRules → Frame → ℕ → ℕ
 localsFrom k f o = pick (f .leaf) (o - k .floor) (o + k .header + outgoingLength k f)
 
+-- the most that one call may write: "Memory, 1 to 256 bytes"
+abbrev pub maxWrite : ℕ
+maxWrite = 256
+
 -- "Memory, 1 to 256 bytes wholly inside one of: own locals (all between the outgoing area and the saves), own outgoing area, caller's outgoing area";
 -- at the start there is only the own outgoing area; 02, No. 9: "The leaf may write the bytes of the floor area .., and the caller's outgoing area"
 unfoldable pub writableBytes : FrameRules → State → ℕ → ℕ → Bool
@@ -152,7 +164,7 @@ writableBytes k s a n =
     let f = top k s in
     let o = offset k s in
     let c = o + frameSize k f in
-    leb 1 n && (leb n 256 && (inside a n (outgoingFrom k f o) (localsFrom k f o)
+    leb 1 n && (leb n maxWrite && (inside a n (outgoingFrom k f o) (localsFrom k f o)
     || (ltb 0 (s .depth) && (inside a n (localsFrom k f o) (c - below (k .linkage) k f)
     || inside a n (c + k .header) (c + k .header + outgoingLength k (caller k s))))))
 

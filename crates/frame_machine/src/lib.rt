@@ -1,5 +1,5 @@
 // The frame machine, a stack of frames in lent memory: its state, and what a call answers. The definitions of all calls stand in specs/; `frame_state_checks`, `both_abi`,
-// `frame_write_areas`, `frame_call_checks`, `frame_steps` and `frame_calls` have their code.
+// `frame_call_checks` and `frame_calls` have their code.
 ghost use mathlib.Core.Path.{_≡_};
 ghost use Rattle.frame_machine.specs.Answers.{frameRefusalNumber, frameAnswerNumber};
 use base_conventions::Convention;
@@ -59,6 +59,9 @@ pub fn answer_number(a: FrameAnswer) -> u64
     }
 }
 
+// The most frames that may be entered.
+pub const MAX_ENTERED: usize = 32;
+
 // A machine between two calls. Its memory has `size` bytes from the address `base` on; the first `depth` of `frames` are entered.
 pub struct State {
     pub convention: Convention,
@@ -66,7 +69,7 @@ pub struct State {
     pub size: usize,
     pub depth: usize,
     pub registers: Registers,
-    pub frames: [Frame; 32],
+    pub frames: [Frame; MAX_ENTERED],
 }
 
 // What a call answers, and the state after it.

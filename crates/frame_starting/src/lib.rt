@@ -9,6 +9,7 @@ use base_conventions::Convention;
 use frame_machine::FrameAnswer;
 use frame_machine::FrameOutcome;
 use frame_machine::FrameRefusal;
+use frame_machine::MAX_ENTERED;
 use frame_machine::State;
 use frame_rules::Frame;
 use frame_rules::FrameRules;
@@ -75,7 +76,7 @@ pub fn start(
         outgoing: 0,
         leaf: false,
     };
-    let frames = [none; 32];
+    let frames = [none; MAX_ENTERED];
     if !frame_bounds::memory_ok(k, base, n) {
         return FrameOutcome {
             answer: FrameAnswer::Refused(FrameRefusal::BadMemory),
