@@ -4,6 +4,8 @@ use mathlib.Core.Logic.{_⊎_, inl, inr}
 use mathlib.Core.Bool.{Bool, true, false, not, _&&_, _||_, false≢true}
 use Prim.Native.Nat.{_≤_}
 use native.Mathlib.Omega.{arith}
+use borrow.Author.Tests.{le-leb}
+use lib.Dec.{leb, eqb}
 use Rattle.base_words.specs.Basics.{pick, flag}
 
 -- by cases on a test
@@ -42,6 +44,13 @@ and-no false = refl
 pub flag-le : (b : Bool) → flag b ≤ 1
 flag-le true = omega arith
 flag-le false = omega arith
+
+pub flag-leb : (b : Bool) → leb (flag b) 1 ≡ true
+flag-leb b = le-leb (flag b) 1 (flag-le b)
+
+pub flag-eqb : (b : Bool) → eqb (flag b) 1 ≡ b
+flag-eqb true = refl
+flag-eqb false = refl
 
 pub flag-pick : (b : Bool) → flag b ≡ pick b 1 0
 flag-pick true = refl

@@ -5,6 +5,7 @@ use Prim.Native.Nat.{ℕ}
 use mathlib.Core.Path.{_≡_}
 use mathlib.Core.Bool.{false}
 use mathlib.Core.List.{List, [], _∷_, _++_}
+use Rattle.base_words.specs.Basics.{All}
 use Rattle.base_ieee.specs.Widening.{widen}
 use Rattle.base_conventions.specs.declared.Convention.{Convention}
 use Rattle.sig_types.specs.declared.Equivalent.{Equivalent}
@@ -36,8 +37,7 @@ VectorHolds (refused d n) = callAnswerNumber (floatAnswer (rulesOf Convention.Pp
 VectorHolds (sized k g m l p n) = frameSize k (request g m l p) ≡ n
 
 abbrev pub AllHold : List Vector → Type 0
-AllHold [] = Unit {0}
-AllHold (v ∷ vs) = VectorHolds v × AllHold vs
+AllHold vs = All VectorHolds vs
 
 -- 02, No. 5: "an optional tag 0x04, empty body, between result and arguments, meaning an ellipsis"
 unfoldable pub ellipsis-item : List ℕ

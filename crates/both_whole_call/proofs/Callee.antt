@@ -49,7 +49,7 @@ use Rattle.frame_history.specs.Preserved.{OpenEnter, openAfter, callerOf, Prese
 use Rattle.frame_history.proofs.Invariant.{Invariant, base-of}
 use Rattle.both_meeting.proofs.Theorem.{agree}
 use Rattle.both_whole_call.specs.Put.{bytesIn, ownArea, callersArea, imageOf, piecesJoined, Cut, Register, heldIn, spanRegisters, hiddenSpans, resultSpans, named}
-use Rattle.both_whole_call.specs.Caller.{firstSaved, Free}
+use Rattle.both_whole_call.specs.Caller.{firstSaved, Free, CallerSuits}
 use Rattle.both_whole_call.specs.WholeCall.{framesFor, seen, PassedToCallee}
 use Rattle.both_whole_call.proofs.Steps.{run, AllAccepted, openedBy, call-keeps, calls-keep, leave-holds}
 use Rattle.both_whole_call.proofs.Registers.{Holds, free-below}
@@ -65,9 +65,7 @@ use Rattle.both_whole_call.proofs.Returning.{Volatile, result-volatile,
 -- what `CanCall` asks, with demand 3's invariant for how the machine was reached
 pub record Able (p : Plan) (os : List OpenEnter) (m : Machine) : Type 0 where
   pub invariant : Invariant (rules (p .convention)) os m
-  pub solid : callerOf (rules (p .convention)) os .leaf ≡ false
-  pub room : p .area ≤ outgoingLength (rules (p .convention)) (callerOf (rules (p .convention)) os)
-  pub free : All (Free (rules (p .convention)) (callerOf (rules (p .convention)) os)) (named p)
+  pub suits : CallerSuits p os
 
 pub record Homed (s values copies : List ℕ) (f : Frame) (m : Machine) : Type 0 where
   pub viewed : Viewed s values (seen s f copies m)
@@ -168,7 +166,7 @@ module _ (s values image area copies : List ℕ) (base hidden : ℕ) (filled : F
         each-three (Holds (b .image) r) (Free k (callerOf k os)) (OfBytes (wordOf (rulesFor s)) (b .image)) (Same (imageOf r) (b .image))
         (λ x h free bytes. image-same r (callee .0 .fit .gprs) (callee .0 .fit .fprs) (b .image) (stands .image) x
         (free-below k (lawful c) (firstSaved (x .bank) (callerOf k os)) (x .number) (x .bank) free) (bytes .0) h)
-        (named p) all-hold (able .free) all-bytes
+        (named p) all-hold (able .suits .free) all-bytes
 
     -- ---- the arguments
 
@@ -244,17 +242,17 @@ module _ (s values image area copies : List ℕ) (base hidden : ℕ) (filled : F
       homes : AfterPieces c (calling puts m f ∷ os) a pieces m′ (run (putPieces a pieces) m′)
       homes =
           after-pieces c (calling puts m f ∷ os) _ _ a pieces m′ callee (callers-area k (calling puts m f) os m′ callee) (omega (arith, callee .0 .sound .over)) (cut .short) (omega arith)
-          (omega (arith, length-home, able .room))
+          (omega (arith, length-home, able .suits .room))
 
       home-area : bytesIn (callersArea k f (run (putPieces a pieces) m′)) (p .area) (run (putPieces a pieces) m′) ≡ homedArea s found
       home-area =
-          let inside = area-inside k (lawful c) os m₁ (ready .invariant) (able .solid) in
+          let inside = area-inside k (lawful c) os m₁ (ready .invariant) (able .suits .solid) in
           let at : ℕ = a - m′ .state .base in
           ap (λ (y : State). part (callersArea k f (record { state = y; memory = m′ .memory }) - y .base) (p .area) (run (putPieces a pieces) m′ .memory)) (homes .state)
           ∙ ap (part at (p .area)) (homes .memory)
           ∙ ap (λ (i : ℕ). part at i (splice (m′ .memory) at (piecesJoined pieces))) (sym length-home)
           ∙ splice-same (m′ .memory) at (piecesJoined pieces)
-          (omega (arith, area-from, area-offset, length-home, able .room, inside, callee .0 .sound .length, callee .1 .size, base-of k os m₁ (ready .invariant) .sound .length))
+          (omega (arith, area-from, area-offset, length-home, able .suits .room, inside, callee .0 .sound .length, callee .1 .size, base-of k os m₁ (ready .invariant) .sound .length))
           ∙ cut .whole
 
     homing : homeless (rulesFor s) ≡ false → Homed s values (cs m′) f m′

@@ -53,7 +53,7 @@ use Rattle.frame_history.specs.Preserved.{OpenEnter, callerOf}
 use Rattle.frame_word_history.specs.Calls as calls
 use Rattle.frame_word_history.specs.Calls.{Call, enter, writeRegister, writeMemory, Lent, answer, run}
 use Rattle.frame_word_history.specs.Demand3.{machineIn, WordsFit, openedBy}
-use Rattle.both_whole_call.specs.Put.{bytesIn, ownArea, register, rangeRegisters, spanRegisters, named, putPieces, putCalls, piecesJoined, Short, Cut}
+use Rattle.both_whole_call.specs.Put.{bytesIn, ownArea, register, rangeRegisters, spanRegisters, named, putPieces, putCalls, piecesJoined, WritablePiece, Cut}
 use Rattle.both_whole_call.specs.Reached.{Reached}
 use Rattle.both_whole_call.specs.Caller.{Free, CanCall, InLocals, SavedSix}
 use Rattle.both_whole_call.specs.WholeCall.{seen, inCallee, Claims, putFilled}
@@ -81,7 +81,7 @@ sevens = record { count = refl; fit = fit-replicate 66 7 (2 ^ 64) (omega arith) 
 
 -- one piece
 one-piece : (bs : List ℕ) → (1 ≤ length bs) → (length bs ≤ 256) → Cut (bs ∷ []) bs
-unfolding piecesJoined Short
+unfolding piecesJoined All
 one-piece bs some small = record { whole = append-nil bs; short = ((some, small), tt) }
 
 -- An example: a call's values and buffers, the machine that it is made from, and the calls that put it, which are computed. The area is put in one piece.
@@ -131,7 +131,7 @@ worked x h can =
 
 -- from the start, and from a function that the start called
 from-start : (c : Convention) → startOutcome c 4096 640 (registersIn (replicate registersWords 7) 0) .answer ≡ Accepted → Reached c [] (start c)
-unfolding run openedBy
+unfolding run openedBy All
 from-start c e = record {
   base = 4096;
   memory = replicate 640 1;
@@ -149,7 +149,7 @@ entering c q = record { before = machineIn (start c); request = frameIn q 0 }
 
 from-caller : (c : Convention) (q : List ℕ) → startOutcome c 4096 640 (registersIn (replicate registersWords 7) 0) .answer ≡ Accepted → answer (enter q) (start c) ≡ Accepted
     → Reached c (entering c q ∷ []) (calls.after (enter q) (start c))
-unfolding run openedBy
+unfolding run openedBy All
 from-caller c q e a = record {
   base = 4096;
   memory = replicate 640 1;
@@ -449,10 +449,12 @@ can x h reached solid room six =
     let p = planFor (x .signature) in
     record {
       reached = subst (λ (c : Convention). Reached c (x .os) (x .m)) (sym (h .by)) reached;
-      solid = rw (h .by) solid;
-      room = rw (h .by, h .room) room;
-      free = subst (λ (c : Convention). All (Free (rules (p .convention)) (callerOf (rules c) (x .os))) (named p)) (sym (h .by))
-          (named-free (x .signature) (callerOf (rules (x .convention)) (x .os)) six);
+      suits = record {
+        solid = rw (h .by) solid;
+        room = rw (h .by, h .room) room;
+        free = subst (λ (c : Convention). All (Free (rules (p .convention)) (callerOf (rules c) (x .os))) (named p)) (sym (h .by))
+            (named-free (x .signature) (callerOf (rules (x .convention)) (x .os)) six);
+      };
     }
 
 -- the callee of a request reads the values

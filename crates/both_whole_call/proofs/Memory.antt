@@ -6,6 +6,7 @@ use Prim.Native.Nat.{ℕ, _+_, _-_, _≤_, _<_}
 use native.Mathlib.Omega.{arith}
 use borrow.Author.Tests.{le-leb, lt-ltb}
 use lib.ListN.{length, length-append}
+use Rattle.base_words.specs.Basics.{All}
 use Rattle.base_words.specs.Splice.{splice}
 use Rattle.base_words.proofs.Splices.{splice-append, splice-nothing}
 use Rattle.base_words.proofs.Tests.{or-right}
@@ -28,7 +29,7 @@ use Rattle.frame_history.specs.Calls.{Call, writeMemory, Machine, answer, after
 use Rattle.frame_history.specs.Preserved.{OpenEnter, callerOf, CallsFit}
 use Rattle.frame_history.proofs.Writing.{caller-is}
 use Rattle.frame_history.proofs.Invariant.{Base, Invariant, base-of, top-is}
-use Rattle.both_whole_call.specs.Put.{callersArea, piecesJoined, Short}
+use Rattle.both_whole_call.specs.Put.{callersArea, piecesJoined, WritablePiece}
 use Rattle.both_whole_call.proofs.Steps.{run, AllAccepted, openedBy, call-keeps}
 
 -- any 1 to 256 bytes from the address lo up to hi may be written
@@ -150,8 +151,8 @@ pub record AfterPieces (c : Convention) (os : List OpenEnter) (a : ℕ) (pieces 
   pub memory : m′ .memory ≡ splice (m .memory) (a - m .state .base) (piecesJoined pieces)
 
 pub after-pieces : (c : Convention) (os : List OpenEnter) (lo hi a : ℕ) (pieces : List (List ℕ)) (m : Machine) → Invariant (rules c) os m → Region (rules c) (m .state) lo hi
-    → m .state .base ≤ lo → Short pieces → lo ≤ a → a + length (piecesJoined pieces) ≤ hi → AfterPieces c os a pieces m (run (putPieces a pieces) m)
-unfolding AllAccepted openedBy run putPieces piecesJoined Short
+    → m .state .base ≤ lo → All WritablePiece pieces → lo ≤ a → a + length (piecesJoined pieces) ≤ hi → AfterPieces c os a pieces m (run (putPieces a pieces) m)
+unfolding AllAccepted openedBy run putPieces piecesJoined All
 after-pieces c os lo hi a [] m i region over s low high =
     record { accepted = tt; opened = refl; invariant = i; state = refl; memory = sym (splice-nothing (m .memory) (a - m .state .base)) }
 after-pieces c os lo hi a (bs ∷ rest) m i region over s low high =
@@ -177,7 +178,7 @@ after-pieces c os lo hi a (bs ∷ rest) m i region over s low high =
 
 -- writes to memory have no values of registers
 pub pieces-fit : (a : ℕ) (pieces : List (List ℕ)) → CallsFit (putPieces a pieces)
-unfolding putPieces
+unfolding putPieces All
 pieces-fit a [] = tt
 pieces-fit a (bs ∷ rest) = (tt, pieces-fit (a + length bs) rest)
 

@@ -76,7 +76,7 @@ module _ (s values image area copies : List ℕ) (base hidden : ℕ) (filled : F
 
   all-putable : All (Putable c os (b .image)) (named p)
   all-putable =
-      each-with (Free k (callerOf k os)) (OfBytes (wordOf (rulesFor s)) (b .image)) (Putable c os (b .image)) putable (named p) (able .free)
+      each-with (Free k (callerOf k os)) (OfBytes (wordOf (rulesFor s)) (b .image)) (Putable c os (b .image)) putable (named p) (able .suits .free)
       (all-bytes s values image area copies base hidden filled)
 
   abbrev registers : List Call
@@ -104,8 +104,8 @@ module _ (s values image area copies : List ℕ) (base hidden : ℕ) (filled : F
 
   second : AfterPieces c os a pieces m₁ m₂
   second =
-      after-pieces c os _ _ a pieces m₁ (first .invariant) (own-area k os m₁ (first .invariant) (able .solid)) (omega (arith, over)) (cut .short) (omega (arith, first .pointer))
-      (omega (arith, first .pointer, length-area, able .room))
+      after-pieces c os _ _ a pieces m₁ (first .invariant) (own-area k os m₁ (first .invariant) (able .suits .solid)) (omega (arith, over)) (cut .short) (omega (arith, first .pointer))
+      (omega (arith, first .pointer, length-area, able .suits .room))
 
   -- where the area lies in the memory
   at : offset k (m₁ .state) + k .header ≡ a - m₁ .state .base
@@ -117,7 +117,7 @@ module _ (s values image area copies : List ℕ) (base hidden : ℕ) (filled : F
       ∙ ap (λ (n : ℕ). part (n + k .header - m₁ .state .base) (p .area) (m₂ .memory)) (first .pointer)
       ∙ ap (part (a - m₁ .state .base) (p .area)) (second .memory)
       ∙ ap (λ (n : ℕ). part (a - m₁ .state .base) n (splice (m₁ .memory) (a - m₁ .state .base) (piecesJoined pieces))) (sym length-area)
-      ∙ splice-same (m₁ .memory) (a - m₁ .state .base) (piecesJoined pieces) (omega (arith, length-area, able .room, at, area-inside k (lawful c) os m₁ (first .invariant) (able .solid)))
+      ∙ splice-same (m₁ .memory) (a - m₁ .state .base) (piecesJoined pieces) (omega (arith, length-area, able .suits .room, at, area-inside k (lawful c) os m₁ (first .invariant) (able .suits .solid)))
       ∙ cut .whole
 
   -- ---- both
@@ -170,7 +170,7 @@ module _ (s values image area copies : List ℕ) (base hidden : ℕ) (filled : F
     running = ap (callerOf k) is
 
     solid : o .request .leaf ≡ false
-    solid = ap (λ (f : Frame). f .leaf) (sym running) ∙ able .solid
+    solid = ap (λ (f : Frame). f .leaf) (sym running) ∙ able .suits .solid
 
     abbrev m₃ : Machine
     m₃ = run (putPieces base more) m₂
@@ -191,7 +191,7 @@ module _ (s values image area copies : List ℕ) (base hidden : ℕ) (filled : F
     to = base - m₂ .state .base
 
     past : offset k (m₂ .state) + k .header + p .area ≤ to
-    past = omega (arith, pointer₂, over₂, local .from, able .room, ap (outgoingLength k) running)
+    past = omega (arith, pointer₂, over₂, local .from, able .suits .room, ap (outgoingLength k) running)
 
     area-kept : bytesIn (ownArea k m₃) (p .area) m₃ ≡ take (p .area) (b .area)
     area-kept =

@@ -143,7 +143,7 @@ module _ (c : Convention) (os : List OpenEnter) (m : Lent) (h : Reached c os m) 
   }
 
 pub able : (p : Plan) (os : List OpenEnter) (m : Lent) → CanCall p os m → callee.Able p os (machineIn m)
-able p os m can = record { invariant = reached-keeps (p .convention) os m (can .reached); solid = can .solid; room = omega (arith, can .room); free = can .free }
+able p os m can = record { invariant = reached-keeps (p .convention) os m (can .reached); suits = can .suits }
 
 -- ---- the claims
 
@@ -211,7 +211,7 @@ module _ (s values : List ℕ) (copies : states.Machine → List ℕ) (base hidd
         (subst (λ (x : states.Machine). callee.Homed s values (copies x) f x) (sym entered) (k .homed power f accepts))
 
     in-callee : Reached c (o ∷ os) m′
-    unfolding openedBy run
+    unfolding openedBy run All
     in-callee =
         subst (λ (a : FrameAnswer). Reached c (openAfter (states.enter f) a (machineIn (run puts m)) os) m′) e (reached-more c os (run puts m) put (enter q ∷ []) (tt, tt))
 
@@ -235,7 +235,7 @@ module _ (s values : List ℕ) (copies : states.Machine → List ℕ) (base hidd
       left = reading-after leave m″ (words-run body m′ ∙ entered-size)
 
       after-leave : Reached c os (after leave m″)
-      unfolding openedBy run
+      unfolding openedBy run All
       after-leave =
           let inside : Reached c (o ∷ os) m″ = subst (λ (l : List OpenEnter). Reached c l m″) closed (reached-more c (o ∷ os) m′ in-callee body fit) in
           subst (λ (a : FrameAnswer). Reached c (openAfter states.leave a (machineIn m″) (o ∷ os)) (after leave m″)) (back .accepted) (reached-more c (o ∷ os) m″ inside (leave ∷ []) (tt, tt))

@@ -4,6 +4,7 @@ use Prim.Native.Nat.{ℕ, _+_, _-_, _≤_}
 use mathlib.Core.Path.{_≡_}
 use mathlib.Core.List.{List, [], _∷_, _++_, map}
 use lib.ListN.{length, getD}
+use Rattle.base_words.specs.Basics.{All}
 use Rattle.base_words.specs.Splice.{part}
 use Rattle.base_words.specs.Numbers.{bytesOf, valueOf}
 use Rattle.plan_places.specs.declared.Bank.{Bank}
@@ -125,11 +126,10 @@ piecesJoined [] = []
 piecesJoined (bs ∷ rest) = bs ++ piecesJoined rest
 
 -- "Memory, 1 to 256 bytes"
-unfoldable pub Short : List (List ℕ) → Type 0
-Short [] = Unit {0}
-Short (bs ∷ rest) = ((1 ≤ length bs) × (length bs ≤ maxWrite)) × Short rest
+abbrev pub WritablePiece : List ℕ → Type 0
+WritablePiece bs = (1 ≤ length bs) × (length bs ≤ maxWrite)
 
 -- the bytes bs, cut in pieces that a write may have
 pub record Cut (pieces : List (List ℕ)) (bs : List ℕ) : Type 0 where
   pub whole : piecesJoined pieces ≡ bs
-  pub short : Short pieces
+  pub short : All WritablePiece pieces

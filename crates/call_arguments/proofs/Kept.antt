@@ -22,6 +22,7 @@ use Rattle.sig_items.specs.Read.{itemAt}
 use Rattle.sig_items.specs.Answer.{itemAnswer}
 use Rattle.sig_items.proofs.Loop.{item-answered}
 use Rattle.sig_signatures.specs.Limits.{maxArguments}
+use Rattle.sig_signatures.specs.Helpers.{RoomFor}
 use Rattle.sig_signatures.specs.declared.ResultType.{ResultType}
 use Rattle.sig_signatures.specs.declared.Outcome.{Outcome}
 use Rattle.sig_signatures.specs.declared.SignatureRead.{SignatureRead}
@@ -51,10 +52,10 @@ use Rattle.plan_plans.proofs.Calls.{called-accepted, called-clear, called-uncle
 use Rattle.call_slots.specs.Placements.{Placement, placement, placements}
 use Rattle.call_slots.specs.Arguments.{placementsIn, argumentsOf, planFor, rulesFor, sizesFor}
 use Rattle.call_slots.proofs.Answered.{arguments-got}
-use Rattle.call_kept.specs.Helpers.{rowOf, keptAll, keptFrom}
+use Rattle.call_kept.specs.Helpers.{rowLength, rowOf, keptAll, keptFrom}
 use Rattle.call_kept.proofs.Codes.{sized-codable}
 use Rattle.call_kept.proofs.Rows.{kept-more}
-use Rattle.call_arguments.specs.Helpers.{HeadIs, NoneLeft, KeepsRows, KeptWith, KeptOf, KeptWhere, outcomeBy}
+use Rattle.call_arguments.specs.Helpers.{HeadIs, NoneLeft, KeptWith, KeptOf, KeptWhere, outcomeBy}
 
 pub lawful-in : (c : Convention) (v : Bool) → LawfulCalls (withEllipsis v (rulesOf c))
 lawful-in c v = lawful-marked v (rulesOf c) (rules-lawful c)
@@ -97,7 +98,7 @@ module _ (c : Convention) (v : Bool) (s : List ℕ) (at e : ℕ) (l : List ℕ) 
     rows = refl;
   })
 
-  module _ (room : KeepsRows at e (length l)) (start k : Cursor) (kept : List ℕ) (bytes u count next n : ℕ) (m : Keeping c v s at e start l k kept bytes u count next n) where
+  module _ (room : RoomFor rowLength at e (length l)) (start k : Cursor) (kept : List ℕ) (bytes u count next n : ℕ) (m : Keeping c v s at e start l k kept bytes u count next n) where
     module _ (h : next < e) (some : count ≡ maxArguments → ⊥) (x : ItemRead) (found : x ≡ itemAnswer c (itemAt c 8 s e next)) (t : ValueType) (after j : ℕ) (q : x ≡ ItemRead.Item t after j) where
       -- the row has room
       pub keeping-room : 10 * count + 10 ≤ length kept
@@ -135,7 +136,7 @@ module _ (c : Convention) (v : Bool) (s : List ℕ) (at e : ℕ) (r : ResultType
   pub kept-no : (f : Fault) → argumentsIn c s at e ≡ no f → (l : List ℕ) (n : ℕ) → KeptWith c v r (length s) (argumentsIn c s at e) l n
   kept-no f q l n = rw q tt
 
-  module _ (l : List ℕ) (room : KeepsRows at e (length l)) (k : Cursor) (kept : List ℕ) (bytes u count next n : ℕ) (m : Keeping c v s at e (startIn c r) l k kept bytes u count next n) (last : e ≤ next) where
+  module _ (l : List ℕ) (room : RoomFor rowLength at e (length l)) (k : Cursor) (kept : List ℕ) (bytes u count next n : ℕ) (m : Keeping c v s at e (startIn c r) l k kept bytes u count next n) (last : e ≤ next) where
     pub kept-trailing : next < length s → (j : ℕ) → KeptWith c v r (length s) (argumentsIn c s at e) kept j
     kept-trailing h j = rw (turn-last c s at e (m .ts) count next n (m .turn) last) (λ more. let z : _≡_ {A = ℕ} 0 1 = cc (lt-ltb next (length s) h, more) in absurd (omega arith))
 

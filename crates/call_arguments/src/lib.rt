@@ -16,10 +16,12 @@ ghost use Prim.Native.Nat.{_^_, _≤_};
 ghost use lib.ListN.{length};
 ghost use Rattle.sig_signatures.specs.Read.{argumentsIn, signatureOf};
 ghost use Rattle.plan_places.specs.Step.{rulesOf, withEllipsis};
+ghost use Rattle.sig_signatures.specs.Helpers.{RoomFor};
+ghost use Rattle.call_kept.specs.Helpers.{rowLength};
 ghost use Rattle.call_slots.specs.Arguments.{sizesFor};
 ghost use Rattle.plan_plans.specs.Plan.{refusedPlan, startIn, measureOf};
 ghost use Rattle.plan_plans.specs.Helpers.{planWith, unclearWith};
-ghost use Rattle.call_arguments.specs.Helpers.{HeadIs, NoneLeft, KeepsRows, KeptWith, KeptWhere, outcomeBy};
+ghost use Rattle.call_arguments.specs.Helpers.{HeadIs, NoneLeft, KeptWith, KeptWhere, outcomeBy};
 
 // The sizes of a call, with its outcome, and how many arguments are kept.
 pub struct KeptCall {
@@ -70,7 +72,7 @@ fn keep_arguments(
     earlier: usize,
     kept: &mut [u16],
 ) -> KeptArguments
-    requires { ⌜ (at ≤ end) × (end ≤ length (now s)) × (end ≤ 2 ^ 16) × (earlier ≤ 2 ^ 16) × KeepsRows at end (length (now kept)) ⌝ }
+    requires { ⌜ (at ≤ end) × (end ≤ length (now s)) × (end ≤ 2 ^ 16) × (earlier ≤ 2 ^ 16) × RoomFor rowLength at end (length (now kept)) ⌝ }
     ensures { λ a. ⌜ (a .measured ≡ measureOf (planWith convention false returned earlier (length (now (s .entry))) (argumentsIn convention (now (s .entry)) at end))) × (a .unclear ≡ unclearWith convention returned (length (now (s .entry))) (argumentsIn convention (now (s .entry)) at end)) ⌝ }
     ensures { λ a. ⌜ KeptWith convention ellipsis returned (length (now (s .entry))) (argumentsIn convention (now (s .entry)) at end) (now (kept .exit)) (a .count) ⌝ }
 {
@@ -153,7 +155,7 @@ pub fn keep_call(
     earlier: usize,
     kept: &mut [u16],
 ) -> KeptCall
-    requires { ⌜ HeadIs (now sig) convention returned ellipsis at end earlier × KeepsRows at end (length (now kept)) ⌝ }
+    requires { ⌜ HeadIs (now sig) convention returned ellipsis at end earlier × RoomFor rowLength at end (length (now kept)) ⌝ }
     ensures { λ a. ⌜ a .sizes ≡ sizesFor (now (sig .entry)) ⌝ }
     ensures { λ a. ⌜ KeptWhere (a .sizes .outcome) (now (sig .entry)) convention (now (kept .exit)) (a .count) ⌝ }
 {

@@ -14,6 +14,7 @@ use sig_signatures::ResultType;
 ghost use mathlib.Core.Path.{_≡_};
 ghost use mathlib.Core.List.{[]};
 ghost use lib.ListN.{length};
+ghost use Rattle.sig_signatures.specs.Helpers.{RoomFor};
 ghost use Rattle.call_slots.specs.Buffers.{buffers, putAll};
 ghost use Rattle.call_slots.specs.Placements.{slotsOfAll, hiddenSlots};
 ghost use Rattle.call_slots.specs.Refusals.{firstOf};
@@ -21,8 +22,8 @@ ghost use Rattle.base_conventions.specs.Numbers.{wordBytes};
 ghost use Rattle.plan_places.specs.Spots.{imageBytes};
 ghost use Rattle.call_slots.specs.Helpers.{sizesOf};
 ghost use Rattle.call_marshal.specs.Helpers.{CanPut};
-ghost use Rattle.call_kept.specs.Helpers.{keptAll, KeptEach};
-ghost use Rattle.call_arguments.specs.Helpers.{HeadIs, NoneLeft, KeepsRows};
+ghost use Rattle.call_kept.specs.Helpers.{rowLength, keptAll, KeptEach};
+ghost use Rattle.call_arguments.specs.Helpers.{HeadIs, NoneLeft};
 ghost use Rattle.call_fill.specs.Fill.{badCopies, highAddress, fillTests, fillAnswer, fillBuffers, fillLengths};
 ghost use Rattle.call_fill.specs.Helpers.{addressPlaces};
 
@@ -188,7 +189,7 @@ fn fill_part(
     earlier: usize,
     kept: &mut [u16],
 ) -> CallAnswer
-    requires { ⌜ HeadIs (now sig) convention returned ellipsis at end earlier × KeepsRows at end (length (now kept)) ⌝ }
+    requires { ⌜ HeadIs (now sig) convention returned ellipsis at end earlier × RoomFor rowLength at end (length (now kept)) ⌝ }
     ensures { λ a. ⌜ a ≡ fillAnswer (now (sig .entry)) (fillLengths (now (values .entry)) (now (image .entry)) (now (area .entry)) (now (copies .entry))) base address ⌝ }
     ensures { λ a. ⌜ buffers (now (image .exit)) (now (area .exit)) (now (copies .exit)) ≡ fillBuffers (now (sig .entry)) (now (values .entry)) base address a (buffers (now (image .entry)) (now (area .entry)) (now (copies .entry))) ⌝ }
 {

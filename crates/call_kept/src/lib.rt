@@ -12,13 +12,14 @@ ghost use mathlib.Core.Path.{_≡_};
 ghost use Prim.Native.Nat.{_+_, _*_, _≤_};
 ghost use lib.ListN.{length, getD};
 ghost use Rattle.base_words.specs.Splice.{overlay, splice};
-ghost use Rattle.call_kept.specs.Helpers.{rowLength, Codable, kindCode, kindFrom, formatCode, formatFrom, equivalentCode, equivalentFrom, typeCode, typeFrom, rangeCode, rangeFrom, flagFrom, rowOf, spanFrom};
+ghost use Rattle.sig_items.specs.Encode.{integerNumber, floatNumber};
+ghost use Rattle.call_kept.specs.Helpers.{rowLength, Codable, kindFrom, formatFrom, equivalentCode, equivalentFrom, typeCode, typeFrom, rangeCode, rangeFrom, flagFrom, rowOf, spanFrom};
 
 // The words of a row.
 pub const ROW: usize = 10;
 
 fn kind_code(k: IntegerKind) -> u16
-    ensures { λ n. ⌜ n ≡ kindCode k ⌝ }
+    ensures { λ n. ⌜ n ≡ integerNumber k ⌝ }
 {
     match k {
         IntegerKind::I8 => 0,
@@ -51,7 +52,7 @@ fn kind_from(x: u16) -> IntegerKind
 }
 
 fn format_code(f: FloatFormat) -> u16
-    ensures { λ n. ⌜ n ≡ formatCode f ⌝ }
+    ensures { λ n. ⌜ n ≡ floatNumber f ⌝ }
 {
     match f {
         FloatFormat::Single => 0,

@@ -19,11 +19,12 @@ ghost use mathlib.Core.Path.{_≡_};
 ghost use mathlib.Core.List.{[]};
 ghost use Prim.Native.Nat.{_≤_};
 ghost use lib.ListN.{length, take};
+ghost use Rattle.sig_signatures.specs.Helpers.{RoomFor};
 ghost use Rattle.call_slots.specs.Buffers.{buffers};
 ghost use Rattle.call_slots.specs.Placements.{placement};
 ghost use Rattle.call_slots.specs.Refusals.{firstOf};
-ghost use Rattle.call_arguments.specs.Helpers.{HeadIs, NoneLeft, KeepsRows};
-ghost use Rattle.call_kept.specs.Helpers.{keptAll, KeptEach};
+ghost use Rattle.call_arguments.specs.Helpers.{HeadIs, NoneLeft};
+ghost use Rattle.call_kept.specs.Helpers.{rowLength, keptAll, KeptEach};
 ghost use Rattle.call_unmarshal.specs.Helpers.{InBuffers};
 ghost use Rattle.call_read.specs.Read.{inCopies, copyAnswer, sameBytes, agrees, agreeAnswer, argumentAnswer, argumentsAnswer, readTests, readAnswer, readValues, readLengths};
 ghost use Rattle.call_read.specs.Helpers.{Compared, asks as asksOf, lengthsAnswer};
@@ -217,7 +218,7 @@ fn read_part(
     earlier: usize,
     kept: &mut [u16],
 ) -> CallAnswer
-    requires { ⌜ HeadIs (now sig) convention returned ellipsis at end earlier × KeepsRows at end (length (now kept)) ⌝ }
+    requires { ⌜ HeadIs (now sig) convention returned ellipsis at end earlier × RoomFor rowLength at end (length (now kept)) ⌝ }
     ensures { λ a. ⌜ a ≡ readAnswer (now (sig .entry)) (readLengths (now (values .entry)) (now (image .entry)) (now (area .entry))) base (buffers (now (image .entry)) (now (area .entry)) (now (copies .entry))) ⌝ }
     ensures { λ a. ⌜ now (values .exit) ≡ readValues (now (sig .entry)) base a (buffers (now (image .entry)) (now (area .entry)) (now (copies .entry))) (now (values .entry)) ⌝ }
 {

@@ -27,11 +27,11 @@ use Rattle.frame_machine.specs.Machine.{stackPointer, offset, frameAt, okFrames
 use Rattle.frame_machine.specs.Helpers.{CanEnter}
 use Rattle.frame_machine.proofs.States.{enter-yes, top-agree, frames-agree, sizes-agree}
 use Rattle.frame_history.specs.Calls.{Machine}
-use Rattle.frame_history.specs.Preserved.{OpenEnter, callerOf}
-use Rattle.frame_history.proofs.Invariant.{Fit, fit-small, Base, Top, Invariant, base-of, top-is}
+use Rattle.frame_history.specs.Preserved.{OpenEnter, callerOf, RegistersFit}
+use Rattle.frame_history.proofs.Invariant.{fit-small, Base, Top, Invariant, base-of, top-is}
 
 -- what is saved fits its words
-fit-saves : (p : Linkage) (k : FrameRules) (f : Frame) (s : ℕ) (r : Registers) → Fit k r → All Fitting (savesBy p k f s r)
+fit-saves : (p : Linkage) (k : FrameRules) (f : Frame) (s : ℕ) (r : Registers) → RegistersFit (k .word) r → All Fitting (savesBy p k f s r)
 unfolding savesBy All
 fit-saves (LinkRegister c l) k f s r w = (w .gpr, (w .fpr, (fit-replicate 1 (r .cr) (2 ^ 32) (w .cr), (fit-replicate 1 (r .lr) (2 ^ (8 * k .word)) (w .lr), tt))))
 fit-saves (SaveArea n) k f s r w = (w .fpr, (w .gpr, tt))
@@ -70,7 +70,7 @@ module _ (k : FrameRules) (law : LawfulFrames k) (m : Machine) (f : Frame) (b : 
   abbrev m′ : Machine
   m′ = record { state = entered k s f; memory = enteredMemory k s (m .memory) f }
 
-  fit-entered : Fit k (withPointer k (s .registers) (stackPointer k s - frameSize k f))
+  fit-entered : RegistersFit (k .word) (withPointer k (s .registers) (stackPointer k s - frameSize k f))
   unfolding withPointer
   fit-entered = record {
     gprs = length-set (s .registers .gpr) (k .pointer) (stackPointer k s - frameSize k f) ∙ b .fit .gprs;

@@ -9,6 +9,7 @@ use native.Mathlib.Omega.{arith}
 use lib.ListN.{length, getD}
 use lib.Dec.{leb}
 use borrow.Author.Tests.{leb-true}
+use Rattle.base_words.specs.Basics.{All}
 use Rattle.base_words.specs.Splice.{splice}
 use Rattle.base_words.proofs.Splices.{splice-at-other}
 use Rattle.frame_saves.specs.Saves.{store}
@@ -98,6 +99,7 @@ module _ (k : FrameRules) (law : LawfulFrames k) where
   untouched leave os m i a e = λ b p. inl refl
 
   floor-holds : (cs : List Call) → CallsFit cs → (os : List OpenEnter) (m : Machine) → Invariant k os m → FloorHolds k cs m
+  unfolding All
   floor-holds [] w os m i = floor-inside k m (base-of k os m i)
   floor-holds (c ∷ cs) w os m i = (
     floor-inside k m (base-of k os m i),

@@ -22,25 +22,16 @@ use Rattle.frame_rules.proofs.Places.{solid-chain, below-reach, ascending}
 use Rattle.frame_machine.specs.Machine.{stateRules, stackPointer, offset, frameAt, topFrame}
 use Rattle.frame_machine.specs.Helpers.{Sound}
 use Rattle.frame_history.specs.Calls.{Machine}
-use Rattle.frame_history.specs.Preserved.{OpenEnter, callerOf}
-
--- the registers are as many as they must be, and fit their words
-pub record Fit (k : FrameRules) (r : Registers) : Type 0 where
-  pub gprs : length (r .gpr) ≡ 32
-  pub fprs : length (r .fpr) ≡ 32
-  pub gpr : (i : ℕ) → getD (r .gpr) i 0 < 2 ^ (8 * k .word)
-  pub fpr : (i : ℕ) → getD (r .fpr) i 0 < 2 ^ 64
-  pub lr : r .lr < 2 ^ (8 * k .word)
-  pub cr : r .cr < 2 ^ 32
+use Rattle.frame_history.specs.Preserved.{OpenEnter, callerOf, RegistersFit}
 
 -- registers that fit their words pass 23
-pub fit-small : (k : FrameRules) → LawfulFrames k → (r : Registers) → Fit k r → okRegisters k r ≡ true
+pub fit-small : (k : FrameRules) → LawfulFrames k → (r : Registers) → RegistersFit (k .word) r → okRegisters k r ≡ true
 unfolding okRegisters
 fit-small k law r w =
     rw (each-within (k .limit) (r .gpr) 32 (λ i. omega (arith, w .gpr i, law .limit)), le-leb (r .lr) (k .limit) (omega (arith, w .lr, law .limit)))
 
 pub record Base (k : FrameRules) (m : Machine) : Type 0 where
-  pub fit : Fit k (m .state .registers)
+  pub fit : RegistersFit (k .word) (m .state .registers)
   pub frames : length (m .state .frames) ≡ 32
   pub rules : stateRules (m .state) ≡ k
   pub sound : Sound k (m .state) (length (m .memory))

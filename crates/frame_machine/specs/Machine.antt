@@ -22,7 +22,7 @@ pub use Rattle.frame_machine.specs.declared.FrameOutcome.{FrameOutcome}
 
 -- ---- a state
 
--- refusal 18: "more than 32 frames"
+-- refusal 18: "already 32 frames"
 abbrev pub maxEntered : ℕ
 maxEntered = 32
 

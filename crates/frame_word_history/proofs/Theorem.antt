@@ -97,7 +97,7 @@ holds-read k (c ∷ cs) os m h p =
 
 -- ---- numbers are values of their types
 
-pub registers-fit : (rs : List ℕ) → WordsFit registersWords rs → RegistersFit (registersIn rs 0)
+pub registers-fit : (rs : List ℕ) → WordsFit registersWords rs → RegistersFit 8 (registersIn rs 0)
 unfolding registersIn
 registers-fit rs h = record {
   gprs = length-part 0 32 rs (omega (arith, h .count));

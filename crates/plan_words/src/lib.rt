@@ -24,13 +24,15 @@ ghost use Rattle.sig_signatures.specs.Limits.{maxLength};
 ghost use Rattle.sig_signatures.specs.Read.{argumentsIn, signatureOf};
 ghost use Rattle.base_words.specs.Basics.{pick};
 ghost use Rattle.sig_types.specs.Sizes.{sizeOf};
+ghost use Rattle.sig_signatures.specs.Helpers.{RoomFor};
 ghost use Rattle.plan_places.specs.declared.ResultPlaces.{ResultPlaces};
 ghost use Rattle.plan_places.specs.Step.{rulesOf, resultOf};
 ghost use Rattle.plan_plans.specs.Plan.{refusedPlan, resultPlacesIn, planAnswer};
 ghost use Rattle.plan_plans.specs.Call.{callOf};
 ghost use Rattle.plan_entries.specs.Results.{resultWords};
+ghost use Rattle.plan_entries.specs.Words.{entryLength};
 ghost use Rattle.plan_words.specs.Entries.{entriesOf};
-ghost use Rattle.plan_words.specs.Helpers.{planCalled, rowsCalled, KeepsAll};
+ghost use Rattle.plan_words.specs.Helpers.{planCalled, rowsCalled};
 ghost use Rattle.plan_words.specs.Planned.{plannedOf};
 
 // A plan without the places of its arguments.
@@ -158,7 +160,7 @@ fn plan_arguments(
     kept: &mut [u16],
     places: &mut [u64],
 ) -> Planned
-    requires { ⌜ (at ≤ end) × (end ≤ length (now sig)) × (length (now sig) ≤ maxLength) × (earlier ≤ 2 ^ 16) × KeepsAll at end (length (now kept)) ⌝ }
+    requires { ⌜ (at ≤ end) × (end ≤ length (now sig)) × (length (now sig) ≤ maxLength) × (earlier ≤ 2 ^ 16) × RoomFor entryLength at end (length (now kept)) ⌝ }
     ensures { λ p. ⌜ p ≡ planCalled convention ellipsis returned earlier (length (now (sig .entry))) (argumentsIn convention (now (sig .entry)) at end) (signatureOf (now (sig .entry))) ⌝ }
     ensures { λ p. ⌜ now (places .exit) ≡ overlayWhole (now (places .entry)) (rowsCalled convention ellipsis returned at (length (now (sig .entry))) (argumentsIn convention (now (sig .entry)) at end)) ⌝ }
 {
