@@ -7,25 +7,25 @@ use native.Mathlib.Omega.{arith}
 use lib.Pow.{pow-add, pow-mono, shl-lt}
 use lib.Count.{leadingZeros, leading-top, leading-length, leading-unique}
 use borrow.Author.Tests.{ne-eqb}
-use Rattle.base_ieee.specs.Format.{Format, Fields, single, hiddenBit}
+use Rattle.base_ieee.specs.Format.{Format, FloatFields, single, hiddenBit}
 use Rattle.base_ieee.specs.Widening.{Class, signed-zero, subnormal, normal, infinity-or-nan, classOf, shift}
 use Rattle.base_ieee.proofs.Fields.{Fit}
 
 -- What the fields of a single of the class are.
-abbrev pub Is : Class → Fields → Type 0
+abbrev pub Is : Class → FloatFields → Type 0
 Is signed-zero x = (x .exponent ≡ 0) × (x .fraction ≡ 0)
 Is subnormal x = (x .exponent ≡ 0) × (0 < x .fraction)
 Is normal x = (0 < x .exponent) × (x .exponent < 255)
 Is infinity-or-nan x = x .exponent ≡ 255
 
 -- A single with such fields is of the class and of no other, and every single is of one.
-pub only-class : (C : Class) (x : Fields) → Is C x → classOf single x ≡ C
+pub only-class : (C : Class) (x : FloatFields) → Is C x → classOf single x ≡ C
 only-class signed-zero x h = simp (h .0, h .1)
 only-class subnormal x h = simp (h .0, ne-eqb (x .fraction) 0 (λ q. omega arith))
 only-class normal x h = simp (ne-eqb (x .exponent) 0 (λ q. omega arith), ne-eqb (x .exponent) 255 (λ q. omega arith))
 only-class infinity-or-nan x h = simp h
 
-pub of-its-class : (x : Fields) → Fit single x → Is (classOf single x) x
+pub of-its-class : (x : FloatFields) → Fit single x → Is (classOf single x) x
 of-its-class x h =
     ⊎-elim
     (λ z. ⊎-elim (λ w. at signed-zero (z, w)) (λ p. at subnormal (z, p)) (eq-zero-or-pos (x .fraction)))

@@ -4,10 +4,10 @@ use Prim.Native.Nat.{ℕ, _+_, _*_, _/_, _%_, _^_, _<_}
 use native.Mathlib.Nat.{mod-lt, mod-eq-of-lt, le-of-eq, lt-of-lt-of-le}
 use lib.Arith.{digits-lt}
 use lib.Pow.{pow-pos, pow-add, shr-lt, shr-shr, high, low, recompose, split as split-at}
-use Rattle.base_ieee.specs.Format.{Format, Fields, width, join, split}
+use Rattle.base_ieee.specs.Format.{Format, FloatFields, width, join, split}
 
 -- Each field is within its width.
-pub record Fit (F : Format) (x : Fields) : Type 0 where
+pub record Fit (F : Format) (x : FloatFields) : Type 0 where
   pub sign-fits : x .sign < 2
   pub exponent-fits : x .exponent < 2 ^ F .exponentBits
   pub fraction-fits : x .fraction < 2 ^ F .fractionBits
@@ -20,18 +20,18 @@ split-fits F b = record {
   fraction-fits = mod-lt _ (pow-pos (F .fractionBits));
 }
 
-pub join-below : (F : Format) (x : Fields) → Fit F x → join F x < 2 ^ width F
+pub join-below : (F : Format) (x : FloatFields) → Fit F x → join F x < 2 ^ width F
 unfolding join
 join-below F x h =
     lt-of-lt-of-le (digits-lt (digits-lt (h .sign-fits) (h .exponent-fits)) (h .fraction-fits))
     (le-of-eq (sym (pow-add 2 (1 + F .exponentBits) (F .fractionBits) ∙ ap (λ (k : ℕ). k * 2 ^ F .fractionBits) (pow-add 2 1 (F .exponentBits)))))
 
-pub fields-equal : {x y : Fields} → x .sign ≡ y .sign → x .exponent ≡ y .exponent → x .fraction ≡ y .fraction → x ≡ y
+pub fields-equal : {x y : FloatFields} → x .sign ≡ y .sign → x .exponent ≡ y .exponent → x .fraction ≡ y .fraction → x ≡ y
 fields-equal {x} {y} p q r =
     ap (λ (s : ℕ). record { sign = s; exponent = x .exponent; fraction = x .fraction }) p
     ∙ ap₂ (λ (e f : ℕ). record { sign = y .sign; exponent = e; fraction = f }) q r
 
-pub split-join : (F : Format) (x : Fields) → Fit F x → split F (join F x) ≡ x
+pub split-join : (F : Format) (x : FloatFields) → Fit F x → split F (join F x) ≡ x
 unfolding join split
 split-join F x h =
     let w : ℕ = F .exponentBits in

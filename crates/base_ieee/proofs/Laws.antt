@@ -1,12 +1,13 @@
 -- The laws of widening and narrowing. Assumes nothing.
 use mathlib.Core.Path.{_≡_, refl, sym, ap, _∙_, subst}
-use mathlib.Core.Bool.{Bool, true, false, cond}
+use mathlib.Core.Bool.{Bool, true, false}
 use Prim.Native.Nat.{ℕ, _^_, _<_}
 use native.Mathlib.Omega.{arith}
 use lib.Dec.{eqb}
+use Rattle.base_words.specs.Basics.{pick}
 use borrow.Author.Tests.{eq-eqb, eqb-true}
 use Rattle.base_ieee.specs.declared.Narrowed.the-variants.{Single, NotWidened}
-use Rattle.base_ieee.specs.Format.{Fields, single, double, join, split}
+use Rattle.base_ieee.specs.Format.{FloatFields, single, double, join, split}
 use Rattle.base_ieee.specs.Widening.{widen, widenFields}
 use Rattle.base_ieee.specs.Narrowing.{candidate, candidateFields, narrow, WidensTo}
 use Rattle.base_ieee.proofs.Fields.{split-fits, join-below, split-join, join-split}
@@ -35,7 +36,7 @@ split-widen x = split-join double _ (widen-fits _ (split-fits single x))
 pub candidate-of-widen : (x : ℕ) → x < 2 ^ 32 → candidate (widen x) ≡ x
 unfolding candidate
 candidate-of-widen x h =
-    ap (λ (y : Fields). join single (candidateFields single double y)) (split-widen x)
+    ap (λ (y : FloatFields). join single (candidateFields single double y)) (split-widen x)
     ∙ ap (join single) (candidate-widen _ (split-fits single x))
     ∙ join-split single x h
 
@@ -53,7 +54,7 @@ pub widen-narrow : (d x : ℕ) → narrow d ≡ Single x → WidensTo x d
 unfolding narrow
 widen-narrow d x = go (eqb (widen (candidate d)) d) refl
   where
-    go : (b : Bool) → eqb (widen (candidate d)) d ≡ b → cond b (Single (candidate d)) NotWidened ≡ Single x → WidensTo x d
+    go : (b : Bool) → eqb (widen (candidate d)) d ≡ b → pick b (Single (candidate d)) NotWidened ≡ Single x → WidensTo x d
     go true t e = let q : candidate d ≡ x = cc in subst (λ (y : ℕ). WidensTo y d) q (candidate-below d, eqb-true _ _ t)
     go false t e = let z : _≡_ {A = ℕ} 0 1 = cc in absurd (omega arith)
 

@@ -9,7 +9,7 @@ use native.Mathlib.Omega.{arith}
 use lib.Dec.{leb}
 use lib.Pow.{pow-mono, shl-shr, shr-lt}
 use borrow.Author.Tests.{le-leb, lt-leb}
-use Rattle.base_ieee.specs.Format.{Format, Fields, single, double, positive, join, split}
+use Rattle.base_ieee.specs.Format.{Format, FloatFields, single, double, positive, join, split}
 use Rattle.base_ieee.specs.Widening.{Class, signed-zero, subnormal, normal, infinity-or-nan, classOf, rebias, shift, widenAs, widenFields, widen}
 use Rattle.base_ieee.specs.Helpers.{magnitude, candidateMagnitude}
 use Rattle.base_ieee.specs.Narrowing.{candidateAs, candidateFields, candidate}
@@ -22,12 +22,12 @@ pub magnitude-as : (C : Class) (e f : ℕ) → Is C (positive e f) → magnitude
 unfolding magnitude widenFields
 magnitude-as C e f i = ap (λ (D : Class). join double (widenAs single double D (positive e f))) (only-class C (positive e f) i)
 
-pub candidate-low : (x : Fields) → x .exponent ≤ 896
+pub candidate-low : (x : FloatFields) → x .exponent ≤ 896
     → candidateFields single double x ≡ candidateAs single double true x
 unfolding candidateFields
 candidate-low x h = simp (le-leb (x .exponent) 896 h)
 
-pub candidate-high : (x : Fields) → 896 < x .exponent
+pub candidate-high : (x : FloatFields) → 896 < x .exponent
     → candidateFields single double x ≡ candidateAs single double false x
 unfolding candidateFields
 candidate-high x h = simp (lt-leb (x .exponent) 896 h)
@@ -39,7 +39,7 @@ candidate-none e f h k =
 
 -- ---- the answers fit
 
-pub widen-fits : (x : Fields) → Fit single x → Fit double (widenFields single double x)
+pub widen-fits : (x : FloatFields) → Fit single x → Fit double (widenFields single double x)
 unfolding widenFields
 widen-fits x h = go (classOf single x) (of-its-class x h)
   where
@@ -49,7 +49,7 @@ widen-fits x h = go (classOf single x) (of-its-class x h)
     go normal i = omega arith
     go infinity-or-nan i = omega arith
 
-pub candidate-fits : (x : Fields) → Fit double x → Fit single (candidateFields single double x)
+pub candidate-fits : (x : FloatFields) → Fit double x → Fit single (candidateFields single double x)
 candidate-fits x h =
     elim (decLe (x .exponent) 896) [
       | yes k ↦
@@ -67,7 +67,7 @@ candidate-fits x h =
 
 -- ---- the sign stands above the rest
 
-pub widen-keeps-sign : (S T : Format) (x : Fields) → widenFields S T x .sign ≡ x .sign
+pub widen-keeps-sign : (S T : Format) (x : FloatFields) → widenFields S T x .sign ≡ x .sign
 unfolding widenFields
 widen-keeps-sign S T x = go (classOf S x)
   where
@@ -77,7 +77,7 @@ widen-keeps-sign S T x = go (classOf S x)
     go normal = refl
     go infinity-or-nan = refl
 
-pub candidate-keeps-sign : (S T : Format) (x : Fields) → candidateFields S T x .sign ≡ x .sign
+pub candidate-keeps-sign : (S T : Format) (x : FloatFields) → candidateFields S T x .sign ≡ x .sign
 unfolding candidateFields
 candidate-keeps-sign S T x = go (leb (x .exponent) (rebias S T))
   where
@@ -88,14 +88,14 @@ candidate-keeps-sign S T x = go (leb (x .exponent) (rebias S T))
 pub magnitude-below : (x : ℕ) → magnitude (x / 2 ^ 23 % 2 ^ 8) (x % 2 ^ 23) < 2 ^ 63
 unfolding magnitude join
 magnitude-below x =
-    let y : Fields = positive (x / 2 ^ 23 % 2 ^ 8) (x % 2 ^ 23) in
+    let y : FloatFields = positive (x / 2 ^ 23 % 2 ^ 8) (x % 2 ^ 23) in
     let w = widen-fits y (omega arith) in
     omega (arith, widen-keeps-sign single double y)
 
 pub candidate-magnitude-below : (d : ℕ) → candidateMagnitude (d / 2 ^ 52 % 2 ^ 11) (d % 2 ^ 52) < 2 ^ 31
 unfolding candidateMagnitude join
 candidate-magnitude-below d =
-    let y : Fields = positive (d / 2 ^ 52 % 2 ^ 11) (d % 2 ^ 52) in
+    let y : FloatFields = positive (d / 2 ^ 52 % 2 ^ 11) (d % 2 ^ 52) in
     let w = candidate-fits y (omega arith) in
     omega (arith, candidate-keeps-sign single double y)
 
@@ -121,7 +121,7 @@ candidate-sign d h = go (leb (d / 2 ^ 52 % 2 ^ 11) 896)
 
 -- ---- the candidate undoes widening
 
-pub candidate-widen : (x : Fields) → Fit single x → candidateFields single double (widenFields single double x) ≡ x
+pub candidate-widen : (x : FloatFields) → Fit single x → candidateFields single double (widenFields single double x) ≡ x
 unfolding widenFields
 candidate-widen x h = go (classOf single x) (of-its-class x h)
   where

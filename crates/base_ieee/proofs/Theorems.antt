@@ -4,7 +4,7 @@ use Prim.Native.Nat.{ℕ}
 use Rattle.base_ieee.specs.declared.Narrowed.{Narrowed}
 use Rattle.base_ieee.specs.declared.Narrowed.the-variants.{Single, NotWidened}
 use Rattle.base_ieee.specs.Format.{single, double, split}
-use Rattle.base_ieee.specs.Widening.{Kept, WidenExactly}
+use Rattle.base_ieee.specs.Widening.{WideningKeeps, WidenExactly}
 use Rattle.base_ieee.specs.Narrowing.{narrow, WidensTo, NarrowExactly}
 use Rattle.base_ieee.proofs.Fields.{split-fits}
 use Rattle.base_ieee.proofs.Values.{widen-keeps}
@@ -14,7 +14,7 @@ use Rattle.base_ieee.proofs.Laws.{split-widen, narrow-widen, widen-narr
 -- quieted" of document 01.
 pub widen-exactly : (x : ℕ) → WidenExactly x
 widen-exactly x =
-    subst (Kept single double (split single x)) (sym (split-widen x)) (widen-keeps (split single x) (split-fits single x))
+    subst (WideningKeeps single double (split single x)) (sym (split-widen x)) (widen-keeps (split single x) (split-fits single x))
 
 -- What narrowing accepts is exactly the widened singles: document 01's refusal 14 is given exactly when the 64 bits are
 -- no widened single.

@@ -3,25 +3,25 @@ use mathlib.Core.Path.{_≡_, refl, sym, ap, _∙_}
 use Prim.Native.Nat.{ℕ, _+_, _-_, _*_, _^_, _<_}
 use native.Mathlib.Omega.{arith}
 use borrow.Author.Tests.{ne-eqb}
-use Rattle.base_ieee.specs.Format.{Format, Fields, single, double, hiddenBit}
-use Rattle.base_ieee.specs.Widening.{Class, signed-zero, subnormal, normal, infinity-or-nan, classOf, shift, widenAs, widenFields, value, finer, Kept}
+use Rattle.base_ieee.specs.Format.{Format, FloatFields, single, double, hiddenBit}
+use Rattle.base_ieee.specs.Widening.{Class, signed-zero, subnormal, normal, infinity-or-nan, classOf, shift, widenAs, widenFields, value, finer, WideningKeeps}
 use Rattle.base_ieee.proofs.Fields.{Fit}
 use Rattle.base_ieee.proofs.Classes.{Is, of-its-class, normalised, shifts, restored}
 
 -- The two cases of a value.
-value-subnormal : (F : Format) (x : Fields) → x .exponent ≡ 0 → value F x ≡ x .fraction
+value-subnormal : (F : Format) (x : FloatFields) → x .exponent ≡ 0 → value F x ≡ x .fraction
 unfolding value
 value-subnormal F x h = simp h
 
-value-normal : (F : Format) (x : Fields) → 0 < x .exponent → value F x ≡ (hiddenBit F + x .fraction) * 2 ^ (x .exponent - 1)
+value-normal : (F : Format) (x : FloatFields) → 0 < x .exponent → value F x ≡ (hiddenBit F + x .fraction) * 2 ^ (x .exponent - 1)
 unfolding value
 value-normal F x h = simp (ne-eqb (x .exponent) 0 (λ q. omega arith))
 
-pub widen-keeps : (x : Fields) → Fit single x → Kept single double x (widenFields single double x)
+pub widen-keeps : (x : FloatFields) → Fit single x → WideningKeeps single double x (widenFields single double x)
 unfolding widenFields
 widen-keeps x h = go (classOf single x) (of-its-class x h)
   where
-    go : (C : Class) → Is C x → Kept single double x (widenAs single double C x)
+    go : (C : Class) → Is C x → WideningKeeps single double x (widenAs single double C x)
     go signed-zero i = record {
       sign-kept = refl;
       value-kept = λ _. (

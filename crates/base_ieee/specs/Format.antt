@@ -33,21 +33,21 @@ abbrev pub hiddenBit : Format → ℕ
 hiddenBit F = 2 ^ F .fractionBits
 
 -- A datum by its fields, each an unsigned integer.
-pub record Fields : Type 0 where
+pub record FloatFields : Type 0 where
   pub sign : ℕ
   pub exponent : ℕ
   pub fraction : ℕ
 
 -- A datum without its sign: the one with the sign 0.
-abbrev pub positive : ℕ → ℕ → Fields
+abbrev pub positive : ℕ → ℕ → FloatFields
 positive e f = record { sign = 0; exponent = e; fraction = f }
 
 -- The bits of the datum with these fields, as an unsigned integer.
-unfoldable pub join : Format → Fields → ℕ
+unfoldable pub join : Format → FloatFields → ℕ
 join F x = (x .sign * 2 ^ F .exponentBits + x .exponent) * 2 ^ F .fractionBits + x .fraction
 
 -- The fields of the datum with these bits.
-unfoldable pub split : Format → ℕ → Fields
+unfoldable pub split : Format → ℕ → FloatFields
 split F b = record {
   sign = b / 2 ^ (F .fractionBits + F .exponentBits) % 2;
   exponent = b / 2 ^ F .fractionBits % 2 ^ F .exponentBits;

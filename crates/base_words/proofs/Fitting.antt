@@ -1,6 +1,6 @@
 -- Lists whose numbers are all below b, and what is made of them: past its end a list reads 0. Assumes nothing.
 use mathlib.Core.List.{List, [], _∷_, _++_}
-use Prim.Native.Nat.{ℕ, zero, suc, _+_, _<_}
+use Prim.Native.Nat.{ℕ, zero, suc, _+_, _<_, _≤_}
 use native.Mathlib.Omega.{arith}
 use lib.ListN.{getD, take, drop, set, replicate}
 use lib.Seq.{getD-drop}
@@ -24,7 +24,12 @@ fit-take (suc n) (x ∷ l) b h (suc i) = fit-take n l b (λ j. h (suc j)) i
 pub fit-drop : (n : ℕ) (l : List ℕ) (b : ℕ) → ((i : ℕ) → getD l i 0 < b) → (i : ℕ) → getD (drop n l) i 0 < b
 fit-drop n l b h i = rw (getD-drop n l i 0) (h (n + i))
 
--- one number stored
+-- one number stored: alone, and among the others
+pub fit-at : (l : List ℕ) (n x m : ℕ) → x ≤ m → getD (set l n x) n 0 ≤ m
+fit-at [] n x m h = omega arith
+fit-at (y ∷ l) zero x m h = h
+fit-at (y ∷ l) (suc n) x m h = fit-at l n x m h
+
 pub fit-set : (l : List ℕ) (j x b : ℕ) → ((i : ℕ) → getD l i 0 < b) → x < b → (i : ℕ) → getD (set l j x) i 0 < b
 fit-set [] j x b h p i = h i
 fit-set (y ∷ l) zero x b h p zero = p

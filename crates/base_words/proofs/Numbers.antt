@@ -1,14 +1,17 @@
 -- The laws of numbers as bytes: lengths and bounds, a number and its bytes back, numbers and bytes end to end, numbers in memory, and the two extensions.
 -- Assumes nothing.
-use mathlib.Core.Path.{_≡_, refl, sym, ap, ap₂, _∙_}
+use mathlib.Core.Path.{_≡_, refl, sym, ap, ap₂, subst, _∙_}
 use mathlib.Core.List.{List, [], _∷_, _++_}
 use Prim.Native.Nat.{ℕ, zero, suc, _+_, _-_, _*_, _/_, _%_, _^_, _≤_, _<_}
 use native.Mathlib.Nat.{mul-suc, mul-add, mul-assoc, add-mul, add-assoc, mod-one, mod-lt, div-eq-of-lt, div-eq-of-lt-le, mod-eq-of-lt, mul-le-mul-right, mul-le-mul-left, mul-left-comm, mul-add-mod-self-right, mul-add-div-right, mul-sub, one-mul, zero-add, zero-mul, suc-add}
 use native.Mathlib.Omega.{arith}
-use lib.ListN.{length, drop, replicate, length-append, length-replicate}
+use lib.Dec.{ltb}
+use lib.ListN.{length, take, drop, replicate, length-append, length-replicate}
+use lib.Seq.{take-at, take-all, drop-at}
 use lib.Pow.{pow-pos, pow-mono, pow-add, mod-pow-add, high, split, field, shr-shr, high-ones}
 use Rattle.base_words.specs.Splice.{overlay, splice, part}
 use Rattle.base_words.specs.Numbers.{Bytes, bytesOf, valueOf, zeroExtended, signBit, signExtended}
+use Rattle.base_words.proofs.Basics.{same-ltb}
 use Rattle.base_words.proofs.Splices.{splice-same}
 use Rattle.base_words.proofs.Fitting.{fit-replicate, fit-append, fit-take, fit-drop}
 
@@ -28,6 +31,13 @@ unfolding bytesOf
 bytes-bytesOf zero x i = omega arith
 bytes-bytesOf (suc n) x zero = omega arith
 bytes-bytesOf (suc n) x (suc i) = bytes-bytesOf n x i
+
+pub bytes-none : Bytes []
+bytes-none i = omega arith
+
+pub bytes-cons : (x : ℕ) (l : List ℕ) → x < 256 → Bytes l → Bytes (x ∷ l)
+bytes-cons x l h b zero = h
+bytes-cons x l h b (suc i) = b i
 
 pub bytes-replicate : (n b : ℕ) → b < 256 → Bytes (replicate n b)
 bytes-replicate n b h = fit-replicate n b 256 h
@@ -90,6 +100,13 @@ bytesOf-value (b ∷ bs) h =
     let rest : Bytes bs = λ i. h (suc i) in
     rw (high b (8 * length bs) (value-below bs rest), mod-eq-of-lt (h 0), bytesOf-low (length bs) b (valueOf bs), bytesOf-value bs rest)
 
+-- bytes whose number is known
+pub value-fits : (n : ℕ) (bs : List ℕ) → length bs ≡ n → Bytes bs → valueOf bs < 2 ^ (8 * n)
+value-fits n bs e h = subst (λ (m : ℕ). valueOf bs < 2 ^ (8 * m)) e (value-below bs h)
+
+pub bytesOf-back : (n : ℕ) (bs : List ℕ) → length bs ≡ n → Bytes bs → bytesOf n (valueOf bs) ≡ bs
+bytesOf-back n bs e h = ap (λ (m : ℕ). bytesOf m (valueOf bs)) (sym e) ∙ bytesOf-value bs h
+
 -- ---- end to end
 
 pub value-append : (a b : List ℕ) → valueOf (a ++ b) ≡ valueOf a * 2 ^ (8 * length b) + valueOf b
@@ -103,6 +120,20 @@ bytesOf-append zero n x = rw (zero-add n)
 bytesOf-append (suc m) n x =
     let e : 8 * n + 8 * m ≡ 8 * (m + n) = omega (arith, mul-add 8 m n) in
     rw (suc-add m n, shr-shr x (8 * n) (8 * m), e) (ap (λ (t : List ℕ). x / 2 ^ (8 * (m + n)) % 256 ∷ t) (bytesOf-append m n x))
+
+-- of a number's bytes, the w after the first k
+pub bytesOf-middle : (k w rest x : ℕ) → part k w (bytesOf (k + (w + rest)) x) ≡ bytesOf w (x / 2 ^ (8 * rest))
+bytesOf-middle k w rest x =
+    ap (part k w) (bytesOf-append k (w + rest) x)
+    ∙ ap (take w) (drop-at (bytesOf k (x / 2 ^ (8 * (w + rest)))) (bytesOf (w + rest) x) k (length-bytesOf k _) ∙ bytesOf-append w rest x)
+    ∙ take-at (bytesOf w (x / 2 ^ (8 * rest))) (bytesOf rest x) w (length-bytesOf w _)
+
+-- and the last m
+pub bytesOf-last : (k m x : ℕ) → part k m (bytesOf (k + m) x) ≡ bytesOf m x
+bytesOf-last k m x =
+    ap (part k m) (bytesOf-append k m x)
+    ∙ ap (take m) (drop-at (bytesOf k (x / 2 ^ (8 * m))) (bytesOf m x) k (length-bytesOf k _))
+    ∙ take-all m (bytesOf m x) (omega (arith, length-bytesOf m x))
 
 -- ---- in memory
 
@@ -118,6 +149,13 @@ load-after-store l at n x room small =
 pub zeroExtended-below : (n x : ℕ) → zeroExtended n x < 2 ^ (8 * n)
 unfolding zeroExtended
 zeroExtended-below n x = mod-lt x (pow-pos (8 * n))
+
+-- a number is more than its lowest bytes exactly where it has more bytes than these
+pub zeroExtended-less : (n x : ℕ) → ltb (zeroExtended n x) x ≡ ltb (2 ^ (8 * n) - 1) x
+unfolding zeroExtended
+zeroExtended-less n x =
+    same-ltb (x % 2 ^ (8 * n)) x (2 ^ (8 * n) - 1) x (λ h. omega (arith, mod-lt x (pow-pos (8 * n)), pow-pos (8 * n)))
+    (λ h. let low : x < 2 ^ (8 * n) = omega (arith, pow-pos (8 * n)) in rw (mod-eq-of-lt low) (omega arith))
 
 pub signExtended-below : (n x : ℕ) → n ≤ 8 → signExtended n x < 2 ^ 64
 unfolding signExtended signBit
@@ -165,6 +203,9 @@ value-fill (suc m) s =
     let w : ℕ = 2 ^ (8 * m) in
     rw (wider m, mul-sub s (256 * w) 1, e, value-fill m s, mul-sub s w 1)
     (omega (arith, mul-le-mul-left s (pow-pos (8 * m)), mul-assoc 255 s w, mul-left-comm s 256 w))
+
+pub value-zeros : (m : ℕ) → valueOf (replicate m 0) ≡ 0
+value-zeros m = value-fill m 0 ∙ zero-mul (2 ^ (8 * m) - 1)
 
 -- they stand above the n lowest bytes of x, eight in all
 doubleword-filled : (n s x : ℕ) → n ≤ 8 → s < 2 → bytesOf 8 (s * (2 ^ (8 * (8 - n)) - 1) * 2 ^ (8 * n) + zeroExtended n x) ≡ replicate (8 - n) (255 * s) ++ bytesOf n x

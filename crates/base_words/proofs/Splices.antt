@@ -1,15 +1,17 @@
 -- The laws of `overlay`, `splice` and `part`: their lengths and shape, what is read at the place of a write, what is read elsewhere, and one write after another.
 -- Assumes nothing.
 use mathlib.Core.Path.{_≡_, refl, sym, ap, _∙_}
-use mathlib.Core.Logic.{_⊎_, inl, inr}
+use mathlib.Core.Logic.{_⊎_, inl, inr, ⊎-elim}
 use mathlib.Core.List.{List, [], _∷_, _++_, append-nil}
-use Prim.Native.Nat.{ℕ, zero, suc, _+_, _-_, _≤_, _<_}
+use Prim.Native.Nat.{ℕ, zero, suc, _+_, _-_, _≤_, _<_, min}
 use native.Mathlib.Nat.{le-of-suc-le-suc, not-suc-le-zero, add-zero, zero-add, suc-add}
+use native.Mathlib.Numerals.{add-one}
 use native.Mathlib.Omega.{arith}
 use lib.ListN.{length, getD, take, drop, set, length-take, length-drop, drop-of-length-le}
-use lib.Seq.{take-all, take-take, length-take-le, take-add, drop-drop, getD-take, getD-drop, ext-getD}
+use lib.Seq.{take-all, take-length, take-take, length-take-le, take-add, take-append-le, drop-append-le, drop-append-add, drop-cons, drop-drop, getD-take, getD-drop, ext-getD}
 use borrow.Rule.Slice.PartMut.{putMid, midOf}
 use Rattle.base_words.specs.Splice.{overlay, splice, part}
+use Rattle.base_words.proofs.Basics.{le-or-lt, take-past}
 
 -- the m bytes from p on and the n bytes from q on have no byte in common: where "nothing else" ("Frames") is, seen from a write
 abbrev pub Apart : ℕ → ℕ → ℕ → ℕ → Type 0
@@ -64,6 +66,10 @@ pub splice-head : (l bs : List ℕ) → splice l 0 bs ≡ overlay l bs
 unfolding splice
 splice-head l bs = refl
 
+-- what is put over a whole list is all that is left
+pub splice-whole : (l bs : List ℕ) → length bs ≡ length l → splice l 0 bs ≡ bs
+splice-whole l bs h = splice-head l bs ∙ overlay-whole l bs (sym h)
+
 -- one byte is a store at an index
 pub splice-one : (l : List ℕ) (n b : ℕ) → splice l n (b ∷ []) ≡ set l n b
 unfolding splice
@@ -96,20 +102,102 @@ part-agree l l′ at n e same =
 pub part-add : (n a b : ℕ) (l : List ℕ) → part n (a + b) l ≡ part n a l ++ part (n + a) b l
 part-add n a b l = take-add a b (drop n l) ∙ rw drop-drop
 
+-- a part of what stands from d on
+pub part-from : (d n m : ℕ) (l : List ℕ) → part (d + n) m l ≡ part n m (drop d l)
+part-from d n m l = ap (take m) (sym (drop-drop n d l))
+
+pub part-whole : (n : ℕ) (l : List ℕ) → length l ≡ n → part 0 n l ≡ l
+part-whole n l h = take-all n l (omega arith)
+
+-- its first element, and those after it
+pub part-next : (a m : ℕ) (l : List ℕ) → a < length l → part a (suc m) l ≡ getD l a 0 ∷ part (a + 1) m l
+part-next a m l h = rw (add-one, drop-cons l a 0)
+
+-- a part that passes the end is short
+pub part-short : (lo n : ℕ) (l : List ℕ) → part lo n l ≡ part lo (min n (length l - lo)) l
+part-short lo n l = ⊎-elim short long (le-or-lt n (length l - lo))
+  where
+    short : n ≤ length l - lo → part lo n l ≡ part lo (min n (length l - lo)) l
+    short h = let e : min n (length l - lo) ≡ n = omega arith in rw e
+
+    long : length l - lo < n → part lo n l ≡ part lo (min n (length l - lo)) l
+    long h =
+        let e : min n (length l - lo) ≡ length l - lo = omega arith in
+        let d = length-drop lo l in
+        rw e (take-all n (drop lo l) (omega arith) ∙ sym (take-all (length l - lo) (drop lo l) (omega arith)))
+
+-- the first bytes of a part, where only the first k of its list are there
+pub part-prefix : (o n k : ℕ) (l : List ℕ) → take (length (part o n (take k l))) (part o n l) ≡ part o n (take k l)
+part-prefix zero n k l = prefix k n l
+  where
+    prefix : (j m : ℕ) (d : List ℕ) → take (length (take m (take j d))) (take m d) ≡ take m (take j d)
+    prefix j zero d = refl
+    prefix zero (suc m) d = refl
+    prefix (suc j) (suc m) [] = refl
+    prefix (suc j) (suc m) (x ∷ d) = ap (λ (t : List ℕ). x ∷ t) (prefix j m d)
+part-prefix (suc o) zero k l = refl
+part-prefix (suc o) (suc n) zero l = refl
+part-prefix (suc o) (suc n) (suc k) [] = refl
+part-prefix (suc o) (suc n) (suc k) (x ∷ l) = part-prefix o (suc n) k l
+
+-- from the smaller of d and the list's length on: what stands from d on, or nothing
+pub part-clipped : (d m : ℕ) (l : List ℕ) → m ≡ min d (length l) → part m (length l - m) l ≡ drop d l
+part-clipped d m l e = take-all (length l - m) (drop m l) (omega (arith, length-drop m l)) ∙ ⊎-elim inside past (le-or-lt d (length l))
+  where
+    inside : d ≤ length l → drop m l ≡ drop d l
+    inside h = let same : m ≡ d = omega arith in rw same
+
+    past : length l < d → drop m l ≡ drop d l
+    past h =
+        let low : length l ≤ m = omega arith in
+        let far : length l ≤ d = omega arith in
+        drop-of-length-le l low ∙ sym (drop-of-length-le l far)
+
+pub length-clipped : (d m : ℕ) (l : List ℕ) → m ≡ min d (length l) → length l - m ≡ length (drop d l)
+length-clipped d m l e = omega (arith, length-drop d l)
+
+-- ---- parts of two lists end to end
+
+pub part-first : (a b : List ℕ) (lo n : ℕ) → lo + n ≤ length a → part lo n (a ++ b) ≡ part lo n a
+part-first a b lo n h =
+    ap (take n) (drop-append-le lo a b (omega arith)) ∙ take-append-le n (drop lo a) b (omega (arith, length-drop lo a))
+
+pub part-second : (a b : List ℕ) (lo n : ℕ) → length a ≤ lo → part lo n (a ++ b) ≡ part (lo - length a) n b
+part-second a b lo n h =
+    let e : lo ≡ length a + (lo - length a) = omega arith in
+    ap (λ (m : ℕ). part m n (a ++ b)) e ∙ ap (take n) (drop-append-add a b (lo - length a))
+
+pub part-both : (a b : List ℕ) (lo n : ℕ) → lo ≤ length a → length a ≤ lo + n → part lo n (a ++ b) ≡ drop lo a ++ take (n - (length a - lo)) b
+part-both a b lo n h k =
+    ap (take n) (drop-append-le lo a b h)
+    ∙ take-past n (drop lo a) b (omega (arith, length-drop lo a))
+    ∙ rw (length-drop lo a)
+
 -- ---- the same place
 
-overlay-same : (l bs : List ℕ) → length bs ≤ length l → take (length bs) (overlay l bs) ≡ bs
-unfolding overlay
-overlay-same l [] h = refl
-overlay-same [] (b ∷ bs) h = absurd (not-suc-le-zero h)
-overlay-same (x ∷ l) (b ∷ bs) h = ap (λ (t : List ℕ). b ∷ t) (overlay-same l bs (le-of-suc-le-suc h))
+-- the first bytes of what was put at the head of a list
+pub take-overlay : (l bs : List ℕ) (m : ℕ) → m ≤ length bs → length bs ≤ length l → take m (overlay l bs) ≡ take m bs
+take-overlay l bs m h k = ap (take m) (overlay-is l bs k) ∙ take-append-le m bs (drop (length bs) l) h
 
 -- the bytes that were put are read back
 pub splice-same : (l : List ℕ) (n : ℕ) (bs : List ℕ) → n + length bs ≤ length l → part n (length bs) (splice l n bs) ≡ bs
 unfolding splice
-splice-same l zero bs h = overlay-same l bs (omega arith)
+splice-same l zero bs h = take-overlay l bs (length bs) (omega arith) (omega arith) ∙ take-length bs
 splice-same [] (suc n) bs h = absurd (omega arith)
 splice-same (x ∷ l) (suc n) bs h = splice-same l n bs (omega arith)
+
+overlay-there : (l : List ℕ) (m : ℕ) → overlay l (take m l) ≡ l
+unfolding overlay
+overlay-there l zero = refl
+overlay-there [] (suc m) = refl
+overlay-there (x ∷ l) (suc m) = ap (λ (t : List ℕ). x ∷ t) (overlay-there l m)
+
+-- what is there already is put for nothing
+pub splice-part : (l : List ℕ) (n m : ℕ) → splice l n (part n m l) ≡ l
+unfolding splice
+splice-part l zero m = overlay-there l m
+splice-part [] (suc n) m = refl
+splice-part (x ∷ l) (suc n) m = ap (λ (t : List ℕ). x ∷ t) (splice-part l n m)
 
 -- one of them, by its index
 pub splice-at-same : (l : List ℕ) (n : ℕ) (bs : List ℕ) (i d : ℕ) → n + length bs ≤ length l → i < length bs → getD (splice l n bs) (n + i) d ≡ getD bs i d
@@ -158,6 +246,21 @@ splice-at-other l n bs i d h = sym (alone (splice l n bs)) ∙ ap (λ (t : List 
     alone t = part-at i 1 t 0 d (omega arith) ∙ rw (add-zero i)
 
 -- ---- one write after another
+
+overlay-set : (l bs : List ℕ) (j v : ℕ) → j < length bs → overlay l (set bs j v) ≡ set (overlay l bs) j v
+unfolding overlay
+overlay-set l [] j v h = absurd (omega arith)
+overlay-set [] (b ∷ bs) zero v h = refl
+overlay-set [] (b ∷ bs) (suc j) v h = refl
+overlay-set (x ∷ l) (b ∷ bs) zero v h = refl
+overlay-set (x ∷ l) (b ∷ bs) (suc j) v h = ap (λ (t : List ℕ). b ∷ t) (overlay-set l bs j v (omega arith))
+
+-- one of the bytes stored before or after they are put
+pub splice-with : (l : List ℕ) (n : ℕ) (bs : List ℕ) (j v : ℕ) → j < length bs → splice l n (set bs j v) ≡ set (splice l n bs) (n + j) v
+unfolding splice
+splice-with l zero bs j v h = rw (zero-add j) (overlay-set l bs j v h)
+splice-with [] (suc n) bs j v h = refl
+splice-with (x ∷ l) (suc n) bs j v h = rw (suc-add n j) (ap (λ (t : List ℕ). x ∷ t) (splice-with l n bs j v h))
 
 pub splice-nothing : (l : List ℕ) (n : ℕ) → splice l n [] ≡ l
 unfolding splice

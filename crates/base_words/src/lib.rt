@@ -4,7 +4,7 @@
 ghost use mathlib.Core.Path.{_≡_};
 ghost use Prim.Native.Nat.{_+_, _^_, _≤_, _<_, min, max};
 ghost use lib.ListN.{length, replicate};
-ghost use Rattle.base_words.specs.Basics.{roundUp};
+ghost use Rattle.base_words.specs.Basics.{flag, roundUp};
 ghost use Rattle.base_words.specs.Splice.{overlay, splice, part};
 ghost use Rattle.base_words.specs.Numbers.{bytesOf, valueOf, zeroExtended, signExtended};
 
@@ -88,6 +88,13 @@ pub fn sign_extend(x: u64, n: usize) -> u64
         return low;
     }
     low + (u64::MAX - (sign - 1) - sign)
+}
+
+// A test as a number.
+pub fn flag(b: bool) -> u64
+    ensures { λ n. ⌜ n ≡ flag b ⌝ }
+{
+    if b { 1 } else { 0 }
 }
 
 pub fn smaller(a: usize, b: usize) -> usize

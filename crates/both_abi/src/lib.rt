@@ -4,11 +4,11 @@ ghost use mathlib.Core.Path.{_≡_};
 ghost use lib.ListN.{length};
 ghost use Rattle.base_conventions.specs.Numbers.{leastArea};
 ghost use Rattle.plan_places.specs.declared.Edition.{Edition};
-ghost use Rattle.plan_places.specs.Step.{power, rulesOf, fresh};
+ghost use Rattle.plan_places.specs.Step.{power, rulesOf, freshCursor};
 ghost use Rattle.frame_rules.specs.Rules.{powerGpr, powerFpr, rules};
 ghost use Rattle.frame_machine.specs.Machine.{startOutcome, startMemory};
 use base_conventions::Convention;
-use frame_machine::Outcome;
+use frame_machine::FrameOutcome;
 use frame_rules::BankRules;
 use frame_rules::FrameRules;
 use frame_rules::Linkage;
@@ -56,7 +56,7 @@ impl Ppc64 {
 
     // Where the first argument starts.
     pub fn cursor() -> Cursor
-        ensures { λ r. ⌜ r ≡ fresh (rulesOf Convention.Ppc64) ⌝ }
+        ensures { λ r. ⌜ r ≡ freshCursor (rulesOf Convention.Ppc64) ⌝ }
     {
         Cursor {
             general: Self::FIRST_GENERAL,
@@ -86,7 +86,7 @@ impl Ppc64 {
     }
 
     // The fresh machine.
-    pub fn start(memory: &mut [u8], base: u64, registers: Registers) -> Outcome
+    pub fn start(memory: &mut [u8], base: u64, registers: Registers) -> FrameOutcome
         ensures { λ r. ⌜ r ≡ startOutcome Convention.Ppc64 base (length (now (memory .entry))) registers ⌝ }
         ensures { λ _. ⌜ now (memory .exit) ≡ startMemory Convention.Ppc64 base (now (memory .entry)) ⌝ }
     {
@@ -135,7 +135,7 @@ impl Z {
     }
 
     pub fn cursor() -> Cursor
-        ensures { λ r. ⌜ r ≡ fresh (rulesOf Convention.Z) ⌝ }
+        ensures { λ r. ⌜ r ≡ freshCursor (rulesOf Convention.Z) ⌝ }
     {
         Cursor {
             general: Self::FIRST_GENERAL,
@@ -193,7 +193,7 @@ impl Z {
         }
     }
 
-    pub fn start(memory: &mut [u8], base: u64, registers: Registers) -> Outcome
+    pub fn start(memory: &mut [u8], base: u64, registers: Registers) -> FrameOutcome
         ensures { λ r. ⌜ r ≡ startOutcome Convention.Z base (length (now (memory .entry))) registers ⌝ }
         ensures { λ _. ⌜ now (memory .exit) ≡ startMemory Convention.Z base (now (memory .entry)) ⌝ }
     {
@@ -238,7 +238,7 @@ impl Aix {
     }
 
     pub fn cursor() -> Cursor
-        ensures { λ r. ⌜ r ≡ fresh (rulesOf Convention.Aix) ⌝ }
+        ensures { λ r. ⌜ r ≡ freshCursor (rulesOf Convention.Aix) ⌝ }
     {
         Cursor {
             general: Self::FIRST_GENERAL,
@@ -267,7 +267,7 @@ impl Aix {
         }
     }
 
-    pub fn start(memory: &mut [u8], base: u64, registers: Registers) -> Outcome
+    pub fn start(memory: &mut [u8], base: u64, registers: Registers) -> FrameOutcome
         ensures { λ r. ⌜ r ≡ startOutcome Convention.Aix base (length (now (memory .entry))) registers ⌝ }
         ensures { λ _. ⌜ now (memory .exit) ≡ startMemory Convention.Aix base (now (memory .entry)) ⌝ }
     {
@@ -302,7 +302,7 @@ impl Ppc64b {
     }
 
     pub fn cursor() -> Cursor
-        ensures { λ r. ⌜ r ≡ fresh (rulesOf Convention.Ppc64b) ⌝ }
+        ensures { λ r. ⌜ r ≡ freshCursor (rulesOf Convention.Ppc64b) ⌝ }
     {
         Cursor {
             general: Self::FIRST_GENERAL,
@@ -319,7 +319,7 @@ impl Ppc64b {
         Ppc64::frame_rules()
     }
 
-    pub fn start(memory: &mut [u8], base: u64, registers: Registers) -> Outcome
+    pub fn start(memory: &mut [u8], base: u64, registers: Registers) -> FrameOutcome
         ensures { λ r. ⌜ r ≡ startOutcome Convention.Ppc64b base (length (now (memory .entry))) registers ⌝ }
         ensures { λ _. ⌜ now (memory .exit) ≡ startMemory Convention.Ppc64b base (now (memory .entry)) ⌝ }
     {
@@ -417,7 +417,7 @@ pub fn call_rules_of(c: Convention) -> plan_places::CallRules
 
 // Where its first argument starts.
 pub fn cursor_of(c: Convention) -> Cursor
-    ensures { λ r. ⌜ r ≡ fresh (rulesOf c) ⌝ }
+    ensures { λ r. ⌜ r ≡ freshCursor (rulesOf c) ⌝ }
 {
     match c {
         Convention::Ppc64 => Ppc64::cursor(),

@@ -27,7 +27,7 @@ use Rattle.plan_places.specs.declared.ZClass.{ZClass}
 use Rattle.plan_places.specs.Values.{pointer}
 use Rattle.plan_places.specs.Power.{words}
 use Rattle.plan_places.specs.ZSeries.{zClass, zNextOf}
-use Rattle.plan_places.specs.Step.{rulesOf, nextOf, fresh, startOf, areaOf}
+use Rattle.plan_places.specs.Step.{rulesOf, nextOf, freshCursor, startOf, areaOf}
 use Rattle.plan_plans.specs.Plan.{lastOf, hiddenIn, startIn, lastCursorIn, planIn, planAnswer}
 use Rattle.sig_signatures.specs.Types.{typesOf}
 use Rattle.plan_plans.specs.Call.{called}
@@ -113,7 +113,7 @@ moves Convention.Ppc64b c t n h = record { stack = omega arith; whole = λ e. om
 
 -- a hidden address moves it by a doubleword at most
 start-moves : (v : Convention) (hidden : Bool) → (startOf (rulesOf v) hidden .stack ≤ 8) × (startOf (rulesOf v) hidden .stack % wordBytes v ≡ 0)
-unfolding startOf nextOf fresh words zClass zNextOf
+unfolding startOf nextOf freshCursor words zClass zNextOf
 start-moves Convention.Ppc64 true = (omega arith, refl)
 start-moves Convention.Ppc64 false = (omega arith, refl)
 start-moves Convention.Z true = (omega arith, refl)

@@ -23,7 +23,7 @@ use Rattle.frame_rules.specs.Frames.{firstGpr, firstFpr, savesCr, maxOutgoing, 
 
 -- The frames of a convention have the words, the header, the alignment and the least area that its calls have: "Outgoing areas start at 48, at least 64 long, on PPC64, at 160 on
 -- Z", on AIX "starting at 24, at least 32 long". No argument register is the stack pointer, and a frame may write each of them without having saved it, but for r6 on Z.
-pub record Agree (c : Convention) : Type 0 where
+pub record FramesAgree (c : Convention) : Type 0 where
   pub word : rules c .word ≡ wordOf (rulesOf c)
   pub header : rules c .header ≡ headerBytes c
   pub alignment : rules c .alignment ≡ stackAlignment c
@@ -33,7 +33,7 @@ pub record Agree (c : Convention) : Type 0 where
   pub floating-free : (n : ℕ) → ArgumentRegister (rulesOf c) (floating n) → within (rules c .fpr .volatile) n ≡ true
 
 abbrev pub FamiliesAgree : Type 0
-FamiliesAgree = (c : Convention) → Agree c
+FamiliesAgree = (c : Convention) → FramesAgree c
 
 -- ---- the area
 

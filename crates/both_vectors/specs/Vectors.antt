@@ -5,15 +5,16 @@ use Prim.Native.Nat.{ℕ}
 use mathlib.Core.Path.{_≡_}
 use mathlib.Core.Bool.{false}
 use mathlib.Core.List.{List, [], _∷_, _++_}
+use Rattle.base_words.specs.Basics.{All}
 use Rattle.base_ieee.specs.Widening.{widen}
 use Rattle.base_conventions.specs.declared.Convention.{Convention}
 use Rattle.sig_types.specs.declared.Equivalent.{Equivalent}
 use Rattle.plan_places.specs.Step.{rulesOf}
-use Rattle.call_slots.specs.Refusals.{answerNumber, floatAnswer}
+use Rattle.call_slots.specs.Refusals.{callAnswerNumber, floatAnswer}
 use Rattle.plan_listing.specs.Text.{listingOf}
 use Rattle.frame_rules.specs.declared.FrameRules.{FrameRules}
 use Rattle.frame_rules.specs.declared.Frame.{Frame}
-use Rattle.frame_rules.specs.Rules.{ppc64, z}
+use Rattle.frame_rules.specs.Rules.{ppc64Frames, zFrames}
 use Rattle.frame_rules.specs.Frames.{frameSize}
 
 pub data Vector : Type 0 where
@@ -29,15 +30,14 @@ pub data Vector : Type 0 where
 abbrev request : ℕ → ℕ → ℕ → ℕ → Frame
 request g m l p = record { «first_gpr» = g; «first_fpr» = m; «saves_cr» = false; locals = l; outgoing = p; leaf = false }
 
-abbrev pub Holds : Vector → Type 0
-Holds (printed s t) = listingOf s ≡ t
-Holds (widened x d) = widen x ≡ d
-Holds (refused d n) = answerNumber (floatAnswer (rulesOf Convention.Ppc64) Equivalent.Single d) ≡ n
-Holds (sized k g m l p n) = frameSize k (request g m l p) ≡ n
+abbrev pub VectorHolds : Vector → Type 0
+VectorHolds (printed s t) = listingOf s ≡ t
+VectorHolds (widened x d) = widen x ≡ d
+VectorHolds (refused d n) = callAnswerNumber (floatAnswer (rulesOf Convention.Ppc64) Equivalent.Single d) ≡ n
+VectorHolds (sized k g m l p n) = frameSize k (request g m l p) ≡ n
 
 abbrev pub AllHold : List Vector → Type 0
-AllHold [] = Unit {0}
-AllHold (v ∷ vs) = Holds v × AllHold vs
+AllHold vs = All VectorHolds vs
 
 -- 02, No. 5: "an optional tag 0x04, empty body, between result and arguments, meaning an ellipsis"
 unfoldable pub ellipsis-item : List ℕ
@@ -409,7 +409,7 @@ vectors =
     ∷ refused 0x3ff0_0000_1000_0000 14
     ∷ refused 0x3690_0000_0000_0000 14
     -- "g 29, m 30, L 20, P 64: 176. g 14, m 14, L 0, P 0: 400. Z, g 6, m 8, L 1, P 8: 240"
-    ∷ sized ppc64 29 30 20 64 176
-    ∷ sized ppc64 14 14 0 0 400
-    ∷ sized z 6 8 1 8 240
+    ∷ sized ppc64Frames 29 30 20 64 176
+    ∷ sized ppc64Frames 14 14 0 0 400
+    ∷ sized zFrames 6 8 1 8 240
     ∷ []

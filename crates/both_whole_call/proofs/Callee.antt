@@ -12,6 +12,7 @@ use Rattle.base_words.specs.Splice.{splice, part}
 use Rattle.base_words.specs.Numbers.{valueOf}
 use Rattle.base_words.proofs.Splices.{splice-same}
 use Rattle.base_words.proofs.Numbers.{value-back}
+use Rattle.base_words.proofs.Each.{each-left, each-right, each-more, each-with, each-three}
 use Rattle.base_conventions.specs.declared.Convention.{Convention}
 use Rattle.sig_signatures.specs.declared.SignatureRead.{SignatureRead}
 use Rattle.sig_signatures.specs.Read.{signatureOf}
@@ -24,11 +25,10 @@ use Rattle.sig_signatures.specs.Types.{typesIn}
 use Rattle.call_slots.specs.Buffers.{Buffers, buffers, bytesAt}
 use Rattle.call_slots.specs.Helpers.{Fits}
 use Rattle.call_slots.specs.Arguments.{placementsIn, argumentsOf, planFor, rulesFor}
-use Rattle.call_slots.proofs.Planned.{all-with}
 use Rattle.call_slots.proofs.Answered.{carried}
 use Rattle.call_home_slot.specs.Homes.{homeless}
 use Rattle.call_home.specs.Home.{homeArea}
-use Rattle.call_roundtrip.specs.RoundTrip.{Filled, left}
+use Rattle.call_roundtrip.specs.RoundTrip.{Filled, leftByFill}
 use Rattle.call_roundtrip.specs.Views.{homedArea, Viewed}
 use Rattle.call_roundtrip.proofs.Arguments.{AllPut}
 use Rattle.call_roundtrip.proofs.Theorems.{Left, filled-left, filled-answer, read-left}
@@ -40,18 +40,17 @@ use Rattle.frame_rules.specs.declared.Registers.{Registers}
 use Rattle.frame_rules.specs.Rules.{rules}
 use Rattle.frame_rules.specs.Frames.{outgoingLength}
 use Rattle.frame_rules.proofs.Conventions.{lawful}
-use Rattle.frame_machine.specs.declared.Answer.{Answer}
-use Rattle.frame_machine.specs.declared.Answer.the-variants.{Accepted}
+use Rattle.frame_machine.specs.declared.FrameAnswer.{FrameAnswer}
+use Rattle.frame_machine.specs.declared.FrameAnswer.the-variants.{Accepted}
 use Rattle.frame_machine.specs.declared.State.{State}
 use Rattle.frame_machine.specs.Machine.{offset}
 use Rattle.frame_history.specs.Calls.{Call, enter, leave, Machine, answer, after}
 use Rattle.frame_history.specs.Preserved.{OpenEnter, openAfter, callerOf, Preserved, CallsFit}
 use Rattle.frame_history.proofs.Invariant.{Invariant, base-of}
 use Rattle.both_meeting.proofs.Theorem.{agree}
-use Rattle.both_whole_call.specs.Put.{bytesIn, ownArea, callersArea, imageOf, joined, Cut, Register, heldIn, registersOf, hiddenSpans, resultSpans, named}
-use Rattle.both_whole_call.specs.Caller.{firstSaved, Free}
-use Rattle.both_whole_call.specs.WholeCall.{framesFor, seen, Passed}
-use Rattle.both_whole_call.proofs.Lists.{each-left, each-right, each-more, each-with, each-three}
+use Rattle.both_whole_call.specs.Put.{bytesIn, ownArea, callersArea, imageOf, piecesJoined, Cut, Register, heldIn, spanRegisters, hiddenSpans, resultSpans, named}
+use Rattle.both_whole_call.specs.Caller.{firstSaved, Free, CallerSuits}
+use Rattle.both_whole_call.specs.WholeCall.{framesFor, seen, PassedToCallee}
 use Rattle.both_whole_call.proofs.Steps.{run, AllAccepted, openedBy, call-keeps, calls-keep, leave-holds}
 use Rattle.both_whole_call.proofs.Registers.{Holds, free-below}
 use Rattle.both_whole_call.proofs.Memory.{callers-area, putPieces, AfterPieces, after-pieces, area-inside}
@@ -66,9 +65,7 @@ use Rattle.both_whole_call.proofs.Returning.{Volatile, result-volatile,
 -- what `CanCall` asks, with demand 3's invariant for how the machine was reached
 pub record Able (p : Plan) (os : List OpenEnter) (m : Machine) : Type 0 where
   pub invariant : Invariant (rules (p .convention)) os m
-  pub solid : callerOf (rules (p .convention)) os .leaf ≡ false
-  pub room : p .area ≤ outgoingLength (rules (p .convention)) (callerOf (rules (p .convention)) os)
-  pub free : All (Free (rules (p .convention)) (callerOf (rules (p .convention)) os)) (named p)
+  pub suits : CallerSuits p os
 
 pub record Homed (s values copies : List ℕ) (f : Frame) (m : Machine) : Type 0 where
   pub viewed : Viewed s values (seen s f copies m)
@@ -80,7 +77,7 @@ pub record Homed (s values copies : List ℕ) (f : Frame) (m : Machine) : Type 0
 pub record Returned (p : Plan) (o : OpenEnter) (os : List OpenEnter) (m : Machine) : Type 0 where
   pub accepted : answer leave m ≡ Accepted
   pub kept : Preserved (rules (p .convention)) o os (after leave m)
-  pub result : All (λ (x : Register). heldIn (after leave m .state .registers) x ≡ heldIn (m .state .registers) x) (registersOf (resultSpans (p .result)))
+  pub result : All (λ (x : Register). heldIn (after leave m .state .registers) x ≡ heldIn (m .state .registers) x) (spanRegisters (resultSpans (p .result)))
 
 abbrev pub calling : List Call → Machine → Frame → OpenEnter
 calling puts m f = record { before = run puts m; request = f }
@@ -93,7 +90,7 @@ pub record Claims (s values : List ℕ) (copies : Machine → List ℕ) (base hi
   pub opened : openedBy puts m os ≡ os
   pub fit : CallsFit puts
   pub passed : (f : Frame) → answer (enter f) (run puts m) ≡ Accepted
-      → Passed s values (copies (inCallee puts m f)) base hidden f (inCallee puts m f)
+      → PassedToCallee s values (copies (inCallee puts m f)) base hidden f (inCallee puts m f)
   pub homed : homeless (rulesFor s) ≡ false → (f : Frame) → answer (enter f) (run puts m) ≡ Accepted
       → Homed s values (copies (inCallee puts m f)) f (inCallee puts m f)
   pub returned : (f : Frame) → answer (enter f) (run puts m) ≡ Accepted → (body : List Call) → CallsFit body
@@ -117,7 +114,7 @@ module _ (s values image area copies : List ℕ) (base hidden : ℕ) (filled : F
   p = planFor s
 
   abbrev b : Buffers
-  b = left s values image area copies base hidden
+  b = leftByFill s values image area copies base hidden
 
   abbrev c : Convention
   c = p .convention
@@ -143,7 +140,7 @@ module _ (s values image area copies : List ℕ) (base hidden : ℕ) (filled : F
     r = m′ .state .registers
 
     callee : Invariant k (calling puts m f ∷ os) m′
-    callee = subst (λ (x : Answer). Invariant k (openAfter (enter f) x m₁ os) m′) e (call-keeps c (enter f) tt os m₁ (ready .invariant))
+    callee = subst (λ (x : FrameAnswer). Invariant k (openAfter (enter f) x m₁ os) m′) e (call-keeps c (enter f) tt os m₁ (ready .invariant))
 
     -- what the callee takes for its caller's outgoing area is that
     area-at : callersArea k f m′ ≡ ownArea k m₁
@@ -169,7 +166,7 @@ module _ (s values image area copies : List ℕ) (base hidden : ℕ) (filled : F
         each-three (Holds (b .image) r) (Free k (callerOf k os)) (OfBytes (wordOf (rulesFor s)) (b .image)) (Same (imageOf r) (b .image))
         (λ x h free bytes. image-same r (callee .0 .fit .gprs) (callee .0 .fit .fprs) (b .image) (stands .image) x
         (free-below k (lawful c) (firstSaved (x .bank) (callerOf k os)) (x .number) (x .bank) free) (bytes .0) h)
-        (named p) all-hold (able .free) all-bytes
+        (named p) all-hold (able .suits .free) all-bytes
 
     -- ---- the arguments
 
@@ -182,7 +179,7 @@ module _ (s values image area copies : List ℕ) (base hidden : ℕ) (filled : F
     fits : All (Fits (p .area) n) (argumentsOf s)
     unfolding argumentsOf
     fits =
-        all-with (Fits (p .area) (p .copies)) (Fits (p .area) (p .copies)) (Fits (p .area) n)
+        each-with (Fits (p .area) (p .copies)) (Fits (p .area) (p .copies)) (Fits (p .area) n)
         (λ q x y. record { general = x .general; floating = x .floating; memory = x .memory; copies = omega (arith, x .copies, ready .least) }) (argumentsOf s) (carried s .fit) (carried s .fit)
 
     found-put : AllPut (rulesFor s) base (argumentsOf s) values (buffers (imageOf r) (take (p .area) (b .area)) (take n (b .copies)))
@@ -220,7 +217,7 @@ module _ (s values image area copies : List ℕ) (base hidden : ℕ) (filled : F
         ∙ ap valueOf (hidden-stands s values image area copies base hidden x filled q)
         ∙ value-back 8 hidden (hidden-64 s values image area copies base hidden x filled q)
 
-    passes : Passed s values (cs m′) base hidden f m′
+    passes : PassedToCallee s values (cs m′) base hidden f m′
     passes = record {
       read = λ into size. read-left s values into base found (filled-answer s values image area copies base hidden filled) found-left size;
       address = found-address;
@@ -237,7 +234,7 @@ module _ (s values image area copies : List ℕ) (base hidden : ℕ) (filled : F
       abbrev a : ℕ
       a = callersArea k f m′
 
-      length-home : length (joined pieces) ≡ p .area
+      length-home : length (piecesJoined pieces) ≡ p .area
       unfolding homeArea
       length-home =
           ap length (cut .whole) ∙ length-homed (rulesFor s) (argumentsOf s) (found .image) (found .area) ∙ ap length found-area ∙ length-take-le (p .area) (b .area) (stands .area)
@@ -245,17 +242,17 @@ module _ (s values image area copies : List ℕ) (base hidden : ℕ) (filled : F
       homes : AfterPieces c (calling puts m f ∷ os) a pieces m′ (run (putPieces a pieces) m′)
       homes =
           after-pieces c (calling puts m f ∷ os) _ _ a pieces m′ callee (callers-area k (calling puts m f) os m′ callee) (omega (arith, callee .0 .sound .over)) (cut .short) (omega arith)
-          (omega (arith, length-home, able .room))
+          (omega (arith, length-home, able .suits .room))
 
       home-area : bytesIn (callersArea k f (run (putPieces a pieces) m′)) (p .area) (run (putPieces a pieces) m′) ≡ homedArea s found
       home-area =
-          let inside = area-inside k (lawful c) os m₁ (ready .invariant) (able .solid) in
+          let inside = area-inside k (lawful c) os m₁ (ready .invariant) (able .suits .solid) in
           let at : ℕ = a - m′ .state .base in
           ap (λ (y : State). part (callersArea k f (record { state = y; memory = m′ .memory }) - y .base) (p .area) (run (putPieces a pieces) m′ .memory)) (homes .state)
           ∙ ap (part at (p .area)) (homes .memory)
-          ∙ ap (λ (i : ℕ). part at i (splice (m′ .memory) at (joined pieces))) (sym length-home)
-          ∙ splice-same (m′ .memory) at (joined pieces)
-          (omega (arith, area-from, area-offset, length-home, able .room, inside, callee .0 .sound .length, callee .1 .size, base-of k os m₁ (ready .invariant) .sound .length))
+          ∙ ap (λ (i : ℕ). part at i (splice (m′ .memory) at (piecesJoined pieces))) (sym length-home)
+          ∙ splice-same (m′ .memory) at (piecesJoined pieces)
+          (omega (arith, area-from, area-offset, length-home, able .suits .room, inside, callee .0 .sound .length, callee .1 .size, base-of k os m₁ (ready .invariant) .sound .length))
           ∙ cut .whole
 
     homing : homeless (rulesFor s) ≡ false → Homed s values (cs m′) f m′
@@ -275,7 +272,7 @@ module _ (s values image area copies : List ℕ) (base hidden : ℕ) (filled : F
         record {
           accepted = h .0;
           kept = h .1;
-          result = each-more (Volatile k) _ (leave-result k (calling puts m f) os (run body m′) i (h .0)) (registersOf (resultSpans (p .result))) (result-volatile s);
+          result = each-more (Volatile k) _ (leave-result k (calling puts m f) os (run body m′) i (h .0)) (spanRegisters (resultSpans (p .result))) (result-volatile s);
         }
 
   pub claims : (os : List OpenEnter) (m : Machine) → Able p os m → (cs : Machine → List ℕ) (n : ℕ) (puts : List Call) → Ready s b cs n os m puts

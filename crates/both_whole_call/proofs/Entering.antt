@@ -19,7 +19,7 @@ use Rattle.frame_rules.specs.Frames.{withPointer, below, frameSize, chainWidth,
 use Rattle.frame_rules.specs.Helpers.{LawfulFrames}
 use Rattle.frame_rules.proofs.Conventions.{lawful}
 use Rattle.frame_rules.proofs.Places.{chain-in, below-reach, ascending}
-use Rattle.frame_machine.specs.declared.Answer.the-variants.{Accepted}
+use Rattle.frame_machine.specs.declared.FrameAnswer.the-variants.{Accepted}
 use Rattle.frame_machine.specs.declared.State.{State}
 use Rattle.frame_machine.specs.Machine.{stateRules, stackPointer, offset, enterAnswer, entered, enteredMemory, enterOutcome}
 use Rattle.frame_machine.specs.Helpers.{CanEnter}

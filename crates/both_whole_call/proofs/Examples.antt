@@ -14,6 +14,7 @@ use Rattle.base_words.specs.Splice.{overlay, splice}
 use Rattle.base_words.specs.Numbers.{Bytes, bytesOf, valueOf, zeroExtended, signBit, signExtended}
 use Rattle.base_words.proofs.Tests.{and-yes}
 use Rattle.base_words.proofs.Fitting.{fit-replicate}
+use Rattle.base_words.proofs.Each.{each-at}
 use Rattle.base_conventions.specs.declared.Convention.{Convention}
 use Rattle.base_conventions.specs.Numbers.{conventionCode}
 use Rattle.sig_types.specs.Structs.{withField, shapeOf}
@@ -24,7 +25,7 @@ use Rattle.sig_signatures.specs.Answer.{listed, table}
 use Rattle.plan_places.specs.declared.Bank.{Bank}
 use Rattle.plan_places.specs.Power.{words, fprs, shareOf, powerShare, unclear}
 use Rattle.plan_places.specs.ZSeries.{zClass, zSpanOf, zNextOf}
-use Rattle.plan_places.specs.Step.{withEllipsis, spanOf, nextOf, unclearFor, fresh, startOf, areaOf, hiddenFor, returning, resultOf}
+use Rattle.plan_places.specs.Step.{withEllipsis, spanOf, nextOf, unclearFor, freshCursor, startOf, areaOf, hiddenFor, returning, resultOf}
 use Rattle.plan_places.specs.Places.{upFrom}
 use Rattle.plan_plans.specs.Plan.{spansOf, lastOf, tableOf, planIn, planAnswer}
 use Rattle.sig_signatures.specs.Types.{valuesOf, typesOf}
@@ -35,15 +36,15 @@ use Rattle.call_slots.specs.Forms.{structAtHead, startsAtHead, extended, homeBy
 use Rattle.call_slots.specs.Placements.{placements, standing, slotsOf, slotsOfAll}
 use Rattle.call_slots.specs.Refusals.{firstOf}
 use Rattle.call_slots.specs.Arguments.{placementsIn, argumentsOf, planFor}
-use Rattle.call_slots.specs.declared.Answer.{Answer}
+use Rattle.call_slots.specs.declared.CallAnswer.{CallAnswer}
 use Rattle.call_slots.proofs.Buffers.{putAll-lengths}
 use Rattle.call_fill.specs.Fill.{fillLengths, badCopies, fillTests, fillAnswer, fillBuffers, filledSlots}
-use Rattle.call_roundtrip.specs.RoundTrip.{Filled, left, ReadBack}
+use Rattle.call_roundtrip.specs.RoundTrip.{Filled, leftByFill, ReadBack}
 use Rattle.frame_saves.specs.Saves.{store, load, saveRun}
 use Rattle.frame_rules.specs.declared.Frame.{Frame}
 use Rattle.frame_rules.specs.Rules.{rules}
 use Rattle.frame_rules.specs.Frames.{outgoingLength, withPointer, allWithin, lowered, okRegisters, cleared, okLeaf, okRequest, below, fullSize, frameSize, chainWidth, gprAt, savesBy, bankOf, writableRegister, withRegister}
-use Rattle.frame_machine.specs.declared.Answer.the-variants.{Accepted}
+use Rattle.frame_machine.specs.declared.FrameAnswer.the-variants.{Accepted}
 use Rattle.frame_machine.specs.Answers.{judge}
 use Rattle.frame_machine.specs.Machine.{topFrame, callerFrame, okFrames, sizes, okMemory, okState, startAnswer, started, startedMemory, enterAnswer, entered, enteredMemory, writableBytes, writableAddress, writeRegisterAnswer, writeMemoryAnswer, writtenRegister, writtenMemory, startOutcome, startMemory, enterOutcome, enterMemory, writeRegisterOutcome, writeMemoryOutcome, writeMemoryMemory}
 use Rattle.frame_word_layout.specs.Words.{registersIn, registersWords, isMachine, depthIn, frameIn, framesIn, stateIn, registerWords, frameWords, framesWords, stateWords}
@@ -52,11 +53,10 @@ use Rattle.frame_history.specs.Preserved.{OpenEnter, callerOf}
 use Rattle.frame_word_history.specs.Calls as calls
 use Rattle.frame_word_history.specs.Calls.{Call, enter, writeRegister, writeMemory, Lent, answer, run}
 use Rattle.frame_word_history.specs.Demand3.{machineIn, WordsFit, openedBy}
-use Rattle.both_whole_call.specs.Put.{bytesIn, ownArea, register, rangeRegisters, registersOf, named, putPieces, putCalls, joined, Short, Cut}
+use Rattle.both_whole_call.specs.Put.{bytesIn, ownArea, register, rangeRegisters, spanRegisters, named, putPieces, putCalls, piecesJoined, WritablePiece, Cut}
 use Rattle.both_whole_call.specs.Reached.{Reached}
 use Rattle.both_whole_call.specs.Caller.{Free, CanCall, InLocals, SavedSix}
 use Rattle.both_whole_call.specs.WholeCall.{seen, inCallee, Claims, putFilled}
-use Rattle.both_whole_call.proofs.Lists.{each-at}
 use Rattle.both_whole_call.proofs.Named.{named-free}
 use Rattle.both_whole_call.proofs.Theorem.{whole-call}
 
@@ -81,7 +81,7 @@ sevens = record { count = refl; fit = fit-replicate 66 7 (2 ^ 64) (omega arith) 
 
 -- one piece
 one-piece : (bs : List ℕ) → (1 ≤ length bs) → (length bs ≤ 256) → Cut (bs ∷ []) bs
-unfolding joined Short
+unfolding piecesJoined All
 one-piece bs some small = record { whole = append-nil bs; short = ((some, small), tt) }
 
 -- An example: a call's values and buffers, the machine that it is made from, and the calls that put it, which are computed. The area is put in one piece.
@@ -100,13 +100,13 @@ record Example : Type 0 where
 
 -- what it leaves
 abbrev leftBy : Example → Buffers
-leftBy x = left (x .signature) (x .values) (replicate 512 7) (x .area) (x .copies) (x .base) (x .hidden)
+leftBy x = leftByFill (x .signature) (x .values) (replicate 512 7) (x .area) (x .copies) (x .base) (x .hidden)
 
 -- what is computed of it
 record Computed (x : Example) : Type 0 where
   bytes : allBytes (x .values) ≡ true
   low : x .base < 2 ^ 64
-  accepted : fillAnswer (x .signature) (fillLengths (x .values) (replicate 512 7) (x .area) (x .copies)) (x .base) (x .hidden) ≡ Answer.Done
+  accepted : fillAnswer (x .signature) (fillLengths (x .values) (replicate 512 7) (x .area) (x .copies)) (x .base) (x .hidden) ≡ CallAnswer.Done
   by : planFor (x .signature) .convention ≡ x .convention
   room : planFor (x .signature) .area ≡ x .size
   some : (1 ≤ length (take (x .size) (leftBy x .area))) × (length (take (x .size) (leftBy x .area)) ≤ 256)
@@ -131,7 +131,7 @@ worked x h can =
 
 -- from the start, and from a function that the start called
 from-start : (c : Convention) → startOutcome c 4096 640 (registersIn (replicate registersWords 7) 0) .answer ≡ Accepted → Reached c [] (start c)
-unfolding run openedBy
+unfolding run openedBy All
 from-start c e = record {
   base = 4096;
   memory = replicate 640 1;
@@ -149,7 +149,7 @@ entering c q = record { before = machineIn (start c); request = frameIn q 0 }
 
 from-caller : (c : Convention) (q : List ℕ) → startOutcome c 4096 640 (registersIn (replicate registersWords 7) 0) .answer ≡ Accepted → answer (enter q) (start c) ≡ Accepted
     → Reached c (entering c q ∷ []) (calls.after (enter q) (start c))
-unfolding run openedBy
+unfolding run openedBy All
 from-caller c q e a = record {
   base = 4096;
   memory = replicate 640 1;
@@ -184,9 +184,9 @@ ppc64 = record {
   puts = writeRegister 0 3 4660 ∷ writeRegister 0 4 (2 ^ 64 - 2) ∷ writeRegister 1 1 4614256656552045848 ∷ writeMemory 4672 (replicate 64 9) ∷ [];
 }
 
-ppc64-filled : (fillAnswer (ppc64 .signature) (fillLengths (ppc64 .values) (replicate 512 7) (ppc64 .area) (ppc64 .copies)) (ppc64 .base) (ppc64 .hidden) ≡ Answer.Done)
+ppc64-filled : (fillAnswer (ppc64 .signature) (fillLengths (ppc64 .values) (replicate 512 7) (ppc64 .area) (ppc64 .copies)) (ppc64 .base) (ppc64 .hidden) ≡ CallAnswer.Done)
     × (planFor (ppc64 .signature) .convention ≡ Convention.Ppc64) × (planFor (ppc64 .signature) .area ≡ 64)
-unfolding roundUp withField shapeOf typeOf countOf listed table bodyAt integerCode floatCode integerAt floatOf floatAt sequence sizedAt contentsAt itemBy structAt itemAt conventionCode conventionAt resultIn resultAt argumentsIn argumentsAt ellipsisAt afterEllipsis afterResult afterConvention signatureOf withEllipsis words fprs shareOf powerShare unclear zClass zSpanOf zNextOf spanOf nextOf unclearFor fresh startOf areaOf hiddenFor returning resultOf upFrom spansOf lastOf valuesOf tableOf planIn typesOf planAnswer firstUnclear called badCopies fillTests firstOf fillAnswer
+unfolding roundUp withField shapeOf typeOf countOf listed table bodyAt integerCode floatCode integerAt floatOf floatAt sequence sizedAt contentsAt itemBy structAt itemAt conventionCode conventionAt resultIn resultAt argumentsIn argumentsAt ellipsisAt afterEllipsis afterResult afterConvention signatureOf withEllipsis words fprs shareOf powerShare unclear zClass zSpanOf zNextOf spanOf nextOf unclearFor freshCursor startOf areaOf hiddenFor returning resultOf upFrom spansOf lastOf valuesOf tableOf planIn typesOf planAnswer firstUnclear called badCopies fillTests firstOf fillAnswer
 ppc64-filled = (refl, refl, refl)
 
 ppc64-at : ownArea (rules Convention.Ppc64) (machineIn (ppc64 .m)) ≡ 4672
@@ -194,7 +194,7 @@ unfolding roundUp overlay splice bytesOf valueOf conventionCode store load saveR
 ppc64-at = refl
 
 ppc64-calls : putCalls (planFor (ppc64 .signature)) (leftBy ppc64 .image) 4672 (take 64 (leftBy ppc64 .area) ∷ []) ≡ ppc64 .puts
-unfolding roundUp withField shapeOf typeOf countOf listed table bodyAt integerCode floatCode integerAt floatOf floatAt sequence sizedAt contentsAt itemBy structAt itemAt conventionCode conventionAt resultIn resultAt argumentsIn argumentsAt ellipsisAt afterEllipsis afterResult afterConvention signatureOf withEllipsis words fprs shareOf powerShare unclear zClass zSpanOf zNextOf spanOf nextOf unclearFor fresh startOf areaOf hiddenFor returning resultOf upFrom spansOf lastOf valuesOf tableOf planIn typesOf planAnswer firstUnclear called overlay splice bytesOf valueOf zeroExtended signBit signExtended spread put putAll bytesAt structAtHead startsAtHead extended homeBytes floatBytes standing slotsOf slotsOfAll placements placementsIn argumentsOf fillBuffers filledSlots rangeRegisters registersOf putPieces putCalls
+unfolding roundUp withField shapeOf typeOf countOf listed table bodyAt integerCode floatCode integerAt floatOf floatAt sequence sizedAt contentsAt itemBy structAt itemAt conventionCode conventionAt resultIn resultAt argumentsIn argumentsAt ellipsisAt afterEllipsis afterResult afterConvention signatureOf withEllipsis words fprs shareOf powerShare unclear zClass zSpanOf zNextOf spanOf nextOf unclearFor freshCursor startOf areaOf hiddenFor returning resultOf upFrom spansOf lastOf valuesOf tableOf planIn typesOf planAnswer firstUnclear called overlay splice bytesOf valueOf zeroExtended signBit signExtended spread put putAll bytesAt structAtHead startsAtHead extended homeBytes floatBytes standing slotsOf slotsOfAll placements placementsIn argumentsOf fillBuffers filledSlots rangeRegisters spanRegisters putPieces putCalls
 ppc64-calls = refl
 
 ppc64-length : length (leftBy ppc64 .area) ≡ length (ppc64 .area)
@@ -232,9 +232,9 @@ z = record {
   puts = writeRegister 0 2 1 ∷ writeRegister 0 3 2 ∷ writeRegister 0 4 3 ∷ writeRegister 0 5 4 ∷ writeRegister 0 6 5 ∷ writeMemory 4552 (0 ∷ 0 ∷ 0 ∷ 0 ∷ 0 ∷ 0 ∷ 17 ∷ 208 ∷ []) ∷ [];
 }
 
-z-filled : (fillAnswer (z .signature) (fillLengths (z .values) (replicate 512 7) (z .area) (z .copies)) (z .base) (z .hidden) ≡ Answer.Done)
+z-filled : (fillAnswer (z .signature) (fillLengths (z .values) (replicate 512 7) (z .area) (z .copies)) (z .base) (z .hidden) ≡ CallAnswer.Done)
     × (planFor (z .signature) .convention ≡ Convention.Z) × (planFor (z .signature) .area ≡ 8)
-unfolding roundUp withField shapeOf typeOf countOf listed table bodyAt integerCode floatCode integerAt floatOf floatAt sequence sizedAt contentsAt itemBy structAt itemAt conventionCode conventionAt resultIn resultAt argumentsIn argumentsAt ellipsisAt afterEllipsis afterResult afterConvention signatureOf withEllipsis words fprs shareOf powerShare unclear zClass zSpanOf zNextOf spanOf nextOf unclearFor fresh startOf areaOf hiddenFor returning resultOf upFrom spansOf lastOf valuesOf tableOf planIn typesOf planAnswer firstUnclear called badCopies fillTests firstOf fillAnswer
+unfolding roundUp withField shapeOf typeOf countOf listed table bodyAt integerCode floatCode integerAt floatOf floatAt sequence sizedAt contentsAt itemBy structAt itemAt conventionCode conventionAt resultIn resultAt argumentsIn argumentsAt ellipsisAt afterEllipsis afterResult afterConvention signatureOf withEllipsis words fprs shareOf powerShare unclear zClass zSpanOf zNextOf spanOf nextOf unclearFor freshCursor startOf areaOf hiddenFor returning resultOf upFrom spansOf lastOf valuesOf tableOf planIn typesOf planAnswer firstUnclear called badCopies fillTests firstOf fillAnswer
 z-filled = (refl, refl, refl)
 
 z-at : ownArea (rules Convention.Z) (machineIn (z .m)) ≡ 4552
@@ -242,7 +242,7 @@ unfolding roundUp overlay splice bytesOf valueOf conventionCode store load saveR
 z-at = refl
 
 z-calls : putCalls (planFor (z .signature)) (leftBy z .image) 4552 (take 8 (leftBy z .area) ∷ []) ≡ z .puts
-unfolding roundUp withField shapeOf typeOf countOf listed table bodyAt integerCode floatCode integerAt floatOf floatAt sequence sizedAt contentsAt itemBy structAt itemAt conventionCode conventionAt resultIn resultAt argumentsIn argumentsAt ellipsisAt afterEllipsis afterResult afterConvention signatureOf withEllipsis words fprs shareOf powerShare unclear zClass zSpanOf zNextOf spanOf nextOf unclearFor fresh startOf areaOf hiddenFor returning resultOf upFrom spansOf lastOf valuesOf tableOf planIn typesOf planAnswer firstUnclear called overlay splice bytesOf valueOf zeroExtended signBit signExtended spread put putAll bytesAt structAtHead startsAtHead extended homeBytes floatBytes standing slotsOf slotsOfAll placements placementsIn argumentsOf fillBuffers filledSlots rangeRegisters registersOf putPieces putCalls
+unfolding roundUp withField shapeOf typeOf countOf listed table bodyAt integerCode floatCode integerAt floatOf floatAt sequence sizedAt contentsAt itemBy structAt itemAt conventionCode conventionAt resultIn resultAt argumentsIn argumentsAt ellipsisAt afterEllipsis afterResult afterConvention signatureOf withEllipsis words fprs shareOf powerShare unclear zClass zSpanOf zNextOf spanOf nextOf unclearFor freshCursor startOf areaOf hiddenFor returning resultOf upFrom spansOf lastOf valuesOf tableOf planIn typesOf planAnswer firstUnclear called overlay splice bytesOf valueOf zeroExtended signBit signExtended spread put putAll bytesAt structAtHead startsAtHead extended homeBytes floatBytes standing slotsOf slotsOfAll placements placementsIn argumentsOf fillBuffers filledSlots rangeRegisters spanRegisters putPieces putCalls
 z-calls = refl
 
 z-length : length (leftBy z .area) ≡ length (z .area)
@@ -280,9 +280,9 @@ aix = record {
   puts = writeRegister 0 3 16909060 ∷ writeRegister 0 4 84281096 ∷ writeRegister 0 5 (2 ^ 32 - 1) ∷ writeRegister 0 6 2 ∷ writeRegister 0 7 3 ∷ writeRegister 0 8 4 ∷ writeRegister 0 9 5 ∷ writeRegister 0 10 6 ∷ writeMemory 4632 (replicate 32 9 ++ (0 ∷ 0 ∷ 0 ∷ 7 ∷ [])) ∷ [];
 }
 
-aix-filled : (fillAnswer (aix .signature) (fillLengths (aix .values) (replicate 512 7) (aix .area) (aix .copies)) (aix .base) (aix .hidden) ≡ Answer.Done)
+aix-filled : (fillAnswer (aix .signature) (fillLengths (aix .values) (replicate 512 7) (aix .area) (aix .copies)) (aix .base) (aix .hidden) ≡ CallAnswer.Done)
     × (planFor (aix .signature) .convention ≡ Convention.Aix) × (planFor (aix .signature) .area ≡ 36)
-unfolding roundUp withField shapeOf typeOf countOf listed table bodyAt integerCode floatCode integerAt floatOf floatAt sequence sizedAt contentsAt itemBy structAt itemAt conventionCode conventionAt resultIn resultAt argumentsIn argumentsAt ellipsisAt afterEllipsis afterResult afterConvention signatureOf withEllipsis words fprs shareOf powerShare unclear zClass zSpanOf zNextOf spanOf nextOf unclearFor fresh startOf areaOf hiddenFor returning resultOf upFrom spansOf lastOf valuesOf tableOf planIn typesOf planAnswer firstUnclear called badCopies fillTests firstOf fillAnswer
+unfolding roundUp withField shapeOf typeOf countOf listed table bodyAt integerCode floatCode integerAt floatOf floatAt sequence sizedAt contentsAt itemBy structAt itemAt conventionCode conventionAt resultIn resultAt argumentsIn argumentsAt ellipsisAt afterEllipsis afterResult afterConvention signatureOf withEllipsis words fprs shareOf powerShare unclear zClass zSpanOf zNextOf spanOf nextOf unclearFor freshCursor startOf areaOf hiddenFor returning resultOf upFrom spansOf lastOf valuesOf tableOf planIn typesOf planAnswer firstUnclear called badCopies fillTests firstOf fillAnswer
 aix-filled = (refl, refl, refl)
 
 aix-at : ownArea (rules Convention.Aix) (machineIn (aix .m)) ≡ 4632
@@ -290,7 +290,7 @@ unfolding roundUp overlay splice bytesOf valueOf conventionCode store load saveR
 aix-at = refl
 
 aix-calls : putCalls (planFor (aix .signature)) (leftBy aix .image) 4632 (take 36 (leftBy aix .area) ∷ []) ≡ aix .puts
-unfolding roundUp withField shapeOf typeOf countOf listed table bodyAt integerCode floatCode integerAt floatOf floatAt sequence sizedAt contentsAt itemBy structAt itemAt conventionCode conventionAt resultIn resultAt argumentsIn argumentsAt ellipsisAt afterEllipsis afterResult afterConvention signatureOf withEllipsis words fprs shareOf powerShare unclear zClass zSpanOf zNextOf spanOf nextOf unclearFor fresh startOf areaOf hiddenFor returning resultOf upFrom spansOf lastOf valuesOf tableOf planIn typesOf planAnswer firstUnclear called overlay splice bytesOf valueOf zeroExtended signBit signExtended spread put putAll bytesAt structAtHead startsAtHead extended homeBytes floatBytes standing slotsOf slotsOfAll placements placementsIn argumentsOf fillBuffers filledSlots rangeRegisters registersOf putPieces putCalls
+unfolding roundUp withField shapeOf typeOf countOf listed table bodyAt integerCode floatCode integerAt floatOf floatAt sequence sizedAt contentsAt itemBy structAt itemAt conventionCode conventionAt resultIn resultAt argumentsIn argumentsAt ellipsisAt afterEllipsis afterResult afterConvention signatureOf withEllipsis words fprs shareOf powerShare unclear zClass zSpanOf zNextOf spanOf nextOf unclearFor freshCursor startOf areaOf hiddenFor returning resultOf upFrom spansOf lastOf valuesOf tableOf planIn typesOf planAnswer firstUnclear called overlay splice bytesOf valueOf zeroExtended signBit signExtended spread put putAll bytesAt structAtHead startsAtHead extended homeBytes floatBytes standing slotsOf slotsOfAll placements placementsIn argumentsOf fillBuffers filledSlots rangeRegisters spanRegisters putPieces putCalls
 aix-calls = refl
 
 aix-length : length (leftBy aix .area) ≡ length (aix .area)
@@ -328,9 +328,9 @@ ppc64b = record {
   puts = writeRegister 1 1 72623859790382856 ∷ writeRegister 1 2 651345242494996240 ∷ writeRegister 0 5 5 ∷ writeMemory 4672 (replicate 64 9) ∷ [];
 }
 
-ppc64b-filled : (fillAnswer (ppc64b .signature) (fillLengths (ppc64b .values) (replicate 512 7) (ppc64b .area) (ppc64b .copies)) (ppc64b .base) (ppc64b .hidden) ≡ Answer.Done)
+ppc64b-filled : (fillAnswer (ppc64b .signature) (fillLengths (ppc64b .values) (replicate 512 7) (ppc64b .area) (ppc64b .copies)) (ppc64b .base) (ppc64b .hidden) ≡ CallAnswer.Done)
     × (planFor (ppc64b .signature) .convention ≡ Convention.Ppc64b) × (planFor (ppc64b .signature) .area ≡ 64)
-unfolding roundUp withField shapeOf typeOf countOf listed table bodyAt integerCode floatCode integerAt floatOf floatAt sequence sizedAt contentsAt itemBy structAt itemAt conventionCode conventionAt resultIn resultAt argumentsIn argumentsAt ellipsisAt afterEllipsis afterResult afterConvention signatureOf withEllipsis words fprs shareOf powerShare unclear zClass zSpanOf zNextOf spanOf nextOf unclearFor fresh startOf areaOf hiddenFor returning resultOf upFrom spansOf lastOf valuesOf tableOf planIn typesOf planAnswer firstUnclear called badCopies fillTests firstOf fillAnswer
+unfolding roundUp withField shapeOf typeOf countOf listed table bodyAt integerCode floatCode integerAt floatOf floatAt sequence sizedAt contentsAt itemBy structAt itemAt conventionCode conventionAt resultIn resultAt argumentsIn argumentsAt ellipsisAt afterEllipsis afterResult afterConvention signatureOf withEllipsis words fprs shareOf powerShare unclear zClass zSpanOf zNextOf spanOf nextOf unclearFor freshCursor startOf areaOf hiddenFor returning resultOf upFrom spansOf lastOf valuesOf tableOf planIn typesOf planAnswer firstUnclear called badCopies fillTests firstOf fillAnswer
 ppc64b-filled = (refl, refl, refl)
 
 ppc64b-at : ownArea (rules Convention.Ppc64b) (machineIn (ppc64b .m)) ≡ 4672
@@ -338,7 +338,7 @@ unfolding roundUp overlay splice bytesOf valueOf conventionCode store load saveR
 ppc64b-at = refl
 
 ppc64b-calls : putCalls (planFor (ppc64b .signature)) (leftBy ppc64b .image) 4672 (take 64 (leftBy ppc64b .area) ∷ []) ≡ ppc64b .puts
-unfolding roundUp withField shapeOf typeOf countOf listed table bodyAt integerCode floatCode integerAt floatOf floatAt sequence sizedAt contentsAt itemBy structAt itemAt conventionCode conventionAt resultIn resultAt argumentsIn argumentsAt ellipsisAt afterEllipsis afterResult afterConvention signatureOf withEllipsis words fprs shareOf powerShare unclear zClass zSpanOf zNextOf spanOf nextOf unclearFor fresh startOf areaOf hiddenFor returning resultOf upFrom spansOf lastOf valuesOf tableOf planIn typesOf planAnswer firstUnclear called overlay splice bytesOf valueOf zeroExtended signBit signExtended spread put putAll bytesAt structAtHead startsAtHead extended homeBytes floatBytes standing slotsOf slotsOfAll placements placementsIn argumentsOf fillBuffers filledSlots rangeRegisters registersOf putPieces putCalls
+unfolding roundUp withField shapeOf typeOf countOf listed table bodyAt integerCode floatCode integerAt floatOf floatAt sequence sizedAt contentsAt itemBy structAt itemAt conventionCode conventionAt resultIn resultAt argumentsIn argumentsAt ellipsisAt afterEllipsis afterResult afterConvention signatureOf withEllipsis words fprs shareOf powerShare unclear zClass zSpanOf zNextOf spanOf nextOf unclearFor freshCursor startOf areaOf hiddenFor returning resultOf upFrom spansOf lastOf valuesOf tableOf planIn typesOf planAnswer firstUnclear called overlay splice bytesOf valueOf zeroExtended signBit signExtended spread put putAll bytesAt structAtHead startsAtHead extended homeBytes floatBytes standing slotsOf slotsOfAll placements placementsIn argumentsOf fillBuffers filledSlots rangeRegisters spanRegisters putPieces putCalls
 ppc64b-calls = refl
 
 ppc64b-length : length (leftBy ppc64b .area) ≡ length (ppc64b .area)
@@ -376,9 +376,9 @@ ellipsis = record {
   puts = writeRegister 0 3 1 ∷ writeRegister 0 4 2 ∷ writeRegister 0 5 3 ∷ writeRegister 0 6 4 ∷ writeRegister 0 7 5 ∷ writeRegister 0 8 6 ∷ writeRegister 0 9 7 ∷ writeRegister 1 1 4614256656552045848 ∷ writeRegister 0 10 1074340347 ∷ writeMemory 4632 (replicate 32 9 ++ (84 ∷ 68 ∷ 45 ∷ 24 ∷ [])) ∷ [];
 }
 
-ellipsis-filled : (fillAnswer (ellipsis .signature) (fillLengths (ellipsis .values) (replicate 512 7) (ellipsis .area) (ellipsis .copies)) (ellipsis .base) (ellipsis .hidden) ≡ Answer.Done)
+ellipsis-filled : (fillAnswer (ellipsis .signature) (fillLengths (ellipsis .values) (replicate 512 7) (ellipsis .area) (ellipsis .copies)) (ellipsis .base) (ellipsis .hidden) ≡ CallAnswer.Done)
     × (planFor (ellipsis .signature) .convention ≡ Convention.Aix) × (planFor (ellipsis .signature) .area ≡ 36)
-unfolding roundUp withField shapeOf typeOf countOf listed table bodyAt integerCode floatCode integerAt floatOf floatAt sequence sizedAt contentsAt itemBy structAt itemAt conventionCode conventionAt resultIn resultAt argumentsIn argumentsAt ellipsisAt afterEllipsis afterResult afterConvention signatureOf withEllipsis words fprs shareOf powerShare unclear zClass zSpanOf zNextOf spanOf nextOf unclearFor fresh startOf areaOf hiddenFor returning resultOf upFrom spansOf lastOf valuesOf tableOf planIn typesOf planAnswer firstUnclear called badCopies fillTests firstOf fillAnswer
+unfolding roundUp withField shapeOf typeOf countOf listed table bodyAt integerCode floatCode integerAt floatOf floatAt sequence sizedAt contentsAt itemBy structAt itemAt conventionCode conventionAt resultIn resultAt argumentsIn argumentsAt ellipsisAt afterEllipsis afterResult afterConvention signatureOf withEllipsis words fprs shareOf powerShare unclear zClass zSpanOf zNextOf spanOf nextOf unclearFor freshCursor startOf areaOf hiddenFor returning resultOf upFrom spansOf lastOf valuesOf tableOf planIn typesOf planAnswer firstUnclear called badCopies fillTests firstOf fillAnswer
 ellipsis-filled = (refl, refl, refl)
 
 ellipsis-at : ownArea (rules Convention.Aix) (machineIn (ellipsis .m)) ≡ 4632
@@ -386,7 +386,7 @@ unfolding roundUp overlay splice bytesOf valueOf conventionCode store load saveR
 ellipsis-at = refl
 
 ellipsis-calls : putCalls (planFor (ellipsis .signature)) (leftBy ellipsis .image) 4632 (take 36 (leftBy ellipsis .area) ∷ []) ≡ ellipsis .puts
-unfolding roundUp withField shapeOf typeOf countOf listed table bodyAt integerCode floatCode integerAt floatOf floatAt sequence sizedAt contentsAt itemBy structAt itemAt conventionCode conventionAt resultIn resultAt argumentsIn argumentsAt ellipsisAt afterEllipsis afterResult afterConvention signatureOf withEllipsis words fprs shareOf powerShare unclear zClass zSpanOf zNextOf spanOf nextOf unclearFor fresh startOf areaOf hiddenFor returning resultOf upFrom spansOf lastOf valuesOf tableOf planIn typesOf planAnswer firstUnclear called overlay splice bytesOf valueOf zeroExtended signBit signExtended spread put putAll bytesAt structAtHead startsAtHead extended homeBytes floatBytes standing slotsOf slotsOfAll placements placementsIn argumentsOf fillBuffers filledSlots rangeRegisters registersOf putPieces putCalls
+unfolding roundUp withField shapeOf typeOf countOf listed table bodyAt integerCode floatCode integerAt floatOf floatAt sequence sizedAt contentsAt itemBy structAt itemAt conventionCode conventionAt resultIn resultAt argumentsIn argumentsAt ellipsisAt afterEllipsis afterResult afterConvention signatureOf withEllipsis words fprs shareOf powerShare unclear zClass zSpanOf zNextOf spanOf nextOf unclearFor freshCursor startOf areaOf hiddenFor returning resultOf upFrom spansOf lastOf valuesOf tableOf planIn typesOf planAnswer firstUnclear called overlay splice bytesOf valueOf zeroExtended signBit signExtended spread put putAll bytesAt structAtHead startsAtHead extended homeBytes floatBytes standing slotsOf slotsOfAll placements placementsIn argumentsOf fillBuffers filledSlots rangeRegisters spanRegisters putPieces putCalls
 ellipsis-calls = refl
 
 ellipsis-length : length (leftBy ellipsis .area) ≡ length (ellipsis .area)
@@ -449,10 +449,12 @@ can x h reached solid room six =
     let p = planFor (x .signature) in
     record {
       reached = subst (λ (c : Convention). Reached c (x .os) (x .m)) (sym (h .by)) reached;
-      solid = rw (h .by) solid;
-      room = rw (h .by, h .room) room;
-      free = subst (λ (c : Convention). All (Free (rules (p .convention)) (callerOf (rules c) (x .os))) (named p)) (sym (h .by))
-          (named-free (x .signature) (callerOf (rules (x .convention)) (x .os)) six);
+      suits = record {
+        solid = rw (h .by) solid;
+        room = rw (h .by, h .room) room;
+        free = subst (λ (c : Convention). All (Free (rules (p .convention)) (callerOf (rules c) (x .os))) (named p)) (sym (h .by))
+            (named-free (x .signature) (callerOf (rules (x .convention)) (x .os)) six);
+      };
     }
 
 -- the callee of a request reads the values
@@ -488,7 +490,7 @@ ppc64b-claims =
 
 -- Z's copy lies in all of the locals
 z-copies : (planFor (z .signature) .copies ≡ 16) × (take 16 (leftBy z .copies) ≡ 101 ∷ 102 ∷ 103 ∷ 104 ∷ 105 ∷ 106 ∷ 107 ∷ 108 ∷ 109 ∷ 110 ∷ 111 ∷ 112 ∷ 113 ∷ 114 ∷ 115 ∷ 116 ∷ [])
-unfolding roundUp withField shapeOf typeOf countOf listed table bodyAt integerCode floatCode integerAt floatOf floatAt sequence sizedAt contentsAt itemBy structAt itemAt conventionCode conventionAt resultIn resultAt argumentsIn argumentsAt ellipsisAt afterEllipsis afterResult afterConvention signatureOf withEllipsis words fprs shareOf powerShare unclear zClass zSpanOf zNextOf spanOf nextOf unclearFor fresh startOf areaOf hiddenFor returning resultOf upFrom spansOf lastOf valuesOf tableOf planIn typesOf planAnswer firstUnclear called overlay splice bytesOf valueOf zeroExtended signBit signExtended spread put putAll bytesAt structAtHead startsAtHead extended homeBytes floatBytes standing slotsOf slotsOfAll placements placementsIn argumentsOf fillBuffers filledSlots rangeRegisters registersOf putPieces putCalls
+unfolding roundUp withField shapeOf typeOf countOf listed table bodyAt integerCode floatCode integerAt floatOf floatAt sequence sizedAt contentsAt itemBy structAt itemAt conventionCode conventionAt resultIn resultAt argumentsIn argumentsAt ellipsisAt afterEllipsis afterResult afterConvention signatureOf withEllipsis words fprs shareOf powerShare unclear zClass zSpanOf zNextOf spanOf nextOf unclearFor freshCursor startOf areaOf hiddenFor returning resultOf upFrom spansOf lastOf valuesOf tableOf planIn typesOf planAnswer firstUnclear called overlay splice bytesOf valueOf zeroExtended signBit signExtended spread put putAll bytesAt structAtHead startsAtHead extended homeBytes floatBytes standing slotsOf slotsOfAll placements placementsIn argumentsOf fillBuffers filledSlots rangeRegisters spanRegisters putPieces putCalls
 z-copies = (refl, refl)
 
 z-locals : InLocals (rules Convention.Z) (frameIn (6 ∷ 16 ∷ 0 ∷ 16 ∷ 8 ∷ 0 ∷ []) 0) (machineIn (z .m)) 4560 16

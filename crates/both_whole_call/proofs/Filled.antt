@@ -1,7 +1,7 @@
 -- What filling leaves for the registers that the plan names are bytes, and for a general register a word, whatever the lent image held: filling writes each of them whole.
 -- Assumes nothing.
 use mathlib.Core.Path.{_≡_, refl, sym, ap, _∙_, subst}
-use mathlib.Core.Bool.{Bool, true, false}
+use mathlib.Core.Bool.{false}
 use mathlib.Core.List.{List, [], _∷_, _++_}
 use Prim.Native.Nat.{ℕ, zero, suc, _+_, _-_, _*_, _^_, _≤_, _<_}
 use native.Mathlib.Omega.{arith}
@@ -9,11 +9,13 @@ use borrow.Author.Tests.{ltb-false}
 use lib.Pow.{pow-pos, pow-mono}
 use lib.ListN.{length, take, drop, replicate, length-append, length-take, length-replicate}
 use lib.Seq.{take-at, drop-append-add}
-use Rattle.base_words.specs.Basics.{pick, All}
+use Rattle.base_words.specs.Basics.{All}
 use Rattle.base_words.specs.Splice.{part}
 use Rattle.base_words.specs.Numbers.{Bytes, bytesOf, valueOf}
 use Rattle.base_words.proofs.Splices.{part-part, length-part}
-use Rattle.base_words.proofs.Numbers.{bytes-bytesOf, bytes-replicate, bytes-append, bytes-drop, bytes-part, value-below, value-back, value-append}
+use Rattle.base_words.proofs.Numbers.{bytes-bytesOf, bytes-replicate, bytes-append, bytes-drop, bytes-part, value-back, value-append, value-zeros, value-fits}
+use Rattle.base_words.proofs.Each.{each-both}
+use Rattle.base_words.proofs.Tests.{by-pick}
 use Rattle.base_conventions.specs.declared.Convention.{Convention}
 use Rattle.sig_types.specs.declared.Equivalent.{Equivalent}
 use Rattle.sig_types.specs.declared.ValueType.{ValueType}
@@ -36,7 +38,7 @@ use Rattle.sig_signatures.specs.Types.{typesOf}
 use Rattle.plan_plans.specs.Call.{outcomeFor}
 use Rattle.call_registers.specs.Registers.{inRegister, spread}
 use Rattle.call_registers.proofs.Registers.{spread-short}
-use Rattle.call_slots.specs.declared.Answer.{Answer}
+use Rattle.call_slots.specs.declared.CallAnswer.{CallAnswer}
 use Rattle.call_slots.specs.Buffers.{Buffers, bytesAt}
 use Rattle.call_slots.specs.Forms.{startsAtHead, extended, roomOf, homeBytes, singleWord, floatForm, floatBytes}
 use Rattle.call_slots.specs.Placements.{Placement, placements, standing}
@@ -44,15 +46,14 @@ use Rattle.call_slots.specs.Arguments.{placementsIn, argumentsOf, planFor, rule
 use Rattle.call_slots.proofs.Answered.{arguments-got}
 use Rattle.call_fill.specs.Fill.{highAddress, fillAnswer}
 use Rattle.call_fill.proofs.Accepted.{tests-low}
-use Rattle.call_roundtrip.specs.RoundTrip.{Filled, left}
-use Rattle.call_roundtrip.proofs.Arguments.{Put, AllPut}
+use Rattle.call_roundtrip.specs.RoundTrip.{Filled, leftByFill}
+use Rattle.call_roundtrip.proofs.Arguments.{Put, AllPut, EachValue}
 use Rattle.call_roundtrip.proofs.Theorems.{reading-done}
 use Rattle.call_roundtrip.proofs.Hidden.{hidden-stands}
 use Rattle.frame_rules.specs.Rules.{rules}
 use Rattle.frame_rules.proofs.Conventions.{lawful}
 use Rattle.both_meeting.proofs.Theorem.{agree}
 use Rattle.both_whole_call.specs.Put.{Register, imageAt, inImage, hiddenSpans, named}
-use Rattle.both_whole_call.proofs.Lists.{each-both}
 use Rattle.both_whole_call.proofs.Named.{OfSpan, in-spans, hidden-one}
 
 -- an image has bytes for a register, and for a general one a number of a word of w bytes
@@ -65,19 +66,15 @@ OfBytes w image x = Bytes (part (imageAt (x .bank) (x .number)) 8 image) × Low 
 
 -- ---- forms
 
-pick-bytes : (t : Bool) (a b : List ℕ) → Bytes a → Bytes b → Bytes (pick t a b)
-pick-bytes true a b h k = h
-pick-bytes false a b h k = k
-
 home-bytes : (r : CallRules) (t : ValueType) (n : ℕ) (v : List ℕ) → Bytes v → Bytes (homeBytes r t n v)
 unfolding homeBytes
 home-bytes r t n v h =
-    pick-bytes (startsAtHead r t) _ _ (bytes-append v (replicate (roomOf r n - n) 0) h (bytes-replicate (roomOf r n - n) 0 (omega arith)))
-    (bytes-bytesOf (roomOf r n) (extended t n (valueOf v)))
+    by-pick Bytes (startsAtHead r t) _ _ (λ _. bytes-append v (replicate (roomOf r n - n) 0) h (bytes-replicate (roomOf r n - n) 0 (omega arith)))
+    (λ _. bytes-bytesOf (roomOf r n) (extended t n (valueOf v)))
 
 standing-bytes : (r : CallRules) (base : ℕ) (p : Placement) (v : List ℕ) → Bytes v → Bytes (standing r base p v)
 unfolding standing
-standing-bytes r base p v h = pick-bytes (p .span .indirect) _ _ (bytes-bytesOf (wordOf r) (base + p .span .copy .start)) (home-bytes r (p .ty) (p .size) v h)
+standing-bytes r base p v h = by-pick Bytes (p .span .indirect) _ _ (λ _. bytes-bytesOf (wordOf r) (base + p .span .copy .start)) (λ _. home-bytes r (p .ty) (p .size) v h)
 
 form-bytes : (r : CallRules) (e : Equivalent) (v : List ℕ) → Bytes v → Bytes (floatForm r e v)
 form-bytes r Equivalent.Single v h = bytes-bytesOf 8 (singleWord r (valueOf v))
@@ -90,11 +87,6 @@ float-bytes r t v h = form-bytes r (equivalentOf t) v h
 
 -- ---- words in registers
 
-zeros-value : (n : ℕ) → valueOf (replicate n 0) ≡ 0
-unfolding valueOf
-zeros-value zero = refl
-zeros-value (suc n) = omega (arith, zeros-value n)
-
 -- a register's eight bytes that hold a word of w
 abbrev Word : ℕ → List ℕ → Type 0
 Word w bs = Bytes bs × (valueOf bs < 2 ^ (8 * w))
@@ -102,9 +94,9 @@ Word w bs = Bytes bs × (valueOf bs < 2 ^ (8 * w))
 register-word : (w : ℕ) (bs : List ℕ) → Bytes bs → length bs ≡ w → Word w (inRegister w bs)
 register-word w bs h e =
     let zeros : List ℕ = replicate (8 - w) 0 in
-    let value : valueOf (zeros ++ bs) ≡ valueOf bs = value-append zeros bs ∙ rw (zeros-value (8 - w)) (omega arith) in (
+    let value : valueOf (zeros ++ bs) ≡ valueOf bs = value-append zeros bs ∙ rw (value-zeros (8 - w)) (omega arith) in (
       bytes-append zeros bs (bytes-replicate (8 - w) 0 (omega arith)) h,
-      rw value (subst (λ (n : ℕ). valueOf bs < 2 ^ (8 * n)) e (value-below bs h)),
+      rw value (value-fits w bs e h),
     )
 
 -- of words that fill their registers: of one, and of those after it
@@ -174,7 +166,7 @@ span-bytes r base p v b h =
 
 all-bytes : (r : CallRules) (base : ℕ) (ps : List Placement) (v : List ℕ) (b : Buffers) → AllPut r base ps v b
     → All (λ (p : Placement). OfSpan (OfBytes (wordOf r) (b .image)) (p .span)) ps
-unfolding AllPut All
+unfolding EachValue All
 all-bytes r base [] v b h = tt
 all-bytes r base (p ∷ ps) v b h = (span-bytes r base p (take (p .size) v) b (h .0), all-bytes r base ps (drop (p .size) v) b (h .1))
 
@@ -214,7 +206,7 @@ pub hidden-low : (s values image area copies : List ℕ) (base hidden : ℕ) (x 
 unfolding fillAnswer
 hidden-low s values image area copies base hidden x h e =
     let w : ℕ = wordOf (rulesFor s) in
-    let low = tests-low _ _ _ _ _ _ (reading-done (outcomeFor s) _ (h .accepted) Answer.Done refl .0) in
+    let low = tests-low _ _ _ _ _ _ (reading-done (outcomeFor s) _ (h .accepted) CallAnswer.Done refl .0) in
     let most : hidden ≤ 2 ^ (8 * w) - 1 = ltb-false (2 ^ (8 * w) - 1) hidden (subst (λ (q : ResultPlaces). highAddress w q hidden ≡ false) e low) in
     omega (arith, pow-pos (8 * w))
 
@@ -236,7 +228,7 @@ hidden-64 s values image area copies base hidden x h e =
 
 -- the hidden address's register
 hidden-bytes : (s values image area copies : List ℕ) (base hidden : ℕ) (q : ResultPlaces) → Filled s values image area copies base hidden → planFor s .result ≡ q
-    → All (OfSpan (OfBytes (wordOf (rulesFor s)) (left s values image area copies base hidden .image))) (hiddenSpans q)
+    → All (OfSpan (OfBytes (wordOf (rulesFor s)) (leftByFill s values image area copies base hidden .image))) (hiddenSpans q)
 unfolding All bytesAt
 hidden-bytes s values image area copies base hidden ResultPlaces.Nothing h e = tt
 hidden-bytes s values image area copies base hidden (ResultPlaces.Registers x) h e = tt
@@ -253,12 +245,12 @@ hidden-bytes s values image area copies base hidden (ResultPlaces.Hidden x) h e 
     )
 
 pub named-bytes : (s values image area copies : List ℕ) (base hidden : ℕ) → Filled s values image area copies base hidden
-    → AllPut (rulesFor s) base (argumentsOf s) values (left s values image area copies base hidden)
-    → All (OfBytes (wordOf (rulesFor s)) (left s values image area copies base hidden .image)) (named (planFor s))
+    → AllPut (rulesFor s) base (argumentsOf s) values (leftByFill s values image area copies base hidden)
+    → All (OfBytes (wordOf (rulesFor s)) (leftByFill s values image area copies base hidden .image)) (named (planFor s))
 unfolding argumentsOf
 named-bytes s values image area copies base hidden filled h =
     let p : Plan = planFor s in
-    let b : Buffers = left s values image area copies base hidden in
+    let b : Buffers = leftByFill s values image area copies base hidden in
     let P : Register → Type 0 = OfBytes (wordOf (rulesFor s)) (b .image) in
     in-spans P (hiddenSpans (p .result) ++ p .spans)
     (each-both (OfSpan P) (hiddenSpans (p .result)) (p .spans) (hidden-bytes s values image area copies base hidden (p .result) filled refl)

@@ -6,6 +6,7 @@ use Prim.Native.Nat.{ℕ, _+_, _-_, _≤_, _<_}
 use native.Mathlib.Omega.{arith}
 use borrow.Author.Tests.{le-leb, lt-ltb}
 use lib.ListN.{length, length-append}
+use Rattle.base_words.specs.Basics.{All}
 use Rattle.base_words.specs.Splice.{splice}
 use Rattle.base_words.proofs.Splices.{splice-append, splice-nothing}
 use Rattle.base_words.proofs.Tests.{or-right}
@@ -16,8 +17,8 @@ use Rattle.frame_rules.specs.Rules.{rules}
 use Rattle.frame_rules.specs.Frames.{outgoingLength, below, frameSize}
 use Rattle.frame_rules.specs.Helpers.{LawfulFrames}
 use Rattle.frame_rules.proofs.Places.{size-parts}
-use Rattle.frame_machine.specs.declared.Answer.the-variants.{Accepted}
-use Rattle.frame_machine.specs.declared.Refusal.the-variants.{NotPermitted}
+use Rattle.frame_machine.specs.declared.FrameAnswer.the-variants.{Accepted}
+use Rattle.frame_machine.specs.declared.FrameRefusal.the-variants.{NotPermitted}
 use Rattle.frame_machine.specs.declared.State.{State}
 use Rattle.frame_machine.specs.Answers.{require, judge}
 use Rattle.frame_machine.specs.Machine.{stateRules, stackPointer, offset, top, caller, stateTests, inside, outgoingFrom, localsFrom, writableBytes, writableAddress, writeMemoryAnswer, writtenMemory, writeMemoryOutcome}
@@ -28,7 +29,7 @@ use Rattle.frame_history.specs.Calls.{Call, writeMemory, Machine, answer, after
 use Rattle.frame_history.specs.Preserved.{OpenEnter, callerOf, CallsFit}
 use Rattle.frame_history.proofs.Writing.{caller-is}
 use Rattle.frame_history.proofs.Invariant.{Base, Invariant, base-of, top-is}
-use Rattle.both_whole_call.specs.Put.{callersArea, joined, Short}
+use Rattle.both_whole_call.specs.Put.{callersArea, piecesJoined, WritablePiece}
 use Rattle.both_whole_call.proofs.Steps.{run, AllAccepted, openedBy, call-keeps}
 
 -- any 1 to 256 bytes from the address lo up to hi may be written
@@ -147,16 +148,16 @@ pub record AfterPieces (c : Convention) (os : List OpenEnter) (a : ℕ) (pieces 
   pub opened : openedBy (putPieces a pieces) m os ≡ os
   pub invariant : Invariant (rules c) os m′
   pub state : m′ .state ≡ m .state
-  pub memory : m′ .memory ≡ splice (m .memory) (a - m .state .base) (joined pieces)
+  pub memory : m′ .memory ≡ splice (m .memory) (a - m .state .base) (piecesJoined pieces)
 
 pub after-pieces : (c : Convention) (os : List OpenEnter) (lo hi a : ℕ) (pieces : List (List ℕ)) (m : Machine) → Invariant (rules c) os m → Region (rules c) (m .state) lo hi
-    → m .state .base ≤ lo → Short pieces → lo ≤ a → a + length (joined pieces) ≤ hi → AfterPieces c os a pieces m (run (putPieces a pieces) m)
-unfolding AllAccepted openedBy run putPieces joined Short
+    → m .state .base ≤ lo → All WritablePiece pieces → lo ≤ a → a + length (piecesJoined pieces) ≤ hi → AfterPieces c os a pieces m (run (putPieces a pieces) m)
+unfolding AllAccepted openedBy run putPieces piecesJoined All
 after-pieces c os lo hi a [] m i region over s low high =
     record { accepted = tt; opened = refl; invariant = i; state = refl; memory = sym (splice-nothing (m .memory) (a - m .state .base)) }
 after-pieces c os lo hi a (bs ∷ rest) m i region over s low high =
     let m₁ : Machine = after (writeMemory a bs) m in
-    let all : length (bs ++ joined rest) ≡ length bs + length (joined rest) = length-append bs (joined rest) in
+    let all : length (bs ++ piecesJoined rest) ≡ length bs + length (piecesJoined rest) = length-append bs (piecesJoined rest) in
     let may : writableAddress (rules c) (m .state) a (length bs) ≡ true = region a (length bs) (s .0 .0) (s .0 .1) low (omega arith) in
     let same : m₁ .state ≡ m .state = put-state c os m i a bs may in
     let r = after-pieces c os lo hi (a + length bs) rest m₁ (put-invariant c os m i a bs may) (subst (λ (x : State). Region (rules c) x lo hi) (sym same) region)
@@ -169,15 +170,15 @@ after-pieces c os lo hi a (bs ∷ rest) m i region over s low high =
       state = r .state ∙ same;
       memory =
           r .memory
-          ∙ ap (λ (x : State). splice (m₁ .memory) (a + length bs - x .base) (joined rest)) same
-          ∙ ap (λ (l : List ℕ). splice l (a + length bs - m .state .base) (joined rest)) (put-memory c os m i a bs may)
-          ∙ ap (λ (n : ℕ). splice (splice (m .memory) (a - m .state .base) bs) n (joined rest)) at
-          ∙ sym (splice-append (m .memory) (a - m .state .base) bs (joined rest));
+          ∙ ap (λ (x : State). splice (m₁ .memory) (a + length bs - x .base) (piecesJoined rest)) same
+          ∙ ap (λ (l : List ℕ). splice l (a + length bs - m .state .base) (piecesJoined rest)) (put-memory c os m i a bs may)
+          ∙ ap (λ (n : ℕ). splice (splice (m .memory) (a - m .state .base) bs) n (piecesJoined rest)) at
+          ∙ sym (splice-append (m .memory) (a - m .state .base) bs (piecesJoined rest));
     }
 
 -- writes to memory have no values of registers
 pub pieces-fit : (a : ℕ) (pieces : List (List ℕ)) → CallsFit (putPieces a pieces)
-unfolding putPieces
+unfolding putPieces All
 pieces-fit a [] = tt
 pieces-fit a (bs ∷ rest) = (tt, pieces-fit (a + length bs) rest)
 

@@ -19,7 +19,7 @@ use Rattle.plan_places.specs.declared.ResultPlaces.{ResultPlaces}
 use Rattle.plan_places.specs.Values.{pointer}
 use Rattle.plan_places.specs.Power.{words, fprs, shareOf, powerShare}
 use Rattle.plan_places.specs.ZSeries.{zClass, zSpanOf}
-use Rattle.plan_places.specs.Step.{rulesOf, wordOf, spanOf, fresh}
+use Rattle.plan_places.specs.Step.{rulesOf, wordOf, spanOf, freshCursor}
 use Rattle.plan_places.specs.Places.{upFrom}
 use Rattle.plan_places.specs.Spots.{Spot, general, floating, InRegisters, ArgumentRegister}
 use Rattle.plan_plans.specs.declared.Plan.{Plan}
@@ -28,13 +28,13 @@ use Rattle.plan_plans.proofs.Theorems as plans
 use Rattle.call_slots.specs.Arguments.{planFor}
 use Rattle.base_words.proofs.Basics.{le-or-lt}
 use Rattle.base_words.proofs.Tests.{or-left, or-right}
+use Rattle.base_words.proofs.Each.{each-both, each-left, each-right, each-with, each-at}
 use Rattle.frame_rules.specs.declared.Frame.{Frame}
 use Rattle.frame_rules.specs.Rules.{within, rules}
 use Rattle.frame_rules.specs.Frames.{firstGpr, firstFpr}
 use Rattle.both_meeting.proofs.Theorem.{agree}
-use Rattle.both_whole_call.specs.Put.{Register, register, rangeRegisters, registersOf, hiddenSpans, named}
+use Rattle.both_whole_call.specs.Put.{Register, register, rangeRegisters, spanRegisters, hiddenSpans, named}
 use Rattle.both_whole_call.specs.Caller.{Free, SavedSix}
-use Rattle.both_whole_call.proofs.Lists.{each-both, each-left, each-right, each-with, each-at}
 
 -- ---- registers of spans
 
@@ -55,27 +55,27 @@ module _ (P : Register → Type 0) where
   of-range b first (suc count) h n p q =
       ⊎-elim (λ u. of-range b (first + 1) count (h .1) n u (omega arith)) (λ u. let e : n ≡ first = omega arith in rw e (h .0)) (le-or-lt (first + 1) n)
 
-  pub in-spans : (ss : List Span) → All OfSpan ss → All P (registersOf ss)
-  unfolding registersOf rangeRegisters All
+  pub in-spans : (ss : List Span) → All OfSpan ss → All P (spanRegisters ss)
+  unfolding spanRegisters rangeRegisters All
   in-spans [] h = tt
   in-spans (s ∷ ss) h =
       let f : List Register = rangeRegisters Bank.Floating (s .floating) in
       let g : List Register = rangeRegisters Bank.General (s .general) in
-      each-both P f (g ++ registersOf ss) (in-range Bank.Floating (s .floating .first) (s .floating .count) (λ n p q. h .0 .floats n (p, q)))
-      (each-both P g (registersOf ss) (in-range Bank.General (s .general .first) (s .general .count) (λ n p q. h .0 .generals n (p, q))) (in-spans ss (h .1)))
+      each-both P f (g ++ spanRegisters ss) (in-range Bank.Floating (s .floating .first) (s .floating .count) (λ n p q. h .0 .floats n (p, q)))
+      (each-both P g (spanRegisters ss) (in-range Bank.General (s .general .first) (s .general .count) (λ n p q. h .0 .generals n (p, q))) (in-spans ss (h .1)))
 
-  pub of-spans : (ss : List Span) → All P (registersOf ss) → All OfSpan ss
-  unfolding registersOf rangeRegisters All
+  pub of-spans : (ss : List Span) → All P (spanRegisters ss) → All OfSpan ss
+  unfolding spanRegisters rangeRegisters All
   of-spans [] h = tt
   of-spans (s ∷ ss) h =
       let f : List Register = rangeRegisters Bank.Floating (s .floating) in
       let g : List Register = rangeRegisters Bank.General (s .general) in
-      let rest = each-right P f (g ++ registersOf ss) h in (
+      let rest = each-right P f (g ++ spanRegisters ss) h in (
         record {
-          floats = λ n p. of-range Bank.Floating (s .floating .first) (s .floating .count) (each-left P f (g ++ registersOf ss) h) n (p .0) (p .1);
-          generals = λ n p. of-range Bank.General (s .general .first) (s .general .count) (each-left P g (registersOf ss) rest) n (p .0) (p .1);
+          floats = λ n p. of-range Bank.Floating (s .floating .first) (s .floating .count) (each-left P f (g ++ spanRegisters ss) h) n (p .0) (p .1);
+          generals = λ n p. of-range Bank.General (s .general .first) (s .general .count) (each-left P g (spanRegisters ss) rest) n (p .0) (p .1);
         },
-        of-spans ss (each-right P g (registersOf ss) rest),
+        of-spans ss (each-right P g (spanRegisters ss) rest),
       )
 
 -- ---- those of a plan
@@ -107,8 +107,8 @@ named-arguments s =
 abbrev One : Span → Type 0
 One x = (x .general .count ≡ 1) × (x .floating .count ≡ 0)
 
-address-one : (c : Convention) → One (spanOf (rulesOf c) (fresh (rulesOf c)) pointer (wordOf (rulesOf c)))
-unfolding spanOf fresh words fprs shareOf powerShare zClass zSpanOf
+address-one : (c : Convention) → One (spanOf (rulesOf c) (freshCursor (rulesOf c)) pointer (wordOf (rulesOf c)))
+unfolding spanOf freshCursor words fprs shareOf powerShare zClass zSpanOf
 address-one Convention.Ppc64 = (refl, refl)
 address-one Convention.Z = (refl, refl)
 address-one Convention.Aix = (refl, refl)

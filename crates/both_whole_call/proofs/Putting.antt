@@ -11,27 +11,27 @@ use lib.Seq.{length-take-le, take-length}
 use Rattle.base_words.specs.Basics.{All}
 use Rattle.base_words.specs.Splice.{splice, part}
 use Rattle.base_words.proofs.Splices.{splice-same, splice-other}
+use Rattle.base_words.proofs.Each.{each-with}
 use Rattle.base_conventions.specs.declared.Convention.{Convention}
 use Rattle.plan_places.specs.Step.{wordOf}
 use Rattle.plan_plans.specs.declared.Plan.{Plan}
 use Rattle.call_slots.specs.Buffers.{Buffers}
 use Rattle.call_slots.specs.Arguments.{planFor, rulesFor}
-use Rattle.call_roundtrip.specs.RoundTrip.{Filled, left}
+use Rattle.call_roundtrip.specs.RoundTrip.{Filled, leftByFill}
 use Rattle.call_roundtrip.proofs.Theorems.{Left, filled-left}
 use Rattle.frame_rules.specs.declared.FrameRules.{FrameRules}
 use Rattle.frame_rules.specs.declared.Frame.{Frame}
 use Rattle.frame_rules.specs.Rules.{rules}
 use Rattle.frame_rules.specs.Frames.{outgoingLength}
 use Rattle.frame_rules.proofs.Conventions.{lawful}
-use Rattle.frame_machine.specs.declared.Answer.the-variants.{Accepted}
+use Rattle.frame_machine.specs.declared.FrameAnswer.the-variants.{Accepted}
 use Rattle.frame_machine.specs.declared.State.{State}
 use Rattle.frame_machine.specs.Machine.{stackPointer, offset}
 use Rattle.frame_history.specs.Calls.{Call, enter, Machine, answer}
 use Rattle.frame_history.specs.Preserved.{OpenEnter, callerOf, CallsFit}
 use Rattle.frame_history.proofs.Invariant.{Invariant, base-of}
-use Rattle.both_whole_call.specs.Put.{bytesIn, ownArea, Register, named, joined, Cut}
+use Rattle.both_whole_call.specs.Put.{bytesIn, ownArea, Register, named, piecesJoined, Cut}
 use Rattle.both_whole_call.specs.Caller.{firstSaved, Free, InLocals}
-use Rattle.both_whole_call.proofs.Lists.{each-with}
 use Rattle.both_whole_call.proofs.Steps.{run, AllAccepted, openedBy, run-both, opened-both, accepted-both, fit-both}
 use Rattle.both_whole_call.proofs.Registers.{Holds, writeOf, free-below, Putable, AfterPut, after-put, registers-fit}
 use Rattle.both_whole_call.proofs.Memory.{own-area, own-locals, putPieces, AfterPieces, after-pieces, pieces-fit, area-inside, locals-inside}
@@ -46,12 +46,12 @@ puttings s b pieces m = map (writeOf (b .image)) (named (planFor s)) ++ putPiece
 
 module _ (s values image area copies : List ℕ) (base hidden : ℕ) (filled : Filled s values image area copies base hidden)
     (os : List OpenEnter) (m : Machine) (able : Able (planFor s) os m)
-    (pieces : List (List ℕ)) (cut : Cut pieces (take (planFor s .area) (left s values image area copies base hidden .area))) where
+    (pieces : List (List ℕ)) (cut : Cut pieces (take (planFor s .area) (leftByFill s values image area copies base hidden .area))) where
   abbrev p : Plan
   p = planFor s
 
   abbrev b : Buffers
-  b = left s values image area copies base hidden
+  b = leftByFill s values image area copies base hidden
 
   abbrev c : Convention
   c = p .convention
@@ -76,7 +76,7 @@ module _ (s values image area copies : List ℕ) (base hidden : ℕ) (filled : F
 
   all-putable : All (Putable c os (b .image)) (named p)
   all-putable =
-      each-with (Free k (callerOf k os)) (OfBytes (wordOf (rulesFor s)) (b .image)) (Putable c os (b .image)) putable (named p) (able .free)
+      each-with (Free k (callerOf k os)) (OfBytes (wordOf (rulesFor s)) (b .image)) (Putable c os (b .image)) putable (named p) (able .suits .free)
       (all-bytes s values image area copies base hidden filled)
 
   abbrev registers : List Call
@@ -93,7 +93,7 @@ module _ (s values image area copies : List ℕ) (base hidden : ℕ) (filled : F
   abbrev a : ℕ
   a = ownArea k m
 
-  length-area : length (joined pieces) ≡ p .area
+  length-area : length (piecesJoined pieces) ≡ p .area
   length-area = ap length (cut .whole) ∙ length-take-le (p .area) (b .area) (stands .area)
 
   abbrev m₂ : Machine
@@ -104,8 +104,8 @@ module _ (s values image area copies : List ℕ) (base hidden : ℕ) (filled : F
 
   second : AfterPieces c os a pieces m₁ m₂
   second =
-      after-pieces c os _ _ a pieces m₁ (first .invariant) (own-area k os m₁ (first .invariant) (able .solid)) (omega (arith, over)) (cut .short) (omega (arith, first .pointer))
-      (omega (arith, first .pointer, length-area, able .room))
+      after-pieces c os _ _ a pieces m₁ (first .invariant) (own-area k os m₁ (first .invariant) (able .suits .solid)) (omega (arith, over)) (cut .short) (omega (arith, first .pointer))
+      (omega (arith, first .pointer, length-area, able .suits .room))
 
   -- where the area lies in the memory
   at : offset k (m₁ .state) + k .header ≡ a - m₁ .state .base
@@ -116,8 +116,8 @@ module _ (s values image area copies : List ℕ) (base hidden : ℕ) (filled : F
       ap (λ (y : State). part (stackPointer k y + k .header - y .base) (p .area) (m₂ .memory)) (second .state)
       ∙ ap (λ (n : ℕ). part (n + k .header - m₁ .state .base) (p .area) (m₂ .memory)) (first .pointer)
       ∙ ap (part (a - m₁ .state .base) (p .area)) (second .memory)
-      ∙ ap (λ (n : ℕ). part (a - m₁ .state .base) n (splice (m₁ .memory) (a - m₁ .state .base) (joined pieces))) (sym length-area)
-      ∙ splice-same (m₁ .memory) (a - m₁ .state .base) (joined pieces) (omega (arith, length-area, able .room, at, area-inside k (lawful c) os m₁ (first .invariant) (able .solid)))
+      ∙ ap (λ (n : ℕ). part (a - m₁ .state .base) n (splice (m₁ .memory) (a - m₁ .state .base) (piecesJoined pieces))) (sym length-area)
+      ∙ splice-same (m₁ .memory) (a - m₁ .state .base) (piecesJoined pieces) (omega (arith, length-area, able .suits .room, at, area-inside k (lawful c) os m₁ (first .invariant) (able .suits .solid)))
       ∙ cut .whole
 
   -- ---- both
@@ -160,7 +160,7 @@ module _ (s values image area copies : List ℕ) (base hidden : ℕ) (filled : F
 
   module _ (o : OpenEnter) (rest : List OpenEnter) (is : os ≡ o ∷ rest) (local : InLocals k (o .request) m base (p .copies))
       (more : List (List ℕ)) (cut-more : Cut more (take (p .copies) (b .copies))) where
-    length-copies : length (joined more) ≡ p .copies
+    length-copies : length (piecesJoined more) ≡ p .copies
     length-copies = ap length (cut-more .whole) ∙ length-take-le (p .copies) (b .copies) (stands .copies)
 
     entered : Invariant k (o ∷ rest) m₂
@@ -170,7 +170,7 @@ module _ (s values image area copies : List ℕ) (base hidden : ℕ) (filled : F
     running = ap (callerOf k) is
 
     solid : o .request .leaf ≡ false
-    solid = ap (λ (f : Frame). f .leaf) (sym running) ∙ able .solid
+    solid = ap (λ (f : Frame). f .leaf) (sym running) ∙ able .suits .solid
 
     abbrev m₃ : Machine
     m₃ = run (putPieces base more) m₂
@@ -191,21 +191,21 @@ module _ (s values image area copies : List ℕ) (base hidden : ℕ) (filled : F
     to = base - m₂ .state .base
 
     past : offset k (m₂ .state) + k .header + p .area ≤ to
-    past = omega (arith, pointer₂, over₂, local .from, able .room, ap (outgoingLength k) running)
+    past = omega (arith, pointer₂, over₂, local .from, able .suits .room, ap (outgoingLength k) running)
 
     area-kept : bytesIn (ownArea k m₃) (p .area) m₃ ≡ take (p .area) (b .area)
     area-kept =
         ap (λ (y : State). part (stackPointer k y + k .header - y .base) (p .area) (m₃ .memory)) (third .state)
         ∙ ap (part (ownArea k m₂ - m₂ .state .base) (p .area)) (third .memory)
-        ∙ splice-other (m₂ .memory) to (joined more) (ownArea k m₂ - m₂ .state .base) (p .area) (inl (omega (arith, past, over₂)))
+        ∙ splice-other (m₂ .memory) to (piecesJoined more) (ownArea k m₂ - m₂ .state .base) (p .area) (inl (omega (arith, past, over₂)))
         ∙ area-put
 
     copies-put : bytesIn base (p .copies) m₃ ≡ take (p .copies) (b .copies)
     copies-put =
         ap (λ (y : State). part (base - y .base) (p .copies) (m₃ .memory)) (third .state)
         ∙ ap (part to (p .copies)) (third .memory)
-        ∙ ap (λ (n : ℕ). part to n (splice (m₂ .memory) to (joined more))) (sym length-copies)
-        ∙ splice-same (m₂ .memory) to (joined more) (omega (arith, length-copies, pointer₂, over₂, local .from, local .to, locals-inside k (lawful c) o rest m₂ entered))
+        ∙ ap (λ (n : ℕ). part to n (splice (m₂ .memory) to (piecesJoined more))) (sym length-copies)
+        ∙ splice-same (m₂ .memory) to (piecesJoined more) (omega (arith, length-copies, pointer₂, over₂, local .from, local .to, locals-inside k (lawful c) o rest m₂ entered))
         ∙ cut-more .whole
 
     abbrev all : List Call

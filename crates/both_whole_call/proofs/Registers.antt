@@ -1,15 +1,15 @@
 -- Registers put by writes: every write is accepted, and afterwards each register has what the image has for it. All values are of one image, so that a later write never
 -- changes what an earlier one put. Assumes nothing.
 use mathlib.Core.Path.{_≡_, refl, sym, ap, _∙_, subst}
-use mathlib.Core.Bool.{Bool, true, false}
+use mathlib.Core.Bool.{true}
 use mathlib.Core.List.{List, [], _∷_, map}
 use Prim.Native.Nat.{ℕ, _-_, _^_, _≤_, _<_}
 use native.Mathlib.Omega.{arith}
-use borrow.Author.Tests.{eqb-true, eqb-false, le-leb}
-use lib.Dec.{eqb}
-use lib.ListN.{length, getD, set}
-use lib.Seq.{getD-set-same, getD-set-other}
+use borrow.Author.Tests.{le-leb}
+use lib.ListN.{length, getD}
+use lib.Seq.{getD-set-same}
 use Rattle.base_words.specs.Basics.{All}
+use Rattle.base_words.proofs.Basics.{set-holds}
 use Rattle.plan_places.specs.declared.Bank.{Bank}
 use Rattle.base_conventions.specs.declared.Convention.{Convention}
 use Rattle.frame_rules.specs.declared.FrameRules.{FrameRules}
@@ -19,8 +19,8 @@ use Rattle.frame_rules.specs.Frames.{bankOf, writable, writableRegister, withRe
 use Rattle.frame_rules.specs.Helpers.{LawfulFrames}
 use Rattle.frame_rules.proofs.Conventions.{lawful, writable-lt}
 use Rattle.frame_rules.proofs.Places.{limit-64}
-use Rattle.frame_machine.specs.declared.Answer.the-variants.{Accepted}
-use Rattle.frame_machine.specs.declared.Refusal.the-variants.{NotPermitted}
+use Rattle.frame_machine.specs.declared.FrameAnswer.the-variants.{Accepted}
+use Rattle.frame_machine.specs.declared.FrameRefusal.the-variants.{NotPermitted}
 use Rattle.frame_machine.specs.Answers.{require, judge}
 use Rattle.frame_machine.specs.Machine.{stateRules, stackPointer, top, sizes, stateTests, writeRegisterAnswer, writtenRegister, writeRegisterOutcome}
 use Rattle.frame_machine.proofs.Judging.{judge-next}
@@ -54,14 +54,6 @@ writeOf image x = writeRegister (bankNumber (x .bank)) (x .number) (inImage imag
 
 abbrev written : List ℕ → Registers → Register → Registers
 written image r y = withRegister r (bankOf (bankNumber (y .bank))) (y .number) (inImage image y)
-
--- an entry set to v, where those that should be v are
-set-holds : (l : List ℕ) (i j a v : ℕ) → i < length l → (j ≡ i → a ≡ v) → getD l j 0 ≡ v → getD (set l i a) j 0 ≡ v
-set-holds l i j a v h same e = go (eqb j i) refl
-  where
-    go : (b : Bool) → eqb j i ≡ b → getD (set l i a) j 0 ≡ v
-    go true q = let x = eqb-true j i q in rw x (getD-set-same l i a 0 h ∙ same x)
-    go false q = getD-set-other l i j a 0 (eqb-false j i q) ∙ e
 
 -- what was put stays put
 written-keeps : (image : List ℕ) (r : Registers) (y : Register) → y .number < length (fileOf (y .bank) r) → (x : Register) → Holds image r x → Holds image (written image r y) x

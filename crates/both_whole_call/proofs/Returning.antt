@@ -23,7 +23,7 @@ use Rattle.plan_places.specs.declared.ResultPlaces.{ResultPlaces}
 use Rattle.plan_places.specs.declared.ZClass.{ZClass}
 use Rattle.plan_places.specs.Values.{pointer}
 use Rattle.plan_places.specs.ZSeries.{zClass, zSpanOf}
-use Rattle.plan_places.specs.Step.{rulesOf, wordOf, spanOf, fresh, hiddenFor, returning, resultOf}
+use Rattle.plan_places.specs.Step.{rulesOf, wordOf, spanOf, freshCursor, hiddenFor, returning, resultOf}
 use Rattle.plan_places.specs.Spots.{general, floating}
 use Rattle.plan_places.proofs.Bounds.{Named, named-fresh}
 use Rattle.plan_places.proofs.Registers.{step-registers}
@@ -35,13 +35,13 @@ use Rattle.frame_rules.specs.declared.Registers.{Registers}
 use Rattle.frame_rules.specs.Rules.{rules}
 use Rattle.frame_rules.specs.Frames.{okRequest, frameSize, gprSave, fprSave, restored}
 use Rattle.frame_rules.proofs.Places.{ranges}
-use Rattle.frame_machine.specs.declared.Answer.the-variants.{Accepted}
+use Rattle.frame_machine.specs.declared.FrameAnswer.the-variants.{Accepted}
 use Rattle.frame_machine.specs.declared.State.{State}
 use Rattle.frame_machine.specs.Machine.{stackPointer, offset, top, left, leaveOutcome}
 use Rattle.frame_history.specs.Calls.{leave, Machine, answer, after}
 use Rattle.frame_history.specs.Preserved.{OpenEnter}
 use Rattle.frame_history.proofs.Invariant.{Invariant, top-is}
-use Rattle.both_whole_call.specs.Put.{Register, register, heldIn, registersOf, resultSpans}
+use Rattle.both_whole_call.specs.Put.{Register, register, heldIn, spanRegisters, resultSpans}
 use Rattle.both_whole_call.specs.Caller.{bankIn, firstSaved}
 use Rattle.both_whole_call.proofs.Named.{OfSpan, in-spans}
 
@@ -59,25 +59,25 @@ general-volatile k n h q = record { low = h; other = λ e. q }
 -- ---- where a result is
 
 -- r2 or f0
-z-result : (class : ZClass) (n : ℕ) → OfSpan (Volatile (rules Convention.Z)) (zSpanOf (fresh arguments.CallRules.Z) class n)
-unfolding zSpanOf fresh
+z-result : (class : ZClass) (n : ℕ) → OfSpan (Volatile (rules Convention.Z)) (zSpanOf (freshCursor arguments.CallRules.Z) class n)
+unfolding zSpanOf freshCursor
 z-result ZClass.Float n = record { floats = λ i p. float-volatile _ i (omega arith); generals = λ i p. general-volatile _ i (omega arith) (λ e. omega arith) }
 z-result ZClass.Simple n = record { floats = λ i p. float-volatile _ i (omega arith); generals = λ i p. general-volatile _ i (omega arith) (λ e. omega arith) }
 z-result ZClass.Reference n = record { floats = λ i p. float-volatile _ i (omega arith); generals = λ i p. general-volatile _ i (omega arith) (λ e. omega arith) }
 
 -- argument registers of PowerPC, which are below those that any of its frames saves
 power-result : (k : FrameRules) → 11 ≤ k .gpr .request .first → 14 ≤ k .fpr .request .first → k .pointer ≡ 1 → (f : PowerRules) (t : ValueType) (n : ℕ)
-    → OfSpan (Volatile k) (spanOf (returning (arguments.CallRules.Power f)) (fresh (arguments.CallRules.Power f)) t n)
-unfolding returning fresh
+    → OfSpan (Volatile k) (spanOf (returning (arguments.CallRules.Power f)) (freshCursor (arguments.CallRules.Power f)) t n)
+unfolding returning freshCursor
 power-result k gpr fpr one f t n =
     let later : arguments.CallRules = returning (arguments.CallRules.Power f) in
-    let first : Named later (fresh later) = named-fresh later in
+    let first : Named later (freshCursor later) = named-fresh later in
     record {
-      floats = λ i p. let a = step-registers later (fresh later) t n (floating i) first p in float-volatile k i (omega arith);
-      generals = λ i p. let a = step-registers later (fresh later) t n (general i) first p in general-volatile k i (omega arith) (λ e. omega arith);
+      floats = λ i p. let a = step-registers later (freshCursor later) t n (floating i) first p in float-volatile k i (omega arith);
+      generals = λ i p. let a = step-registers later (freshCursor later) t n (general i) first p in general-volatile k i (omega arith) (λ e. omega arith);
     }
 
-held-result : (c : Convention) (t : ValueType) (n : ℕ) → OfSpan (Volatile (rules c)) (spanOf (returning (rulesOf c)) (fresh (rulesOf c)) t n)
+held-result : (c : Convention) (t : ValueType) (n : ℕ) → OfSpan (Volatile (rules c)) (spanOf (returning (rulesOf c)) (freshCursor (rulesOf c)) t n)
 unfolding returning spanOf
 held-result Convention.Ppc64 t n = power-result (rules Convention.Ppc64) (omega arith) (omega arith) refl _ t n
 held-result Convention.Z t n = z-result (zClass t n) n
@@ -91,8 +91,8 @@ result-in c (ResultType.Value t) = go (hiddenFor (rulesOf c) t)
   where
     go : (b : Bool)
         → All (OfSpan (Volatile (rules c)))
-        (resultSpans (pick b (ResultPlaces.Hidden (spanOf (rulesOf c) (fresh (rulesOf c)) pointer (wordOf (rulesOf c))))
-        (ResultPlaces.Registers (spanOf (returning (rulesOf c)) (fresh (rulesOf c)) t (sizeOf c t)))))
+        (resultSpans (pick b (ResultPlaces.Hidden (spanOf (rulesOf c) (freshCursor (rulesOf c)) pointer (wordOf (rulesOf c))))
+        (ResultPlaces.Registers (spanOf (returning (rulesOf c)) (freshCursor (rulesOf c)) t (sizeOf c t)))))
     go true = tt
     go false = (held-result c t (sizeOf c t), tt)
 
@@ -101,7 +101,7 @@ unfolding planAnswer planIn All
 result-of (got g next n) = result-in (g .convention) (resultType (g .convention) (g .result))
 result-of (no f) = tt
 
-pub result-volatile : (s : List ℕ) → All (Volatile (rules (planFor s .convention))) (registersOf (resultSpans (planFor s .result)))
+pub result-volatile : (s : List ℕ) → All (Volatile (rules (planFor s .convention))) (spanRegisters (resultSpans (planFor s .result)))
 result-volatile s = in-spans (Volatile (rules (planFor s .convention))) (resultSpans (planFor s .result)) (result-of (signatureOf s))
 
 -- ---- a leave

@@ -19,7 +19,7 @@ use Rattle.call_slots.specs.Buffers.{Buffers, buffers, bytesAt}
 use Rattle.call_slots.specs.Placements.{Placement, placements, copyBytes}
 use Rattle.call_slots.specs.Helpers.{Fits}
 use Rattle.call_slots.proofs.Planned.{in-image, copy-in}
-use Rattle.call_roundtrip.proofs.Arguments.{Put, AllPut}
+use Rattle.call_roundtrip.proofs.Arguments.{Put, AllPut, EachValue}
 use Rattle.frame_rules.specs.declared.FrameRules as frames
 use Rattle.frame_rules.specs.declared.Registers.{Registers}
 use Rattle.frame_rules.specs.Helpers.{LawfulFrames}
@@ -149,7 +149,7 @@ module _ (r : CallRules) (base a m : ℕ) (b : Buffers) (image : List ℕ) (size
 
   pub all-found : (ps : List Placement) (v : List ℕ) → All (Fits a m) ps → All (λ (p : Placement). OfSpan (Same image (b .image)) (p .span)) ps → AllPut r base ps v b
       → AllPut r base ps v c
-  unfolding All AllPut
+  unfolding All EachValue
   all-found [] v f s h = tt
   all-found (p ∷ ps) v f s h = (stands-found p (take (p .size) v) (f .0) (s .0) (h .0), all-found ps (drop (p .size) v) (f .1) (s .1) (h .1))
 

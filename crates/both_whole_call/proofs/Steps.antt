@@ -1,11 +1,13 @@
 -- Lists of the machine's own calls: what they leave, answer and open, and that demand 3's invariant holds through them. Assumes nothing.
 use mathlib.Core.Path.{_≡_, refl, sym, subst}
 use mathlib.Core.List.{List, [], _∷_, _++_}
+use Rattle.base_words.specs.Basics.{All}
+use Rattle.base_words.proofs.Each.{each-both}
 use Rattle.base_conventions.specs.declared.Convention.{Convention}
 use Rattle.frame_rules.specs.declared.FrameRules.{FrameRules}
 use Rattle.frame_rules.specs.Rules.{rules}
 use Rattle.frame_rules.proofs.Conventions.{lawful}
-use Rattle.frame_machine.specs.declared.Answer.the-variants.{Accepted}
+use Rattle.frame_machine.specs.declared.FrameAnswer.the-variants.{Accepted}
 use Rattle.frame_machine.specs.Machine.{leaveAnswer, leaveOutcome}
 use Rattle.frame_history.specs.Calls.{Call, leave, Machine, answer, after}
 use Rattle.frame_history.specs.Preserved.{OpenEnter, openAfter, Preserved, CallFits, CallsFit}
@@ -34,7 +36,7 @@ call-keeps c x w os m i = step (rules c) (lawful c) x w os m i (answer x m) refl
 
 pub calls-keep : (c : Convention) (xs : List Call) → CallsFit xs → (os : List OpenEnter) (m : Machine) → Invariant (rules c) os m
     → Invariant (rules c) (openedBy xs m os) (run xs m)
-unfolding openedBy run
+unfolding openedBy run All
 calls-keep c [] w os m i = i
 calls-keep c (x ∷ xs) w os m i = calls-keep c xs (w .1) (openAfter x (answer x m) m os) (after x m) (call-keeps c x (w .0) os m i)
 
@@ -66,5 +68,4 @@ accepted-both [] ys m h k = k
 accepted-both (x ∷ xs) ys m h k = (h .0, accepted-both xs ys (after x m) (h .1) k)
 
 pub fit-both : (xs ys : List Call) → CallsFit xs → CallsFit ys → CallsFit (xs ++ ys)
-fit-both [] ys h k = k
-fit-both (x ∷ xs) ys h k = (h .0, fit-both xs ys (h .1) k)
+fit-both xs ys h k = each-both CallFits xs ys h k

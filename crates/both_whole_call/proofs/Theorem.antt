@@ -3,7 +3,7 @@ use mathlib.Core.Path.{refl, sym, ap₂, _∙_, subst}
 use mathlib.Core.List.{List, _∷_, _++_}
 use Rattle.call_slots.specs.Buffers.{Buffers}
 use Rattle.call_slots.specs.Arguments.{planFor}
-use Rattle.call_roundtrip.specs.RoundTrip.{left}
+use Rattle.call_roundtrip.specs.RoundTrip.{leftByFill}
 use Rattle.frame_history.specs.Calls as states
 use Rattle.frame_word_history.specs.Calls.{Call}
 use Rattle.frame_word_history.specs.Demand3.{machineIn}
@@ -16,13 +16,13 @@ use Rattle.both_whole_call.proofs.Words.{calls-both, calls-pieces, call
 pub whole-call : WholeCall
 whole-call = record {
   outside = λ s values image area copies base hidden filled os m can pieces cut.
-      let b : Buffers = left s values image area copies base hidden in
+      let b : Buffers = leftByFill s values image area copies base hidden in
       let can′ = able (planFor s) os m can in
       claims-read s values (λ _. b .copies) base hidden os m can (putFilled s b pieces m)
       (subst (callee.Claims s values (λ _. b .copies) base hidden os (machineIn m)) (sym (calls-filled s b pieces m))
       (callee.claims s values image area copies base hidden filled os (machineIn m) can′ _ _ _ (ready s values image area copies base hidden filled os (machineIn m) can′ pieces cut)));
   inside = λ s values image area copies base hidden filled o os m can local pieces cut more cut-more.
-      let b : Buffers = left s values image area copies base hidden in
+      let b : Buffers = leftByFill s values image area copies base hidden in
       let can′ = able (planFor s) (o ∷ os) m can in
       let calls : List Call = putFilled s b pieces m ++ putPieces base more in
       let same = calls-both (putFilled s b pieces m) (putPieces base more) ∙ ap₂ (λ (x y : List states.Call). x ++ y) (calls-filled s b pieces m) (calls-pieces base more) in

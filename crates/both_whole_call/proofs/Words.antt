@@ -13,8 +13,8 @@ use Rattle.call_slots.specs.Arguments.{planFor, rulesFor}
 use Rattle.call_home_slot.specs.Homes.{homeless}
 use Rattle.frame_rules.specs.declared.Frame.{Frame}
 use Rattle.frame_rules.specs.Rules.{rules}
-use Rattle.frame_machine.specs.declared.Answer.{Answer}
-use Rattle.frame_machine.specs.declared.Answer.the-variants.{Accepted}
+use Rattle.frame_machine.specs.declared.FrameAnswer.{FrameAnswer}
+use Rattle.frame_machine.specs.declared.FrameAnswer.the-variants.{Accepted}
 use Rattle.frame_machine.specs.Machine.{startOutcome}
 use Rattle.frame_word_layout.specs.Words.{machineWords, registersIn, frameIn}
 use Rattle.frame_word_layout.proofs.Theorems.{start-state}
@@ -25,10 +25,10 @@ use Rattle.frame_history.proofs.Theorem.{start-invariant}
 use Rattle.frame_word_history.specs.Calls.{Call, enter, leave, Lent, answer, after, fresh, run}
 use Rattle.frame_word_history.specs.Demand3.{machineIn, callIn, callsIn, openedBy}
 use Rattle.frame_word_history.proofs.Theorem.{reading-after, answer-read, words-length, start-length, registers-fit}
-use Rattle.both_whole_call.specs.Put.{bytesIn, ownArea, callersArea, Register, heldIn, registersOf, resultSpans, named, putRegister, putPieces, putCalls}
+use Rattle.both_whole_call.specs.Put.{bytesIn, ownArea, callersArea, Register, heldIn, spanRegisters, resultSpans, named, putRegister, putPieces, putCalls}
 use Rattle.both_whole_call.specs.Reached.{AllAccepted, Reached}
 use Rattle.both_whole_call.specs.Caller.{CanCall}
-use Rattle.both_whole_call.specs.WholeCall.{framesFor, Passed, Homed, Returned, calling, inCallee, Claims, putFilled}
+use Rattle.both_whole_call.specs.WholeCall.{framesFor, PassedToCallee, CalleeHomes, ReturnedToCaller, calling, inCallee, Claims, putFilled}
 use Rattle.both_whole_call.proofs.Steps as steps
 use Rattle.both_whole_call.proofs.Registers.{writeOf}
 use Rattle.both_whole_call.proofs.Memory as memory
@@ -62,7 +62,7 @@ opened-read (c ∷ cs) m os h =
     let os₁ : List OpenEnter = openAfter (callIn c) (answer c m) (machineIn m) os in
     opened-read cs (after c m) os₁ (words-length c m ∙ h)
     ∙ ap₂ (λ (x : states.Machine) (l : List OpenEnter). steps.openedBy (callsIn cs) x l) (reading-after c m h)
-    (ap (λ (a : Answer). openAfter (callIn c) a (machineIn m) os) (answer-read c m))
+    (ap (λ (a : FrameAnswer). openAfter (callIn c) a (machineIn m) os) (answer-read c m))
 
 -- ---- two lists one after the other
 
@@ -143,11 +143,11 @@ module _ (c : Convention) (os : List OpenEnter) (m : Lent) (h : Reached c os m) 
   }
 
 pub able : (p : Plan) (os : List OpenEnter) (m : Lent) → CanCall p os m → callee.Able p os (machineIn m)
-able p os m can = record { invariant = reached-keeps (p .convention) os m (can .reached); solid = can .solid; room = omega (arith, can .room); free = can .free }
+able p os m can = record { invariant = reached-keeps (p .convention) os m (can .reached); suits = can .suits }
 
 -- ---- the claims
 
-homed-read : (s values copies : List ℕ) (f : Frame) (m : Lent) → length (m .words) ≡ machineWords → callee.Homed s values copies f (machineIn m) → Homed s values copies f m
+homed-read : (s values copies : List ℕ) (f : Frame) (m : Lent) → length (m .words) ≡ machineWords → callee.Homed s values copies f (machineIn m) → CalleeHomes s values copies f m
 homed-read s values copies f m h k =
     let a : ℕ = callersArea (framesFor s) f (machineIn m) in
     let same : (pieces : List (List ℕ)) → machineIn (run (putPieces a pieces) m) ≡ steps.run (memory.putPieces a pieces) (machineIn m) =
@@ -202,18 +202,18 @@ module _ (s values : List ℕ) (copies : states.Machine → List ℕ) (base hidd
     opened : o ≡ callee.calling (callsIn puts) (machineIn m) f
     opened = ap (λ (x : states.Machine). record { before = x; request = f }) ran
 
-    passes : Passed s values (copies (machineIn m′)) base hidden f (machineIn m′)
-    passes = subst (λ (x : states.Machine). Passed s values (copies x) base hidden f x) (sym entered) (k .passed f accepts)
+    passes : PassedToCallee s values (copies (machineIn m′)) base hidden f (machineIn m′)
+    passes = subst (λ (x : states.Machine). PassedToCallee s values (copies x) base hidden f x) (sym entered) (k .passed f accepts)
 
-    homes : homeless (rulesFor s) ≡ false → Homed s values (copies (machineIn m′)) f m′
+    homes : homeless (rulesFor s) ≡ false → CalleeHomes s values (copies (machineIn m′)) f m′
     homes power =
         homed-read s values (copies (machineIn m′)) f m′ entered-size
         (subst (λ (x : states.Machine). callee.Homed s values (copies x) f x) (sym entered) (k .homed power f accepts))
 
     in-callee : Reached c (o ∷ os) m′
-    unfolding openedBy run
+    unfolding openedBy run All
     in-callee =
-        subst (λ (a : Answer). Reached c (openAfter (states.enter f) a (machineIn (run puts m)) os) m′) e (reached-more c os (run puts m) put (enter q ∷ []) (tt, tt))
+        subst (λ (a : FrameAnswer). Reached c (openAfter (states.enter f) a (machineIn (run puts m)) os) m′) e (reached-more c os (run puts m) put (enter q ∷ []) (tt, tt))
 
     module _ (body : List Call) (fit : CallsFit (callsIn body)) (closed : openedBy body m′ (o ∷ os) ≡ o ∷ os) where
       abbrev m″ : Lent
@@ -235,16 +235,16 @@ module _ (s values : List ℕ) (copies : states.Machine → List ℕ) (base hidd
       left = reading-after leave m″ (words-run body m′ ∙ entered-size)
 
       after-leave : Reached c os (after leave m″)
-      unfolding openedBy run
+      unfolding openedBy run All
       after-leave =
           let inside : Reached c (o ∷ os) m″ = subst (λ (l : List OpenEnter). Reached c l m″) closed (reached-more c (o ∷ os) m′ in-callee body fit) in
-          subst (λ (a : Answer). Reached c (openAfter states.leave a (machineIn m″) (o ∷ os)) (after leave m″)) (back .accepted) (reached-more c (o ∷ os) m″ inside (leave ∷ []) (tt, tt))
+          subst (λ (a : FrameAnswer). Reached c (openAfter states.leave a (machineIn m″) (o ∷ os)) (after leave m″)) (back .accepted) (reached-more c (o ∷ os) m″ inside (leave ∷ []) (tt, tt))
 
-      returns : Returned (planFor s) o os m″
+      returns : ReturnedToCaller (planFor s) o os m″
       returns = record {
         accepted = back .accepted;
         kept = subst (Preserved (rules c) o os) (sym left) (back .kept);
-        result = subst (λ (x : states.Machine). All (λ (y : Register). heldIn (x .state .registers) y ≡ heldIn (machineIn m″ .state .registers) y) (registersOf (resultSpans (planFor s .result)))) (sym left) (back .result);
+        result = subst (λ (x : states.Machine). All (λ (y : Register). heldIn (x .state .registers) y ≡ heldIn (machineIn m″ .state .registers) y) (spanRegisters (resultSpans (planFor s .result)))) (sym left) (back .result);
         reached = after-leave;
       }
 

@@ -40,11 +40,15 @@ Free k f x = writable (bankIn k (x .bank)) (firstSaved (x .bank) f) (x .number) 
 -- The running function, which is the latest open enter or the start, can call by the plan p: it is no leaf ("Enter above a leaf gives new refusal 28"), its outgoing area has
 -- room for the plan's, and it may write the registers that the plan names. That last it always may, but on Z for r6, which it must have saved (law `named-free`); and a function
 -- that asked for the plan's area, rounded up to 8, has the room (law `can-call`).
-pub record CanCall (p : Plan) (os : List OpenEnter) (m : Lent) : Type 0 where
-  pub reached : Reached (p .convention) os m
+pub record CallerSuits (p : Plan) (os : List OpenEnter) : Type 0 where
   pub solid : callerOf (rules (p .convention)) os .leaf ≡ false
   pub room : p .area ≤ outgoingLength (rules (p .convention)) (callerOf (rules (p .convention)) os)
   pub free : All (Free (rules (p .convention)) (callerOf (rules (p .convention)) os)) (named p)
+
+-- in a machine that the exported calls lead to
+pub record CanCall (p : Plan) (os : List OpenEnter) (m : Lent) : Type 0 where
+  pub reached : Reached (p .convention) os m
+  pub suits : CallerSuits p os
 
 -- n bytes at the address a lie in the locals of the frame f, which is running: "own locals (all between the outgoing area and the saves)"
 pub record InLocals (k : FrameRules) (f : Frame) (m : Machine) (a n : ℕ) : Type 0 where

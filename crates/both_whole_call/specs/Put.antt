@@ -4,6 +4,7 @@ use Prim.Native.Nat.{ℕ, _+_, _-_, _≤_}
 use mathlib.Core.Path.{_≡_}
 use mathlib.Core.List.{List, [], _∷_, _++_, map}
 use lib.ListN.{length, getD}
+use Rattle.base_words.specs.Basics.{All}
 use Rattle.base_words.specs.Splice.{part}
 use Rattle.base_words.specs.Numbers.{bytesOf, valueOf}
 use Rattle.plan_places.specs.declared.Bank.{Bank}
@@ -17,7 +18,7 @@ use Rattle.frame_rules.specs.declared.FrameRules.{FrameRules}
 use Rattle.frame_rules.specs.declared.Frame.{Frame}
 use Rattle.frame_rules.specs.declared.Registers.{Registers}
 use Rattle.frame_rules.specs.Frames.{frameSize}
-use Rattle.frame_machine.specs.Machine.{stackPointer}
+use Rattle.frame_machine.specs.Machine.{stackPointer, maxWrite}
 use Rattle.frame_history.specs.Calls.{Machine}
 use Rattle.frame_word_history.specs.Calls.{Call, writeRegister, writeMemory}
 
@@ -70,9 +71,9 @@ unfoldable pub rangeRegisters : Bank → RegisterRange → List Register
 rangeRegisters b r = map (register b) (upFrom (r .first) 1 (r .count))
 
 -- of several arguments, in order
-unfoldable pub registersOf : List Span → List Register
-registersOf [] = []
-registersOf (s ∷ ss) = rangeRegisters Bank.Floating (s .floating) ++ (rangeRegisters Bank.General (s .general) ++ registersOf ss)
+unfoldable pub spanRegisters : List Span → List Register
+spanRegisters [] = []
+spanRegisters (s ∷ ss) = rangeRegisters Bank.Floating (s .floating) ++ (rangeRegisters Bank.General (s .general) ++ spanRegisters ss)
 
 -- where the hidden address is
 abbrev pub hiddenSpans : ResultPlaces → List Span
@@ -88,7 +89,7 @@ resultSpans (ResultPlaces.Hidden s) = []
 
 -- the hidden address's and the arguments'; spans past the last argument have none
 abbrev pub named : Plan → List Register
-named p = registersOf (hiddenSpans (p .result) ++ p .spans)
+named p = spanRegisters (hiddenSpans (p .result) ++ p .spans)
 
 -- ---- the calls
 
@@ -120,16 +121,15 @@ putCalls p image a pieces = map (putRegister image) (named p) ++ putPieces a pie
 
 -- ---- bytes in pieces
 
-unfoldable pub joined : List (List ℕ) → List ℕ
-joined [] = []
-joined (bs ∷ rest) = bs ++ joined rest
+unfoldable pub piecesJoined : List (List ℕ) → List ℕ
+piecesJoined [] = []
+piecesJoined (bs ∷ rest) = bs ++ piecesJoined rest
 
 -- "Memory, 1 to 256 bytes"
-unfoldable pub Short : List (List ℕ) → Type 0
-Short [] = Unit {0}
-Short (bs ∷ rest) = ((1 ≤ length bs) × (length bs ≤ 256)) × Short rest
+abbrev pub WritablePiece : List ℕ → Type 0
+WritablePiece bs = (1 ≤ length bs) × (length bs ≤ maxWrite)
 
 -- the bytes bs, cut in pieces that a write may have
 pub record Cut (pieces : List (List ℕ)) (bs : List ℕ) : Type 0 where
-  pub whole : joined pieces ≡ bs
-  pub short : Short pieces
+  pub whole : piecesJoined pieces ≡ bs
+  pub short : All WritablePiece pieces

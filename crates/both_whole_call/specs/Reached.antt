@@ -4,7 +4,7 @@ use mathlib.Core.Path.{_≡_}
 use mathlib.Core.List.{List, [], _∷_}
 use lib.ListN.{length}
 use Rattle.base_conventions.specs.declared.Convention.{Convention}
-use Rattle.frame_machine.specs.declared.Answer.the-variants.{Accepted}
+use Rattle.frame_machine.specs.declared.FrameAnswer.the-variants.{Accepted}
 use Rattle.frame_machine.specs.Machine.{startOutcome}
 use Rattle.frame_word_layout.specs.Words.{registersWords, registersIn}
 use Rattle.frame_history.specs.Preserved.{OpenEnter, CallsFit}

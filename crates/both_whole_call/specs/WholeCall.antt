@@ -13,12 +13,12 @@ use Rattle.plan_plans.specs.declared.Plan.{Plan}
 use Rattle.call_slots.specs.Buffers.{Buffers}
 use Rattle.call_slots.specs.Arguments.{planFor, rulesFor}
 use Rattle.call_home_slot.specs.Homes.{homeless}
-use Rattle.call_roundtrip.specs.RoundTrip.{Filled, left, ReadBack}
+use Rattle.call_roundtrip.specs.RoundTrip.{Filled, leftByFill, ReadBack}
 use Rattle.call_roundtrip.specs.Views.{homedArea, Viewed}
 use Rattle.frame_rules.specs.declared.FrameRules.{FrameRules}
 use Rattle.frame_rules.specs.declared.Frame.{Frame}
 use Rattle.frame_rules.specs.Rules.{rules}
-use Rattle.frame_machine.specs.declared.Answer.the-variants.{Accepted}
+use Rattle.frame_machine.specs.declared.FrameAnswer.the-variants.{Accepted}
 use Rattle.frame_word_layout.specs.Words.{frameIn}
 use Rattle.frame_history.specs.Calls.{Machine}
 use Rattle.frame_history.specs.Preserved.{OpenEnter, Preserved, CallsFit}
@@ -26,7 +26,7 @@ use Rattle.frame_word_history.specs.Calls.{Call, enter, leave, Lent, answer, af
 use Rattle.frame_word_history.specs.Demand3.{machineIn, callsIn, openedBy}
 use Rattle.both_whole_call.specs.Reached.{AllAccepted, Reached}
 use Rattle.both_whole_call.specs.Caller.{CanCall, InLocals}
-use Rattle.both_whole_call.specs.Put.{bytesIn, ownArea, callersArea, found, Register, heldIn, registersOf, resultSpans, putPieces, putCalls, Cut}
+use Rattle.both_whole_call.specs.Put.{bytesIn, ownArea, callersArea, found, Register, heldIn, spanRegisters, resultSpans, putPieces, putCalls, Cut}
 
 -- ---- what is claimed of the callee
 
@@ -38,13 +38,13 @@ abbrev pub seen : List ℕ → Frame → List ℕ → Machine → Buffers
 seen s f copies m = found (framesFor s) f (planFor s .area) copies m
 
 -- As the callee begins: its read of what it finds accepts and gives the values back, and a hidden address is in its register.
-pub record Passed (s values copies : List ℕ) (base hidden : ℕ) (f : Frame) (m : Machine) : Type 0 where
+pub record PassedToCallee (s values copies : List ℕ) (base hidden : ℕ) (f : Frame) (m : Machine) : Type 0 where
   pub read : (into : List ℕ) → length into ≡ length values → ReadBack s values base (seen s f copies m) into
   pub address : (x : Span) → planFor s .result ≡ ResultPlaces.Hidden x → getD (m .state .registers .gpr) (x .general .first) 0 ≡ hidden
 
 -- On PowerPC too: home of what it finds accepts, and each view of the area that home leaves is the argument; and the callee may put that area, in any pieces, where it found it:
 -- "caller's outgoing area".
-pub record Homed (s values copies : List ℕ) (f : Frame) (m : Lent) : Type 0 where
+pub record CalleeHomes (s values copies : List ℕ) (f : Frame) (m : Lent) : Type 0 where
   pub viewed : Viewed s values (seen s f copies (machineIn m))
   pub accepted : (pieces : List (List ℕ)) → Cut pieces (homedArea s (seen s f copies (machineIn m)))
       → AllAccepted (putPieces (callersArea (framesFor s) f (machineIn m)) pieces) m
@@ -54,10 +54,10 @@ pub record Homed (s values copies : List ℕ) (f : Frame) (m : Lent) : Type 0 wh
 
 -- As the callee of the enter o is about to leave: the leave is accepted and keeps all that demand 3 says, and a result that stands in its registers stays there. What is lent then
 -- was reached with the same enters open, so that the caller can make its next call.
-pub record Returned (p : Plan) (o : OpenEnter) (os : List OpenEnter) (m : Lent) : Type 0 where
+pub record ReturnedToCaller (p : Plan) (o : OpenEnter) (os : List OpenEnter) (m : Lent) : Type 0 where
   pub accepted : answer leave m ≡ Accepted
   pub kept : Preserved (rules (p .convention)) o os (machineIn (after leave m))
-  pub result : All (λ (x : Register). heldIn (machineIn (after leave m) .state .registers) x ≡ heldIn (machineIn m .state .registers) x) (registersOf (resultSpans (p .result)))
+  pub result : All (λ (x : Register). heldIn (machineIn (after leave m) .state .registers) x ≡ heldIn (machineIn m .state .registers) x) (spanRegisters (resultSpans (p .result)))
   pub reached : Reached (p .convention) os (after leave m)
 
 -- ---- what is claimed of the calls that put the arguments
@@ -77,15 +77,15 @@ pub record Claims (s values : List ℕ) (copies : Machine → List ℕ) (base hi
   pub fit : CallsFit (callsIn puts)
   -- after any accepted enter, of a frame or of a leaf, the callee has its arguments, and can call in turn
   pub passed : (q : List ℕ) → answer (enter q) (run puts m) ≡ Accepted
-      → Passed s values (copies (machineIn (inCallee puts m q))) base hidden (frameIn q 0) (machineIn (inCallee puts m q))
+      → PassedToCallee s values (copies (machineIn (inCallee puts m q))) base hidden (frameIn q 0) (machineIn (inCallee puts m q))
   pub homed : homeless (rulesFor s) ≡ false → (q : List ℕ) → answer (enter q) (run puts m) ≡ Accepted
-      → Homed s values (copies (machineIn (inCallee puts m q))) (frameIn q 0) (inCallee puts m q)
+      → CalleeHomes s values (copies (machineIn (inCallee puts m q))) (frameIn q 0) (inCallee puts m q)
   pub reached : (q : List ℕ) → answer (enter q) (run puts m) ≡ Accepted
       → Reached (planFor s .convention) (calling puts m q ∷ os) (inCallee puts m q)
   -- and whatever it calls then, accepted or refused, once it has closed what it opened it can leave
   pub returned : (q : List ℕ) → answer (enter q) (run puts m) ≡ Accepted → (body : List Call) → CallsFit (callsIn body)
       → openedBy body (inCallee puts m q) (calling puts m q ∷ os) ≡ calling puts m q ∷ os
-      → Returned (planFor s) (calling puts m q) os (run body (inCallee puts m q))
+      → ReturnedToCaller (planFor s) (calling puts m q) os (run body (inCallee puts m q))
 
 -- the calls that put what filling left in b, by the running function's stack pointer
 abbrev pub putFilled : List ℕ → Buffers → List (List ℕ) → Lent → List Call
@@ -98,13 +98,13 @@ pub record WholeCall : Type 0 where
   -- where the copies stay outside the machine, and the callee is handed them as filling left them;
   pub outside : (s values image area copies : List ℕ) (base hidden : ℕ) → Filled s values image area copies base hidden
       → (os : List OpenEnter) (m : Lent) → CanCall (planFor s) os m
-      → let b = left s values image area copies base hidden in
+      → let b = leftByFill s values image area copies base hidden in
       (pieces : List (List ℕ)) → Cut pieces (take (planFor s .area) (b .area))
       → Claims s values (λ _. b .copies) base hidden os m (putFilled s b pieces m)
   -- and where they are put in the locals of the running function, which was entered by o, from the copy base on, and the callee has them from the machine's memory.
   pub inside : (s values image area copies : List ℕ) (base hidden : ℕ) → Filled s values image area copies base hidden
       → (o : OpenEnter) (os : List OpenEnter) (m : Lent) → CanCall (planFor s) (o ∷ os) m → InLocals (framesFor s) (o .request) (machineIn m) base (planFor s .copies)
-      → let b = left s values image area copies base hidden in
+      → let b = leftByFill s values image area copies base hidden in
       (pieces : List (List ℕ)) → Cut pieces (take (planFor s .area) (b .area))
       → (more : List (List ℕ)) → Cut more (take (planFor s .copies) (b .copies))
       → Claims s values (bytesIn base (planFor s .copies)) base hidden (o ∷ os) m (putFilled s b pieces m ++ putPieces base more)

@@ -3,9 +3,9 @@
 use Rattle.c_answers.specs.Answers.{answerOf, yes}
 use Rattle.frame_dump.specs.declared.Found.{Found}
 use Rattle.frame_dump.specs.declared.Found.the-variants.{Frames, Refused}
-use Rattle.frame_dump.specs.Walk.{refusalNumber, refusalPlace}
-use Rattle.c_dump.specs.declared.Walked.{Walked}
+use Rattle.frame_dump.specs.Walk.{walkRefusalNumber, refusalPlace}
+use Rattle.c_dump.specs.declared.WalkedDump.{WalkedDump}
 
-unfoldable pub walkedAnswer : Found → Walked
+unfoldable pub walkedAnswer : Found → WalkedDump
 walkedAnswer (Frames n) = record { answer = yes; count = n }
-walkedAnswer (Refused r) = record { answer = answerOf (refusalNumber r) (refusalPlace r); count = 0 }
+walkedAnswer (Refused r) = record { answer = answerOf (walkRefusalNumber r) (refusalPlace r); count = 0 }

@@ -13,16 +13,16 @@ ghost use Rattle.c_dump.specs.Dump.{walkedAnswer};
 
 // `fz_walked` of include/flakuzhen.h.
 #[repr(C)]
-pub struct Walked {
+pub struct WalkedDump {
     pub answer: Answer,
     pub count: u64,
 }
 
-fn walked_of(f: Found) -> Walked
+fn walked_of(f: Found) -> WalkedDump
     ensures { λ r. ⌜ r ≡ walkedAnswer f ⌝ }
 {
     match f {
-        Found::Frames(n) => Walked {
+        Found::Frames(n) => WalkedDump {
             answer: Answer {
                 number: 0,
                 place: 0,
@@ -30,9 +30,9 @@ fn walked_of(f: Found) -> Walked
             },
             count: n as u64,
         },
-        Found::Refused(r) => Walked {
+        Found::Refused(r) => WalkedDump {
             answer: Answer {
-                number: frame_dump::refusal_number(r),
+                number: frame_dump::walk_refusal_number(r),
                 place: frame_dump::refusal_place(r),
                 items: 0,
             },
@@ -47,7 +47,7 @@ pub extern "C" fn fz_walk_dump_ppc64(
     base: u64,
     pointer: u64,
     list: &mut [u64],
-) -> Walked
+) -> WalkedDump
     ensures { λ r. ⌜ r ≡ walkedAnswer (counted 0 (walkInto (rules convention.Ppc64) base (now (memory .entry)) pointer (length (now (list .entry))))) ⌝ }
     ensures { λ _. ⌜ now (list .exit) ≡ framesListed (walkInto (rules convention.Ppc64) base (now (memory .entry)) pointer (length (now (list .entry)))) (now (list .entry)) ⌝ }
 {
@@ -57,7 +57,12 @@ pub extern "C" fn fz_walk_dump_ppc64(
 }
 
 #[no_mangle]
-pub extern "C" fn fz_walk_dump_z(memory: &[u8], base: u64, pointer: u64, list: &mut [u64]) -> Walked
+pub extern "C" fn fz_walk_dump_z(
+    memory: &[u8],
+    base: u64,
+    pointer: u64,
+    list: &mut [u64],
+) -> WalkedDump
     ensures { λ r. ⌜ r ≡ walkedAnswer (counted 0 (walkInto (rules convention.Z) base (now (memory .entry)) pointer (length (now (list .entry))))) ⌝ }
     ensures { λ _. ⌜ now (list .exit) ≡ framesListed (walkInto (rules convention.Z) base (now (memory .entry)) pointer (length (now (list .entry)))) (now (list .entry)) ⌝ }
 {
@@ -72,7 +77,7 @@ pub extern "C" fn fz_walk_dump_aix(
     base: u64,
     pointer: u64,
     list: &mut [u64],
-) -> Walked
+) -> WalkedDump
     ensures { λ r. ⌜ r ≡ walkedAnswer (counted 0 (walkInto (rules convention.Aix) base (now (memory .entry)) pointer (length (now (list .entry))))) ⌝ }
     ensures { λ _. ⌜ now (list .exit) ≡ framesListed (walkInto (rules convention.Aix) base (now (memory .entry)) pointer (length (now (list .entry)))) (now (list .entry)) ⌝ }
 {

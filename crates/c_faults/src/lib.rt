@@ -9,7 +9,7 @@ pub fn fault_answer(f: Fault) -> Answer
 {
     let reason = f.reason;
     Answer {
-        number: sig_items::number_of(reason),
+        number: sig_items::refusal_number(reason),
         place: f.place as u64,
         items: f.passed as u64,
     }

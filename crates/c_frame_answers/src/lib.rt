@@ -1,9 +1,10 @@
 // The answer of a call of the frame machine, as C sees it.
 use c_answers::Answer;
+use frame_machine::FrameAnswer;
 ghost use mathlib.Core.Path.{_≡_};
 ghost use Rattle.c_frame_answers.specs.Frames.{frameAnswer};
 
-pub fn answer_of(a: frame_machine::Answer) -> Answer
+pub fn answer_of(a: FrameAnswer) -> Answer
     ensures { λ r. ⌜ r ≡ frameAnswer a ⌝ }
 {
     Answer {

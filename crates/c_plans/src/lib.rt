@@ -3,7 +3,6 @@
 use c_answers::Answer;
 use sig_signatures::Outcome;
 ghost use mathlib.Core.Path.{_≡_};
-ghost use Rattle.base_words.specs.Basics.{flag};
 ghost use Rattle.base_words.specs.Splice.{overlayWhole};
 ghost use Rattle.plan_plans.specs.Call.{callOf};
 ghost use Rattle.plan_words.specs.Entries.{entriesOf};
@@ -34,15 +33,6 @@ pub struct PlanAnswer {
     pub result_gprs: u64,
     pub result_fpr: u64,
     pub result_fprs: u64,
-}
-
-fn mark_word(mark: bool) -> u64
-    ensures { λ n. ⌜ n ≡ flag mark ⌝ }
-{
-    if mark {
-        return 1;
-    }
-    0
 }
 
 #[no_mangle]
@@ -106,7 +96,7 @@ pub extern "C" fn fz_plan(sig: &[u8], places: &mut [u64]) -> PlanAnswer
                     items: 0,
                 },
                 convention: base_conventions::code_of(convention),
-                ellipsis: mark_word(p.ellipsis),
+                ellipsis: base_words::flag(p.ellipsis),
                 arguments: p.count as u64,
                 values: p.values as u64,
                 area: p.area as u64,

@@ -6,12 +6,12 @@ use lib.ListN.{getD}
 use Rattle.sig_signatures.specs.Limits.{maxArguments}
 use Rattle.second_parameters.specs.Values.{noParameter}
 use Rattle.second_planner.specs.declared.SecondPlan.{SecondPlan}
-use Rattle.c_second.specs.Words.{placeWords, noPlace, placeAt}
+use Rattle.c_second.specs.Words.{placeWords, noSecondPlace, placeAt}
 
 pub place-within : (p : SecondPlan) (i : ℕ) → i < maxArguments → placeWords (getD (p .parameters) i noParameter) ≡ placeAt p i
 unfolding placeAt
 place-within p i h = rw (lt-ltb i maxArguments h)
 
-pub place-past : (p : SecondPlan) (i : ℕ) → maxArguments ≤ i → noPlace ≡ placeAt p i
+pub place-past : (p : SecondPlan) (i : ℕ) → maxArguments ≤ i → noSecondPlace ≡ placeAt p i
 unfolding placeAt
 place-past p i h = rw (le-ltb i maxArguments h)

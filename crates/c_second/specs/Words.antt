@@ -32,8 +32,8 @@ returnedWords (Returned.General r) = runWords 1 r
 returnedWords (Returned.Floating r) = runWords 2 r
 returnedWords (Returned.Hidden r) = runWords 3 r
 
-abbrev pub planWords : SecondPlan → SecondAnswer
-planWords p = record {
+abbrev pub secondPlanWords : SecondPlan → SecondAnswer
+secondPlanWords p = record {
   answer = outcomeWords (p .outcome);
   convention = codeOf (p .convention);
   ellipsis = flag (p .ellipsis);
@@ -62,8 +62,8 @@ placeWords p = record {
 }
 
 -- of argument number i; a table has no more places than a signature may have arguments
-abbrev pub noPlace : SecondPlace
-noPlace = placeWords noParameter
+abbrev pub noSecondPlace : SecondPlace
+noSecondPlace = placeWords noParameter
 
 unfoldable pub placeAt : SecondPlan → ℕ → SecondPlace
-placeAt p i = pick (ltb i maxArguments) (placeWords (getD (p .parameters) i noParameter)) noPlace
+placeAt p i = pick (ltb i maxArguments) (placeWords (getD (p .parameters) i noParameter)) noSecondPlace

@@ -5,10 +5,9 @@ use second_parameters::Returned;
 use sig_signatures::MAX_ARGUMENTS;
 use sig_signatures::Outcome;
 ghost use mathlib.Core.Path.{_≡_};
-ghost use Rattle.base_words.specs.Basics.{flag};
 ghost use Rattle.sig_signatures.specs.Read.{signatureOf};
 ghost use Rattle.second_planner.specs.Answer.{secondAnswer};
-ghost use Rattle.c_second.specs.Words.{outcomeWords, returnedWords, planWords, placeWords, noPlace, placeAt};
+ghost use Rattle.c_second.specs.Words.{outcomeWords, returnedWords, secondPlanWords, placeWords, noSecondPlace, placeAt};
 
 // A result: 0 none, 1 in general registers, 2 in floating registers, 3 in memory whose address is in a general register; with the first and the count
 // of the registers.
@@ -47,15 +46,6 @@ pub struct SecondPlace {
     pub copy: u64,
     pub copy_length: u64,
     pub reference: u64,
-}
-
-fn mark_word(mark: bool) -> u64
-    ensures { λ n. ⌜ n ≡ flag mark ⌝ }
-{
-    if mark {
-        return 1;
-    }
-    0
 }
 
 fn outcome_words(o: Outcome) -> Answer
@@ -117,13 +107,13 @@ fn place_words(p: Parameter) -> SecondPlace
         memory_length: memory.count as u64,
         copy: copy.first as u64,
         copy_length: copy.count as u64,
-        reference: mark_word(p.reference),
+        reference: base_words::flag(p.reference),
     }
 }
 
 #[no_mangle]
 pub extern "C" fn fz_second_plan(sig: &[u8]) -> SecondAnswer
-    ensures { λ r. ⌜ r ≡ planWords (secondAnswer (signatureOf (now (sig .entry)))) ⌝ }
+    ensures { λ r. ⌜ r ≡ secondPlanWords (secondAnswer (signatureOf (now (sig .entry)))) ⌝ }
 {
     let p = second_planner::second_plan_of(sig);
     let outcome = p.outcome;
@@ -133,7 +123,7 @@ pub extern "C" fn fz_second_plan(sig: &[u8]) -> SecondAnswer
     SecondAnswer {
         answer: outcome_words(outcome),
         convention: base_conventions::code_of(convention),
-        ellipsis: mark_word(p.ellipsis),
+        ellipsis: base_words::flag(p.ellipsis),
         arguments: p.count as u64,
         values: p.values as u64,
         area: p.area as u64,

@@ -29,7 +29,7 @@ storedFillWords (StoredFill.Plain a) = callAnswer a
 storedFillWords (StoredFill.Stale place) = answerOf (storedFillNumber (StoredFill.Stale place)) place
 
 -- each has the number that the definitions give it; proofs/Laws.antt proves it
-pub record Numbered : Type 0 where
+pub record StoredNumbered : Type 0 where
   pub stored : (a : StoreAnswer) → storedWords a .answer .number ≡ storeNumber a
   pub check : (a : CheckAnswer) → checkWords a .number ≡ checkNumber a
   pub fill : (a : StoredFill) → storedFillWords a .number ≡ storedFillNumber a

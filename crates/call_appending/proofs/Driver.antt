@@ -16,7 +16,7 @@ use Rattle.plan_places.specs.declared.CallRules.{CallRules}
 use Rattle.plan_plans.specs.declared.Plan.{Plan}
 use Rattle.plan_plans.specs.Plan.{planIn, planAnswer}
 use Rattle.plan_plans.specs.Call.{callOf, outcomeFor}
-use Rattle.call_slots.specs.declared.Answer.{Answer}
+use Rattle.call_slots.specs.declared.CallAnswer.{CallAnswer}
 use Rattle.call_slots.specs.Buffers.{Buffers}
 use Rattle.call_slots.specs.Placements.{Placement}
 use Rattle.call_slots.specs.Helpers.{sizesOf}
@@ -24,8 +24,8 @@ use Rattle.call_slots.specs.Refusals.{firstOf, orElse, afterReading}
 use Rattle.call_slots.specs.Arguments.{argumentsOf, planFor, rulesIn, rulesFor}
 use Rattle.call_fill.specs.Fill.{fillAnswer}
 use Rattle.call_read.specs.Read.{readLengths, readTests, readAnswer, readValues}
-use Rattle.call_roundtrip.specs.RoundTrip.{Filled, left}
-use Rattle.call_roundtrip.proofs.Arguments.{Put, AllPut}
+use Rattle.call_roundtrip.specs.RoundTrip.{Filled, leftByFill}
+use Rattle.call_roundtrip.proofs.Arguments.{Put, AllPut, EachValue}
 use Rattle.call_roundtrip.proofs.Theorems.{put-back, read-tests, Left, filled-left, values-total}
 use Rattle.call_appending.specs.Appending.{Appended}
 use Rattle.call_appending.specs.Driver.{OldDriverReads}
@@ -36,7 +36,7 @@ use Rattle.call_appending.proofs.Filled.{others, arguments-extended}
 -- the first arguments of those that stand
 all-put-first : (r : CallRules) (base : ℕ) (ps qs : List Placement) (v w : List ℕ) (b : Buffers) → length v ≡ sizesOf ps → AllPut r base (ps ++ qs) (v ++ w) b
     → AllPut r base ps v b
-unfolding AllPut sizesOf
+unfolding EachValue sizesOf
 all-put-first r base [] qs v w b e h = tt
 all-put-first r base (p ∷ ps) qs v w b e h = (
   subst (λ (x : List ℕ). Put r base p x b) (take-append-le (p .size) v w (omega arith)) (h .0),
@@ -49,7 +49,7 @@ record Accepted (o : Outcome) : Type 0 where
   items : ℕ
   same : o ≡ Outcome.Accepted items
 
-done-accepted : (o : Outcome) (x : Answer) → afterReading o x ≡ Answer.Done → Accepted o
+done-accepted : (o : Outcome) (x : CallAnswer) → afterReading o x ≡ CallAnswer.Done → Accepted o
 done-accepted (Outcome.Accepted n) x e = record { items = n; same = refl }
 done-accepted (Outcome.Refused f) x e = let z : _≡_ {A = ℕ} 0 1 = cc in absurd (omega arith)
 
@@ -78,7 +78,7 @@ module _ (s u : List ℕ) (a : Appended s u) where
 pub old-driver-reads : OldDriverReads
 unfolding readAnswer readValues
 old-driver-reads s u values more image area copies into base hidden a h total size =
-    let after : Buffers = left u (values ++ more) image area copies base hidden in
+    let after : Buffers = leftByFill u (values ++ more) image area copies base hidden in
     let l : Left u (values ++ more) base after = filled-left u (values ++ more) image area copies base hidden h in
     let b = filled-accepted u (values ++ more) image area copies base hidden h in
     let p : Plan = planFor s in
@@ -86,7 +86,7 @@ old-driver-reads s u values more image area copies into base hidden a h total si
     let both : AllPut (rulesFor s) base (argumentsOf s ++ others (a .shorter) (a .appends .more)) (values ++ more) after =
     rw (← rules-same s u a, ← arguments-first s u a) (l .all) in
     let back = put-back (rulesFor s) base (argumentsOf s) values after (all-put-first (rulesFor s) base (argumentsOf s) (others (a .shorter) (a .appends .more)) values more after whole both) whole in
-    let good : firstOf (readTests (readLengths into (after .image) (after .area)) (p .values) (p .area)) ≡ Answer.Done =
+    let good : firstOf (readTests (readLengths into (after .image) (after .area)) (p .values) (p .area)) ≡ CallAnswer.Done =
     read-tests (readLengths into (after .image) (after .area)) (p .values) (p .area) (l .image) (size ∙ total) (omega (arith, l .area, area-grown s u a)) in
     record {
       accepted = ap₂ afterReading (shorter-outcome s u a (b .items) (b .same)) (ap₂ orElse good (back .0));

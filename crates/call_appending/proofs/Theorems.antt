@@ -22,19 +22,19 @@ use Rattle.sig_signatures.specs.Encode.{encode, signatureItems, SignatureWithin
 use Rattle.sig_signatures.proofs.Theorems.{accepted}
 use Rattle.sig_signatures.proofs.Complete.{encode-reads}
 use Rattle.sig_reader.specs.declared.ArgumentRead.{ArgumentRead}
-use Rattle.sig_reader.specs.Argument.{argumentIn, argumentsPlace, argumentOf}
+use Rattle.sig_reader.specs.Argument.{argumentIn, argumentsPlace, argumentOf, itemIn, unclearFault}
 use Rattle.plan_places.specs.declared.Cursor.{Cursor}
 use Rattle.plan_places.specs.declared.CallRules.{CallRules}
 use Rattle.plan_places.specs.Step.{rulesOf, withEllipsis}
 use Rattle.plan_plans.specs.Plan.{lastOf, startIn, lastCursorIn, planIn, planAnswer}
 use Rattle.sig_signatures.specs.Types.{typesOf, valuesOf}
 use Rattle.plan_plans.specs.Disjoint.{spanAt}
-use Rattle.plan_plans.specs.Call.{firstUnclear, unclearIn, unclearFault, itemIn, clearRead, called, callOf, outcomeFor}
+use Rattle.plan_plans.specs.Call.{firstUnclear, unclearIn, clearRead, called, callOf, outcomeFor}
 use Rattle.plan_plans.proofs.Fold.{last-forward, last-append, values-append}
 use Rattle.sig_signatures.proofs.Types.{length-of-types}
 use Rattle.plan_plans.proofs.Calls.{unclearFrom, unclear-append, called-got, called-accepted}
-use Rattle.plan_words.specs.Entries.{sizeAt, valueAt, entryAt}
-use Rattle.call_appending.specs.Appending.{joined, Appends, Appended, Kept, Stays, PlacesStay, ShorterAccepted, RefusedAlike}
+use Rattle.plan_words.specs.Entries.{sizeAt, valueStart, entryAt}
+use Rattle.call_appending.specs.Appending.{joined, Appends, Appended, AppendingKeeps, Stays, PlacesStay, ShorterAccepted, RefusedAlike}
 use Rattle.call_appending.proofs.Folds.{types-joined, joined-count, area-grows, table-append, unclear-within}
 use Rattle.call_appending.proofs.Encoded.{extended, appends-extended, shorter-within}
 
@@ -75,15 +75,15 @@ module _ (g : Signature) (us : Trees) (k n l m : ℕ) where
   size-kept : (i : ℕ) → i < planAnswer x .count → sizeAt y i ≡ sizeAt x i
   size-kept i h = rw (argument-kept i h, convention-kept)
 
-  value-kept : (i : ℕ) → i ≤ planAnswer x .count → valueAt y i ≡ valueAt x i
-  unfolding valueAt
+  value-kept : (i : ℕ) → i ≤ planAnswer x .count → valueStart y i ≡ valueStart x i
+  unfolding valueStart
   value-kept zero h = refl
   value-kept (suc i) h = ap₂ _+_ (value-kept i (omega arith)) (size-kept i (omega arith))
 
   entry-kept : (i : ℕ) → i < planAnswer x .count → entryAt y i ≡ entryAt x i
   entry-kept i h = rw (argument-kept i h, convention-kept, value-kept i (omega arith), span-kept i h)
 
-  pub kept : Kept x y
+  pub kept : AppendingKeeps x y
   unfolding planAnswer planIn
   kept =
       let c : Convention = g .convention in

@@ -15,7 +15,7 @@ use Rattle.sig_signatures.specs.Encode.{encode, signatureItems}
 use Rattle.plan_plans.specs.Plan.{planAnswer}
 use Rattle.plan_plans.specs.Call.{callOf, outcomeFor}
 use Rattle.plan_plans.specs.Disjoint.{spanAt}
-use Rattle.plan_words.specs.Entries.{valueAt, entryAt}
+use Rattle.plan_words.specs.Entries.{valueStart, entryAt}
 
 -- ---- which signatures
 
@@ -47,7 +47,7 @@ pub record Appended (s u : List ℕ) : Type 0 where
 -- ---- what stays
 
 -- of the readings x and y of two calls: "never changes a place, offset, or copy position of any earlier argument"
-pub record Kept (x y : Reading Signature) : Type 0 where
+pub record AppendingKeeps (x y : Reading Signature) : Type 0 where
   pub convention : planAnswer y .convention ≡ planAnswer x .convention
   pub ellipsis : planAnswer y .ellipsis ≡ planAnswer x .ellipsis
   pub result : planAnswer y .result ≡ planAnswer x .result
@@ -55,7 +55,7 @@ pub record Kept (x y : Reading Signature) : Type 0 where
   -- an argument's registers, its home and its memory in the area, and its copy
   pub places : (i : ℕ) → i < planAnswer x .count → spanAt (planAnswer y) i ≡ spanAt (planAnswer x) i
   -- where its value starts among the values
-  pub offset : (i : ℕ) → i < planAnswer x .count → valueAt y i ≡ valueAt x i
+  pub offset : (i : ℕ) → i < planAnswer x .count → valueStart y i ≡ valueStart x i
   -- all words that a program is told of it
   pub words : (i : ℕ) → i < planAnswer x .count → entryAt y i ≡ entryAt x i
   -- "The area may only grow"; so may values and copies
@@ -68,7 +68,7 @@ pub record Kept (x y : Reading Signature) : Type 0 where
 -- "provided that the longer signature is accepted": then the shorter one is accepted too, and keeps all its places
 pub record Stays (s u : List ℕ) : Type 0 where
   pub accepted : callOf s ≡ signatureOf s
-  pub kept : Kept (callOf s) (callOf u)
+  pub kept : AppendingKeeps (callOf s) (callOf u)
 
 abbrev pub PlacesStay : Type 0
 PlacesStay = (s u : List ℕ) → Appended s u → (n : ℕ) → outcomeFor u ≡ Outcome.Accepted n → Stays s u

@@ -5,7 +5,7 @@ use mathlib.Core.Path.{_≡_}
 use mathlib.Core.List.{List, _++_}
 use lib.ListN.{length}
 use Rattle.call_slots.specs.Arguments.{planFor}
-use Rattle.call_roundtrip.specs.RoundTrip.{Filled, left, ReadBack}
+use Rattle.call_roundtrip.specs.RoundTrip.{Filled, leftByFill, ReadBack}
 use Rattle.call_appending.specs.Appending.{Appended}
 
 -- for all inputs that fill accepts by the longer signature: reading by the shorter one what fill left accepts, and gives the values of its
@@ -13,4 +13,4 @@ use Rattle.call_appending.specs.Appending.{Appended}
 abbrev pub OldDriverReads : Type 0
 OldDriverReads = (s u values more image area copies into : List ℕ) (base hidden : ℕ) → Appended s u
     → Filled u (values ++ more) image area copies base hidden → length values ≡ planFor s .values → length into ≡ length values
-    → ReadBack s values base (left u (values ++ more) image area copies base hidden) into
+    → ReadBack s values base (leftByFill u (values ++ more) image area copies base hidden) into

@@ -22,6 +22,7 @@ use Rattle.sig_items.specs.Read.{itemAt}
 use Rattle.sig_items.specs.Answer.{itemAnswer}
 use Rattle.sig_items.proofs.Loop.{item-answered}
 use Rattle.sig_signatures.specs.Limits.{maxArguments}
+use Rattle.sig_signatures.specs.Helpers.{RoomFor}
 use Rattle.sig_signatures.specs.declared.ResultType.{ResultType}
 use Rattle.sig_signatures.specs.declared.Outcome.{Outcome}
 use Rattle.sig_signatures.specs.declared.SignatureRead.{SignatureRead}
@@ -31,6 +32,7 @@ use Rattle.sig_signatures.specs.Answer.{resultType, headAnswer, signatureAnswer
 use Rattle.sig_signatures.specs.Types.{typesOf}
 use Rattle.sig_signatures.proofs.Laws.{thenArguments, signature-then}
 use Rattle.sig_signatures.proofs.Loop.{Turn, turn-start, turn-last, turn-more}
+use Rattle.sig_reader.specs.Argument.{unclearFault}
 use Rattle.plan_places.specs.declared.Cursor.{Cursor}
 use Rattle.plan_places.specs.declared.Span.{Span}
 use Rattle.plan_places.specs.declared.CallRules.{CallRules}
@@ -42,18 +44,18 @@ use Rattle.plan_places.proofs.Registers.{step-numbered}
 use Rattle.plan_plans.specs.declared.Measured.{Measured}
 use Rattle.plan_plans.specs.Plan.{spansOf, lastOf, hiddenIn, startIn, refusedPlan, resultPlacesIn, planIn, planAnswer, measureOf}
 use Rattle.plan_plans.specs.Helpers.{planWith, unclearOf, unclearWith}
-use Rattle.plan_plans.specs.Call.{unclearFault, called, outcomeFor}
-use Rattle.plan_plans.proofs.Fold.{last-more, same-next}
+use Rattle.plan_plans.specs.Call.{called, outcomeFor}
+use Rattle.plan_plans.proofs.Fold.{last-more, same-step}
 use Rattle.plan_plans.proofs.Measures.{Measuring, measuring-start, measuring-more, measure-trailing, measure-end, unclear-trailing, unclear-end, measured-arguments, unclear-arguments}
 use Rattle.plan_plans.proofs.Answers.{outcome-read}
 use Rattle.plan_plans.proofs.Calls.{called-accepted, called-clear, called-unclear}
 use Rattle.call_slots.specs.Placements.{Placement, placement, placements}
 use Rattle.call_slots.specs.Arguments.{placementsIn, argumentsOf, planFor, rulesFor, sizesFor}
 use Rattle.call_slots.proofs.Answered.{arguments-got}
-use Rattle.call_kept.specs.Helpers.{rowOf, keptAll, keptFrom}
+use Rattle.call_kept.specs.Helpers.{rowLength, rowOf, keptAll, keptFrom}
 use Rattle.call_kept.proofs.Codes.{sized-codable}
 use Rattle.call_kept.proofs.Rows.{kept-more}
-use Rattle.call_arguments.specs.Helpers.{HeadIs, NoneLeft, KeepsRows, KeptWith, KeptOf, KeptWhere, outcomeBy}
+use Rattle.call_arguments.specs.Helpers.{HeadIs, NoneLeft, KeptWith, KeptOf, KeptWhere, outcomeBy}
 
 pub lawful-in : (c : Convention) (v : Bool) → LawfulCalls (withEllipsis v (rulesOf c))
 lawful-in c v = lawful-marked v (rulesOf c) (rules-lawful c)
@@ -96,7 +98,7 @@ module _ (c : Convention) (v : Bool) (s : List ℕ) (at e : ℕ) (l : List ℕ) 
     rows = refl;
   })
 
-  module _ (room : KeepsRows at e (length l)) (start k : Cursor) (kept : List ℕ) (bytes u count next n : ℕ) (m : Keeping c v s at e start l k kept bytes u count next n) where
+  module _ (room : RoomFor rowLength at e (length l)) (start k : Cursor) (kept : List ℕ) (bytes u count next n : ℕ) (m : Keeping c v s at e start l k kept bytes u count next n) where
     module _ (h : next < e) (some : count ≡ maxArguments → ⊥) (x : ItemRead) (found : x ≡ itemAnswer c (itemAt c 8 s e next)) (t : ValueType) (after j : ℕ) (q : x ≡ ItemRead.Item t after j) where
       -- the row has room
       pub keeping-room : 10 * count + 10 ≤ length kept
@@ -119,7 +121,7 @@ module _ (c : Convention) (v : Bool) (s : List ℕ) (at e : ℕ) (l : List ℕ) 
             sizes = rw (next-marked v (rulesOf c) k t (sizeOf c t), unclear-marked v (rulesOf c) k t) (measuring-more c s at e (rulesOf c) start k bytes u count next n (m .sizes) (rules-lawful c) h some x found t after j q);
             ts = m .ts ▸ more .tree;
             turn = more .turn;
-            last = same-next c rules (m .last) (more .same) ∙ sym (last-more c rules start so-far w);
+            last = same-step (nextOf rules) c (m .last) (more .same) ∙ sym (last-more c rules start so-far w);
             apart = omega (arith, m .apart, a .on);
             long = length-splice kept (10 * count) (rowOf t span) ∙ m .long;
             rows =
@@ -134,7 +136,7 @@ module _ (c : Convention) (v : Bool) (s : List ℕ) (at e : ℕ) (r : ResultType
   pub kept-no : (f : Fault) → argumentsIn c s at e ≡ no f → (l : List ℕ) (n : ℕ) → KeptWith c v r (length s) (argumentsIn c s at e) l n
   kept-no f q l n = rw q tt
 
-  module _ (l : List ℕ) (room : KeepsRows at e (length l)) (k : Cursor) (kept : List ℕ) (bytes u count next n : ℕ) (m : Keeping c v s at e (startIn c r) l k kept bytes u count next n) (last : e ≤ next) where
+  module _ (l : List ℕ) (room : RoomFor rowLength at e (length l)) (k : Cursor) (kept : List ℕ) (bytes u count next n : ℕ) (m : Keeping c v s at e (startIn c r) l k kept bytes u count next n) (last : e ≤ next) where
     pub kept-trailing : next < length s → (j : ℕ) → KeptWith c v r (length s) (argumentsIn c s at e) kept j
     kept-trailing h j = rw (turn-last c s at e (m .ts) count next n (m .turn) last) (λ more. let z : _≡_ {A = ℕ} 0 1 = cc (lt-ltb next (length s) h, more) in absurd (omega arith))
 

@@ -9,7 +9,6 @@ use lib.ListN.{length}
 use Rattle.base_conventions.specs.declared.Convention.{Convention}
 use Rattle.sig_types.specs.Trees.{Trees}
 use Rattle.sig_items.specs.Reading.{Reading, got, no}
-use Rattle.sig_signatures.specs.Limits.{maxArguments}
 use Rattle.sig_signatures.specs.declared.ResultType.{ResultType}
 use Rattle.sig_signatures.specs.declared.HeadRead.{HeadRead}
 use Rattle.sig_signatures.specs.declared.Outcome.{Outcome}
@@ -17,9 +16,9 @@ use Rattle.sig_signatures.specs.Signature.{Signature}
 use Rattle.sig_signatures.specs.Read.{headOf}
 use Rattle.sig_signatures.specs.Answer.{headAnswer}
 use Rattle.sig_signatures.specs.Types.{typesOf}
+use Rattle.sig_reader.specs.Argument.{unclearFault}
 use Rattle.plan_places.specs.Step.{rulesOf, withEllipsis}
 use Rattle.plan_plans.specs.Plan.{spansOf, startIn}
-use Rattle.plan_plans.specs.Call.{unclearFault}
 use Rattle.call_slots.specs.Placements.{placements}
 use Rattle.call_slots.specs.Arguments.{argumentsOf}
 use Rattle.call_kept.specs.Helpers.{rowLength, keptAll}
@@ -31,10 +30,6 @@ HeadIs s c r v at e n = headAnswer (headOf s) ≡ HeadRead.Head c r v at e n
 -- and nothing follows it
 abbrev pub NoneLeft : List ℕ → Convention → ResultType → ℕ → ℕ → Type 0
 NoneLeft s c r e n = (v : Bool) × HeadIs s c r v e e n
-
--- n words are enough for as many arguments as can stand between `at` and e
-abbrev pub KeepsRows : ℕ → ℕ → ℕ → Type 0
-KeepsRows at e n = (i : ℕ) → i ≤ maxArguments → at + 3 * i ≤ e → rowLength * i ≤ n
 
 -- n words hold the arguments that are read, in a signature of `all` bytes, with an ellipsis or without; of a refused reading nothing is said
 abbrev pub KeptWith : Convention → Bool → ResultType → ℕ → Reading Trees → List ℕ → ℕ → Type 0

@@ -16,14 +16,12 @@ ghost use Prim.Native.Nat.{_^_, _≤_};
 ghost use lib.ListN.{length};
 ghost use Rattle.sig_signatures.specs.Read.{argumentsIn, signatureOf};
 ghost use Rattle.plan_places.specs.Step.{rulesOf, withEllipsis};
+ghost use Rattle.sig_signatures.specs.Helpers.{RoomFor};
+ghost use Rattle.call_kept.specs.Helpers.{rowLength};
 ghost use Rattle.call_slots.specs.Arguments.{sizesFor};
 ghost use Rattle.plan_plans.specs.Plan.{refusedPlan, startIn, measureOf};
 ghost use Rattle.plan_plans.specs.Helpers.{planWith, unclearWith};
-ghost use Rattle.call_arguments.specs.Helpers.{HeadIs, NoneLeft, KeepsRows, KeptWith, KeptWhere, outcomeBy};
-
-// An argument takes three bytes or more of the signature: where the arguments' part has at most this many bytes, twelve rows are enough for them. Room is cleared
-// before it is used, so that a little of it is worth a test.
-pub const FEW_BYTES: usize = 36;
+ghost use Rattle.call_arguments.specs.Helpers.{HeadIs, NoneLeft, KeptWith, KeptWhere, outcomeBy};
 
 // The sizes of a call, with its outcome, and how many arguments are kept.
 pub struct KeptCall {
@@ -47,28 +45,17 @@ pub fn rules_in(c: Convention, ellipsis: bool) -> CallRules
 }
 
 // The sizes by the reading alone, the number of the first unclear argument, counted from 1, or 0, and how many are kept.
-struct Passed {
+struct KeptArguments {
     measured: Measured,
     unclear: usize,
     count: usize,
 }
 
-fn no_measure(fault: Fault) -> Measured
-    ensures { λ m. ⌜ m ≡ measureOf (refusedPlan fault) ⌝ }
-{
-    Measured {
-        outcome: Outcome::Refused(fault),
-        area: 0,
-        values: 0,
-        copies: 0,
-    }
-}
-
-fn not_passed(fault: Fault) -> Passed
+fn none_kept(fault: Fault) -> KeptArguments
     ensures { λ a. ⌜ (a .measured ≡ measureOf (refusedPlan fault)) × (a .unclear ≡ 0) ⌝ }
 {
-    Passed {
-        measured: no_measure(fault),
+    KeptArguments {
+        measured: plan_planning::no_measure(fault),
         unclear: 0,
         count: 0,
     }
@@ -84,8 +71,8 @@ fn keep_arguments(
     end: usize,
     earlier: usize,
     kept: &mut [u16],
-) -> Passed
-    requires { ⌜ (at ≤ end) × (end ≤ length (now s)) × (end ≤ 2 ^ 16) × (earlier ≤ 2 ^ 16) × KeepsRows at end (length (now kept)) ⌝ }
+) -> KeptArguments
+    requires { ⌜ (at ≤ end) × (end ≤ length (now s)) × (end ≤ 2 ^ 16) × (earlier ≤ 2 ^ 16) × RoomFor rowLength at end (length (now kept)) ⌝ }
     ensures { λ a. ⌜ (a .measured ≡ measureOf (planWith convention false returned earlier (length (now (s .entry))) (argumentsIn convention (now (s .entry)) at end))) × (a .unclear ≡ unclearWith convention returned (length (now (s .entry))) (argumentsIn convention (now (s .entry)) at end)) ⌝ }
     ensures { λ a. ⌜ KeptWith convention ellipsis returned (length (now (s .entry))) (argumentsIn convention (now (s .entry)) at end) (now (kept .exit)) (a .count) ⌝ }
 {
@@ -98,13 +85,13 @@ fn keep_arguments(
     let mut items: usize = 1;
     while next < end {
         if count == MAX_ARGUMENTS {
-            return not_passed(Fault {
+            return none_kept(Fault {
                 reason: Refusal::TooManyArguments,
                 place: next,
                 passed: earlier + items,
             });
         }
-        match sig_nested_items::read_item(s, convention, next, end, 8) {
+        match sig_nested_items::read_item(s, convention, next, end, sig_types::MAX_DEPTH) {
             ItemRead::Item {
                 ty,
                 next: after,
@@ -122,20 +109,20 @@ fn keep_arguments(
                 items = items + more;
             }
             ItemRead::Refused(fault) => {
-                return not_passed(sig_items::later_by(earlier + items, fault));
+                return none_kept(sig_items::later_by(earlier + items, fault));
             }
         }
     }
     let counted = earlier + items;
     if next < s.len() {
-        return not_passed(Fault {
+        return none_kept(Fault {
             reason: Refusal::TrailingBytes,
             place: next,
             passed: counted,
         });
     }
     let area = plan_placing::area_of(convention, c);
-    Passed {
+    KeptArguments {
         measured: Measured {
             outcome: Outcome::Accepted(counted),
             area,
@@ -154,7 +141,7 @@ fn outcome_of(sig: &[u8], unclear: usize, read: Outcome) -> Outcome
     if unclear == 0 {
         return read;
     }
-    Outcome::Refused(plan_planning::unclear_fault(sig, unclear - 1))
+    Outcome::Refused(sig_reader::unclear_fault(sig, unclear - 1))
 }
 
 // A call by its bytes, what stands before its arguments being read.
@@ -168,7 +155,7 @@ pub fn keep_call(
     earlier: usize,
     kept: &mut [u16],
 ) -> KeptCall
-    requires { ⌜ HeadIs (now sig) convention returned ellipsis at end earlier × KeepsRows at end (length (now kept)) ⌝ }
+    requires { ⌜ HeadIs (now sig) convention returned ellipsis at end earlier × RoomFor rowLength at end (length (now kept)) ⌝ }
     ensures { λ a. ⌜ a .sizes ≡ sizesFor (now (sig .entry)) ⌝ }
     ensures { λ a. ⌜ KeptWhere (a .sizes .outcome) (now (sig .entry)) convention (now (kept .exit)) (a .count) ⌝ }
 {
@@ -200,7 +187,7 @@ pub fn measure_none(
 {
     let counted = earlier + 1;
     if end < sig.len() {
-        return no_measure(Fault {
+        return plan_planning::no_measure(Fault {
             reason: Refusal::TrailingBytes,
             place: end,
             passed: counted,

@@ -4,14 +4,15 @@ use mathlib.Core.Bool.{Bool, true, false}
 use mathlib.Core.List.{List, [], _++_}
 use Prim.Native.Nat.{ℕ, _+_, _-_, _*_, _%_, _^_, _≤_, _<_}
 use native.Mathlib.Omega.{arith}
-use native.Mathlib.Nat.{mod-lt, mod-eq-of-lt}
+use native.Mathlib.Nat.{mod-eq-of-lt}
 use lib.Pow.{pow-pos}
-use borrow.Author.Tests.{lt-ltb, le-ltb, ltb-true, ltb-false, eqb-true}
+use borrow.Author.Tests.{le-ltb, ltb-false, eqb-true}
 use lib.Dec.{eqb, ltb}
 use Rattle.base_words.specs.Basics.{pick}
 use Rattle.base_words.specs.Splice.{splice}
 use Rattle.base_words.specs.Numbers.{bytesOf, zeroExtended}
 use Rattle.base_words.proofs.Numbers.{length-bytesOf}
+use Rattle.base_words.proofs.Each.{each-with}
 use Rattle.base_conventions.specs.Numbers.{wordBytes}
 use Rattle.base_conventions.proofs.Laws.{word-bounds}
 use Rattle.plan_places.proofs.Bounds.{rules-word}
@@ -32,24 +33,23 @@ use Rattle.plan_places.specs.declared.ResultPlaces.{ResultPlaces}
 use Rattle.plan_places.specs.declared.Span.{Span}
 use Rattle.plan_places.specs.Values.{pointer}
 use Rattle.plan_places.specs.declared.CallRules.{CallRules}
-use Rattle.plan_places.specs.Step.{rulesOf, withEllipsis, wordOf, spanOf, fresh, hiddenFor, returning, resultOf}
+use Rattle.plan_places.specs.Step.{rulesOf, withEllipsis, wordOf, spanOf, freshCursor, hiddenFor, returning, resultOf}
 use Rattle.plan_places.specs.ZSeries.{zClass, zSpanOf}
 use Rattle.plan_plans.specs.declared.Plan.{Plan}
 use Rattle.plan_plans.specs.declared.Measured.{Measured}
 use Rattle.plan_plans.specs.Plan.{hiddenIn, resultPlacesIn, planAnswer}
-use Rattle.call_slots.specs.declared.Answer.{Answer}
-use Rattle.call_slots.specs.declared.Refusal.{Refusal}
+use Rattle.call_slots.specs.declared.CallAnswer.{CallAnswer}
 use Rattle.call_slots.specs.Buffers.{Buffers, buffers, Slot, put, putAll}
 use Rattle.call_slots.specs.Placements.{Placement, hiddenSlots, slotsOfAll}
 use Rattle.call_slots.specs.Helpers.{Held, Fits, sizesOf}
-use Rattle.call_slots.specs.Refusals.{test, differ, firstOf, isRefused}
+use Rattle.call_slots.specs.Refusals.{differ, firstOf, isRefused}
 use Rattle.call_slots.specs.Arguments.{argumentsOf, planFor, sizesFor, rulesFor}
 use Rattle.call_slots.proofs.Answered.{carried}
 use Rattle.call_kept.specs.Helpers.{keptAll, KeptEach}
 use Rattle.call_arguments.specs.Helpers.{KeptOf}
 use Rattle.call_arguments.proofs.Kept.{Headed}
 use Rattle.call_slots.proofs.Buffers.{putAll-lengths, putAll-append}
-use Rattle.call_slots.proofs.Planned.{in-image, all-with}
+use Rattle.call_slots.proofs.Planned.{in-image}
 use Rattle.call_slots.proofs.Refusals.{first-done, differ-false}
 use Rattle.call_marshal.specs.Helpers.{CanPut}
 use Rattle.call_fill.specs.declared.FillLengths.{FillLengths}
@@ -86,7 +86,7 @@ pub record Lent (have : FillLengths) (p : Plan) (base : ℕ) : Type 0 where
   pub low : base + p .copies < 2 ^ 64
 
 pub tests-passed : (have : FillLengths) (p : Plan) (base : ℕ) (high : Bool) → base < 2 ^ 64
-    → firstOf (fillTests have (p .values) (p .area) (p .copies) base high) ≡ Answer.Done → Lent have p base
+    → firstOf (fillTests have (p .values) (p .area) (p .copies) base high) ≡ CallAnswer.Done → Lent have p base
 unfolding fillTests
 tests-passed have p base high low e =
     let a = first-done _ _ e in
@@ -103,7 +103,7 @@ tests-passed have p base high low e =
     }
 
 -- nor is the hidden address too high
-pub tests-low : (have : FillLengths) (values area copies base : ℕ) (high : Bool) → firstOf (fillTests have values area copies base high) ≡ Answer.Done → high ≡ false
+pub tests-low : (have : FillLengths) (values area copies base : ℕ) (high : Bool) → firstOf (fillTests have values area copies base high) ≡ CallAnswer.Done → high ≡ false
 unfolding fillTests
 tests-low have values area copies base high e =
     let a = first-done _ _ e in
@@ -114,7 +114,7 @@ tests-low have values area copies base high e =
 
 -- the same of sizes m that were measured
 pub tests-lent : (s : List ℕ) (have : FillLengths) (base : ℕ) (m : Measured) (high : Bool) → base < 2 ^ 64 → m ≡ sizesFor s
-    → firstOf (fillTests have (m .values) (m .area) (m .copies) base high) ≡ Answer.Done → Lent have (planFor s) base
+    → firstOf (fillTests have (m .values) (m .area) (m .copies) base high) ≡ CallAnswer.Done → Lent have (planFor s) base
 tests-lent s have base m high low p e = tests-passed have (planFor s) base high low (rw p at e)
 
 -- ---- the arguments
@@ -130,7 +130,7 @@ all-ready s r c l n base i a k rules kept image area copies low =
       room = kept .room;
       each =
           rw (kept .same)
-          (all-with (Held (rulesFor s)) (Fits (planFor s .area) (planFor s .copies)) (CanPut (rulesFor s) base i a k) ready (argumentsOf s) (h .held) (h .fit));
+          (each-with (Held (rulesFor s)) (Fits (planFor s .area) (planFor s .copies)) (CanPut (rulesFor s) base i a k) ready (argumentsOf s) (h .held) (h .fit));
     })
   where
     ready : (q : Placement) → Held (rulesFor s) q → Fits (planFor s .area) (planFor s .copies) q → CanPut (rulesFor s) base i a k q
@@ -148,55 +148,43 @@ all-sizes s c l n v kept values = ap sizesOf (kept .same) ∙ carried s .total �
 -- ---- the hidden address
 
 -- its register is the first
-pub address-register : (c : Convention) → spanOf (rulesOf c) (fresh (rulesOf c)) pointer (wordOf (rulesOf c)) .general .first ≡ fresh (rulesOf c) .general
-unfolding spanOf fresh zClass zSpanOf
+pub address-register : (c : Convention) → spanOf (rulesOf c) (freshCursor (rulesOf c)) pointer (wordOf (rulesOf c)) .general .first ≡ freshCursor (rulesOf c) .general
+unfolding spanOf freshCursor zClass zSpanOf
 address-register Convention.Ppc64 = refl
 address-register Convention.Z = refl
 address-register Convention.Aix = refl
 address-register Convention.Ppc64b = refl
 
-pub register-low : (c : Convention) → fresh (rulesOf c) .general < 32
-unfolding fresh
+pub register-low : (c : Convention) → freshCursor (rulesOf c) .general < 32
+unfolding freshCursor
 register-low Convention.Ppc64 = omega arith
 register-low Convention.Z = omega arith
 register-low Convention.Aix = omega arith
 register-low Convention.Ppc64b = omega arith
 
--- a result's other places are none of it
-slots-address : (c : Convention) (t : ResultType) (w x : ℕ) → hiddenSlots w (addressPlaces c (hiddenIn c t)) x ≡ hiddenSlots w (resultPlacesIn c t) x
+-- a result's other places are none to whoever looks for the hidden address alone
+hidden-alone : {A : Type 0} (f : ResultPlaces → A) → ((s : Span) → f (ResultPlaces.Registers s) ≡ f ResultPlaces.Nothing) → (c : Convention) (t : ResultType)
+    → f (addressPlaces c (hiddenIn c t)) ≡ f (resultPlacesIn c t)
 unfolding resultOf
-slots-address c ResultType.Nothing w x = refl
-slots-address c (ResultType.Value t) w x = go (hiddenFor (rulesOf c) t)
+hidden-alone f none c ResultType.Nothing = refl
+hidden-alone f none c (ResultType.Value t) = go (hiddenFor (rulesOf c) t)
   where
-    go : (b : Bool) → hiddenSlots w (addressPlaces c b) x
-        ≡ hiddenSlots w
-        (pick b (ResultPlaces.Hidden (spanOf (rulesOf c) (fresh (rulesOf c)) pointer (wordOf (rulesOf c))))
-        (ResultPlaces.Registers (spanOf (returning (rulesOf c)) (fresh (rulesOf c)) t (sizeOf c t)))) x
+    go : (b : Bool) → f (addressPlaces c b)
+        ≡ f (pick b (ResultPlaces.Hidden (spanOf (rulesOf c) (freshCursor (rulesOf c)) pointer (wordOf (rulesOf c))))
+        (ResultPlaces.Registers (spanOf (returning (rulesOf c)) (freshCursor (rulesOf c)) t (sizeOf c t))))
     go true = refl
-    go false = refl
-
-high-of-address : (c : Convention) (t : ResultType) (w x : ℕ) → highAddress w (addressPlaces c (hiddenIn c t)) x ≡ highAddress w (resultPlacesIn c t) x
-unfolding resultOf
-high-of-address c ResultType.Nothing w x = refl
-high-of-address c (ResultType.Value t) w x = go (hiddenFor (rulesOf c) t)
-  where
-    go : (b : Bool) → highAddress w (addressPlaces c b) x
-        ≡ highAddress w
-        (pick b (ResultPlaces.Hidden (spanOf (rulesOf c) (fresh (rulesOf c)) pointer (wordOf (rulesOf c))))
-        (ResultPlaces.Registers (spanOf (returning (rulesOf c)) (fresh (rulesOf c)) t (sizeOf c t)))) x
-    go true = refl
-    go false = refl
+    go false = sym (none (spanOf (returning (rulesOf c)) (freshCursor (rulesOf c)) t (sizeOf c t)))
 
 -- ---- the answer and the buffers
 
 -- a signature that is not read
-pub answer-unread : (s : List ℕ) (have : FillLengths) (base address : ℕ) (f : Fault) → signatureOf s ≡ no f → Answer.Unread f ≡ fillAnswer s have base address
+pub answer-unread : (s : List ℕ) (have : FillLengths) (base address : ℕ) (f : Fault) → signatureOf s ≡ no f → CallAnswer.Unread f ≡ fillAnswer s have base address
 unfolding fillAnswer called planAnswer
 answer-unread s have base address f q = let o : outcomeFor s ≡ Outcome.Refused f = ap (λ (x : Reading Signature). planAnswer (called x) .outcome) q in rw o
 
 module _ (s : List ℕ) where
   pub answer-refused : (have : FillLengths) (base address : ℕ) (m : Measured) (f : Fault) → m ≡ sizesFor s → m .outcome ≡ Outcome.Refused f
-      → Answer.Unread f ≡ fillAnswer s have base address
+      → CallAnswer.Unread f ≡ fillAnswer s have base address
   unfolding fillAnswer
   answer-refused have base address m f p e = rw (rw p at e)
 
@@ -205,7 +193,7 @@ module _ (s : List ℕ) where
     word-read : wordBytes c ≡ wordOf (rulesFor s)
     word-read = sym (word-marked v (rulesOf c) ∙ rules-word c) ∙ ap wordOf (head .rules)
 
-    pub answer-tested : (have : FillLengths) (base address n : ℕ) (m : Measured) (hidden high : Bool) (a : Answer)
+    pub answer-tested : (have : FillLengths) (base address n : ℕ) (m : Measured) (hidden high : Bool) (a : CallAnswer)
         → m ≡ sizesFor s → hidden ≡ hiddenIn c t → high ≡ highAddress (wordBytes c) (addressPlaces c hidden) address → m .outcome ≡ Outcome.Accepted n
         → a ≡ firstOf (fillTests have (m .values) (m .area) (m .copies) base high) → a ≡ fillAnswer s have base address
     unfolding fillAnswer
@@ -213,7 +201,7 @@ module _ (s : List ℕ) where
         let high-so : high ≡ highAddress (wordOf (rulesFor s)) (planFor s .result) address
         = z
         ∙ ap (λ (b : Bool). highAddress (wordBytes c) (addressPlaces c b) address) x
-        ∙ high-of-address c t (wordBytes c) address
+        ∙ hidden-alone (λ q. highAddress (wordBytes c) q address) (λ p. refl) c t
         ∙ ap₂ (λ (w : ℕ) (r : ResultPlaces). highAddress w r address) word-read (head .result) in
         rw (rw p at e) (rw (p, high-so) at q)
 
@@ -224,25 +212,11 @@ module _ (s : List ℕ) where
     slots-are values base address hidden ps x same =
         ap₂ (λ (a b : List Slot). a ++ b)
         (ap (λ (b : Bool). hiddenSlots (wordBytes c) (addressPlaces c b) address) x
-        ∙ slots-address c t (wordBytes c) address
+        ∙ hidden-alone (λ q. hiddenSlots (wordBytes c) q address) (λ p. refl) c t
         ∙ ap₂ (λ (w : ℕ) (r : ResultPlaces). hiddenSlots w r address) word-read (head .result))
         (ap₂ (λ (r : CallRules) (qs : List Placement). slotsOfAll r base qs values) (head .rules) same)
 
 -- ---- the hidden address
-
--- one that is too high is more than its lowest bytes
-pub high-is : (w x : ℕ) → ltb (zeroExtended w x) x ≡ ltb (2 ^ (8 * w) - 1) x
-unfolding zeroExtended
-high-is w x = go (ltb (2 ^ (8 * w) - 1) x) refl
-  where
-    go : (b : Bool) → ltb (2 ^ (8 * w) - 1) x ≡ b → ltb (x % 2 ^ (8 * w)) x ≡ b
-    go true e =
-        let l : 2 ^ (8 * w) - 1 < x = ltb-true (2 ^ (8 * w) - 1) x e in
-        lt-ltb (x % 2 ^ (8 * w)) x (omega (arith, mod-lt x (pow-pos (8 * w)), pow-pos (8 * w)))
-    go false e =
-        let l : x ≤ 2 ^ (8 * w) - 1 = ltb-false (2 ^ (8 * w) - 1) x e in
-        let low : x < 2 ^ (8 * w) = omega (arith, pow-pos (8 * w)) in
-        rw (mod-eq-of-lt low) (le-ltb x x (omega arith))
 
 -- none is where a word is a doubleword
 pub never-high : (q : ResultPlaces) (x : ℕ) → x < 2 ^ 64 → highAddress 8 q x ≡ false
@@ -255,10 +229,10 @@ pub address-word : (w x : ℕ) → w ≤ 8 → bytesOf 8 (zeroExtended w x) ≡ 
 address-word w x h = register-number w x h ∙ sym (spread-one w (bytesOf w x) (length-bytesOf w x))
 
 pub hidden-put : (c : Convention) (image : List ℕ) (x : ℕ)
-    → buffers (splice image (8 * fresh (rulesOf c) .general) (bytesOf 8 (zeroExtended (wordBytes c) x))) [] [] ≡ putAll (hiddenSlots (wordBytes c) (addressPlaces c true) x) (buffers image [] [])
+    → buffers (splice image (8 * freshCursor (rulesOf c) .general) (bytesOf 8 (zeroExtended (wordBytes c) x))) [] [] ≡ putAll (hiddenSlots (wordBytes c) (addressPlaces c true) x) (buffers image [] [])
 unfolding putAll put
 hidden-put c image x =
-    rw (address-register c) (ap (λ (bs : List ℕ). buffers (splice image (8 * fresh (rulesOf c) .general) bs) [] []) (address-word (wordBytes c) x (word-bounds c .1)))
+    rw (address-register c) (ap (λ (bs : List ℕ). buffers (splice image (8 * freshCursor (rulesOf c) .general) bs) [] []) (address-word (wordBytes c) x (word-bounds c .1)))
 
 -- which is the whole address where that is not too high
 pub low-address : (w x : ℕ) (s : Span) → w ≤ 8 → highAddress w (ResultPlaces.Hidden s) x ≡ false → spread w 1 (bytesOf w x) ≡ bytesOf 8 x
@@ -280,18 +254,18 @@ pub hidden-length : (w : ℕ) (q : ResultPlaces) (address : ℕ) (image i : List
 hidden-length w q address image i e = ap (λ (b : Buffers). length (b .image)) e ∙ putAll-lengths (hiddenSlots w q address) (buffers image [] []) .image
 
 -- a refusal leaves them
-pub buffers-kept : (s values : List ℕ) (base hidden : ℕ) (a : Answer) (b : Buffers) → isRefused a ≡ true → b ≡ fillBuffers s values base hidden a b
+pub buffers-kept : (s values : List ℕ) (base hidden : ℕ) (a : CallAnswer) (b : Buffers) → isRefused a ≡ true → b ≡ fillBuffers s values base hidden a b
 unfolding fillBuffers
-buffers-kept s values base hidden Answer.Done b e = let z : _≡_ {A = ℕ} 0 1 = cc in absurd (omega arith)
-buffers-kept s values base hidden (Answer.Unread f) b e = refl
-buffers-kept s values base hidden (Answer.Refused reason) b e = refl
+buffers-kept s values base hidden CallAnswer.Done b e = let z : _≡_ {A = ℕ} 0 1 = cc in absurd (omega arith)
+buffers-kept s values base hidden (CallAnswer.Unread f) b e = refl
+buffers-kept s values base hidden (CallAnswer.Refused reason) b e = refl
 
 -- the hidden address is put, and then the arguments' slots
 pub buffers-done : (s values image area copies i : List ℕ) (base address w : ℕ) (q : ResultPlaces) (slots : List Slot) (b : Buffers)
     → hiddenSlots w q address ++ slots ≡ filledSlots s values base address
     → buffers i [] [] ≡ putAll (hiddenSlots w q address) (buffers image [] [])
     → b ≡ putAll slots (buffers i area copies)
-    → b ≡ fillBuffers s values base address Answer.Done (buffers image area copies)
+    → b ≡ fillBuffers s values base address CallAnswer.Done (buffers image area copies)
 unfolding fillBuffers
 buffers-done s values image area copies i base address w q slots b e x y =
     let whole = hidden-whole w q address image area copies i x in

@@ -9,8 +9,8 @@ use Rattle.base_words.specs.Basics.{pick}
 use Rattle.plan_places.specs.declared.ResultPlaces.{ResultPlaces}
 use Rattle.plan_places.specs.Step.{wordOf}
 use Rattle.plan_places.specs.Spots.{imageBytes}
-use Rattle.call_slots.specs.declared.Refusal.{Refusal}
-use Rattle.call_slots.specs.declared.Answer.{Answer}
+use Rattle.call_slots.specs.declared.CallRefusal.{CallRefusal}
+use Rattle.call_slots.specs.declared.CallAnswer.{CallAnswer}
 use Rattle.call_slots.specs.Buffers.{Buffers, Slot, putAll}
 use Rattle.call_slots.specs.Placements.{slotsOfAll, hiddenSlots}
 use Rattle.call_slots.specs.Refusals.{Test, test, differ, firstOf, afterReading, isDone}
@@ -39,15 +39,15 @@ highAddress w (ResultPlaces.Hidden s) address = ltb (2 ^ (8 * w) - 1) address
 -- and the hidden address is too high or not
 unfoldable pub fillTests : FillLengths → ℕ → ℕ → ℕ → ℕ → Bool → List Test
 fillTests have values area copies base high =
-    test (differ (have .image) imageBytes) Refusal.ImageSize
-    ∷ test (differ (have .values) values) Refusal.ValuesSize
-    ∷ test (ltb (have .area) area) Refusal.AreaTooShort
-    ∷ test (badCopies copies (have .copies) base) Refusal.BadCopies
-    ∷ test high Refusal.BadCopies
+    test (differ (have .image) imageBytes) CallRefusal.ImageSize
+    ∷ test (differ (have .values) values) CallRefusal.ValuesSize
+    ∷ test (ltb (have .area) area) CallRefusal.AreaTooShort
+    ∷ test (badCopies copies (have .copies) base) CallRefusal.BadCopies
+    ∷ test high CallRefusal.BadCopies
     ∷ []
 
 -- "1 first, then left to right .. After reading: ..": the answer for a signature's bytes s
-unfoldable pub fillAnswer : List ℕ → FillLengths → ℕ → ℕ → Answer
+unfoldable pub fillAnswer : List ℕ → FillLengths → ℕ → ℕ → CallAnswer
 fillAnswer s have base hidden =
     afterReading (outcomeFor s)
     (firstOf
@@ -61,5 +61,5 @@ filledSlots s values base hidden =
     hiddenSlots (wordOf (rulesFor s)) (planFor s .result) hidden ++ slotsOfAll (rulesFor s) base (argumentsOf s) values
 
 -- "Filling changes only named slots and copies"; "Every refusal leaves all buffers .. untouched"
-unfoldable pub fillBuffers : List ℕ → List ℕ → ℕ → ℕ → Answer → Buffers → Buffers
+unfoldable pub fillBuffers : List ℕ → List ℕ → ℕ → ℕ → CallAnswer → Buffers → Buffers
 fillBuffers s values base hidden answer b = pick (isDone answer) (putAll (filledSlots s values base hidden) b) b

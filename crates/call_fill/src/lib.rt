@@ -1,16 +1,20 @@
 // Filling: the values of a call's arguments are put where its signature's plan says, unless a buffer is too small or its base unfit.
 use base_conventions::Convention;
-use call_arguments::FEW_BYTES;
-use call_slots::Answer;
-use call_slots::Refusal;
+use call_kept::ROW;
+use call_slots::CallAnswer;
+use call_slots::CallRefusal;
 use plan_places::CallRules;
 use plan_places::IMAGE_BYTES;
+use sig_signatures::FEW_ARGUMENTS;
+use sig_signatures::FEW_BYTES;
 use sig_signatures::HeadRead;
+use sig_signatures::MAX_ARGUMENTS;
 use sig_signatures::Outcome;
 use sig_signatures::ResultType;
 ghost use mathlib.Core.Path.{_≡_};
 ghost use mathlib.Core.List.{[]};
 ghost use lib.ListN.{length};
+ghost use Rattle.sig_signatures.specs.Helpers.{RoomFor};
 ghost use Rattle.call_slots.specs.Buffers.{buffers, putAll};
 ghost use Rattle.call_slots.specs.Placements.{slotsOfAll, hiddenSlots};
 ghost use Rattle.call_slots.specs.Refusals.{firstOf};
@@ -18,8 +22,8 @@ ghost use Rattle.base_conventions.specs.Numbers.{wordBytes};
 ghost use Rattle.plan_places.specs.Spots.{imageBytes};
 ghost use Rattle.call_slots.specs.Helpers.{sizesOf};
 ghost use Rattle.call_marshal.specs.Helpers.{CanPut};
-ghost use Rattle.call_kept.specs.Helpers.{keptAll, KeptEach};
-ghost use Rattle.call_arguments.specs.Helpers.{HeadIs, NoneLeft, KeepsRows};
+ghost use Rattle.call_kept.specs.Helpers.{rowLength, keptAll, KeptEach};
+ghost use Rattle.call_arguments.specs.Helpers.{HeadIs, NoneLeft};
 ghost use Rattle.call_fill.specs.Fill.{badCopies, highAddress, fillTests, fillAnswer, fillBuffers, fillLengths};
 ghost use Rattle.call_fill.specs.Helpers.{addressPlaces};
 
@@ -106,25 +110,25 @@ fn tested(
     copies: usize,
     base: u64,
     high: bool,
-) -> Answer
+) -> CallAnswer
     ensures { λ a. ⌜ a ≡ firstOf (fillTests have values area copies base high) ⌝ }
 {
     if have.image != IMAGE_BYTES {
-        return Answer::Refused(Refusal::ImageSize);
+        return CallAnswer::Refused(CallRefusal::ImageSize);
     }
     if have.values != values {
-        return Answer::Refused(Refusal::ValuesSize);
+        return CallAnswer::Refused(CallRefusal::ValuesSize);
     }
     if have.area < area {
-        return Answer::Refused(Refusal::AreaTooShort);
+        return CallAnswer::Refused(CallRefusal::AreaTooShort);
     }
     if bad_copies(copies, have.copies, base) {
-        return Answer::Refused(Refusal::BadCopies);
+        return CallAnswer::Refused(CallRefusal::BadCopies);
     }
     if high {
-        return Answer::Refused(Refusal::BadCopies);
+        return CallAnswer::Refused(CallRefusal::BadCopies);
     }
-    Answer::Done
+    CallAnswer::Done
 }
 
 // A call without arguments, what stands before them being read: nothing is kept, and only the hidden address is put.
@@ -140,7 +144,7 @@ fn fill_none(
     returned: ResultType,
     end: usize,
     earlier: usize,
-) -> Answer
+) -> CallAnswer
     requires { ⌜ NoneLeft (now sig) convention returned end earlier ⌝ }
     ensures { λ a. ⌜ a ≡ fillAnswer (now (sig .entry)) (fillLengths (now (values .entry)) (now (image .entry)) (now (area .entry)) (now (copies .entry))) base address ⌝ }
     ensures { λ a. ⌜ buffers (now (image .exit)) (now (area .exit)) (now (copies .exit)) ≡ fillBuffers (now (sig .entry)) (now (values .entry)) base address a (buffers (now (image .entry)) (now (area .entry)) (now (copies .entry))) ⌝ }
@@ -148,7 +152,7 @@ fn fill_none(
     let m = call_arguments::measure_none(sig, convention, returned, end, earlier);
     let outcome = m.outcome;
     match outcome {
-        Outcome::Refused(fault) => Answer::Unread(fault),
+        Outcome::Refused(fault) => CallAnswer::Unread(fault),
         Outcome::Accepted(_) => {
             let hidden = plan_planning::hidden_in(convention, returned);
             let high = high_address(convention, hidden, address);
@@ -163,7 +167,7 @@ fn fill_none(
                 return answer;
             }
             put_hidden(image, convention, hidden, address);
-            Answer::Done
+            CallAnswer::Done
         }
     }
 }
@@ -184,8 +188,8 @@ fn fill_part(
     end: usize,
     earlier: usize,
     kept: &mut [u16],
-) -> Answer
-    requires { ⌜ HeadIs (now sig) convention returned ellipsis at end earlier × KeepsRows at end (length (now kept)) ⌝ }
+) -> CallAnswer
+    requires { ⌜ HeadIs (now sig) convention returned ellipsis at end earlier × RoomFor rowLength at end (length (now kept)) ⌝ }
     ensures { λ a. ⌜ a ≡ fillAnswer (now (sig .entry)) (fillLengths (now (values .entry)) (now (image .entry)) (now (area .entry)) (now (copies .entry))) base address ⌝ }
     ensures { λ a. ⌜ buffers (now (image .exit)) (now (area .exit)) (now (copies .exit)) ≡ fillBuffers (now (sig .entry)) (now (values .entry)) base address a (buffers (now (image .entry)) (now (area .entry)) (now (copies .entry))) ⌝ }
 {
@@ -194,7 +198,7 @@ fn fill_part(
     let m = p.sizes;
     let outcome = m.outcome;
     match outcome {
-        Outcome::Refused(fault) => Answer::Unread(fault),
+        Outcome::Refused(fault) => CallAnswer::Unread(fault),
         Outcome::Accepted(_) => {
             let hidden = plan_planning::hidden_in(convention, returned);
             let high = high_address(convention, hidden, address);
@@ -221,7 +225,7 @@ fn fill_part(
                 values,
                 base,
             );
-            Answer::Done
+            CallAnswer::Done
         }
     }
 }
@@ -236,12 +240,12 @@ pub fn fill(
     copies: &mut [u8],
     base: u64,
     hidden: u64,
-) -> Answer
+) -> CallAnswer
     ensures { λ a. ⌜ a ≡ fillAnswer (now (sig .entry)) (fillLengths (now (values .entry)) (now (image .entry)) (now (area .entry)) (now (copies .entry))) base hidden ⌝ }
     ensures { λ a. ⌜ buffers (now (image .exit)) (now (area .exit)) (now (copies .exit)) ≡ fillBuffers (now (sig .entry)) (now (values .entry)) base hidden a (buffers (now (image .entry)) (now (area .entry)) (now (copies .entry))) ⌝ }
 {
     match sig_head::read_head(sig) {
-        HeadRead::Refused(fault) => Answer::Unread(fault),
+        HeadRead::Refused(fault) => CallAnswer::Unread(fault),
         HeadRead::Head {
             convention,
             result,
@@ -266,7 +270,7 @@ pub fn fill(
                 );
             }
             if end - at <= FEW_BYTES {
-                let mut few = [0u16; 120];
+                let mut few = [0u16; ROW * FEW_ARGUMENTS];
                 return fill_part(
                     sig,
                     values,
@@ -284,7 +288,7 @@ pub fn fill(
                     &mut few,
                 );
             }
-            let mut many = [0u16; 1280];
+            let mut many = [0u16; ROW * MAX_ARGUMENTS];
             fill_part(
                 sig,
                 values,

@@ -1,8 +1,8 @@
 -- 02, No. 7: "Filling from stored bytes and a fresh signature makes this check first, then answers as plain filling". Assumes nothing.
 use Prim.Native.Nat.{ℕ}
 use mathlib.Core.List.{List}
-use Rattle.call_slots.specs.declared.Answer.{Answer}
-use Rattle.call_slots.specs.Refusals.{answerNumber}
+use Rattle.call_slots.specs.declared.CallAnswer.{CallAnswer}
+use Rattle.call_slots.specs.Refusals.{callAnswerNumber}
 use Rattle.call_slots.specs.Buffers.{Buffers}
 use Rattle.call_fill.specs.declared.FillLengths.{FillLengths}
 use Rattle.call_fill.specs.Fill.{fillAnswer, fillBuffers}
@@ -11,9 +11,9 @@ use Rattle.plan_stored.specs.Stored.{checkAnswer, checkNumber}
 use Rattle.call_fill_stored.specs.declared.StoredFill.{StoredFill}
 
 -- by what the check says, and what plain filling does
-abbrev pub fillBy : CheckAnswer → Answer → StoredFill
+abbrev pub fillBy : CheckAnswer → CallAnswer → StoredFill
 fillBy CheckAnswer.Same a = StoredFill.Plain a
-fillBy (CheckAnswer.Refused f) a = StoredFill.Plain (Answer.Unread f)
+fillBy (CheckAnswer.Refused f) a = StoredFill.Plain (CallAnswer.Unread f)
 fillBy (CheckAnswer.Differs place) a = StoredFill.Stale place
 
 unfoldable pub storedFillAnswer : List ℕ → List ℕ → FillLengths → ℕ → ℕ → StoredFill
@@ -31,5 +31,5 @@ storedFillBuffers stored s values have base hidden b =
 
 -- the papers' number, 0 for yes
 abbrev pub storedFillNumber : StoredFill → ℕ
-storedFillNumber (StoredFill.Plain a) = answerNumber a
+storedFillNumber (StoredFill.Plain a) = callAnswerNumber a
 storedFillNumber (StoredFill.Stale place) = checkNumber (CheckAnswer.Differs place)

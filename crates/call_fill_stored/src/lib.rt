@@ -1,5 +1,5 @@
 // Filling from a stored plan: the check of the stored bytes against the fresh signature first, then plain filling.
-use call_slots::Answer;
+use call_slots::CallAnswer;
 use plan_stored::CheckAnswer;
 ghost use mathlib.Core.Path.{_≡_};
 ghost use Rattle.call_slots.specs.Buffers.{buffers};
@@ -8,7 +8,7 @@ ghost use Rattle.call_fill_stored.specs.FillStored.{storedFillAnswer, st
 
 // As plain filling answers; or stored bytes that are stale, with the place of the first difference.
 pub enum StoredFill {
-    Plain(Answer),
+    Plain(CallAnswer),
     Stale(usize),
 }
 
@@ -27,7 +27,7 @@ pub fn fill_stored(
 {
     match plan_stored::check_plan(stored, sig) {
         CheckAnswer::Differs(place) => StoredFill::Stale(place),
-        CheckAnswer::Refused(fault) => StoredFill::Plain(Answer::Unread(fault)),
+        CheckAnswer::Refused(fault) => StoredFill::Plain(CallAnswer::Unread(fault)),
         CheckAnswer::Same => {
             let answer = call_fill::fill(sig, values, image, area, copies, base, hidden);
             StoredFill::Plain(answer)

@@ -11,20 +11,21 @@ use lib.ListN.{length, drop}
 use Rattle.base_words.specs.Basics.{All}
 use Rattle.base_words.specs.Splice.{splice}
 use Rattle.base_words.proofs.Splices.{length-splice}
+use Rattle.base_words.proofs.Each.{each-with}
 use Rattle.sig_signatures.specs.declared.Outcome.{Outcome}
 use Rattle.sig_signatures.specs.declared.SignatureRead.{SignatureRead}
 use Rattle.sig_signatures.specs.Read.{signatureOf}
 use Rattle.sig_signatures.specs.Answer.{signatureAnswer}
 use Rattle.plan_places.specs.declared.CallRules.{CallRules}
 use Rattle.plan_plans.specs.declared.Plan.{Plan}
-use Rattle.call_slots.specs.declared.Answer.{Answer}
+use Rattle.call_slots.specs.declared.CallAnswer.{CallAnswer}
 use Rattle.sig_items.specs.declared.Fault.{Fault}
 use Rattle.call_slots.specs.Placements.{Placement}
 use Rattle.call_slots.specs.Helpers.{Held, Fits}
 use Rattle.call_slots.specs.Refusals.{firstOf, orElse, afterReading, isRefused}
 use Rattle.plan_plans.specs.Call.{outcomeFor}
 use Rattle.call_slots.specs.Arguments.{placementsIn, argumentsOf, planFor, rulesIn, rulesFor}
-use Rattle.call_slots.proofs.Planned.{in-image, all-with}
+use Rattle.call_slots.proofs.Planned.{in-image}
 use Rattle.call_slots.proofs.Refusals.{first-done, differ-false, or-refused, not-refused}
 use Rattle.call_slots.proofs.Answered.{Carried, carried-same}
 use Rattle.call_home.specs.Home.{homeTests, homeAnswer, registersAnswer, homeArea, homed}
@@ -71,7 +72,7 @@ pub record HomeLent (r : CallRules) (i have area : ℕ) : Type 0 where
   pub image : i ≡ 512
   pub room : area ≤ have
 
-pub home-passed : (r : CallRules) (i have area : ℕ) → firstOf (homeTests r i have area) ≡ Answer.Done → HomeLent r i have area
+pub home-passed : (r : CallRules) (i have area : ℕ) → firstOf (homeTests r i have area) ≡ CallAnswer.Done → HomeLent r i have area
 unfolding homeTests
 home-passed (CallRules.Power f) i have area e =
     let a = first-done _ _ e in
@@ -81,7 +82,7 @@ home-passed (CallRules.Power f) i have area e =
 home-passed CallRules.Z i have area e = let a = first-done _ _ e in let q : true ≡ false = a .0 in let z : _≡_ {A = ℕ} 0 1 = cc in absurd (omega arith)
 
 -- an ellipsis asks for nothing more
-pub tests-marked : (g : SignatureRead) (i have area : ℕ) (a : Answer) → a ≡ firstOf (homeTests (rulesOf (g .convention)) i have area) → a ≡ firstOf (homeTests (rulesIn g) i have area)
+pub tests-marked : (g : SignatureRead) (i have area : ℕ) (a : CallAnswer) → a ≡ firstOf (homeTests (rulesOf (g .convention)) i have area) → a ≡ firstOf (homeTests (rulesIn g) i have area)
 unfolding homeTests
 tests-marked g i have area a e = rw (homeless-marked (g .ellipsis) (rulesOf (g .convention))) e
 
@@ -95,8 +96,8 @@ all-registered s g p i read plan power image =
     rw (read, plan) (homed-all s (ap (λ (x : SignatureRead). homeless (rulesIn x)) (sym read) ∙ power)) in
     record {
       tables = c .tables;
-      each = all-with Lies (Homed r (p .area)) (Registered r (p .area) i) registered (placementsIn g p)
-          (all-with (Held r) (Fits (p .area) (p .copies)) Lies (λ q x y. (x, y)) (placementsIn g p) (c .held) (c .fit)) homes;
+      each = each-with Lies (Homed r (p .area)) (Registered r (p .area) i) registered (placementsIn g p)
+          (each-with (Held r) (Fits (p .area) (p .copies)) Lies (λ q x y. (x, y)) (placementsIn g p) (c .held) (c .fit)) homes;
     }
   where
     r : CallRules
@@ -112,13 +113,13 @@ all-registered s g p i read plan power image =
 
 module _ (s image : List ℕ) (have : ℕ) where
   pub home-refused : (f : Fault) → outcomeFor s ≡ Outcome.Refused f
-      → Answer.Unread f ≡ homeAnswer s image have
+      → CallAnswer.Unread f ≡ homeAnswer s image have
   unfolding homeAnswer
   home-refused f e = rw e
 
   module _ (g : SignatureRead) (p : Plan) (n : ℕ) (read : g ≡ signatureAnswer (signatureOf s)) (plan : p ≡ planFor s) (e : outcomeFor s ≡ Outcome.Accepted n) where
     -- of the lengths l and the registers a
-    whole : (l a : Answer) → l ≡ firstOf (homeTests (rulesIn g) (length image) have (p .area))
+    whole : (l a : CallAnswer) → l ≡ firstOf (homeTests (rulesIn g) (length image) have (p .area))
         → a ≡ registersAnswer (rulesIn g) (placementsIn g p) image → orElse l a ≡ homeAnswer s image have
     unfolding homeAnswer argumentsOf
     whole l a x y =
@@ -126,20 +127,20 @@ module _ (s image : List ℕ) (have : ℕ) where
         ∙ ap₂ (λ (g : SignatureRead) (p : Plan). orElse (firstOf (homeTests (rulesIn g) (length image) have (p .area))) (registersAnswer (rulesIn g) (placementsIn g p) image)) read plan
         ∙ sym (ap (λ (o : Outcome). afterReading o (orElse (firstOf (homeTests (rulesFor s) (length image) have (planFor s .area))) (registersAnswer (rulesFor s) (argumentsOf s) image))) e)
 
-    pub home-lengths : (l : Answer) → l ≡ firstOf (homeTests (rulesIn g) (length image) have (p .area)) → isRefused l ≡ true → l ≡ homeAnswer s image have
+    pub home-lengths : (l : CallAnswer) → l ≡ firstOf (homeTests (rulesIn g) (length image) have (p .area)) → isRefused l ≡ true → l ≡ homeAnswer s image have
     home-lengths l x t = sym (or-refused l _ t) ∙ whole l (registersAnswer (rulesIn g) (placementsIn g p) image) x refl
 
-    pub home-registers : (l a : Answer) → l ≡ firstOf (homeTests (rulesIn g) (length image) have (p .area)) → isRefused l ≡ false
+    pub home-registers : (l a : CallAnswer) → l ≡ firstOf (homeTests (rulesIn g) (length image) have (p .area)) → isRefused l ≡ false
         → a ≡ registersAnswer (rulesIn g) (placementsIn g p) image → a ≡ homeAnswer s image have
-    home-registers l a x t y = ap (λ (z : Answer). orElse z a) (sym (not-refused l t)) ∙ whole l a x y
+    home-registers l a x t y = ap (λ (z : CallAnswer). orElse z a) (sym (not-refused l t)) ∙ whole l a x y
 
-pub area-kept : (s : List ℕ) (a : Answer) (image area : List ℕ) → isRefused a ≡ true → area ≡ homeArea s a image area
+pub area-kept : (s : List ℕ) (a : CallAnswer) (image area : List ℕ) → isRefused a ≡ true → area ≡ homeArea s a image area
 unfolding homeArea
-area-kept s Answer.Done image area e = let z : _≡_ {A = ℕ} 0 1 = cc in absurd (omega arith)
-area-kept s (Answer.Unread f) image area e = refl
-area-kept s (Answer.Refused reason) image area e = refl
+area-kept s CallAnswer.Done image area e = let z : _≡_ {A = ℕ} 0 1 = cc in absurd (omega arith)
+area-kept s (CallAnswer.Unread f) image area e = refl
+area-kept s (CallAnswer.Refused reason) image area e = refl
 
 pub area-homed : (s image area last : List ℕ) (g : SignatureRead) (p : Plan) → g ≡ signatureAnswer (signatureOf s) → p ≡ planFor s
-    → last ≡ homed (rulesIn g) (placementsIn g p) image area → last ≡ homeArea s Answer.Done image area
+    → last ≡ homed (rulesIn g) (placementsIn g p) image area → last ≡ homeArea s CallAnswer.Done image area
 unfolding homeArea argumentsOf
 area-homed s image area last g p read plan e = rw (← read, ← plan) e

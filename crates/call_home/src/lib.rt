@@ -1,6 +1,6 @@
 // Home: the arguments of a PowerPC call that came in registers, copied into the parameter area.
-use call_slots::Answer;
-use call_slots::Refusal;
+use call_slots::CallAnswer;
+use call_slots::CallRefusal;
 use plan_places::CallRules;
 use plan_places::IMAGE_BYTES;
 use plan_plans::Plan;
@@ -15,7 +15,7 @@ ghost use Rattle.call_home.specs.Home.{registersAnswer, homeTests, homeA
 ghost use Rattle.call_home.specs.Helpers.{AllRegistered};
 
 // The refusal of the first argument, left to right, that can't be homed.
-fn first_unwidened(image: &[u8], g: SignatureRead, p: Plan) -> Answer
+fn first_unwidened(image: &[u8], g: SignatureRead, p: Plan) -> CallAnswer
     requires { ⌜ AllRegistered g p (length (now image)) ⌝ }
     ensures { λ a. ⌜ a ≡ registersAnswer (rulesIn g) (placementsIn g p) (now (image .entry)) ⌝ }
 {
@@ -33,7 +33,7 @@ fn first_unwidened(image: &[u8], g: SignatureRead, p: Plan) -> Answer
         }
         i = i + 1;
     }
-    Answer::Done
+    CallAnswer::Done
 }
 
 // All arguments, each in the part of the area that starts at its home.
@@ -56,24 +56,24 @@ fn put_homes(area: &mut [u8], image: &[u8], g: SignatureRead, p: Plan)
 }
 
 // Whether there are homes, and the image and the area have the lengths that a plan asks for.
-fn home_tested(r: CallRules, image: usize, lent: usize, area: usize) -> Answer
+fn home_tested(r: CallRules, image: usize, lent: usize, area: usize) -> CallAnswer
     ensures { λ a. ⌜ a ≡ firstOf (homeTests r image lent area) ⌝ }
 {
     if call_home_slot::is_homeless(r) {
-        return Answer::Refused(Refusal::NoView);
+        return CallAnswer::Refused(CallRefusal::NoView);
     }
     if image != IMAGE_BYTES {
-        return Answer::Refused(Refusal::ImageSize);
+        return CallAnswer::Refused(CallRefusal::ImageSize);
     }
     if lent < area {
-        return Answer::Refused(Refusal::AreaTooShort);
+        return CallAnswer::Refused(CallRefusal::AreaTooShort);
     }
-    Answer::Done
+    CallAnswer::Done
 }
 
 // Copies the arguments of a PowerPC call that are in registers into their homes in the parameter area. Takes any bytes as signature, and buffers of any
 // lengths; every FPR is tested before anything is written.
-pub fn home(sig: &[u8], image: &[u8], area: &mut [u8]) -> Answer
+pub fn home(sig: &[u8], image: &[u8], area: &mut [u8]) -> CallAnswer
     ensures { λ a. ⌜ a ≡ homeAnswer (now (sig .entry)) (now (image .entry)) (length (now (area .entry))) ⌝ }
     ensures { λ a. ⌜ now (area .exit) ≡ homeArea (now (sig .entry)) a (now (image .entry)) (now (area .entry)) ⌝ }
 {
@@ -81,7 +81,7 @@ pub fn home(sig: &[u8], image: &[u8], area: &mut [u8]) -> Answer
     let p = plan_planning::plan_signature(g);
     let outcome = plan_planning::call_outcome(sig, g);
     match outcome {
-        Outcome::Refused(fault) => Answer::Unread(fault),
+        Outcome::Refused(fault) => CallAnswer::Unread(fault),
         Outcome::Accepted(_) => {
             let convention = g.convention;
             let rules = both_abi::call_rules_of(convention);
@@ -94,7 +94,7 @@ pub fn home(sig: &[u8], image: &[u8], area: &mut [u8]) -> Answer
                 return floats;
             }
             put_homes(area, image, g, p);
-            Answer::Done
+            CallAnswer::Done
         }
     }
 }

@@ -25,7 +25,7 @@ use Rattle.call_slots.specs.Forms.{roomOf, startsAtHead, extended, homeBytes, n
 use Rattle.call_slots.specs.Placements.{Placement}
 use Rattle.call_slots.specs.Helpers.{FloatSized}
 use Rattle.call_home_slot.specs.Homes.{homeless, fprsOf, homedBytes}
-use Rattle.call_home_slot.specs.Helpers.{narrowedWord, memoryWord, floatHome, HomeSized, fillsWords, Registered}
+use Rattle.call_home_slot.specs.Helpers.{narrowedWord, homeWord, floatHome, HomeSized, fillsWords, Registered}
 
 -- ---- the memory form
 narrowed-form : (d : ℕ) (q : Narrowed) → narrow d ≡ q → zeroExtended 4 (valueOf (narrowedBytes q)) ≡ narrowedWord q
@@ -37,7 +37,7 @@ narrowed-form d (Narrowed.Single x) e =
 narrowed-form d Narrowed.NotWidened e = refl
 
 -- of a single and of a double
-single-form : (f : PowerRules) (n : ℕ) (bs : List ℕ) → n ≡ 4 → zeroExtended n (valueOf (floatValueAs (CallRules.Power f) Equivalent.Single bs)) ≡ memoryWord Equivalent.Single (valueOf bs)
+single-form : (f : PowerRules) (n : ℕ) (bs : List ℕ) → n ≡ 4 → zeroExtended n (valueOf (floatValueAs (CallRules.Power f) Equivalent.Single bs)) ≡ homeWord Equivalent.Single (valueOf bs)
 single-form f n bs s = rw s (narrowed-form (valueOf bs) (narrow (valueOf bs)) refl)
 
 double-form : (n : ℕ) (bs : List ℕ) → n ≡ 8 → valueOf bs < 2 ^ 64 → zeroExtended n (valueOf bs) ≡ valueOf bs

@@ -13,7 +13,7 @@ use Rattle.plan_places.specs.declared.CallRules.{CallRules}
 use Rattle.plan_places.specs.declared.PowerRules.{PowerRules}
 use Rattle.plan_places.specs.declared.Span.{Span}
 use Rattle.plan_places.specs.Step.{withEllipsis}
-use Rattle.call_slots.specs.declared.Answer.{Answer}
+use Rattle.call_slots.specs.declared.CallAnswer.{CallAnswer}
 use Rattle.call_slots.specs.Forms.{startsAtHead, homeBytes, floatValueAs, floatValue}
 use Rattle.call_slots.specs.Placements.{Placement}
 use Rattle.call_slots.specs.Refusals.{floatAnswer}
@@ -28,7 +28,7 @@ homeless-marked v CallRules.Z = refl
 
 pub answer-marked : (v : Bool) (r : CallRules) (t : ValueType) (s : Span) (image : List ℕ) → registerAnswer (withEllipsis v r) t s image ≡ registerAnswer r t s image
 unfolding withEllipsis registerAnswer
-answer-marked v (CallRules.Power f) t s image = ap (λ (a : Answer). pick (ltb 0 (s .floating .count)) a Answer.Done) (by (equivalentOf t) (valueOf (fprsOf s image)))
+answer-marked v (CallRules.Power f) t s image = ap (λ (a : CallAnswer). pick (ltb 0 (s .floating .count)) a CallAnswer.Done) (by (equivalentOf t) (valueOf (fprsOf s image)))
   where
     by : (e : Equivalent) (x : ℕ) → floatAnswer (CallRules.Power (record { word = f .word; edition = f .edition; ellipsis = v })) e x ≡ floatAnswer (CallRules.Power f) e x
     by Equivalent.Single x = refl

@@ -25,15 +25,15 @@ abbrev pub narrowedWord : Narrowed → ℕ
 narrowedWord (Narrowed.Single x) = x
 narrowedWord Narrowed.NotWidened = 0
 
-abbrev pub memoryWord : Equivalent → ℕ → ℕ
-memoryWord Equivalent.Single x = narrowedWord (narrow x)
-memoryWord Equivalent.Double x = x
-memoryWord Equivalent.Nothing x = x
+abbrev pub homeWord : Equivalent → ℕ → ℕ
+homeWord Equivalent.Single x = narrowedWord (narrow x)
+homeWord Equivalent.Double x = x
+homeWord Equivalent.Nothing x = x
 
 -- the memory form of a float in a home of `room` bytes, from the n bytes of its FPRs: a long double stands in memory as in its FPRs
 abbrev pub floatHome : ℕ → ℕ → Equivalent → List ℕ → List ℕ
-floatHome room n Equivalent.Single bs = bytesOf room (memoryWord Equivalent.Single (valueOf bs))
-floatHome room n Equivalent.Double bs = bytesOf room (memoryWord Equivalent.Double (valueOf bs))
+floatHome room n Equivalent.Single bs = bytesOf room (homeWord Equivalent.Single (valueOf bs))
+floatHome room n Equivalent.Double bs = bytesOf room (homeWord Equivalent.Double (valueOf bs))
 floatHome room n Equivalent.Nothing bs = bs ++ replicate (room - n) 0
 
 -- a single and a double have one FPR, and the home of another float has room for all of its FPRs

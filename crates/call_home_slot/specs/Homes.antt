@@ -12,7 +12,7 @@ use Rattle.sig_types.specs.Sizes.{equivalentOf}
 use Rattle.plan_places.specs.declared.CallRules.{CallRules}
 use Rattle.plan_places.specs.declared.Span.{Span}
 use Rattle.plan_places.specs.Step.{wordOf}
-use Rattle.call_slots.specs.declared.Answer.{Answer}
+use Rattle.call_slots.specs.declared.CallAnswer.{CallAnswer}
 use Rattle.call_slots.specs.Buffers.{generalAt, floatingAt}
 use Rattle.call_registers.specs.Registers.{gather}
 use Rattle.call_slots.specs.Forms.{homeBytes, floatValue}
@@ -29,8 +29,8 @@ abbrev pub fprsOf : Span → List ℕ → List ℕ
 fprsOf s image = part (floatingAt (s .floating .first)) (8 * s .floating .count) image
 
 -- 14, of one argument: general registers hold anything
-unfoldable pub registerAnswer : CallRules → ValueType → Span → List ℕ → Answer
-registerAnswer r t s image = pick (ltb 0 (s .floating .count)) (floatAnswer r (equivalentOf t) (valueOf (fprsOf s image))) Answer.Done
+unfoldable pub registerAnswer : CallRules → ValueType → Span → List ℕ → CallAnswer
+registerAnswer r t s image = pick (ltb 0 (s .floating .count)) (floatAnswer r (equivalentOf t) (valueOf (fprsOf s image))) CallAnswer.Done
 
 -- ---- the bytes
 

@@ -1,7 +1,7 @@
 // The home of one argument of a PowerPC call in the parameter area: what stands there once its registers are copied, and whether they can be.
 use base_conventions::Convention;
 use base_ieee::Narrowed;
-use call_slots::Answer;
+use call_slots::CallAnswer;
 use plan_places::CallRules;
 use plan_places::FPRS_AT;
 use plan_places::Span;
@@ -15,7 +15,7 @@ ghost use Rattle.sig_types.specs.Sizes.{sizeOf};
 ghost use Rattle.plan_places.specs.Step.{rulesOf};
 ghost use Rattle.call_slots.specs.Placements.{placement};
 ghost use Rattle.call_home_slot.specs.Homes.{homeless, registerAnswer, homedBytes};
-ghost use Rattle.call_home_slot.specs.Helpers.{memoryWord, floatHome, HomeSized, FprsFit, Registered};
+ghost use Rattle.call_home_slot.specs.Helpers.{homeWord, floatHome, HomeSized, FprsFit, Registered};
 
 // Whether a convention has no homes for its register arguments.
 pub fn is_homeless(r: CallRules) -> bool
@@ -28,7 +28,7 @@ pub fn is_homeless(r: CallRules) -> bool
 }
 
 // Whether one argument's FPRs, if it has any, can be homed.
-pub fn register_answer(image: &[u8], r: CallRules, t: ValueType, s: Span) -> Answer
+pub fn register_answer(image: &[u8], r: CallRules, t: ValueType, s: Span) -> CallAnswer
     requires { ⌜ FprsFit t s (length (now image)) ⌝ }
     ensures { λ a. ⌜ a ≡ registerAnswer r t s (now (image .entry)) ⌝ }
 {
@@ -37,12 +37,12 @@ pub fn register_answer(image: &[u8], r: CallRules, t: ValueType, s: Span) -> Ans
         let x = base_words::load(image, FPRS_AT + 8 * (floating.first as usize), 8);
         return call_slots::float_answer(r, sig_types::equivalent_of(t), x);
     }
-    Answer::Done
+    CallAnswer::Done
 }
 
 // The 64 bits in memory of a float whose FPR has the bits x.
 fn memory_word(e: Equivalent, x: u64) -> u64
-    ensures { λ w. ⌜ w ≡ memoryWord e x ⌝ }
+    ensures { λ w. ⌜ w ≡ homeWord e x ⌝ }
 {
     match e {
         Equivalent::Nothing => x,

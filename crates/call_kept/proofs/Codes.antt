@@ -14,9 +14,10 @@ use Rattle.sig_types.specs.declared.Shape.{Shape}
 use Rattle.sig_types.specs.declared.ValueType.{ValueType}
 use Rattle.sig_types.specs.Sizes.{Sized}
 use Rattle.plan_places.specs.declared.RegisterRange.{RegisterRange}
-use Rattle.call_kept.specs.Helpers.{kindCode, kindFrom, formatCode, formatFrom, equivalentCode, equivalentFrom, Codable, typeCode, typeFrom, rangeCode, rangeFrom, flagFrom}
+use Rattle.sig_items.specs.Encode.{integerNumber, floatNumber}
+use Rattle.call_kept.specs.Helpers.{kindFrom, formatFrom, equivalentCode, equivalentFrom, Codable, typeCode, typeFrom, rangeCode, rangeFrom, flagFrom}
 
-kind-back : (k : IntegerKind) → kindFrom (kindCode k) ≡ k
+kind-back : (k : IntegerKind) → kindFrom (integerNumber k) ≡ k
 unfolding kindFrom
 kind-back IntegerKind.I8 = refl
 kind-back IntegerKind.U8 = refl
@@ -28,7 +29,7 @@ kind-back IntegerKind.I64 = refl
 kind-back IntegerKind.U64 = refl
 kind-back IntegerKind.Pointer = refl
 
-kind-few : (k : IntegerKind) → kindCode k < 16
+kind-few : (k : IntegerKind) → integerNumber k < 16
 kind-few IntegerKind.I8 = omega arith
 kind-few IntegerKind.U8 = omega arith
 kind-few IntegerKind.I16 = omega arith
@@ -39,13 +40,13 @@ kind-few IntegerKind.I64 = omega arith
 kind-few IntegerKind.U64 = omega arith
 kind-few IntegerKind.Pointer = omega arith
 
-format-back : (f : FloatFormat) → formatFrom (formatCode f) ≡ f
+format-back : (f : FloatFormat) → formatFrom (floatNumber f) ≡ f
 unfolding formatFrom
 format-back FloatFormat.Single = refl
 format-back FloatFormat.Double = refl
 format-back FloatFormat.LongDouble = refl
 
-pub format-few : (f : FloatFormat) → formatCode f < 16
+pub format-few : (f : FloatFormat) → floatNumber f < 16
 format-few FloatFormat.Single = omega arith
 format-few FloatFormat.Double = omega arith
 format-few FloatFormat.LongDouble = omega arith
@@ -72,12 +73,12 @@ struct-codable t s h e = rw e at h
 
 pub type-back : (t : ValueType) → Codable t → typeFrom (typeCode t) ≡ t
 unfolding typeFrom
-type-back (ValueType.Integer k) h = rw (lt-ltb (kindCode k) 16 (kind-few k)) (ap ValueType.Integer (kind-back k))
+type-back (ValueType.Integer k) h = rw (lt-ltb (integerNumber k) 16 (kind-few k)) (ap ValueType.Integer (kind-back k))
 type-back (ValueType.Float f) h =
-    let low : 16 ≤ 16 + formatCode f = omega arith in
-    let high : 16 + formatCode f < 32 = omega (arith, format-few f) in
-    let back : 16 + formatCode f - 16 ≡ formatCode f = omega arith in
-    rw (le-ltb (16 + formatCode f) 16 low, lt-ltb (16 + formatCode f) 32 high, back) (ap ValueType.Float (format-back f))
+    let low : 16 ≤ 16 + floatNumber f = omega arith in
+    let high : 16 + floatNumber f < 32 = omega (arith, format-few f) in
+    let back : 16 + floatNumber f - 16 ≡ floatNumber f = omega arith in
+    rw (le-ltb (16 + floatNumber f) 16 low, lt-ltb (16 + floatNumber f) 32 high, back) (ap ValueType.Float (format-back f))
 type-back (ValueType.Struct s) h =
     let few = equivalent-few (s .equivalent) in
     let x : ℕ = 128 * s .size + (4 * s .align + equivalentCode (s .equivalent)) in

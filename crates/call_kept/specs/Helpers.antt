@@ -13,23 +13,13 @@ use Rattle.sig_types.specs.declared.Equivalent.{Equivalent}
 use Rattle.sig_types.specs.declared.Shape.{Shape}
 use Rattle.sig_types.specs.declared.ValueType.{ValueType}
 use Rattle.sig_types.specs.Sizes.{sizeOf, maxSize}
+use Rattle.sig_items.specs.Encode.{integerNumber, floatNumber}
 use Rattle.plan_places.specs.declared.RegisterRange.{RegisterRange}
 use Rattle.plan_places.specs.declared.ByteRange.{ByteRange}
 use Rattle.plan_places.specs.declared.Span.{Span}
 use Rattle.call_slots.specs.Placements.{Placement, placement}
 
--- ---- a type in a word
-
-abbrev pub kindCode : IntegerKind → ℕ
-kindCode IntegerKind.I8 = 0
-kindCode IntegerKind.U8 = 1
-kindCode IntegerKind.I16 = 2
-kindCode IntegerKind.U16 = 3
-kindCode IntegerKind.I32 = 4
-kindCode IntegerKind.U32 = 5
-kindCode IntegerKind.I64 = 6
-kindCode IntegerKind.U64 = 7
-kindCode IntegerKind.Pointer = 8
+-- ---- a type in a word: the numbers of an integer's kind and of a float's format are the signature's
 
 unfoldable pub kindFrom : ℕ → IntegerKind
 kindFrom x =
@@ -41,11 +31,6 @@ kindFrom x =
     (pick (eqb x 5) IntegerKind.U32
     (pick (eqb x 6) IntegerKind.I64
     (pick (eqb x 7) IntegerKind.U64 IntegerKind.Pointer)))))))
-
-abbrev pub formatCode : FloatFormat → ℕ
-formatCode FloatFormat.Single = 0
-formatCode FloatFormat.Double = 1
-formatCode FloatFormat.LongDouble = 2
 
 unfoldable pub formatFrom : ℕ → FloatFormat
 formatFrom x = pick (eqb x 0) FloatFormat.Single (pick (eqb x 1) FloatFormat.Double FloatFormat.LongDouble)
@@ -65,8 +50,8 @@ Codable (ValueType.Float f) = Unit {0}
 Codable (ValueType.Struct s) = (0 < s .size) × (s .size ≤ maxSize) × (s .align ≤ 16)
 
 abbrev pub typeCode : ValueType → ℕ
-typeCode (ValueType.Integer k) = kindCode k
-typeCode (ValueType.Float f) = 16 + formatCode f
+typeCode (ValueType.Integer k) = integerNumber k
+typeCode (ValueType.Float f) = 16 + floatNumber f
 typeCode (ValueType.Struct s) = 128 * s .size + (4 * s .align + equivalentCode (s .equivalent))
 
 unfoldable pub typeFrom : ℕ → ValueType

@@ -11,15 +11,15 @@ use sig_types::ValueType;
 ghost use mathlib.Core.Path.{_≡_};
 ghost use Prim.Native.Nat.{_+_, _*_, _≤_};
 ghost use lib.ListN.{length, getD};
-ghost use Rattle.base_words.specs.Basics.{flag};
 ghost use Rattle.base_words.specs.Splice.{overlay, splice};
-ghost use Rattle.call_kept.specs.Helpers.{rowLength, Codable, kindCode, kindFrom, formatCode, formatFrom, equivalentCode, equivalentFrom, typeCode, typeFrom, rangeCode, rangeFrom, flagFrom, rowOf, spanFrom};
+ghost use Rattle.sig_items.specs.Encode.{integerNumber, floatNumber};
+ghost use Rattle.call_kept.specs.Helpers.{rowLength, Codable, kindFrom, formatFrom, equivalentCode, equivalentFrom, typeCode, typeFrom, rangeCode, rangeFrom, flagFrom, rowOf, spanFrom};
 
 // The words of a row.
 pub const ROW: usize = 10;
 
 fn kind_code(k: IntegerKind) -> u16
-    ensures { λ n. ⌜ n ≡ kindCode k ⌝ }
+    ensures { λ n. ⌜ n ≡ integerNumber k ⌝ }
 {
     match k {
         IntegerKind::I8 => 0,
@@ -52,7 +52,7 @@ fn kind_from(x: u16) -> IntegerKind
 }
 
 fn format_code(f: FloatFormat) -> u16
-    ensures { λ n. ⌜ n ≡ formatCode f ⌝ }
+    ensures { λ n. ⌜ n ≡ floatNumber f ⌝ }
 {
     match f {
         FloatFormat::Single => 0,
@@ -140,15 +140,6 @@ fn range_from(x: u16) -> RegisterRange
     }
 }
 
-fn flag_code(b: bool) -> u16
-    ensures { λ n. ⌜ n ≡ flag b ⌝ }
-{
-    if b {
-        return 1;
-    }
-    0
-}
-
 fn flag_from(x: u16) -> bool
     ensures { λ b. ⌜ b ≡ flagFrom x ⌝ }
 {
@@ -178,7 +169,7 @@ fn put_row(kept: &mut [u16], t: ValueType, s: Span)
     kept[6] = memory.length;
     kept[7] = copy.start;
     kept[8] = copy.length;
-    kept[9] = flag_code(indirect);
+    kept[9] = base_words::flag(indirect) as u16;
 }
 
 // The row of argument i among those that are kept.

@@ -8,13 +8,14 @@ use borrow.Author.Tests.{ltb-false}
 use Rattle.base_words.specs.Basics.{pick, All}
 use Rattle.base_words.specs.Splice.{overlay}
 use Rattle.base_words.proofs.Splices.{overlay-nothing}
+use Rattle.base_words.proofs.Each.{each-with}
 use Rattle.base_conventions.specs.declared.Convention.{Convention}
 use Rattle.sig_signatures.specs.declared.Outcome.{Outcome}
 use Rattle.plan_plans.specs.declared.Plan.{Plan}
 use Rattle.plan_plans.specs.declared.Measured.{Measured}
 use Rattle.plan_plans.specs.Plan.{planAnswer}
 use Rattle.plan_plans.specs.Call.{called, outcomeFor}
-use Rattle.call_slots.specs.declared.Answer.{Answer}
+use Rattle.call_slots.specs.declared.CallAnswer.{CallAnswer}
 use Rattle.sig_items.specs.declared.Fault.{Fault}
 use Rattle.sig_items.specs.Reading.{Reading, no}
 use Rattle.sig_signatures.specs.Signature.{Signature}
@@ -28,7 +29,7 @@ use Rattle.call_slots.specs.Arguments.{argumentsOf, planFor, rulesFor, sizesFor
 use Rattle.call_slots.proofs.Answered.{carried}
 use Rattle.call_kept.specs.Helpers.{keptAll, KeptEach}
 use Rattle.call_arguments.specs.Helpers.{KeptOf}
-use Rattle.call_slots.proofs.Planned.{in-image, all-with}
+use Rattle.call_slots.proofs.Planned.{in-image}
 use Rattle.call_slots.proofs.Refusals.{first-done, differ-false, or-refused, not-refused}
 use Rattle.call_unmarshal.specs.Helpers.{InBuffers}
 use Rattle.call_read.specs.declared.ReadLengths.{ReadLengths}
@@ -42,7 +43,7 @@ pub record Lent (have : ReadLengths) (p : Plan) : Type 0 where
   pub values : have .values ≡ p .values
   pub area : p .area ≤ have .area
 
-pub tests-passed : (have : ReadLengths) (p : Plan) → firstOf (readTests have (p .values) (p .area)) ≡ Answer.Done → Lent have p
+pub tests-passed : (have : ReadLengths) (p : Plan) → firstOf (readTests have (p .values) (p .area)) ≡ CallAnswer.Done → Lent have p
 unfolding readTests
 tests-passed have p e =
     let a = first-done _ _ e in
@@ -56,7 +57,7 @@ tests-passed have p e =
 
 -- the same of sizes m that were measured
 pub tests-lent : (s : List ℕ) (have : ReadLengths) (m : Measured) → m ≡ sizesFor s
-    → firstOf (readTests have (m .values) (m .area)) ≡ Answer.Done → Lent have (planFor s)
+    → firstOf (readTests have (m .values) (m .area)) ≡ CallAnswer.Done → Lent have (planFor s)
 tests-lent s have m p e = tests-passed have (planFor s) (rw p at e)
 
 -- each argument is then one that the first pass can look at, by the signature's rules r
@@ -64,7 +65,7 @@ pub each-ready : (s : List ℕ) (r : CallRules) (i a : ℕ) → r ≡ rulesFor s
 unfolding argumentsOf
 each-ready s r i a same image area =
     let h = carried s in
-    all-with (Held r) (Fits (planFor s .area) (planFor s .copies)) (InBuffers r i a) ready (argumentsOf s)
+    each-with (Held r) (Fits (planFor s .area) (planFor s .copies)) (InBuffers r i a) ready (argumentsOf s)
     (subst (λ (x : CallRules). All (Held x) (argumentsOf s)) (sym same) (h .held)) (h .fit)
   where
     ready : (q : Placement) → Held r q → Fits (planFor s .area) (planFor s .copies) q → InBuffers r i a q
@@ -82,43 +83,43 @@ all-sizes s c l n kept = ap sizesOf (kept .same) ∙ carried s .total
 
 -- ---- the answer
 
-pub answer-unread : (s : List ℕ) (have : ReadLengths) (base : ℕ) (b : Buffers) (f : Fault) → signatureOf s ≡ no f → Answer.Unread f ≡ readAnswer s have base b
+pub answer-unread : (s : List ℕ) (have : ReadLengths) (base : ℕ) (b : Buffers) (f : Fault) → signatureOf s ≡ no f → CallAnswer.Unread f ≡ readAnswer s have base b
 unfolding readAnswer called planAnswer
 answer-unread s have base b f q = let o : outcomeFor s ≡ Outcome.Refused f = ap (λ (x : Reading Signature). planAnswer (called x) .outcome) q in rw o
 
 module _ (s : List ℕ) (have : ReadLengths) (base : ℕ) (b : Buffers) (m : Measured) (p : m ≡ sizesFor s) where
-  pub answer-refused : (f : Fault) → m .outcome ≡ Outcome.Refused f → Answer.Unread f ≡ readAnswer s have base b
+  pub answer-refused : (f : Fault) → m .outcome ≡ Outcome.Refused f → CallAnswer.Unread f ≡ readAnswer s have base b
   unfolding readAnswer
   answer-refused f e = rw (rw p at e)
 
   -- of a call that is accepted, by its rules and its arguments
   module _ (n : ℕ) (e : m .outcome ≡ Outcome.Accepted n) (r : CallRules) (same : r ≡ rulesFor s) (ps : List Placement) (all : ps ≡ argumentsOf s) where
     -- of the lengths l and the arguments a
-    whole : (l a : Answer) → l ≡ firstOf (readTests have (m .values) (m .area)) → a ≡ argumentsAnswer r base ps b → orElse l a ≡ readAnswer s have base b
+    whole : (l a : CallAnswer) → l ≡ firstOf (readTests have (m .values) (m .area)) → a ≡ argumentsAnswer r base ps b → orElse l a ≡ readAnswer s have base b
     unfolding readAnswer
     whole l a x y = rw (rw p at e, ← same, ← all) (ap₂ orElse (rw p at x) y)
 
-    pub answer-lengths : (l : Answer) → l ≡ firstOf (readTests have (m .values) (m .area)) → isRefused l ≡ true → l ≡ readAnswer s have base b
+    pub answer-lengths : (l : CallAnswer) → l ≡ firstOf (readTests have (m .values) (m .area)) → isRefused l ≡ true → l ≡ readAnswer s have base b
     answer-lengths l x t = sym (or-refused l _ t) ∙ whole l (argumentsAnswer r base ps b) x refl
 
-    pub answer-arguments : (l a : Answer) → l ≡ firstOf (readTests have (m .values) (m .area)) → isRefused l ≡ false → a ≡ argumentsAnswer r base ps b
+    pub answer-arguments : (l a : CallAnswer) → l ≡ firstOf (readTests have (m .values) (m .area)) → isRefused l ≡ false → a ≡ argumentsAnswer r base ps b
         → a ≡ readAnswer s have base b
-    answer-arguments l a x t y = ap (λ (z : Answer). orElse z a) (sym (not-refused l t)) ∙ whole l a x y
+    answer-arguments l a x t y = ap (λ (z : CallAnswer). orElse z a) (sym (not-refused l t)) ∙ whole l a x y
 
 -- of a call without arguments
 module _ (s : List ℕ) (have : ReadLengths) (m : Measured) (p : m ≡ sizesFor s) where
-  pub lengths-refused : (f : Fault) → m .outcome ≡ Outcome.Refused f → Answer.Unread f ≡ lengthsAnswer s have
+  pub lengths-refused : (f : Fault) → m .outcome ≡ Outcome.Refused f → CallAnswer.Unread f ≡ lengthsAnswer s have
   lengths-refused f e = rw (rw p at e)
 
-  pub lengths-tested : (n : ℕ) → m .outcome ≡ Outcome.Accepted n → (l : Answer) → l ≡ firstOf (readTests have (m .values) (m .area)) → l ≡ lengthsAnswer s have
+  pub lengths-tested : (n : ℕ) → m .outcome ≡ Outcome.Accepted n → (l : CallAnswer) → l ≡ firstOf (readTests have (m .values) (m .area)) → l ≡ lengthsAnswer s have
   lengths-tested n e l x = rw (rw p at e) (rw p at x)
 
 module _ (s : List ℕ) (none : argumentsOf s ≡ []) (base : ℕ) (b : Buffers) where
-  pub answer-none : (have : ReadLengths) (a : Answer) → a ≡ lengthsAnswer s have → a ≡ readAnswer s have base b
+  pub answer-none : (have : ReadLengths) (a : CallAnswer) → a ≡ lengthsAnswer s have → a ≡ readAnswer s have base b
   unfolding readAnswer argumentsAnswer firstOfAll
   answer-none have a x = x ∙ rw none (ap (afterReading (outcomeFor s)) (sym (or-done-right (firstOf (readTests have (planFor s .values) (planFor s .area))))))
 
-  pub values-none : (a : Answer) (values : List ℕ) → values ≡ readValues s base a b values
+  pub values-none : (a : CallAnswer) (values : List ℕ) → values ≡ readValues s base a b values
   unfolding readValues valuesAt
   values-none a values = rw none (go (isDone a))
     where
@@ -128,13 +129,13 @@ module _ (s : List ℕ) (none : argumentsOf s ≡ []) (base : ℕ) (b : Buffers)
 
 -- ---- the value buffer
 
-pub values-kept : (s : List ℕ) (base : ℕ) (a : Answer) (b : Buffers) (values : List ℕ) → isRefused a ≡ true → values ≡ readValues s base a b values
+pub values-kept : (s : List ℕ) (base : ℕ) (a : CallAnswer) (b : Buffers) (values : List ℕ) → isRefused a ≡ true → values ≡ readValues s base a b values
 unfolding readValues
-values-kept s base Answer.Done b values e = let z : _≡_ {A = ℕ} 0 1 = cc in absurd (omega arith)
-values-kept s base (Answer.Unread f) b values e = refl
-values-kept s base (Answer.Refused reason) b values e = refl
+values-kept s base CallAnswer.Done b values e = let z : _≡_ {A = ℕ} 0 1 = cc in absurd (omega arith)
+values-kept s base (CallAnswer.Unread f) b values e = refl
+values-kept s base (CallAnswer.Refused reason) b values e = refl
 
 pub values-taken : (s : List ℕ) (base : ℕ) (b : Buffers) (values last : List ℕ) (r : CallRules) (ps : List Placement) → r ≡ rulesFor s → ps ≡ argumentsOf s
-    → last ≡ overlay values (valuesAt r base ps b) → last ≡ readValues s base Answer.Done b values
+    → last ≡ overlay values (valuesAt r base ps b) → last ≡ readValues s base CallAnswer.Done b values
 unfolding readValues
 values-taken s base b values last r ps same all e = rw (← same, ← all) e

@@ -1,18 +1,16 @@
 -- A float in FPRs and in general registers: which bytes 26 compares. Assumes nothing.
 use mathlib.Core.Path.{_≡_, refl, sym, ap, ap₂, _∙_}
-use mathlib.Core.Bool.{Bool, true, false}
-use mathlib.Core.List.{List, [], _∷_, _++_}
+use mathlib.Core.Bool.{true, false}
+use mathlib.Core.List.{List, [], _∷_}
 use Prim.Native.Nat.{ℕ, zero, suc, _+_, _-_, _*_, _≤_, _<_, min}
 use native.Mathlib.Omega.{arith}
 use native.Mathlib.Nat.{mul-le-mul-left}
 use native.Mathlib.Numerals.{add-one}
-use borrow.Author.Tests.{eq-eqb, ne-eqb, leb-true, leb-false}
-use lib.Dec.{eqb, leb}
-use lib.ListN.{length, take, drop, getD, drop-of-length-le, length-drop}
-use lib.Seq.{take-all, take-append-le, length-take-le, getD-take, drop-cons}
-use Rattle.base_words.specs.Basics.{pick}
+use borrow.Author.Tests.{eq-eqb, ne-eqb}
+use lib.ListN.{length, take, drop, getD, drop-of-length-le}
+use lib.Seq.{take-all, length-take-le, getD-take, drop-cons}
 use Rattle.base_words.specs.Splice.{overlay, part}
-use Rattle.base_words.proofs.Splices.{overlay-is, length-part}
+use Rattle.base_words.proofs.Splices.{length-part, part-short, take-overlay}
 use Rattle.sig_types.specs.declared.Equivalent.{Equivalent}
 use Rattle.sig_types.specs.Sizes.{equivalentOf}
 use Rattle.plan_places.specs.declared.CallRules.{CallRules}
@@ -21,7 +19,7 @@ use Rattle.call_registers.specs.Registers.{gather}
 use Rattle.call_registers.proofs.Registers.{length-gather}
 use Rattle.call_slots.specs.Buffers.{Buffers, bytesAt}
 use Rattle.call_slots.specs.Forms.{ownStart, floatValueAs, floatValue}
-use Rattle.call_slots.specs.Placements.{Placement, floatAt}
+use Rattle.call_slots.specs.Placements.{Placement, fprBytesAt}
 use Rattle.call_slots.specs.Helpers.{FloatSized}
 use Rattle.call_unmarshal.proofs.Arguments.{own-first, float-length}
 use Rattle.call_read.specs.Read.{sameBytes, ownHeld, agrees}
@@ -75,25 +73,6 @@ module _ (a b : List ℕ) (n : ℕ) (within : n ≤ length a) (within' : n ≤ l
 
 -- ---- the bytes that are compared
 
--- a part that passes the end is short
-part-short : (lo n : ℕ) (l : List ℕ) → part lo n l ≡ part lo (min n (length l - lo)) l
-part-short lo n l = go (leb n (length l - lo)) refl
-  where
-    go : (b : Bool) → leb n (length l - lo) ≡ b → part lo n l ≡ part lo (min n (length l - lo)) l
-    go true q =
-        let h = leb-true n (length l - lo) q in
-        let e : min n (length l - lo) ≡ n = omega arith in
-        rw e
-    go false q =
-        let h = leb-false n (length l - lo) q in
-        let e : min n (length l - lo) ≡ length l - lo = omega arith in
-        let d = length-drop lo l in
-        rw e (take-all n (drop lo l) (omega arith) ∙ sym (take-all (length l - lo) (drop lo l) (omega arith)))
-
--- the first bytes of what was put at the head of a buffer
-take-put : (z xs : List ℕ) (m : ℕ) → m ≤ length xs → length xs ≤ length z → take m (overlay z xs) ≡ take m xs
-take-put z xs m h k = ap (take m) (overlay-is z xs k) ∙ take-append-le m xs (drop (length xs) z) h
-
 -- no float has more than sixteen bytes
 float-most : (e : Equivalent) (m n : ℕ) → FloatSized e m n → n ≤ 16
 float-most Equivalent.Single m n h = omega (arith, h .1)
@@ -106,7 +85,7 @@ module _ (r : CallRules) (p : Placement) (b : Buffers) where
   unfolding agrees ownHeld gather sameBytes
   agrees-alone e = rw e (none (ownStart r (p .ty) (p .size)) (p .size))
     where
-      none : (lo n : ℕ) → sameBytes (part lo n []) (take (length (part lo n [])) (floatValue r (p .ty) (floatAt (p .span) b))) ≡ true
+      none : (lo n : ℕ) → sameBytes (part lo n []) (take (length (part lo n [])) (floatValue r (p .ty) (fprBytesAt (p .span) b))) ≡ true
       none zero zero = refl
       none zero (suc n) = refl
       none (suc lo) zero = refl
@@ -134,18 +113,18 @@ module _ (r : CallRules) (p : Placement) (b : Buffers) where
         let some : 1 ≤ p .span .general .count = h .also in
         omega (arith, mul-le-mul-left (wordOf r) some)
 
-    value-size : (floats : List ℕ) → floats ≡ floatAt (p .span) b → length (floatValueAs r (equivalentOf (p .ty)) floats) ≡ p .size
+    value-size : (floats : List ℕ) → floats ≡ fprBytesAt (p .span) b → length (floatValueAs r (equivalentOf (p .ty)) floats) ≡ p .size
     unfolding bytesAt
     value-size floats e =
         let size = length-part (256 + 8 * p .span .floating .first) (8 * p .span .floating .count) (b .image) (omega (arith, h .registers .floating, h .registers .image)) in
-        rw e (float-length r (equivalentOf (p .ty)) (floatAt (p .span) b) (p .span .floating .count) (p .size) (h .registers .held .float (h .float)) size (h .exact))
+        rw e (float-length r (equivalentOf (p .ty)) (fprBytesAt (p .span) b) (p .span .floating .count) (p .size) (h .registers .held .float (h .float)) size (h .exact))
 
     pub value-most : p .size ≤ 16
     value-most = float-most (equivalentOf (p .ty)) (p .span .floating .count) (p .size) (h .registers .held .float (h .float))
 
     -- the m of its own bytes that stand in general registers, and as many of the value, each at the head of a buffer
     pub agrees-compared : (x y : List ℕ) (m : ℕ) → length x ≡ 16 → length y ≡ 16 → m ≡ min (p .size) (held - own)
-        → sameBytes (take m (overlay x (part own m (gather (wordOf r) (p .span .general .count) image)))) (take m (overlay y (floatValueAs r (equivalentOf (p .ty)) (floatAt (p .span) b))))
+        → sameBytes (take m (overlay x (part own m (gather (wordOf r) (p .span .general .count) image)))) (take m (overlay y (floatValueAs r (equivalentOf (p .ty)) (fprBytesAt (p .span) b))))
         ≡ agrees r p b
     unfolding agrees ownHeld floatValue bytesAt
     agrees-compared x y m lx ly e =
@@ -154,9 +133,9 @@ module _ (r : CallRules) (p : Placement) (b : Buffers) where
         let few : own + m ≤ held = omega (arith, own-held) in
         let o : List ℕ = part own m g in
         let lo : length o ≡ m = length-part own m g (omega arith) in
-        let v : List ℕ = floatValueAs r (equivalentOf (p .ty)) (floatAt (p .span) b) in
-        let lv : length v ≡ p .size = value-size (floatAt (p .span) b) refl in
+        let v : List ℕ = floatValueAs r (equivalentOf (p .ty)) (fprBytesAt (p .span) b) in
+        let lv : length v ≡ p .size = value-size (fprBytesAt (p .span) b) refl in
         let whole : part own (p .size) g ≡ o = part-short own (p .size) g ∙ ap (λ (z : ℕ). part own z g) (ap (λ (z : ℕ). min (p .size) (z - own)) lg ∙ sym e) in
-        let left : take m (overlay x o) ≡ o = take-put x o m (omega arith) (omega (arith, value-most)) ∙ take-all m o (omega arith) in
-        let right : take m (overlay y v) ≡ take m v = take-put y v m (omega arith) (omega (arith, value-most)) in
+        let left : take m (overlay x o) ≡ o = take-overlay x o m (omega arith) (omega (arith, value-most)) ∙ take-all m o (omega arith) in
+        let right : take m (overlay y v) ≡ take m v = take-overlay y v m (omega arith) (omega (arith, value-most)) in
         ap₂ sameBytes left right ∙ sym (ap (λ (l : List ℕ). sameBytes l (take (length l) v)) whole ∙ ap (λ (z : ℕ). sameBytes o (take z v)) lo)

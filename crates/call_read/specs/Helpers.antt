@@ -11,9 +11,9 @@ use Rattle.base_words.specs.Numbers.{valueOf}
 use Rattle.sig_types.specs.Sizes.{equivalentOf}
 use Rattle.plan_places.specs.declared.CallRules.{CallRules}
 use Rattle.plan_places.specs.declared.Span.{Span}
-use Rattle.call_slots.specs.declared.Answer.{Answer}
+use Rattle.call_slots.specs.declared.CallAnswer.{CallAnswer}
 use Rattle.call_slots.specs.Buffers.{Buffers}
-use Rattle.call_slots.specs.Placements.{Placement, floatAt}
+use Rattle.call_slots.specs.Placements.{Placement, fprBytesAt}
 use Rattle.call_slots.specs.Refusals.{firstOf, afterReading, floatAnswer}
 use Rattle.call_slots.specs.Helpers.{InImage}
 use Rattle.call_slots.specs.Arguments.{planFor}
@@ -30,8 +30,8 @@ pub record Compared (r : CallRules) (p : Placement) (b : Buffers) : Type 0 where
   pub registers : InImage r (length (b .image)) p
   pub float : 0 < p .span .floating .count
   pub also : 0 < p .span .general .count
-  pub exact : floatAnswer r (equivalentOf (p .ty)) (valueOf (floatAt (p .span) b)) ≡ Answer.Done
+  pub exact : floatAnswer r (equivalentOf (p .ty)) (valueOf (fprBytesAt (p .span) b)) ≡ CallAnswer.Done
 
 -- the answer for a call without arguments: of the lengths alone
-abbrev pub lengthsAnswer : List ℕ → ReadLengths → Answer
+abbrev pub lengthsAnswer : List ℕ → ReadLengths → CallAnswer
 lengthsAnswer s have = afterReading (outcomeFor s) (firstOf (readTests have (planFor s .values) (planFor s .area)))

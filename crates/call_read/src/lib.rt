@@ -1,14 +1,17 @@
 // Reading: the values of a call's arguments out of its registers, memory and copies. A first pass over the arguments finds the first
 // that can't be read, and only then are the values taken, so that a refused reading leaves the value buffer as it was.
 use base_conventions::Convention;
-use call_arguments::FEW_BYTES;
-use call_slots::Answer;
-use call_slots::Refusal;
+use call_kept::ROW;
+use call_slots::CallAnswer;
+use call_slots::CallRefusal;
 use plan_places::CallRules;
 use plan_places::FPRS_AT;
 use plan_places::IMAGE_BYTES;
 use plan_places::Span;
+use sig_signatures::FEW_ARGUMENTS;
+use sig_signatures::FEW_BYTES;
 use sig_signatures::HeadRead;
+use sig_signatures::MAX_ARGUMENTS;
 use sig_signatures::Outcome;
 use sig_signatures::ResultType;
 use sig_types::ValueType;
@@ -16,11 +19,12 @@ ghost use mathlib.Core.Path.{_≡_};
 ghost use mathlib.Core.List.{[]};
 ghost use Prim.Native.Nat.{_≤_};
 ghost use lib.ListN.{length, take};
+ghost use Rattle.sig_signatures.specs.Helpers.{RoomFor};
 ghost use Rattle.call_slots.specs.Buffers.{buffers};
 ghost use Rattle.call_slots.specs.Placements.{placement};
 ghost use Rattle.call_slots.specs.Refusals.{firstOf};
-ghost use Rattle.call_arguments.specs.Helpers.{HeadIs, NoneLeft, KeepsRows};
-ghost use Rattle.call_kept.specs.Helpers.{keptAll, KeptEach};
+ghost use Rattle.call_arguments.specs.Helpers.{HeadIs, NoneLeft};
+ghost use Rattle.call_kept.specs.Helpers.{rowLength, keptAll, KeptEach};
 ghost use Rattle.call_unmarshal.specs.Helpers.{InBuffers};
 ghost use Rattle.call_read.specs.Read.{inCopies, copyAnswer, sameBytes, agrees, agreeAnswer, argumentAnswer, argumentsAnswer, readTests, readAnswer, readValues, readLengths};
 ghost use Rattle.call_read.specs.Helpers.{Compared, asks as asksOf, lengthsAnswer};
@@ -45,13 +49,13 @@ fn in_copies(address: u64, base: u64, n: usize, length: usize) -> bool
     address - base <= (length - n) as u64
 }
 
-fn copy_answer(inside: bool) -> Answer
+fn copy_answer(inside: bool) -> CallAnswer
     ensures { λ a. ⌜ a ≡ copyAnswer inside ⌝ }
 {
     if inside {
-        return Answer::Done;
+        return CallAnswer::Done;
     }
-    Answer::Refused(Refusal::OutsideCopies)
+    CallAnswer::Refused(CallRefusal::OutsideCopies)
 }
 
 // Whether the first n bytes of a and of b are the same.
@@ -97,13 +101,13 @@ fn floats_agree(image: &[u8], r: CallRules, t: ValueType, n: usize, s: Span) -> 
     same_bytes(&own, &value, m)
 }
 
-fn agree_answer(same: bool) -> Answer
+fn agree_answer(same: bool) -> CallAnswer
     ensures { λ a. ⌜ a ≡ agreeAnswer same ⌝ }
 {
     if same {
-        return Answer::Done;
+        return CallAnswer::Done;
     }
-    Answer::Refused(Refusal::FloatsDiffer)
+    CallAnswer::Refused(CallRefusal::FloatsDiffer)
 }
 
 // Whether one argument can be read, of a type and its size. Most floats have no general registers, and then 14 is all that is asked.
@@ -116,7 +120,7 @@ pub fn argument_answer(
     n: usize,
     s: Span,
     base: u64,
-) -> Answer
+) -> CallAnswer
     requires { ⌜ InBuffers r (length (now image)) (length (now area)) (placement t n s) ⌝ }
     ensures { λ a. ⌜ a ≡ argumentAnswer r base (placement t n s) (buffers (now (image .entry)) (now (area .entry)) (now (copies .entry))) ⌝ }
 {
@@ -138,7 +142,7 @@ pub fn argument_answer(
         let address = call_unmarshal::word_at(image, area, s);
         return copy_answer(in_copies(address, base, n, copies.len()));
     }
-    Answer::Done
+    CallAnswer::Done
 }
 
 // Whether anything is asked of an argument before it is read. Of most nothing is, and then nobody need know their types.
@@ -162,7 +166,7 @@ pub fn first_refusal(
     count: usize,
     kept: &[u16],
     base: u64,
-) -> Answer
+) -> CallAnswer
     requires { ⌜ KeptEach (InBuffers rules (length (now image)) (length (now area))) convention (now kept) count ⌝ }
     ensures { λ a. ⌜ a ≡ argumentsAnswer rules base (keptAll convention (now (kept .entry)) count) (buffers (now (image .entry)) (now (area .entry)) (now (copies .entry))) ⌝ }
 {
@@ -179,23 +183,23 @@ pub fn first_refusal(
         }
         i = i + 1;
     }
-    Answer::Done
+    CallAnswer::Done
 }
 
 // Whether the buffers have the lengths that a plan asks for.
-fn tested(have: ReadLengths, values: usize, area: usize) -> Answer
+fn tested(have: ReadLengths, values: usize, area: usize) -> CallAnswer
     ensures { λ a. ⌜ a ≡ firstOf (readTests have values area) ⌝ }
 {
     if have.image != IMAGE_BYTES {
-        return Answer::Refused(Refusal::ImageSize);
+        return CallAnswer::Refused(CallRefusal::ImageSize);
     }
     if have.values != values {
-        return Answer::Refused(Refusal::ValuesSize);
+        return CallAnswer::Refused(CallRefusal::ValuesSize);
     }
     if have.area < area {
-        return Answer::Refused(Refusal::AreaTooShort);
+        return CallAnswer::Refused(CallRefusal::AreaTooShort);
     }
-    Answer::Done
+    CallAnswer::Done
 }
 
 // The reading of a call once what stands before its arguments is read: they are kept, so that both passes go over them without the signature.
@@ -213,8 +217,8 @@ fn read_part(
     end: usize,
     earlier: usize,
     kept: &mut [u16],
-) -> Answer
-    requires { ⌜ HeadIs (now sig) convention returned ellipsis at end earlier × KeepsRows at end (length (now kept)) ⌝ }
+) -> CallAnswer
+    requires { ⌜ HeadIs (now sig) convention returned ellipsis at end earlier × RoomFor rowLength at end (length (now kept)) ⌝ }
     ensures { λ a. ⌜ a ≡ readAnswer (now (sig .entry)) (readLengths (now (values .entry)) (now (image .entry)) (now (area .entry))) base (buffers (now (image .entry)) (now (area .entry)) (now (copies .entry))) ⌝ }
     ensures { λ a. ⌜ now (values .exit) ≡ readValues (now (sig .entry)) base a (buffers (now (image .entry)) (now (area .entry)) (now (copies .entry))) (now (values .entry)) ⌝ }
 {
@@ -223,7 +227,7 @@ fn read_part(
     let m = k.sizes;
     let outcome = m.outcome;
     match outcome {
-        Outcome::Refused(fault) => Answer::Unread(fault),
+        Outcome::Refused(fault) => CallAnswer::Unread(fault),
         Outcome::Accepted(_) => {
             let have = ReadLengths {
                 values: values.len(),
@@ -250,7 +254,7 @@ fn read_part(
                 kept,
                 base,
             );
-            Answer::Done
+            CallAnswer::Done
         }
     }
 }
@@ -265,14 +269,14 @@ fn read_none(
     returned: ResultType,
     end: usize,
     earlier: usize,
-) -> Answer
+) -> CallAnswer
     requires { ⌜ NoneLeft (now sig) convention returned end earlier ⌝ }
     ensures { λ a. ⌜ a ≡ lengthsAnswer (now (sig .entry)) (readLengths (now (values .entry)) (now (image .entry)) (now (area .entry))) ⌝ }
 {
     let m = call_arguments::measure_none(sig, convention, returned, end, earlier);
     let outcome = m.outcome;
     match outcome {
-        Outcome::Refused(fault) => Answer::Unread(fault),
+        Outcome::Refused(fault) => CallAnswer::Unread(fault),
         Outcome::Accepted(_) => {
             let have = ReadLengths {
                 values: values.len(),
@@ -293,12 +297,12 @@ pub fn read(
     area: &[u8],
     copies: &[u8],
     base: u64,
-) -> Answer
+) -> CallAnswer
     ensures { λ a. ⌜ a ≡ readAnswer (now (sig .entry)) (readLengths (now (values .entry)) (now (image .entry)) (now (area .entry))) base (buffers (now (image .entry)) (now (area .entry)) (now (copies .entry))) ⌝ }
     ensures { λ a. ⌜ now (values .exit) ≡ readValues (now (sig .entry)) base a (buffers (now (image .entry)) (now (area .entry)) (now (copies .entry))) (now (values .entry)) ⌝ }
 {
     match sig_head::read_head(sig) {
-        HeadRead::Refused(fault) => Answer::Unread(fault),
+        HeadRead::Refused(fault) => CallAnswer::Unread(fault),
         HeadRead::Head {
             convention,
             result,
@@ -311,7 +315,7 @@ pub fn read(
                 return read_none(sig, values, image, area, convention, result, end, earlier);
             }
             if end - at <= FEW_BYTES {
-                let mut few = [0u16; 120];
+                let mut few = [0u16; ROW * FEW_ARGUMENTS];
                 return read_part(
                     sig,
                     values,
@@ -328,7 +332,7 @@ pub fn read(
                     &mut few,
                 );
             }
-            let mut many = [0u16; 1280];
+            let mut many = [0u16; ROW * MAX_ARGUMENTS];
             read_part(
                 sig,
                 values,

@@ -1,19 +1,19 @@
 -- Words put in general registers, one after the other, as the loops of `put_each` and `put_number_registers` go. Assumes nothing.
 use mathlib.Core.Path.{_≡_, refl, sym, ap, ap₂, _∙_}
 use mathlib.Core.Bool.{Bool, true, false}
-use mathlib.Core.List.{List, [], _++_, append-nil}
-use Prim.Native.Nat.{ℕ, zero, suc, _+_, _-_, _*_, _/_, _^_, _≤_, _<_, min}
+use mathlib.Core.List.{List, _++_, append-nil}
+use Prim.Native.Nat.{ℕ, suc, _+_, _-_, _*_, _/_, _^_, _≤_, _<_, min}
 use native.Mathlib.Omega.{arith}
 use native.Mathlib.Nat.{mul-suc, mul-zero, mul-le-mul-left}
 use native.Mathlib.Numerals.{add-one}
 use borrow.Author.Tests.{ltb-true, ltb-false}
 use lib.Dec.{ltb}
 use lib.ListN.{length, take, drop, replicate, length-append, length-drop, length-replicate}
-use lib.Seq.{take-all, take-at, drop-at, take-append-le, drop-append-le}
+use lib.Seq.{take-all, take-append-le, drop-append-le}
 use Rattle.base_words.specs.Splice.{overlay, splice, part}
 use Rattle.base_words.specs.Numbers.{bytesOf, zeroExtended}
 use Rattle.base_words.proofs.Splices.{length-splice, overlay-append}
-use Rattle.base_words.proofs.Numbers.{length-bytesOf, bytesOf-append}
+use Rattle.base_words.proofs.Numbers.{length-bytesOf, bytesOf-middle}
 use Rattle.call_registers.specs.Registers.{inRegister, spread}
 use Rattle.call_registers.proofs.Registers.{length-spread, spread-more, register-number}
 use Rattle.call_registers.specs.Helpers.{RegistersTake}
@@ -121,20 +121,6 @@ module _ (s₀ v : List ℕ) (w k : ℕ) where
 
 -- ---- a number
 
--- of its bytes, those after the first k, w of them
-number-word : (k w rest x : ℕ) → part k w (bytesOf (k + (w + rest)) x) ≡ bytesOf w (x / 2 ^ (8 * rest))
-number-word k w rest x =
-    ap (part k w) (bytesOf-append k (w + rest) x)
-    ∙ ap (take w) (drop-at (bytesOf k (x / 2 ^ (8 * (w + rest)))) (bytesOf (w + rest) x) k (length-bytesOf k _) ∙ bytesOf-append w rest x)
-    ∙ take-at (bytesOf w (x / 2 ^ (8 * rest))) (bytesOf rest x) w (length-bytesOf w _)
-
--- and the last m
-pub number-last : (k m x : ℕ) → part k m (bytesOf (k + m) x) ≡ bytesOf m x
-number-last k m x =
-    ap (part k m) (bytesOf-append k m x)
-    ∙ ap (take m) (drop-at (bytesOf k (x / 2 ^ (8 * m))) (bytesOf m x) k (length-bytesOf k _))
-    ∙ take-all m (bytesOf m x) (omega (arith, length-bytesOf m x))
-
 module _ (s₀ : List ℕ) (w k room x : ℕ) where
   -- i words are put; `rest` bytes are left
   pub record NumberPut (s : List ℕ) (i rest : ℕ) : Type 0 where
@@ -159,7 +145,7 @@ module _ (s₀ : List ℕ) (w k room x : ℕ) where
           let e : w * i + (w + (rest - w)) ≡ room = omega arith in
           let word : bytesOf 8 (zeroExtended w (x / 2 ^ (8 * (rest - w)))) ≡ inRegister w (part (w * i) w (bytesOf room x)) =
           register-number w (x / 2 ^ (8 * (rest - w))) most
-          ∙ ap (inRegister w) (sym (number-word (w * i) w (rest - w) x) ∙ ap (λ (n : ℕ). part (w * i) w (bytesOf n x)) e) in
+          ∙ ap (inRegister w) (sym (bytesOf-middle (w * i) w (rest - w) x) ∙ ap (λ (n : ℕ). part (w * i) w (bytesOf n x)) e) in
           record {
             most = omega arith;
             size = length-splice s (8 * i) _ ∙ t .size;

@@ -1,27 +1,16 @@
 -- Bytes of words taken out of general registers, word by word, as the loop of `take_each` goes. Assumes nothing.
 use mathlib.Core.Path.{_≡_, refl, sym, ap, _∙_}
-use mathlib.Core.Logic.{inl, inr}
-use mathlib.Core.Bool.{Bool, true, false}
 use mathlib.Core.List.{List, _++_}
-use Prim.Native.Nat.{ℕ, zero, suc, _+_, _-_, _*_, _≤_, _<_, min}
+use Prim.Native.Nat.{ℕ, suc, _+_, _-_, _*_, _≤_, _<_, min}
 use native.Mathlib.Omega.{arith}
-use native.Mathlib.Nat.{mul-suc, mul-zero, mul-le-mul-left}
-use borrow.Author.Tests.{ltb-true, ltb-false}
-use lib.Dec.{ltb}
-use lib.ListN.{length, take}
+use native.Mathlib.Nat.{mul-suc, mul-zero}
+use lib.ListN.{length}
 use Rattle.base_words.specs.Splice.{overlay, splice, part}
 use Rattle.base_words.proofs.Splices.{length-splice, length-part, part-add, part-part, overlay-append}
+use Rattle.base_words.proofs.Basics.{word-before}
 use Rattle.call_registers.specs.Registers.{gather}
 use Rattle.call_registers.specs.Helpers.{RegistersHold}
 use Rattle.call_registers.proofs.Registers.{gather-part, length-gather}
-
--- a word before the last byte is one of k
-word-before : (w j k m : ℕ) → w * j + m < w * k → j < k
-word-before w j k m h = go (ltb j k) refl
-  where
-    go : (b : Bool) → ltb j k ≡ b → j < k
-    go true e = ltb-true j k e
-    go false e = let l : k ≤ j = ltb-false j k e in absurd (omega (arith, mul-le-mul-left w l))
 
 module _ (out₀ image : List ℕ) (w first k lo n : ℕ) where
   -- the words in the registers

@@ -19,7 +19,7 @@ use Rattle.plan_places.specs.Step.{wordOf}
 use Rattle.plan_places.specs.Spots.{Spot, general, floating, area, copies}
 use Rattle.call_slots.specs.Buffers.{Buffers, Slot, generalAt, floatingAt, put, putAll, bytesAt}
 use Rattle.call_slots.specs.Forms.{floatValue, ownStart}
-use Rattle.call_slots.specs.Placements.{Placement, wordsAt, floatAt, addressAt, wordsValue, valueAt}
+use Rattle.call_slots.specs.Placements.{Placement, wordsAt, fprBytesAt, addressAt, wordsValue, valueAt}
 use Rattle.call_slots.specs.Arguments.{argumentsOf, rulesFor}
 use Rattle.call_fill.specs.Fill.{filledSlots, fillBuffers}
 use Rattle.call_home.specs.Home.{homed, homeArea}
@@ -91,9 +91,9 @@ read-own r base p b c h = go (ltb 0 (p .span .floating .count)) refl
     inWords false q = ap (part (ownStart r (p .ty) (p .size)) (p .size)) (h .words)
 
     go : (f : Bool) → ltb 0 (p .span .floating .count) ≡ f
-        → pick f (floatValue r (p .ty) (floatAt (p .span) b))
+        → pick f (floatValue r (p .ty) (fprBytesAt (p .span) b))
         (pick (p .span .indirect) (bytesAt (copies (addressAt w (p .span) b - base)) (p .size) b) (part (ownStart r (p .ty) (p .size)) (p .size) (wordsAt w (p .span) b)))
-        ≡ pick f (floatValue r (p .ty) (floatAt (p .span) c))
+        ≡ pick f (floatValue r (p .ty) (fprBytesAt (p .span) c))
         (pick (p .span .indirect) (bytesAt (copies (addressAt w (p .span) c - base)) (p .size) c) (part (ownStart r (p .ty) (p .size)) (p .size) (wordsAt w (p .span) c)))
     go true q = ap (floatValue r (p .ty)) (h .float (ltb-true 0 (p .span .floating .count) q))
     go false q = inWords (p .span .indirect) refl

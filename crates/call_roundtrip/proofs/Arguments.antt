@@ -11,20 +11,20 @@ use borrow.Author.Tests.{ltb-true, ltb-false, le-leb}
 use lib.Dec.{ltb}
 use lib.ListN.{length, take, drop}
 use lib.Seq.{take-all, take-add, length-take-le}
-use Rattle.base_words.specs.Basics.{pick}
+use Rattle.base_words.specs.Basics.{pick, All}
 use Rattle.base_words.specs.Splice.{splice, part}
 use Rattle.base_words.specs.Numbers.{Bytes, bytesOf, valueOf}
-use Rattle.base_words.proofs.Splices.{splice-same, splice-other, length-splice, length-part}
+use Rattle.base_words.proofs.Splices.{splice-same, splice-other, length-splice, length-part, part-prefix}
 use Rattle.base_words.proofs.Numbers.{length-bytesOf, value-back}
 use Rattle.sig_types.specs.Sizes.{equivalentOf}
 use Rattle.plan_places.specs.declared.Cursor.{Cursor}
 use Rattle.plan_places.specs.declared.CallRules.{CallRules}
 use Rattle.plan_places.specs.Step.{wordOf}
 use Rattle.plan_places.specs.Spots.{general, floating, area, copies}
-use Rattle.call_slots.specs.declared.Answer.{Answer}
+use Rattle.call_slots.specs.declared.CallAnswer.{CallAnswer}
 use Rattle.call_slots.specs.Buffers.{Buffers, Slot, put, putAll, bytesAt}
 use Rattle.call_slots.specs.Forms.{roomOf, homeBytes, ownStart, floatForm, floatBytes, floatValueAs, floatValue}
-use Rattle.call_slots.specs.Placements.{Placement, standing, copyBytes, slotsOf, wordsAt, floatAt, addressAt, wordsValue, valueAt}
+use Rattle.call_slots.specs.Placements.{Placement, standing, copyBytes, slotsOf, wordsAt, fprBytesAt, addressAt, wordsValue, valueAt}
 use Rattle.call_slots.specs.Helpers.{FloatSized, InImage}
 use Rattle.call_slots.proofs.Limits.{form-length, one-word}
 use Rattle.call_slots.proofs.Planned.{copy-in}
@@ -35,8 +35,8 @@ use Rattle.call_slots.specs.Refusals.{orElse, floatAnswer}
 use Rattle.call_marshal.specs.Helpers.{CanPut}
 use Rattle.call_read.specs.Read.{inCopies, copyAnswer, ownHeld, agrees, agreeAnswer, argumentAnswer}
 use Rattle.call_read.proofs.Agree.{same-refl}
-use Rattle.call_roundtrip.proofs.Kept.{Upto, Banked, AllLater, kept-all}
-use Rattle.call_roundtrip.proofs.Forms.{float-back, own-back, length-home, prefix-part}
+use Rattle.call_roundtrip.proofs.Kept.{Upto, Banked, Later, kept-all}
+use Rattle.call_roundtrip.proofs.Forms.{float-back, own-back, length-home}
 
 -- what the buffers b hold of the argument p, of value v
 pub record Stands (r : CallRules) (base : ℕ) (p : Placement) (v : List ℕ) (b : Buffers) : Type 0 where
@@ -157,12 +157,12 @@ module _ (r : CallRules) (base : ℕ) (p : Placement) (v : List ℕ) (b : Buffer
         ∙ sym (take-add (wordOf r * k) (p .span .memory .length) ws)
         ∙ take-all (wordOf r * k + p .span .memory .length) ws (omega (arith, words-length none))
 
-    pub float-stands : 0 < p .span .floating .count → floatAt (p .span) c ≡ floatForm r (equivalentOf (p .ty)) v
+    pub float-stands : 0 < p .span .floating .count → fprBytesAt (p .span) c ≡ floatForm r (equivalentOf (p .ty)) v
     unfolding floatBytes
     float-stands some = s .floats ∙ take-all (8 * p .span .floating .count) (floatForm r (equivalentOf (p .ty)) v) (omega (arith, run-length some))
 
     pub float-read : 0 < p .span .floating .count
-        → (floatAnswer r (equivalentOf (p .ty)) (valueOf (floatAt (p .span) c)) ≡ Answer.Done) × (floatValueAs r (equivalentOf (p .ty)) (floatAt (p .span) c) ≡ v)
+        → (floatAnswer r (equivalentOf (p .ty)) (valueOf (fprBytesAt (p .span) c)) ≡ CallAnswer.Done) × (floatValueAs r (equivalentOf (p .ty)) (fprBytesAt (p .span) c) ≡ v)
     float-read some =
         let back = float-back r (equivalentOf (p .ty)) (p .span .floating .count) v (sized some) (g .bytes) in
         (ap (λ (l : List ℕ). floatAnswer r (equivalentOf (p .ty)) (valueOf l)) (float-stands some) ∙ back .0, ap (floatValueAs r (equivalentOf (p .ty))) (float-stands some) ∙ back .1)
@@ -183,7 +183,7 @@ module _ (r : CallRules) (base : ℕ) (p : Placement) (v : List ℕ) (b : Buffer
         let value : part o (p .size) hs ≡ v =
         ap (λ (n : ℕ). part (ownStart r (p .ty) n) n (homeBytes r (p .ty) n v)) (sym (g .size))
         ∙ own-back r (p .ty) v (g .bytes) (λ e. rw (g .size) (g .room .registers .held .small e q .1, g .room .registers .held .room q .0)) in
-        let same : take (length own) v ≡ own = ap (take (length own)) (sym value) ∙ prefix-part o (p .size) (wordOf r * k) hs in
+        let same : take (length own) v ≡ own = ap (take (length own)) (sym value) ∙ part-prefix o (p .size) (wordOf r * k) hs in
         rw (held, float-read some .1, same) (same-refl own)
 
     address-back : p .span .floating .count ≤ 0 → p .span .indirect ≡ true → addressAt (wordOf r) (p .span) c ≡ base + p .span .copy .start
@@ -212,20 +212,20 @@ module _ (r : CallRules) (base : ℕ) (p : Placement) (v : List ℕ) (b : Buffer
         let y : p .span .copy .start + p .size ≤ length (c .copies) = omega (arith, g .room .registers .held .copied q, g .room .copies) in
         simp (le-leb base (base + p .span .copy .start) x, e, le-leb (p .span .copy .start + p .size) (length (c .copies)) y)
 
-    pub stands-done : argumentAnswer r base p c ≡ Answer.Done
+    pub stands-done : argumentAnswer r base p c ≡ CallAnswer.Done
     unfolding argumentAnswer
     stands-done = go (ltb 0 (p .span .floating .count)) refl
       where
         words : (i : Bool) → p .span .indirect ≡ i → p .span .floating .count ≤ 0
-            → pick i (copyAnswer (inCopies (addressAt (wordOf r) (p .span) c) base (p .size) (length (c .copies)))) Answer.Done ≡ Answer.Done
+            → pick i (copyAnswer (inCopies (addressAt (wordOf r) (p .span) c) base (p .size) (length (c .copies)))) CallAnswer.Done ≡ CallAnswer.Done
         words true q none =
             ap (λ (x : ℕ). copyAnswer (inCopies x base (p .size) (length (c .copies)))) (address-back none q) ∙ ap copyAnswer (in-copies q)
         words false q none = refl
 
         go : (f : Bool) → ltb 0 (p .span .floating .count) ≡ f
-            → pick f (orElse (floatAnswer r (equivalentOf (p .ty)) (valueOf (floatAt (p .span) c))) (agreeAnswer (agrees r p c)))
-            (pick (p .span .indirect) (copyAnswer (inCopies (addressAt (wordOf r) (p .span) c) base (p .size) (length (c .copies)))) Answer.Done)
-            ≡ Answer.Done
+            → pick f (orElse (floatAnswer r (equivalentOf (p .ty)) (valueOf (fprBytesAt (p .span) c))) (agreeAnswer (agrees r p c)))
+            (pick (p .span .indirect) (copyAnswer (inCopies (addressAt (wordOf r) (p .span) c) base (p .size) (length (c .copies)))) CallAnswer.Done)
+            ≡ CallAnswer.Done
         go true q =
             let some : 0 < p .span .floating .count = ltb-true 0 (p .span .floating .count) q in
             ap₂ orElse (float-read some .0) (ap agreeAnswer (float-agrees some))
@@ -244,7 +244,7 @@ module _ (r : CallRules) (base : ℕ) (p : Placement) (v : List ℕ) (b : Buffer
         words false q none = own-value none q
 
         go : (f : Bool) → ltb 0 (p .span .floating .count) ≡ f
-            → pick f (floatValueAs r (equivalentOf (p .ty)) (floatAt (p .span) c))
+            → pick f (floatValueAs r (equivalentOf (p .ty)) (fprBytesAt (p .span) c))
             (pick (p .span .indirect) (bytesAt (copies (addressAt (wordOf r) (p .span) c - base)) (p .size) c)
             (part (ownStart r (p .ty) (p .size)) (p .size) (wordsAt (wordOf r) (p .span) c)))
             ≡ v
@@ -262,7 +262,7 @@ pub record Behind (d : Cursor) (p : Placement) (v : List ℕ) : Type 0 where
   pub memory : Upto d (area (p .span .memory .start)) (p .span .memory .length)
   pub copy : Upto d (copies (p .span .copy .start)) (length (copyBytes p v))
 
-pub stands-kept : (r : CallRules) (base : ℕ) (p : Placement) (v : List ℕ) (b : Buffers) (d : Cursor) (ss : List Slot) → Behind d p v → AllLater d ss
+pub stands-kept : (r : CallRules) (base : ℕ) (p : Placement) (v : List ℕ) (b : Buffers) (d : Cursor) (ss : List Slot) → Behind d p v → All (Later d) ss
     → Stands r base p v b → Stands r base p v (putAll ss b)
 stands-kept r base p v b d ss h l s = record {
   floats = kept-all d _ _ ss b (h .floats) (h .floats-bank) l ∙ s .floats;
@@ -278,10 +278,13 @@ pub record Put (r : CallRules) (base : ℕ) (p : Placement) (v : List ℕ) (b : 
   pub given : Given r base p v b
   pub stands : Stands r base p v b
 
--- each of several, the values one after the other
-unfoldable pub AllPut : CallRules → ℕ → List Placement → List ℕ → Buffers → Type 0
-AllPut r base [] v b = Unit {0}
-AllPut r base (p ∷ ps) v b = Put r base p (take (p .size) v) b × AllPut r base ps (drop (p .size) v) b
+-- each of several, with its own of the values that stand one after the other in v
+unfoldable pub EachValue : (Placement → List ℕ → Type 0) → List Placement → List ℕ → Type 0
+EachValue P [] v = Unit {0}
+EachValue P (p ∷ ps) v = P p (take (p .size) v) × EachValue P ps (drop (p .size) v)
+
+abbrev pub AllPut : CallRules → ℕ → List Placement → List ℕ → Buffers → Type 0
+AllPut r base ps v b = EachValue (λ (p : Placement) (x : List ℕ). Put r base p x b) ps v
 
 -- room depends on lengths alone
 pub given-same : (r : CallRules) (base : ℕ) (p : Placement) (v : List ℕ) (b c : Buffers) → SameLengths b c → Given r base p v b → Given r base p v c

@@ -1,15 +1,15 @@
 -- A value's own bytes back out of its form. Assumes nothing.
-use mathlib.Core.Path.{_≡_, refl, sym, ap, _∙_}
+use mathlib.Core.Path.{_≡_, refl, ap, _∙_}
 use mathlib.Core.Bool.{Bool, true, false}
-use mathlib.Core.List.{List, [], _∷_, _++_}
-use Prim.Native.Nat.{ℕ, zero, suc, _+_, _-_, _*_, _/_, _^_, _≤_, _<_}
+use mathlib.Core.List.{List, _++_}
+use Prim.Native.Nat.{ℕ, _+_, _-_, _*_, _/_, _^_, _≤_}
 use native.Mathlib.Omega.{arith}
 use lib.ListN.{length, take, replicate, length-append, length-replicate}
-use lib.Seq.{take-all, take-append-le, take-at, drop-at}
+use lib.Seq.{take-all, take-append-le, take-at}
 use Rattle.base_words.specs.Basics.{pick}
 use Rattle.base_words.specs.Splice.{part}
 use Rattle.base_words.specs.Numbers.{Bytes, bytesOf, valueOf, zeroExtended, signExtended}
-use Rattle.base_words.proofs.Numbers.{length-bytesOf, value-below, value-back, bytesOf-value, bytesOf-append, bytesOf-zeroExtended, bytesOf-signExtended}
+use Rattle.base_words.proofs.Numbers.{length-bytesOf, value-back, bytesOf-value, bytesOf-append, bytesOf-zeroExtended, bytesOf-signExtended, bytesOf-back, value-fits, bytesOf-last}
 use Rattle.base_ieee.specs.declared.Narrowed.{Narrowed}
 use Rattle.base_ieee.specs.Widening.{widen}
 use Rattle.base_ieee.specs.Narrowing.{narrow}
@@ -17,27 +17,20 @@ use Rattle.base_ieee.proofs.Laws.{widen-below, narrow-widen}
 use Rattle.sig_types.specs.declared.Equivalent.{Equivalent}
 use Rattle.sig_types.specs.declared.ValueType.{ValueType}
 use Rattle.plan_places.specs.declared.CallRules.{CallRules}
-use Rattle.call_slots.specs.declared.Answer.{Answer}
+use Rattle.call_slots.specs.declared.CallAnswer.{CallAnswer}
 use Rattle.call_slots.specs.Forms.{roomOf, isSigned, startsAtHead, extended, homeBytes, ownStart, floatForm, narrowedBytes, floatValueAs}
 use Rattle.call_slots.specs.Helpers.{FloatSized}
 use Rattle.call_slots.specs.Refusals.{narrowedAnswer, floatAnswer}
 
--- n bytes as a number of n bytes
-own-number : (v : List ℕ) (n : ℕ) → length v ≡ n → Bytes v → bytesOf n (valueOf v) ≡ v
-own-number v n e h = ap (λ (m : ℕ). bytesOf m (valueOf v)) (sym e) ∙ bytesOf-value v h
-
-value-four : (v : List ℕ) → length v ≡ 4 → Bytes v → valueOf v < 2 ^ 32
-value-four v e h = let l : valueOf v < 2 ^ (8 * length v) = value-below v h in rw e at l
-
 -- ---- in FPRs
 
 pub float-back : (r : CallRules) (e : Equivalent) (m : ℕ) (v : List ℕ) → FloatSized e m (length v) → Bytes v
-    → (floatAnswer r e (valueOf (floatForm r e v)) ≡ Answer.Done) × (floatValueAs r e (floatForm r e v) ≡ v)
+    → (floatAnswer r e (valueOf (floatForm r e v)) ≡ CallAnswer.Done) × (floatValueAs r e (floatForm r e v) ≡ v)
 float-back (CallRules.Power f) Equivalent.Single m v s h =
     let x : ℕ = valueOf v in
     let bits : valueOf (bytesOf 8 (widen x)) ≡ widen x = value-back 8 (widen x) (widen-below x) in
-    let single : narrow (valueOf (bytesOf 8 (widen x))) ≡ Narrowed.Single x = ap narrow bits ∙ narrow-widen x (value-four v (s .1) h) in
-    (ap narrowedAnswer single, ap narrowedBytes single ∙ own-number v 4 (s .1) h)
+    let single : narrow (valueOf (bytesOf 8 (widen x))) ≡ Narrowed.Single x = ap narrow bits ∙ narrow-widen x (value-fits 4 v (s .1) h) in
+    (ap narrowedAnswer single, ap narrowedBytes single ∙ bytesOf-back 4 v (s .1) h)
 float-back CallRules.Z Equivalent.Single m v s h =
     let x : ℕ = valueOf v in
     let split : bytesOf 8 (x * 2 ^ 32) ≡ bytesOf 4 (x * 2 ^ 32 / 2 ^ 32) ++ bytesOf 4 (x * 2 ^ 32) = bytesOf-append 4 4 (x * 2 ^ 32) in
@@ -46,7 +39,7 @@ float-back CallRules.Z Equivalent.Single m v s h =
       ap (take 4) split
           ∙ take-at (bytesOf 4 (x * 2 ^ 32 / 2 ^ 32)) (bytesOf 4 (x * 2 ^ 32)) 4 (length-bytesOf 4 (x * 2 ^ 32 / 2 ^ 32))
           ∙ ap (bytesOf 4) high
-          ∙ own-number v 4 (s .1) h,
+          ∙ bytesOf-back 4 v (s .1) h,
     )
 float-back (CallRules.Power f) Equivalent.Double m v s h = (refl, refl)
 float-back (CallRules.Power f) Equivalent.Nothing m v s h = (refl, refl)
@@ -67,10 +60,7 @@ extended-back t n x h = go (isSigned t)
 end-back : (m n y : ℕ) → n ≤ m → part (m - n) n (bytesOf m y) ≡ bytesOf n y
 end-back m n y h =
     let e : m ≡ m - n + n = omega arith in
-    let split : bytesOf m y ≡ bytesOf (m - n) (y / 2 ^ (8 * n)) ++ bytesOf n y = ap (λ (i : ℕ). bytesOf i y) e ∙ bytesOf-append (m - n) n y in
-    ap (part (m - n) n) split
-    ∙ ap (take n) (drop-at (bytesOf (m - n) (y / 2 ^ (8 * n))) (bytesOf n y) (m - n) (length-bytesOf (m - n) (y / 2 ^ (8 * n))))
-    ∙ take-all n (bytesOf n y) (omega (arith, length-bytesOf n y))
+    ap (λ (i : ℕ). part (m - n) n (bytesOf i y)) e ∙ bytesOf-last (m - n) n y
 
 pub own-back : (r : CallRules) (t : ValueType) (v : List ℕ) → Bytes v
     → (startsAtHead r t ≡ false → (length v ≤ 8) × (length v ≤ roomOf r (length v)))
@@ -101,18 +91,3 @@ length-home r t v h = go (startsAtHead r t) refl
         let k = h q in
         omega (arith, length-append v (replicate (roomOf r (length v) - length v) 0), length-replicate {A = ℕ} (roomOf r (length v) - length v) 0)
     go false q = length-bytesOf (roomOf r (length v)) (extended t (length v) (valueOf v))
-
--- ---- the first bytes of a part, where only the first k of its list are there
-
-prefix : (j n : ℕ) (d : List ℕ) → take (length (take n (take j d))) (take n d) ≡ take n (take j d)
-prefix j zero d = refl
-prefix zero (suc n) d = refl
-prefix (suc j) (suc n) [] = refl
-prefix (suc j) (suc n) (x ∷ d) = ap (λ (l : List ℕ). x ∷ l) (prefix j n d)
-
-pub prefix-part : (o n k : ℕ) (l : List ℕ) → take (length (part o n (take k l))) (part o n l) ≡ part o n (take k l)
-prefix-part zero n k l = prefix k n l
-prefix-part (suc o) zero k l = refl
-prefix-part (suc o) (suc n) zero l = refl
-prefix-part (suc o) (suc n) (suc k) [] = refl
-prefix-part (suc o) (suc n) (suc k) (x ∷ l) = prefix-part o (suc n) k l

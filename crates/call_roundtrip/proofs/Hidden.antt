@@ -24,13 +24,13 @@ use Rattle.plan_places.specs.Values.{pointer}
 use Rattle.plan_places.specs.ZSeries.{zClass, zSpanOf, zNextOf}
 use Rattle.plan_places.specs.Power.{words, fprs, shareOf, powerShare}
 use Rattle.plan_places.specs.declared.CallRules.{CallRules}
-use Rattle.plan_places.specs.Step.{rulesOf, withEllipsis, wordOf, nextOf, spanOf, fresh, startOf}
+use Rattle.plan_places.specs.Step.{rulesOf, withEllipsis, wordOf, nextOf, spanOf, freshCursor, startOf}
 use Rattle.plan_places.proofs.Bounds.{named-start, rules-lawful, word-most}
 use Rattle.plan_places.proofs.Marked.{lawful-marked, named-marked}
 use Rattle.plan_plans.proofs.Theorems.{hidden-address}
 use Rattle.plan_plans.specs.Plan.{startIn, hiddenIn, resultPlacesIn, planAnswer, planIn}
 use Rattle.call_registers.specs.Registers.{spread}
-use Rattle.call_slots.specs.declared.Answer.{Answer}
+use Rattle.call_slots.specs.declared.CallAnswer.{CallAnswer}
 use Rattle.call_slots.specs.Buffers.{Buffers, buffers, Slot, put, putAll, bytesAt}
 use Rattle.call_slots.specs.Placements.{slotsOfAll, hiddenSlots}
 use Rattle.plan_plans.specs.Call.{outcomeFor}
@@ -45,9 +45,9 @@ use Rattle.call_roundtrip.proofs.Theorems.{reading-done, filled-lent}
 
 -- the first argument register, which is of the image's 32
 address-first : (c : Convention)
-    → (spanOf (rulesOf c) (fresh (rulesOf c)) pointer (wordOf (rulesOf c)) .general .first < startOf (rulesOf c) true .general)
-    × (spanOf (rulesOf c) (fresh (rulesOf c)) pointer (wordOf (rulesOf c)) .general .first < 32)
-unfolding startOf nextOf spanOf fresh words fprs shareOf powerShare zClass zSpanOf zNextOf
+    → (spanOf (rulesOf c) (freshCursor (rulesOf c)) pointer (wordOf (rulesOf c)) .general .first < startOf (rulesOf c) true .general)
+    × (spanOf (rulesOf c) (freshCursor (rulesOf c)) pointer (wordOf (rulesOf c)) .general .first < 32)
+unfolding startOf nextOf spanOf freshCursor words fprs shareOf powerShare zClass zSpanOf zNextOf
 address-first Convention.Ppc64 = (omega arith, omega arith)
 address-first Convention.Z = (omega arith, omega arith)
 address-first Convention.Aix = (omega arith, omega arith)
@@ -87,7 +87,7 @@ hidden-stands s values image area copies base hidden x h e =
     let ss : List Slot = slotsOfAll (rulesFor s) base (argumentsOf s) values in
     let size : length image ≡ 512 = filled-lent s values image area copies base hidden h .image in
     let below = register-below (signatureOf s) x e in
-    let low = tests-low _ _ _ _ _ _ (reading-done (outcomeFor s) _ (h .accepted) Answer.Done refl .0) in
+    let low = tests-low _ _ _ _ _ _ (reading-done (outcomeFor s) _ (h .accepted) CallAnswer.Done refl .0) in
     let word : spread w 1 (bytesOf w hidden) ≡ bytesOf 8 hidden =
     low-address w hidden x (word-most (rulesFor s) (lawful-marked (g .ellipsis) (rulesOf c) (rules-lawful c))) (subst (λ (q : ResultPlaces). highAddress w q hidden ≡ false) e low) in
     rw e

@@ -2,11 +2,14 @@
 -- ---- one place
 use mathlib.Core.Path.{_≡_, refl, _∙_}
 use mathlib.Core.Logic.{inl, inr}
-use mathlib.Core.List.{List, [], _∷_, _++_}
+use mathlib.Core.List.{List, [], _∷_}
 use Prim.Native.Nat.{ℕ, _+_, _*_, _≤_}
 use native.Mathlib.Omega.{arith}
-use lib.ListN.{length, take, drop, length-take}
+use lib.ListN.{length, take, drop}
+use Rattle.base_words.specs.Basics.{All}
 use Rattle.base_words.proofs.Splices.{splice-other}
+use Rattle.base_words.proofs.Basics.{take-short}
+use Rattle.base_words.proofs.Each.{each-both, each-more}
 use Rattle.base_conventions.specs.declared.Convention.{Convention}
 use Rattle.sig_types.specs.declared.ValueType.{ValueType}
 use Rattle.sig_types.specs.Sizes.{sizeOf}
@@ -15,7 +18,7 @@ use Rattle.plan_places.specs.declared.CallRules.{CallRules}
 use Rattle.plan_places.specs.Spots.{Spot, general, floating, area, copies}
 use Rattle.plan_places.specs.Step.{wordOf, spanOf, nextOf}
 use Rattle.plan_places.proofs.Bounds.{Named, named-next}
-use Rattle.plan_places.proofs.Between.{From, Forward, from-earlier, step-between, step-forward}
+use Rattle.plan_places.proofs.Between.{From, from-earlier, step-between, step-forward}
 use Rattle.plan_places.proofs.Registers.{step-numbered}
 use Rattle.plan_plans.specs.Plan.{spansOf}
 use Rattle.call_slots.specs.Buffers.{Buffers, Slot, put, putAll, bytesAt}
@@ -59,54 +62,39 @@ kept k (copies n) m (copies i) bs b u x f y = splice-other (b .copies) i bs n m 
 
 -- ---- several slots, all after a cursor
 
-unfoldable pub AllLater : Cursor → List Slot → Type 0
-AllLater k [] = Unit {0}
-AllLater k (s ∷ ss) = From k (s .spot) × Banked (s .spot) (length (s .bytes)) × AllLater k ss
+-- a slot that starts at or after a cursor
+abbrev pub Later : Cursor → Slot → Type 0
+Later k s = From k (s .spot) × Banked (s .spot) (length (s .bytes))
 
-pub kept-all : (k : Cursor) (p : Spot) (m : ℕ) (ss : List Slot) (b : Buffers) → Upto k p m → Banked p m → AllLater k ss → bytesAt p m (putAll ss b) ≡ bytesAt p m b
-unfolding putAll AllLater
+pub kept-all : (k : Cursor) (p : Spot) (m : ℕ) (ss : List Slot) (b : Buffers) → Upto k p m → Banked p m → All (Later k) ss → bytesAt p m (putAll ss b) ≡ bytesAt p m b
+unfolding putAll All
 kept-all k p m [] b u x h = refl
 kept-all k p m (s ∷ ss) b u x h =
-    kept-all k p m ss (put (s .spot) (s .bytes) b) u x (h .2) ∙ kept k p m (s .spot) (s .bytes) b u x (h .0) (h .1)
-
-later-append : (k : Cursor) (ss ts : List Slot) → AllLater k ss → AllLater k ts → AllLater k (ss ++ ts)
-unfolding AllLater
-later-append k [] ts x y = y
-later-append k (s ∷ ss) ts x y = (x .0, x .1, later-append k ss ts (x .2) y)
-
-later-earlier : {k d : Cursor} → Forward k d → (ss : List Slot) → AllLater d ss → AllLater k ss
-unfolding AllLater
-later-earlier f [] h = tt
-later-earlier f (s ∷ ss) h = (from-earlier f (s .spot) (h .0), h .1, later-earlier f ss (h .2))
+    kept-all k p m ss (put (s .spot) (s .bytes) b) u x (h .1) ∙ kept k p m (s .spot) (s .bytes) b u x (h .0 .0) (h .0 .1)
 
 -- ---- the slots of arguments
 
-pub take-short : (n : ℕ) (l : List ℕ) → length (take n l) ≤ n
-take-short n l = omega (arith, length-take n l)
-
 pub slots-later : (r : CallRules) (base : ℕ) (k : Cursor) (t : ValueType) (n : ℕ) (v : List ℕ) → wordOf r ≤ 8 → Named r k
-    → AllLater k (slotsOf r base (placement t n (spanOf r k t n)) v)
-unfolding slotsOf AllLater
+    → All (Later k) (slotsOf r base (placement t n (spanOf r k t n)) v)
+unfolding slotsOf All
 slots-later r base k t n v most named =
     let b = step-between r k t n in
     let q = step-numbered r k t n named in
     let p : Placement = placement t n (spanOf r k t n) in (
-      b .floating-from,
-      omega (arith, take-short (8 * p .span .floating .count) (floatBytes r t v)),
+      (b .floating-from, omega (arith, take-short (8 * p .span .floating .count) (floatBytes r t v))),
       (
-        b .general-from,
-        omega (arith, spread-short (wordOf r) (p .span .general .count) (standing r base p v) most),
-        (omega arith, tt, (b .copy-from, tt, tt)),
+        (b .general-from, omega (arith, spread-short (wordOf r) (p .span .general .count) (standing r base p v) most)),
+        ((omega arith, tt), ((b .copy-from, tt), tt)),
       ),
     )
 
 pub all-later : (c : Convention) (r : CallRules) (base : ℕ) (k : Cursor) (ts : List ValueType) (v : List ℕ) → wordOf r ≤ 8 → Named r k
-    → AllLater k (slotsOfAll r base (placements c ts (spansOf c r k ts)) v)
-unfolding placements spansOf slotsOfAll AllLater
+    → All (Later k) (slotsOfAll r base (placements c ts (spansOf c r k ts)) v)
+unfolding placements spansOf slotsOfAll All
 all-later c r base k [] v most named = tt
 all-later c r base k (t ∷ ts) v most named =
     let n : ℕ = sizeOf c t in
     let d : Cursor = nextOf r k t n in
-    later-append k (slotsOf r base (placement t n (spanOf r k t n)) (take n v)) (slotsOfAll r base (placements c ts (spansOf c r d ts)) (drop n v))
+    each-both (Later k) (slotsOf r base (placement t n (spanOf r k t n)) (take n v)) (slotsOfAll r base (placements c ts (spansOf c r d ts)) (drop n v))
     (slots-later r base k t n (take n v) most named)
-    (later-earlier (step-forward r k t n) (slotsOfAll r base (placements c ts (spansOf c r d ts)) (drop n v)) (all-later c r base d ts (drop n v) most (named-next r k t n named)))
+    (each-more (Later d) (Later k) (λ s h. (from-earlier (step-forward r k t n) (s .spot) (h .0), h .1)) (slotsOfAll r base (placements c ts (spansOf c r d ts)) (drop n v)) (all-later c r base d ts (drop n v) most (named-next r k t n named)))

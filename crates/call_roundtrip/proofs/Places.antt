@@ -9,6 +9,7 @@ use borrow.Author.Tests.{ltb-true, ltb-false}
 use lib.Dec.{ltb}
 use lib.ListN.{length, getD, take, drop}
 use Rattle.base_words.specs.Basics.{All}
+use Rattle.base_words.proofs.Basics.{take-short}
 use Rattle.base_conventions.specs.declared.Convention.{Convention}
 use Rattle.sig_types.specs.declared.ValueType.{ValueType}
 use Rattle.sig_types.specs.Sizes.{sizeOf}
@@ -36,7 +37,7 @@ use Rattle.call_slots.specs.Arguments.{placementsIn, argumentsOf, rulesIn, rule
 use Rattle.call_slots.proofs.Planned.{copy-in}
 use Rattle.call_slots.proofs.Answered.{Carried, arguments-got, carried}
 use Rattle.call_roundtrip.specs.Places.{Byte, inImage, inArea, inCopies, CoversFrom, Touches, slotLists, SlotsApart}
-use Rattle.call_roundtrip.proofs.Kept.{Upto, Banked, AllLater, all-later, take-short}
+use Rattle.call_roundtrip.proofs.Kept.{Upto, Banked, Later, all-later}
 
 -- ---- one slot on each side of a cursor
 covers-apart : (k : Cursor) (p : Spot) (m : ℕ) (q : Spot) (n : ℕ) (x : Byte) → Upto k p m → Banked p m → From k q → Banked q n
@@ -68,22 +69,21 @@ covers-apart k (copies a) m (copies b) n (inCopies i) u x f y s t = omega arith
 
 -- ---- several
 
-unfoldable AllBefore : Cursor → List Slot → Type 0
-AllBefore k [] = Unit {0}
-AllBefore k (s ∷ ss) = Upto k (s .spot) (length (s .bytes)) × Banked (s .spot) (length (s .bytes)) × AllBefore k ss
+-- a slot that ends at or before a cursor
+abbrev Before : Cursor → Slot → Type 0
+Before k s = Upto k (s .spot) (length (s .bytes)) × Banked (s .spot) (length (s .bytes))
 
-covers-later : (k : Cursor) (s : Slot) (ts : List Slot) (x : Byte) → Upto k (s .spot) (length (s .bytes)) → Banked (s .spot) (length (s .bytes)) → AllLater k ts
-    → CoversFrom (s .spot) (length (s .bytes)) x → Touches ts x → ⊥
-unfolding AllLater Touches
-covers-later k s [] x u b l h t = t
-covers-later k s (q ∷ ts) x u b l h (inl t) = covers-apart k (s .spot) (length (s .bytes)) (q .spot) (length (q .bytes)) x u b (l .0) (l .1) h t
-covers-later k s (q ∷ ts) x u b l h (inr t) = covers-later k s ts x u b (l .2) h t
+covers-later : (k : Cursor) (s : Slot) (ts : List Slot) (x : Byte) → Before k s → All (Later k) ts → CoversFrom (s .spot) (length (s .bytes)) x → Touches ts x → ⊥
+unfolding All Touches
+covers-later k s [] x b l h t = t
+covers-later k s (q ∷ ts) x b l h (inl t) = covers-apart k (s .spot) (length (s .bytes)) (q .spot) (length (q .bytes)) x (b .0) (b .1) (l .0 .0) (l .0 .1) h t
+covers-later k s (q ∷ ts) x b l h (inr t) = covers-later k s ts x b (l .1) h t
 
-touches-apart : (k : Cursor) (ss ts : List Slot) (x : Byte) → AllBefore k ss → AllLater k ts → Touches ss x → Touches ts x → ⊥
-unfolding AllBefore Touches
+touches-apart : (k : Cursor) (ss ts : List Slot) (x : Byte) → All (Before k) ss → All (Later k) ts → Touches ss x → Touches ts x → ⊥
+unfolding All Touches
 touches-apart k [] ts x b l s t = s
-touches-apart k (q ∷ ss) ts x b l (inl s) t = covers-later k q ts x (b .0) (b .1) l s t
-touches-apart k (q ∷ ss) ts x b l (inr s) t = touches-apart k ss ts x (b .2) l s t
+touches-apart k (q ∷ ss) ts x b l (inl s) t = covers-later k q ts x (b .0) l s t
+touches-apart k (q ∷ ss) ts x b l (inr s) t = touches-apart k ss ts x (b .1) l s t
 
 touches-left : (ss ts : List Slot) (x : Byte) → Touches ss x → Touches (ss ++ ts) x
 unfolding Touches
@@ -108,8 +108,8 @@ touches-some r base (p ∷ ps) v (suc i) x t =
 -- ---- the arguments of a plan
 
 slots-before : (r : CallRules) (base : ℕ) (k : Cursor) (t : ValueType) (n : ℕ) (v : List ℕ) → Named r k → Held r (placement t n (spanOf r k t n)) → length v ≤ n
-    → AllBefore (nextOf r k t n) (slotsOf r base (placement t n (spanOf r k t n)) v)
-unfolding slotsOf AllBefore
+    → All (Before (nextOf r k t n)) (slotsOf r base (placement t n (spanOf r k t n)) v)
+unfolding slotsOf All
 slots-before r base k t n v named h l =
     let b = step-between r k t n in
     let q = step-numbered r k t n named in
@@ -117,7 +117,7 @@ slots-before r base k t n v named h l =
     let f = take-short (8 * p .span .floating .count) (floatBytes r t v) in
     let g = spread-short (wordOf r) (p .span .general .count) (standing r base p v) (h .word .1) in
     let m = take-short (p .span .memory .length) (drop (wordOf r * p .span .general .count) (standing r base p v)) in
-    (omega arith, omega arith, (omega arith, omega arith, (omega arith, tt, (copy-in r p v (nextOf r k t n .copies) h l (b .copy-to), tt, tt))))
+    ((omega arith, omega arith), ((omega arith, omega arith), ((omega arith, tt), ((copy-in r p v (nextOf r k t n .copies) h l (b .copy-to), tt), tt))))
 
 ordered-apart : (c : Convention) (r : CallRules) (base : ℕ) (k : Cursor) (ts : List ValueType) (v : List ℕ) (i j : ℕ) (x : Byte) → Named r k
     → All (Held r) (placements c ts (spansOf c r k ts)) → i < j

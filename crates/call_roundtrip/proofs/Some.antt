@@ -21,15 +21,15 @@ use Rattle.plan_plans.specs.Plan.{spansOf, startIn, planAnswer}
 use Rattle.call_slots.specs.Placements.{Placement, placements}
 use Rattle.call_slots.specs.Arguments.{placementsIn, argumentsOf}
 use Rattle.call_slots.proofs.Answered.{arguments-got}
-use Rattle.call_slots.proofs.Typed.{AllTyped, all-typed}
+use Rattle.call_slots.proofs.Typed.{Typed, all-typed}
 use Rattle.call_roundtrip.specs.Views.{ViewSome}
 use Rattle.call_views.specs.View.{viewPart, noArgument}
 
 abbrev Some : Placement → Type 0
 Some p = 0 < p .size
 
-all-some : (c : Convention) (r : CallRules) (k : Cursor) (ts : List ValueType) → AllTyped c ts → All Some (placements c ts (spansOf c r k ts))
-unfolding placements spansOf All AllTyped
+all-some : (c : Convention) (r : CallRules) (k : Cursor) (ts : List ValueType) → All (Typed c) ts → All Some (placements c ts (spansOf c r k ts))
+unfolding placements spansOf All
 all-some c r k [] h = tt
 all-some c r k (t ∷ ts) h = (h .0 .sized .some, all-some c r (nextOf r k t (sizeOf c t)) ts (h .1))
 

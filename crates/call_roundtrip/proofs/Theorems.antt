@@ -31,7 +31,7 @@ use Rattle.plan_places.proofs.Between.{step-between}
 use Rattle.plan_places.proofs.Registers.{step-numbered}
 use Rattle.plan_plans.specs.declared.Plan.{Plan}
 use Rattle.plan_plans.specs.Plan.{spansOf, hiddenIn, startIn, planAnswer}
-use Rattle.call_slots.specs.declared.Answer.{Answer}
+use Rattle.call_slots.specs.declared.CallAnswer.{CallAnswer}
 use Rattle.call_slots.specs.Buffers.{Buffers, buffers, Slot, putAll}
 use Rattle.call_slots.specs.Placements.{Placement, placement, placements, slotsOf, slotsOfAll, hiddenSlots, valuesAt}
 use Rattle.call_slots.specs.Helpers.{Held, Fits, sizesOf}
@@ -45,9 +45,9 @@ use Rattle.call_fill.specs.Fill.{fillLengths, fillAnswer, filledSlots, fillBuff
 use Rattle.call_fill.proofs.Accepted.{Lent, tests-passed}
 use Rattle.call_read.specs.declared.ReadLengths.{ReadLengths}
 use Rattle.call_read.specs.Read.{readLengths, argumentAnswer, argumentsAnswer, readTests, readAnswer, readValues}
-use Rattle.call_roundtrip.specs.RoundTrip.{Filled, left, ReadBack, ReadAfterFill}
+use Rattle.call_roundtrip.specs.RoundTrip.{Filled, leftByFill, ReadBack, ReadAfterFill}
 use Rattle.call_roundtrip.proofs.Kept.{all-later}
-use Rattle.call_roundtrip.proofs.Arguments.{Stands, Given, stands-put, stands-done, stands-value, Behind, stands-kept, AllPut, given-same}
+use Rattle.call_roundtrip.proofs.Arguments.{Stands, Given, stands-put, stands-done, stands-value, Behind, stands-kept, AllPut, given-same, EachValue}
 
 -- the buffers have room for the arguments ps of a copies' end at m
 record Roomy (r : CallRules) (base : ℕ) (ps : List Placement) (a m : ℕ) (v : List ℕ) (b : Buffers) : Type 0 where
@@ -78,7 +78,7 @@ step-behind r k t n v named held size =
 all-put : (c : Convention) (r : CallRules) (base a m : ℕ) (k : Cursor) (ts : List ValueType) (v : List ℕ) (b : Buffers) → Named r k
     → Roomy r base (placements c ts (spansOf c r k ts)) a m v b
     → AllPut r base (placements c ts (spansOf c r k ts)) v (putAll (slotsOfAll r base (placements c ts (spansOf c r k ts)) v) b)
-unfolding placements spansOf slotsOfAll AllPut All sizesOf
+unfolding placements spansOf slotsOfAll EachValue All sizesOf
 all-put c r base a m k [] v b named h = tt
 all-put c r base a m k (t ∷ ts) v b named h =
     let n : ℕ = sizeOf c t in
@@ -121,31 +121,31 @@ all-put c r base a m k (t ∷ ts) v b named h =
 
 -- every argument can be read, and the values are those that were put
 pub put-back : (r : CallRules) (base : ℕ) (ps : List Placement) (v : List ℕ) (b : Buffers) → AllPut r base ps v b → length v ≡ sizesOf ps
-    → (argumentsAnswer r base ps b ≡ Answer.Done) × (valuesAt r base ps b ≡ v)
-unfolding AllPut argumentsAnswer firstOfAll valuesAt sizesOf
+    → (argumentsAnswer r base ps b ≡ CallAnswer.Done) × (valuesAt r base ps b ≡ v)
+unfolding EachValue argumentsAnswer firstOfAll valuesAt sizesOf
 put-back r base [] [] b h e = (refl, refl)
 put-back r base [] (x ∷ v) b h e = absurd (omega arith)
 put-back r base (p ∷ ps) v b h e =
     let x : List ℕ = take (p .size) v in
     let rest = put-back r base ps (drop (p .size) v) b (h .1) (omega (arith, length-drop (p .size) v)) in
-    let done : argumentAnswer r base p b ≡ Answer.Done = stands-done r base p x b (h .0 .given) b (h .0 .stands) refl in
+    let done : argumentAnswer r base p b ≡ CallAnswer.Done = stands-done r base p x b (h .0 .given) b (h .0 .stands) refl in
     let value = stands-value r base p x b (h .0 .given) b (h .0 .stands) refl in
     (ap₂ orElse done (rest .0), ap₂ (λ (i j : List ℕ). i ++ j) value (rest .1) ∙ take-append-drop (p .size) v)
 
 -- ---- a whole signature
 
-pub read-tests : (have : ReadLengths) (values area : ℕ) → have .image ≡ 512 → have .values ≡ values → area ≤ have .area → firstOf (readTests have values area) ≡ Answer.Done
+pub read-tests : (have : ReadLengths) (values area : ℕ) → have .image ≡ 512 → have .values ≡ values → area ≤ have .area → firstOf (readTests have values area) ≡ CallAnswer.Done
 unfolding firstOf readTests
 read-tests have values area i v a = simp (eq-eqb _ _ i, eq-eqb _ _ v, le-ltb _ _ a)
 
-pub reading-done : (o : Outcome) (x : Answer) → afterReading o x ≡ Answer.Done → (y : Answer) → y ≡ Answer.Done → (x ≡ Answer.Done) × (afterReading o y ≡ Answer.Done)
+pub reading-done : (o : Outcome) (x : CallAnswer) → afterReading o x ≡ CallAnswer.Done → (y : CallAnswer) → y ≡ CallAnswer.Done → (x ≡ CallAnswer.Done) × (afterReading o y ≡ CallAnswer.Done)
 reading-done (Outcome.Accepted n) x e y q = (e, q)
 reading-done (Outcome.Refused f) x e y q = let z : _≡_ {A = ℕ} 0 1 = cc in absurd (omega arith)
 
 -- a refused signature has no arguments
 none-put : (base : ℕ) (v : List ℕ) (b : Buffers) (f : Fault)
     → AllPut (rulesIn (signatureAnswer (no f))) base (placementsIn (signatureAnswer (no f)) (planAnswer (no f))) v b
-unfolding AllPut placementsIn placements
+unfolding EachValue placementsIn placements
 none-put base v b f = tt
 
 -- a signature's arguments, after its slots are put in any buffers that have room for them
@@ -190,9 +190,9 @@ pub record Left (s values : List ℕ) (base : ℕ) (b : Buffers) : Type 0 where
 pub filled-lent : (s values image area copies : List ℕ) (base hidden : ℕ) → Filled s values image area copies base hidden → Lent (fillLengths values image area copies) (planFor s) base
 unfolding fillAnswer
 filled-lent s values image area copies base hidden h =
-    tests-passed (fillLengths values image area copies) (planFor s) base _ (h .low) (reading-done (outcomeFor s) _ (h .accepted) Answer.Done refl .0)
+    tests-passed (fillLengths values image area copies) (planFor s) base _ (h .low) (reading-done (outcomeFor s) _ (h .accepted) CallAnswer.Done refl .0)
 
-pub filled-left : (s values image area copies : List ℕ) (base hidden : ℕ) → Filled s values image area copies base hidden → Left s values base (left s values image area copies base hidden)
+pub filled-left : (s values image area copies : List ℕ) (base hidden : ℕ) → Filled s values image area copies base hidden → Left s values base (leftByFill s values image area copies base hidden)
 unfolding fillBuffers filledSlots
 filled-left s values image area copies base hidden h =
     let p : Plan = planFor s in
@@ -213,8 +213,8 @@ filled-left s values image area copies base hidden h =
     }
 
 -- an accepted filling's signature is read, and a later answer decides
-pub filled-answer : (s values image area copies : List ℕ) (base hidden : ℕ) → Filled s values image area copies base hidden → (y : Answer) → y ≡ Answer.Done
-    → afterReading (outcomeFor s) y ≡ Answer.Done
+pub filled-answer : (s values image area copies : List ℕ) (base hidden : ℕ) → Filled s values image area copies base hidden → (y : CallAnswer) → y ≡ CallAnswer.Done
+    → afterReading (outcomeFor s) y ≡ CallAnswer.Done
 unfolding fillAnswer
 filled-answer s values image area copies base hidden h y q = reading-done (outcomeFor s) _ (h .accepted) y q .1
 
@@ -223,14 +223,14 @@ unfolding argumentsOf
 values-total s = carried s .total
 
 -- reading any buffers in which every argument stands, of a call that is accepted
-pub read-left : (s values into : List ℕ) (base : ℕ) (b : Buffers) → ((y : Answer) → y ≡ Answer.Done → afterReading (outcomeFor s) y ≡ Answer.Done)
+pub read-left : (s values into : List ℕ) (base : ℕ) (b : Buffers) → ((y : CallAnswer) → y ≡ CallAnswer.Done → afterReading (outcomeFor s) y ≡ CallAnswer.Done)
     → Left s values base b → length into ≡ length values → ReadBack s values base b into
 unfolding readAnswer readValues
 read-left s values into base b answer l size =
     let p : Plan = planFor s in
     let total : length values ≡ sizesOf (argumentsOf s) = l .total ∙ sym (values-total s) in
     let back = put-back (rulesFor s) base (argumentsOf s) values b (l .all) total in
-    let good : firstOf (readTests (readLengths into (b .image) (b .area)) (p .values) (p .area)) ≡ Answer.Done =
+    let good : firstOf (readTests (readLengths into (b .image) (b .area)) (p .values) (p .area)) ≡ CallAnswer.Done =
     read-tests (readLengths into (b .image) (b .area)) (p .values) (p .area) (l .image) (size ∙ l .total) (l .area) in
     record {
       accepted = answer _ (ap₂ orElse good (back .0));
@@ -239,5 +239,5 @@ read-left s values into base b answer l size =
 
 pub read-after-fill : ReadAfterFill
 read-after-fill s values image area copies into base hidden h size =
-    read-left s values into base (left s values image area copies base hidden) (filled-answer s values image area copies base hidden h)
+    read-left s values into base (leftByFill s values image area copies base hidden) (filled-answer s values image area copies base hidden h)
     (filled-left s values image area copies base hidden h) size

@@ -33,15 +33,15 @@ use Rattle.plan_places.specs.declared.ResultPlaces.{ResultPlaces}
 use Rattle.plan_places.specs.declared.Span.{Span}
 use Rattle.plan_places.specs.declared.PowerRules.{PowerRules}
 use Rattle.plan_places.specs.declared.Edition.{Edition}
-use Rattle.plan_places.specs.Step.{power, rulesOf, withEllipsis, wordOf, spanOf, nextOf, fresh, startOf}
+use Rattle.plan_places.specs.Step.{power, rulesOf, withEllipsis, wordOf, spanOf, nextOf, freshCursor, startOf}
 use Rattle.plan_places.proofs.Marked.{word-marked}
 use Rattle.plan_plans.specs.declared.Plan.{Plan}
 use Rattle.plan_plans.proofs.Theorems.{hidden-address}
 use Rattle.plan_plans.specs.Plan.{spansOf, resultPlacesIn, startIn, planIn, planAnswer}
-use Rattle.call_slots.specs.declared.Answer.{Answer}
+use Rattle.call_slots.specs.declared.CallAnswer.{CallAnswer}
 use Rattle.call_slots.specs.Buffers.{Buffers, buffers, bytesAt}
 use Rattle.call_slots.specs.Forms.{roomOf, startsAtHead, homeBytes, ownStart, narrowedBytes, floatValueAs, floatValue}
-use Rattle.call_slots.specs.Placements.{Placement, placements, wordsAt, floatAt, wordsValue, valueAt, valuesAt}
+use Rattle.call_slots.specs.Placements.{Placement, placements, wordsAt, fprBytesAt, wordsValue, valueAt, valuesAt}
 use Rattle.call_slots.specs.Helpers.{InImage, sizesOf}
 use Rattle.call_slots.specs.Refusals.{firstOf, orElse, firstOfAll, floatAnswer, afterReading, isDone}
 use Rattle.plan_plans.specs.Call.{outcomeFor}
@@ -66,12 +66,13 @@ use Rattle.call_home.specs.Home.{registersAnswer, homeTests, homeAnswer, homed,
 use Rattle.call_views.specs.View.{viewTests, viewAnswer, noArgument, ownBytes, viewOf}
 use Rattle.call_views.proofs.Viewed.{reading-done}
 use Rattle.call_home.proofs.Registers.{home-passed}
-use Rattle.call_roundtrip.specs.RoundTrip.{left}
-use Rattle.call_roundtrip.specs.Places.{Agree}
+use Rattle.call_roundtrip.specs.RoundTrip.{leftByFill}
+use Rattle.call_roundtrip.specs.Places.{BuffersAgree}
 use Rattle.call_roundtrip.specs.Views.{valueLists, homedArea, Viewed, ViewAfterHome, ViewAsRead, HiddenStays}
 use Rattle.call_roundtrip.proofs.Alone.{read-own}
 use Rattle.call_roundtrip.proofs.Forms.{own-back, length-home}
 use Rattle.call_roundtrip.proofs.Theorems.{reading-done as answer-passed, put-back, values-total, Left, filled-left, filled-answer}
+use Rattle.call_roundtrip.proofs.Arguments.{EachValue}
 
 -- ---- one argument
 
@@ -83,7 +84,7 @@ record Shows (r : CallRules) (base : ℕ) (p : Placement) (v : List ℕ) (b : Bu
   value : valueAt r base p b ≡ v
 
 module _ (r : CallRules) (base : ℕ) (p : Placement) (v : List ℕ) (b : Buffers) (a : ℕ) (h : Shows r base p v b) (m : Homed r a p) where
-  float-value : 0 < p .span .floating .count → floatValue r (p .ty) (floatAt (p .span) b) ≡ v
+  float-value : 0 < p .span .floating .count → floatValue r (p .ty) (fprBytesAt (p .span) b) ≡ v
   unfolding valueAt
   float-value some = rw (lt-ltb 0 (p .span .floating .count) some) at (h .value)
 
@@ -200,7 +201,7 @@ module _ (r : CallRules) (base : ℕ) (p : Placement) (v : List ℕ) (b : Buffer
       go zero e = refl
       go (suc k) e = splice-other (b .area) n bs (p .span .memory .start) (suc k) (inr (omega (arith, m .follows (omega arith))))
 
-  agree-over : (n : ℕ) (bs : List ℕ) → n + length bs ≤ p .span .home .start → Agree r base p (over n bs) b
+  agree-over : (n : ℕ) (bs : List ℕ) → n + length bs ≤ p .span .home .start → BuffersAgree r base p (over n bs) b
   unfolding wordsAt bytesAt
   agree-over n bs l = record {
     float = λ some. refl;
@@ -219,9 +220,8 @@ module _ (r : CallRules) (base : ℕ) (p : Placement) (v : List ℕ) (b : Buffer
 -- ---- several, whose homes follow each other
 
 -- each of several is read as the next part of v
-unfoldable AllShow : CallRules → ℕ → List Placement → List ℕ → Buffers → Type 0
-AllShow r base [] v b = Unit {0}
-AllShow r base (p ∷ ps) v b = Shows r base p (take (p .size) v) b × AllShow r base ps (drop (p .size) v) b
+abbrev AllShow : CallRules → ℕ → List Placement → List ℕ → Buffers → Type 0
+AllShow r base ps v b = EachValue (λ (p : Placement) (x : List ℕ). Shows r base p x b) ps v
 
 unfoldable HomesFrom : CallRules → ℕ → List Placement → Type 0
 HomesFrom r n [] = Unit {0}
@@ -247,7 +247,7 @@ homed-kept r (p ∷ ps) n q m image l h k =
 
 all-over : (r : CallRules) (base : ℕ) (ps : List Placement) (v : List ℕ) (b : Buffers) (a m n : ℕ) (bs : List ℕ) → AllShow r base ps v b → All (Homed r a) ps → HomesFrom r m ps → n + length bs ≤ m
     → AllShow r base ps v (buffers (b .image) (splice (b .area) n bs) (b .copies))
-unfolding AllShow All HomesFrom
+unfolding EachValue All HomesFrom
 all-over r base [] v b a m n bs h homes from l = tt
 all-over r base (p ∷ ps) v b a m n bs h homes from l = (
   shows-over r base p (take (p .size) v) b a (h .0) (homes .0) n bs (omega (arith, from .0)),
@@ -256,7 +256,7 @@ all-over r base (p ∷ ps) v b a m n bs h homes from l = (
 
 views : (r : CallRules) (base : ℕ) (ps : List Placement) (v : List ℕ) (b : Buffers) (a m : ℕ) → AllShow r base ps v b → All (Homed r a) ps → HomesFrom r m ps → a ≤ length (b .area)
     → (i : ℕ) → i < length ps → ownBytes r (getD ps i noArgument) (homed r ps (b .image) (b .area)) ≡ getD (valueLists ps v) i []
-unfolding AllShow All HomesFrom homed valueLists
+unfolding EachValue All HomesFrom homed valueLists
 views r base [] v b a m h homes from room i l = absurd (omega arith)
 views r base (p ∷ ps) v b a m h homes from room zero l =
     let l1 : List ℕ = splice (b .area) (p .span .home .start) (homedBytes r p (b .image)) in
@@ -304,28 +304,28 @@ starts-any (got g next m) = omega arith
 starts-any (no f) = tt
 
 -- what can be read can be homed
-register-done : (r : CallRules) (base : ℕ) (p : Placement) (b : Buffers) → argumentAnswer r base p b ≡ Answer.Done → registerAnswer r (p .ty) (p .span) (b .image) ≡ Answer.Done
+register-done : (r : CallRules) (base : ℕ) (p : Placement) (b : Buffers) → argumentAnswer r base p b ≡ CallAnswer.Done → registerAnswer r (p .ty) (p .span) (b .image) ≡ CallAnswer.Done
 unfolding argumentAnswer registerAnswer bytesAt
 register-done r base p b = go (wordsAnswer r base p b) (ltb 0 (p .span .floating .count))
   where
-    go : (x : Answer) (f : Bool)
-        → pick f (orElse (floatAnswer r (equivalentOf (p .ty)) (valueOf (part (256 + 8 * p .span .floating .first) (8 * p .span .floating .count) (b .image)))) (agreeAnswer (agrees r p b))) x ≡ Answer.Done
-        → pick f (floatAnswer r (equivalentOf (p .ty)) (valueOf (part (256 + 8 * p .span .floating .first) (8 * p .span .floating .count) (b .image)))) Answer.Done ≡ Answer.Done
+    go : (x : CallAnswer) (f : Bool)
+        → pick f (orElse (floatAnswer r (equivalentOf (p .ty)) (valueOf (part (256 + 8 * p .span .floating .first) (8 * p .span .floating .count) (b .image)))) (agreeAnswer (agrees r p b))) x ≡ CallAnswer.Done
+        → pick f (floatAnswer r (equivalentOf (p .ty)) (valueOf (part (256 + 8 * p .span .floating .first) (8 * p .span .floating .count) (b .image)))) CallAnswer.Done ≡ CallAnswer.Done
     go x true e = or-done _ _ e .0
     go x false e = refl
 
-registers-done : (r : CallRules) (base : ℕ) (ps : List Placement) (b : Buffers) → argumentsAnswer r base ps b ≡ Answer.Done → registersAnswer r ps (b .image) ≡ Answer.Done
+registers-done : (r : CallRules) (base : ℕ) (ps : List Placement) (b : Buffers) → argumentsAnswer r base ps b ≡ CallAnswer.Done → registersAnswer r ps (b .image) ≡ CallAnswer.Done
 unfolding argumentsAnswer registersAnswer firstOfAll
 registers-done r base [] b e = refl
 registers-done r base (p ∷ ps) b e =
     let both = or-done (argumentAnswer r base p b) (firstOfAll (λ (p : Placement). argumentAnswer r base p b) ps) e in
     ap₂ orElse (register-done r base p b (both .0)) (registers-done r base ps b (both .1))
 
-home-tests : (r : CallRules) (i have area : ℕ) → homeless r ≡ false → i ≡ 512 → area ≤ have → firstOf (homeTests r i have area) ≡ Answer.Done
+home-tests : (r : CallRules) (i have area : ℕ) → homeless r ≡ false → i ≡ 512 → area ≤ have → firstOf (homeTests r i have area) ≡ CallAnswer.Done
 unfolding firstOf homeTests
 home-tests r i have area e x y = simp (e, eq-eqb _ _ x, le-ltb _ _ y)
 
-view-tests : (r : CallRules) (count index have area : ℕ) → homeless r ≡ false → index < count → area ≤ have → firstOf (viewTests r count index have area) ≡ Answer.Done
+view-tests : (r : CallRules) (count index have area : ℕ) → homeless r ≡ false → index < count → area ≤ have → firstOf (viewTests r count index have area) ≡ CallAnswer.Done
 unfolding firstOf viewTests
 view-tests r count index have area e x y = simp (e, lt-leb _ _ x, le-ltb _ _ y)
 
@@ -345,9 +345,9 @@ counted s i l =
     let e = next-argument g p i l (c .tables .types) (c .tables .spans) in
     omega (arith, length-drop i (placementsIn g p), ap (λ (x : List Placement). length x) e)
 
-view-shows : (s area : List ℕ) (i : ℕ) (v : List ℕ) → viewAnswer s (length area) i ≡ Answer.Done → ownBytes (rulesFor s) (getD (argumentsOf s) i noArgument) area ≡ v → viewOf s area i ≡ v
+view-shows : (s area : List ℕ) (i : ℕ) (v : List ℕ) → viewAnswer s (length area) i ≡ CallAnswer.Done → ownBytes (rulesFor s) (getD (argumentsOf s) i noArgument) area ≡ v → viewOf s area i ≡ v
 unfolding viewOf
-view-shows s area i v done e = ap (λ (a : Answer). pick (isDone a) (ownBytes (rulesFor s) (getD (argumentsOf s) i noArgument) area) []) done ∙ e
+view-shows s area i v done e = ap (λ (a : CallAnswer). pick (isDone a) (ownBytes (rulesFor s) (getD (argumentsOf s) i noArgument) area) []) done ∙ e
 
 -- the bytes of a value in an FPR
 abbrev FloatBytes : CallRules → ℕ → Buffers → Placement → Type 0
@@ -356,7 +356,7 @@ FloatBytes r base b p = 0 < p .span .floating .count → Bytes (valueAt r base p
 -- what can be read is read as the parts of its values
 all-show : (r : CallRules) (base : ℕ) (ps : List Placement) (b : Buffers) → All (λ (p : Placement). Readable r base p b) ps → All (FloatBytes r base b) ps
     → AllShow r base ps (valuesAt r base ps b) b
-unfolding All AllShow valuesAt
+unfolding All EachValue valuesAt
 all-show r base [] b h bytes = tt
 all-show r base (p ∷ ps) b h bytes =
     let x : List ℕ = valueAt r base p b in
@@ -399,14 +399,14 @@ image-bytes r base (p ∷ ps) b h = (
 
 -- every argument of a reading that nothing refuses can be read
 arguments-readable : (s : List ℕ) (base : ℕ) (b : Buffers) → length (b .image) ≡ 512 → planFor s .area ≤ length (b .area)
-    → argumentsAnswer (rulesFor s) base (argumentsOf s) b ≡ Answer.Done → All (λ (p : Placement). Readable (rulesFor s) base p b) (argumentsOf s)
+    → argumentsAnswer (rulesFor s) base (argumentsOf s) b ≡ CallAnswer.Done → All (λ (p : Placement). Readable (rulesFor s) base p b) (argumentsOf s)
 arguments-readable s base b image area done =
     all-readable (rulesFor s) base b (argumentsOf s) (each-ready s (rulesFor s) (length (b .image)) (length (b .area)) refl image area) done
 
 -- what can be read can be homed, and then each view is the value read
 viewed : (s : List ℕ) (base : ℕ) (b : Buffers) → homeless (rulesFor s) ≡ false
-    → ((y : Answer) → y ≡ Answer.Done → afterReading (outcomeFor s) y ≡ Answer.Done) → length (b .image) ≡ 512 → planFor s .area ≤ length (b .area)
-    → argumentsAnswer (rulesFor s) base (argumentsOf s) b ≡ Answer.Done
+    → ((y : CallAnswer) → y ≡ CallAnswer.Done → afterReading (outcomeFor s) y ≡ CallAnswer.Done) → length (b .image) ≡ 512 → planFor s .area ≤ length (b .area)
+    → argumentsAnswer (rulesFor s) base (argumentsOf s) b ≡ CallAnswer.Done
     → (All (λ (p : Placement). Readable (rulesFor s) base p b) (argumentsOf s) → All (FloatBytes (rulesFor s) base b) (argumentsOf s))
     → Viewed s (valuesAt (rulesFor s) base (argumentsOf s) b) b
 unfolding homeAnswer viewAnswer homeArea
@@ -416,7 +416,7 @@ viewed s base b power answer image area done bytes =
     let readable : All (λ (q : Placement). Readable r base q b) (argumentsOf s) = arguments-readable s base b image area done in
     let tests = home-tests r (length (b .image)) (length (b .area)) (p .area) power image area in
     let size : length (homedArea s b) ≡ length (b .area) = length-homed (rulesFor s) (argumentsOf s) (b .image) (b .area) in
-    let answered : (i : ℕ) → i < signatureAnswer (signatureOf s) .count → viewAnswer s (length (homedArea s b)) i ≡ Answer.Done =
+    let answered : (i : ℕ) → i < signatureAnswer (signatureOf s) .count → viewAnswer s (length (homedArea s b)) i ≡ CallAnswer.Done =
     λ i k. answer _ (view-tests r (signatureAnswer (signatureOf s) .count) i (length (homedArea s b)) (p .area) power k (omega (arith, area, size))) in
     record {
       homed = answer _ (ap₂ orElse tests (registers-done (rulesFor s) base (argumentsOf s) b done));
@@ -431,7 +431,7 @@ unfolding readAnswer readValues
 view-as-read s into base b bytes accepted power =
     let p : Plan = planFor s in
     let have : ReadLengths = readLengths into (b .image) (b .area) in
-    let passed = answer-passed (outcomeFor s) _ accepted Answer.Done refl .0 in
+    let passed = answer-passed (outcomeFor s) _ accepted CallAnswer.Done refl .0 in
     let both = or-done (firstOf (readTests have (p .values) (p .area))) (argumentsAnswer (rulesFor s) base (argumentsOf s) b) passed in
     let lent = tests-passed have p (both .0) in
     let back : Viewed s (valuesAt (rulesFor s) base (argumentsOf s) b) b =
@@ -441,7 +441,7 @@ view-as-read s into base b bytes accepted power =
 
 pub view-after-home : ViewAfterHome
 view-after-home s values image area copies base hidden h power =
-    let b : Buffers = left s values image area copies base hidden in
+    let b : Buffers = leftByFill s values image area copies base hidden in
     let l : Left s values base b = filled-left s values image area copies base hidden h in
     let back = put-back (rulesFor s) base (argumentsOf s) values b (l .all) (l .total ∙ sym (values-total s)) in
     subst (λ (v : List ℕ). Viewed s v b) (back .1)
@@ -452,7 +452,7 @@ view-after-home s values image area copies base hidden h power =
 
 -- it takes a word at least
 address-power : (w : ℕ) (e : Edition) → 4 ≤ w → w ≤ 8 → w ≤ startOf (power w e) true .stack
-unfolding startOf nextOf fresh
+unfolding startOf nextOf freshCursor
 address-power w e least most = omega (arith, words-room w least most w)
 
 address-word : (c : Convention) → homeless (rulesOf c) ≡ false → wordOf (rulesOf c) ≤ startOf (rulesOf c) true .stack
@@ -479,10 +479,10 @@ hidden-stays s image area x e = go (homeAnswer s image (length area)) refl
     w : ℕ
     w = wordOf (rulesFor s)
 
-    go : (a : Answer) → homeAnswer s image (length area) ≡ a → part 0 w (pick (isDone a) (homed (rulesFor s) (argumentsOf s) image area) area) ≡ part 0 w area
-    go Answer.Done q =
+    go : (a : CallAnswer) → homeAnswer s image (length area) ≡ a → part 0 w (pick (isDone a) (homed (rulesFor s) (argumentsOf s) image area) area) ≡ part 0 w area
+    go CallAnswer.Done q =
         let tests = or-done _ _ (reading-done (outcomeFor s) _ q) .0 in
         let power = home-passed _ _ _ _ tests .homes in
         homed-kept (rulesFor s) (argumentsOf s) w 0 w image area (homes-follow s w power (starts-hidden (signatureOf s) x power e)) (omega arith)
-    go (Answer.Unread f) q = refl
-    go (Answer.Refused reason) q = refl
+    go (CallAnswer.Unread f) q = refl
+    go (CallAnswer.Refused reason) q = refl

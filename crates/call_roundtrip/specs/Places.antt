@@ -10,9 +10,9 @@ use lib.ListN.{length, getD, take, drop}
 use Rattle.plan_places.specs.declared.CallRules.{CallRules}
 use Rattle.plan_places.specs.Step.{wordOf}
 use Rattle.plan_places.specs.Spots.{Spot, general, floating, area, copies}
-use Rattle.call_slots.specs.declared.Answer.{Answer}
+use Rattle.call_slots.specs.declared.CallAnswer.{CallAnswer}
 use Rattle.call_slots.specs.Buffers.{Buffers, Slot, generalAt, floatingAt, bytesAt}
-use Rattle.call_slots.specs.Placements.{Placement, slotsOf, wordsAt, floatAt, addressAt, valueAt}
+use Rattle.call_slots.specs.Placements.{Placement, slotsOf, wordsAt, fprBytesAt, addressAt, valueAt}
 use Rattle.call_slots.specs.Arguments.{argumentsOf, rulesFor}
 use Rattle.call_fill.specs.Fill.{filledSlots, fillBuffers}
 
@@ -69,17 +69,17 @@ SlotsApart = (s : List ℕ) (base : ℕ) (values : List ℕ) (i j : ℕ) (x : By
 -- "Filling changes only named slots and copies"
 abbrev pub FillOnly : Type 0
 FillOnly = (s values : List ℕ) (base hidden : ℕ) (b : Buffers) (x : Byte) → (Touches (filledSlots s values base hidden) x → ⊥)
-    → byteAt x (fillBuffers s values base hidden Answer.Done b) ≡ byteAt x b
+    → byteAt x (fillBuffers s values base hidden CallAnswer.Done b) ≡ byteAt x b
 
 -- ---- reading
 
 -- two sets of buffers that agree on the places that an argument has: its FPR, its words in general registers and memory, its copy
-pub record Agree (r : CallRules) (base : ℕ) (p : Placement) (b c : Buffers) : Type 0 where
-  pub float : 0 < p .span .floating .count → floatAt (p .span) b ≡ floatAt (p .span) c
+pub record BuffersAgree (r : CallRules) (base : ℕ) (p : Placement) (b c : Buffers) : Type 0 where
+  pub float : 0 < p .span .floating .count → fprBytesAt (p .span) b ≡ fprBytesAt (p .span) c
   pub words : wordsAt (wordOf r) (p .span) b ≡ wordsAt (wordOf r) (p .span) c
   pub copy : p .span .indirect ≡ true
       → bytesAt (copies (addressAt (wordOf r) (p .span) b - base)) (p .size) b ≡ bytesAt (copies (addressAt (wordOf r) (p .span) b - base)) (p .size) c
 
 -- the value that is read depends on these bytes alone
 abbrev pub ReadOwn : Type 0
-ReadOwn = (r : CallRules) (base : ℕ) (p : Placement) (b c : Buffers) → Agree r base p b c → valueAt r base p b ≡ valueAt r base p c
+ReadOwn = (r : CallRules) (base : ℕ) (p : Placement) (b c : Buffers) → BuffersAgree r base p b c → valueAt r base p b ≡ valueAt r base p c

@@ -1,6 +1,6 @@
 -- The span of each argument has room for exactly its form, in each convention. Assumes nothing.
-use mathlib.Core.Path.{_≡_, refl, subst}
-use mathlib.Core.Bool.{Bool, true, false}
+use mathlib.Core.Path.{_≡_, refl, sym, subst}
+use mathlib.Core.Bool.{Bool, true, false, false≢true}
 use Prim.Native.Nat.{ℕ, zero, suc, _+_, _-_, _*_, _/_, _≤_, _<_}
 use native.Mathlib.Omega.{arith}
 use native.Mathlib.Nat.{mul-zero, mul-suc, mul-comm, mod-lt, div-add-mod'}
@@ -27,12 +27,6 @@ use Rattle.call_slots.specs.Placements.{placement}
 use Rattle.call_slots.specs.Helpers.{FloatSized, Held}
 use Rattle.call_slots.proofs.Typed.{EquivalentSized, Typed}
 
-absurd-bool : {A : Type 0} → _≡_ {A = Bool} true false → A
-absurd-bool e = let z : _≡_ {A = ℕ} 0 1 = cc in absurd (omega arith)
-
-absurd-bool' : {A : Type 0} → _≡_ {A = Bool} false true → A
-absurd-bool' e = let z : _≡_ {A = ℕ} 0 1 = cc in absurd (omega arith)
-
 -- ---- PowerPC, over the bytes w of a word
 
 -- a struct at the end of its words is smaller than a doubleword
@@ -42,7 +36,7 @@ struct-end w n = go (eqb w 8)
   where
     go : (b : Bool) → pick b (leb 8 n) true ≡ false → n < 8
     go true e = leb-false 8 n e
-    go false e = absurd-bool e
+    go false e = absurd (false≢true (sym e))
 
 -- the FPRs that a type asks for hold a value of it, in any convention
 fprs-sized : (e : Edition) (c : Convention) (t : ValueType) → 0 < fprs e t → FloatSized (equivalentOf t) (fprs e t) (sizeOf c t)
@@ -79,7 +73,7 @@ module _ (w : ℕ) (least : 4 ≤ w) (most : w ≤ 8) where
     end-small c (ValueType.Integer x) h q = (h .sized .some, integer-most c x .1)
     end-small c (ValueType.Float FloatFormat.Single) h q = (omega arith, omega arith)
     end-small c (ValueType.Float FloatFormat.Double) h q = (omega arith, omega arith)
-    end-small c (ValueType.Float FloatFormat.LongDouble) h q = absurd-bool q
+    end-small c (ValueType.Float FloatFormat.LongDouble) h q = absurd (false≢true (sym q))
     end-small c (ValueType.Struct s) h q = (h .sized .some, omega (arith, struct-end w (s .size) q))
 
     module _ (k : Cursor) (t : ValueType) (n : ℕ) (small : startsAtHead rules t ≡ false → (1 ≤ n) × (n ≤ 8)) where
@@ -99,8 +93,8 @@ module _ (w : ℕ) (least : 4 ≤ w) (most : w ≤ 8) where
             room = λ q. words-room n;
             whole = λ q. refl;
             small = λ q d. small q;
-            address = λ q. absurd-bool' q;
-            copied = λ q. absurd-bool' q;
+            address = λ q. absurd (false≢true q);
+            copied = λ q. absurd (false≢true q);
           }
 
       -- in m FPRs alone, or in memory alone once these are used up
@@ -116,8 +110,8 @@ module _ (w : ℕ) (least : 4 ≤ w) (most : w ≤ 8) where
         room = λ q. words-room n;
         whole = λ q. refl;
         small = λ q d. small q;
-        address = λ q. absurd-bool' q;
-        copied = λ q. absurd-bool' q;
+        address = λ q. absurd (false≢true q);
+        copied = λ q. absurd (false≢true q);
       }
       power-float m some f false = record {
         word = (least, most);
@@ -129,8 +123,8 @@ module _ (w : ℕ) (least : 4 ≤ w) (most : w ≤ 8) where
         room = λ q. words-room n;
         whole = λ q. refl;
         small = λ q d. small q;
-        address = λ q. absurd-bool' q;
-        copied = λ q. absurd-bool' q;
+        address = λ q. absurd (false≢true q);
+        copied = λ q. absurd (false≢true q);
       }
 
       -- where it asks for m FPRs, by the ways through `shareOf`
@@ -166,8 +160,8 @@ z-float k t n f one eight = record {
   room = λ e. (eight, omega arith);
   whole = λ e. refl;
   small = λ e d. (one, eight);
-  address = λ e. absurd-bool' e;
-  copied = λ e. absurd-bool' e;
+  address = λ e. absurd (false≢true e);
+  copied = λ e. absurd (false≢true e);
 }
 
 z-simple : (k : Cursor) (t : ValueType) (n : ℕ) → 1 ≤ n → n ≤ 8 → Held CallRules.Z (placement t n (zSpanOf k ZClass.Simple n))
@@ -182,8 +176,8 @@ z-simple k t n one eight = record {
   room = λ e. (eight, omega arith);
   whole = λ e. refl;
   small = λ e d. (one, eight);
-  address = λ e. absurd-bool' e;
-  copied = λ e. absurd-bool' e;
+  address = λ e. absurd (false≢true e);
+  copied = λ e. absurd (false≢true e);
 }
 
 -- the address of a copy
@@ -196,9 +190,9 @@ z-reference k t n = record {
   words = λ e. omega arith;
   also = λ e. omega arith;
   stored = λ e. omega arith;
-  room = λ e. absurd-bool e;
-  whole = λ e. absurd-bool' e;
-  small = λ e d. absurd-bool d;
+  room = λ e. absurd (false≢true (sym e));
+  whole = λ e. absurd (false≢true e);
+  small = λ e d. absurd (false≢true (sym d));
   address = λ e. (refl, refl);
   copied = λ e. refl;
 }

@@ -1,5 +1,4 @@
 -- Laws that belong to no one function.
-pub mod Forms
 pub mod Typed
 pub mod Held
 pub mod Marked

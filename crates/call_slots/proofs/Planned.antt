@@ -23,7 +23,7 @@ use Rattle.plan_plans.specs.Plan.{spansOf, lastOf}
 use Rattle.plan_plans.proofs.Fold.{last-forward}
 use Rattle.call_slots.specs.Placements.{Placement, placement, placements, copyBytes}
 use Rattle.call_slots.specs.Helpers.{Held, Fits, InImage, sizesOf}
-use Rattle.call_slots.proofs.Typed.{AllTyped}
+use Rattle.call_slots.proofs.Typed.{Typed}
 use Rattle.call_slots.proofs.Held.{step-held}
 
 -- what fits in its places has its registers in an image
@@ -55,9 +55,9 @@ placements-sizes c r k (t ∷ ts) = ap (λ (n : ℕ). sizeOf c t + n) (placement
 
 -- ---- each argument
 
-pub all-held : (c : Convention) (v : Bool) (k : Cursor) (ts : List ValueType) → AllTyped c ts
+pub all-held : (c : Convention) (v : Bool) (k : Cursor) (ts : List ValueType) → All (Typed c) ts
     → All (Held (withEllipsis v (rulesOf c))) (placements c ts (spansOf c (withEllipsis v (rulesOf c)) k ts))
-unfolding placements spansOf All AllTyped
+unfolding placements spansOf All
 all-held c v k [] h = tt
 all-held c v k (t ∷ ts) h = (step-held c v k t (h .0), all-held c v (nextOf (withEllipsis v (rulesOf c)) k t (sizeOf c t)) ts (h .1))
 
@@ -78,10 +78,3 @@ all-fit c r k (t ∷ ts) a m named s q =
     let d : Cursor = nextOf r k t n in
     let f = last-forward c r d ts in
     (step-fits r k t n a m named (omega (arith, f)) (omega (arith, f)), all-fit c r d ts a m (named-next r k t n named) s q)
-
--- ---- several facts of each
-
-pub all-with : (P Q R : Placement → Type 0) → ((p : Placement) → P p → Q p → R p) → (ps : List Placement) → All P ps → All Q ps → All R ps
-unfolding All
-all-with P Q R f [] h k = tt
-all-with P Q R f (p ∷ ps) h k = (f p (h .0) (k .0), all-with P Q R f ps (h .1) (k .1))

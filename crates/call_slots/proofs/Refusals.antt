@@ -7,15 +7,15 @@ use native.Mathlib.Omega.{arith}
 use borrow.Author.Tests.{eqb-true}
 use lib.Dec.{eqb}
 use Rattle.base_words.specs.Basics.{pick}
-use Rattle.call_slots.specs.declared.Answer.{Answer}
+use Rattle.call_slots.specs.declared.CallAnswer.{CallAnswer}
 use Rattle.call_slots.specs.Refusals.{Test, differ, firstOf, orElse, isRefused}
 
 -- where nothing is refused, no test holds
-pub first-done : (t : Test) (ts : List Test) → firstOf (t ∷ ts) ≡ Answer.Done → (t .holds ≡ false) × (firstOf ts ≡ Answer.Done)
+pub first-done : (t : Test) (ts : List Test) → firstOf (t ∷ ts) ≡ CallAnswer.Done → (t .holds ≡ false) × (firstOf ts ≡ CallAnswer.Done)
 unfolding firstOf
 first-done t ts = go (t .holds)
   where
-    go : (b : Bool) → pick b (Answer.Refused (t .reason)) (firstOf ts) ≡ Answer.Done → (b ≡ false) × (firstOf ts ≡ Answer.Done)
+    go : (b : Bool) → pick b (CallAnswer.Refused (t .reason)) (firstOf ts) ≡ CallAnswer.Done → (b ≡ false) × (firstOf ts ≡ CallAnswer.Done)
     go true e = let z : _≡_ {A = ℕ} 0 1 = cc in absurd (omega arith)
     go false e = (refl, e)
 
@@ -28,17 +28,17 @@ differ-false m n = go (eqb m n) refl
 
 -- ---- one answer before another
 
-pub or-refused : (a b : Answer) → isRefused a ≡ true → orElse a b ≡ a
-or-refused Answer.Done b e = let z : _≡_ {A = ℕ} 0 1 = cc in absurd (omega arith)
-or-refused (Answer.Unread f) b e = refl
-or-refused (Answer.Refused reason) b e = refl
+pub or-refused : (a b : CallAnswer) → isRefused a ≡ true → orElse a b ≡ a
+or-refused CallAnswer.Done b e = let z : _≡_ {A = ℕ} 0 1 = cc in absurd (omega arith)
+or-refused (CallAnswer.Unread f) b e = refl
+or-refused (CallAnswer.Refused reason) b e = refl
 
-pub not-refused : (a : Answer) → isRefused a ≡ false → a ≡ Answer.Done
-not-refused Answer.Done e = refl
-not-refused (Answer.Unread f) e = let z : _≡_ {A = ℕ} 0 1 = cc in absurd (omega arith)
-not-refused (Answer.Refused reason) e = let z : _≡_ {A = ℕ} 0 1 = cc in absurd (omega arith)
+pub not-refused : (a : CallAnswer) → isRefused a ≡ false → a ≡ CallAnswer.Done
+not-refused CallAnswer.Done e = refl
+not-refused (CallAnswer.Unread f) e = let z : _≡_ {A = ℕ} 0 1 = cc in absurd (omega arith)
+not-refused (CallAnswer.Refused reason) e = let z : _≡_ {A = ℕ} 0 1 = cc in absurd (omega arith)
 
-pub or-done : (a b : Answer) → orElse a b ≡ Answer.Done → (a ≡ Answer.Done) × (b ≡ Answer.Done)
-or-done Answer.Done b e = (refl, e)
-or-done (Answer.Unread f) b e = let z : _≡_ {A = ℕ} 0 1 = cc in absurd (omega arith)
-or-done (Answer.Refused reason) b e = let z : _≡_ {A = ℕ} 0 1 = cc in absurd (omega arith)
+pub or-done : (a b : CallAnswer) → orElse a b ≡ CallAnswer.Done → (a ≡ CallAnswer.Done) × (b ≡ CallAnswer.Done)
+or-done CallAnswer.Done b e = (refl, e)
+or-done (CallAnswer.Unread f) b e = let z : _≡_ {A = ℕ} 0 1 = cc in absurd (omega arith)
+or-done (CallAnswer.Refused reason) b e = let z : _≡_ {A = ℕ} 0 1 = cc in absurd (omega arith)

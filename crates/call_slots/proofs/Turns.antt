@@ -19,7 +19,7 @@ use Rattle.sig_signatures.proofs.Types.{types-drop, length-types}
 use Rattle.plan_places.specs.declared.Span.{Span}
 use Rattle.plan_plans.specs.declared.Plan.{Plan}
 use Rattle.plan_plans.specs.Plan.{noSpan}
-use Rattle.call_slots.specs.declared.Answer.{Answer}
+use Rattle.call_slots.specs.declared.CallAnswer.{CallAnswer}
 use Rattle.call_slots.specs.Placements.{Placement, placement, placements}
 use Rattle.call_slots.specs.Refusals.{orElse, firstOfAll, isRefused}
 use Rattle.call_slots.specs.Arguments.{placementsIn}
@@ -65,7 +65,7 @@ no-argument g p i h types =
 
 -- ---- a loop that tests them, each by f, of which it needs P
 
-module _ (f : Placement → Answer) (P : Placement → Type 0) (ps : List Placement) where
+module _ (f : Placement → CallAnswer) (P : Placement → Type 0) (ps : List Placement) where
   -- i arguments are not refused
   pub record Checking (i : ℕ) : Type 0 where
     pub each : All P (drop i ps)
@@ -79,20 +79,20 @@ module _ (f : Placement → Answer) (P : Placement → Type 0) (ps : List Placem
     unfolding All
     checking-ready = let each : P p × All P (drop (suc i) ps) = rw e at (c .each) in each .0
 
-    pub checking-refused : (a : Answer) → a ≡ f p → isRefused a ≡ true → a ≡ firstOfAll f ps
+    pub checking-refused : (a : CallAnswer) → a ≡ f p → isRefused a ≡ true → a ≡ firstOfAll f ps
     unfolding firstOfAll
     checking-refused a q t =
         let rest : orElse (f p) (firstOfAll f (drop (suc i) ps)) ≡ firstOfAll f ps = rw e at (c .rest) in
-        sym (or-refused a (firstOfAll f (drop (suc i) ps)) t) ∙ ap (λ (x : Answer). orElse x (firstOfAll f (drop (suc i) ps))) q ∙ rest
+        sym (or-refused a (firstOfAll f (drop (suc i) ps)) t) ∙ ap (λ (x : CallAnswer). orElse x (firstOfAll f (drop (suc i) ps))) q ∙ rest
 
-    pub checking-more : (a : Answer) → a ≡ f p → isRefused a ≡ false → Checking (i + 1)
+    pub checking-more : (a : CallAnswer) → a ≡ f p → isRefused a ≡ false → Checking (i + 1)
     unfolding All firstOfAll
     checking-more a q t =
         let each : P p × All P (drop (suc i) ps) = rw e at (c .each) in
         let rest : orElse (f p) (firstOfAll f (drop (suc i) ps)) ≡ firstOfAll f ps = rw e at (c .rest) in
-        let done : f p ≡ Answer.Done = sym q ∙ not-refused a t in
+        let done : f p ≡ CallAnswer.Done = sym q ∙ not-refused a t in
         record { each = rw add-one (each .1); rest = rw add-one (rw done at rest) }
 
-  pub checking-end : (i : ℕ) → drop i ps ≡ [] → Checking i → Answer.Done ≡ firstOfAll f ps
+  pub checking-end : (i : ℕ) → drop i ps ≡ [] → Checking i → CallAnswer.Done ≡ firstOfAll f ps
   unfolding firstOfAll
   checking-end i e c = rw e at (c .rest)

@@ -2,10 +2,9 @@
 -- ---- one type
 use mathlib.Core.Path.{_≡_, refl}
 use mathlib.Core.Bool.{Bool, true, false}
-use mathlib.Core.List.{List, [], _∷_, _++_}
 use Prim.Native.Nat.{ℕ, _+_, max}
 use native.Mathlib.Omega.{arith}
-use Rattle.base_words.specs.Basics.{roundUp}
+use Rattle.base_words.specs.Basics.{roundUp, All}
 use Rattle.base_conventions.specs.declared.Convention.{Convention}
 use Rattle.sig_types.specs.declared.FloatFormat.{FloatFormat}
 use Rattle.sig_types.specs.declared.Equivalent.{Equivalent}
@@ -16,6 +15,7 @@ use Rattle.sig_types.specs.Structs.{withField, equivalentAfter, shapeOf}
 use Rattle.sig_types.specs.Trees.{Tree, Trees, integer, float, struct, none, _▸_, typeOf, fieldsOf}
 use Rattle.sig_types.specs.Limits.{AllSized}
 use Rattle.sig_signatures.specs.Types.{typesOf}
+use Rattle.sig_signatures.proofs.Types.{types-each}
 
 -- the size and the alignment of the float
 abbrev LaidAs : Equivalent → ℕ → ℕ → Type 0
@@ -82,24 +82,15 @@ pub record Typed (c : Convention) (t : ValueType) : Type 0 where
   pub sized : Sized c t
   pub float : EquivalentSized (equivalentOf t) (sizeOf c t)
 
-unfoldable pub AllTyped : Convention → List ValueType → Type 0
-AllTyped c [] = Unit {0}
-AllTyped c (t ∷ ts) = Typed c t × AllTyped c ts
-
 laid-sized : (e : Equivalent) (n a : ℕ) → LaidAs e n a → EquivalentSized e n
 laid-sized Equivalent.Single n a h = h .0
 laid-sized Equivalent.Double n a h = h .0
 laid-sized Equivalent.Nothing n a h = tt
 
-all-typed-append : (c : Convention) (ts us : List ValueType) → AllTyped c ts → AllTyped c us → AllTyped c (ts ++ us)
-unfolding AllTyped
-all-typed-append c [] us h k = k
-all-typed-append c (t ∷ ts) us h k = (h .0, all-typed-append c ts us (h .1) k)
+-- a type within the limits has its float's size
+pub typed : (c : Convention) (t : Tree) → Sized c (typeOf c t) → Typed c (typeOf c t)
+typed c t h = record { sized = h; float = laid-sized (equivalentOf (typeOf c t)) (sizeOf c (typeOf c t)) (alignOf c (typeOf c t)) (type-laid c t) }
 
--- the arguments that a signature may have
-pub all-typed : (c : Convention) (ts : Trees) → AllSized c ts → AllTyped c (typesOf c ts)
-unfolding AllSized typesOf AllTyped
-all-typed c none h = tt
-all-typed c (ts ▸ t) h =
-    all-typed-append c (typesOf c ts) (typeOf c t ∷ []) (all-typed c ts (h .0))
-    (record { sized = h .1; float = laid-sized (equivalentOf (typeOf c t)) (sizeOf c (typeOf c t)) (alignOf c (typeOf c t)) (type-laid c t) }, tt)
+-- and so have the arguments that a signature may have
+pub all-typed : (c : Convention) (ts : Trees) → AllSized c ts → All (Typed c) (typesOf c ts)
+all-typed c ts h = types-each c (Typed c) (typed c) ts h

@@ -75,8 +75,8 @@ wordsAt w s b =
     ++ bytesAt (area (s .memory .start)) (s .memory .length) b
 
 -- its FPRs' bytes, eight of each
-abbrev pub floatAt : Span → Buffers → List ℕ
-floatAt s b = bytesAt (floating (s .floating .first)) (8 * s .floating .count) b
+abbrev pub fprBytesAt : Span → Buffers → List ℕ
+fprBytesAt s b = bytesAt (floating (s .floating .first)) (8 * s .floating .count) b
 
 -- the address of an argument that is passed by pointer
 abbrev pub addressAt : ℕ → Span → Buffers → ℕ
@@ -91,7 +91,7 @@ wordsValue r base p b =
 -- "it prefers an FPR to memory"
 unfoldable pub valueAt : CallRules → ℕ → Placement → Buffers → List ℕ
 valueAt r base p b =
-    pick (ltb 0 (p .span .floating .count)) (floatValue r (p .ty) (floatAt (p .span) b)) (wordsValue r base p b)
+    pick (ltb 0 (p .span .floating .count)) (floatValue r (p .ty) (fprBytesAt (p .span) b)) (wordsValue r base p b)
 
 -- the value buffer: all arguments in order
 unfoldable pub valuesAt : CallRules → ℕ → List Placement → Buffers → List ℕ

@@ -13,10 +13,10 @@ ghost use lib.ListN.{length};
 ghost use Rattle.base_words.specs.Numbers.{valueOf};
 ghost use Rattle.call_slots.specs.Forms.{signedKind, isSigned, structAtHead, headFirst, startsAtHead, extended, roomOf, ownStart, singleWord};
 ghost use Rattle.base_ieee.specs.Narrowing.{narrow as narrowOf};
-ghost use Rattle.call_slots.specs.Refusals.{numberOf, isRefused, narrowedAnswer, floatAnswer};
+ghost use Rattle.call_slots.specs.Refusals.{callRefusalNumber, isRefused, narrowedAnswer, floatAnswer};
 
-// Why a call is refused once its signature is read; `number_of` gives document 01's number.
-pub enum Refusal {
+// Why a call is refused once its signature is read; `call_refusal_number` gives document 01's number.
+pub enum CallRefusal {
     ValuesSize,
     AreaTooShort,
     BadCopies,
@@ -28,24 +28,24 @@ pub enum Refusal {
 }
 
 // The answer of a call: done; or its signature is refused, by the reading's fault; or the call is, at place 0.
-pub enum Answer {
+pub enum CallAnswer {
     Done,
     Unread(Fault),
-    Refused(Refusal),
+    Refused(CallRefusal),
 }
 
-pub fn number_of(r: Refusal) -> u64
-    ensures { λ n. ⌜ n ≡ numberOf r ⌝ }
+pub fn call_refusal_number(r: CallRefusal) -> u64
+    ensures { λ n. ⌜ n ≡ callRefusalNumber r ⌝ }
 {
     match r {
-        Refusal::ValuesSize => 10,
-        Refusal::AreaTooShort => 11,
-        Refusal::BadCopies => 12,
-        Refusal::OutsideCopies => 13,
-        Refusal::NotWidened => 14,
-        Refusal::ImageSize => 15,
-        Refusal::FloatsDiffer => 26,
-        Refusal::NoView => 24,
+        CallRefusal::ValuesSize => 10,
+        CallRefusal::AreaTooShort => 11,
+        CallRefusal::BadCopies => 12,
+        CallRefusal::OutsideCopies => 13,
+        CallRefusal::NotWidened => 14,
+        CallRefusal::ImageSize => 15,
+        CallRefusal::FloatsDiffer => 26,
+        CallRefusal::NoView => 24,
     }
 }
 
@@ -146,35 +146,35 @@ pub fn own_start(r: CallRules, t: ValueType, n: usize, room: usize) -> usize
     room - n
 }
 
-fn narrowed_answer(x: u64) -> Answer
+fn narrowed_answer(x: u64) -> CallAnswer
     ensures { λ a. ⌜ a ≡ narrowedAnswer (narrowOf x) ⌝ }
 {
     match base_ieee::narrow(x) {
-        Narrowed::Single(_) => Answer::Done,
-        Narrowed::NotWidened => Answer::Refused(Refusal::NotWidened),
+        Narrowed::Single(_) => CallAnswer::Done,
+        Narrowed::NotWidened => CallAnswer::Refused(CallRefusal::NotWidened),
     }
 }
 
 // Whether an FPR's 64 bits can be read.
-pub fn float_answer(r: CallRules, e: Equivalent, x: u64) -> Answer
+pub fn float_answer(r: CallRules, e: Equivalent, x: u64) -> CallAnswer
     ensures { λ a. ⌜ a ≡ floatAnswer r e x ⌝ }
 {
     match r {
         CallRules::Power(_) => match e {
-            Equivalent::Nothing => Answer::Done,
+            Equivalent::Nothing => CallAnswer::Done,
             Equivalent::Single => narrowed_answer(x),
-            Equivalent::Double => Answer::Done,
+            Equivalent::Double => CallAnswer::Done,
         },
-        CallRules::Z => Answer::Done,
+        CallRules::Z => CallAnswer::Done,
     }
 }
 
-pub fn is_refused(a: Answer) -> bool
+pub fn is_refused(a: CallAnswer) -> bool
     ensures { λ b. ⌜ b ≡ isRefused a ⌝ }
 {
     match a {
-        Answer::Done => false,
-        Answer::Unread(_) => true,
-        Answer::Refused(_) => true,
+        CallAnswer::Done => false,
+        CallAnswer::Unread(_) => true,
+        CallAnswer::Refused(_) => true,
     }
 }

@@ -22,13 +22,13 @@ use Rattle.plan_places.specs.Step.{wordOf}
 use Rattle.plan_places.specs.Spots.{copies}
 use Rattle.call_registers.specs.Registers.{gather}
 use Rattle.call_registers.proofs.Registers.{length-gather}
-use Rattle.call_slots.specs.declared.Answer.{Answer}
+use Rattle.call_slots.specs.declared.CallAnswer.{CallAnswer}
 use Rattle.call_slots.specs.Buffers.{Buffers, bytesAt}
 use Rattle.call_slots.specs.Forms.{startsAtHead, ownStart, roomOf, narrowedBytes, floatValueAs, floatValue}
-use Rattle.call_slots.specs.Placements.{Placement, wordsAt, floatAt, addressAt, wordsValue, valueAt, valuesAt}
+use Rattle.call_slots.specs.Placements.{Placement, wordsAt, fprBytesAt, addressAt, wordsValue, valueAt, valuesAt}
 use Rattle.call_slots.specs.Helpers.{FloatSized, Held, sizesOf}
 use Rattle.call_slots.specs.Refusals.{narrowedAnswer, floatAnswer}
-use Rattle.call_unmarshal.specs.Helpers.{Stored, FprsHold, Readable}
+use Rattle.call_unmarshal.specs.Helpers.{LiesIn, FprsHold, Readable}
 
 pub float-room : (e : Equivalent) (m n l : ℕ) → FloatSized e m n → n ≤ l → FprsHold e (8 * m) l
 float-room Equivalent.Single m n l h k = (omega (arith, h .0), omega (arith, h .1))
@@ -44,7 +44,7 @@ own-first r p h e = go (startsAtHead r (p .ty))
     go true = omega (arith, h .word)
     go false = omega (arith, h .room e, h .word)
 
-stored-length : (s m : ℕ) (l : List ℕ) → Stored s m (length l) → length (part s m l) ≡ m
+stored-length : (s m : ℕ) (l : List ℕ) → LiesIn s m (length l) → length (part s m l) ≡ m
 stored-length s zero l h = refl
 stored-length s (suc m) l h = length-part s (suc m) l (h (omega arith))
 
@@ -74,16 +74,16 @@ module _ (r : CallRules) (base : ℕ) (p : Placement) (b : Buffers) (h : Readabl
         stored-length (p .span .memory .start) (p .span .memory .length) (b .area) (h .ready .memory),
       )
 
-  length-fprs : length (floatAt (p .span) b) ≡ 8 * p .span .floating .count
+  length-fprs : length (fprBytesAt (p .span) b) ≡ 8 * p .span .floating .count
   unfolding bytesAt
   length-fprs = length-part (256 + 8 * p .span .floating .first) (8 * p .span .floating .count) (b .image) (omega (arith, h .ready))
 
 -- a value in FPRs
-narrowed-length : (q : Narrowed) → narrowedAnswer q ≡ Answer.Done → length (narrowedBytes q) ≡ 4
+narrowed-length : (q : Narrowed) → narrowedAnswer q ≡ CallAnswer.Done → length (narrowedBytes q) ≡ 4
 narrowed-length (Narrowed.Single x) e = length-bytesOf 4 x
 narrowed-length Narrowed.NotWidened e = let z : _≡_ {A = ℕ} 0 1 = cc in absurd (omega arith)
 
-pub float-length : (r : CallRules) (e : Equivalent) (bs : List ℕ) (m n : ℕ) → FloatSized e m n → length bs ≡ 8 * m → floatAnswer r e (valueOf bs) ≡ Answer.Done
+pub float-length : (r : CallRules) (e : Equivalent) (bs : List ℕ) (m n : ℕ) → FloatSized e m n → length bs ≡ 8 * m → floatAnswer r e (valueOf bs) ≡ CallAnswer.Done
     → length (floatValueAs r e bs) ≡ n
 float-length (CallRules.Power f) Equivalent.Single bs m n s l d = narrowed-length (narrow (valueOf bs)) d ∙ sym (s .1)
 float-length CallRules.Z Equivalent.Single bs m n s l d = length-take-le 4 bs (omega (arith, s .0)) ∙ sym (s .1)
@@ -109,13 +109,13 @@ value-length r base p b h = go (ltb 0 (p .span .floating .count)) refl
 
     go : (f : Bool) → ltb 0 (p .span .floating .count) ≡ f
         → length
-        (pick f (floatValueAs r (equivalentOf (p .ty)) (floatAt (p .span) b))
+        (pick f (floatValueAs r (equivalentOf (p .ty)) (fprBytesAt (p .span) b))
         (pick (p .span .indirect) (bytesAt (copies (addressAt (wordOf r) (p .span) b - base)) (p .size) b)
         (part (ownStart r (p .ty) (p .size)) (p .size) (wordsAt (wordOf r) (p .span) b))))
         ≡ p .size
     go true q =
         let some : 0 < p .span .floating .count = ltb-true 0 (p .span .floating .count) q in
-        float-length r (equivalentOf (p .ty)) (floatAt (p .span) b) (p .span .floating .count) (p .size) (h .ready .registers .held .float some) (length-fprs r base p b h)
+        float-length r (equivalentOf (p .ty)) (fprBytesAt (p .span) b) (p .span .floating .count) (p .size) (h .ready .registers .held .float some) (length-fprs r base p b h)
         (h .exact some)
     go false q = words (p .span .indirect) refl (ltb-false 0 (p .span .floating .count) q)
 

@@ -1,37 +1,12 @@
 -- Parts of the words of an argument, whose first ones stand in general registers and the others in memory. Assumes nothing.
-use mathlib.Core.Path.{_≡_, sym, ap, ap₂, _∙_}
-use mathlib.Core.List.{List, [], _∷_, _++_, append-nil}
-use Prim.Native.Nat.{ℕ, zero, suc, _+_, _-_, _*_, _≤_, _<_}
+use mathlib.Core.Path.{_≡_, sym, ap₂, _∙_}
+use mathlib.Core.List.{List, _++_, append-nil}
+use Prim.Native.Nat.{ℕ, _+_, _-_, _*_, _≤_, _<_}
 use native.Mathlib.Omega.{arith}
-use native.Mathlib.Nat.{sub-zero}
 use lib.ListN.{length, take, drop, length-drop}
-use lib.Seq.{take-append-le, drop-append-le, take-all, take-take}
+use lib.Seq.{take-all, take-take}
 use Rattle.base_words.specs.Splice.{part}
-use Rattle.base_words.proofs.Splices.{part-part}
-
-take-past : (n : ℕ) (a b : List ℕ) → length a ≤ n → take n (a ++ b) ≡ a ++ take (n - length a) b
-take-past n [] b h = rw (sub-zero n)
-take-past zero (x ∷ a) b h = absurd (omega arith)
-take-past (suc n) (x ∷ a) b h =
-    let e : suc n - suc (length a) ≡ n - length a = omega arith in
-    rw e (ap (λ (t : List ℕ). x ∷ t) (take-past n a b (omega arith)))
-
-pub part-first : (a b : List ℕ) (lo n : ℕ) → lo + n ≤ length a → part lo n (a ++ b) ≡ part lo n a
-part-first a b lo n h =
-    ap (take n) (drop-append-le lo a b (omega arith)) ∙ take-append-le n (drop lo a) b (omega (arith, length-drop lo a))
-
-pub part-second : (a b : List ℕ) (lo n : ℕ) → length a ≤ lo → part lo n (a ++ b) ≡ part (lo - length a) n b
-part-second [] b lo n h = rw (sub-zero lo)
-part-second (x ∷ a) b zero n h = absurd (omega arith)
-part-second (x ∷ a) b (suc lo) n h =
-    let e : suc lo - suc (length a) ≡ lo - length a = omega arith in
-    rw e (part-second a b lo n (omega arith))
-
-pub part-both : (a b : List ℕ) (lo n : ℕ) → lo ≤ length a → length a ≤ lo + n → part lo n (a ++ b) ≡ drop lo a ++ take (n - (length a - lo)) b
-part-both a b lo n h k =
-    ap (take n) (drop-append-le lo a b h)
-    ∙ take-past n (drop lo a) b (omega (arith, length-drop lo a))
-    ∙ rw (length-drop lo a)
+use Rattle.base_words.proofs.Splices.{part-part, part-first, part-second, part-both}
 
 -- ---- the words: a in registers, m bytes at s of the area
 

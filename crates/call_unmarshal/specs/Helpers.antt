@@ -13,20 +13,20 @@ use Rattle.plan_places.specs.declared.CallRules.{CallRules}
 use Rattle.plan_places.specs.declared.Span.{Span}
 use Rattle.plan_places.specs.Step.{wordOf}
 use Rattle.plan_places.specs.Spots.{imageBytes}
-use Rattle.call_slots.specs.declared.Answer.{Answer}
+use Rattle.call_slots.specs.declared.CallAnswer.{CallAnswer}
 use Rattle.call_slots.specs.Buffers.{Buffers}
-use Rattle.call_slots.specs.Placements.{Placement, floatAt, addressAt}
+use Rattle.call_slots.specs.Placements.{Placement, fprBytesAt, addressAt}
 use Rattle.call_slots.specs.Refusals.{floatAnswer}
 use Rattle.call_slots.specs.Helpers.{InImage}
 
 -- m bytes at s lie in an area of a bytes; none may start anywhere: an argument in registers asks nothing of the area
-abbrev pub Stored : ℕ → ℕ → ℕ → Type 0
-Stored s m a = 0 < m → s + m ≤ a
+abbrev pub LiesIn : ℕ → ℕ → ℕ → Type 0
+LiesIn s m a = 0 < m → s + m ≤ a
 
 -- a span's words of w bytes lie in the image and the area
 abbrev pub SpanHolds : ℕ → Span → List ℕ → List ℕ → Type 0
 SpanHolds w s image area =
-    (1 ≤ w) × (w ≤ 8) × (s .general .first + s .general .count ≤ 32) × (length image ≡ imageBytes) × Stored (s .memory .start) (s .memory .length) (length area)
+    (1 ≤ w) × (w ≤ 8) × (s .general .first + s .general .count ≤ 32) × (length image ≡ imageBytes) × LiesIn (s .memory .start) (s .memory .length) (length area)
 
 -- room of l bytes for a float whose FPRs have n bytes
 abbrev pub FprsHold : Equivalent → ℕ → ℕ → Type 0
@@ -37,13 +37,13 @@ FprsHold Equivalent.Nothing n l = n ≤ l
 -- an argument, and the lengths of the image and the area
 pub record InBuffers (r : CallRules) (i a : ℕ) (p : Placement) : Type 0 where
   pub registers : InImage r i p
-  pub memory : Stored (p .span .memory .start) (p .span .memory .length) a
+  pub memory : LiesIn (p .span .memory .start) (p .span .memory .length) a
 
 -- an argument that can be read
 pub record Readable (r : CallRules) (base : ℕ) (p : Placement) (b : Buffers) : Type 0 where
   pub ready : InBuffers r (length (b .image)) (length (b .area)) p
   -- 14 is not given
-  pub exact : 0 < p .span .floating .count → floatAnswer r (equivalentOf (p .ty)) (valueOf (floatAt (p .span) b)) ≡ Answer.Done
+  pub exact : 0 < p .span .floating .count → floatAnswer r (equivalentOf (p .ty)) (valueOf (fprBytesAt (p .span) b)) ≡ CallAnswer.Done
   -- 13 is not given
   pub inside : p .span .floating .count ≤ 0 → p .span .indirect ≡ true
       → (base ≤ addressAt (wordOf r) (p .span) b) × (addressAt (wordOf r) (p .span) b - base + p .size ≤ length (b .copies))

@@ -16,7 +16,7 @@ use Rattle.sig_signatures.specs.Answer.{signatureAnswer}
 use Rattle.plan_places.specs.declared.CallRules.{CallRules}
 use Rattle.plan_places.specs.Step.{rulesOf}
 use Rattle.plan_plans.specs.declared.Plan.{Plan}
-use Rattle.call_slots.specs.declared.Answer.{Answer}
+use Rattle.call_slots.specs.declared.CallAnswer.{CallAnswer}
 use Rattle.call_slots.specs.Forms.{ownStart}
 use Rattle.call_slots.specs.Placements.{Placement}
 use Rattle.call_slots.specs.Helpers.{Held}
@@ -36,7 +36,7 @@ use Rattle.call_views.specs.View.{viewTests, viewAnswer, noArgument, own
 
 -- ---- what no test refuses
 
-pub reading-done : (o : Outcome) (x : Answer) → afterReading o x ≡ Answer.Done → x ≡ Answer.Done
+pub reading-done : (o : Outcome) (x : CallAnswer) → afterReading o x ≡ CallAnswer.Done → x ≡ CallAnswer.Done
 reading-done (Outcome.Accepted n) x e = e
 reading-done (Outcome.Refused f) x e = let z : _≡_ {A = ℕ} 0 1 = cc in absurd (omega arith)
 
@@ -45,7 +45,7 @@ pub record Viewed (r : CallRules) (count index have area : ℕ) : Type 0 where
   pub there : index < count
   pub room : area ≤ have
 
-pub view-passed : (r : CallRules) (count index have area : ℕ) → firstOf (viewTests r count index have area) ≡ Answer.Done → Viewed r count index have area
+pub view-passed : (r : CallRules) (count index have area : ℕ) → firstOf (viewTests r count index have area) ≡ CallAnswer.Done → Viewed r count index have area
 unfolding viewTests
 view-passed (CallRules.Power f) count index have area e =
     let a = first-done _ _ e in
@@ -56,7 +56,7 @@ view-passed CallRules.Z count index have area e = let a = first-done _ _ e in le
 -- ---- the argument that is viewed
 
 pub record Hand (s : List ℕ) (have index : ℕ) (g : SignatureRead) (p : Plan) : Type 0 where
-  pub done : viewAnswer s have index ≡ Answer.Done
+  pub done : viewAnswer s have index ≡ CallAnswer.Done
   pub small : index < maxArguments
   pub room : p .area ≤ have
   pub held : Held (rulesOf (g .convention)) (argumentAt g p index)
@@ -68,7 +68,7 @@ tests-marked : (g : SignatureRead) (count index have area : ℕ) → viewTests (
 unfolding viewTests
 tests-marked g count index have area = rw (homeless-marked (g .ellipsis) (rulesOf (g .convention)))
 
-pub answer-same : (s : List ℕ) (have index : ℕ) (g : SignatureRead) (p : Plan) (a : Answer) → g ≡ signatureAnswer (signatureOf s) → p ≡ planFor s
+pub answer-same : (s : List ℕ) (have index : ℕ) (g : SignatureRead) (p : Plan) (a : CallAnswer) → g ≡ signatureAnswer (signatureOf s) → p ≡ planFor s
     → a ≡ afterReading (outcomeFor s) (firstOf (viewTests (rulesOf (g .convention)) (g .count) index have (p .area))) → a ≡ viewAnswer s have index
 unfolding viewAnswer
 answer-same s have index g p a read plan e =
@@ -76,8 +76,8 @@ answer-same s have index g p a read plan e =
     ∙ ap (λ (ts : List Test). afterReading (outcomeFor s) (firstOf ts)) (tests-marked g (g .count) index have (p .area))
     ∙ ap₂ (λ (g : SignatureRead) (p : Plan). afterReading (outcomeFor s) (firstOf (viewTests (rulesIn g) (g .count) index have (p .area)))) read plan
 
-pub hand : (s : List ℕ) (have index : ℕ) (g : SignatureRead) (p : Plan) (a : Answer) → g ≡ signatureAnswer (signatureOf s) → p ≡ planFor s
-    → a ≡ afterReading (outcomeFor s) (firstOf (viewTests (rulesOf (g .convention)) (g .count) index have (p .area))) → a ≡ Answer.Done → Hand s have index g p
+pub hand : (s : List ℕ) (have index : ℕ) (g : SignatureRead) (p : Plan) (a : CallAnswer) → g ≡ signatureAnswer (signatureOf s) → p ≡ planFor s
+    → a ≡ afterReading (outcomeFor s) (firstOf (viewTests (rulesOf (g .convention)) (g .count) index have (p .area))) → a ≡ CallAnswer.Done → Hand s have index g p
 unfolding argumentsOf
 hand s have index g p a read plan e d =
     let v = view-passed (rulesOf (g .convention)) (g .count) index have (p .area) (reading-done (outcomeFor s) _ (sym e ∙ d)) in
@@ -97,25 +97,25 @@ hand s have index g p a read plan e d =
 
 -- ---- the part that is viewed
 
-refused-part : (a : Answer) (r : CallRules) (p : Placement) → isRefused a ≡ true → _≡_ {A = ViewPart} (record { answer = a; start = 0; length = 0 }) (ownPart a r p)
-refused-part Answer.Done r p q = let z : _≡_ {A = ℕ} 0 1 = cc in absurd (omega arith)
-refused-part (Answer.Unread f) r p q = refl
-refused-part (Answer.Refused reason) r p q = refl
+refused-part : (a : CallAnswer) (r : CallRules) (p : Placement) → isRefused a ≡ true → _≡_ {A = ViewPart} (record { answer = a; start = 0; length = 0 }) (ownPart a r p)
+refused-part CallAnswer.Done r p q = let z : _≡_ {A = ℕ} 0 1 = cc in absurd (omega arith)
+refused-part (CallAnswer.Unread f) r p q = refl
+refused-part (CallAnswer.Refused reason) r p q = refl
 
-pub part-refused : (s : List ℕ) (have index : ℕ) (a : Answer) → a ≡ viewAnswer s have index → isRefused a ≡ true
+pub part-refused : (s : List ℕ) (have index : ℕ) (a : CallAnswer) → a ≡ viewAnswer s have index → isRefused a ≡ true
     → _≡_ {A = ViewPart} (record { answer = a; start = 0; length = 0 }) (viewPart s have index)
 unfolding viewPart
 part-refused s have index a e q = rw (← e) (refused-part a (rulesFor s) (getD (argumentsOf s) index noArgument) q)
 
-pub part-shown : (s : List ℕ) (have index : ℕ) (g : SignatureRead) (p : Plan) (a : Answer) (own n : ℕ) → Hand s have index g p → g ≡ signatureAnswer (signatureOf s)
+pub part-shown : (s : List ℕ) (have index : ℕ) (g : SignatureRead) (p : Plan) (a : CallAnswer) (own n : ℕ) → Hand s have index g p → g ≡ signatureAnswer (signatureOf s)
     → a ≡ viewAnswer s have index
     → own ≡ ownStart (rulesOf (g .convention)) (argumentAt g p index .ty) (argumentAt g p index .size) → n ≡ argumentAt g p index .size
     → _≡_ {A = ViewPart} (record { answer = a; start = argumentAt g p index .span .home .start + own; length = n }) (viewPart s have index)
 unfolding viewPart
 part-shown s have index g p a own n h read e o z =
-    let done : a ≡ Answer.Done = e ∙ h .done in
+    let done : a ≡ CallAnswer.Done = e ∙ h .done in
     let same = own-marked (g .ellipsis) (rulesOf (g .convention)) (argumentAt g p index .ty) (argumentAt g p index .size) in
-    rw (← e, done, o, z, h .at, ← same) (ap (λ (x : SignatureRead). ownPart Answer.Done (rulesIn x) (argumentAt g p index)) read)
+    rw (← e, done, o, z, h .at, ← same) (ap (λ (x : SignatureRead). ownPart CallAnswer.Done (rulesIn x) (argumentAt g p index)) read)
 
 pub part-answer : (s : List ℕ) (have index : ℕ) → viewPart s have index .answer ≡ viewAnswer s have index
 unfolding viewPart
@@ -132,15 +132,15 @@ pub part-within : (s : List ℕ) (have index : ℕ) → viewPart s have index .s
 unfolding viewPart
 part-within s have index = go (viewAnswer s have index) refl
   where
-    go : (a : Answer) → a ≡ viewAnswer s have index
+    go : (a : CallAnswer) → a ≡ viewAnswer s have index
         → ownPart a (rulesFor s) (getD (argumentsOf s) index noArgument) .start + ownPart a (rulesFor s) (getD (argumentsOf s) index noArgument) .length ≤ have
-    go Answer.Done e =
+    go CallAnswer.Done e =
         let g : SignatureRead = signatureAnswer (signatureOf s) in
-        let h = hand s have index g (planFor s) Answer.Done refl refl (e ∙ viewAnswer-is s have index) refl in
+        let h = hand s have index g (planFor s) CallAnswer.Done refl refl (e ∙ viewAnswer-is s have index) refl in
         let same = own-marked (g .ellipsis) (rulesOf (g .convention)) (argumentAt g (planFor s) index .ty) (argumentAt g (planFor s) index .size) in
         rw (h .at) (omega (arith, own-homed (rulesOf (g .convention)) _ _ (h .held) (h .homed), same, h .room))
-    go (Answer.Unread f) e = omega arith
-    go (Answer.Refused reason) e = omega arith
+    go (CallAnswer.Unread f) e = omega arith
+    go (CallAnswer.Refused reason) e = omega arith
 
 -- and is the view
 pub part-view : (s area : List ℕ) (index : ℕ) (v : ViewPart) → v ≡ viewPart s (length area) index
@@ -151,8 +151,8 @@ part-view s area index v e =
     ∙ ap (λ (v : ViewPart). take (v .length) (drop (v .start) area)) e
     ∙ go (viewAnswer s (length area) index)
   where
-    go : (a : Answer) → take (ownPart a (rulesFor s) (getD (argumentsOf s) index noArgument) .length) (drop (ownPart a (rulesFor s) (getD (argumentsOf s) index noArgument) .start) area)
+    go : (a : CallAnswer) → take (ownPart a (rulesFor s) (getD (argumentsOf s) index noArgument) .length) (drop (ownPart a (rulesFor s) (getD (argumentsOf s) index noArgument) .start) area)
         ≡ pick (isDone a) (ownBytes (rulesFor s) (getD (argumentsOf s) index noArgument) area) []
-    go Answer.Done = refl
-    go (Answer.Unread f) = refl
-    go (Answer.Refused reason) = refl
+    go CallAnswer.Done = refl
+    go (CallAnswer.Unread f) = refl
+    go (CallAnswer.Refused reason) = refl

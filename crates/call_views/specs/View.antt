@@ -13,8 +13,8 @@ use Rattle.sig_signatures.specs.Read.{signatureOf}
 use Rattle.sig_signatures.specs.Answer.{signatureAnswer}
 use Rattle.plan_places.specs.declared.CallRules.{CallRules}
 use Rattle.plan_plans.specs.Plan.{noSpan}
-use Rattle.call_slots.specs.declared.Refusal.{Refusal}
-use Rattle.call_slots.specs.declared.Answer.{Answer}
+use Rattle.call_slots.specs.declared.CallRefusal.{CallRefusal}
+use Rattle.call_slots.specs.declared.CallAnswer.{CallAnswer}
 use Rattle.call_slots.specs.Forms.{ownStart}
 use Rattle.call_slots.specs.Placements.{Placement, placement}
 use Rattle.call_slots.specs.Refusals.{Test, test, firstOf, afterReading, isDone}
@@ -29,9 +29,9 @@ noView r count index = pick (homeless r) true (leb count index)
 
 -- "24, .. 11", where the plan asks for an area of this size
 unfoldable pub viewTests : CallRules → ℕ → ℕ → ℕ → ℕ → List Test
-viewTests r count index have area = test (noView r count index) Refusal.NoView ∷ test (ltb have area) Refusal.AreaTooShort ∷ []
+viewTests r count index have area = test (noView r count index) CallRefusal.NoView ∷ test (ltb have area) CallRefusal.AreaTooShort ∷ []
 
-unfoldable pub viewAnswer : List ℕ → ℕ → ℕ → Answer
+unfoldable pub viewAnswer : List ℕ → ℕ → ℕ → CallAnswer
 viewAnswer s have index =
     afterReading (outcomeFor s)
     (firstOf (viewTests (rulesFor s) (signatureAnswer (signatureOf s) .count) index have (planFor s .area)))
@@ -51,7 +51,7 @@ unfoldable pub viewOf : List ℕ → List ℕ → ℕ → List ℕ
 viewOf s area index = pick (isDone (viewAnswer s (length area) index)) (ownBytes (rulesFor s) (getD (argumentsOf s) index noArgument) area) []
 
 -- the same bytes by their start and length
-abbrev pub ownPart : Answer → CallRules → Placement → ViewPart
+abbrev pub ownPart : CallAnswer → CallRules → Placement → ViewPart
 ownPart a r p = record { answer = a; start = pick (isDone a) (ownAt r p) 0; length = pick (isDone a) (p .size) 0 }
 
 unfoldable pub viewPart : List ℕ → ℕ → ℕ → ViewPart

@@ -1,6 +1,6 @@
 // Views of arguments in a homed parameter area: each is an argument's own bytes as a part of the caller's slice.
-use call_slots::Answer;
-use call_slots::Refusal;
+use call_slots::CallAnswer;
+use call_slots::CallRefusal;
 use plan_places::CallRules;
 use sig_signatures::Outcome;
 ghost use mathlib.Core.Path.{_≡_};
@@ -10,25 +10,25 @@ ghost use Rattle.call_views.specs.View.{viewTests, viewAnswer, viewPart,
 
 // The part of an area that is an argument's own bytes: none where the answer refuses.
 pub struct ViewPart {
-    pub answer: Answer,
+    pub answer: CallAnswer,
     pub start: usize,
     pub length: usize,
 }
 
 // Whether there is a view of argument `index` of `count` in an area of `have` bytes.
-fn view_tested(r: CallRules, count: usize, index: usize, have: usize, area: usize) -> Answer
+fn view_tested(r: CallRules, count: usize, index: usize, have: usize, area: usize) -> CallAnswer
     ensures { λ a. ⌜ a ≡ firstOf (viewTests r count index have area) ⌝ }
 {
     if call_home_slot::is_homeless(r) {
-        return Answer::Refused(Refusal::NoView);
+        return CallAnswer::Refused(CallRefusal::NoView);
     }
     if count <= index {
-        return Answer::Refused(Refusal::NoView);
+        return CallAnswer::Refused(CallRefusal::NoView);
     }
     if have < area {
-        return Answer::Refused(Refusal::AreaTooShort);
+        return CallAnswer::Refused(CallRefusal::AreaTooShort);
     }
-    Answer::Done
+    CallAnswer::Done
 }
 
 fn view_answer(
@@ -38,11 +38,11 @@ fn view_answer(
     index: usize,
     have: usize,
     area: usize,
-) -> Answer
+) -> CallAnswer
     ensures { λ a. ⌜ a ≡ afterReading outcome (firstOf (viewTests r count index have area)) ⌝ }
 {
     match outcome {
-        Outcome::Refused(fault) => Answer::Unread(fault),
+        Outcome::Refused(fault) => CallAnswer::Unread(fault),
         Outcome::Accepted(_) => view_tested(r, count, index, have, area),
     }
 }
@@ -79,7 +79,7 @@ pub fn view_part(sig: &[u8], index: usize, have: usize) -> ViewPart
 }
 
 // The answer on the same inputs as `view`'s.
-pub fn check_view(area: &[u8], sig: &[u8], index: usize) -> Answer
+pub fn check_view(area: &[u8], sig: &[u8], index: usize) -> CallAnswer
     ensures { λ a. ⌜ a ≡ viewAnswer (now (sig .entry)) (length (now (area .entry))) index ⌝ }
 {
     let p = view_part(sig, index, area.len());

@@ -1,12 +1,11 @@
 -- 23, exactly (specs/Walks.antt): the test says what it says, and that is where arguments lead. Assumes nothing.
-use mathlib.Core.Path.{_≡_, refl, ap, _∙_, subst}
+use mathlib.Core.Path.{_≡_, ap, _∙_, subst}
 use mathlib.Core.Logic.{_⊎_, inl, inr}
-use mathlib.Core.Bool.{Bool, true, false, not, _&&_, _||_}
-use Prim.Native.Nat.{ℕ, _+_, _%_, _^_, _≤_}
-use native.Mathlib.Omega.{arith}
+use mathlib.Core.Bool.{Bool, true, false, not, _||_}
+use Prim.Native.Nat.{ℕ, _≤_}
 use borrow.Author.Tests.{le-leb, leb-true, eq-eqb, eqb-true}
-use lib.Dec.{eqb, leb}
-use Rattle.base_words.proofs.Tests.{and-yes, and-both, or-yes, or-left, or-right}
+use lib.Dec.{leb}
+use Rattle.base_words.proofs.Tests.{and-yes, and-both, or-yes, or-left, or-right, not-no}
 use Rattle.sig_types.proofs.Sized.{all-within-sized}
 use Rattle.plan_places.specs.declared.CallRules.{CallRules}
 use Rattle.plan_places.specs.Step.{rulesOf, startOf}
@@ -70,22 +69,17 @@ possible-tested CallRules.Z hidden k h =
     (and-both _ _ (eq-eqb _ _ (h .3))
     (and-both _ _ (le-leb _ _ (h .4)) (and-both _ _ (eq-eqb _ _ (h .5)) (ways-back (k .stack) (k .general) (k .floating) (h .6)))))))
 
-not-false : (a b : Bool) → not (a && b) ≡ false → (a ≡ true) × (b ≡ true)
-not-false true true e = (refl, refl)
-not-false true false e = let z : _≡_ {A = ℕ} 0 1 = cc in absurd (omega arith)
-not-false false b e = let z : _≡_ {A = ℕ} 0 1 = cc in absurd (omega arith)
-
 -- ---- a walker that is not lost
 
 module _ (w : Walker) (e : lost w ≡ false) where
   pub found-possible : Possible (rulesOf (w .convention)) (w .hidden) (w .at)
   unfolding lost
-  found-possible = tested-possible (rulesOf (w .convention)) (w .hidden) (w .at) (not-false (inRange (w .at)) _ e .1)
+  found-possible = tested-possible (rulesOf (w .convention)) (w .hidden) (w .at) (and-yes (inRange (w .at)) _ (not-no _ e) .1)
 
   pub found-small : Small (w .at)
   unfolding lost inRange
   found-small =
-      let a = and-yes _ _ (not-false (inRange (w .at)) _ e .0) in
+      let a = and-yes _ _ (and-yes (inRange (w .at)) _ (not-no _ e) .0) in
       let b = and-yes _ _ (a .1) in
       record { general = leb-true _ _ (a .0); floating = leb-true _ _ (b .0); stack = leb-true _ _ (b .1) }
 

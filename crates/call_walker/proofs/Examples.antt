@@ -12,33 +12,33 @@ use Rattle.sig_types.specs.declared.FloatFormat.{FloatFormat}
 use Rattle.sig_types.specs.declared.IntegerKind.{IntegerKind}
 use Rattle.sig_types.specs.declared.ValueType.{ValueType}
 use Rattle.sig_types.specs.Trees.{Tree, integer, float, struct, none, _▸_, typeOf}
-use Rattle.sig_items.specs.declared.Refusal as item
+use Rattle.sig_items.specs.declared.Refusal.{Refusal}
 use Rattle.sig_items.specs.Reading.{fault, got, no}
 use Rattle.sig_items.specs.Read.{bodyAt, integerCode, integerAt, itemBy, itemAt}
 use Rattle.plan_places.specs.declared.Bank.{Bank}
 use Rattle.plan_places.specs.declared.Place.{Place}
 use Rattle.plan_places.specs.Power.{words, fprs, shareOf, powerShare, unclear}
 use Rattle.plan_places.specs.ZSeries.{zClass, zSpanOf, zNextOf}
-use Rattle.plan_places.specs.Step.{withEllipsis, spanOf, nextOf, unclearFor, fresh, startOf, hiddenFor}
-use Rattle.plan_places.specs.Places.{upFrom, register, registersOf, memoryOf, placesOf}
+use Rattle.plan_places.specs.Step.{withEllipsis, spanOf, nextOf, unclearFor, freshCursor, startOf, hiddenFor}
+use Rattle.plan_places.specs.Places.{upFrom, registerPlace, registersOf, memoryOf, placesOf}
 use Rattle.plan_plans.specs.Plan.{startIn}
 use Rattle.sig_signatures.specs.Signature.{Signature, value}
 use Rattle.sig_signatures.specs.Read.{conventionAt, signatureOf}
-use Rattle.call_slots.specs.declared.Answer as call
-use Rattle.call_slots.specs.declared.Refusal.{Refusal}
+use Rattle.call_slots.specs.declared.CallAnswer.{CallAnswer}
+use Rattle.call_slots.specs.declared.CallRefusal.{CallRefusal}
 use Rattle.call_slots.specs.Buffers.{Buffers, buffers, bytesAt}
 use Rattle.call_slots.specs.Forms.{startsAtHead, ownStart}
 use Rattle.call_slots.specs.Placements.{wordsAt, wordsValue, valueAt}
 use Rattle.call_slots.specs.Refusals.{firstOf}
 use Rattle.call_registers.specs.Registers.{gather}
 use Rattle.call_read.specs.Read.{argumentAnswer}
-use Rattle.call_walker.specs.declared.Answer.{Answer}
+use Rattle.call_walker.specs.declared.WalkerAnswer.{WalkerAnswer}
 use Rattle.call_walker.specs.declared.Counters.{Counters}
 use Rattle.call_walker.specs.declared.Walker.{Walker}
 use Rattle.call_walker.specs.declared.WalkerRead.{WalkerRead}
 use Rattle.call_walker.specs.Walker.{counters, cursorAt, countersOf, walker, walkerOf, powerPossible, zPossible, possible, inRange, lost}
 use Rattle.call_walker.specs.Step.{typeItem, asked, passes, stepTests, stepAnswer, stepOn}
-use Rattle.call_walker.specs.Words.{walkerIn, walkerWords, startWords, walked, stepFor, walk}
+use Rattle.call_walker.specs.Words.{walkerIn, walkerWords, walkerStartWords, walkerOutcome, stepFor, walkerStep}
 
 abbrev int : ValueType
 int = ValueType.Integer IntegerKind.I32
@@ -61,23 +61,23 @@ abbrev structured : Convention → Signature
 structured c = record { convention = c; result = value (struct (none ▸ float FloatFormat.Double)); ellipsis = false; arguments = none }
 
 pub power-start : walkerWords (walkerOf (printf Convention.Ppc64)) ≡ 1 ∷ 1 ∷ 0 ∷ 0 ∷ 0 ∷ 0 ∷ []
-unfolding walkerWords walkerOf countersOf hiddenFor startOf fresh typeOf
+unfolding walkerWords walkerOf countersOf hiddenFor startOf freshCursor typeOf
 power-start = refl
 
 pub power-hidden : walkerWords (walkerOf (structured Convention.Aix)) ≡ 3 ∷ 0 ∷ 1 ∷ 1 ∷ 0 ∷ 0 ∷ []
-unfolding walkerWords walkerOf countersOf hiddenFor startOf fresh nextOf words fprs shareOf powerShare typeOf
+unfolding walkerWords walkerOf countersOf hiddenFor startOf freshCursor nextOf words fprs shareOf powerShare typeOf
 power-hidden = refl
 
 pub z-start : walkerWords (walkerOf (printf Convention.Z)) ≡ 2 ∷ 1 ∷ 0 ∷ 2 ∷ 0 ∷ 160 ∷ []
-unfolding walkerWords walkerOf countersOf hiddenFor startOf fresh typeOf
+unfolding walkerWords walkerOf countersOf hiddenFor startOf freshCursor typeOf
 z-start = refl
 
 pub z-hidden : walkerWords (walkerOf (structured Convention.Z)) ≡ 2 ∷ 0 ∷ 1 ∷ 3 ∷ 0 ∷ 160 ∷ []
-unfolding walkerWords walkerOf countersOf hiddenFor startOf fresh nextOf zClass zNextOf typeOf
+unfolding walkerWords walkerOf countersOf hiddenFor startOf freshCursor nextOf zClass zNextOf typeOf
 z-hidden = refl
 
 -- a signature that is refused, here cut short in its first header, leaves the walker as it was
-pub refused-start : startWords (signatureOf (0x01 ∷ 0 ∷ [])) (9 ∷ 8 ∷ 7 ∷ 6 ∷ 5 ∷ 4 ∷ []) ≡ 9 ∷ 8 ∷ 7 ∷ 6 ∷ 5 ∷ 4 ∷ []
+pub refused-start : walkerStartWords (signatureOf (0x01 ∷ 0 ∷ [])) (9 ∷ 8 ∷ 7 ∷ 6 ∷ 5 ∷ 4 ∷ []) ≡ 9 ∷ 8 ∷ 7 ∷ 6 ∷ 5 ∷ 4 ∷ []
 unfolding signatureOf conventionAt bodyAt
 refused-start = refl
 
@@ -116,11 +116,11 @@ abbrev placesAt : Walker → ValueType → List Place
 placesAt w t = placesOf (wordBytes (w .convention)) (asked w t .span)
 
 -- a double after a format: "in its FPR, and as well in its GPR while w < 8 and in memory from w 8 on"; without an ellipsis "it reads as plain reading does"
-pub after-format : placesAt (walker Convention.Ppc64 true false (k 1 0)) double ≡ register Bank.Floating 1 ∷ register Bank.General 4 ∷ []
+pub after-format : placesAt (walker Convention.Ppc64 true false (k 1 0)) double ≡ registerPlace Bank.Floating 1 ∷ registerPlace Bank.General 4 ∷ []
 unfolding asked cursorAt spanOf withEllipsis powerShare shareOf fprs words placesOf registersOf memoryOf upFrom
 after-format = refl
 
-pub plain-format : placesAt (walker Convention.Ppc64 false false (k 1 0)) double ≡ register Bank.Floating 1 ∷ []
+pub plain-format : placesAt (walker Convention.Ppc64 false false (k 1 0)) double ≡ registerPlace Bank.Floating 1 ∷ []
 unfolding asked cursorAt spanOf withEllipsis powerShare shareOf fprs words placesOf registersOf memoryOf upFrom
 plain-format = refl
 
@@ -203,22 +203,22 @@ pub one-item : typeItem Convention.Ppc64 bytes ≡ got (integer IntegerKind.I32)
 unfolding typeItem itemAt itemBy bodyAt integerAt integerCode
 one-item = refl
 
-pub byte-after : typeItem Convention.Ppc64 (0x10 ∷ 0 ∷ 1 ∷ 4 ∷ 0 ∷ []) ≡ no (fault item.Refusal.Malformed 4 1)
+pub byte-after : typeItem Convention.Ppc64 (0x10 ∷ 0 ∷ 1 ∷ 4 ∷ 0 ∷ []) ≡ no (fault Refusal.Malformed 4 1)
 unfolding typeItem itemAt itemBy bodyAt integerAt integerCode
 byte-after = refl
 
-pub cut-short : typeItem Convention.Ppc64 (0x10 ∷ 0 ∷ []) ≡ no (fault item.Refusal.Truncated 0 0)
+pub cut-short : typeItem Convention.Ppc64 (0x10 ∷ 0 ∷ []) ≡ no (fault Refusal.Truncated 0 0)
 unfolding typeItem itemAt itemBy bodyAt
 cut-short = refl
 
-pub no-type : typeItem Convention.Ppc64 (0x04 ∷ 0 ∷ 0 ∷ []) ≡ no (fault item.Refusal.UnexpectedTag 0 0)
+pub no-type : typeItem Convention.Ppc64 (0x04 ∷ 0 ∷ 0 ∷ []) ≡ no (fault Refusal.UnexpectedTag 0 0)
 unfolding typeItem itemAt itemBy bodyAt
 no-type = refl
 
 -- ---- the order of refusals, and 11
 
 -- 29 before 15, 10 and 11: a long double of the later edition where only f13 is left
-pub unclear-first : stepAnswer (walker Convention.Ppc64b true false (k 12 12)) quad 0 0 (buffers [] [] []) ≡ call.Answer.Unread (fault item.Refusal.UnclearPlace 0 0)
+pub unclear-first : stepAnswer (walker Convention.Ppc64b true false (k 12 12)) quad 0 0 (buffers [] [] []) ≡ CallAnswer.Unread (fault Refusal.UnclearPlace 0 0)
 unfolding stepAnswer cursorAt unclearFor unclear fprs
 unclear-first = refl
 
@@ -239,18 +239,18 @@ unfolding passes asked cursorAt spanOf withEllipsis powerShare shareOf fprs word
 past-area = refl
 
 -- a lost walker, its words and the value buffer stay
-pub lost-stays : walk (1 ∷ 1 ∷ 0 ∷ 2 ∷ 3 ∷ 0 ∷ []) bytes 0 (buffers image [] []) (7 ∷ 7 ∷ 7 ∷ 7 ∷ []) ≡ walked Answer.Lost (1 ∷ 1 ∷ 0 ∷ 2 ∷ 3 ∷ 0 ∷ []) (7 ∷ 7 ∷ 7 ∷ 7 ∷ [])
-unfolding walk walkerIn conventionCode lost inRange possible powerPossible
+pub lost-stays : walkerStep (1 ∷ 1 ∷ 0 ∷ 2 ∷ 3 ∷ 0 ∷ []) bytes 0 (buffers image [] []) (7 ∷ 7 ∷ 7 ∷ 7 ∷ []) ≡ walkerOutcome WalkerAnswer.Lost (1 ∷ 1 ∷ 0 ∷ 2 ∷ 3 ∷ 0 ∷ []) (7 ∷ 7 ∷ 7 ∷ 7 ∷ [])
+unfolding walkerStep walkerIn conventionCode lost inRange possible powerPossible
 lost-stays = refl
 
 -- an integer in r4 of an image of zeros, with no area at all: its value, and the walker one word further
-pub walk-once : walk (1 ∷ 1 ∷ 0 ∷ 1 ∷ 0 ∷ 0 ∷ []) bytes 0 (buffers image [] []) (7 ∷ 7 ∷ 7 ∷ 7 ∷ [])
-    ≡ walked (Answer.Called call.Answer.Done) (1 ∷ 1 ∷ 0 ∷ 2 ∷ 0 ∷ 0 ∷ []) (0 ∷ 0 ∷ 0 ∷ 0 ∷ [])
-unfolding walk walkerIn conventionCode lost inRange possible powerPossible typeItem itemAt itemBy bodyAt integerAt integerCode typeOf stepFor stepAnswer cursorAt unclearFor unclear fprs stepTests firstOf passes asked spanOf withEllipsis powerShare shareOf words argumentAnswer valueAt wordsValue wordsAt bytesAt gather ownStart startsAtHead overlay stepOn countersOf nextOf walkerWords
+pub walk-once : walkerStep (1 ∷ 1 ∷ 0 ∷ 1 ∷ 0 ∷ 0 ∷ []) bytes 0 (buffers image [] []) (7 ∷ 7 ∷ 7 ∷ 7 ∷ [])
+    ≡ walkerOutcome (WalkerAnswer.Called CallAnswer.Done) (1 ∷ 1 ∷ 0 ∷ 2 ∷ 0 ∷ 0 ∷ []) (0 ∷ 0 ∷ 0 ∷ 0 ∷ [])
+unfolding walkerStep walkerIn conventionCode lost inRange possible powerPossible typeItem itemAt itemBy bodyAt integerAt integerCode typeOf stepFor stepAnswer cursorAt unclearFor unclear fprs stepTests firstOf passes asked spanOf withEllipsis powerShare shareOf words argumentAnswer valueAt wordsValue wordsAt bytesAt gather ownStart startsAtHead overlay stepOn countersOf nextOf walkerWords
 walk-once = refl
 
 -- the same past r10: 11
-pub walk-past : walk (1 ∷ 1 ∷ 0 ∷ 8 ∷ 0 ∷ 0 ∷ []) bytes 0 (buffers image (replicate 71 0) []) (7 ∷ 7 ∷ 7 ∷ 7 ∷ [])
-    ≡ walked (Answer.Called (call.Answer.Refused Refusal.AreaTooShort)) (1 ∷ 1 ∷ 0 ∷ 8 ∷ 0 ∷ 0 ∷ []) (7 ∷ 7 ∷ 7 ∷ 7 ∷ [])
-unfolding walk walkerIn conventionCode lost inRange possible powerPossible typeItem itemAt itemBy bodyAt integerAt integerCode typeOf stepFor stepAnswer cursorAt unclearFor unclear fprs stepTests firstOf passes asked spanOf withEllipsis powerShare shareOf words
+pub walk-past : walkerStep (1 ∷ 1 ∷ 0 ∷ 8 ∷ 0 ∷ 0 ∷ []) bytes 0 (buffers image (replicate 71 0) []) (7 ∷ 7 ∷ 7 ∷ 7 ∷ [])
+    ≡ walkerOutcome (WalkerAnswer.Called (CallAnswer.Refused CallRefusal.AreaTooShort)) (1 ∷ 1 ∷ 0 ∷ 8 ∷ 0 ∷ 0 ∷ []) (7 ∷ 7 ∷ 7 ∷ 7 ∷ [])
+unfolding walkerStep walkerIn conventionCode lost inRange possible powerPossible typeItem itemAt itemBy bodyAt integerAt integerCode typeOf stepFor stepAnswer cursorAt unclearFor unclear fprs stepTests firstOf passes asked spanOf withEllipsis powerShare shareOf words
 walk-past = refl

@@ -5,10 +5,9 @@ use mathlib.Core.Bool.{Bool, true, false}
 use mathlib.Core.List.{List, [], _∷_}
 use Prim.Native.Nat.{ℕ, zero, suc, _+_, _-_, _*_, _/_, _%_, _≤_, _<_, min}
 use native.Mathlib.Omega.{arith}
-use native.Mathlib.Nat.{mul-add, mul-div-cancel-left, add-div-left, div-eq-of-lt}
+use native.Mathlib.Nat.{mul-add, mul-div-cancel-left}
 use borrow.Author.Tests.{le-leb}
-use lib.Dec.{leb}
-use Rattle.base_words.specs.Basics.{pick, flag}
+use Rattle.base_words.specs.Basics.{flag, All}
 use Rattle.base_conventions.specs.declared.Convention.{Convention}
 use Rattle.sig_types.specs.declared.FloatFormat.{FloatFormat}
 use Rattle.sig_types.specs.declared.IntegerKind.{IntegerKind}
@@ -21,17 +20,17 @@ use Rattle.plan_places.specs.declared.PowerRules.{PowerRules}
 use Rattle.plan_places.specs.declared.Cursor.{Cursor}
 use Rattle.plan_places.specs.declared.CallRules.{CallRules}
 use Rattle.plan_places.specs.declared.ZClass.{ZClass}
-use Rattle.plan_places.specs.Values.{cursor, share}
+use Rattle.plan_places.specs.Values.{cursor}
 use Rattle.plan_places.specs.Power.{words, fprs, covered, shareOf, powerShare}
 use Rattle.plan_places.specs.ZSeries.{zClass, zNextOf}
 use Rattle.plan_places.specs.Step.{nextOf, startOf}
 use Rattle.plan_places.specs.Helpers.{LawfulCalls}
-use Rattle.plan_places.proofs.Shares.{share-marked, share-room}
+use Rattle.plan_places.proofs.Shares.{share-marked, share-room, share-asked, words-some, words-two, words-one}
 use Rattle.plan_places.proofs.Written.{counted, next-counted, start-written, hidden-written, z-start-written, z-hidden-written}
 use Rattle.sig_signatures.specs.Types.{typesOf}
 use Rattle.plan_plans.specs.Plan.{lastOf}
 use Rattle.plan_plans.proofs.Fold.{last-more}
-use Rattle.call_slots.proofs.Typed.{AllTyped}
+use Rattle.call_slots.proofs.Typed.{Typed}
 use Rattle.call_walker.specs.declared.Counters.{Counters}
 use Rattle.call_walker.specs.Walker.{counters, cursorAt, countersOf}
 
@@ -52,26 +51,6 @@ Reached CallRules.Z hidden d =
     (2 + flag hidden ≤ d .general) × (d .general ≤ 7) × (d .floating ≤ 8) × (d .floating % 2 ≡ 0) × (d .stack % 8 ≡ 0)
     × ((d .stack ≤ 0) ⊎ ((7 ≤ d .general) ⊎ (8 ≤ d .floating)))
 
-words-some : (w n : ℕ) → 0 < w → 0 < n → 1 ≤ words w n
-unfolding words
-words-some w n h k =
-    let e : n + (w - 1) ≡ w + (n - 1) = omega arith in
-    rw (e, add-div-left (n - 1) h) (omega arith)
-
-words-two : (w n : ℕ) → 0 < w → w < n → 2 ≤ words w n
-unfolding words
-words-two w n h k =
-    let e : n + (w - 1) ≡ w + (w + (n - w - 1)) = omega arith in
-    rw (e, add-div-left (w + (n - w - 1)) h, add-div-left (n - w - 1) h) (omega arith)
-
-words-one : (w n : ℕ) → 0 < n → n ≤ w → words w n ≡ 1
-unfolding words
-words-one w n k l =
-    let h : 0 < w = omega arith in
-    let e : n + (w - 1) ≡ w + (n - 1) = omega arith in
-    let below : n - 1 < w = omega arith in
-    rw (e, add-div-left (n - 1) h, div-eq-of-lt below)
-
 -- a float uses up at least as many words as FPRs
 fprs-words : (c : Convention) (e : Edition) (w : ℕ) (t : ValueType) → 0 < w → w ≤ 8 → 0 < sizeOf c t → fprs e t ≤ words w (sizeOf c t)
 unfolding fprs
@@ -81,18 +60,6 @@ fprs-words c e w (ValueType.Float FloatFormat.Double) h l s = words-some w 8 h (
 fprs-words c Edition.Earlier w (ValueType.Float FloatFormat.LongDouble) h l s = omega arith
 fprs-words c Edition.Later w (ValueType.Float FloatFormat.LongDouble) h l s = words-two w 16 h (omega arith)
 fprs-words c e w (ValueType.Struct x) h l s = omega arith
-
-share-plain : (m room n k : ℕ) → shareOf false m room n k .floating ≤ m
-unfolding shareOf
-share-plain zero room n k = omega arith
-share-plain (suc m) room n k = go (leb (suc m) room)
-  where
-    go : (b : Bool) → pick b (share 0 (suc m) 0) (share 0 0 n) .floating ≤ suc m
-    go true = omega arith
-    go false = omega arith
-
-share-asked : (v : Bool) (m room n k : ℕ) → shareOf v m room n k .floating ≤ m
-share-asked v m room n k = omega (arith, share-marked v m room n k, share-plain m room n k)
 
 pub reached-start : (r : CallRules) (hidden : Bool) → LawfulCalls r → Reached r hidden (startOf r hidden)
 reached-start (CallRules.Power f) false l = rw (start-written f) (0, refl, omega arith, omega arith, omega arith, omega arith)
@@ -156,9 +123,9 @@ reached-next c (CallRules.Power f) hidden d t l s h =
     )
 reached-next c CallRules.Z hidden d t l s h = z-reached hidden d (zClass t (sizeOf c t)) (sizeOf c t) h
 
-pub reached-last : (c : Convention) (r : CallRules) (hidden : Bool) (d : Cursor) (ts : List ValueType) → LawfulCalls r → AllTyped c ts → Reached r hidden d
+pub reached-last : (c : Convention) (r : CallRules) (hidden : Bool) (d : Cursor) (ts : List ValueType) → LawfulCalls r → All (Typed c) ts → Reached r hidden d
     → Reached r hidden (lastOf c r d ts)
-unfolding lastOf AllTyped
+unfolding lastOf All
 reached-last c r hidden d [] l a h = h
 reached-last c r hidden d (t ∷ ts) l a h = reached-last c r hidden (nextOf r d t (sizeOf c t)) ts l (a .1) (reached-next c r hidden d t l (a .0 .sized .some) h)
 

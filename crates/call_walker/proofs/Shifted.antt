@@ -1,14 +1,13 @@
 -- A span moves with its offset in the area: a step may start from offset 0 of the part of the area that starts at its own. Assumes nothing.
-use mathlib.Core.Path.{_≡_, refl, sym, ap}
-use mathlib.Core.Bool.{Bool, true, false, _&&_}
+use mathlib.Core.Path.{_≡_, refl}
+use mathlib.Core.Bool.{Bool, true, false}
 use mathlib.Core.List.{List}
 use Prim.Native.Nat.{ℕ, _+_, _-_, _≤_, _<_}
 use native.Mathlib.Omega.{arith}
 use borrow.Author.Tests.{ltb-true, ltb-false, lt-ltb, le-ltb}
 use lib.Dec.{ltb}
-use lib.ListN.{length, take, drop, length-drop}
-use lib.Seq.{drop-drop}
-use Rattle.base_words.specs.Splice.{part}
+use lib.ListN.{length, drop, length-drop}
+use Rattle.base_words.proofs.Splices.{part-from}
 use Rattle.sig_types.specs.declared.ValueType.{ValueType}
 use Rattle.plan_places.specs.declared.Cursor.{Cursor}
 use Rattle.plan_places.specs.declared.Span.{Span}
@@ -17,9 +16,8 @@ use Rattle.plan_places.specs.declared.ZClass.{ZClass}
 use Rattle.plan_places.specs.Power.{powerShare}
 use Rattle.plan_places.specs.ZSeries.{zClass, zSpanOf}
 use Rattle.plan_places.specs.Step.{spanOf}
-use Rattle.call_slots.specs.declared.Answer.{Answer}
 use Rattle.call_slots.specs.Buffers.{Buffers, buffers, bytesAt}
-use Rattle.call_slots.specs.Placements.{placement, wordsAt, floatAt, wordsValue, valueAt}
+use Rattle.call_slots.specs.Placements.{placement, wordsAt, wordsValue, valueAt}
 use Rattle.call_slots.specs.Refusals.{firstOf}
 use Rattle.call_read.specs.Read.{ownHeld, agrees, argumentAnswer}
 use Rattle.call_walker.specs.Step.{passes, stepTests}
@@ -42,10 +40,6 @@ span-shifts CallRules.Z k t n = z-shifts k (zClass t n) n
 -- the buffers, of the area the part from d on
 abbrev pub areaFrom : ℕ → Buffers → Buffers
 areaFrom d b = buffers (b .image) (drop d (b .area)) (b .copies)
-
--- bytes of the area from d + n on
-part-from : (d n m : ℕ) (l : List ℕ) → part (d + n) m l ≡ part n m (drop d l)
-part-from d n m l = ap (take m) (sym (drop-drop n d l))
 
 -- places that pass the area pass its part, and the other way round
 passes-shift : (d : ℕ) (s s′ : Span) (l : List ℕ) → Shifted d s s′ → passes s (length l) ≡ passes s′ (length (drop d l))

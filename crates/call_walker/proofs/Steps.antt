@@ -1,48 +1,38 @@
 -- One step: what it asks of an argument is there, and a step where an argument of a call stands answers as reading does. Assumes nothing.
-use mathlib.Core.Path.{_≡_, refl, sym, ap, ap₂, _∙_}
-use mathlib.Core.Bool.{Bool, true, false, _&&_}
-use mathlib.Core.List.{List, [], _∷_}
-use Prim.Native.Nat.{ℕ, _+_, _-_, _*_, _^_, _≤_, _<_}
+use mathlib.Core.Path.{_≡_, refl, sym, ap, _∙_}
+use mathlib.Core.Bool.{Bool, false, _&&_}
+use Prim.Native.Nat.{ℕ, _+_, _-_, _≤_}
 use native.Mathlib.Omega.{arith}
-use borrow.Author.Tests.{eq-eqb, lt-ltb, le-ltb, ltb-true, ltb-false}
+use borrow.Author.Tests.{eq-eqb, le-ltb}
 use lib.Dec.{ltb}
 use lib.ListN.{length}
-use Rattle.base_words.specs.Basics.{pick}
 use Rattle.base_words.proofs.Tests.{and-no}
 use Rattle.base_conventions.specs.declared.Convention.{Convention}
 use Rattle.sig_types.specs.declared.ValueType.{ValueType}
-use Rattle.sig_types.specs.Sizes.{sizeOf, Sized}
-use Rattle.sig_types.specs.Trees.{Tree, none, _▸_, typeOf}
-use Rattle.sig_types.specs.Limits.{AllSized}
+use Rattle.sig_types.specs.Sizes.{sizeOf}
 use Rattle.plan_places.specs.declared.Cursor.{Cursor}
 use Rattle.plan_places.specs.declared.CallRules.{CallRules}
 use Rattle.plan_places.specs.declared.Span.{Span}
 use Rattle.plan_places.specs.declared.ZClass.{ZClass}
 use Rattle.plan_places.specs.Values.{cursor}
-use Rattle.plan_places.specs.Power.{powerShare, unclear}
+use Rattle.plan_places.specs.Power.{powerShare}
 use Rattle.plan_places.specs.ZSeries.{zClass, zNextOf}
 use Rattle.plan_places.specs.Step.{rulesOf, spanOf, nextOf, unclearFor}
 use Rattle.plan_places.specs.Helpers.{LawfulCalls}
 use Rattle.plan_places.proofs.Between.{step-between}
 use Rattle.plan_places.proofs.Marked.{next-marked}
-use Rattle.sig_signatures.specs.Types.{typesOf}
-use Rattle.call_slots.specs.declared.Answer.{Answer}
+use Rattle.plan_places.proofs.Bounds.{unclear-floating}
+use Rattle.call_slots.specs.declared.CallAnswer.{CallAnswer}
 use Rattle.call_slots.specs.Buffers.{Buffers}
 use Rattle.call_slots.specs.Placements.{placement, valueAt}
-use Rattle.call_slots.specs.Refusals.{firstOf, orElse}
-use Rattle.call_slots.proofs.Typed.{Typed, AllTyped, all-typed}
+use Rattle.call_slots.specs.Refusals.{firstOf}
 use Rattle.call_read.specs.Read.{argumentAnswer}
 use Rattle.call_walker.specs.declared.Walker.{Walker}
-use Rattle.call_walker.specs.Walker.{cursorAt, countersOf, walker, cursorOf}
-use Rattle.call_walker.specs.Step.{sizeBy, rulesBy, asked, passes, stepTests, stepAnswer, stepValue, stepOn}
-use Rattle.call_walker.specs.Helpers.{local, Shifted}
-use Rattle.call_walker.proofs.Shifted.{areaFrom, span-shifts, value-shift, answer-shift}
+use Rattle.call_walker.specs.Walker.{countersOf, walker, cursorOf}
+use Rattle.call_walker.specs.Step.{rulesBy, asked, passes, stepTests, stepAnswer, stepValue, stepOn}
+use Rattle.call_walker.specs.Helpers.{local}
+use Rattle.call_walker.proofs.Shifted.{span-shifts, value-shift, answer-shift}
 use Rattle.call_walker.proofs.Reached.{Reached, reached-cursor}
-
--- a type within the limits has its float's size
-pub typed : (c : Convention) (t : Tree) → Sized c (typeOf c t) → Typed c (typeOf c t)
-unfolding AllSized AllTyped typesOf
-typed c t h = all-typed c (none ▸ t) (tt, h) .0
 
 -- ---- a walker where a call's cursor is: copies have no counter, and nobody looks at them
 
@@ -59,11 +49,6 @@ next-uncopied : (r : CallRules) (d : Cursor) (t : ValueType) (n : ℕ) → count
 unfolding nextOf powerShare countersOf
 next-uncopied (CallRules.Power f) d t n = refl
 next-uncopied CallRules.Z d t n = z-uncopied d (zClass t n) n
-
-clear-uncopied : (r : CallRules) (d : Cursor) (t : ValueType) → unclearFor r (uncopied d) t ≡ unclearFor r d t
-unfolding unclearFor unclear
-clear-uncopied (CallRules.Power f) d t = refl
-clear-uncopied CallRules.Z d t = refl
 
 module _ (r : CallRules) (base : ℕ) (d : Cursor) (t : ValueType) (n : ℕ) (b : Buffers) where
   answer-uncopied : argumentAnswer r base (placement t n (spanOf r (uncopied d) t n)) b ≡ argumentAnswer r base (placement t n (spanOf r d t n)) b
@@ -105,12 +90,12 @@ module _ (c : Convention) (v hidden : Bool) (d : Cursor) (h : Reached (rulesOf c
   at-cursor = reached-cursor (rulesOf c) hidden d l h
 
   pub step-done : unclearFor (rulesOf c) d t ≡ false → length (b .image) ≡ 512 → nextOf (rulesOf c) d t (sizeOf c t) .stack ≤ length (b .area)
-      → argumentAnswer (rulesBy here) base (placement t (sizeOf c t) (spanOf (rulesBy here) d t (sizeOf c t))) b ≡ Answer.Done
-      → (m : ℕ) → m ≡ sizeOf c t → stepAnswer here t m base b ≡ Answer.Done
+      → argumentAnswer (rulesBy here) base (placement t (sizeOf c t) (spanOf (rulesBy here) d t (sizeOf c t))) b ≡ CallAnswer.Done
+      → (m : ℕ) → m ≡ sizeOf c t → stepAnswer here t m base b ≡ CallAnswer.Done
   unfolding stepAnswer stepTests firstOf asked
   step-done clear image area done m size =
       let inside = inside-passes (rulesBy here) (uncopied d) t (sizeOf c t) (length (b .area)) (omega (arith, next-stack (rulesBy here) d t (sizeOf c t), ap (λ (k : Cursor). k .stack) (next-marked v (rulesOf c) d t (sizeOf c t)))) in
-      rw (at-cursor, clear-uncopied (rulesOf c) d t ∙ clear, eq-eqb (length (b .image)) 512 image, eq-eqb m (sizeOf c t) size, inside) (answer-uncopied (rulesBy here) base d t (sizeOf c t) b ∙ done)
+      rw (at-cursor, unclear-floating (rulesOf c) (uncopied d) d t refl ∙ clear, eq-eqb (length (b .image)) 512 image, eq-eqb m (sizeOf c t) size, inside) (answer-uncopied (rulesBy here) base d t (sizeOf c t) b ∙ done)
 
   pub step-value : stepValue here t base b ≡ valueAt (rulesBy here) base (placement t (sizeOf c t) (spanOf (rulesBy here) d t (sizeOf c t))) b
   unfolding asked

@@ -2,30 +2,30 @@
 use mathlib.Core.Path.{_≡_, refl, sym, ap, ap₂, _∙_, subst}
 use mathlib.Core.Bool.{Bool, true, false}
 use mathlib.Core.List.{List, [], _∷_, _++_, map}
-use Prim.Native.Nat.{ℕ, zero, suc, _+_, _-_, _*_, _/_, _^_, _≤_, _<_}
+use Prim.Native.Nat.{ℕ, zero, suc, _+_, _-_, _/_, _≤_}
 use native.Mathlib.Omega.{arith}
 use native.Mathlib.Nat.{div-le-self}
-use lib.ListN.{length, take, drop, length-append, length-drop}
+use lib.ListN.{length, take, drop, length-drop}
 use lib.Seq.{length-take-le}
 use Rattle.base_words.specs.Basics.{pick, All}
 use Rattle.base_words.specs.Splice.{overlay}
 use Rattle.base_words.proofs.Splices.{overlay-whole}
+use Rattle.base_words.proofs.Each.{each-both}
+use Rattle.base_words.proofs.Basics.{map-append}
 use Rattle.base_conventions.specs.declared.Convention.{Convention}
 use Rattle.sig_types.specs.declared.ValueType.{ValueType}
 use Rattle.sig_types.specs.Sizes.{sizeOf}
-use Rattle.sig_types.specs.Trees.{Tree, Trees, none, _▸_, typeOf, countOf}
+use Rattle.sig_types.specs.Trees.{Tree, Trees, none, _▸_, typeOf}
 use Rattle.sig_types.specs.Limits.{TypeWithin, AllWithin}
 use Rattle.sig_types.proofs.Sized.{within-sized}
 use Rattle.sig_items.specs.Reading.{Reading, got, no}
-use Rattle.sig_items.specs.Encode.{encodeTree, encodeTrees, itemsOf}
+use Rattle.sig_items.specs.Encode.{encodeTree, encodeTrees}
 use Rattle.sig_items.proofs.Trees.{length-more}
-use Rattle.sig_signatures.specs.declared.Outcome.{Outcome}
 use Rattle.sig_signatures.specs.declared.ResultType.{ResultType}
 use Rattle.sig_signatures.specs.Signature.{Signature}
-use Rattle.sig_signatures.specs.Limits.{maxLength, maxArguments}
+use Rattle.sig_signatures.specs.Limits.{maxLength}
 use Rattle.sig_signatures.specs.Read.{signatureOf}
 use Rattle.sig_signatures.specs.Answer.{resultType, signatureAnswer}
-use Rattle.sig_signatures.specs.Encode.{encode}
 use Rattle.sig_signatures.proofs.Sound.{length-encode}
 use Rattle.sig_signatures.proofs.Theorems.{accepted}
 use Rattle.sig_signatures.specs.Types.{valuesOf, typesOf}
@@ -33,38 +33,35 @@ use Rattle.sig_signatures.proofs.Types.{length-of-types}
 use Rattle.plan_places.specs.declared.Cursor.{Cursor}
 use Rattle.plan_places.specs.declared.CallRules.{CallRules}
 use Rattle.plan_places.specs.Step.{rulesOf, spanOf, nextOf, unclearFor, startOf}
-use Rattle.plan_places.specs.Helpers.{LawfulCalls, Roomy}
+use Rattle.plan_places.specs.Helpers.{LawfulCalls}
 use Rattle.plan_places.proofs.Bounds.{rules-lawful, area-holds}
 use Rattle.plan_places.proofs.Marked.{next-marked}
-use Rattle.plan_plans.specs.declared.Plan.{Plan}
 use Rattle.plan_plans.specs.Plan.{spansOf, lastOf, hiddenIn, startIn, lastCursorIn, planIn, planAnswer}
-use Rattle.plan_plans.specs.Call.{firstUnclear, unclearIn, clearRead, called, outcomeFor}
+use Rattle.plan_plans.specs.Call.{firstUnclear, unclearIn, clearRead, called}
 use Rattle.plan_plans.proofs.Fold as fold
-use Rattle.call_slots.specs.declared.Answer as call
+use Rattle.call_slots.specs.declared.CallAnswer.{CallAnswer}
 use Rattle.call_slots.specs.Buffers.{Buffers}
 use Rattle.call_slots.specs.Placements.{Placement, placement, placements, valueAt, valuesAt}
-use Rattle.call_slots.specs.Helpers.{sizesOf}
 use Rattle.call_slots.specs.Refusals.{firstOf, orElse, firstOfAll, afterReading}
 use Rattle.call_slots.specs.Arguments.{rulesIn, placementsIn, argumentsOf}
-use Rattle.call_slots.proofs.Typed.{Typed, AllTyped, all-typed}
+use Rattle.call_slots.proofs.Typed.{Typed, all-typed}
 use Rattle.call_slots.proofs.Answered.{planned-values, arguments-got}
 use Rattle.call_slots.proofs.Planned.{placements-sizes}
 use Rattle.call_slots.proofs.Refusals.{or-done}
 use Rattle.call_unmarshal.specs.Helpers.{InBuffers, Readable}
 use Rattle.call_unmarshal.proofs.Arguments.{value-length, length-values}
 use Rattle.call_read.specs.declared.ReadLengths.{ReadLengths}
-use Rattle.call_read.specs.Read.{readLengths, argumentAnswer, argumentsAnswer, readTests, readAnswer, readValues}
+use Rattle.call_read.specs.Read.{readLengths, argumentsAnswer, readTests, readAnswer, readValues}
 use Rattle.call_read.proofs.Accepted.{Lent, tests-passed, each-ready}
 use Rattle.call_read.proofs.Arguments.{all-readable}
-use Rattle.call_walker.specs.declared.Answer.{Answer}
-use Rattle.call_walker.specs.declared.Counters.{Counters}
+use Rattle.call_walker.specs.declared.WalkerAnswer.{WalkerAnswer}
 use Rattle.call_walker.specs.declared.Walker.{Walker}
 use Rattle.call_walker.specs.declared.WalkerRead.{WalkerRead}
 use Rattle.call_walker.specs.Walker.{countersOf, walker, walkerOf, lost}
 use Rattle.call_walker.specs.Step.{rulesBy, typeItem, stepAnswer, stepValue, stepOn}
-use Rattle.call_walker.specs.Words.{Walked, walked, walkerWords, stepBy, stepFor, itemBy, walkBy, walk, startWords}
-use Rattle.call_walker.specs.Walks.{Small, inOrder, followedBy, walkOver, walkWhole, SameWalk, WalksAlike}
-use Rattle.call_walker.proofs.Reached.{Possible, Reached, reached-start, reached-next, reached-possible}
+use Rattle.call_walker.specs.Words.{WalkerOutcome, walkerOutcome, walkerWords, stepBy, stepFor, walkByItem, walkBy, walkerStep}
+use Rattle.call_walker.specs.Walks.{Small, inOrder, followedBy, walkOver, SameWalk, WalksAlike}
+use Rattle.call_walker.proofs.Reached.{Reached, reached-start, reached-next, reached-possible}
 use Rattle.call_walker.proofs.Exactly.{possible-found}
 use Rattle.call_walker.proofs.Words.{words-back, item-back}
 use Rattle.call_walker.proofs.Steps.{step-done, step-value, step-on}
@@ -73,14 +70,14 @@ use Rattle.call_walker.proofs.Steps.{step-done, step-value, step-on}
 
 -- a step that is accepted
 walk-step : (w : Walker) (t : Tree) (s : List ℕ) (next n base : ℕ) (b : Buffers) (v : List ℕ) → lost w ≡ false → typeItem (w .convention) s ≡ got t next n
-    → stepAnswer w (typeOf (w .convention) t) (length v) base b ≡ call.Answer.Done
-    → walk (walkerWords w) s base b v
-    ≡ walked (Answer.Called call.Answer.Done) (walkerWords (stepOn w (typeOf (w .convention) t))) (overlay v (stepValue w (typeOf (w .convention) t) base b))
-unfolding walk stepFor
+    → stepAnswer w (typeOf (w .convention) t) (length v) base b ≡ CallAnswer.Done
+    → walkerStep (walkerWords w) s base b v
+    ≡ walkerOutcome (WalkerAnswer.Called CallAnswer.Done) (walkerWords (stepOn w (typeOf (w .convention) t))) (overlay v (stepValue w (typeOf (w .convention) t) base b))
+unfolding walkerStep stepFor
 walk-step w t s next n base b v found read done =
     ap (λ (x : WalkerRead). walkBy x (walkerWords w) s base b v) (words-back w found)
-    ∙ ap (λ (x : Reading Tree). itemBy x (walkerWords w) w base b v) read
-    ∙ ap (λ (x : call.Answer). stepBy x (walkerWords w) w (typeOf (w .convention) t) base b v) done
+    ∙ ap (λ (x : Reading Tree). walkByItem x (walkerWords w) w base b v) read
+    ∙ ap (λ (x : CallAnswer). stepBy x (walkerWords w) w (typeOf (w .convention) t) base b v) done
 
 -- counters of a small cursor
 small-counters : (r : CallRules) (hidden : Bool) (d : Cursor) → Reached r hidden d → d .stack ≤ 60000 → Small (countersOf r d)
@@ -94,20 +91,9 @@ clear-first : (u : Bool) (i m : ℕ) → pick u (suc i) m ≡ 0 → (u ≡ false
 clear-first true i m e = absurd (omega arith)
 clear-first false i m e = (refl, e)
 
--- types within the limits, whose bytes are no longer than an item's may be
-AllAsked : Convention → List Tree → Type 0
-AllAsked c [] = Unit {0}
-AllAsked c (t ∷ ts) = TypeWithin c t × (length (encodeTree t) ≤ maxLength) × AllAsked c ts
-
--- what nothing refuses can be read, and its value has its size
-AllSizes : CallRules → ℕ → List Placement → Buffers → Type 0
-AllSizes r base [] b = Unit {0}
-AllSizes r base (p ∷ ps) b = (length (valueAt r base p b) ≡ p .size) × AllSizes r base ps b
-
-all-sizes : (r : CallRules) (base : ℕ) (ps : List Placement) (b : Buffers) → All (λ (p : Placement). Readable r base p b) ps → AllSizes r base ps b
-unfolding All AllSizes
-all-sizes r base [] b h = tt
-all-sizes r base (p ∷ ps) b h = (value-length r base p b (h .0), all-sizes r base ps b (h .1))
+-- a type within the limits, whose bytes are no longer than an item's may be
+abbrev Asked : Convention → Tree → Type 0
+Asked c t = TypeWithin c t × (length (encodeTree t) ≤ maxLength)
 
 -- ---- the whole walk, from any cursor that arguments lead to
 
@@ -131,14 +117,14 @@ module _ (c : Convention) (e hidden : Bool) (base : ℕ) (b : Buffers) (image : 
   abbrev argumentsAt : Cursor → List Tree → List Placement
   argumentsAt d ts = placements c (typesIn ts) (spansOf c marked d (typesIn ts))
 
-  walk-fold : (ts : List Tree) (d : Cursor) (i : ℕ) (v : List ℕ) → AllAsked c ts → Reached r hidden d → firstUnclear c r d i (typesIn ts) ≡ 0
-      → lastOf c r d (typesIn ts) .stack ≤ 60000 → lastOf c r d (typesIn ts) .stack ≤ length (b .area) → argumentsAnswer marked base (argumentsAt d ts) b ≡ call.Answer.Done
-      → AllSizes marked base (argumentsAt d ts) b → length v ≡ valuesOf c (typesIn ts)
-      → (walkOver c (walkerWords (at d)) ts base b v .answer ≡ Answer.Called call.Answer.Done)
+  walk-fold : (ts : List Tree) (d : Cursor) (i : ℕ) (v : List ℕ) → All (Asked c) ts → Reached r hidden d → firstUnclear c r d i (typesIn ts) ≡ 0
+      → lastOf c r d (typesIn ts) .stack ≤ 60000 → lastOf c r d (typesIn ts) .stack ≤ length (b .area) → argumentsAnswer marked base (argumentsAt d ts) b ≡ CallAnswer.Done
+      → All (λ (p : Placement). Readable marked base p b) (argumentsAt d ts) → length v ≡ valuesOf c (typesIn ts)
+      → (walkOver c (walkerWords (at d)) ts base b v .answer ≡ WalkerAnswer.Called CallAnswer.Done)
       × (walkOver c (walkerWords (at d)) ts base b v .value ≡ valuesAt marked base (argumentsAt d ts) b)
-  unfolding walkOver firstUnclear lastOf spansOf placements argumentsAnswer firstOfAll valuesAt valuesOf AllAsked AllSizes
-  walk-fold [] d i v a h clear small area done sized size = (refl, refl)
-  walk-fold (t ∷ ts) d i v a h clear small area done sized size =
+  unfolding walkOver firstUnclear lastOf spansOf placements argumentsAnswer firstOfAll valuesAt valuesOf All
+  walk-fold [] d i v a h clear small area done readable size = (refl, refl)
+  walk-fold (t ∷ ts) d i v a h clear small area done readable size =
       let l = rules-lawful c in
       let ty : ValueType = typeOf c t in
       let n : ℕ = sizeOf c ty in
@@ -153,45 +139,36 @@ module _ (c : Convention) (e hidden : Bool) (base : ℕ) (b : Buffers) (image : 
       let found = possible-found (at d) (small-counters r hidden d h (omega (arith, small, on, fold.last-forward c r d (ty ∷ [])))) (reached-possible r hidden d l h) in
       let answer = step-done c e hidden d h l ty base b (known .0) image (omega (arith, area, on)) (each .0) (length (take n v)) into in
       let value : overlay (take n v) (stepValue (at d) ty base b) ≡ valueAt marked base p b =
-      ap (overlay (take n v)) (step-value c e hidden d h l ty base b) ∙ overlay-whole (take n v) (valueAt marked base p b) (into ∙ sym (sized .0)) in
-      let first : walk (walkerWords (at d)) (encodeTree t) base b (take n v) ≡ walked (Answer.Called call.Answer.Done) (walkerWords (at next)) (valueAt marked base p b) =
-      walk-step (at d) t (encodeTree t) _ _ base b (take n v) found (item-back c t (a .0) (a .1)) answer
-      ∙ ap₂ (walked (Answer.Called call.Answer.Done)) (ap walkerWords (step-on c e hidden d h l ty base b)) value in
-      let rest = walk-fold ts next (suc i) (drop n v) (a .2) (reached-next c r hidden d ty l (within-sized c t (a .0) .some) h) (known .1) small area
-      (subst (λ (x : List Placement). argumentsAnswer marked base x b ≡ call.Answer.Done) same (each .1))
-      (subst (λ (x : List Placement). AllSizes marked base x b) same (sized .1)) (omega (arith, length-drop n v)) in
-      let whole = ap (λ (o : Walked). followedBy (o .answer) o (walkOver c (o .words) ts base b (drop n v))) first in (
-        ap (λ (o : Walked). o .answer) whole ∙ rest .0,
-        ap (λ (o : Walked). o .value) whole ∙ ap (λ (x : List ℕ). valueAt marked base p b ++ x) (rest .1 ∙ ap (λ (x : List Placement). valuesAt marked base x b) (sym same)),
+      ap (overlay (take n v)) (step-value c e hidden d h l ty base b) ∙ overlay-whole (take n v) (valueAt marked base p b) (into ∙ sym (value-length marked base p b (readable .0))) in
+      let first : walkerStep (walkerWords (at d)) (encodeTree t) base b (take n v) ≡ walkerOutcome (WalkerAnswer.Called CallAnswer.Done) (walkerWords (at next)) (valueAt marked base p b) =
+      walk-step (at d) t (encodeTree t) _ _ base b (take n v) found (item-back c t (a .0 .0) (a .0 .1)) answer
+      ∙ ap₂ (walkerOutcome (WalkerAnswer.Called CallAnswer.Done)) (ap walkerWords (step-on c e hidden d h l ty base b)) value in
+      let rest = walk-fold ts next (suc i) (drop n v) (a .1) (reached-next c r hidden d ty l (within-sized c t (a .0 .0) .some) h) (known .1) small area
+      (subst (λ (x : List Placement). argumentsAnswer marked base x b ≡ CallAnswer.Done) same (each .1))
+      (subst (All (λ (p : Placement). Readable marked base p b)) same (readable .1)) (omega (arith, length-drop n v)) in
+      let whole = ap (λ (o : WalkerOutcome). followedBy (o .answer) o (walkOver c (o .words) ts base b (drop n v))) first in (
+        ap (λ (o : WalkerOutcome). o .answer) whole ∙ rest .0,
+        ap (λ (o : WalkerOutcome). o .value) whole ∙ ap (λ (x : List ℕ). valueAt marked base p b ++ x) (rest .1 ∙ ap (λ (x : List Placement). valuesAt marked base x b) (sym same)),
       )
 
 -- ---- a whole signature
 
-types-append : (c : Convention) (ts us : List Tree) → map (typeOf c) (ts ++ us) ≡ map (typeOf c) ts ++ map (typeOf c) us
-types-append c [] us = refl
-types-append c (t ∷ ts) us = ap (λ (x : List ValueType). typeOf c t ∷ x) (types-append c ts us)
-
 types-order : (c : Convention) (ts : Trees) → map (typeOf c) (inOrder ts) ≡ typesOf c ts
 unfolding inOrder typesOf
 types-order c none = refl
-types-order c (ts ▸ t) = types-append c (inOrder ts) (t ∷ []) ∙ ap (λ (x : List ValueType). x ++ typeOf c t ∷ []) (types-order c ts)
+types-order c (ts ▸ t) = map-append (typeOf c) (inOrder ts) (t ∷ []) ∙ ap (λ (x : List ValueType). x ++ typeOf c t ∷ []) (types-order c ts)
 
-asked-append : (c : Convention) (ts us : List Tree) → AllAsked c ts → AllAsked c us → AllAsked c (ts ++ us)
-unfolding AllAsked
-asked-append c [] us h k = k
-asked-append c (t ∷ ts) us h k = (h .0, h .1, asked-append c ts us (h .2) k)
-
-all-asked : (c : Convention) (ts : Trees) → AllWithin c ts → length (encodeTrees ts) ≤ maxLength → AllAsked c (inOrder ts)
-unfolding AllAsked inOrder AllWithin
+all-asked : (c : Convention) (ts : Trees) → AllWithin c ts → length (encodeTrees ts) ≤ maxLength → All (Asked c) (inOrder ts)
+unfolding All inOrder AllWithin
 all-asked c none w h = tt
 all-asked c (ts ▸ t) w h =
     let more = length-more ts t in
-    asked-append c (inOrder ts) (t ∷ []) (all-asked c ts (w .0) (omega arith)) (w .1, omega arith, tt)
+    each-both (Asked c) (inOrder ts) (t ∷ []) (all-asked c ts (w .0) (omega arith)) ((w .1, omega arith), tt)
 
 -- the cursors of a call have small offsets
-last-reached : (c : Convention) (r : CallRules) (d : Cursor) (ts : List ValueType) (v i : ℕ) → LawfulCalls r → AllTyped c ts → fold.Reached r d v i
+last-reached : (c : Convention) (r : CallRules) (d : Cursor) (ts : List ValueType) (v i : ℕ) → LawfulCalls r → All (Typed c) ts → fold.Reached r d v i
     → fold.Reached r (lastOf c r d ts) (v + valuesOf c ts) (i + length ts)
-unfolding lastOf valuesOf AllTyped
+unfolding lastOf valuesOf All
 last-reached c r d [] v i l a h =
     let x : v + 0 ≡ v = omega arith in
     let y : i + 0 ≡ i = omega arith in
@@ -202,16 +179,16 @@ last-reached c r d (t ∷ ts) v i l a h =
     rw (x, y) (last-reached c r (nextOf r d t (sizeOf c t)) ts (v + sizeOf c t) (i + 1) l (a .1) (fold.reached-more r d v i t (sizeOf c t) l (a .0 .sized .small) h))
 
 -- what is accepted passed its reading, with no argument unclear
-accepted-clear : (g : Signature) (next n : ℕ) (x : call.Answer) → afterReading (planAnswer (called (got g next n)) .outcome) x ≡ call.Answer.Done
-    → (unclearIn g ≡ 0) × (x ≡ call.Answer.Done)
+accepted-clear : (g : Signature) (next n : ℕ) (x : CallAnswer) → afterReading (planAnswer (called (got g next n)) .outcome) x ≡ CallAnswer.Done
+    → (unclearIn g ≡ 0) × (x ≡ CallAnswer.Done)
 unfolding called planAnswer planIn
 accepted-clear g next n x e = go (unclearIn g) e
   where
-    go : (u : ℕ) → afterReading (planAnswer (clearRead u g next n) .outcome) x ≡ call.Answer.Done → (u ≡ 0) × (x ≡ call.Answer.Done)
+    go : (u : ℕ) → afterReading (planAnswer (clearRead u g next n) .outcome) x ≡ CallAnswer.Done → (u ≡ 0) × (x ≡ CallAnswer.Done)
     go zero q = (refl, q)
     go (suc i) q = let z : _≡_ {A = ℕ} 0 1 = cc in absurd (omega arith)
 
-accepted-read : (f : _) (x : call.Answer) → afterReading (planAnswer (called (no f)) .outcome) x ≡ call.Answer.Done → ⊥
+accepted-read : (f : _) (x : CallAnswer) → afterReading (planAnswer (called (no f)) .outcome) x ≡ CallAnswer.Done → ⊥
 unfolding called planAnswer
 accepted-read f x e = let z : _≡_ {A = ℕ} 0 1 = cc in omega arith
 
@@ -229,7 +206,7 @@ walks-alike s ws base b v accept = go (signatureOf s) refl accept
     go : (x : Reading Signature) → signatureOf s ≡ x
         → afterReading (planAnswer (called x) .outcome)
         (orElse (firstOf (readTests have (planAnswer x .values) (planAnswer x .area)))
-        (argumentsAnswer (rulesIn (signatureAnswer x)) base (placementsIn (signatureAnswer x) (planAnswer x)) b)) ≡ call.Answer.Done
+        (argumentsAnswer (rulesIn (signatureAnswer x)) base (placementsIn (signatureAnswer x) (planAnswer x)) b)) ≡ CallAnswer.Done
         → SameWalk s ws base b v
     go (no f) e y = absurd (accepted-read f _ y)
     go (got g next n) e y =
@@ -251,10 +228,9 @@ walks-alike s ws base b v accept = go (signatureOf s) refl accept
         let same : placementsIn (signatureAnswer (got g next n)) (planAnswer (got g next n)) ≡ ps =
         arguments-got g next n ∙ ap (λ (z : List ValueType). placements c z (spansOf c r k z)) (sym order) in
         let whole : argumentsOf s ≡ ps = ap (λ (z : Reading Signature). placementsIn (signatureAnswer z) (planAnswer z)) e ∙ same in
-        let done : argumentsAnswer r base ps b ≡ call.Answer.Done = subst (λ (z : List Placement). argumentsAnswer r base z b ≡ call.Answer.Done) same (both .1) in
+        let done : argumentsAnswer r base ps b ≡ CallAnswer.Done = subst (λ (z : List Placement). argumentsAnswer r base z b ≡ CallAnswer.Done) same (both .1) in
         let ready = each-ready s (rulesIn (signatureAnswer (got g next n))) (length (b .image)) (length (b .area)) (sym (ap (λ (x : Reading Signature). rulesIn (signatureAnswer x)) e)) (lent .image) (rw e (lent .area)) in
         let readable = all-readable r base b ps (subst (All (InBuffers r (length (b .image)) (length (b .area)))) whole ready) done in
-        let sized = all-sizes r base ps b readable in
         let size : length v ≡ valuesOf c types = lent .values ∙ (sym (planned-values n c mark q (typesOf c (g .arguments))) ∙ ap (valuesOf c) (sym order)) in
         let short = length-encode g in
         let asked = all-asked c (g .arguments) (a .within .arguments) (omega (arith, short, a .within .short)) in
@@ -265,10 +241,10 @@ walks-alike s ws base b v accept = go (signatureOf s) refl accept
         let few = a .within .few in
         let small : lastCursorIn c q (typesOf c (g .arguments)) .stack ≤ 60000 = omega (arith, bounds .stack, length-of-types c (g .arguments), few) in
         let room : lastCursorIn c q (typesOf c (g .arguments)) .stack ≤ length (b .area) = omega (arith, plan-area n c mark q (typesOf c (g .arguments)), lent .area) in
-        let walk = walk-fold c mark hidden base b (lent .image) ts k 0 v asked (reached-start (rulesOf c) hidden l) clear (rw last small) (rw last room) done sized size in
+        let walkerStep = walk-fold c mark hidden base b (lent .image) ts k 0 v asked (reached-start (rulesOf c) hidden l) clear (rw last small) (rw last room) done readable size in
         let total : length v ≡ length (valuesAt r base ps b) = size ∙ sym (length-values r base ps b readable ∙ placements-sizes c r k types) in
         record {
           start = rw e;
-          answer = rw e (walk .0);
-          values = rw e (walk .1 ∙ sym (ap (λ (z : List Placement). overlay v (valuesAt r base z b)) same ∙ overlay-whole v (valuesAt r base ps b) total));
+          answer = rw e (walkerStep .0);
+          values = rw e (walkerStep .1 ∙ sym (ap (λ (z : List Placement). overlay v (valuesAt r base z b)) same ∙ overlay-whole v (valuesAt r base ps b) total));
         }

@@ -8,6 +8,7 @@ use borrow.Author.Tests.{le-ltb}
 use lib.Dec.{leb, eqb}
 use lib.ListN.{length}
 use Rattle.base_words.specs.Basics.{pick, flag}
+use Rattle.base_words.proofs.Tests.{flag-leb, flag-eqb}
 use Rattle.base_conventions.specs.declared.Convention.{Convention}
 use Rattle.base_conventions.specs.declared.ConventionCode.{ConventionCode}
 use Rattle.base_conventions.specs.Numbers.{codeOf, conventionCode}
@@ -27,20 +28,12 @@ use Rattle.call_walker.specs.Walker.{walker, lost}
 use Rattle.call_walker.specs.Step.{typeItem}
 use Rattle.call_walker.specs.Words.{unlost, walkerBy, walkerIn, walkerWords}
 
-mark-small : (b : Bool) → leb (flag b) 1 ≡ true
-mark-small true = refl
-mark-small false = refl
-
-mark-back : (b : Bool) → eqb (flag b) 1 ≡ b
-mark-back true = refl
-mark-back false = refl
-
 -- its own words are read as a walker that is not lost
 pub words-back : (w : Walker) → lost w ≡ false → walkerIn (walkerWords w) ≡ WalkerRead.Walker w
 unfolding walkerIn walkerWords
 words-back w h =
     ap (λ (k : ConventionCode). walkerBy k (walkerWords w)) (code-back (w .convention))
-    ∙ rw (mark-small (w .ellipsis), mark-small (w .hidden), mark-back (w .ellipsis), mark-back (w .hidden), h)
+    ∙ rw (flag-leb (w .ellipsis), flag-leb (w .hidden), flag-eqb (w .ellipsis), flag-eqb (w .hidden), h)
 
 -- the bytes of a type within the limits are its item
 pub item-back : (c : Convention) (t : Tree) → TypeWithin c t → length (encodeTree t) ≤ maxLength → typeItem c (encodeTree t) ≡ got t (length (encodeTree t)) (itemsOf t)

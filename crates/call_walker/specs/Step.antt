@@ -10,7 +10,7 @@ use Rattle.base_conventions.specs.declared.Convention.{Convention}
 use Rattle.sig_types.specs.declared.ValueType.{ValueType}
 use Rattle.sig_types.specs.Sizes.{sizeOf, maxDepth}
 use Rattle.sig_types.specs.Trees.{Tree}
-use Rattle.sig_items.specs.declared.Refusal as item
+use Rattle.sig_items.specs.declared.Refusal.{Refusal}
 use Rattle.sig_items.specs.Reading.{Reading, fault, got, no, choose, andThen}
 use Rattle.sig_items.specs.Read.{itemAt}
 use Rattle.sig_signatures.specs.Limits.{maxLength}
@@ -18,8 +18,8 @@ use Rattle.plan_places.specs.declared.CallRules.{CallRules}
 use Rattle.plan_places.specs.declared.Span.{Span}
 use Rattle.plan_places.specs.Step.{rulesOf, withEllipsis, spanOf, nextOf, unclearFor}
 use Rattle.plan_places.specs.Spots.{imageBytes}
-use Rattle.call_slots.specs.declared.Refusal.{Refusal}
-use Rattle.call_slots.specs.declared.Answer.{Answer}
+use Rattle.call_slots.specs.declared.CallRefusal.{CallRefusal}
+use Rattle.call_slots.specs.declared.CallAnswer.{CallAnswer}
 use Rattle.call_slots.specs.Buffers.{Buffers}
 use Rattle.call_slots.specs.Placements.{Placement, placement, valueAt}
 use Rattle.call_slots.specs.Refusals.{Test, test, differ, firstOf, orElse}
@@ -33,8 +33,8 @@ use Rattle.call_walker.specs.Walker.{countersOf, walker, cursorOf}
 -- over (4, 7, 9) are no item": all n headers count.
 unfoldable pub typeItem : Convention → List ℕ → Reading Tree
 typeItem c s =
-    choose (ltb maxLength (length s)) (λ _. no (fault item.Refusal.TooLong 0 0))
-    (λ _. andThen (itemAt c maxDepth s (length s) 0) (λ t next n. pick (ltb next (length s)) (no (fault item.Refusal.Malformed next n)) (got t next n)))
+    choose (ltb maxLength (length s)) (λ _. no (fault Refusal.TooLong 0 0))
+    (λ _. andThen (itemAt c maxDepth s (length s) 0) (λ t next n. pick (ltb next (length s)) (no (fault Refusal.Malformed next n)) (got t next n)))
 
 -- ---- the argument that is asked for
 
@@ -56,12 +56,12 @@ passes s l = ltb 0 (s .memory .length) && ltb l (s .memory .start + s .memory .l
 -- 15, 10 and 11: of a type of n bytes with its span, where the value buffer, the image and the area have these lengths
 unfoldable pub stepTests : ℕ → Span → ℕ → ℕ → ℕ → List Test
 stepTests n s value image area =
-    test (differ image imageBytes) Refusal.ImageSize ∷ test (differ value n) Refusal.ValuesSize ∷ test (passes s area) Refusal.AreaTooShort ∷ []
+    test (differ image imageBytes) CallRefusal.ImageSize ∷ test (differ value n) CallRefusal.ValuesSize ∷ test (passes s area) CallRefusal.AreaTooShort ∷ []
 
 -- No. 12: "give new refusal 29 .. a walker stays put on it", at place 0; then 15, 10 and 11; "13, 14 and 26 are as in reading"
-unfoldable pub stepAnswer : Walker → ValueType → ℕ → ℕ → Buffers → Answer
+unfoldable pub stepAnswer : Walker → ValueType → ℕ → ℕ → Buffers → CallAnswer
 stepAnswer w t v base b =
-    pick (unclearFor (rulesOf (w .convention)) (cursorOf w) t) (Answer.Unread (fault item.Refusal.UnclearPlace 0 0))
+    pick (unclearFor (rulesOf (w .convention)) (cursorOf w) t) (CallAnswer.Unread (fault Refusal.UnclearPlace 0 0))
     (orElse (firstOf (stepTests (sizeBy w t) (asked w t .span) v (length (b .image)) (length (b .area)))) (argumentAnswer (rulesBy w) base (asked w t) b))
 
 -- what it fills the value buffer with

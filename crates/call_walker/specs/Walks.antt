@@ -15,14 +15,14 @@ use Rattle.sig_signatures.specs.Read.{signatureOf}
 use Rattle.sig_signatures.specs.Types.{typesOf}
 use Rattle.plan_places.specs.Step.{rulesOf, startOf}
 use Rattle.plan_plans.specs.Plan.{lastOf}
-use Rattle.call_slots.specs.declared.Answer as call
+use Rattle.call_slots.specs.declared.CallAnswer.{CallAnswer}
 use Rattle.call_slots.specs.Buffers.{Buffers}
 use Rattle.call_read.specs.Read.{readLengths, readAnswer, readValues}
-use Rattle.call_walker.specs.declared.Answer.{Answer}
+use Rattle.call_walker.specs.declared.WalkerAnswer.{WalkerAnswer}
 use Rattle.call_walker.specs.declared.Counters.{Counters}
 use Rattle.call_walker.specs.declared.Walker.{Walker}
 use Rattle.call_walker.specs.Walker.{countersOf, lost, maxCounter}
-use Rattle.call_walker.specs.Words.{Walked, walked, walk, walkStartAnswer, startWords}
+use Rattle.call_walker.specs.Words.{WalkerOutcome, walkerOutcome, walkerStep, walkStartAnswer, walkerStartWords}
 
 -- ---- 23: counters "that no arguments, however many, lead to"
 
@@ -53,30 +53,30 @@ inOrder none = []
 inOrder (ts ▸ t) = inOrder ts ++ t ∷ []
 
 -- a step and what follows it, where the step is accepted: the values follow each other
-abbrev pub followedBy : Answer → Walked → Walked → Walked
-followedBy (Answer.Called call.Answer.Done) o rest = walked (rest .answer) (rest .words) (o .value ++ rest .value)
-followedBy (Answer.Called (call.Answer.Unread f)) o rest = o
-followedBy (Answer.Called (call.Answer.Refused r)) o rest = o
-followedBy Answer.Lost o rest = o
+abbrev pub followedBy : WalkerAnswer → WalkerOutcome → WalkerOutcome → WalkerOutcome
+followedBy (WalkerAnswer.Called CallAnswer.Done) o rest = walkerOutcome (rest .answer) (rest .words) (o .value ++ rest .value)
+followedBy (WalkerAnswer.Called (CallAnswer.Unread f)) o rest = o
+followedBy (WalkerAnswer.Called (CallAnswer.Refused r)) o rest = o
+followedBy WalkerAnswer.Lost o rest = o
 
 -- the walk over types, one after the other: each is asked for with its bytes, and with as much of the values v as it has
-unfoldable pub walkOver : Convention → List ℕ → List Tree → ℕ → Buffers → List ℕ → Walked
-walkOver c ws [] base b v = walked (Answer.Called call.Answer.Done) ws []
+unfoldable pub walkOver : Convention → List ℕ → List Tree → ℕ → Buffers → List ℕ → WalkerOutcome
+walkOver c ws [] base b v = walkerOutcome (WalkerAnswer.Called CallAnswer.Done) ws []
 walkOver c ws (t ∷ ts) base b v =
     let n = sizeOf c (typeOf c t) in
-    let o = walk ws (encodeTree t) base b (take n v) in
+    let o = walkerStep ws (encodeTree t) base b (take n v) in
     followedBy (o .answer) o (walkOver c (o .words) ts base b (drop n v))
 
 -- of a signature that was read, walked from its start, whatever the words ws were before
-abbrev pub walkWhole : Reading Signature → List ℕ → ℕ → Buffers → List ℕ → Walked
-walkWhole (got g next n) ws base b v = walkOver (g .convention) (startWords (got g next n) ws) (inOrder (g .arguments)) base b v
-walkWhole (no f) ws base b v = walked (walkStartAnswer (no f)) ws []
+abbrev pub walkWhole : Reading Signature → List ℕ → ℕ → Buffers → List ℕ → WalkerOutcome
+walkWhole (got g next n) ws base b v = walkOver (g .convention) (walkerStartWords (got g next n) ws) (inOrder (g .arguments)) base b v
+walkWhole (no f) ws base b v = walkerOutcome (walkStartAnswer (no f)) ws []
 
 pub record SameWalk (s ws : List ℕ) (base : ℕ) (b : Buffers) (v : List ℕ) : Type 0 where
-  pub start : walkStartAnswer (signatureOf s) ≡ Answer.Called call.Answer.Done
-  pub answer : walkWhole (signatureOf s) ws base b v .answer ≡ Answer.Called call.Answer.Done
-  pub values : walkWhole (signatureOf s) ws base b v .value ≡ readValues s base call.Answer.Done b v
+  pub start : walkStartAnswer (signatureOf s) ≡ WalkerAnswer.Called CallAnswer.Done
+  pub answer : walkWhole (signatureOf s) ws base b v .answer ≡ WalkerAnswer.Called CallAnswer.Done
+  pub values : walkWhole (signatureOf s) ws base b v .value ≡ readValues s base CallAnswer.Done b v
 
 -- of values v, the register image, the area and the copies b
 abbrev pub WalksAlike : Type 0
-WalksAlike = (s ws : List ℕ) (base : ℕ) (b : Buffers) (v : List ℕ) → readAnswer s (readLengths v (b .image) (b .area)) base b ≡ call.Answer.Done → SameWalk s ws base b v
+WalksAlike = (s ws : List ℕ) (base : ℕ) (b : Buffers) (v : List ℕ) → readAnswer s (readLengths v (b .image) (b .area)) base b ≡ CallAnswer.Done → SameWalk s ws base b v

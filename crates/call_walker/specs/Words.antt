@@ -14,9 +14,9 @@ use Rattle.sig_types.specs.Trees.{Tree, typeOf}
 use Rattle.sig_items.specs.Reading.{Reading, got, no}
 use Rattle.sig_signatures.specs.Signature.{Signature}
 use Rattle.sig_signatures.specs.Read.{signatureOf}
-use Rattle.call_slots.specs.declared.Answer as call
+use Rattle.call_slots.specs.declared.CallAnswer.{CallAnswer}
 use Rattle.call_slots.specs.Buffers.{Buffers}
-use Rattle.call_walker.specs.declared.Answer.{Answer}
+use Rattle.call_walker.specs.declared.WalkerAnswer.{WalkerAnswer}
 use Rattle.call_walker.specs.declared.Walker.{Walker}
 use Rattle.call_walker.specs.declared.WalkerRead.{WalkerRead}
 use Rattle.call_walker.specs.Walker.{counters, walker, walkerOf, lost}
@@ -48,45 +48,45 @@ walkerWords w = codeOf (w .convention) ∷ flag (w .ellipsis) ∷ flag (w .hidde
 -- ---- the start
 
 -- the answer and the words after it, ws before: an accepted signature's walker; "A refused start leaves the walker as it was"
-abbrev pub walkStartAnswer : Reading Signature → Answer
-walkStartAnswer (got g next n) = Answer.Called call.Answer.Done
-walkStartAnswer (no f) = Answer.Called (call.Answer.Unread f)
+abbrev pub walkStartAnswer : Reading Signature → WalkerAnswer
+walkStartAnswer (got g next n) = WalkerAnswer.Called CallAnswer.Done
+walkStartAnswer (no f) = WalkerAnswer.Called (CallAnswer.Unread f)
 
-abbrev pub startWords : Reading Signature → List ℕ → List ℕ
-startWords (got g next n) ws = walkerWords (walkerOf g)
-startWords (no f) ws = ws
+abbrev pub walkerStartWords : Reading Signature → List ℕ → List ℕ
+walkerStartWords (got g next n) ws = walkerWords (walkerOf g)
+walkerStartWords (no f) ws = ws
 
 -- ---- a step
 
 -- the answer, and the words and the value buffer afterwards
-pub record Walked : Type 0 where
-  pub answer : Answer
+pub record WalkerOutcome : Type 0 where
+  pub answer : WalkerAnswer
   pub words : List ℕ
   pub value : List ℕ
 
-abbrev pub walked : Answer → List ℕ → List ℕ → Walked
-walked a ws v = record { answer = a; words = ws; value = v }
+abbrev pub walkerOutcome : WalkerAnswer → List ℕ → List ℕ → WalkerOutcome
+walkerOutcome a ws v = record { answer = a; words = ws; value = v }
 
 -- by the answer a on a type: "Every refusal leaves all buffers and the state untouched"
-abbrev pub stepBy : call.Answer → List ℕ → Walker → ValueType → ℕ → Buffers → List ℕ → Walked
-stepBy call.Answer.Done ws w t base b v = walked (Answer.Called call.Answer.Done) (walkerWords (stepOn w t)) (overlay v (stepValue w t base b))
-stepBy (call.Answer.Unread f) ws w t base b v = walked (Answer.Called (call.Answer.Unread f)) ws v
-stepBy (call.Answer.Refused r) ws w t base b v = walked (Answer.Called (call.Answer.Refused r)) ws v
+abbrev pub stepBy : CallAnswer → List ℕ → Walker → ValueType → ℕ → Buffers → List ℕ → WalkerOutcome
+stepBy CallAnswer.Done ws w t base b v = walkerOutcome (WalkerAnswer.Called CallAnswer.Done) (walkerWords (stepOn w t)) (overlay v (stepValue w t base b))
+stepBy (CallAnswer.Unread f) ws w t base b v = walkerOutcome (WalkerAnswer.Called (CallAnswer.Unread f)) ws v
+stepBy (CallAnswer.Refused r) ws w t base b v = walkerOutcome (WalkerAnswer.Called (CallAnswer.Refused r)) ws v
 
 -- a walker w, in the words ws, that is asked for a type
-unfoldable pub stepFor : List ℕ → Walker → ValueType → ℕ → Buffers → List ℕ → Walked
+unfoldable pub stepFor : List ℕ → Walker → ValueType → ℕ → Buffers → List ℕ → WalkerOutcome
 stepFor ws w t base b v = stepBy (stepAnswer w t (length v) base b) ws w t base b v
 
 -- by what was read of the item
-abbrev pub itemBy : Reading Tree → List ℕ → Walker → ℕ → Buffers → List ℕ → Walked
-itemBy (got t next n) ws w base b v = stepFor ws w (typeOf (w .convention) t) base b v
-itemBy (no f) ws w base b v = walked (Answer.Called (call.Answer.Unread f)) ws v
+abbrev pub walkByItem : Reading Tree → List ℕ → Walker → ℕ → Buffers → List ℕ → WalkerOutcome
+walkByItem (got t next n) ws w base b v = stepFor ws w (typeOf (w .convention) t) base b v
+walkByItem (no f) ws w base b v = walkerOutcome (WalkerAnswer.Called (CallAnswer.Unread f)) ws v
 
 -- by what the words are: 23 comes "first"
-abbrev pub walkBy : WalkerRead → List ℕ → List ℕ → ℕ → Buffers → List ℕ → Walked
-walkBy WalkerRead.Lost ws s base b v = walked Answer.Lost ws v
-walkBy (WalkerRead.Walker w) ws s base b v = itemBy (typeItem (w .convention) s) ws w base b v
+abbrev pub walkBy : WalkerRead → List ℕ → List ℕ → ℕ → Buffers → List ℕ → WalkerOutcome
+walkBy WalkerRead.Lost ws s base b v = walkerOutcome WalkerAnswer.Lost ws v
+walkBy (WalkerRead.Walker w) ws s base b v = walkByItem (typeItem (w .convention) s) ws w base b v
 
 -- the words ws asked with the item's bytes s, of a value buffer v, the register image, the area and the copies b, which start at the address `base`
-unfoldable pub walk : List ℕ → List ℕ → ℕ → Buffers → List ℕ → Walked
-walk ws s base b v = walkBy (walkerIn ws) ws s base b v
+unfoldable pub walkerStep : List ℕ → List ℕ → ℕ → Buffers → List ℕ → WalkerOutcome
+walkerStep ws s base b v = walkBy (walkerIn ws) ws s base b v

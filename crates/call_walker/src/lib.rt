@@ -1,6 +1,7 @@
 // A walker over the arguments of a call, type by type: its state, and the answer of its calls. No code: what they mean is in specs/, and the functions are
 // in the crates above.
 use base_conventions::Convention;
+use call_slots::CallAnswer;
 
 // The words of a walker, and the largest counter.
 pub const WALKER_WORDS: usize = 6;
@@ -29,7 +30,7 @@ pub enum WalkerRead {
 }
 
 // The answer of a call: the words are no walker's, or what the reading of a signature, of an item or of an argument answers.
-pub enum Answer {
+pub enum WalkerAnswer {
     Lost,
-    Called(call_slots::Answer),
+    Called(CallAnswer),
 }

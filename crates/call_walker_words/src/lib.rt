@@ -10,19 +10,12 @@ use plan_places::CallRules;
 ghost use mathlib.Core.Path.{_≡_};
 ghost use Prim.Native.Nat.{_≤_};
 ghost use lib.ListN.{length};
-ghost use Rattle.base_words.specs.Basics.{flag};
 ghost use Rattle.base_conventions.specs.declared.ConventionCode.the-variants.{Known};
 ghost use Rattle.call_walker.specs.Walker.{possible, powerPossible, zPossible, inRange, lost};
 ghost use Rattle.call_walker.specs.Words.{walkerBy, walkerIn, walkerWords, walkerLength};
 
 // Z's stack offset of the area's first byte.
 pub const AREA_OFFSET: u64 = both_abi::Z::HEADER as u64;
-
-fn mark_of(b: bool) -> u64
-    ensures { λ n. ⌜ n ≡ flag b ⌝ }
-{
-    if b { 1 } else { 0 }
-}
 
 // ---- reading
 
@@ -74,7 +67,7 @@ fn z_possible(hidden: u64, k: Counters) -> bool
 fn is_possible(r: CallRules, hidden: bool, k: Counters) -> bool
     ensures { λ b. ⌜ b ≡ possible r hidden k ⌝ }
 {
-    let h = mark_of(hidden);
+    let h = base_words::flag(hidden);
     match r {
         CallRules::Power(_) => power_possible(h, k),
         CallRules::Z => z_possible(h, k),
@@ -153,8 +146,8 @@ pub fn put_walker(words: &mut [u64], w: Walker)
     let c = w.convention;
     let k = w.at;
     words[0] = base_conventions::code_of(c);
-    words[1] = mark_of(w.ellipsis);
-    words[2] = mark_of(w.hidden);
+    words[1] = base_words::flag(w.ellipsis);
+    words[2] = base_words::flag(w.hidden);
     words[3] = k.general;
     words[4] = k.floating;
     words[5] = k.stack;

@@ -16,7 +16,7 @@ use Rattle.sig_types.specs.Sizes.{Sized, maxDepth}
 use Rattle.sig_types.specs.Trees.{Tree, typeOf}
 use Rattle.sig_items.specs.declared.Fault.{Fault}
 use Rattle.sig_items.specs.declared.ItemRead.{ItemRead}
-use Rattle.sig_items.specs.declared.Refusal as item
+use Rattle.sig_items.specs.declared.Refusal.{Refusal}
 use Rattle.sig_items.specs.Reading.{Reading, fault, got, no, choose, andThen}
 use Rattle.sig_items.specs.Read.{itemAt}
 use Rattle.sig_items.specs.Answer.{itemAnswer}
@@ -28,24 +28,24 @@ use Rattle.sig_signatures.specs.Answer.{signatureAnswer}
 use Rattle.sig_signatures.specs.Limits.{maxLength}
 use Rattle.plan_places.specs.Step.{rulesOf}
 use Rattle.plan_plans.specs.Plan.{hiddenIn, startIn}
-use Rattle.call_slots.specs.declared.Answer as call
+use Rattle.call_slots.specs.declared.CallAnswer.{CallAnswer}
 use Rattle.call_slots.specs.Buffers.{Buffers}
-use Rattle.call_walker.specs.declared.Answer.{Answer}
+use Rattle.call_walker.specs.declared.WalkerAnswer.{WalkerAnswer}
 use Rattle.call_walker.specs.declared.Walker.{Walker}
 use Rattle.call_walker.specs.declared.WalkerRead.{WalkerRead}
 use Rattle.call_walker.specs.Walker.{countersOf, walker, walkerOf, lost}
 use Rattle.call_walker.specs.Step.{typeItem}
-use Rattle.call_walker.specs.Words.{unlost, walkerBy, walkerIn, walkerWords, walkStartAnswer, startWords, walked, stepFor, itemBy, walkBy, walk}
+use Rattle.call_walker.specs.Words.{unlost, walkerBy, walkerIn, walkerWords, walkStartAnswer, walkerStartWords, walkerOutcome, stepFor, walkByItem, walkBy, walkerStep}
 use Rattle.call_walking.specs.Helpers.{Declared}
 
 -- ---- the item
 
 -- what is told of an item that was read, in bytes of this length
 abbrev wholeItem : List ℕ → Reading Tree → Reading Tree
-wholeItem s x = andThen x (λ t next n. pick (ltb next (length s)) (no (fault item.Refusal.Malformed next n)) (got t next n))
+wholeItem s x = andThen x (λ t next n. pick (ltb next (length s)) (no (fault Refusal.Malformed next n)) (got t next n))
 
 module _ (c : Convention) (s : List ℕ) where
-  pub item-long : maxLength < length s → ItemRead.Refused (fault item.Refusal.TooLong 0 0) ≡ itemAnswer c (typeItem c s)
+  pub item-long : maxLength < length s → ItemRead.Refused (fault Refusal.TooLong 0 0) ≡ itemAnswer c (typeItem c s)
   unfolding typeItem
   item-long h = rw (lt-ltb maxLength (length s) h)
 
@@ -61,7 +61,7 @@ module _ (c : Convention) (s : List ℕ) where
       go (no g) q = q
 
   module _ (t : ValueType) (next n : ℕ) where
-    told : (x : Reading Tree) → ItemRead.Item t next n ≡ itemAnswer c x → itemAnswer c (wholeItem s x) ≡ itemAnswer c (pick (ltb next (length s)) (no (fault item.Refusal.Malformed next n)) x)
+    told : (x : Reading Tree) → ItemRead.Item t next n ≡ itemAnswer c x → itemAnswer c (wholeItem s x) ≡ itemAnswer c (pick (ltb next (length s)) (no (fault Refusal.Malformed next n)) x)
     told (got u m k) q =
         let p : m ≡ next = cc in
         let r : k ≡ n = cc in
@@ -69,10 +69,10 @@ module _ (c : Convention) (s : List ℕ) where
     told (no g) q = let z : _≡_ {A = ℕ} 0 1 = cc in absurd (omega arith)
 
     abbrev at : Bool → ItemRead
-    at b = itemAnswer c (pick b (no (fault item.Refusal.Malformed next n)) (itemAt c maxDepth s (length s) 0))
+    at b = itemAnswer c (pick b (no (fault Refusal.Malformed next n)) (itemAt c maxDepth s (length s) 0))
 
     pub item-after : length s ≤ maxLength → ItemRead.Item t next n ≡ itemAnswer c (itemAt c maxDepth s (length s) 0) → next < length s
-        → ItemRead.Refused (fault item.Refusal.Malformed next n) ≡ itemAnswer c (typeItem c s)
+        → ItemRead.Refused (fault Refusal.Malformed next n) ≡ itemAnswer c (typeItem c s)
     item-after h e l = sym (ap (itemAnswer c) (item-short h) ∙ told (itemAt c maxDepth s (length s) 0) e ∙ ap at (lt-ltb next (length s) l))
 
     pub item-whole : length s ≤ maxLength → ItemRead.Item t next n ≡ itemAnswer c (itemAt c maxDepth s (length s) 0) → length s ≤ next
@@ -85,7 +85,7 @@ module _ (c : Convention) (s : List ℕ) where
     item-declared e = long (ltb maxLength (length s)) e
       where
         last : (b : Bool) (u : Tree) (m k : ℕ) → itemAt c maxDepth s (length s) 0 ≡ got u m k
-            → ItemRead.Item t next n ≡ itemAnswer c (pick b (no (fault item.Refusal.Malformed m k)) (got u m k)) → Declared c t
+            → ItemRead.Item t next n ≡ itemAnswer c (pick b (no (fault Refusal.Malformed m k)) (got u m k)) → Declared c t
         last true u m k p q = let z : _≡_ {A = ℕ} 0 1 = cc in absurd (omega arith)
         last false u m k p q =
             let same : typeOf c u ≡ t = cc in
@@ -95,7 +95,7 @@ module _ (c : Convention) (s : List ℕ) where
         short (got u m k) p q = last (ltb m (length s)) u m k p q
         short (no g) p q = let z : _≡_ {A = ℕ} 0 1 = cc in absurd (omega arith)
 
-        long : (b : Bool) → ItemRead.Item t next n ≡ itemAnswer c (choose b (λ _. no (fault item.Refusal.TooLong 0 0)) (λ _. wholeItem s (itemAt c maxDepth s (length s) 0))) → Declared c t
+        long : (b : Bool) → ItemRead.Item t next n ≡ itemAnswer c (choose b (λ _. no (fault Refusal.TooLong 0 0)) (λ _. wholeItem s (itemAt c maxDepth s (length s) 0))) → Declared c t
         long true q = let z : _≡_ {A = ℕ} 0 1 = cc in absurd (omega arith)
         long false q = short (itemAt c maxDepth s (length s) 0) refl q
 
@@ -119,28 +119,28 @@ found ws w e = code (conventionCode (getD ws 0 0)) e
     code ConventionCode.Unknown q = let z : _≡_ {A = ℕ} 0 1 = cc in absurd (omega arith)
 
 module _ (ws s : List ℕ) (base : ℕ) (b : Buffers) (v : List ℕ) where
-  pub walk-lost : WalkerRead.Lost ≡ walkerIn ws → walked Answer.Lost ws v ≡ walk ws s base b v
-  unfolding walk
+  pub walk-lost : WalkerRead.Lost ≡ walkerIn ws → walkerOutcome WalkerAnswer.Lost ws v ≡ walkerStep ws s base b v
+  unfolding walkerStep
   walk-lost e = ap (λ (x : WalkerRead). walkBy x ws s base b v) e
 
   module _ (w : Walker) (e : WalkerRead.Walker w ≡ walkerIn ws) where
-    walk-at : itemBy (typeItem (w .convention) s) ws w base b v ≡ walk ws s base b v
-    unfolding walk
+    walk-at : walkByItem (typeItem (w .convention) s) ws w base b v ≡ walkerStep ws s base b v
+    unfolding walkerStep
     walk-at = ap (λ (x : WalkerRead). walkBy x ws s base b v) e
 
     pub walk-refused : (f : Fault) → ItemRead.Refused f ≡ itemAnswer (w .convention) (typeItem (w .convention) s)
-        → walked (Answer.Called (call.Answer.Unread f)) ws v ≡ walk ws s base b v
+        → walkerOutcome (WalkerAnswer.Called (CallAnswer.Unread f)) ws v ≡ walkerStep ws s base b v
     walk-refused f q = go (typeItem (w .convention) s) q ∙ walk-at
       where
-        go : (x : Reading Tree) → ItemRead.Refused f ≡ itemAnswer (w .convention) x → walked (Answer.Called (call.Answer.Unread f)) ws v ≡ itemBy x ws w base b v
+        go : (x : Reading Tree) → ItemRead.Refused f ≡ itemAnswer (w .convention) x → walkerOutcome (WalkerAnswer.Called (CallAnswer.Unread f)) ws v ≡ walkByItem x ws w base b v
         go (got t next n) p = let z : _≡_ {A = ℕ} 0 1 = cc in absurd (omega arith)
         go (no g) p = let same : f ≡ g = cc in rw same
 
     pub walk-item : (t : ValueType) (next n : ℕ) → ItemRead.Item t next n ≡ itemAnswer (w .convention) (typeItem (w .convention) s)
-        → stepFor ws w t base b v ≡ walk ws s base b v
+        → stepFor ws w t base b v ≡ walkerStep ws s base b v
     walk-item t next n q = go (typeItem (w .convention) s) q ∙ walk-at
       where
-        go : (x : Reading Tree) → ItemRead.Item t next n ≡ itemAnswer (w .convention) x → stepFor ws w t base b v ≡ itemBy x ws w base b v
+        go : (x : Reading Tree) → ItemRead.Item t next n ≡ itemAnswer (w .convention) x → stepFor ws w t base b v ≡ walkByItem x ws w base b v
         go (got u m k) p = let same : t ≡ typeOf (w .convention) u = cc in rw same
         go (no g) p = let z : _≡_ {A = ℕ} 0 1 = cc in absurd (omega arith)
 
@@ -155,18 +155,18 @@ unfolding walkerOf
 read-walker g next n = refl
 
 module _ (x : Reading Signature) (g : SignatureRead) (ws : List ℕ) where
-  pub start-refused : g ≡ signatureAnswer x → (f : Fault) → g .outcome ≡ Outcome.Refused f → (Answer.Called (call.Answer.Unread f) ≡ walkStartAnswer x) × (ws ≡ startWords x ws)
+  pub start-refused : g ≡ signatureAnswer x → (f : Fault) → g .outcome ≡ Outcome.Refused f → (WalkerAnswer.Called (CallAnswer.Unread f) ≡ walkStartAnswer x) × (ws ≡ walkerStartWords x ws)
   start-refused e f q = go x (sym (ap (λ (y : SignatureRead). y .outcome) e) ∙ q)
     where
-      go : (y : Reading Signature) → signatureAnswer y .outcome ≡ Outcome.Refused f → (Answer.Called (call.Answer.Unread f) ≡ walkStartAnswer y) × (ws ≡ startWords y ws)
+      go : (y : Reading Signature) → signatureAnswer y .outcome ≡ Outcome.Refused f → (WalkerAnswer.Called (CallAnswer.Unread f) ≡ walkStartAnswer y) × (ws ≡ walkerStartWords y ws)
       go (got h next n) p = let z : _≡_ {A = ℕ} 0 1 = cc in absurd (omega arith)
       go (no k) p = let same : f ≡ k = cc in (rw same, refl)
 
   pub start-accepted : g ≡ signatureAnswer x → (n : ℕ) → g .outcome ≡ Outcome.Accepted n → (w : Walker) → w ≡ walkerRead g
-      → (Answer.Called call.Answer.Done ≡ walkStartAnswer x) × (walkerWords w ≡ startWords x ws)
+      → (WalkerAnswer.Called CallAnswer.Done ≡ walkStartAnswer x) × (walkerWords w ≡ walkerStartWords x ws)
   start-accepted e n q w r = go x (sym (ap (λ (y : SignatureRead). y .outcome) e) ∙ q) (r ∙ ap walkerRead e)
     where
       go : (y : Reading Signature) → signatureAnswer y .outcome ≡ Outcome.Accepted n → w ≡ walkerRead (signatureAnswer y)
-          → (Answer.Called call.Answer.Done ≡ walkStartAnswer y) × (walkerWords w ≡ startWords y ws)
+          → (WalkerAnswer.Called CallAnswer.Done ≡ walkStartAnswer y) × (walkerWords w ≡ walkerStartWords y ws)
       go (got h next m) p o = (refl, ap walkerWords (o ∙ read-walker h next m))
       go (no k) p o = let z : _≡_ {A = ℕ} 0 1 = cc in absurd (omega arith)

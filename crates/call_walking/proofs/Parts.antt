@@ -1,21 +1,16 @@
--- The counters and the part of the area: what the functions compute from offset 0 is what the definitions say. Assumes nothing.
-use mathlib.Core.Path.{_≡_, refl, sym, ap, _∙_}
-use mathlib.Core.Bool.{Bool, true, false}
-use mathlib.Core.List.{List}
-use Prim.Native.Nat.{ℕ, _+_, _-_, _*_, _/_, _^_, _≤_, _<_, min}
+-- The counters: what the functions compute from offset 0 is what the definitions say. Assumes nothing.
+use mathlib.Core.Path.{_≡_, refl, ap}
+use mathlib.Core.Bool.{Bool}
+use Prim.Native.Nat.{ℕ, _+_, _-_, _*_, _/_, _^_, _≤_, _<_}
 use native.Mathlib.Omega.{arith}
 use native.Mathlib.Nat.{mul-add, mul-div-cancel-left, zero-add}
-use borrow.Author.Tests.{ltb-true, ltb-false}
-use lib.Dec.{ltb}
-use lib.ListN.{length, take, drop, length-drop, drop-of-length-le}
-use lib.Seq.{take-all}
 use Rattle.sig_types.specs.declared.ValueType.{ValueType}
 use Rattle.plan_places.specs.declared.Cursor.{Cursor}
 use Rattle.plan_places.specs.declared.CallRules.{CallRules}
 use Rattle.plan_places.specs.declared.ZClass.{ZClass}
-use Rattle.plan_places.specs.Power.{words, powerShare, unclear}
+use Rattle.plan_places.specs.Power.{words, powerShare}
 use Rattle.plan_places.specs.ZSeries.{zClass, zNextOf}
-use Rattle.plan_places.specs.Step.{nextOf, unclearFor, startOf}
+use Rattle.plan_places.specs.Step.{nextOf, startOf}
 use Rattle.plan_places.specs.Helpers.{LawfulCalls, Roomy}
 use Rattle.plan_places.proofs.Bounds.{Named, named-next, named-start, named-roomy, near-next, start-bytes}
 use Rattle.call_walker.specs.declared.Counters.{Counters}
@@ -23,29 +18,6 @@ use Rattle.call_walker.specs.Walker.{counters, cursorAt, countersOf}
 use Rattle.call_walker.specs.Helpers.{local}
 use Rattle.call_walker.proofs.Reached.{Possible}
 use Rattle.call_walking.specs.Helpers.{Offset, Countable, countersAfter}
-
--- ---- the part of the area
-
--- from the smaller of the offset and the area's length on: the part that starts at the offset, or none
-pub part-area : (d m : ℕ) (l : List ℕ) → m ≡ min d (length l) → take (length l - m) (drop m l) ≡ drop d l
-part-area d m l e = go (ltb (length l) d) refl
-  where
-    all : take (length l - m) (drop m l) ≡ drop m l
-    all = ap (λ (n : ℕ). take n (drop m l)) (sym (length-drop m l)) ∙ take-all (length (drop m l)) (drop m l) (omega arith)
-
-    go : (b : Bool) → ltb (length l) d ≡ b → take (length l - m) (drop m l) ≡ drop d l
-    go true q =
-        let past = ltb-true (length l) d q in
-        let low : length l ≤ m = omega arith in
-        let far : length l ≤ d = omega arith in
-        all ∙ drop-of-length-le l low ∙ sym (drop-of-length-le l far)
-    go false q =
-        let inside = ltb-false (length l) d q in
-        let same : m ≡ d = omega arith in
-        all ∙ ap (λ (n : ℕ). drop n l) same
-
-pub part-length : (d m : ℕ) (l : List ℕ) → m ≡ min d (length l) → length l - m ≡ length (drop d l)
-part-length d m l e = omega (arith, length-drop d l)
 
 -- ---- the cursor
 
@@ -60,12 +32,6 @@ local-named CallRules.Z hidden k p = (omega (arith, p .0), p .1, p .2, p .3)
 
 pub local-roomy : (r : CallRules) (hidden : Bool) (k : Counters) → Possible r hidden k → Roomy (local (cursorAt r k))
 local-roomy r hidden k p = named-roomy r (local (cursorAt r k)) (local-named r hidden k p) (omega arith) (omega arith)
-
--- 29 doesn't look at the offset
-pub unclear-local : (r : CallRules) (d : Cursor) (t : ValueType) → unclearFor r (local d) t ≡ unclearFor r d t
-unfolding unclearFor unclear
-unclear-local (CallRules.Power f) d t = refl
-unclear-local CallRules.Z d t = refl
 
 -- ---- the counters
 

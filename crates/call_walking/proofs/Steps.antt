@@ -13,37 +13,36 @@ use Rattle.base_conventions.specs.declared.Convention.{Convention}
 use Rattle.sig_types.specs.declared.ValueType.{ValueType}
 use Rattle.sig_types.specs.Sizes.{Sized}
 use Rattle.sig_types.specs.Trees.{typeOf}
-use Rattle.sig_items.specs.declared.Refusal as item
+use Rattle.sig_items.specs.declared.Refusal.{Refusal}
 use Rattle.sig_items.specs.Reading.{fault}
 use Rattle.plan_places.specs.declared.Cursor.{Cursor}
 use Rattle.plan_places.specs.declared.CallRules.{CallRules}
 use Rattle.plan_places.specs.declared.Span.{Span}
 use Rattle.plan_places.specs.Step.{rulesOf, spanOf, nextOf, unclearFor}
 use Rattle.plan_places.specs.Helpers.{LawfulCalls}
-use Rattle.plan_places.proofs.Bounds.{rules-lawful}
+use Rattle.plan_places.proofs.Bounds.{rules-lawful, unclear-floating}
 use Rattle.plan_places.proofs.Marked.{next-marked, named-marked}
 use Rattle.plan_places.proofs.Registers.{step-numbered}
-use Rattle.call_slots.specs.declared.Answer as call
+use Rattle.call_slots.specs.declared.CallAnswer.{CallAnswer}
 use Rattle.call_slots.specs.Buffers.{Buffers, buffers}
 use Rattle.call_slots.specs.Placements.{Placement, placement, valueAt}
 use Rattle.call_slots.specs.Refusals.{firstOf, orElse, firstOfAll, isRefused}
-use Rattle.call_slots.proofs.Typed.{Typed}
+use Rattle.call_slots.proofs.Typed.{Typed, typed}
 use Rattle.call_slots.proofs.Held.{step-held}
 use Rattle.call_slots.proofs.Refusals.{first-done, differ-false, or-refused, not-refused}
 use Rattle.call_unmarshal.specs.Helpers.{InBuffers, Readable}
 use Rattle.call_read.specs.Read.{argumentAnswer, argumentsAnswer}
 use Rattle.call_read.proofs.Arguments.{all-readable}
-use Rattle.call_walker.specs.declared.Answer.{Answer}
+use Rattle.call_walker.specs.declared.WalkerAnswer.{WalkerAnswer}
 use Rattle.call_walker.specs.declared.Walker.{Walker}
 use Rattle.call_walker.specs.Walker.{countersOf, walker, cursorOf, lost}
 use Rattle.call_walker.specs.Step.{sizeBy, rulesBy, asked, passes, stepTests, stepAnswer, stepValue, stepOn}
-use Rattle.call_walker.specs.Words.{walkerWords, walked, stepBy, stepFor}
+use Rattle.call_walker.specs.Words.{walkerWords, walkerOutcome, stepBy, stepFor}
 use Rattle.call_walker.specs.Helpers.{local, Shifted}
 use Rattle.call_walker.proofs.Shifted.{areaFrom, span-shifts, value-shift, answer-shift, tests-shift}
 use Rattle.call_walker.proofs.Exactly.{found-possible}
-use Rattle.call_walker.proofs.Steps.{typed}
 use Rattle.call_walking.specs.Helpers.{Declared, countersAfter}
-use Rattle.call_walking.proofs.Parts.{local-named, unclear-local, next-after}
+use Rattle.call_walking.proofs.Parts.{local-named, next-after}
 
 -- ---- what the lengths tell
 
@@ -52,7 +51,7 @@ pub record Passed (n : ℕ) (s : Span) (v i a : ℕ) : Type 0 where
   pub value : v ≡ n
   pub inside : passes s a ≡ false
 
-pub lengths-passed : (n : ℕ) (s : Span) (value image area : ℕ) → firstOf (stepTests n s value image area) ≡ call.Answer.Done → Passed n s value image area
+pub lengths-passed : (n : ℕ) (s : Span) (value image area : ℕ) → firstOf (stepTests n s value image area) ≡ CallAnswer.Done → Passed n s value image area
 unfolding stepTests
 lengths-passed n s value image area e =
     let a = first-done _ _ e in
@@ -67,11 +66,11 @@ stored s l e some = ltb-false l (s .memory .start + s .memory .length) (rw (lt-l
 -- ---- the step
 
 -- a refusal leaves all as it was
-step-no : (a : call.Answer) (ws : List ℕ) (w : Walker) (t : ValueType) (base : ℕ) (b : Buffers) (v : List ℕ) → isRefused a ≡ true
-    → walked (Answer.Called a) ws v ≡ stepBy a ws w t base b v
-step-no call.Answer.Done ws w t base b v h = let z : _≡_ {A = ℕ} 0 1 = cc in absurd (omega arith)
-step-no (call.Answer.Unread f) ws w t base b v h = refl
-step-no (call.Answer.Refused r) ws w t base b v h = refl
+step-no : (a : CallAnswer) (ws : List ℕ) (w : Walker) (t : ValueType) (base : ℕ) (b : Buffers) (v : List ℕ) → isRefused a ≡ true
+    → walkerOutcome (WalkerAnswer.Called a) ws v ≡ stepBy a ws w t base b v
+step-no CallAnswer.Done ws w t base b v h = let z : _≡_ {A = ℕ} 0 1 = cc in absurd (omega arith)
+step-no (CallAnswer.Unread f) ws w t base b v h = refl
+step-no (CallAnswer.Refused r) ws w t base b v h = refl
 
 module _ (w : Walker) (t : ValueType) (base : ℕ) (b : Buffers) where
   -- the cursor at offset 0, its offset, and the span there
@@ -87,8 +86,8 @@ module _ (w : Walker) (t : ValueType) (base : ℕ) (b : Buffers) where
   shifted : Shifted (cursorOf w .stack) (spanOf (rulesBy w) (cursorOf w) t (sizeBy w t)) span
   shifted = span-shifts (rulesBy w) (cursorOf w) t (sizeBy w t)
 
-  abbrev unclear : call.Answer
-  unclear = call.Answer.Unread (fault item.Refusal.UnclearPlace 0 0)
+  abbrev unclear : CallAnswer
+  unclear = CallAnswer.Unread (fault Refusal.UnclearPlace 0 0)
 
   near-answer : (v : ℕ)
       → stepAnswer w t v base b
@@ -100,41 +99,41 @@ module _ (w : Walker) (t : ValueType) (base : ℕ) (b : Buffers) where
       let s : Span = spanOf (rulesBy w) (cursorOf w) t (sizeBy w t) in
       let tests = tests-shift t (sizeBy w t) (cursorOf w .stack) s span b shifted v in
       let answer = answer-shift t (sizeBy w t) (cursorOf w .stack) s span b shifted (rulesBy w) base in
-      ap₂ (λ (u : Bool) (x : call.Answer). pick u unclear x) (sym (unclear-local (rulesOf (w .convention)) (cursorOf w) t)) (ap₂ orElse tests answer)
+      ap₂ (λ (u : Bool) (x : CallAnswer). pick u unclear x) (sym (unclear-floating (rulesOf (w .convention)) (local (cursorOf w)) (cursorOf w) t refl)) (ap₂ orElse tests answer)
 
   module _ (ws v : List ℕ) where
-    by-answer : (a : call.Answer) → stepAnswer w t (length v) base b ≡ a → isRefused a ≡ true → walked (Answer.Called a) ws v ≡ stepFor ws w t base b v
+    by-answer : (a : CallAnswer) → stepAnswer w t (length v) base b ≡ a → isRefused a ≡ true → walkerOutcome (WalkerAnswer.Called a) ws v ≡ stepFor ws w t base b v
     unfolding stepFor
-    by-answer a e h = step-no a ws w t base b v h ∙ ap (λ (x : call.Answer). stepBy x ws w t base b v) (sym e)
+    by-answer a e h = step-no a ws w t base b v h ∙ ap (λ (x : CallAnswer). stepBy x ws w t base b v) (sym e)
 
-    pub step-unclear : unclearFor (rulesOf (w .convention)) near t ≡ true → walked (Answer.Called unclear) ws v ≡ stepFor ws w t base b v
+    pub step-unclear : unclearFor (rulesOf (w .convention)) near t ≡ true → walkerOutcome (WalkerAnswer.Called unclear) ws v ≡ stepFor ws w t base b v
     step-unclear e = by-answer unclear (near-answer (length v) ∙ rw e) refl
 
-    module _ (clear : unclearFor (rulesOf (w .convention)) near t ≡ false) (l : call.Answer)
+    module _ (clear : unclearFor (rulesOf (w .convention)) near t ≡ false) (l : CallAnswer)
         (lengths : l ≡ firstOf (stepTests (sizeBy w t) span (length v) (length (b .image)) (length part))) where
       answer-is : stepAnswer w t (length v) base b
           ≡ orElse l (argumentAnswer (rulesBy w) base (placement t (sizeBy w t) span) (areaFrom (cursorOf w .stack) b))
       answer-is = near-answer (length v) ∙ rw (clear, lengths)
 
-      pub step-lengths : isRefused l ≡ true → walked (Answer.Called l) ws v ≡ stepFor ws w t base b v
+      pub step-lengths : isRefused l ≡ true → walkerOutcome (WalkerAnswer.Called l) ws v ≡ stepFor ws w t base b v
       step-lengths h = by-answer l (answer-is ∙ or-refused l _ h) h
 
-      module _ (passed : isRefused l ≡ false) (a : call.Answer)
+      module _ (passed : isRefused l ≡ false) (a : CallAnswer)
           (answer : a ≡ argumentAnswer (rulesBy w) base (placement t (sizeBy w t) span) (areaFrom (cursorOf w .stack) b)) where
         last : stepAnswer w t (length v) base b ≡ a
         last = answer-is ∙ ap₂ orElse (not-refused l passed) (sym answer)
 
-        pub step-answer : isRefused a ≡ true → walked (Answer.Called a) ws v ≡ stepFor ws w t base b v
+        pub step-answer : isRefused a ≡ true → walkerOutcome (WalkerAnswer.Called a) ws v ≡ stepFor ws w t base b v
         step-answer h = by-answer a last h
 
         pub step-done : isRefused a ≡ false
-            → walked (Answer.Called call.Answer.Done) (walkerWords (stepOn w t)) (overlay v (valueAt (rulesBy w) base (placement t (sizeBy w t) span) (areaFrom (cursorOf w .stack) b)))
+            → walkerOutcome (WalkerAnswer.Called CallAnswer.Done) (walkerWords (stepOn w t)) (overlay v (valueAt (rulesBy w) base (placement t (sizeBy w t) span) (areaFrom (cursorOf w .stack) b)))
             ≡ stepFor ws w t base b v
         unfolding stepFor asked
         step-done h =
             let value = value-shift t (sizeBy w t) (cursorOf w .stack) (spanOf (rulesBy w) (cursorOf w) t (sizeBy w t)) span b shifted (rulesBy w) base in
-            ap (λ (x : List ℕ). walked (Answer.Called call.Answer.Done) (walkerWords (stepOn w t)) (overlay v x)) (sym value)
-            ∙ ap (λ (x : call.Answer). stepBy x ws w t base b v) (sym (last ∙ not-refused a h))
+            ap (λ (x : List ℕ). walkerOutcome (WalkerAnswer.Called CallAnswer.Done) (walkerWords (stepOn w t)) (overlay v x)) (sym value)
+            ∙ ap (λ (x : CallAnswer). stepBy x ws w t base b v) (sym (last ∙ not-refused a h))
 
   module _ (found : lost w ≡ false) (known : Declared (w .convention) t) where
     lawful : LawfulCalls (rulesOf (w .convention))
@@ -163,7 +162,7 @@ module _ (w : Walker) (t : ValueType) (base : ℕ) (b : Buffers) where
 
     -- and where nothing refuses it, be read
     pub step-readable : InBuffers (rulesBy w) (length (b .image)) (length part) (placement t (sizeBy w t) span)
-        → argumentAnswer (rulesBy w) base (placement t (sizeBy w t) span) (areaFrom (cursorOf w .stack) b) ≡ call.Answer.Done
+        → argumentAnswer (rulesBy w) base (placement t (sizeBy w t) span) (areaFrom (cursorOf w .stack) b) ≡ CallAnswer.Done
         → Readable (rulesBy w) base (placement t (sizeBy w t) span) (areaFrom (cursorOf w .stack) b)
     unfolding All argumentsAnswer firstOfAll
     step-readable ready done = all-readable (rulesBy w) base (areaFrom (cursorOf w .stack) b) (placement t (sizeBy w t) span ∷ []) (ready, tt) (rw done) .0

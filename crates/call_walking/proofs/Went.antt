@@ -6,8 +6,9 @@ use Prim.Native.Nat.{ℕ, _+_, _-_, _≤_, _<_, min}
 use native.Mathlib.Omega.{arith}
 use lib.ListN.{length, take, drop}
 use Rattle.base_words.specs.Splice.{overlay}
+use Rattle.base_words.proofs.Splices.{part-clipped, length-clipped}
 use Rattle.sig_types.specs.declared.ValueType.{ValueType}
-use Rattle.sig_items.specs.declared.Refusal as item
+use Rattle.sig_items.specs.declared.Refusal.{Refusal}
 use Rattle.sig_items.specs.Reading.{fault}
 use Rattle.plan_places.specs.declared.Cursor.{Cursor}
 use Rattle.plan_places.specs.declared.Placed.{Placed}
@@ -17,24 +18,24 @@ use Rattle.plan_places.specs.Step.{rulesOf, nextOf, unclearFor, placed}
 use Rattle.plan_places.specs.Helpers.{LawfulCalls, Roomy}
 use Rattle.plan_places.proofs.Bounds.{rules-lawful}
 use Rattle.plan_places.proofs.Marked.{lawful-marked, next-marked}
-use Rattle.call_slots.specs.declared.Answer as call
+use Rattle.call_slots.specs.declared.CallAnswer.{CallAnswer}
 use Rattle.call_slots.specs.Buffers.{Buffers, buffers}
 use Rattle.call_slots.specs.Placements.{placement, valueAt}
 use Rattle.call_slots.specs.Refusals.{firstOf, isRefused}
 use Rattle.call_slots.proofs.Refusals.{not-refused}
 use Rattle.call_unmarshal.specs.Helpers.{InBuffers, Readable}
 use Rattle.call_read.specs.Read.{argumentAnswer}
-use Rattle.call_walker.specs.declared.Answer.{Answer}
+use Rattle.call_walker.specs.declared.WalkerAnswer.{WalkerAnswer}
 use Rattle.call_walker.specs.declared.Counters.{Counters}
 use Rattle.call_walker.specs.declared.Walker.{Walker}
 use Rattle.call_walker.specs.Walker.{cursorAt, walker, cursorOf, lost}
 use Rattle.call_walker.specs.Step.{sizeBy, rulesBy, stepTests, stepOn}
-use Rattle.call_walker.specs.Words.{walkerWords, walked, stepFor}
+use Rattle.call_walker.specs.Words.{walkerWords, walkerOutcome, stepFor}
 use Rattle.call_walker.specs.Helpers.{local}
 use Rattle.call_walker.proofs.Shifted.{areaFrom}
 use Rattle.call_walker.proofs.Exactly.{found-possible}
 use Rattle.call_walking.specs.Helpers.{Declared, Offset, Countable, countersAfter}
-use Rattle.call_walking.proofs.Parts.{part-area, part-length, possible-offset, local-roomy, next-countable}
+use Rattle.call_walking.proofs.Parts.{possible-offset, local-roomy, next-countable}
 use Rattle.call_walking.proofs.Steps.{near, span, Passed, lengths-passed, step-unclear, step-lengths, step-answer, step-done, step-moves, step-ready, step-readable}
 
 -- the rules without and with the mark, the cursor at offset 0 and the size
@@ -76,7 +77,7 @@ module _ (w : Walker) (t : ValueType) (plain r : CallRules) (d : Cursor) (n : �
 
   module _ (ws v : List ℕ) where
     pub went-unclear : unclearFor plain d t ≡ true
-        → walked (Answer.Called (call.Answer.Unread (fault item.Refusal.UnclearPlace 0 0))) ws v ≡ stepFor ws w t base b v
+        → walkerOutcome (WalkerAnswer.Called (CallAnswer.Unread (fault Refusal.UnclearPlace 0 0))) ws v ≡ stepFor ws w t base b v
     went-unclear e = step-unclear w t base b ws v (clear-is true e)
 
   -- ---- the span, and the part of the area from m on
@@ -97,13 +98,13 @@ module _ (w : Walker) (t : ValueType) (plain r : CallRules) (d : Cursor) (n : �
     part = take (length area - m) (drop m area)
 
     part-is : part ≡ drop offset area
-    part-is = part-area offset m area from-is
+    part-is = part-clipped offset m area from-is
 
-    lengths-is : (v i : ℕ) (l : call.Answer) → l ≡ firstOf (stepTests n (p .span) v i (length area - m))
+    lengths-is : (v i : ℕ) (l : CallAnswer) → l ≡ firstOf (stepTests n (p .span) v i (length area - m))
         → l ≡ firstOf (stepTests (sizeBy w t) (span w t base b) v i (length (drop offset area)))
-    lengths-is v i l e = e ∙ rw (g .size-is, span-is, part-length offset m area from-is)
+    lengths-is v i l e = e ∙ rw (g .size-is, span-is, length-clipped offset m area from-is)
 
-    answer-is : (a : call.Answer) → a ≡ argumentAnswer r base (placement t n (p .span)) (buffers image part copies)
+    answer-is : (a : CallAnswer) → a ≡ argumentAnswer r base (placement t n (p .span)) (buffers image part copies)
         → a ≡ argumentAnswer (rulesBy w) base (placement t (sizeBy w t) (span w t base b)) (areaFrom offset b)
     answer-is a e = e ∙ rw (g .rules-is, g .size-is, span-is, part-is)
 
@@ -113,7 +114,7 @@ module _ (w : Walker) (t : ValueType) (plain r : CallRules) (d : Cursor) (n : �
           rw (next-is, next-marked (w .ellipsis) (rulesOf (w .convention)) (near w t base b) t (sizeBy w t), g .plain-is)
           (next-countable (rulesOf (w .convention)) (w .hidden) (w .at) t (sizeBy w t) (rules-lawful (w .convention)) (found-possible w found) (known .sized .small))
 
-      module _ (v : ℕ) (l : call.Answer) (e : l ≡ firstOf (stepTests n (p .span) v (length image) (length area - m))) (yes : isRefused l ≡ false) where
+      module _ (v : ℕ) (l : CallAnswer) (e : l ≡ firstOf (stepTests n (p .span) v (length image) (length area - m))) (yes : isRefused l ≡ false) where
         passed : Passed (sizeBy w t) (span w t base b) v (length image) (length (drop offset area))
         passed = lengths-passed (sizeBy w t) (span w t base b) v (length image) (length (drop offset area)) (sym (lengths-is v (length image) l e) ∙ not-refused l yes)
 
@@ -123,7 +124,7 @@ module _ (w : Walker) (t : ValueType) (plain r : CallRules) (d : Cursor) (n : �
         pub went-ready : InBuffers r (length image) (length part) (placement t n (p .span))
         went-ready = rw (g .rules-is, g .size-is, span-is, part-is) (step-ready w t base b found known (passed .image) (passed .inside))
 
-        pub went-readable : (a : call.Answer) → a ≡ argumentAnswer r base (placement t n (p .span)) (buffers image part copies) → isRefused a ≡ false
+        pub went-readable : (a : CallAnswer) → a ≡ argumentAnswer r base (placement t n (p .span)) (buffers image part copies) → isRefused a ≡ false
             → Readable r base (placement t n (p .span)) (buffers image part copies)
         went-readable a q done =
             rw (g .rules-is, g .size-is, span-is, part-is)
@@ -131,17 +132,17 @@ module _ (w : Walker) (t : ValueType) (plain r : CallRules) (d : Cursor) (n : �
 
     -- ---- what the call answers and leaves
 
-    module _ (clear : unclearFor plain d t ≡ false) (ws v : List ℕ) (l : call.Answer)
+    module _ (clear : unclearFor plain d t ≡ false) (ws v : List ℕ) (l : CallAnswer)
         (e : l ≡ firstOf (stepTests n (p .span) (length v) (length image) (length area - m))) where
-      pub went-lengths : isRefused l ≡ true → walked (Answer.Called l) ws v ≡ stepFor ws w t base b v
+      pub went-lengths : isRefused l ≡ true → walkerOutcome (WalkerAnswer.Called l) ws v ≡ stepFor ws w t base b v
       went-lengths h = step-lengths w t base b ws v (clear-is false clear) l (lengths-is (length v) (length image) l e) h
 
-      module _ (yes : isRefused l ≡ false) (a : call.Answer) (q′ : a ≡ argumentAnswer r base (placement t n (p .span)) (buffers image part copies)) where
-        pub went-answer : isRefused a ≡ true → walked (Answer.Called a) ws v ≡ stepFor ws w t base b v
+      module _ (yes : isRefused l ≡ false) (a : CallAnswer) (q′ : a ≡ argumentAnswer r base (placement t n (p .span)) (buffers image part copies)) where
+        pub went-answer : isRefused a ≡ true → walkerOutcome (WalkerAnswer.Called a) ws v ≡ stepFor ws w t base b v
         went-answer h = step-answer w t base b ws v (clear-is false clear) l (lengths-is (length v) (length image) l e) yes a (answer-is a q′) h
 
         pub went-done : lost w ≡ false → Declared (w .convention) t → isRefused a ≡ false → (k : Counters) → k ≡ countersAfter plain (w .at) (p .next)
-            → walked (Answer.Called call.Answer.Done) (walkerWords (walker (w .convention) (w .ellipsis) (w .hidden) k))
+            → walkerOutcome (WalkerAnswer.Called CallAnswer.Done) (walkerWords (walker (w .convention) (w .ellipsis) (w .hidden) k))
             (overlay v (valueAt r base (placement t n (p .span)) (buffers image part copies))) ≡ stepFor ws w t base b v
         went-done found known h k x =
             let on : k ≡ countersAfter (rulesOf (w .convention)) (w .at) (nextOf (rulesBy w) (near w t base b) t (sizeBy w t)) = x ∙ rw (g .plain-is, next-is) in

@@ -1,10 +1,12 @@
 // The calls of a walker over its six words. A step tests all before it writes anything, and works in the part of the area that starts at the walker's
 // offset, since a cursor's own numbers are small.
 use base_conventions::Convention;
-use call_walker::Answer;
+use call_slots::CallAnswer;
+use call_slots::CallRefusal;
 use call_walker::Counters;
 use call_walker::WALKER_WORDS;
 use call_walker::Walker;
+use call_walker::WalkerAnswer;
 use call_walker::WalkerRead;
 use plan_places::CallRules;
 use plan_places::Cursor;
@@ -29,7 +31,7 @@ ghost use Rattle.call_slots.specs.Buffers.{buffers};
 ghost use Rattle.call_slots.specs.Refusals.{firstOf};
 ghost use Rattle.call_walker.specs.Walker.{walker as walkerAt, counters, countersOf, cursorAt, lost};
 ghost use Rattle.call_walker.specs.Step.{typeItem, passes, stepTests};
-ghost use Rattle.call_walker.specs.Words.{walkStartAnswer, startWords, stepFor, walk as walkOf};
+ghost use Rattle.call_walker.specs.Words.{walkStartAnswer, walkerStartWords, stepFor, walkerStep};
 ghost use Rattle.call_walker.specs.Walks.{Small};
 ghost use Rattle.call_walker.specs.Helpers.{local};
 ghost use Rattle.call_walking.specs.Helpers.{Declared, Offset, Countable, countersAfter};
@@ -110,21 +112,21 @@ fn walker_of(c: Convention, ellipsis: bool, result: ResultType) -> Walker
 }
 
 // The walker of a signature, at its first argument. A refused start leaves the words as they were.
-pub fn start(words: &mut [u64; WALKER_WORDS], sig: &[u8]) -> Answer
+pub fn start(words: &mut [u64; WALKER_WORDS], sig: &[u8]) -> WalkerAnswer
     ensures { λ a. ⌜ a ≡ walkStartAnswer (signatureOf (now (sig .entry))) ⌝ }
-    ensures { λ _. ⌜ now (words .exit) ≡ startWords (signatureOf (now (sig .entry))) (now (words .entry)) ⌝ }
+    ensures { λ _. ⌜ now (words .exit) ≡ walkerStartWords (signatureOf (now (sig .entry))) (now (words .entry)) ⌝ }
 {
     let g = sig_whole::read_signature(sig);
     let outcome = g.outcome;
     match outcome {
-        Outcome::Refused(fault) => Answer::Called(call_slots::Answer::Unread(fault)),
+        Outcome::Refused(fault) => WalkerAnswer::Called(CallAnswer::Unread(fault)),
         Outcome::Accepted(_) => {
             let convention = g.convention;
             let result = g.result;
             let ellipsis = g.ellipsis;
             let w = walker_of(convention, ellipsis, result);
             call_walker_words::put_walker(words, w);
-            Answer::Called(call_slots::Answer::Done)
+            WalkerAnswer::Called(CallAnswer::Done)
         }
     }
 }
@@ -169,19 +171,19 @@ fn passes_area(s: Span, area: usize) -> bool
 }
 
 // The tests of the lengths.
-fn tested(n: usize, s: Span, value: usize, image: usize, area: usize) -> call_slots::Answer
+fn tested(n: usize, s: Span, value: usize, image: usize, area: usize) -> CallAnswer
     ensures { λ a. ⌜ a ≡ firstOf (stepTests n s value image area) ⌝ }
 {
     if image != IMAGE_BYTES {
-        return call_slots::Answer::Refused(call_slots::Refusal::ImageSize);
+        return CallAnswer::Refused(CallRefusal::ImageSize);
     }
     if value != n {
-        return call_slots::Answer::Refused(call_slots::Refusal::ValuesSize);
+        return CallAnswer::Refused(CallRefusal::ValuesSize);
     }
     if passes_area(s, area) {
-        return call_slots::Answer::Refused(call_slots::Refusal::AreaTooShort);
+        return CallAnswer::Refused(CallRefusal::AreaTooShort);
     }
-    call_slots::Answer::Done
+    CallAnswer::Done
 }
 
 // A step of a walker, once its item is read.
@@ -194,7 +196,7 @@ fn step(
     area: &[u8],
     copies: &[u8],
     base: u64,
-) -> Answer
+) -> WalkerAnswer
     requires { ⌜ (lost w ≡ false) × Declared (w .convention) t ⌝ }
     ensures { λ a. ⌜ a ≡ stepFor (now (words .entry)) w t base (buffers (now (image .entry)) (now (area .entry)) (now (copies .entry))) (now (value .entry)) .answer ⌝ }
     ensures { λ _. ⌜ now (words .exit) ≡ stepFor (now (words .entry)) w t base (buffers (now (image .entry)) (now (area .entry)) (now (copies .entry))) (now (value .entry)) .words ⌝ }
@@ -209,7 +211,7 @@ fn step(
     let r = call_arguments::rules_in(c, ellipsis);
     let d = local_cursor(plain, k);
     if plan_placing::unclear_for(plain, d, t) {
-        return Answer::Called(call_slots::Answer::Unread(Fault {
+        return WalkerAnswer::Called(CallAnswer::Unread(Fault {
             reason: Refusal::UnclearPlace,
             place: 0,
             passed: 0,
@@ -221,11 +223,11 @@ fn step(
     let from = base_words::smaller(offset_of(plain, k), area.len());
     let lengths = tested(n, s, value.len(), image.len(), area.len() - from);
     if call_slots::is_refused(lengths) {
-        return Answer::Called(lengths);
+        return WalkerAnswer::Called(lengths);
     }
     let answer = call_read::argument_answer(image, &area[from..], copies, r, t, n, s, base);
     if call_slots::is_refused(answer) {
-        return Answer::Called(answer);
+        return WalkerAnswer::Called(answer);
     }
     call_unmarshal::take_argument(value, image, &area[from..], copies, r, t, n, s, base);
     let at = counters_after(plain, k, next);
@@ -238,7 +240,7 @@ fn step(
             at,
         },
     );
-    Answer::Called(call_slots::Answer::Done)
+    WalkerAnswer::Called(CallAnswer::Done)
 }
 
 // The walker asked with one type item's bytes: its value, and the walker moved on. A refused call leaves the words and the value buffer as they were.
@@ -250,17 +252,17 @@ pub fn walk(
     area: &[u8],
     copies: &[u8],
     base: u64,
-) -> Answer
-    ensures { λ a. ⌜ a ≡ walkOf (now (words .entry)) (now (item .entry)) base (buffers (now (image .entry)) (now (area .entry)) (now (copies .entry))) (now (value .entry)) .answer ⌝ }
-    ensures { λ _. ⌜ now (words .exit) ≡ walkOf (now (words .entry)) (now (item .entry)) base (buffers (now (image .entry)) (now (area .entry)) (now (copies .entry))) (now (value .entry)) .words ⌝ }
-    ensures { λ _. ⌜ now (value .exit) ≡ walkOf (now (words .entry)) (now (item .entry)) base (buffers (now (image .entry)) (now (area .entry)) (now (copies .entry))) (now (value .entry)) .value ⌝ }
+) -> WalkerAnswer
+    ensures { λ a. ⌜ a ≡ walkerStep (now (words .entry)) (now (item .entry)) base (buffers (now (image .entry)) (now (area .entry)) (now (copies .entry))) (now (value .entry)) .answer ⌝ }
+    ensures { λ _. ⌜ now (words .exit) ≡ walkerStep (now (words .entry)) (now (item .entry)) base (buffers (now (image .entry)) (now (area .entry)) (now (copies .entry))) (now (value .entry)) .words ⌝ }
+    ensures { λ _. ⌜ now (value .exit) ≡ walkerStep (now (words .entry)) (now (item .entry)) base (buffers (now (image .entry)) (now (area .entry)) (now (copies .entry))) (now (value .entry)) .value ⌝ }
 {
     match call_walker_words::walker_in(words) {
-        WalkerRead::Lost => Answer::Lost,
+        WalkerRead::Lost => WalkerAnswer::Lost,
         WalkerRead::Walker(w) => {
             let c = w.convention;
             match read_type(item, c) {
-                ItemRead::Refused(fault) => Answer::Called(call_slots::Answer::Unread(fault)),
+                ItemRead::Refused(fault) => WalkerAnswer::Called(CallAnswer::Unread(fault)),
                 ItemRead::Item {
                     ty,
                     next: _,

@@ -6,7 +6,9 @@ ghost use Rattle.frame_machine.specs.Machine.{okMemory};
 use frame_rules::FrameRules;
 use frame_rules::Registers;
 
-// The largest memory of a machine, in bytes.
+// The least and the largest memory of a machine, in bytes.
+const LEAST_MEMORY: usize = 256;
+
 const MAX_MEMORY: usize = 65536;
 
 // Are a memory's base and length in range? (Refusal 16.)
@@ -17,7 +19,7 @@ pub fn memory_ok(k: FrameRules, base: u64, n: usize) -> bool
     if n % 16 != 0 {
         return false;
     }
-    if n < 256 {
+    if n < LEAST_MEMORY {
         return false;
     }
     if MAX_MEMORY < n {

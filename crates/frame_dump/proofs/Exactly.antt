@@ -12,7 +12,7 @@ use Rattle.base_words.proofs.Tests.{and-yes, either}
 use Rattle.frame_saves.specs.Saves.{load}
 use Rattle.frame_rules.specs.declared.FrameRules.{FrameRules}
 use Rattle.frame_dump.specs.Walk.{BadAddress, ListTooShort, Walked, frames, refused, okAddress, prepend, walkFrom, maxFrames, walk, fitted, walkInto, foundIn}
-use Rattle.frame_dump.specs.Chain.{firstOf, Linked, Inside, Ascending, Chain, WalksExactly}
+use Rattle.frame_dump.specs.Chain.{firstAddress, Linked, Inside, Ascending, Chain, WalksExactly}
 use Rattle.frame_dump.proofs.Laws.{walk-last, walk-more}
 
 -- ---- one address
@@ -44,7 +44,7 @@ prepend-frames a (refused r) xs e = absurd (let z : _≡_ {A = ℕ} 1 0 = ap tag
 -- what is found from the address a on, with n frames left to find
 record Part (k : FrameRules) (b : ℕ) (l : List ℕ) (n least a : ℕ) (xs : List ℕ) : Type 0 where
   some : 0 < length xs
-  first : firstOf xs ≡ a
+  first : firstAddress xs ≡ a
   linked : Linked k b l xs
   inside : Inside k b (length l) xs
   ascending : Ascending least xs

@@ -16,7 +16,7 @@ use Rattle.base_words.proofs.Tests.{and-yes}
 use Rattle.frame_saves.specs.Saves.{load}
 use Rattle.frame_rules.specs.declared.FrameRules.{FrameRules}
 use Rattle.frame_rules.specs.Helpers.{LawfulFrames}
-use Rattle.frame_dump.specs.Walk.{Refusal, BadAddress, ChainTooLong, ListTooShort, Found, Frames, Refused, Walked, frames, refused, okAddress, prepend, walkFrom, maxFrames, walk, fitted, walkInto, foundIn, counted}
+use Rattle.frame_dump.specs.Walk.{WalkRefusal, BadAddress, ChainTooLong, ListTooShort, Found, Frames, Refused, Walked, frames, refused, okAddress, prepend, walkFrom, maxFrames, walk, fitted, walkInto, foundIn, counted}
 
 -- a word has a byte at least
 pub word-some : (k : FrameRules) → LawfulFrames k → 0 < k .word
@@ -98,7 +98,7 @@ counted-frames : (w : Walked) (n : ℕ) → counted 0 w ≡ Frames n → w ≡ f
 counted-frames (frames xs) n e = refl
 counted-frames (refused r) n e = absurd (let z : _≡_ {A = ℕ} 1 0 = ap tag e in omega arith)
 
-counted-refused : (w : Walked) (r : Refusal) → counted 0 w ≡ Refused r → w ≡ refused r
+counted-refused : (w : Walked) (r : WalkRefusal) → counted 0 w ≡ Refused r → w ≡ refused r
 counted-refused (frames xs) r e = absurd (let z : _≡_ {A = ℕ} 0 1 = ap tag e in omega arith)
 counted-refused (refused x) r e = let a : x ≡ r = cc in rw a
 
@@ -114,7 +114,7 @@ module _ (k : FrameRules) (b : ℕ) (l : List ℕ) (p m : ℕ) where
     unfolding walkInto walk
     walked = rw (le-leb (b + length l) (2 ^ 64 - 1) h)
 
-    pub into-refused : (r : Refusal) → counted 0 (walkFrom maxFrames k b l 0 p) ≡ Refused r → walkInto k b l p m ≡ refused r
+    pub into-refused : (r : WalkRefusal) → counted 0 (walkFrom maxFrames k b l 0 p) ≡ Refused r → walkInto k b l p m ≡ refused r
     into-refused r e = walked ∙ ap (fitted m) (counted-refused (walkFrom maxFrames k b l 0 p) r e)
 
     module _ (n : ℕ) (e : counted 0 (walkFrom maxFrames k b l 0 p) ≡ Frames n) where

@@ -9,14 +9,14 @@ use Rattle.frame_rules.specs.declared.FrameRules.{FrameRules}
 use Rattle.frame_dump.specs.Walk.{Walked, frames, maxFrames, walkInto}
 
 -- the first of the addresses, or zero where there is none
-abbrev pub firstOf : List ℕ → ℕ
-firstOf [] = 0
-firstOf (x ∷ xs) = x
+abbrev pub firstAddress : List ℕ → ℕ
+firstAddress [] = 0
+firstAddress (x ∷ xs) = x
 
 -- "following the back chain until a zero word": the word at each address is the next one, that at the last is zero
 abbrev pub Linked : FrameRules → ℕ → List ℕ → List ℕ → Type 0
 Linked k b l [] = Unit {0}
-Linked k b l (x ∷ xs) = (load l (x - b) (k .word) ≡ firstOf xs) × Linked k b l xs
+Linked k b l (x ∷ xs) = (load l (x - b) (k .word) ≡ firstAddress xs) × Linked k b l xs
 
 -- "Each address must be aligned", "wholly inside the dump with its header"; n is the dump's length
 abbrev pub Inside : FrameRules → ℕ → ℕ → List ℕ → Type 0
@@ -32,7 +32,7 @@ Ascending least (x ∷ xs) = (least ≤ x) × Ascending (x + 1) xs
 pub record Chain (k : FrameRules) (b : ℕ) (l : List ℕ) (p : ℕ) (xs : List ℕ) : Type 0 where
   pub end : b + length l ≤ 2 ^ 64 - 1
   pub some : 0 < length xs
-  pub first : firstOf xs ≡ p
+  pub first : firstAddress xs ≡ p
   pub linked : Linked k b l xs
   pub inside : Inside k b (length l) xs
   pub ascending : Ascending 0 xs

@@ -9,15 +9,15 @@ use Rattle.base_words.specs.Basics.{pick}
 use Rattle.base_words.specs.Splice.{splice}
 use Rattle.frame_saves.specs.Saves.{load}
 use Rattle.frame_rules.specs.declared.FrameRules.{FrameRules}
-pub use Rattle.frame_dump.specs.declared.Refusal.{Refusal}
-pub use Rattle.frame_dump.specs.declared.Refusal.the-variants.{BadAddress, ChainTooLong, ListTooShort}
+pub use Rattle.frame_dump.specs.declared.WalkRefusal.{WalkRefusal}
+pub use Rattle.frame_dump.specs.declared.WalkRefusal.the-variants.{BadAddress, ChainTooLong, ListTooShort}
 pub use Rattle.frame_dump.specs.declared.Found.{Found}
 pub use Rattle.frame_dump.specs.declared.Found.the-variants.{Frames, Refused}
 
 -- the frame addresses in walking order, or why there are none
 pub data Walked : Type 0 where
   frames : List ℕ → Walked
-  refused : Refusal → Walked
+  refused : WalkRefusal → Walked
 
 -- "Each address must be aligned (to 16, on Z to 8), wholly inside the dump with its header (48 bytes, AIX 24, Z 160), and above the one before", that is, at least
 -- `least`; n is the dump's length
@@ -73,13 +73,13 @@ framesListed (refused r) l = l
 -- ---- numbers
 
 -- the refusals of No. 13: 30, 31 and 32
-abbrev pub refusalNumber : Refusal → ℕ
-refusalNumber (BadAddress a) = 30
-refusalNumber ChainTooLong = 31
-refusalNumber ListTooShort = 32
+abbrev pub walkRefusalNumber : WalkRefusal → ℕ
+walkRefusalNumber (BadAddress a) = 30
+walkRefusalNumber ChainTooLong = 31
+walkRefusalNumber ListTooShort = 32
 
 -- "30 with the bad address", or "with the base"; 31 and 32 have no place
-abbrev pub refusalPlace : Refusal → ℕ
+abbrev pub refusalPlace : WalkRefusal → ℕ
 refusalPlace (BadAddress a) = a
 refusalPlace ChainTooLong = 0
 refusalPlace ListTooShort = 0

@@ -6,8 +6,8 @@ use native.Mathlib.Omega.{arith}
 use lib.ListN.{length}
 use Rattle.frame_rules.specs.declared.FrameRules.{FrameRules}
 use Rattle.frame_rules.specs.Helpers.{LawfulFrames}
-use Rattle.frame_machine.specs.declared.Answer.{Answer}
-use Rattle.frame_machine.specs.declared.Answer.the-variants.{Accepted, Refused}
+use Rattle.frame_machine.specs.declared.FrameAnswer.{FrameAnswer}
+use Rattle.frame_machine.specs.declared.FrameAnswer.the-variants.{Accepted, Refused}
 use Rattle.frame_machine.specs.Machine.{stackPointer, sizes, enterOutcome, writeRegisterOutcome, writtenRegister, writeMemoryOutcome, leaveOutcome}
 use Rattle.frame_history.specs.Calls.{Call, enter, writeRegister, writeMemory, leave, Machine, answer, after}
 use Rattle.frame_history.specs.Preserved.{OpenEnter, openAfter, closeLatest, CallHolds}
@@ -42,7 +42,7 @@ written-pointer k os m b n v e i j =
     rw e (omega (arith, was, is))
 
 -- each call keeps it
-pub stands-step : (k : FrameRules) (c : Call) (os : List OpenEnter) (m : Machine) (p : ℕ) → Invariant k os m → (a : Answer) → answer c m ≡ a → CallHolds k c a os (after c m)
+pub stands-step : (k : FrameRules) (c : Call) (os : List OpenEnter) (m : Machine) (p : ℕ) → Invariant k os m → (a : FrameAnswer) → answer c m ≡ a → CallHolds k c a os (after c m)
     → Invariant k (openAfter c a m os) (after c m) → Stands k os m p → Stands k (openAfter c a m os) (after c m) p
 unfolding enterOutcome writeRegisterOutcome writeMemoryOutcome leaveOutcome
 stands-step k (enter f) os m p i Accepted e h j s = ap (λ (t : List ℕ). stackPointer k (after (enter f) m .state) ∷ t) s

@@ -7,13 +7,14 @@ use mathlib.Core.List.{List, [], _∷_}
 use native.Mathlib.Omega.{arith}
 use lib.ListN.{length}
 use borrow.Author.Tests.{le-leb}
+use Rattle.base_words.specs.Basics.{All}
 use Rattle.base_conventions.specs.declared.Convention.{Convention}
 use Rattle.frame_rules.specs.declared.FrameRules.{FrameRules}
 use Rattle.frame_rules.specs.Rules.{rules}
 use Rattle.frame_rules.specs.Helpers.{LawfulFrames}
 use Rattle.frame_rules.proofs.Conventions.{lawful}
 use Rattle.frame_rules.proofs.Places.{limit-64}
-use Rattle.frame_machine.specs.declared.Answer.the-variants.{Accepted}
+use Rattle.frame_machine.specs.declared.FrameAnswer.the-variants.{Accepted}
 use Rattle.frame_machine.specs.Machine.{stackPointer, startOutcome}
 use Rattle.frame_machine.proofs.States.{memory-yes}
 use Rattle.frame_word_layout.specs.Words.{machineWords, registersWords, registersIn}
@@ -56,7 +57,7 @@ pub record Kept (k : FrameRules) (os : List OpenEnter) (m : Lent) (p : ℕ) : Ty
   pub stands : Stands k os (machineIn m) p
 
 run-keeps : (k : FrameRules) → LawfulFrames k → (cs : List Call) → CallsFit (callsIn cs) → (os : List OpenEnter) (m : Lent) (p : ℕ) → Kept k os m p → Kept k (openedBy cs m os) (run cs m) p
-unfolding run openedBy
+unfolding run openedBy All
 run-keeps k law [] w os m p i = i
 run-keeps k law (c ∷ cs) w os m p i =
     let e = reading-after c m (i .words) in

@@ -10,7 +10,7 @@ use lib.ListN.{length}
 use Rattle.base_conventions.specs.declared.Convention.{Convention}
 use Rattle.frame_rules.specs.declared.FrameRules.{FrameRules}
 use Rattle.frame_rules.specs.Rules.{rules}
-use Rattle.frame_machine.specs.declared.Answer.the-variants.{Accepted}
+use Rattle.frame_machine.specs.declared.FrameAnswer.the-variants.{Accepted}
 use Rattle.frame_machine.specs.Machine.{stackPointer, startOutcome}
 use Rattle.frame_word_layout.specs.Words.{registersWords, registersIn, stateIn}
 use Rattle.frame_history.specs.Calls as states

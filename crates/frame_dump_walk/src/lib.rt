@@ -6,7 +6,7 @@ ghost use Rattle.base_words.specs.Splice.{splice};
 ghost use Rattle.frame_rules.specs.Helpers.{LawfulFrames};
 ghost use Rattle.frame_dump.specs.Walk.{okAddress, walkFrom, maxFrames, walkInto, foundIn, counted, framesListed};
 use frame_dump::Found;
-use frame_dump::Refusal;
+use frame_dump::WalkRefusal;
 use frame_rules::FrameRules;
 
 // The most frames that a walk finds.
@@ -46,7 +46,7 @@ fn count(memory: &[u8], k: FrameRules, base: u64, pointer: u64) -> Found
     while 0 < left {
         left -= 1;
         if !address_ok(k, base, n, least, a) {
-            return Found::Refused(Refusal::BadAddress(a));
+            return Found::Refused(WalkRefusal::BadAddress(a));
         }
         found += 1;
         let next = base_words::load(memory, (a - base) as usize, k.word);
@@ -56,7 +56,7 @@ fn count(memory: &[u8], k: FrameRules, base: u64, pointer: u64) -> Found
         least = a + 1;
         a = next;
     }
-    Found::Refused(Refusal::ChainTooLong)
+    Found::Refused(WalkRefusal::ChainTooLong)
 }
 
 // The addresses of the n frames that a walk finds, over the first numbers of `list`.
@@ -82,14 +82,14 @@ pub fn walk(memory: &[u8], k: FrameRules, base: u64, pointer: u64, list: &mut [u
 {
     let length = memory.len();
     if 18446744073709551615 - (length as u64) < base {
-        return Found::Refused(Refusal::BadAddress(base));
+        return Found::Refused(WalkRefusal::BadAddress(base));
     }
     let c = count(memory, k, base, pointer);
     match c {
         Found::Refused(r) => Found::Refused(r),
         Found::Frames(n) => {
             if list.len() < n {
-                return Found::Refused(Refusal::ListTooShort);
+                return Found::Refused(WalkRefusal::ListTooShort);
             }
             put(memory, k, base, pointer, list, n);
             Found::Frames(n)

@@ -1,16 +1,17 @@
 -- An accepted enter keeps the invariant, with its enter open. Assumes nothing.
-use Prim.Native.Nat.{ℕ, zero, suc, _+_, _-_, _*_, _^_, _≤_, _<_}
+use Prim.Native.Nat.{ℕ, _+_, _-_, _*_, _^_, _≤_, _<_}
 use mathlib.Core.Path.{_≡_, refl, _∙_}
-use mathlib.Core.Bool.{true, false}
-use mathlib.Core.List.{List, [], _∷_}
+use mathlib.Core.Bool.{false}
+use mathlib.Core.List.{List, _∷_}
 use native.Mathlib.Omega.{arith}
 use native.Mathlib.Numerals.{add-one}
 use lib.ListN.{length, getD, set, length-set}
 use lib.Seq.{getD-set-same, getD-set-other}
-use Rattle.base_words.proofs.Fitting.{fit-set}
+use Rattle.base_words.specs.Basics.{All}
+use Rattle.base_words.proofs.Fitting.{fit-set, fit-replicate}
 use Rattle.frame_saves.specs.Saves.{store, saveAll}
 use Rattle.frame_saves.proofs.Words.{load-agree, load-store, store-length, store-above}
-use Rattle.frame_saves.proofs.Saving.{FitAll, all-length, all-outside, all-held, outside-below}
+use Rattle.frame_saves.proofs.Saving.{Fitting, all-length, all-outside, all-held, outside-below}
 use Rattle.frame_rules.specs.declared.FrameRules.{FrameRules}
 use Rattle.frame_rules.specs.declared.Frame.{Frame}
 use Rattle.frame_rules.specs.declared.Registers.{Registers}
@@ -20,23 +21,19 @@ use Rattle.frame_rules.specs.Frames.{noFrame, withPointer, below, frameSize, ch
 use Rattle.frame_rules.specs.Helpers.{LawfulFrames}
 use Rattle.frame_rules.proofs.Conventions.{pointer-unpreserved}
 use Rattle.frame_rules.proofs.Places.{solid-chain, below-reach, chain-in, ascending}
-use Rattle.frame_machine.specs.declared.Answer.the-variants.{Accepted}
+use Rattle.frame_machine.specs.declared.FrameAnswer.the-variants.{Accepted}
 use Rattle.frame_machine.specs.declared.State.{State}
 use Rattle.frame_machine.specs.Machine.{stackPointer, offset, frameAt, okFrames, sizes, enterAnswer, entered, enteredMemory}
 use Rattle.frame_machine.specs.Helpers.{CanEnter}
 use Rattle.frame_machine.proofs.States.{enter-yes, top-agree, frames-agree, sizes-agree}
 use Rattle.frame_history.specs.Calls.{Machine}
-use Rattle.frame_history.specs.Preserved.{OpenEnter, callerOf}
-use Rattle.frame_history.proofs.Invariant.{Fit, fit-small, Base, Top, Invariant, base-of, top-is}
-
-fit-one : (x m : ℕ) → x < m → (i : ℕ) → getD (x ∷ []) i 0 < m
-fit-one x m h zero = h
-fit-one x m h (suc i) = omega arith
+use Rattle.frame_history.specs.Preserved.{OpenEnter, callerOf, RegistersFit}
+use Rattle.frame_history.proofs.Invariant.{fit-small, Base, Top, Invariant, base-of, top-is}
 
 -- what is saved fits its words
-fit-saves : (p : Linkage) (k : FrameRules) (f : Frame) (s : ℕ) (r : Registers) → Fit k r → FitAll (savesBy p k f s r)
-unfolding savesBy
-fit-saves (LinkRegister c l) k f s r w = (w .gpr, (w .fpr, (fit-one (r .cr) (2 ^ 32) (w .cr), (fit-one (r .lr) (2 ^ (8 * k .word)) (w .lr), tt))))
+fit-saves : (p : Linkage) (k : FrameRules) (f : Frame) (s : ℕ) (r : Registers) → RegistersFit (k .word) r → All Fitting (savesBy p k f s r)
+unfolding savesBy All
+fit-saves (LinkRegister c l) k f s r w = (w .gpr, (w .fpr, (fit-replicate 1 (r .cr) (2 ^ 32) (w .cr), (fit-replicate 1 (r .lr) (2 ^ (8 * k .word)) (w .lr), tt))))
 fit-saves (SaveArea n) k f s r w = (w .fpr, (w .gpr, tt))
 
 module _ (k : FrameRules) (law : LawfulFrames k) (m : Machine) (f : Frame) (b : Base k m) (y : CanEnter k (m .state) f) where
@@ -73,7 +70,7 @@ module _ (k : FrameRules) (law : LawfulFrames k) (m : Machine) (f : Frame) (b : 
   abbrev m′ : Machine
   m′ = record { state = entered k s f; memory = enteredMemory k s (m .memory) f }
 
-  fit-entered : Fit k (withPointer k (s .registers) (stackPointer k s - frameSize k f))
+  fit-entered : RegistersFit (k .word) (withPointer k (s .registers) (stackPointer k s - frameSize k f))
   unfolding withPointer
   fit-entered = record {
     gprs = length-set (s .registers .gpr) (k .pointer) (stackPointer k s - frameSize k f) ∙ b .fit .gprs;

@@ -13,15 +13,15 @@ use Rattle.frame_saves.specs.Saves.{store, load, saveRun, loadRun}
 use Rattle.base_conventions.specs.declared.Convention.the-variants.{Ppc64, Z, Aix}
 use Rattle.frame_rules.specs.declared.Frame.{Frame}
 use Rattle.frame_rules.specs.declared.Registers.{Registers}
-use Rattle.frame_rules.specs.Frames.{withPointer, allWithin, lowered, okRegisters, cleared, okLeaf, okRequest, below, fullSize, frameSize, chainWidth, gprAt, savesBy, linkAt, mergeFields, restoredLr, restoredCr, restored, bankOf, writableField, writableRegister, withField, withRegister}
-use Rattle.frame_machine.specs.Answers.{answerNumber, judge}
+use Rattle.frame_rules.specs.Frames.{withPointer, allWithin, lowered, okRegisters, cleared, okLeaf, okRequest, below, fullSize, frameSize, chainWidth, gprAt, savesBy, linkAt, mergeFields, restoredLr, restoredCr, restored, bankOf, writableField, writableRegister, withConditionField, withRegister}
+use Rattle.frame_machine.specs.Answers.{frameAnswerNumber, judge}
 use Rattle.frame_machine.specs.Machine.{topFrame, callerFrame, okFrames, sizes, okMemory, okState, startAnswer, started, startedMemory, enterAnswer, entered, enteredMemory, writableBytes, writableAddress, writeRegisterAnswer, writeMemoryAnswer, writtenRegister, writtenMemory, leaveAnswer, left, startOutcome, startMemory, enterOutcome, enterMemory, writeRegisterOutcome, writeMemoryOutcome, writeMemoryMemory, leaveOutcome}
 use Rattle.frame_history.specs.Calls.{Call, enter, writeRegister, writeMemory, leave, Machine, answer, after, fresh}
 
 -- the numbers of the answers to a list of calls, and the machine after them
 abbrev numbers : List Call → Machine → List ℕ
 numbers [] m = []
-numbers (c ∷ cs) m = answerNumber (answer c m) ∷ numbers cs (after c m)
+numbers (c ∷ cs) m = frameAnswerNumber (answer c m) ∷ numbers cs (after c m)
 
 abbrev run : List Call → Machine → Machine
 run [] m = m
@@ -98,7 +98,7 @@ pub worked : (numbers calls start ≡ 22 ∷ 0 ∷ 0 ∷ 20 ∷ 0 ∷ 0 ∷ 0 �
     × (run calls-z start-z .state .registers ≡ record { gpr = replicate 15 7 ++ (4096 + 512 - 160) ∷ replicate 16 7; fpr = replicate 32 9; lr = 11; cr = 0 })
     × (numbers calls-leaf start ≡ 0 ∷ 0 ∷ 28 ∷ 0 ∷ 20 ∷ 0 ∷ 20 ∷ 20 ∷ 0 ∷ 0 ∷ 0 ∷ [])
     × (run calls-leaf start .state .registers ≡ record { gpr = 7 ∷ (4096 + 640 - 112) ∷ replicate 30 7; fpr = replicate 32 9; lr = 11; cr = 0 })
-unfolding overlay splice bytesOf valueOf store load saveRun loadRun withPointer allWithin lowered okRegisters cleared okLeaf okRequest below roundUp fullSize frameSize chainWidth gprAt savesBy linkAt mergeFields restoredLr restoredCr restored bankOf writableField writableRegister withField withRegister judge topFrame callerFrame okFrames sizes okMemory okState startAnswer started startedMemory enterAnswer entered enteredMemory writableBytes writableAddress writeRegisterAnswer writeMemoryAnswer writtenRegister writtenMemory leaveAnswer left startOutcome startMemory enterOutcome enterMemory writeRegisterOutcome writeMemoryOutcome writeMemoryMemory leaveOutcome
+unfolding overlay splice bytesOf valueOf store load saveRun loadRun withPointer allWithin lowered okRegisters cleared okLeaf okRequest below roundUp fullSize frameSize chainWidth gprAt savesBy linkAt mergeFields restoredLr restoredCr restored bankOf writableField writableRegister withConditionField withRegister judge topFrame callerFrame okFrames sizes okMemory okState startAnswer started startedMemory enterAnswer entered enteredMemory writableBytes writableAddress writeRegisterAnswer writeMemoryAnswer writtenRegister writtenMemory leaveAnswer left startOutcome startMemory enterOutcome enterMemory writeRegisterOutcome writeMemoryOutcome writeMemoryMemory leaveOutcome
 worked = (refl, refl, refl, refl, refl, refl)
 
 -- on AIX: registers handed in with high halves, and a frame that saves r13 and up
@@ -156,5 +156,5 @@ pub worked-aix : (numbers calls-aix start-aix ≡ 22 ∷ 0 ∷ 0 ∷ 20 ∷ 0 �
     × (run calls-aix start-aix .state .registers ≡ record { gpr = 7 ∷ (4096 + 640 - 64) ∷ replicate 30 7; fpr = replicate 32 (2 ^ 32 + 9); lr = 11; cr = 0 })
     × (numbers calls-leaf-aix start-aix ≡ 0 ∷ 0 ∷ 28 ∷ 0 ∷ 20 ∷ 0 ∷ 20 ∷ 20 ∷ 0 ∷ 0 ∷ 0 ∷ 20 ∷ 0 ∷ 0 ∷ [])
     × (run calls-leaf-aix start-aix .state .registers ≡ record { gpr = 7 ∷ (4096 + 640 - 64) ∷ replicate 30 7; fpr = replicate 32 (2 ^ 32 + 9); lr = 11; cr = 0 })
-unfolding overlay splice bytesOf valueOf store load saveRun loadRun withPointer allWithin lowered okRegisters cleared okLeaf okRequest below roundUp fullSize frameSize chainWidth gprAt savesBy linkAt mergeFields restoredLr restoredCr restored bankOf writableField writableRegister withField withRegister judge topFrame callerFrame okFrames sizes okMemory okState startAnswer started startedMemory enterAnswer entered enteredMemory writableBytes writableAddress writeRegisterAnswer writeMemoryAnswer writtenRegister writtenMemory leaveAnswer left startOutcome startMemory enterOutcome enterMemory writeRegisterOutcome writeMemoryOutcome writeMemoryMemory leaveOutcome
+unfolding overlay splice bytesOf valueOf store load saveRun loadRun withPointer allWithin lowered okRegisters cleared okLeaf okRequest below roundUp fullSize frameSize chainWidth gprAt savesBy linkAt mergeFields restoredLr restoredCr restored bankOf writableField writableRegister withConditionField withRegister judge topFrame callerFrame okFrames sizes okMemory okState startAnswer started startedMemory enterAnswer entered enteredMemory writableBytes writableAddress writeRegisterAnswer writeMemoryAnswer writtenRegister writtenMemory leaveAnswer left startOutcome startMemory enterOutcome enterMemory writeRegisterOutcome writeMemoryOutcome writeMemoryMemory leaveOutcome
 worked-aix = (refl, refl, refl, refl)

@@ -9,6 +9,7 @@ use native.Mathlib.Omega.{arith}
 use lib.ListN.{length, getD}
 use lib.Dec.{leb}
 use borrow.Author.Tests.{leb-true}
+use Rattle.base_words.specs.Basics.{All}
 use Rattle.base_words.specs.Splice.{splice}
 use Rattle.base_words.proofs.Splices.{splice-at-other}
 use Rattle.frame_saves.specs.Saves.{store}
@@ -23,8 +24,8 @@ use Rattle.frame_rules.specs.Frames.{withPointer, below, frameSize, chainWidth,
 use Rattle.frame_rules.specs.Helpers.{LawfulFrames}
 use Rattle.frame_rules.proofs.Conventions.{lawful}
 use Rattle.frame_rules.proofs.Places.{leaf-size, size-parts, below-reach, ascending}
-use Rattle.frame_machine.specs.declared.Answer.{Answer}
-use Rattle.frame_machine.specs.declared.Answer.the-variants.{Accepted, Refused}
+use Rattle.frame_machine.specs.declared.FrameAnswer.{FrameAnswer}
+use Rattle.frame_machine.specs.declared.FrameAnswer.the-variants.{Accepted, Refused}
 use Rattle.frame_machine.specs.Machine.{stackPointer, offset, top, caller, stateTests, outgoingFrom, writableAddress, writeMemoryAnswer, writtenMemory, entered, enteredMemory, startOutcome, enterOutcome, enterMemory, writeRegisterOutcome, writeMemoryOutcome, writeMemoryMemory, leaveOutcome}
 use Rattle.frame_machine.specs.Helpers.{CanEnter}
 use Rattle.frame_machine.proofs.Judging.{holds-yes, judge-both}
@@ -86,7 +87,7 @@ write-untouched k m a bs e c p =
     (le-or-lt (suc c) (a - s .base))
 
 module _ (k : FrameRules) (law : LawfulFrames k) where
-  untouched : (c : Call) (os : List OpenEnter) (m : Machine) → Invariant k os m → (a : Answer) → answer c m ≡ a → Untouched k c m (after c m)
+  untouched : (c : Call) (os : List OpenEnter) (m : Machine) → Invariant k os m → (a : FrameAnswer) → answer c m ≡ a → Untouched k c m (after c m)
   unfolding enterOutcome enterMemory writeRegisterOutcome writeMemoryOutcome writeMemoryMemory leaveOutcome
   untouched (enter f) os m i Accepted e =
       let b = base-of k os m i in
@@ -98,6 +99,7 @@ module _ (k : FrameRules) (law : LawfulFrames k) where
   untouched leave os m i a e = λ b p. inl refl
 
   floor-holds : (cs : List Call) → CallsFit cs → (os : List OpenEnter) (m : Machine) → Invariant k os m → FloorHolds k cs m
+  unfolding All
   floor-holds [] w os m i = floor-inside k m (base-of k os m i)
   floor-holds (c ∷ cs) w os m i = (
     floor-inside k m (base-of k os m i),

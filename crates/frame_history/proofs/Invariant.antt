@@ -8,9 +8,10 @@ use mathlib.Core.List.{List, [], _∷_}
 use native.Mathlib.Omega.{arith}
 use lib.ListN.{length, getD}
 use borrow.Author.Tests.{le-leb}
+use Rattle.base_words.specs.Basics.{All}
 use Rattle.frame_saves.specs.Saves.{load, Outside}
 use Rattle.frame_saves.proofs.Words.{load-agree}
-use Rattle.frame_saves.proofs.Saving.{HeldAll, all-agree}
+use Rattle.frame_saves.proofs.Saving.{Held, all-agree}
 use Rattle.frame_rules.specs.declared.FrameRules.{FrameRules}
 use Rattle.frame_rules.specs.declared.Registers.{Registers}
 use Rattle.frame_rules.specs.Rules.{within}
@@ -21,25 +22,16 @@ use Rattle.frame_rules.proofs.Places.{solid-chain, below-reach, ascending}
 use Rattle.frame_machine.specs.Machine.{stateRules, stackPointer, offset, frameAt, topFrame}
 use Rattle.frame_machine.specs.Helpers.{Sound}
 use Rattle.frame_history.specs.Calls.{Machine}
-use Rattle.frame_history.specs.Preserved.{OpenEnter, callerOf}
-
--- the registers are as many as they must be, and fit their words
-pub record Fit (k : FrameRules) (r : Registers) : Type 0 where
-  pub gprs : length (r .gpr) ≡ 32
-  pub fprs : length (r .fpr) ≡ 32
-  pub gpr : (i : ℕ) → getD (r .gpr) i 0 < 2 ^ (8 * k .word)
-  pub fpr : (i : ℕ) → getD (r .fpr) i 0 < 2 ^ 64
-  pub lr : r .lr < 2 ^ (8 * k .word)
-  pub cr : r .cr < 2 ^ 32
+use Rattle.frame_history.specs.Preserved.{OpenEnter, callerOf, RegistersFit}
 
 -- registers that fit their words pass 23
-pub fit-small : (k : FrameRules) → LawfulFrames k → (r : Registers) → Fit k r → okRegisters k r ≡ true
+pub fit-small : (k : FrameRules) → LawfulFrames k → (r : Registers) → RegistersFit (k .word) r → okRegisters k r ≡ true
 unfolding okRegisters
 fit-small k law r w =
     rw (each-within (k .limit) (r .gpr) 32 (λ i. omega (arith, w .gpr i, law .limit)), le-leb (r .lr) (k .limit) (omega (arith, w .lr, law .limit)))
 
 pub record Base (k : FrameRules) (m : Machine) : Type 0 where
-  pub fit : Fit k (m .state .registers)
+  pub fit : RegistersFit (k .word) (m .state .registers)
   pub frames : length (m .state .frames) ≡ 32
   pub rules : stateRules (m .state) ≡ k
   pub sound : Sound k (m .state) (length (m .memory))
@@ -56,7 +48,7 @@ pub record Top (k : FrameRules) (o : OpenEnter) (os : List OpenEnter) (m : Machi
   pub gprs : (n : ℕ) → within (k .gpr .preserved) n ≡ true → n < firstGpr (o .request) → getD (m .state .registers .gpr) n 0 ≡ getD (o .before .state .registers .gpr) n 0
   pub fprs : (n : ℕ) → within (k .fpr .preserved) n ≡ true → n < firstFpr (o .request) → getD (m .state .registers .fpr) n 0 ≡ getD (o .before .state .registers .fpr) n 0
   pub fields : savesCr (o .request) ≡ false → preservedCondition (k .linkage) (m .state .registers .cr) ≡ preservedCondition (k .linkage) (o .before .state .registers .cr)
-  pub held : HeldAll (m .memory) (saves k (o .request) (offset k (o .before .state)) (o .before .state .registers))
+  pub held : All (Held (m .memory)) (saves k (o .request) (offset k (o .before .state)) (o .before .state .registers))
   -- the caller is no leaf; a leaf keeps LR, any other frame its back chain
   pub solid : callerOf k os .leaf ≡ false
   pub lr : o .request .leaf ≡ true → m .state .registers .lr ≡ o .before .state .registers .lr

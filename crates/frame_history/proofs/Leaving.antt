@@ -23,16 +23,16 @@ use Rattle.frame_rules.specs.Helpers.{LawfulFrames}
 use Rattle.frame_rules.proofs.Conventions.{pointer-unpreserved, before-lt}
 use Rattle.frame_rules.proofs.Places.{ranges, solid-chain, gpr-end, fpr-end, room-for, ascending, chain-outside}
 use Rattle.frame_rules.proofs.Restoring.{gpr-held, fpr-held, link-held, lr-fit, cr-fit, cr-held, return-held}
-use Rattle.frame_machine.specs.declared.Answer.the-variants.{Accepted, Refused}
-use Rattle.frame_machine.specs.declared.Refusal.the-variants.{NothingEntered}
+use Rattle.frame_machine.specs.declared.FrameAnswer.the-variants.{Accepted, Refused}
+use Rattle.frame_machine.specs.declared.FrameRefusal.the-variants.{NothingEntered}
 use Rattle.frame_machine.specs.declared.State.{State}
 use Rattle.frame_machine.specs.Answers.{judge}
 use Rattle.frame_machine.specs.Machine.{stackPointer, offset, frameAt, topFrame, okFrames, sizes, stateTests, leaveTests, leaveAnswer, left}
 use Rattle.frame_machine.proofs.Judging.{judge-next}
 use Rattle.frame_machine.proofs.States.{state-accepted, frames-agree, sizes-agree}
 use Rattle.frame_history.specs.Calls.{Machine}
-use Rattle.frame_history.specs.Preserved.{OpenEnter, Preserved}
-use Rattle.frame_history.proofs.Invariant.{Fit, fit-small, Base, Invariant, base-of, top-is, RestsAll, Keeps, room-below, saves-below, invariant-keeps}
+use Rattle.frame_history.specs.Preserved.{OpenEnter, Preserved, RegistersFit}
+use Rattle.frame_history.proofs.Invariant.{fit-small, Base, Invariant, base-of, top-is, RestsAll, Keeps, room-below, saves-below, invariant-keeps}
 
 -- with nothing open, refusal 22
 pub leave-refused : (k : FrameRules) (m : Machine) → Invariant k [] m → leaveAnswer k (m .state) (m .memory) ≡ Refused NothingEntered
@@ -173,7 +173,7 @@ module _ (k : FrameRules) (law : LawfulFrames k) (o : OpenEnter) (os : List Open
   unfolding restored
   fields-back = cr-held k (o .request) c₀ (s₀ .registers) (m .memory) (k .linkage) (s .registers .cr) (i .1 .held) (i .1 .fields)
 
-  fit-back : Fit k r
+  fit-back : RegistersFit (k .word) r
   unfolding restored
   fit-back = record {
     gprs = length-set (taken (s .registers .gpr) (m .memory) general) (k .pointer) (stackPointer k s₀) ∙ length-given;

@@ -7,6 +7,7 @@ use native.Mathlib.Omega.{arith}
 use native.Mathlib.Nat.{mod-lt}
 use lib.ListN.{length, getD, set, length-set, List·getD-eq-default}
 use lib.Seq.{getD-set-same}
+use Rattle.base_words.specs.Basics.{All}
 use Rattle.base_words.proofs.Fitting.{fit-set}
 use Rattle.frame_saves.specs.Saves.{load}
 use Rattle.frame_saves.proofs.Words.{store-length, load-store}
@@ -18,14 +19,14 @@ use Rattle.frame_rules.specs.Frames.{withPointer, lowered, cleared}
 use Rattle.frame_rules.specs.Helpers.{LawfulFrames}
 use Rattle.frame_rules.proofs.Halves.{lowered-length, lowered-fit}
 use Rattle.frame_rules.proofs.Conventions.{lawful}
-use Rattle.frame_machine.specs.declared.Answer.{Answer}
-use Rattle.frame_machine.specs.declared.Answer.the-variants.{Accepted, Refused}
+use Rattle.frame_machine.specs.declared.FrameAnswer.{FrameAnswer}
+use Rattle.frame_machine.specs.declared.FrameAnswer.the-variants.{Accepted, Refused}
 use Rattle.frame_machine.specs.Machine.{okMemory, okFrames, sizes, startAnswer, started, startedMemory, startOutcome, startMemory, enterOutcome, enterMemory, writeRegisterOutcome, writeMemoryOutcome, writeMemoryMemory, leaveOutcome}
 use Rattle.frame_machine.proofs.Judging.{never, holds-yes}
 use Rattle.frame_machine.proofs.States.{memory-yes}
 use Rattle.frame_history.specs.Calls.{Call, enter, writeRegister, writeMemory, leave, Machine, answer, after, fresh}
 use Rattle.frame_history.specs.Preserved.{OpenEnter, openAfter, CallHolds, Holds, RegistersFit, CallFits, CallsFit, Demand3OfStates}
-use Rattle.frame_history.proofs.Invariant.{Fit, fit-small, Base, Invariant, base-of}
+use Rattle.frame_history.proofs.Invariant.{fit-small, Base, Invariant, base-of}
 use Rattle.frame_history.proofs.Entering.{enter-keeps}
 use Rattle.frame_history.proofs.Writing.{write-register-keeps, write-memory-keeps}
 use Rattle.frame_history.proofs.Leaving.{leave-refused, leave-accepted, leave-keeps}
@@ -33,7 +34,7 @@ use Rattle.frame_history.proofs.Leaving.{leave-refused, leave-accepted,
 -- ---- one call
 
 module _ (k : FrameRules) (law : LawfulFrames k) where
-  pub step : (c : Call) → CallFits c → (os : List OpenEnter) (m : Machine) → Invariant k os m → (a : Answer) → answer c m ≡ a
+  pub step : (c : Call) → CallFits c → (os : List OpenEnter) (m : Machine) → Invariant k os m → (a : FrameAnswer) → answer c m ≡ a
       → CallHolds k c a os (after c m) × Invariant k (openAfter c a m os) (after c m)
   unfolding enterOutcome enterMemory writeRegisterOutcome writeMemoryOutcome writeMemoryMemory leaveOutcome
   step (enter f) w os m i Accepted e =
@@ -53,6 +54,7 @@ module _ (k : FrameRules) (law : LawfulFrames k) where
   -- ---- a list of calls
 
   holds : (cs : List Call) → CallsFit cs → (os : List OpenEnter) (m : Machine) → Invariant k os m → Holds k cs os m
+  unfolding All
   holds [] w os m i = tt
   holds (c ∷ cs) w os m i =
       let r = step c (w .0) os m i (answer c m) refl in
@@ -60,7 +62,7 @@ module _ (k : FrameRules) (law : LawfulFrames k) where
 
 -- ---- the start
 
-module _ (c : Convention) (b : ℕ) (l : List ℕ) (r : Registers) (fit : RegistersFit r) (e : startAnswer c b (length l) ≡ Accepted) where
+module _ (c : Convention) (b : ℕ) (l : List ℕ) (r : Registers) (fit : RegistersFit 8 r) (e : startAnswer c b (length l) ≡ Accepted) where
   abbrev k : FrameRules
   k = rules c
 
@@ -91,7 +93,7 @@ module _ (c : Convention) (b : ℕ) (l : List ℕ) (r : Registers) (fit : Regist
   abbrev registers : Registers
   registers = withPointer k (cleared k r) (b + n - k .room)
 
-  fits : Fit k registers
+  fits : RegistersFit (k .word) registers
   unfolding withPointer cleared
   fits =
       let pos : 0 < k .limit + 1 = omega arith in

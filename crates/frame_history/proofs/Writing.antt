@@ -22,14 +22,14 @@ use Rattle.frame_rules.specs.Helpers.{LawfulFrames}
 use Rattle.frame_rules.proofs.Conventions.{writable-apart, pointer-unwritable}
 use Rattle.frame_rules.proofs.Places.{ranges, leaf-chain, solid-chain}
 use Rattle.frame_rules.proofs.Writing.{field-number, field-fit, field-preserves}
-use Rattle.frame_machine.specs.declared.Answer.the-variants.{Accepted}
+use Rattle.frame_machine.specs.declared.FrameAnswer.the-variants.{Accepted}
 use Rattle.frame_machine.specs.declared.State.{State}
 use Rattle.frame_machine.specs.Machine.{stackPointer, offset, topFrame, callerFrame, stateTests, outgoingFrom, writableBytes, writableAddress, writeRegisterAnswer, writeMemoryAnswer, writtenRegister, writtenMemory}
 use Rattle.frame_machine.proofs.Areas.{solid-outgoing, outgoing-le, locals-le, areas}
 use Rattle.frame_machine.proofs.Judging.{holds-yes, judge-both}
 use Rattle.frame_history.specs.Calls.{Machine}
-use Rattle.frame_history.specs.Preserved.{OpenEnter, callerOf}
-use Rattle.frame_history.proofs.Invariant.{Fit, fit-small, Base, Invariant, base-of, top-is, RestsAll, Keeps, room-below, invariant-keeps}
+use Rattle.frame_history.specs.Preserved.{OpenEnter, callerOf, RegistersFit}
+use Rattle.frame_history.proofs.Invariant.{fit-small, Base, Invariant, base-of, top-is, RestsAll, Keeps, room-below, invariant-keeps}
 
 pub caller-is : (k : FrameRules) (o : OpenEnter) (os : List OpenEnter) (m : Machine) → Invariant k (o ∷ os) m → callerFrame k (m .state .frames) (m .state .depth) ≡ callerOf k os
 unfolding topFrame callerFrame
@@ -99,7 +99,7 @@ module _ (k : FrameRules) (law : LawfulFrames k) (os : List OpenEnter) (m : Mach
   }
 
   -- other registers, with the same pointer and the same preserved registers that the top frame did not save
-  keeps-registers : (r : Registers) → Fit k r → getD (r .gpr) (k .pointer) 0 ≡ stackPointer k s → Keeps k os m (with r) → Invariant k os (with r)
+  keeps-registers : (r : Registers) → RegistersFit (k .word) r → getD (r .gpr) (k .pointer) 0 ≡ stackPointer k s → Keeps k os m (with r) → Invariant k os (with r)
   keeps-registers r w same keeps =
       invariant-keeps k law os m (with r) i
       (record {

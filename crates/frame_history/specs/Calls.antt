@@ -7,8 +7,8 @@ use Rattle.base_conventions.specs.declared.Convention.{Convention}
 use Rattle.frame_rules.specs.declared.Frame.{Frame}
 use Rattle.frame_rules.specs.declared.Registers.{Registers}
 use Rattle.frame_machine.specs.declared.State.{State}
-use Rattle.frame_machine.specs.declared.Outcome.{Outcome}
-use Rattle.frame_machine.specs.declared.Answer.{Answer}
+use Rattle.frame_machine.specs.declared.FrameOutcome.{FrameOutcome}
+use Rattle.frame_machine.specs.declared.FrameAnswer.{FrameAnswer}
 use Rattle.frame_machine.specs.Machine.{startOutcome, startMemory, enterOutcome, enterMemory, writeRegisterOutcome, writeMemoryOutcome, writeMemoryMemory, leaveOutcome}
 
 -- any enter, write or leave: of a request; of a bank, a number and a value; of an address and bytes
@@ -24,7 +24,7 @@ pub record Machine : Type 0 where
   pub memory : List ℕ
 
 -- what a call answers with the state after it, and the memory after it
-abbrev pub outcome : Call → Machine → Outcome
+abbrev pub outcome : Call → Machine → FrameOutcome
 outcome (enter f) m = enterOutcome (m .state) (length (m .memory)) f
 outcome (writeRegister b n v) m = writeRegisterOutcome (m .state) (length (m .memory)) b n v
 outcome (writeMemory a bs) m = writeMemoryOutcome (m .state) (length (m .memory)) a (length bs)
@@ -36,7 +36,7 @@ memoryAfter (writeRegister b n v) m = m .memory
 memoryAfter (writeMemory a bs) m = writeMemoryMemory (m .state) (m .memory) a bs
 memoryAfter leave m = m .memory
 
-abbrev pub answer : Call → Machine → Answer
+abbrev pub answer : Call → Machine → FrameAnswer
 answer c m = outcome c m .answer
 
 abbrev pub after : Call → Machine → Machine

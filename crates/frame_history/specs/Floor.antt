@@ -12,7 +12,7 @@ use Rattle.frame_rules.specs.declared.FrameRules.{FrameRules}
 use Rattle.frame_rules.specs.declared.Registers.{Registers}
 use Rattle.frame_rules.specs.Rules.{rules}
 use Rattle.frame_rules.specs.Frames.{below}
-use Rattle.frame_machine.specs.declared.Answer.the-variants.{Accepted}
+use Rattle.frame_machine.specs.declared.FrameAnswer.the-variants.{Accepted}
 use Rattle.frame_machine.specs.Machine.{stackPointer, offset, top, startOutcome}
 use Rattle.frame_history.specs.Calls.{Call, enter, writeRegister, writeMemory, leave, Machine, after, fresh}
 use Rattle.frame_history.specs.Preserved.{RegistersFit, CallsFit}
@@ -41,5 +41,5 @@ FloorHolds k (c ∷ cs) m = FloorInside k m × Untouched k c m (after c m) × Fl
 
 -- `RegistersFit` and `CallsFit` restrict nothing: the types of the program's numbers are so.
 abbrev pub KeepsFloorOfStates : Type 0
-KeepsFloorOfStates = (c : Convention) (b : ℕ) (l : List ℕ) (r : Registers) → RegistersFit r → startOutcome c b (length l) r .answer ≡ Accepted → (cs : List Call) → CallsFit cs
+KeepsFloorOfStates = (c : Convention) (b : ℕ) (l : List ℕ) (r : Registers) → RegistersFit 8 r → startOutcome c b (length l) r .answer ≡ Accepted → (cs : List Call) → CallsFit cs
     → FloorHolds (rules c) cs (fresh c b l r)

@@ -1,36 +1,22 @@
--- Small facts that the proofs of the functions cite: tests on differences, the records of a sound state, and where its top frame lies. Assumes nothing.
+-- Small facts that the proofs of the functions cite: the records of a sound state, and where its top frame lies. Assumes nothing.
 use Prim.Native.Nat.{ℕ, zero, suc, _+_, _-_, _≤_, _<_}
-use mathlib.Core.Path.{_≡_, refl, sym, ap, _∙_, subst}
+use mathlib.Core.Path.{_≡_, refl, sym, _∙_, subst}
 use mathlib.Core.Logic.{⊎-elim}
-use mathlib.Core.Bool.{Bool, true, false, not, _&&_}
+use mathlib.Core.Bool.{true, false, not, _&&_}
 use mathlib.Core.List.{List}
 use native.Mathlib.Omega.{arith}
 use lib.ListN.{length}
-use lib.Dec.{leb, eqb}
-use borrow.Author.Tests.{eq-eqb, ne-eqb, eqb-true, eqb-false}
-use Rattle.base_words.proofs.Basics.{le-or-lt, leb-sub}
+use Rattle.base_words.proofs.Basics.{le-or-lt}
 use Rattle.base_words.proofs.Tests.{and-yes, not-yes}
 use Rattle.frame_rules.specs.declared.FrameRules.{FrameRules}
 use Rattle.frame_rules.specs.declared.Frame.{Frame}
 use Rattle.frame_rules.specs.Frames.{startFrame, maxOutgoing, okRequest, outgoingLength, frameSize}
-use Rattle.frame_rules.specs.Helpers.{LawfulFrames, Placed}
+use Rattle.frame_rules.specs.Helpers.{LawfulFrames, SavesFit}
 use Rattle.frame_rules.proofs.Conventions.{lawful}
 use Rattle.frame_rules.proofs.Places.{ranges, below-reach}
 use Rattle.frame_machine.specs.Machine.{State, offset, frameAt, topFrame, callerFrame, top, caller, okFrames, sizes}
 use Rattle.frame_machine.specs.Helpers.{Sound, CanEnter}
 use Rattle.frame_machine.proofs.States.{memory-yes}
-
--- ---- tests on differences
-
-pub leb-sub-left : (n a e : ℕ) → a ≤ e → leb n (e - a) ≡ leb (a + n) e
-leb-sub-left n a e h = leb-sub n a e h ∙ (let x : n + a ≡ a + n = omega arith in ap (λ (y : ℕ). leb y e) x)
-
-pub eqb-sub : (p u e : ℕ) → u ≤ e → eqb p (e - u) ≡ eqb (p + u) e
-eqb-sub p u e h = go (eqb (p + u) e) refl
-  where
-    go : (b : Bool) → eqb (p + u) e ≡ b → eqb p (e - u) ≡ b
-    go true x = let y = eqb-true (p + u) e x in eq-eqb p (e - u) (omega arith)
-    go false x = let y = eqb-false (p + u) e x in ne-eqb p (e - u) (λ z. y (omega arith))
 
 -- ---- the records, one turn of a loop
 
@@ -137,7 +123,7 @@ module _ (k : FrameRules) (law : LawfulFrames k) (s : State) (n : ℕ) (sound : 
         = sizes-down k (s .frames) (s .depth) deep ∙ rw (top-some k (s .frames) (s .depth) deep) in
         omega (arith, e, pointer-room)
 
-    pub top-placed : Placed k (top k s) (offset k s + frameSize k (top k s)) n
+    pub top-placed : SavesFit k (top k s) (offset k s + frameSize k (top k s)) n
     top-placed = record {
       lawful = law;
       request = top-request;
@@ -146,5 +132,5 @@ module _ (k : FrameRules) (law : LawfulFrames k) (s : State) (n : ℕ) (sound : 
     }
 
 -- a request that may be entered lies below the present pointer, whose header is in the memory
-pub enter-placed : (k : FrameRules) → LawfulFrames k → (s : State) (n : ℕ) → Sound k s n → (f : Frame) → CanEnter k s f → Placed k f (offset k s) n
+pub enter-placed : (k : FrameRules) → LawfulFrames k → (s : State) (n : ℕ) → Sound k s n → (f : Frame) → CanEnter k s f → SavesFit k f (offset k s) n
 enter-placed k law s n sound f can = record { lawful = law; request = can .request; fits = omega (arith, can .room, below-reach k law f (can .request)); room = omega (arith, pointer-room k law s n sound, law .head) }

@@ -9,7 +9,7 @@ use lib.Dec.{leb, eqb}
 use Rattle.base_conventions.specs.declared.Convention.{Convention}
 use Rattle.base_conventions.specs.declared.Convention.the-variants.{Ppc64, Z, Aix, Ppc64b}
 use Rattle.frame_rules.specs.declared.Registers.{Registers}
-use Rattle.frame_rules.specs.Rules.{ppc64, z, aix, rules}
+use Rattle.frame_rules.specs.Rules.{ppc64Frames, zFrames, aixFrames, rules}
 use Rattle.frame_rules.specs.Frames.{withPointer, lowered, cleared}
 use Rattle.frame_rules.proofs.Conventions.{lawful}
 use Rattle.frame_rules.proofs.Halves.{lowered-length}
@@ -32,7 +32,7 @@ memory-formula Aix b n = refl
 memory-formula Ppc64b b n = refl
 
 -- that is N of at least 400 on PPC64, 288 (the next multiple of 16) on AIX; on Z 256 is more
-least-memory : (ppc64 .room + ppc64 .floor ≡ 400) × (z .room + z .floor ≡ 160) × (aix .room + aix .floor ≡ 284)
+least-memory : (ppc64Frames .room + ppc64Frames .floor ≡ 400) × (zFrames .room + zFrames .floor ≡ 160) × (aixFrames .room + aixFrames .floor ≡ 284)
 least-memory = (refl, refl, refl)
 
 -- the stack pointer starts so far below the end: "B + N - 112 (PPC64), B + N - 160 (Z)"; 02, No. 1: "start is at B + N - 64"

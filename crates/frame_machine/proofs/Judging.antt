@@ -5,13 +5,13 @@ use mathlib.Core.List.{List, [], _∷_, _++_}
 use native.Mathlib.Omega.{arith}
 use Prim.Native.Nat.{ℕ}
 use Rattle.base_words.specs.Basics.{pick}
-use Rattle.frame_machine.specs.Answers.{Accepted, Refused, Refusal, Test, judge}
+use Rattle.frame_machine.specs.Answers.{Accepted, Refused, FrameRefusal, Requirement, judge}
 
-pub never : {A : Type 0} (r : Refusal) → Refused r ≡ Accepted → A
+pub never : {A : Type 0} (r : FrameRefusal) → Refused r ≡ Accepted → A
 never r e = let z : _≡_ {A = ℕ} 0 1 = cc in absurd (omega arith)
 
 -- one test
-pub holds-yes : (t : Test) (ts : List Test) → judge (t ∷ ts) ≡ Accepted → (t .holds ≡ true) × (judge ts ≡ Accepted)
+pub holds-yes : (t : Requirement) (ts : List Requirement) → judge (t ∷ ts) ≡ Accepted → (t .holds ≡ true) × (judge ts ≡ Accepted)
 unfolding judge
 holds-yes t ts e = go (t .holds) e
   where
@@ -20,12 +20,12 @@ holds-yes t ts e = go (t .holds) e
     go false e = never (t .refusal) e
 
 -- two lists of tests
-pub judge-next : (a b : List Test) → judge a ≡ Accepted → judge (a ++ b) ≡ judge b
+pub judge-next : (a b : List Requirement) → judge a ≡ Accepted → judge (a ++ b) ≡ judge b
 unfolding judge
 judge-next [] b e = refl
 judge-next (t ∷ a) b e = let y = holds-yes t a e in rw (y .0) (judge-next a b (y .1))
 
-pub judge-stops : (a b : List Test) (r : Refusal) → judge a ≡ Refused r → judge (a ++ b) ≡ Refused r
+pub judge-stops : (a b : List Requirement) (r : FrameRefusal) → judge a ≡ Refused r → judge (a ++ b) ≡ Refused r
 unfolding judge
 judge-stops [] b r e = never r (sym e)
 judge-stops (t ∷ a) b r e = go (t .holds) (λ y. judge-stops a b r y) e
@@ -35,7 +35,7 @@ judge-stops (t ∷ a) b r e = go (t .holds) (λ y. judge-stops a b r y) e
     go true next e = next e
     go false next e = e
 
-pub judge-both : (a b : List Test) → judge (a ++ b) ≡ Accepted → (judge a ≡ Accepted) × (judge b ≡ Accepted)
+pub judge-both : (a b : List Requirement) → judge (a ++ b) ≡ Accepted → (judge a ≡ Accepted) × (judge b ≡ Accepted)
 unfolding judge
 judge-both [] b e = (refl, e)
 judge-both (t ∷ a) b e = let y = holds-yes t (a ++ b) e in let z = judge-both a b (y .1) in (rw (y .0) (z .0), z .1)

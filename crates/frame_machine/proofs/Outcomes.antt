@@ -10,7 +10,7 @@ use Rattle.frame_rules.specs.declared.FrameRules.{FrameRules}
 use Rattle.frame_rules.specs.declared.Registers.{Registers}
 use Rattle.frame_rules.specs.Rules.{rules}
 use Rattle.frame_rules.specs.Frames.{noFrame, frameSize, restored, bankOf, withRegister}
-use Rattle.frame_machine.specs.Answers.{Accepted, Refused, Refusal, BadMemory, judge}
+use Rattle.frame_machine.specs.Answers.{Accepted, Refused, FrameRefusal, BadMemory, judge}
 use Rattle.frame_machine.specs.Machine.{State, stateRules, stackPointer, offset, top, okMemory, startAnswer, started, startedMemory, notStarted, enterAnswer, entered, enteredMemory, writeRegisterAnswer, writeMemoryAnswer, writtenRegister, writtenMemory, leaveAnswer, left, startOutcome, startMemory, enterOutcome, enterMemory, writeRegisterOutcome, writeMemoryOutcome, writeMemoryMemory, leaveOutcome}
 
 pub accepted-start : (c : Convention) (b n : ℕ) → okMemory (rules c) b n ≡ true → startAnswer c b n ≡ Accepted
@@ -27,7 +27,7 @@ module _ (c : Convention) (b : ℕ) (l : List ℕ) (r : Registers) where
   unfolding startOutcome startMemory
   start-accepted e = (rw e, rw e)
 
-  pub start-refused : (x : Refusal) → startAnswer c b (length l) ≡ Refused x
+  pub start-refused : (x : FrameRefusal) → startAnswer c b (length l) ≡ Refused x
       → (startOutcome c b (length l) r ≡ record { answer = Refused x; state = notStarted c r }) × (startMemory c b l ≡ l)
   unfolding startOutcome startMemory
   start-refused x e = (rw e, rw e)
@@ -38,7 +38,7 @@ module _ (s : State) (l : List ℕ) (f : Frame) where
   unfolding enterOutcome enterMemory
   enter-accepted e = (rw e, rw e)
 
-  pub enter-refused : (x : Refusal) → enterAnswer (stateRules s) s (length l) f ≡ Refused x
+  pub enter-refused : (x : FrameRefusal) → enterAnswer (stateRules s) s (length l) f ≡ Refused x
       → (enterOutcome s (length l) f ≡ record { answer = Refused x; state = s }) × (enterMemory s l f ≡ l)
   unfolding enterOutcome enterMemory
   enter-refused x e = (rw e, rw e)
@@ -48,7 +48,7 @@ module _ (s : State) (n b i v : ℕ) where
   unfolding writeRegisterOutcome
   write-register-accepted e = rw e
 
-  pub write-register-refused : (x : Refusal) → writeRegisterAnswer (stateRules s) s n b i v ≡ Refused x → writeRegisterOutcome s n b i v ≡ record { answer = Refused x; state = s }
+  pub write-register-refused : (x : FrameRefusal) → writeRegisterAnswer (stateRules s) s n b i v ≡ Refused x → writeRegisterOutcome s n b i v ≡ record { answer = Refused x; state = s }
   unfolding writeRegisterOutcome
   write-register-refused x e = rw e
 
@@ -64,7 +64,7 @@ module _ (s : State) (l : List ℕ) (a : ℕ) (bs : List ℕ) where
   unfolding writeMemoryOutcome writeMemoryMemory
   write-memory-accepted e = (rw e, rw e)
 
-  pub write-memory-refused : (x : Refusal) → writeMemoryAnswer (stateRules s) s (length l) a (length bs) ≡ Refused x
+  pub write-memory-refused : (x : FrameRefusal) → writeMemoryAnswer (stateRules s) s (length l) a (length bs) ≡ Refused x
       → (writeMemoryOutcome s (length l) a (length bs) ≡ record { answer = Refused x; state = s }) × (writeMemoryMemory s l a bs ≡ l)
   unfolding writeMemoryOutcome writeMemoryMemory
   write-memory-refused x e = (rw e, rw e)
@@ -74,7 +74,7 @@ module _ (s : State) (l : List ℕ) where
   unfolding leaveOutcome
   leave-accepted e = rw e
 
-  pub leave-refused : (x : Refusal) → leaveAnswer (stateRules s) s l ≡ Refused x → leaveOutcome s l ≡ record { answer = Refused x; state = s }
+  pub leave-refused : (x : FrameRefusal) → leaveAnswer (stateRules s) s l ≡ Refused x → leaveOutcome s l ≡ record { answer = Refused x; state = s }
   unfolding leaveOutcome
   leave-refused x e = rw e
 

@@ -16,11 +16,15 @@ use Rattle.frame_rules.specs.declared.Frame.{Frame}
 use Rattle.frame_rules.specs.declared.Registers.{Registers}
 use Rattle.frame_rules.specs.Rules.{rules}
 use Rattle.frame_rules.specs.Frames.{noFrame, startFrame, withPointer, okRegisters, cleared, okRequest, outgoingLength, below, frameSize, chainWidth, saves, linkAt, restored, bankOf, writableRegister, withRegister, maxMemory}
-use Rattle.frame_machine.specs.Answers.{Answer, BadMemory, BadRequest, TooManyFrames, NoRoom, NotPermitted, BrokenChain, NothingEntered, BadState, AboveLeaf, Test, require, judge, settle}
+use Rattle.frame_machine.specs.Answers.{FrameAnswer, BadMemory, BadRequest, TooManyFrames, NoRoom, NotPermitted, BrokenChain, NothingEntered, BadState, AboveLeaf, Requirement, require, judge, settle}
 pub use Rattle.frame_machine.specs.declared.State.{State}
-pub use Rattle.frame_machine.specs.declared.Outcome.{Outcome}
+pub use Rattle.frame_machine.specs.declared.FrameOutcome.{FrameOutcome}
 
 -- ---- a state
+
+-- refusal 18: "already 32 frames"
+abbrev pub maxEntered : ℕ
+maxEntered = 32
 
 -- the rules that a state goes by
 abbrev pub stateRules : State → FrameRules
@@ -62,26 +66,30 @@ unfoldable pub sizes : FrameRules → List Frame → ℕ → ℕ
 sizes k fs zero = 0
 sizes k fs (suc d) = sizes k fs d + frameSize k (frameAt fs d)
 
+-- refusal 16: "machine memory N .. under 256"
+abbrev pub leastMemory : ℕ
+leastMemory = 256
+
 -- refusal 16: "machine memory N not a multiple of 16, under 256, over 65,536, base B not a multiple of 16, B + N over 2^64 - 1"; 02, No. 1, of AIX: "B + N over
 -- 2^32 - 1 gives 16"; No. 8: "Start gives 16 unless the start pointer has that room", which is the floor
 unfoldable pub okMemory : FrameRules → ℕ → ℕ → Bool
-okMemory k b n = eqb (n % 16) 0 && (leb 256 n && (leb n maxMemory && (eqb (b % 16) 0 && (leb (b + n) (k .limit) && leb (k .room + k .floor) n))))
+okMemory k b n = eqb (n % 16) 0 && (leb leastMemory n && (leb n maxMemory && (eqb (b % 16) 0 && (leb (b + n) (k .limit) && leb (k .room + k .floor) n))))
 
 -- refusal 23: "depth over 32, an entered frame's record that 17 would refuse, B or N as in 16, or stack pointer below B or not the start's less the sum of frame sizes";
 -- 02, No. 1: "a GPR or LR write over 2^32 - 1 gives 20, a state holding one 23"; No. 8: "In 23, less room than this counts as below B"
 unfoldable pub okState : FrameRules → State → Bool
 okState k s =
-    okRegisters k (s .registers) && (leb (s .depth) 32 && (okFrames k (s .frames) (s .depth) && (okMemory k (s .base) (s .size)
+    okRegisters k (s .registers) && (leb (s .depth) maxEntered && (okFrames k (s .frames) (s .depth) && (okMemory k (s .base) (s .size)
     && (leb (s .base + k .floor) (stackPointer k s) && eqb (stackPointer k s + sizes k (s .frames) (s .depth) + k .room) (s .base + s .size)))))
 
 -- what every call but start tests first, with n bytes of memory lent: "otherwise 23, 16"
-abbrev pub stateTests : FrameRules → State → ℕ → List Test
+abbrev pub stateTests : FrameRules → State → ℕ → List Requirement
 stateTests k s n = require (okState k s) BadState ∷ require (eqb n (s .size)) BadMemory ∷ []
 
 -- ---- start
 
 -- "Machine: start 16"
-unfoldable pub startAnswer : Convention → ℕ → ℕ → Answer
+unfoldable pub startAnswer : Convention → ℕ → ℕ → FrameAnswer
 startAnswer c b n = judge (require (okMemory (rules c) b n) BadMemory ∷ [])
 
 -- "Start writes 8 zero bytes at the stack pointer: B + N - 112 (PPC64), B + N - 160 (Z). Other registers are as handed in, depth and all records 0";
@@ -93,7 +101,7 @@ started c b n r = record {
   size = n;
   depth = 0;
   registers = withPointer (rules c) (cleared (rules c) r) (b + n - rules c .room);
-  frames = replicate 32 noFrame;
+  frames = replicate maxEntered noFrame;
 }
 
 -- the memory with the start's zero word
@@ -102,18 +110,18 @@ startedMemory k l = store l (length l - k .room) (k .word) 0
 
 -- "a refused start hands the registers back as they came, all else 0": base, size, depth and records are 0; the convention is the one asked for
 unfoldable pub notStarted : Convention → Registers → State
-notStarted c r = record { convention = c; base = 0; size = 0; depth = 0; registers = r; frames = replicate 32 noFrame }
+notStarted c r = record { convention = c; base = 0; size = 0; depth = 0; registers = r; frames = replicate maxEntered noFrame }
 
 -- ---- enter
 
 -- "enter 17, 18, 19", and 19 is "new stack pointer below B"; 02, No. 8: "Enter now also needs 288 free bytes under the new stack pointer on PPC64 and 220 on AIX, else 19";
 -- No. 9: "Enter above a leaf gives new refusal 28, tested after 17"
-abbrev pub enterTests : FrameRules → State → Frame → List Test
+abbrev pub enterTests : FrameRules → State → Frame → List Requirement
 enterTests k s f =
-    require (okRequest k f) BadRequest ∷ require (not (top k s .leaf)) AboveLeaf ∷ require (ltb (s .depth) 32) TooManyFrames ∷ require (leb (s .base + frameSize k f + k .floor) (stackPointer k s)) NoRoom ∷ []
+    require (okRequest k f) BadRequest ∷ require (not (top k s .leaf)) AboveLeaf ∷ require (ltb (s .depth) maxEntered) TooManyFrames ∷ require (leb (s .base + frameSize k f + k .floor) (stackPointer k s)) NoRoom ∷ []
 
 -- what an enter answers, with n bytes of memory lent
-unfoldable pub enterAnswer : FrameRules → State → ℕ → Frame → Answer
+unfoldable pub enterAnswer : FrameRules → State → ℕ → Frame → FrameAnswer
 enterAnswer k s n f = judge (stateTests k s n ++ enterTests k s f)
 
 -- "An accepted enter changes only the stack pointer, the slots named above, its record and the depth"
@@ -145,6 +153,10 @@ outgoingFrom k f o = pick (f .leaf) (o - k .floor) (o + k .header)
 abbrev pub localsFrom : FrameRules → Frame → ℕ → ℕ
 localsFrom k f o = pick (f .leaf) (o - k .floor) (o + k .header + outgoingLength k f)
 
+-- the most that one call may write: "Memory, 1 to 256 bytes"
+abbrev pub maxWrite : ℕ
+maxWrite = 256
+
 -- "Memory, 1 to 256 bytes wholly inside one of: own locals (all between the outgoing area and the saves), own outgoing area, caller's outgoing area";
 -- at the start there is only the own outgoing area; 02, No. 9: "The leaf may write the bytes of the floor area .., and the caller's outgoing area"
 unfoldable pub writableBytes : FrameRules → State → ℕ → ℕ → Bool
@@ -152,19 +164,19 @@ writableBytes k s a n =
     let f = top k s in
     let o = offset k s in
     let c = o + frameSize k f in
-    leb 1 n && (leb n 256 && (inside a n (outgoingFrom k f o) (localsFrom k f o)
+    leb 1 n && (leb n maxWrite && (inside a n (outgoingFrom k f o) (localsFrom k f o)
     || (ltb 0 (s .depth) && (inside a n (localsFrom k f o) (c - below (k .linkage) k f)
     || inside a n (c + k .header) (c + k .header + outgoingLength k (caller k s))))))
 
 -- "write 20", with n bytes of memory lent: of the value v to register `number` of bank b
-unfoldable pub writeRegisterAnswer : FrameRules → State → ℕ → ℕ → ℕ → ℕ → Answer
+unfoldable pub writeRegisterAnswer : FrameRules → State → ℕ → ℕ → ℕ → ℕ → FrameAnswer
 writeRegisterAnswer k s n b number v = judge (stateTests k s n ++ (require (writableRegister k (top k s) (bankOf b) number v) NotPermitted ∷ []))
 
 -- the same of m bytes at the address a
 unfoldable pub writableAddress : FrameRules → State → ℕ → ℕ → Bool
 writableAddress k s a m = leb (s .base) a && writableBytes k s (a - s .base) m
 
-unfoldable pub writeMemoryAnswer : FrameRules → State → ℕ → ℕ → ℕ → Answer
+unfoldable pub writeMemoryAnswer : FrameRules → State → ℕ → ℕ → ℕ → FrameAnswer
 writeMemoryAnswer k s n a m = judge (stateTests k s n ++ (require (writableAddress k s a m) NotPermitted ∷ []))
 
 -- "An accepted write puts the given value or bytes in the place named and changes nothing else"
@@ -185,7 +197,7 @@ writtenMemory s l a bs = splice l (a - s .base) bs
 
 -- "leave 22, 21": 21 where "the back chain (on Z the r15 slot instead) isn't the caller's stack pointer"; 02, No. 9: "Leave skips the back chain
 -- test for a leaf"
-abbrev pub leaveTests : FrameRules → State → List ℕ → List Test
+abbrev pub leaveTests : FrameRules → State → List ℕ → List Requirement
 leaveTests k s l =
     let z = frameSize k (top k s) in
     require (ltb 0 (s .depth)) NothingEntered
@@ -193,7 +205,7 @@ leaveTests k s l =
     ∷ []
 
 -- what a leave answers with the memory l lent
-unfoldable pub leaveAnswer : FrameRules → State → List ℕ → Answer
+unfoldable pub leaveAnswer : FrameRules → State → List ℕ → FrameAnswer
 leaveAnswer k s l = judge (stateTests k s (length l) ++ leaveTests k s l)
 
 -- "an accepted leave only the stack pointer, what it restores, the record and the depth, and no memory"; it "zeroes the record"
@@ -211,26 +223,26 @@ left k s l =
 
 -- ---- what the contracts cite: the answer and the state, and the memory, after each call
 
-unfoldable pub startOutcome : Convention → ℕ → ℕ → Registers → Outcome
+unfoldable pub startOutcome : Convention → ℕ → ℕ → Registers → FrameOutcome
 startOutcome c b n r = record { answer = startAnswer c b n; state = settle (startAnswer c b n) (started c b n r) (notStarted c r) }
 
 unfoldable pub startMemory : Convention → ℕ → List ℕ → List ℕ
 startMemory c b l = settle (startAnswer c b (length l)) (startedMemory (rules c) l) l
 
-unfoldable pub enterOutcome : State → ℕ → Frame → Outcome
+unfoldable pub enterOutcome : State → ℕ → Frame → FrameOutcome
 enterOutcome s n f = let a = enterAnswer (stateRules s) s n f in record { answer = a; state = settle a (entered (stateRules s) s f) s }
 
 unfoldable pub enterMemory : State → List ℕ → Frame → List ℕ
 enterMemory s l f = settle (enterAnswer (stateRules s) s (length l) f) (enteredMemory (stateRules s) s l f) l
 
-unfoldable pub writeRegisterOutcome : State → ℕ → ℕ → ℕ → ℕ → Outcome
+unfoldable pub writeRegisterOutcome : State → ℕ → ℕ → ℕ → ℕ → FrameOutcome
 writeRegisterOutcome s n b number v = let a = writeRegisterAnswer (stateRules s) s n b number v in record { answer = a; state = settle a (writtenRegister s b number v) s }
 
-unfoldable pub writeMemoryOutcome : State → ℕ → ℕ → ℕ → Outcome
+unfoldable pub writeMemoryOutcome : State → ℕ → ℕ → ℕ → FrameOutcome
 writeMemoryOutcome s n a m = record { answer = writeMemoryAnswer (stateRules s) s n a m; state = s }
 
 unfoldable pub writeMemoryMemory : State → List ℕ → ℕ → List ℕ → List ℕ
 writeMemoryMemory s l a bs = settle (writeMemoryAnswer (stateRules s) s (length l) a (length bs)) (writtenMemory s l a bs) l
 
-unfoldable pub leaveOutcome : State → List ℕ → Outcome
+unfoldable pub leaveOutcome : State → List ℕ → FrameOutcome
 leaveOutcome s l = let a = leaveAnswer (stateRules s) s l in record { answer = a; state = settle a (left (stateRules s) s l) s }

@@ -1,13 +1,13 @@
 // The frame machine, a stack of frames in lent memory: its state, and what a call answers. The definitions of all calls stand in specs/; `frame_state_checks`, `both_abi`,
-// `frame_write_areas`, `frame_call_checks`, `frame_steps` and `frame_calls` have their code.
+// `frame_call_checks` and `frame_calls` have their code.
 ghost use mathlib.Core.Path.{_≡_};
-ghost use Rattle.frame_machine.specs.Answers.{refusalNumber, answerNumber};
+ghost use Rattle.frame_machine.specs.Answers.{frameRefusalNumber, frameAnswerNumber};
 use base_conventions::Convention;
 use frame_rules::Frame;
 use frame_rules::Registers;
 
 // Why a call is refused.
-pub enum Refusal {
+pub enum FrameRefusal {
     // The memory's length or base is out of range, or its length is not that of the start.
     BadMemory,
     // The request is out of range.
@@ -28,36 +28,39 @@ pub enum Refusal {
     AboveLeaf,
 }
 
-pub enum Answer {
+pub enum FrameAnswer {
     Accepted,
-    Refused(Refusal),
+    Refused(FrameRefusal),
 }
 
 // Document 01's number of a refusal, and of an answer: 0 for an accepted call.
-fn refusal_number(r: Refusal) -> u64
-    ensures { λ n. ⌜ n ≡ refusalNumber r ⌝ }
+fn frame_refusal_number(r: FrameRefusal) -> u64
+    ensures { λ n. ⌜ n ≡ frameRefusalNumber r ⌝ }
 {
     match r {
-        Refusal::BadMemory => 16,
-        Refusal::BadRequest => 17,
-        Refusal::TooManyFrames => 18,
-        Refusal::NoRoom => 19,
-        Refusal::NotPermitted => 20,
-        Refusal::BrokenChain => 21,
-        Refusal::NothingEntered => 22,
-        Refusal::BadState => 23,
-        Refusal::AboveLeaf => 28,
+        FrameRefusal::BadMemory => 16,
+        FrameRefusal::BadRequest => 17,
+        FrameRefusal::TooManyFrames => 18,
+        FrameRefusal::NoRoom => 19,
+        FrameRefusal::NotPermitted => 20,
+        FrameRefusal::BrokenChain => 21,
+        FrameRefusal::NothingEntered => 22,
+        FrameRefusal::BadState => 23,
+        FrameRefusal::AboveLeaf => 28,
     }
 }
 
-pub fn answer_number(a: Answer) -> u64
-    ensures { λ n. ⌜ n ≡ answerNumber a ⌝ }
+pub fn answer_number(a: FrameAnswer) -> u64
+    ensures { λ n. ⌜ n ≡ frameAnswerNumber a ⌝ }
 {
     match a {
-        Answer::Accepted => 0,
-        Answer::Refused(r) => refusal_number(r),
+        FrameAnswer::Accepted => 0,
+        FrameAnswer::Refused(r) => frame_refusal_number(r),
     }
 }
+
+// The most frames that may be entered.
+pub const MAX_ENTERED: usize = 32;
 
 // A machine between two calls. Its memory has `size` bytes from the address `base` on; the first `depth` of `frames` are entered.
 pub struct State {
@@ -66,11 +69,11 @@ pub struct State {
     pub size: usize,
     pub depth: usize,
     pub registers: Registers,
-    pub frames: [Frame; 32],
+    pub frames: [Frame; MAX_ENTERED],
 }
 
 // What a call answers, and the state after it.
-pub struct Outcome {
-    pub answer: Answer,
+pub struct FrameOutcome {
+    pub answer: FrameAnswer,
     pub state: State,
 }

@@ -26,6 +26,8 @@ fn leaf_ok(k: FrameRules, f: Frame) -> bool
 
 // The largest outgoing area that a request may ask for: `maxOutgoing` of frame_rules/specs/Frames.antt.
 pub const MAX_OUTGOING: usize = 32776;
+// The largest locals.
+const MAX_LOCALS: usize = 32000;
 
 // Is a request in range?
 pub fn request_ok(k: FrameRules, f: Frame) -> bool
@@ -39,7 +41,7 @@ pub fn request_ok(k: FrameRules, f: Frame) -> bool
     if !frame_rules::in_span(m, f.first_fpr) {
         return false;
     }
-    if 32000 < f.locals {
+    if MAX_LOCALS < f.locals {
         return false;
     }
     let p = f.outgoing;

@@ -8,13 +8,13 @@ use native.Mathlib.Omega.{arith}
 use lib.Dec.{leb, ltb}
 use borrow.Author.Tests.{ltb-true}
 use Rattle.base_words.proofs.Tests.{and-yes, or-yes}
-use Rattle.frame_rules.specs.Rules.{Convention, Ppc64, Z, Aix, Ppc64b, RegisterSpan, inSpan, within, BankRules, FrameRules, ppc64, rules}
+use Rattle.base_words.proofs.Basics.{between}
+use Rattle.frame_rules.specs.Rules.{Convention, Ppc64, Z, Aix, Ppc64b, RegisterSpan, inSpan, within, BankRules, FrameRules, ppc64Frames, rules}
 use Rattle.frame_rules.specs.Frames.{writable}
 use Rattle.frame_rules.specs.Helpers.{apart, disjoint, before, BankLaw, LawfulFrames}
-use Rattle.frame_rules.proofs.Facts.{between}
 
 -- of codes 1 and 4
-ppc64-lawful : LawfulFrames ppc64
+ppc64-lawful : LawfulFrames ppc64Frames
 ppc64-lawful = record {
   word = omega arith;
   chain = omega arith;

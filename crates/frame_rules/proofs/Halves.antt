@@ -3,7 +3,7 @@ use Prim.Native.Nat.{ℕ, zero, suc, _+_, _-_, _%_, _≤_, _<_}
 use mathlib.Core.Path.{_≡_, refl, _∙_}
 use mathlib.Core.Logic.{⊎-elim}
 use mathlib.Core.Bool.{true, _&&_}
-use mathlib.Core.List.{List, [], _∷_}
+use mathlib.Core.List.{List}
 use native.Mathlib.Omega.{arith}
 use native.Mathlib.Nat.{mod-lt, mod-eq-of-lt}
 use lib.ListN.{getD, set, length, length-set}
@@ -12,8 +12,8 @@ use lib.Dec.{leb}
 use borrow.Author.Tests.{leb-true, le-leb}
 use Rattle.base_words.proofs.Basics.{le-or-lt}
 use Rattle.base_words.proofs.Tests.{and-yes}
-use Rattle.frame_rules.specs.Rules.{FrameRules, Registers}
-use Rattle.frame_rules.specs.Frames.{allWithin, lowered, okRegisters, cleared}
+use Rattle.base_words.proofs.Fitting.{fit-at}
+use Rattle.frame_rules.specs.Frames.{allWithin, lowered}
 
 -- all of the first n are at most m exactly where each is
 pub within-each : (m : ℕ) (xs : List ℕ) (n : ℕ) → allWithin m xs n ≡ true → (i : ℕ) → i < n → getD xs i 0 ≤ m
@@ -54,11 +54,6 @@ unfolding lowered
 lowered-length m xs zero = refl
 lowered-length m xs (suc n) = lowered-length m (set xs n (getD xs n 0 % (m + 1))) n ∙ length-set xs n (getD xs n 0 % (m + 1))
 
-set-at-fit : (xs : List ℕ) (n x m : ℕ) → x ≤ m → getD (set xs n x) n 0 ≤ m
-set-at-fit [] n x m h = omega arith
-set-at-fit (y ∷ xs) zero x m h = h
-set-at-fit (y ∷ xs) (suc n) x m h = set-at-fit xs n x m h
-
 -- where those from n on fit, all fit once the first n are lowered
 pub lowered-fit : (m n : ℕ) (xs : List ℕ) → ((i : ℕ) → n ≤ i → getD xs i 0 ≤ m) → (i : ℕ) → getD (lowered m xs n) i 0 ≤ m
 unfolding lowered
@@ -68,7 +63,7 @@ lowered-fit m (suc n) xs h i =
     let pos : 0 < m + 1 = omega arith in
     let low : x ≤ m = omega (arith, mod-lt (getD xs n 0) pos) in
     lowered-fit m n (set xs n x)
-    (λ j p. ⊎-elim (λ q. let e = getD-set-other xs n j x 0 (λ z. omega arith) in omega (arith, h j q, e)) (λ q. let y : j ≡ n = omega arith in rw y (set-at-fit xs n x m low)) (le-or-lt (suc n) j))
+    (λ j p. ⊎-elim (λ q. let e = getD-set-other xs n j x 0 (λ z. omega arith) in omega (arith, h j q, e)) (λ q. let y : j ≡ n = omega arith in rw y (fit-at xs n x m low)) (le-or-lt (suc n) j))
     i
 
 -- registers of 64 bits are as they came where a word has 64 bits

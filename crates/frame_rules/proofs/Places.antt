@@ -8,14 +8,13 @@ use native.Mathlib.Nat.{mul-suc, mul-le-mul-left, pow-le-pow-right}
 use lib.Dec.{lit<, leb, eqb}
 use borrow.Author.Tests.{leb-true}
 use Rattle.base_words.specs.Basics.{flag}
-use Rattle.base_words.proofs.Basics.{round-up-least, round-up-most, words-split}
-use Rattle.base_words.proofs.Tests.{either, and-yes}
+use Rattle.base_words.proofs.Basics.{round-up-least, round-up-most, words-split, between}
+use Rattle.base_words.proofs.Tests.{either, and-yes, flag-le}
 use Rattle.frame_saves.specs.Saves.{Outside}
 use Rattle.frame_saves.proofs.Saving.{Ascending}
 use Rattle.frame_rules.specs.Rules.{Linkage, LinkRegister, SaveArea, FrameRules, Frame, Registers, inSpan}
 use Rattle.frame_rules.specs.Frames.{firstGpr, firstFpr, savesCr, hasCondition, maxOutgoing, okLeaf, okRequest, outgoingLength, below, fullSize, frameSize, mostSize, chainWidth, gprAt, savesBy, saves, linkAt}
 use Rattle.frame_rules.specs.Helpers.{LinkageLaw, LawfulFrames}
-use Rattle.frame_rules.proofs.Facts.{between}
 
 -- what the ranges of a request say
 pub record Ranges (k : FrameRules) (f : Frame) : Type 0 where
@@ -78,10 +77,6 @@ words-small w n p q = omega (arith, mul-le-mul-left {m = n} {n = 32} w q)
 -- the highest address is one of 64 bits
 pub limit-64 : (k : FrameRules) → LawfulFrames k → k .limit < 2 ^ 64
 limit-64 k law = omega (arith, law .limit, pow-le-pow-right {n = 2} (lit< tt) {i = 8 * k .word} {j = 64} (omega (arith, law .word)))
-
-flag-le : (b : Bool) → flag b ≤ 1
-flag-le true = omega arith
-flag-le false = omega arith
 
 -- ---- by the linkage
 

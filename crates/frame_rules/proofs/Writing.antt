@@ -7,11 +7,11 @@ use native.Mathlib.Omega.{arith}
 use lib.Dec.{leb}
 use borrow.Author.Tests.{leb-true}
 use Rattle.base_words.proofs.Tests.{and-yes, or-yes}
+use Rattle.base_words.proofs.Basics.{between}
 use Rattle.frame_rules.specs.Rules.{Linkage, LinkRegister, SaveArea, FrameRules, Frame, RegisterBank, General, Floating, Link, ConditionField, None}
-use Rattle.frame_rules.specs.Frames.{savesCr, hasCondition, writableField, withField, preservedFields, preservedCondition, firstGpr, firstFpr, writable, writableRegister}
+use Rattle.frame_rules.specs.Frames.{savesCr, hasCondition, writableField, withConditionField, preservedFields, preservedCondition, firstGpr, firstFpr, writable, writableRegister}
 use Rattle.frame_rules.specs.Helpers.{LawfulFrames, Named}
 use Rattle.frame_rules.proofs.Conventions.{writable-lt}
-use Rattle.frame_rules.proofs.Facts.{between}
 
 pub writable-field : (k : FrameRules) (f : Frame) (n v : ℕ) → writableField k f n v ≡ true
     → (v ≤ 15) × ((n ≤ 1) ⊎ (((5 ≤ n) × (n ≤ 7)) ⊎ ((savesCr f ≡ true) × ((2 ≤ n) × (n ≤ 4)))))
@@ -30,8 +30,8 @@ field-number k f n v p =
     let q = writable-field k f n v p in
     (⊎-elim (λ a. omega arith) (λ a. ⊎-elim (λ b. omega arith) (λ b. omega arith) a) (q .1), q .0)
 
-pub field-fit : (n c v : ℕ) → v ≤ 15 → c < 2 ^ 32 → n ≤ 7 → withField c n v < 2 ^ 32
-unfolding withField
+pub field-fit : (n c v : ℕ) → v ≤ 15 → c < 2 ^ 32 → n ≤ 7 → withConditionField c n v < 2 ^ 32
+unfolding withConditionField
 field-fit zero c v h s r = omega arith
 field-fit (suc zero) c v h s r = omega arith
 field-fit (suc (suc zero)) c v h s r = omega arith
@@ -42,8 +42,8 @@ field-fit (suc (suc (suc (suc (suc (suc zero)))))) c v h s r = omega arith
 field-fit (suc (suc (suc (suc (suc (suc (suc zero))))))) c v h s r = omega arith
 field-fit (suc (suc (suc (suc (suc (suc (suc (suc n)))))))) c v h s r = absurd (omega arith)
 
-field-other : (n c v : ℕ) → v ≤ 15 → c < 2 ^ 32 → (n ≤ 1) ⊎ ((5 ≤ n) × (n ≤ 7)) → preservedFields (withField c n v) ≡ preservedFields c
-unfolding withField
+field-other : (n c v : ℕ) → v ≤ 15 → c < 2 ^ 32 → (n ≤ 1) ⊎ ((5 ≤ n) × (n ≤ 7)) → preservedFields (withConditionField c n v) ≡ preservedFields c
+unfolding withConditionField
 field-other zero c v h s r = omega arith
 field-other (suc zero) c v h s r = omega arith
 field-other (suc (suc zero)) c v h s r = absurd (⊎-elim (λ a. omega arith) (λ a. omega arith) r)
@@ -60,10 +60,10 @@ preserved-same (SaveArea n) a b e = refl
 
 -- fields 2 to 4 stay where the frame did not save them
 pub field-preserves : (k : FrameRules) (f : Frame) (n v c : ℕ) → writableField k f n v ≡ true → savesCr f ≡ false → c < 2 ^ 32
-    → preservedCondition (k .linkage) (withField c n v) ≡ preservedCondition (k .linkage) c
+    → preservedCondition (k .linkage) (withConditionField c n v) ≡ preservedCondition (k .linkage) c
 field-preserves k f n v c p z h =
     let q = writable-field k f n v p in
-    preserved-same (k .linkage) (withField c n v) c (field-other n c v (q .0) h
+    preserved-same (k .linkage) (withConditionField c n v) c (field-other n c v (q .0) h
     (⊎-elim (λ a. inl a) (λ a. ⊎-elim (λ b. inr b) (λ b. absurd (false≢true (sym z ∙ b .0))) a) (q .1)))
 
 -- a register that may be written is there

@@ -67,6 +67,10 @@ maxMemory = 65536
 abbrev pub maxOutgoing : ℕ
 maxOutgoing = 32776
 
+-- "locals L up to 32,000"
+abbrev pub maxLocals : ℕ
+maxLocals = 32000
+
 -- may it be a leaf, if it asks for that? 02, No. 9: "PPC64 and AIX only; a leaf request on Z, or with L or P above 0, gives 17"
 unfoldable pub okLeaf : FrameRules → Frame → Bool
 okLeaf k f = not (f .leaf) || (hasCondition (k .linkage) && (eqb (f .locals) 0 && eqb (f .outgoing) 0))
@@ -75,7 +79,7 @@ okLeaf k f = not (f .leaf) || (hasCondition (k .linkage) && (eqb (f .locals) 0 &
 unfoldable pub okRequest : FrameRules → Frame → Bool
 okRequest k f =
     inSpan (k .gpr .request) (firstGpr f) && (inSpan (k .fpr .request) (firstFpr f)
-    && (leb (f .locals) 32000 && (eqb (f .outgoing % 8) 0 && (leb (f .outgoing) maxOutgoing && (okLeaf k f && (hasCondition (k .linkage) || not (savesCr f)))))))
+    && (leb (f .locals) maxLocals && (eqb (f .outgoing % 8) 0 && (leb (f .outgoing) maxOutgoing && (okLeaf k f && (hasCondition (k .linkage) || not (savesCr f)))))))
 
 -- the length of the outgoing area (the parameter save area): "at least 64 long, on PPC64"; 02, No. 1: "at least 32 long"
 abbrev pub outgoingLength : FrameRules → Frame → ℕ
@@ -99,9 +103,9 @@ frameSize k f = pick (f .leaf) 0 (fullSize k f)
 unfoldable pub chainWidth : FrameRules → Frame → ℕ
 chainWidth k f = pick (f .leaf) 0 (k .word)
 
--- no frame of a request in range is larger (law `size-small`): 32,000 bytes of locals, and the rest for the header, the saves and the rounding
+-- no frame of a request in range is larger (law `size-small`): the rest is for the header, the saves and the rounding
 abbrev pub mostSize : ℕ
-mostSize = maxOutgoing + 33208
+mostSize = maxOutgoing + maxLocals + 1208
 
 -- ---- what an enter saves
 
@@ -205,13 +209,13 @@ writableRegister k f None n v = false
 abbrev pub unitOf : ℕ → ℕ
 unitOf n = 16 ^ (7 - n)
 
-unfoldable pub withField : ℕ → ℕ → ℕ → ℕ
-withField c n v = c / (16 * unitOf n) * (16 * unitOf n) + v * unitOf n + c % unitOf n
+unfoldable pub withConditionField : ℕ → ℕ → ℕ → ℕ
+withConditionField c n v = c / (16 * unitOf n) * (16 * unitOf n) + v * unitOf n + c % unitOf n
 
 -- the registers after an accepted write: "An accepted write puts the given value .. in the place named and changes nothing else"
 unfoldable pub withRegister : Registers → RegisterBank → ℕ → ℕ → Registers
 withRegister r General n v = record { gpr = set (r .gpr) n v; fpr = r .fpr; lr = r .lr; cr = r .cr }
 withRegister r Floating n v = record { gpr = r .gpr; fpr = set (r .fpr) n v; lr = r .lr; cr = r .cr }
 withRegister r Link n v = record { gpr = r .gpr; fpr = r .fpr; lr = v; cr = r .cr }
-withRegister r ConditionField n v = record { gpr = r .gpr; fpr = r .fpr; lr = r .lr; cr = withField (r .cr) n v }
+withRegister r ConditionField n v = record { gpr = r .gpr; fpr = r .fpr; lr = r .lr; cr = withConditionField (r .cr) n v }
 withRegister r None n v = r

@@ -62,7 +62,7 @@ pub record LawfulFrames (k : FrameRules) : Type 0 where
   pub linkage : LinkageLaw (k .linkage) k
 
 -- a request in range whose saves fit below the offset s of the caller's pointer, with the caller's header inside n bytes of memory
-pub record Placed (k : FrameRules) (f : Frame) (s n : ℕ) : Type 0 where
+pub record SavesFit (k : FrameRules) (f : Frame) (s n : ℕ) : Type 0 where
   pub lawful : LawfulFrames k
   pub request : okRequest k f ≡ true
   pub fits : below (k .linkage) k f ≤ s

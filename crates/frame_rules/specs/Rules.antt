@@ -39,8 +39,8 @@ powerFpr = record { request = span 14 32; last = 31; volatile = span 0 13 ∷ sp
 
 -- "PPC64 request: saves r(g) to r31, g 14 to 32; f(m) to f31, m 14 to 32"; "CR in the 4 bytes at S + 8 if saved, LR at S + 16";
 -- "Outgoing areas start at 48, at least 64 long, on PPC64"; "Start .. B + N - 112 (PPC64)"; 02, No. 8: "288 free bytes under the new stack pointer on PPC64"
-abbrev pub ppc64 : FrameRules
-ppc64 = record {
+abbrev pub ppc64Frames : FrameRules
+ppc64Frames = record {
   word = wordBytes Ppc64;
   header = headerBytes Ppc64;
   least = leastArea Ppc64;
@@ -58,8 +58,8 @@ ppc64 = record {
 -- "Z request: r(g) to r15, g 6 to 14, at S + 8n (the published save area); f(m) to f15, m 8 to 16"; "Z r0 to r5, r14, saved r6 to r13, f0 to f7, saved f8 to f15";
 -- outgoing areas start "at 160 on Z"; "B + N - 160 (Z)"; preserved "on Z instead r6 to r13 and f8 to f15. The return address is LR, on Z r14";
 -- 02, No. 8: "Z is as before"
-abbrev pub z : FrameRules
-z = record {
+abbrev pub zFrames : FrameRules
+zFrames = record {
   word = wordBytes Z;
   header = headerBytes Z;
   least = leastArea Z;
@@ -77,8 +77,8 @@ z = record {
 -- 02, No. 1: "Header 24 bytes, CR at 4, LR at 8. Saves start at r13 (g 13 to 32): r(n) at S - 8(32 - m) - 4(32 - n)"; "A frame is 24 + max(32, P) + L and its saves, rounded up
 -- to 16 (ours); start is at B + N - 64"; "B + N over 2^32 - 1 gives 16"; "outgoing areas starting at 24, at least 32 long"; "Otherwise all is PPC64's by words";
 -- No. 8: "220 on AIX"
-abbrev pub aix : FrameRules
-aix = record {
+abbrev pub aixFrames : FrameRules
+aixFrames = record {
   word = wordBytes Aix;
   header = headerBytes Aix;
   least = leastArea Aix;
@@ -94,8 +94,8 @@ aix = record {
 }
 
 abbrev pub rules : Convention → FrameRules
-rules Ppc64 = ppc64
-rules Z = z
-rules Aix = aix
+rules Ppc64 = ppc64Frames
+rules Z = zFrames
+rules Aix = aixFrames
 -- 02, No. 12: code 4 is "PPC64 with that rule", which is none of frames
-rules Ppc64b = ppc64
+rules Ppc64b = ppc64Frames

@@ -1,5 +1,5 @@
 // The rules of a convention's stack frames as numbers. The definitions of what a request may ask, of its frame's size, of what is saved where and of what may be
-// written stand here too; `frame_requests`, `frame_saving`, `frame_restoring` and `frame_writing` have their code. Every function is written once over a `FrameRules`, so a convention is a value and no code.
+// written stand here too; `frame_requests`, `frame_preserving` and `frame_writing` have their code. Every function is written once over a `FrameRules`, so a convention is a value and no code.
 
 ghost use mathlib.Core.Path.{_≡_};
 ghost use Prim.Native.Nat.{_<_};

@@ -82,10 +82,6 @@ load-in (suc c) xs l at w n r (suc j) h =
 
 -- ---- a turn of a loop, and its end
 
-pub words-turn : (w c : ℕ) → 0 < c → w * c ≡ w + w * (c - 1)
-words-turn w zero h = absurd (omega arith)
-words-turn w (suc c) h = let e : suc c - 1 ≡ c = omega arith in rw e (omega (arith, mul-suc w c))
-
 pub save-turn : (c : ℕ) (l xs : List ℕ) (at w n : ℕ) → 0 < c
     → saveRun (store l at w (getD xs n 0)) xs (at + w) w (n + 1) (c - 1) ≡ saveRun l xs at w n c
 unfolding saveRun

@@ -1,12 +1,13 @@
 -- The laws of several saved runs: ascending runs need one comparison each to be apart, and what is saved is then held.
 -- Assumes nothing.
-use Prim.Native.Nat.{ℕ, suc, _+_, _*_, _^_, _<_, _≤_}
+use Prim.Native.Nat.{ℕ, _+_, _*_, _^_, _<_, _≤_}
 use mathlib.Core.Path.{_≡_, refl, sym, _∙_}
 use mathlib.Core.Logic.{inl, inr, ⊎-elim}
 use mathlib.Core.List.{List, [], _∷_}
 use native.Mathlib.Omega.{arith}
-use native.Mathlib.Nat.{mul-le-mul-left, mul-suc}
 use lib.ListN.{length, getD}
+use Rattle.base_words.specs.Basics.{All}
+use Rattle.base_words.proofs.Basics.{word-in}
 use Rattle.frame_saves.specs.Saves.{load, Save, endOf, saved, saveAll, Outside}
 use Rattle.frame_saves.proofs.Words.{load-agree}
 use Rattle.frame_saves.proofs.Runs.{save-length, save-below, save-above, load-save}
@@ -20,14 +21,9 @@ Ascending lo (v ∷ vs) hi = (lo ≤ v .at) × Ascending (endOf v) vs hi
 abbrev pub Held : List ℕ → Save → Type 0
 Held l v = (j : ℕ) → j < v .count → load l (v .at + v .width * j) (v .width) ≡ getD (v .values) (v .from + j) 0
 
-abbrev pub HeldAll : List ℕ → List Save → Type 0
-HeldAll l [] = Unit {0}
-HeldAll l (v ∷ vs) = Held l v × HeldAll l vs
-
 -- each register saved fits its word
-abbrev pub FitAll : List Save → Type 0
-FitAll [] = Unit {0}
-FitAll (v ∷ vs) = ((i : ℕ) → getD (v .values) i 0 < 2 ^ (8 * v .width)) × FitAll vs
+abbrev pub Fitting : Save → Type 0
+Fitting v = (i : ℕ) → getD (v .values) i 0 < 2 ^ (8 * v .width)
 
 -- two memories of one length agree from a up to b
 pub record Agree (l l′ : List ℕ) (a b : ℕ) : Type 0 where
@@ -65,21 +61,19 @@ all-outside (v ∷ vs) l b o =
 
 -- ---- the same place
 
--- the j-th word of a run lies in it
-word-in : (w c j : ℕ) → j < c → w * j + w ≤ w * c
-word-in w c j h = omega (arith, mul-suc w j, mul-le-mul-left {m = suc j} {n = c} w h)
-
 pub held-agree : (v : Save) (l l′ : List ℕ) → Agree l l′ (v .at) (endOf v) → Held l v → Held l′ v
 held-agree v l l′ a h j p =
     sym (load-agree l l′ (v .at + v .width * j) (v .width) (a .lengths) (λ k s t. a .bytes k (omega arith) (omega (arith, word-in (v .width) (v .count) j p)))) ∙ h j p
 
-pub all-agree : (vs : List Save) (lo hi : ℕ) (l l′ : List ℕ) → Ascending lo vs hi → Agree l l′ lo hi → HeldAll l vs → HeldAll l′ vs
+pub all-agree : (vs : List Save) (lo hi : ℕ) (l l′ : List ℕ) → Ascending lo vs hi → Agree l l′ lo hi → All (Held l) vs → All (Held l′) vs
+unfolding All
 all-agree [] lo hi l l′ a g h = tt
 all-agree (v ∷ vs) lo hi l l′ a g h =
     let top = ascending-le vs (endOf v) hi (a .1) in
     (held-agree v l l′ (narrow g (v .at) (endOf v) (a .0) top) (h .0), all-agree vs (endOf v) hi l l′ (a .1) (narrow g (endOf v) hi (omega arith) (omega arith)) (h .1))
 
-pub all-held : (vs : List Save) (lo hi : ℕ) (l : List ℕ) → Ascending lo vs hi → hi ≤ length l → FitAll vs → HeldAll (saveAll l vs) vs
+pub all-held : (vs : List Save) (lo hi : ℕ) (l : List ℕ) → Ascending lo vs hi → hi ≤ length l → All Fitting vs → All (Held (saveAll l vs)) vs
+unfolding All
 all-held [] lo hi l a r f = tt
 all-held (v ∷ vs) lo hi l a r f =
     let l₁ = saved l v in

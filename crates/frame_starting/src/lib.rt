@@ -6,9 +6,10 @@ ghost use Rattle.frame_rules.specs.Rules.{rules};
 ghost use Rattle.frame_rules.specs.Frames.{lowered, cleared};
 ghost use Rattle.frame_machine.specs.Machine.{startOutcome, startMemory};
 use base_conventions::Convention;
-use frame_machine::Answer;
-use frame_machine::Outcome;
-use frame_machine::Refusal;
+use frame_machine::FrameAnswer;
+use frame_machine::FrameOutcome;
+use frame_machine::FrameRefusal;
+use frame_machine::MAX_ENTERED;
 use frame_machine::State;
 use frame_rules::Frame;
 use frame_rules::FrameRules;
@@ -61,7 +62,7 @@ pub fn start(
     memory: &mut [u8],
     base: u64,
     registers: Registers,
-) -> Outcome
+) -> FrameOutcome
     requires { ⌜ k ≡ rules c ⌝ }
     ensures { λ r. ⌜ r ≡ startOutcome c base (length (now (memory .entry))) registers ⌝ }
     ensures { λ _. ⌜ now (memory .exit) ≡ startMemory c base (now (memory .entry)) ⌝ }
@@ -75,10 +76,10 @@ pub fn start(
         outgoing: 0,
         leaf: false,
     };
-    let frames = [none; 32];
+    let frames = [none; MAX_ENTERED];
     if !frame_bounds::memory_ok(k, base, n) {
-        return Outcome {
-            answer: Answer::Refused(Refusal::BadMemory),
+        return FrameOutcome {
+            answer: FrameAnswer::Refused(FrameRefusal::BadMemory),
             state: State {
                 convention: c,
                 base: 0,
@@ -93,8 +94,8 @@ pub fn start(
     let handed = clear(k, registers);
     let r = frame_rules::with_pointer(k, handed, base + at as u64);
     base_words::store(memory, at, k.word, 0);
-    Outcome {
-        answer: Answer::Accepted,
+    FrameOutcome {
+        answer: FrameAnswer::Accepted,
         state: State {
             convention: c,
             base: base,

@@ -5,16 +5,17 @@ ghost use Prim.Native.Nat.{_*_, _≤_};
 ghost use Rattle.frame_rules.specs.Helpers.{LawfulFrames};
 ghost use Rattle.frame_rules.specs.Frames.{mostSize};
 ghost use Rattle.frame_machine.specs.Answers.{judge};
-ghost use Rattle.frame_machine.specs.Machine.{stackPointer, topFrame, top, caller, okFrames, sizes, okState, stateTests};
-use frame_machine::Answer;
-use frame_machine::Refusal;
+ghost use Rattle.frame_machine.specs.Machine.{maxEntered, stackPointer, topFrame, top, caller, okFrames, sizes, okState, stateTests};
+use frame_machine::FrameAnswer;
+use frame_machine::FrameRefusal;
+use frame_machine::MAX_ENTERED;
 use frame_machine::State;
 use frame_rules::Frame;
 use frame_rules::FrameRules;
 
 // The frame entered last of d; the start where there is none.
-fn frame_under(k: FrameRules, fs: [Frame; 32], d: usize) -> Frame
-    requires { ⌜ d ≤ 32 ⌝ }
+fn frame_under(k: FrameRules, fs: [Frame; MAX_ENTERED], d: usize) -> Frame
+    requires { ⌜ d ≤ maxEntered ⌝ }
     ensures { λ r. ⌜ r ≡ topFrame k fs d ⌝ }
 {
     if d == 0 {
@@ -23,8 +24,8 @@ fn frame_under(k: FrameRules, fs: [Frame; 32], d: usize) -> Frame
     fs[d - 1]
 }
 
-fn frames_ok(k: FrameRules, fs: [Frame; 32], depth: usize) -> bool
-    requires { ⌜ depth ≤ 32 ⌝ }
+fn frames_ok(k: FrameRules, fs: [Frame; MAX_ENTERED], depth: usize) -> bool
+    requires { ⌜ depth ≤ maxEntered ⌝ }
     ensures { λ r. ⌜ r ≡ okFrames k fs depth ⌝ }
 {
     let mut d = depth;
@@ -42,9 +43,9 @@ fn frames_ok(k: FrameRules, fs: [Frame; 32], depth: usize) -> bool
     true
 }
 
-fn sizes_of(k: FrameRules, fs: [Frame; 32], depth: usize) -> usize
-    requires { ⌜ (LawfulFrames k) × (depth ≤ 32) × (okFrames k fs depth ≡ true) ⌝ }
-    ensures { λ r. ⌜ (r ≡ sizes k fs depth) × (r ≤ 32 * mostSize) ⌝ }
+fn sizes_of(k: FrameRules, fs: [Frame; MAX_ENTERED], depth: usize) -> usize
+    requires { ⌜ (LawfulFrames k) × (depth ≤ maxEntered) × (okFrames k fs depth ≡ true) ⌝ }
+    ensures { λ r. ⌜ (r ≡ sizes k fs depth) × (r ≤ maxEntered * mostSize) ⌝ }
 {
     let mut d = depth;
     let mut sum: usize = 0;
@@ -75,7 +76,7 @@ fn state_ok(k: FrameRules, s: State) -> bool
         return false;
     }
     let d = s.depth;
-    if 32 < d {
+    if MAX_ENTERED < d {
         return false;
     }
     let fs = s.frames;
@@ -100,22 +101,22 @@ fn state_ok(k: FrameRules, s: State) -> bool
 }
 
 // Refusals 23 and 16.
-pub fn judge_state(k: FrameRules, s: State, n: usize) -> Answer
+pub fn judge_state(k: FrameRules, s: State, n: usize) -> FrameAnswer
     requires { ⌜ LawfulFrames k ⌝ }
     ensures { λ r. ⌜ r ≡ judge (stateTests k s n) ⌝ }
 {
     if !state_ok(k, s) {
-        return Answer::Refused(Refusal::BadState);
+        return FrameAnswer::Refused(FrameRefusal::BadState);
     }
     if n != s.size {
-        return Answer::Refused(Refusal::BadMemory);
+        return FrameAnswer::Refused(FrameRefusal::BadMemory);
     }
-    Answer::Accepted
+    FrameAnswer::Accepted
 }
 
 // The frame entered last, and its caller; the start where there is none.
 pub fn top_frame(k: FrameRules, s: State) -> Frame
-    requires { ⌜ s .depth ≤ 32 ⌝ }
+    requires { ⌜ s .depth ≤ maxEntered ⌝ }
     ensures { λ r. ⌜ r ≡ top k s ⌝ }
 {
     let fs = s.frames;
@@ -123,7 +124,7 @@ pub fn top_frame(k: FrameRules, s: State) -> Frame
 }
 
 pub fn caller_frame(k: FrameRules, s: State) -> Frame
-    requires { ⌜ s .depth ≤ 32 ⌝ }
+    requires { ⌜ s .depth ≤ maxEntered ⌝ }
     ensures { λ r. ⌜ r ≡ caller k s ⌝ }
 {
     let d = s.depth;

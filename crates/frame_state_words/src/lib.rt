@@ -2,12 +2,13 @@
 ghost use mathlib.Core.Path.{_≡_};
 ghost use Prim.Native.Nat.{_+_, _≤_, _<_};
 ghost use lib.ListN.{length};
-ghost use Rattle.base_words.specs.Basics.{flag};
 ghost use Rattle.base_words.specs.Splice.{splice, part};
+ghost use Rattle.frame_machine.specs.Machine.{maxEntered};
 ghost use Rattle.frame_word_layout.specs.Words.{machineWords, registersWords, recordWords, recordsAt, conventionOf, isKnown, depthIn, registersIn, frameIn, framesIn, stateIn, registerWords, framesWords, stateWords, withRegisters, withFrame};
 ghost use Rattle.frame_word_layout.specs.Calls.{changed};
 use base_conventions::Convention;
 use base_conventions::ConventionCode;
+use frame_machine::MAX_ENTERED;
 use frame_machine::State;
 use frame_rules::Frame;
 use frame_rules::Registers;
@@ -91,9 +92,9 @@ pub fn frame_in(words: &[u64], at: usize) -> Frame
 }
 
 // All 32 records.
-fn frames_in(words: &[u64]) -> [Frame; 32]
+fn frames_in(words: &[u64]) -> [Frame; MAX_ENTERED]
     requires { ⌜ length (now words) ≡ machineWords ⌝ }
-    ensures { λ r. ⌜ r ≡ framesIn 32 (now (words .entry)) 0 ⌝ }
+    ensures { λ r. ⌜ r ≡ framesIn maxEntered (now (words .entry)) 0 ⌝ }
 {
     let none = Frame {
         first_gpr: 0,
@@ -103,9 +104,9 @@ fn frames_in(words: &[u64]) -> [Frame; 32]
         outgoing: 0,
         leaf: false,
     };
-    let mut fs = [none; 32];
+    let mut fs = [none; MAX_ENTERED];
     let mut i: usize = 0;
-    while i < 32 {
+    while i < MAX_ENTERED {
         let f = frame_in(words, RECORDS_AT + RECORD_WORDS * i);
         fs[i] = f;
         i += 1;
@@ -132,17 +133,20 @@ fn is_known(code: ConventionCode) -> bool
     }
 }
 
-// The depth; one over 32, which every call refuses, where the convention's code or CR cannot be.
+// One over the most, which every call refuses.
+const NO_DEPTH: usize = MAX_ENTERED + 1;
+
+// The depth; `NO_DEPTH` where the convention's code or CR cannot be.
 fn depth_in(words: &[u64]) -> usize
     requires { ⌜ length (now words) ≡ machineWords ⌝ }
     ensures { λ r. ⌜ r ≡ depthIn (now (words .entry)) ⌝ }
 {
     let code = base_conventions::convention_code(words[0]);
     if !is_known(code) {
-        return 33;
+        return NO_DEPTH;
     }
     if 4294967295 < words[CR_AT] {
-        return 33;
+        return NO_DEPTH;
     }
     words[DEPTH_AT] as usize
 }
@@ -189,33 +193,27 @@ pub fn put_registers(words: &mut [u64], r: Registers)
     words[CR_AT] = r.cr as u64;
 }
 
-fn flag_word(b: bool) -> u64
-    ensures { λ r. ⌜ r ≡ flag b ⌝ }
-{
-    if b { 1 } else { 0 }
-}
-
 // The record i.
 fn put_frame(words: &mut [u64], i: usize, f: Frame)
-    requires { ⌜ (length (now words) ≡ machineWords) × (i < 32) ⌝ }
+    requires { ⌜ (length (now words) ≡ machineWords) × (i < maxEntered) ⌝ }
     ensures { λ _. ⌜ now (words .exit) ≡ withFrame (now (words .entry)) i f ⌝ }
 {
     let at = RECORDS_AT + RECORD_WORDS * i;
     words[at] = f.first_gpr as u64;
     words[at + 1] = f.first_fpr as u64;
-    words[at + 2] = flag_word(f.saves_cr);
+    words[at + 2] = base_words::flag(f.saves_cr);
     words[at + 3] = f.locals as u64;
     words[at + 4] = f.outgoing as u64;
-    words[at + 5] = flag_word(f.leaf);
+    words[at + 5] = base_words::flag(f.leaf);
 }
 
 // All 32 records.
-fn put_frames(words: &mut [u64], fs: [Frame; 32])
+fn put_frames(words: &mut [u64], fs: [Frame; MAX_ENTERED])
     requires { ⌜ length (now words) ≡ machineWords ⌝ }
     ensures { λ _. ⌜ (now (words .exit) ≡ splice (now (words .entry)) recordsAt (framesWords fs)) × (length fs ≡ 32) ⌝ }
 {
     let mut i: usize = 0;
-    while i < 32 {
+    while i < MAX_ENTERED {
         let f = fs[i];
         put_frame(words, i, f);
         i += 1;
@@ -240,7 +238,7 @@ pub fn put_state(words: &mut [u64], s: State)
 
 // What an enter or a leave changes: the depth, the registers, and the record i.
 pub fn put_changed(words: &mut [u64], s: State, i: usize)
-    requires { ⌜ (length (now words) ≡ machineWords) × (i < 32) ⌝ }
+    requires { ⌜ (length (now words) ≡ machineWords) × (i < maxEntered) ⌝ }
     ensures { λ _. ⌜ now (words .exit) ≡ changed (now (words .entry)) s i ⌝ }
 {
     let registers = s.registers;

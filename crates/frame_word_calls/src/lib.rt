@@ -5,7 +5,7 @@ ghost use lib.ListN.{length};
 ghost use Rattle.frame_machine.specs.Machine.{enterOutcome, enterMemory, writeRegisterOutcome, writeMemoryOutcome, writeMemoryMemory, leaveOutcome};
 ghost use Rattle.frame_word_layout.specs.Words.{frameIn, stateIn};
 ghost use Rattle.frame_word_layout.specs.Calls.{enterWords, writeRegisterWords, leaveWords};
-use frame_machine::Answer;
+use frame_machine::FrameAnswer;
 use frame_word_layout::MACHINE_WORDS;
 use frame_word_layout::RECORD_WORDS;
 
@@ -14,7 +14,7 @@ pub fn enter(
     words: &mut [u64; MACHINE_WORDS],
     request: &[u64; RECORD_WORDS],
     memory: &mut [u8],
-) -> Answer
+) -> FrameAnswer
     ensures { λ r. ⌜ r ≡ enterOutcome (stateIn (now (words .entry))) (length (now (memory .entry))) (frameIn (now (request .entry)) 0) .answer ⌝ }
     ensures { λ _. ⌜ now (words .exit) ≡ enterWords (now (words .entry)) (length (now (memory .entry))) (now (request .entry)) ⌝ }
     ensures { λ _. ⌜ now (memory .exit) ≡ enterMemory (stateIn (now (words .entry))) (now (memory .entry)) (frameIn (now (request .entry)) 0) ⌝ }
@@ -24,11 +24,11 @@ pub fn enter(
     let o = frame_calls::enter(s, memory, f);
     let a = o.answer;
     match a {
-        Answer::Refused(r) => Answer::Refused(r),
-        Answer::Accepted => {
+        FrameAnswer::Refused(r) => FrameAnswer::Refused(r),
+        FrameAnswer::Accepted => {
             let t = o.state;
             frame_state_words::put_changed(words, t, s.depth);
-            Answer::Accepted
+            FrameAnswer::Accepted
         }
     }
 }
@@ -40,7 +40,7 @@ pub fn write_register(
     number: u64,
     value: u64,
     memory: &[u8],
-) -> Answer
+) -> FrameAnswer
     ensures { λ r. ⌜ r ≡ writeRegisterOutcome (stateIn (now (words .entry))) (length (now (memory .entry))) bank number value .answer ⌝ }
     ensures { λ _. ⌜ now (words .exit) ≡ writeRegisterWords (now (words .entry)) (length (now (memory .entry))) bank number value ⌝ }
 {
@@ -48,12 +48,12 @@ pub fn write_register(
     let o = frame_calls::write_register(s, memory, bank, number, value);
     let a = o.answer;
     match a {
-        Answer::Refused(r) => Answer::Refused(r),
-        Answer::Accepted => {
+        FrameAnswer::Refused(r) => FrameAnswer::Refused(r),
+        FrameAnswer::Accepted => {
             let t = o.state;
             let registers = t.registers;
             frame_state_words::put_registers(words, registers);
-            Answer::Accepted
+            FrameAnswer::Accepted
         }
     }
 }
@@ -64,7 +64,7 @@ pub fn write_memory(
     address: u64,
     bytes: &[u8],
     memory: &mut [u8],
-) -> Answer
+) -> FrameAnswer
     ensures { λ r. ⌜ r ≡ writeMemoryOutcome (stateIn (now (words .entry))) (length (now (memory .entry))) address (length (now (bytes .entry))) .answer ⌝ }
     ensures { λ _. ⌜ now (memory .exit) ≡ writeMemoryMemory (stateIn (now (words .entry))) (now (memory .entry)) address (now (bytes .entry)) ⌝ }
 {
@@ -74,7 +74,7 @@ pub fn write_memory(
 }
 
 // Leaves the frame entered last.
-pub fn leave(words: &mut [u64; MACHINE_WORDS], memory: &[u8]) -> Answer
+pub fn leave(words: &mut [u64; MACHINE_WORDS], memory: &[u8]) -> FrameAnswer
     ensures { λ r. ⌜ r ≡ leaveOutcome (stateIn (now (words .entry))) (now (memory .entry)) .answer ⌝ }
     ensures { λ _. ⌜ now (words .exit) ≡ leaveWords (now (words .entry)) (now (memory .entry)) ⌝ }
 {
@@ -82,11 +82,11 @@ pub fn leave(words: &mut [u64; MACHINE_WORDS], memory: &[u8]) -> Answer
     let o = frame_calls::leave(s, memory);
     let a = o.answer;
     match a {
-        Answer::Refused(r) => Answer::Refused(r),
-        Answer::Accepted => {
+        FrameAnswer::Refused(r) => FrameAnswer::Refused(r),
+        FrameAnswer::Accepted => {
             let t = o.state;
             frame_state_words::put_changed(words, t, t.depth);
-            Answer::Accepted
+            FrameAnswer::Accepted
         }
     }
 }

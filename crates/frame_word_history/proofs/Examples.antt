@@ -13,8 +13,8 @@ use Rattle.base_conventions.specs.declared.Convention.{Convention}
 use Rattle.base_conventions.specs.Numbers.{conventionCode}
 use Rattle.base_conventions.specs.declared.Convention.the-variants.{Ppc64, Z, Aix}
 use Rattle.frame_rules.specs.Frames.{withPointer, allWithin, lowered, okRegisters, cleared, okLeaf, okRequest, below, fullSize, frameSize, chainWidth, gprAt, savesBy, linkAt, mergeFields, restoredLr, restoredCr, restored, bankOf, writableRegister, withRegister}
-use Rattle.frame_machine.specs.declared.Answer.the-variants.{Accepted}
-use Rattle.frame_machine.specs.Answers.{answerNumber, judge}
+use Rattle.frame_machine.specs.declared.FrameAnswer.the-variants.{Accepted}
+use Rattle.frame_machine.specs.Answers.{frameAnswerNumber, judge}
 use Rattle.frame_machine.specs.Machine.{topFrame, okFrames, sizes, okMemory, okState, startAnswer, started, startedMemory, enterAnswer, entered, enteredMemory, writeRegisterAnswer, writtenRegister, leaveAnswer, left, startOutcome, startMemory, enterOutcome, enterMemory, writeRegisterOutcome, leaveOutcome}
 use Rattle.frame_word_layout.specs.Words.{registersWords, isMachine, depthIn, registersIn, frameIn, framesIn, stateIn, registerWords, frameWords, framesWords, stateWords}
 use Rattle.frame_word_layout.specs.Calls.{changed, startWords, enterWords, writeRegisterWords, leaveWords}
@@ -23,7 +23,7 @@ use Rattle.frame_word_history.specs.Calls.{Call, enter, writeRegister, l
 -- the numbers of the answers to a list of calls, and what is lent after them
 abbrev numbers : List Call → Lent → List ℕ
 numbers [] m = []
-numbers (c ∷ cs) m = answerNumber (answer c m) ∷ numbers cs (after c m)
+numbers (c ∷ cs) m = frameAnswerNumber (answer c m) ∷ numbers cs (after c m)
 
 abbrev start : Convention → Lent
 start c = fresh c 4096 (replicate 640 1) (replicate registersWords 7)
@@ -65,14 +65,14 @@ start-aix = fresh Aix 4096 (replicate 640 1) wide
 
 -- what a leave answers where word i is 2^32
 abbrev leaveWith : ℕ → Convention → ℕ
-leaveWith i c = answerNumber (answer leave (record { words = set (start c .words) i (2 ^ 32); memory = start c .memory }))
+leaveWith i c = frameAnswerNumber (answer leave (record { words = set (start c .words) i (2 ^ 32); memory = start c .memory }))
 
 -- A start is accepted up to 2^32 - 1, with 288 bytes and no fewer. After the calls all the words are as the start left them. A state with 2^32 in the first or last general
 -- register or in LR is refused by 23, one with it in a floating register not; on PPC64 none is.
 pub worked-aix : (startOutcome Aix (2 ^ 32 - 656) 640 (registersIn wide 0) .answer ≡ Accepted)
-    × (answerNumber (startOutcome Aix (2 ^ 32 - 640) 640 (registersIn wide 0) .answer) ≡ 16)
+    × (frameAnswerNumber (startOutcome Aix (2 ^ 32 - 640) 640 (registersIn wide 0) .answer) ≡ 16)
     × (startOutcome Aix 4096 288 (registersIn wide 0) .answer ≡ Accepted)
-    × (answerNumber (startOutcome Aix 4096 272 (registersIn wide 0) .answer) ≡ 16)
+    × (frameAnswerNumber (startOutcome Aix 4096 272 (registersIn wide 0) .answer) ≡ 16)
     × (numbers calls-aix start-aix ≡ 22 ∷ 0 ∷ 0 ∷ 0 ∷ 22 ∷ [])
     × (run calls-aix start-aix .words ≡ start-aix .words)
     × (numbers calls-leaf start-aix ≡ 22 ∷ 0 ∷ 0 ∷ 0 ∷ 22 ∷ [])

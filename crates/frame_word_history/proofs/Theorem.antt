@@ -15,8 +15,8 @@ use Rattle.frame_rules.specs.Rules.{rules}
 use Rattle.frame_rules.specs.Frames.{noFrame, withPointer, cleared}
 use Rattle.frame_rules.proofs.Halves.{lowered-length}
 use Rattle.frame_machine.specs.declared.State.{State}
-use Rattle.frame_machine.specs.declared.Answer.{Answer}
-use Rattle.frame_machine.specs.declared.Answer.the-variants.{Accepted, Refused}
+use Rattle.frame_machine.specs.declared.FrameAnswer.{FrameAnswer}
+use Rattle.frame_machine.specs.declared.FrameAnswer.the-variants.{Accepted, Refused}
 use Rattle.frame_machine.specs.Answers.{settle}
 use Rattle.frame_machine.specs.Machine.{startAnswer, startOutcome, started, notStarted, enterOutcome, enterMemory, writeRegisterOutcome, writeMemoryOutcome, leaveOutcome}
 use Rattle.frame_word_layout.specs.Words.{machineWords, registersWords, registersIn, frameIn, stateIn, stateWords, registerWords, withRegisters}
@@ -54,7 +54,7 @@ changed-length : (ws : List ℕ) (s : State) (i : ℕ) → length (changed ws s 
 unfolding changed
 changed-length ws s i = simp (length-splice, length-set)
 
-settle-length : (a : Answer) (x y : List ℕ) → length x ≡ length y → length (settle a x y) ≡ length y
+settle-length : (a : FrameAnswer) (x y : List ℕ) → length x ≡ length y → length (settle a x y) ≡ length y
 settle-length Accepted x y h = h
 settle-length (Refused r) x y h = refl
 
@@ -82,7 +82,7 @@ start-length c rs b n h = go (startAnswer c b n)
     f : length (part (0 + 32) 32 rs) ≡ 32
     f = length-part (0 + 32) 32 rs (omega arith)
 
-    go : (a : Answer) → length (settle a (stateWords (settle a (started c b n (registersIn rs 0)) (notStarted c (registersIn rs 0)))) (refusedWords c rs)) ≡ machineWords
+    go : (a : FrameAnswer) → length (settle a (stateWords (settle a (started c b n (registersIn rs 0)) (notStarted c (registersIn rs 0)))) (refusedWords c rs)) ≡ machineWords
     go Accepted = simp length-append (omega (arith, length-register-words (started c b n (registersIn rs 0) .registers) (simp length-set (lowered-length (rules c .limit) (part 0 32 rs) 32 ∙ g)) f, length-frames-words (replicate 32 noFrame)))
     go (Refused x) = simp length-append (omega arith)
 
@@ -97,7 +97,7 @@ holds-read k (c ∷ cs) os m h p =
 
 -- ---- numbers are values of their types
 
-pub registers-fit : (rs : List ℕ) → WordsFit registersWords rs → RegistersFit (registersIn rs 0)
+pub registers-fit : (rs : List ℕ) → WordsFit registersWords rs → RegistersFit 8 (registersIn rs 0)
 unfolding registersIn
 registers-fit rs h = record {
   gprs = length-part 0 32 rs (omega (arith, h .count));

@@ -5,7 +5,7 @@ use Prim.Native.Nat.{ℕ}
 use mathlib.Core.List.{List, [], _∷_}
 use lib.ListN.{length}
 use Rattle.base_conventions.specs.declared.Convention.{Convention}
-use Rattle.frame_machine.specs.declared.Answer.{Answer}
+use Rattle.frame_machine.specs.declared.FrameAnswer.{FrameAnswer}
 use Rattle.frame_machine.specs.Machine.{startMemory, enterOutcome, enterMemory, writeRegisterOutcome, writeMemoryOutcome, writeMemoryMemory, leaveOutcome}
 use Rattle.frame_word_layout.specs.Words.{frameIn, stateIn}
 use Rattle.frame_word_layout.specs.Calls.{startWords, enterWords, writeRegisterWords, leaveWords}
@@ -23,7 +23,7 @@ pub record Lent : Type 0 where
   pub memory : List ℕ
 
 -- what a call answers; the number that C gets is 0 for an accepted one and else the refusal's (`frameAnswer`, crates/c_frame_answers/specs/Frames.antt)
-abbrev pub answer : Call → Lent → Answer
+abbrev pub answer : Call → Lent → FrameAnswer
 answer (enter q) m = enterOutcome (stateIn (m .words)) (length (m .memory)) (frameIn q 0) .answer
 answer (writeRegister b n v) m = writeRegisterOutcome (stateIn (m .words)) (length (m .memory)) b n v .answer
 answer (writeMemory a bs) m = writeMemoryOutcome (stateIn (m .words)) (length (m .memory)) a (length bs) .answer

@@ -1,18 +1,17 @@
 -- What a call does not change stays word for word: an accepted enter changes the depth, the stack pointer's word and its record, an accepted write of a register that register's word alone,
 -- an accepted leave the depth, the registers that it restores and its record, which it zeroes. Assumes nothing.
-use Prim.Native.Nat.{ℕ, zero, suc, _+_, _-_, _%_, _^_, _<_}
-use native.Mathlib.Nat.{mod-eq-of-lt, zero-add, suc-add}
+use Prim.Native.Nat.{ℕ, _+_, _-_, _%_, _^_, _<_}
+use native.Mathlib.Nat.{mod-eq-of-lt}
 use native.Mathlib.Omega.{arith}
-use mathlib.Core.Path.{_≡_, refl, sym, ap, _∙_}
+use mathlib.Core.Path.{_≡_, sym, _∙_}
 use mathlib.Core.Logic.{inr}
 use mathlib.Core.Bool.{true, false≢true}
 use mathlib.Core.List.{List, [], _∷_}
-use lib.ListN.{length, getD, set, take, length-set}
-use lib.Dec.{leb}
+use lib.ListN.{length, getD, set, length-set}
 use lib.Seq.{set-getD, getD-set-same, getD-set-other}
 use borrow.Author.Tests.{leb-true}
-use Rattle.base_words.specs.Splice.{overlay, splice, part}
-use Rattle.base_words.proofs.Splices.{Apart, length-part, splice-one, splice-other}
+use Rattle.base_words.specs.Splice.{splice, part}
+use Rattle.base_words.proofs.Splices.{Apart, length-part, splice-one, splice-other, splice-part, splice-with}
 use Rattle.base_words.proofs.Tests.{and-yes}
 use Rattle.base_conventions.specs.declared.Convention.{Convention}
 use Rattle.base_conventions.specs.Numbers.{conventionCode}
@@ -21,10 +20,10 @@ use Rattle.frame_rules.specs.declared.RegisterBank.{RegisterBank}
 use Rattle.frame_rules.specs.declared.RegisterBank.the-variants.{General, Floating, Link, ConditionField, None}
 use Rattle.frame_rules.specs.Helpers.{Named}
 use Rattle.frame_rules.specs.Rules.{rules}
-use Rattle.frame_rules.specs.Frames.{noFrame, frameSize, withPointer, restored, bankOf, writableRegister, withField, withRegister}
+use Rattle.frame_rules.specs.Frames.{noFrame, frameSize, withPointer, restored, bankOf, writableRegister, withConditionField, withRegister}
 use Rattle.frame_rules.proofs.Conventions.{lawful}
 use Rattle.frame_rules.proofs.Writing.{writable-named}
-use Rattle.frame_machine.specs.declared.Answer.the-variants.{Accepted}
+use Rattle.frame_machine.specs.declared.FrameAnswer.the-variants.{Accepted}
 use Rattle.frame_machine.specs.Machine.{stateRules, stackPointer, offset, top, enterAnswer, entered, enterOutcome, writeRegisterAnswer, writtenRegister, writeRegisterOutcome, leaveAnswer, left, leaveOutcome}
 use Rattle.frame_machine.proofs.States.{enter-yes, write-register-yes, leave-yes}
 use Rattle.frame_word_layout.specs.Words.{machineWords, registersAt, isKnown, isMachine, registersIn, frameIn, stateIn, withRegisters, withFrame}
@@ -32,35 +31,6 @@ use Rattle.frame_word_layout.specs.Calls.{changed, enterWords, writeRegi
 use Rattle.frame_word_layout.proofs.Laws.{registers-put}
 use Rattle.frame_word_layout.proofs.ReadBack.{registers-other, depth-machine}
 use Rattle.frame_word_layout.proofs.Theorems.{accepted-machine, frames-32}
-
--- ---- a splice of what is there, and of one number more
-
-overlay-same : (m : ℕ) (l : List ℕ) → overlay l (take m l) ≡ l
-unfolding overlay
-overlay-same zero l = refl
-overlay-same (suc m) [] = refl
-overlay-same (suc m) (x ∷ l) = ap (λ (t : List ℕ). x ∷ t) (overlay-same m l)
-
--- what is there already is put for nothing
-pub splice-part : (l : List ℕ) (n m : ℕ) → splice l n (part n m l) ≡ l
-unfolding splice
-splice-part l zero m = overlay-same m l
-splice-part [] (suc n) m = refl
-splice-part (x ∷ l) (suc n) m = ap (λ (t : List ℕ). x ∷ t) (splice-part l n m)
-
-overlay-set : (l bs : List ℕ) (j v : ℕ) → j < length bs → overlay l (set bs j v) ≡ set (overlay l bs) j v
-unfolding overlay
-overlay-set l [] j v h = absurd (omega arith)
-overlay-set [] (b ∷ bs) zero v h = refl
-overlay-set [] (b ∷ bs) (suc j) v h = refl
-overlay-set (x ∷ l) (b ∷ bs) zero v h = refl
-overlay-set (x ∷ l) (b ∷ bs) (suc j) v h = ap (λ (t : List ℕ). b ∷ t) (overlay-set l bs j v (omega arith))
-
-pub splice-with : (l : List ℕ) (n : ℕ) (bs : List ℕ) (j v : ℕ) → j < length bs → splice l n (set bs j v) ≡ set (splice l n bs) (n + j) v
-unfolding splice
-splice-with l zero bs j v h = rw (zero-add j) (overlay-set l bs j v h)
-splice-with [] (suc n) bs j v h = refl
-splice-with (x ∷ l) (suc n) bs j v h = rw (suc-add n j) (ap (λ (t : List ℕ). x ∷ t) (splice-with l n bs j v h))
 
 -- ---- the registers' words, where one word differs from what is there
 
@@ -148,7 +118,7 @@ abbrev pub wordAfter : RegisterBank → ℕ → ℕ → ℕ → ℕ
 wordAfter General cr i v = v
 wordAfter Floating cr i v = v
 wordAfter Link cr i v = v
-wordAfter ConditionField cr i v = withField cr i v
+wordAfter ConditionField cr i v = withConditionField cr i v
 wordAfter None cr i v = v
 
 module _ (ws : List ℕ) (n b i v : ℕ) (l : length ws ≡ machineWords) where
@@ -158,7 +128,7 @@ module _ (ws : List ℕ) (n b i v : ℕ) (l : length ws ≡ machineWords) where
   one-word k m General h w = rw (cr-kept ws l m) (general-put ws l m i v h)
   one-word k m Floating h w = rw (cr-kept ws l m) (floating-put ws l m i v h)
   one-word k m Link h w = rw (cr-kept ws l m) (lr-put ws l m v)
-  one-word k m ConditionField h w = rw (cr-kept ws l m) (cr-put ws l m (withField (getD ws 69 0) i v))
+  one-word k m ConditionField h w = rw (cr-kept ws l m) (cr-put ws l m (withConditionField (getD ws 69 0) i v))
   one-word k m None h w = absurd (false≢true w)
 
   -- the one register's word

@@ -5,18 +5,19 @@ use native.Mathlib.Omega.{arith}
 use mathlib.Core.Path.{_≡_, refl, sym, ap, _∙_}
 use mathlib.Core.List.{List, [], _∷_, _++_}
 use lib.ListN.{length, getD, drop, set, replicate, length-append, take-append-drop, drop-of-length-le}
-use lib.Seq.{drop-cons, drop-drop, take-all, set-append-left}
-use Rattle.base_words.specs.Splice.{overlay, splice, part}
-use Rattle.base_words.proofs.Splices.{length-part, splice-one, splice-nothing, splice-append, splice-next, splice-head}
+use lib.Seq.{drop-cons, drop-drop, set-append-left}
+use Rattle.base_words.specs.Splice.{splice, part}
+use Rattle.base_words.proofs.Splices.{length-part, splice-one, splice-nothing, splice-append, splice-next, splice-whole, part-next}
+use Rattle.base_words.proofs.Basics.{set-behind}
 use Rattle.base_conventions.specs.declared.Convention.{Convention}
 use Rattle.base_conventions.specs.Numbers.{codeOf}
 use Rattle.frame_rules.specs.declared.Frame.{Frame}
 use Rattle.frame_rules.specs.declared.Registers.{Registers}
 use Rattle.frame_rules.specs.Frames.{noFrame}
 use Rattle.frame_machine.specs.declared.State.{State}
-use Rattle.frame_machine.specs.declared.Refusal.{Refusal}
-use Rattle.frame_machine.specs.declared.Answer.{Answer}
-use Rattle.frame_machine.specs.declared.Answer.the-variants.{Accepted, Refused}
+use Rattle.frame_machine.specs.declared.FrameRefusal.{FrameRefusal}
+use Rattle.frame_machine.specs.declared.FrameAnswer.{FrameAnswer}
+use Rattle.frame_machine.specs.declared.FrameAnswer.the-variants.{Accepted, Refused}
 use Rattle.frame_machine.specs.Answers.{settle}
 use Rattle.frame_machine.specs.Machine.{stateRules, startAnswer, started, notStarted, startOutcome, enterOutcome, writeRegisterOutcome, leaveOutcome, left}
 use Rattle.frame_machine.proofs.States.{enter-yes, leave-yes}
@@ -24,20 +25,6 @@ use Rattle.frame_word_layout.specs.Words.{machineWords, registersWords, 
 use Rattle.frame_word_layout.specs.Calls.{changed, refusedWords, startWords, enterWords, writeRegisterWords, leaveWords}
 
 -- ---- lengths and shape
-
-overlay-all : (l bs : List ℕ) → length bs ≡ length l → overlay l bs ≡ bs
-unfolding overlay
-overlay-all [] [] h = refl
-overlay-all [] (b ∷ bs) h = absurd (omega arith)
-overlay-all (x ∷ l) [] h = absurd (omega arith)
-overlay-all (x ∷ l) (b ∷ bs) h = ap (λ (t : List ℕ). b ∷ t) (overlay-all l bs (omega arith))
-
--- what is put over a whole list is all that is left
-pub splice-all : (l bs : List ℕ) → length bs ≡ length l → splice l 0 bs ≡ bs
-splice-all l bs h = splice-head l bs ∙ overlay-all l bs h
-
-pub part-whole : (n : ℕ) (l : List ℕ) → length l ≡ n → part 0 n l ≡ l
-part-whole n l h = take-all n l (omega arith)
 
 pub length-frames-words : (fs : List Frame) → length (framesWords fs) ≡ 6 * length fs
 unfolding framesWords frameWords
@@ -49,9 +36,6 @@ unfolding registerWords
 length-register-words r g h = simp length-append (omega arith)
 
 -- ---- word by word
-
-part-next : (a m : ℕ) (l : List ℕ) → a < length l → part a (suc m) l ≡ getD l a 0 ∷ part (a + 1) m l
-part-next a m l h = rw (add-one, drop-cons l a 0)
 
 module _ (l f : List ℕ) (at s n i : ℕ) (h : i < n) (k : s + n ≤ length f) where
   pub copy-turn : splice (set l (at + i) (getD f (s + i) 0)) (at + (i + 1)) (part (s + (i + 1)) (n - (i + 1)) f) ≡ splice l (at + i) (part (s + i) (n - i) f)
@@ -137,14 +121,9 @@ module _ (l : List ℕ) (s : State) (n : length l ≡ machineWords) (r : length 
       let a : splice l 0 (stateWords s) ≡ splice l3 4 rest
       = sym (splice-next l 0 (codeOf (s .convention)) (s .base ∷ s .size ∷ s .depth ∷ rest)) ∙ sym (splice-next l0 1 (s .base) (s .size ∷ s .depth ∷ rest)) ∙ sym (splice-next l1 2 (s .size) (s .depth ∷ rest)) ∙ sym (splice-next l2 3 (s .depth) rest) in
       let b : splice l3 4 rest ≡ splice (splice l3 registersAt (registerWords (s .registers))) (4 + length (registerWords (s .registers))) (framesWords (s .frames)) = splice-append l3 4 (registerWords (s .registers)) (framesWords (s .frames)) in
-      sym (rw r at b) ∙ sym a ∙ splice-all l (stateWords s) (whole ∙ sym n)
+      sym (rw r at b) ∙ sym a ∙ splice-whole l (stateWords s) (whole ∙ sym n)
 
 -- ---- a start
-
-set-behind : (xs ys : List ℕ) (n i v : ℕ) → length xs ≡ n → set (xs ++ ys) (n + i) v ≡ xs ++ set ys i v
-set-behind [] ys n i v h = let e : n + i ≡ i = omega arith in rw e
-set-behind (x ∷ xs) ys zero i v h = absurd (omega arith)
-set-behind (x ∷ xs) ys (suc n) i v h = let e : suc n + i ≡ suc (n + i) = omega arith in rw e (ap (λ (t : List ℕ). x ∷ t) (set-behind xs ys n i v (omega arith)))
 
 module _ (rs : List ℕ) (l : length rs ≡ registersWords) where
   cut : part 0 32 rs ++ (part 32 32 rs ++ getD rs 64 0 ∷ getD rs 65 0 ∷ []) ≡ rs
@@ -183,7 +162,7 @@ module _ (rs : List ℕ) (l : length rs ≡ registersWords) where
       r : Registers
       r = registersIn rs 0
 
-      go : (a : Answer) → settle a (stateWords (settle a (started c b n r) (notStarted c r))) (set (stateWords (settle a (started c b n r) (notStarted c r))) 69 (getD rs 65 0))
+      go : (a : FrameAnswer) → settle a (stateWords (settle a (started c b n r) (notStarted c r))) (set (stateWords (settle a (started c b n r) (notStarted c r))) 69 (getD rs 65 0))
           ≡ settle a (stateWords (settle a (started c b n r) (notStarted c r))) (refusedWords c rs)
       go Accepted = refl
       go (Refused x) = refused-back c
@@ -200,7 +179,7 @@ module _ (ws : List ℕ) (n : ℕ) (qs : List ℕ) where
   unfolding enterWords
   enter-yes-words h = rw h
 
-  pub enter-no-words : (x : Refusal) → enterOutcome (stateIn ws) n (frameIn qs 0) .answer ≡ Refused x → ws ≡ enterWords ws n qs
+  pub enter-no-words : (x : FrameRefusal) → enterOutcome (stateIn ws) n (frameIn qs 0) .answer ≡ Refused x → ws ≡ enterWords ws n qs
   unfolding enterWords
   enter-no-words x h = rw h
 
@@ -210,7 +189,7 @@ module _ (ws : List ℕ) (n b i v : ℕ) where
   unfolding writeRegisterWords
   write-yes-words h = rw h
 
-  pub write-no-words : (x : Refusal) → writeRegisterOutcome (stateIn ws) n b i v .answer ≡ Refused x → ws ≡ writeRegisterWords ws n b i v
+  pub write-no-words : (x : FrameRefusal) → writeRegisterOutcome (stateIn ws) n b i v .answer ≡ Refused x → ws ≡ writeRegisterWords ws n b i v
   unfolding writeRegisterWords
   write-no-words x h = rw h
 
@@ -226,6 +205,6 @@ module _ (ws l : List ℕ) where
   unfolding leaveWords
   leave-yes-words h = rw h
 
-  pub leave-no-words : (x : Refusal) → leaveOutcome (stateIn ws) l .answer ≡ Refused x → ws ≡ leaveWords ws l
+  pub leave-no-words : (x : FrameRefusal) → leaveOutcome (stateIn ws) l .answer ≡ Refused x → ws ≡ leaveWords ws l
   unfolding leaveWords
   leave-no-words x h = rw h

@@ -15,7 +15,7 @@ use Rattle.base_words.proofs.Splices.{Apart, length-splice, splice-one, splice-
 use Rattle.frame_rules.specs.declared.Frame.{Frame}
 use Rattle.frame_rules.specs.declared.Registers.{Registers}
 use Rattle.base_words.specs.Basics.{pick, flag}
-use Rattle.base_words.proofs.Tests.{and-yes}
+use Rattle.base_words.proofs.Tests.{and-yes, flag-leb, flag-eqb}
 use Rattle.frame_rules.specs.Frames.{noFrame}
 use Rattle.frame_machine.specs.declared.State.{State}
 use Rattle.frame_machine.specs.Machine.{frameAt}
@@ -29,10 +29,7 @@ use Rattle.frame_word_layout.proofs.Laws.{registers-put, length-registe
 pub flag-back : (b c : Bool) (g m l p : ℕ)
     → pick (leb (flag b) 1 && leb (flag c) 1) (record { «first_gpr» = g; «first_fpr» = m; «saves_cr» = eqb (flag b) 1; locals = l; outgoing = p; leaf = eqb (flag c) 1 }) noFrame
     ≡ record { «first_gpr» = g; «first_fpr» = m; «saves_cr» = b; locals = l; outgoing = p; leaf = c }
-flag-back true true g m l p = refl
-flag-back true false g m l p = refl
-flag-back false true g m l p = refl
-flag-back false false g m l p = refl
+flag-back b c g m l p = rw (flag-leb b, flag-leb c, flag-eqb b, flag-eqb c)
 
 pub frame-same : (l : List ℕ) (at : ℕ) (f : Frame) → at + recordWords ≤ length l → frameIn (splice l at (frameWords f)) at ≡ f
 unfolding frameIn frameWords

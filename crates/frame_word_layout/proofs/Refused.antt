@@ -13,9 +13,9 @@ use Rattle.base_conventions.specs.declared.Convention.the-variants.{Ppc64, Z, A
 use Rattle.frame_rules.specs.declared.FrameRules.{FrameRules}
 use Rattle.frame_rules.specs.Rules.{rules}
 use Rattle.frame_rules.specs.Frames.{noFrame, okRegisters, okRequest}
-use Rattle.frame_machine.specs.declared.Refusal.the-variants.{BadState}
-use Rattle.frame_machine.specs.declared.Answer.the-variants.{Refused}
-use Rattle.frame_machine.specs.Answers.{Test, judge}
+use Rattle.frame_machine.specs.declared.FrameRefusal.the-variants.{BadState}
+use Rattle.frame_machine.specs.declared.FrameAnswer.the-variants.{Refused}
+use Rattle.frame_machine.specs.Answers.{Requirement, judge}
 use Rattle.frame_machine.specs.Machine.{okFrames, okMemory, okState, stateTests}
 use Rattle.frame_word_layout.specs.Words.{registersAt, isMachine, depthIn, registersIn, frameIn, stateIn}
 use Rattle.frame_word_layout.specs.Calls.{refusedWords}
@@ -25,12 +25,12 @@ unfolding okState stateIn depthIn
 no-state k ws h = rw h (and-no (okRegisters k (registersIn ws registersAt)))
 
 -- every answer but a start's is of this form
-pub no-machine : (k : FrameRules) (ws : List ℕ) (n : ℕ) (ts : List Test) → isMachine ws ≡ false → judge (stateTests k (stateIn ws) n ++ ts) ≡ Refused BadState
+pub no-machine : (k : FrameRules) (ws : List ℕ) (n : ℕ) (ts : List Requirement) → isMachine ws ≡ false → judge (stateTests k (stateIn ws) n ++ ts) ≡ Refused BadState
 unfolding judge
 no-machine k ws n ts h = rw (no-state k ws h)
 
 -- whatever the words rs handed in
-pub no-start : (c : Convention) (rs : List ℕ) (k : FrameRules) (n : ℕ) (ts : List Test) → judge (stateTests k (stateIn (refusedWords c rs)) n ++ ts) ≡ Refused BadState
+pub no-start : (c : Convention) (rs : List ℕ) (k : FrameRules) (n : ℕ) (ts : List Requirement) → judge (stateTests k (stateIn (refusedWords c rs)) n ++ ts) ≡ Refused BadState
 unfolding judge okState okMemory stateIn refusedWords
 no-start c rs k n ts =
     let s = stateIn (refusedWords c rs) in

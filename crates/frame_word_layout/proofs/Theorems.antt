@@ -29,10 +29,10 @@ use Rattle.frame_rules.proofs.Conventions.{lawful}
 use Rattle.frame_rules.proofs.Writing.{field-fit, writable-named}
 use Rattle.frame_rules.proofs.Restoring.{cr-fit}
 use Rattle.frame_machine.specs.declared.State.{State}
-use Rattle.frame_machine.specs.declared.Answer.{Answer}
-use Rattle.frame_machine.specs.declared.Answer.the-variants.{Accepted, Refused}
-use Rattle.frame_machine.specs.declared.Refusal.the-variants.{BadState}
-use Rattle.frame_machine.specs.Answers.{Test, judge, settle}
+use Rattle.frame_machine.specs.declared.FrameAnswer.{FrameAnswer}
+use Rattle.frame_machine.specs.declared.FrameAnswer.the-variants.{Accepted, Refused}
+use Rattle.frame_machine.specs.declared.FrameRefusal.the-variants.{BadState}
+use Rattle.frame_machine.specs.Answers.{Requirement, judge, settle}
 use Rattle.frame_machine.specs.Machine.{stateRules, stackPointer, offset, top, stateTests, startAnswer, started, notStarted, startOutcome, enterAnswer, entered, writeRegisterAnswer, writtenRegister, leaveAnswer, left, enterOutcome, writeRegisterOutcome, leaveOutcome}
 use Rattle.frame_machine.proofs.Judging.{never}
 use Rattle.frame_machine.proofs.States.{enter-yes, write-register-yes, leave-yes}
@@ -44,7 +44,7 @@ use Rattle.frame_word_layout.proofs.ReadBack.{flag-back, cr-word, regis
 
 -- ---- what is read
 
-pub accepted-machine : (k : FrameRules) (ws : List ℕ) (n : ℕ) (ts : List Test) → judge (stateTests k (stateIn ws) n ++ ts) ≡ Accepted → isMachine ws ≡ true
+pub accepted-machine : (k : FrameRules) (ws : List ℕ) (n : ℕ) (ts : List Requirement) → judge (stateTests k (stateIn ws) n ++ ts) ≡ Accepted → isMachine ws ≡ true
 accepted-machine k ws n ts e = go (isMachine ws) refl
   where
     go : (b : Bool) → isMachine ws ≡ b → isMachine ws ≡ true
@@ -171,7 +171,7 @@ module _ (ws : List ℕ) (n : ℕ) (qs : List ℕ) (l : length ws ≡ machineWor
   unfolding enterWords enterOutcome
   enter-state = go (enterAnswer (stateRules (stateIn ws)) (stateIn ws) n (frameIn qs 0)) refl
     where
-      go : (a : Answer) → enterAnswer (stateRules (stateIn ws)) (stateIn ws) n (frameIn qs 0) ≡ a → stateIn (enterWords ws n qs) ≡ enterOutcome (stateIn ws) n (frameIn qs 0) .state
+      go : (a : FrameAnswer) → enterAnswer (stateRules (stateIn ws)) (stateIn ws) n (frameIn qs 0) ≡ a → stateIn (enterWords ws n qs) ≡ enterOutcome (stateIn ws) n (frameIn qs 0) .state
       go Accepted e = rw e (entered-back e)
       go (Refused x) e = rw e
 
@@ -200,7 +200,7 @@ module _ (ws : List ℕ) (n b i v : ℕ) (l : length ws ≡ machineWords) where
   unfolding writeRegisterWords writeRegisterOutcome
   write-register-state = go (writeRegisterAnswer (stateRules (stateIn ws)) (stateIn ws) n b i v) refl
     where
-      go : (a : Answer) → writeRegisterAnswer (stateRules (stateIn ws)) (stateIn ws) n b i v ≡ a → stateIn (writeRegisterWords ws n b i v) ≡ writeRegisterOutcome (stateIn ws) n b i v .state
+      go : (a : FrameAnswer) → writeRegisterAnswer (stateRules (stateIn ws)) (stateIn ws) n b i v ≡ a → stateIn (writeRegisterWords ws n b i v) ≡ writeRegisterOutcome (stateIn ws) n b i v .state
       go Accepted e = rw e (written-back e)
       go (Refused x) e = rw e
 
@@ -232,6 +232,6 @@ module _ (ws m : List ℕ) (l : length ws ≡ machineWords) where
   unfolding leaveWords leaveOutcome
   leave-state = go (leaveAnswer (stateRules (stateIn ws)) (stateIn ws) m) refl
     where
-      go : (a : Answer) → leaveAnswer (stateRules (stateIn ws)) (stateIn ws) m ≡ a → stateIn (leaveWords ws m) ≡ leaveOutcome (stateIn ws) m .state
+      go : (a : FrameAnswer) → leaveAnswer (stateRules (stateIn ws)) (stateIn ws) m ≡ a → stateIn (leaveWords ws m) ≡ leaveOutcome (stateIn ws) m .state
       go Accepted e = rw e (left-back e)
       go (Refused x) e = rw e

@@ -17,6 +17,7 @@ use Rattle.frame_rules.specs.declared.Registers.{Registers}
 use Rattle.base_words.specs.Basics.{pick, flag}
 use Rattle.frame_rules.specs.Frames.{firstGpr, firstFpr, savesCr, noFrame}
 use Rattle.frame_machine.specs.declared.State.{State}
+use Rattle.frame_machine.specs.Machine.{maxEntered}
 
 -- ---- the numbers of the layout
 
@@ -67,7 +68,7 @@ isMachine ws = isKnown (conventionCode (getD ws 0 0)) && leb (getD ws (registers
 
 -- the depth; words that are no machine's are read as one of depth 33, which is refused by 23 ("depth over 32") before anything else
 unfoldable pub depthIn : List ℕ → ℕ
-depthIn ws = pick (isMachine ws) (getD ws depthAt 0) 33
+depthIn ws = pick (isMachine ws) (getD ws depthAt 0) (maxEntered + 1)
 
 -- the registers in the `registersWords` words from `at` on; of CR's word the low 32 bits
 unfoldable pub registersIn : List ℕ → ℕ → Registers
@@ -106,7 +107,7 @@ stateIn ws = record {
   size = getD ws 2 0;
   depth = depthIn ws;
   registers = registersIn ws registersAt;
-  frames = framesIn 32 ws 0;
+  frames = framesIn maxEntered ws 0;
 }
 
 -- ---- writing

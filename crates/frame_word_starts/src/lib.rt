@@ -10,8 +10,10 @@ use both_abi::Aix;
 use both_abi::Ppc64;
 use both_abi::Ppc64b;
 use both_abi::Z;
-use frame_machine::Answer;
-use frame_machine::Outcome;
+use frame_machine::FrameAnswer;
+use frame_machine::FrameOutcome;
+use frame_word_layout::CR_AT;
+use frame_word_layout::CR_IN;
 use frame_word_layout::MACHINE_WORDS;
 use frame_word_layout::REGISTERS_WORDS;
 
@@ -19,8 +21,8 @@ use frame_word_layout::REGISTERS_WORDS;
 fn put_start(
     words: &mut [u64; MACHINE_WORDS],
     registers: &[u64; REGISTERS_WORDS],
-    o: Outcome,
-) -> Answer
+    o: FrameOutcome,
+) -> FrameAnswer
     ensures { λ r. ⌜ r ≡ o .answer ⌝ }
     ensures { λ _. ⌜ now (words .exit) ≡ settle (o .answer) (stateWords (o .state)) (set (stateWords (o .state)) 69 (getD (now (registers .entry)) 65 0)) ⌝ }
 {
@@ -28,11 +30,11 @@ fn put_start(
     frame_state_words::put_state(words, s);
     let a = o.answer;
     match a {
-        Answer::Refused(r) => {
-            words[69] = registers[65];
-            Answer::Refused(r)
+        FrameAnswer::Refused(r) => {
+            words[CR_AT] = registers[CR_IN];
+            FrameAnswer::Refused(r)
         }
-        Answer::Accepted => Answer::Accepted,
+        FrameAnswer::Accepted => FrameAnswer::Accepted,
     }
 }
 
@@ -42,7 +44,7 @@ pub fn start_ppc64(
     registers: &[u64; REGISTERS_WORDS],
     base: u64,
     memory: &mut [u8],
-) -> Answer
+) -> FrameAnswer
     ensures { λ r. ⌜ r ≡ startOutcome Convention.Ppc64 base (length (now (memory .entry))) (registersIn (now (registers .entry)) 0) .answer ⌝ }
     ensures { λ _. ⌜ now (words .exit) ≡ startWords Convention.Ppc64 (now (registers .entry)) base (length (now (memory .entry))) ⌝ }
     ensures { λ _. ⌜ now (memory .exit) ≡ startMemory Convention.Ppc64 base (now (memory .entry)) ⌝ }
@@ -57,7 +59,7 @@ pub fn start_z(
     registers: &[u64; REGISTERS_WORDS],
     base: u64,
     memory: &mut [u8],
-) -> Answer
+) -> FrameAnswer
     ensures { λ r. ⌜ r ≡ startOutcome Convention.Z base (length (now (memory .entry))) (registersIn (now (registers .entry)) 0) .answer ⌝ }
     ensures { λ _. ⌜ now (words .exit) ≡ startWords Convention.Z (now (registers .entry)) base (length (now (memory .entry))) ⌝ }
     ensures { λ _. ⌜ now (memory .exit) ≡ startMemory Convention.Z base (now (memory .entry)) ⌝ }
@@ -72,7 +74,7 @@ pub fn start_aix(
     registers: &[u64; REGISTERS_WORDS],
     base: u64,
     memory: &mut [u8],
-) -> Answer
+) -> FrameAnswer
     ensures { λ r. ⌜ r ≡ startOutcome Convention.Aix base (length (now (memory .entry))) (registersIn (now (registers .entry)) 0) .answer ⌝ }
     ensures { λ _. ⌜ now (words .exit) ≡ startWords Convention.Aix (now (registers .entry)) base (length (now (memory .entry))) ⌝ }
     ensures { λ _. ⌜ now (memory .exit) ≡ startMemory Convention.Aix base (now (memory .entry)) ⌝ }
@@ -87,7 +89,7 @@ pub fn start_ppc64b(
     registers: &[u64; REGISTERS_WORDS],
     base: u64,
     memory: &mut [u8],
-) -> Answer
+) -> FrameAnswer
     ensures { λ r. ⌜ r ≡ startOutcome Convention.Ppc64b base (length (now (memory .entry))) (registersIn (now (registers .entry)) 0) .answer ⌝ }
     ensures { λ _. ⌜ now (words .exit) ≡ startWords Convention.Ppc64b (now (registers .entry)) base (length (now (memory .entry))) ⌝ }
     ensures { λ _. ⌜ now (memory .exit) ≡ startMemory Convention.Ppc64b base (now (memory .entry)) ⌝ }

@@ -1,19 +1,16 @@
 -- Sets of two spans, and the parts of a condition register. Assumes nothing.
 use Prim.Native.Nat.{ℕ, suc, _-_, _*_, _/_, _%_, _≤_, _<_}
-use mathlib.Core.Path.{_≡_, refl}
-use mathlib.Core.Bool.{Bool, true, false, _||_}
+use mathlib.Core.Path.{_≡_}
+use mathlib.Core.Bool.{true, false}
 use mathlib.Core.List.{List, [], _∷_}
 use native.Mathlib.Omega.{arith}
 use native.Mathlib.Nat.{div-add-mod', div-mul-le-self, pow-le-pow-right, mul-le-mul}
 use lib.Dec.{lit<}
 use lib.ListN.{length, getD}
+use Rattle.base_words.proofs.Tests.{or-false}
 use Rattle.frame_rules.specs.declared.RegisterSpan.{RegisterSpan}
 use Rattle.frame_rules.specs.Rules.{span, inSpan, within}
 use Rattle.frame_rules.specs.Frames.{unitOf}
-
-or-false : (b : Bool) → (b || false) ≡ b
-or-false true = refl
-or-false false = refl
 
 -- a set of two spans
 pub two-left : (vs : List RegisterSpan) (n : ℕ) → length vs ≡ 2 → inSpan (getD vs 0 (span 0 0)) n ≡ true → within vs n ≡ true

@@ -2,7 +2,7 @@
 ghost use mathlib.Core.Path.{_≡_};
 ghost use Prim.Native.Nat.{_≤_, _<_};
 ghost use Rattle.frame_rules.specs.Rules.{within};
-ghost use Rattle.frame_rules.specs.Frames.{writable, writableField, bankOf, writableRegister, unitOf, withField, withRegister};
+ghost use Rattle.frame_rules.specs.Frames.{writable, writableField, bankOf, writableRegister, unitOf, withConditionField, withRegister};
 ghost use Rattle.frame_rules.specs.Helpers.{Named};
 use frame_rules::BankRules;
 use frame_rules::Frame;
@@ -134,9 +134,9 @@ fn unit(n: usize) -> u64
 }
 
 // A condition register with field n at v.
-fn with_field(c: u32, n: usize, v: u64) -> u32
+fn with_condition_field(c: u32, n: usize, v: u64) -> u32
     requires { ⌜ (n ≤ 7) × (v ≤ 15) ⌝ }
-    ensures { λ r. ⌜ r ≡ withField c n v ⌝ }
+    ensures { λ r. ⌜ r ≡ withConditionField c n v ⌝ }
 {
     let u = unit(n);
     let x = c as u64;
@@ -163,7 +163,7 @@ pub fn with_register(r: Registers, b: RegisterBank, n: usize, v: u64) -> Registe
             q
         }
         RegisterBank::ConditionField => {
-            q.cr = with_field(r.cr, n, v);
+            q.cr = with_condition_field(r.cr, n, v);
             q
         }
         RegisterBank::None => q,

@@ -6,7 +6,7 @@ use lib.ListN.{take}
 use Rattle.base_words.specs.Basics.{pick}
 use Rattle.base_conventions.specs.declared.Convention.{Convention}
 use Rattle.sig_items.specs.declared.Fault.{Fault}
-use Rattle.sig_items.specs.Refusals.{numberOf}
+use Rattle.sig_items.specs.Refusals.{refusalNumber}
 use Rattle.sig_signatures.specs.declared.Outcome.{Outcome}
 use Rattle.plan_places.specs.declared.Span.{Span}
 use Rattle.plan_places.specs.declared.ResultPlaces.{ResultPlaces}
@@ -49,7 +49,7 @@ resultText r = resultWord ++ (resultPlacesText r ++ newline)
 -- "the printed line becomes `refused 2 at 0 after 0`"
 unfoldable pub refusalText : Fault → List ℕ
 refusalText f =
-    refusedWord ++ (decimal (numberOf (f .reason)) ++ (atWord ++ (decimal (f .place) ++ (afterWord ++ (decimal (f .passed) ++ newline)))))
+    refusedWord ++ (decimal (refusalNumber (f .reason)) ++ (atWord ++ (decimal (f .place) ++ (afterWord ++ (decimal (f .passed) ++ newline)))))
 
 unfoldable pub acceptedText : Plan → List ℕ
 acceptedText p =

@@ -88,7 +88,7 @@ fn put_refusal(text: &mut [u8], fault: Fault) -> usize
     ensures { λ r. ⌜ Wrote (now (text .entry)) (now (text .exit)) 0 r (refusalText fault) ⌝ }
 {
     let reason = fault.reason;
-    let number = sig_items::number_of(reason) as usize;
+    let number = sig_items::refusal_number(reason) as usize;
     let a = put_labelled(text, 0, b"refused ", number);
     let b = put_labelled(text, a, b" at ", fault.place);
     let d = put_labelled(text, b, b" after ", fault.passed);

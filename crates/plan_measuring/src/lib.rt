@@ -19,17 +19,6 @@ ghost use Rattle.plan_plans.specs.Plan.{refusedPlan, planAnswer, measureOf};
 ghost use Rattle.plan_plans.specs.Helpers.{planWith, unclearWith, measuredBy};
 ghost use Rattle.plan_plans.specs.Call.{callOf};
 
-fn no_measure(fault: Fault) -> Measured
-    ensures { λ m. ⌜ m ≡ measureOf (refusedPlan fault) ⌝ }
-{
-    Measured {
-        outcome: Outcome::Refused(fault),
-        area: 0,
-        values: 0,
-        copies: 0,
-    }
-}
-
 // The sizes by the reading alone, from the arguments on, which stand from `at` to `end`; `earlier` items came before theirs. Each is read, placed and
 // let go: no table is made. No size depends on an ellipsis, so that none is asked for.
 fn measure_plain(
@@ -52,13 +41,13 @@ fn measure_plain(
     let mut items: usize = 1;
     while place < end {
         if count == MAX_ARGUMENTS {
-            return no_measure(Fault {
+            return plan_planning::no_measure(Fault {
                 reason: Refusal::TooManyArguments,
                 place,
                 passed: earlier + items,
             });
         }
-        match sig_nested_items::read_item(s, convention, place, end, 8) {
+        match sig_nested_items::read_item(s, convention, place, end, sig_types::MAX_DEPTH) {
             ItemRead::Item {
                 ty,
                 next,
@@ -72,13 +61,13 @@ fn measure_plain(
                 items = items + more;
             }
             ItemRead::Refused(fault) => {
-                return no_measure(sig_items::later_by(earlier + items, fault));
+                return plan_planning::no_measure(sig_items::later_by(earlier + items, fault));
             }
         }
     }
     let counted = earlier + items;
     if place < s.len() {
-        return no_measure(Fault {
+        return plan_planning::no_measure(Fault {
             reason: Refusal::TrailingBytes,
             place,
             passed: counted,
@@ -103,7 +92,7 @@ fn not_passed(fault: Fault) -> Passed
     ensures { λ a. ⌜ (a .measured ≡ measureOf (refusedPlan fault)) × (a .unclear ≡ 0) ⌝ }
 {
     Passed {
-        measured: no_measure(fault),
+        measured: plan_planning::no_measure(fault),
         unclear: 0,
     }
 }
@@ -136,7 +125,7 @@ fn measure_arguments(
                 passed: earlier + items,
             });
         }
-        match sig_nested_items::read_item(s, convention, next, end, 8) {
+        match sig_nested_items::read_item(s, convention, next, end, sig_types::MAX_DEPTH) {
             ItemRead::Item {
                 ty,
                 next: after,
@@ -183,7 +172,7 @@ fn judged(s: &[u8], a: Passed) -> Measured
     if unclear == 0 {
         return a.measured;
     }
-    no_measure(plan_planning::unclear_fault(s, unclear - 1))
+    plan_planning::no_measure(sig_reader::unclear_fault(s, unclear - 1))
 }
 
 // The sizes of a call, from the arguments on: where the rules are always clear, no argument is looked at for that.
@@ -210,7 +199,7 @@ pub fn measure(s: &[u8]) -> Measured
     ensures { λ m. ⌜ m ≡ measureOf (planAnswer (callOf (now (s .entry)))) ⌝ }
 {
     match sig_head::read_head(s) {
-        HeadRead::Refused(fault) => no_measure(fault),
+        HeadRead::Refused(fault) => plan_planning::no_measure(fault),
         HeadRead::Head {
             convention,
             result,

@@ -12,9 +12,9 @@ use Rattle.plan_places.specs.declared.Cursor.{Cursor}
 use Rattle.plan_places.specs.declared.CallRules.{CallRules}
 use Rattle.plan_places.specs.declared.ZClass.{ZClass}
 use Rattle.plan_places.specs.Values.{pointer}
-use Rattle.plan_places.specs.Power.{words, fprs, covered, powerShare}
+use Rattle.plan_places.specs.Power.{words, fprs, covered, powerShare, unclear}
 use Rattle.plan_places.specs.ZSeries.{zClass, zNextOf}
-use Rattle.plan_places.specs.Step.{rulesOf, wordOf, nextOf, fresh, startOf, areaOf, returning}
+use Rattle.plan_places.specs.Step.{rulesOf, wordOf, nextOf, unclearFor, freshCursor, startOf, areaOf, returning}
 use Rattle.plan_places.specs.Helpers.{LawfulCalls, Roomy, unclearAfter}
 use Rattle.plan_places.proofs.Shares.{share-room}
 
@@ -53,8 +53,8 @@ abbrev pub Named : CallRules → Cursor → Type 0
 Named (CallRules.Power f) c = (3 ≤ c .general) × (c .general ≤ 11) × (1 ≤ c .floating) × (c .floating ≤ 14)
 Named CallRules.Z c = (2 ≤ c .general) × (c .general ≤ 7) × (c .floating ≤ 8) × (c .floating % 2 ≡ 0)
 
-pub named-fresh : (r : CallRules) → Named r (fresh r)
-unfolding fresh
+pub named-fresh : (r : CallRules) → Named r (freshCursor r)
+unfolding freshCursor
 named-fresh (CallRules.Power f) = omega arith
 named-fresh CallRules.Z = omega arith
 
@@ -73,7 +73,7 @@ named-next CallRules.Z c t n h = z-named c (zClass t n) n h
 
 pub named-start : (r : CallRules) (hidden : Bool) → Named r (startOf r hidden)
 unfolding startOf
-named-start r true = named-next r (fresh r) pointer (wordOf r) (named-fresh r)
+named-start r true = named-next r (freshCursor r) pointer (wordOf r) (named-fresh r)
 named-start r false = named-fresh r
 
 -- ---- the bytes
@@ -99,22 +99,22 @@ near-next (CallRules.Power f) c t n l h = let b = word-bound (f .word) n (l .0) 
 near-next CallRules.Z c t n l h = z-near c (zClass t n) n h
 
 -- the bytes of the first cursor: none
-fresh-bytes : (r : CallRules) → (fresh r .stack ≡ 0) × (fresh r .copies ≡ 0)
-unfolding fresh
+fresh-bytes : (r : CallRules) → (freshCursor r .stack ≡ 0) × (freshCursor r .copies ≡ 0)
+unfolding freshCursor
 fresh-bytes (CallRules.Power f) = (refl, refl)
 fresh-bytes CallRules.Z = (refl, refl)
 
 pub start-bytes : (r : CallRules) (hidden : Bool) → LawfulCalls r → (startOf r hidden .stack ≤ 264) × (startOf r hidden .copies ≤ 264)
 unfolding startOf
-start-bytes r true l = let b = near-next r (fresh r) pointer (wordOf r) l (omega (arith, word-most r l)) in omega (arith, fresh-bytes r)
+start-bytes r true l = let b = near-next r (freshCursor r) pointer (wordOf r) l (omega (arith, word-most r l)) in omega (arith, fresh-bytes r)
 start-bytes r false l = omega (arith, fresh-bytes r)
 
 pub named-roomy : (r : CallRules) (c : Cursor) → Named r c → c .stack ≤ 60000 → c .copies ≤ 60000 → Roomy c
 named-roomy (CallRules.Power f) c h s k = omega arith
 named-roomy CallRules.Z c h s k = omega arith
 
-pub fresh-roomy : (r : CallRules) → Roomy (fresh r)
-fresh-roomy r = named-roomy r (fresh r) (named-fresh r) (omega (arith, fresh-bytes r)) (omega (arith, fresh-bytes r))
+pub fresh-roomy : (r : CallRules) → Roomy (freshCursor r)
+fresh-roomy r = named-roomy r (freshCursor r) (named-fresh r) (omega (arith, fresh-bytes r)) (omega (arith, fresh-bytes r))
 
 -- "The area is 8 times the larger of 8 and the final w": never less than the least area
 pub least-area : (c : Convention) (e : Cursor) → leastArea c ≤ areaOf c e
@@ -127,6 +127,12 @@ unfolding areaOf
 area-holds c e = omega arith
 
 -- ---- the first unclear argument
+
+-- 29 looks at the FPRs alone: at neither the offset nor the copies
+pub unclear-floating : (r : CallRules) (k d : Cursor) (t : ValueType) → k .floating ≡ d .floating → unclearFor r k t ≡ unclearFor r d t
+unfolding unclearFor unclear
+unclear-floating (CallRules.Power f) k d t e = rw e
+unclear-floating CallRules.Z k d t e = refl
 
 pub unclear-kept : (u : ℕ) (b : Bool) (i : ℕ) → 0 < u → u ≡ unclearAfter u b i
 unfolding unclearAfter

@@ -15,8 +15,8 @@ use Rattle.plan_places.specs.declared.ResultPlaces.{ResultPlaces}
 use Rattle.plan_places.specs.declared.ZClass.{ZClass}
 use Rattle.plan_places.specs.Power.{words, fprs, shareOf, powerShare}
 use Rattle.plan_places.specs.ZSeries.{zClass, zSpanOf}
-use Rattle.plan_places.specs.Step.{rulesOf, spanOf, fresh, returning, hiddenFor, resultOf}
-use Rattle.plan_places.specs.Places.{upFrom, register, registersOf, memoryOf, placesOf}
+use Rattle.plan_places.specs.Step.{rulesOf, spanOf, freshCursor, returning, hiddenFor, resultOf}
+use Rattle.plan_places.specs.Places.{upFrom, registerPlace, registersOf, memoryOf, placesOf}
 
 abbrev int : ValueType
 int = ValueType.Integer IntegerKind.I32
@@ -37,10 +37,10 @@ abbrev structOf : ℕ → Equivalent → ValueType
 structOf n e = ValueType.Struct (record { size = n; align = 1; equivalent = e })
 
 abbrev r : ℕ → Place
-r n = register Bank.General n
+r n = registerPlace Bank.General n
 
 abbrev f : ℕ → Place
-f n = register Bank.Floating n
+f n = registerPlace Bank.Floating n
 
 -- a result's places, and whether they hold its address
 pub data Shown : Type 0 where
@@ -59,19 +59,19 @@ resultIn c t = shown (wordBytes c) (resultOf (rulesOf c) t (sizeOf c t))
 -- "whole r3; single or double f1; long double f1, f2"; a struct's address in r3
 pub power-results : map (resultIn Convention.Ppc64) (int ∷ single ∷ double ∷ quad ∷ structOf 3 Equivalent.Nothing ∷ [])
     ≡ value (r 3 ∷ []) ∷ value (f 1 ∷ []) ∷ value (f 1 ∷ []) ∷ value (f 1 ∷ f 2 ∷ []) ∷ address (r 3 ∷ []) ∷ []
-unfolding resultOf hiddenFor returning spanOf fresh words fprs shareOf powerShare placesOf registersOf memoryOf upFrom
+unfolding resultOf hiddenFor returning spanOf freshCursor words fprs shareOf powerShare placesOf registersOf memoryOf upFrom
 power-results = refl
 
 -- "whole r2; single or double f0"; a long double's and a struct's address in r2
 pub z-results : map (resultIn Convention.Z) (int ∷ single ∷ double ∷ quad ∷ structOf 4 Equivalent.Single ∷ [])
     ≡ value (r 2 ∷ []) ∷ value (f 0 ∷ []) ∷ value (f 0 ∷ []) ∷ address (r 2 ∷ []) ∷ address (r 2 ∷ []) ∷ []
-unfolding resultOf hiddenFor returning spanOf fresh zClass zSpanOf placesOf registersOf memoryOf upFrom
+unfolding resultOf hiddenFor returning spanOf freshCursor zClass zSpanOf placesOf registersOf memoryOf upFrom
 z-results = refl
 
 -- "r3, 64-bit wholes r3 and r4, floats f1"; a struct's address in r3
 pub aix-results : map (resultIn Convention.Aix) (int ∷ long ∷ single ∷ double ∷ structOf 3 Equivalent.Nothing ∷ [])
     ≡ value (r 3 ∷ []) ∷ value (r 3 ∷ r 4 ∷ []) ∷ value (f 1 ∷ []) ∷ value (f 1 ∷ []) ∷ address (r 3 ∷ []) ∷ []
-unfolding resultOf hiddenFor returning spanOf fresh words fprs shareOf powerShare placesOf registersOf memoryOf upFrom
+unfolding resultOf hiddenFor returning spanOf freshCursor words fprs shareOf powerShare placesOf registersOf memoryOf upFrom
 aix-results = refl
 
 abbrev classOf : ℕ → ZClass

@@ -9,7 +9,7 @@ use Rattle.plan_places.specs.declared.PowerRules.{PowerRules}
 use Rattle.plan_places.specs.declared.CallRules.{CallRules}
 use Rattle.plan_places.specs.Values.{pointer}
 use Rattle.plan_places.specs.Power.{words, fprs, covered, shareOf, powerShare, powerNext, unclear}
-use Rattle.plan_places.specs.Step.{rulesOf, withEllipsis, wordOf, spanOf, nextOf, unclearFor, fresh, startOf, hiddenFor, returning, resultOf}
+use Rattle.plan_places.specs.Step.{rulesOf, withEllipsis, wordOf, spanOf, nextOf, unclearFor, freshCursor, startOf, hiddenFor, returning, resultOf}
 use Rattle.plan_places.specs.Helpers.{LawfulCalls, alwaysClear}
 use Rattle.plan_places.specs.Spots.{Spot, general, floating, area, copies, ArgumentRegister}
 use Rattle.plan_places.proofs.Shares.{share-marked}
@@ -50,14 +50,14 @@ unfolding withEllipsis
 next-marked v (CallRules.Power f) c t n = sym (next-plain (record { word = f .word; edition = f .edition; ellipsis = v }) c t n) ∙ next-plain f c t n
 next-marked v CallRules.Z c t n = refl
 
-pub fresh-marked : (v : Bool) (r : CallRules) → fresh (withEllipsis v r) ≡ fresh r
-unfolding withEllipsis fresh
+pub fresh-marked : (v : Bool) (r : CallRules) → freshCursor (withEllipsis v r) ≡ freshCursor r
+unfolding withEllipsis freshCursor
 fresh-marked v (CallRules.Power f) = refl
 fresh-marked v CallRules.Z = refl
 
 pub start-marked : (v : Bool) (r : CallRules) (hidden : Bool) → startOf (withEllipsis v r) hidden ≡ startOf r hidden
 unfolding startOf
-start-marked v r true = rw (word-marked v r, fresh-marked v r) (next-marked v r (fresh r) pointer (wordOf r))
+start-marked v r true = rw (word-marked v r, fresh-marked v r) (next-marked v r (freshCursor r) pointer (wordOf r))
 start-marked v r false = fresh-marked v r
 
 -- ---- the registers are those of any argument
@@ -98,7 +98,7 @@ hidden-marked v CallRules.Z t = refl
 
 -- a float result is in its FPRs alone
 pub result-marked : (v : Bool) (r : CallRules) (t : ValueType) (n : ℕ) → resultOf (withEllipsis v r) t n ≡ resultOf r t n
-unfolding withEllipsis resultOf hiddenFor returning spanOf fresh powerShare shareOf fprs
+unfolding withEllipsis resultOf hiddenFor returning spanOf freshCursor powerShare shareOf fprs
 result-marked v (CallRules.Power f) (ValueType.Integer k) n = refl
 result-marked v (CallRules.Power f) (ValueType.Float x) n = refl
 result-marked v (CallRules.Power f) (ValueType.Struct s) n = refl

@@ -18,16 +18,16 @@ use Rattle.plan_places.specs.declared.ResultPlaces.{ResultPlaces}
 use Rattle.plan_places.specs.declared.ZClass.{ZClass}
 use Rattle.plan_places.specs.ZSeries.{zClass, zSpanOf}
 use Rattle.plan_places.specs.Values.{pointer}
-use Rattle.plan_places.specs.Step.{wordOf, spanOf, nextOf, fresh, hiddenFor, returning, resultOf}
+use Rattle.plan_places.specs.Step.{wordOf, spanOf, nextOf, freshCursor, hiddenFor, returning, resultOf}
 use Rattle.plan_places.specs.Spots.{Spot, general, floating, area, copies, Owns, ArgumentRegister}
-use Rattle.plan_places.specs.Places.{upFrom, register, rangePlaces, registersOf, Numbered, noPlace}
+use Rattle.plan_places.specs.Places.{upFrom, registerPlace, rangePlaces, registersOf, Numbered, noPlace}
 use Rattle.plan_places.specs.Helpers.{registerCount, ResultNumbered}
 use Rattle.plan_places.proofs.Between.{step-between}
 use Rattle.plan_places.proofs.Bounds.{Named, named-fresh, named-next}
 
 -- ---- length
 
-length-in : (b : Bank) (first n : ℕ) → length (map (register b) (upFrom first 1 n)) ≡ n
+length-in : (b : Bank) (first n : ℕ) → length (map (registerPlace b) (upFrom first 1 n)) ≡ n
 unfolding upFrom
 length-in b first zero = refl
 length-in b first (suc n) = ap suc (length-in b (first + 1) n)
@@ -40,15 +40,15 @@ length-registers s =
 
 -- ---- by index
 
-register-in : (b : Bank) (first n i : ℕ) → i < n → getD (map (register b) (upFrom first 1 n)) i noPlace ≡ register b (first + i)
+register-in : (b : Bank) (first n i : ℕ) → i < n → getD (map (registerPlace b) (upFrom first 1 n)) i noPlace ≡ registerPlace b (first + i)
 unfolding upFrom
 register-in b first zero i h = absurd (omega arith)
 register-in b first (suc n) zero h = rw (add-zero first)
 register-in b first (suc n) (suc i) h =
     let e : first + 1 + i ≡ first + suc i = omega arith in
-    register-in b (first + 1) n i (omega arith) ∙ ap (register b) e
+    register-in b (first + 1) n i (omega arith) ∙ ap (registerPlace b) e
 
-pub register-floating : (s : Span) (i : ℕ) → i < s .floating .count → getD (registersOf s) i noPlace ≡ register Bank.Floating (s .floating .first + i)
+pub register-floating : (s : Span) (i : ℕ) → i < s .floating .count → getD (registersOf s) i noPlace ≡ registerPlace Bank.Floating (s .floating .first + i)
 unfolding registersOf
 register-floating s i h =
     let a : List Place = rangePlaces Bank.Floating (s .floating) in
@@ -57,7 +57,7 @@ register-floating s i h =
     ∙ register-in Bank.Floating (s .floating .first) (s .floating .count) i h
 
 pub register-general : (s : Span) (i : ℕ) → s .floating .count ≤ i → i < registerCount s
-    → getD (registersOf s) i noPlace ≡ register Bank.General (s .general .first + (i - s .floating .count))
+    → getD (registersOf s) i noPlace ≡ registerPlace Bank.General (s .general .first + (i - s .floating .count))
 unfolding registersOf
 register-general s i l h =
     let a : List Place = rangePlaces Bank.Floating (s .floating) in
@@ -81,8 +81,8 @@ step-numbered r c t n h =
     let s = named-small r (nextOf r c t n) (named-next r c t n h) in
     omega arith
 
-named-returning : (r : CallRules) → Named (returning r) (fresh r)
-unfolding returning fresh
+named-returning : (r : CallRules) → Named (returning r) (freshCursor r)
+unfolding returning freshCursor
 named-returning (CallRules.Power f) = omega arith
 named-returning CallRules.Z = omega arith
 
@@ -91,9 +91,9 @@ pub result-numbered : (r : CallRules) (t : ValueType) (n : ℕ) → ResultNumber
 unfolding resultOf
 result-numbered r t n = go (hiddenFor r t)
   where
-    go : (h : Bool) → ResultNumbered (pick h (ResultPlaces.Hidden (spanOf r (fresh r) pointer (wordOf r))) (ResultPlaces.Registers (spanOf (returning r) (fresh r) t n)))
-    go true = step-numbered r (fresh r) pointer (wordOf r) (named-fresh r)
-    go false = step-numbered (returning r) (fresh r) t n (named-returning r)
+    go : (h : Bool) → ResultNumbered (pick h (ResultPlaces.Hidden (spanOf r (freshCursor r) pointer (wordOf r))) (ResultPlaces.Registers (spanOf (returning r) (freshCursor r) t n)))
+    go true = step-numbered r (freshCursor r) pointer (wordOf r) (named-fresh r)
+    go false = step-numbered (returning r) (freshCursor r) t n (named-returning r)
 
 z-registers : (c : Cursor) (class : ZClass) (n : ℕ) (x : Spot) → Named CallRules.Z c → Owns (zSpanOf c class n) x → ArgumentRegister CallRules.Z x
 unfolding zSpanOf

@@ -1,5 +1,5 @@
--- The ways through `shareOf`, and the bounds of what it gives. Assumes nothing.
-use mathlib.Core.Path.{_≡_, refl, ap, _∙_}
+-- How many words hold some bytes; the ways through `shareOf`, and the bounds of what it gives. Assumes nothing.
+use mathlib.Core.Path.{_≡_, refl}
 use mathlib.Core.Bool.{Bool, true, false}
 use Prim.Native.Nat.{ℕ, zero, suc, _+_, _-_, _≤_, _<_}
 use native.Mathlib.Omega.{arith}
@@ -14,10 +14,29 @@ use Rattle.plan_places.specs.Values.{share}
 use Rattle.plan_places.specs.Power.{words, fprs, shareOf}
 use Rattle.plan_places.specs.Helpers.{Shared}
 
--- a word is one word
-pub words-word : (w : ℕ) → 0 < w → words w w ≡ 1
+-- ---- words that hold n bytes
+
+pub words-some : (w n : ℕ) → 0 < w → 0 < n → 1 ≤ words w n
 unfolding words
-words-word w h = add-div-left (w - 1) h ∙ ap (λ (x : ℕ). x + 1) (div-eq-of-lt (omega arith))
+words-some w n h k =
+    let e : n + (w - 1) ≡ w + (n - 1) = omega arith in
+    rw (e, add-div-left (n - 1) h) (omega arith)
+
+pub words-two : (w n : ℕ) → 0 < w → w < n → 2 ≤ words w n
+unfolding words
+words-two w n h k =
+    let e : n + (w - 1) ≡ w + (w + (n - w - 1)) = omega arith in
+    rw (e, add-div-left (w + (n - w - 1)) h, add-div-left (n - w - 1) h) (omega arith)
+
+pub words-one : (w n : ℕ) → 0 < n → n ≤ w → words w n ≡ 1
+unfolding words
+words-one w n k l =
+    let h : 0 < w = omega arith in
+    let e : n + (w - 1) ≡ w + (n - 1) = omega arith in
+    let below : n - 1 < w = omega arith in
+    rw (e, add-div-left (n - 1) h, div-eq-of-lt below)
+
+-- ---- the ways through
 
 pub share-words : (v : Bool) (m room n k : ℕ) → m ≡ 0 → share k 0 (n - k) ≡ shareOf v m room n k
 unfolding shareOf
@@ -89,17 +108,21 @@ share-marked true (suc m) room n k = go (leb (suc m) room)
     go true = refl
     go false = refl
 
--- it takes no FPR that isn't left
-pub share-room : (v : Bool) (m room n k : ℕ) → shareOf v m room n k .floating ≤ room
+-- it takes no FPR that isn't left, and none that isn't asked for
+share-few : (v : Bool) (m room n k : ℕ) → (shareOf v m room n k .floating ≤ room) × (shareOf v m room n k .floating ≤ m)
 unfolding shareOf
-share-room v zero room n k = omega arith
-share-room true (suc m) room n k = go (leb (suc m) room) refl
+share-few v m room n k = rw (share-marked v m room n k) (plain m)
   where
-    go : (b : Bool) → leb (suc m) room ≡ b → pick b (suc m) 0 ≤ room
-    go true q = omega (arith, leb-true (suc m) room q)
-    go false q = omega arith
-share-room false (suc m) room n k = go (leb (suc m) room) refl
-  where
-    go : (b : Bool) → leb (suc m) room ≡ b → pick b (share 0 (suc m) 0) (share 0 0 n) .floating ≤ room
-    go true q = omega (arith, leb-true (suc m) room q)
-    go false q = omega arith
+    plain : (m : ℕ) → (shareOf false m room n k .floating ≤ room) × (shareOf false m room n k .floating ≤ m)
+    plain zero = (omega arith, omega arith)
+    plain (suc m) = go (leb (suc m) room) refl
+      where
+        go : (b : Bool) → leb (suc m) room ≡ b → (pick b (share 0 (suc m) 0) (share 0 0 n) .floating ≤ room) × (pick b (share 0 (suc m) 0) (share 0 0 n) .floating ≤ suc m)
+        go true q = (leb-true (suc m) room q, omega arith)
+        go false q = (omega arith, omega arith)
+
+pub share-room : (v : Bool) (m room n k : ℕ) → shareOf v m room n k .floating ≤ room
+share-room v m room n k = share-few v m room n k .0
+
+pub share-asked : (v : Bool) (m room n k : ℕ) → shareOf v m room n k .floating ≤ m
+share-asked v m room n k = share-few v m room n k .1

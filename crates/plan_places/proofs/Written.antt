@@ -5,7 +5,7 @@ use mathlib.Core.Bool.{Bool, true, false}
 use mathlib.Core.List.{List, [], _∷_, _++_, map, append-nil, append-assoc}
 use Prim.Native.Nat.{ℕ, zero, suc, _+_, _-_, _*_, _/_, _≤_, _<_, min, max}
 use native.Mathlib.Omega.{arith}
-use native.Mathlib.Nat.{mul-add, mul-suc, mul-zero, mul-div-cancel-left, add-zero, zero-add, add-div-left, div-eq-of-lt, mul-le-mul-left}
+use native.Mathlib.Nat.{mul-add, mul-suc, mul-zero, mul-div-cancel-left, add-zero, zero-add, sub-zero, suc-sub-suc, add-div-left, div-eq-of-lt, mul-le-mul-left}
 use mathlib.Core.Logic.{_⊎_, inl, inr}
 use borrow.Author.Tests.{ltb-true, ltb-false, le-ltb, le-leb}
 use lib.Dec.{ltb, leb}
@@ -27,9 +27,9 @@ use Rattle.plan_places.specs.declared.ZClass.{ZClass}
 use Rattle.plan_places.specs.Values.{cursor, registers, bytes, share}
 use Rattle.plan_places.specs.Power.{words, fprs, covered, shareOf, powerShare, unclear}
 use Rattle.plan_places.specs.ZSeries.{zClass, zSpanOf, zNextOf}
-use Rattle.plan_places.specs.Step.{rulesOf, spanOf, nextOf, unclearFor, fresh, startOf, areaOf, hiddenFor, returning, resultOf}
+use Rattle.plan_places.specs.Step.{rulesOf, spanOf, nextOf, unclearFor, freshCursor, startOf, areaOf, hiddenFor, returning, resultOf}
 use Rattle.plan_places.specs.Helpers.{isEarlier, alwaysClear}
-use Rattle.plan_places.specs.Places.{upFrom, register, registersOf, memoryOf, placesOf}
+use Rattle.plan_places.specs.Places.{upFrom, registerPlace, registersOf, memoryOf, placesOf}
 use Rattle.plan_places.specs.Results.{returned, returnedBy}
 use Rattle.plan_places.proofs.Shares.{share-whole, fprs-most}
 
@@ -41,11 +41,11 @@ counted word w m k = cursor (3 + min w 8) m (word * w) k
 
 -- "The doubleword count w starts at 0, or at 1 when the result is a struct: its address is then a hidden first argument in r3"
 pub start-written : (f : PowerRules) → startOf (CallRules.Power f) false ≡ counted (f .word) 0 1 0
-unfolding startOf fresh
+unfolding startOf freshCursor
 start-written f = rw (mul-zero (f .word))
 
 pub hidden-written : (f : PowerRules) → 0 < f .word → startOf (CallRules.Power f) true ≡ counted (f .word) 1 1 0
-unfolding startOf fresh nextOf words fprs shareOf powerShare
+unfolding startOf freshCursor nextOf words fprs shareOf powerShare
 hidden-written f h =
     let one : (f .word + (f .word - 1)) / f .word ≡ 1 = add-div-left (f .word - 1) h ∙ ap (λ (x : ℕ). x + 1) (div-eq-of-lt (omega arith)) in
     rw (one, zero-add (f .word * 1))
@@ -91,7 +91,7 @@ area-written c w m k = go (ltb w (leastWords c)) refl
 
 -- "goes to r(3+w) while w < 8, then to memory": the place of word j
 abbrev pub wordPlace : ℕ → ℕ → Place
-wordPlace word j = pick (ltb j 8) (register Bank.General (3 + j)) (Place.Memory (word * j))
+wordPlace word j = pick (ltb j 8) (registerPlace Bank.General (3 + j)) (Place.Memory (word * j))
 
 cover-low : (n w : ℕ) → w < 8 → min (suc n) (8 - w) ≡ suc (min n (8 - (w + 1)))
 cover-low n w h = omega arith
@@ -105,41 +105,35 @@ low w h = omega arith
 next-low : (w : ℕ) → w < 8 → 3 + w + 1 ≡ 3 + min (w + 1) 8
 next-low w h = omega arith
 
-less-suc : (n x : ℕ) → suc n - suc x ≡ n - x
-less-suc n x = omega arith
-
 more-suc : (w x : ℕ) → w + suc x ≡ w + 1 + x
 more-suc w x = omega arith
-
-none-less : (n : ℕ) → n - 0 ≡ n
-none-less n = omega arith
 
 none-more : (w : ℕ) → w + 1 + 0 ≡ suc (w + 0)
 none-more w = omega arith
 
 -- n words from word w on: those below 8 in GPRs, the others in memory
 straddle : (word n w : ℕ)
-    → map (register Bank.General) (upFrom (3 + min w 8) 1 (min n (8 - w))) ++ map Place.Memory (upFrom (word * (w + min n (8 - w))) word (n - min n (8 - w)))
+    → map (registerPlace Bank.General) (upFrom (3 + min w 8) 1 (min n (8 - w))) ++ map Place.Memory (upFrom (word * (w + min n (8 - w))) word (n - min n (8 - w)))
     ≡ map (wordPlace word) (upFrom w 1 n)
 unfolding upFrom
 straddle word zero w = let z : min 0 (8 - w) ≡ 0 = omega arith in rw z
 straddle word (suc n) w = go (ltb w 8) refl (straddle word n (w + 1))
   where
     go : (b : Bool) → ltb w 8 ≡ b
-        → map (register Bank.General) (upFrom (3 + min (w + 1) 8) 1 (min n (8 - (w + 1)))) ++ map Place.Memory (upFrom (word * (w + 1 + min n (8 - (w + 1)))) word (n - min n (8 - (w + 1))))
+        → map (registerPlace Bank.General) (upFrom (3 + min (w + 1) 8) 1 (min n (8 - (w + 1)))) ++ map Place.Memory (upFrom (word * (w + 1 + min n (8 - (w + 1)))) word (n - min n (8 - (w + 1))))
         ≡ map (wordPlace word) (upFrom (w + 1) 1 n)
-        → map (register Bank.General) (upFrom (3 + min w 8) 1 (min (suc n) (8 - w))) ++ map Place.Memory (upFrom (word * (w + min (suc n) (8 - w))) word (suc n - min (suc n) (8 - w)))
-        ≡ pick b (register Bank.General (3 + w)) (Place.Memory (word * w)) ∷ map (wordPlace word) (upFrom (w + 1) 1 n)
+        → map (registerPlace Bank.General) (upFrom (3 + min w 8) 1 (min (suc n) (8 - w))) ++ map Place.Memory (upFrom (word * (w + min (suc n) (8 - w))) word (suc n - min (suc n) (8 - w)))
+        ≡ pick b (registerPlace Bank.General (3 + w)) (Place.Memory (word * w)) ∷ map (wordPlace word) (upFrom (w + 1) 1 n)
     go true e ih =
         let h : w < 8 = ltb-true w 8 e in
-        rw (cover-low n w h, low w h, less-suc n (min n (8 - (w + 1))), more-suc w (min n (8 - (w + 1))), next-low w h)
-        (ap (λ (l : List Place). register Bank.General (3 + w) ∷ l) ih)
+        rw (cover-low n w h, low w h, suc-sub-suc n (min n (8 - (w + 1))), more-suc w (min n (8 - (w + 1))), next-low w h)
+        (ap (λ (l : List Place). registerPlace Bank.General (3 + w) ∷ l) ih)
     go false e ih =
         let h : 8 ≤ w = ltb-false w 8 e in
         let i : map Place.Memory (upFrom (word * (w + 1 + 0)) word (n - 0)) ≡ map (wordPlace word) (upFrom (w + 1) 1 n) = rw (cover-high n (w + 1) (omega arith)) at ih in
         let d : word * (w + 1 + 0) ≡ word * (w + 0) + word = ap (λ (x : ℕ). word * x) (none-more w) ∙ mul-suc word (w + 0) in
-        rw (cover-high (suc n) w h, none-less (suc n))
-        (ap₂ (λ (p : Place) (l : List Place). p ∷ l) (ap (λ (y : ℕ). Place.Memory (word * y)) (add-zero w)) (rw (d, none-less n) at i))
+        rw (cover-high (suc n) w h, sub-zero (suc n))
+        (ap₂ (λ (p : Place) (l : List Place). p ∷ l) (ap (λ (y : ℕ). Place.Memory (word * y)) (add-zero w)) (rw (d, sub-zero n) at i))
 
 -- "Each doubleword of a whole, struct or long double goes to r(3+w) while w < 8, then to memory; one argument may straddle"
 pub words-written : (f : PowerRules) (w m k : ℕ) (t : ValueType) (n : ℕ) → 0 < f .word → fprs (f .edition) t ≡ 0
@@ -156,7 +150,7 @@ words-written f w m k t n h z =
 -- takes two successive FPRs instead of GPRs", "With no FPR left it is memory only"
 pub floats-written : (f : PowerRules) (w m k : ℕ) (t : ValueType) (n j : ℕ) → 0 < f .word → f .ellipsis ≡ false → fprs (f .edition) t ≡ suc j
     → placesOf (f .word) (spanOf (CallRules.Power f) (counted (f .word) w m k) t n)
-    ≡ pick (leb (suc j) (14 - m)) (map (register Bank.Floating) (upFrom m 1 (suc j))) (map Place.Memory (upFrom (f .word * w) (f .word) (words (f .word) n)))
+    ≡ pick (leb (suc j) (14 - m)) (map (registerPlace Bank.Floating) (upFrom m 1 (suc j))) (map Place.Memory (upFrom (f .word * w) (f .word) (words (f .word) n)))
 unfolding spanOf powerShare shareOf placesOf registersOf memoryOf upFrom
 floats-written f w m k t n j h e z = rw (z, e) (go (leb (suc j) (14 - m)))
   where
@@ -170,8 +164,8 @@ floats-written f w m k t n j h e z = rw (z, e) (go (leb (suc j) (14 - m)))
       memory = bytes (f .word * w + f .word * (len - pick b (share 0 (suc j) 0) (share 0 0 len) .memory)) (f .word * pick b (share 0 (suc j) 0) (share 0 0 len) .memory);
       copy = bytes k 0;
       indirect = false;
-    }) ≡ pick b (map (register Bank.Floating) (upFrom m 1 (suc j))) (map Place.Memory (upFrom (f .word * w) (f .word) len))
-    go true = rw (mul-div-cancel-left 0 h, append-nil (map (register Bank.Floating) (upFrom (m + 1) 1 j)), append-nil (map (register Bank.Floating) (upFrom (m + 1) 1 j)))
+    }) ≡ pick b (map (registerPlace Bank.Floating) (upFrom m 1 (suc j))) (map Place.Memory (upFrom (f .word * w) (f .word) len))
+    go true = rw (mul-div-cancel-left 0 h, append-nil (map (registerPlace Bank.Floating) (upFrom (m + 1) 1 j)), append-nil (map (registerPlace Bank.Floating) (upFrom (m + 1) 1 j)))
     go false =
         let a : len - len ≡ 0 = omega arith in
         rw (a, mul-div-cancel-left len h, mul-zero (f .word), add-zero (f .word * w))
@@ -179,7 +173,7 @@ floats-written f w m k t n j h e z = rw (z, e) (go (leb (suc j) (14 - m)))
 -- "Singles and doubles take f1 to f13 in order, skip their GPR, and aren't stored in memory; after f13, memory only"
 pub float-written : (f : PowerRules) (w m k : ℕ) (t : ValueType) (n : ℕ) → 0 < f .word → f .ellipsis ≡ false → fprs (f .edition) t ≡ 1
     → placesOf (f .word) (spanOf (CallRules.Power f) (counted (f .word) w m k) t n)
-    ≡ pick (leb 1 (14 - m)) (register Bank.Floating m ∷ []) (map Place.Memory (upFrom (f .word * w) (f .word) (words (f .word) n)))
+    ≡ pick (leb 1 (14 - m)) (registerPlace Bank.Floating m ∷ []) (map Place.Memory (upFrom (f .word * w) (f .word) (words (f .word) n)))
 unfolding upFrom
 float-written f w m k t n h e z = floats-written f w m k t n 0 h e z
 
@@ -188,13 +182,13 @@ float-written f w m k t n h e z = floats-written f w m k t n 0 h e z
 -- of an integer or a struct would be, also where no FPR is left
 pub ellipsis-written : (f : PowerRules) (w m k : ℕ) (t : ValueType) (n : ℕ) → 0 < f .word → f .ellipsis ≡ true
     → placesOf (f .word) (spanOf (CallRules.Power f) (counted (f .word) w m k) t n)
-    ≡ map (register Bank.Floating) (upFrom m 1 (pick (leb (fprs (f .edition) t) (14 - m)) (fprs (f .edition) t) 0)) ++ map (wordPlace (f .word)) (upFrom w 1 (words (f .word) n))
+    ≡ map (registerPlace Bank.Floating) (upFrom m 1 (pick (leb (fprs (f .edition) t) (14 - m)) (fprs (f .edition) t) 0)) ++ map (wordPlace (f .word)) (upFrom w 1 (words (f .word) n))
 unfolding spanOf powerShare placesOf registersOf memoryOf
 ellipsis-written f w m k t n h e =
     let len : ℕ = words (f .word) n in
     let g : ℕ = min len (8 - w) in
-    let fs : List Place = map (register Bank.Floating) (upFrom m 1 (pick (leb (fprs (f .edition) t) (14 - m)) (fprs (f .edition) t) 0)) in
-    let gs : List Place = map (register Bank.General) (upFrom (3 + min w 8) 1 g) in
+    let fs : List Place = map (registerPlace Bank.Floating) (upFrom m 1 (pick (leb (fprs (f .edition) t) (14 - m)) (fprs (f .edition) t) 0)) in
+    let gs : List Place = map (registerPlace Bank.General) (upFrom (3 + min w 8) 1 g) in
     let ms : List Place = map Place.Memory (upFrom (f .word * (w + g)) (f .word) (len - g)) in
     let a : len - (len - g) ≡ g = omega arith in
     rw (e, same-covered len w, share-whole (fprs (f .edition) t) (14 - m) len (min len (8 - w)), a, ← mul-add (f .word) w (min len (8 - w)), mul-div-cancel-left (len - min len (8 - w)) h)
@@ -264,40 +258,40 @@ always-clear CallRules.Z c t e = refl
 
 -- "Counters start at gr 2 (3 with a hidden result address in r2 ..), fr 0, stack offset 160", which is byte 0 of the area
 pub z-start-written : startOf CallRules.Z false ≡ cursor 2 0 0 0
-unfolding startOf fresh
+unfolding startOf freshCursor
 z-start-written = refl
 
 pub z-hidden-written : startOf CallRules.Z true ≡ cursor 3 0 0 0
-unfolding startOf fresh nextOf zClass zNextOf
+unfolding startOf freshCursor nextOf zClass zNextOf
 z-hidden-written = refl
 
 -- "f0, f2, f4, f6, then 8 stack bytes"
 pub z-float-written : (c : Cursor) (t : ValueType) (n : ℕ) → zClass t n ≡ ZClass.Float
-    → placesOf 8 (spanOf CallRules.Z c t n) ≡ pick (ltb (c .floating) 8) (register Bank.Floating (c .floating) ∷ []) (Place.Memory (c .stack) ∷ [])
+    → placesOf 8 (spanOf CallRules.Z c t n) ≡ pick (ltb (c .floating) 8) (registerPlace Bank.Floating (c .floating) ∷ []) (Place.Memory (c .stack) ∷ [])
 unfolding placesOf registersOf memoryOf upFrom spanOf zSpanOf
 z-float-written c t n e = rw e (go (ltb (c .floating) 8) refl)
   where
     go : (b : Bool) → ltb (c .floating) 8 ≡ b
-        → (map (register Bank.Floating) (upFrom (c .floating) 1 (min 1 (8 - c .floating))) ++ []) ++ map Place.Memory (upFrom (c .stack) 8 (8 * (1 - (0 + min 1 (8 - c .floating))) / 8))
-        ≡ pick b (register Bank.Floating (c .floating) ∷ []) (Place.Memory (c .stack) ∷ [])
+        → (map (registerPlace Bank.Floating) (upFrom (c .floating) 1 (min 1 (8 - c .floating))) ++ []) ++ map Place.Memory (upFrom (c .stack) 8 (8 * (1 - (0 + min 1 (8 - c .floating))) / 8))
+        ≡ pick b (registerPlace Bank.Floating (c .floating) ∷ []) (Place.Memory (c .stack) ∷ [])
     go true q = let m : min 1 (8 - c .floating) ≡ 1 = omega (arith, ltb-true (c .floating) 8 q) in rw m
     go false q = let m : min 1 (8 - c .floating) ≡ 0 = omega (arith, ltb-false (c .floating) 8 q) in rw m
 
 z-held : (c : Cursor) (b : Bool) → ltb (c .general) 7 ≡ b
-    → map (register Bank.General) (upFrom (c .general) 1 (min 1 (7 - c .general))) ++ map Place.Memory (upFrom (c .stack) 8 (8 * (1 - (min 1 (7 - c .general) + 0)) / 8))
-    ≡ pick b (register Bank.General (c .general) ∷ []) (Place.Memory (c .stack) ∷ [])
+    → map (registerPlace Bank.General) (upFrom (c .general) 1 (min 1 (7 - c .general))) ++ map Place.Memory (upFrom (c .stack) 8 (8 * (1 - (min 1 (7 - c .general) + 0)) / 8))
+    ≡ pick b (registerPlace Bank.General (c .general) ∷ []) (Place.Memory (c .stack) ∷ [])
 unfolding upFrom
 z-held c true q = let m : min 1 (7 - c .general) ≡ 1 = omega (arith, ltb-true (c .general) 7 q) in rw m
 z-held c false q = let m : min 1 (7 - c .general) ≡ 0 = omega (arith, ltb-false (c .general) 7 q) in rw m
 
 -- "Everything else: r2 to r6, then 8 stack bytes", a value and a pointer to a copy alike
 pub z-general-written : (c : Cursor) (t : ValueType) (n : ℕ) → (zClass t n ≡ ZClass.Float → ⊥)
-    → placesOf 8 (spanOf CallRules.Z c t n) ≡ pick (ltb (c .general) 7) (register Bank.General (c .general) ∷ []) (Place.Memory (c .stack) ∷ [])
+    → placesOf 8 (spanOf CallRules.Z c t n) ≡ pick (ltb (c .general) 7) (registerPlace Bank.General (c .general) ∷ []) (Place.Memory (c .stack) ∷ [])
 unfolding placesOf registersOf memoryOf upFrom spanOf zSpanOf
 z-general-written c t n h = go (zClass t n) h
   where
     go : (k : ZClass) → (k ≡ ZClass.Float → ⊥)
-        → placesOf 8 (zSpanOf c k n) ≡ pick (ltb (c .general) 7) (register Bank.General (c .general) ∷ []) (Place.Memory (c .stack) ∷ [])
+        → placesOf 8 (zSpanOf c k n) ≡ pick (ltb (c .general) 7) (registerPlace Bank.General (c .general) ∷ []) (Place.Memory (c .stack) ∷ [])
     go ZClass.Float f = absurd (f refl)
     go ZClass.Simple f = z-held c (ltb (c .general) 7) refl
     go ZClass.Reference f = z-held c (ltb (c .general) 7) refl
@@ -347,7 +341,7 @@ z-area-written c = omega arith
 
 -- every type, in every convention
 pub result-written : (c : Convention) (t : ValueType) → returned (wordBytes c) (resultOf (rulesOf c) t (sizeOf c t)) ≡ returnedBy c t
-unfolding resultOf hiddenFor returning spanOf fresh words fprs shareOf powerShare zClass zSpanOf placesOf registersOf memoryOf upFrom
+unfolding resultOf hiddenFor returning spanOf freshCursor words fprs shareOf powerShare zClass zSpanOf placesOf registersOf memoryOf upFrom
 result-written Convention.Ppc64 (ValueType.Integer IntegerKind.I8) = refl
 result-written Convention.Ppc64 (ValueType.Integer IntegerKind.U8) = refl
 result-written Convention.Ppc64 (ValueType.Integer IntegerKind.I16) = refl

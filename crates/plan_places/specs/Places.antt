@@ -12,11 +12,11 @@ unfoldable pub upFrom : ℕ → ℕ → ℕ → List ℕ
 upFrom first by zero = []
 upFrom first by (suc n) = first ∷ upFrom (first + by) by n
 
-abbrev pub register : Bank → ℕ → Place
-register b n = Place.Register b n
+abbrev pub registerPlace : Bank → ℕ → Place
+registerPlace b n = Place.Register b n
 
 abbrev pub rangePlaces : Bank → RegisterRange → List Place
-rangePlaces b r = map (register b) (upFrom (r .first) 1 (r .count))
+rangePlaces b r = map (registerPlace b) (upFrom (r .first) 1 (r .count))
 
 -- the registers: floating ones before general ones
 unfoldable pub registersOf : Span → List Place

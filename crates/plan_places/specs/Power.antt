@@ -44,12 +44,15 @@ shareOf false (suc m) room n k = pick (leb (suc m) room) (share 0 (suc m) 0) (sh
 shareOf true (suc m) room n k = share k (pick (leb (suc m) room) (suc m) 0) (n - k)
 
 -- FPRs are left up to f13
+abbrev pub fprsLeft : Cursor → ℕ
+fprsLeft c = 14 - c .floating
+
 unfoldable pub powerShare : PowerRules → Cursor → ValueType → ℕ → Share
-powerShare f c t n = shareOf (f .ellipsis) (fprs (f .edition) t) (14 - c .floating) (words (f .word) n) (covered c (words (f .word) n))
+powerShare f c t n = shareOf (f .ellipsis) (fprs (f .edition) t) (fprsLeft c) (words (f .word) n) (covered c (words (f .word) n))
 
 -- 29, 02, No. 12: "When only f13 is left the editions we hold aren't clear": some FPRs are left, but fewer than the type asks for
 unfoldable pub unclear : PowerRules → Cursor → ValueType → Bool
-unclear f c t = pick (ltb 0 (14 - c .floating)) (ltb (14 - c .floating) (fprs (f .edition) t)) false
+unclear f c t = pick (ltb 0 (fprsLeft c)) (ltb (fprsLeft c) (fprs (f .edition) t)) false
 
 -- "Offset in the area is 8w": the argument's home; the words in memory are its last ones
 abbrev pub powerSpan : ℕ → Cursor → ℕ → Share → Span

@@ -24,22 +24,22 @@ use Rattle.plan_places.specs.ZSeries.{zClass, zSpanOf, zNextOf}
 abbrev pub power : ℕ → Edition → CallRules
 power w e = CallRules.Power (record { word = w; edition = e; ellipsis = false })
 
-abbrev pub ppc64 : CallRules
-ppc64 = power (wordBytes Convention.Ppc64) Edition.Earlier
+abbrev pub ppc64Calls : CallRules
+ppc64Calls = power (wordBytes Convention.Ppc64) Edition.Earlier
 
 -- 02, No. 1: "The argument list counts words", "Otherwise all is PPC64's by words"
-abbrev pub aix : CallRules
-aix = power (wordBytes Convention.Aix) Edition.Earlier
+abbrev pub aixCalls : CallRules
+aixCalls = power (wordBytes Convention.Aix) Edition.Earlier
 
 -- 02, No. 12: "PPC64 with that rule"
-abbrev pub ppc64b : CallRules
-ppc64b = power (wordBytes Convention.Ppc64b) Edition.Later
+abbrev pub ppc64bCalls : CallRules
+ppc64bCalls = power (wordBytes Convention.Ppc64b) Edition.Later
 
 abbrev pub rulesOf : Convention → CallRules
-rulesOf Convention.Ppc64 = ppc64
+rulesOf Convention.Ppc64 = ppc64Calls
 rulesOf Convention.Z = CallRules.Z
-rulesOf Convention.Aix = aix
-rulesOf Convention.Ppc64b = ppc64b
+rulesOf Convention.Aix = aixCalls
+rulesOf Convention.Ppc64b = ppc64bCalls
 
 -- the rules of a call with an ellipsis, or of one without: 02, No. 5, "On PPC64 every single or double then goes in its FPR, and as well ..",
 -- "AIX does the same by words. Z's places stay"
@@ -76,13 +76,13 @@ unclearFor CallRules.Z c t = false
 -- ---- the whole list
 
 -- PPC64: "The doubleword count w starts at 0", r(3+0), f1. Z: "Counters start at gr 2 .., fr 0, stack offset 160"
-unfoldable pub fresh : CallRules → Cursor
-fresh (CallRules.Power f) = cursor 3 1 0 0
-fresh CallRules.Z = cursor 2 0 0 0
+unfoldable pub freshCursor : CallRules → Cursor
+freshCursor (CallRules.Power f) = cursor 3 1 0 0
+freshCursor CallRules.Z = cursor 2 0 0 0
 
 -- a result's "address is then a hidden first argument": placed as a first argument that is a pointer
 unfoldable pub startOf : CallRules → Bool → Cursor
-startOf r hidden = pick hidden (nextOf r (fresh r) pointer (wordOf r)) (fresh r)
+startOf r hidden = pick hidden (nextOf r (freshCursor r) pointer (wordOf r)) (freshCursor r)
 
 -- from the last cursor: "The area is 8 times the larger of 8 and the final w"; Z: "The area is the stack bytes used, possibly 0";
 -- AIX: "4 times the larger of 8 and w"
@@ -109,5 +109,5 @@ returning CallRules.Z = CallRules.Z
 unfoldable pub resultOf : CallRules → ValueType → ℕ → ResultPlaces
 resultOf r t n =
     pick (hiddenFor r t)
-    (ResultPlaces.Hidden (spanOf r (fresh r) pointer (wordOf r)))
-    (ResultPlaces.Registers (spanOf (returning r) (fresh r) t n))
+    (ResultPlaces.Hidden (spanOf r (freshCursor r) pointer (wordOf r)))
+    (ResultPlaces.Registers (spanOf (returning r) (freshCursor r) t n))

@@ -3,7 +3,7 @@ ghost use mathlib.Core.Path.{_≡_};
 ghost use mathlib.Core.Bool.{true};
 ghost use Prim.Native.Nat.{_^_, _≤_, _<_};
 ghost use Rattle.plan_places.specs.Values.{pointer};
-ghost use Rattle.plan_places.specs.Step.{rulesOf, wordOf, nextOf, unclearFor, placed, fresh, startOf, areaOf, returning, hiddenFor, resultOf};
+ghost use Rattle.plan_places.specs.Step.{rulesOf, wordOf, nextOf, unclearFor, placed, freshCursor, startOf, areaOf, returning, hiddenFor, resultOf};
 ghost use Rattle.plan_places.specs.Helpers.{LawfulCalls, Roomy, isEarlier, alwaysClear, unclearAfter};
 ghost use Rattle.sig_types.specs.Sizes.{maxSize};
 use base_conventions::Convention;
@@ -100,7 +100,7 @@ pub fn unclear_after(unclear: usize, r: CallRules, c: Cursor, t: ValueType, coun
 
 // The hidden address of a result, placed as a first argument.
 fn hidden_step(c: Convention) -> Placed
-    ensures { λ p. ⌜ p ≡ placed (rulesOf c) (fresh (rulesOf c)) pointer (wordOf (rulesOf c)) ⌝ }
+    ensures { λ p. ⌜ p ≡ placed (rulesOf c) (freshCursor (rulesOf c)) pointer (wordOf (rulesOf c)) ⌝ }
 {
     let r = both_abi::call_rules_of(c);
     let k = both_abi::cursor_of(c);

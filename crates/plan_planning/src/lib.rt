@@ -4,21 +4,20 @@ use plan_places::ByteRange;
 use plan_places::RegisterRange;
 use plan_places::ResultPlaces;
 use plan_places::Span;
+use plan_plans::Measured;
 use plan_plans::Plan;
 use sig_items::Fault;
-use sig_items::Refusal;
-use sig_reader::ArgumentRead;
 use sig_signatures::MAX_ARGUMENTS;
 use sig_signatures::Outcome;
 use sig_signatures::ResultType;
 use sig_signatures::SignatureRead;
 ghost use mathlib.Core.Path.{_≡_};
 ghost use Rattle.sig_signatures.specs.Read.{signatureOf};
-ghost use Rattle.plan_plans.specs.Plan.{hiddenIn, resultPlacesIn, blankPlan, planAnswer};
+ghost use Rattle.plan_plans.specs.Plan.{hiddenIn, resultPlacesIn, blankPlan, refusedPlan, planAnswer, measureOf};
 ghost use Rattle.plan_plans.specs.Helpers.{planned, unclearOf};
 ghost use Rattle.sig_signatures.specs.Answer.{signatureAnswer};
 ghost use Rattle.sig_signatures.specs.Helpers.{SmallResult, Plannable};
-ghost use Rattle.plan_plans.specs.Call.{itemIn, unclearFault, callOf, outcomeFor};
+ghost use Rattle.plan_plans.specs.Call.{callOf, outcomeFor};
 
 // A plan without spans and sizes.
 fn blank(
@@ -52,6 +51,18 @@ fn blank(
             copy: empty,
             indirect: false,
         }; MAX_ARGUMENTS],
+    }
+}
+
+// The sizes of a call that is refused.
+pub fn no_measure(fault: Fault) -> Measured
+    ensures { λ m. ⌜ m ≡ measureOf (refusedPlan fault) ⌝ }
+{
+    Measured {
+        outcome: Outcome::Refused(fault),
+        area: 0,
+        values: 0,
+        copies: 0,
     }
 }
 
@@ -145,30 +156,6 @@ pub fn first_unclear(g: SignatureRead) -> usize
     unclear
 }
 
-// The place of an argument's item.
-fn item_in(a: ArgumentRead) -> usize
-    ensures { λ n. ⌜ n ≡ itemIn a ⌝ }
-{
-    match a {
-        ArgumentRead::Argument { ty, place } => place,
-        ArgumentRead::Missing => 0,
-        ArgumentRead::Refused(_) => 0,
-    }
-}
-
-// 29 of argument number `index`, counted from 0. The signature is read again to find its place: nothing else asks for that.
-pub fn unclear_fault(sig: &[u8], index: usize) -> Fault
-    ensures { λ f. ⌜ f ≡ unclearFault index (signatureOf (now (sig .entry))) ⌝ }
-{
-    let a = sig_reader::argument_at(sig, index);
-    let place = item_in(a);
-    Fault {
-        reason: Refusal::UnclearPlace,
-        place,
-        passed: 0,
-    }
-}
-
 // The same as below, where the rules leave something open.
 fn later_outcome(sig: &[u8], g: SignatureRead) -> Outcome
     requires { ⌜ g ≡ signatureAnswer (signatureOf (now sig)) ⌝ }
@@ -178,7 +165,7 @@ fn later_outcome(sig: &[u8], g: SignatureRead) -> Outcome
     if unclear == 0 {
         return g.outcome;
     }
-    let fault = unclear_fault(sig, unclear - 1);
+    let fault = sig_reader::unclear_fault(sig, unclear - 1);
     Outcome::Refused(fault)
 }
 
@@ -204,7 +191,7 @@ fn plan_call(sig: &[u8], g: SignatureRead) -> Plan
     if unclear == 0 {
         return plan_signature(g);
     }
-    let fault = unclear_fault(sig, unclear - 1);
+    let fault = sig_reader::unclear_fault(sig, unclear - 1);
     blank(
         Outcome::Refused(fault),
         Convention::Ppc64,

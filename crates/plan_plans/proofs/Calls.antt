@@ -19,6 +19,7 @@ use Rattle.sig_signatures.specs.Signature.{Signature}
 use Rattle.sig_signatures.specs.Read.{signatureOf}
 use Rattle.sig_signatures.specs.Answer.{resultType, signatureAnswer}
 use Rattle.sig_signatures.proofs.Types.{table-types}
+use Rattle.sig_reader.specs.Argument.{unclearFault}
 use Rattle.plan_places.specs.declared.Cursor.{Cursor}
 use Rattle.plan_places.specs.declared.CallRules.{CallRules}
 use Rattle.plan_places.specs.Step.{rulesOf, nextOf, startOf, unclearFor}
@@ -28,7 +29,7 @@ use Rattle.plan_plans.specs.declared.Plan.{Plan}
 use Rattle.plan_plans.specs.declared.Measured.{Measured}
 use Rattle.plan_plans.specs.Plan.{lastOf, startIn, planIn, refusedPlan, planAnswer, measureOf}
 use Rattle.plan_plans.specs.Helpers.{planned, unclearOf, measuredBy}
-use Rattle.plan_plans.specs.Call.{firstUnclear, unclearIn, unclearFault, clearRead, called, callOf}
+use Rattle.plan_plans.specs.Call.{firstUnclear, unclearIn, clearRead, called, callOf}
 use Rattle.plan_plans.proofs.Fold.{Reached, reached-start, reached-more}
 use Rattle.plan_plans.proofs.Answers.{planned-answer, outcome-read, answer-few}
 

@@ -69,9 +69,9 @@ pub last-more : (c : Convention) (r : CallRules) (k : Cursor) (ts : List ValueTy
 unfolding lastOf
 last-more c r k ts t = last-append c r k ts (t ∷ [])
 
--- the same argument from the same cursor
-pub same-next : (c : Convention) (r : CallRules) {k l : Cursor} {t u : ValueType} → k ≡ l → t ≡ u → nextOf r k t (sizeOf c t) ≡ nextOf r l u (sizeOf c u)
-same-next c r p q = cc
+-- the same argument from the same cursor: its span, or the cursor after it
+pub same-step : {A : Type 0} (f : Cursor → ValueType → ℕ → A) (c : Convention) {k l : Cursor} {t u : ValueType} → k ≡ l → t ≡ u → f k t (sizeOf c t) ≡ f l u (sizeOf c u)
+same-step f c p q = cc
 
 pub values-more : (c : Convention) (ts : List ValueType) (t : ValueType) → valuesOf c (ts ++ t ∷ []) ≡ valuesOf c ts + sizeOf c t
 unfolding valuesOf

@@ -39,7 +39,7 @@ use Rattle.plan_plans.specs.Plan.{lastOf, startIn, planIn, refusedPlan, 
 use Rattle.plan_plans.specs.Helpers.{planWith, unclearOf, unclearWith}
 use Rattle.plan_plans.specs.Call.{firstUnclear}
 use Rattle.plan_plans.proofs.Calls.{unclear-more, same-unclear}
-use Rattle.plan_plans.proofs.Fold.{last-more, same-next, values-more, Reached, reached-start, reached-more}
+use Rattle.plan_plans.proofs.Fold.{last-more, same-step, values-more, Reached, reached-start, reached-more}
 
 -- ---- the loop
 
@@ -73,7 +73,7 @@ module _ (c : Convention) (s : List ℕ) (at e : ℕ) (r : CallRules) where
         record {
           ts = m .ts ▸ more .tree;
           turn = more .turn;
-          last = same-next c r (m .last) (more .same) ∙ sym (last-more c r start so-far w);
+          last = same-step (nextOf r) c (m .last) (more .same) ∙ sym (last-more c r start so-far w);
           total = omega (arith, m .total, ap (sizeOf c) (more .same), values-more c so-far w);
           unclear = same-unclear r (m .unclear) (m .last) (more .same) (count-types c s at e (m .ts) count next n (m .turn)) ∙ sym (unclear-more c r start 0 so-far w);
           reached = reached-more r k v count t (sizeOf c t) l (a .sized .small) (m .reached);

@@ -21,7 +21,7 @@ use Rattle.plan_places.specs.declared.Span.{Span}
 use Rattle.plan_places.specs.declared.ResultPlaces.{ResultPlaces}
 use Rattle.plan_places.specs.declared.CallRules.{CallRules}
 use Rattle.plan_places.specs.Values.{pointer}
-use Rattle.plan_places.specs.Step.{rulesOf, withEllipsis, wordOf, spanOf, fresh, startOf, hiddenFor, returning, resultOf}
+use Rattle.plan_places.specs.Step.{rulesOf, withEllipsis, wordOf, spanOf, freshCursor, startOf, hiddenFor, returning, resultOf}
 use Rattle.plan_places.specs.Places.{Numbered}
 use Rattle.plan_places.specs.Spots.{Spot, area, copies, Owns, imageSpot}
 use Rattle.plan_places.proofs.Bounds.{named-fresh, named-start, area-holds, least-area}
@@ -50,25 +50,25 @@ module _ (n : ℕ) (c : Convention) (v : Bool) (r : ResultType) (ts : List Value
 
 -- a hidden address comes before the first argument
 hidden-from : (c : Convention) (v : Bool) (ts : List ValueType) (i : ℕ) (x : Spot)
-    → Owns (spanOf (rulesOf c) (fresh (rulesOf c)) pointer (wordOf (rulesOf c))) x → Owns (spanIn c (rulesFor c v) (startOf (rulesOf c) true) ts i) x → ⊥
+    → Owns (spanOf (rulesOf c) (freshCursor (rulesOf c)) pointer (wordOf (rulesOf c))) x → Owns (spanIn c (rulesFor c v) (startOf (rulesOf c) true) ts i) x → ⊥
 unfolding startOf
 hidden-from c v ts i x a b =
     before-from (startOf (rulesOf c) true) x
-    (owns-before (rulesOf c) (fresh (rulesOf c)) pointer (wordOf (rulesOf c)) x a)
+    (owns-before (rulesOf c) (freshCursor (rulesOf c)) pointer (wordOf (rulesOf c)) x a)
     (owned-from c (rulesFor c v) (startOf (rulesOf c) true) ts i x b)
 
 -- a hidden address is placed as a first argument that is a pointer, and the arguments start after it
 pub hidden-address : (c : Convention) (r : ResultType) (s : Span) → resultPlacesIn c r ≡ ResultPlaces.Hidden s
-    → (s ≡ spanOf (rulesOf c) (fresh (rulesOf c)) pointer (wordOf (rulesOf c))) × (startIn c r ≡ startOf (rulesOf c) true)
+    → (s ≡ spanOf (rulesOf c) (freshCursor (rulesOf c)) pointer (wordOf (rulesOf c))) × (startIn c r ≡ startOf (rulesOf c) true)
 unfolding resultOf
 hidden-address c ResultType.Nothing s e = let z : _≡_ {A = ℕ} 0 1 = cc in absurd (omega arith)
 hidden-address c (ResultType.Value t) s e = go (hiddenFor (rulesOf c) t) e
   where
     address : Span
-    address = spanOf (rulesOf c) (fresh (rulesOf c)) pointer (wordOf (rulesOf c))
+    address = spanOf (rulesOf c) (freshCursor (rulesOf c)) pointer (wordOf (rulesOf c))
 
     held : Span
-    held = spanOf (returning (rulesOf c)) (fresh (rulesOf c)) t (sizeOf c t)
+    held = spanOf (returning (rulesOf c)) (freshCursor (rulesOf c)) t (sizeOf c t)
 
     go : (h : Bool) → pick h (ResultPlaces.Hidden address) (ResultPlaces.Registers held) ≡ ResultPlaces.Hidden s
         → (s ≡ address) × (startOf (rulesOf c) h ≡ startOf (rulesOf c) true)
@@ -114,20 +114,20 @@ module _ (n : ℕ) (c : Convention) (v : Bool) (r : ResultType) (ts : List Value
       }
 
   -- what is before the first argument is before the end
-  address-before : (x : Spot) → startIn c r ≡ startOf (rulesOf c) true → Owns (spanOf (rulesOf c) (fresh (rulesOf c)) pointer (wordOf (rulesOf c))) x → Before (lastCursorIn c r ts) x
+  address-before : (x : Spot) → startIn c r ≡ startOf (rulesOf c) true → Owns (spanOf (rulesOf c) (freshCursor (rulesOf c)) pointer (wordOf (rulesOf c))) x → Before (lastCursorIn c r ts) x
   unfolding startOf
   address-before x e o =
       before-later (last-forward c (rulesOf c) (startIn c r) ts) x
-      (subst (λ (k : Cursor). Before k x) (sym e) (owns-before (rulesOf c) (fresh (rulesOf c)) pointer (wordOf (rulesOf c)) x o))
+      (subst (λ (k : Cursor). Before k x) (sym e) (owns-before (rulesOf c) (freshCursor (rulesOf c)) pointer (wordOf (rulesOf c)) x o))
 
-  address-within : startIn c r ≡ startOf (rulesOf c) true → SpanWithin (planIn n c v r ts) (spanOf (rulesOf c) (fresh (rulesOf c)) pointer (wordOf (rulesOf c)))
+  address-within : startIn c r ≡ startOf (rulesOf c) true → SpanWithin (planIn n c v r ts) (spanOf (rulesOf c) (freshCursor (rulesOf c)) pointer (wordOf (rulesOf c)))
   unfolding planIn
   address-within q =
       let e : Cursor = lastCursorIn c r ts in
-      let between = step-between (rulesOf c) (fresh (rulesOf c)) pointer (wordOf (rulesOf c)) in
+      let between = step-between (rulesOf c) (freshCursor (rulesOf c)) pointer (wordOf (rulesOf c)) in
       record {
-        registers = λ x o. step-registers (rulesOf c) (fresh (rulesOf c)) pointer (wordOf (rulesOf c)) x (named-fresh (rulesOf c)) o;
-        numbered = step-numbered (rulesOf c) (fresh (rulesOf c)) pointer (wordOf (rulesOf c)) (named-fresh (rulesOf c));
+        registers = λ x o. step-registers (rulesOf c) (freshCursor (rulesOf c)) pointer (wordOf (rulesOf c)) x (named-fresh (rulesOf c)) o;
+        numbered = step-numbered (rulesOf c) (freshCursor (rulesOf c)) pointer (wordOf (rulesOf c)) (named-fresh (rulesOf c));
         area = λ b o. let l : b < e .stack = address-before (area b) q o in omega (arith, area-holds c e);
         copies = λ b o. address-before (copies b) q o;
         memory-from = between .memory-from;

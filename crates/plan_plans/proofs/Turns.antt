@@ -1,12 +1,12 @@
 -- A turn of the planner's loop: what is planned so far and what is left make up the whole fold. Assumes nothing.
-use mathlib.Core.Path.{_≡_, refl, sym, ap, subst, _∙_}
+use mathlib.Core.Path.{_≡_, refl, subst, _∙_}
 use mathlib.Core.Bool.{Bool}
-use mathlib.Core.List.{List, [], _∷_, _++_, append-assoc, append-nil}
+use mathlib.Core.List.{List, [], _∷_}
 use Prim.Native.Nat.{ℕ, suc, _+_, _-_, _≤_, _<_}
 use native.Mathlib.Omega.{arith}
 use native.Mathlib.Numerals.{add-one}
-use lib.ListN.{length, set, drop, replicate, length-append, drop-of-length-le}
-use lib.Seq.{set-at}
+use lib.ListN.{length, set, drop, replicate, drop-of-length-le}
+use Rattle.base_words.proofs.Tables.{Table, table-start, table-more, table-end}
 use Rattle.base_conventions.specs.declared.Convention.{Convention}
 use Rattle.sig_types.specs.declared.ValueType.{ValueType}
 use Rattle.sig_types.specs.Sizes.{sizeOf}
@@ -23,18 +23,15 @@ use Rattle.plan_places.proofs.Bounds.{rules-lawful}
 use Rattle.plan_places.proofs.Marked.{lawful-marked, start-marked}
 use Rattle.plan_plans.specs.declared.Plan.{Plan}
 use Rattle.plan_plans.specs.Plan.{spansOf, lastOf, resultPlacesIn, noSpan, tableOf, startIn, lastCursorIn, planIn}
-use Rattle.plan_plans.proofs.Fold.{length-spans, last-marked, Reached, reached-start, reached-more}
+use Rattle.plan_plans.proofs.Fold.{last-marked, Reached, reached-start, reached-more}
 
 -- ---- the loop
 
 module _ (c : Convention) (r : CallRules) (start : Cursor) (ts : List ValueType) where
   -- i arguments are planned: the table ss holds their spans, k is the next one's cursor, and their values have v bytes
   pub record Going (ss : List Span) (k : Cursor) (v i : ℕ) : Type 0 where
-    pub done : List Span
-    pub many : length done ≡ i
     pub within : i ≤ length ts
-    pub array : ss ≡ done ++ replicate (maxArguments - i) noSpan
-    pub rest : done ++ spansOf c r k (drop i ts) ≡ spansOf c r start ts
+    pub table : Table maxArguments noSpan ss (spansOf c r k (drop i ts)) (spansOf c r start ts) i
     pub last : lastOf c r k (drop i ts) ≡ lastOf c r start ts
     pub total : v + valuesOf c (drop i ts) ≡ valuesOf c ts
     pub reached : Reached r k v i
@@ -42,11 +39,8 @@ module _ (c : Convention) (r : CallRules) (start : Cursor) (ts : List ValueType)
 pub going-start : (c : Convention) (r : CallRules) (hidden : Bool) (ts : List ValueType) → LawfulCalls r
     → Going c r (startOf r hidden) ts (replicate maxArguments noSpan) (startOf r hidden) 0 0
 going-start c r hidden ts l = record {
-  done = [];
-  many = refl;
   within = omega arith;
-  array = refl;
-  rest = refl;
+  table = table-start maxArguments noSpan (spansOf c r (startOf r hidden) ts);
   last = refl;
   total = omega arith;
   reached = reached-start r hidden l;
@@ -68,17 +62,10 @@ unfolding spansOf lastOf valuesOf
 going-more c r start ts ss k v i t l h few sm d g =
     let n : ℕ = sizeOf c t in
     let s : Span = spanOf r k t n in
-    let blank : maxArguments - i ≡ suc (maxArguments - (i + 1)) = omega arith in
     let total : v + (n + valuesOf c (drop (suc i) ts)) ≡ valuesOf c ts = rw d at (g .total) in
     record {
-      done = g .done ++ s ∷ [];
-      many = simp length-append (omega (arith, g .many));
       within = omega arith;
-      array =
-          ap (λ (x : List Span). set x i s) (g .array)
-          ∙ rw blank (set-at (g .done) noSpan (replicate (maxArguments - (i + 1)) noSpan) s i (g .many))
-          ∙ sym (append-assoc (g .done) (s ∷ []) (replicate (maxArguments - (i + 1)) noSpan));
-      rest = rw add-one (append-assoc (g .done) (s ∷ []) (spansOf c r (nextOf r k t n) (drop (suc i) ts)) ∙ (rw d at (g .rest)));
+      table = table-more maxArguments noSpan s ss (spansOf c r (nextOf r k t n) (drop (i + 1) ts)) (spansOf c r start ts) i (omega arith) (rw add-one (rw d at (g .table)));
       last = rw add-one (rw d at (g .last));
       total = rw add-one (omega arith);
       reached = reached-more r k v i t n l sm (g .reached);
@@ -95,15 +82,9 @@ pub going-end : (c : Convention) (r : CallRules) (start : Cursor) (ts : List Val
 unfolding spansOf lastOf valuesOf tableOf
 going-end c r start ts ss k v i h g =
     let none : drop i ts ≡ [] = drop-of-length-le ts h in
-    let rest : g .done ++ [] ≡ spansOf c r start ts = rw none at (g .rest) in
     let total : v + 0 ≡ valuesOf c ts = rw none at (g .total) in
-    let size = length-spans c r start ts in
-    let many : i ≡ length (spansOf c r start ts) = omega (arith, g .within) in
     record {
-      table =
-          g .array
-          ∙ ap (λ (l : List Span). l ++ replicate (maxArguments - i) noSpan) (sym (append-nil (g .done)) ∙ rest)
-          ∙ ap (λ (n : ℕ). spansOf c r start ts ++ replicate (maxArguments - n) noSpan) many;
+      table = table-end maxArguments noSpan ss (spansOf c r start ts) i (rw none at (g .table));
       last = rw none at (g .last);
       total = omega arith;
     }

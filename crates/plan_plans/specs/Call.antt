@@ -6,16 +6,13 @@ use Rattle.base_words.specs.Basics.{pick}
 use Rattle.base_conventions.specs.declared.Convention.{Convention}
 use Rattle.sig_types.specs.declared.ValueType.{ValueType}
 use Rattle.sig_types.specs.Sizes.{sizeOf}
-use Rattle.sig_items.specs.declared.Refusal.{Refusal}
-use Rattle.sig_items.specs.declared.Fault.{Fault}
-use Rattle.sig_items.specs.Reading.{Reading, fault, got, no}
+use Rattle.sig_items.specs.Reading.{Reading, got, no}
 use Rattle.sig_signatures.specs.declared.Outcome.{Outcome}
 use Rattle.sig_signatures.specs.Signature.{Signature}
 use Rattle.sig_signatures.specs.Read.{signatureOf}
 use Rattle.sig_signatures.specs.Answer.{resultType}
 use Rattle.sig_signatures.specs.Types.{typesOf}
-use Rattle.sig_reader.specs.declared.ArgumentRead.{ArgumentRead}
-use Rattle.sig_reader.specs.Argument.{argumentOf}
+use Rattle.sig_reader.specs.Argument.{unclearFault}
 use Rattle.plan_places.specs.declared.Cursor.{Cursor}
 use Rattle.plan_places.specs.declared.CallRules.{CallRules}
 use Rattle.plan_places.specs.Step.{rulesOf, nextOf, unclearFor}
@@ -32,17 +29,7 @@ unclearIn g =
     firstUnclear (g .convention) (rulesOf (g .convention)) (startIn (g .convention) (resultType (g .convention) (g .result))) 0
     (typesOf (g .convention) (g .arguments))
 
--- the place of an argument's item
-abbrev pub itemIn : ArgumentRead → ℕ
-itemIn (ArgumentRead.Argument t place) = place
-itemIn ArgumentRead.Missing = 0
-itemIn (ArgumentRead.Refused f) = 0
-
--- 29 of argument number i, counted from 0, of what was read: at its header. It has count 0, as every refusal after reading
-abbrev pub unclearFault : ℕ → Reading Signature → Fault
-unclearFault i x = fault Refusal.UnclearPlace (itemIn (argumentOf i x)) 0
-
--- where the first unclear argument is number u, counted from 1
+-- 29 where the first unclear argument is number u, counted from 1
 abbrev pub clearRead : ℕ → Signature → ℕ → ℕ → Reading Signature
 clearRead zero g next n = got g next n
 clearRead (suc i) g next n = no (unclearFault i (got g next n))

@@ -16,13 +16,14 @@ use Rattle.sig_signatures.specs.declared.SignatureRead.{SignatureRead}
 use Rattle.sig_signatures.specs.Limits.{maxArguments}
 use Rattle.sig_signatures.specs.Signature.{Signature}
 use Rattle.sig_signatures.specs.Types.{typesOf, typesIn}
+use Rattle.sig_reader.specs.Argument.{unclearFault}
 use Rattle.plan_places.specs.Step.{rulesOf}
 use Rattle.plan_places.specs.Places.{Numbered}
 use Rattle.plan_places.specs.Helpers.{ResultNumbered}
 use Rattle.plan_plans.specs.declared.Plan.{Plan}
 use Rattle.plan_plans.specs.declared.Measured.{Measured}
 use Rattle.plan_plans.specs.Plan.{planIn, refusedPlan, startIn, measureOf}
-use Rattle.plan_plans.specs.Call.{firstUnclear, unclearFault}
+use Rattle.plan_plans.specs.Call.{firstUnclear}
 use Rattle.plan_plans.specs.Disjoint.{spanAt}
 
 -- the plan of the reader's answer, as `planAnswer` of its reading (law `planned-answer`)

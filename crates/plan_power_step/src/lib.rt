@@ -97,13 +97,13 @@ fn share_of(ellipsis: bool, m: usize, room: usize, n: usize, k: usize) -> Share
 }
 
 // What an argument takes: its words, those of them that have a GPR, and its share.
-struct Taken {
+struct PowerTaken {
     count: usize,
     covered: usize,
     share: Share,
 }
 
-fn taken_of(f: PowerRules, c: Cursor, t: ValueType, size: usize) -> Taken
+fn taken_of(f: PowerRules, c: Cursor, t: ValueType, size: usize) -> PowerTaken
     requires { ⌜ (4 ≤ f .word) × (f .word ≤ 8) × Roomy c × (size ≤ maxSize) ⌝ }
     ensures { λ a. ⌜ (a .count ≡ words (f .word) size) × (a .share ≡ powerShare f c t size) × Counted (f .word) c (a .count) (a .covered) (a .share) ⌝ }
 {
@@ -118,7 +118,7 @@ fn taken_of(f: PowerRules, c: Cursor, t: ValueType, size: usize) -> Taken
         n,
         k,
     );
-    Taken {
+    PowerTaken {
         count: n,
         covered: k,
         share: s,
@@ -126,7 +126,7 @@ fn taken_of(f: PowerRules, c: Cursor, t: ValueType, size: usize) -> Taken
 }
 
 // Every argument uses up its words and the GPRs that go with them, a float too.
-fn next_of(word: usize, c: Cursor, a: Taken) -> Cursor
+fn next_of(word: usize, c: Cursor, a: PowerTaken) -> Cursor
     requires { ⌜ Roomy c × Counted word c (a .count) (a .covered) (a .share) ⌝ }
     ensures { λ r. ⌜ r ≡ powerNext word c (a .count) (a .share) ⌝ }
 {
@@ -140,7 +140,7 @@ fn next_of(word: usize, c: Cursor, a: Taken) -> Cursor
 }
 
 // The span and the next cursor, from what the argument takes.
-fn place(word: usize, c: Cursor, a: Taken) -> Placed
+fn place(word: usize, c: Cursor, a: PowerTaken) -> Placed
     requires { ⌜ Roomy c × Counted word c (a .count) (a .covered) (a .share) ⌝ }
     ensures { λ r. ⌜ r ≡ placedAs (powerSpan word c (a .count) (a .share)) (powerNext word c (a .count) (a .share)) ⌝ }
 {

@@ -1,16 +1,15 @@
 -- Every plan can be stored, and an accepted signature is short. Assumes nothing.
 use mathlib.Core.Path.{_≡_, refl, sym, subst}
 use mathlib.Core.Bool.{Bool}
-use mathlib.Core.List.{List, [], _∷_, _++_}
-use Prim.Native.Nat.{ℕ, zero, suc, _+_, _*_, _≤_}
+use mathlib.Core.List.{List, [], _∷_}
+use Prim.Native.Nat.{ℕ, zero, suc, _+_, _≤_}
 use native.Mathlib.Omega.{arith}
 use lib.ListN.{length, getD}
+use Rattle.base_words.specs.Basics.{All}
 use Rattle.base_words.proofs.Basics.{getD-filled}
 use Rattle.base_conventions.specs.declared.Convention.{Convention}
 use Rattle.sig_types.specs.declared.ValueType.{ValueType}
 use Rattle.sig_types.specs.Sizes.{sizeOf}
-use Rattle.sig_types.specs.Trees.{Trees, none, _▸_, typeOf}
-use Rattle.sig_types.specs.Limits.{AllSized}
 use Rattle.sig_items.specs.declared.Fault.{Fault}
 use Rattle.sig_items.specs.Reading.{Reading, got, no}
 use Rattle.sig_signatures.specs.declared.Outcome.{Outcome}
@@ -22,12 +21,11 @@ use Rattle.sig_signatures.specs.Answer.{resultType}
 use Rattle.sig_signatures.specs.Types.{typesOf}
 use Rattle.sig_signatures.proofs.Sound.{signature-read}
 use Rattle.sig_signatures.proofs.Theorems.{accepted}
-use Rattle.sig_signatures.proofs.Types.{length-of-types}
+use Rattle.sig_signatures.proofs.Types.{length-of-types, types-each}
 use Rattle.plan_places.specs.declared.Cursor.{Cursor}
-use Rattle.plan_places.specs.declared.Span.{Span}
 use Rattle.plan_places.specs.declared.CallRules.{CallRules}
 use Rattle.plan_places.specs.Helpers.{LawfulCalls}
-use Rattle.plan_places.specs.Step.{rulesOf, withEllipsis, spanOf, nextOf, startOf}
+use Rattle.plan_places.specs.Step.{rulesOf, withEllipsis, spanOf, nextOf}
 use Rattle.plan_places.proofs.Bounds.{near-next, rules-lawful}
 use Rattle.plan_places.proofs.Between.{step-between}
 use Rattle.plan_places.proofs.Registers.{step-numbered}
@@ -41,22 +39,6 @@ use Rattle.plan_plans.proofs.Calls.{called-got}
 use Rattle.plan_plans.proofs.Printable.{answer-printable}
 use Rattle.plan_stored_items.specs.Helpers.{Storable}
 use Rattle.plan_stored.specs.Helpers.{Writable}
-
--- ---- the types are small
-
-unfoldable AllSmall : Convention → List ValueType → Type 0
-AllSmall c [] = Unit {0}
-AllSmall c (t ∷ ts) = (sizeOf c t ≤ 256) × AllSmall c ts
-
-small-more : (c : Convention) (ts : List ValueType) (t : ValueType) → AllSmall c ts → sizeOf c t ≤ 256 → AllSmall c (ts ++ t ∷ [])
-unfolding AllSmall
-small-more c [] t h s = (s, tt)
-small-more c (u ∷ ts) t h s = (h .0, small-more c ts t (h .1) s)
-
-small-types : (c : Convention) (ts : Trees) → AllSized c ts → AllSmall c (typesOf c ts)
-unfolding AllSized typesOf AllSmall
-small-types c none h = tt
-small-types c (ts ▸ t) h = small-more c (typesOf c ts) (typeOf c t) (small-types c ts (h .0)) (h .1 .small)
 
 -- ---- each span
 
@@ -75,15 +57,15 @@ span-storable r k v i t n l h few g =
       copy = omega (arith, b .copy-to, d .copies, g .copies);
     }
 
-spans-storable : (c : Convention) (r : CallRules) (k : Cursor) (v i : ℕ) (ts : List ValueType) → LawfulCalls r → AllSmall c ts → i + length ts ≤ maxArguments → Reached r k v i
+spans-storable : (c : Convention) (r : CallRules) (k : Cursor) (v i : ℕ) (ts : List ValueType) → LawfulCalls r → All (λ (t : ValueType). sizeOf c t ≤ 256) ts → i + length ts ≤ maxArguments → Reached r k v i
     → (j : ℕ) → Storable (getD (spansOf c r k ts) j noSpan)
-unfolding spansOf AllSmall
+unfolding spansOf All
 spans-storable c r k v i [] l small few g j = none-storable
 spans-storable c r k v i (t ∷ ts) l small few g zero = span-storable r k v i t (sizeOf c t) l (small .0) (omega arith) g
 spans-storable c r k v i (t ∷ ts) l small few g (suc j) =
     spans-storable c r (nextOf r k t (sizeOf c t)) (v + sizeOf c t) (i + 1) ts l (small .1) (omega arith) (reached-more r k v i t (sizeOf c t) l (small .0) g) j
 
-plan-storable : (n : ℕ) (c : Convention) (v : Bool) (r : ResultType) (ts : List ValueType) → AllSmall c ts → length ts ≤ maxArguments
+plan-storable : (n : ℕ) (c : Convention) (v : Bool) (r : ResultType) (ts : List ValueType) → All (λ (t : ValueType). sizeOf c t ≤ 256) ts → length ts ≤ maxArguments
     → (i : ℕ) → Storable (spanAt (planIn n c v r ts) i)
 unfolding planIn
 plan-storable n c v r ts small few i =
@@ -102,7 +84,7 @@ spans-read s (got g next n) e i =
     let a = accepted s g next n (called-got (signatureOf s) g next n e) in
     let c : Convention = g .convention in
     let many = length-of-types c (g .arguments) in
-    plan-storable n c (g .ellipsis) (resultType c (g .result)) (typesOf c (g .arguments)) (small-types c (g .arguments) (a .arguments)) (omega (arith, a .within .few)) i
+    plan-storable n c (g .ellipsis) (resultType c (g .result)) (typesOf c (g .arguments)) (types-each c (λ t. sizeOf c t ≤ 256) (λ t h. h .small) (g .arguments) (a .arguments)) (omega (arith, a .within .few)) i
 spans-read s (no f) e i = refused-storable f i
 
 pub answer-storable : (s : List ℕ) → Writable (planAnswer (callOf s))

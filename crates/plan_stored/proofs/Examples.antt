@@ -13,9 +13,9 @@ use Rattle.sig_items.specs.Encode.{item}
 use Rattle.sig_signatures.specs.declared.ResultType.{ResultType}
 use Rattle.plan_places.specs.Power.{words, fprs, shareOf, powerShare}
 use Rattle.plan_places.specs.ZSeries.{zClass, zSpanOf, zNextOf}
-use Rattle.plan_places.specs.Step.{withEllipsis, spanOf, nextOf, fresh, startOf, hiddenFor, resultOf}
+use Rattle.plan_places.specs.Step.{withEllipsis, spanOf, nextOf, freshCursor, startOf, hiddenFor, resultOf}
 use Rattle.plan_plans.specs.Plan.{spansOf, tableOf, planIn}
-use Rattle.plan_stored_items.specs.Places.{placeBytes, placesBytes, placesFrom, placesIn, ownBytes, listedFrom, floatingRun, generalRun, memoryRun, copyRun, directPlaces, argumentPlaces, argumentItem, resultItem}
+use Rattle.plan_stored_items.specs.Places.{placeBytes, placesBytes, placesFrom, placesIn, bytesInArea, listedFrom, floatingRun, generalRun, memoryRun, copyRun, directPlaces, argumentPlaces, argumentItem, resultItem}
 use Rattle.plan_stored.specs.Stored.{argumentItems, planBytes}
 
 abbrev int : ValueType
@@ -39,7 +39,7 @@ pub on-z : planBytes signature (planIn 0 Convention.Z false (ResultType.Value qu
     ∷ 0x21 ∷ 0 ∷ 10 ∷ 0 ∷ 0 ∷ 3 ∷ 0 ∷ 0 ∷ 2 ∷ 0 ∷ 0 ∷ 0 ∷ 0
     ∷ 0x21 ∷ 0 ∷ 5 ∷ 0 ∷ 1 ∷ 0 ∷ 0 ∷ 0
     ∷ 0x22 ∷ 0 ∷ 5 ∷ 3 ∷ 0 ∷ 2 ∷ 0 ∷ 0 ∷ []
-unfolding roundUp planBytes planIn tableOf spansOf spanOf nextOf withEllipsis startOf fresh hiddenFor resultOf zClass zSpanOf zNextOf argumentItems argumentItem argumentPlaces directPlaces resultItem item placesBytes placeBytes placesFrom placesIn floatingRun generalRun memoryRun copyRun ownBytes listedFrom
+unfolding roundUp planBytes planIn tableOf spansOf spanOf nextOf withEllipsis startOf freshCursor hiddenFor resultOf zClass zSpanOf zNextOf argumentItems argumentItem argumentPlaces directPlaces resultItem item placesBytes placeBytes placesFrom placesIn floatingRun generalRun memoryRun copyRun bytesInArea listedFrom
 on-z = refl
 
 -- AIX with an ellipsis, a struct's result: hidden r3; a struct in r4 to r7, an int in r8 and one in r9; a double in f1, in r10 and in memory
@@ -50,5 +50,5 @@ pub on-aix : planBytes signature (planIn 0 Convention.Aix true (ResultType.Value
     ∷ 0x21 ∷ 0 ∷ 5 ∷ 0 ∷ 0 ∷ 9 ∷ 0 ∷ 24
     ∷ 0x21 ∷ 0 ∷ 15 ∷ 0 ∷ 1 ∷ 1 ∷ 0 ∷ 28 ∷ 0 ∷ 0 ∷ 10 ∷ 0 ∷ 28 ∷ 1 ∷ 0 ∷ 0 ∷ 0 ∷ 32
     ∷ 0x22 ∷ 0 ∷ 5 ∷ 3 ∷ 0 ∷ 3 ∷ 0 ∷ 0 ∷ []
-unfolding planBytes planIn tableOf spansOf spanOf nextOf withEllipsis startOf fresh hiddenFor resultOf words fprs shareOf powerShare argumentItems argumentItem argumentPlaces directPlaces resultItem item placesBytes placeBytes placesFrom placesIn floatingRun generalRun memoryRun copyRun ownBytes listedFrom
+unfolding planBytes planIn tableOf spansOf spanOf nextOf withEllipsis startOf freshCursor hiddenFor resultOf words fprs shareOf powerShare argumentItems argumentItem argumentPlaces directPlaces resultItem item placesBytes placeBytes placesFrom placesIn floatingRun generalRun memoryRun copyRun bytesInArea listedFrom
 on-aix = refl

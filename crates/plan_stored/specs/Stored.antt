@@ -6,7 +6,7 @@ use lib.Dec.{ltb, eqb}
 use lib.ListN.{length, take}
 use Rattle.base_words.specs.Basics.{pick}
 use Rattle.base_words.specs.Splice.{overlay}
-use Rattle.sig_items.specs.Refusals.{numberOf}
+use Rattle.sig_items.specs.Refusals.{refusalNumber}
 use Rattle.sig_items.specs.Encode.{item}
 use Rattle.sig_signatures.specs.declared.Outcome.{Outcome}
 use Rattle.plan_places.specs.declared.CallRules.{CallRules}
@@ -86,10 +86,10 @@ checkAnswer stored s = checkBy (outcomeFor s) stored (storedOf s)
 
 abbrev pub storeNumber : StoreAnswer → ℕ
 storeNumber (StoreAnswer.Stored n) = 0
-storeNumber (StoreAnswer.Refused f) = numberOf (f .reason)
+storeNumber (StoreAnswer.Refused f) = refusalNumber (f .reason)
 storeNumber StoreAnswer.TooShort = 33
 
 abbrev pub checkNumber : CheckAnswer → ℕ
 checkNumber CheckAnswer.Same = 0
-checkNumber (CheckAnswer.Refused f) = numberOf (f .reason)
+checkNumber (CheckAnswer.Refused f) = refusalNumber (f .reason)
 checkNumber (CheckAnswer.Differs place) = 27

@@ -18,7 +18,7 @@ use Rattle.plan_text.specs.Writing.{Wrote}
 use Rattle.plan_text.proofs.Writing.{wrote-nothing, wrote-then}
 use Rattle.plan_stored_items.specs.declared.StoredPlace.{StoredPlace}
 use Rattle.plan_stored_items.specs.declared.PlaceRun.{PlaceRun}
-use Rattle.plan_stored_items.specs.Places.{place, placeBytes, placesBytes, placesFrom, placesIn, placeRun, registerRun, ownBytes, listedFrom, floatingRun, generalRun, memoryRun, copyRun, directPlaces, argumentPlaces, argumentItem, resultFirst, resultSecond, resultItem}
+use Rattle.plan_stored_items.specs.Places.{place, placeBytes, placesBytes, placesFrom, placesIn, placeRun, registerRun, bytesInArea, listedFrom, floatingRun, generalRun, memoryRun, copyRun, directPlaces, argumentPlaces, argumentItem, resultFirst, resultSecond, resultItem}
 use Rattle.plan_stored_items.specs.Helpers.{RunFits, Storable}
 
 -- ---- lengths
@@ -93,8 +93,8 @@ going-end q a b at next number offset (suc n) h g = absurd (omega arith)
 
 -- ---- the runs of a plan fit their bytes, and are short
 
-own-most : (r : CallRules) (n : ℕ) → ownBytes r n ≤ n
-unfolding ownBytes
+own-most : (r : CallRules) (n : ℕ) → bytesInArea r n ≤ n
+unfolding bytesInArea
 own-most (CallRules.Power f) n = omega arith
 own-most CallRules.Z n = omega arith
 
@@ -113,10 +113,6 @@ words-most r n l h =
     let q : ℕ = n / wordOf r in
     let least : q * 4 ≤ q * wordOf r = mul-le-mul-left q (word-least r l) in
     omega (arith, least, div-mul-le-self n (wordOf r))
-
-pub one-most : (b : Bool) → pick b 1 0 ≤ 1
-one-most true = omega arith
-one-most false = omega arith
 
 pub record Short (q : PlaceRun) (n : ℕ) : Type 0 where
   pub fits : RunFits q

@@ -15,15 +15,15 @@ use Rattle.plan_places.specs.Places.{registersOf, placesOf}
 use Rattle.plan_stored_items.specs.declared.StoredPlace.{StoredPlace}
 use Rattle.plan_stored_items.specs.Places.{listedFrom, directPlaces, resultPlaces}
 
-abbrev pub bankOf : ℕ → Bank
-bankOf zero = Bank.General
-bankOf (suc n) = Bank.Floating
+abbrev pub storedBank : ℕ → Bank
+storedBank zero = Bank.General
+storedBank (suc n) = Bank.Floating
 
 -- a stored place as a listing's, by its kind: memory at an offset in the area, or a register, that of a hidden address too
 abbrev pub listedBy : ℕ → CallRules → StoredPlace → Place
-listedBy zero r p = Place.Register (bankOf (p .bank)) (p .number)
+listedBy zero r p = Place.Register (storedBank (p .bank)) (p .number)
 listedBy (suc zero) r p = Place.Memory (p .offset - listedFrom r)
-listedBy (suc (suc n)) r p = Place.Register (bankOf (p .bank)) (p .number)
+listedBy (suc (suc n)) r p = Place.Register (storedBank (p .bank)) (p .number)
 
 unfoldable pub listedPlace : CallRules → StoredPlace → Place
 listedPlace r p = listedBy (p .kind) r p

@@ -53,9 +53,9 @@ noPlaces = placeRun 0 0 0 0 0 0 0
 
 -- Bytes of the area that a register stands for, as its offset counts them: on PowerPC every word has its own in the area, also one that is in a
 -- register; a Z register has none
-unfoldable pub ownBytes : CallRules → ℕ → ℕ
-ownBytes (CallRules.Power f) n = n
-ownBytes CallRules.Z n = 0
+unfoldable pub bytesInArea : CallRules → ℕ → ℕ
+bytesInArea (CallRules.Power f) n = n
+bytesInArea CallRules.Z n = 0
 
 -- where a listing counts the area from: its start, "Z prints `@` only after `mem` (from 160)"
 unfoldable pub listedFrom : CallRules → ℕ
@@ -64,10 +64,10 @@ listedFrom CallRules.Z = headerBytes Convention.Z
 
 -- a floating register has 8 bytes in every convention
 unfoldable pub floatingRun : CallRules → Span → PlaceRun
-floatingRun r s = registerRun 1 (s .floating) (ownBytes r (s .home .start)) (ownBytes r 8)
+floatingRun r s = registerRun 1 (s .floating) (bytesInArea r (s .home .start)) (bytesInArea r 8)
 
 unfoldable pub generalRun : CallRules → Span → PlaceRun
-generalRun r s = registerRun 0 (s .general) (ownBytes r (s .home .start)) (ownBytes r (wordOf r))
+generalRun r s = registerRun 0 (s .general) (bytesInArea r (s .home .start)) (bytesInArea r (wordOf r))
 
 -- "1 memory"; "each doubleword (AIX: word) of memory is a place"
 unfoldable pub memoryRun : CallRules → Span → PlaceRun

@@ -8,11 +8,10 @@ ghost use mathlib.Core.Path.{_≡_};
 ghost use mathlib.Core.List.{_∷_, [], _++_};
 ghost use Prim.Native.Nat.{_+_, _*_, _/_, _%_, _^_, _≤_, _<_};
 ghost use lib.ListN.{length};
-ghost use Rattle.base_words.specs.Basics.{pick};
 ghost use Rattle.plan_places.specs.Helpers.{ResultNumbered, LawfulCalls};
 ghost use Rattle.plan_places.specs.Step.{wordOf};
 ghost use Rattle.plan_text.specs.Writing.{Wrote};
-ghost use Rattle.plan_stored_items.specs.Places.{placeBytes, placesBytes, placesIn, registerRun, noPlaces, ownBytes, listedFrom, floatingRun, generalRun, memoryRun, copyRun, argumentItem, resultFirst, resultSecond, resultItem};
+ghost use Rattle.plan_stored_items.specs.Places.{placeBytes, placesBytes, placesIn, registerRun, noPlaces, bytesInArea, listedFrom, floatingRun, generalRun, memoryRun, copyRun, argumentItem, resultFirst, resultSecond, resultItem};
 ghost use Rattle.plan_stored_items.specs.Helpers.{RunFits, Storable};
 
 // One place as it is stored.
@@ -96,8 +95,8 @@ fn put_places(bytes: &mut [u8], at: usize, q: PlaceRun) -> usize
     next
 }
 
-fn own_bytes(rules: CallRules, n: usize) -> usize
-    ensures { λ r. ⌜ r ≡ ownBytes rules n ⌝ }
+fn bytes_in_area(rules: CallRules, n: usize) -> usize
+    ensures { λ r. ⌜ r ≡ bytesInArea rules n ⌝ }
 {
     match rules {
         CallRules::Power(_) => n,
@@ -147,8 +146,8 @@ fn floating_run(rules: CallRules, s: Span) -> PlaceRun
 {
     let home = s.home;
     let registers = s.floating;
-    let offset = own_bytes(rules, home.start as usize);
-    let by = own_bytes(rules, 8);
+    let offset = bytes_in_area(rules, home.start as usize);
+    let by = bytes_in_area(rules, 8);
     register_run(1, registers, offset, by)
 }
 
@@ -158,9 +157,9 @@ fn general_run(rules: CallRules, s: Span) -> PlaceRun
 {
     let home = s.home;
     let registers = s.general;
-    let offset = own_bytes(rules, home.start as usize);
+    let offset = bytes_in_area(rules, home.start as usize);
     let word = plan_places::word_of(rules);
-    let by = own_bytes(rules, word);
+    let by = bytes_in_area(rules, word);
     register_run(0, registers, offset, by)
 }
 
@@ -183,22 +182,13 @@ fn memory_run(rules: CallRules, s: Span) -> PlaceRun
     }
 }
 
-fn one_if(b: bool) -> usize
-    ensures { λ r. ⌜ r ≡ pick b 1 0 ⌝ }
-{
-    if b {
-        return 1;
-    }
-    0
-}
-
 fn copy_run(s: Span) -> PlaceRun
     requires { ⌜ Storable s ⌝ }
     ensures { λ q. ⌜ (q ≡ copyRun s) × RunFits q × (q .count ≤ 1) ⌝ }
 {
     let copy = s.copy;
     let indirect = s.indirect;
-    let count = one_if(indirect);
+    let count = base_words::flag(indirect) as usize;
     PlaceRun {
         kind: 2,
         bank: 0,
@@ -237,7 +227,7 @@ pub fn argument_length(rules: CallRules, s: Span) -> usize
     let memory = s.memory;
     let indirect = s.indirect;
     let words = words_in(rules, memory.length as usize);
-    let copies = one_if(indirect);
+    let copies = base_words::flag(indirect) as usize;
     3 + 5 * (floating.count as usize + (general.count as usize + (words + copies)))
 }
 

@@ -28,7 +28,7 @@ use Rattle.sig_signatures.proofs.Laws.{thenArguments, signature-arguments}
 use Rattle.sig_signatures.specs.Types.{valuesOf, typesOf}
 use Rattle.sig_signatures.proofs.Types.{length-of-types, answer-plannable}
 use Rattle.sig_reader.specs.declared.ArgumentRead.{ArgumentRead}
-use Rattle.sig_reader.specs.Argument.{argumentIn, argumentsPlace, argumentOf}
+use Rattle.sig_reader.specs.Argument.{argumentIn, argumentsPlace, argumentOf, itemIn, unclearFault}
 use Rattle.sig_reader.proofs.Found.{begun}
 use Rattle.plan_places.specs.declared.Cursor.{Cursor}
 use Rattle.plan_places.specs.declared.Span.{Span}
@@ -36,12 +36,12 @@ use Rattle.plan_places.specs.Step.{rulesOf, withEllipsis, spanOf}
 use Rattle.plan_plans.specs.Plan.{spansOf, noSpan, tableOf, startIn, lastCursorIn, planIn, refusedPlan, planAnswer}
 use Rattle.plan_plans.specs.Disjoint.{spanAt}
 use Rattle.plan_plans.proofs.Fold.{length-spans, last-marked, spans-more, values-more}
-use Rattle.plan_plans.specs.Call.{itemIn, unclearFault, called, callOf}
+use Rattle.plan_plans.specs.Call.{called, callOf}
 use Rattle.plan_plans.specs.Helpers.{unclearOf}
 use Rattle.plan_plans.proofs.Calls.{called-clear, unclear-plan}
 use Rattle.plan_words.specs.declared.Planned.{Planned}
 use Rattle.plan_words.specs.Planned.{plannedOf}
-use Rattle.plan_words.specs.Entries.{sizeIn, sizeAt, valueAt, entriesUpTo, entriesOf}
+use Rattle.plan_words.specs.Entries.{sizeIn, sizeAt, valueStart, entriesUpTo, entriesOf}
 use Rattle.plan_words.specs.Helpers.{itemAfter, rowsOf, rowsWith, plannedBy, rowsBy}
 use Rattle.plan_words.proofs.Turns.{same-words}
 
@@ -113,8 +113,8 @@ module _ (c : Convention) (g : Result) (v : Bool) (next n : ℕ) where
     unfolding planAnswer planIn
     size-last = ap (sizeIn c) argument-last
 
-    value-same : (i : ℕ) → i ≤ countOf ts → valueAt (read (ts ▸ t)) i ≡ valueAt (read ts) i
-    unfolding valueAt
+    value-same : (i : ℕ) → i ≤ countOf ts → valueStart (read (ts ▸ t)) i ≡ valueStart (read ts) i
+    unfolding valueStart
     value-same zero h = refl
     value-same (suc i) h = omega (arith, value-same i (omega arith), size-same i (omega arith))
 
@@ -126,8 +126,8 @@ module _ (c : Convention) (g : Result) (v : Bool) (next n : ℕ) where
         (same-words (ap itemIn (argument-same i (omega arith))) (size-same i (omega arith)) (value-same i (omega arith)) (span-same i (omega arith)))
 
   -- "without gaps": the last value starts where all before it end
-  value-all : (ts : Trees) → valueAt (read ts) (countOf ts) ≡ valuesOf c (typesOf c ts)
-  unfolding valueAt countOf typesOf valuesOf
+  value-all : (ts : Trees) → valueStart (read ts) (countOf ts) ≡ valuesOf c (typesOf c ts)
+  unfolding valueStart countOf typesOf valuesOf
   value-all none = refl
   value-all (ts ▸ t) =
       rw add-one (omega (arith, value-same ts t (countOf ts) (omega arith), value-all ts, size-last ts t, values-more c (typesOf c ts) (typeOf c t)))

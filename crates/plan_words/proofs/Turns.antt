@@ -29,6 +29,7 @@ use Rattle.sig_signatures.proofs.Loop.{Turn, turn-start, turn-last}
 use Rattle.sig_signatures.specs.Types.{valuesOf, typesOf}
 use Rattle.sig_signatures.proofs.Types.{length-of-types}
 use Rattle.sig_reader.proofs.Found.{further}
+use Rattle.sig_reader.specs.Argument.{unclearFault}
 use Rattle.plan_places.specs.declared.Cursor.{Cursor}
 use Rattle.plan_places.specs.declared.Span.{Span}
 use Rattle.plan_places.specs.declared.CallRules.{CallRules}
@@ -37,9 +38,9 @@ use Rattle.plan_places.specs.Helpers.{unclearAfter}
 use Rattle.plan_places.proofs.Bounds.{rules-lawful}
 use Rattle.plan_places.proofs.Marked.{next-marked, unclear-marked}
 use Rattle.plan_plans.specs.Plan.{lastOf, hiddenIn, startIn, lastCursorIn, resultPlacesIn, planIn, refusedPlan}
-use Rattle.plan_plans.specs.Call.{firstUnclear, unclearFault}
+use Rattle.plan_plans.specs.Call.{firstUnclear}
 use Rattle.plan_plans.proofs.Calls.{unclear-more, same-unclear}
-use Rattle.plan_plans.proofs.Fold.{last-more, same-next, values-more, Reached, reached-start, reached-more}
+use Rattle.plan_plans.proofs.Fold.{last-more, same-step, values-more, Reached, reached-start, reached-more}
 use Rattle.plan_entries.specs.Words.{entryWords}
 use Rattle.plan_entries.proofs.Copies.{tabled-nothing}
 use Rattle.plan_entries.specs.Results.{resultWords}
@@ -54,9 +55,6 @@ length-rows c mark r at (ts ▸ t) = simp length-append (omega (arith, length-ro
 
 pub same-words : {i j n m v w : ℕ} {s u : Span} → i ≡ j → n ≡ m → v ≡ w → s ≡ u → entryWords i n v s ≡ entryWords j m w u
 same-words p q x y = cc
-
-same-span : (c : Convention) (r : CallRules) {k l : Cursor} {t u : ValueType} → k ≡ l → t ≡ u → spanOf r k t (sizeOf c t) ≡ spanOf r l u (sizeOf c u)
-same-span c r p q = cc
 
 -- reading on from here gives all arguments; the entries of those so far, by the mark of an ellipsis, are put over what was there, l
 pub record Keeping (c : Convention) (mark : Bool) (s : List ℕ) (at e : ℕ) (r : ResultType) (l : List ℕ) (k : Cursor) (kept : List ℕ) (v u count next n : ℕ) : Type 0 where
@@ -106,7 +104,7 @@ module _ (c : Convention) (mark : Bool) (s : List ℕ) (at e : ℕ) (r : ResultT
           turn = more .turn;
           ends = more .ends;
           apart = omega (arith, m .apart, a .on);
-          last = next-same ∙ same-next c (rulesOf c) (m .last) (more .same) ∙ sym (last-more c (rulesOf c) (startIn c r) so-far w);
+          last = next-same ∙ same-step (nextOf (rulesOf c)) c (m .last) (more .same) ∙ sym (last-more c (rulesOf c) (startIn c r) so-far w);
           total = omega (arith, m .total, ap (sizeOf c) (more .same), values-more c so-far w);
           unclear =
               ap (λ (b : Bool). unclearAfter u b count) (unclear-marked mark (rulesOf c) k t)
@@ -115,7 +113,7 @@ module _ (c : Convention) (mark : Bool) (s : List ℕ) (at e : ℕ) (r : ResultT
           reached = rw next-same (reached-more (rulesOf c) k v count t (sizeOf c t) (rules-lawful c) (a .sized .small) (m .reached));
           entries =
               ap (λ (y : List ℕ). splice y (13 * count) (entryWords next (sizeOf c t) v (spanOf rules k t (sizeOf c t)))) (m .entries)
-              ∙ ap (splice (overlay l rows) (13 * count)) (same-words (m .ends) (ap (sizeOf c) (more .same)) (m .total) (same-span c rules (m .last) (more .same)))
+              ∙ ap (splice (overlay l rows) (13 * count)) (same-words (m .ends) (ap (sizeOf c) (more .same)) (m .total) (same-step (spanOf rules) c (m .last) (more .same)))
               ∙ ap (λ (i : ℕ). splice (overlay l rows) i here) place
               ∙ sym (overlay-append l rows here);
         }

@@ -8,10 +8,9 @@ use Rattle.sig_types.specs.Sizes.{sizeOf}
 use Rattle.sig_items.specs.Reading.{Reading}
 use Rattle.sig_signatures.specs.Signature.{Signature}
 use Rattle.sig_reader.specs.declared.ArgumentRead.{ArgumentRead}
-use Rattle.sig_reader.specs.Argument.{argumentOf}
+use Rattle.sig_reader.specs.Argument.{argumentOf, itemIn}
 use Rattle.plan_plans.specs.Plan.{planAnswer}
 use Rattle.plan_plans.specs.Disjoint.{spanAt}
-use Rattle.plan_plans.specs.Call.{itemIn}
 use Rattle.plan_entries.specs.Words.{entryWords}
 
 -- of what the reader says of an argument
@@ -25,12 +24,12 @@ abbrev pub sizeAt : Reading Signature → ℕ → ℕ
 sizeAt x i = sizeIn (planAnswer x .convention) (argumentOf i x)
 
 -- "The value buffer holds the arguments in order without gaps": where argument i's value starts
-unfoldable pub valueAt : Reading Signature → ℕ → ℕ
-valueAt x zero = 0
-valueAt x (suc i) = valueAt x i + sizeAt x i
+unfoldable pub valueStart : Reading Signature → ℕ → ℕ
+valueStart x zero = 0
+valueStart x (suc i) = valueStart x i + sizeAt x i
 
 abbrev pub entryAt : Reading Signature → ℕ → List ℕ
-entryAt x i = entryWords (itemIn (argumentOf i x)) (sizeAt x i) (valueAt x i) (spanAt (planAnswer x) i)
+entryAt x i = entryWords (itemIn (argumentOf i x)) (sizeAt x i) (valueStart x i) (spanAt (planAnswer x) i)
 
 -- those of the first n arguments
 unfoldable pub entriesUpTo : Reading Signature → ℕ → List ℕ

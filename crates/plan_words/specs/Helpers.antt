@@ -1,6 +1,6 @@
 -- For proofs and helpers alone: no claim cites this file.
 -- The table's words from the arguments on: the same entries as of a whole reading (law `rows-entries`); and what planning asks. Assumes nothing.
-use Prim.Native.Nat.{ℕ, zero, suc, _+_, _*_, _≤_}
+use Prim.Native.Nat.{ℕ, zero, suc, _+_, _≤_}
 use mathlib.Core.Bool.{Bool}
 use mathlib.Core.List.{List, [], _++_}
 use lib.Dec.{ltb}
@@ -11,15 +11,14 @@ use Rattle.sig_types.specs.Sizes.{sizeOf}
 use Rattle.sig_types.specs.Trees.{Trees, none, _▸_, typeOf}
 use Rattle.sig_items.specs.Reading.{Reading, got, no}
 use Rattle.sig_items.specs.Encode.{encodeTrees}
-use Rattle.sig_signatures.specs.Limits.{maxArguments}
 use Rattle.sig_signatures.specs.declared.ResultType.{ResultType}
 use Rattle.sig_signatures.specs.Signature.{Signature}
 use Rattle.sig_signatures.specs.Types.{valuesOf, typesOf}
+use Rattle.sig_reader.specs.Argument.{unclearFault}
 use Rattle.plan_places.specs.Step.{rulesOf, withEllipsis, spanOf}
 use Rattle.plan_plans.specs.Plan.{lastCursorIn, refusedPlan}
 use Rattle.plan_plans.specs.Helpers.{planWith, unclearWith}
-use Rattle.plan_plans.specs.Call.{unclearFault}
-use Rattle.plan_entries.specs.Words.{entryWords, entryLength}
+use Rattle.plan_entries.specs.Words.{entryWords}
 use Rattle.plan_words.specs.declared.Planned.{Planned}
 use Rattle.plan_words.specs.Planned.{plannedOf}
 
@@ -54,7 +53,3 @@ planCalled c v r n all y x = plannedBy (unclearWith c r all y) (plannedOf (planW
 
 abbrev pub rowsCalled : Convention → Bool → ResultType → ℕ → ℕ → Reading Trees → List ℕ
 rowsCalled c v r at all y = rowsBy (unclearWith c r all y) (rowsWith c v r at all y)
-
--- what the planner asks of the room for what is kept: n words for as many arguments as can stand between `at` and e
-abbrev pub KeepsAll : ℕ → ℕ → ℕ → Type 0
-KeepsAll at e n = (i : ℕ) → i ≤ maxArguments → at + 3 * i ≤ e → entryLength * i ≤ n

@@ -7,6 +7,8 @@ use plan_places::CallRules;
 use sig_items::Fault;
 use sig_items::ItemRead;
 use sig_items::Refusal;
+use sig_signatures::FEW_ARGUMENTS;
+use sig_signatures::FEW_BYTES;
 use sig_signatures::HeadRead;
 use sig_signatures::MAX_ARGUMENTS;
 use sig_signatures::Outcome;
@@ -22,13 +24,15 @@ ghost use Rattle.sig_signatures.specs.Limits.{maxLength};
 ghost use Rattle.sig_signatures.specs.Read.{argumentsIn, signatureOf};
 ghost use Rattle.base_words.specs.Basics.{pick};
 ghost use Rattle.sig_types.specs.Sizes.{sizeOf};
+ghost use Rattle.sig_signatures.specs.Helpers.{RoomFor};
 ghost use Rattle.plan_places.specs.declared.ResultPlaces.{ResultPlaces};
 ghost use Rattle.plan_places.specs.Step.{rulesOf, resultOf};
 ghost use Rattle.plan_plans.specs.Plan.{refusedPlan, resultPlacesIn, planAnswer};
 ghost use Rattle.plan_plans.specs.Call.{callOf};
 ghost use Rattle.plan_entries.specs.Results.{resultWords};
+ghost use Rattle.plan_entries.specs.Words.{entryLength};
 ghost use Rattle.plan_words.specs.Entries.{entriesOf};
-ghost use Rattle.plan_words.specs.Helpers.{planCalled, rowsCalled, KeepsAll};
+ghost use Rattle.plan_words.specs.Helpers.{planCalled, rowsCalled};
 ghost use Rattle.plan_words.specs.Planned.{plannedOf};
 
 // A plan without the places of its arguments.
@@ -42,9 +46,6 @@ pub struct Planned {
     pub values: usize,
     pub copies: usize,
 }
-
-// An argument takes three bytes or more of the signature: where the arguments' part has at most this many bytes, they are few.
-const FEW_BYTES: usize = 36;
 
 fn no_result() -> ResultWords
     ensures { λ w. ⌜ w ≡ resultWords ResultPlaces.Nothing ⌝ }
@@ -159,7 +160,7 @@ fn plan_arguments(
     kept: &mut [u16],
     places: &mut [u64],
 ) -> Planned
-    requires { ⌜ (at ≤ end) × (end ≤ length (now sig)) × (length (now sig) ≤ maxLength) × (earlier ≤ 2 ^ 16) × KeepsAll at end (length (now kept)) ⌝ }
+    requires { ⌜ (at ≤ end) × (end ≤ length (now sig)) × (length (now sig) ≤ maxLength) × (earlier ≤ 2 ^ 16) × RoomFor entryLength at end (length (now kept)) ⌝ }
     ensures { λ p. ⌜ p ≡ planCalled convention ellipsis returned earlier (length (now (sig .entry))) (argumentsIn convention (now (sig .entry)) at end) (signatureOf (now (sig .entry))) ⌝ }
     ensures { λ p. ⌜ now (places .exit) ≡ overlayWhole (now (places .entry)) (rowsCalled convention ellipsis returned at (length (now (sig .entry))) (argumentsIn convention (now (sig .entry)) at end)) ⌝ }
 {
@@ -179,7 +180,7 @@ fn plan_arguments(
                 passed: earlier + items,
             });
         }
-        match sig_nested_items::read_item(sig, convention, next, end, 8) {
+        match sig_nested_items::read_item(sig, convention, next, end, sig_types::MAX_DEPTH) {
             ItemRead::Item {
                 ty,
                 next: after,
@@ -210,7 +211,7 @@ fn plan_arguments(
         });
     }
     if unclear != 0 {
-        return no_plan(plan_planning::unclear_fault(sig, unclear - 1));
+        return no_plan(sig_reader::unclear_fault(sig, unclear - 1));
     }
     plan_entries::write_table(places, kept, ENTRY * count);
     let result = result_words(convention, returned);
@@ -243,7 +244,7 @@ fn plan_part(
     ensures { λ p. ⌜ now (places .exit) ≡ overlayWhole (now (places .entry)) (rowsCalled convention ellipsis returned at (length (now (sig .entry))) (argumentsIn convention (now (sig .entry)) at end)) ⌝ }
 {
     if end - at <= FEW_BYTES {
-        let mut few = [0u16; 156];
+        let mut few = [0u16; ENTRY * FEW_ARGUMENTS];
         return plan_arguments(
             sig,
             convention,
@@ -256,7 +257,7 @@ fn plan_part(
             places,
         );
     }
-    let mut many = [0u16; 1664];
+    let mut many = [0u16; ENTRY * MAX_ARGUMENTS];
     plan_arguments(
         sig,
         convention,

@@ -69,7 +69,7 @@ fn one_left(next: usize, past: usize) -> usize
 }
 
 // What an argument takes: GPRs, FPRs or, where it has neither, a word of memory; the bytes of its copy.
-struct Taken {
+struct ZTaken {
     general: usize,
     floating: usize,
     copy: usize,
@@ -77,7 +77,7 @@ struct Taken {
     indirect: bool,
 }
 
-fn taken_of(c: Cursor, class: ZClass, size: usize) -> Taken
+fn taken_of(c: Cursor, class: ZClass, size: usize) -> ZTaken
     requires { ⌜ Roomy c × (size ≤ maxSize) ⌝ }
     ensures { λ a. ⌜ (zSpanOf c class size ≡ zSpan c (a .general) (a .floating) (bytes (a .copy) (a .length)) (a .indirect)) × (zNextOf c class size ≡ zNext c (a .general) (a .floating) (a .copy + a .length)) × (a .general + a .floating ≤ 1) × (a .copy + a .length ≤ 60300) ⌝ }
 {
@@ -87,7 +87,7 @@ fn taken_of(c: Cursor, class: ZClass, size: usize) -> Taken
     match class {
         ZClass::Float => {
             let f = one_left(floating, Z::PAST_FLOATING);
-            Taken {
+            ZTaken {
                 general: 0,
                 floating: f,
                 copy: copies,
@@ -97,7 +97,7 @@ fn taken_of(c: Cursor, class: ZClass, size: usize) -> Taken
         }
         ZClass::Simple => {
             let g = one_left(general, Z::PAST_GENERAL);
-            Taken {
+            ZTaken {
                 general: g,
                 floating: 0,
                 copy: copies,
@@ -107,7 +107,7 @@ fn taken_of(c: Cursor, class: ZClass, size: usize) -> Taken
         }
         ZClass::Reference => {
             let pointer = one_left(general, Z::PAST_GENERAL);
-            Taken {
+            ZTaken {
                 general: pointer,
                 floating: 0,
                 copy: (copies + 7) / 8 * 8,
@@ -127,7 +127,7 @@ fn stored(g: usize, f: usize) -> usize
 }
 
 // Floating registers count by two: only the even ones are used.
-fn next_of(c: Cursor, a: Taken) -> Cursor
+fn next_of(c: Cursor, a: ZTaken) -> Cursor
     requires { ⌜ Roomy c × (a .general + a .floating ≤ 1) × (a .copy + a .length ≤ 60300) ⌝ }
     ensures { λ r. ⌜ r ≡ zNext c (a .general) (a .floating) (a .copy + a .length) ⌝ }
 {
@@ -140,7 +140,7 @@ fn next_of(c: Cursor, a: Taken) -> Cursor
 }
 
 // The span and the next cursor, from what the argument takes.
-fn place(c: Cursor, a: Taken) -> Placed
+fn place(c: Cursor, a: ZTaken) -> Placed
     requires { ⌜ Roomy c × (a .general + a .floating ≤ 1) × (a .copy + a .length ≤ 60300) ⌝ }
     ensures { λ r. ⌜ r ≡ placedAs (zSpan c (a .general) (a .floating) (bytes (a .copy) (a .length)) (a .indirect)) (zNext c (a .general) (a .floating) (a .copy + a .length)) ⌝ }
 {

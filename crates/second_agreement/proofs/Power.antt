@@ -1,15 +1,16 @@
 -- PowerPC: registers laid over one structure are those that the first planner's cursor comes to. Proved once over the word width, the
 -- edition and the ellipsis. Assumes nothing.
-use mathlib.Core.Path.{_≡_, refl, sym, ap, ap₂, subst, _∙_}
+use mathlib.Core.Path.{_≡_, refl, sym, ap, ap₂, _∙_}
 use mathlib.Core.Bool.{Bool, true, false}
 use mathlib.Core.Logic.{_⊎_, inl, inr}
 use mathlib.Core.List.{List, [], _∷_, map}
-use Prim.Native.Nat.{ℕ, zero, suc, _+_, _-_, _*_, _/_, _≤_, _<_, min, max}
+use Prim.Native.Nat.{ℕ, zero, suc, _+_, _-_, _*_, _≤_, _<_, min, max}
 use native.Mathlib.Omega.{arith}
 use native.Mathlib.Nat.{mul-zero, mul-add, add-zero, div-le-of-le-mul}
 use borrow.Author.Tests.{lt-ltb, le-ltb, ltb-true, ltb-false}
 use lib.Dec.{ltb}
 use Rattle.base_words.specs.Basics.{pick}
+use Rattle.base_words.proofs.Basics.{same-ltb}
 use Rattle.base_conventions.specs.declared.Convention.{Convention}
 use Rattle.sig_types.specs.declared.FloatFormat.{FloatFormat}
 use Rattle.sig_types.specs.declared.ValueType.{ValueType}
@@ -21,18 +22,17 @@ use Rattle.plan_places.specs.declared.PowerRules.{PowerRules}
 use Rattle.plan_places.specs.declared.CallRules.{CallRules}
 use Rattle.plan_places.specs.declared.Cursor.{Cursor}
 use Rattle.plan_places.specs.declared.Share.{Share}
-use Rattle.plan_places.specs.declared.Span.{Span}
 use Rattle.plan_places.specs.Values.{share}
 use Rattle.plan_places.specs.Power.{words, fprs, shareOf, powerShare, powerSpan, unclear}
-use Rattle.plan_places.specs.Step.{power, spanOf, nextOf, fresh, hiddenFor, returning, resultOf, unclearFor}
-use Rattle.plan_places.proofs.Shares.{words-word, share-words, share-memory, share-float, share-both, share-none, share-marked}
-use Rattle.plan_places.proofs.Written.{same-covered, counted, shareAt, next-counted}
+use Rattle.plan_places.specs.Step.{power, spanOf, nextOf, freshCursor, hiddenFor, returning, resultOf, unclearFor}
+use Rattle.plan_places.proofs.Shares.{words-one, share-words, share-memory, share-float, share-both, share-none, share-marked}
+use Rattle.plan_places.proofs.Written.{same-covered, counted, next-counted}
 use Rattle.plan_plans.specs.Plan.{spansOf, lastOf}
 use Rattle.plan_plans.specs.Call.{firstUnclear}
 use Rattle.second_parameters.specs.declared.Run.{Run}
 use Rattle.second_parameters.specs.declared.Parameter.{Parameter}
 use Rattle.second_parameters.specs.declared.Returned.{Returned}
-use Rattle.second_parameters.specs.Values.{numbers, run, noRun}
+use Rattle.second_parameters.specs.Values.{numbers, runOf, noRun}
 use Rattle.second_structure.specs.Structure.{wordsIn, fieldsFrom, wordsTo, fieldBytes, overWords, overFloats, overNothing, floats, fprsFrom, laidOver, registersOver, straddles, firstStraddling, powerReturned}
 use Rattle.second_structure.proofs.Laws.{words-counted, laid-words, laid-nothing, laid-open, laid-floats, laid-both, straddles-not}
 use Rattle.second_agreement.specs.Agreement.{parameterOf, returnedOf}
@@ -96,37 +96,37 @@ excess-first : (n j : ℕ) → 0 < j + n - max j 8 → max j 8 ≡ j + min n (8 
 excess-first n j h = omega arith
 
 -- n words, of which the first eight of all have a GPR, and k FPRs beside them
-words-agree : (w j m n k : ℕ) (f : Run) → f ≡ run (1 + min m 13) k
+words-agree : (w j m n k : ℕ) (f : Run) → f ≡ runOf (1 + min m 13) k
     → overWords w f (numbers j n) ≡ parameterOf (powerSpan w (at w j m) n (share (min n (8 - j)) k (n - min n (8 - j))))
-unfolding overWords parameterOf run
+unfolding overWords parameterOf runOf
 words-agree w j m n k f e =
     ap₂ (λ (g s : Run). record { general = g; floating = f; field = fieldBytes w (numbers j n); memory = s; copy = noRun; reference = false }) general memory
-    ∙ ap (λ (h : Run). record { general = run (3 + min j 8) c; floating = h; field = fieldBytes w (numbers j n); memory = run (w * j + w * (n - (n - c))) (w * (n - c)); copy = noRun; reference = false }) e
+    ∙ ap (λ (h : Run). record { general = runOf (3 + min j 8) c; floating = h; field = fieldBytes w (numbers j n); memory = runOf (w * j + w * (n - (n - c))) (w * (n - c)); copy = noRun; reference = false }) e
   where
     c : ℕ
     c = min n (8 - j)
 
-    general : run (3 + j) (min (j + n) 8 - j) ≡ run (3 + min j 8) c
+    general : runOf (3 + j) (min (j + n) 8 - j) ≡ runOf (3 + min j 8) c
     general = run-same (3 + j) (3 + min j 8) (min (j + n) 8 - j) c (covered n j) (covered-first n j)
 
-    memory : run (w * max j 8) (w * (j + n - max j 8)) ≡ run (w * j + w * (n - (n - c))) (w * (n - c))
+    memory : runOf (w * max j 8) (w * (j + n - max j 8)) ≡ runOf (w * j + w * (n - (n - c))) (w * (n - c))
     memory =
         rw (back n c (omega arith))
         (run-scaled w (w * max j 8) (w * j + w * c) (j + n - max j 8) (n - c) (excess n j) (λ h. ap (λ (x : ℕ). w * x) (excess-first n j h) ∙ mul-add w j c))
 
-no-fprs : (m : ℕ) → noRun ≡ run (1 + min m 13) 0
-unfolding run
+no-fprs : (m : ℕ) → noRun ≡ runOf (1 + min m 13) 0
+unfolding runOf
 no-fprs m = refl
 
-all-fprs : (m k : ℕ) → m + k ≤ 13 → 0 < k → fprsFrom m k ≡ run (1 + min m 13) k
-all-fprs m k h z = let low : m ≡ min m 13 = omega arith in ap (λ (x : ℕ). run (1 + x) k) low
+all-fprs : (m k : ℕ) → m + k ≤ 13 → 0 < k → fprsFrom m k ≡ runOf (1 + min m 13) k
+all-fprs m k h z = let low : m ≡ min m 13 = omega arith in ap (λ (x : ℕ). runOf (1 + x) k) low
 
 floats-agree : (w j m n k : ℕ) → m + k ≤ 13 → overFloats w (fprsFrom m k) (numbers j n) ≡ parameterOf (powerSpan w (at w j m) n (share 0 k 0))
-unfolding overFloats parameterOf run
+unfolding overFloats parameterOf runOf
 floats-agree w j m n k h = let low : min m 13 ≡ m = omega arith in rw (low, mul-zero w)
 
 nothing-agree : (w j m n : ℕ) → overNothing w (numbers j n) ≡ parameterOf (powerSpan w (at w j m) n (share 0 0 n))
-unfolding overNothing parameterOf run
+unfolding overNothing parameterOf runOf
 nothing-agree w j m n = let none : n - n ≡ 0 = omega arith in rw (none, mul-zero w, add-zero (w * j))
 
 abbrev shareHere : Bool → ℕ → ℕ → ℕ → ℕ → Share
@@ -165,21 +165,13 @@ used-plain (suc k) j m n (inr h) =
 used : (v : Bool) (k j m n : ℕ) → Whole k m → 1 + min m 13 + shareHere v k j m n .floating ≡ 1 + min (m + k) 13
 used v k j m n h = ap (λ (x : ℕ). 1 + min m 13 + x) (share-marked v k (14 - (1 + min m 13)) n (min n (8 - j))) ∙ used-plain k j m n h
 
--- some FPRs are left, but fewer than k: in both counts
-same-test : (a b c d : ℕ) → (c < d → a < b) → (d ≤ c → b ≤ a) → ltb a b ≡ ltb c d
-same-test a b c d h l = go (ltb c d) refl
-  where
-    go : (x : Bool) → ltb c d ≡ x → ltb a b ≡ x
-    go true q = lt-ltb a b (h (ltb-true c d q))
-    go false q = le-ltb a b (l (ltb-false c d q))
-
 straddles-same : (k m : ℕ) → pick (ltb 0 (14 - (1 + min m 13))) (ltb (14 - (1 + min m 13)) k) false ≡ straddles m k
 straddles-same k m = go (ltb m 13) refl
   where
     go : (b : Bool) → ltb m 13 ≡ b → pick (ltb 0 (14 - (1 + min m 13))) (ltb (14 - (1 + min m 13)) k) false ≡ pick b (ltb 13 (m + k)) false
     go true q =
         let h : m < 13 = ltb-true m 13 q in
-        rw (lt-ltb 0 (14 - (1 + min m 13)) (omega arith)) (same-test (14 - (1 + min m 13)) k 13 (m + k) (λ l. omega arith) (λ l. omega arith))
+        rw (lt-ltb 0 (14 - (1 + min m 13)) (omega arith)) (same-ltb (14 - (1 + min m 13)) k 13 (m + k) (λ l. omega arith) (λ l. omega arith))
     go false q = let h : 13 ≤ m = ltb-false m 13 q in rw (le-ltb 0 (14 - (1 + min m 13)) (omega arith))
 
 -- the FPRs that were asked for in the end
@@ -252,12 +244,12 @@ few-words w n h s = div-le-of-le-mul w (omega arith)
 
 -- "FPR1 (or FPR1 and FPR2 for long double values)", "GPR3", and for a struct the address in GPR3
 pub result-agrees : (c : Convention) (w : ℕ) (e : Edition) (t : ValueType) → 0 < w → powerReturned c w (ResultType.Value t) ≡ returnedOf (resultOf (power w e) t (sizeOf c t))
-unfolding resultOf returnedOf hiddenFor returning fresh spanOf powerShare shareOf fprs words
+unfolding resultOf returnedOf hiddenFor returning freshCursor spanOf powerShare shareOf fprs words
 result-agrees c w e (ValueType.Integer k) h =
     let n : ℕ = words w (sizeOf c (ValueType.Integer k)) in
     let few : n ≡ min n 8 = omega (arith, few-words w (sizeOf c (ValueType.Integer k)) h (integer-most c k .1)) in
-    ap (λ (x : ℕ). Returned.General (run 3 x)) (words-counted w (sizeOf c (ValueType.Integer k)) h ∙ few)
+    ap (λ (x : ℕ). Returned.General (runOf 3 x)) (words-counted w (sizeOf c (ValueType.Integer k)) h ∙ few)
 result-agrees c w e (ValueType.Float FloatFormat.Single) h = refl
 result-agrees c w e (ValueType.Float FloatFormat.Double) h = refl
 result-agrees c w e (ValueType.Float FloatFormat.LongDouble) h = refl
-result-agrees c w e (ValueType.Struct s) h = rw (words-word w h)
+result-agrees c w e (ValueType.Struct s) h = rw (words-one w w h (omega arith))

@@ -12,16 +12,14 @@ use Rattle.sig_types.specs.declared.FloatFormat.{FloatFormat}
 use Rattle.sig_types.specs.declared.ValueType.{ValueType}
 use Rattle.sig_types.specs.Sizes.{sizeOf}
 use Rattle.sig_items.specs.declared.Fault.{Fault}
-use Rattle.sig_items.specs.declared.Refusal.{Refusal}
-use Rattle.sig_items.specs.Reading.{Reading, fault, got, no}
+use Rattle.sig_items.specs.Reading.{Reading, got, no}
 use Rattle.sig_signatures.specs.declared.ResultType.{ResultType}
 use Rattle.sig_signatures.specs.Signature.{Signature}
 use Rattle.sig_signatures.specs.Limits.{maxArguments}
 use Rattle.sig_signatures.specs.Read.{signatureOf}
 use Rattle.sig_signatures.specs.Answer.{resultType}
 use Rattle.sig_signatures.specs.Types.{typesOf}
-use Rattle.sig_reader.specs.declared.ArgumentRead.{ArgumentRead}
-use Rattle.sig_reader.specs.Argument.{argumentOf}
+use Rattle.sig_reader.specs.Argument.{unclearFault}
 use Rattle.plan_places.specs.declared.Cursor.{Cursor}
 use Rattle.plan_places.specs.declared.PowerRules.{PowerRules}
 use Rattle.plan_places.specs.declared.Edition.{Edition}
@@ -32,16 +30,16 @@ use Rattle.plan_places.specs.Helpers.{alwaysClear}
 use Rattle.plan_places.proofs.Written.{counted, start-written, hidden-written, area-written, z-start-written, z-hidden-written, z-area-written}
 use Rattle.plan_plans.specs.declared.Plan.{Plan}
 use Rattle.plan_plans.specs.Plan.{spansOf, lastOf, noSpan, tableOf, hiddenIn, resultPlacesIn, startIn, lastCursorIn, planIn, refusedPlan, planAnswer}
-use Rattle.plan_plans.specs.Call.{firstUnclear, unclearIn, itemIn, unclearFault, clearRead, called}
+use Rattle.plan_plans.specs.Call.{firstUnclear, unclearIn, clearRead, called}
 use Rattle.plan_plans.proofs.Calls.{none-unclear}
 use Rattle.plan_plans.proofs.Apart.{in-table}
 use Rattle.second_parameters.specs.declared.Parameter.{Parameter}
 use Rattle.second_planner.specs.declared.SecondPlan.{SecondPlan}
-use Rattle.second_parameters.specs.Values.{run, noParameter, tableWith}
-use Rattle.second_structure.specs.Structure.{fieldsFrom, wordsTo, areaBytes, registersOver, firstWord, firstStraddling, powerHidden, powerReturned}
+use Rattle.second_parameters.specs.Values.{runOf, noParameter, tableWith}
+use Rattle.second_structure.specs.Structure.{fieldsFrom, wordsTo, areaBytes, registersOver, hiddenWords, firstStraddling, powerHidden, powerReturned}
 use Rattle.second_slot_scan.specs.Slots.{initial, slotsFrom, scannedTo, zHidden, zReturned}
-use Rattle.second_planner.specs.Answer.{powerParameters, powerPlan, zPlan, secondIn, noPlan, straddlingIn, headerOf, straddlingFault, unlessStraddling, secondAnswer}
-use Rattle.second_agreement.specs.Agreement.{parameterOf, returnedOf, Agree, PlannersAgree}
+use Rattle.second_planner.specs.Answer.{powerParameters, powerPlan, zPlan, secondIn, noPlan, straddlingIn, unlessStraddling, secondAnswer}
+use Rattle.second_agreement.specs.Agreement.{parameterOf, returnedOf, PlansAgree, PlannersAgree}
 use Rattle.second_agreement.proofs.Power as powerpc
 use Rattle.second_agreement.proofs.Power.{paired, at, AllWhole, none-straddling, askedTo}
 use Rattle.second_agreement.proofs.ZSeries as zseries
@@ -50,7 +48,7 @@ use Rattle.second_agreement.proofs.ZSeries.{cursorOf, Even}
 -- ---- the tables
 
 getD-map : (l : List Span) (i : ℕ) → getD (map parameterOf l) i noParameter ≡ parameterOf (getD l i noSpan)
-unfolding parameterOf run
+unfolding parameterOf runOf
 getD-map [] i = refl
 getD-map (s ∷ l) zero = refl
 getD-map (s ∷ l) (suc i) = getD-map l i
@@ -76,11 +74,11 @@ module _ (w : ℕ) (e : Edition) (positive : 0 < w) (c : Convention) (same : rul
   abbrev rulesFor : Bool → PowerRules
   rulesFor v = record { word = w; edition = e; ellipsis = v }
 
-  begins : (hidden : Bool) → startOf (power w e) hidden ≡ at w (firstWord hidden) 0
+  begins : (hidden : Bool) → startOf (power w e) hidden ≡ at w (hiddenWords hidden) 0
   begins true = hidden-written (rulesFor false) positive
   begins false = start-written (rulesFor false)
 
-  start-agrees : (r : ResultType) → startIn c r ≡ at w (firstWord (powerHidden r)) 0
+  start-agrees : (r : ResultType) → startIn c r ≡ at w (hiddenWords (powerHidden r)) 0
   start-agrees r = ap₂ startOf same (hidden-agrees r) ∙ begins (powerHidden r)
 
   result-agrees : (r : ResultType) → powerReturned c w r ≡ returnedOf (resultPlacesIn c r)
@@ -93,14 +91,14 @@ module _ (w : ℕ) (e : Edition) (positive : 0 < w) (c : Convention) (same : rul
   marked v = ap (withEllipsis v) same
 
   -- the cursor past the last argument, by the convention's own rules
-  end-agrees : (r : ResultType) (ts : List ValueType) → lastCursorIn c r ts ≡ lastOf c (power w e) (at w (firstWord (powerHidden r)) 0) ts
+  end-agrees : (r : ResultType) (ts : List ValueType) → lastCursorIn c r ts ≡ lastOf c (power w e) (at w (hiddenWords (powerHidden r)) 0) ts
   end-agrees r ts = ap₂ (λ (u : CallRules) (k : Cursor). lastOf c u k ts) same (start-agrees r)
 
   area-agrees : (r : ResultType) (ts : List ValueType) → AllWhole (paired e) 0 ts
-      → areaBytes w (wordsTo c w (firstWord (powerHidden r)) ts) ≡ areaOf c (lastCursorIn c r ts)
+      → areaBytes w (wordsTo c w (hiddenWords (powerHidden r)) ts) ≡ areaOf c (lastCursorIn c r ts)
   unfolding areaBytes
   area-agrees r ts h =
-      let j : ℕ = firstWord (powerHidden r) in
+      let j : ℕ = hiddenWords (powerHidden r) in
       let n : ℕ = wordsTo c w j ts in
       let m : ℕ = 1 + min (askedTo (paired e) 0 ts) 13 in
       let swapped : max n 8 ≡ max 8 n = omega arith in
@@ -110,10 +108,10 @@ module _ (w : ℕ) (e : Edition) (positive : 0 < w) (c : Convention) (same : rul
       ∙ sym (ap (areaOf c) (end-agrees r ts ∙ powerpc.last-agrees (rulesFor false) positive c j 0 ts h))
 
   pub power-agrees : (n : ℕ) (v : Bool) (r : ResultType) (ts : List ValueType) → AllWhole (paired e) 0 ts
-      → Agree (planIn n c v r ts) (powerPlan v (paired e) w n c r ts)
+      → PlansAgree (planIn n c v r ts) (powerPlan v (paired e) w n c r ts)
   unfolding planIn powerPlan powerParameters
   power-agrees n v r ts h =
-      let j : ℕ = firstWord (powerHidden r) in
+      let j : ℕ = hiddenWords (powerHidden r) in
       record {
         outcome = refl;
         convention = refl;
@@ -133,7 +131,7 @@ module _ (w : ℕ) (e : Edition) (positive : 0 < w) (c : Convention) (same : rul
   pub unclear-agrees : (r : ResultType) (ts : List ValueType) → firstUnclear c (rulesOf c) (startIn c r) 0 ts ≡ firstStraddling (paired e) 0 0 ts
   unclear-agrees r ts =
       ap₂ (λ (u : CallRules) (k : Cursor). firstUnclear c u k 0 ts) same (start-agrees r)
-      ∙ powerpc.unclear-agrees (rulesFor false) positive c (firstWord (powerHidden r)) 0 0 ts
+      ∙ powerpc.unclear-agrees (rulesFor false) positive c (hiddenWords (powerHidden r)) 0 0 ts
 
 -- ---- Z
 
@@ -163,7 +161,7 @@ unfolding returnedOf
 z-result ResultType.Nothing = refl
 z-result (ResultType.Value t) = zseries.result-agrees Convention.Z t
 
-z-agrees : (n : ℕ) (v : Bool) (r : ResultType) (ts : List ValueType) → Agree (planIn n Convention.Z v r ts) (zPlan v n Convention.Z r ts)
+z-agrees : (n : ℕ) (v : Bool) (r : ResultType) (ts : List ValueType) → PlansAgree (planIn n Convention.Z v r ts) (zPlan v n Convention.Z r ts)
 unfolding planIn zPlan withEllipsis
 z-agrees n v r ts =
     let s = initial (zHidden r) in
@@ -195,19 +193,19 @@ unclear-agree Convention.Z r ts = z-clear (startIn Convention.Z r) 0 ts
 unclear-agree Convention.Aix r ts = unclear-agrees 4 Edition.Earlier (omega arith) Convention.Aix refl refl refl r ts
 unclear-agree Convention.Ppc64b r ts = unclear-agrees 8 Edition.Later (omega arith) Convention.Ppc64b refl refl refl r ts
 
-accepted-agree : (n : ℕ) (c : Convention) (v : Bool) (r : ResultType) (ts : List ValueType) → straddlingIn c ts ≡ 0 → Agree (planIn n c v r ts) (secondIn n c v r ts)
+accepted-agree : (n : ℕ) (c : Convention) (v : Bool) (r : ResultType) (ts : List ValueType) → straddlingIn c ts ≡ 0 → PlansAgree (planIn n c v r ts) (secondIn n c v r ts)
 accepted-agree n Convention.Ppc64 v r ts z = power-agrees 8 Edition.Earlier (omega arith) Convention.Ppc64 refl refl refl n v r ts (none-straddling false 0 0 ts z)
 accepted-agree n Convention.Z v r ts z = z-agrees n v r ts
 accepted-agree n Convention.Aix v r ts z = power-agrees 4 Edition.Earlier (omega arith) Convention.Aix refl refl refl n v r ts (none-straddling false 0 0 ts z)
 accepted-agree n Convention.Ppc64b v r ts z = power-agrees 8 Edition.Later (omega arith) Convention.Ppc64b refl refl refl n v r ts (none-straddling true 0 0 ts z)
 
 none-agree : (n i : ℕ) → getD (replicate n noParameter) i noParameter ≡ parameterOf (getD (replicate n noSpan) i noSpan)
-unfolding parameterOf run
+unfolding parameterOf runOf
 none-agree zero i = refl
 none-agree (suc n) zero = refl
 none-agree (suc n) (suc i) = none-agree n i
 
-refused-agree : (f : Fault) → Agree (refusedPlan f) (noPlan f)
+refused-agree : (f : Fault) → PlansAgree (refusedPlan f) (noPlan f)
 unfolding returnedOf
 refused-agree f = record {
   outcome = refl;
@@ -221,17 +219,7 @@ refused-agree f = record {
   result = refl;
 }
 
--- the place of 29 is where the reader finds the argument
-same-header : (a : ArgumentRead) → headerOf a ≡ itemIn a
-same-header (ArgumentRead.Argument t place) = refl
-same-header ArgumentRead.Missing = refl
-same-header (ArgumentRead.Refused f) = refl
-
-same-fault : (i k : ℕ) (x : Reading Signature) → i ≡ k → unclearFault i x ≡ straddlingFault k x
-same-fault i k x e =
-    ap (λ (m : ℕ). fault Refusal.UnclearPlace m 0) (ap (λ (m : ℕ). itemIn (argumentOf m x)) e ∙ sym (same-header (argumentOf k x)))
-
-readings-agree : (x : Reading Signature) → Agree (planAnswer (called x)) (secondAnswer x)
+readings-agree : (x : Reading Signature) → PlansAgree (planAnswer (called x)) (secondAnswer x)
 unfolding called secondAnswer planAnswer unlessStraddling
 readings-agree (got g next n) =
     let c : Convention = g .convention in
@@ -242,12 +230,13 @@ readings-agree (got g next n) =
     second : SecondPlan
     second = secondIn n (g .convention) (g .ellipsis) (resultType (g .convention) (g .result)) (typesOf (g .convention) (g .arguments))
 
-    go : (u v : ℕ) → u ≡ v → (v ≡ 0 → Agree (planAnswer (got g next n)) second) → Agree (planAnswer (clearRead u g next n)) (unlessStraddling v (got g next n) second)
+    go : (u v : ℕ) → u ≡ v → (v ≡ 0 → PlansAgree (planAnswer (got g next n)) second) → PlansAgree (planAnswer (clearRead u g next n)) (unlessStraddling v (got g next n) second)
     go zero zero e h = h refl
     go zero (suc k) e h = absurd (omega arith)
     go (suc i) zero e h = absurd (omega arith)
     go (suc i) (suc k) e h =
-        subst (λ (f : Fault). Agree (refusedPlan (unclearFault i (got g next n))) (noPlan f)) (same-fault i k (got g next n) (omega arith)) (refused-agree (unclearFault i (got g next n)))
+        let same : i ≡ k = omega arith in
+        subst (λ (m : ℕ). PlansAgree (refusedPlan (unclearFault i (got g next n))) (noPlan (unclearFault m (got g next n)))) same (refused-agree (unclearFault i (got g next n)))
 readings-agree (no f) = refused-agree f
 
 pub planners-agree : PlannersAgree

@@ -20,13 +20,13 @@ use Rattle.plan_places.specs.declared.CallRules.{CallRules}
 use Rattle.plan_places.specs.declared.ZClass.{ZClass}
 use Rattle.plan_places.specs.Values.{cursor}
 use Rattle.plan_places.specs.ZSeries.{bySize, zClass, zSpanOf, zNextOf}
-use Rattle.plan_places.specs.Step.{spanOf, nextOf, fresh, startOf, hiddenFor, returning, resultOf}
+use Rattle.plan_places.specs.Step.{spanOf, nextOf, freshCursor, startOf, hiddenFor, returning, resultOf}
 use Rattle.plan_plans.specs.Plan.{spansOf, lastOf}
 use Rattle.second_parameters.specs.declared.Parameter.{Parameter}
 use Rattle.second_slot_scan.specs.declared.Scan.{Scan}
-use Rattle.second_slot_scan.specs.declared.Slot.{Slot}
+use Rattle.second_slot_scan.specs.declared.ScannedSlot.{ScannedSlot}
 use Rattle.second_slot_scan.specs.declared.Copied.{Copied}
-use Rattle.second_parameters.specs.Values.{run}
+use Rattle.second_parameters.specs.Values.{runOf}
 use Rattle.second_slot_scan.specs.Slots.{initial, doubleOrFloat, otherSize, copied, copyAt, inFloating, inGeneral, inOther, slotBy, slotOf, slotsFrom, scannedTo, zReturned}
 use Rattle.second_agreement.specs.Agreement.{parameterOf, returnedOf}
 
@@ -77,7 +77,7 @@ cursorOf s = cursor (s .gr) (s .fr) (s .starg) (s .copies)
 abbrev pub Even : Scan → Type 0
 Even s = s .fr % 2 ≡ 0
 
-pub record Same (p : Slot) (c : Cursor) (k : ZClass) (n : ℕ) : Type 0 where
+pub record Same (p : ScannedSlot) (c : Cursor) (k : ZClass) (n : ℕ) : Type 0 where
   pub parameter : p .parameter ≡ parameterOf (zSpanOf c k n)
   pub next : cursorOf (p .next) ≡ zNextOf c k n
   pub even : Even (p .next)
@@ -93,7 +93,7 @@ even-past : (n : ℕ) → n % 2 ≡ 0 → 6 < n → 8 ≤ n
 even-past n h l = omega arith
 
 slot-agrees : (s : Scan) (k : ZClass) (n : ℕ) → Even s → Same (slotBy (isFloat k) s (copyAt (isCopied k) (s .copies) n)) (cursorOf s) k n
-unfolding slotBy zSpanOf zNextOf parameterOf run
+unfolding slotBy zSpanOf zNextOf parameterOf runOf
 slot-agrees s ZClass.Float n h = go (ltb 6 (s .fr)) refl
   where
     go : (b : Bool) → ltb 6 (s .fr) ≡ b → Same (pick b (inOther s (copyAt false (s .copies) n)) (inFloating s (copyAt false (s .copies) n))) (cursorOf s) ZClass.Float n
@@ -146,7 +146,7 @@ scan-agrees c s (t ∷ ts) h =
 -- ---- the result
 
 pub result-agrees : (c : Convention) (t : ValueType) → zReturned (ResultType.Value t) ≡ returnedOf (resultOf CallRules.Z t (sizeOf c t))
-unfolding resultOf returnedOf hiddenFor returning fresh spanOf zClass zSpanOf
+unfolding resultOf returnedOf hiddenFor returning freshCursor spanOf zClass zSpanOf
 result-agrees c (ValueType.Integer k) = refl
 result-agrees c (ValueType.Float FloatFormat.Single) = refl
 result-agrees c (ValueType.Float FloatFormat.Double) = refl

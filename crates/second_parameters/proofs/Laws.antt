@@ -7,17 +7,17 @@ use Rattle.sig_types.specs.declared.ValueType.{ValueType}
 use Rattle.sig_types.specs.Sizes.{sizeOf}
 use Rattle.sig_signatures.specs.declared.ResultType.{ResultType}
 use Rattle.sig_signatures.specs.Helpers.{SmallResult}
-use Rattle.second_parameters.specs.Values.{numbers, run, noRun}
+use Rattle.second_parameters.specs.Values.{numbers, runOf, noRun}
 
 -- ---- runs
 
-pub run-none : (a n : ℕ) → n ≡ 0 → noRun ≡ run a n
-unfolding run
+pub run-none : (a n : ℕ) → n ≡ 0 → noRun ≡ runOf a n
+unfolding runOf
 run-none a zero h = refl
 run-none a (suc n) h = absurd (omega arith)
 
-pub run-some : (a n : ℕ) → (n ≡ 0 → ⊥) → numbers a n ≡ run a n
-unfolding run
+pub run-some : (a n : ℕ) → (n ≡ 0 → ⊥) → numbers a n ≡ runOf a n
+unfolding runOf
 run-some a zero h = absurd (h refl)
 run-some a (suc n) h = refl
 

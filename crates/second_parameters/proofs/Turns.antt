@@ -1,10 +1,10 @@
--- A turn of a loop over the arguments: what is in the table so far and what is left make up the whole list. Assumes nothing.
-use mathlib.Core.Path.{_≡_, refl, sym, ap, _∙_}
-use mathlib.Core.List.{List, [], _∷_, _++_, append-assoc, append-nil}
-use Prim.Native.Nat.{ℕ, suc, _+_, _-_, _≤_, _<_}
+-- A turn of a loop over the arguments: the argument that it is at, and the table at the end. Assumes nothing.
+use mathlib.Core.Path.{_≡_}
+use mathlib.Core.List.{List, [], _∷_}
+use Prim.Native.Nat.{ℕ, suc, _-_, _≤_, _<_}
 use native.Mathlib.Omega.{arith}
-use lib.ListN.{length, set, drop, replicate, length-append, drop-of-length-le}
-use lib.Seq.{set-at}
+use lib.ListN.{length, drop, drop-of-length-le}
+use Rattle.base_words.proofs.Tables.{Table, table-end}
 use Rattle.sig_types.specs.Sizes.{sizeOf}
 use Rattle.sig_signatures.specs.Limits.{maxArguments}
 use Rattle.sig_signatures.specs.declared.SignatureRead.{SignatureRead}
@@ -13,37 +13,11 @@ use Rattle.sig_signatures.specs.Helpers.{typeAt, Plannable}
 use Rattle.sig_signatures.proofs.Types.{length-types, types-drop}
 use Rattle.second_parameters.specs.Values.{tableWith}
 
--- ---- a table that is filled from its start
+-- ---- the table that a loop has filled
 
--- the first i places of ss are filled, and `rest` is left of the whole list; each place after them holds x
-pub record Table {A : Type 0} (x : A) (ss rest whole : List A) (i : ℕ) : Type 0 where
-  pub done : List A
-  pub many : length done ≡ i
-  pub array : ss ≡ done ++ replicate (maxArguments - i) x
-  pub joined : done ++ rest ≡ whole
-
-pub table-start : {A : Type 0} (x : A) (whole : List A) → Table x (replicate maxArguments x) whole whole 0
-table-start x whole = record { done = []; many = refl; array = refl; joined = refl }
-
-pub table-more : {A : Type 0} (x y : A) (ss rest whole : List A) (i : ℕ) → i < maxArguments → Table x ss (y ∷ rest) whole i → Table x (set ss i y) rest whole (i + 1)
-table-more {A} x y ss rest whole i h g =
-    let blank : maxArguments - i ≡ suc (maxArguments - (i + 1)) = omega arith in
-    record {
-      done = g .done ++ y ∷ [];
-      many = simp length-append (omega (arith, g .many));
-      array =
-          ap (λ (l : List A). set l i y) (g .array)
-          ∙ rw blank (set-at (g .done) x (replicate (maxArguments - (i + 1)) x) y i (g .many))
-          ∙ sym (append-assoc (g .done) (y ∷ []) (replicate (maxArguments - (i + 1)) x));
-      joined = append-assoc (g .done) (y ∷ []) rest ∙ g .joined;
-    }
-
-pub table-end : {A : Type 0} (x : A) (ss whole : List A) (i : ℕ) → Table x ss [] whole i → ss ≡ tableWith x whole
+pub table-whole : {A : Type 0} (x : A) (ss whole : List A) (i : ℕ) → Table maxArguments x ss [] whole i → ss ≡ tableWith x whole
 unfolding tableWith
-table-end {A} x ss whole i g =
-    let same : g .done ≡ whole = sym (append-nil (g .done)) ∙ g .joined in
-    let many : length whole ≡ i = ap length (sym same) ∙ g .many in
-    g .array ∙ rw (same, many)
+table-whole x ss whole i g = table-end maxArguments x ss whole i g
 
 -- ---- the argument of a turn
 

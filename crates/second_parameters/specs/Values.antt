@@ -11,9 +11,9 @@ abbrev pub numbers : ℕ → ℕ → Run
 numbers first n = record { first = first; count = n }
 
 -- n numbers from `first` on; of none, 0 stands for the first
-unfoldable pub run : ℕ → ℕ → Run
-run first zero = numbers 0 0
-run first (suc n) = numbers first (suc n)
+unfoldable pub runOf : ℕ → ℕ → Run
+runOf first zero = numbers 0 0
+runOf first (suc n) = numbers first (suc n)
 
 abbrev pub noRun : Run
 noRun = numbers 0 0

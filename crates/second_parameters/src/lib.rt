@@ -3,7 +3,7 @@ use sig_signatures::MAX_ARGUMENTS;
 ghost use mathlib.Core.Path.{_≡_};
 ghost use lib.ListN.{replicate};
 ghost use Rattle.sig_signatures.specs.Limits.{maxArguments};
-ghost use Rattle.second_parameters.specs.Values.{run, noRun, noParameter};
+ghost use Rattle.second_parameters.specs.Values.{runOf, noRun, noParameter};
 
 // Numbers one after the other: registers, words or bytes. Of none, 0 stands for the first.
 pub struct Run {
@@ -31,7 +31,7 @@ pub enum Returned {
 }
 
 pub fn run_of(first: usize, count: usize) -> Run
-    ensures { λ r. ⌜ r ≡ run first count ⌝ }
+    ensures { λ r. ⌜ r ≡ runOf first count ⌝ }
 {
     if count == 0 {
         return Run { first: 0, count: 0 };

@@ -12,8 +12,9 @@ use Rattle.sig_signatures.specs.Signature.{Signature}
 use Rattle.sig_signatures.specs.Answer.{resultType, signatureAnswer}
 use Rattle.sig_signatures.specs.Types.{typesIn}
 use Rattle.sig_signatures.proofs.Types.{table-types}
+use Rattle.sig_reader.specs.Argument.{unclearFault}
 use Rattle.second_planner.specs.declared.SecondPlan.{SecondPlan}
-use Rattle.second_planner.specs.Answer.{secondIn, noPlan, straddlingIn, straddlingFault, unlessStraddling, secondAnswer}
+use Rattle.second_planner.specs.Answer.{secondIn, noPlan, straddlingIn, unlessStraddling, secondAnswer}
 
 -- the second plan by the reader's answer g on x
 abbrev secondAs : Outcome → SignatureRead → Reading Signature → SecondPlan
@@ -44,7 +45,7 @@ answer-clear x g n e q z =
     sym (ap (λ (u : ℕ). unlessStraddling u x p) z) ∙ by-answer x g (Outcome.Accepted n) e q
 
 pub answer-straddling : (x : Reading Signature) (g : SignatureRead) (n i : ℕ) → g ≡ signatureAnswer x → g .outcome ≡ Outcome.Accepted n
-    → straddlingIn (g .convention) (typesIn g) ≡ suc i → noPlan (straddlingFault i x) ≡ secondAnswer x
+    → straddlingIn (g .convention) (typesIn g) ≡ suc i → noPlan (unclearFault i x) ≡ secondAnswer x
 unfolding unlessStraddling
 answer-straddling x g n i e q z =
     let p : SecondPlan = secondIn n (g .convention) (g .ellipsis) (g .result) (typesIn g) in

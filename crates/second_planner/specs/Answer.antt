@@ -6,21 +6,19 @@ use mathlib.Core.List.{List}
 use lib.ListN.{length, replicate}
 use Rattle.base_conventions.specs.declared.Convention.{Convention}
 use Rattle.sig_types.specs.declared.ValueType.{ValueType}
-use Rattle.sig_items.specs.declared.Refusal.{Refusal}
 use Rattle.sig_items.specs.declared.Fault.{Fault}
-use Rattle.sig_items.specs.Reading.{Reading, fault, got, no}
+use Rattle.sig_items.specs.Reading.{Reading, got, no}
 use Rattle.sig_signatures.specs.declared.Outcome.{Outcome}
 use Rattle.sig_signatures.specs.declared.ResultType.{ResultType}
 use Rattle.sig_signatures.specs.Signature.{Signature}
 use Rattle.sig_signatures.specs.Limits.{maxArguments}
 use Rattle.sig_signatures.specs.Answer.{resultType}
 use Rattle.sig_signatures.specs.Types.{typesOf, valuesOf}
-use Rattle.sig_reader.specs.declared.ArgumentRead.{ArgumentRead}
-use Rattle.sig_reader.specs.Argument.{argumentOf}
+use Rattle.sig_reader.specs.Argument.{unclearFault}
 use Rattle.second_parameters.specs.declared.Parameter.{Parameter}
 use Rattle.second_parameters.specs.declared.Returned.{Returned}
 use Rattle.second_parameters.specs.Values.{noParameter, tableWith}
-use Rattle.second_structure.specs.Structure.{fieldsFrom, wordsTo, firstWord, areaBytes, registersOver, firstStraddling, powerHidden, powerReturned}
+use Rattle.second_structure.specs.Structure.{fieldsFrom, wordsTo, hiddenWords, areaBytes, registersOver, firstStraddling, powerHidden, powerReturned}
 use Rattle.second_slot_scan.specs.Slots.{initial, slotsFrom, scannedTo, zHidden, zReturned}
 use Rattle.second_planner.specs.declared.SecondPlan.{SecondPlan}
 
@@ -28,7 +26,7 @@ use Rattle.second_planner.specs.declared.SecondPlan.{SecondPlan}
 
 -- PowerPC: registers over the structure of all parameters
 unfoldable pub powerParameters : Bool → Bool → ℕ → Convention → ResultType → List ValueType → List Parameter
-powerParameters ellipsis paired w c r ts = registersOver ellipsis paired w 0 ts (fieldsFrom c w (firstWord (powerHidden r)) ts)
+powerParameters ellipsis paired w c r ts = registersOver ellipsis paired w 0 ts (fieldsFrom c w (hiddenWords (powerHidden r)) ts)
 
 unfoldable pub powerPlan : Bool → Bool → ℕ → ℕ → Convention → ResultType → List ValueType → SecondPlan
 powerPlan ellipsis paired w n c r ts = record {
@@ -37,7 +35,7 @@ powerPlan ellipsis paired w n c r ts = record {
   ellipsis = ellipsis;
   result = powerReturned c w r;
   count = length ts;
-  area = areaBytes w (wordsTo c w (firstWord (powerHidden r)) ts);
+  area = areaBytes w (wordsTo c w (hiddenWords (powerHidden r)) ts);
   values = valuesOf c ts;
   copies = 0;
   parameters = tableWith noParameter (powerParameters ellipsis paired w c r ts);
@@ -87,19 +85,10 @@ straddlingIn Convention.Z ts = 0
 straddlingIn Convention.Aix ts = firstStraddling false 0 0 ts
 straddlingIn Convention.Ppc64b ts = firstStraddling true 0 0 ts
 
--- "at that argument's header", which is where the reader finds it
-abbrev pub headerOf : ArgumentRead → ℕ
-headerOf (ArgumentRead.Argument t place) = place
-headerOf ArgumentRead.Missing = 0
-headerOf (ArgumentRead.Refused f) = 0
-
--- 02, No. 12: "give new refusal 29 at that argument's header, after reading": of argument number i, counted from 0
-abbrev pub straddlingFault : ℕ → Reading Signature → Fault
-straddlingFault i x = fault Refusal.UnclearPlace (headerOf (argumentOf i x)) 0
-
+-- 02, No. 12: "give new refusal 29 at that argument's header, after reading"
 unfoldable pub unlessStraddling : ℕ → Reading Signature → SecondPlan → SecondPlan
 unlessStraddling zero x p = p
-unlessStraddling (suc i) x p = noPlan (straddlingFault i x)
+unlessStraddling (suc i) x p = noPlan (unclearFault i x)
 
 -- ---- the answer
 

@@ -3,8 +3,6 @@ use base_conventions::Convention;
 use second_parameters::Parameter;
 use second_parameters::Returned;
 use sig_items::Fault;
-use sig_items::Refusal;
-use sig_reader::ArgumentRead;
 use sig_signatures::MAX_ARGUMENTS;
 use sig_signatures::Outcome;
 use sig_signatures::SignatureRead;
@@ -15,7 +13,7 @@ ghost use Rattle.sig_signatures.specs.Read.{signatureOf};
 ghost use Rattle.sig_signatures.specs.Answer.{signatureAnswer};
 ghost use Rattle.sig_signatures.specs.Types.{typesIn, valuesOf};
 ghost use Rattle.sig_signatures.specs.Helpers.{Plannable};
-ghost use Rattle.second_planner.specs.Answer.{powerPlan, zPlan, noPlan, secondIn, straddlingIn, headerOf, straddlingFault, secondAnswer};
+ghost use Rattle.second_planner.specs.Answer.{powerPlan, zPlan, noPlan, secondIn, straddlingIn, secondAnswer};
 
 pub struct SecondPlan {
     pub outcome: Outcome,
@@ -60,7 +58,7 @@ fn power_plan(paired: bool, word: usize, n: usize, g: SignatureRead) -> SecondPl
     let values = values_in(g);
     let s = second_structure::lay_out(
         word,
-        second_structure::first_word(second_structure::power_hidden(returned)),
+        second_structure::hidden_words(second_structure::power_hidden(returned)),
         g,
     );
     let area = second_structure::area_bytes(word, s.words);
@@ -149,30 +147,6 @@ fn straddling_in(g: SignatureRead) -> usize
     }
 }
 
-// The place of an argument's header.
-fn header_of(a: ArgumentRead) -> usize
-    ensures { λ n. ⌜ n ≡ headerOf a ⌝ }
-{
-    match a {
-        ArgumentRead::Argument { ty, place } => place,
-        ArgumentRead::Missing => 0,
-        ArgumentRead::Refused(_) => 0,
-    }
-}
-
-// 29 of argument number `index`, counted from 0.
-fn straddling_fault(sig: &[u8], index: usize) -> Fault
-    ensures { λ f. ⌜ f ≡ straddlingFault index (signatureOf (now (sig .entry))) ⌝ }
-{
-    let a = sig_reader::argument_at(sig, index);
-    let place = header_of(a);
-    Fault {
-        reason: Refusal::UnclearPlace,
-        place,
-        passed: 0,
-    }
-}
-
 // The plan of n items that were read, by the signature's bytes and what was read of them.
 fn clear_plan(sig: &[u8], n: usize, g: SignatureRead) -> SecondPlan
     requires { ⌜ (g ≡ signatureAnswer (signatureOf (now sig))) × (g .outcome ≡ Outcome.Accepted n) ⌝ }
@@ -182,7 +156,7 @@ fn clear_plan(sig: &[u8], n: usize, g: SignatureRead) -> SecondPlan
     if straddling == 0 {
         return accepted_plan(n, g);
     }
-    no_plan(straddling_fault(sig, straddling - 1))
+    no_plan(sig_reader::unclear_fault(sig, straddling - 1))
 }
 
 fn second(sig: &[u8], g: SignatureRead) -> SecondPlan

@@ -8,14 +8,14 @@ use native.Mathlib.Numerals.{add-one}
 use lib.ListN.{set, drop, replicate}
 use lib.Dec.{ltb}
 use Rattle.base_words.specs.Basics.{pick, roundUp}
+use Rattle.base_words.proofs.Tables.{Table, table-start, table-more}
 use Rattle.base_conventions.specs.declared.Convention.{Convention}
 use Rattle.sig_types.specs.declared.ValueType.{ValueType}
 use Rattle.sig_types.specs.Sizes.{sizeOf}
 use Rattle.sig_signatures.specs.Limits.{maxArguments}
 use Rattle.second_parameters.specs.declared.Parameter.{Parameter}
-use Rattle.second_parameters.proofs.Turns.{Table, table-start, table-more}
 use Rattle.second_slot_scan.specs.declared.Scan.{Scan}
-use Rattle.second_slot_scan.specs.declared.Slot.{Slot}
+use Rattle.second_slot_scan.specs.declared.ScannedSlot.{ScannedSlot}
 use Rattle.second_slot_scan.specs.declared.Copied.{Copied}
 use Rattle.second_parameters.specs.Values.{noParameter}
 use Rattle.second_slot_scan.specs.Slots.{initial, doubleOrFloat, copied, copyAt, inFloating, inGeneral, inOther, slotBy, slotOf, slotsFrom, scannedTo}
@@ -57,21 +57,21 @@ pub near-roomy : (s : Scan) (i : ℕ) → i ≤ maxArguments → Near s i → Ro
 near-roomy s i h g = (omega (arith, g .gr), omega (arith, g .fr), omega (arith, g .starg), omega (arith, g .copies))
 
 pub record Scanning (c : Convention) (start : Scan) (ts : List ValueType) (ps : List Parameter) (s : Scan) (i : ℕ) : Type 0 where
-  pub table : Table noParameter ps (slotsFrom c s (drop i ts)) (slotsFrom c start ts) i
+  pub table : Table maxArguments noParameter ps (slotsFrom c s (drop i ts)) (slotsFrom c start ts) i
   pub last : scannedTo c s (drop i ts) ≡ scannedTo c start ts
   pub near : Near s i
 
 pub scanning-start : (c : Convention) (hidden : Bool) (ts : List ValueType) → Scanning c (initial hidden) ts (replicate maxArguments noParameter) (initial hidden) 0
-scanning-start c hidden ts = record { table = table-start noParameter (slotsFrom c (initial hidden) ts); last = refl; near = near-start hidden }
+scanning-start c hidden ts = record { table = table-start maxArguments noParameter (slotsFrom c (initial hidden) ts); last = refl; near = near-start hidden }
 
 pub scanning-more : (c : Convention) (start : Scan) (ts : List ValueType) (ps : List Parameter) (s : Scan) (i : ℕ) (t : ValueType)
     → i < maxArguments → sizeOf c t ≤ 256 → drop i ts ≡ t ∷ drop (suc i) ts → Scanning c start ts ps s i
     → Scanning c start ts (set ps i (slotOf s t (sizeOf c t) .parameter)) (slotOf s t (sizeOf c t) .next) (i + 1)
 unfolding slotsFrom scannedTo
 scanning-more c start ts ps s i t few small d g =
-    let p : Slot = slotOf s t (sizeOf c t) in
+    let p : ScannedSlot = slotOf s t (sizeOf c t) in
     record {
-      table = table-more noParameter (p .parameter) ps (slotsFrom c (p .next) (drop (i + 1) ts)) (slotsFrom c start ts) i few (rw add-one (rw d at (g .table)));
+      table = table-more maxArguments noParameter (p .parameter) ps (slotsFrom c (p .next) (drop (i + 1) ts)) (slotsFrom c start ts) i few (rw add-one (rw d at (g .table)));
       last = rw add-one (rw d at (g .last));
       near = near-more s t (sizeOf c t) i small (g .near);
     }

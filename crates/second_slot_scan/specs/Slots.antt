@@ -14,11 +14,11 @@ use Rattle.sig_signatures.specs.declared.ResultType.{ResultType}
 use Rattle.second_parameters.specs.declared.Run.{Run}
 use Rattle.second_parameters.specs.declared.Parameter.{Parameter}
 use Rattle.second_slot_scan.specs.declared.Scan.{Scan}
-use Rattle.second_slot_scan.specs.declared.Slot.{Slot}
+use Rattle.second_slot_scan.specs.declared.ScannedSlot.{ScannedSlot}
 use Rattle.second_slot_scan.specs.declared.Copied.{Copied}
 use Rattle.second_slot_scan.specs.declared.Scanned.{Scanned}
 use Rattle.second_parameters.specs.declared.Returned.{Returned}
-use Rattle.second_parameters.specs.Values.{run, noRun, noParameter, tableWith}
+use Rattle.second_parameters.specs.Values.{runOf, noRun, noParameter, tableWith}
 
 abbrev pub scan : ℕ → ℕ → ℕ → ℕ → Scan
 scan gr fr starg copies = record { gr = gr; fr = fr; starg = starg; copies = copies }
@@ -58,30 +58,30 @@ copied (ValueType.Struct s) n = copiedStruct (s .equivalent) n
 
 -- 01: "at the next multiple of 8 in the copy buffer"
 abbrev pub copyAt : Bool → ℕ → ℕ → Copied
-copyAt true at n = record { bytes = run (roundUp at 8) n; end = roundUp at 8 + n; reference = true }
+copyAt true at n = record { bytes = runOf (roundUp at 8) n; end = roundUp at 8 + n; reference = true }
 copyAt false at n = record { bytes = noRun; end = at; reference = false }
 
-abbrev pub slot : Run → Run → Run → Copied → Scan → Slot
-slot g f m k next = record { parameter = record { general = g; floating = f; field = m; memory = m; copy = k .bytes; reference = k .reference }; next = next }
+abbrev pub slotFor : Run → Run → Run → Copied → Scan → ScannedSlot
+slotFor g f m k next = record { parameter = record { general = g; floating = f; field = m; memory = m; copy = k .bytes; reference = k .reference }; next = next }
 
 -- "load the argument value into floating-point register fr, set fr to fr+2"
-abbrev pub inFloating : Scan → Copied → Slot
-inFloating s k = slot noRun (run (s .fr) 1) noRun k (scan (s .gr) (s .fr + 2) (s .starg) (k .end))
+abbrev pub inFloating : Scan → Copied → ScannedSlot
+inFloating s k = slotFor noRun (runOf (s .fr) 1) noRun k (scan (s .gr) (s .fr + 2) (s .starg) (k .end))
 
 -- "load the argument value into general register gr, set gr to gr+1"
-abbrev pub inGeneral : Scan → Copied → Slot
-inGeneral s k = slot (run (s .gr) 1) noRun noRun k (scan (s .gr + 1) (s .fr) (s .starg) (k .end))
+abbrev pub inGeneral : Scan → Copied → ScannedSlot
+inGeneral s k = slotFor (runOf (s .gr) 1) noRun noRun k (scan (s .gr + 1) (s .fr) (s .starg) (k .end))
 
 -- OTHER: "passed in the parameter words of the caller's stack frame", 8 bytes each
-abbrev pub inOther : Scan → Copied → Slot
-inOther s k = slot noRun noRun (run (s .starg) 8) k (scan (s .gr) (s .fr) (s .starg + 8) (k .end))
+abbrev pub inOther : Scan → Copied → ScannedSlot
+inOther s k = slotFor noRun noRun (runOf (s .starg) 8) k (scan (s .gr) (s .fr) (s .starg + 8) (k .end))
 
 -- "If fr>6 .. go to OTHER", "If gr>6, go to OTHER"
-unfoldable pub slotBy : Bool → Scan → Copied → Slot
+unfoldable pub slotBy : Bool → Scan → Copied → ScannedSlot
 slotBy true s k = pick (ltb 6 (s .fr)) (inOther s k) (inFloating s k)
 slotBy false s k = pick (ltb 6 (s .gr)) (inOther s k) (inGeneral s k)
 
-unfoldable pub slotOf : Scan → ValueType → ℕ → Slot
+unfoldable pub slotOf : Scan → ValueType → ℕ → ScannedSlot
 slotOf s t n = slotBy (doubleOrFloat t) s (copyAt (copied t n) (s .copies) n)
 
 -- ---- all of them
@@ -111,8 +111,8 @@ zHidden (ResultType.Value (ValueType.Struct s)) = true
 -- table 11: "general register 2 (r2)", "floating point register 0 (f0)"
 abbrev pub zReturned : ResultType → Returned
 zReturned ResultType.Nothing = Returned.Nothing
-zReturned (ResultType.Value (ValueType.Integer k)) = Returned.General (run 2 1)
-zReturned (ResultType.Value (ValueType.Float FloatFormat.Single)) = Returned.Floating (run 0 1)
-zReturned (ResultType.Value (ValueType.Float FloatFormat.Double)) = Returned.Floating (run 0 1)
-zReturned (ResultType.Value (ValueType.Float FloatFormat.LongDouble)) = Returned.Hidden (run 2 1)
-zReturned (ResultType.Value (ValueType.Struct s)) = Returned.Hidden (run 2 1)
+zReturned (ResultType.Value (ValueType.Integer k)) = Returned.General (runOf 2 1)
+zReturned (ResultType.Value (ValueType.Float FloatFormat.Single)) = Returned.Floating (runOf 0 1)
+zReturned (ResultType.Value (ValueType.Float FloatFormat.Double)) = Returned.Floating (runOf 0 1)
+zReturned (ResultType.Value (ValueType.Float FloatFormat.LongDouble)) = Returned.Hidden (runOf 2 1)
+zReturned (ResultType.Value (ValueType.Struct s)) = Returned.Hidden (runOf 2 1)

@@ -31,7 +31,7 @@ pub struct Copied {
     pub reference: bool,
 }
 
-pub struct Slot {
+pub struct ScannedSlot {
     pub parameter: Parameter,
     pub next: Scan,
 }
@@ -117,13 +117,13 @@ fn copy_at(reference: bool, at: usize, size: usize) -> Copied
     }
 }
 
-fn in_floating(s: Scan, k: Copied) -> Slot
+fn in_floating(s: Scan, k: Copied) -> ScannedSlot
     requires { ⌜ s .fr ≤ 2 ^ 20 ⌝ }
     ensures { λ r. ⌜ r ≡ inFloating s k ⌝ }
 {
     let none = second_parameters::no_run();
     let copy = k.bytes;
-    Slot {
+    ScannedSlot {
         parameter: Parameter {
             general: none,
             floating: second_parameters::run_of(s.fr, 1),
@@ -141,13 +141,13 @@ fn in_floating(s: Scan, k: Copied) -> Slot
     }
 }
 
-fn in_general(s: Scan, k: Copied) -> Slot
+fn in_general(s: Scan, k: Copied) -> ScannedSlot
     requires { ⌜ s .gr ≤ 2 ^ 20 ⌝ }
     ensures { λ r. ⌜ r ≡ inGeneral s k ⌝ }
 {
     let none = second_parameters::no_run();
     let copy = k.bytes;
-    Slot {
+    ScannedSlot {
         parameter: Parameter {
             general: second_parameters::run_of(s.gr, 1),
             floating: none,
@@ -165,14 +165,14 @@ fn in_general(s: Scan, k: Copied) -> Slot
     }
 }
 
-fn in_other(s: Scan, k: Copied) -> Slot
+fn in_other(s: Scan, k: Copied) -> ScannedSlot
     requires { ⌜ s .starg ≤ 2 ^ 20 ⌝ }
     ensures { λ r. ⌜ r ≡ inOther s k ⌝ }
 {
     let none = second_parameters::no_run();
     let copy = k.bytes;
     let word = second_parameters::run_of(s.starg, 8);
-    Slot {
+    ScannedSlot {
         parameter: Parameter {
             general: none,
             floating: none,
@@ -190,7 +190,7 @@ fn in_other(s: Scan, k: Copied) -> Slot
     }
 }
 
-fn slot_by(float: bool, s: Scan, k: Copied) -> Slot
+fn slot_by(float: bool, s: Scan, k: Copied) -> ScannedSlot
     requires { ⌜ RoomyScan s ⌝ }
     ensures { λ r. ⌜ r ≡ slotBy float s k ⌝ }
 {
@@ -206,7 +206,7 @@ fn slot_by(float: bool, s: Scan, k: Copied) -> Slot
     in_general(s, k)
 }
 
-fn slot_for(s: Scan, t: ValueType, size: usize) -> Slot
+fn slot_for(s: Scan, t: ValueType, size: usize) -> ScannedSlot
     requires { ⌜ RoomyScan s × (size ≤ maxSize) ⌝ }
     ensures { λ r. ⌜ r ≡ slotOf s t size ⌝ }
 {

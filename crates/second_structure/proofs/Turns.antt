@@ -8,6 +8,7 @@ use native.Mathlib.Numerals.{add-one}
 use lib.ListN.{length, getD, set, drop, replicate, length-append, length-replicate}
 use Rattle.base_words.specs.Basics.{pick}
 use Rattle.base_words.proofs.Basics.{getD-filled}
+use Rattle.base_words.proofs.Tables.{Table, table-start, table-more}
 use Rattle.base_conventions.specs.declared.Convention.{Convention}
 use Rattle.sig_types.specs.declared.ValueType.{ValueType}
 use Rattle.sig_types.specs.Sizes.{sizeOf}
@@ -15,7 +16,6 @@ use Rattle.sig_signatures.specs.Limits.{maxArguments}
 use Rattle.second_parameters.specs.declared.Run.{Run}
 use Rattle.second_parameters.specs.declared.Parameter.{Parameter}
 use Rattle.second_parameters.specs.Values.{numbers, noRun, noParameter, tableWith}
-use Rattle.second_parameters.proofs.Turns.{Table, table-start, table-more}
 use Rattle.second_structure.specs.Structure.{wordsIn, fieldsFrom, wordsTo, floats, laidOver, registersOver, straddles, firstStraddling}
 use Rattle.second_structure.specs.Helpers.{Bounded}
 use Rattle.second_structure.proofs.Laws.{words-few}
@@ -23,12 +23,12 @@ use Rattle.second_structure.proofs.Laws.{words-few}
 -- ---- the structure
 
 pub record Laying (c : Convention) (w at : ℕ) (ts : List ValueType) (fs : List Run) (next i : ℕ) : Type 0 where
-  pub table : Table noRun fs (fieldsFrom c w next (drop i ts)) (fieldsFrom c w at ts) i
+  pub table : Table maxArguments noRun fs (fieldsFrom c w next (drop i ts)) (fieldsFrom c w at ts) i
   pub last : wordsTo c w next (drop i ts) ≡ wordsTo c w at ts
   pub small : next ≤ 264 * i + 1
 
 pub laying-start : (c : Convention) (w at : ℕ) (ts : List ValueType) → at ≤ 1 → Laying c w at ts (replicate maxArguments noRun) at 0
-laying-start c w at ts h = record { table = table-start noRun (fieldsFrom c w at ts); last = refl; small = omega arith }
+laying-start c w at ts h = record { table = table-start maxArguments noRun (fieldsFrom c w at ts); last = refl; small = omega arith }
 
 pub laying-more : (c : Convention) (w at : ℕ) (ts : List ValueType) (fs : List Run) (next i : ℕ) (t : ValueType) → 0 < w → w ≤ 8
     → i < maxArguments → sizeOf c t ≤ 256 → drop i ts ≡ t ∷ drop (suc i) ts → Laying c w at ts fs next i
@@ -37,7 +37,7 @@ unfolding fieldsFrom wordsTo
 laying-more c w at ts fs next i t p q few small d g =
     let n : ℕ = wordsIn w (sizeOf c t) in
     record {
-      table = table-more noRun (numbers next n) fs (fieldsFrom c w (next + n) (drop (i + 1) ts)) (fieldsFrom c w at ts) i few (rw add-one (rw d at (g .table)));
+      table = table-more maxArguments noRun (numbers next n) fs (fieldsFrom c w (next + n) (drop (i + 1) ts)) (fieldsFrom c w at ts) i few (rw add-one (rw d at (g .table)));
       last = rw add-one (rw d at (g .last));
       small = omega (arith, g .small, words-few w (sizeOf c t) p q small);
     }
@@ -45,11 +45,11 @@ laying-more c w at ts fs next i t p q few small d g =
 -- ---- the registers over it
 
 pub record Covering (ellipsis paired : Bool) (w : ℕ) (ts : List ValueType) (fs : List Run) (ps : List Parameter) (m i : ℕ) : Type 0 where
-  pub table : Table noParameter ps (registersOver ellipsis paired w m (drop i ts) (drop i fs)) (registersOver ellipsis paired w 0 ts fs) i
+  pub table : Table maxArguments noParameter ps (registersOver ellipsis paired w m (drop i ts) (drop i fs)) (registersOver ellipsis paired w 0 ts fs) i
   pub small : m ≤ 2 * i
 
 pub covering-start : (ellipsis paired : Bool) (w : ℕ) (ts : List ValueType) (fs : List Run) → Covering ellipsis paired w ts fs (replicate maxArguments noParameter) 0 0
-covering-start ellipsis paired w ts fs = record { table = table-start noParameter (registersOver ellipsis paired w 0 ts fs); small = omega arith }
+covering-start ellipsis paired w ts fs = record { table = table-start maxArguments noParameter (registersOver ellipsis paired w 0 ts fs); small = omega arith }
 
 pub covering-more : (ellipsis paired : Bool) (w : ℕ) (ts : List ValueType) (fs : List Run) (ps : List Parameter) (m i : ℕ) (t : ValueType) (f : Run)
     → i < maxArguments → floats paired t ≤ 2 → drop i ts ≡ t ∷ drop (suc i) ts → drop i fs ≡ f ∷ drop (suc i) fs → Covering ellipsis paired w ts fs ps m i
@@ -57,7 +57,7 @@ pub covering-more : (ellipsis paired : Bool) (w : ℕ) (ts : List ValueType) (fs
 unfolding registersOver
 covering-more ellipsis paired w ts fs ps m i t f few two d e g = record {
   table =
-      table-more noParameter (laidOver ellipsis w (floats paired t) m f) ps (registersOver ellipsis paired w (m + floats paired t) (drop (i + 1) ts) (drop (i + 1) fs))
+      table-more maxArguments noParameter (laidOver ellipsis w (floats paired t) m f) ps (registersOver ellipsis paired w (m + floats paired t) (drop (i + 1) ts) (drop (i + 1) fs))
       (registersOver ellipsis paired w 0 ts fs) i few (rw add-one (rw (d, e) at (g .table)));
   small = omega (arith, g .small);
 }

@@ -14,7 +14,7 @@ use Rattle.sig_signatures.specs.declared.ResultType.{ResultType}
 use Rattle.second_parameters.specs.declared.Run.{Run}
 use Rattle.second_parameters.specs.declared.Parameter.{Parameter}
 use Rattle.second_parameters.specs.declared.Returned.{Returned}
-use Rattle.second_parameters.specs.Values.{numbers, run, noRun, tableWith}
+use Rattle.second_parameters.specs.Values.{numbers, runOf, noRun, tableWith}
 use Rattle.second_structure.specs.declared.Structure.{Structure}
 
 -- ---- the structure
@@ -37,8 +37,8 @@ abbrev pub structureOf : Convention → ℕ → ℕ → List ValueType → Struc
 structureOf c w at ts = record { fields = tableWith noRun (fieldsFrom c w at ts); words = wordsTo c w at ts }
 
 -- "a pointer must be passed as an implicit left-most parameter": one word
-abbrev pub firstWord : Bool → ℕ
-firstWord hidden = pick hidden 1 0
+abbrev pub hiddenWords : Bool → ℕ
+hiddenWords hidden = pick hidden 1 0
 
 -- "the parameter area must be at least 8 words": in bytes
 unfoldable pub areaBytes : ℕ → ℕ → ℕ
@@ -47,16 +47,16 @@ areaBytes w n = w * max n 8
 -- ---- the registers over it
 
 abbrev pub fieldBytes : ℕ → Run → Run
-fieldBytes w f = run (w * f .first) (w * f .count)
+fieldBytes w f = runOf (w * f .first) (w * f .count)
 
 -- "The first 8 words are placed in GPR3 through GPR10"; the rest is written "into the parameter area". A parameter that is passed "in both
 -- the floating-point and the general-purpose registers" has FPRs as well
 unfoldable pub overWords : ℕ → Run → Run → Parameter
 overWords w fprs f = record {
-  general = run (3 + f .first) (min (f .first + f .count) 8 - f .first);
+  general = runOf (3 + f .first) (min (f .first + f .count) 8 - f .first);
   floating = fprs;
   field = fieldBytes w f;
-  memory = run (w * max (f .first) 8) (w * (f .first + f .count - max (f .first) 8));
+  memory = runOf (w * max (f .first) 8) (w * (f .first + f .count - max (f .first) 8));
   copy = noRun;
   reference = false;
 }
@@ -80,7 +80,7 @@ floats paired (ValueType.Struct s) = 0
 
 -- "FPR1 through FPR13", over the floats in order: those before asked for m
 abbrev pub fprsFrom : ℕ → ℕ → Run
-fprsFrom m k = run (1 + m) k
+fprsFrom m k = runOf (1 + m) k
 
 -- A parameter that asks for k FPRs, where those before it asked for m: in "a routine with fixed parameters" in them alone, with an ellipsis "in both".
 unfoldable pub laidOver : Bool → ℕ → ℕ → ℕ → Run → Parameter
@@ -117,8 +117,8 @@ powerHidden (ResultType.Value (ValueType.Struct s)) = true
 -- returned in GPR3"; 02, No. 1: "64-bit wholes r3 and r4"; "the address is passed in GPR3"
 abbrev pub powerReturned : Convention → ℕ → ResultType → Returned
 powerReturned c w ResultType.Nothing = Returned.Nothing
-powerReturned c w (ResultType.Value (ValueType.Integer k)) = Returned.General (run 3 (wordsIn w (sizeOf c (ValueType.Integer k))))
-powerReturned c w (ResultType.Value (ValueType.Float FloatFormat.Single)) = Returned.Floating (run 1 1)
-powerReturned c w (ResultType.Value (ValueType.Float FloatFormat.Double)) = Returned.Floating (run 1 1)
-powerReturned c w (ResultType.Value (ValueType.Float FloatFormat.LongDouble)) = Returned.Floating (run 1 2)
-powerReturned c w (ResultType.Value (ValueType.Struct s)) = Returned.Hidden (run 3 1)
+powerReturned c w (ResultType.Value (ValueType.Integer k)) = Returned.General (runOf 3 (wordsIn w (sizeOf c (ValueType.Integer k))))
+powerReturned c w (ResultType.Value (ValueType.Float FloatFormat.Single)) = Returned.Floating (runOf 1 1)
+powerReturned c w (ResultType.Value (ValueType.Float FloatFormat.Double)) = Returned.Floating (runOf 1 1)
+powerReturned c w (ResultType.Value (ValueType.Float FloatFormat.LongDouble)) = Returned.Floating (runOf 1 2)
+powerReturned c w (ResultType.Value (ValueType.Struct s)) = Returned.Hidden (runOf 3 1)

@@ -15,7 +15,7 @@ ghost use Rattle.sig_signatures.specs.Limits.{maxArguments};
 ghost use Rattle.sig_signatures.specs.Types.{typesIn};
 ghost use Rattle.sig_signatures.specs.Helpers.{SmallResult, Plannable};
 ghost use Rattle.second_parameters.specs.Values.{noParameter, tableWith};
-ghost use Rattle.second_structure.specs.Structure.{wordsIn, structureOf, firstWord, areaBytes, fieldBytes, overWords, overFloats, overNothing, floats, laidOver, registersOver, straddles, firstStraddling, powerHidden, powerReturned};
+ghost use Rattle.second_structure.specs.Structure.{wordsIn, structureOf, hiddenWords, areaBytes, fieldBytes, overWords, overFloats, overNothing, floats, laidOver, registersOver, straddles, firstStraddling, powerHidden, powerReturned};
 ghost use Rattle.second_structure.specs.Helpers.{Bounded};
 ghost use Rattle.sig_types.specs.Sizes.{maxSize};
 
@@ -281,8 +281,8 @@ pub fn power_returned(c: Convention, word: usize, r: ResultType) -> Returned
     }
 }
 
-pub fn first_word(hidden: bool) -> usize
-    ensures { λ r. ⌜ (r ≡ firstWord hidden) × (r ≤ 1) ⌝ }
+pub fn hidden_words(hidden: bool) -> usize
+    ensures { λ r. ⌜ (r ≡ hiddenWords hidden) × (r ≤ 1) ⌝ }
 {
     if hidden {
         return 1;

@@ -6,7 +6,6 @@ use native.Mathlib.Omega.{arith}
 use Rattle.base_conventions.specs.declared.Convention.{Convention}
 use Rattle.sig_types.specs.declared.ValueType.{ValueType}
 use Rattle.sig_types.specs.declared.Fields.{Fields}
-use Rattle.sig_types.specs.Sizes.{Sized}
 use Rattle.sig_types.specs.Structs.{noFields, withField, closed}
 use Rattle.sig_types.specs.Trees.{Trees, none, _▸_, fieldsOf}
 use Rattle.sig_types.proofs.Laws.{Aligned, none-aligned, more-aligned, more-end}
@@ -16,22 +15,15 @@ use Rattle.sig_items.specs.Reading.{later}
 use Rattle.sig_items.specs.Read.{sequence, structAt, itemAt}
 use Rattle.sig_items.specs.Answer.{itemAnswer, closedAnswer}
 use Rattle.sig_items.proofs.Laws.{contents, sequence-done, sequence-more, sequence-no, struct-refused, struct-read, item-got, item-no, sized-answer}
-use Rattle.sig_items.proofs.Sound.{item-taken}
+use Rattle.sig_items.proofs.Sound.{Taken, item-taken}
 use Rattle.sig_items.proofs.HowFar.{fault-third}
 
 -- what an answer says of an item within the end e; the tree is gone, its type is there
-pub record Answered (c : Convention) (e at : ℕ) (t : ValueType) (next n : ℕ) : Type 0 where
-  pub on : at + 3 ≤ next
-  pub inside : next ≤ e
-  pub third : at + 3 * n ≤ next
-  pub sized : Sized c t
-
 pub item-answered : (c : Convention) (d : ℕ) (s : List ℕ) (e at : ℕ) (r : ItemRead) (t : ValueType) (next n : ℕ) → d ≤ 8 →
-    r ≡ itemAnswer c (itemAt c d s e at) → r ≡ ItemRead.Item t next n → Answered c e at t next n
+    r ≡ itemAnswer c (itemAt c d s e at) → r ≡ ItemRead.Item t next n → Taken c e at t next n
 item-answered c d s e at r t next n h found q =
     let (tree, is, same) = item-got c (itemAt c d s e at) t next n (sym q ∙ found) in
-    let k = item-taken c d s e at tree next n h is in
-    record { on = k .on; inside = k .inside; third = k .third; sized = rw same (k .sized) }
+    rw same (item-taken c d s e at tree next n h is)
 
 -- and of a refused one: three bytes or more for each header that had passed
 pub fault-answered : (c : Convention) (d : ℕ) (s : List ℕ) (e at : ℕ) (r : ItemRead) (f : Fault) → at ≤ e →

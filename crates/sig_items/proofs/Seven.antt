@@ -7,6 +7,7 @@ use lib.ListN.{getD}
 use lib.Dec.{ltb, eqb}
 use native.Mathlib.Omega.{arith}
 use borrow.Author.Tests.{ltb-true}
+use Rattle.base_words.proofs.Tests.{by-pick}
 use Rattle.base_conventions.specs.declared.Convention.{Convention}
 use Rattle.sig_types.specs.declared.FloatFormat.{FloatFormat}
 use Rattle.sig_types.specs.Sizes.{lacksFloat}
@@ -14,26 +15,14 @@ use Rattle.sig_types.specs.Structs.{shapeOf, tooLarge}
 use Rattle.sig_types.specs.Trees.{Tree, Trees, none, _▸_, fieldsOf}
 use Rattle.sig_items.specs.declared.IntegerCode.{IntegerCode}
 use Rattle.sig_items.specs.declared.FloatCode.{FloatCode}
-use Rattle.sig_items.specs.declared.Body.{Body}
-use Rattle.sig_items.specs.Reading.{Reading, got, no, after, andThen, inBody}
-use Rattle.sig_items.specs.Refusals.{numberOf, bodyNumber}
-use Rattle.sig_items.specs.Read.{lengthAt, bodyAt, integerCode, floatCode, integerBy, integerAt, floatOf, floatBy, floatAt, sequence, sizedAt, contentsAt, byTag, itemBy, structAt, itemAt}
+use Rattle.sig_items.specs.Reading.{Reading, got, no, laterReading, andThen, inBody}
+use Rattle.sig_items.specs.Refusals.{refusalNumber}
+use Rattle.sig_items.specs.Read.{integerCode, floatCode, integerBy, integerAt, floatOf, floatBy, floatAt, sequence, sizedAt, contentsAt, byTag, itemBy, structAt, itemAt}
 use Rattle.sig_items.specs.Seven.{Other, NotSeven, ItemsNotSeven, StructsNotSeven}
-use Rattle.sig_items.proofs.Sound.{Got, Read, by-pick, by-choose, item-sound}
+use Rattle.sig_items.proofs.Sound.{Got, Read, by-choose, item-sound, body-cases}
 use Rattle.sig_items.proofs.Trees.{tree-long}
 
 -- ---- the parts of an item
-
-abbrev BodyNotSeven : Body → Type 0
-BodyNotSeven x = Other (bodyNumber x)
-
-body-not-seven : (s : List ℕ) (low high e at : ℕ) → BodyNotSeven (bodyAt s low high e at)
-unfolding bodyAt
-body-not-seven s low high e at =
-    by-pick BodyNotSeven (ltb e (at + 3)) _ _ (λ _ q. omega arith)
-    (λ _. by-pick BodyNotSeven (ltb (getD s at 0) low) _ _ (λ _ q. omega arith)
-    (λ _. by-pick BodyNotSeven (ltb high (getD s at 0)) _ _ (λ _ q. omega arith)
-    (λ _. by-pick BodyNotSeven (ltb e (at + 3 + lengthAt s at)) _ _ (λ _ q. omega arith) (λ _ q. omega arith))))
 
 integer-not-seven : (s : List ℕ) (at b : ℕ) → NotSeven (integerAt s at b)
 unfolding integerAt
@@ -62,9 +51,9 @@ float-not-seven c s inside at b = by-pick NotSeven (eqb b (at + 4)) _ _ (λ _. g
 -- an item at `at` that moves on, or that 7 does not refuse
 abbrev Moves : ℕ → Reading Tree → Type 0
 Moves at (got t next n) = at < next
-Moves at (no f) = Other (numberOf (f .reason))
+Moves at (no f) = Other (refusalNumber (f .reason))
 
-moves-after : (at n : ℕ) (x : Reading Tree) → Moves at x → Moves at (after n x)
+moves-after : (at n : ℕ) (x : Reading Tree) → Moves at x → Moves at (laterReading n x)
 moves-after at n (got t next m) h = h
 moves-after at n (no f) h = h
 
@@ -77,7 +66,7 @@ module _ (item : ℕ → Reading Tree) (b : ℕ) (moves : (k : ℕ) → Moves k 
   unfolding sequence
   sequence-not-seven zero next n ts room = by-pick NotSeven (ltb next b) _ _ (λ q _. omega (arith, ltb-true next b q)) (λ _ q. omega arith)
   sequence-not-seven (suc most) next n ts room =
-      by-choose NotSeven (ltb next b) _ _ (λ _. then-not-seven next (after n (item next)) _ (moves-after next n (item next) (moves next)) (λ t onward m on. sequence-not-seven most onward m (ts ▸ t) (omega arith))) (λ _ q. omega arith)
+      by-choose NotSeven (ltb next b) _ _ (λ _. then-not-seven next (laterReading n (item next)) _ (moves-after next n (item next) (moves next)) (λ t onward m on. sequence-not-seven most onward m (ts ▸ t) (omega arith))) (λ _ q. omega arith)
 
   contents-not-seven : (c : Convention) (at : ℕ) → NotSeven (contentsAt c item at b)
   unfolding contentsAt sizedAt
@@ -94,13 +83,11 @@ module _ (item : ℕ → Reading Tree) (b : ℕ) (moves : (k : ℕ) → Moves k 
 item-by-not-seven : (c : Convention) (structure : ℕ → ℕ → Reading Tree) (inside : Bool) (s : List ℕ) (e at : ℕ) → ((b : ℕ) → NotSeven (structure at b))
     → NotSeven (itemBy c structure inside s e at)
 unfolding itemBy
-item-by-not-seven c structure inside s e at h = go (bodyAt s 0x10 0x12 e at) (body-not-seven s 0x10 0x12 e at)
-  where
-    go : (x : Body) → BodyNotSeven x → NotSeven (inBody x at (λ b. byTag (getD s at 0) (integerAt s at b) (floatAt c s inside at b) (λ _. structure at b)))
-    go (Body.To b) k =
-        by-choose NotSeven (eqb (getD s at 0) 0x10) _ _ (λ _. integer-not-seven s at b)
-        (λ _. by-choose NotSeven (eqb (getD s at 0) 0x11) _ _ (λ _. float-not-seven c s inside at b) (λ _. h b))
-    go (Body.Refused r) k = k
+item-by-not-seven c structure inside s e at h =
+    body-cases (λ x. NotSeven (inBody x at (λ b. byTag (getD s at 0) (integerAt s at b) (floatAt c s inside at b) (λ _. structure at b)))) s 0x10 0x12 e at
+    (λ q. omega arith) (λ q. omega arith)
+    (λ b _. by-choose NotSeven (eqb (getD s at 0) 0x10) _ _ (λ _. integer-not-seven s at b)
+    (λ _. by-choose NotSeven (eqb (getD s at 0) 0x11) _ _ (λ _. float-not-seven c s inside at b) (λ _. h b)))
 
 -- what an item was read from has its header's length at least
 moves : (c : Convention) (d : ℕ) (s : List ℕ) (e at : ℕ) (x : Reading Tree) → NotSeven x → Got (Read c d s e at) x → Moves at x

@@ -8,17 +8,19 @@ use lib.ListN.{length, getD, length-append}
 use lib.Dec.{ltb, eqb}
 use native.Mathlib.Omega.{arith}
 use borrow.Author.Tests.{ltb-false, eqb-true, eqb-false}
-use Rattle.base_words.specs.Basics.{pick}
 use Rattle.base_words.specs.Numbers.{Bytes}
+use Rattle.base_words.proofs.Tests.{by-pick}
 use Rattle.base_conventions.specs.declared.Convention.{Convention}
 use Rattle.sig_types.specs.declared.FloatFormat.{FloatFormat}
+use Rattle.sig_types.specs.declared.ValueType.{ValueType}
 use Rattle.sig_types.specs.Sizes.{lacksFloat, Sized}
 use Rattle.sig_types.specs.Structs.{shapeOf}
-use Rattle.sig_types.specs.Trees.{Tree, Trees, float, none, _▸_, typeOf, fieldsOf, countOf}
+use Rattle.sig_types.specs.Trees.{Tree, Trees, none, _▸_, typeOf, fieldsOf, countOf}
 use Rattle.sig_items.specs.declared.IntegerCode.{IntegerCode}
 use Rattle.sig_items.specs.declared.FloatCode.{FloatCode}
 use Rattle.sig_items.specs.declared.Body.{Body}
-use Rattle.sig_items.specs.Reading.{Reading, got, no, after, choose, andThen, inBody}
+use Rattle.sig_items.specs.declared.Refusal.{Refusal}
+use Rattle.sig_items.specs.Reading.{Reading, got, no, laterReading, choose, andThen, inBody}
 use Rattle.sig_items.specs.Read.{lengthAt, bodyAt, integerCode, floatCode, integerBy, integerAt, floatOf, floatBy, floatAt, sequence, sizedAt, contentsAt, itemBy, structAt, itemAt}
 use Rattle.sig_items.specs.Encode.{integerNumber, floatNumber, item, encodeTree, encodeTrees, itemsOf, itemsIn}
 use Rattle.sig_items.proofs.Levels.{FloatLeft, Left, AllLeft, left-sized}
@@ -26,10 +28,6 @@ use Rattle.sig_items.proofs.Has.{Has, has-move, has-append, has-item, l
 use Rattle.sig_items.proofs.Trees.{tree-long, tree-third, long-some}
 
 -- what holds in each case of a test
-
-pub by-pick : {A : Type 0} (G : A → Type 0) (b : Bool) (x y : A) → (b ≡ true → G x) → (b ≡ false → G y) → G (pick b x y)
-by-pick G true x y f g = f refl
-by-pick G false x y f g = g refl
 
 pub by-choose : {A : Type 0} (G : A → Type 0) (b : Bool) (x y : Unit {0} → A) → (b ≡ true → G (x tt)) → (b ≡ false → G (y tt)) → G (choose b x y)
 by-choose G true x y f g = f refl
@@ -45,9 +43,12 @@ pub got-self : {A : Type 0} (x : Reading A) → Got (λ a next n. x ≡ got a ne
 got-self (got a next n) = refl
 got-self (no f) = tt
 
+pub got-with : {A : Type 0} (P Q : A → ℕ → ℕ → Type 0) (x : Reading A) → ((a : A) (next n : ℕ) → x ≡ got a next n → P a next n → Q a next n) → Got P x → Got Q x
+got-with P Q (got a next n) f p = f a next n refl p
+got-with P Q (no r) f p = tt
+
 pub got-map : {A : Type 0} (P Q : A → ℕ → ℕ → Type 0) (x : Reading A) → ((a : A) (next n : ℕ) → P a next n → Q a next n) → Got P x → Got Q x
-got-map P Q (got a next n) f p = f a next n p
-got-map P Q (no r) f p = tt
+got-map P Q x f p = got-with P Q x (λ a next n _. f a next n) p
 
 pub by-then : {A B : Type 0} (P : A → ℕ → ℕ → Type 0) (Q : B → ℕ → ℕ → Type 0) (x : Reading A) (f : A → ℕ → ℕ → Reading B) →
     Got P x → ((a : A) (next n : ℕ) → P a next n → Got Q (f a next n)) → Got Q (andThen x f)
@@ -56,7 +57,7 @@ by-then P Q (no r) f p q = tt
 
 -- the same where n headers came before the first
 pub by-next : {A B : Type 0} (P : A → ℕ → ℕ → Type 0) (Q : B → ℕ → ℕ → Type 0) (n : ℕ) (x : Reading A) (f : A → ℕ → ℕ → Reading B) →
-    Got P x → ((a : A) (next m : ℕ) → P a next m → Got Q (f a next (n + m))) → Got Q (andThen (after n x) f)
+    Got P x → ((a : A) (next m : ℕ) → P a next m → Got Q (f a next (n + m))) → Got Q (andThen (laterReading n x) f)
 by-next P Q n (got a next m) f p q = q a next m p
 by-next P Q n (no r) f p q = tt
 
@@ -67,20 +68,25 @@ pub record Framed (s : List ℕ) (low high e at b : ℕ) : Type 0 where
   pub ends : b ≡ at + 3 + lengthAt s at
   pub inside : b ≤ e
 
-abbrev pub BodyIs : List ℕ → ℕ → ℕ → ℕ → ℕ → Body → Type 0
+-- what a header may answer: two refusals, or a body
+pub body-cases : (P : Body → Type 0) (s : List ℕ) (low high e at : ℕ) → P (Body.Refused Refusal.Truncated) → P (Body.Refused Refusal.UnexpectedTag) →
+    ((b : ℕ) → Framed s low high e at b → P (Body.To b)) → P (bodyAt s low high e at)
+unfolding bodyAt
+body-cases P s low high e at short tagged to =
+    let tag = getD s at 0 in
+    let b = at + 3 + lengthAt s at in
+    by-pick P (ltb e (at + 3)) _ _ (λ _. short)
+    (λ _. by-pick P (ltb tag low) _ _ (λ _. tagged)
+    (λ l. by-pick P (ltb high tag) _ _ (λ _. tagged)
+    (λ h. by-pick P (ltb e b) _ _ (λ _. short)
+    (λ room. to b (record { least = ltb-false tag low l; most = ltb-false high tag h; ends = refl; inside = ltb-false e b room })))))
+
+abbrev BodyIs : List ℕ → ℕ → ℕ → ℕ → ℕ → Body → Type 0
 BodyIs s low high e at (Body.To b) = Framed s low high e at b
 BodyIs s low high e at (Body.Refused r) = Unit {0}
 
-pub body-is : (s : List ℕ) (low high e at : ℕ) → BodyIs s low high e at (bodyAt s low high e at)
-unfolding bodyAt
-body-is s low high e at =
-    let tag = getD s at 0 in
-    let to = at + 3 + lengthAt s at in
-    by-pick (BodyIs s low high e at) (ltb e (at + 3)) _ _ (λ _. tt)
-    (λ _. by-pick (BodyIs s low high e at) (ltb tag low) _ _ (λ _. tt)
-    (λ l. by-pick (BodyIs s low high e at) (ltb high tag) _ _ (λ _. tt)
-    (λ h. by-pick (BodyIs s low high e at) (ltb e to) _ _ (λ _. tt)
-    (λ room. record { least = ltb-false tag low l; most = ltb-false high tag h; ends = refl; inside = ltb-false e to room }))))
+body-is : (s : List ℕ) (low high e at : ℕ) → BodyIs s low high e at (bodyAt s low high e at)
+body-is s low high e at = body-cases (BodyIs s low high e at) s low high e at tt tt (λ b framed. framed)
 
 -- the same of a body that was found
 pub body-framed : (s : List ℕ) (low high e at b : ℕ) → bodyAt s low high e at ≡ Body.To b → Framed s low high e at b
@@ -88,11 +94,7 @@ body-framed s low high e at b q = rw q at (body-is s low high e at)
 
 pub by-body : {A : Type 0} (P : A → ℕ → ℕ → Type 0) (s : List ℕ) (low high e at : ℕ) (f : ℕ → Reading A) →
     ((b : ℕ) → Framed s low high e at b → Got P (f b)) → Got P (inBody (bodyAt s low high e at) at f)
-by-body P s low high e at f g = go (bodyAt s low high e at) (body-is s low high e at)
-  where
-    go : (x : Body) → BodyIs s low high e at x → Got P (inBody x at f)
-    go (Body.To b) i = g b i
-    go (Body.Refused r) i = tt
+by-body P s low high e at f g = body-cases (λ x. Got P (inBody x at f)) s low high e at tt tt g
 
 -- the codes
 
@@ -183,10 +185,10 @@ pub none-read : (c : Convention) (d : ℕ) (s : List ℕ) (b start n₀ : ℕ) �
 unfolding encodeTrees Has AllLeft itemsIn
 none-read c d s b start n₀ h = record { within = tt; here = λ _. tt; ends = omega arith; inside = h; count = omega arith }
 
-pub one-read : (c : Convention) (d : ℕ) (s : List ℕ) (b start n₀ : ℕ) (ts : Trees) (next n : ℕ) (t : Tree) (after m : ℕ) →
-    AllRead c d s b start n₀ ts next n → Read c d s b next t after m → AllRead c d s b start n₀ (ts ▸ t) after (n + m)
+pub one-read : (c : Convention) (d : ℕ) (s : List ℕ) (b start n₀ : ℕ) (ts : Trees) (next n : ℕ) (t : Tree) (laterReading m : ℕ) →
+    AllRead c d s b start n₀ ts next n → Read c d s b next t laterReading m → AllRead c d s b start n₀ (ts ▸ t) laterReading (n + m)
 unfolding encodeTrees AllLeft itemsIn
-one-read c d s b start n₀ ts next n t after m a r =
+one-read c d s b start n₀ ts next n t laterReading m a r =
     let size = length-append (encodeTrees ts) (encodeTree t) in
     record {
       within = (a .within, r .within);
@@ -267,14 +269,14 @@ item-sound c d s e at = item-by-sound c d s e at (structAt c d s) (λ b framed t
 pub item-read : (c : Convention) (d : ℕ) (s : List ℕ) (e at : ℕ) (t : Tree) (next n : ℕ) → itemAt c d s e at ≡ got t next n → Read c d s e at t next n
 item-read c d s e at t next n q = rw q at (item-sound c d s e at)
 
--- what whoever reads on from an item needs: it ends within e, three bytes or more for each item in it, and its type is small
-pub record Taken (c : Convention) (e at : ℕ) (t : Tree) (next n : ℕ) : Type 0 where
+-- what whoever reads on from an item of a type needs: it ends within e, three bytes or more for each item in it, and its type is small
+pub record Taken (c : Convention) (e at : ℕ) (t : ValueType) (next n : ℕ) : Type 0 where
   pub on : at + 3 ≤ next
   pub inside : next ≤ e
   pub third : at + 3 * n ≤ next
-  pub sized : Sized c (typeOf c t)
+  pub sized : Sized c t
 
-pub item-taken : (c : Convention) (d : ℕ) (s : List ℕ) (e at : ℕ) (t : Tree) (next n : ℕ) → d ≤ 8 → itemAt c d s e at ≡ got t next n → Taken c e at t next n
+pub item-taken : (c : Convention) (d : ℕ) (s : List ℕ) (e at : ℕ) (t : Tree) (next n : ℕ) → d ≤ 8 → itemAt c d s e at ≡ got t next n → Taken c e at (typeOf c t) next n
 item-taken c d s e at t next n h q =
     let r = item-read c d s e at t next n q in
     let long = tree-long t in

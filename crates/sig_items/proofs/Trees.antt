@@ -1,11 +1,11 @@
 -- The lengths and counts of encodings, and that they are bytes. Assumes nothing.
-use Prim.Native.Nat.{ℕ, zero, suc, _+_, _*_, _/_, _%_, _≤_, _<_}
+use Prim.Native.Nat.{ℕ, _+_, _*_, _/_, _%_, _≤_, _<_}
 use mathlib.Core.Path.{_≡_}
 use mathlib.Core.List.{List, [], _∷_}
 use lib.ListN.{length, length-append}
 use native.Mathlib.Omega.{arith}
 use Rattle.base_words.specs.Numbers.{Bytes}
-use Rattle.base_words.proofs.Numbers.{bytes-append}
+use Rattle.base_words.proofs.Numbers.{bytes-append, bytes-none, bytes-cons}
 use Rattle.sig_types.specs.declared.IntegerKind.{IntegerKind}
 use Rattle.sig_types.specs.declared.FloatFormat.{FloatFormat}
 use Rattle.sig_types.specs.Trees.{Tree, Trees, integer, float, struct, none, _▸_, countOf}
@@ -51,13 +51,6 @@ mutual
   trees-third (ts ▸ t) = omega (arith, length-append (encodeTrees ts) (encodeTree t), trees-third ts, tree-third t)
 
 -- bytes
-
-pub bytes-none : Bytes []
-bytes-none i = omega arith
-
-pub bytes-cons : (x : ℕ) (l : List ℕ) → x < 256 → Bytes l → Bytes (x ∷ l)
-bytes-cons x l h b zero = h
-bytes-cons x l h b (suc i) = b i
 
 pub bytes-item : (tag : ℕ) (body : List ℕ) → tag < 256 → length body < 65536 → Bytes body → Bytes (item tag body)
 unfolding item

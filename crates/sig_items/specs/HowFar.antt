@@ -22,9 +22,9 @@ unfoldable pub nextHeader : List ℕ → ℕ → ℕ
 nextHeader s at = pick (encloses (getD s at 0)) (at + 3) (at + 3 + lengthAt s at)
 
 -- the place after n headers from `at` on, which is that of header n, counted from 0
-unfoldable pub walked : List ℕ → ℕ → ℕ → ℕ
-walked s at zero = at
-walked s at (suc n) = walked s (nextHeader s at) n
+unfoldable pub placeOfHeader : List ℕ → ℕ → ℕ → ℕ
+placeOfHeader s at zero = at
+placeOfHeader s at (suc n) = placeOfHeader s (nextHeader s at) n
 
 -- 8 is found once a struct's contents are read; any other fault where it stands: "bytes left over (4, 7, 9)" stand where the next
 -- header would
@@ -55,21 +55,21 @@ abbrev pub IsTag : ℕ → Type 0
 IsTag tag = ((0x01 ≤ tag) × (tag ≤ 0x04)) ⊎ ((0x10 ≤ tag) × (tag ≤ 0x12))
 
 -- a header that passed: "header room, tag and length room", before the end e
-pub record Header (s : List ℕ) (e at : ℕ) : Type 0 where
+pub record PassedHeader (s : List ℕ) (e at : ℕ) : Type 0 where
   pub tag : IsTag (getD s at 0)
   pub room : at + 3 + lengthAt s at ≤ e
 
 -- each of the first n headers from `at` on did
-unfoldable pub Passed : List ℕ → ℕ → ℕ → ℕ → Type 0
-Passed s e at n = (i : ℕ) → i < n → Header s e (walked s at i)
+unfoldable pub HeadersPassed : List ℕ → ℕ → ℕ → ℕ → Type 0
+HeadersPassed s e at n = (i : ℕ) → i < n → PassedHeader s e (placeOfHeader s at i)
 
 -- A reading from `at` on, within e, that was refused. `stop` fixes the count, since each step of the walk goes at least three bytes on
 -- (law `far-unique`).
 pub record HowFar (s : List ℕ) (e at : ℕ) (f : Fault) : Type 0 where
   -- the headers passed lead from the first item to where the reading stopped
-  pub stop : walked s at (metBy f) ≡ stopOf s f
+  pub stop : placeOfHeader s at (metBy f) ≡ stopOf s f
   pub inside : stopOf s f ≤ e
-  pub passed : Passed s e at (metBy f)
+  pub passed : HeadersPassed s e at (metBy f)
   -- and the faulty item is met on the way
   pub met : ℕ
-  pub place : walked s at met ≡ f .place
+  pub place : placeOfHeader s at met ≡ f .place

@@ -17,7 +17,7 @@ use Rattle.sig_items.specs.declared.Refusal.{Refusal}
 use Rattle.sig_items.specs.declared.Body.{Body}
 use Rattle.sig_items.specs.declared.IntegerCode.{IntegerCode}
 use Rattle.sig_items.specs.declared.FloatCode.{FloatCode}
-use Rattle.sig_items.specs.Reading.{Reading, fault, got, no, after, choose, andThen, inBody}
+use Rattle.sig_items.specs.Reading.{Reading, fault, got, no, laterReading, choose, andThen, inBody}
 
 -- "a two-byte length", big-endian, after the "one-byte tag"
 abbrev pub lengthAt : List ℕ → ℕ → ℕ
@@ -81,7 +81,7 @@ floatAt c s inside at b = pick (eqb b (at + 4)) (floatBy c (floatCode (getD s (a
 unfoldable pub sequence : (ℕ → Reading Tree) → ℕ → ℕ → ℕ → ℕ → Trees → Reading Trees
 sequence item e zero next n ts = pick (ltb next e) (no (fault Refusal.TooManyArguments next n)) (got ts next n)
 sequence item e (suc most) next n ts =
-    choose (ltb next e) (λ _. andThen (after n (item next)) (λ t onward m. sequence item e most onward m (ts ▸ t))) (λ _. got ts next n)
+    choose (ltb next e) (λ _. andThen (laterReading n (item next)) (λ t onward m. sequence item e most onward m (ts ▸ t))) (λ _. got ts next n)
 
 -- "size (8)": a struct of the types ts, whose body ends at b; of its n headers "the refused item's own header isn't counted"
 unfoldable pub sizedAt : Convention → ℕ → ℕ → ℕ → Trees → Reading Tree

@@ -4,10 +4,10 @@ use sig_types::IntegerKind;
 use sig_types::ValueType;
 ghost use mathlib.Core.Path.{_≡_};
 ghost use Prim.Native.Nat.{_+_, _^_, _<_};
-ghost use Rattle.sig_items.specs.Refusals.{numberOf};
+ghost use Rattle.sig_items.specs.Refusals.{refusalNumber};
 ghost use Rattle.sig_items.specs.Reading.{later};
 
-// Why a signature is refused, by its reading or, the last, by its plan; `number_of` gives the papers' number.
+// Why a signature is refused, by its reading or, the last, by its plan; `refusal_number` gives the papers' number.
 pub enum Refusal {
     TooLong,
     Truncated,
@@ -22,8 +22,8 @@ pub enum Refusal {
     UnclearPlace,
 }
 
-pub fn number_of(r: Refusal) -> u64
-    ensures { λ n. ⌜ n ≡ numberOf r ⌝ }
+pub fn refusal_number(r: Refusal) -> u64
+    ensures { λ n. ⌜ n ≡ refusalNumber r ⌝ }
 {
     match r {
         Refusal::TooLong => 1,

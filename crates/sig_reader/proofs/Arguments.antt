@@ -8,24 +8,23 @@ use mathlib.Core.List.{List}
 use lib.ListN.{length, getD, length-append}
 use lib.Dec.{ltb, eqb}
 use native.Mathlib.Omega.{arith}
-use borrow.Author.Tests.{le-ltb, eq-eqb, ne-eqb, ltb-false, eqb-true}
+use borrow.Author.Tests.{le-ltb, eq-eqb, ne-eqb, ltb-false}
 use Rattle.base_words.specs.Basics.{pick}
+use Rattle.base_words.proofs.Tests.{by-pick}
 use Rattle.base_conventions.specs.declared.Convention.{Convention}
 use Rattle.sig_types.specs.Trees.{Tree, Trees, none, _▸_, typeOf, countOf}
 use Rattle.sig_items.specs.declared.Refusal.{Refusal}
 use Rattle.sig_items.specs.declared.Body.{Body}
-use Rattle.sig_items.specs.Reading.{Reading, fault, got, no, choose, inBody}
+use Rattle.sig_items.specs.Reading.{fault, got, no, choose, inBody}
 use Rattle.sig_items.specs.Read.{lengthAt, bodyAt, sequence, itemAt}
 use Rattle.sig_items.specs.Encode.{encodeTree, encodeTrees}
 use Rattle.sig_items.proofs.Laws.{body-to}
-use Rattle.sig_items.proofs.Sound.{by-pick, by-choose, by-then, by-next, Got, body-framed, Ended, none-read, sequence-sound, item-sound, item-read, got-self, got-map}
+use Rattle.sig_items.proofs.Sound.{by-choose, by-then, by-next, Got, Framed, by-body, item-read, got-self, got-map}
 use Rattle.sig_signatures.specs.Limits.{maxLength, maxArguments}
-use Rattle.base_conventions.specs.declared.ConventionCode.{ConventionCode}
-use Rattle.base_conventions.specs.Numbers.{conventionCode}
 use Rattle.sig_signatures.specs.Signature.{Result, Signature}
-use Rattle.sig_signatures.specs.Read.{conventionBy, conventionAt, resultIn, resultAt, ellipsisAt, argumentsIn, argumentsAt, afterEllipsis, afterResult, afterConvention, signatureOf}
+use Rattle.sig_signatures.specs.Read.{conventionAt, resultAt, ellipsisAt, argumentsIn, argumentsAt, afterEllipsis, afterResult, afterConvention, signatureOf}
 use Rattle.sig_signatures.specs.Encode.{encodeResult, ellipsisItem}
-use Rattle.sig_signatures.proofs.Sound.{convention-read, result-read, ellipsis-read}
+use Rattle.sig_signatures.proofs.Sound.{ConventionSound, convention-sound, ResultSound, result-sound, ArgumentsSound, arguments-sound, ellipsis-read}
 use Rattle.sig_reader.specs.declared.ArgumentRead.{ArgumentRead}
 use Rattle.sig_stepping.specs.Step.{bodyIn, bodyStart, bodyEnd, typeIn}
 use Rattle.sig_reader.specs.Argument.{argumentIn, argumentsPlace, pastEllipsis, argumentsStart, steppedTo}
@@ -88,60 +87,9 @@ module _ (c : Convention) (s : List ℕ) (e start : ℕ) (short : length s ≤ m
       (one-more ts at place t after m read) (all-stepped most after (n + m) (ts ▸ t) (next-place ts at place t after m read))))
       (λ _. stepped-end ts at at n)
 
--- the headers of the items, and what is read in the last
-
-convention-body : (s : List ℕ) → Got (λ c next n. bodyAt s 0x01 0x01 (length s) 0 ≡ Body.To 4) (conventionAt s)
-unfolding conventionAt
-convention-body s = go (bodyAt s 0x01 0x01 (length s) 0) refl
-  where
-    code : (x : ConventionCode) → bodyAt s 0x01 0x01 (length s) 0 ≡ Body.To 4 → Got (λ c next n. bodyAt s 0x01 0x01 (length s) 0 ≡ Body.To 4) (conventionBy x)
-    code (ConventionCode.Known c) q = q
-    code ConventionCode.Unknown q = tt
-
-    go : (x : Body) → bodyAt s 0x01 0x01 (length s) 0 ≡ x
-        → Got (λ c next n. bodyAt s 0x01 0x01 (length s) 0 ≡ Body.To 4) (inBody x 0 (λ b. pick (eqb b 4) (conventionBy (conventionCode (getD s 3 0))) (no (fault Refusal.Malformed 0 0))))
-    go (Body.To b) q = by-pick (Got (λ c next n. bodyAt s 0x01 0x01 (length s) 0 ≡ Body.To 4)) (eqb b 4) _ _
-        (λ h. code (conventionCode (getD s 3 0)) (q ∙ ap Body.To (eqb-true b 4 h))) (λ _. tt)
-    go (Body.Refused r) q = tt
-
-result-body : (c : Convention) (s : List ℕ) (at : ℕ) → Got (λ r next n. bodyAt s 0x02 0x02 (length s) at ≡ Body.To next) (resultAt c s at)
-unfolding resultAt resultIn
-result-body c s at = go (bodyAt s 0x02 0x02 (length s) at) refl
-  where
-    go : (x : Body) → bodyAt s 0x02 0x02 (length s) at ≡ x → Got (λ r next n. bodyAt s 0x02 0x02 (length s) at ≡ Body.To next) (inBody x at (λ b. resultIn c s (at + 3) b))
-    go (Body.To b) q = by-choose (Got (λ r next n. bodyAt s 0x02 0x02 (length s) at ≡ Body.To next)) (eqb (at + 3) b) _ _ (λ _. q)
-        (λ _. by-next (λ t next n. itemAt c 8 s b (at + 3) ≡ got t next n) (λ r next n. bodyAt s 0x02 0x02 (length s) at ≡ Body.To next) 1
-        (itemAt c 8 s b (at + 3)) _ (got-self (itemAt c 8 s b (at + 3)))
-        (λ t next n _. by-pick (Got (λ r next n. bodyAt s 0x02 0x02 (length s) at ≡ Body.To next)) (ltb next b) _ _ (λ _. tt) (λ _. q)))
-    go (Body.Refused r) q = tt
-
--- the last item's body, up to `end`, where the arguments ts are read
-record Third (c : Convention) (s : List ℕ) (at : ℕ) (ts : Trees) (next n : ℕ) : Type 0 where
-  pub end : ℕ
-  pub body : bodyAt s 0x03 0x03 (length s) at ≡ Body.To end
-  pub inside : next ≤ end
-  pub read : argumentsIn c s (at + 3) end ≡ got ts next n
-
-arguments-body : (c : Convention) (s : List ℕ) (at : ℕ) → Got (Third c s at) (argumentsAt c s at)
-unfolding argumentsAt argumentsIn countOf
-arguments-body c s at = go (bodyAt s 0x03 0x03 (length s) at) refl
-  where
-    third : (b : ℕ) → bodyAt s 0x03 0x03 (length s) at ≡ Body.To b → (x : Reading Trees) → argumentsIn c s (at + 3) b ≡ x →
-        Got (Ended c 8 s b (at + 3) 1 maxArguments) x → Got (Third c s at) x
-    third b q (got ts next n) read ended = record { end = b; body = q; inside = ended .all .inside; read = read }
-    third b q (no f) read ended = tt
-
-    go : (x : Body) → bodyAt s 0x03 0x03 (length s) at ≡ x → Got (Third c s at) (inBody x at (λ b. argumentsIn c s (at + 3) b))
-    go (Body.To b) q =
-        let framed = body-framed s 0x03 0x03 (length s) at b q in
-        third b q (argumentsIn c s (at + 3) b) refl
-        (sequence-sound c 8 s b (at + 3) 1 maxArguments (itemAt c 8 s b) (λ k. item-sound c 8 s b k) maxArguments (at + 3) 1 none (none-read c 8 s b (at + 3) 1 (omega arith)) refl)
-    go (Body.Refused r) q = tt
-
 -- a header with one tag is one with any tag
-any-tag : (s : List ℕ) → length s ≤ maxLength → (tag at b : ℕ) → tag ≤ 255 → bodyAt s tag tag (length s) at ≡ Body.To b → Body.To b ≡ bodyIn s at (length s)
-any-tag s short tag at b small q =
-    let framed = body-framed s tag tag (length s) at b q in
+any-tag : (s : List ℕ) → length s ≤ maxLength → (tag at b : ℕ) → tag ≤ 255 → Framed s tag tag (length s) at b → Body.To b ≡ bodyIn s at (length s)
+any-tag s short tag at b small framed =
     body-here s at (length s) short (length s) (end-within s (length s) (omega arith)) (Body.To b)
     (ap Body.To (framed .ends) ∙ sym (body-to s 0x00 0xff (length s) at (omega arith) (omega arith) (omega arith) (lengthAt s at) refl (omega arith)))
 
@@ -149,15 +97,11 @@ ellipsis-passed : (s : List ℕ) → length s ≤ maxLength → (at : ℕ) → G
 unfolding ellipsisAt pastEllipsis
 ellipsis-passed s short at = go (eqb (getD s at 0) 0x04)
   where
-    item : (x : Body) → bodyAt s 0x04 0x04 (length s) at ≡ x →
-        Got (λ v next n. next ≡ bodyEnd s at (length s)) (inBody x at (λ b. pick (eqb b (at + 3)) (got true b 1) (no (fault Refusal.Malformed at 0))))
-    item (Body.To b) q = by-pick (Got (λ v next n. next ≡ bodyEnd s at (length s))) (eqb b (at + 3)) _ _
-        (λ _. end-found s at (length s) (Body.To b) (any-tag s short 0x04 at b (omega arith) q) b refl) (λ _. tt)
-    item (Body.Refused r) q = tt
-
     go : (tag : Bool) → Got (λ v next n. next ≡ pick tag (bodyEnd s at (length s)) at)
         (choose tag (λ _. inBody (bodyAt s 0x04 0x04 (length s) at) at (λ b. pick (eqb b (at + 3)) (got true b 1) (no (fault Refusal.Malformed at 0)))) (λ _. got false at 0))
-    go true = item (bodyAt s 0x04 0x04 (length s) at) refl
+    go true = by-body (λ v next n. next ≡ bodyEnd s at (length s)) s 0x04 0x04 (length s) at _ (λ b framed.
+        by-pick (Got (λ v next n. next ≡ bodyEnd s at (length s))) (eqb b (at + 3)) _ _
+        (λ _. end-found s at (length s) (Body.To b) (any-tag s short 0x04 at b (omega arith) framed) b refl) (λ _. tt))
     go false = refl
 
 -- of an accepted signature: the first argument's place, by stepping and by the encoder, and what is read from there
@@ -168,31 +112,31 @@ pub record Placed (s : List ℕ) (g : Signature) : Type 0 where
   pub count : ℕ
   pub read : argumentsIn (g .convention) s (argumentsPlace (g .result) (g .ellipsis)) (length s) ≡ got (g .arguments) next count
 
-module _ (s : List ℕ) (short : length s ≤ maxLength) (c : Convention) (at₁ n₁ : ℕ) (first : conventionAt s ≡ got c at₁ n₁) (r : Result) (at₂ n₂ : ℕ)
-    (second : resultAt c s at₁ ≡ got r at₂ n₂) (v : Bool) (at₃ n₃ : ℕ) (mark : ellipsisAt s at₂ ≡ got v at₃ n₃) (ts : Trees) (next m : ℕ)
-    (third : Third c s at₃ ts next m) (last : length s ≤ next) where
+module _ (s : List ℕ) (short : length s ≤ maxLength) (c : Convention) (at₁ n₁ : ℕ) (first : ConventionSound s c at₁ n₁) (r : Result) (at₂ n₂ : ℕ)
+    (second : ResultSound c s at₁ r at₂ n₂) (v : Bool) (at₃ n₃ : ℕ) (mark : ellipsisAt s at₂ ≡ got v at₃ n₃) (ts : Trees) (next m : ℕ)
+    (third : ArgumentsSound c s at₃ ts next m) (last : length s ≤ next) where
   here : at₁ ≡ 4
-  here = convention-read s c at₁ n₁ first .ends
+  here = first .ends
 
   -- the last item's header
   there : at₃ ≡ 7 + length (encodeResult r) + length (ellipsisItem v)
-  there = let e = result-read c s at₁ r at₂ n₂ second .ends in let g = ellipsis-read s at₂ v at₃ n₃ mark .ends in let f = here in omega arith
+  there = let e = second .ends in let g = ellipsis-read s at₂ v at₃ n₃ mark .ends in let f = here in omega arith
 
   ends : third .end ≡ length s
-  ends = let f = body-framed s 0x03 0x03 (length s) at₃ (third .end) (third .body) in let i = third .inside in omega arith
+  ends = let f = third .framed .inside in let i = third .inside in omega arith
 
   past-first : 4 ≡ bodyEnd s 0 (length s)
-  past-first = end-found s 0 (length s) (Body.To 4) (any-tag s short 0x01 0 4 (omega arith) (rw first at (convention-body s))) 4 refl
+  past-first = end-found s 0 (length s) (Body.To 4) (any-tag s short 0x01 0 4 (omega arith) (rw here at (first .framed))) 4 refl
 
   past-second : at₂ ≡ bodyEnd s 4 (length s)
   past-second = end-found s 4 (length s) (Body.To at₂)
-      (any-tag s short 0x02 4 at₂ (omega arith) (rw here at (rw second at (result-body c s at₁)))) at₂ refl
+      (any-tag s short 0x02 4 at₂ (omega arith) (rw here at (second .framed))) at₂ refl
 
   past-mark : at₃ ≡ pastEllipsis s at₂
   past-mark = rw mark at (ellipsis-passed s short at₂)
 
   into-last : at₃ + 3 ≡ bodyStart s at₃ (length s)
-  into-last = start-found s at₃ (length s) (Body.To (third .end)) (any-tag s short 0x03 at₃ (third .end) (omega arith) (third .body)) (third .end) refl
+  into-last = start-found s at₃ (length s) (Body.To (third .end)) (any-tag s short 0x03 at₃ (third .end) (omega arith) (third .framed)) (third .end) refl
 
   started : argumentsStart s ≡ argumentsPlace r v
   unfolding argumentsStart
@@ -213,10 +157,10 @@ module _ (s : List ℕ) (short : length s ≤ maxLength) (c : Convention) (at₁
 signature-placed : (s : List ℕ) → Got (λ g next n. Placed s g) (signatureOf s)
 unfolding signatureOf afterConvention afterResult afterEllipsis
 signature-placed s = by-choose (Got (λ g next n. Placed s g)) (ltb maxLength (length s)) _ _ (λ _. tt)
-    (λ l. by-then (λ c at n. conventionAt s ≡ got c at n) (λ g next n. Placed s g) (conventionAt s) _ (got-self (conventionAt s))
-    (λ c at₁ n₁ first. by-next (λ r next m. resultAt c s at₁ ≡ got r next m) (λ g next n. Placed s g) n₁ (resultAt c s at₁) _ (got-self (resultAt c s at₁))
+    (λ l. by-then (ConventionSound s) (λ g next n. Placed s g) (conventionAt s) _ (convention-sound s)
+    (λ c at₁ n₁ first. by-next (ResultSound c s at₁) (λ g next n. Placed s g) n₁ (resultAt c s at₁) _ (result-sound c s at₁)
     (λ r at₂ n₂ second. by-next (λ v next k. ellipsisAt s at₂ ≡ got v next k) (λ g next n. Placed s g) (n₁ + n₂) (ellipsisAt s at₂) _ (got-self (ellipsisAt s at₂))
-    (λ v at₃ n₃ mark. by-next (Third c s at₃) (λ g next n. Placed s g) (n₁ + n₂ + n₃) (argumentsAt c s at₃) _ (arguments-body c s at₃)
+    (λ v at₃ n₃ mark. by-next (ArgumentsSound c s at₃) (λ g next n. Placed s g) (n₁ + n₂ + n₃) (argumentsAt c s at₃) _ (arguments-sound c s at₃)
     (λ ts next m third. by-pick (Got (λ g next n. Placed s g)) (ltb next (length s)) _ _ (λ _. tt)
     (λ last. placed s (ltb-false maxLength (length s) l) c at₁ n₁ first r at₂ n₂ second v at₃ n₃ mark ts next m third (ltb-false next (length s) last)))))))
 

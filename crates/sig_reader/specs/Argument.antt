@@ -1,4 +1,4 @@
--- One argument of a signature: its type, and the place of its item by the encoder. Below it, the same by stepping.
+-- One argument of a signature: its type, the place of its item by the encoder, and 29 there. Below it, the same by stepping.
 -- Assumes nothing.
 use Prim.Native.Nat.{ℕ, zero, suc, _+_}
 use mathlib.Core.Bool.{Bool}
@@ -8,7 +8,9 @@ use lib.Dec.{eqb}
 use Rattle.base_words.specs.Basics.{pick}
 use Rattle.base_conventions.specs.declared.Convention.{Convention}
 use Rattle.sig_types.specs.Trees.{Tree, Trees, none, _▸_, typeOf, countOf}
-use Rattle.sig_items.specs.Reading.{Reading, got, no}
+use Rattle.sig_items.specs.declared.Refusal.{Refusal}
+use Rattle.sig_items.specs.declared.Fault.{Fault}
+use Rattle.sig_items.specs.Reading.{Reading, fault, got, no}
 use Rattle.sig_items.specs.Encode.{encodeTrees}
 use Rattle.sig_signatures.specs.Signature.{Result, Signature}
 use Rattle.sig_signatures.specs.Encode.{encodeResult, ellipsisItem}
@@ -30,6 +32,17 @@ argumentsPlace r v = 10 + length (encodeResult r) + length (ellipsisItem v)
 abbrev pub argumentOf : ℕ → Reading Signature → ArgumentRead
 argumentOf index (got g next n) = argumentIn (g .convention) (argumentsPlace (g .result) (g .ellipsis)) index (g .arguments)
 argumentOf index (no f) = ArgumentRead.Refused f
+
+-- the place of an argument's item
+abbrev pub itemIn : ArgumentRead → ℕ
+itemIn (ArgumentRead.Argument t place) = place
+itemIn ArgumentRead.Missing = 0
+itemIn (ArgumentRead.Refused f) = 0
+
+-- 02, No. 12: "give new refusal 29 at that argument's header, after reading": of argument number i, counted from 0, of what was read. It has count 0,
+-- as every refusal after reading
+abbrev pub unclearFault : ℕ → Reading Signature → Fault
+unclearFault i x = fault Refusal.UnclearPlace (itemIn (argumentOf i x)) 0
 
 -- past an ellipsis's item, where its tag stands
 unfoldable pub pastEllipsis : List ℕ → ℕ → ℕ

@@ -9,16 +9,16 @@ use Rattle.sig_reader.specs.declared.Reader.{Reader}
 use Rattle.sig_stepping.specs.Step.{bodyStart, bodyEnd, typeIn, placeAfter}
 
 -- at the first item of the whole signature
-abbrev pub started : RefT (List ℕ) → Reader
-started s = record { signature = s; at = 0; end = length (now s) }
+abbrev pub readerStarted : RefT (List ℕ) → Reader
+readerStarted s = record { signature = s; at = 0; end = length (now s) }
 
 -- past the item
 abbrev pub skipped : Reader → Reader
 skipped r = record { signature = r .signature; at = bodyEnd (now (r .signature)) (r .at) (r .end); end = r .end }
 
 -- at the first item in the item's body, which is the part then
-abbrev pub entered : Reader → Reader
-entered r = record {
+abbrev pub readerEntered : Reader → Reader
+readerEntered r = record {
   signature = r .signature;
   at = bodyStart (now (r .signature)) (r .at) (r .end);
   end = bodyEnd (now (r .signature)) (r .at) (r .end);

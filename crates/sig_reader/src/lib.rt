@@ -1,6 +1,6 @@
-// A reader that keeps a signature's bytes and its place in them together, to step through items one by one; and above it a
-// function over plain bytes, for every other caller, which steps with readers. Functions over bytes and numbers do the work: the
-// reader's own only take it apart and put it together.
+// A reader that keeps a signature's bytes and its place in them together, to step through items one by one; and above it
+// functions over plain bytes, for every other caller, which step with readers: an argument by its number, and 29 at its place. Functions over bytes
+// and numbers do the work: the reader's own only take it apart and put it together.
 use base_conventions::Convention;
 use sig_items::Fault;
 use sig_items::ItemRead;
@@ -16,8 +16,8 @@ ghost use Rattle.sig_items.specs.Answer.{itemAnswer};
 ghost use Rattle.sig_signatures.specs.Limits.{maxLength};
 ghost use Rattle.sig_signatures.specs.Read.{argumentsIn, signatureOf};
 ghost use Rattle.sig_stepping.specs.Step.{leftAt, headerIn, typeIn};
-ghost use Rattle.sig_reader.specs.Reader.{started, skipped, entered, advanced};
-ghost use Rattle.sig_reader.specs.Argument.{argumentOf};
+ghost use Rattle.sig_reader.specs.Reader.{readerStarted, skipped, readerEntered, advanced};
+ghost use Rattle.sig_reader.specs.Argument.{argumentOf, itemIn, unclearFault};
 ghost use Rattle.sig_reader.specs.Helpers.{argumentWith, notedAs};
 
 // The bytes, the place of the next item, and the end of the part that is stepped through. Any numbers are allowed.
@@ -37,7 +37,7 @@ pub enum ArgumentRead {
 impl<'a> Reader<'a> {
     // At the first item of the whole signature.
     pub fn new(signature: &'a [u8]) -> Reader<'a>
-        ensures { λ r. ⌜ r ≡ started (signature .entry) ⌝ }
+        ensures { λ r. ⌜ r ≡ readerStarted (signature .entry) ⌝ }
     {
         Reader {
             signature,
@@ -74,7 +74,7 @@ impl<'a> Reader<'a> {
 
     // Into the item's body; nothing is left there if the header is refused.
     pub fn enter(self) -> Reader<'a>
-        ensures { λ r. ⌜ r ≡ entered (self .entry) ⌝ }
+        ensures { λ r. ⌜ r ≡ readerEntered (self .entry) ⌝ }
     {
         let at = sig_stepping::body_start(self.signature, self.at, self.end);
         let end = sig_stepping::body_end(self.signature, self.at, self.end);
@@ -201,5 +201,29 @@ pub fn argument_at(s: &[u8], index: usize) -> ArgumentRead
             end,
             earlier,
         } => argument_from(s, convention, at, end, earlier, index),
+    }
+}
+
+// The place of an argument's item.
+fn item_in(a: ArgumentRead) -> usize
+    ensures { λ n. ⌜ n ≡ itemIn a ⌝ }
+{
+    match a {
+        ArgumentRead::Argument { ty, place } => place,
+        ArgumentRead::Missing => 0,
+        ArgumentRead::Refused(_) => 0,
+    }
+}
+
+// 29 of argument number `index`, counted from 0. The signature is read again to find its place: nothing else asks for that.
+pub fn unclear_fault(s: &[u8], index: usize) -> Fault
+    ensures { λ f. ⌜ f ≡ unclearFault index (signatureOf (now (s .entry))) ⌝ }
+{
+    let a = argument_at(s, index);
+    let place = item_in(a);
+    Fault {
+        reason: Refusal::UnclearPlace,
+        place,
+        passed: 0,
     }
 }

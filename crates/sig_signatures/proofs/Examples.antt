@@ -10,7 +10,7 @@ use Rattle.base_conventions.specs.Numbers.{conventionCode}
 use Rattle.sig_types.specs.declared.IntegerKind.{IntegerKind}
 use Rattle.sig_types.specs.declared.FloatFormat.{FloatFormat}
 use Rattle.sig_types.specs.Trees.{Tree, Trees, integer, float, struct, none, _▸_, fieldsOf}
-use Rattle.sig_items.specs.Refusals.{numberOf}
+use Rattle.sig_items.specs.Refusals.{refusalNumber}
 use Rattle.sig_items.specs.Reading.{Reading, got, no}
 use Rattle.sig_types.specs.Structs.{withField, shapeOf}
 use Rattle.sig_items.specs.Read.{bodyAt, integerCode, floatCode, integerAt, floatOf, floatAt, sequence, sizedAt, contentsAt, itemBy, structAt, itemAt}
@@ -40,7 +40,7 @@ with-ellipsis-read = refl
 -- the answer in document 01's numbers: number, place and count of headers
 answer : Reading Signature → List ℕ
 answer (got g next n) = 0 ∷ 0 ∷ n ∷ []
-answer (no f) = numberOf (f .reason) ∷ f .place ∷ f .passed ∷ []
+answer (no f) = refusalNumber (f .reason) ∷ f .place ∷ f .passed ∷ []
 
 nested : ℕ → Tree
 nested zero = integer IntegerKind.I8

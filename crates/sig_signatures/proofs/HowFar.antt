@@ -8,14 +8,15 @@ use lib.ListN.{length, getD}
 use lib.Dec.{ltb, eqb}
 use native.Mathlib.Omega.{arith}
 use borrow.Author.Tests.{ltb-false, eqb-true, eqb-false}
+use Rattle.base_words.proofs.Tests.{by-pick}
 use Rattle.base_conventions.specs.declared.Convention.{Convention}
 use Rattle.sig_types.specs.Trees.{none}
 use Rattle.sig_items.specs.declared.Refusal.{Refusal}
 use Rattle.sig_items.specs.declared.Fault.{Fault}
-use Rattle.sig_items.specs.Reading.{Reading, got, no, after}
+use Rattle.sig_items.specs.Reading.{Reading, got, no, laterReading}
 use Rattle.sig_items.specs.Read.{itemAt}
-use Rattle.sig_items.specs.HowFar.{walked, Passed, HowFar}
-use Rattle.sig_items.proofs.Sound.{by-pick, by-choose, Framed}
+use Rattle.sig_items.specs.HowFar.{placeOfHeader, HeadersPassed, HowFar}
+use Rattle.sig_items.proofs.Sound.{by-choose, Framed}
 use Rattle.sig_items.proofs.HowFar.{Goes, walked-over, walked-into, passed-none, passed-one, framed-here, stops, stops-here, goes-after, goes-within, fills-goes, goes-then, goes-body, sequence-goes, item-goes, walked-ascends, far-before, far-third, far-unique}
 use Rattle.base_conventions.specs.declared.ConventionCode.{ConventionCode}
 use Rattle.base_conventions.specs.Numbers.{conventionCode}
@@ -50,10 +51,10 @@ module _ (s : List ℕ) where
     result-in-goes b framed =
         let ends = framed .ends in
         let tag : getD s at 0 ≡ 0x02 = omega (arith, framed .least, framed .most) in
-        let into : walked s at 1 ≡ at + 3 = walked-into s at (rw tag) in
-        let own : Passed s b at 1 = passed-one s 0x02 0x02 b at b (inl (omega arith, omega arith)) (framed-here framed) in
+        let into : placeOfHeader s at 1 ≡ at + 3 = walked-into s at (rw tag) in
+        let own : HeadersPassed s b at 1 = passed-one s 0x02 0x02 b at b (inl (omega arith, omega arith)) (framed-here framed) in
         by-choose (Goes s b at) (eqb (at + 3) b) _ _ (λ q. (into ∙ eqb-true (at + 3) b q, omega arith, own))
-        (λ _. goes-then s b at (Goes s b at) (after 1 (itemAt c maxDepth s b (at + 3))) _
+        (λ _. goes-then s b at (Goes s b at) (laterReading 1 (itemAt c maxDepth s b (at + 3))) _
         (goes-after s b at 1 (at + 3) (itemAt c maxDepth s b (at + 3)) into own (item-goes c maxDepth s b (at + 3) (omega arith)))
         (λ f k. k)
         (λ t next n w h p. by-pick (Goes s b at) (ltb next b) _ _ (λ _. stops s b at Refusal.Malformed next n refl w h p)
@@ -74,7 +75,7 @@ module _ (s : List ℕ) where
 
   -- an ellipsis's item has none in it
   ellipsis-goes : (at : ℕ) → at ≤ length s → Goes s (length s) at (ellipsisAt s at)
-  unfolding ellipsisAt walked
+  unfolding ellipsisAt placeOfHeader
   ellipsis-goes at room = by-choose (Goes s (length s) at) (eqb (getD s at 0) 0x04) _ _
       (λ q. goes-body s 0x04 0x04 (length s) at _ room (λ b framed.
       let tag = eqb-true (getD s at 0) 0x04 q in
@@ -84,24 +85,24 @@ module _ (s : List ℕ) where
       (λ _. (refl, room, passed-none s (length s) at))
 
   module _ (c : Convention) where
-    after-ellipsis-goes : (r : Result) (v : Bool) (at n : ℕ) → walked s 0 n ≡ at → at ≤ length s → Passed s (length s) 0 n → Goes s (length s) 0 (afterEllipsis s c r v at n)
+    after-ellipsis-goes : (r : Result) (v : Bool) (at n : ℕ) → placeOfHeader s 0 n ≡ at → at ≤ length s → HeadersPassed s (length s) 0 n → Goes s (length s) 0 (afterEllipsis s c r v at n)
     unfolding afterEllipsis
     after-ellipsis-goes r v at n w h p =
-        goes-then s (length s) 0 (Goes s (length s) 0) (after n (argumentsAt c s at)) _
+        goes-then s (length s) 0 (Goes s (length s) 0) (laterReading n (argumentsAt c s at)) _
         (goes-after s (length s) 0 n at (argumentsAt c s at) w p (arguments-goes c at h)) (λ f k. k)
         (λ ts next m v k q. by-pick (Goes s (length s) 0) (ltb next (length s)) _ _ (λ _. stops s (length s) 0 Refusal.TrailingBytes next m refl v k q) (λ _. (v, k, q)))
 
-    after-result-goes : (r : Result) (at n : ℕ) → walked s 0 n ≡ at → at ≤ length s → Passed s (length s) 0 n → Goes s (length s) 0 (afterResult s c r at n)
+    after-result-goes : (r : Result) (at n : ℕ) → placeOfHeader s 0 n ≡ at → at ≤ length s → HeadersPassed s (length s) 0 n → Goes s (length s) 0 (afterResult s c r at n)
     unfolding afterResult
     after-result-goes r at n w h p =
-        goes-then s (length s) 0 (Goes s (length s) 0) (after n (ellipsisAt s at)) _
+        goes-then s (length s) 0 (Goes s (length s) 0) (laterReading n (ellipsisAt s at)) _
         (goes-after s (length s) 0 n at (ellipsisAt s at) w p (ellipsis-goes at h)) (λ f k. k)
         (λ v next m u k q. after-ellipsis-goes r v next m u k q)
 
-    after-convention-goes : (at n : ℕ) → walked s 0 n ≡ at → at ≤ length s → Passed s (length s) 0 n → Goes s (length s) 0 (afterConvention s c at n)
+    after-convention-goes : (at n : ℕ) → placeOfHeader s 0 n ≡ at → at ≤ length s → HeadersPassed s (length s) 0 n → Goes s (length s) 0 (afterConvention s c at n)
     unfolding afterConvention
     after-convention-goes at n w h p =
-        goes-then s (length s) 0 (Goes s (length s) 0) (after n (resultAt c s at)) _
+        goes-then s (length s) 0 (Goes s (length s) 0) (laterReading n (resultAt c s at)) _
         (goes-after s (length s) 0 n at (resultAt c s at) w p (result-goes c at h)) (λ f k. k)
         (λ r next m v k q. after-result-goes r next m v k q)
 
@@ -124,8 +125,8 @@ module _ (s : List ℕ) where
       }
 
   -- of an accepted one
-  pub accepted-walked : (g : Signature) (next n : ℕ) → signatureOf s ≡ got g next n → walked s 0 n ≡ next
-  accepted-walked g next n q = let goes : (walked s 0 n ≡ next) × (next ≤ length s) × Passed s (length s) 0 n = rw q at signature-goes in goes .0
+  pub accepted-walked : (g : Signature) (next n : ℕ) → signatureOf s ≡ got g next n → placeOfHeader s 0 n ≡ next
+  accepted-walked g next n q = let goes : (placeOfHeader s 0 n ≡ next) × (next ≤ length s) × HeadersPassed s (length s) 0 n = rw q at signature-goes in goes .0
 
 -- what whoever hands on a result's fault needs
 pub result-fault-third : (c : Convention) (s : List ℕ) (at : ℕ) (x : ResultRead) (f : Fault) → at ≤ length s → x ≡ resultAnswer c (resultAt c s at) →

@@ -9,6 +9,7 @@ use lib.Dec.{ltb, eqb}
 use native.Mathlib.Omega.{arith}
 use borrow.Author.Tests.{lt-ltb, le-ltb, eq-eqb, ne-eqb}
 use Rattle.base_words.specs.Basics.{pick}
+use Rattle.base_words.proofs.Tests.{by-pick}
 use Rattle.base_conventions.specs.declared.Convention.{Convention}
 use Rattle.sig_types.specs.declared.ValueType.{ValueType}
 use Rattle.sig_types.specs.Trees.{Trees}
@@ -16,11 +17,10 @@ use Rattle.sig_items.specs.declared.Refusal.{Refusal}
 use Rattle.sig_items.specs.declared.Fault.{Fault}
 use Rattle.sig_items.specs.declared.Body.{Body}
 use Rattle.sig_items.specs.declared.ItemRead.{ItemRead}
-use Rattle.sig_items.specs.Reading.{Reading, fault, got, no, later, after, choose, andThen, inBody}
+use Rattle.sig_items.specs.Reading.{Reading, fault, got, no, later, laterReading, choose, andThen, inBody}
 use Rattle.sig_items.specs.Read.{bodyAt, itemAt}
 use Rattle.sig_items.specs.Answer.{itemAnswer}
 use Rattle.sig_items.proofs.Laws.{item-got, item-no}
-use Rattle.sig_items.proofs.Sound.{by-pick}
 use Rattle.base_conventions.specs.declared.ConventionCode.{ConventionCode}
 use Rattle.base_conventions.specs.Numbers.{conventionCode}
 use Rattle.sig_types.specs.Sizes.{maxDepth}
@@ -228,7 +228,7 @@ module _ (s : List ℕ) where
   -- a signature from its arguments on, where n items came before theirs
   abbrev pub thenArguments : Convention → Result → Bool → ℕ → Reading Trees → Reading Signature
   thenArguments c r v n x =
-      andThen (after n x) (λ ts next m.
+      andThen (laterReading n x) (λ ts next m.
       pick (ltb next (length s)) (no (fault Refusal.TrailingBytes next m)) (got (record { convention = c; result = r; ellipsis = v; arguments = ts }) next m))
 
   abbrev pub afterHead : Head → ℕ → ℕ → Reading Signature
@@ -245,13 +245,13 @@ module _ (s : List ℕ) where
       last c r v at n (Body.Refused x) = let same : n + 0 ≡ n = omega arith in ap (λ (k : ℕ). no (fault x at k)) same
 
       third : (c : Convention) (r : Result) (n : ℕ) (x : Reading Bool) →
-          andThen (after n x) (afterEllipsis s c r)
-          ≡ andThen (andThen (after n x) (λ v next m. headBy c r v next m (bodyAt s 0x03 0x03 (length s) next))) afterHead
+          andThen (laterReading n x) (afterEllipsis s c r)
+          ≡ andThen (andThen (laterReading n x) (λ v next m. headBy c r v next m (bodyAt s 0x03 0x03 (length s) next))) afterHead
       third c r n (got v next m) = last c r v next (n + m) (bodyAt s 0x03 0x03 (length s) next)
       third c r n (no f) = refl
 
       second : (c : Convention) (n : ℕ) (x : Reading Result) →
-          andThen (after n x) (afterResult s c) ≡ andThen (andThen (after n x) (headThen s c)) afterHead
+          andThen (laterReading n x) (afterResult s c) ≡ andThen (andThen (laterReading n x) (headThen s c)) afterHead
       second c n (got r next m) = third c r (n + m) (ellipsisAt s next)
       second c n (no f) = refl
 

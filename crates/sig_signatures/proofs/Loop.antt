@@ -1,12 +1,12 @@
 -- The loop over the arguments: its invariant, and what each way out of a turn gives. Assumes nothing.
-use Prim.Native.Nat.{ℕ, suc, _+_, _-_, _*_, _≤_, _<_}
+use Prim.Native.Nat.{ℕ, _+_, _-_, _*_, _≤_, _<_}
 use mathlib.Core.Path.{_≡_, refl, sym, _∙_}
 use mathlib.Core.Bool.{Bool}
-use mathlib.Core.List.{List, [], _∷_, append-assoc}
-use lib.ListN.{length, set, replicate, length-append}
-use lib.Seq.{set-at}
+use mathlib.Core.List.{List}
+use lib.ListN.{length, set, length-append}
 use native.Mathlib.Omega.{arith}
 use borrow.Author.Tests.{lt-ltb, le-ltb}
+use Rattle.base_words.proofs.Tables.{filled-more}
 use Rattle.base_conventions.specs.declared.Convention.{Convention}
 use Rattle.sig_types.specs.declared.IntegerKind.{IntegerKind}
 use Rattle.sig_types.specs.declared.ValueType.{ValueType}
@@ -42,10 +42,7 @@ table-none c = refl
 table-more : (c : Convention) (ts : Trees) (t : Tree) → countOf ts < maxArguments → set (table c ts) (countOf ts) (argument (typeOf c t)) ≡ table c (ts ▸ t)
 unfolding table listed countOf
 table-more c ts t h =
-    let blank = argument (ValueType.Integer IntegerKind.I8) in
-    let left : maxArguments - countOf ts ≡ suc (maxArguments - (countOf ts + 1)) = omega arith in
-    rw left (set-at (listed c ts) blank (replicate (maxArguments - (countOf ts + 1)) blank) (argument (typeOf c t)) (countOf ts) (listed-length c ts)
-    ∙ sym (append-assoc (listed c ts) (argument (typeOf c t) ∷ []) (replicate (maxArguments - (countOf ts + 1)) blank)))
+    filled-more maxArguments (argument (ValueType.Integer IntegerKind.I8)) (listed c ts) (countOf ts) (argument (typeOf c t)) (listed-length c ts) h
 
 same-set : {l k : List Argument} {i j : ℕ} {t u : ValueType} → l ≡ k → i ≡ j → t ≡ u → set l i (argument t) ≡ set k j (argument u)
 same-set p q r = cc

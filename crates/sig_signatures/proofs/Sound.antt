@@ -8,17 +8,17 @@ use lib.Dec.{ltb, eqb}
 use native.Mathlib.Omega.{arith}
 use borrow.Author.Tests.{ltb-false, eqb-true}
 use Rattle.base_words.specs.Numbers.{Bytes}
+use Rattle.base_words.proofs.Tests.{by-pick}
 use Rattle.base_conventions.specs.declared.Convention.{Convention}
 use Rattle.sig_types.specs.Trees.{Tree, Trees, none, countOf}
 use Rattle.sig_types.specs.Limits as limits
-use Rattle.sig_items.specs.Reading.{Reading, got, no}
-use Rattle.sig_items.specs.declared.Body.{Body}
-use Rattle.sig_items.specs.Read.{bodyAt, itemAt}
+use Rattle.sig_items.specs.Reading.{got}
+use Rattle.sig_items.specs.Read.{itemAt}
 use Rattle.sig_items.specs.Encode.{item, encodeTree, encodeTrees, itemsIn}
 use Rattle.sig_items.proofs.Levels.{left-within, all-left-within}
 use Rattle.sig_items.proofs.Has.{Has, has-move, has-append, has-item, has-same, length-item}
 use Rattle.sig_items.proofs.Trees.{tree-third, trees-third}
-use Rattle.sig_items.proofs.Sound.{by-pick, by-choose, by-then, by-next, by-body, BodyIs, body-is, Got, Framed, Read, Ended, none-read, sequence-sound, item-sound, got-map}
+use Rattle.sig_items.proofs.Sound.{by-choose, by-then, by-next, by-body, Got, Framed, Read, Ended, none-read, sequence-sound, item-sound, got-with, body-cases}
 use Rattle.base_conventions.specs.declared.ConventionCode.{ConventionCode}
 use Rattle.base_conventions.specs.Numbers.{conventionCode, codeOf}
 use Rattle.base_conventions.proofs.Laws.{CodeIs, code-is}
@@ -42,6 +42,7 @@ framed-item s tag at b body f q bytes h = has-item s bytes tag body at (omega ar
 -- the convention
 
 pub record ConventionSound (s : List ℕ) (c : Convention) (next n : ℕ) : Type 0 where
+  pub framed : Framed s 0x01 0x01 (length s) 0 next
   pub here : Bytes s → Has s 0 (item 0x01 (codeOf c ∷ []))
   pub ends : next ≡ 4
   pub inside : next ≤ length s
@@ -54,13 +55,14 @@ convention-sound s = by-body (ConventionSound s) s 0x01 0x01 (length s) 0 _ (λ 
   where
     code : (b : ℕ) → Framed s 0x01 0x01 (length s) 0 b → b ≡ 4 → (x : ConventionCode) → CodeIs (getD s 3 0) x → Got (ConventionSound s) (conventionBy x)
     code b framed q (ConventionCode.Known c) v =
-        let inside = framed .inside in
-        record { here = λ bytes. framed-item s 0x01 0 b (codeOf c ∷ []) framed q bytes (v, tt); ends = refl; inside = omega arith; count = refl }
+        let whole : Framed s 0x01 0x01 (length s) 0 4 = rw q at framed in
+        record { framed = whole; here = λ bytes. framed-item s 0x01 0 4 (codeOf c ∷ []) whole refl bytes (v, tt); ends = refl; inside = whole .inside; count = refl }
     code b framed q ConventionCode.Unknown v = tt
 
 -- the result
 
 pub record ResultSound (c : Convention) (s : List ℕ) (at : ℕ) (r : Result) (next n : ℕ) : Type 0 where
+  pub framed : Framed s 0x02 0x02 (length s) at next
   pub within : ResultWithin c r
   pub here : Bytes s → Has s at (item 0x02 (encodeResult r))
   pub ends : next ≡ at + 3 + length (encodeResult r)
@@ -75,6 +77,7 @@ module _ (c : Convention) (s : List ℕ) (at b : ℕ) (framed : Framed s 0x02 0x
       let inside = r .inside in
       let count = r .count in
       record {
+        framed = framed;
         within = left-within c t (r .within);
         here = λ bytes. framed-item s 0x02 at b (encodeTree t) framed (omega arith) bytes (r .here bytes);
         ends = omega arith;
@@ -85,6 +88,7 @@ module _ (c : Convention) (s : List ℕ) (at b : ℕ) (framed : Framed s 0x02 0x
   result-none-sound : at + 3 ≡ b → ResultSound c s at nothing b 1
   unfolding ResultWithin encodeResult resultItems Has
   result-none-sound q = record {
+    framed = framed;
     within = tt;
     here = λ bytes. framed-item s 0x02 at b [] framed (omega arith) bytes tt;
     ends = omega arith;
@@ -129,25 +133,32 @@ ellipsis-sound s at = by-choose (Got (EllipsisSound s at)) (eqb (getD s at 0) 0x
 
 -- the arguments
 
+-- their item's body, up to `end`, where they are read
 pub record ArgumentsSound (c : Convention) (s : List ℕ) (at : ℕ) (ts : Trees) (next n : ℕ) : Type 0 where
+  pub end : ℕ
+  pub framed : Framed s 0x03 0x03 (length s) at end
+  pub read : argumentsIn c s (at + 3) end ≡ got ts next n
   pub within : limits.AllWithin c ts
   pub here : Bytes s → Has s at (item 0x03 (encodeTrees ts))
   pub ends : next ≡ at + 3 + length (encodeTrees ts)
-  pub inside : next ≤ length s
+  pub inside : next ≤ end
   pub few : countOf ts ≤ maxArguments
   pub count : n ≡ 1 + itemsIn ts
 
-arguments-ended : (c : Convention) (s : List ℕ) (at b : ℕ) → Framed s 0x03 0x03 (length s) at b → (ts : Trees) (next n : ℕ) →
+arguments-ended : (c : Convention) (s : List ℕ) (at b : ℕ) → Framed s 0x03 0x03 (length s) at b → (ts : Trees) (next n : ℕ) → argumentsIn c s (at + 3) b ≡ got ts next n →
     Ended c maxDepth s b (at + 3) 1 maxArguments ts next n → ArgumentsSound c s at ts next n
-arguments-ended c s at b framed ts next n e =
+arguments-ended c s at b framed ts next n read e =
     let ends = e .all .ends in
     let inside = e .all .inside in
     let last = e .last in
     record {
+      end = b;
+      framed = framed;
+      read = read;
       within = all-left-within c ts (e .all .within);
       here = λ bytes. framed-item s 0x03 at b (encodeTrees ts) framed (omega arith) bytes (e .all .here bytes);
       ends = omega arith;
-      inside = omega arith;
+      inside = inside;
       few = e .few;
       count = e .all .count;
     }
@@ -156,7 +167,7 @@ pub arguments-sound : (c : Convention) (s : List ℕ) (at : ℕ) → Got (Argume
 unfolding argumentsAt argumentsIn countOf
 arguments-sound c s at = by-body (ArgumentsSound c s at) s 0x03 0x03 (length s) at _ (λ b framed.
     let ends = framed .ends in
-    got-map (Ended c maxDepth s b (at + 3) 1 maxArguments) (ArgumentsSound c s at) (argumentsIn c s (at + 3) b) (arguments-ended c s at b framed)
+    got-with (Ended c maxDepth s b (at + 3) 1 maxArguments) (ArgumentsSound c s at) (argumentsIn c s (at + 3) b) (arguments-ended c s at b framed)
     (sequence-sound c maxDepth s b (at + 3) 1 maxArguments (itemAt c maxDepth s b) (λ k. item-sound c maxDepth s b k) maxArguments (at + 3) 1 none
     (none-read c maxDepth s b (at + 3) 1 (omega arith)) refl))
 
@@ -200,6 +211,7 @@ module _ (s : List ℕ) (short : length s ≤ maxLength) (c : Convention) (at₁
         let g : Signature = record { convention = c; result = r; ellipsis = v; arguments = ts } in
         let size = length-encode g in
         let two = item 0x02 (encodeResult r) in
+        let inside = third .framed .inside in
         record {
           within = record { result = second .within; arguments = third .within; few = third .few; short = omega arith };
           here = λ bytes. has-same s (encode g) (omega arith)
@@ -268,14 +280,8 @@ head-then-sound : (s : List ℕ) → length s ≤ maxLength → (c : Convention)
     Got (HeadSound s) (headThen s c r at n)
 unfolding headThen
 head-then-sound s short c r at n room few = by-next (EllipsisSound s at) (HeadSound s) n (ellipsisAt s at) _ (ellipsis-sound s at)
-    (λ v next m mark. go v next m mark (bodyAt s 0x03 0x03 (length s) next) (body-is s 0x03 0x03 (length s) next))
-  where
-    go : (v : Bool) (next m : ℕ) → EllipsisSound s at v next m → (x : Body) → BodyIs s 0x03 0x03 (length s) next x → Got (HeadSound s) (headBy c r v next (n + m) x)
-    go v next m mark (Body.To b) framed =
-        let third = ellipsis-third v in
-        let ends = framed .ends in
-        record { inside = omega arith; within = framed .inside; short = short; third = omega arith }
-    go v next m mark (Body.Refused x) framed = tt
+    (λ v next m mark. body-cases (λ x. Got (HeadSound s) (headBy c r v next (n + m) x)) s 0x03 0x03 (length s) next tt tt
+    (λ b framed. let third = ellipsis-third v in let ends = framed .ends in record { inside = omega arith; within = framed .inside; short = short; third = omega arith }))
 
 head-after-sound : (s : List ℕ) → length s ≤ maxLength → (c : Convention) (at n : ℕ) → ConventionSound s c at n → Got (HeadSound s) (headAfter s c at n)
 unfolding headAfter

@@ -7,7 +7,7 @@ use mathlib.Core.List.{List, [], _∷_, _++_}
 use lib.ListN.{length}
 use native.Mathlib.Omega.{arith}
 use Rattle.base_words.specs.Numbers.{Bytes}
-use Rattle.base_words.proofs.Numbers.{bytes-append}
+use Rattle.base_words.proofs.Numbers.{bytes-append, bytes-none, bytes-cons}
 use Rattle.base_conventions.specs.declared.Convention.{Convention}
 use Rattle.base_conventions.specs.Numbers.{codeOf}
 use Rattle.base_conventions.proofs.Laws.{code-byte}
@@ -15,7 +15,7 @@ use Rattle.sig_types.proofs.Sized.{within-sized, all-within-sized}
 use Rattle.sig_items.specs.declared.Fault.{Fault}
 use Rattle.sig_items.specs.Reading.{got, no}
 use Rattle.sig_items.specs.Encode.{item, encodeTrees}
-use Rattle.sig_items.proofs.Trees.{bytes-none, bytes-cons, bytes-item, tree-bytes, trees-bytes}
+use Rattle.sig_items.proofs.Trees.{bytes-item, tree-bytes, trees-bytes}
 use Rattle.sig_signatures.specs.Signature.{Result, nothing, value, Signature}
 use Rattle.sig_signatures.specs.Read.{signatureOf}
 use Rattle.sig_signatures.specs.Encode.{encodeResult, ellipsisItem, encode, signatureItems, ResultWithin, SignatureWithin}

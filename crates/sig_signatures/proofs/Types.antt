@@ -1,16 +1,18 @@
 -- The types in the reader's table are the signature's, and what the reader answers can be planned. Assumes nothing.
-use mathlib.Core.Path.{_≡_, refl, sym, ap, _∙_}
+use mathlib.Core.Path.{_≡_, refl, sym, ap, subst, _∙_}
 use mathlib.Core.List.{List, [], _∷_, _++_, map}
 use Prim.Native.Nat.{ℕ, zero, suc, _-_, _≤_, _<_}
 use native.Mathlib.Omega.{arith}
 use lib.ListN.{length, getD, take, drop, replicate, length-append, List·getD-append}
-use lib.Seq.{take-at, getD-at}
+use lib.Seq.{take-at}
+use Rattle.base_words.specs.Basics.{All}
 use Rattle.base_words.proofs.Basics.{map-append}
+use Rattle.base_words.proofs.Each.{each-both, each-map, each-get}
 use Rattle.base_conventions.specs.declared.Convention.{Convention}
 use Rattle.sig_types.specs.declared.IntegerKind.{IntegerKind}
 use Rattle.sig_types.specs.declared.ValueType.{ValueType}
-use Rattle.sig_types.specs.Sizes.{sizeOf}
-use Rattle.sig_types.specs.Trees.{Trees, none, _▸_, typeOf, countOf}
+use Rattle.sig_types.specs.Sizes.{sizeOf, Sized}
+use Rattle.sig_types.specs.Trees.{Tree, Trees, none, _▸_, typeOf, countOf}
 use Rattle.sig_types.specs.Limits.{AllSized}
 use Rattle.sig_items.specs.Reading.{Reading, got, no}
 use Rattle.sig_signatures.specs.declared.Argument.{Argument}
@@ -38,25 +40,22 @@ unfolding table
 table-types c ts =
     ap (map argumentType) (take-at (listed c ts) (replicate (maxArguments - countOf ts) blank) (countOf ts) (listed-length c ts)) ∙ listed-types c ts
 
-listed-small : (c : Convention) (ts : Trees) → AllSized c ts → (i : ℕ) → i < countOf ts → sizeOf c (getD (listed c ts) i blank .ty) ≤ 256
-unfolding listed countOf AllSized
-listed-small c none a i h = absurd (omega arith)
-listed-small c (ts ▸ t) a i h = go (countOf ts - i) refl (listed-small c ts (a .0) i)
-  where
-    go : (n : ℕ) → countOf ts - i ≡ n → (i < countOf ts → sizeOf c (getD (listed c ts) i blank .ty) ≤ 256)
-        → sizeOf c (getD (listed c ts ++ argument (typeOf c t) ∷ []) i blank .ty) ≤ 256
-    go zero e ih =
-        let at : i ≡ length (listed c ts) = omega (arith, listed-length c ts) in
-        rw (getD-at (listed c ts) (argument (typeOf c t)) [] blank i (sym at)) (a .1 .small)
-    go (suc n) e ih =
-        let before : i < length (listed c ts) = omega (arith, listed-length c ts) in
-        rw (List·getD-append (listed c ts) (argument (typeOf c t) ∷ []) blank i before) (ih (omega arith))
+-- what holds of each type that a signature may have
+listed-each : (c : Convention) (P : ValueType → Type 0) → ((t : Tree) → Sized c (typeOf c t) → P (typeOf c t)) → (ts : Trees) → AllSized c ts
+    → All (λ (a : Argument). P (a .ty)) (listed c ts)
+unfolding listed AllSized All
+listed-each c P f none a = tt
+listed-each c P f (ts ▸ t) a = each-both (λ (x : Argument). P (x .ty)) (listed c ts) (argument (typeOf c t) ∷ []) (listed-each c P f ts (a .0)) (f t (a .1), tt)
+
+pub types-each : (c : Convention) (P : ValueType → Type 0) → ((t : Tree) → Sized c (typeOf c t) → P (typeOf c t)) → (ts : Trees) → AllSized c ts → All P (typesOf c ts)
+types-each c P f ts a = subst (All P) (listed-types c ts) (each-map argumentType P (listed c ts) (listed-each c P f ts a))
 
 table-small : (c : Convention) (ts : Trees) → AllSized c ts → (i : ℕ) → i < countOf ts → sizeOf c (getD (table c ts) i blank .ty) ≤ 256
 unfolding table
 table-small c ts a i h =
     let before : i < length (listed c ts) = omega (arith, listed-length c ts) in
-    rw (List·getD-append (listed c ts) (replicate (maxArguments - countOf ts) blank) blank i before) (listed-small c ts a i h)
+    rw (List·getD-append (listed c ts) (replicate (maxArguments - countOf ts) blank) blank i before)
+    (each-get (λ (x : Argument). sizeOf c (x .ty) ≤ 256) blank (listed c ts) i before (listed-each c (λ t. sizeOf c t ≤ 256) (λ t h. h .small) ts a))
 
 length-table : (c : Convention) (ts : Trees) → countOf ts ≤ length (table c ts)
 unfolding table

@@ -10,7 +10,7 @@ use Rattle.sig_types.specs.Trees.{typeOf}
 use Rattle.sig_types.specs.Limits.{AllSized}
 use Rattle.sig_items.specs.declared.Fault.{Fault}
 use Rattle.sig_items.specs.Reading.{fault, got, no}
-use Rattle.sig_items.specs.HowFar.{walked, stopOf, metBy, HowFar}
+use Rattle.sig_items.specs.HowFar.{placeOfHeader, stopOf, metBy, HowFar}
 use Rattle.sig_signatures.specs.Signature.{Result, nothing, value, Signature}
 use Rattle.sig_signatures.specs.Read.{signatureOf}
 use Rattle.sig_signatures.specs.Encode.{encode, signatureItems, SignatureWithin}
@@ -46,8 +46,8 @@ pub record Stopped (s : List ℕ) (f : Fault) : Type 0 where
   -- the headers that had passed lead, one after the other, from the first byte to where the reading stopped
   pub far : HowFar s (length s) 0 f
   -- each of them begins before that place, and three bytes or more after the one before
-  pub before : (i : ℕ) → i < metBy f → walked s 0 i + 3 ≤ stopOf s f
-  pub ascending : (i j : ℕ) → i < j → walked s 0 i + 3 ≤ walked s 0 j
+  pub before : (i : ℕ) → i < metBy f → placeOfHeader s 0 i + 3 ≤ stopOf s f
+  pub ascending : (i j : ℕ) → i < j → placeOfHeader s 0 i + 3 ≤ placeOfHeader s 0 j
   -- and no other count would be so
   pub only : (n : ℕ) → HowFar s (length s) 0 (fault (f .reason) (f .place) n) → n ≡ f .passed
 

@@ -1,7 +1,7 @@
 -- For proofs and helpers alone: no claim cites this file.
 -- What planners ask of a signature that was read: it holds of every answer of the reader (law `answer-plannable`);
 -- and the answer from the arguments on. Assumes nothing.
-use Prim.Native.Nat.{ℕ, _≤_, _<_, _+_}
+use Prim.Native.Nat.{ℕ, _≤_, _<_, _+_, _*_}
 use lib.ListN.{length, getD}
 use Rattle.base_conventions.specs.declared.Convention.{Convention}
 use Rattle.sig_types.specs.declared.IntegerKind.{IntegerKind}
@@ -36,3 +36,7 @@ pub record Plannable (g : SignatureRead) : Type 0 where
 abbrev pub withArguments : Convention → ResultType → Bool → ℕ → ℕ → Reading Trees → SignatureRead
 withArguments c r v n all (got ts next m) = pick (ltb next all) (refusedSignature (fault Refusal.TrailingBytes next (n + m))) (accepted c r v ts (n + m))
 withArguments c r v n all (no f) = refusedSignature (later n f)
+
+-- n words, w for each, are enough for as many arguments as can stand between `at` and e: each takes three bytes or more
+abbrev pub RoomFor : ℕ → ℕ → ℕ → ℕ → Type 0
+RoomFor w at e n = (i : ℕ) → i ≤ maxArguments → at + 3 * i ≤ e → w * i ≤ n

@@ -11,7 +11,7 @@ use Rattle.sig_types.specs.Trees.{Trees, none}
 use Rattle.sig_types.specs.Sizes.{maxDepth}
 use Rattle.sig_items.specs.declared.Refusal.{Refusal}
 use Rattle.sig_items.specs.declared.Body.{Body}
-use Rattle.sig_items.specs.Reading.{Reading, fault, got, no, after, choose, andThen, inBody}
+use Rattle.sig_items.specs.Reading.{Reading, fault, got, no, laterReading, choose, andThen, inBody}
 use Rattle.sig_items.specs.Read.{bodyAt, sequence, itemAt}
 use Rattle.base_conventions.specs.declared.ConventionCode.{ConventionCode}
 use Rattle.base_conventions.specs.Numbers.{conventionCode}
@@ -33,7 +33,7 @@ conventionAt s =
 unfoldable pub resultIn : Convention → List ℕ → ℕ → ℕ → Reading Result
 resultIn c s at b =
     choose (eqb at b) (λ _. got nothing b 1)
-    (λ _. andThen (after 1 (itemAt c maxDepth s b at)) (λ t next n. pick (ltb next b) (no (fault Refusal.Malformed next n)) (got (value t) b n)))
+    (λ _. andThen (laterReading 1 (itemAt c maxDepth s b at)) (λ t next n. pick (ltb next b) (no (fault Refusal.Malformed next n)) (got (value t) b n)))
 
 -- "tag 0x02: result"
 unfoldable pub resultAt : Convention → List ℕ → ℕ → Reading Result
@@ -58,14 +58,14 @@ argumentsAt c s at = inBody (bodyAt s 0x03 0x03 (length s) at) at (λ b. argumen
 -- "9 now means bytes after tag 0x03's item" (document 02, No. 5), "(place: there)"; n items came before it
 unfoldable pub afterEllipsis : List ℕ → Convention → Result → Bool → ℕ → ℕ → Reading Signature
 afterEllipsis s c r v at n =
-    andThen (after n (argumentsAt c s at)) (λ ts next m.
+    andThen (laterReading n (argumentsAt c s at)) (λ ts next m.
     pick (ltb next (length s)) (no (fault Refusal.TrailingBytes next m)) (got (record { convention = c; result = r; ellipsis = v; arguments = ts }) next m))
 
 unfoldable pub afterResult : List ℕ → Convention → Result → ℕ → ℕ → Reading Signature
-afterResult s c r at n = andThen (after n (ellipsisAt s at)) (afterEllipsis s c r)
+afterResult s c r at n = andThen (laterReading n (ellipsisAt s at)) (afterEllipsis s c r)
 
 unfoldable pub afterConvention : List ℕ → Convention → ℕ → ℕ → Reading Signature
-afterConvention s c at n = andThen (after n (resultAt c s at)) (afterResult s c)
+afterConvention s c at n = andThen (laterReading n (resultAt c s at)) (afterResult s c)
 
 -- "A signature is three items in this order, and nothing after", but for the ellipsis
 unfoldable pub signatureOf : List ℕ → Reading Signature
@@ -78,10 +78,10 @@ headBy c r v at n (Body.To b) = got (record { convention = c; result = r; ellips
 headBy c r v at n (Body.Refused x) = no (fault x at n)
 
 unfoldable pub headThen : List ℕ → Convention → Result → ℕ → ℕ → Reading Head
-headThen s c r at n = andThen (after n (ellipsisAt s at)) (λ v next m. headBy c r v next m (bodyAt s 0x03 0x03 (length s) next))
+headThen s c r at n = andThen (laterReading n (ellipsisAt s at)) (λ v next m. headBy c r v next m (bodyAt s 0x03 0x03 (length s) next))
 
 unfoldable pub headAfter : List ℕ → Convention → ℕ → ℕ → Reading Head
-headAfter s c at n = andThen (after n (resultAt c s at)) (headThen s c)
+headAfter s c at n = andThen (laterReading n (resultAt c s at)) (headThen s c)
 
 unfoldable pub headOf : List ℕ → Reading Head
 headOf s = choose (ltb maxLength (length s)) (λ _. no (fault Refusal.TooLong 0 0)) (λ _. andThen (conventionAt s) (headAfter s))

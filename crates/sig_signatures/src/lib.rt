@@ -9,6 +9,12 @@ ghost use Rattle.sig_signatures.specs.Answer.{noArguments};
 // The most arguments: `maxArguments` of specs/Limits.antt.
 pub const MAX_ARGUMENTS: usize = 128;
 
+// Room for what is kept of arguments is cleared before it is used, so that a little of it is worth a test: an argument takes three bytes or more, so
+// that room for this many is enough where their part has at most FEW_BYTES.
+pub const FEW_ARGUMENTS: usize = 12;
+
+pub const FEW_BYTES: usize = 3 * FEW_ARGUMENTS;
+
 pub enum ResultType {
     Nothing,
     Value(ValueType),

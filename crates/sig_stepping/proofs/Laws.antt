@@ -6,6 +6,7 @@ use lib.ListN.{length, getD}
 use lib.Dec.{ltb}
 use native.Mathlib.Omega.{arith}
 use borrow.Author.Tests.{lt-ltb, le-ltb, ltb-false}
+use Rattle.base_words.proofs.Tests.{by-pick}
 use Rattle.base_conventions.specs.declared.Convention.{Convention}
 use Rattle.sig_items.specs.declared.Refusal.{Refusal}
 use Rattle.sig_items.specs.declared.Body.{Body}
@@ -14,7 +15,7 @@ use Rattle.sig_items.specs.Reading.{fault}
 use Rattle.sig_items.specs.Read.{bodyAt, itemAt}
 use Rattle.sig_items.specs.Answer.{itemAnswer}
 use Rattle.sig_items.proofs.Laws.{body-short, item-refused}
-use Rattle.sig_items.proofs.Sound.{by-pick, body-framed}
+use Rattle.sig_items.proofs.Sound.{body-framed}
 use Rattle.sig_signatures.specs.Limits.{maxLength}
 use Rattle.sig_stepping.specs.declared.Header.{Header}
 use Rattle.sig_stepping.specs.Step.{endIn, leftAt, bodyIn, headerIn, bodyStart, bodyEnd, typeIn}

@@ -15,6 +15,7 @@ pub mod machine_calls;
 pub mod machine_lists;
 pub mod machines;
 pub mod marshal;
+pub mod met;
 pub mod plans;
 pub mod random;
 pub mod second_planner;

@@ -2,6 +2,7 @@
 //! is only read, with guards on either side, after yes and after each refusal.
 
 use crate::calls::{self, Call, Case, Fault, Operation};
+use crate::met::Met;
 use crate::plans;
 use crate::random::Random;
 use crate::signatures::{hex, refused, ACCEPTED};
@@ -10,7 +11,6 @@ use flakuzhen::surface::marshal::{self as surface, Part};
 use flakuzhen::surface::stored as stored_surface;
 use flakuzhen::surface::Answer;
 use reference::{marshal as second, stored as second_stored, Convention, Refusal};
-use std::collections::BTreeMap;
 use std::fmt;
 use std::hint::black_box;
 
@@ -25,12 +25,7 @@ pub struct Histogram {
     pub answers: [u64; ANSWERS],
     /// How many of each had a count of items.
     pub counted: [u64; ANSWERS],
-    /// How often each fault was the one that was answered.
-    pub faults: BTreeMap<Fault, u64>,
-    /// How often a call had both of these, and the first was answered.
-    pub orders: BTreeMap<(Fault, Fault), u64>,
-    /// How often each edge came.
-    pub edges: BTreeMap<&'static str, u64>,
+    pub met: Met<Fault>,
     /// What the accepted calls were like.
     pub accepted: plans::Histogram,
     /// Fill alone: how often its work was read back, and homed and viewed.
@@ -44,9 +39,7 @@ impl Histogram {
             operation,
             answers: [0; ANSWERS],
             counted: [0; ANSWERS],
-            faults: BTreeMap::new(),
-            orders: BTreeMap::new(),
-            edges: BTreeMap::new(),
+            met: Met::default(),
             accepted: plans::Histogram::default(),
             read_back: 0,
             viewed_back: 0,
@@ -61,21 +54,10 @@ impl Histogram {
         let number = answer.number as usize;
         self.answers[number] += 1;
         self.counted[number] += u64::from(answer.items > 0);
-        let answered = case.faults.first().copied();
-        match answered {
-            None => plans::count_cases(&case.signature, &case.plan, &mut self.accepted),
-            Some(first) => {
-                *self.faults.entry(first).or_default() += 1;
-                for &other in case.faults.iter().skip(1) {
-                    *self.orders.entry((first, other)).or_default() += 1;
-                }
-            }
+        if case.faults.is_empty() {
+            plans::count_cases(&case.signature, &case.plan, &mut self.accepted);
         }
-        for &(matters_for, edge) in &case.edges {
-            if matters_for == answered {
-                *self.edges.entry(edge).or_default() += 1;
-            }
-        }
+        self.met.count(&case.faults, &case.edges);
     }
 }
 
@@ -103,16 +85,7 @@ impl fmt::Display for Histogram {
                 self.read_back, self.viewed_back
             )?;
         }
-        for (fault, count) in &self.faults {
-            write!(to, "\n  {fault:?}: {count}")?;
-        }
-        for ((first, other), count) in &self.orders {
-            write!(to, "\n  {first:?} before {other:?}: {count}")?;
-        }
-        for (edge, count) in &self.edges {
-            write!(to, "\n  {edge}: {count}")?;
-        }
-        Ok(())
+        write!(to, "{}", self.met)
     }
 }
 

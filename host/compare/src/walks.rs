@@ -6,6 +6,7 @@ use crate::calls::{self, Call, Case, Fault as Content};
 use crate::encode;
 use crate::generate;
 use crate::marshal::Lent;
+use crate::met::Met;
 use crate::plans;
 use crate::random::Random;
 use crate::signatures::{hex, refused, ACCEPTED};
@@ -16,7 +17,7 @@ use reference::walker::{self as second, Walker};
 use reference::{
     ArgumentPlan, Convention, Float, Place, Plan, Refusal, ResultPlan, Signature, Type,
 };
-use std::collections::{BTreeMap, BTreeSet};
+use std::collections::BTreeSet;
 use std::fmt;
 use std::hint::black_box;
 
@@ -109,9 +110,7 @@ pub struct Histogram {
     /// How many of each had a count of items, and how many a place.
     pub counted: [u64; 30],
     pub placed: [u64; 30],
-    pub faults: BTreeMap<Fault, u64>,
-    pub orders: BTreeMap<(Fault, Fault), u64>,
-    pub edges: BTreeMap<&'static str, u64>,
+    pub met: Met<Fault>,
     /// Whole walks, and their steps over declared types and past them.
     pub walks: u64,
     pub declared: u64,
@@ -123,10 +122,6 @@ pub struct Histogram {
 impl Histogram {
     pub fn steps(&self) -> u64 {
         self.answers.iter().sum()
-    }
-
-    fn edge(&mut self, edge: &'static str) {
-        *self.edges.entry(edge).or_default() += 1;
     }
 
     fn count(&mut self, answer: Answer) {
@@ -153,16 +148,7 @@ impl fmt::Display for Histogram {
             self.walks, self.declared, self.past
         )?;
         write!(to, "\n  starts:{}", numbers(&self.starts))?;
-        for (fault, count) in &self.faults {
-            write!(to, "\n  {fault:?}: {count}")?;
-        }
-        for ((first, other), count) in &self.orders {
-            write!(to, "\n  {first:?} before {other:?}: {count}")?;
-        }
-        for (edge, count) in &self.edges {
-            write!(to, "\n  {edge}: {count}")?;
-        }
-        Ok(())
+        write!(to, "{}", self.met)
     }
 }
 
@@ -702,17 +688,7 @@ fn compare_case(random: &mut Random, seen: &mut Histogram) -> Result<(), Differe
         return Err(told(&case.step, &what));
     }
     seen.count(answer);
-    if let Some(first) = answered {
-        *seen.faults.entry(first).or_default() += 1;
-        for &other in case.faults.iter().skip(1) {
-            *seen.orders.entry((first, other)).or_default() += 1;
-        }
-    }
-    for (matters_for, edge) in case.edges {
-        if matters_for == answered {
-            seen.edge(edge);
-        }
-    }
+    seen.met.count(&case.faults, &case.edges);
     Ok(())
 }
 
@@ -797,7 +773,7 @@ fn compare_starts(random: &mut Random, seen: &mut Histogram) -> Result<(), Diffe
         seen.starts[answer.number as usize] += 1;
         if reference::call(&bytes).is_err_and(|refusal| refusal.number == 29) {
             assert_eq!(answer.number, 0, "29 is no matter of a start");
-            seen.edge("a start on a signature that 29 refuses");
+            seen.met.edge("a start on a signature that 29 refuses");
         }
     }
     Ok(())

@@ -2,17 +2,19 @@
 
 use compare::calls::{Fault, Operation};
 use compare::marshal::{self, Histogram};
+use compare::met::Least;
 use compare::plans::{AIX, PPC64, PPC64B, Z};
 use compare::stored::STALE;
 
 /// The calls of each operation.
 const CALLS: u64 = 75_000;
 
-/// How often each fault must have been the one that was answered, each fault before each later
-/// one, each edge, and each of what accepted calls may be like.
-const FAULTS: u64 = 1_000;
-const ORDERS: u64 = 100;
-const EDGES: u64 = 200;
+const LEAST: Least = Least {
+    faults: 1_000,
+    orders: 100,
+    edges: 200,
+};
+/// How often each of what accepted calls may be like must have come.
 const CASES: u64 = 200;
 
 /// What singles in floating registers of PPC64 and AIX must have been.
@@ -20,6 +22,21 @@ const SINGLES: [&str; 3] = [
     "a signaling NaN in a floating register",
     "a subnormal single in a floating register",
     "an infinite single in a floating register",
+];
+
+/// The edges of filling, from stored bytes or not.
+const FILLED: [&str; 11] = [
+    "a hidden address over 32 bits that is not needed",
+    "an area that just fits",
+    "an area that is too short by one",
+    "base 0",
+    "copies that are too short by one",
+    "copies that just fit",
+    "the highest base",
+    "the highest hidden address",
+    "the lowest base that is too high",
+    "the lowest hidden address that is too high",
+    "values of one byte too many or too few",
 ];
 
 /// Runs the comparison and holds what came to what must have come.
@@ -42,26 +59,7 @@ fn run(operation: Operation, edges: &[&str], cases: &[&str]) -> Histogram {
     }
     assert!(seen.answers[1] > 0, "1 never came");
     assert!(seen.answers[29] >= 100, "29 came seldom");
-    let faults = operation.faults();
-    for (at, &fault) in faults.iter().enumerate() {
-        let count = seen.faults.get(&fault).copied().unwrap_or(0);
-        assert!(count >= FAULTS, "{fault:?} came only {count} times");
-        for &later in &faults[at + 1..] {
-            let count = seen.orders.get(&(fault, later)).copied().unwrap_or(0);
-            let least = if together(fault, later) { ORDERS } else { 0 };
-            assert!(
-                count >= least,
-                "{fault:?} before {later:?} came only {count} times"
-            );
-        }
-    }
-    for edge in edges {
-        let count = seen.edges.get(edge).copied().unwrap_or(0);
-        assert!(count >= EDGES, "'{edge}' came only {count} times");
-    }
-    for edge in seen.edges.keys() {
-        assert!(edges.contains(edge), "'{edge}' is not named");
-    }
+    seen.met.hold(operation.faults(), together, edges, &LEAST);
     for case in cases {
         let count = seen.accepted.case(case);
         assert!(count >= CASES, "'{case}' came only {count} times");
@@ -90,20 +88,7 @@ fn together(fault: Fault, other: Fault) -> bool {
 
 #[test]
 fn fill() {
-    let edges = [
-        "a hidden address over 32 bits that is not needed",
-        "an area that just fits",
-        "an area that is too short by one",
-        "base 0",
-        "copies that are too short by one",
-        "copies that just fit",
-        "the highest base",
-        "the highest hidden address",
-        "the lowest base that is too high",
-        "the lowest hidden address that is too high",
-        "values of one byte too many or too few",
-    ];
-    let edges = [&edges[..], &SINGLES].concat();
+    let edges = [&FILLED[..], &SINGLES].concat();
     let seen = run(
         Operation::Fill,
         &edges,
@@ -173,20 +158,7 @@ fn view() {
 
 #[test]
 fn fill_stored() {
-    let edges = [
-        "a hidden address over 32 bits that is not needed",
-        "an area that just fits",
-        "an area that is too short by one",
-        "base 0",
-        "copies that are too short by one",
-        "copies that just fit",
-        "the highest base",
-        "the highest hidden address",
-        "the lowest base that is too high",
-        "the lowest hidden address that is too high",
-        "values of one byte too many or too few",
-    ];
-    let edges = [&edges[..], &SINGLES, &STALE].concat();
+    let edges = [&FILLED[..], &SINGLES, &STALE].concat();
     let seen = run(
         Operation::FillStored,
         &edges,

@@ -2,18 +2,20 @@
 
 use compare::calls::Call;
 use compare::encode::{self, variable_signature_of};
-use compare::walks::{self, Fault, Histogram, Step};
+use compare::met::Least;
+use compare::walks::{self, Fault, Step};
 use reference::walker::Walker;
 use reference::{Convention, Float, Integer, Place, Signature, Type};
 
 /// The generated steps; a sixth as many whole walks come with them.
 const STEPS: u64 = 90_000;
 
-/// How often each fault must have been the one that was answered, each fault before each later one,
-/// each edge, and each of the item's own refusals.
-const FAULTS: u64 = 1_000;
-const ORDERS: u64 = 50;
-const EDGES: u64 = 100;
+const LEAST: Least = Least {
+    faults: 1_000,
+    orders: 50,
+    edges: 100,
+};
+/// How often each of the item's own refusals must have come.
 const ITEMS: u64 = 50;
 
 #[test]
@@ -54,29 +56,8 @@ fn generated_steps_and_walks() {
             assert!(seen.counted[number] > 0, "{number} never had a count");
         }
     }
-    held_to_least_counts(&seen);
-}
-
-fn held_to_least_counts(seen: &Histogram) {
-    for (at, &fault) in Fault::ALL.iter().enumerate() {
-        let count = seen.faults.get(&fault).copied().unwrap_or(0);
-        assert!(count >= FAULTS, "{fault:?} came only {count} times");
-        for &later in &Fault::ALL[at + 1..] {
-            let count = seen.orders.get(&(fault, later)).copied().unwrap_or(0);
-            let least = if fault.together(later) { ORDERS } else { 0 };
-            assert!(
-                count >= least,
-                "{fault:?} before {later:?} came only {count} times"
-            );
-        }
-    }
-    for edge in EDGES_SEEN {
-        let count = seen.edges.get(edge).copied().unwrap_or(0);
-        assert!(count >= EDGES, "'{edge}' came only {count} times");
-    }
-    for edge in seen.edges.keys() {
-        assert!(EDGES_SEEN.contains(edge), "'{edge}' is not named");
-    }
+    seen.met
+        .hold(&Fault::ALL, Fault::together, &EDGES_SEEN, &LEAST);
 }
 
 const EDGES_SEEN: [&str; 33] = [

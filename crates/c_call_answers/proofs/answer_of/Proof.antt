@@ -17,8 +17,8 @@ fault-answer-requires c κs = search needs
 enum-known-a-2 : tie.Need-enum-known-a-2
 enum-known-a-2 c = search needs
 
-number-of-requires : tie.Need-number-of-requires
-number-of-requires c κs = search needs
+call-refusal-number-requires : tie.Need-call-refusal-number-requires
+call-refusal-number-requires c κs = search needs
 
 returns : tie.Need-returns
 returns c = done-answer _ (c .enum-told .given .1)
@@ -27,7 +27,7 @@ returns-2 : tie.Need-returns-2
 returns-2 c = c .fault-answer .ensures ∙ unread-answer _ _ (c .before .before .a .given .1)
 
 returns-3 : tie.Need-returns-3
-returns-3 c = refused-answer _ _ _ (c .before .before .a2 .given .1) (c .number-of .ensures)
+returns-3 c = refused-answer _ _ _ (c .before .before .a2 .given .1) (c .call-refusal-number .ensures)
 
 pub answer-of-spec : {M : Type 1} → statement M
 answer-of-spec =
@@ -37,7 +37,7 @@ answer-of-spec =
     enum-known-a
     fault-answer-requires
     enum-known-a-2
-    number-of-requires
+    call-refusal-number-requires
     returns
     returns-2
     returns-3)

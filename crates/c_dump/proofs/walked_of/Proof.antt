@@ -10,8 +10,8 @@ enum-known-f c = search needs
 enum-known-f-2 : tie.Need-enum-known-f-2
 enum-known-f-2 c = search needs
 
-refusal-number-requires : tie.Need-refusal-number-requires
-refusal-number-requires c κs = search needs
+walk-refusal-number-requires : tie.Need-walk-refusal-number-requires
+walk-refusal-number-requires c κs = search needs
 
 refusal-place-requires : tie.Need-refusal-place-requires
 refusal-place-requires c κs = search needs
@@ -22,7 +22,7 @@ returns c = rw (c .before .f .given .1)
 
 returns-2 : tie.Need-returns-2
 unfolding walkedAnswer
-returns-2 c = rw (c .before .before .before .f2 .given .1, c .before .refusal-number .ensures, c .refusal-place .ensures)
+returns-2 c = rw (c .before .before .before .f2 .given .1, c .before .walk-refusal-number .ensures, c .refusal-place .ensures)
 
 pub walked-of-spec : {M : Type 1} → statement M
 walked-of-spec =
@@ -30,7 +30,7 @@ walked-of-spec =
     (tie.spec
     enum-known-f
     enum-known-f-2
-    refusal-number-requires
+    walk-refusal-number-requires
     refusal-place-requires
     returns
     returns-2)

@@ -4,12 +4,12 @@ use Rattle.c_faults.specs.Faults.{faultAnswer}
 use Rattle.c_faults.proofs.fault_answer.Statement.{statement}
 use Rattle.c_faults.proofs.fault_answer.Tie as tie
 
-number-of-requires : tie.Need-number-of-requires
-number-of-requires c κs = search needs
+refusal-number-requires : tie.Need-refusal-number-requires
+refusal-number-requires c κs = search needs
 
 returns : tie.Need-returns
 unfolding faultAnswer
-returns c = rw (c .number-of .ensures)
+returns c = rw (c .refusal-number .ensures)
 
 pub fault-answer-spec : {M : Type 1} → statement M
-fault-answer-spec = tie.close (tie.spec number-of-requires returns)
+fault-answer-spec = tie.close (tie.spec refusal-number-requires returns)

@@ -1,6 +1,6 @@
 -- By the call of fill.
 use mathlib.Core.Path.{ap, _∙_}
-use Rattle.call_slots.specs.declared.Answer as slots
+use Rattle.call_slots.specs.declared.CallAnswer.{CallAnswer}
 use Rattle.call_slots.specs.Buffers.{buffers}
 use Rattle.call_fill.specs.Fill.{fillBuffers}
 use Rattle.c_call_answers.specs.Calls.{callAnswer}
@@ -29,7 +29,7 @@ returns c =
     let fill = c .before .before .before .before .before .before .before .fill in
     let lent = buffers (start .args .image .now) (start .args .area .now) (start .args .copies .now) in (
       c .answer-of .ensures ∙ ap callAnswer (fill .ensures .0),
-      fill .ensures .1 ∙ ap (λ (a : slots.Answer). fillBuffers (start .args .sig .now) (start .args .values .now) (start .args .base) (start .args .hidden) a lent) (fill .ensures .0),
+      fill .ensures .1 ∙ ap (λ (a : CallAnswer). fillBuffers (start .args .sig .now) (start .args .values .now) (start .args .base) (start .args .hidden) a lent) (fill .ensures .0),
     )
 
 pub fz-fill-spec : {M : Type 1} → statement M

@@ -1,6 +1,6 @@
 -- By the call of home.
 use mathlib.Core.Path.{ap, _∙_}
-use Rattle.call_slots.specs.declared.Answer as slots
+use Rattle.call_slots.specs.declared.CallAnswer.{CallAnswer}
 use Rattle.call_home.specs.Home.{homeArea}
 use Rattle.c_call_answers.specs.Calls.{callAnswer}
 use borrow.Author.Needs.{needs}
@@ -21,7 +21,7 @@ returns c =
     let start = c .before .before .before .before .before .before .before .before in
     let home = c .before .before .before .home in (
       c .answer-of .ensures ∙ ap callAnswer (home .ensures .0),
-      home .ensures .1 ∙ ap (λ (a : slots.Answer). homeArea (start .args .sig .now) a (start .args .image .now) (start .args .area .now)) (home .ensures .0),
+      home .ensures .1 ∙ ap (λ (a : CallAnswer). homeArea (start .args .sig .now) a (start .args .image .now) (start .args .area .now)) (home .ensures .0),
     )
 
 pub fz-home-spec : {M : Type 1} → statement M

@@ -19,8 +19,8 @@ enum-told c = search needs
 code-of-requires : tie.Need-code-of-requires
 code-of-requires c κs = search needs
 
-mark-word-requires : tie.Need-mark-word-requires
-mark-word-requires c κs = search needs
+flag-requires : tie.Need-flag-requires
+flag-requires c κs = search needs
 
 same-length : tie.Need-same-length
 same-length c = search needs
@@ -34,7 +34,7 @@ same-length-2 c = search needs
 returns-2 : tie.Need-returns-2
 returns-2 c =
     let plan = c .before .before .before .before .before .before .before .plan-words .ensures in
-    (accepted-plan _ _ (plan .0) _ (c .before .before .before .enum-told .given .1) _ (c .before .code-of .ensures) _ (c .mark-word .ensures), plan .1)
+    (accepted-plan _ _ (plan .0) _ (c .before .before .before .enum-told .given .1) _ (c .before .code-of .ensures) _ (c .flag .ensures), plan .1)
 
 pub fz-plan-spec : {M : Type 1} → statement M
 fz-plan-spec =
@@ -45,7 +45,7 @@ fz-plan-spec =
     fault-answer-requires
     enum-told
     code-of-requires
-    mark-word-requires
+    flag-requires
     same-length
     returns
     same-length-2

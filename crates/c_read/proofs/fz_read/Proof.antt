@@ -1,6 +1,6 @@
 -- By the call of read.
 use mathlib.Core.Path.{ap, _∙_}
-use Rattle.call_slots.specs.declared.Answer as slots
+use Rattle.call_slots.specs.declared.CallAnswer.{CallAnswer}
 use Rattle.call_slots.specs.Buffers.{buffers}
 use Rattle.call_read.specs.Read.{readValues}
 use Rattle.c_call_answers.specs.Calls.{callAnswer}
@@ -23,7 +23,7 @@ returns c =
     let read = c .before .before .before .read in
     let lent = buffers (start .args .image .now) (start .args .area .now) (start .args .copies .now) in (
       c .answer-of .ensures ∙ ap callAnswer (read .ensures .0),
-      read .ensures .1 ∙ ap (λ (a : slots.Answer). readValues (start .args .sig .now) (start .args .base) a lent (start .args .values .now)) (read .ensures .0),
+      read .ensures .1 ∙ ap (λ (a : CallAnswer). readValues (start .args .sig .now) (start .args .base) a lent (start .args .values .now)) (read .ensures .0),
     )
 
 pub fz-read-spec : {M : Type 1} → statement M

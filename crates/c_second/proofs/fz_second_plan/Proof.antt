@@ -15,11 +15,11 @@ outcome-words-requires c κs = search needs
 code-of-requires : tie.Need-code-of-requires
 code-of-requires c κs = search needs
 
-mark-word-requires : tie.Need-mark-word-requires
-mark-word-requires c κs = search needs
+flag-requires : tie.Need-flag-requires
+flag-requires c κs = search needs
 
 returns : tie.Need-returns
-returns c = rw (c .mark-word .ensures, c .before .code-of .ensures, c .before .before .outcome-words .ensures, c .before .before .before .returned-words .ensures, c .before .before .before .before .second-plan-of .ensures)
+returns c = rw (c .flag .ensures, c .before .code-of .ensures, c .before .before .outcome-words .ensures, c .before .before .before .returned-words .ensures, c .before .before .before .before .second-plan-of .ensures)
 
 pub fz-second-plan-spec : {M : Type 1} → statement M
 fz-second-plan-spec =
@@ -29,5 +29,5 @@ fz-second-plan-spec =
     returned-words-requires
     outcome-words-requires
     code-of-requires
-    mark-word-requires
+    flag-requires
     returns)

@@ -37,8 +37,8 @@ loop-holds c = keeping-start _ _ _ _ _ _ (c .before .before .before .before .arg
 add-t27 : tie.Need-add-t27 Inv-loop μ-loop
 add-t27 c = omega (arith, c .before .before .loop .inv .sizes .turn)
 
-not-passed-requires : tie.Need-not-passed-requires Inv-loop μ-loop
-not-passed-requires c κs = search needs
+none-kept-requires : tie.Need-none-kept-requires Inv-loop μ-loop
+none-kept-requires c κs = search needs
 
 same-length : tie.Need-same-length Inv-loop μ-loop
 same-length c = c .before .before .before .loop .inv .long
@@ -46,7 +46,7 @@ same-length c = c .before .before .before .loop .inv .long
 returns : tie.Need-returns Inv-loop μ-loop
 returns c =
     let full = turn-full _ _ _ _ _ _ _ _ (c .before .before .before .loop .inv .turn) (c .before .before .loop-test .taken) (c .before .if1 .taken) in (
-      (c .not-passed .ensures .0 ∙ measure-no _ _ _ _ _ _ _ full, c .not-passed .ensures .1 ∙ unclear-no _ _ _ _ _ (c .before .before .before .before .before .before .before .before .args .earlier) _ full),
+      (c .none-kept .ensures .0 ∙ measure-no _ _ _ _ _ _ _ full, c .none-kept .ensures .1 ∙ unclear-no _ _ _ _ _ (c .before .before .before .before .before .before .before .before .args .earlier) _ full),
       kept-no _ _ _ _ _ _ _ full _ _,
     )
 
@@ -111,8 +111,8 @@ add-later-by c = omega (arith, c .before .before .before .before .before .before
 later-by-requires : tie.Need-later-by-requires Inv-loop μ-loop
 later-by-requires c κs = let a = fault-answered _ _ _ _ _ _ _ (c .before .before .before .before .before .before .loop .inv .turn .within) (c .before .before .before .read-item .ensures) (c .before .fault .given .1) in omega (arith, a, c .before .before .before .before .before .before .loop .inv .turn)
 
-not-passed-requires-2 : tie.Need-not-passed-requires-2 Inv-loop μ-loop
-not-passed-requires-2 c κs = search needs
+none-kept-requires-2 : tie.Need-none-kept-requires-2 Inv-loop μ-loop
+none-kept-requires-2 c κs = search needs
 
 same-length-2 : tie.Need-same-length-2 Inv-loop μ-loop
 same-length-2 c = c .before .before .before .before .before .before .before .before .loop .inv .long
@@ -121,8 +121,8 @@ returns-2 : tie.Need-returns-2 Inv-loop μ-loop
 returns-2 c =
     let refused-by = turn-no _ _ _ _ _ _ _ _ (c .before .before .before .before .before .before .before .before .loop .inv .turn) (c .before .before .before .before .before .before .before .loop-test .taken) (c .before .before .before .before .before .before .if1 .left) _ (c .before .before .before .before .before .read-item .ensures) _ (c .before .before .before .fault .given .1) in (
       (
-        c .not-passed2 .ensures .0 ∙ ap (λ (f : Fault). measureOf (refusedPlan f)) (c .before .later-by .ensures ∙ later-later _ _ _) ∙ measure-no _ _ _ _ _ _ _ refused-by,
-        c .not-passed2 .ensures .1 ∙ unclear-no _ _ _ _ _ (c .before .before .before .before .before .before .before .before .before .before .before .before .before .args .earlier) _ refused-by,
+        c .none-kept2 .ensures .0 ∙ ap (λ (f : Fault). measureOf (refusedPlan f)) (c .before .later-by .ensures ∙ later-later _ _ _) ∙ measure-no _ _ _ _ _ _ _ refused-by,
+        c .none-kept2 .ensures .1 ∙ unclear-no _ _ _ _ _ (c .before .before .before .before .before .before .before .before .before .before .before .before .before .args .earlier) _ refused-by,
       ),
       kept-no _ _ _ _ _ _ _ refused-by _ _,
     )
@@ -130,8 +130,8 @@ returns-2 c =
 add-counted : tie.Need-add-counted Inv-loop μ-loop
 add-counted c = omega (arith, c .before .loop .inv .turn)
 
-not-passed-requires-3 : tie.Need-not-passed-requires-3 Inv-loop μ-loop
-not-passed-requires-3 c κs = search needs
+none-kept-requires-3 : tie.Need-none-kept-requires-3 Inv-loop μ-loop
+none-kept-requires-3 c κs = search needs
 
 same-length-3 : tie.Need-same-length-3 Inv-loop μ-loop
 same-length-3 c = c .before .before .before .loop .inv .long
@@ -141,8 +141,8 @@ returns-3 c =
     let m = rw (c .before .before .before .before .first-cursor .ensures) at (c .before .before .before .loop .inv) in
     let left = c .before .before .loop-test .left in (
       (
-        c .not-passed3 .ensures .0 ∙ measure-trailing _ _ _ _ _ _ _ _ _ _ _ _ (m .sizes) left (c .before .if2 .taken),
-        c .not-passed3 .ensures .1 ∙ unclear-trailing _ _ _ _ _ (c .before .before .before .before .before .before .before .before .args .earlier) _ _ _ _ _ _ (m .sizes) left (c .before .if2 .taken),
+        c .none-kept3 .ensures .0 ∙ measure-trailing _ _ _ _ _ _ _ _ _ _ _ _ (m .sizes) left (c .before .if2 .taken),
+        c .none-kept3 .ensures .1 ∙ unclear-trailing _ _ _ _ _ (c .before .before .before .before .before .before .before .before .args .earlier) _ _ _ _ _ _ (m .sizes) left (c .before .if2 .taken),
       ),
       kept-trailing _ _ _ _ _ _ _ (c .before .before .before .before .before .before .before .before .pre .4) _ _ _ _ _ _ _ m left (c .before .if2 .taken) _,
     )
@@ -174,7 +174,7 @@ keep-arguments-spec =
     first-cursor-requires
     loop-holds
     add-t27
-    not-passed-requires
+    none-kept-requires
     same-length
     returns
     read-item-requires
@@ -191,11 +191,11 @@ keep-arguments-spec =
     enum-known-fault
     add-later-by
     later-by-requires
-    not-passed-requires-2
+    none-kept-requires-2
     same-length-2
     returns-2
     add-counted
-    not-passed-requires-3
+    none-kept-requires-3
     same-length-3
     returns-3
     area-of-requires

@@ -5,11 +5,11 @@ use Prim.Native.Nat.{ℕ}
 use mathlib.Core.Bool.{Bool}
 use native.Mathlib.Omega.{arith}
 use Rattle.base_words.specs.Numbers.{zeroExtended}
+use Rattle.base_words.proofs.Numbers.{zeroExtended-less}
 use Rattle.base_conventions.specs.Numbers.{wordBytes}
 use Rattle.base_conventions.proofs.Laws.{word-bounds}
 use Rattle.call_fill.specs.Fill.{highAddress}
 use Rattle.call_fill.specs.Helpers.{addressPlaces}
-use Rattle.call_fill.proofs.Accepted.{high-is}
 use borrow.Author.Needs.{needs}
 use Rattle.call_fill.proofs.high_address.Statement.{statement}
 use Rattle.call_fill.proofs.high_address.Tie as tie
@@ -23,7 +23,7 @@ zero-extend-requires c κs = let b = word-bounds (c .before .before .args .c) in
 returns : tie.Need-returns
 returns c =
     let args = c .before .before .before .args in
-    ap (λ (y : ℕ). ltb y (args .address)) (c .zero-extend .ensures ∙ ap (λ (w : ℕ). zeroExtended w (args .address)) (c .before .word-bytes .ensures)) ∙ high-is (wordBytes (args .c)) (args .address)
+    ap (λ (y : ℕ). ltb y (args .address)) (c .zero-extend .ensures ∙ ap (λ (w : ℕ). zeroExtended w (args .address)) (c .before .word-bytes .ensures)) ∙ zeroExtended-less (wordBytes (args .c)) (args .address)
     ∙ sym (ap (λ (b : Bool). highAddress (wordBytes (args .c)) (addressPlaces (args .c) b) (args .address)) (c .before .before .if1 .taken))
 
 returns-2 : tie.Need-returns-2

@@ -12,7 +12,7 @@ use Rattle.base_words.proofs.Splices.{lent-tail}
 use Rattle.base_conventions.specs.Numbers.{wordBytes}
 use Rattle.base_conventions.proofs.Laws.{word-bounds}
 use Rattle.plan_places.specs.declared.Cursor.{Cursor}
-use Rattle.plan_places.specs.Step.{rulesOf, fresh}
+use Rattle.plan_places.specs.Step.{rulesOf, freshCursor}
 use Rattle.call_slots.specs.Buffers.{buffers, put, putAll}
 use Rattle.call_slots.specs.Placements.{hiddenSlots}
 use Rattle.call_fill.specs.Helpers.{addressPlaces}

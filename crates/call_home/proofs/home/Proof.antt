@@ -4,7 +4,7 @@ use Prim.Native.Nat.{_≤_}
 use lib.ListN.{length}
 use Rattle.plan_plans.specs.declared.Plan.{Plan}
 use Rattle.sig_signatures.proofs.Types.{answer-plannable}
-use Rattle.call_slots.specs.declared.Answer.{Answer}
+use Rattle.call_slots.specs.declared.CallAnswer.{CallAnswer}
 use Rattle.call_slots.proofs.Answered.{plan-same}
 use Rattle.call_slots.proofs.Refusals.{not-refused}
 use Rattle.call_home.specs.Home.{homeArea}
@@ -92,7 +92,7 @@ returns-4 c =
     let read = c .before .before .before .before .before .before .before .before .before .before .before .before .before .before .before .read-signature .ensures in
     let same = plan-same (start .args .sig .now) _ p read (c .before .before .before .before .before .before .before .before .before .before .before .before .before .before .plan-signature .ensures) in
     let done = not-refused _ (sym (c .before .before .before .before .before .is-refused2 .ensures) ∙ c .before .before .before .before .if2 .left) in (
-      home-registers (start .args .sig .now) (start .args .image .now) _ _ p _ read same (sym (c .before .before .before .before .before .before .before .before .before .before .before .before .before .call-outcome .ensures) ∙ c .before .before .before .before .before .before .before .before .before .before .before .enum-told .given .1) _ Answer.Done (tests-marked (c .before .before .before .before .before .before .before .before .before .before .before .before .before .before .before .read-signature .result) _ _ _ _ (rw (c .before .before .before .before .before .before .before .before .before .before .call-rules-of .ensures) at (c .before .before .before .before .before .before .before .before .before .home-tested .ensures))) (sym (c .before .before .before .before .before .before .before .before .is-refused .ensures) ∙ c .before .before .before .before .before .before .before .if1 .left) (sym done ∙ c .before .before .before .before .before .before .first-unwidened .ensures),
+      home-registers (start .args .sig .now) (start .args .image .now) _ _ p _ read same (sym (c .before .before .before .before .before .before .before .before .before .before .before .before .before .call-outcome .ensures) ∙ c .before .before .before .before .before .before .before .before .before .before .before .enum-told .given .1) _ CallAnswer.Done (tests-marked (c .before .before .before .before .before .before .before .before .before .before .before .before .before .before .before .read-signature .result) _ _ _ _ (rw (c .before .before .before .before .before .before .before .before .before .before .call-rules-of .ensures) at (c .before .before .before .before .before .before .before .before .before .home-tested .ensures))) (sym (c .before .before .before .before .before .before .before .before .is-refused .ensures) ∙ c .before .before .before .before .before .before .before .if1 .left) (sym done ∙ c .before .before .before .before .before .before .first-unwidened .ensures),
       area-homed (start .args .sig .now) (start .args .image .now) (start .args .area .now) _ _ p read same (c .before .before .put-homes .ensures),
     )
 

@@ -4,6 +4,7 @@ use mathlib.Core.Path.{refl}
 use native.Mathlib.Omega.{arith}
 use lib.ListN.{length-set}
 use denote.Ref.{now}
+use Rattle.base_words.proofs.Tests.{flag-le}
 use Rattle.plan_entries.proofs.Stores.{stored, stored-overlay}
 use Rattle.call_kept.specs.Helpers.{rowOf}
 use Rattle.call_kept.proofs.put_row.Statement.{statement}
@@ -45,8 +46,11 @@ slice-write-kept-8 c = simp length-set (omega arith)
 slice-write-kept-9 : tie.Need-slice-write-kept-9
 slice-write-kept-9 c = simp length-set (omega arith)
 
-flag-code-requires : tie.Need-flag-code-requires
-flag-code-requires c κs = search needs
+flag-requires : tie.Need-flag-requires
+flag-requires c κs = search needs
+
+cast-kept : tie.Need-cast-kept
+cast-kept c = omega (arith, c .flag .ensures, flag-le (c .before .before .before .before .before .before .before .before .before .before .args .s .indirect))
 
 slice-write-kept-10 : tie.Need-slice-write-kept-10
 slice-write-kept-10 c = simp length-set (omega arith)
@@ -58,7 +62,7 @@ returns : tie.Need-returns
 unfolding stored
 returns c =
     let z = c .before .before .before .before .before .before .before .before .before .before .args in
-    rw (c .flag-code .ensures, c .before .range-code2 .ensures, c .before .before .range-code .ensures, c .before .before .before .type-code .ensures)
+    rw (c .flag .ensures, c .before .range-code2 .ensures, c .before .before .range-code .ensures, c .before .before .before .type-code .ensures)
     (stored-overlay (now (z .kept)) (rowOf (z .t) (z .s)))
 
 pub put-row-spec : {M : Type 1} → statement M
@@ -77,7 +81,8 @@ put-row-spec =
     slice-write-kept-7
     slice-write-kept-8
     slice-write-kept-9
-    flag-code-requires
+    flag-requires
+    cast-kept
     slice-write-kept-10
     same-length
     returns)

@@ -8,8 +8,8 @@ use borrow.Rule.Slice.PartMut.{putMid}
 use Rattle.base_words.specs.Splice.{splice}
 use Rattle.base_words.specs.Numbers.{bytesOf}
 use Rattle.base_words.proofs.Splices.{lent-tail}
+use Rattle.base_words.proofs.Numbers.{bytesOf-last}
 use Rattle.call_registers.specs.Registers.{spread}
-use Rattle.call_registers.proofs.Putting.{number-last}
 use borrow.Author.Needs.{needs}
 use Rattle.call_marshal.proofs.put_each_word.Statement.{statement}
 use Rattle.call_marshal.proofs.put_each_word.Tie as tie
@@ -78,7 +78,7 @@ returns c =
     let at : ℕ = 8 * s .general .first in (
       ap (putMid at (length l - at) l) (c .before .before .before .before .before .before .put-number-registers .ensures) ∙ lent-tail l at (spread w k (bytesOf (w * k + m) x)),
       ap (putMid (s .memory .start) (length a - s .memory .start) a) (c .before .before .put-number .ensures) ∙ lent-tail a (s .memory .start) (bytesOf m x)
-          ∙ ap (splice a (s .memory .start)) (sym (number-last (w * k) m x)),
+          ∙ ap (splice a (s .memory .start)) (sym (bytesOf-last (w * k) m x)),
     )
 
 pub put-each-word-spec : {M : Type 1} → statement M

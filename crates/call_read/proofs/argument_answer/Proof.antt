@@ -7,7 +7,7 @@ use borrow.Author.Tests.{le-ltb}
 use Rattle.base_words.specs.Numbers.{valueOf}
 use Rattle.sig_types.specs.Sizes.{equivalentOf}
 use Rattle.call_slots.specs.Buffers.{Buffers, buffers, bytesAt}
-use Rattle.call_slots.specs.Placements.{Placement, placement, wordsAt, floatAt}
+use Rattle.call_slots.specs.Placements.{Placement, placement, wordsAt, fprBytesAt}
 use Rattle.call_slots.specs.Refusals.{floatAnswer}
 use Rattle.call_read.specs.Read.{ownHeld, agrees, agreeAnswer, argumentAnswer}
 use Rattle.call_slots.proofs.Limits.{answer-first, one-address}
@@ -24,7 +24,7 @@ abbrev lent : (c : tie.Start) → Buffers
 lent c = buffers (c .args .image .now) (c .args .area .now) (c .args .copies .now)
 
 -- 14
-asked : (c : tie.After-float-answer) → c .float-answer .result ≡ floatAnswer (c .before .before .before .before .before .before .before .before .before .before .before .args .r) (equivalentOf (c .before .before .before .before .before .before .before .before .before .before .before .args .t)) (valueOf (floatAt (c .before .before .before .before .before .before .before .before .before .before .before .args .s) (lent (c .before .before .before .before .before .before .before .before .before .before .before))))
+asked : (c : tie.After-float-answer) → c .float-answer .result ≡ floatAnswer (c .before .before .before .before .before .before .before .before .before .before .before .args .r) (equivalentOf (c .before .before .before .before .before .before .before .before .before .before .before .args .t)) (valueOf (fprBytesAt (c .before .before .before .before .before .before .before .before .before .before .before .args .s) (lent (c .before .before .before .before .before .before .before .before .before .before .before))))
 unfolding bytesAt
 asked c =
     let start = c .before .before .before .before .before .before .before .before .before .before .before in

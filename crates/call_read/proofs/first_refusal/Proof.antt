@@ -7,7 +7,7 @@ use mathlib.Core.List.{List, _∷_}
 use Prim.Native.Nat.{suc, _-_}
 use native.Mathlib.Omega.{arith}
 use lib.ListN.{length, drop}
-use Rattle.call_slots.specs.declared.Answer.{Answer}
+use Rattle.call_slots.specs.declared.CallAnswer.{CallAnswer}
 use Rattle.call_slots.specs.Buffers.{Buffers, buffers}
 use Rattle.call_slots.specs.Placements.{Placement, placement}
 use Rattle.call_slots.proofs.Turns.{Checking, checking-start, checking-ready, checking-refused, checking-more, checking-end}
@@ -49,7 +49,7 @@ asked : (c : tie.After-argument-answer Inv-loop μ-loop) → c .argument-answer 
 unfolding keptAt
 asked c = c .argument-answer .ensures ∙ rw (c .before .size-of .ensures, c .before .before .type-at .ensures, c .before .before .before .before .before .span-at .ensures)
 
-unasked : (c : tie.After-asks Inv-loop μ-loop) → c .asks .result ≡ false → Answer.Done ≡ argumentAnswer (c .before .before .before .before .before .before .before .before .args .rules) (c .before .before .before .before .before .before .before .before .args .base) (hand (c .before .before)) (lent (c .before .before .before .before .before .before .before .before))
+unasked : (c : tie.After-asks Inv-loop μ-loop) → c .asks .result ≡ false → CallAnswer.Done ≡ argumentAnswer (c .before .before .before .before .before .before .before .before .args .rules) (c .before .before .before .before .before .before .before .before .args .base) (hand (c .before .before)) (lent (c .before .before .before .before .before .before .before .before))
 unfolding keptAt
 unasked c e = nothing-asked (c .before .before .before .before .before .before .before .before .args .rules) (c .before .before .before .before .before .before .before .before .args .base) (hand (c .before .before)) (lent (c .before .before .before .before .before .before .before .before)) (ap asks (sym (c .before .span-at .ensures)) ∙ sym (c .asks .ensures) ∙ e)
 
@@ -93,7 +93,7 @@ loop-again c =
     (λ w. checking-more _ _ _ _ (hand turn) (next turn) (turn .before .loop .inv) _
     (asked record { before = record { before = record { before = record { before = c .before; if1 = w .0 }; type-at = w .1 }; size-of = w .2 }; argument-answer = w .3 })
     (sym (w .4 .ensures) ∙ w .5 .left))
-    (λ w. checking-more _ _ _ _ (hand turn) (next turn) (turn .before .loop .inv) Answer.Done (unasked (c .before) (w .left)) refl)
+    (λ w. checking-more _ _ _ _ (hand turn) (next turn) (turn .before .loop .inv) CallAnswer.Done (unasked (c .before) (w .left)) refl)
     (c .if1 .came)
 
 returns-2 : tie.Need-returns-2 Inv-loop μ-loop

@@ -3,7 +3,7 @@ use borrow.Author.Needs.{needs}
 use mathlib.Core.Path.{_≡_, refl, sym, ap, _∙_, subst}
 use Rattle.sig_signatures.specs.declared.Outcome.{Outcome}
 use Rattle.plan_plans.specs.declared.Measured.{Measured}
-use Rattle.call_slots.specs.declared.Answer.{Answer}
+use Rattle.call_slots.specs.declared.CallAnswer.{CallAnswer}
 use Rattle.call_slots.specs.Buffers.{Buffers, buffers}
 use Rattle.call_slots.specs.Arguments.{sizesFor, planFor, rulesFor}
 use Rattle.call_slots.proofs.Refusals.{not-refused}
@@ -110,7 +110,7 @@ returns-4 : tie.Need-returns-4
 returns-4 c =
     let start = c .before .before .before .before .before .before .before .before .before .before .before .before .before .before .before .before .before .before .before .before .before .before .before .before .before .before in
     let done = not-refused _ (sym (c .before .before .before .before .before .before .is-refused2 .ensures) ∙ c .before .before .before .before .before .if2 .left) in (
-      answer-arguments (start .args .sig .now) _ (start .args .base) _ _ (sizes (c .before .before .before .before .before .before .before .before .before .before .before .before .before .before .before .before .before .before)) _ (c .before .before .before .before .before .before .before .before .before .before .before .before .before .enum-told .given .1) _ (rules (c .before .before .before .before .before .before .before .before .before)) _ (rows (c .before .before .before .before .before .before .before .before .before .before .before .before .before) .same) _ Answer.Done (c .before .before .before .before .before .before .before .before .before .before .before .before .tested .ensures) (sym (c .before .before .before .before .before .before .before .before .before .before .before .is-refused .ensures) ∙ c .before .before .before .before .before .before .before .before .before .before .if1 .left) (sym done ∙ c .before .before .before .before .before .before .before .first-refusal .ensures),
+      answer-arguments (start .args .sig .now) _ (start .args .base) _ _ (sizes (c .before .before .before .before .before .before .before .before .before .before .before .before .before .before .before .before .before .before)) _ (c .before .before .before .before .before .before .before .before .before .before .before .before .before .enum-told .given .1) _ (rules (c .before .before .before .before .before .before .before .before .before)) _ (rows (c .before .before .before .before .before .before .before .before .before .before .before .before .before) .same) _ CallAnswer.Done (c .before .before .before .before .before .before .before .before .before .before .before .before .tested .ensures) (sym (c .before .before .before .before .before .before .before .before .before .before .before .is-refused .ensures) ∙ c .before .before .before .before .before .before .before .before .before .before .if1 .left) (sym done ∙ c .before .before .before .before .before .before .before .first-refusal .ensures),
       values-taken (start .args .sig .now) (start .args .base) (lent start) (start .args .values .now) _ _ _ (rules (c .before .before .before .before .before .before .before .before .before)) (rows (c .before .before .before .before .before .before .before .before .before .before .before .before .before) .same) (c .before .before .take-arguments .ensures),
     )
 

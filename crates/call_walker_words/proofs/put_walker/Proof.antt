@@ -26,14 +26,14 @@ code-of-requires c κs = search needs
 slice-write-words : tie.Need-slice-write-words
 slice-write-words c = search needs
 
-mark-of-requires : tie.Need-mark-of-requires
-mark-of-requires c κs = search needs
+flag-requires : tie.Need-flag-requires
+flag-requires c κs = search needs
 
 slice-write-words-2 : tie.Need-slice-write-words-2
 slice-write-words-2 c = search needs
 
-mark-of-requires-2 : tie.Need-mark-of-requires-2
-mark-of-requires-2 c κs = search needs
+flag-requires-2 : tie.Need-flag-requires-2
+flag-requires-2 c κs = search needs
 
 slice-write-words-3 : tie.Need-slice-write-words-3
 slice-write-words-3 c = search needs
@@ -52,7 +52,7 @@ same-length c = simp length-set
 
 returns : tie.Need-returns
 unfolding walkerWords
-returns c = rw (c .before .before .code-of .ensures, c .before .mark-of .ensures, c .mark-of2 .ensures) (all-six (now (c .before .before .before .before .before .args .words)) (c .before .before .before .before .before .pre) _ _ _ _ _ _)
+returns c = rw (c .before .before .code-of .ensures, c .before .flag .ensures, c .flag2 .ensures) (all-six (now (c .before .before .before .before .before .args .words)) (c .before .before .before .before .before .pre) _ _ _ _ _ _)
 
 pub put-walker-spec : {M : Type 1} → statement M
 put-walker-spec =
@@ -60,9 +60,9 @@ put-walker-spec =
     (tie.spec
     code-of-requires
     slice-write-words
-    mark-of-requires
+    flag-requires
     slice-write-words-2
-    mark-of-requires-2
+    flag-requires-2
     slice-write-words-3
     slice-write-words-4
     slice-write-words-5

@@ -2,7 +2,7 @@
 use mathlib.Core.Path.{sym, ap, _∙_}
 use lib.ListN.{length}
 use denote.Ref.{now}
-use Rattle.call_walker.specs.Words.{Walked}
+use Rattle.call_walker.specs.Words.{WalkerOutcome}
 use Rattle.call_walker.proofs.Exactly.{found-small}
 use Rattle.call_walking.proofs.Went.{Went, went-roomy, went-lawful, went-size, went-offset, went-unclear, went-countable, went-ready, went-readable, went-value, went-lengths, went-answer, went-done}
 use borrow.Author.Needs.{needs}
@@ -25,7 +25,7 @@ unclear-for-requires : tie.Need-unclear-for-requires
 unclear-for-requires c κs = let z = c .before .before .before .before .before .before .before .before .before in let g : Went (z .args .w) (z .args .t) (c .before .before .call-rules-of .result) (c .before .rules-in .result) (c .local-cursor .result) (c .before .before .before .size-of .result) = record { plain-is = c .before .before .call-rules-of .ensures; rules-is = c .before .rules-in .ensures; cursor-is = c .local-cursor .ensures; size-is = c .before .before .before .size-of .ensures } in went-roomy (z .args .w) (z .args .t) (c .before .before .call-rules-of .result) (c .before .rules-in .result) (c .local-cursor .result) (c .before .before .before .size-of .result) g (z .args .base) (now (z .args .image)) (now (z .args .area)) (now (z .args .copies)) (z .pre .0) (z .pre .1)
 
 returns : tie.Need-returns
-returns c = let z = c .before .before .before .before .before .before .before .before .before .before .before in let g : Went (z .args .w) (z .args .t) (c .before .before .before .before .call-rules-of .result) (c .before .before .before .rules-in .result) (c .before .before .local-cursor .result) (c .before .before .before .before .before .size-of .result) = record { plain-is = c .before .before .before .before .call-rules-of .ensures; rules-is = c .before .before .before .rules-in .ensures; cursor-is = c .before .before .local-cursor .ensures; size-is = c .before .before .before .before .before .size-of .ensures } in let E = went-unclear (z .args .w) (z .args .t) (c .before .before .before .before .call-rules-of .result) (c .before .before .before .rules-in .result) (c .before .before .local-cursor .result) (c .before .before .before .before .before .size-of .result) g (z .args .base) (now (z .args .image)) (now (z .args .area)) (now (z .args .copies)) (now (z .args .words)) (now (z .args .value)) (sym (c .before .unclear-for .ensures) ∙ c .if1 .taken) in (ap (λ (o : Walked). o .answer) E, (ap (λ (o : Walked). o .words) E, ap (λ (o : Walked). o .value) E))
+returns c = let z = c .before .before .before .before .before .before .before .before .before .before .before in let g : Went (z .args .w) (z .args .t) (c .before .before .before .before .call-rules-of .result) (c .before .before .before .rules-in .result) (c .before .before .local-cursor .result) (c .before .before .before .before .before .size-of .result) = record { plain-is = c .before .before .before .before .call-rules-of .ensures; rules-is = c .before .before .before .rules-in .ensures; cursor-is = c .before .before .local-cursor .ensures; size-is = c .before .before .before .before .before .size-of .ensures } in let E = went-unclear (z .args .w) (z .args .t) (c .before .before .before .before .call-rules-of .result) (c .before .before .before .rules-in .result) (c .before .before .local-cursor .result) (c .before .before .before .before .before .size-of .result) g (z .args .base) (now (z .args .image)) (now (z .args .area)) (now (z .args .copies)) (now (z .args .words)) (now (z .args .value)) (sym (c .before .unclear-for .ensures) ∙ c .if1 .taken) in (ap (λ (o : WalkerOutcome). o .answer) E, (ap (λ (o : WalkerOutcome). o .words) E, ap (λ (o : WalkerOutcome). o .value) E))
 
 step-requires : tie.Need-step-requires
 step-requires c κs = let z = c .before .before .before .before .before .before .before .before .before .before .before in let g : Went (z .args .w) (z .args .t) (c .before .before .before .before .call-rules-of .result) (c .before .before .before .rules-in .result) (c .before .before .local-cursor .result) (c .before .before .before .before .before .size-of .result) = record { plain-is = c .before .before .before .before .call-rules-of .ensures; rules-is = c .before .before .before .rules-in .ensures; cursor-is = c .before .before .local-cursor .ensures; size-is = c .before .before .before .before .before .size-of .ensures } in (went-lawful (z .args .w) (z .args .t) (c .before .before .before .before .call-rules-of .result) (c .before .before .before .rules-in .result) (c .before .before .local-cursor .result) (c .before .before .before .before .before .size-of .result) g (z .args .base) (now (z .args .image)) (now (z .args .area)) (now (z .args .copies)) (z .pre .0) (z .pre .1), went-roomy (z .args .w) (z .args .t) (c .before .before .before .before .call-rules-of .result) (c .before .before .before .rules-in .result) (c .before .before .local-cursor .result) (c .before .before .before .before .before .size-of .result) g (z .args .base) (now (z .args .image)) (now (z .args .area)) (now (z .args .copies)) (z .pre .0) (z .pre .1), went-size (z .args .w) (z .args .t) (c .before .before .before .before .call-rules-of .result) (c .before .before .before .rules-in .result) (c .before .before .local-cursor .result) (c .before .before .before .before .before .size-of .result) g (z .args .base) (now (z .args .image)) (now (z .args .area)) (now (z .args .copies)) (z .pre .0) (z .pre .1))
@@ -46,7 +46,7 @@ is-refused-requires : tie.Need-is-refused-requires
 is-refused-requires c κs = search needs
 
 returns-2 : tie.Need-returns-2
-returns-2 c = let z = c .before .before .before .before .before .before .before .before .before .before .before .before .before .before .before .before .before .before .before in let g : Went (z .args .w) (z .args .t) (c .before .before .before .before .before .before .before .before .before .before .before .before .call-rules-of .result) (c .before .before .before .before .before .before .before .before .before .before .before .rules-in .result) (c .before .before .before .before .before .before .before .before .before .before .local-cursor .result) (c .before .before .before .before .before .before .before .before .before .before .before .before .before .size-of .result) = record { plain-is = c .before .before .before .before .before .before .before .before .before .before .before .before .call-rules-of .ensures; rules-is = c .before .before .before .before .before .before .before .before .before .before .before .rules-in .ensures; cursor-is = c .before .before .before .before .before .before .before .before .before .before .local-cursor .ensures; size-is = c .before .before .before .before .before .before .before .before .before .before .before .before .before .size-of .ensures } in let E = went-lengths (z .args .w) (z .args .t) (c .before .before .before .before .before .before .before .before .before .before .before .before .call-rules-of .result) (c .before .before .before .before .before .before .before .before .before .before .before .rules-in .result) (c .before .before .before .before .before .before .before .before .before .before .local-cursor .result) (c .before .before .before .before .before .before .before .before .before .before .before .before .before .size-of .result) g (z .args .base) (now (z .args .image)) (now (z .args .area)) (now (z .args .copies)) (c .before .before .before .before .before .before .before .step .result) (c .before .before .before .before .before .before .before .step .ensures) (c .before .before .before .before .offset-of .result) (c .before .before .before .smaller .result) (c .before .before .before .before .offset-of .ensures) (c .before .before .before .smaller .ensures) (sym (c .before .before .before .before .before .before .before .before .before .unclear-for .ensures) ∙ c .before .before .before .before .before .before .before .before .if1 .left) (now (z .args .words)) (now (z .args .value)) (c .before .before .tested .result) (c .before .before .tested .ensures) (sym (c .before .is-refused .ensures) ∙ c .if2 .taken) in (ap (λ (o : Walked). o .answer) E, (ap (λ (o : Walked). o .words) E, ap (λ (o : Walked). o .value) E))
+returns-2 c = let z = c .before .before .before .before .before .before .before .before .before .before .before .before .before .before .before .before .before .before .before in let g : Went (z .args .w) (z .args .t) (c .before .before .before .before .before .before .before .before .before .before .before .before .call-rules-of .result) (c .before .before .before .before .before .before .before .before .before .before .before .rules-in .result) (c .before .before .before .before .before .before .before .before .before .before .local-cursor .result) (c .before .before .before .before .before .before .before .before .before .before .before .before .before .size-of .result) = record { plain-is = c .before .before .before .before .before .before .before .before .before .before .before .before .call-rules-of .ensures; rules-is = c .before .before .before .before .before .before .before .before .before .before .before .rules-in .ensures; cursor-is = c .before .before .before .before .before .before .before .before .before .before .local-cursor .ensures; size-is = c .before .before .before .before .before .before .before .before .before .before .before .before .before .size-of .ensures } in let E = went-lengths (z .args .w) (z .args .t) (c .before .before .before .before .before .before .before .before .before .before .before .before .call-rules-of .result) (c .before .before .before .before .before .before .before .before .before .before .before .rules-in .result) (c .before .before .before .before .before .before .before .before .before .before .local-cursor .result) (c .before .before .before .before .before .before .before .before .before .before .before .before .before .size-of .result) g (z .args .base) (now (z .args .image)) (now (z .args .area)) (now (z .args .copies)) (c .before .before .before .before .before .before .before .step .result) (c .before .before .before .before .before .before .before .step .ensures) (c .before .before .before .before .offset-of .result) (c .before .before .before .smaller .result) (c .before .before .before .before .offset-of .ensures) (c .before .before .before .smaller .ensures) (sym (c .before .before .before .before .before .before .before .before .before .unclear-for .ensures) ∙ c .before .before .before .before .before .before .before .before .if1 .left) (now (z .args .words)) (now (z .args .value)) (c .before .before .tested .result) (c .before .before .tested .ensures) (sym (c .before .is-refused .ensures) ∙ c .if2 .taken) in (ap (λ (o : WalkerOutcome). o .answer) E, (ap (λ (o : WalkerOutcome). o .words) E, ap (λ (o : WalkerOutcome). o .value) E))
 
 sub-argument-answer : tie.Need-sub-argument-answer
 sub-argument-answer c = search needs
@@ -64,7 +64,7 @@ is-refused-requires-2 : tie.Need-is-refused-requires-2
 is-refused-requires-2 c κs = search needs
 
 returns-3 : tie.Need-returns-3
-returns-3 c = let z = c .before .before .before .before .before .before .before .before .before .before .before .before .before .before .before .before .before .before .before .before .before .before .before in let g : Went (z .args .w) (z .args .t) (c .before .before .before .before .before .before .before .before .before .before .before .before .before .before .before .before .call-rules-of .result) (c .before .before .before .before .before .before .before .before .before .before .before .before .before .before .before .rules-in .result) (c .before .before .before .before .before .before .before .before .before .before .before .before .before .before .local-cursor .result) (c .before .before .before .before .before .before .before .before .before .before .before .before .before .before .before .before .before .size-of .result) = record { plain-is = c .before .before .before .before .before .before .before .before .before .before .before .before .before .before .before .before .call-rules-of .ensures; rules-is = c .before .before .before .before .before .before .before .before .before .before .before .before .before .before .before .rules-in .ensures; cursor-is = c .before .before .before .before .before .before .before .before .before .before .before .before .before .before .local-cursor .ensures; size-is = c .before .before .before .before .before .before .before .before .before .before .before .before .before .before .before .before .before .size-of .ensures } in let E = went-answer (z .args .w) (z .args .t) (c .before .before .before .before .before .before .before .before .before .before .before .before .before .before .before .before .call-rules-of .result) (c .before .before .before .before .before .before .before .before .before .before .before .before .before .before .before .rules-in .result) (c .before .before .before .before .before .before .before .before .before .before .before .before .before .before .local-cursor .result) (c .before .before .before .before .before .before .before .before .before .before .before .before .before .before .before .before .before .size-of .result) g (z .args .base) (now (z .args .image)) (now (z .args .area)) (now (z .args .copies)) (c .before .before .before .before .before .before .before .before .before .before .before .step .result) (c .before .before .before .before .before .before .before .before .before .before .before .step .ensures) (c .before .before .before .before .before .before .before .before .offset-of .result) (c .before .before .before .before .before .before .before .smaller .result) (c .before .before .before .before .before .before .before .before .offset-of .ensures) (c .before .before .before .before .before .before .before .smaller .ensures) (sym (c .before .before .before .before .before .before .before .before .before .before .before .before .before .unclear-for .ensures) ∙ c .before .before .before .before .before .before .before .before .before .before .before .before .if1 .left) (now (z .args .words)) (now (z .args .value)) (c .before .before .before .before .before .before .tested .result) (c .before .before .before .before .before .before .tested .ensures) (sym (c .before .before .before .before .before .is-refused .ensures) ∙ c .before .before .before .before .if2 .left) (c .before .before .argument-answer .result) (c .before .before .argument-answer .ensures) (sym (c .before .is-refused2 .ensures) ∙ c .if3 .taken) in (ap (λ (o : Walked). o .answer) E, (ap (λ (o : Walked). o .words) E, ap (λ (o : Walked). o .value) E))
+returns-3 c = let z = c .before .before .before .before .before .before .before .before .before .before .before .before .before .before .before .before .before .before .before .before .before .before .before in let g : Went (z .args .w) (z .args .t) (c .before .before .before .before .before .before .before .before .before .before .before .before .before .before .before .before .call-rules-of .result) (c .before .before .before .before .before .before .before .before .before .before .before .before .before .before .before .rules-in .result) (c .before .before .before .before .before .before .before .before .before .before .before .before .before .before .local-cursor .result) (c .before .before .before .before .before .before .before .before .before .before .before .before .before .before .before .before .before .size-of .result) = record { plain-is = c .before .before .before .before .before .before .before .before .before .before .before .before .before .before .before .before .call-rules-of .ensures; rules-is = c .before .before .before .before .before .before .before .before .before .before .before .before .before .before .before .rules-in .ensures; cursor-is = c .before .before .before .before .before .before .before .before .before .before .before .before .before .before .local-cursor .ensures; size-is = c .before .before .before .before .before .before .before .before .before .before .before .before .before .before .before .before .before .size-of .ensures } in let E = went-answer (z .args .w) (z .args .t) (c .before .before .before .before .before .before .before .before .before .before .before .before .before .before .before .before .call-rules-of .result) (c .before .before .before .before .before .before .before .before .before .before .before .before .before .before .before .rules-in .result) (c .before .before .before .before .before .before .before .before .before .before .before .before .before .before .local-cursor .result) (c .before .before .before .before .before .before .before .before .before .before .before .before .before .before .before .before .before .size-of .result) g (z .args .base) (now (z .args .image)) (now (z .args .area)) (now (z .args .copies)) (c .before .before .before .before .before .before .before .before .before .before .before .step .result) (c .before .before .before .before .before .before .before .before .before .before .before .step .ensures) (c .before .before .before .before .before .before .before .before .offset-of .result) (c .before .before .before .before .before .before .before .smaller .result) (c .before .before .before .before .before .before .before .before .offset-of .ensures) (c .before .before .before .before .before .before .before .smaller .ensures) (sym (c .before .before .before .before .before .before .before .before .before .before .before .before .before .unclear-for .ensures) ∙ c .before .before .before .before .before .before .before .before .before .before .before .before .if1 .left) (now (z .args .words)) (now (z .args .value)) (c .before .before .before .before .before .before .tested .result) (c .before .before .before .before .before .before .tested .ensures) (sym (c .before .before .before .before .before .is-refused .ensures) ∙ c .before .before .before .before .if2 .left) (c .before .before .argument-answer .result) (c .before .before .argument-answer .ensures) (sym (c .before .is-refused2 .ensures) ∙ c .if3 .taken) in (ap (λ (o : WalkerOutcome). o .answer) E, (ap (λ (o : WalkerOutcome). o .words) E, ap (λ (o : WalkerOutcome). o .value) E))
 
 sub-take-argument : tie.Need-sub-take-argument
 sub-take-argument c = search needs
@@ -88,7 +88,7 @@ same-length : tie.Need-same-length
 same-length c = search needs
 
 returns-4 : tie.Need-returns-4
-returns-4 c = let z = c .before .before .before .before .before .before .before .before .before .before .before .before .before .before .before .before .before .before .before .before .before .before .before .before .before .before .before .before .before .before .before in let g : Went (z .args .w) (z .args .t) (c .before .before .before .before .before .before .before .before .before .before .before .before .before .before .before .before .before .before .before .before .before .before .before .before .call-rules-of .result) (c .before .before .before .before .before .before .before .before .before .before .before .before .before .before .before .before .before .before .before .before .before .before .before .rules-in .result) (c .before .before .before .before .before .before .before .before .before .before .before .before .before .before .before .before .before .before .before .before .before .before .local-cursor .result) (c .before .before .before .before .before .before .before .before .before .before .before .before .before .before .before .before .before .before .before .before .before .before .before .before .before .size-of .result) = record { plain-is = c .before .before .before .before .before .before .before .before .before .before .before .before .before .before .before .before .before .before .before .before .before .before .before .before .call-rules-of .ensures; rules-is = c .before .before .before .before .before .before .before .before .before .before .before .before .before .before .before .before .before .before .before .before .before .before .before .rules-in .ensures; cursor-is = c .before .before .before .before .before .before .before .before .before .before .before .before .before .before .before .before .before .before .before .before .before .before .local-cursor .ensures; size-is = c .before .before .before .before .before .before .before .before .before .before .before .before .before .before .before .before .before .before .before .before .before .before .before .before .before .size-of .ensures } in let E = went-done (z .args .w) (z .args .t) (c .before .before .before .before .before .before .before .before .before .before .before .before .before .before .before .before .before .before .before .before .before .before .before .before .call-rules-of .result) (c .before .before .before .before .before .before .before .before .before .before .before .before .before .before .before .before .before .before .before .before .before .before .before .rules-in .result) (c .before .before .before .before .before .before .before .before .before .before .before .before .before .before .before .before .before .before .before .before .before .before .local-cursor .result) (c .before .before .before .before .before .before .before .before .before .before .before .before .before .before .before .before .before .before .before .before .before .before .before .before .before .size-of .result) g (z .args .base) (now (z .args .image)) (now (z .args .area)) (now (z .args .copies)) (c .before .before .before .before .before .before .before .before .before .before .before .before .before .before .before .before .before .before .before .step .result) (c .before .before .before .before .before .before .before .before .before .before .before .before .before .before .before .before .before .before .before .step .ensures) (c .before .before .before .before .before .before .before .before .before .before .before .before .before .before .before .before .offset-of .result) (c .before .before .before .before .before .before .before .before .before .before .before .before .before .before .before .smaller .result) (c .before .before .before .before .before .before .before .before .before .before .before .before .before .before .before .before .offset-of .ensures) (c .before .before .before .before .before .before .before .before .before .before .before .before .before .before .before .smaller .ensures) (sym (c .before .before .before .before .before .before .before .before .before .before .before .before .before .before .before .before .before .before .before .before .before .unclear-for .ensures) ∙ c .before .before .before .before .before .before .before .before .before .before .before .before .before .before .before .before .before .before .before .before .if1 .left) (now (z .args .words)) (now (z .args .value)) (c .before .before .before .before .before .before .before .before .before .before .before .before .before .before .tested .result) (c .before .before .before .before .before .before .before .before .before .before .before .before .before .before .tested .ensures) (sym (c .before .before .before .before .before .before .before .before .before .before .before .before .before .is-refused .ensures) ∙ c .before .before .before .before .before .before .before .before .before .before .before .before .if2 .left) (c .before .before .before .before .before .before .before .before .before .before .argument-answer .result) (c .before .before .before .before .before .before .before .before .before .before .argument-answer .ensures) (z .pre .0) (z .pre .1) (sym (c .before .before .before .before .before .before .before .before .before .is-refused2 .ensures) ∙ c .before .before .before .before .before .before .before .before .if3 .left) (c .before .before .counters-after .result) (c .before .before .counters-after .ensures) in (ap (λ (o : Walked). o .answer) E, (c .put-walker .ensures ∙ ap (λ (o : Walked). o .words) E, c .before .before .before .before .before .take-argument .ensures ∙ ap (λ (o : Walked). o .value) E))
+returns-4 c = let z = c .before .before .before .before .before .before .before .before .before .before .before .before .before .before .before .before .before .before .before .before .before .before .before .before .before .before .before .before .before .before .before in let g : Went (z .args .w) (z .args .t) (c .before .before .before .before .before .before .before .before .before .before .before .before .before .before .before .before .before .before .before .before .before .before .before .before .call-rules-of .result) (c .before .before .before .before .before .before .before .before .before .before .before .before .before .before .before .before .before .before .before .before .before .before .before .rules-in .result) (c .before .before .before .before .before .before .before .before .before .before .before .before .before .before .before .before .before .before .before .before .before .before .local-cursor .result) (c .before .before .before .before .before .before .before .before .before .before .before .before .before .before .before .before .before .before .before .before .before .before .before .before .before .size-of .result) = record { plain-is = c .before .before .before .before .before .before .before .before .before .before .before .before .before .before .before .before .before .before .before .before .before .before .before .before .call-rules-of .ensures; rules-is = c .before .before .before .before .before .before .before .before .before .before .before .before .before .before .before .before .before .before .before .before .before .before .before .rules-in .ensures; cursor-is = c .before .before .before .before .before .before .before .before .before .before .before .before .before .before .before .before .before .before .before .before .before .before .local-cursor .ensures; size-is = c .before .before .before .before .before .before .before .before .before .before .before .before .before .before .before .before .before .before .before .before .before .before .before .before .before .size-of .ensures } in let E = went-done (z .args .w) (z .args .t) (c .before .before .before .before .before .before .before .before .before .before .before .before .before .before .before .before .before .before .before .before .before .before .before .before .call-rules-of .result) (c .before .before .before .before .before .before .before .before .before .before .before .before .before .before .before .before .before .before .before .before .before .before .before .rules-in .result) (c .before .before .before .before .before .before .before .before .before .before .before .before .before .before .before .before .before .before .before .before .before .before .local-cursor .result) (c .before .before .before .before .before .before .before .before .before .before .before .before .before .before .before .before .before .before .before .before .before .before .before .before .before .size-of .result) g (z .args .base) (now (z .args .image)) (now (z .args .area)) (now (z .args .copies)) (c .before .before .before .before .before .before .before .before .before .before .before .before .before .before .before .before .before .before .before .step .result) (c .before .before .before .before .before .before .before .before .before .before .before .before .before .before .before .before .before .before .before .step .ensures) (c .before .before .before .before .before .before .before .before .before .before .before .before .before .before .before .before .offset-of .result) (c .before .before .before .before .before .before .before .before .before .before .before .before .before .before .before .smaller .result) (c .before .before .before .before .before .before .before .before .before .before .before .before .before .before .before .before .offset-of .ensures) (c .before .before .before .before .before .before .before .before .before .before .before .before .before .before .before .smaller .ensures) (sym (c .before .before .before .before .before .before .before .before .before .before .before .before .before .before .before .before .before .before .before .before .before .unclear-for .ensures) ∙ c .before .before .before .before .before .before .before .before .before .before .before .before .before .before .before .before .before .before .before .before .if1 .left) (now (z .args .words)) (now (z .args .value)) (c .before .before .before .before .before .before .before .before .before .before .before .before .before .before .tested .result) (c .before .before .before .before .before .before .before .before .before .before .before .before .before .before .tested .ensures) (sym (c .before .before .before .before .before .before .before .before .before .before .before .before .before .is-refused .ensures) ∙ c .before .before .before .before .before .before .before .before .before .before .before .before .if2 .left) (c .before .before .before .before .before .before .before .before .before .before .argument-answer .result) (c .before .before .before .before .before .before .before .before .before .before .argument-answer .ensures) (z .pre .0) (z .pre .1) (sym (c .before .before .before .before .before .before .before .before .before .is-refused2 .ensures) ∙ c .before .before .before .before .before .before .before .before .if3 .left) (c .before .before .counters-after .result) (c .before .before .counters-after .ensures) in (ap (λ (o : WalkerOutcome). o .answer) E, (c .put-walker .ensures ∙ ap (λ (o : WalkerOutcome). o .words) E, c .before .before .before .before .before .take-argument .ensures ∙ ap (λ (o : WalkerOutcome). o .value) E))
 
 pub step-spec : {M : Type 1} → statement M
 step-spec =

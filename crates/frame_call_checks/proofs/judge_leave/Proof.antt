@@ -7,7 +7,7 @@ use Rattle.frame_machine.proofs.Judging.{judge-next, judge-stops}
 use Rattle.frame_rules.specs.declared.Frame.{Frame}
 use Rattle.frame_rules.specs.Frames.{frameSize, linkAt}
 use mathlib.Core.Bool.{true, false}
-use Rattle.frame_machine.specs.declared.Answer.the-variants.{Accepted}
+use Rattle.frame_machine.specs.declared.FrameAnswer.the-variants.{Accepted}
 use Rattle.frame_machine.specs.Answers.{judge}
 use Rattle.frame_machine.specs.Machine.{stackPointer, offset, top, stateTests, leaveTests, leaveAnswer}
 use denote.Ref.{now}

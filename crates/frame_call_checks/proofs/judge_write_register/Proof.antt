@@ -4,8 +4,8 @@ use Rattle.frame_machine.specs.Machine.{stateTests, top, writeRegisterAnswer}
 use mathlib.Core.Bool.{true, false}
 use Rattle.frame_machine.proofs.States.{state-yes}
 use Rattle.frame_machine.proofs.Judging.{judge-next, judge-stops}
-use Rattle.frame_machine.specs.declared.Answer.the-variants.{Accepted}
-use Rattle.frame_machine.specs.declared.Refusal.the-variants.{NotPermitted}
+use Rattle.frame_machine.specs.declared.FrameAnswer.the-variants.{Accepted}
+use Rattle.frame_machine.specs.declared.FrameRefusal.the-variants.{NotPermitted}
 use Rattle.frame_machine.specs.Answers.{judge, require}
 use mathlib.Core.List.{[], _∷_}
 use borrow.Author.Tests.{not-true, not-false}

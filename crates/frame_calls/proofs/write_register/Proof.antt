@@ -1,4 +1,4 @@
-use Rattle.frame_machine.specs.declared.Answer.the-variants.{Accepted}
+use Rattle.frame_machine.specs.declared.FrameAnswer.the-variants.{Accepted}
 use Rattle.frame_machine.specs.declared.State.{State}
 -- The answer decides: a refused call hands the state back, an accepted one stores the register. Assumes nothing.
 use Rattle.frame_rules.proofs.Writing.{writable-named}

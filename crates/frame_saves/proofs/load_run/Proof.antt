@@ -4,8 +4,9 @@ use mathlib.Core.Path.{_≡_, refl, _∙_}
 use native.Mathlib.Omega.{arith}
 use borrow.Author.Needs.{needs}
 use lib.ListN.{length}
+use Rattle.base_words.proofs.Basics.{words-turn}
 use Rattle.frame_saves.specs.Saves.{loadRun, load}
-use Rattle.frame_saves.proofs.Runs.{load-turn, load-none, words-turn}
+use Rattle.frame_saves.proofs.Runs.{load-turn, load-none}
 use Rattle.frame_saves.proofs.load_run.Statement.{statement}
 use Rattle.frame_saves.proofs.load_run.Tie as tie
 

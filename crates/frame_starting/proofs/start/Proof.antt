@@ -3,7 +3,7 @@ use Rattle.frame_rules.proofs.Places.{limit-64}
 use Rattle.frame_saves.specs.Saves.{store}
 use Rattle.frame_machine.proofs.States.{memory-yes}
 use Rattle.frame_machine.proofs.Outcomes.{start-accepted, start-refused, accepted-start, refused-start}
-use Rattle.frame_machine.specs.declared.Refusal.the-variants.{BadMemory}
+use Rattle.frame_machine.specs.declared.FrameRefusal.the-variants.{BadMemory}
 use Rattle.frame_rules.specs.Helpers.{LawfulFrames}
 use Rattle.frame_rules.specs.Rules.{rules}
 use Rattle.frame_machine.specs.Machine.{okMemory, started, startedMemory, notStarted}

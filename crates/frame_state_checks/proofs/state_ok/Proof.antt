@@ -1,6 +1,6 @@
 -- The definition's tests in their order; the last compares with a difference, which cannot wrap. Assumes nothing.
+use Rattle.base_words.proofs.Basics.{eqb-sub}
 use Rattle.frame_machine.proofs.States.{memory-yes}
-use Rattle.frame_machine.proofs.Coding.{eqb-sub}
 use Rattle.frame_rules.proofs.Places.{limit-64}
 use Rattle.frame_machine.specs.Machine.{okState, stackPointer, sizes}
 use lib.Dec.{eqb}

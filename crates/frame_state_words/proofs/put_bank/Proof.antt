@@ -1,6 +1,6 @@
 -- A bank has 32 registers. Assumes nothing.
 use Rattle.base_words.specs.Splice.{splice}
-use Rattle.frame_word_layout.proofs.Laws.{part-whole}
+use Rattle.base_words.proofs.Splices.{part-whole}
 use denote.Ref.{now}
 use lib.ListN.{length}
 use mathlib.Core.Path.{_≡_, ap, _∙_}

@@ -31,8 +31,8 @@ mul-words-2 c = search needs
 slice-write-words-2 : tie.Need-slice-write-words-2
 slice-write-words-2 c = simp length-set (omega arith)
 
-flag-word-requires : tie.Need-flag-word-requires
-flag-word-requires c κs = search needs
+flag-requires : tie.Need-flag-requires
+flag-requires c κs = search needs
 
 add-words-2 : tie.Need-add-words-2
 add-words-2 c = search needs
@@ -61,8 +61,8 @@ mul-words-5 c = search needs
 slice-write-words-5 : tie.Need-slice-write-words-5
 slice-write-words-5 c = simp length-set (omega arith)
 
-flag-word-requires-2 : tie.Need-flag-word-requires-2
-flag-word-requires-2 c κs = search needs
+flag-requires-2 : tie.Need-flag-requires-2
+flag-requires-2 c κs = search needs
 
 add-words-5 : tie.Need-add-words-5
 add-words-5 c = search needs
@@ -80,7 +80,7 @@ returns : tie.Need-returns
 unfolding frameWords
 returns c =
     let z = c .before .before .before in
-    rw (c .flag-word2 .ensures, c .before .flag-word .ensures) (six-words (now (z .args .words)) (recordsAt + recordWords * z .args .i) (z .args .f .«first_gpr») (z .args .f .«first_fpr») (flag (z .args .f .«saves_cr»)) (z .args .f .locals) (z .args .f .outgoing) (flag (z .args .f .leaf)))
+    rw (c .flag2 .ensures, c .before .flag .ensures) (six-words (now (z .args .words)) (recordsAt + recordWords * z .args .i) (z .args .f .«first_gpr») (z .args .f .«first_fpr») (flag (z .args .f .«saves_cr»)) (z .args .f .locals) (z .args .f .outgoing) (flag (z .args .f .leaf)))
 
 pub put-frame-spec : {M : Type 1} → statement M
 put-frame-spec =
@@ -93,7 +93,7 @@ put-frame-spec =
     add-words
     mul-words-2
     slice-write-words-2
-    flag-word-requires
+    flag-requires
     add-words-2
     mul-words-3
     slice-write-words-3
@@ -103,7 +103,7 @@ put-frame-spec =
     add-words-4
     mul-words-5
     slice-write-words-5
-    flag-word-requires-2
+    flag-requires-2
     add-words-5
     mul-words-6
     slice-write-words-6

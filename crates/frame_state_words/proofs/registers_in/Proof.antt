@@ -1,8 +1,7 @@
 -- Each bank is copied whole. Assumes nothing.
 use Rattle.base_words.specs.Splice.{part}
-use Rattle.base_words.proofs.Splices.{length-part}
+use Rattle.base_words.proofs.Splices.{length-part, splice-whole}
 use Rattle.frame_word_layout.specs.Words.{registersIn}
-use Rattle.frame_word_layout.proofs.Laws.{splice-all}
 use denote.Ref.{now}
 use lib.ListN.{replicate}
 use Prim.Native.Nat.{_+_}
@@ -53,8 +52,8 @@ unfolding registersIn
 returns c =
     let z = c .before .before .before .before .before .before .before .before .before in
     let ws = now (z .args .words) in
-    let general : c .before .before .before .before .before .before .copy .last .0 ≡ part (z .args .at) 32 ws = c .before .before .before .before .before .before .copy .ensures ∙ splice-all (replicate 32 0) (part (z .args .at) 32 ws) (length-part (z .args .at) 32 ws (omega arith)) in
-    let floating : c .before .before .before .copy2 .last .0 ≡ part (z .args .at + 32) 32 ws = c .before .before .before .copy2 .ensures ∙ splice-all (replicate 32 0) (part (z .args .at + 32) 32 ws) (length-part (z .args .at + 32) 32 ws (omega arith)) in
+    let general : c .before .before .before .before .before .before .copy .last .0 ≡ part (z .args .at) 32 ws = c .before .before .before .before .before .before .copy .ensures ∙ splice-whole (replicate 32 0) (part (z .args .at) 32 ws) (length-part (z .args .at) 32 ws (omega arith)) in
+    let floating : c .before .before .before .copy2 .last .0 ≡ part (z .args .at + 32) 32 ws = c .before .before .before .copy2 .ensures ∙ splice-whole (replicate 32 0) (part (z .args .at + 32) 32 ws) (length-part (z .args .at + 32) 32 ws (omega arith)) in
     rw (general, floating)
 
 pub registers-in-spec : {M : Type 1} → statement M

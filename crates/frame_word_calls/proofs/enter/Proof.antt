@@ -1,5 +1,5 @@
 -- The machine's own call of the state read; where it is accepted, what it changed is put back. Assumes nothing.
-use Rattle.frame_machine.specs.declared.Outcome.{Outcome}
+use Rattle.frame_machine.specs.declared.FrameOutcome.{FrameOutcome}
 use Rattle.frame_word_layout.proofs.Laws.{enter-depth, enter-yes-words, enter-no-words}
 use denote.Ref.{now}
 use lib.ListN.{length}
@@ -27,7 +27,7 @@ put-changed-requires : tie.Need-put-changed-requires
 put-changed-requires c κs =
     let z = c .before .before .before .before .before .before .before .before .before .before .before .before .before .before in
     let outcome = rw (c .before .before .before .before .before .before .before .before .before .before .state-in .ensures, c .before .before .before .before .before .before .before .before .frame-in .ensures) at (c .before .before .before .before .before .before .enter .ensures .0) in
-    (search needs, rw (c .before .before .before .before .before .before .before .before .before .before .state-in .ensures) (enter-depth (now (z .args .words)) (length (now (z .args .memory))) (now (z .args .request)) (sym (ap (λ (o : Outcome). o .answer) outcome) ∙ c .before .before .enum-told .given .1)))
+    (search needs, rw (c .before .before .before .before .before .before .before .before .before .before .state-in .ensures) (enter-depth (now (z .args .words)) (length (now (z .args .memory))) (now (z .args .request)) (sym (ap (λ (o : FrameOutcome). o .answer) outcome) ∙ c .before .before .enum-told .given .1)))
 
 same-length : tie.Need-same-length
 same-length c = search needs
@@ -36,7 +36,7 @@ returns : tie.Need-returns
 returns c =
     let z = c .before .before .before .before .before .before .before .before .before .before .before .before .before in
     let outcome = rw (c .before .before .before .before .before .before .before .before .before .state-in .ensures, c .before .before .before .before .before .before .before .frame-in .ensures) at (c .before .before .before .before .before .enter .ensures .0) in
-    let no = sym (ap (λ (o : Outcome). o .answer) outcome) ∙ c .before .a .given .1 in
+    let no = sym (ap (λ (o : FrameOutcome). o .answer) outcome) ∙ c .before .a .given .1 in
     (sym no, (enter-no-words (now (z .args .words)) (length (now (z .args .memory))) (now (z .args .request)) _ no, rw (c .before .before .before .before .before .before .before .before .before .state-in .ensures, c .before .before .before .before .before .before .before .frame-in .ensures) at (c .before .before .before .before .before .enter .ensures .1)))
 
 same-length-2 : tie.Need-same-length-2
@@ -46,7 +46,7 @@ returns-2 : tie.Need-returns-2
 returns-2 c =
     let z = c .before .before .before .before .before .before .before .before .before .before .before .before .before .before .before in
     let outcome = rw (c .before .before .before .before .before .before .before .before .before .before .before .state-in .ensures, c .before .before .before .before .before .before .before .before .before .frame-in .ensures) at (c .before .before .before .before .before .before .before .enter .ensures .0) in
-    let yes = sym (ap (λ (o : Outcome). o .answer) outcome) ∙ c .before .before .before .enum-told .given .1 in
+    let yes = sym (ap (λ (o : FrameOutcome). o .answer) outcome) ∙ c .before .before .before .enum-told .given .1 in
     (sym yes, (rw (outcome, c .before .before .before .before .before .before .before .before .before .before .before .state-in .ensures) at (c .put-changed .ensures) ∙ enter-yes-words (now (z .args .words)) (length (now (z .args .memory))) (now (z .args .request)) yes, rw (c .before .before .before .before .before .before .before .before .before .before .before .state-in .ensures, c .before .before .before .before .before .before .before .before .before .frame-in .ensures) at (c .before .before .before .before .before .before .before .enter .ensures .1)))
 
 pub enter-spec : {M : Type 1} → statement M

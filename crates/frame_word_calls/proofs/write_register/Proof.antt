@@ -1,5 +1,5 @@
 -- The machine's own call of the state read; where it is accepted, the registers are put back. Assumes nothing.
-use Rattle.frame_machine.specs.declared.Outcome.{Outcome}
+use Rattle.frame_machine.specs.declared.FrameOutcome.{FrameOutcome}
 use Rattle.frame_word_layout.proofs.Laws.{write-yes-words, write-no-words}
 use denote.Ref.{now}
 use lib.ListN.{length}
@@ -27,14 +27,14 @@ returns : tie.Need-returns
 returns c =
     let z = c .before .before .before .before .before .before .before .before in
     let outcome = rw (c .before .before .before .before .state-in .ensures) at (c .before .before .before .write-register .ensures) in
-    let no = sym (ap (λ (o : Outcome). o .answer) outcome) ∙ c .before .a .given .1 in
+    let no = sym (ap (λ (o : FrameOutcome). o .answer) outcome) ∙ c .before .a .given .1 in
     (sym no, write-no-words (now (z .args .words)) (length (now (z .args .memory))) (z .args .bank) (z .args .number) (z .args .value) _ no)
 
 returns-2 : tie.Need-returns-2
 returns-2 c =
     let z = c .before .before .before .before .before .before .before .before .before .before .before in
     let outcome = rw (c .before .before .before .before .before .before .before .state-in .ensures) at (c .before .before .before .before .before .before .write-register .ensures) in
-    let yes = sym (ap (λ (o : Outcome). o .answer) outcome) ∙ c .before .before .before .before .enum-told .given .1 in
+    let yes = sym (ap (λ (o : FrameOutcome). o .answer) outcome) ∙ c .before .before .before .before .enum-told .given .1 in
     (sym yes, rw outcome at (c .put-registers .ensures .0) ∙ write-yes-words (now (z .args .words)) (length (now (z .args .memory))) (z .args .bank) (z .args .number) (z .args .value) yes)
 
 pub write-register-spec : {M : Type 1} → statement M

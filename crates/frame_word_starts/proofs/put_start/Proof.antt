@@ -4,18 +4,18 @@ use mathlib.Core.Path.{_≡_, sym, ap, _∙_}
 use mathlib.Core.List.{List}
 use lib.ListN.{getD, set}
 use denote.Ref.{now}
-use Rattle.frame_machine.specs.declared.Refusal.{Refusal}
-use Rattle.frame_machine.specs.declared.Answer.{Answer}
-use Rattle.frame_machine.specs.declared.Answer.the-variants.{Accepted, Refused}
+use Rattle.frame_machine.specs.declared.FrameRefusal.{FrameRefusal}
+use Rattle.frame_machine.specs.declared.FrameAnswer.{FrameAnswer}
+use Rattle.frame_machine.specs.declared.FrameAnswer.the-variants.{Accepted, Refused}
 use Rattle.frame_machine.specs.Answers.{settle}
 use borrow.Author.Needs.{needs}
 use Rattle.frame_word_starts.proofs.put_start.Statement.{statement}
 use Rattle.frame_word_starts.proofs.put_start.Tie as tie
 
-settle-yes : (a : Answer) (ws vs : List ℕ) → a ≡ Accepted → ws ≡ settle a ws vs
+settle-yes : (a : FrameAnswer) (ws vs : List ℕ) → a ≡ Accepted → ws ≡ settle a ws vs
 settle-yes a ws vs e = rw e
 
-settle-no : (a : Answer) (x : Refusal) (ws vs : List ℕ) → a ≡ Refused x → vs ≡ settle a ws vs
+settle-no : (a : FrameAnswer) (x : FrameRefusal) (ws vs : List ℕ) → a ≡ Refused x → vs ≡ settle a ws vs
 settle-no a x ws vs e = rw e
 
 put-state-requires : tie.Need-put-state-requires

@@ -4,7 +4,7 @@ use mathlib.Core.Path.{ap, _∙_}
 use lib.ListN.{length, getD, set}
 use denote.Ref.{now}
 use Rattle.base_conventions.specs.declared.Convention.the-variants.{Aix}
-use Rattle.frame_machine.specs.declared.Outcome.{Outcome}
+use Rattle.frame_machine.specs.declared.FrameOutcome.{FrameOutcome}
 use Rattle.frame_word_layout.proofs.Laws.{start-words}
 use borrow.Author.Needs.{needs}
 use Rattle.frame_word_starts.proofs.start_aix.Statement.{statement}
@@ -28,7 +28,7 @@ returns c =
     let start = c .before .before .before .before .start in
     let outcome = rw (c .before .before .before .before .before .registers-in .ensures) at (start .ensures .0) in
     let put = c .put-start .ensures in
-    (put .0 ∙ ap (λ (o : Outcome). o .answer) outcome, (rw outcome at (put .1) ∙ start-words (now (z .args .registers)) (search needs) Aix (z .args .base) (length (now (z .args .memory))), start .ensures .1))
+    (put .0 ∙ ap (λ (o : FrameOutcome). o .answer) outcome, (rw outcome at (put .1) ∙ start-words (now (z .args .registers)) (search needs) Aix (z .args .base) (length (now (z .args .memory))), start .ensures .1))
 
 pub start-aix-spec : {M : Type 1} → statement M
 start-aix-spec =

@@ -41,8 +41,8 @@ enum-told-3 c = search needs
 enum-told-4 : tie.Need-enum-told-4
 enum-told-4 c = search needs
 
-with-field-requires : tie.Need-with-field-requires
-with-field-requires c κs =
+with-condition-field-requires : tie.Need-with-condition-field-requires
+with-condition-field-requires c κs =
     let z = c .before .before in
     subst (λ (b : RegisterBank). Named b (z .args .n) (z .args .v)) (c .enum-told4 .given .1) (z .pre)
 
@@ -71,7 +71,7 @@ returns-4 : tie.Need-returns-4
 unfolding withRegister
 returns-4 c =
     let z = c .before .before .before in
-    rw (c .with-field .ensures) (sym (ap (λ (b : RegisterBank). withRegister (z .args .r) b (z .args .n) (z .args .v)) (c .before .enum-told4 .given .1)))
+    rw (c .with-condition-field .ensures) (sym (ap (λ (b : RegisterBank). withRegister (z .args .r) b (z .args .n) (z .args .v)) (c .before .enum-told4 .given .1)))
 
 returns-5 : tie.Need-returns-5
 unfolding withRegister
@@ -91,7 +91,7 @@ with-register-spec =
     element-write-q-2
     enum-told-3
     enum-told-4
-    with-field-requires
+    with-condition-field-requires
     enum-told-5
     returns
     returns-2

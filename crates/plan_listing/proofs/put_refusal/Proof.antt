@@ -5,8 +5,8 @@ use borrow.Author.Needs.{needs}
 use Rattle.plan_listing.proofs.put_refusal.Statement.{statement}
 use Rattle.plan_listing.proofs.put_refusal.Tie as tie
 
-number-of-requires : tie.Need-number-of-requires
-number-of-requires c κs = search needs
+refusal-number-requires : tie.Need-refusal-number-requires
+refusal-number-requires c κs = search needs
 
 slice-aggregate-put-labelled : tie.Need-slice-aggregate-put-labelled
 slice-aggregate-put-labelled c = search needs
@@ -39,13 +39,13 @@ returns c =
     let place = c .before .before .before .before .before .before .before .before .before .before .before .put-labelled2 .ensures .0 in
     let passed = c .before .before .before .before .before .before .put-labelled3 .ensures .0 in
     let end = c .before .before .put-byte .ensures in
-    rw (← c .before .before .before .before .before .before .before .before .before .before .before .before .before .before .before .before .before .before .before .number-of .ensures) (wrote-then number (wrote-then place (wrote-then passed end)))
+    rw (← c .before .before .before .before .before .before .before .before .before .before .before .before .before .before .before .before .before .before .before .refusal-number .ensures) (wrote-then number (wrote-then place (wrote-then passed end)))
 
 pub put-refusal-spec : {M : Type 1} → statement M
 put-refusal-spec =
     tie.close
     (tie.spec
-    number-of-requires
+    refusal-number-requires
     slice-aggregate-put-labelled
     put-labelled-requires
     slice-aggregate-put-labelled-2

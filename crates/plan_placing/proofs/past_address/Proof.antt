@@ -2,7 +2,7 @@
 use borrow.Author.Needs.{needs}
 use mathlib.Core.Path.{sym, ap, _∙_}
 use native.Mathlib.Omega.{arith}
-use Rattle.plan_places.specs.Step.{rulesOf, fresh, startOf}
+use Rattle.plan_places.specs.Step.{rulesOf, freshCursor, startOf}
 use mathlib.Core.Bool.{true}
 use Rattle.plan_places.specs.declared.CallRules.{CallRules}
 use Rattle.plan_places.proofs.Bounds.{rules-lawful, fresh-roomy}

@@ -3,7 +3,7 @@ use borrow.Author.Needs.{needs}
 use mathlib.Core.Path.{sym, ap, _∙_}
 use Rattle.base_conventions.specs.Numbers.{wordBytes}
 use Rattle.sig_types.specs.Sizes.{sizeOf, integerSize}
-use Rattle.plan_places.specs.Step.{rulesOf, fresh, resultOf}
+use Rattle.plan_places.specs.Step.{rulesOf, freshCursor, resultOf}
 use Rattle.plan_words.proofs.Returned.{single-result, double-result, long-power, long-z, struct-result, integer-result}
 use Rattle.plan_words.proofs.value_words.Statement.{statement}
 use Rattle.plan_words.proofs.value_words.Tie as tie

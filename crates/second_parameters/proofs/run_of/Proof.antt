@@ -1,6 +1,6 @@
 -- By the law for each way.
 use Rattle.second_parameters.proofs.Laws.{run-none, run-some}
-use Rattle.second_parameters.specs.Values.{run}
+use Rattle.second_parameters.specs.Values.{runOf}
 use Rattle.second_parameters.proofs.run_of.Statement.{statement}
 use Rattle.second_parameters.proofs.run_of.Tie as tie
 

@@ -18,11 +18,11 @@ accepted-plan-requires c κs = rw (c .before .before .before .pre .0) (answer-pl
 returns : tie.Need-returns
 returns c = c .accepted-plan .ensures ∙ answer-clear _ _ _ (c .before .before .before .before .pre .0) (c .before .before .before .before .pre .1) (sym (c .before .before .straddling-in .ensures) ∙ c .before .if1 .taken)
 
-sub-straddling-fault : tie.Need-sub-straddling-fault
-sub-straddling-fault c = search needs
+sub-unclear-fault : tie.Need-sub-unclear-fault
+sub-unclear-fault c = search needs
 
-straddling-fault-requires : tie.Need-straddling-fault-requires
-straddling-fault-requires c κs = search needs
+unclear-fault-requires : tie.Need-unclear-fault-requires
+unclear-fault-requires c κs = search needs
 
 no-plan-requires : tie.Need-no-plan-requires
 no-plan-requires c κs = search needs
@@ -32,7 +32,7 @@ returns-2 c =
     let n = c .before .before .before .straddling-in .result in
     let some : n ≡ suc (n - 1) = omega (arith, c .before .before .if1 .left) in
     c .no-plan .ensures
-    ∙ ap noPlan (c .before .straddling-fault .ensures)
+    ∙ ap noPlan (c .before .unclear-fault .ensures)
     ∙ answer-straddling _ _ _ _ (c .before .before .before .before .before .pre .0) (c .before .before .before .before .before .pre .1) (sym (c .before .before .before .straddling-in .ensures) ∙ some)
 
 pub clear-plan-spec : {M : Type 1} → statement M
@@ -42,7 +42,7 @@ clear-plan-spec =
     straddling-in-requires
     accepted-plan-requires
     returns
-    sub-straddling-fault
-    straddling-fault-requires
+    sub-unclear-fault
+    unclear-fault-requires
     no-plan-requires
     returns-2)

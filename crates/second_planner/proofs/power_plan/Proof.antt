@@ -1,7 +1,7 @@
 -- Each part is the definition's; the registers take the table of fields, whose places past the last are not looked at.
 use Rattle.sig_signatures.specs.Types.{typesIn}
 use Rattle.sig_signatures.proofs.Types.{length-types}
-use Rattle.second_structure.specs.Structure.{firstWord, powerHidden}
+use Rattle.second_structure.specs.Structure.{hiddenWords, powerHidden}
 use Rattle.second_structure.proofs.Turns.{fields-bounded, over-table}
 use Rattle.second_planner.specs.Answer.{powerPlan, powerParameters}
 use borrow.Author.Needs.{needs}
@@ -17,8 +17,8 @@ values-in-requires c κs = search needs
 power-hidden-requires : tie.Need-power-hidden-requires
 power-hidden-requires c κs = search needs
 
-first-word-requires : tie.Need-first-word-requires
-first-word-requires c κs = search needs
+hidden-words-requires : tie.Need-hidden-words-requires
+hidden-words-requires c κs = search needs
 
 lay-out-requires : tie.Need-lay-out-requires
 lay-out-requires c κs = search needs
@@ -36,8 +36,8 @@ unfolding powerPlan powerParameters
 returns c =
     let g = c .before .before .before .before .before .before .before .args .g in
     let many = length-types (g .count) (g .arguments) (c .before .before .before .before .before .before .before .pre .2 .room) in
-    let same = over-table (g .ellipsis) (c .before .before .before .before .before .before .before .args .paired) (g .convention) (c .before .before .before .before .before .before .before .args .word) 0 (firstWord (powerHidden (g .result))) (typesIn g) in
-    rw (c .lay-registers .ensures, c .before .area-bytes .ensures, c .before .before .lay-out .ensures .0, c .before .before .before .first-word .ensures .0, c .before .before .before .before .power-hidden .ensures, c .before .before .before .before .before .values-in .ensures, c .before .before .before .before .before .before .power-returned .ensures, many, same)
+    let same = over-table (g .ellipsis) (c .before .before .before .before .before .before .before .args .paired) (g .convention) (c .before .before .before .before .before .before .before .args .word) 0 (hiddenWords (powerHidden (g .result))) (typesIn g) in
+    rw (c .lay-registers .ensures, c .before .area-bytes .ensures, c .before .before .lay-out .ensures .0, c .before .before .before .hidden-words .ensures .0, c .before .before .before .before .power-hidden .ensures, c .before .before .before .before .before .values-in .ensures, c .before .before .before .before .before .before .power-returned .ensures, many, same)
 
 pub power-plan-spec : {M : Type 1} → statement M
 power-plan-spec =
@@ -46,7 +46,7 @@ power-plan-spec =
     power-returned-requires
     values-in-requires
     power-hidden-requires
-    first-word-requires
+    hidden-words-requires
     lay-out-requires
     area-bytes-requires
     lay-registers-requires

@@ -1,5 +1,5 @@
 -- Each part is the definition's.
-use Rattle.second_parameters.specs.Values.{run}
+use Rattle.second_parameters.specs.Values.{runOf}
 use borrow.Author.Needs.{needs}
 use Rattle.second_slot_scan.proofs.in_general.Statement.{statement}
 use Rattle.second_slot_scan.proofs.in_general.Tie as tie

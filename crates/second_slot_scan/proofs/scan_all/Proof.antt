@@ -3,7 +3,7 @@ use Rattle.second_slot_scan.specs.Slots.{initial, slotsFrom, scannedTo}
 use Rattle.sig_signatures.specs.Types.{typesIn}
 use Prim.Native.Nat.{_-_}
 use Rattle.second_slot_scan.proofs.Turns.{Scanning, scanning-start, scanning-more, near-roomy}
-use Rattle.second_parameters.proofs.Turns.{table-end, here, gone}
+use Rattle.second_parameters.proofs.Turns.{table-whole, here, gone}
 use borrow.Author.Needs.{needs}
 use native.Mathlib.Omega.{arith}
 use Rattle.second_slot_scan.proofs.scan_all.Statement.{statement}
@@ -55,7 +55,7 @@ loop-again c =
 
 returns : tie.Need-returns Inv-loop μ-loop
 unfolding slotsFrom scannedTo
-returns c = let z = gone _ (c .before .loop .i) (c .before .before .before .before .pre) (omega arith) in let g = c .before .loop .inv in let t = table-end _ _ _ _ (rw z at (g .table)) in let l = rw z at (g .last) in cc
+returns c = let z = gone _ (c .before .loop .i) (c .before .before .before .before .pre) (omega arith) in let g = c .before .loop .inv in let t = table-whole _ _ _ _ (rw z at (g .table)) in let l = rw z at (g .last) in cc
 
 pub scan-all-spec : {M : Type 1} → statement M
 scan-all-spec =

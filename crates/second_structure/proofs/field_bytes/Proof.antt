@@ -1,5 +1,5 @@
 -- Each part is the definition's.
-use Rattle.second_parameters.specs.Values.{run}
+use Rattle.second_parameters.specs.Values.{runOf}
 use borrow.Author.Needs.{needs}
 use Rattle.second_structure.proofs.field_bytes.Statement.{statement}
 use Rattle.second_structure.proofs.field_bytes.Tie as tie

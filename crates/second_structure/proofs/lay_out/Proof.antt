@@ -4,7 +4,7 @@ use Rattle.second_structure.specs.Structure.{fieldsFrom, wordsTo}
 use Rattle.sig_signatures.specs.Types.{typesIn}
 use Prim.Native.Nat.{_-_}
 use Rattle.second_structure.proofs.Turns.{Laying, laying-start, laying-more}
-use Rattle.second_parameters.proofs.Turns.{table-end, here, gone}
+use Rattle.second_parameters.proofs.Turns.{table-whole, here, gone}
 use borrow.Author.Needs.{needs}
 use native.Mathlib.Omega.{arith}
 use Rattle.second_structure.proofs.lay_out.Statement.{statement}
@@ -51,7 +51,7 @@ loop-again c = let h = here _ (c .before .before .before .before .loop .i) (c .b
 
 returns : tie.Need-returns Inv-loop μ-loop
 unfolding fieldsFrom wordsTo
-returns c = let z = gone _ (c .before .loop .i) (c .before .before .pre .3) (omega arith) in let g = c .before .loop .inv .0 in let t = table-end _ _ _ _ (rw z at (g .table)) in let l = rw z at (g .last) in (cc, omega (arith, g .small, c .before .loop .inv .1, c .before .before .pre .3 .few))
+returns c = let z = gone _ (c .before .loop .i) (c .before .before .pre .3) (omega arith) in let g = c .before .loop .inv .0 in let t = table-whole _ _ _ _ (rw z at (g .table)) in let l = rw z at (g .last) in (cc, omega (arith, g .small, c .before .loop .inv .1, c .before .before .pre .3 .few))
 
 pub lay-out-spec : {M : Type 1} → statement M
 lay-out-spec =

@@ -5,7 +5,7 @@ use Rattle.second_parameters.specs.Values.{noRun}
 use Rattle.sig_signatures.specs.Types.{typesIn}
 use Prim.Native.Nat.{_-_}
 use Rattle.second_structure.proofs.Turns.{Covering, covering-start, covering-more}
-use Rattle.second_parameters.proofs.Turns.{table-end, here, gone}
+use Rattle.second_parameters.proofs.Turns.{table-whole, here, gone}
 use borrow.Author.Needs.{needs}
 use native.Mathlib.Omega.{arith}
 use Rattle.second_structure.proofs.lay_registers.Statement.{statement}
@@ -65,7 +65,7 @@ loop-again c =
 
 returns : tie.Need-returns Inv-loop μ-loop
 unfolding registersOver
-returns c = let z = gone _ (c .before .loop .i) (c .before .before .before .pre .1) (omega arith) in table-end _ _ _ _ (rw z at (c .before .loop .inv .table))
+returns c = let z = gone _ (c .before .loop .i) (c .before .before .before .pre .1) (omega arith) in table-whole _ _ _ _ (rw z at (c .before .loop .inv .table))
 
 pub lay-registers-spec : {M : Type 1} → statement M
 lay-registers-spec =

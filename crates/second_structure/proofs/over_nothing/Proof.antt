@@ -1,6 +1,6 @@
 -- Each part is the definition's.
 use Rattle.second_structure.specs.Structure.{overNothing}
-use Rattle.second_parameters.specs.Values.{run}
+use Rattle.second_parameters.specs.Values.{runOf}
 use borrow.Author.Needs.{needs}
 use Rattle.second_structure.proofs.over_nothing.Statement.{statement}
 use Rattle.second_structure.proofs.over_nothing.Tie as tie

@@ -1,6 +1,6 @@
 -- Each part is the definition's.
 use Rattle.second_structure.specs.Structure.{overWords}
-use Rattle.second_parameters.specs.Values.{run}
+use Rattle.second_parameters.specs.Values.{runOf}
 use borrow.Author.Needs.{needs}
 use Rattle.second_structure.proofs.over_words.Statement.{statement}
 use Rattle.second_structure.proofs.over_words.Tie as tie

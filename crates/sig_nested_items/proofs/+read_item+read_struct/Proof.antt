@@ -23,8 +23,8 @@ use Rattle.sig_nested_items.proofs.closed_item.Reads as closed-item-rea
 use Rattle.sig_items.proofs.later_by.Reads as later-by-reads
 use Rattle.sig_item_headers.proofs.refused_here.Reads as refused-here-reads
 use Rattle.sig_item_headers.proofs.read_body.Reads as read-body-reads
-use Rattle.sig_leaf_items.proofs.read_float.Reads as read-float-reads
-use Rattle.sig_leaf_items.proofs.read_integer.Reads as read-integer-reads
+use Rattle.sig_nested_items.proofs.read_float.Reads as read-float-reads
+use Rattle.sig_nested_items.proofs.read_integer.Reads as read-integer-reads
 use Rattle.sig_layout.proofs.no_fields.Reads as no-fields-reads
 use Rattle.sig_layout.proofs.with_field.Reads as with-field-reads
 
