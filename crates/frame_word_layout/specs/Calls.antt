@@ -2,15 +2,15 @@
 -- words are read as. Document 01, "Frames": "An accepted enter changes only the stack pointer, the slots named above, its record and the depth; an accepted leave only
 -- the stack pointer, what it restores, the record and the depth"; "Every refusal leaves all buffers and the state untouched" ("When the bridge says no").
 -- Records that are not entered are neither looked at nor changed, whatever their words are. Assumes nothing.
-use Prim.Native.Nat.{ℕ}
+use Prim.Native.Nat.{ℕ, _*_}
 use mathlib.Core.List.{List, _∷_, _++_}
 use lib.ListN.{replicate}
 use Rattle.base_conventions.specs.declared.Convention.{Convention}
 use Rattle.base_conventions.specs.Numbers.{codeOf}
 use Rattle.frame_machine.specs.Answers.{settle}
 use Rattle.frame_machine.specs.declared.State.{State}
-use Rattle.frame_machine.specs.Machine.{frameAt, startOutcome, enterOutcome, writeRegisterOutcome, leaveOutcome}
-use Rattle.frame_word_layout.specs.Words.{registersIn, frameIn, stateIn, stateWords, withDepth, withRegisters, withFrame}
+use Rattle.frame_machine.specs.Machine.{maxEntered, frameAt, startOutcome, enterOutcome, writeRegisterOutcome, leaveOutcome}
+use Rattle.frame_word_layout.specs.Words.{recordWords, registersIn, frameIn, stateIn, stateWords, withDepth, withRegisters, withFrame}
 
 -- ws with the depth, the registers and the record i of the state s
 unfoldable pub changed : List ℕ → State → ℕ → List ℕ
@@ -18,7 +18,7 @@ changed ws s i = withFrame (withRegisters (withDepth ws (s .depth)) (s .register
 
 -- "a refused start hands the registers back as they came, all else 0": all 64 bits of each word rs, CR's too; the convention stays
 unfoldable pub refusedWords : Convention → List ℕ → List ℕ
-refusedWords c rs = codeOf c ∷ 0 ∷ 0 ∷ 0 ∷ (rs ++ replicate 192 0)
+refusedWords c rs = codeOf c ∷ 0 ∷ 0 ∷ 0 ∷ (rs ++ replicate (maxEntered * recordWords) 0)
 
 -- start writes all the words, also where it is refused; rs are the registers handed in, n the length of the memory
 unfoldable pub startWords : Convention → List ℕ → ℕ → ℕ → List ℕ

@@ -3,7 +3,8 @@ ghost use mathlib.Core.Path.{_≡_};
 ghost use lib.ListN.{length, getD, set};
 ghost use Rattle.frame_machine.specs.Answers.{settle};
 ghost use Rattle.frame_machine.specs.Machine.{startOutcome, startMemory};
-ghost use Rattle.frame_word_layout.specs.Words.{registersIn, stateWords};
+ghost use Prim.Native.Nat.{_+_};
+ghost use Rattle.frame_word_layout.specs.Words.{registersAt, crIn, registersIn, stateWords};
 ghost use Rattle.frame_word_layout.specs.Calls.{startWords};
 use base_conventions::Convention;
 use both_abi::Aix;
@@ -24,7 +25,7 @@ fn put_start(
     o: FrameOutcome,
 ) -> FrameAnswer
     ensures { λ r. ⌜ r ≡ o .answer ⌝ }
-    ensures { λ _. ⌜ now (words .exit) ≡ settle (o .answer) (stateWords (o .state)) (set (stateWords (o .state)) 69 (getD (now (registers .entry)) 65 0)) ⌝ }
+    ensures { λ _. ⌜ now (words .exit) ≡ settle (o .answer) (stateWords (o .state)) (set (stateWords (o .state)) (registersAt + crIn) (getD (now (registers .entry)) crIn 0)) ⌝ }
 {
     let s = o.state;
     frame_state_words::put_state(words, s);
