@@ -4,7 +4,7 @@ use mathlib.Core.Bool.{Bool, true, false}
 use mathlib.Core.List.{List, [], _∷_, _++_}
 use Prim.Native.Nat.{ℕ, zero, suc, _+_, _-_, _*_, _≤_, _<_}
 use native.Mathlib.Omega.{arith}
-use borrow.Author.Tests.{lt-ltb, le-ltb}
+use borrow.Author.Tests.{lt-ltb}
 use lib.Dec.{ltb}
 use lib.ListN.{length}
 use Rattle.base_words.specs.Basics.{pick}
@@ -17,7 +17,7 @@ use Rattle.sig_types.specs.Trees.{Trees, none, _▸_, typeOf}
 use Rattle.sig_items.specs.declared.Refusal.{Refusal}
 use Rattle.sig_items.specs.declared.Fault.{Fault}
 use Rattle.sig_items.specs.declared.ItemRead.{ItemRead}
-use Rattle.sig_items.specs.Reading.{Reading, fault, got, no, later}
+use Rattle.sig_items.specs.Reading.{Reading, fault, got, no}
 use Rattle.sig_items.specs.Read.{itemAt}
 use Rattle.sig_items.specs.Answer.{itemAnswer}
 use Rattle.sig_items.proofs.Loop.{item-answered}
@@ -25,13 +25,12 @@ use Rattle.sig_signatures.specs.Limits.{maxArguments}
 use Rattle.sig_signatures.specs.Helpers.{RoomFor}
 use Rattle.sig_signatures.specs.declared.ResultType.{ResultType}
 use Rattle.sig_signatures.specs.declared.Outcome.{Outcome}
-use Rattle.sig_signatures.specs.declared.SignatureRead.{SignatureRead}
 use Rattle.sig_signatures.specs.Signature.{Result, Signature}
 use Rattle.sig_signatures.specs.Read.{argumentsIn, signatureOf, headOf}
 use Rattle.sig_signatures.specs.Answer.{resultType, headAnswer, signatureAnswer}
 use Rattle.sig_signatures.specs.Types.{typesOf}
 use Rattle.sig_signatures.proofs.Laws.{thenArguments, signature-then}
-use Rattle.sig_signatures.proofs.Loop.{Turn, turn-start, turn-last, turn-more}
+use Rattle.sig_signatures.proofs.Loop.{turn-start, turn-last, turn-more}
 use Rattle.sig_reader.specs.Argument.{unclearFault}
 use Rattle.plan_places.specs.declared.Cursor.{Cursor}
 use Rattle.plan_places.specs.declared.Span.{Span}
@@ -45,9 +44,8 @@ use Rattle.plan_plans.specs.declared.Measured.{Measured}
 use Rattle.plan_plans.specs.Plan.{spansOf, lastOf, hiddenIn, startIn, refusedPlan, resultPlacesIn, planIn, planAnswer, measureOf}
 use Rattle.plan_plans.specs.Helpers.{planWith, unclearOf, unclearWith}
 use Rattle.plan_plans.specs.Call.{called, outcomeFor}
-use Rattle.plan_plans.proofs.Fold.{last-more, same-step}
-use Rattle.plan_plans.proofs.Measures.{Measuring, measuring-start, measuring-more, measure-trailing, measure-end, unclear-trailing, unclear-end, measured-arguments, unclear-arguments}
-use Rattle.plan_plans.proofs.Answers.{outcome-read}
+use Rattle.plan_plans.proofs.Fold.{last-marked}
+use Rattle.plan_plans.proofs.Measures.{Measuring, none-so-far, more-so-far, measuring-start, measure-trailing, measure-end, unclear-trailing, unclear-end, measured-arguments, unclear-arguments}
 use Rattle.plan_plans.proofs.Calls.{called-accepted, called-clear, called-unclear}
 use Rattle.call_slots.specs.Placements.{Placement, placement, placements}
 use Rattle.call_slots.specs.Arguments.{placementsIn, argumentsOf, planFor, rulesFor, sizesFor}
@@ -75,25 +73,17 @@ same-placement : (c : Convention) (r : CallRules) {k l : Cursor} {t u : ValueTyp
     → placement t (sizeOf c t) (spanOf r k t (sizeOf c t)) ≡ placement u (sizeOf c u) (spanOf r l u (sizeOf c u))
 same-placement c r p q = cc
 
--- the sizes of the arguments so far, and the arguments ts themselves, whose rows are kept in place of what was there, l
+-- the sizes of the arguments so far, whose rows are kept in place of what was there, l
 pub record Keeping (c : Convention) (v : Bool) (s : List ℕ) (at e : ℕ) (start : Cursor) (l : List ℕ) (k : Cursor) (kept : List ℕ) (bytes u count next n : ℕ) : Type 0 where
   pub sizes : Measuring c s at e (rulesOf c) start k bytes u count next n
-  pub ts : Trees
-  pub turn : Turn c s at e ts count next n
-  pub last : k ≡ lastOf c (withEllipsis v (rulesOf c)) start (typesOf c ts)
-  pub apart : at + 3 * count ≤ next
   pub long : length kept ≡ length l
-  pub rows : keptAll c kept count ≡ placements c (typesOf c ts) (spansOf c (withEllipsis v (rulesOf c)) start (typesOf c ts))
+  pub rows : keptAll c kept count ≡ placements c (typesOf c (sizes .ts)) (spansOf c (withEllipsis v (rulesOf c)) start (typesOf c (sizes .ts)))
 
 module _ (c : Convention) (v : Bool) (s : List ℕ) (at e : ℕ) (l : List ℕ) where
   pub keeping-start : (r : ResultType) (k : Cursor) → k ≡ startIn c r → at ≤ e → Keeping c v s at e k l k l 0 0 0 at 1
   unfolding keptFrom typesOf placements lastOf
   keeping-start r k p h = rw p (record {
-    sizes = measuring-start c s at e (rulesOf c) (hiddenIn c r) (rules-lawful c) h;
-    ts = none;
-    turn = turn-start c s at e h;
-    last = refl;
-    apart = omega arith;
+    sizes = record { ts = none; so-far = none-so-far c s at e (rulesOf c) (hiddenIn c r) (rules-lawful c) h };
     long = refl;
     rows = refl;
   })
@@ -104,29 +94,30 @@ module _ (c : Convention) (v : Bool) (s : List ℕ) (at e : ℕ) (l : List ℕ) 
       pub keeping-room : 10 * count + 10 ≤ length kept
       keeping-room =
           let a = item-answered c 8 s e next x t after j (omega arith) found q in
-          let rows : 10 * (count + 1) ≤ length l = room (count + 1) (omega (arith, m .turn .few)) (omega (arith, m .apart, a .on, a .inside)) in
+          let rows : 10 * (count + 1) ≤ length l = room (count + 1) (omega (arith, m .sizes .so-far .turn .few)) (omega (arith, m .sizes .so-far .turn .apart, a .on, a .inside)) in
           omega (arith, m .long)
 
       pub keeping-more : Keeping c v s at e start l (nextOf (withEllipsis v (rulesOf c)) k t (sizeOf c t)) (splice kept (10 * count) (rowOf t (spanOf (withEllipsis v (rulesOf c)) k t (sizeOf c t)))) (bytes + sizeOf c t) (unclearAfter u (unclearFor (withEllipsis v (rulesOf c)) k t) count) (count + 1) after (n + j)
       unfolding typesOf
       keeping-more =
           let a = item-answered c 8 s e next x t after j (omega arith) found q in
-          let more = turn-more c s at e (m .ts) count next n (m .turn) h some x found t after j q in
+          let more = turn-more c s at e (m .sizes .ts) count next n (m .sizes .so-far .turn) h some x found t after j q in
           let rules : CallRules = withEllipsis v (rulesOf c) in
-          let so-far : List ValueType = typesOf c (m .ts) in
+          let so-far : List ValueType = typesOf c (m .sizes .ts) in
+          let last : k ≡ lastOf c rules start so-far = m .sizes .so-far .last ∙ sym (last-marked c v (rulesOf c) start so-far) in
           let w : ValueType = typeOf c (more .tree) in
           let span : Span = spanOf rules k t (sizeOf c t) in
-          let numbered = step-numbered rules k t (sizeOf c t) (named-marked v (rulesOf c) k (m .sizes .reached .named)) in
+          let numbered = step-numbered rules k t (sizeOf c t) (named-marked v (rulesOf c) k (m .sizes .so-far .reached .named)) in
           record {
-            sizes = rw (next-marked v (rulesOf c) k t (sizeOf c t), unclear-marked v (rulesOf c) k t) (measuring-more c s at e (rulesOf c) start k bytes u count next n (m .sizes) (rules-lawful c) h some x found t after j q);
-            ts = m .ts ▸ more .tree;
-            turn = more .turn;
-            last = same-step (nextOf rules) c (m .last) (more .same) ∙ sym (last-more c rules start so-far w);
-            apart = omega (arith, m .apart, a .on);
+            sizes = record {
+              ts = m .sizes .ts ▸ more .tree;
+              so-far = rw (next-marked v (rulesOf c) k t (sizeOf c t), unclear-marked v (rulesOf c) k t)
+                  (more-so-far c s at e (rulesOf c) start (m .sizes .ts) k bytes u count next n (m .sizes .so-far) (rules-lawful c) t (a .sized .small) (more .tree) (more .same) after (n + j) (more .turn));
+            };
             long = length-splice kept (10 * count) (rowOf t span) ∙ m .long;
             rows =
                 kept-more c kept count t span keeping-room (sized-codable c t (a .sized)) numbered
-                ∙ ap₂ (λ (ps : List Placement) (p : Placement). ps ++ p ∷ []) (m .rows) (same-placement c rules (m .last) (more .same))
+                ∙ ap₂ (λ (ps : List Placement) (p : Placement). ps ++ p ∷ []) (m .rows) (same-placement c rules last (more .same))
                 ∙ sym (placements-more c rules start so-far w);
           }
 
@@ -138,15 +129,15 @@ module _ (c : Convention) (v : Bool) (s : List ℕ) (at e : ℕ) (r : ResultType
 
   module _ (l : List ℕ) (room : RoomFor rowLength at e (length l)) (k : Cursor) (kept : List ℕ) (bytes u count next n : ℕ) (m : Keeping c v s at e (startIn c r) l k kept bytes u count next n) (last : e ≤ next) where
     pub kept-trailing : next < length s → (j : ℕ) → KeptWith c v r (length s) (argumentsIn c s at e) kept j
-    kept-trailing h j = rw (turn-last c s at e (m .ts) count next n (m .turn) last) (λ more. let z : _≡_ {A = ℕ} 0 1 = cc (lt-ltb next (length s) h, more) in absurd (omega arith))
+    kept-trailing h j = rw (turn-last c s at e (m .sizes .ts) count next n (m .sizes .so-far .turn) last) (λ more. let z : _≡_ {A = ℕ} 0 1 = cc (lt-ltb next (length s) h, more) in absurd (omega arith))
 
     pub kept-end : KeptWith c v r (length s) (argumentsIn c s at e) kept count
     kept-end =
-        rw (turn-last c s at e (m .ts) count next n (m .turn) last)
+        rw (turn-last c s at e (m .sizes .ts) count next n (m .sizes .so-far .turn) last)
         (λ _. (room-of, m .rows))
       where
         room-of : 10 * count ≤ length kept
-        room-of = let rows : 10 * count ≤ length l = room count (omega (arith, m .turn .few)) (omega (arith, m .apart, m .turn .within)) in omega (arith, m .long)
+        room-of = let rows : 10 * count ≤ length l = room count (omega (arith, m .sizes .so-far .turn .few)) (omega (arith, m .sizes .so-far .turn .apart, m .sizes .so-far .turn .within)) in omega (arith, m .long)
 
 -- ---- the whole call
 

@@ -11,7 +11,7 @@ use Rattle.base_words.specs.Basics.{pick}
 use Rattle.base_conventions.specs.declared.Convention.{Convention}
 use Rattle.sig_types.specs.declared.ValueType.{ValueType}
 use Rattle.sig_types.specs.Sizes.{sizeOf}
-use Rattle.sig_types.specs.Trees.{Trees, none, _▸_, typeOf}
+use Rattle.sig_types.specs.Trees.{Tree, Trees, none, _▸_, typeOf}
 use Rattle.sig_items.specs.declared.Refusal.{Refusal}
 use Rattle.sig_items.specs.declared.Fault.{Fault}
 use Rattle.sig_items.specs.declared.ItemRead.{ItemRead}
@@ -43,41 +43,54 @@ use Rattle.plan_plans.proofs.Fold.{last-more, same-step, values-more, R
 
 -- ---- the loop
 
--- reading on from here gives all arguments; the cursor k, the v bytes of values and the first unclear one, number u, are those of the arguments so far
-pub record Measuring (c : Convention) (s : List ℕ) (at e : ℕ) (r : CallRules) (start : Cursor) (k : Cursor) (v u count next n : ℕ) : Type 0 where
-  pub ts : Trees
+-- reading on from here gives all arguments; the cursor k, the v bytes of values and the first unclear one, number u, are those of the arguments ts so far
+pub record SoFar (c : Convention) (s : List ℕ) (at e : ℕ) (r : CallRules) (start : Cursor) (ts : Trees) (k : Cursor) (v u count next n : ℕ) : Type 0 where
   pub turn : Turn c s at e ts count next n
   pub last : k ≡ lastOf c r start (typesOf c ts)
   pub total : v ≡ valuesOf c (typesOf c ts)
   pub unclear : u ≡ firstUnclear c r start 0 (typesOf c ts)
   pub reached : Reached r k v count
 
+-- of some arguments
+pub record Measuring (c : Convention) (s : List ℕ) (at e : ℕ) (r : CallRules) (start : Cursor) (k : Cursor) (v u count next n : ℕ) : Type 0 where
+  pub ts : Trees
+  pub so-far : SoFar c s at e r start ts k v u count next n
+
 -- so many arguments are read
 count-types : (c : Convention) (s : List ℕ) (at e : ℕ) (ts : Trees) (count next n : ℕ) → Turn c s at e ts count next n → count ≡ 0 + length (typesOf c ts)
 count-types c s at e ts count next n t = omega (arith, t .many, length-of-types c ts)
 
 module _ (c : Convention) (s : List ℕ) (at e : ℕ) (r : CallRules) where
-  pub measuring-start : (hidden : Bool) → LawfulCalls r → at ≤ e → Measuring c s at e r (startOf r hidden) (startOf r hidden) 0 0 0 at 1
+  pub none-so-far : (hidden : Bool) → LawfulCalls r → at ≤ e → SoFar c s at e r (startOf r hidden) none (startOf r hidden) 0 0 0 at 1
   unfolding typesOf lastOf valuesOf firstUnclear
-  measuring-start hidden l h = record { ts = none; turn = turn-start c s at e h; last = refl; total = refl; unclear = refl; reached = reached-start r hidden l }
+  none-so-far hidden l h = record { turn = turn-start c s at e h; last = refl; total = refl; unclear = refl; reached = reached-start r hidden l }
+
+  pub measuring-start : (hidden : Bool) → LawfulCalls r → at ≤ e → Measuring c s at e r (startOf r hidden) (startOf r hidden) 0 0 0 at 1
+  measuring-start hidden l h = record { ts = none; so-far = none-so-far hidden l h }
+
+  -- one argument more, of the type t
+  pub more-so-far : (start : Cursor) (ts : Trees) (k : Cursor) (v u count next n : ℕ) → SoFar c s at e r start ts k v u count next n → LawfulCalls r → (t : ValueType) → sizeOf c t ≤ 256
+      → (tree : Tree) → t ≡ typeOf c tree → (after m : ℕ) → Turn c s at e (ts ▸ tree) (count + 1) after m
+      → SoFar c s at e r start (ts ▸ tree) (nextOf r k t (sizeOf c t)) (v + sizeOf c t) (unclearAfter u (unclearFor r k t) count) (count + 1) after m
+  unfolding typesOf
+  more-so-far start ts k v u count next n g l t small tree same after m turn =
+      let so-far : List ValueType = typesOf c ts in
+      let w : ValueType = typeOf c tree in
+      record {
+        turn = turn;
+        last = same-step (nextOf r) c (g .last) same ∙ sym (last-more c r start so-far w);
+        total = omega (arith, g .total, ap (sizeOf c) same, values-more c so-far w);
+        unclear = same-unclear r (g .unclear) (g .last) same (count-types c s at e ts count next n (g .turn)) ∙ sym (unclear-more c r start 0 so-far w);
+        reached = reached-more r k v count t (sizeOf c t) l small (g .reached);
+      }
 
   module _ (start k : Cursor) (v u count next n : ℕ) (m : Measuring c s at e r start k v u count next n) where
     pub measuring-more : LawfulCalls r → next < e → (count ≡ maxArguments → ⊥) → (x : ItemRead) → x ≡ itemAnswer c (itemAt c 8 s e next) → (t : ValueType) (after j : ℕ) →
         x ≡ ItemRead.Item t after j → Measuring c s at e r start (nextOf r k t (sizeOf c t)) (v + sizeOf c t) (unclearAfter u (unclearFor r k t) count) (count + 1) after (n + j)
-    unfolding typesOf
     measuring-more l h some x found t after j q =
         let a = item-answered c 8 s e next x t after j (omega arith) found q in
-        let more = turn-more c s at e (m .ts) count next n (m .turn) h some x found t after j q in
-        let so-far : List ValueType = typesOf c (m .ts) in
-        let w : ValueType = typeOf c (more .tree) in
-        record {
-          ts = m .ts ▸ more .tree;
-          turn = more .turn;
-          last = same-step (nextOf r) c (m .last) (more .same) ∙ sym (last-more c r start so-far w);
-          total = omega (arith, m .total, ap (sizeOf c) (more .same), values-more c so-far w);
-          unclear = same-unclear r (m .unclear) (m .last) (more .same) (count-types c s at e (m .ts) count next n (m .turn)) ∙ sym (unclear-more c r start 0 so-far w);
-          reached = reached-more r k v count t (sizeOf c t) l (a .sized .small) (m .reached);
-        }
+        let more = turn-more c s at e (m .ts) count next n (m .so-far .turn) h some x found t after j q in
+        record { ts = m .ts ▸ more .tree; so-far = more-so-far start (m .ts) k v u count next n (m .so-far) l t (a .sized .small) (more .tree) (more .same) after (n + j) (more .turn) }
 
 -- ---- the answers
 
@@ -92,19 +105,19 @@ module _ (c : Convention) (s : List ℕ) (at e : ℕ) (result : ResultType) (ear
   module _ (k : Cursor) (v u count next n : ℕ) (m : Measuring c s at e (rulesOf c) (startIn c result) k v u count next n) (last : e ≤ next) where
     pub measure-trailing : next < length s →
         measureOf (refusedPlan (fault Refusal.TrailingBytes next (earlier + n))) ≡ measureOf (planWith c false result earlier (length s) (argumentsIn c s at e))
-    measure-trailing h = rw (turn-last c s at e (m .ts) count next n (m .turn) last, lt-ltb next (length s) h)
+    measure-trailing h = rw (turn-last c s at e (m .ts) count next n (m .so-far .turn) last, lt-ltb next (length s) h)
 
     pub measure-end : length s ≤ next →
         _≡_ {A = Measured} (record { outcome = Outcome.Accepted (earlier + n); area = areaOf c k; values = v; copies = k .copies })
         (measureOf (planWith c false result earlier (length s) (argumentsIn c s at e)))
     unfolding planIn
-    measure-end h = rw (turn-last c s at e (m .ts) count next n (m .turn) last, le-ltb next (length s) h) (cc (m .last, m .total))
+    measure-end h = rw (turn-last c s at e (m .ts) count next n (m .so-far .turn) last, le-ltb next (length s) h) (cc (m .so-far .last, m .so-far .total))
 
     pub unclear-trailing : next < length s → 0 ≡ unclearWith c result (length s) (argumentsIn c s at e)
-    unclear-trailing h = rw (turn-last c s at e (m .ts) count next n (m .turn) last, lt-ltb next (length s) h)
+    unclear-trailing h = rw (turn-last c s at e (m .ts) count next n (m .so-far .turn) last, lt-ltb next (length s) h)
 
     pub unclear-end : length s ≤ next → u ≡ unclearWith c result (length s) (argumentsIn c s at e)
-    unclear-end h = rw (turn-last c s at e (m .ts) count next n (m .turn) last, le-ltb next (length s) h) (m .unclear)
+    unclear-end h = rw (turn-last c s at e (m .ts) count next n (m .so-far .turn) last, le-ltb next (length s) h) (m .so-far .unclear)
 
 -- no size depends on an ellipsis
 measured-marked : (c : Convention) (v : Bool) (r : ResultType) (n all : ℕ) (x : Reading Trees) → measureOf (planWith c false r n all x) ≡ measureOf (planWith c v r n all x)

@@ -3,14 +3,14 @@ use Prim.Native.Nat.{ℕ, _+_, _-_, _≤_, _<_}
 use mathlib.Core.Path.{_≡_, refl, sym, ap, _∙_}
 use mathlib.Core.Bool.{Bool, true, false}
 use mathlib.Core.List.{List}
-use lib.ListN.{length, length-append}
-use lib.Dec.{ltb, eqb}
+use lib.ListN.{length}
+use lib.Dec.{ltb}
 use native.Mathlib.Omega.{arith}
 use borrow.Author.Tests.{lt-ltb, le-ltb}
 use Rattle.base_words.specs.Basics.{pick}
 use Rattle.base_conventions.specs.declared.Convention.{Convention}
 use Rattle.sig_types.specs.declared.ValueType.{ValueType}
-use Rattle.sig_types.specs.Trees.{Tree, Trees, none, _▸_, typeOf, countOf}
+use Rattle.sig_types.specs.Trees.{Trees, none, _▸_}
 use Rattle.sig_items.specs.declared.Refusal.{Refusal}
 use Rattle.sig_items.specs.declared.Fault.{Fault}
 use Rattle.sig_items.specs.declared.Body.{Body}
@@ -18,10 +18,8 @@ use Rattle.sig_items.specs.declared.ItemRead.{ItemRead}
 use Rattle.sig_items.specs.Reading.{Reading, fault, got, no, later, andThen}
 use Rattle.sig_items.specs.Read.{bodyAt, itemAt}
 use Rattle.sig_items.specs.Answer.{itemAnswer}
-use Rattle.sig_items.specs.Encode.{encodeTree, encodeTrees}
-use Rattle.sig_items.proofs.Laws.{sequence-more, item-got}
-use Rattle.sig_items.proofs.Loop.{item-answered}
-use Rattle.sig_items.proofs.Sound.{by-choose, by-then, by-next, Got, got-self, item-read}
+use Rattle.sig_items.specs.Encode.{encodeTrees}
+use Rattle.sig_items.proofs.Sound.{by-choose, by-then, by-next, Got, got-self}
 use Rattle.sig_signatures.specs.Limits.{maxLength, maxArguments}
 use Rattle.sig_signatures.specs.declared.ResultType.{ResultType}
 use Rattle.sig_signatures.specs.declared.HeadRead.{HeadRead}
@@ -29,7 +27,7 @@ use Rattle.sig_signatures.specs.Signature.{Result, Head}
 use Rattle.sig_signatures.specs.Read.{conventionAt, resultAt, ellipsisAt, argumentsIn, signatureOf, headBy, headThen, headAfter, headOf}
 use Rattle.sig_signatures.specs.Answer.{resultType, headAnswer}
 use Rattle.sig_signatures.proofs.Laws.{head-got, thenArguments, afterHead, signature-head}
-use Rattle.sig_signatures.proofs.Loop.{Turn, turn-start, turn-last}
+use Rattle.sig_signatures.proofs.Loop.{Turn, turn-start, turn-more, turn-last}
 use Rattle.sig_signatures.proofs.Sound.{convention-read, result-read, ellipsis-read}
 use Rattle.sig_reader.specs.declared.ArgumentRead.{ArgumentRead}
 use Rattle.sig_stepping.specs.Step.{typeIn}
@@ -75,34 +73,6 @@ begun s x found c t v at b n q =
 
 -- ---- a turn of the loop
 
--- an argument more, whose tree is known to the definitions alone, and where the next one's item stands
-pub record Further (c : Convention) (s : List ℕ) (at e : ℕ) (ts : Trees) (t : ValueType) (count next n : ℕ) : Type 0 where
-  pub tree : Tree
-  pub same : t ≡ typeOf c tree
-  pub turn : Turn c s at e (ts ▸ tree) count next n
-  pub ends : next ≡ at + length (encodeTrees (ts ▸ tree))
-
-pub further : (c : Convention) (s : List ℕ) (at e : ℕ) (ts : Trees) (count next n : ℕ) → Turn c s at e ts count next n → next ≡ at + length (encodeTrees ts) →
-    next < e → (count ≡ maxArguments → ⊥) → (x : ItemRead) → x ≡ itemAnswer c (itemAt c 8 s e next) → (t : ValueType) (after j : ℕ) →
-    x ≡ ItemRead.Item t after j → Further c s at e ts t (count + 1) after (n + j)
-unfolding countOf encodeTrees
-further c s at e ts count next n turn ends h some x found t after j q =
-    let a = item-answered c 8 s e next x t after j (omega arith) found q in
-    let (tree, read, same) = item-got c (itemAt c 8 s e next) t after j (sym q ∙ found) in
-    record {
-      tree = tree;
-      same = same;
-      turn = record {
-        left = turn .left - 1;
-        few = omega arith;
-        many = omega arith;
-        within = a .inside;
-        third = omega arith;
-        rest = sequence-more (itemAt c 8 s e) e (argumentsIn c s at e) (turn .left) next n ts (turn .rest) h (omega arith) tree after j read;
-      };
-      ends = let r = item-read c 8 s e next tree after j read in omega (arith, ends, r .ends, length-append (encodeTrees ts) (encodeTree tree));
-    }
-
 -- a reader of the arguments' part finds what the whole reading finds there
 pub part-read : (c : Convention) (s : List ℕ) (at e : ℕ) → length s ≤ maxLength → e ≤ length s → (x : ItemRead) → x ≡ itemAnswer c (typeIn c s at e) →
     x ≡ itemAnswer c (itemAt c 8 s e at)
@@ -114,7 +84,6 @@ part-read c s at e short within x found = found ∙ ap (itemAnswer c) (type-is c
 pub record Noting (c : Convention) (s : List ℕ) (at e index : ℕ) (found : ArgumentRead) (count next n : ℕ) : Type 0 where
   pub ts : Trees
   pub turn : Turn c s at e ts count next n
-  pub ends : next ≡ at + length (encodeTrees ts)
   pub found-is : found ≡ argumentIn c at index ts
 
 same-note : {f g : ArgumentRead} {i j n m : ℕ} {t u : ValueType} → (index : ℕ) → f ≡ g → i ≡ j → t ≡ u → n ≡ m → notedAs f index i t n ≡ notedAs g index j u m
@@ -123,19 +92,18 @@ same-note index p q r w = cc
 module _ (c : Convention) (s : List ℕ) (at e index : ℕ) where
   pub noting-start : at ≤ e → Noting c s at e index ArgumentRead.Missing 0 at 1
   unfolding argumentIn encodeTrees
-  noting-start h = record { ts = none; turn = turn-start c s at e h; ends = omega arith; found-is = refl }
+  noting-start h = record { ts = none; turn = turn-start c s at e h; found-is = refl }
 
   module _ (found : ArgumentRead) (count next n : ℕ) (m : Noting c s at e index found count next n) where
     pub noting-more : next < e → (count ≡ maxArguments → ⊥) → (x : ItemRead) → x ≡ itemAnswer c (itemAt c 8 s e next) → (t : ValueType) (after j : ℕ) →
         x ≡ ItemRead.Item t after j → Noting c s at e index (notedAs found index count t next) (count + 1) after (n + j)
     unfolding argumentIn
     noting-more h some x is t after j q =
-        let more = further c s at e (m .ts) count next n (m .turn) (m .ends) h some x is t after j q in
+        let more = turn-more c s at e (m .ts) count next n (m .turn) h some x is t after j q in
         record {
           ts = m .ts ▸ more .tree;
           turn = more .turn;
-          ends = more .ends;
-          found-is = same-note index (m .found-is) (m .turn .many) (more .same) (m .ends);
+          found-is = same-note index (m .found-is) (m .turn .many) (more .same) (m .turn .ends);
         }
 
     module _ (last : e ≤ next) (earlier : ℕ) where

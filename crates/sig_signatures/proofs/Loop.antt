@@ -17,8 +17,10 @@ use Rattle.sig_items.specs.declared.ItemRead.{ItemRead}
 use Rattle.sig_items.specs.Reading.{fault, got, no, later}
 use Rattle.sig_items.specs.Read.{sequence, itemAt}
 use Rattle.sig_items.specs.Answer.{itemAnswer}
+use Rattle.sig_items.specs.Encode.{encodeTree, encodeTrees}
 use Rattle.sig_items.proofs.Laws.{sequence-done, sequence-full, sequence-more, sequence-no, item-got, item-no}
 use Rattle.sig_items.proofs.Loop.{item-answered}
+use Rattle.sig_items.proofs.Sound.{item-read}
 use Rattle.sig_signatures.specs.Limits.{maxArguments}
 use Rattle.sig_signatures.specs.declared.Argument.{Argument}
 use Rattle.sig_signatures.specs.declared.ResultType.{ResultType}
@@ -47,13 +49,15 @@ table-more c ts t h =
 same-set : {l k : List Argument} {i j : ℕ} {t u : ValueType} → l ≡ k → i ≡ j → t ≡ u → set l i (argument t) ≡ set k j (argument u)
 same-set p q r = cc
 
--- the arguments so far, and that reading on from here gives all of them
+-- the arguments so far, each of three bytes or more, with the place after their items, and that reading on from here gives all of them
 pub record Turn (c : Convention) (s : List ℕ) (start e : ℕ) (ts : Trees) (count next n : ℕ) : Type 0 where
   pub left : ℕ
   pub few : count + left ≡ maxArguments
   pub many : count ≡ countOf ts
   pub within : next ≤ e
   pub third : start + 3 * n ≤ next + 3
+  pub apart : start + 3 * count ≤ next
+  pub ends : next ≡ start + length (encodeTrees ts)
   pub rest : argumentsIn c s start e ≡ sequence (itemAt c 8 s e) e left next n ts
 
 -- an argument more, whose tree is known to the definitions alone
@@ -64,8 +68,8 @@ pub record More (c : Convention) (s : List ℕ) (start e : ℕ) (ts : Trees) (t 
 
 module _ (c : Convention) (s : List ℕ) (start e : ℕ) where
   pub turn-start : start ≤ e → Turn c s start e none 0 start 1
-  unfolding argumentsIn countOf
-  turn-start h = record { left = maxArguments; few = refl; many = refl; within = h; third = omega arith; rest = refl }
+  unfolding argumentsIn countOf encodeTrees
+  turn-start h = record { left = maxArguments; few = refl; many = refl; within = h; third = omega arith; apart = omega arith; ends = omega arith; rest = refl }
 
   module _ (ts : Trees) (count next n : ℕ) (turn : Turn c s start e ts count next n) where
     module _ (h : next < e) where
@@ -79,7 +83,7 @@ module _ (c : Convention) (s : List ℕ) (start e : ℕ) where
             (item-no c (itemAt c 8 s e next) f (sym q ∙ found))
 
         pub turn-more : (t : ValueType) (after m : ℕ) → r ≡ ItemRead.Item t after m → More c s start e ts t (count + 1) after (n + m)
-        unfolding countOf
+        unfolding countOf encodeTrees
         turn-more t after m q =
             let (tree, read, same) = item-got c (itemAt c 8 s e next) t after m (sym q ∙ found) in
             let a = item-answered c 8 s e next r t after m (omega arith) found q in
@@ -92,6 +96,10 @@ module _ (c : Convention) (s : List ℕ) (start e : ℕ) where
                 many = omega arith;
                 within = a .inside;
                 third = omega arith;
+                apart = omega (arith, turn .apart, a .on);
+                ends =
+                    let r = item-read c 8 s e next tree after m read in
+                    omega (arith, turn .ends, r .ends, length-append (encodeTrees ts) (encodeTree tree));
                 rest = sequence-more (itemAt c 8 s e) e (argumentsIn c s start e) (turn .left) next n ts (turn .rest) h (omega arith) tree after m read;
               };
             }

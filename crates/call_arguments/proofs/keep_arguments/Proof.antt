@@ -35,7 +35,7 @@ loop-holds : tie.Need-loop-holds Inv-loop μ-loop
 loop-holds c = keeping-start _ _ _ _ _ _ (c .before .before .before .before .args .returned) _ (c .first-cursor .ensures) (omega arith)
 
 add-t27 : tie.Need-add-t27 Inv-loop μ-loop
-add-t27 c = omega (arith, c .before .before .loop .inv .sizes .turn)
+add-t27 c = omega (arith, c .before .before .loop .inv .sizes .so-far .turn)
 
 none-kept-requires : tie.Need-none-kept-requires Inv-loop μ-loop
 none-kept-requires c κs = search needs
@@ -45,13 +45,13 @@ same-length c = c .before .before .before .loop .inv .long
 
 returns : tie.Need-returns Inv-loop μ-loop
 returns c =
-    let full = turn-full _ _ _ _ _ _ _ _ (c .before .before .before .loop .inv .turn) (c .before .before .loop-test .taken) (c .before .if1 .taken) in (
+    let full = turn-full _ _ _ _ _ _ _ _ (c .before .before .before .loop .inv .sizes .so-far .turn) (c .before .before .loop-test .taken) (c .before .if1 .taken) in (
       (c .none-kept .ensures .0 ∙ measure-no _ _ _ _ _ _ _ full, c .none-kept .ensures .1 ∙ unclear-no _ _ _ _ _ (c .before .before .before .before .before .before .before .before .args .earlier) _ full),
       kept-no _ _ _ _ _ _ _ full _ _,
     )
 
 read-item-requires : tie.Need-read-item-requires Inv-loop μ-loop
-read-item-requires c κs = omega (arith, c .before .before .loop .inv .turn)
+read-item-requires c κs = omega (arith, c .before .before .loop .inv .sizes .so-far .turn)
 
 enum-known-ty : tie.Need-enum-known-ty Inv-loop μ-loop
 enum-known-ty c = search needs
@@ -62,14 +62,14 @@ size-of-requires c κs = search needs
 unclear-after-requires : tie.Need-unclear-after-requires Inv-loop μ-loop
 unclear-after-requires c κs =
     let m = c .before .before .before .before .before .before .before .loop .inv in
-    (reached-roomy _ _ _ _ (omega (arith, m .turn .few)) (m .sizes .reached), omega (arith, m .turn .few))
+    (reached-roomy _ _ _ _ (omega (arith, m .sizes .so-far .turn .few)) (m .sizes .so-far .reached), omega (arith, m .sizes .so-far .turn .few))
 
 step-requires : tie.Need-step-requires Inv-loop μ-loop
 step-requires c κs =
     let a = item-answered _ _ _ _ _ _ _ _ _ (omega arith) (c .before .before .before .before .before .read-item .ensures) (c .before .before .before .ty .given .1) in
     let m = c .before .before .before .before .before .before .before .before .loop .inv in (
       rw (c .before .before .before .before .before .before .before .before .before .before .rules-in .ensures) (lawful-in (c .before .before .before .before .before .before .before .before .before .before .before .before .before .args .convention) (c .before .before .before .before .before .before .before .before .before .before .before .before .before .args .ellipsis)),
-      reached-roomy _ _ _ _ (omega (arith, m .turn .few)) (m .sizes .reached),
+      reached-roomy _ _ _ _ (omega (arith, m .sizes .so-far .turn .few)) (m .sizes .so-far .reached),
       rw (c .before .size-of .ensures) (a .sized .small),
     )
 
@@ -85,13 +85,13 @@ add-values : tie.Need-add-values Inv-loop μ-loop
 add-values c =
     let a = item-answered _ _ _ _ _ _ _ _ _ (omega arith) (c .before .before .before .before .before .before .before .before .before .before .before .before .read-item .ensures) (c .before .before .before .before .before .before .before .before .before .before .ty .given .1) in
     let m = c .before .before .before .before .before .before .before .before .before .before .before .before .before .before .before .loop .inv in
-    omega (arith, a .sized .small, m .sizes .reached .small, m .turn .few, c .before .before .before .before .before .before .before .before .size-of .ensures)
+    omega (arith, a .sized .small, m .sizes .so-far .reached .small, m .sizes .so-far .turn .few, c .before .before .before .before .before .before .before .before .size-of .ensures)
 
 add-count : tie.Need-add-count Inv-loop μ-loop
-add-count c = omega (arith, c .before .before .before .before .before .before .before .before .before .before .before .before .before .before .before .loop .inv .turn .few)
+add-count c = omega (arith, c .before .before .before .before .before .before .before .before .before .before .before .before .before .before .before .loop .inv .sizes .so-far .turn .few)
 
 add-items : tie.Need-add-items Inv-loop μ-loop
-add-items c = let a = item-answered _ _ _ _ _ _ _ _ _ (omega arith) (c .before .before .before .before .before .before .before .before .before .before .before .before .read-item .ensures) (c .before .before .before .before .before .before .before .before .before .before .ty .given .1) in omega (arith, a .third, a .inside, c .before .before .before .before .before .before .before .before .before .before .before .before .before .before .before .loop .inv .turn)
+add-items c = let a = item-answered _ _ _ _ _ _ _ _ _ (omega arith) (c .before .before .before .before .before .before .before .before .before .before .before .before .read-item .ensures) (c .before .before .before .before .before .before .before .before .before .before .ty .given .1) in omega (arith, a .third, a .inside, c .before .before .before .before .before .before .before .before .before .before .before .before .before .before .before .loop .inv .sizes .so-far .turn)
 
 loop-less : tie.Need-loop-less Inv-loop μ-loop
 loop-less c = let a = item-answered _ _ _ _ _ _ _ _ _ (omega arith) (c .before .before .before .before .before .before .before .before .before .before .before .before .read-item .ensures) (c .before .before .before .before .before .before .before .before .before .before .ty .given .1) in omega (arith, a .on, a .inside, c .before .before .before .before .before .before .before .before .before .before .before .before .before .before .loop-test .taken)
@@ -106,10 +106,10 @@ enum-known-fault : tie.Need-enum-known-fault Inv-loop μ-loop
 enum-known-fault c = search needs
 
 add-later-by : tie.Need-add-later-by Inv-loop μ-loop
-add-later-by c = omega (arith, c .before .before .before .before .before .before .loop .inv .turn)
+add-later-by c = omega (arith, c .before .before .before .before .before .before .loop .inv .sizes .so-far .turn)
 
 later-by-requires : tie.Need-later-by-requires Inv-loop μ-loop
-later-by-requires c κs = let a = fault-answered _ _ _ _ _ _ _ (c .before .before .before .before .before .before .loop .inv .turn .within) (c .before .before .before .read-item .ensures) (c .before .fault .given .1) in omega (arith, a, c .before .before .before .before .before .before .loop .inv .turn)
+later-by-requires c κs = let a = fault-answered _ _ _ _ _ _ _ (c .before .before .before .before .before .before .loop .inv .sizes .so-far .turn .within) (c .before .before .before .read-item .ensures) (c .before .fault .given .1) in omega (arith, a, c .before .before .before .before .before .before .loop .inv .sizes .so-far .turn)
 
 none-kept-requires-2 : tie.Need-none-kept-requires-2 Inv-loop μ-loop
 none-kept-requires-2 c κs = search needs
@@ -119,7 +119,7 @@ same-length-2 c = c .before .before .before .before .before .before .before .bef
 
 returns-2 : tie.Need-returns-2 Inv-loop μ-loop
 returns-2 c =
-    let refused-by = turn-no _ _ _ _ _ _ _ _ (c .before .before .before .before .before .before .before .before .loop .inv .turn) (c .before .before .before .before .before .before .before .loop-test .taken) (c .before .before .before .before .before .before .if1 .left) _ (c .before .before .before .before .before .read-item .ensures) _ (c .before .before .before .fault .given .1) in (
+    let refused-by = turn-no _ _ _ _ _ _ _ _ (c .before .before .before .before .before .before .before .before .loop .inv .sizes .so-far .turn) (c .before .before .before .before .before .before .before .loop-test .taken) (c .before .before .before .before .before .before .if1 .left) _ (c .before .before .before .before .before .read-item .ensures) _ (c .before .before .before .fault .given .1) in (
       (
         c .none-kept2 .ensures .0 ∙ ap (λ (f : Fault). measureOf (refusedPlan f)) (c .before .later-by .ensures ∙ later-later _ _ _) ∙ measure-no _ _ _ _ _ _ _ refused-by,
         c .none-kept2 .ensures .1 ∙ unclear-no _ _ _ _ _ (c .before .before .before .before .before .before .before .before .before .before .before .before .before .args .earlier) _ refused-by,
@@ -128,7 +128,7 @@ returns-2 c =
     )
 
 add-counted : tie.Need-add-counted Inv-loop μ-loop
-add-counted c = omega (arith, c .before .loop .inv .turn)
+add-counted c = omega (arith, c .before .loop .inv .sizes .so-far .turn)
 
 none-kept-requires-3 : tie.Need-none-kept-requires-3 Inv-loop μ-loop
 none-kept-requires-3 c κs = search needs

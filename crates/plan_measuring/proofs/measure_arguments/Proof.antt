@@ -41,7 +41,7 @@ not-passed-requires c κs = search needs
 
 returns : tie.Need-returns Inv-loop μ-loop
 returns c =
-    let full = turn-full _ _ _ _ _ _ _ _ (c .before .before .before .loop .inv .turn) (c .before .before .loop-test .taken) (c .before .if1 .taken) in
+    let full = turn-full _ _ _ _ _ _ _ _ (c .before .before .before .loop .inv .so-far .turn) (c .before .before .loop-test .taken) (c .before .if1 .taken) in
     (c .not-passed .ensures .0 ∙ measure-no _ _ _ _ _ _ _ full, c .not-passed .ensures .1 ∙ unclear-no _ _ _ _ _ (c .before .before .before .before .before .before .before .before .args .earlier) _ full)
 
 read-item-requires : tie.Need-read-item-requires Inv-loop μ-loop
@@ -56,14 +56,14 @@ size-of-requires c κs = search needs
 unclear-after-requires : tie.Need-unclear-after-requires Inv-loop μ-loop
 unclear-after-requires c κs =
     let m = c .before .before .before .before .before .before .before .loop .inv in
-    (reached-roomy _ _ _ _ (omega (arith, m .turn .few)) (m .reached), omega (arith, m .turn .few))
+    (reached-roomy _ _ _ _ (omega (arith, m .so-far .turn .few)) (m .so-far .reached), omega (arith, m .so-far .turn .few))
 
 advance-requires : tie.Need-advance-requires Inv-loop μ-loop
 advance-requires c κs =
     let a = item-answered _ _ _ _ _ _ _ _ _ (omega arith) (c .before .before .before .before .before .read-item .ensures) (c .before .before .before .ty .given .1) in
     let m = c .before .before .before .before .before .before .before .before .loop .inv in (
       rw (c .before .before .before .before .before .before .before .before .before .before .before .call-rules-of .ensures) (rules-lawful (c .before .before .before .before .before .before .before .before .before .before .before .before .before .args .convention)),
-      reached-roomy _ _ _ _ (omega (arith, m .turn .few)) (m .reached),
+      reached-roomy _ _ _ _ (omega (arith, m .so-far .turn .few)) (m .so-far .reached),
       rw (c .before .size-of .ensures) (a .sized .small),
     )
 
@@ -71,10 +71,10 @@ add-values : tie.Need-add-values Inv-loop μ-loop
 add-values c =
     let a = item-answered _ _ _ _ _ _ _ _ _ (omega arith) (c .before .before .before .before .before .before .read-item .ensures) (c .before .before .before .before .ty .given .1) in
     let m = c .before .before .before .before .before .before .before .before .before .loop .inv in
-    omega (arith, a .sized .small, m .reached .small, m .turn .few, c .before .before .size-of .ensures)
+    omega (arith, a .sized .small, m .so-far .reached .small, m .so-far .turn .few, c .before .before .size-of .ensures)
 
 add-count : tie.Need-add-count Inv-loop μ-loop
-add-count c = omega (arith, c .before .before .before .before .before .before .before .before .before .loop .inv .turn .few)
+add-count c = omega (arith, c .before .before .before .before .before .before .before .before .before .loop .inv .so-far .turn .few)
 
 add-items : tie.Need-add-items Inv-loop μ-loop
 add-items c = let a = item-answered _ _ _ _ _ _ _ _ _ (omega arith) (c .before .before .before .before .before .before .read-item .ensures) (c .before .before .before .before .ty .given .1) in omega arith
@@ -102,7 +102,7 @@ not-passed-requires-2 c κs = search needs
 
 returns-2 : tie.Need-returns-2 Inv-loop μ-loop
 returns-2 c =
-    let refused-by = turn-no _ _ _ _ _ _ _ _ (c .before .before .before .before .before .before .before .before .loop .inv .turn) (c .before .before .before .before .before .before .before .loop-test .taken) (c .before .before .before .before .before .before .if1 .left) _ (c .before .before .before .before .before .read-item .ensures) _ (c .before .before .before .fault .given .1) in (
+    let refused-by = turn-no _ _ _ _ _ _ _ _ (c .before .before .before .before .before .before .before .before .loop .inv .so-far .turn) (c .before .before .before .before .before .before .before .loop-test .taken) (c .before .before .before .before .before .before .if1 .left) _ (c .before .before .before .before .before .read-item .ensures) _ (c .before .before .before .fault .given .1) in (
       c .not-passed2 .ensures .0 ∙ ap (λ (f : Fault). measureOf (refusedPlan f)) (c .before .later-by .ensures ∙ later-later _ _ _) ∙ measure-no _ _ _ _ _ _ _ refused-by,
       c .not-passed2 .ensures .1 ∙ unclear-no _ _ _ _ _ (c .before .before .before .before .before .before .before .before .before .before .before .before .before .args .earlier) _ refused-by,
     )

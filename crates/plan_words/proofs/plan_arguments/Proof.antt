@@ -41,7 +41,7 @@ loop-holds : tie.Need-loop-holds Inv-loop μ-loop
 loop-holds c = keeping-start _ _ _ _ _ _ _ _ (c .start .ensures ∙ rw (c .before .hidden-in .ensures) refl) (omega arith)
 
 add-t31 : tie.Need-add-t31 Inv-loop μ-loop
-add-t31 c = omega (arith, c .before .before .loop .inv .turn .third, c .before .before .loop .inv .turn .within)
+add-t31 c = omega (arith, c .before .before .loop .inv .sizes .turn .third, c .before .before .loop .inv .sizes .turn .within)
 
 no-plan-requires : tie.Need-no-plan-requires Inv-loop μ-loop
 no-plan-requires c κs = search needs
@@ -51,7 +51,7 @@ same-length c = keeping-length _ _ _ _ _ _ _ _ _ _ _ _ _ _ (c .before .before .b
 
 returns : tie.Need-returns Inv-loop μ-loop
 returns c =
-    let full = turn-full _ _ _ _ _ _ _ _ (c .before .before .before .loop .inv .turn) (c .before .before .loop-test .taken) (c .before .if1 .taken) in
+    let full = turn-full _ _ _ _ _ _ _ _ (c .before .before .before .loop .inv .sizes .turn) (c .before .before .loop-test .taken) (c .before .if1 .taken) in
     (c .no-plan .ensures ∙ plan-no _ _ _ _ _ _ _ _ full, rows-no _ _ _ _ _ _ (c .before .before .before .before .before .before .before .before .before .before .before .args .earlier) _ full _)
 
 read-item-requires : tie.Need-read-item-requires Inv-loop μ-loop
@@ -66,14 +66,14 @@ size-of-requires c κs = search needs
 unclear-after-requires : tie.Need-unclear-after-requires Inv-loop μ-loop
 unclear-after-requires c κs =
     let m = c .before .before .before .before .before .before .before .loop .inv in
-    (reached-roomy _ _ _ _ (omega (arith, m .turn .few)) (m .reached), omega (arith, m .turn .few))
+    (reached-roomy _ _ _ _ (omega (arith, m .sizes .turn .few)) (m .sizes .reached), omega (arith, m .sizes .turn .few))
 
 step-requires : tie.Need-step-requires Inv-loop μ-loop
 step-requires c κs =
     let a = item-answered _ _ _ _ _ _ _ _ _ (omega arith) (c .before .before .before .before .before .read-item .ensures) (c .before .before .before .ty .given .1) in
     let m = c .before .before .before .before .before .before .before .before .loop .inv in (
       rw (c .before .before .before .before .before .before .before .before .before .before .before .with-ellipsis .ensures, c .before .before .before .before .before .before .before .before .before .before .before .before .call-rules-of .ensures) (lawful-marked _ _ (rules-lawful (c .before .before .before .before .before .before .before .before .before .before .before .before .before .before .before .before .args .convention))),
-      reached-roomy _ _ _ _ (omega (arith, m .turn .few)) (m .reached),
+      reached-roomy _ _ _ _ (omega (arith, m .sizes .turn .few)) (m .sizes .reached),
       rw (c .before .size-of .ensures) (a .sized .small),
     )
 
@@ -81,26 +81,26 @@ keep-entry-requires : tie.Need-keep-entry-requires Inv-loop μ-loop
 keep-entry-requires c κs =
     let a = item-answered _ _ _ _ _ _ _ _ _ (omega arith) (c .before .before .before .before .before .before .before .before .read-item .ensures) (c .before .before .before .before .before .before .ty .given .1) in
     let m = c .before .before .before .before .before .before .before .before .before .before .before .loop .inv in
-    let room = c .before .before .before .before .before .before .before .before .before .before .before .before .before .before .before .before .before .before .before .pre .4 (c .before .before .before .before .before .before .before .before .before .before .before .loop .count + 1) (omega (arith, m .turn .few, c .before .before .before .before .before .before .before .before .before .if1 .left)) (omega (arith, m .apart, a .on, a .inside)) in (
+    let room = c .before .before .before .before .before .before .before .before .before .before .before .before .before .before .before .before .before .before .before .pre .4 (c .before .before .before .before .before .before .before .before .before .before .before .loop .count + 1) (omega (arith, m .sizes .turn .few, c .before .before .before .before .before .before .before .before .before .if1 .left)) (omega (arith, m .sizes .turn .apart, a .on, a .inside)) in (
       omega (arith, room, keeping-length _ _ _ _ _ _ _ _ _ _ _ _ _ _ m),
       omega (arith, c .before .before .before .before .before .before .before .before .before .before .loop-test .taken, c .before .before .before .before .before .before .before .before .before .before .before .before .before .before .before .before .before .before .before .pre .1, c .before .before .before .before .before .before .before .before .before .before .before .before .before .before .before .before .before .before .before .pre .2),
       omega (arith, a .sized .small, c .before .before .before .before .size-of .ensures),
-      omega (arith, m .reached .small, m .turn .few),
+      omega (arith, m .sizes .reached .small, m .sizes .turn .few),
     )
 
 add-values : tie.Need-add-values Inv-loop μ-loop
 add-values c =
     let a = item-answered _ _ _ _ _ _ _ _ _ (omega arith) (c .before .before .before .before .before .before .before .before .before .before .before .before .read-item .ensures) (c .before .before .before .before .before .before .before .before .before .before .ty .given .1) in
     let m = c .before .before .before .before .before .before .before .before .before .before .before .before .before .before .before .loop .inv in
-    omega (arith, a .sized .small, m .reached .small, m .turn .few, c .before .before .before .before .before .before .before .before .size-of .ensures)
+    omega (arith, a .sized .small, m .sizes .reached .small, m .sizes .turn .few, c .before .before .before .before .before .before .before .before .size-of .ensures)
 
 add-count : tie.Need-add-count Inv-loop μ-loop
-add-count c = omega (arith, c .before .before .before .before .before .before .before .before .before .before .before .before .before .before .before .loop .inv .turn .few)
+add-count c = omega (arith, c .before .before .before .before .before .before .before .before .before .before .before .before .before .before .before .loop .inv .sizes .turn .few)
 
 add-items : tie.Need-add-items Inv-loop μ-loop
 add-items c =
     let a = item-answered _ _ _ _ _ _ _ _ _ (omega arith) (c .before .before .before .before .before .before .before .before .before .before .before .before .read-item .ensures) (c .before .before .before .before .before .before .before .before .before .before .ty .given .1) in
-    let turn = c .before .before .before .before .before .before .before .before .before .before .before .before .before .before .before .loop .inv .turn in
+    let turn = c .before .before .before .before .before .before .before .before .before .before .before .before .before .before .before .loop .inv .sizes .turn in
     omega (arith, turn .third, turn .within, a .third, a .inside, c .before .before .before .before .before .before .before .before .before .before .before .before .before .before .before .before .before .before .before .before .before .before .before .pre .1, c .before .before .before .before .before .before .before .before .before .before .before .before .before .before .before .before .before .before .before .before .before .before .before .pre .2)
 
 loop-less : tie.Need-loop-less Inv-loop μ-loop
@@ -118,12 +118,12 @@ enum-known-fault : tie.Need-enum-known-fault Inv-loop μ-loop
 enum-known-fault c = search needs
 
 add-later-by : tie.Need-add-later-by Inv-loop μ-loop
-add-later-by c = omega (arith, c .before .before .before .before .before .before .loop .inv .turn .third, c .before .before .before .before .before .before .loop .inv .turn .within)
+add-later-by c = omega (arith, c .before .before .before .before .before .before .loop .inv .sizes .turn .third, c .before .before .before .before .before .before .loop .inv .sizes .turn .within)
 
 later-by-requires : tie.Need-later-by-requires Inv-loop μ-loop
 later-by-requires c κs =
     let a = fault-answered _ _ _ _ _ _ _ (omega arith) (c .before .before .before .read-item .ensures) (c .before .fault .given .1) in
-    omega (arith, a, c .before .before .before .before .before .before .loop .inv .turn .third, c .before .before .before .before .before .before .loop .inv .turn .within)
+    omega (arith, a, c .before .before .before .before .before .before .loop .inv .sizes .turn .third, c .before .before .before .before .before .before .loop .inv .sizes .turn .within)
 
 no-plan-requires-2 : tie.Need-no-plan-requires-2 Inv-loop μ-loop
 no-plan-requires-2 c κs = search needs
@@ -133,13 +133,13 @@ same-length-2 c = keeping-length _ _ _ _ _ _ _ _ _ _ _ _ _ _ (c .before .before 
 
 returns-2 : tie.Need-returns-2 Inv-loop μ-loop
 returns-2 c =
-    let stopped = turn-no _ _ _ _ _ _ _ _ (c .before .before .before .before .before .before .before .before .loop .inv .turn) (c .before .before .before .before .before .before .before .loop-test .taken) (c .before .before .before .before .before .before .if1 .left) _ (c .before .before .before .before .before .read-item .ensures) _ (c .before .before .before .fault .given .1) in (
+    let stopped = turn-no _ _ _ _ _ _ _ _ (c .before .before .before .before .before .before .before .before .loop .inv .sizes .turn) (c .before .before .before .before .before .before .before .loop-test .taken) (c .before .before .before .before .before .before .if1 .left) _ (c .before .before .before .before .before .read-item .ensures) _ (c .before .before .before .fault .given .1) in (
       c .no-plan2 .ensures ∙ ap (λ (f : Fault). plannedOf (refusedPlan f)) (c .before .later-by .ensures ∙ later-later _ _ _) ∙ plan-no _ _ _ _ _ _ _ _ stopped,
       rows-no _ _ _ _ _ _ (c .before .before .before .before .before .before .before .before .before .before .before .before .before .before .before .before .args .earlier) _ stopped _,
     )
 
 add-counted : tie.Need-add-counted Inv-loop μ-loop
-add-counted c = omega (arith, c .before .loop .inv .turn .third, c .before .loop .inv .turn .within)
+add-counted c = omega (arith, c .before .loop .inv .sizes .turn .third, c .before .loop .inv .sizes .turn .within)
 
 no-plan-requires-3 : tie.Need-no-plan-requires-3 Inv-loop μ-loop
 no-plan-requires-3 c κs = search needs
@@ -173,12 +173,12 @@ returns-4 c =
     )
 
 mul-write-table : tie.Need-mul-write-table Inv-loop μ-loop
-mul-write-table c = omega (arith, c .before .before .before .before .before .loop .inv .turn .few)
+mul-write-table c = omega (arith, c .before .before .before .before .before .loop .inv .sizes .turn .few)
 
 write-table-requires : tie.Need-write-table-requires Inv-loop μ-loop
 write-table-requires c κs =
     let m = c .before .before .before .before .before .loop .inv in
-    let room = c .before .before .before .before .before .before .before .before .before .before .before .before .before .pre .4 (c .before .before .before .before .before .loop .count) (omega (arith, m .turn .few)) (omega (arith, m .apart, m .turn .within)) in
+    let room = c .before .before .before .before .before .before .before .before .before .before .before .before .before .pre .4 (c .before .before .before .before .before .loop .count) (omega (arith, m .sizes .turn .few)) (omega (arith, m .sizes .turn .apart, m .sizes .turn .within)) in
     omega (arith, room, keeping-length _ _ _ _ _ _ _ _ _ _ _ _ _ _ m)
 
 result-words-requires : tie.Need-result-words-requires Inv-loop μ-loop
@@ -196,7 +196,7 @@ same-length-6 c = search needs
 returns-5 : tie.Need-returns-5 Inv-loop μ-loop
 returns-5 c =
     let m = c .before .before .before .before .before .before .before .before .before .before .loop .inv in
-    let room = c .before .before .before .before .before .before .before .before .before .before .before .before .before .before .before .before .before .before .pre .4 (c .before .before .before .before .before .before .before .before .before .before .loop .count) (omega (arith, m .turn .few)) (omega (arith, m .apart, m .turn .within)) in (
+    let room = c .before .before .before .before .before .before .before .before .before .before .before .before .before .before .before .before .before .before .pre .4 (c .before .before .before .before .before .before .before .before .before .before .loop .count) (omega (arith, m .sizes .turn .few)) (omega (arith, m .sizes .turn .apart, m .sizes .turn .within)) in (
       rw (c .area-of .ensures, c .before .result-words .ensures) (plan-end _ _ _ _ _ _ _ _ _ _ _ _ _ _ _ m (c .before .before .before .before .before .before .before .before .before .loop-test .left) (c .before .before .before .before .before .before .before .before .if2 .left) (omega (arith, c .before .before .before .before .before .before .before .if3 .left))),
       c .before .before .before .before .write-table .ensures ∙ ap (overlayWhole (c .before .before .before .before .before .before .before .before .before .before .before .before .before .before .before .before .before .before .args .places .now)) (rows-end _ _ _ _ _ _ (c .before .before .before .before .before .before .before .before .before .before .before .before .before .before .before .before .before .before .args .earlier) _ _ _ _ _ _ _ _ m (c .before .before .before .before .before .before .before .before .before .loop-test .left) (c .before .before .before .before .before .before .before .before .if2 .left) (omega (arith, c .before .before .before .before .before .before .before .if3 .left)) room),
     )
