@@ -8,7 +8,7 @@ use borrow.Author.Tests.{eqb-true}
 use Rattle.base_words.specs.Basics.{pick}
 use Rattle.base_conventions.specs.declared.Convention.{Convention}
 use Rattle.base_conventions.specs.declared.ConventionCode.{ConventionCode}
-use Rattle.base_conventions.specs.Numbers.{word_bytes, code_of, conventionCode}
+use Rattle.base_conventions.specs.Numbers.{word_bytes, code_of, convention_code}
 
 pub word-bounds : (c : Convention) → (4 ≤ word_bytes c) × (word_bytes c ≤ 8)
 word-bounds Convention.Ppc64 = omega arith
@@ -24,8 +24,8 @@ code-byte Convention.Aix = omega arith
 code-byte Convention.Ppc64b = omega arith
 
 -- the code of a convention is read as it
-pub code-back : (c : Convention) → conventionCode (code_of c) ≡ ConventionCode.Known c
-unfolding conventionCode
+pub code-back : (c : Convention) → convention_code (code_of c) ≡ ConventionCode.Known c
+unfolding convention_code
 code-back Convention.Ppc64 = refl
 code-back Convention.Z = refl
 code-back Convention.Aix = refl
@@ -40,8 +40,8 @@ by-test : (P : ConventionCode → Type 0) (b : Bool) (x y : ConventionCode) → 
 by-test P true x y f g = f refl
 by-test P false x y f g = g
 
-pub code_is : (x : ℕ) → CodeIs x (conventionCode x)
-unfolding conventionCode
+pub code_is : (x : ℕ) → CodeIs x (convention_code x)
+unfolding convention_code
 code_is x =
     by-test (CodeIs x) (eqb x (code_of Convention.Ppc64)) _ _ (eqb-true x (code_of Convention.Ppc64))
     (by-test (CodeIs x) (eqb x (code_of Convention.Z)) _ _ (eqb-true x (code_of Convention.Z))

@@ -17,30 +17,30 @@ word_bytes Convention.Ppc64b = 8
 
 -- the bytes of a frame's header, below the outgoing or parameter area: "Outgoing areas start at 48, at least 64 long, on PPC64, at 160 on Z";
 -- 000, 3.2.2, "for a total of 48 bytes"; 001, "160 bytes above the initial stack pointer"; 02, No. 1: "Header 24 bytes"
-abbrev pub headerBytes : Convention → ℕ
-headerBytes Convention.Ppc64 = 48
-headerBytes Convention.Z = 160
-headerBytes Convention.Aix = 24
-headerBytes Convention.Ppc64b = 48
+abbrev pub header_bytes : Convention → ℕ
+header_bytes Convention.Ppc64 = 48
+header_bytes Convention.Z = 160
+header_bytes Convention.Aix = 24
+header_bytes Convention.Ppc64b = 48
 
 -- what a stack pointer is a multiple of: "rounded up to 16", "rounded up to 8"; 02, No. 1: "rounded up to 16 (ours)"
-abbrev pub stackAlignment : Convention → ℕ
-stackAlignment Convention.Ppc64 = 16
-stackAlignment Convention.Z = 8
-stackAlignment Convention.Aix = 16
-stackAlignment Convention.Ppc64b = 16
+abbrev pub stack_alignment : Convention → ℕ
+stack_alignment Convention.Ppc64 = 16
+stack_alignment Convention.Z = 8
+stack_alignment Convention.Aix = 16
+stack_alignment Convention.Ppc64b = 16
 
 -- the words of the least area: "8 times the larger of 8 and the final w", "at least 64 long"; Z: "the stack bytes used, possibly 0";
 -- 02, No. 1: "4 times the larger of 8 and w"
-abbrev pub leastWords : Convention → ℕ
-leastWords Convention.Ppc64 = 8
-leastWords Convention.Z = 0
-leastWords Convention.Aix = 8
-leastWords Convention.Ppc64b = 8
+abbrev pub least_words : Convention → ℕ
+least_words Convention.Ppc64 = 8
+least_words Convention.Z = 0
+least_words Convention.Aix = 8
+least_words Convention.Ppc64b = 8
 
 -- the same in bytes
-abbrev pub leastArea : Convention → ℕ
-leastArea c = word_bytes c * leastWords c
+abbrev pub least_area : Convention → ℕ
+least_area c = word_bytes c * least_words c
 
 -- "code 1 PPC64, 2 Z"; 02, No. 1: "convention code 3"; No. 12: "Add code 4"
 abbrev pub code_of : Convention → ℕ
@@ -50,8 +50,8 @@ code_of Convention.Aix = 3
 code_of Convention.Ppc64b = 4
 
 -- the convention of a code
-unfoldable pub conventionCode : ℕ → ConventionCode
-conventionCode x =
+unfoldable pub convention_code : ℕ → ConventionCode
+convention_code x =
     pick (eqb x (code_of Convention.Ppc64)) (ConventionCode.Known Convention.Ppc64)
     (pick (eqb x (code_of Convention.Z)) (ConventionCode.Known Convention.Z)
     (pick (eqb x (code_of Convention.Aix)) (ConventionCode.Known Convention.Aix)

@@ -1,7 +1,7 @@
 // The calling conventions by name and by code: what a signature's first item and a machine's state say. The numbers that calls and frames share
 // stand in specs/; the type of each convention, with its constants, is in `both_abi`.
 ghost use Rattle.std.specs.Prelude.{◌≡◌};
-ghost use Rattle.base_conventions.specs.Numbers.{word_bytes, code_of, conventionCode};
+ghost use Rattle.base_conventions.specs.Numbers.{word_bytes, code_of, convention_code};
 
 #[derive(Drop)]
 pub enum Convention {
@@ -63,7 +63,7 @@ pub fn code_of(c: Convention) -> u64
 
 // The convention of a code.
 pub fn convention_code(code: u64) -> ConventionCode
-    ensures { result ≡ conventionCode code }
+    ensures { result ≡ convention_code code }
 {
     if code == Convention::PPC64_CODE {
         return ConventionCode::Known(Convention::Ppc64);

@@ -7,7 +7,7 @@ use native.Mathlib.Omega.{arith}
 use lib.Pow.{pow-add, pow_mono, shl_lt}
 use lib.Count.{count_leading_zeros, leading_top, leading_length, leading_unique}
 use borrow.Author.Tests.{ne_eqb}
-use Rattle.base_ieee.specs.Format.{Format, FloatFields, single, hiddenBit}
+use Rattle.base_ieee.specs.Format.{Format, FloatFields, single, hidden_bit}
 use Rattle.base_ieee.specs.Widening.{Class, signed-zero, subnormal, normal, infinity-or-nan, class_of, shift}
 use Rattle.base_ieee.proofs.Fields.{Fit}
 
@@ -42,13 +42,13 @@ shifts a i j k e = mul_assoc a (2 ^ i) (2 ^ j) ∙ ap (λ (p : ℕ). a * p) (sym
 -- A subnormal's fraction, shifted: the leading one stands at the hidden bit's place.
 pub record Normalised (F : Format) (f : ℕ) : Type 0 where
   pub shifted : 0 < shift F f
-  pub within : shift F f ≤ F.fractionBits
-  pub hidden : hiddenBit F ≤ f * 2 ^ shift F f
-  pub below : f * 2 ^ shift F f < 2 ^ (F.fractionBits + 1)
+  pub within : shift F f ≤ F.fraction_bits
+  pub hidden : hidden_bit F ≤ f * 2 ^ shift F f
+  pub below : f * 2 ^ shift F f < 2 ^ (F.fraction_bits + 1)
 
-pub normalised : (F : Format) (f : ℕ) → 0 < f → f < hiddenBit F → Normalised F f
+pub normalised : (F : Format) (f : ℕ) → 0 < f → f < hidden_bit F → Normalised F f
 normalised F f pos small =
-    let t : ℕ = F.fractionBits in
+    let t : ℕ = F.fraction_bits in
     let n : ℕ = shift F f in
     let top = leading_top (t + 1) f pos (lt_of_lt_of_le small (pow_mono {i = t} (omega arith))) in
     let j : ℕ = top.0 in

@@ -8,8 +8,8 @@ use Rattle.base_words.specs.Basics.{pick}
 use borrow.Author.Tests.{eq-eqb, eqb-true}
 use Rattle.base_ieee.specs.declared.Narrowed.TheVariants.{Single, NotWidened}
 use Rattle.base_ieee.specs.Format.{FloatFields, single, double, join, split}
-use Rattle.base_ieee.specs.Widening.{widen, widenFields}
-use Rattle.base_ieee.specs.Narrowing.{candidate, candidateFields, narrow, WidensTo}
+use Rattle.base_ieee.specs.Widening.{widen, widen_fields}
+use Rattle.base_ieee.specs.Narrowing.{candidate, candidate_fields, narrow, WidensTo}
 use Rattle.base_ieee.proofs.Fields.{split-fits, join-below, split-join, join-split}
 use Rattle.base_ieee.proofs.Magnitudes.{widen-fits, candidate-fits, candidate-widen}
 
@@ -26,7 +26,7 @@ unfolding candidate
 candidate-below d = join-below single _ (candidate-fits _ (split-fits double d))
 
 -- The fields of a widened single are the single's fields, widened.
-pub split-widen : (x : ℕ) → split double (widen x) ≡ widenFields single double (split single x)
+pub split-widen : (x : ℕ) → split double (widen x) ≡ widen_fields single double (split single x)
 unfolding widen
 split-widen x = split-join double _ (widen-fits _ (split-fits single x))
 
@@ -36,7 +36,7 @@ split-widen x = split-join double _ (widen-fits _ (split-fits single x))
 pub candidate-of-widen : (x : ℕ) → x < 2 ^ 32 → candidate (widen x) ≡ x
 unfolding candidate
 candidate-of-widen x h =
-    ap (λ (y : FloatFields). join single (candidateFields single double y)) (split-widen x)
+    ap (λ (y : FloatFields). join single (candidate_fields single double y)) (split-widen x)
     ∙ ap (join single) (candidate-widen _ (split-fits single x))
     ∙ join-split single x h
 

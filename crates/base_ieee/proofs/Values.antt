@@ -3,8 +3,8 @@ use mathlib.Core.Path.{◌≡◌, refl, sym, ap, ◌∙◌}
 use Prim.Native.Nat.{ℕ, ◌+◌, ◌-◌, ◌*◌, ◌^◌, ◌<◌}
 use native.Mathlib.Omega.{arith}
 use borrow.Author.Tests.{ne_eqb}
-use Rattle.base_ieee.specs.Format.{Format, FloatFields, single, double, hiddenBit}
-use Rattle.base_ieee.specs.Widening.{Class, signed-zero, subnormal, normal, infinity-or-nan, class_of, shift, widenAs, widenFields, value, finer, WideningKeeps}
+use Rattle.base_ieee.specs.Format.{Format, FloatFields, single, double, hidden_bit}
+use Rattle.base_ieee.specs.Widening.{Class, signed-zero, subnormal, normal, infinity-or-nan, class_of, shift, widen_as, widen_fields, value, finer, WideningKeeps}
 use Rattle.base_ieee.proofs.Fields.{Fit}
 use Rattle.base_ieee.proofs.Classes.{Is, of-its-class, normalised, shifts, restored}
 
@@ -13,20 +13,20 @@ value-subnormal : (F : Format) (x : FloatFields) → x.exponent ≡ 0 → value 
 unfolding value
 value-subnormal F x h = simp h
 
-value-normal : (F : Format) (x : FloatFields) → 0 < x.exponent → value F x ≡ (hiddenBit F + x.fraction) * 2 ^ (x.exponent - 1)
+value-normal : (F : Format) (x : FloatFields) → 0 < x.exponent → value F x ≡ (hidden_bit F + x.fraction) * 2 ^ (x.exponent - 1)
 unfolding value
 value-normal F x h = simp (ne_eqb x.exponent 0 (λ q. omega arith))
 
-pub widen_keeps : (x : FloatFields) → Fit single x → WideningKeeps single double x (widenFields single double x)
-unfolding widenFields
+pub widen_keeps : (x : FloatFields) → Fit single x → WideningKeeps single double x (widen_fields single double x)
+unfolding widen_fields
 widen_keeps x h = go (class_of single x) (of-its-class x h)
   where
-    go : (C : Class) → Is C x → WideningKeeps single double x (widenAs single double C x)
+    go : (C : Class) → Is C x → WideningKeeps single double x (widen_as single double C x)
     go signed-zero i = record {
       sign_kept = refl;
       value-kept = λ _. (
         omega arith,
-        value-subnormal double (widenAs single double signed-zero x) refl
+        value-subnormal double (widen_as single double signed-zero x) refl
             ∙ ap (λ (m : ℕ). m * finer single double) (sym (value-subnormal single x i.0 ∙ i.1)),
       );
       fraction-kept = λ q. absurd (omega arith);
@@ -38,7 +38,7 @@ widen_keeps x h = go (class_of single x) (of-its-class x h)
           sign_kept = refl;
           value-kept = λ _. (
             omega arith,
-            value-normal double (widenAs single double subnormal x) (omega arith)
+            value-normal double (widen_as single double subnormal x) (omega arith)
                 ∙ ap (λ (m : ℕ). m * 2 ^ (897 - n - 1)) (restored f i.1 h.fraction-fits)
                 ∙ shifts f (n + 29) (897 - n - 1) 925 (omega arith)
                 ∙ ap (λ (m : ℕ). m * finer single double) (sym (value-subnormal single x i.0)),
@@ -52,7 +52,7 @@ widen_keeps x h = go (class_of single x) (of-its-class x h)
           sign_kept = refl;
           value-kept = λ _. (
             omega arith,
-            value-normal double (widenAs single double normal x) (omega arith)
+            value-normal double (widen_as single double normal x) (omega arith)
                 ∙ ap (λ (m : ℕ). m * 2 ^ (e + 896 - 1)) whole
                 ∙ shifts (2 ^ 23 + f) 29 (e + 896 - 1) (e + 924) (omega arith)
                 ∙ sym (shifts (2 ^ 23 + f) (e - 1) 925 (e + 924) (omega arith))

@@ -6,31 +6,31 @@ use Rattle.std.specs.Prelude.{ℕ, ◌+◌, ◌-◌, ◌/◌, ◌^◌, ◌<◌, 
 use Rattle.base_words.specs.Basics.{pick}
 use Rattle.base_ieee.specs.declared.Narrowed.{Narrowed}
 use Rattle.base_ieee.specs.declared.Narrowed.TheVariants.{Single, NotWidened}
-use Rattle.base_ieee.specs.Format.{Format, FloatFields, single, double, width, allOnes, hiddenBit, join, split}
+use Rattle.base_ieee.specs.Format.{Format, FloatFields, single, double, width, all_ones, hidden_bit, join, split}
 use Rattle.base_ieee.specs.Widening.{rebias, widen}
 
 -- The fields of the only datum of S that can widen to a datum of T with the fields x. Where the exponent field is one
 -- that a normalised subnormal has, or a smaller one (true), the hidden bit is put back and the shift undone. Where it is
 -- larger (false), the new bias is taken off and the fraction cut; a field of ones stays one.
-abbrev pub candidateAs : Format → Format → Bool → FloatFields → FloatFields
-candidateAs S T true x = record {
+abbrev pub candidate_as : Format → Format → Bool → FloatFields → FloatFields
+candidate_as S T true x = record {
   sign = x.sign;
   exponent = 0;
-  fraction = (hiddenBit T + x.fraction) / 2 ^ (T.fractionBits - S.fractionBits + (1 + rebias S T - x.exponent));
+  fraction = (hidden_bit T + x.fraction) / 2 ^ (T.fraction_bits - S.fraction_bits + (1 + rebias S T - x.exponent));
 }
-candidateAs S T false x = record {
+candidate_as S T false x = record {
   sign = x.sign;
-  exponent = min (x.exponent - rebias S T) (allOnes S);
-  fraction = x.fraction / 2 ^ (T.fractionBits - S.fractionBits);
+  exponent = min (x.exponent - rebias S T) (all_ones S);
+  fraction = x.fraction / 2 ^ (T.fraction_bits - S.fraction_bits);
 }
 
 -- 896 is the largest exponent field that a normalised subnormal single has in a double.
-unfoldable pub candidateFields : Format → Format → FloatFields → FloatFields
-candidateFields S T x = candidateAs S T (leb x.exponent (rebias S T)) x
+unfoldable pub candidate_fields : Format → Format → FloatFields → FloatFields
+candidate_fields S T x = candidate_as S T (leb x.exponent (rebias S T)) x
 
 -- The only single that can widen to the 64 bits d.
 unfoldable pub candidate : ℕ → ℕ
-candidate d = join single (candidateFields single double (split double d))
+candidate d = join single (candidate_fields single double (split double d))
 
 -- The single that widens to the 64 bits d, if there is one.
 unfoldable pub narrow : ℕ → Narrowed

@@ -1,9 +1,9 @@
 // A single's 32 bits as the 64 bits of the double that it widens to, and back where there is such a single. The work is on
 // the bits as integers and never on floats, so no NaN is quieted.
 ghost use Rattle.std.specs.Prelude.{◌≡◌, ◌/◌, ◌%◌, ◌^◌, ◌<◌};
-ghost use Rattle.base_ieee.specs.Widening.{widen as widenOf};
-ghost use Rattle.base_ieee.specs.Narrowing.{narrow as narrowOf, candidate as candidateOf};
-ghost use Rattle.base_ieee.specs.Helpers.{magnitude as magnitudeOf, candidateMagnitude};
+ghost use Rattle.base_ieee.specs.Widening.{widen as widen_of};
+ghost use Rattle.base_ieee.specs.Narrowing.{narrow as narrow_of, candidate as candidate_of};
+ghost use Rattle.base_ieee.specs.Helpers.{magnitude as magnitude_of, candidate_magnitude};
 
 // A single's sign bit.
 const SINGLE_SIGN: u64 = 0x8000_0000;
@@ -32,7 +32,7 @@ const REBIAS: u64 = 896;
 // exponent field: the field is one more than is multiplied by the unit here.
 fn widen_magnitude(m: u64) -> u64
     requires { m < 2 ^ 31 }
-    ensures { result ≡ magnitudeOf (m / 2 ^ 23) (m % 2 ^ 23) }
+    ensures { result ≡ magnitude_of (m / 2 ^ 23) (m % 2 ^ 23) }
 {
     if m == 0 {
         return 0;
@@ -49,7 +49,7 @@ fn widen_magnitude(m: u64) -> u64
 
 // The double that the single x widens to.
 pub fn widen(x: u32) -> u64
-    ensures { result ≡ widenOf x }
+    ensures { result ≡ widen_of x }
 {
     let bits = x as u64;
     bits / SINGLE_SIGN * DOUBLE_SIGN + widen_magnitude(bits % SINGLE_SIGN)
@@ -68,7 +68,7 @@ pub enum Narrowed {
 // infinities and NaNs can be meant.
 fn candidate_magnitude(exponent: u64, fraction: u64) -> u64
     requires { fraction < 2 ^ 52 }
-    ensures { result ≡ candidateMagnitude exponent fraction }
+    ensures { result ≡ candidate_magnitude exponent fraction }
 {
     if exponent < 874 {
         return 0;
@@ -84,7 +84,7 @@ fn candidate_magnitude(exponent: u64, fraction: u64) -> u64
 
 // The only single that can widen to d.
 fn candidate(d: u64) -> u32
-    ensures { result ≡ candidateOf d }
+    ensures { result ≡ candidate_of d }
 {
     let sign = d / DOUBLE_SIGN;
     let exponent = d / DOUBLE_UNIT % 2048;
@@ -94,7 +94,7 @@ fn candidate(d: u64) -> u32
 
 // The single that widens to d: the only candidate, if it does.
 pub fn narrow(d: u64) -> Narrowed
-    ensures { result ≡ narrowOf d }
+    ensures { result ≡ narrow_of d }
 {
     let x = candidate(d);
     if widen(x) == d {

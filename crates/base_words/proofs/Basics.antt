@@ -11,15 +11,15 @@ use lib.Dec.{leb, ltb, eqb}
 use lib.ListN.{length, get_or, take, set, replicate, length-take}
 use lib.Seq.{get_or-set_same, get_or-set_other}
 use borrow.Author.Tests.{le-leb, lt-leb, leb-true, leb-false, lt-ltb, le-ltb, eq-eqb, ne_eqb, eqb-true, eqb-false}
-use Rattle.base_words.specs.Basics.{roundUp}
+use Rattle.base_words.specs.Basics.{round_up}
 use Rattle.base_words.proofs.Tests.{and_yes}
 
-pub round-up-least : (x a : ℕ) → 0 < a → x ≤ roundUp x a
-unfolding roundUp
+pub round-up-least : (x a : ℕ) → 0 < a → x ≤ round_up x a
+unfolding round_up
 round-up-least x a h = omega (arith, div-add-mod' (x + (a - 1)) a, mod-lt (x + (a - 1)) h)
 
-pub round-up-most : (x a : ℕ) → 0 < a → roundUp x a < x + a
-unfolding roundUp
+pub round-up-most : (x a : ℕ) → 0 < a → round_up x a < x + a
+unfolding round_up
 round-up-most x a h = omega (arith, div-add-mod' (x + (a - 1)) a)
 
 pub le-or-lt : (a b : ℕ) → (a ≤ b) ⊎ (b < a)
@@ -78,12 +78,12 @@ map-append f [] m = refl
 map-append {A} {B} f (x ∷ l) m = ap (λ (t : List B). f x ∷ t) (map-append f l m)
 
 -- a list that is filled up with what stands past its end
-pub getD-filled : {A : Type 0} (x : A) (l : List A) (n i : ℕ) → get_or (l ++ replicate n x) i x ≡ get_or l i x
-getD-filled x [] zero i = refl
-getD-filled x [] (suc n) zero = refl
-getD-filled x [] (suc n) (suc i) = getD-filled x [] n i
-getD-filled x (y ∷ l) n zero = refl
-getD-filled x (y ∷ l) n (suc i) = getD-filled x l n i
+pub get_d-filled : {A : Type 0} (x : A) (l : List A) (n i : ℕ) → get_or (l ++ replicate n x) i x ≡ get_or l i x
+get_d-filled x [] zero i = refl
+get_d-filled x [] (suc n) zero = refl
+get_d-filled x [] (suc n) (suc i) = get_d-filled x [] n i
+get_d-filled x (y ∷ l) n zero = refl
+get_d-filled x (y ∷ l) n (suc i) = get_d-filled x l n i
 
 pub take_short : (n : ℕ) (l : List ℕ) → length (take n l) ≤ n
 take_short n l = omega (arith, length-take n l)

@@ -10,7 +10,7 @@ use lib.ListN.{length, take, drop, replicate, length-append, length-replicate}
 use lib.Seq.{take_at, take_all, drop_at}
 use lib.Pow.{pow_pos, pow_mono, pow-add, mod-pow-add, high, split, field, shr-shr, high_ones}
 use Rattle.base_words.specs.Splice.{overlay, splice, part}
-use Rattle.base_words.specs.Numbers.{Bytes, bytes_of, value_of, zeroExtended, sign_bit, signExtended}
+use Rattle.base_words.specs.Numbers.{Bytes, bytes_of, value_of, zero_extended, sign_bit, sign_extended}
 use Rattle.base_words.proofs.Basics.{same-ltb}
 use Rattle.base_words.proofs.Splices.{splice-same}
 use Rattle.base_words.proofs.Fitting.{fit-replicate, fit_append, fit-take, fit-drop}
@@ -21,16 +21,16 @@ wider n = rw (mul-suc 8 n, pow-add 2 (8 * n) 8) (omega arith)
 
 -- ---- lengths and bounds
 
-pub length-bytesOf : (n x : ℕ) → length (bytes_of n x) ≡ n
+pub length-bytes_of : (n x : ℕ) → length (bytes_of n x) ≡ n
 unfolding bytes_of
-length-bytesOf zero x = refl
-length-bytesOf (suc n) x = ap suc (length-bytesOf n x)
+length-bytes_of zero x = refl
+length-bytes_of (suc n) x = ap suc (length-bytes_of n x)
 
-pub bytes-bytesOf : (n x : ℕ) → Bytes (bytes_of n x)
+pub bytes-bytes_of : (n x : ℕ) → Bytes (bytes_of n x)
 unfolding bytes_of
-bytes-bytesOf zero x i = omega arith
-bytes-bytesOf (suc n) x zero = omega arith
-bytes-bytesOf (suc n) x (suc i) = bytes-bytesOf n x i
+bytes-bytes_of zero x i = omega arith
+bytes-bytes_of (suc n) x zero = omega arith
+bytes-bytes_of (suc n) x (suc i) = bytes-bytes_of n x i
 
 pub bytes-none : Bytes []
 bytes-none i = omega arith
@@ -74,38 +74,38 @@ value-below (b ∷ bs) h =
 
 -- ---- a number and its bytes back
 
-pub value-bytesOf : (n x : ℕ) → value_of (bytes_of n x) ≡ x % 2 ^ (8 * n)
+pub value-bytes_of : (n x : ℕ) → value_of (bytes_of n x) ≡ x % 2 ^ (8 * n)
 unfolding bytes_of value_of
-value-bytesOf zero x = sym (mod-one x)
-value-bytesOf (suc n) x =
+value-bytes_of zero x = sym (mod-one x)
+value-bytes_of (suc n) x =
     let e : 8 + 8 * n ≡ 8 * suc n = omega (arith, mul-suc 8 n) in
-    ap₂ (λ (w v : ℕ). x / 2 ^ (8 * n) % 256 * 2 ^ (8 * w) + v) (length-bytesOf n x) (value-bytesOf n x)
+    ap₂ (λ (w v : ℕ). x / 2 ^ (8 * n) % 256 * 2 ^ (8 * w) + v) (length-bytes_of n x) (value-bytes_of n x)
     ∙ sym (mod-pow-add x 8 (8 * n)) ∙ ap (λ (k : ℕ). x % 2 ^ k) e
 
 pub value-back : (n x : ℕ) → x < 2 ^ (8 * n) → value_of (bytes_of n x) ≡ x
-value-back n x h = value-bytesOf n x ∙ mod-eq_of_lt h
+value-back n x h = value-bytes_of n x ∙ mod-eq_of_lt h
 
 -- the n lowest bytes are the same whatever stands above them
-pub bytesOf-low : (n hi x : ℕ) → bytes_of n (hi * 2 ^ (8 * n) + x) ≡ bytes_of n x
+pub bytes_of-low : (n hi x : ℕ) → bytes_of n (hi * 2 ^ (8 * n) + x) ≡ bytes_of n x
 unfolding bytes_of
-bytesOf-low zero hi x = refl
-bytesOf-low (suc n) hi x =
+bytes_of-low zero hi x = refl
+bytes_of-low (suc n) hi x =
     let e : hi * 2 ^ (8 * suc n) ≡ hi * 256 * 2 ^ (8 * n) = rw (wider n) (sym (mul_assoc hi 256 (2 ^ (8 * n)))) in
-    rw (e, bytesOf-low n (hi * 256) x, mul-add-div_right (pow_pos (8 * n)) (hi * 256) x, mul-add-mod_self_right hi 256 (x / 2 ^ (8 * n)))
+    rw (e, bytes_of-low n (hi * 256) x, mul-add-div_right (pow_pos (8 * n)) (hi * 256) x, mul-add-mod_self_right hi 256 (x / 2 ^ (8 * n)))
 
-pub bytesOf-value : (bs : List ℕ) → Bytes bs → bytes_of (length bs) (value_of bs) ≡ bs
+pub bytes_of-value : (bs : List ℕ) → Bytes bs → bytes_of (length bs) (value_of bs) ≡ bs
 unfolding bytes_of value_of
-bytesOf-value [] h = refl
-bytesOf-value (b ∷ bs) h =
+bytes_of-value [] h = refl
+bytes_of-value (b ∷ bs) h =
     let rest : Bytes bs = λ i. h (suc i) in
-    rw (high b (8 * length bs) (value-below bs rest), mod-eq_of_lt (h 0), bytesOf-low (length bs) b (value_of bs), bytesOf-value bs rest)
+    rw (high b (8 * length bs) (value-below bs rest), mod-eq_of_lt (h 0), bytes_of-low (length bs) b (value_of bs), bytes_of-value bs rest)
 
 -- bytes whose number is known
 pub value-fits : (n : ℕ) (bs : List ℕ) → length bs ≡ n → Bytes bs → value_of bs < 2 ^ (8 * n)
 value-fits n bs e h = subst (λ (m : ℕ). value_of bs < 2 ^ (8 * m)) e (value-below bs h)
 
-pub bytesOf-back : (n : ℕ) (bs : List ℕ) → length bs ≡ n → Bytes bs → bytes_of n (value_of bs) ≡ bs
-bytesOf-back n bs e h = ap (λ (m : ℕ). bytes_of m (value_of bs)) (sym e) ∙ bytesOf-value bs h
+pub bytes_of-back : (n : ℕ) (bs : List ℕ) → length bs ≡ n → Bytes bs → bytes_of n (value_of bs) ≡ bs
+bytes_of-back n bs e h = ap (λ (m : ℕ). bytes_of m (value_of bs)) (sym e) ∙ bytes_of-value bs h
 
 -- ---- end to end
 
@@ -114,82 +114,82 @@ unfolding value_of
 value-append [] b = omega arith
 value-append (x ∷ a) b = rw (length-append a b, mul-add 8 (length a) (length b), pow-add 2 (8 * length a) (8 * length b), value-append a b, add-mul, mul_assoc, add_assoc)
 
-pub bytesOf-append : (m n x : ℕ) → bytes_of (m + n) x ≡ bytes_of m (x / 2 ^ (8 * n)) ++ bytes_of n x
+pub bytes_of-append : (m n x : ℕ) → bytes_of (m + n) x ≡ bytes_of m (x / 2 ^ (8 * n)) ++ bytes_of n x
 unfolding bytes_of
-bytesOf-append zero n x = rw (zero-add n)
-bytesOf-append (suc m) n x =
+bytes_of-append zero n x = rw (zero-add n)
+bytes_of-append (suc m) n x =
     let e : 8 * n + 8 * m ≡ 8 * (m + n) = omega (arith, mul-add 8 m n) in
-    rw (suc-add m n, shr-shr x (8 * n) (8 * m), e) (ap (λ (t : List ℕ). x / 2 ^ (8 * (m + n)) % 256 ∷ t) (bytesOf-append m n x))
+    rw (suc-add m n, shr-shr x (8 * n) (8 * m), e) (ap (λ (t : List ℕ). x / 2 ^ (8 * (m + n)) % 256 ∷ t) (bytes_of-append m n x))
 
 -- of a number's bytes, the w after the first k
-pub bytesOf-middle : (k w rest x : ℕ) → part k w (bytes_of (k + (w + rest)) x) ≡ bytes_of w (x / 2 ^ (8 * rest))
-bytesOf-middle k w rest x =
-    ap (part k w) (bytesOf-append k (w + rest) x)
-    ∙ ap (take w) (drop_at (bytes_of k (x / 2 ^ (8 * (w + rest)))) (bytes_of (w + rest) x) k (length-bytesOf k _) ∙ bytesOf-append w rest x)
-    ∙ take_at (bytes_of w (x / 2 ^ (8 * rest))) (bytes_of rest x) w (length-bytesOf w _)
+pub bytes_of-middle : (k w rest x : ℕ) → part k w (bytes_of (k + (w + rest)) x) ≡ bytes_of w (x / 2 ^ (8 * rest))
+bytes_of-middle k w rest x =
+    ap (part k w) (bytes_of-append k (w + rest) x)
+    ∙ ap (take w) (drop_at (bytes_of k (x / 2 ^ (8 * (w + rest)))) (bytes_of (w + rest) x) k (length-bytes_of k _) ∙ bytes_of-append w rest x)
+    ∙ take_at (bytes_of w (x / 2 ^ (8 * rest))) (bytes_of rest x) w (length-bytes_of w _)
 
 -- and the last m
-pub bytesOf-last : (k m x : ℕ) → part k m (bytes_of (k + m) x) ≡ bytes_of m x
-bytesOf-last k m x =
-    ap (part k m) (bytesOf-append k m x)
-    ∙ ap (take m) (drop_at (bytes_of k (x / 2 ^ (8 * m))) (bytes_of m x) k (length-bytesOf k _))
-    ∙ take_all m (bytes_of m x) (omega (arith, length-bytesOf m x))
+pub bytes_of-last : (k m x : ℕ) → part k m (bytes_of (k + m) x) ≡ bytes_of m x
+bytes_of-last k m x =
+    ap (part k m) (bytes_of-append k m x)
+    ∙ ap (take m) (drop_at (bytes_of k (x / 2 ^ (8 * m))) (bytes_of m x) k (length-bytes_of k _))
+    ∙ take_all m (bytes_of m x) (omega (arith, length-bytes_of m x))
 
 -- ---- in memory
 
 -- a number that was stored is loaded again
 pub load-after-store : (l : List ℕ) (at n x : ℕ) → at + n ≤ length l → x < 2 ^ (8 * n) → value_of (part at n (splice l at (bytes_of n x))) ≡ x
 load-after-store l at n x room small =
-    let e : length (bytes_of n x) ≡ n = length-bytesOf n x in
+    let e : length (bytes_of n x) ≡ n = length-bytes_of n x in
     let same : part at (length (bytes_of n x)) (splice l at (bytes_of n x)) ≡ bytes_of n x = splice-same l at (bytes_of n x) (omega arith) in
     ap value_of (rw e at same) ∙ value-back n x small
 
 -- ---- extension
 
-pub zeroExtended-below : (n x : ℕ) → zeroExtended n x < 2 ^ (8 * n)
-unfolding zeroExtended
-zeroExtended-below n x = mod-lt x (pow_pos (8 * n))
+pub zero_extended-below : (n x : ℕ) → zero_extended n x < 2 ^ (8 * n)
+unfolding zero_extended
+zero_extended-below n x = mod-lt x (pow_pos (8 * n))
 
 -- a number is more than its lowest bytes exactly where it has more bytes than these
-pub zeroExtended-less : (n x : ℕ) → ltb (zeroExtended n x) x ≡ ltb (2 ^ (8 * n) - 1) x
-unfolding zeroExtended
-zeroExtended-less n x =
+pub zero_extended-less : (n x : ℕ) → ltb (zero_extended n x) x ≡ ltb (2 ^ (8 * n) - 1) x
+unfolding zero_extended
+zero_extended-less n x =
     same-ltb (x % 2 ^ (8 * n)) x (2 ^ (8 * n) - 1) x (λ h. omega (arith, mod-lt x (pow_pos (8 * n)), pow_pos (8 * n)))
     (λ h. let low : x < 2 ^ (8 * n) = omega (arith, pow_pos (8 * n)) in rw (mod-eq_of_lt low) (omega arith))
 
-pub signExtended-below : (n x : ℕ) → n ≤ 8 → signExtended n x < 2 ^ 64
-unfolding signExtended sign_bit
-signExtended-below n x h =
+pub sign_extended-below : (n x : ℕ) → n ≤ 8 → sign_extended n x < 2 ^ 64
+unfolding sign_extended sign_bit
+sign_extended-below n x h =
     let sign : sign_bit n x ≤ 1 = omega arith in
     let narrow : 8 * n ≤ 64 = omega arith in
-    omega (arith, mul-le-mul_right (2 ^ 64 - 2 ^ (8 * n)) sign, zeroExtended-below n x, pow_mono narrow)
+    omega (arith, mul-le-mul_right (2 ^ 64 - 2 ^ (8 * n)) sign, zero_extended-below n x, pow_mono narrow)
 
 -- the range of n bytes in two halves
 pub halves : (n : ℕ) → 1 ≤ n → 2 ^ (8 * n) ≡ 2 * 2 ^ (8 * n - 1)
 halves n h = let e : 8 * n ≡ 1 + (8 * n - 1) = omega arith in ap (λ (k : ℕ). 2 ^ k) e ∙ pow-add 2 1 (8 * n - 1)
 
 -- the sign tells the halves apart
-sign-is : (n x : ℕ) → 1 ≤ n → sign_bit n x ≡ zeroExtended n x / 2 ^ (8 * n - 1)
-unfolding sign_bit zeroExtended
+sign-is : (n x : ℕ) → 1 ≤ n → sign_bit n x ≡ zero_extended n x / 2 ^ (8 * n - 1)
+unfolding sign_bit zero_extended
 sign-is n x h =
     let e : 1 + (8 * n - 1) ≡ 8 * n = omega arith in
     sym (field x 1 (8 * n - 1)) ∙ ap (λ (k : ℕ). x % 2 ^ k / 2 ^ (8 * n - 1)) e
 
 -- two's complement: a number in the lower half of its range stays, one in the upper half stands as far below 2 ^ 64 as it stood below the end of its range
-pub signExtended-positive : (n x : ℕ) → 1 ≤ n → zeroExtended n x < 2 ^ (8 * n - 1) → signExtended n x ≡ zeroExtended n x
-unfolding signExtended
-signExtended-positive n x h small = rw (sign-is n x h, div-eq_of_lt small, zero-mul, zero-add)
+pub sign_extended-positive : (n x : ℕ) → 1 ≤ n → zero_extended n x < 2 ^ (8 * n - 1) → sign_extended n x ≡ zero_extended n x
+unfolding sign_extended
+sign_extended-positive n x h small = rw (sign-is n x h, div-eq_of_lt small, zero-mul, zero-add)
 
-pub signExtended-negative : (n x : ℕ) → 1 ≤ n → 2 ^ (8 * n - 1) ≤ zeroExtended n x → signExtended n x ≡ 2 ^ 64 - 2 ^ (8 * n) + zeroExtended n x
-unfolding signExtended
-signExtended-negative n x h large =
-    let one : zeroExtended n x / 2 ^ (8 * n - 1) ≡ 1 = div-eq_of_lt-le (2 ^ (8 * n - 1)) (omega arith) (omega (arith, halves n h, zeroExtended-below n x)) in
+pub sign_extended-negative : (n x : ℕ) → 1 ≤ n → 2 ^ (8 * n - 1) ≤ zero_extended n x → sign_extended n x ≡ 2 ^ 64 - 2 ^ (8 * n) + zero_extended n x
+unfolding sign_extended
+sign_extended-negative n x h large =
+    let one : zero_extended n x / 2 ^ (8 * n - 1) ≡ 1 = div-eq_of_lt-le (2 ^ (8 * n - 1)) (omega arith) (omega (arith, halves n h, zero_extended-below n x)) in
     rw (sign-is n x h, one, one-mul)
 
 -- the bytes above the n lowest, as a number of their own
-signExtended-high : (n x : ℕ) → n ≤ 8 → signExtended n x ≡ sign_bit n x * (2 ^ (8 * (8 - n)) - 1) * 2 ^ (8 * n) + zeroExtended n x
-unfolding signExtended
-signExtended-high n x h =
+sign_extended-high : (n x : ℕ) → n ≤ 8 → sign_extended n x ≡ sign_bit n x * (2 ^ (8 * (8 - n)) - 1) * 2 ^ (8 * n) + zero_extended n x
+unfolding sign_extended
+sign_extended-high n x h =
     let e : 64 ≡ 8 * (8 - n) + 8 * n = omega arith in
     let above : 2 ^ 64 - 2 ^ (8 * n) ≡ (2 ^ (8 * (8 - n)) - 1) * 2 ^ (8 * n) = ap (λ (k : ℕ). 2 ^ k - 2 ^ (8 * n)) e ∙ high_ones (8 * (8 - n)) (8 * n) in
     rw (above, mul_assoc)
@@ -208,29 +208,29 @@ pub value-zeros : (m : ℕ) → value_of (replicate m 0) ≡ 0
 value-zeros m = value-fill m 0 ∙ zero-mul (2 ^ (8 * m) - 1)
 
 -- they stand above the n lowest bytes of x, eight in all
-doubleword-filled : (n s x : ℕ) → n ≤ 8 → s < 2 → bytes_of 8 (s * (2 ^ (8 * (8 - n)) - 1) * 2 ^ (8 * n) + zeroExtended n x) ≡ replicate (8 - n) (255 * s) ++ bytes_of n x
-unfolding zeroExtended
+doubleword-filled : (n s x : ℕ) → n ≤ 8 → s < 2 → bytes_of 8 (s * (2 ^ (8 * (8 - n)) - 1) * 2 ^ (8 * n) + zero_extended n x) ≡ replicate (8 - n) (255 * s) ++ bytes_of n x
+unfolding zero_extended
 doubleword-filled n s x h t =
     let bs : List ℕ = replicate (8 - n) (255 * s) ++ bytes_of n x in
-    let eight : length bs ≡ 8 = simp (length-append, length-replicate, length-bytesOf) (omega arith) in
-    let bytes : Bytes bs = bytes-append (replicate (8 - n) (255 * s)) (bytes_of n x) (bytes-replicate (8 - n) (255 * s) (omega arith)) (bytes-bytesOf n x) in
-    let value : value_of bs ≡ s * (2 ^ (8 * (8 - n)) - 1) * 2 ^ (8 * n) + x % 2 ^ (8 * n) = rw (value-append, length-bytesOf, value-bytesOf, value-fill) in
-    ap₂ bytes_of (sym eight) (sym value) ∙ bytesOf-value bs bytes
+    let eight : length bs ≡ 8 = simp (length-append, length-replicate, length-bytes_of) (omega arith) in
+    let bytes : Bytes bs = bytes-append (replicate (8 - n) (255 * s)) (bytes_of n x) (bytes-replicate (8 - n) (255 * s) (omega arith)) (bytes-bytes_of n x) in
+    let value : value_of bs ≡ s * (2 ^ (8 * (8 - n)) - 1) * 2 ^ (8 * n) + x % 2 ^ (8 * n) = rw (value-append, length-bytes_of, value-bytes_of, value-fill) in
+    ap₂ bytes_of (sym eight) (sym value) ∙ bytes_of-value bs bytes
 
 -- the n lowest bytes of an extended number are the n lowest bytes of the number
-pub bytesOf-zeroExtended : (n x : ℕ) → bytes_of n (zeroExtended n x) ≡ bytes_of n x
-unfolding zeroExtended
-bytesOf-zeroExtended n x = sym (bytesOf-low n (x / 2 ^ (8 * n)) (x % 2 ^ (8 * n))) ∙ ap (bytes_of n) (split x (8 * n))
+pub bytes_of-zero_extended : (n x : ℕ) → bytes_of n (zero_extended n x) ≡ bytes_of n x
+unfolding zero_extended
+bytes_of-zero_extended n x = sym (bytes_of-low n (x / 2 ^ (8 * n)) (x % 2 ^ (8 * n))) ∙ ap (bytes_of n) (split x (8 * n))
 
-pub bytesOf-signExtended : (n x : ℕ) → n ≤ 8 → bytes_of n (signExtended n x) ≡ bytes_of n x
-bytesOf-signExtended n x h = rw (signExtended-high n x h, bytesOf-low) (bytesOf-zeroExtended n x)
+pub bytes_of-sign_extended : (n x : ℕ) → n ≤ 8 → bytes_of n (sign_extended n x) ≡ bytes_of n x
+bytes_of-sign_extended n x h = rw (sign_extended-high n x h, bytes_of-low) (bytes_of-zero_extended n x)
 
 -- all eight bytes of an extended number: zeros above, or the sign's byte, 0 or 255
-pub doubleword-zeroExtended : (n x : ℕ) → n ≤ 8 → bytes_of 8 (zeroExtended n x) ≡ replicate (8 - n) 0 ++ bytes_of n x
-doubleword-zeroExtended n x h =
-    let e : zeroExtended n x ≡ 0 * (2 ^ (8 * (8 - n)) - 1) * 2 ^ (8 * n) + zeroExtended n x = rw (zero-mul, zero-mul, zero-add) in
+pub doubleword-zero_extended : (n x : ℕ) → n ≤ 8 → bytes_of 8 (zero_extended n x) ≡ replicate (8 - n) 0 ++ bytes_of n x
+doubleword-zero_extended n x h =
+    let e : zero_extended n x ≡ 0 * (2 ^ (8 * (8 - n)) - 1) * 2 ^ (8 * n) + zero_extended n x = rw (zero-mul, zero-mul, zero-add) in
     ap (bytes_of 8) e ∙ doubleword-filled n 0 x h (omega arith)
 
-pub doubleword-signExtended : (n x : ℕ) → n ≤ 8 → bytes_of 8 (signExtended n x) ≡ replicate (8 - n) (255 * sign_bit n x) ++ bytes_of n x
+pub doubleword-sign_extended : (n x : ℕ) → n ≤ 8 → bytes_of 8 (sign_extended n x) ≡ replicate (8 - n) (255 * sign_bit n x) ++ bytes_of n x
 unfolding sign_bit
-doubleword-signExtended n x h = ap (bytes_of 8) (signExtended-high n x h) ∙ doubleword-filled n (sign_bit n x) x h (omega arith)
+doubleword-sign_extended n x h = ap (bytes_of 8) (sign_extended-high n x h) ∙ doubleword-filled n (sign_bit n x) x h (omega arith)

@@ -12,8 +12,8 @@ flag true = 1
 flag false = 0
 
 -- x "rounded up to" a multiple of a ("Frames")
-unfoldable pub roundUp : ℕ → ℕ → ℕ
-roundUp x a = (x + (a - 1)) / a * a
+unfoldable pub round_up : ℕ → ℕ → ℕ
+round_up x a = (x + (a - 1)) / a * a
 
 -- each of several
 unfoldable pub All : {A : Type 0} → (A → Type 0) → List A → Type 0

@@ -18,13 +18,13 @@ value_of [] = 0
 value_of (b ∷ bs) = b * 2 ^ (8 * length bs) + value_of bs
 
 -- the n lowest bytes of x as an unsigned number ("zero-extended")
-unfoldable pub zeroExtended : ℕ → ℕ → ℕ
-zeroExtended n x = x % 2 ^ (8 * n)
+unfoldable pub zero_extended : ℕ → ℕ → ℕ
+zero_extended n x = x % 2 ^ (8 * n)
 
 -- the sign in "sign-extended": the top bit of the n lowest bytes of x, in two's complement 1 for a negative number, else 0
 unfoldable pub sign_bit : ℕ → ℕ → ℕ
 sign_bit n x = x / 2 ^ (8 * n - 1) % 2
 
 -- the n lowest bytes of x as a number of 64 bits in two's complement ("sign-extended to 64 bits"): all bits above them are the sign
-unfoldable pub signExtended : ℕ → ℕ → ℕ
-signExtended n x = sign_bit n x * (2 ^ 64 - 2 ^ (8 * n)) + zeroExtended n x
+unfoldable pub sign_extended : ℕ → ℕ → ℕ
+sign_extended n x = sign_bit n x * (2 ^ 64 - 2 ^ (8 * n)) + zero_extended n x

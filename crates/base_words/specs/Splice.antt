@@ -13,8 +13,8 @@ overlay [] (b ∷ bs) = []
 overlay (x ∷ l) (b ∷ bs) = b ∷ overlay l bs
 
 -- the same, but nothing where not all of bs has room: a lent buffer or table that is too short "is left as it was" (docs/DECISIONS.md, 5)
-abbrev pub overlayWhole : List ℕ → List ℕ → List ℕ
-overlayWhole l bs = pick (ltb (length l) (length bs)) l (overlay l bs)
+abbrev pub overlay_whole : List ℕ → List ℕ → List ℕ
+overlay_whole l bs = pick (ltb (length l) (length bs)) l (overlay l bs)
 
 -- bs over l from the offset n on: the same write seen from the whole buffer, which "changes nothing else" ("Frames")
 unfoldable pub splice : List ℕ → ℕ → List ℕ → List ℕ

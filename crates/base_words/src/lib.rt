@@ -2,9 +2,9 @@
 // so that every caller's write is a splice (the law `lent-tail`). The loops are plain: at the constant width 8 the compiler makes of `load` and `store` one
 // load or store with its bytes swapped. Beside them stand the few functions on numbers that layers of both families use. Nothing here knows of signatures or frames.
 ghost use Rattle.std.specs.Prelude.{◌≡◌, ◌+◌, ◌^◌, ◌≤◌, ◌<◌, min, max, length, replicate};
-ghost use Rattle.base_words.specs.Basics.{flag, roundUp};
+ghost use Rattle.base_words.specs.Basics.{flag, round_up};
 ghost use Rattle.base_words.specs.Splice.{overlay, splice, part};
-ghost use Rattle.base_words.specs.Numbers.{bytes_of, value_of, zeroExtended, signExtended};
+ghost use Rattle.base_words.specs.Numbers.{bytes_of, value_of, zero_extended, sign_extended};
 
 // The bytes bs at the head of s.
 pub fn put(s: &mut [u8], bs: &[u8])
@@ -69,7 +69,7 @@ pub fn load(s: &[u8], at: usize, n: usize) -> u64
 // The n lowest bytes of x as an unsigned number: what stands above them is shifted out.
 pub fn zero_extend(x: u64, n: usize) -> u64
     requires { (1 ≤ n) × (n ≤ 8) }
-    ensures { result ≡ zeroExtended n x }
+    ensures { result ≡ zero_extended n x }
 {
     let above = 64 - 8 * n;
     (x << above) >> above
@@ -78,7 +78,7 @@ pub fn zero_extend(x: u64, n: usize) -> u64
 // The n lowest bytes of x in two's complement, extended to 64 bits.
 pub fn sign_extend(x: u64, n: usize) -> u64
     requires { (1 ≤ n) × (n ≤ 8) }
-    ensures { result ≡ signExtended n x }
+    ensures { result ≡ sign_extended n x }
 {
     let low = zero_extend(x, n);
     let sign: u64 = 1 << (8 * n - 1);
@@ -110,7 +110,7 @@ pub fn larger(a: usize, b: usize) -> usize
 // x rounded up to a multiple of a.
 pub fn round_up(x: usize, a: usize) -> usize
     requires { (0 < a) × (x + a ≤ 2 ^ 64) }
-    ensures { result ≡ roundUp x a }
+    ensures { result ≡ round_up x a }
 {
     (x + (a - 1)) / a * a
 }

@@ -1,11 +1,11 @@
 // Each convention as one type: its constants, its rules for calls and for frames, its starting cursor and its fresh machine. The functions below the
 // types go from a `Convention` to what its type says.
 ghost use Rattle.std.specs.Prelude.{◌≡◌, length};
-ghost use Rattle.base_conventions.specs.Numbers.{leastArea};
+ghost use Rattle.base_conventions.specs.Numbers.{least_area};
 ghost use Rattle.plan_places.specs.declared.Edition.{Edition};
-ghost use Rattle.plan_places.specs.Step.{power, rulesOf, freshCursor};
-ghost use Rattle.frame_rules.specs.Rules.{powerGpr, powerFpr, rules};
-ghost use Rattle.frame_machine.specs.Machine.{startOutcome, startMemory};
+ghost use Rattle.plan_places.specs.Step.{power, rules_of, fresh_cursor};
+ghost use Rattle.frame_rules.specs.Rules.{power_gpr, power_fpr, rules};
+ghost use Rattle.frame_machine.specs.Machine.{start_outcome, start_memory};
 
 use base_conventions::Convention;
 use frame_machine::FrameOutcome;
@@ -44,14 +44,14 @@ impl Ppc64 {
     pub const LR_SLOT: usize = 16;
 
     pub fn call_rules() -> plan_places::CallRules
-        ensures { result ≡ rulesOf Convention.Ppc64 }
+        ensures { result ≡ rules_of Convention.Ppc64 }
     {
         earlier(Self::WORD)
     }
 
     // Where the first argument starts.
     pub fn cursor() -> Cursor
-        ensures { result ≡ freshCursor (rulesOf Convention.Ppc64) }
+        ensures { result ≡ fresh_cursor (rules_of Convention.Ppc64) }
     {
         Cursor {
             general: Self::FIRST_GENERAL,
@@ -82,8 +82,8 @@ impl Ppc64 {
 
     // The fresh machine.
     pub fn start(memory: &mut [u8], base: u64, registers: Registers) -> FrameOutcome
-        ensures value { result ≡ startOutcome Convention.Ppc64 base (length memory.old) registers }
-        ensures memory_after { memory.new ≡ startMemory Convention.Ppc64 base memory.old }
+        ensures value { result ≡ start_outcome Convention.Ppc64 base (length memory.old) registers }
+        ensures memory_after { memory.new ≡ start_memory Convention.Ppc64 base memory.old }
     {
         frame_starting::start(
             Ppc64::frame_rules(),
@@ -125,13 +125,13 @@ impl Z {
     pub const RETURN_REGISTER: usize = 14;
 
     pub fn call_rules() -> plan_places::CallRules
-        ensures { result ≡ rulesOf Convention.Z }
+        ensures { result ≡ rules_of Convention.Z }
     {
         plan_places::CallRules::Z
     }
 
     pub fn cursor() -> Cursor
-        ensures { result ≡ freshCursor (rulesOf Convention.Z) }
+        ensures { result ≡ fresh_cursor (rules_of Convention.Z) }
     {
         Cursor {
             general: Self::FIRST_GENERAL,
@@ -190,8 +190,8 @@ impl Z {
     }
 
     pub fn start(memory: &mut [u8], base: u64, registers: Registers) -> FrameOutcome
-        ensures value { result ≡ startOutcome Convention.Z base (length memory.old) registers }
-        ensures memory_after { memory.new ≡ startMemory Convention.Z base memory.old }
+        ensures value { result ≡ start_outcome Convention.Z base (length memory.old) registers }
+        ensures memory_after { memory.new ≡ start_memory Convention.Z base memory.old }
     {
         frame_starting::start(Z::frame_rules(), Convention::Z, memory, base, registers)
     }
@@ -229,13 +229,13 @@ impl Aix {
     pub const LIMIT: u64 = 4294967295;
 
     pub fn call_rules() -> plan_places::CallRules
-        ensures { result ≡ rulesOf Convention.Aix }
+        ensures { result ≡ rules_of Convention.Aix }
     {
         earlier(Self::WORD)
     }
 
     pub fn cursor() -> Cursor
-        ensures { result ≡ freshCursor (rulesOf Convention.Aix) }
+        ensures { result ≡ fresh_cursor (rules_of Convention.Aix) }
     {
         Cursor {
             general: Self::FIRST_GENERAL,
@@ -265,8 +265,8 @@ impl Aix {
     }
 
     pub fn start(memory: &mut [u8], base: u64, registers: Registers) -> FrameOutcome
-        ensures value { result ≡ startOutcome Convention.Aix base (length memory.old) registers }
-        ensures memory_after { memory.new ≡ startMemory Convention.Aix base memory.old }
+        ensures value { result ≡ start_outcome Convention.Aix base (length memory.old) registers }
+        ensures memory_after { memory.new ≡ start_memory Convention.Aix base memory.old }
     {
         frame_starting::start(Aix::frame_rules(), Convention::Aix, memory, base, registers)
     }
@@ -290,7 +290,7 @@ impl Ppc64b {
     pub const FIRST_FLOATING: usize = Ppc64::FIRST_FLOATING;
 
     pub fn call_rules() -> plan_places::CallRules
-        ensures { result ≡ rulesOf Convention.Ppc64b }
+        ensures { result ≡ rules_of Convention.Ppc64b }
     {
         plan_places::CallRules::Power(PowerRules {
             word: Self::WORD,
@@ -300,7 +300,7 @@ impl Ppc64b {
     }
 
     pub fn cursor() -> Cursor
-        ensures { result ≡ freshCursor (rulesOf Convention.Ppc64b) }
+        ensures { result ≡ fresh_cursor (rules_of Convention.Ppc64b) }
     {
         Cursor {
             general: Self::FIRST_GENERAL,
@@ -318,8 +318,8 @@ impl Ppc64b {
     }
 
     pub fn start(memory: &mut [u8], base: u64, registers: Registers) -> FrameOutcome
-        ensures value { result ≡ startOutcome Convention.Ppc64b base (length memory.old) registers }
-        ensures memory_after { memory.new ≡ startMemory Convention.Ppc64b base memory.old }
+        ensures value { result ≡ start_outcome Convention.Ppc64b base (length memory.old) registers }
+        ensures memory_after { memory.new ≡ start_memory Convention.Ppc64b base memory.old }
     {
         frame_starting::start(
             Ppc64b::frame_rules(),
@@ -346,7 +346,7 @@ fn earlier(word: usize) -> plan_places::CallRules
 
 // The general registers, where saves start at r(first).
 fn power_gpr(first: usize) -> BankRules
-    ensures { result ≡ powerGpr first }
+    ensures { result ≡ power_gpr first }
 {
     let volatile = [
         RegisterSpan { first: 0, last: 0 },
@@ -372,7 +372,7 @@ fn power_gpr(first: usize) -> BankRules
 
 // The floating registers.
 fn power_fpr() -> BankRules
-    ensures { result ≡ powerFpr }
+    ensures { result ≡ power_fpr }
 {
     let volatile = [
         RegisterSpan { first: 0, last: 13 },
@@ -403,7 +403,7 @@ fn power_fpr() -> BankRules
 
 // The rules of its calls.
 pub fn call_rules_of(c: Convention) -> plan_places::CallRules
-    ensures { result ≡ rulesOf c }
+    ensures { result ≡ rules_of c }
 {
     match c {
         Convention::Ppc64 => Ppc64::call_rules(),
@@ -415,7 +415,7 @@ pub fn call_rules_of(c: Convention) -> plan_places::CallRules
 
 // Where its first argument starts.
 pub fn cursor_of(c: Convention) -> Cursor
-    ensures { result ≡ freshCursor (rulesOf c) }
+    ensures { result ≡ fresh_cursor (rules_of c) }
 {
     match c {
         Convention::Ppc64 => Ppc64::cursor(),
@@ -427,7 +427,7 @@ pub fn cursor_of(c: Convention) -> Cursor
 
 // The bytes of its least parameter area.
 pub fn least_area_of(c: Convention) -> usize
-    ensures { result ≡ leastArea c }
+    ensures { result ≡ least_area c }
 {
     match c {
         Convention::Ppc64 => Ppc64::WORD * Ppc64::LEAST_WORDS,

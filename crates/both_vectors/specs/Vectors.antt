@@ -6,13 +6,13 @@ use Rattle.base_words.specs.Basics.{All}
 use Rattle.base_ieee.specs.Widening.{widen}
 use Rattle.base_conventions.specs.declared.Convention.{Convention}
 use Rattle.sig_types.specs.declared.Equivalent.{Equivalent}
-use Rattle.plan_places.specs.Step.{rulesOf}
-use Rattle.call_slots.specs.Refusals.{callAnswerNumber, floatAnswer}
-use Rattle.plan_listing.specs.Text.{listingOf}
+use Rattle.plan_places.specs.Step.{rules_of}
+use Rattle.call_slots.specs.Refusals.{call_answer_number, float_answer}
+use Rattle.plan_listing.specs.Text.{listing_of}
 use Rattle.frame_rules.specs.declared.FrameRules.{FrameRules}
 use Rattle.frame_rules.specs.declared.Frame.{Frame}
-use Rattle.frame_rules.specs.Rules.{ppc64Frames, zFrames}
-use Rattle.frame_rules.specs.Frames.{frameSize}
+use Rattle.frame_rules.specs.Rules.{ppc64_frames, z_frames}
+use Rattle.frame_rules.specs.Frames.{frame_size}
 
 pub data Vector : Type 0 where
   -- a signature's bytes, and its printed plan
@@ -28,10 +28,10 @@ abbrev request : ℕ → ℕ → ℕ → ℕ → Frame
 request g m l p = record { first_gpr = g; first_fpr = m; saves_cr = false; locals = l; outgoing = p; leaf = false }
 
 abbrev pub VectorHolds : Vector → Type 0
-VectorHolds (printed s t) = listingOf s ≡ t
+VectorHolds (printed s t) = listing_of s ≡ t
 VectorHolds (widened x d) = widen x ≡ d
-VectorHolds (refused d n) = callAnswerNumber (floatAnswer (rulesOf Convention.Ppc64) Equivalent.Single d) ≡ n
-VectorHolds (sized k g m l p n) = frameSize k (request g m l p) ≡ n
+VectorHolds (refused d n) = call_answer_number (float_answer (rules_of Convention.Ppc64) Equivalent.Single d) ≡ n
+VectorHolds (sized k g m l p n) = frame_size k (request g m l p) ≡ n
 
 abbrev pub AllHold : List Vector → Type 0
 AllHold vs = All VectorHolds vs
@@ -41,8 +41,8 @@ unfoldable pub ellipsis-item : List ℕ
 ellipsis-item = 0x04 ∷ 0 ∷ 0 ∷ []
 
 -- 000's figure 3-18, func(c, ff, d, ld, s, gg, t, e, hh), by the convention of a code, and with an ellipsis's item or with none
-unfoldable pub figureBy : ℕ → List ℕ → List ℕ
-figureBy code mark =
+unfoldable pub figure_by : ℕ → List ℕ → List ℕ
+figure_by code mark =
     -- the convention
     0x01 ∷ 0 ∷ 1 ∷ code
     -- the result, an int
@@ -71,7 +71,7 @@ figureBy code mark =
     ∷ [])
 
 unfoldable pub figure-3-18 : List ℕ
-figure-3-18 = figureBy 1 []
+figure-3-18 = figure_by 1 []
 
 -- "Printed whole, result int, newline after each line"
 unfoldable pub figure-3-18-text : List ℕ
@@ -102,7 +102,7 @@ figure-3-18-text =
 
 -- 02, No. 12: "In figure 3-18, ld is then in f2 and f3, gg in f4, hh in f5. Its listing is named `PPC64B`"
 unfoldable pub figure-3-18b : List ℕ
-figure-3-18b = figureBy 4 []
+figure-3-18b = figure_by 4 []
 
 unfoldable pub figure-3-18b-text : List ℕ
 figure-3-18b-text =
@@ -155,7 +155,7 @@ seven-long-doubles-text =
 -- 02, No. 5: "On PPC64 every single or double then goes in its FPR, and as well in its GPR while w < 8 and in memory from w 8 on", "The printed listing
 -- adds ` var` at the end of its first line, and names FPRs before GPRs before `mem`"
 unfoldable pub figure-3-18-var : List ℕ
-figure-3-18-var = figureBy 1 ellipsis-item
+figure-3-18-var = figure_by 1 ellipsis-item
 
 unfoldable pub figure-3-18-var-text : List ℕ
 figure-3-18-var-text =
@@ -185,7 +185,7 @@ figure-3-18-var-text =
 
 -- No. 12: "With an ellipsis each doubleword also goes in its GPR while its own w is below 8, then in memory"
 unfoldable pub figure-3-18b-var : List ℕ
-figure-3-18b-var = figureBy 4 ellipsis-item
+figure-3-18b-var = figure_by 4 ellipsis-item
 
 unfoldable pub figure-3-18b-var-text : List ℕ
 figure-3-18b-var-text =
@@ -321,7 +321,7 @@ table-10-text =
     ∷ 114 ∷ 101 ∷ 115 ∷ 117 ∷ 108 ∷ 116 ∷ 32 ∷ 114 ∷ 50 ∷ 10
     ∷ []
 
--- 004's mooFunc(i1, f1, d1, s1, d2, c1, s2, f2, i2), on AIX
+-- 004's moo_func(i1, f1, d1, s1, d2, c1, s2, f2, i2), on AIX
 unfoldable pub moo-func : List ℕ
 moo-func =
     -- the convention
@@ -406,7 +406,7 @@ vectors =
     ∷ refused 0x3ff0_0000_1000_0000 14
     ∷ refused 0x3690_0000_0000_0000 14
     -- "g 29, m 30, L 20, P 64: 176. g 14, m 14, L 0, P 0: 400. Z, g 6, m 8, L 1, P 8: 240"
-    ∷ sized ppc64Frames 29 30 20 64 176
-    ∷ sized ppc64Frames 14 14 0 0 400
-    ∷ sized zFrames 6 8 1 8 240
+    ∷ sized ppc64_frames 29 30 20 64 176
+    ∷ sized ppc64_frames 14 14 0 0 400
+    ∷ sized z_frames 6 8 1 8 240
     ∷ []

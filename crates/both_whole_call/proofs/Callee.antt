@@ -16,20 +16,20 @@ use Rattle.base_words.proofs.Each.{each_left, each_right, each_more, each-with, 
 use Rattle.base_conventions.specs.declared.Convention.{Convention}
 use Rattle.sig_signatures.specs.declared.SignatureRead.{SignatureRead}
 use Rattle.sig_signatures.specs.Read.{signature_of}
-use Rattle.sig_signatures.specs.Answer.{signatureAnswer}
+use Rattle.sig_signatures.specs.Answer.{signature_answer}
 use Rattle.plan_places.specs.declared.Span.{Span}
 use Rattle.plan_places.specs.declared.ResultPlaces.{ResultPlaces}
-use Rattle.plan_places.specs.Step.{wordOf}
+use Rattle.plan_places.specs.Step.{word_of}
 use Rattle.plan_plans.specs.declared.Plan.{Plan}
 use Rattle.sig_signatures.specs.Types.{types_in}
 use Rattle.call_slots.specs.Buffers.{Buffers, buffers, bytes_at}
 use Rattle.call_slots.specs.Helpers.{Fits}
-use Rattle.call_slots.specs.Arguments.{placementsIn, argumentsOf, planFor, rulesFor}
+use Rattle.call_slots.specs.Arguments.{placements_in, arguments_of, plan_for, rules_for}
 use Rattle.call_slots.proofs.Answered.{carried}
 use Rattle.call_home_slot.specs.Homes.{homeless}
-use Rattle.call_home.specs.Home.{homeArea}
-use Rattle.call_roundtrip.specs.RoundTrip.{Filled, leftByFill}
-use Rattle.call_roundtrip.specs.Views.{homedArea, Viewed}
+use Rattle.call_home.specs.Home.{home_area}
+use Rattle.call_roundtrip.specs.RoundTrip.{Filled, left_by_fill}
+use Rattle.call_roundtrip.specs.Views.{homed_area, Viewed}
 use Rattle.call_roundtrip.proofs.Arguments.{AllPut}
 use Rattle.call_roundtrip.proofs.Theorems.{Left, filled-left, filled-answer, read_left}
 use Rattle.call_roundtrip.proofs.Views.{length-homed, view-as-read}
@@ -38,22 +38,22 @@ use Rattle.frame_rules.specs.declared.FrameRules.{FrameRules}
 use Rattle.frame_rules.specs.declared.Frame.{Frame}
 use Rattle.frame_rules.specs.declared.Registers.{Registers}
 use Rattle.frame_rules.specs.Rules.{rules}
-use Rattle.frame_rules.specs.Frames.{outgoingLength}
+use Rattle.frame_rules.specs.Frames.{outgoing_length}
 use Rattle.frame_rules.proofs.Conventions.{lawful}
 use Rattle.frame_machine.specs.declared.FrameAnswer.{FrameAnswer}
 use Rattle.frame_machine.specs.declared.FrameAnswer.TheVariants.{Accepted}
 use Rattle.frame_machine.specs.declared.State.{State}
 use Rattle.frame_machine.specs.Machine.{offset}
 use Rattle.frame_history.specs.Calls.{Call, enter, leave, Machine, answer, after}
-use Rattle.frame_history.specs.Preserved.{OpenEnter, openAfter, callerOf, Preserved, CallsFit}
+use Rattle.frame_history.specs.Preserved.{OpenEnter, open_after, caller_of, Preserved, CallsFit}
 use Rattle.frame_history.proofs.Invariant.{Invariant, base-of}
 use Rattle.both_meeting.proofs.Theorem.{agree}
-use Rattle.both_whole_call.specs.Put.{bytesIn, ownArea, callersArea, image_of, piecesJoined, Cut, Register, heldIn, spanRegisters, hiddenSpans, resultSpans, named}
-use Rattle.both_whole_call.specs.Caller.{firstSaved, Free, CallerSuits}
-use Rattle.both_whole_call.specs.WholeCall.{framesFor, seen, PassedToCallee}
-use Rattle.both_whole_call.proofs.Steps.{run, AllAccepted, openedBy, call-keeps, calls-keep, leave-holds}
+use Rattle.both_whole_call.specs.Put.{bytes_in, own_area, callers_area, image_of, pieces_joined, Cut, Register, held_in, span_registers, hidden_spans, result_spans, named}
+use Rattle.both_whole_call.specs.Caller.{first_saved, Free, CallerSuits}
+use Rattle.both_whole_call.specs.WholeCall.{frames_for, seen, PassedToCallee}
+use Rattle.both_whole_call.proofs.Steps.{run, AllAccepted, opened_by, call-keeps, calls-keep, leave-holds}
 use Rattle.both_whole_call.proofs.Registers.{Holds, free-below}
-use Rattle.both_whole_call.proofs.Memory.{callers-area, putPieces, AfterPieces, after-pieces, area-inside}
+use Rattle.both_whole_call.proofs.Memory.{callers-area, put_pieces, AfterPieces, after-pieces, area-inside}
 use Rattle.both_whole_call.proofs.Entering.{enter-part, enter-register}
 use Rattle.both_whole_call.proofs.Named.{OfSpan, of-spans, Argument, named-arguments, hidden-one}
 use Rattle.both_whole_call.proofs.Filled.{OfBytes, named-bytes, hidden-64}
@@ -69,52 +69,52 @@ pub record Able (p : Plan) (os : List OpenEnter) (m : Machine) : Type 0 where
 
 pub record Homed (s values copies : List ℕ) (f : Frame) (m : Machine) : Type 0 where
   pub viewed : Viewed s values (seen s f copies m)
-  pub accepted : (pieces : List (List ℕ)) → Cut pieces (homedArea s (seen s f copies m)) → AllAccepted (putPieces (callersArea (framesFor s) f m) pieces) m
-  pub area : (pieces : List (List ℕ)) → Cut pieces (homedArea s (seen s f copies m))
-      → let m' = run (putPieces (callersArea (framesFor s) f m) pieces) m in
-      bytesIn (callersArea (framesFor s) f m') (planFor s).area m' ≡ homedArea s (seen s f copies m)
+  pub accepted : (pieces : List (List ℕ)) → Cut pieces (homed_area s (seen s f copies m)) → AllAccepted (put_pieces (callers_area (frames_for s) f m) pieces) m
+  pub area : (pieces : List (List ℕ)) → Cut pieces (homed_area s (seen s f copies m))
+      → let m' = run (put_pieces (callers_area (frames_for s) f m) pieces) m in
+      bytes_in (callers_area (frames_for s) f m') (plan_for s).area m' ≡ homed_area s (seen s f copies m)
 
 pub record Returned (p : Plan) (o : OpenEnter) (os : List OpenEnter) (m : Machine) : Type 0 where
   pub accepted : answer leave m ≡ Accepted
   pub kept : Preserved (rules p.convention) o os (after leave m)
-  pub result : All (λ (x : Register). heldIn (after leave m).state.registers x ≡ heldIn m.state.registers x) (spanRegisters (resultSpans p.result))
+  pub result : All (λ (x : Register). held_in (after leave m).state.registers x ≡ held_in m.state.registers x) (span_registers (result_spans p.result))
 
 abbrev pub calling : List Call → Machine → Frame → OpenEnter
 calling puts m f = record { before = run puts m; request = f }
 
-abbrev pub inCallee : List Call → Machine → Frame → Machine
-inCallee puts m f = after (enter f) (run puts m)
+abbrev pub in_callee : List Call → Machine → Frame → Machine
+in_callee puts m f = after (enter f) (run puts m)
 
 pub record Claims (s values : List ℕ) (copies : Machine → List ℕ) (base hidden : ℕ) (os : List OpenEnter) (m : Machine) (puts : List Call) : Type 0 where
   pub accepted : AllAccepted puts m
-  pub opened : openedBy puts m os ≡ os
+  pub opened : opened_by puts m os ≡ os
   pub fit : CallsFit puts
   pub passed : (f : Frame) → answer (enter f) (run puts m) ≡ Accepted
-      → PassedToCallee s values (copies (inCallee puts m f)) base hidden f (inCallee puts m f)
-  pub homed : homeless (rulesFor s) ≡ false → (f : Frame) → answer (enter f) (run puts m) ≡ Accepted
-      → Homed s values (copies (inCallee puts m f)) f (inCallee puts m f)
+      → PassedToCallee s values (copies (in_callee puts m f)) base hidden f (in_callee puts m f)
+  pub homed : homeless (rules_for s) ≡ false → (f : Frame) → answer (enter f) (run puts m) ≡ Accepted
+      → Homed s values (copies (in_callee puts m f)) f (in_callee puts m f)
   pub returned : (f : Frame) → answer (enter f) (run puts m) ≡ Accepted → (body : List Call) → CallsFit body
-      → openedBy body (inCallee puts m f) (calling puts m f ∷ os) ≡ calling puts m f ∷ os
-      → Returned (planFor s) (calling puts m f) os (run body (inCallee puts m f))
+      → opened_by body (in_callee puts m f) (calling puts m f ∷ os) ≡ calling puts m f ∷ os
+      → Returned (plan_for s) (calling puts m f) os (run body (in_callee puts m f))
 
 -- What the calls `puts` did on the machine m: the registers that the plan names, and the area, hold what filling left in b; and a callee has the first n bytes of the copies
 pub record Ready (s : List ℕ) (b : Buffers) (cs : Machine → List ℕ) (n : ℕ) (os : List OpenEnter) (m : Machine) (puts : List Call) : Type 0 where
   pub accepted : AllAccepted puts m
-  pub opened : openedBy puts m os ≡ os
+  pub opened : opened_by puts m os ≡ os
   pub fit : CallsFit puts
-  pub invariant : Invariant (framesFor s) os (run puts m)
-  pub holds : All (Holds b.image (run puts m).state.registers) (named (planFor s))
-  pub area : bytesIn (ownArea (framesFor s) (run puts m)) (planFor s).area (run puts m) ≡ take (planFor s).area b.area
-  pub least : (planFor s).copies ≤ n
+  pub invariant : Invariant (frames_for s) os (run puts m)
+  pub holds : All (Holds b.image (run puts m).state.registers) (named (plan_for s))
+  pub area : bytes_in (own_area (frames_for s) (run puts m)) (plan_for s).area (run puts m) ≡ take (plan_for s).area b.area
+  pub least : (plan_for s).copies ≤ n
   pub most : n ≤ length b.copies
-  pub copies : (f : Frame) → answer (enter f) (run puts m) ≡ Accepted → cs (inCallee puts m f) ≡ take n b.copies
+  pub copies : (f : Frame) → answer (enter f) (run puts m) ≡ Accepted → cs (in_callee puts m f) ≡ take n b.copies
 
 module _ (s values image area copies : List ℕ) (base hidden : ℕ) (filled : Filled s values image area copies base hidden) where
   abbrev p : Plan
-  p = planFor s
+  p = plan_for s
 
   abbrev b : Buffers
-  b = leftByFill s values image area copies base hidden
+  b = left_by_fill s values image area copies base hidden
 
   abbrev c : Convention
   c = p.convention
@@ -125,7 +125,7 @@ module _ (s values image area copies : List ℕ) (base hidden : ℕ) (filled : F
   stands : Left s values base b
   stands = filled-left s values image area copies base hidden filled
 
-  pub all-bytes : All (OfBytes (wordOf (rulesFor s)) b.image) (named p)
+  pub all-bytes : All (OfBytes (word_of (rules_for s)) b.image) (named p)
   all-bytes = named-bytes s values image area copies base hidden filled stands.all
 
   module _ (os : List OpenEnter) (m : Machine) (able : Able p os m) (cs : Machine → List ℕ) (n : ℕ) (puts : List Call) (ready : Ready s b cs n os m puts)
@@ -134,22 +134,22 @@ module _ (s values image area copies : List ℕ) (base hidden : ℕ) (filled : F
     m₁ = run puts m
 
     abbrev m' : Machine
-    m' = inCallee puts m f
+    m' = in_callee puts m f
 
     abbrev r : Registers
     r = m'.state.registers
 
     callee : Invariant k (calling puts m f ∷ os) m'
-    callee = subst (λ (x : FrameAnswer). Invariant k (openAfter (enter f) x m₁ os) m') e (call-keeps c (enter f) tt os m₁ ready.invariant)
+    callee = subst (λ (x : FrameAnswer). Invariant k (open_after (enter f) x m₁ os) m') e (call-keeps c (enter f) tt os m₁ ready.invariant)
 
     -- what the callee takes for its caller's outgoing area is that
-    area-at : callersArea k f m' ≡ ownArea k m₁
+    area-at : callers_area k f m' ≡ own_area k m₁
     area-at = ap (λ (x : ℕ). x + k.header) callee.1.pointer
 
-    area-from : callersArea k f m' - m'.state.base ≡ ownArea k m₁ - m₁.state.base
+    area-from : callers_area k f m' - m'.state.base ≡ own_area k m₁ - m₁.state.base
     area-from = ap₂ (λ (x y : ℕ). x - y) area-at callee.1.base
 
-    area-offset : ownArea k m₁ - m₁.state.base ≡ offset k m₁.state + k.header
+    area-offset : own_area k m₁ - m₁.state.base ≡ offset k m₁.state + k.header
     area-offset = omega (arith, (base-of k os m₁ ready.invariant).sound.over)
 
     -- ---- the registers
@@ -163,32 +163,32 @@ module _ (s values image area copies : List ℕ) (base hidden : ℕ) (filled : F
 
     same : All (Same (image_of r) b.image) (named p)
     same =
-        each_three (Holds b.image r) (Free k (callerOf k os)) (OfBytes (wordOf (rulesFor s)) b.image) (Same (image_of r) b.image)
+        each_three (Holds b.image r) (Free k (caller_of k os)) (OfBytes (word_of (rules_for s)) b.image) (Same (image_of r) b.image)
         (λ x h free bytes. image-same r callee.0.fit.gprs callee.0.fit.fprs b.image stands.image x
-        (free-below k (lawful c) (firstSaved x.bank (callerOf k os)) x.number x.bank free) bytes.0 h)
+        (free-below k (lawful c) (first_saved x.bank (caller_of k os)) x.number x.bank free) bytes.0 h)
         (named p) all_hold able.suits.free all-bytes
 
     -- ---- the arguments
 
-    found-area : bytesIn (callersArea k f m') p.area m' ≡ take p.area b.area
+    found-area : bytes_in (callers_area k f m') p.area m' ≡ take p.area b.area
     found-area =
         ap (λ (i : ℕ). part i p.area m'.memory) area-from
-        ∙ enter-part c os m₁ ready.invariant f e (ownArea k m₁ - m₁.state.base) p.area (omega (arith, area-offset))
+        ∙ enter-part c os m₁ ready.invariant f e (own_area k m₁ - m₁.state.base) p.area (omega (arith, area-offset))
         ∙ ready.area
 
-    fits : All (Fits p.area n) (argumentsOf s)
-    unfolding argumentsOf
+    fits : All (Fits p.area n) (arguments_of s)
+    unfolding arguments_of
     fits =
         each-with (Fits p.area p.copies) (Fits p.area p.copies) (Fits p.area n)
-        (λ q x y. record { general = x.general; floating = x.floating; memory = x.memory; copies = omega (arith, x.copies, ready.least) }) (argumentsOf s) (carried s).fit (carried s).fit
+        (λ q x y. record { general = x.general; floating = x.floating; memory = x.memory; copies = omega (arith, x.copies, ready.least) }) (arguments_of s) (carried s).fit (carried s).fit
 
-    found-put : AllPut (rulesFor s) base (argumentsOf s) values (buffers (image_of r) (take p.area b.area) (take n b.copies))
-    unfolding argumentsOf placementsIn
+    found-put : AllPut (rules_for s) base (arguments_of s) values (buffers (image_of r) (take p.area b.area) (take n b.copies))
+    unfolding arguments_of placements_in
     found-put =
-        let g : SignatureRead = signatureAnswer (signature_of s) in
-        let spans = each_right (OfSpan (Same (image_of r) b.image)) (hiddenSpans p.result) p.spans
-        (of-spans (Same (image_of r) b.image) (hiddenSpans p.result ++ p.spans) same) in
-        all_found (rulesFor s) base p.area n b (image_of r) (image-length r callee.0.fit.gprs callee.0.fit.fprs) stands.area ready.most (argumentsOf s) values
+        let g : SignatureRead = signature_answer (signature_of s) in
+        let spans = each_right (OfSpan (Same (image_of r) b.image)) (hidden_spans p.result) p.spans
+        (of-spans (Same (image_of r) b.image) (hidden_spans p.result ++ p.spans) same) in
+        all_found (rules_for s) base p.area n b (image_of r) (image-length r callee.0.fit.gprs callee.0.fit.fprs) stands.area ready.most (arguments_of s) values
         fits (of-arguments (OfSpan (Same (image_of r) b.image)) g.convention (types_in g) p.spans spans) stands.all
 
     abbrev found : Buffers
@@ -210,9 +210,9 @@ module _ (s values image area copies : List ℕ) (base hidden : ℕ) (filled : F
     found-address : (x : Span) → p.result ≡ ResultPlaces.Hidden x → get_or r.gpr x.general.first 0 ≡ hidden
     unfolding bytes_at All
     found-address x q =
-        let holds : All (OfSpan (Holds b.image r)) (hiddenSpans p.result) = each_left (OfSpan (Holds b.image r)) (hiddenSpans p.result) p.spans
-        (of-spans (Holds b.image r) (hiddenSpans p.result ++ p.spans) all_hold) in
-        let here : All (OfSpan (Holds b.image r)) (x ∷ []) = subst (λ (y : ResultPlaces). All (OfSpan (Holds b.image r)) (hiddenSpans y)) q holds in
+        let holds : All (OfSpan (Holds b.image r)) (hidden_spans p.result) = each_left (OfSpan (Holds b.image r)) (hidden_spans p.result) p.spans
+        (of-spans (Holds b.image r) (hidden_spans p.result ++ p.spans) all_hold) in
+        let here : All (OfSpan (Holds b.image r)) (x ∷ []) = subst (λ (y : ResultPlaces). All (OfSpan (Holds b.image r)) (hidden_spans y)) q holds in
         here.0.generals x.general.first (omega arith, omega (arith, (hidden-one (signature_of s) x q).0))
         ∙ ap value_of (hidden-stands s values image area copies base hidden x filled q)
         ∙ value-back 8 hidden (hidden-64 s values image area copies base hidden x filled q)
@@ -225,37 +225,37 @@ module _ (s values image area copies : List ℕ) (base hidden : ℕ) (filled : F
 
     -- ---- home
 
-    found-viewed : homeless (rulesFor s) ≡ false → Viewed s values found
+    found-viewed : homeless (rules_for s) ≡ false → Viewed s values found
     found-viewed power =
         let back = passes.read values refl in
         subst (λ (v : List ℕ). Viewed s v found) back.same (view-as-read s values base found (image-bytes r) back.accepted power)
 
-    module _ (pieces : List (List ℕ)) (cut : Cut pieces (homedArea s found)) where
+    module _ (pieces : List (List ℕ)) (cut : Cut pieces (homed_area s found)) where
       abbrev a : ℕ
-      a = callersArea k f m'
+      a = callers_area k f m'
 
-      length-home : length (piecesJoined pieces) ≡ p.area
-      unfolding homeArea
+      length-home : length (pieces_joined pieces) ≡ p.area
+      unfolding home_area
       length-home =
-          ap length cut.whole ∙ length-homed (rulesFor s) (argumentsOf s) found.image found.area ∙ ap length found-area ∙ length-take-le p.area b.area stands.area
+          ap length cut.whole ∙ length-homed (rules_for s) (arguments_of s) found.image found.area ∙ ap length found-area ∙ length-take-le p.area b.area stands.area
 
-      homes : AfterPieces c (calling puts m f ∷ os) a pieces m' (run (putPieces a pieces) m')
+      homes : AfterPieces c (calling puts m f ∷ os) a pieces m' (run (put_pieces a pieces) m')
       homes =
           after-pieces c (calling puts m f ∷ os) _ _ a pieces m' callee (callers-area k (calling puts m f) os m' callee) (omega (arith, callee.0.sound.over)) cut.short (omega arith)
           (omega (arith, length-home, able.suits.room))
 
-      home-area : bytesIn (callersArea k f (run (putPieces a pieces) m')) p.area (run (putPieces a pieces) m') ≡ homedArea s found
+      home-area : bytes_in (callers_area k f (run (put_pieces a pieces) m')) p.area (run (put_pieces a pieces) m') ≡ homed_area s found
       home-area =
           let inside = area-inside k (lawful c) os m₁ ready.invariant able.suits.solid in
           let at : ℕ = a - m'.state.base in
-          ap (λ (y : State). part (callersArea k f (record { state = y; memory = m'.memory }) - y.base) p.area (run (putPieces a pieces) m').memory) homes.state
+          ap (λ (y : State). part (callers_area k f (record { state = y; memory = m'.memory }) - y.base) p.area (run (put_pieces a pieces) m').memory) homes.state
           ∙ ap (part at p.area) homes.memory
-          ∙ ap (λ (i : ℕ). part at i (splice m'.memory at (piecesJoined pieces))) (sym length-home)
-          ∙ splice-same m'.memory at (piecesJoined pieces)
+          ∙ ap (λ (i : ℕ). part at i (splice m'.memory at (pieces_joined pieces))) (sym length-home)
+          ∙ splice-same m'.memory at (pieces_joined pieces)
           (omega (arith, area-from, area-offset, length-home, able.suits.room, inside, callee.0.sound.length, callee.1.size, (base-of k os m₁ ready.invariant).sound.length))
           ∙ cut.whole
 
-    homing : homeless (rulesFor s) ≡ false → Homed s values (cs m') f m'
+    homing : homeless (rules_for s) ≡ false → Homed s values (cs m') f m'
     homing power = record {
       viewed = found-viewed power;
       accepted = λ pieces cut. (homes pieces cut).accepted;
@@ -264,7 +264,7 @@ module _ (s values image area copies : List ℕ) (base hidden : ℕ) (filled : F
 
     -- ---- and back
 
-    returns : (body : List Call) → CallsFit body → openedBy body m' (calling puts m f ∷ os) ≡ calling puts m f ∷ os → Returned p (calling puts m f) os (run body m')
+    returns : (body : List Call) → CallsFit body → opened_by body m' (calling puts m f ∷ os) ≡ calling puts m f ∷ os → Returned p (calling puts m f) os (run body m')
     returns body fit closed =
         let i : Invariant k (calling puts m f ∷ os) (run body m')
         = subst (λ (l : List OpenEnter). Invariant k l (run body m')) closed (calls-keep c body fit (calling puts m f ∷ os) m' callee) in
@@ -272,7 +272,7 @@ module _ (s values image area copies : List ℕ) (base hidden : ℕ) (filled : F
         record {
           accepted = h.0;
           kept = h.1;
-          result = each_more (Volatile k) _ (leave-result k (calling puts m f) os (run body m') i h.0) (spanRegisters (resultSpans p.result)) (result-volatile s);
+          result = each_more (Volatile k) _ (leave-result k (calling puts m f) os (run body m') i h.0) (span_registers (result_spans p.result)) (result-volatile s);
         }
 
   pub claims : (os : List OpenEnter) (m : Machine) → Able p os m → (cs : Machine → List ℕ) (n : ℕ) (puts : List Call) → Ready s b cs n os m puts

@@ -15,82 +15,82 @@ use Rattle.base_conventions.specs.declared.Convention.{Convention}
 use Rattle.frame_rules.specs.declared.FrameRules.{FrameRules}
 use Rattle.frame_rules.specs.declared.Registers.{Registers}
 use Rattle.frame_rules.specs.Rules.{rules}
-use Rattle.frame_rules.specs.Frames.{bankOf, writable, writableRegister, withRegister}
+use Rattle.frame_rules.specs.Frames.{bank_of, writable, writable_register, with_register}
 use Rattle.frame_rules.specs.Helpers.{LawfulFrames}
 use Rattle.frame_rules.proofs.Conventions.{lawful, writable-lt}
 use Rattle.frame_rules.proofs.Places.{limit-64}
 use Rattle.frame_machine.specs.declared.FrameAnswer.TheVariants.{Accepted}
 use Rattle.frame_machine.specs.declared.FrameRefusal.TheVariants.{NotPermitted}
 use Rattle.frame_machine.specs.Answers.{require, judge}
-use Rattle.frame_machine.specs.Machine.{stateRules, stackPointer, top, sizes, stateTests, writeRegisterAnswer, writtenRegister, writeRegisterOutcome}
+use Rattle.frame_machine.specs.Machine.{state_rules, stack_pointer, top, sizes, state_tests, write_register_answer, written_register, write_register_outcome}
 use Rattle.frame_machine.proofs.Judging.{judge-next}
 use Rattle.frame_machine.proofs.States.{state-accepted}
 use Rattle.frame_machine.proofs.Outcomes.{write-register-accepted}
-use Rattle.frame_history.specs.Calls.{Call, writeRegister, Machine, answer, after}
-use Rattle.frame_history.specs.Preserved.{OpenEnter, callerOf, CallsFit}
+use Rattle.frame_history.specs.Calls.{Call, write_register, Machine, answer, after}
+use Rattle.frame_history.specs.Preserved.{OpenEnter, caller_of, CallsFit}
 use Rattle.frame_history.proofs.Invariant.{Base, Invariant, base-of, top-is}
-use Rattle.both_whole_call.specs.Put.{Register, fileOf, heldIn, bankNumber, inImage}
-use Rattle.both_whole_call.specs.Caller.{bankIn, firstSaved, Free}
-use Rattle.both_whole_call.proofs.Steps.{run, AllAccepted, openedBy, call-keeps}
+use Rattle.both_whole_call.specs.Put.{Register, file_of, held_in, bank_number, in_image}
+use Rattle.both_whole_call.specs.Caller.{bank_in, first_saved, Free}
+use Rattle.both_whole_call.proofs.Steps.{run, AllAccepted, opened_by, call-keeps}
 
 -- register x holds what the image has for it
 abbrev pub Holds : List ℕ → Registers → Register → Type 0
-Holds image r x = heldIn r x ≡ inImage image x
+Holds image r x = held_in r x ≡ in_image image x
 
 -- the largest number that a register of a bank takes: a word's, and 64 bits in a floating register
-abbrev pub mostIn : FrameRules → Bank → ℕ
-mostIn k Bank.General = k.limit
-mostIn k Bank.Floating = 2 ^ 64 - 1
+abbrev pub most_in : FrameRules → Bank → ℕ
+most_in k Bank.General = k.limit
+most_in k Bank.Floating = 2 ^ 64 - 1
 
-pub most-64 : (k : FrameRules) → LawfulFrames k → (b : Bank) (v : ℕ) → v ≤ mostIn k b → v < 2 ^ 64
+pub most-64 : (k : FrameRules) → LawfulFrames k → (b : Bank) (v : ℕ) → v ≤ most_in k b → v < 2 ^ 64
 most-64 k law Bank.General v h = omega (arith, limit-64 k law)
 most-64 k law Bank.Floating v h = omega arith
 
 -- the machine's own call that writes it
-abbrev pub writeOf : List ℕ → Register → Call
-writeOf image x = writeRegister (bankNumber x.bank) x.number (inImage image x)
+abbrev pub write_of : List ℕ → Register → Call
+write_of image x = write_register (bank_number x.bank) x.number (in_image image x)
 
 -- ---- one write
 
 abbrev written : List ℕ → Registers → Register → Registers
-written image r y = withRegister r (bankOf (bankNumber y.bank)) y.number (inImage image y)
+written image r y = with_register r (bank_of (bank_number y.bank)) y.number (in_image image y)
 
 -- what was put stays put
-written_keeps : (image : List ℕ) (r : Registers) (y : Register) → y.number < length (fileOf y.bank r) → (x : Register) → Holds image r x → Holds image (written image r y) x
-unfolding bankOf withRegister
+written_keeps : (image : List ℕ) (r : Registers) (y : Register) → y.number < length (file_of y.bank r) → (x : Register) → Holds image r x → Holds image (written image r y) x
+unfolding bank_of with_register
 written_keeps image r y h x e = go y.bank x.bank h e
   where
-    go : (b c : Bank) → y.number < length (fileOf b r) → get_or (fileOf c r) x.number 0 ≡ inImage image (record { bank = c; number = x.number })
-        → get_or (fileOf c (written image r (record { bank = b; number = y.number }))) x.number 0 ≡ inImage image (record { bank = c; number = x.number })
+    go : (b c : Bank) → y.number < length (file_of b r) → get_or (file_of c r) x.number 0 ≡ in_image image (record { bank = c; number = x.number })
+        → get_or (file_of c (written image r (record { bank = b; number = y.number }))) x.number 0 ≡ in_image image (record { bank = c; number = x.number })
     go Bank.General Bank.General h e =
-        set_holds r.gpr y.number x.number _ _ h (λ q. ap (λ (n : ℕ). inImage image (record { bank = Bank.General; number = n })) (sym q)) e
+        set_holds r.gpr y.number x.number _ _ h (λ q. ap (λ (n : ℕ). in_image image (record { bank = Bank.General; number = n })) (sym q)) e
     go Bank.General Bank.Floating h e = e
     go Bank.Floating Bank.General h e = e
     go Bank.Floating Bank.Floating h e =
-        set_holds r.fpr y.number x.number _ _ h (λ q. ap (λ (n : ℕ). inImage image (record { bank = Bank.Floating; number = n })) (sym q)) e
+        set_holds r.fpr y.number x.number _ _ h (λ q. ap (λ (n : ℕ). in_image image (record { bank = Bank.Floating; number = n })) (sym q)) e
 
-written-holds : (image : List ℕ) (r : Registers) (y : Register) → y.number < length (fileOf y.bank r) → Holds image (written image r y) y
-unfolding bankOf withRegister
+written-holds : (image : List ℕ) (r : Registers) (y : Register) → y.number < length (file_of y.bank r) → Holds image (written image r y) y
+unfolding bank_of with_register
 written-holds image r y h = go y.bank h
   where
-    go : (b : Bank) → y.number < length (fileOf b r) → Holds image (written image r (record { bank = b; number = y.number })) (record { bank = b; number = y.number })
+    go : (b : Bank) → y.number < length (file_of b r) → Holds image (written image r (record { bank = b; number = y.number })) (record { bank = b; number = y.number })
     go Bank.General h = get_or-set_same r.gpr y.number _ 0 h
     go Bank.Floating h = get_or-set_same r.fpr y.number _ 0 h
 
 -- what a frame may write is one of the 32
-pub free-below : (k : FrameRules) → LawfulFrames k → (from n : ℕ) (b : Bank) → writable (bankIn k b) from n ≡ true → n < 32
+pub free-below : (k : FrameRules) → LawfulFrames k → (from n : ℕ) (b : Bank) → writable (bank_in k b) from n ≡ true → n < 32
 free-below k law from n Bank.General p = writable-lt k.gpr k.end law.gpr from n p
 free-below k law from n Bank.Floating p = writable-lt k.fpr k.end law.fpr from n p
 
-pub file-length : (k : FrameRules) (m : Machine) → Base k m → (b : Bank) → length (fileOf b m.state.registers) ≡ 32
+pub file-length : (k : FrameRules) (m : Machine) → Base k m → (b : Bank) → length (file_of b m.state.registers) ≡ 32
 file-length k m h Bank.General = h.fit.gprs
 file-length k m h Bank.Floating = h.fit.fprs
 
-free-writable : (k : FrameRules) (f : _) (x : Register) (v : ℕ) → Free k f x → v ≤ mostIn k x.bank → writableRegister k f (bankOf (bankNumber x.bank)) x.number v ≡ true
-unfolding bankOf writableRegister
+free-writable : (k : FrameRules) (f : _) (x : Register) (v : ℕ) → Free k f x → v ≤ most_in k x.bank → writable_register k f (bank_of (bank_number x.bank)) x.number v ≡ true
+unfolding bank_of writable_register
 free-writable k f x v = go x.bank
   where
-    go : (b : Bank) → writable (bankIn k b) (firstSaved b f) x.number ≡ true → v ≤ mostIn k b → writableRegister k f (bankOf (bankNumber b)) x.number v ≡ true
+    go : (b : Bank) → writable (bank_in k b) (first_saved b f) x.number ≡ true → v ≤ most_in k b → writable_register k f (bank_of (bank_number b)) x.number v ≡ true
     go Bank.General p q = rw (p, le-leb v k.limit q)
     go Bank.Floating p q = p
 
@@ -100,72 +100,72 @@ module _ (c : Convention) (os : List OpenEnter) (image : List ℕ) where
 
   -- a register that may be written, of a value that it takes
   abbrev pub Putable : Register → Type 0
-  Putable y = Free k (callerOf k os) y × (inImage image y ≤ mostIn k y.bank)
+  Putable y = Free k (caller_of k os) y × (in_image image y ≤ most_in k y.bank)
 
   module _ (m : Machine) (i : Invariant k os m) (y : Register) (p : Putable y) where
     base : Base k m
     base = base-of k os m i
 
-    allowed : writeRegisterAnswer k m.state (length m.memory) (bankNumber y.bank) y.number (inImage image y) ≡ Accepted
-    unfolding writeRegisterAnswer judge
+    allowed : write_register_answer k m.state (length m.memory) (bank_number y.bank) y.number (in_image image y) ≡ Accepted
+    unfolding write_register_answer judge
     allowed =
-        let v : ℕ = inImage image y in
-        judge-next (stateTests k m.state (length m.memory)) (require (writableRegister k (top k m.state) (bankOf (bankNumber y.bank)) y.number v) NotPermitted ∷ [])
+        let v : ℕ = in_image image y in
+        judge-next (state_tests k m.state (length m.memory)) (require (writable_register k (top k m.state) (bank_of (bank_number y.bank)) y.number v) NotPermitted ∷ [])
         (state-accepted k m.state (length m.memory) base.sound)
-        ∙ rw (top-is k os m i, free-writable k (callerOf k os) y v p.0 p.1)
+        ∙ rw (top-is k os m i, free-writable k (caller_of k os) y v p.0 p.1)
 
-    judged : writeRegisterAnswer (stateRules m.state) m.state (length m.memory) (bankNumber y.bank) y.number (inImage image y) ≡ Accepted
+    judged : write_register_answer (state_rules m.state) m.state (length m.memory) (bank_number y.bank) y.number (in_image image y) ≡ Accepted
     judged =
-        subst (λ (r : FrameRules). writeRegisterAnswer r m.state (length m.memory) (bankNumber y.bank) y.number (inImage image y) ≡ Accepted) (sym base.rules) allowed
+        subst (λ (r : FrameRules). write_register_answer r m.state (length m.memory) (bank_number y.bank) y.number (in_image image y) ≡ Accepted) (sym base.rules) allowed
 
-    put-accepted : answer (writeOf image y) m ≡ Accepted
-    unfolding writeRegisterOutcome
+    put-accepted : answer (write_of image y) m ≡ Accepted
+    unfolding write_register_outcome
     put-accepted = judged
 
-    put-state : (after (writeOf image y) m).state ≡ writtenRegister m.state (bankNumber y.bank) y.number (inImage image y)
-    put-state = ap (λ o. o.state) (write-register-accepted m.state (length m.memory) (bankNumber y.bank) y.number (inImage image y) judged)
+    put-state : (after (write_of image y) m).state ≡ written_register m.state (bank_number y.bank) y.number (in_image image y)
+    put-state = ap (λ o. o.state) (write-register-accepted m.state (length m.memory) (bank_number y.bank) y.number (in_image image y) judged)
 
-    put-invariant : Invariant k os (after (writeOf image y) m)
-    put-invariant = call-keeps c (writeOf image y) (most-64 k (lawful c) y.bank (inImage image y) p.1) os m i
+    put-invariant : Invariant k os (after (write_of image y) m)
+    put-invariant = call-keeps c (write_of image y) (most-64 k (lawful c) y.bank (in_image image y) p.1) os m i
 
-    below : y.number < length (fileOf y.bank m.state.registers)
-    below = omega (arith, file-length k m base y.bank, free-below k (lawful c) (firstSaved y.bank (callerOf k os)) y.number y.bank p.0)
+    below : y.number < length (file_of y.bank m.state.registers)
+    below = omega (arith, file-length k m base y.bank, free-below k (lawful c) (first_saved y.bank (caller_of k os)) y.number y.bank p.0)
 
-    put-registers : (after (writeOf image y) m).state.registers ≡ written image m.state.registers y
-    unfolding writtenRegister
+    put-registers : (after (write_of image y) m).state.registers ≡ written image m.state.registers y
+    unfolding written_register
     put-registers = ap (λ s. s.registers) put-state
 
-    put_keeps : (x : Register) → Holds image m.state.registers x → Holds image (after (writeOf image y) m).state.registers x
+    put_keeps : (x : Register) → Holds image m.state.registers x → Holds image (after (write_of image y) m).state.registers x
     put_keeps x h = subst (λ (r : Registers). Holds image r x) (sym put-registers) (written_keeps image m.state.registers y below x h)
 
-    put_holds : Holds image (after (writeOf image y) m).state.registers y
+    put_holds : Holds image (after (write_of image y) m).state.registers y
     put_holds = subst (λ (r : Registers). Holds image r y) (sym put-registers) (written-holds image m.state.registers y below)
 
     -- a write moves no frame, so that the stack pointer stays
-    put-sizes : ((after (writeOf image y) m).state.base ≡ m.state.base) × ((after (writeOf image y) m).state.size ≡ m.state.size)
-        × (sizes k (after (writeOf image y) m).state.frames (after (writeOf image y) m).state.depth ≡ sizes k m.state.frames m.state.depth)
-    unfolding writtenRegister
+    put-sizes : ((after (write_of image y) m).state.base ≡ m.state.base) × ((after (write_of image y) m).state.size ≡ m.state.size)
+        × (sizes k (after (write_of image y) m).state.frames (after (write_of image y) m).state.depth ≡ sizes k m.state.frames m.state.depth)
+    unfolding written_register
     put-sizes = rw put-state (refl, refl, refl)
 
-    put-pointer : stackPointer k (after (writeOf image y) m).state ≡ stackPointer k m.state
-    put-pointer = omega (arith, put-sizes, base.sound.sum, (base-of k os (after (writeOf image y) m) put-invariant).sound.sum)
+    put-pointer : stack_pointer k (after (write_of image y) m).state ≡ stack_pointer k m.state
+    put-pointer = omega (arith, put-sizes, base.sound.sum, (base-of k os (after (write_of image y) m) put-invariant).sound.sum)
 
 -- ---- several
 
 -- the machine m' after the writes of the registers ys on the machine m
 pub record AfterPut (c : Convention) (os : List OpenEnter) (image : List ℕ) (ys : List Register) (m m' : Machine) : Type 0 where
-  pub accepted : AllAccepted (map (writeOf image) ys) m
-  pub opened : openedBy (map (writeOf image) ys) m os ≡ os
+  pub accepted : AllAccepted (map (write_of image) ys) m
+  pub opened : opened_by (map (write_of image) ys) m os ≡ os
   pub invariant : Invariant (rules c) os m'
   pub memory : m'.memory ≡ m.memory
   pub base : m'.state.base ≡ m.state.base
-  pub pointer : stackPointer (rules c) m'.state ≡ stackPointer (rules c) m.state
+  pub pointer : stack_pointer (rules c) m'.state ≡ stack_pointer (rules c) m.state
   pub keeps : (x : Register) → Holds image m.state.registers x → Holds image m'.state.registers x
   pub holds : All (Holds image m'.state.registers) ys
 
 pub after-put : (c : Convention) (os : List OpenEnter) (image : List ℕ) (ys : List Register) (m : Machine) → Invariant (rules c) os m → All (Putable c os image) ys
-    → AfterPut c os image ys m (run (map (writeOf image) ys) m)
-unfolding AllAccepted openedBy run All
+    → AfterPut c os image ys m (run (map (write_of image) ys) m)
+unfolding AllAccepted opened_by run All
 after-put c os image [] m i p = record {
   accepted = tt;
   opened = refl;
@@ -177,7 +177,7 @@ after-put c os image [] m i p = record {
   holds = tt;
 }
 after-put c os image (y ∷ ys) m i p =
-    let m₁ : Machine = after (writeOf image y) m in
+    let m₁ : Machine = after (write_of image y) m in
     let r = after-put c os image ys m₁ (put-invariant c os image m i y p.0) p.1 in
     record {
       accepted = (put-accepted c os image m i y p.0, r.accepted);
@@ -190,7 +190,7 @@ after-put c os image (y ∷ ys) m i p =
       holds = (r.keeps y (put_holds c os image m i y p.0), r.holds);
     }
 
-pub registers-fit : (c : Convention) (os : List OpenEnter) (image : List ℕ) (ys : List Register) → All (Putable c os image) ys → CallsFit (map (writeOf image) ys)
+pub registers-fit : (c : Convention) (os : List OpenEnter) (image : List ℕ) (ys : List Register) → All (Putable c os image) ys → CallsFit (map (write_of image) ys)
 unfolding All
 registers-fit c os image [] p = tt
-registers-fit c os image (y ∷ ys) p = (most-64 (rules c) (lawful c) y.bank (inImage image y) p.0.1, registers-fit c os image ys p.1)
+registers-fit c os image (y ∷ ys) p = (most-64 (rules c) (lawful c) y.bank (in_image image y) p.0.1, registers-fit c os image ys p.1)

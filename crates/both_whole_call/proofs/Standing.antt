@@ -9,47 +9,47 @@ use Rattle.base_words.specs.Basics.{All}
 use Rattle.base_words.specs.Splice.{part}
 use Rattle.base_words.specs.Numbers.{Bytes, bytes_of, value_of}
 use Rattle.base_words.proofs.Splices.{part-add, part-part, length_part}
-use Rattle.base_words.proofs.Numbers.{bytes-bytesOf, bytes-append, bytesOf-value, value-below}
+use Rattle.base_words.proofs.Numbers.{bytes-bytes_of, bytes-append, bytes_of-value, value-below}
 use Rattle.base_conventions.specs.declared.Convention.{Convention}
 use Rattle.sig_types.specs.declared.ValueType.{ValueType}
 use Rattle.plan_places.specs.declared.Bank.{Bank}
 use Rattle.plan_places.specs.declared.CallRules.{CallRules}
 use Rattle.plan_places.specs.declared.Span.{Span}
 use Rattle.call_slots.specs.Buffers.{Buffers, buffers, bytes_at}
-use Rattle.call_slots.specs.Placements.{Placement, placements, copyBytes}
+use Rattle.call_slots.specs.Placements.{Placement, placements, copy_bytes}
 use Rattle.call_slots.specs.Helpers.{Fits}
-use Rattle.call_slots.proofs.Planned.{in_image, copy-in}
+use Rattle.call_slots.proofs.Planned.{in_image_lem, copy-in}
 use Rattle.call_roundtrip.proofs.Arguments.{Put, AllPut, EachValue}
 use Rattle.frame_rules.specs.declared.FrameRules as frames
 use Rattle.frame_rules.specs.declared.Registers.{Registers}
 use Rattle.frame_rules.specs.Helpers.{LawfulFrames}
-use Rattle.both_whole_call.specs.Put.{Register, register, fileOf, words_of, image_of, imageAt, inImage}
+use Rattle.both_whole_call.specs.Put.{Register, register, file_of, words_of, image_of, image_at, in_image}
 use Rattle.both_whole_call.proofs.Lists.{words-length, words-at}
-use Rattle.both_whole_call.proofs.Registers.{Holds, mostIn}
+use Rattle.both_whole_call.proofs.Registers.{Holds, most_in}
 use Rattle.both_whole_call.proofs.Named.{OfSpan}
 use Rattle.both_whole_call.proofs.Filled.{OfBytes}
 
 -- two images have the same for a register
 abbrev pub Same : List ℕ → List ℕ → Register → Type 0
-Same i j x = part (imageAt x.bank x.number) 8 i ≡ part (imageAt x.bank x.number) 8 j
+Same i j x = part (image_at x.bank x.number) 8 i ≡ part (image_at x.bank x.number) 8 j
 
-image-room : (b : Bank) (n : ℕ) → n < 32 → imageAt b n + 8 ≤ 512
+image-room : (b : Bank) (n : ℕ) → n < 32 → image_at b n + 8 ≤ 512
 image-room Bank.General n h = omega arith
 image-room Bank.Floating n h = omega arith
 
-part-eight : (image : List ℕ) → length image ≡ 512 → (b : Bank) (n : ℕ) → n < 32 → length (part (imageAt b n) 8 image) ≡ 8
-part-eight image size b n h = length_part (imageAt b n) 8 image (omega (arith, image-room b n h))
+part-eight : (image : List ℕ) → length image ≡ 512 → (b : Bank) (n : ℕ) → n < 32 → length (part (image_at b n) 8 image) ≡ 8
+part-eight image size b n h = length_part (image_at b n) 8 image (omega (arith, image-room b n h))
 
 -- what it has for a register is a number that the register takes
-pub image-fits : (k : frames.FrameRules) → LawfulFrames k → (image : List ℕ) → length image ≡ 512 → (x : Register) → x.number < 32 → OfBytes k.word image x → inImage image x ≤ mostIn k x.bank
+pub image-fits : (k : frames.FrameRules) → LawfulFrames k → (image : List ℕ) → length image ≡ 512 → (x : Register) → x.number < 32 → OfBytes k.word image x → in_image image x ≤ most_in k x.bank
 image-fits k law image size x h o = go x.bank o
   where
-    go : (b : Bank) → OfBytes k.word image (register b x.number) → inImage image (register b x.number) ≤ mostIn k b
+    go : (b : Bank) → OfBytes k.word image (register b x.number) → in_image image (register b x.number) ≤ most_in k b
     go Bank.General o = omega (arith, o.1, law.limit)
     go Bank.Floating o =
-        let below : inImage image (register Bank.Floating x.number) < 2 ^ 64
-        = subst (λ (n : ℕ). inImage image (register Bank.Floating x.number) < 2 ^ (8 * n)) (part-eight image size Bank.Floating x.number h)
-        (value-below (part (imageAt Bank.Floating x.number) 8 image) o.0) in
+        let below : in_image image (register Bank.Floating x.number) < 2 ^ 64
+        = subst (λ (n : ℕ). in_image image (register Bank.Floating x.number) < 2 ^ (8 * n)) (part-eight image size Bank.Floating x.number h)
+        (value-below (part (image_at Bank.Floating x.number) 8 image) o.0) in
         omega arith
 
 -- ---- the machine's image
@@ -58,7 +58,7 @@ module _ (r : Registers) (gprs : length r.gpr ≡ 32) (fprs : length r.fpr ≡ 3
   pub image-length : length (image_of r) ≡ 512
   image-length = simp length-append (omega (arith, words-length r.gpr, words-length r.fpr))
 
-  pub image-at : (b : Bank) (n : ℕ) → n < 32 → part (imageAt b n) 8 (image_of r) ≡ bytes_of 8 (get_or (fileOf b r) n 0)
+  pub image-at : (b : Bank) (n : ℕ) → n < 32 → part (image_at b n) 8 (image_of r) ≡ bytes_of 8 (get_or (file_of b r) n 0)
   image-at Bank.General n h =
       let g : List ℕ = words_of r.gpr in
       let size : length g ≡ 256 = omega (arith, words-length r.gpr) in
@@ -71,40 +71,40 @@ module _ (r : Registers) (gprs : length r.gpr ≡ 32) (fprs : length r.fpr ≡ 3
       ap (λ (at : ℕ). part at 8 (g ++ words_of r.fpr)) e ∙ ap (take 8) (drop-append-add g (words_of r.fpr) (8 * n)) ∙ words-at r.fpr n (omega arith)
 
   -- a register that holds the number that an image has in bytes for it has the same bytes
-  pub image-same : (image : List ℕ) → length image ≡ 512 → (x : Register) → x.number < 32 → Bytes (part (imageAt x.bank x.number) 8 image) → Holds image r x → Same (image_of r) image x
+  pub image-same : (image : List ℕ) → length image ≡ 512 → (x : Register) → x.number < 32 → Bytes (part (image_at x.bank x.number) 8 image) → Holds image r x → Same (image_of r) image x
   image-same image size x h bytes e =
-      let at : ℕ = imageAt x.bank x.number in
+      let at : ℕ = image_at x.bank x.number in
       image-at x.bank x.number h
       ∙ ap (bytes_of 8) e
       ∙ ap (λ (n : ℕ). bytes_of n (value_of (part at 8 image))) (sym (part-eight image size x.bank x.number h))
-      ∙ bytesOf-value (part at 8 image) bytes
+      ∙ bytes_of-value (part at 8 image) bytes
 
 -- it is of bytes
 words-bytes : (xs : List ℕ) → Bytes (words_of xs)
 unfolding words_of
 words-bytes [] = λ i. omega arith
-words-bytes (x ∷ xs) = bytes-append (bytes_of 8 x) (words_of xs) (bytes-bytesOf 8 x) (words-bytes xs)
+words-bytes (x ∷ xs) = bytes-append (bytes_of 8 x) (words_of xs) (bytes-bytes_of 8 x) (words-bytes xs)
 
 pub image-bytes : (r : Registers) → Bytes (image_of r)
 image-bytes r = bytes-append (words_of r.gpr) (words_of r.fpr) (words-bytes r.gpr) (words-bytes r.fpr)
 
 -- ---- registers that agree
 
-image-next : (b : Bank) (n : ℕ) → imageAt b (n + 1) ≡ imageAt b n + 8
+image-next : (b : Bank) (n : ℕ) → image_at b (n + 1) ≡ image_at b n + 8
 image-next Bank.General n = omega arith
 image-next Bank.Floating n = omega arith
 
 -- and so for a run of them
 run-same : (i j : List ℕ) (b : Bank) (first count : ℕ) → ((n : ℕ) → first ≤ n → n < first + count → Same i j (register b n))
-    → part (imageAt b first) (8 * count) i ≡ part (imageAt b first) (8 * count) j
+    → part (image_at b first) (8 * count) i ≡ part (image_at b first) (8 * count) j
 run-same i j b first zero h = refl
 run-same i j b first (suc count) h =
     let e : 8 * suc count ≡ 8 + 8 * count = omega arith in
-    let rest : part (imageAt b first + 8) (8 * count) i ≡ part (imageAt b first + 8) (8 * count) j =
+    let rest : part (image_at b first + 8) (8 * count) i ≡ part (image_at b first + 8) (8 * count) j =
     subst (λ (at : ℕ). part at (8 * count) i ≡ part at (8 * count) j) (image-next b first) (run-same i j b (first + 1) count (λ n p q. h n (omega arith) (omega arith))) in
-    ap (λ (m : ℕ). part (imageAt b first) m i) e ∙ part-add (imageAt b first) 8 (8 * count) i
+    ap (λ (m : ℕ). part (image_at b first) m i) e ∙ part-add (image_at b first) 8 (8 * count) i
     ∙ ap₂ (λ (x y : List ℕ). x ++ y) (h first (omega arith) (omega arith)) rest
-    ∙ sym (part-add (imageAt b first) 8 (8 * count) j) ∙ ap (λ (m : ℕ). part (imageAt b first) m j) (sym e)
+    ∙ sym (part-add (image_at b first) 8 (8 * count) j) ∙ ap (λ (m : ℕ). part (image_at b first) m j) (sym e)
 
 -- ---- the arguments
 
@@ -114,7 +114,7 @@ module _ (r : CallRules) (base a m : ℕ) (b : Buffers) (image : List ℕ) (size
   c = buffers image (take a b.area) (take m b.copies)
 
   -- the copy of an argument lies in the copies
-  copied : (p : Placement) (v : List ℕ) → Fits a m p → Put r base p v b → p.span.copy.start + length (copyBytes p v) ≤ m
+  copied : (p : Placement) (v : List ℕ) → Fits a m p → Put r base p v b → p.span.copy.start + length (copy_bytes p v) ≤ m
   copied p v fits h = copy-in r p v m h.given.room.registers.held (omega (arith, h.given.size)) fits.copies
 
   stands-found : (p : Placement) (v : List ℕ) → Fits a m p → OfSpan (Same image b.image) p.span → Put r base p v b → Put r base p v c
@@ -125,7 +125,7 @@ module _ (r : CallRules) (base a m : ℕ) (b : Buffers) (image : List ℕ) (size
       record {
         given = record {
           room = record {
-            registers = in_image r (length image) a m p h.given.room.registers.held fits size;
+            registers = in_image_lem r (length image) a m p h.given.room.registers.held fits size;
             memory = omega (arith, fits.memory, length-take a b.area);
             copies = omega (arith, fits.copies, length-take m b.copies);
             low = h.given.room.low;
@@ -141,8 +141,8 @@ module _ (r : CallRules) (base a m : ℕ) (b : Buffers) (image : List ℕ) (size
               ∙ ap (λ (n : ℕ). part n s.memory.length b.area) (plain s.memory.start)
               ∙ h.stands.memory;
           copy =
-              part-part 0 m s.copy.start (length (copyBytes p v)) b.copies (copied p v fits h)
-              ∙ ap (λ (n : ℕ). part n (length (copyBytes p v)) b.copies) (plain s.copy.start)
+              part-part 0 m s.copy.start (length (copy_bytes p v)) b.copies (copied p v fits h)
+              ∙ ap (λ (n : ℕ). part n (length (copy_bytes p v)) b.copies) (plain s.copy.start)
               ∙ h.stands.copy;
         };
       }

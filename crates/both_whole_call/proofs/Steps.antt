@@ -8,9 +8,9 @@ use Rattle.frame_rules.specs.declared.FrameRules.{FrameRules}
 use Rattle.frame_rules.specs.Rules.{rules}
 use Rattle.frame_rules.proofs.Conventions.{lawful}
 use Rattle.frame_machine.specs.declared.FrameAnswer.TheVariants.{Accepted}
-use Rattle.frame_machine.specs.Machine.{leaveAnswer, leaveOutcome}
+use Rattle.frame_machine.specs.Machine.{leave_answer, leave_outcome}
 use Rattle.frame_history.specs.Calls.{Call, leave, Machine, answer, after}
-use Rattle.frame_history.specs.Preserved.{OpenEnter, openAfter, Preserved, CallFits, CallsFit}
+use Rattle.frame_history.specs.Preserved.{OpenEnter, open_after, Preserved, CallFits, CallsFit}
 use Rattle.frame_history.proofs.Invariant.{Invariant}
 use Rattle.frame_history.proofs.Leaving.{leave-accepted}
 use Rattle.frame_history.proofs.Theorem.{step}
@@ -24,30 +24,30 @@ unfoldable pub AllAccepted : List Call → Machine → Type 0
 AllAccepted [] m = Unit {0}
 AllAccepted (c ∷ cs) m = (answer c m ≡ Accepted) × AllAccepted cs (after c m)
 
-unfoldable pub openedBy : List Call → Machine → List OpenEnter → List OpenEnter
-openedBy [] m os = os
-openedBy (c ∷ cs) m os = openedBy cs (after c m) (openAfter c (answer c m) m os)
+unfoldable pub opened_by : List Call → Machine → List OpenEnter → List OpenEnter
+opened_by [] m os = os
+opened_by (c ∷ cs) m os = opened_by cs (after c m) (open_after c (answer c m) m os)
 
 -- ---- one call, and a list of them
 
 pub call-keeps : (c : Convention) (x : Call) → CallFits x → (os : List OpenEnter) (m : Machine) → Invariant (rules c) os m
-    → Invariant (rules c) (openAfter x (answer x m) m os) (after x m)
+    → Invariant (rules c) (open_after x (answer x m) m os) (after x m)
 call-keeps c x w os m i = (step (rules c) (lawful c) x w os m i (answer x m) refl).1
 
 pub calls-keep : (c : Convention) (xs : List Call) → CallsFit xs → (os : List OpenEnter) (m : Machine) → Invariant (rules c) os m
-    → Invariant (rules c) (openedBy xs m os) (run xs m)
-unfolding openedBy run All
+    → Invariant (rules c) (opened_by xs m os) (run xs m)
+unfolding opened_by run All
 calls-keep c [] w os m i = i
-calls-keep c (x ∷ xs) w os m i = calls-keep c xs w.1 (openAfter x (answer x m) m os) (after x m) (call-keeps c x w.0 os m i)
+calls-keep c (x ∷ xs) w os m i = calls-keep c xs w.1 (open_after x (answer x m) m os) (after x m) (call-keeps c x w.0 os m i)
 
 -- a leave with an enter open is accepted, and preserves
 pub leave-holds : (c : Convention) (o : OpenEnter) (os : List OpenEnter) (m : Machine) → Invariant (rules c) (o ∷ os) m
     → (answer leave m ≡ Accepted) × Preserved (rules c) o os (after leave m)
-unfolding leaveOutcome
+unfolding leave_outcome
 leave-holds c o os m i =
     let k : FrameRules = rules c in
     let e : answer leave m ≡ Accepted
-    = subst (λ (r : FrameRules). leaveAnswer r m.state m.memory ≡ Accepted) (sym i.0.rules) (leave-accepted k (lawful c) o os m i) in
+    = subst (λ (r : FrameRules). leave_answer r m.state m.memory ≡ Accepted) (sym i.0.rules) (leave-accepted k (lawful c) o os m i) in
     (e, (step k (lawful c) leave tt (o ∷ os) m i Accepted e).0)
 
 -- ---- two lists of calls one after the other
@@ -57,10 +57,10 @@ unfolding run
 run-both [] ys m = refl
 run-both (x ∷ xs) ys m = run-both xs ys (after x m)
 
-pub opened_both : (xs ys : List Call) (m : Machine) (os : List OpenEnter) → openedBy (xs ++ ys) m os ≡ openedBy ys (run xs m) (openedBy xs m os)
-unfolding openedBy run
+pub opened_both : (xs ys : List Call) (m : Machine) (os : List OpenEnter) → opened_by (xs ++ ys) m os ≡ opened_by ys (run xs m) (opened_by xs m os)
+unfolding opened_by run
 opened_both [] ys m os = refl
-opened_both (x ∷ xs) ys m os = opened_both xs ys (after x m) (openAfter x (answer x m) m os)
+opened_both (x ∷ xs) ys m os = opened_both xs ys (after x m) (open_after x (answer x m) m os)
 
 pub accepted-both : (xs ys : List Call) (m : Machine) → AllAccepted xs m → AllAccepted ys (run xs m) → AllAccepted (xs ++ ys) m
 unfolding AllAccepted run

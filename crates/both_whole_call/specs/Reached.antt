@@ -2,11 +2,11 @@
 use Rattle.std.specs.Prelude.{ℕ, ◌≡◌, List, [], ◌∷◌, length}
 use Rattle.base_conventions.specs.declared.Convention.{Convention}
 use Rattle.frame_machine.specs.declared.FrameAnswer.TheVariants.{Accepted}
-use Rattle.frame_machine.specs.Machine.{startOutcome}
-use Rattle.frame_word_layout.specs.Words.{registersWords, registersIn}
+use Rattle.frame_machine.specs.Machine.{start_outcome}
+use Rattle.frame_word_layout.specs.Words.{registers_words, registers_in}
 use Rattle.frame_history.specs.Preserved.{OpenEnter, CallsFit}
 use Rattle.frame_word_history.specs.Calls.{Call, Lent, answer, after, run, fresh}
-use Rattle.frame_word_history.specs.Demand3.{callsIn, openedBy, WordsFit}
+use Rattle.frame_word_history.specs.Demand3.{calls_in, opened_by, WordsFit}
 
 -- every call of a list is accepted
 unfoldable pub AllAccepted : List Call → Lent → Type 0
@@ -19,8 +19,8 @@ pub record Reached (c : Convention) (os : List OpenEnter) (m : Lent) : Type 0 wh
   pub memory : List ℕ
   pub registers : List ℕ
   pub calls : List Call
-  pub registers-fit : WordsFit registersWords registers
-  pub started : (startOutcome c base (length memory) (registersIn registers 0)).answer ≡ Accepted
-  pub calls-fit : CallsFit (callsIn calls)
+  pub registers-fit : WordsFit registers_words registers
+  pub started : (start_outcome c base (length memory) (registers_in registers 0)).answer ≡ Accepted
+  pub calls-fit : CallsFit (calls_in calls)
   pub lent : run calls (fresh c base memory registers) ≡ m
-  pub opened : openedBy calls (fresh c base memory registers) [] ≡ os
+  pub opened : opened_by calls (fresh c base memory registers) [] ≡ os

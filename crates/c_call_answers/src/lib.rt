@@ -1,12 +1,12 @@
 // An answer of a call on values as an exported function answers it: number, place and count, in 64-bit words.
 ghost use Rattle.std.specs.Prelude.{◌≡◌};
-ghost use Rattle.c_call_answers.specs.Calls.{callAnswer};
+ghost use Rattle.c_call_answers.specs.Calls.{call_answer};
 
 use c_answers::Answer;
 use call_slots::CallAnswer;
 
 pub fn answer_of(a: CallAnswer) -> Answer
-    ensures { result ≡ callAnswer a }
+    ensures { result ≡ call_answer a }
 {
     match a {
         CallAnswer::Done => Answer {

@@ -3,9 +3,9 @@
 use Rattle.c_answers.specs.Answers.{answer_of, yes}
 use Rattle.frame_dump.specs.declared.Found.{Found}
 use Rattle.frame_dump.specs.declared.Found.TheVariants.{Frames, Refused}
-use Rattle.frame_dump.specs.Walk.{walkRefusalNumber, refusalPlace}
+use Rattle.frame_dump.specs.Walk.{walk_refusal_number, refusal_place}
 use Rattle.c_dump.specs.declared.WalkedDump.{WalkedDump}
 
-unfoldable pub walkedAnswer : Found → WalkedDump
-walkedAnswer (Frames n) = record { answer = yes; count = n }
-walkedAnswer (Refused r) = record { answer = answer_of (walkRefusalNumber r) (refusalPlace r); count = 0 }
+unfoldable pub walked_answer : Found → WalkedDump
+walked_answer (Frames n) = record { answer = yes; count = n }
+walked_answer (Refused r) = record { answer = answer_of (walk_refusal_number r) (refusal_place r); count = 0 }

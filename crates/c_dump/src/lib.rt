@@ -2,8 +2,8 @@
 ghost use Rattle.std.specs.Prelude.{◌≡◌, length};
 ghost use Rattle.base_conventions.specs.declared.Convention.TheVariants as convention;
 ghost use Rattle.frame_rules.specs.Rules.{rules};
-ghost use Rattle.frame_dump.specs.Walk.{walkInto, counted, framesListed};
-ghost use Rattle.c_dump.specs.Dump.{walkedAnswer};
+ghost use Rattle.frame_dump.specs.Walk.{walk_into, counted, frames_listed};
+ghost use Rattle.c_dump.specs.Dump.{walked_answer};
 
 use both_abi::{Aix, Ppc64, Z};
 use c_answers::Answer;
@@ -18,7 +18,7 @@ pub struct WalkedDump {
 }
 
 fn walked_of(f: Found) -> WalkedDump
-    ensures { result ≡ walkedAnswer f }
+    ensures { result ≡ walked_answer f }
 {
     match f {
         Found::Frames(n) => WalkedDump {
@@ -47,8 +47,8 @@ pub extern "C" fn fz_walk_dump_ppc64(
     pointer: u64,
     list: &mut [u64],
 ) -> WalkedDump
-    ensures value { result ≡ walkedAnswer (counted 0 (walkInto (rules convention.Ppc64) base memory.now pointer (length list.old))) }
-    ensures list_after { list.new ≡ framesListed (walkInto (rules convention.Ppc64) base memory.now pointer (length list.old)) list.old }
+    ensures value { result ≡ walked_answer (counted 0 (walk_into (rules convention.Ppc64) base memory.now pointer (length list.old))) }
+    ensures list_after { list.new ≡ frames_listed (walk_into (rules convention.Ppc64) base memory.now pointer (length list.old)) list.old }
 {
     let k = Ppc64::frame_rules();
     let f = frame_dump_walk::walk(memory, k, base, pointer, list);
@@ -62,8 +62,8 @@ pub extern "C" fn fz_walk_dump_z(
     pointer: u64,
     list: &mut [u64],
 ) -> WalkedDump
-    ensures value { result ≡ walkedAnswer (counted 0 (walkInto (rules convention.Z) base memory.now pointer (length list.old))) }
-    ensures list_after { list.new ≡ framesListed (walkInto (rules convention.Z) base memory.now pointer (length list.old)) list.old }
+    ensures value { result ≡ walked_answer (counted 0 (walk_into (rules convention.Z) base memory.now pointer (length list.old))) }
+    ensures list_after { list.new ≡ frames_listed (walk_into (rules convention.Z) base memory.now pointer (length list.old)) list.old }
 {
     let k = Z::frame_rules();
     let f = frame_dump_walk::walk(memory, k, base, pointer, list);
@@ -77,8 +77,8 @@ pub extern "C" fn fz_walk_dump_aix(
     pointer: u64,
     list: &mut [u64],
 ) -> WalkedDump
-    ensures value { result ≡ walkedAnswer (counted 0 (walkInto (rules convention.Aix) base memory.now pointer (length list.old))) }
-    ensures list_after { list.new ≡ framesListed (walkInto (rules convention.Aix) base memory.now pointer (length list.old)) list.old }
+    ensures value { result ≡ walked_answer (counted 0 (walk_into (rules convention.Aix) base memory.now pointer (length list.old))) }
+    ensures list_after { list.new ≡ frames_listed (walk_into (rules convention.Aix) base memory.now pointer (length list.old)) list.old }
 {
     let k = Aix::frame_rules();
     let f = frame_dump_walk::walk(memory, k, base, pointer, list);

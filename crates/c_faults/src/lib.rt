@@ -1,12 +1,12 @@
 // A reading's fault as an exported function answers it: number, place and the count of headers that had passed, in 64-bit words.
 ghost use Rattle.std.specs.Prelude.{◌≡◌};
-ghost use Rattle.c_faults.specs.Faults.{faultAnswer};
+ghost use Rattle.c_faults.specs.Faults.{fault_answer};
 
 use c_answers::Answer;
 use sig_items::Fault;
 
 pub fn fault_answer(f: Fault) -> Answer
-    ensures { result ≡ faultAnswer f }
+    ensures { result ≡ fault_answer f }
 {
     let reason = f.reason;
     Answer {

@@ -2,8 +2,8 @@
 // calls once is compiled in line.
 ghost use Rattle.std.specs.Prelude.{◌≡◌};
 ghost use Rattle.call_slots.specs.Buffers.{buffers};
-ghost use Rattle.call_fill.specs.Fill.{fillLengths, fillAnswer, fillBuffers};
-ghost use Rattle.c_call_answers.specs.Calls.{callAnswer};
+ghost use Rattle.call_fill.specs.Fill.{fill_lengths, fill_answer, fill_buffers};
+ghost use Rattle.c_call_answers.specs.Calls.{call_answer};
 
 use c_answers::Answer;
 
@@ -17,8 +17,8 @@ pub extern "C" fn fz_fill(
     base: u64,
     hidden: u64,
 ) -> Answer
-    ensures value { result ≡ callAnswer (fillAnswer sig.now (fillLengths values.now image.old area.old copies.old) base hidden) }
-    ensures copies_after { buffers image.new area.new copies.new ≡ fillBuffers sig.now values.now base hidden (fillAnswer sig.now (fillLengths values.now image.old area.old copies.old) base hidden) (buffers image.old area.old copies.old) }
+    ensures value { result ≡ call_answer (fill_answer sig.now (fill_lengths values.now image.old area.old copies.old) base hidden) }
+    ensures copies_after { buffers image.new area.new copies.new ≡ fill_buffers sig.now values.now base hidden (fill_answer sig.now (fill_lengths values.now image.old area.old copies.old) base hidden) (buffers image.old area.old copies.old) }
 {
     let a = call_fill::fill(sig, values, image, area, copies, base, hidden);
     c_call_answers::answer_of(a)

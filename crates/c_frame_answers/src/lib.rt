@@ -1,12 +1,12 @@
 // The answer of a call of the frame machine, as C sees it.
 ghost use Rattle.std.specs.Prelude.{◌≡◌};
-ghost use Rattle.c_frame_answers.specs.Frames.{frameAnswer};
+ghost use Rattle.c_frame_answers.specs.Frames.{frame_answer};
 
 use c_answers::Answer;
 use frame_machine::FrameAnswer;
 
 pub fn answer_of(a: FrameAnswer) -> Answer
-    ensures { result ≡ frameAnswer a }
+    ensures { result ≡ frame_answer a }
 {
     Answer {
         number: frame_machine::answer_number(a),

@@ -1,10 +1,10 @@
 // The surface for C and Rust on plans: the sizes of a call and its whole plan. It is an object of its own beside those on signatures and listings, so that each
 // has the planner's code where it is used.
 ghost use Rattle.std.specs.Prelude.{◌≡◌};
-ghost use Rattle.base_words.specs.Splice.{overlayWhole};
+ghost use Rattle.base_words.specs.Splice.{overlay_whole};
 ghost use Rattle.plan_plans.specs.Call.{call_of};
-ghost use Rattle.plan_words.specs.Entries.{entriesOf};
-ghost use Rattle.c_plans.specs.Plans.{sizesAnswer, plannedAnswer};
+ghost use Rattle.plan_words.specs.Entries.{entries_of};
+ghost use Rattle.c_plans.specs.Plans.{sizes_answer, planned_answer};
 
 use c_answers::Answer;
 use sig_signatures::Outcome;
@@ -40,7 +40,7 @@ pub struct PlanAnswer {
 
 #[unsafe(no_mangle)]
 pub extern "C" fn fz_measure(sig: &[u8]) -> Sizes
-    ensures { result ≡ sizesAnswer (call_of sig.now) }
+    ensures { result ≡ sizes_answer (call_of sig.now) }
 {
     let m = plan_measuring::measure(sig);
     let values = m.values as u64;
@@ -70,7 +70,7 @@ pub extern "C" fn fz_measure(sig: &[u8]) -> Sizes
 // The plan, with an entry for each argument at the head of the table where there is room for all of them.
 #[unsafe(no_mangle)]
 pub extern "C" fn fz_plan(sig: &[u8], places: &mut [u64]) -> PlanAnswer
-    ensures { (result ≡ plannedAnswer (call_of sig.now)) × (places.new ≡ overlayWhole places.old (entriesOf (call_of sig.now))) }
+    ensures { (result ≡ planned_answer (call_of sig.now)) × (places.new ≡ overlay_whole places.old (entries_of (call_of sig.now))) }
 {
     let p = plan_words::plan_words(sig, places);
     let outcome = p.outcome;

@@ -3,15 +3,15 @@ use mathlib.Core.Path.{◌≡◌}
 use Prim.Native.Nat.{ℕ, ◌≤◌, ◌<◌}
 use borrow.Author.Tests.{lt-ltb, le-ltb}
 use lib.ListN.{get_or}
-use Rattle.sig_signatures.specs.Limits.{maxArguments}
-use Rattle.second_parameters.specs.Values.{noParameter}
+use Rattle.sig_signatures.specs.Limits.{max_arguments}
+use Rattle.second_parameters.specs.Values.{no_parameter}
 use Rattle.second_planner.specs.declared.SecondPlan.{SecondPlan}
-use Rattle.c_second.specs.Words.{placeWords, noSecondPlace, placeAt}
+use Rattle.c_second.specs.Words.{place_words, no_second_place, place_at}
 
-pub place-within : (p : SecondPlan) (i : ℕ) → i < maxArguments → placeWords (get_or p.parameters i noParameter) ≡ placeAt p i
-unfolding placeAt
-place-within p i h = rw (lt-ltb i maxArguments h)
+pub place-within : (p : SecondPlan) (i : ℕ) → i < max_arguments → place_words (get_or p.parameters i no_parameter) ≡ place_at p i
+unfolding place_at
+place-within p i h = rw (lt-ltb i max_arguments h)
 
-pub place-past : (p : SecondPlan) (i : ℕ) → maxArguments ≤ i → noSecondPlace ≡ placeAt p i
-unfolding placeAt
-place-past p i h = rw (le-ltb i maxArguments h)
+pub place-past : (p : SecondPlan) (i : ℕ) → max_arguments ≤ i → no_second_place ≡ place_at p i
+unfolding place_at
+place-past p i h = rw (le-ltb i max_arguments h)

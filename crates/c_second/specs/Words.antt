@@ -3,48 +3,48 @@ use Rattle.std.specs.Prelude.{ℕ, Bool, get_or, ltb}
 use Rattle.base_words.specs.Basics.{pick, flag}
 use Rattle.base_conventions.specs.Numbers.{code_of}
 use Rattle.sig_signatures.specs.declared.Outcome.{Outcome}
-use Rattle.sig_signatures.specs.Limits.{maxArguments}
+use Rattle.sig_signatures.specs.Limits.{max_arguments}
 use Rattle.second_parameters.specs.declared.Run.{Run}
 use Rattle.second_parameters.specs.declared.Parameter.{Parameter}
 use Rattle.second_parameters.specs.declared.Returned.{Returned}
-use Rattle.second_parameters.specs.Values.{noParameter}
+use Rattle.second_parameters.specs.Values.{no_parameter}
 use Rattle.second_planner.specs.declared.SecondPlan.{SecondPlan}
 use Rattle.c_answers.specs.declared.Answer.{Answer}
-use Rattle.c_faults.specs.Faults.{faultAnswer}
+use Rattle.c_faults.specs.Faults.{fault_answer}
 use Rattle.c_second.specs.declared.ReturnedWords.{ReturnedWords}
 use Rattle.c_second.specs.declared.SecondAnswer.{SecondAnswer}
 use Rattle.c_second.specs.declared.SecondPlace.{SecondPlace}
 
 -- accepted, with the count of items, or refused
-abbrev pub outcomeWords : Outcome → Answer
-outcomeWords (Outcome.Accepted n) = record { number = 0; place = 0; items = n }
-outcomeWords (Outcome.Refused f) = faultAnswer f
+abbrev pub outcome_words : Outcome → Answer
+outcome_words (Outcome.Accepted n) = record { number = 0; place = 0; items = n }
+outcome_words (Outcome.Refused f) = fault_answer f
 
-abbrev runWords : ℕ → Run → ReturnedWords
-runWords kind r = record { kind = kind; first = r.first; count = r.count }
+abbrev run_words : ℕ → Run → ReturnedWords
+run_words kind r = record { kind = kind; first = r.first; count = r.count }
 
-abbrev pub returnedWords : Returned → ReturnedWords
-returnedWords Returned.Nothing = record { kind = 0; first = 0; count = 0 }
-returnedWords (Returned.General r) = runWords 1 r
-returnedWords (Returned.Floating r) = runWords 2 r
-returnedWords (Returned.Hidden r) = runWords 3 r
+abbrev pub returned_words : Returned → ReturnedWords
+returned_words Returned.Nothing = record { kind = 0; first = 0; count = 0 }
+returned_words (Returned.General r) = run_words 1 r
+returned_words (Returned.Floating r) = run_words 2 r
+returned_words (Returned.Hidden r) = run_words 3 r
 
-abbrev pub secondPlanWords : SecondPlan → SecondAnswer
-secondPlanWords p = record {
-  answer = outcomeWords p.outcome;
+abbrev pub second_plan_words : SecondPlan → SecondAnswer
+second_plan_words p = record {
+  answer = outcome_words p.outcome;
   convention = code_of p.convention;
   ellipsis = flag p.ellipsis;
   arguments = p.count;
   values = p.values;
   area = p.area;
   copies = p.copies;
-  result = (returnedWords p.result).kind;
-  result_first = (returnedWords p.result).first;
-  result_count = (returnedWords p.result).count;
+  result = (returned_words p.result).kind;
+  result_first = (returned_words p.result).first;
+  result_count = (returned_words p.result).count;
 }
 
-abbrev pub placeWords : Parameter → SecondPlace
-placeWords p = record {
+abbrev pub place_words : Parameter → SecondPlace
+place_words p = record {
   gpr = p.general.first;
   gprs = p.general.count;
   fpr = p.floating.first;
@@ -59,8 +59,8 @@ placeWords p = record {
 }
 
 -- of argument number i; a table has no more places than a signature may have arguments
-abbrev pub noSecondPlace : SecondPlace
-noSecondPlace = placeWords noParameter
+abbrev pub no_second_place : SecondPlace
+no_second_place = place_words no_parameter
 
-unfoldable pub placeAt : SecondPlan → ℕ → SecondPlace
-placeAt p i = pick (ltb i maxArguments) (placeWords (get_or p.parameters i noParameter)) noSecondPlace
+unfoldable pub place_at : SecondPlan → ℕ → SecondPlace
+place_at p i = pick (ltb i max_arguments) (place_words (get_or p.parameters i no_parameter)) no_second_place

@@ -1,8 +1,8 @@
 // The second planner for programs that are held to it: its plan and each argument's places, in 64-bit words. It is no part of the library.
 ghost use Rattle.std.specs.Prelude.{◌≡◌};
 ghost use Rattle.sig_signatures.specs.Read.{signature_of};
-ghost use Rattle.second_planner.specs.Answer.{secondAnswer};
-ghost use Rattle.c_second.specs.Words.{outcomeWords, returnedWords, secondPlanWords, placeWords, noSecondPlace, placeAt};
+ghost use Rattle.second_planner.specs.Answer.{second_answer};
+ghost use Rattle.c_second.specs.Words.{outcome_words, returned_words, second_plan_words, place_words, no_second_place, place_at};
 
 use c_answers::Answer;
 use second_parameters::{Parameter, Returned};
@@ -51,7 +51,7 @@ pub struct SecondPlace {
 }
 
 fn outcome_words(o: Outcome) -> Answer
-    ensures { result ≡ outcomeWords o }
+    ensures { result ≡ outcome_words o }
 {
     match o {
         Outcome::Accepted(n) => Answer {
@@ -64,7 +64,7 @@ fn outcome_words(o: Outcome) -> Answer
 }
 
 fn returned_words(r: Returned) -> ReturnedWords
-    ensures { result ≡ returnedWords r }
+    ensures { result ≡ returned_words r }
 {
     match r {
         Returned::Nothing => ReturnedWords {
@@ -91,7 +91,7 @@ fn returned_words(r: Returned) -> ReturnedWords
 }
 
 fn place_words(p: Parameter) -> SecondPlace
-    ensures { result ≡ placeWords p }
+    ensures { result ≡ place_words p }
 {
     let general = p.general;
     let floating = p.floating;
@@ -115,7 +115,7 @@ fn place_words(p: Parameter) -> SecondPlace
 
 #[unsafe(no_mangle)]
 pub extern "C" fn fz_second_plan(sig: &[u8]) -> SecondAnswer
-    ensures { result ≡ secondPlanWords (secondAnswer (signature_of sig.now)) }
+    ensures { result ≡ second_plan_words (second_answer (signature_of sig.now)) }
 {
     let p = second_planner::second_plan_of(sig);
     let outcome = p.outcome;
@@ -139,7 +139,7 @@ pub extern "C" fn fz_second_plan(sig: &[u8]) -> SecondAnswer
 // The places of argument number `index`, counted from 0; all 0 where there is none.
 #[unsafe(no_mangle)]
 pub extern "C" fn fz_second_place(sig: &[u8], index: u64) -> SecondPlace
-    ensures { result ≡ placeAt (secondAnswer (signature_of sig.now)) index }
+    ensures { result ≡ place_at (second_answer (signature_of sig.now)) index }
 {
     let i = index as usize;
     if i < MAX_ARGUMENTS {

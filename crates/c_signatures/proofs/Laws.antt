@@ -6,19 +6,19 @@ use Rattle.sig_items.specs.declared.Fault.{Fault}
 use Rattle.sig_items.specs.Reading.{Reading, got, no}
 use Rattle.sig_signatures.specs.declared.Outcome.{Outcome}
 use Rattle.sig_signatures.specs.Signature.{Signature}
-use Rattle.sig_signatures.specs.Answer.{signatureAnswer}
+use Rattle.sig_signatures.specs.Answer.{signature_answer}
 use Rattle.c_answers.specs.declared.Answer.{Answer}
-use Rattle.c_faults.specs.Faults.{faultAnswer}
-use Rattle.c_signatures.specs.Surface.{readingAnswer}
+use Rattle.c_faults.specs.Faults.{fault_answer}
+use Rattle.c_signatures.specs.Surface.{reading_answer}
 
 module _ (o : Outcome) where
-  pub accepted-answer : (x : Reading Signature) → o ≡ (signatureAnswer x).outcome → (n : ℕ) → o ≡ Outcome.Accepted n →
-      ◌≡◌ {A = Answer} (record { number = 0; place = 0; items = n }) (readingAnswer x)
-  unfolding readingAnswer
+  pub accepted-answer : (x : Reading Signature) → o ≡ (signature_answer x).outcome → (n : ℕ) → o ≡ Outcome.Accepted n →
+      ◌≡◌ {A = Answer} (record { number = 0; place = 0; items = n }) (reading_answer x)
+  unfolding reading_answer
   accepted-answer (got g next k) e n q = let same : n ≡ k = cc in cc
   accepted-answer (no f) e n q = let z : ◌≡◌ {A = ℕ} 0 1 = cc in absurd (omega arith)
 
-  pub refused-answer : (x : Reading Signature) → o ≡ (signatureAnswer x).outcome → (f : Fault) → o ≡ Outcome.Refused f → faultAnswer f ≡ readingAnswer x
-  unfolding readingAnswer
+  pub refused-answer : (x : Reading Signature) → o ≡ (signature_answer x).outcome → (f : Fault) → o ≡ Outcome.Refused f → fault_answer f ≡ reading_answer x
+  unfolding reading_answer
   refused-answer (got g next k) e f q = let z : ◌≡◌ {A = ℕ} 0 1 = cc in absurd (omega arith)
-  refused-answer (no g) e f q = let same : f ≡ g = cc in ap faultAnswer same
+  refused-answer (no g) e f q = let same : f ≡ g = cc in ap fault_answer same

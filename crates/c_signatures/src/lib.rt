@@ -4,7 +4,7 @@ ghost use Rattle.std.specs.Prelude.{◌≡◌, ◌%◌, ◌^◌};
 ghost use Rattle.base_ieee.specs.Widening.{widen};
 ghost use Rattle.base_ieee.specs.Narrowing.{narrow};
 ghost use Rattle.sig_signatures.specs.Read.{signature_of};
-ghost use Rattle.c_signatures.specs.Surface.{readingAnswer, narrowingAnswer, version};
+ghost use Rattle.c_signatures.specs.Surface.{reading_answer, narrowing_answer, version};
 
 use base_ieee::Narrowed;
 use c_answers::Answer;
@@ -29,7 +29,7 @@ pub extern "C" fn fz_version() -> u64
 
 #[unsafe(no_mangle)]
 pub extern "C" fn fz_read_signature(sig: &[u8]) -> Answer
-    ensures { result ≡ readingAnswer (signature_of sig.now) }
+    ensures { result ≡ reading_answer (signature_of sig.now) }
 {
     match plan_measuring::outcome_of(sig) {
         Outcome::Accepted(items) => Answer {
@@ -51,7 +51,7 @@ pub extern "C" fn fz_widen(bits: u64) -> u64
 
 #[unsafe(no_mangle)]
 pub extern "C" fn fz_narrow(bits: u64) -> NarrowingAnswer
-    ensures { result ≡ narrowingAnswer (narrow bits) }
+    ensures { result ≡ narrowing_answer (narrow bits) }
 {
     match base_ieee::narrow(bits) {
         Narrowed::Single(x) => NarrowingAnswer {

@@ -2,10 +2,10 @@
 // the convention, the registers as handed in and all else 0.
 ghost use Rattle.std.specs.Prelude.{◌≡◌, length};
 ghost use Rattle.base_conventions.specs.declared.Convention.TheVariants.{Ppc64, Z, Aix, Ppc64b};
-ghost use Rattle.frame_machine.specs.Machine.{startOutcome, startMemory};
-ghost use Rattle.frame_word_layout.specs.Words.{registersIn};
-ghost use Rattle.frame_word_layout.specs.Calls.{startWords};
-ghost use Rattle.c_frame_answers.specs.Frames.{frameAnswer};
+ghost use Rattle.frame_machine.specs.Machine.{start_outcome, start_memory};
+ghost use Rattle.frame_word_layout.specs.Words.{registers_in};
+ghost use Rattle.frame_word_layout.specs.Calls.{start_words};
+ghost use Rattle.c_frame_answers.specs.Frames.{frame_answer};
 
 use c_answers::Answer;
 use frame_word_layout::{MACHINE_WORDS, REGISTERS_WORDS};
@@ -18,9 +18,9 @@ pub extern "C" fn fz_start_ppc64(
     base: u64,
     memory: &mut [u8],
 ) -> Answer
-    ensures value { result ≡ frameAnswer (startOutcome Ppc64 base (length memory.old) (registersIn registers.now 0)).answer }
-    ensures machine_after { machine.new ≡ startWords Ppc64 registers.now base (length memory.old) }
-    ensures memory_after { memory.new ≡ startMemory Ppc64 base memory.old }
+    ensures value { result ≡ frame_answer (start_outcome Ppc64 base (length memory.old) (registers_in registers.now 0)).answer }
+    ensures machine_after { machine.new ≡ start_words Ppc64 registers.now base (length memory.old) }
+    ensures memory_after { memory.new ≡ start_memory Ppc64 base memory.old }
 {
     let a = frame_word_starts::start_ppc64(machine, registers, base, memory);
     c_frame_answers::answer_of(a)
@@ -33,9 +33,9 @@ pub extern "C" fn fz_start_z(
     base: u64,
     memory: &mut [u8],
 ) -> Answer
-    ensures value { result ≡ frameAnswer (startOutcome Z base (length memory.old) (registersIn registers.now 0)).answer }
-    ensures machine_after { machine.new ≡ startWords Z registers.now base (length memory.old) }
-    ensures memory_after { memory.new ≡ startMemory Z base memory.old }
+    ensures value { result ≡ frame_answer (start_outcome Z base (length memory.old) (registers_in registers.now 0)).answer }
+    ensures machine_after { machine.new ≡ start_words Z registers.now base (length memory.old) }
+    ensures memory_after { memory.new ≡ start_memory Z base memory.old }
 {
     let a = frame_word_starts::start_z(machine, registers, base, memory);
     c_frame_answers::answer_of(a)
@@ -49,9 +49,9 @@ pub extern "C" fn fz_start_aix(
     base: u64,
     memory: &mut [u8],
 ) -> Answer
-    ensures value { result ≡ frameAnswer (startOutcome Aix base (length memory.old) (registersIn registers.now 0)).answer }
-    ensures machine_after { machine.new ≡ startWords Aix registers.now base (length memory.old) }
-    ensures memory_after { memory.new ≡ startMemory Aix base memory.old }
+    ensures value { result ≡ frame_answer (start_outcome Aix base (length memory.old) (registers_in registers.now 0)).answer }
+    ensures machine_after { machine.new ≡ start_words Aix registers.now base (length memory.old) }
+    ensures memory_after { memory.new ≡ start_memory Aix base memory.old }
 {
     let a = frame_word_starts::start_aix(machine, registers, base, memory);
     c_frame_answers::answer_of(a)
@@ -65,9 +65,9 @@ pub extern "C" fn fz_start_ppc64b(
     base: u64,
     memory: &mut [u8],
 ) -> Answer
-    ensures value { result ≡ frameAnswer (startOutcome Ppc64b base (length memory.old) (registersIn registers.now 0)).answer }
-    ensures machine_after { machine.new ≡ startWords Ppc64b registers.now base (length memory.old) }
-    ensures memory_after { memory.new ≡ startMemory Ppc64b base memory.old }
+    ensures value { result ≡ frame_answer (start_outcome Ppc64b base (length memory.old) (registers_in registers.now 0)).answer }
+    ensures machine_after { machine.new ≡ start_words Ppc64b registers.now base (length memory.old) }
+    ensures memory_after { memory.new ≡ start_memory Ppc64b base memory.old }
 {
     let a = frame_word_starts::start_ppc64b(machine, registers, base, memory);
     c_frame_answers::answer_of(a)

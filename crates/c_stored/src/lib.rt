@@ -3,10 +3,10 @@
 ghost use Rattle.std.specs.Prelude.{◌≡◌, length};
 ghost use Rattle.c_answers.specs.Answers.{answer_of};
 ghost use Rattle.call_slots.specs.Buffers.{buffers};
-ghost use Rattle.call_fill.specs.Fill.{fillLengths};
-ghost use Rattle.plan_stored.specs.Stored.{lengthAnswer, storeAnswer, storedBuffer, checkAnswer};
-ghost use Rattle.call_fill_stored.specs.FillStored.{storedFillAnswer, storedFillBuffers};
-ghost use Rattle.c_stored.specs.Stored.{storedWords, checkWords, storedFillWords};
+ghost use Rattle.call_fill.specs.Fill.{fill_lengths};
+ghost use Rattle.plan_stored.specs.Stored.{length_answer, store_answer, stored_buffer, check_answer};
+ghost use Rattle.call_fill_stored.specs.FillStored.{stored_fill_answer, stored_fill_buffers};
+ghost use Rattle.c_stored.specs.Stored.{stored_words, check_words, stored_fill_words};
 
 use c_answers::Answer;
 use call_fill_stored::StoredFill;
@@ -32,7 +32,7 @@ fn answer_of(number: u64, place: u64) -> Answer
 }
 
 fn stored_words(a: StoreAnswer) -> Stored
-    ensures { result ≡ storedWords a }
+    ensures { result ≡ stored_words a }
 {
     match a {
         StoreAnswer::Stored(n) => Stored {
@@ -51,7 +51,7 @@ fn stored_words(a: StoreAnswer) -> Stored
 }
 
 fn check_words(a: CheckAnswer) -> Answer
-    ensures { result ≡ checkWords a }
+    ensures { result ≡ check_words a }
 {
     match a {
         CheckAnswer::Same => answer_of(0, 0),
@@ -61,7 +61,7 @@ fn check_words(a: CheckAnswer) -> Answer
 }
 
 fn stored_fill_words(a: StoredFill) -> Answer
-    ensures { result ≡ storedFillWords a }
+    ensures { result ≡ stored_fill_words a }
 {
     match a {
         StoredFill::Plain(plain) => c_call_answers::answer_of(plain),
@@ -71,7 +71,7 @@ fn stored_fill_words(a: StoredFill) -> Answer
 
 #[unsafe(no_mangle)]
 pub extern "C" fn fz_stored_length(sig: &[u8]) -> Stored
-    ensures { result ≡ storedWords (lengthAnswer sig.now) }
+    ensures { result ≡ stored_words (length_answer sig.now) }
 {
     let a = plan_stored::stored_length(sig);
     stored_words(a)
@@ -80,7 +80,7 @@ pub extern "C" fn fz_stored_length(sig: &[u8]) -> Stored
 // The plan of a signature at the head of the stored bytes, where there is room for all of it.
 #[unsafe(no_mangle)]
 pub extern "C" fn fz_store_plan(sig: &[u8], stored: &mut [u8]) -> Stored
-    ensures { (result ≡ storedWords (storeAnswer sig.now (length stored.old))) × (stored.new ≡ storedBuffer sig.now stored.old) }
+    ensures { (result ≡ stored_words (store_answer sig.now (length stored.old))) × (stored.new ≡ stored_buffer sig.now stored.old) }
 {
     let a = plan_stored::store_plan(sig, stored);
     stored_words(a)
@@ -89,7 +89,7 @@ pub extern "C" fn fz_store_plan(sig: &[u8], stored: &mut [u8]) -> Stored
 // Whether the stored bytes are what `fz_store_plan` would write for this signature.
 #[unsafe(no_mangle)]
 pub extern "C" fn fz_check_plan(stored: &[u8], sig: &[u8]) -> Answer
-    ensures { result ≡ checkWords (checkAnswer stored.now sig.now) }
+    ensures { result ≡ check_words (check_answer stored.now sig.now) }
 {
     let a = plan_stored::check_plan(stored, sig);
     check_words(a)
@@ -107,8 +107,8 @@ pub extern "C" fn fz_fill_stored(
     base: u64,
     hidden: u64,
 ) -> Answer
-    ensures value { result ≡ storedFillWords (storedFillAnswer stored.now sig.now (fillLengths values.now image.old area.old copies.old) base hidden) }
-    ensures copies_after { buffers image.new area.new copies.new ≡ storedFillBuffers stored.now sig.now values.now (fillLengths values.now image.old area.old copies.old) base hidden (buffers image.old area.old copies.old) }
+    ensures value { result ≡ stored_fill_words (stored_fill_answer stored.now sig.now (fill_lengths values.now image.old area.old copies.old) base hidden) }
+    ensures copies_after { buffers image.new area.new copies.new ≡ stored_fill_buffers stored.now sig.now values.now (fill_lengths values.now image.old area.old copies.old) base hidden (buffers image.old area.old copies.old) }
 {
     let a = call_fill_stored::fill_stored(stored, sig, values, image, area, copies, base, hidden);
     stored_fill_words(a)

@@ -3,14 +3,14 @@
 ghost use Rattle.std.specs.Prelude.{◌≡◌};
 ghost use Rattle.sig_signatures.specs.Read.{signature_of};
 ghost use Rattle.call_slots.specs.Buffers.{buffers};
-ghost use Rattle.call_walker.specs.Words.{walkStartAnswer, walkerStartWords, walkerStep};
-ghost use Rattle.c_walk.specs.Walk.{walkAnswer};
+ghost use Rattle.call_walker.specs.Words.{walk_start_answer, walker_start_words, walker_step};
+ghost use Rattle.c_walk.specs.Walk.{walk_answer};
 
 use c_answers::Answer;
 use call_walker::{WALKER_WORDS, WalkerAnswer};
 
 fn answer_of(a: WalkerAnswer) -> Answer
-    ensures { result ≡ walkAnswer a }
+    ensures { result ≡ walk_answer a }
 {
     match a {
         WalkerAnswer::Lost => Answer {
@@ -24,8 +24,8 @@ fn answer_of(a: WalkerAnswer) -> Answer
 
 #[unsafe(no_mangle)]
 pub extern "C" fn fz_walk_start(walker: &mut [u64; WALKER_WORDS], sig: &[u8]) -> Answer
-    ensures value { result ≡ walkAnswer (walkStartAnswer (signature_of sig.now)) }
-    ensures walker_after { walker.new ≡ walkerStartWords (signature_of sig.now) walker.old }
+    ensures value { result ≡ walk_answer (walk_start_answer (signature_of sig.now)) }
+    ensures walker_after { walker.new ≡ walker_start_words (signature_of sig.now) walker.old }
 {
     let a = call_walking::start(walker, sig);
     answer_of(a)
@@ -41,9 +41,9 @@ pub extern "C" fn fz_walk(
     copies: &[u8],
     base: u64,
 ) -> Answer
-    ensures value { result ≡ walkAnswer (walkerStep walker.old item.now base (buffers image.now area.now copies.now) value.old).answer }
-    ensures walker_after { walker.new ≡ (walkerStep walker.old item.now base (buffers image.now area.now copies.now) value.old).words }
-    ensures value_after { value.new ≡ (walkerStep walker.old item.now base (buffers image.now area.now copies.now) value.old).value }
+    ensures value { result ≡ walk_answer (walker_step walker.old item.now base (buffers image.now area.now copies.now) value.old).answer }
+    ensures walker_after { walker.new ≡ (walker_step walker.old item.now base (buffers image.now area.now copies.now) value.old).words }
+    ensures value_after { value.new ≡ (walker_step walker.old item.now base (buffers image.now area.now copies.now) value.old).value }
 {
     let a = call_walking::walk(walker, item, value, image, area, copies, base);
     answer_of(a)

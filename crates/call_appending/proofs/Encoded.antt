@@ -8,10 +8,10 @@ use lib.ListN.{length}
 use Rattle.base_conventions.specs.declared.Convention.{Convention}
 use Rattle.sig_types.specs.Trees.{Trees, none, ◌▸◌, count_of}
 use Rattle.sig_types.specs.Limits.{AllWithin}
-use Rattle.sig_items.specs.Encode.{encodeTrees}
+use Rattle.sig_items.specs.Encode.{encode_trees}
 use Rattle.sig_items.proofs.Trees.{length_more}
 use Rattle.sig_signatures.specs.Signature.{Result, Signature}
-use Rattle.sig_signatures.specs.Encode.{encodeResult, encode, SignatureWithin}
+use Rattle.sig_signatures.specs.Encode.{encode_result, encode, SignatureWithin}
 use Rattle.sig_signatures.proofs.Sound.{length-encode}
 use Rattle.call_appending.specs.Appending.{joined, Appends}
 use Rattle.call_appending.proofs.Folds.{joined-count}
@@ -32,7 +32,7 @@ unfolding AllWithin joined
 joined-within c ts none h = h
 joined-within c ts (us ▸ u) h = joined-within c ts us h.0
 
-joined_length : (ts us : Trees) → length (encodeTrees ts) ≤ length (encodeTrees (joined ts us))
+joined_length : (ts us : Trees) → length (encode_trees ts) ≤ length (encode_trees (joined ts us))
 unfolding joined
 joined_length ts none = omega arith
 joined_length ts (us ▸ u) = omega (arith, joined_length ts us, length_more (joined ts us) u)

@@ -8,11 +8,11 @@ use Rattle.sig_items.specs.Reading.{Reading, got, no}
 use Rattle.sig_signatures.specs.declared.Outcome.{Outcome}
 use Rattle.sig_signatures.specs.Signature.{Signature}
 use Rattle.sig_signatures.specs.Read.{signature_of}
-use Rattle.sig_signatures.specs.Encode.{encode, signatureItems}
-use Rattle.plan_plans.specs.Plan.{planAnswer}
-use Rattle.plan_plans.specs.Call.{call_of, outcomeFor}
-use Rattle.plan_plans.specs.Disjoint.{spanAt}
-use Rattle.plan_words.specs.Entries.{valueStart, entry_at}
+use Rattle.sig_signatures.specs.Encode.{encode, signature_items}
+use Rattle.plan_plans.specs.Plan.{plan_answer}
+use Rattle.plan_plans.specs.Call.{call_of, outcome_for}
+use Rattle.plan_plans.specs.Disjoint.{span_at}
+use Rattle.plan_words.specs.Entries.{value_start, entry_at}
 
 -- ---- which signatures
 
@@ -45,20 +45,20 @@ pub record Appended (s u : List ℕ) : Type 0 where
 
 -- of the readings x and y of two calls: "never changes a place, offset, or copy position of any earlier argument"
 pub record AppendingKeeps (x y : Reading Signature) : Type 0 where
-  pub convention : (planAnswer y).convention ≡ (planAnswer x).convention
-  pub ellipsis : (planAnswer y).ellipsis ≡ (planAnswer x).ellipsis
-  pub result : (planAnswer y).result ≡ (planAnswer x).result
-  pub count : (planAnswer x).count ≤ (planAnswer y).count
+  pub convention : (plan_answer y).convention ≡ (plan_answer x).convention
+  pub ellipsis : (plan_answer y).ellipsis ≡ (plan_answer x).ellipsis
+  pub result : (plan_answer y).result ≡ (plan_answer x).result
+  pub count : (plan_answer x).count ≤ (plan_answer y).count
   -- an argument's registers, its home and its memory in the area, and its copy
-  pub places : (i : ℕ) → i < (planAnswer x).count → spanAt (planAnswer y) i ≡ spanAt (planAnswer x) i
+  pub places : (i : ℕ) → i < (plan_answer x).count → span_at (plan_answer y) i ≡ span_at (plan_answer x) i
   -- where its value starts among the values
-  pub offset : (i : ℕ) → i < (planAnswer x).count → valueStart y i ≡ valueStart x i
+  pub offset : (i : ℕ) → i < (plan_answer x).count → value_start y i ≡ value_start x i
   -- all words that a program is told of it
-  pub words : (i : ℕ) → i < (planAnswer x).count → entry_at y i ≡ entry_at x i
+  pub words : (i : ℕ) → i < (plan_answer x).count → entry_at y i ≡ entry_at x i
   -- "The area may only grow"; so may values and copies
-  pub area : (planAnswer x).area ≤ (planAnswer y).area
-  pub values : (planAnswer x).values ≤ (planAnswer y).values
-  pub copies : (planAnswer x).copies ≤ (planAnswer y).copies
+  pub area : (plan_answer x).area ≤ (plan_answer y).area
+  pub values : (plan_answer x).values ≤ (plan_answer y).values
+  pub copies : (plan_answer x).copies ≤ (plan_answer y).copies
 
 -- ---- the claims
 
@@ -68,12 +68,12 @@ pub record Stays (s u : List ℕ) : Type 0 where
   pub kept : AppendingKeeps (call_of s) (call_of u)
 
 abbrev pub PlacesStay : Type 0
-PlacesStay = (s u : List ℕ) → Appended s u → (n : ℕ) → outcomeFor u ≡ Outcome.Accepted n → Stays s u
+PlacesStay = (s u : List ℕ) → Appended s u → (n : ℕ) → outcome_for u ≡ Outcome.Accepted n → Stays s u
 
 -- from the longer one's bytes alone: the shorter one can be written, and is accepted
 abbrev pub ShorterAccepted : Type 0
 ShorterAccepted = (u : List ℕ) (g h : Signature) (next n : ℕ) → call_of u ≡ got h next n → Appends g h
-    → call_of (encode g) ≡ got g (length (encode g)) (signatureItems g)
+    → call_of (encode g) ≡ got g (length (encode g)) (signature_items g)
 
 -- 29, which planning alone gives: where it refuses the shorter one, it refuses the longer one at the same place
 abbrev pub RefusedAlike : Type 0

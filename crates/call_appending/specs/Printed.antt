@@ -3,30 +3,30 @@
 use Rattle.std.specs.Prelude.{ℕ, ◌≡◌, List, ◌++◌, take}
 use Rattle.sig_signatures.specs.declared.Outcome.{Outcome}
 use Rattle.plan_plans.specs.declared.Plan.{Plan}
-use Rattle.plan_plans.specs.Plan.{planAnswer}
-use Rattle.plan_plans.specs.Call.{call_of, outcomeFor}
-use Rattle.plan_listing.specs.Text.{linesText, headText, resultText, listingOf}
+use Rattle.plan_plans.specs.Plan.{plan_answer}
+use Rattle.plan_plans.specs.Call.{call_of, outcome_for}
+use Rattle.plan_listing.specs.Text.{lines_text, head_text, result_text, listing_of}
 use Rattle.call_appending.specs.Appending.{Appended}
 
-abbrev pub callPlan : List ℕ → Plan
-callPlan s = planAnswer (call_of s)
+abbrev pub call_plan : List ℕ → Plan
+call_plan s = plan_answer (call_of s)
 
 -- the first line, with the count of arguments and the area
-abbrev pub firstLine : List ℕ → List ℕ
-firstLine s = headText (callPlan s).convention (callPlan s).ellipsis (callPlan s).count (callPlan s).area
+abbrev pub first_line : List ℕ → List ℕ
+first_line s = head_text (call_plan s).convention (call_plan s).ellipsis (call_plan s).count (call_plan s).area
 
 -- the lines of the arguments
-abbrev pub argumentLines : List ℕ → List ℕ
-argumentLines s = linesText (callPlan s).convention 0 (take (callPlan s).count (callPlan s).spans)
+abbrev pub argument_lines : List ℕ → List ℕ
+argument_lines s = lines_text (call_plan s).convention 0 (take (call_plan s).count (call_plan s).spans)
 
-abbrev pub lastLine : List ℕ → List ℕ
-lastLine s = resultText (callPlan s).result
+abbrev pub last_line : List ℕ → List ℕ
+last_line s = result_text (call_plan s).result
 
 -- the arguments' lines of s stand in the listing of u byte for byte, and those of the appended ones after them; the last line is the same
 pub record LinesKept (s u : List ℕ) : Type 0 where
   pub more : List ℕ
-  pub shorter : listingOf s ≡ firstLine s ++ (argumentLines s ++ lastLine s)
-  pub longer : listingOf u ≡ firstLine u ++ ((argumentLines s ++ more) ++ lastLine s)
+  pub shorter : listing_of s ≡ first_line s ++ (argument_lines s ++ last_line s)
+  pub longer : listing_of u ≡ first_line u ++ ((argument_lines s ++ more) ++ last_line s)
 
 abbrev pub LinesStay : Type 0
-LinesStay = (s u : List ℕ) → Appended s u → (n : ℕ) → outcomeFor u ≡ Outcome.Accepted n → LinesKept s u
+LinesStay = (s u : List ℕ) → Appended s u → (n : ℕ) → outcome_for u ≡ Outcome.Accepted n → LinesKept s u

@@ -9,18 +9,18 @@ use Rattle.sig_signatures.specs.declared.HeadRead.{HeadRead}
 use Rattle.sig_signatures.specs.declared.Outcome.{Outcome}
 use Rattle.sig_signatures.specs.Signature.{Signature}
 use Rattle.sig_signatures.specs.Read.{head_of}
-use Rattle.sig_signatures.specs.Answer.{headAnswer}
+use Rattle.sig_signatures.specs.Answer.{head_answer}
 use Rattle.sig_signatures.specs.Types.{types_of}
-use Rattle.sig_reader.specs.Argument.{unclearFault}
-use Rattle.plan_places.specs.Step.{rulesOf, withEllipsis}
-use Rattle.plan_plans.specs.Plan.{spansOf, start_in}
+use Rattle.sig_reader.specs.Argument.{unclear_fault}
+use Rattle.plan_places.specs.Step.{rules_of, with_ellipsis}
+use Rattle.plan_plans.specs.Plan.{spans_of, start_in}
 use Rattle.call_slots.specs.Placements.{placements}
-use Rattle.call_slots.specs.Arguments.{argumentsOf}
-use Rattle.call_kept.specs.Helpers.{rowLength, keptAll}
+use Rattle.call_slots.specs.Arguments.{arguments_of}
+use Rattle.call_kept.specs.Helpers.{row_length, kept_all}
 
 -- what stands before the arguments is read as this
 abbrev pub HeadIs : List ℕ → Convention → ResultType → Bool → ℕ → ℕ → ℕ → Type 0
-HeadIs s c r v at e n = headAnswer (head_of s) ≡ HeadRead.Head c r v at e n
+HeadIs s c r v at e n = head_answer (head_of s) ≡ HeadRead.Head c r v at e n
 
 -- and nothing follows it
 abbrev pub NoneLeft : List ℕ → Convention → ResultType → ℕ → ℕ → Type 0
@@ -29,13 +29,13 @@ NoneLeft s c r e n = (v : Bool) × HeadIs s c r v e e n
 -- n words hold the arguments that are read, in a signature of `all` bytes, with an ellipsis or without; of a refused reading nothing is said
 abbrev pub KeptWith : Convention → Bool → ResultType → ℕ → Reading Trees → List ℕ → ℕ → Type 0
 KeptWith c v r all (got ts next m) l n =
-    ltb next all ≡ false → (rowLength * n ≤ length l) × (keptAll c l n ≡ placements c (types_of c ts) (spansOf c (withEllipsis v (rulesOf c)) (start_in c r) (types_of c ts)))
+    ltb next all ≡ false → (row_length * n ≤ length l) × (kept_all c l n ≡ placements c (types_of c ts) (spans_of c (with_ellipsis v (rules_of c)) (start_in c r) (types_of c ts)))
 KeptWith c v r all (no f) l n = Unit {0}
 
 -- the words l hold the n arguments of a signature's bytes
 pub record KeptOf (s : List ℕ) (c : Convention) (l : List ℕ) (n : ℕ) : Type 0 where
-  pub room : rowLength * n ≤ length l
-  pub same : keptAll c l n ≡ argumentsOf s
+  pub room : row_length * n ≤ length l
+  pub same : kept_all c l n ≡ arguments_of s
 
 -- where the outcome accepts
 abbrev pub KeptWhere : Outcome → List ℕ → Convention → List ℕ → ℕ → Type 0
@@ -43,6 +43,6 @@ KeptWhere (Outcome.Accepted k) s c l n = KeptOf s c l n
 KeptWhere (Outcome.Refused f) s c l n = Unit {0}
 
 -- the outcome of a call whose reading is x with the outcome o, where the first unclear argument is number u, counted from 1
-unfoldable pub outcomeBy : ℕ → Outcome → Reading Signature → Outcome
-outcomeBy zero o x = o
-outcomeBy (suc i) o x = Outcome.Refused (unclearFault i x)
+unfoldable pub outcome_by : ℕ → Outcome → Reading Signature → Outcome
+outcome_by zero o x = o
+outcome_by (suc i) o x = Outcome.Refused (unclear_fault i x)

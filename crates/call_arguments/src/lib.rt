@@ -1,14 +1,14 @@
 // The arguments of a call, read once: each is placed, and its type and span are kept in words until all tests are made. Who then moves values goes
 // over these, without the signature.
 ghost use Rattle.std.specs.Prelude.{◌≡◌, false, ◌^◌, ◌≤◌, length};
-ghost use Rattle.sig_signatures.specs.Read.{argumentsIn, signature_of};
-ghost use Rattle.plan_places.specs.Step.{rulesOf, withEllipsis};
+ghost use Rattle.sig_signatures.specs.Read.{arguments_in, signature_of};
+ghost use Rattle.plan_places.specs.Step.{rules_of, with_ellipsis};
 ghost use Rattle.sig_signatures.specs.Helpers.{RoomFor};
-ghost use Rattle.call_kept.specs.Helpers.{rowLength};
-ghost use Rattle.call_slots.specs.Arguments.{sizesFor};
-ghost use Rattle.plan_plans.specs.Plan.{refusedPlan, start_in, measureOf};
-ghost use Rattle.plan_plans.specs.Helpers.{planWith, unclearWith};
-ghost use Rattle.call_arguments.specs.Helpers.{HeadIs, NoneLeft, KeptWith, KeptWhere, outcomeBy};
+ghost use Rattle.call_kept.specs.Helpers.{row_length};
+ghost use Rattle.call_slots.specs.Arguments.{sizes_for};
+ghost use Rattle.plan_plans.specs.Plan.{refused_plan, start_in, measure_of};
+ghost use Rattle.plan_plans.specs.Helpers.{plan_with, unclear_with};
+ghost use Rattle.call_arguments.specs.Helpers.{HeadIs, NoneLeft, KeptWith, KeptWhere, outcome_by};
 
 use base_conventions::Convention;
 use plan_places::{CallRules, Cursor};
@@ -33,7 +33,7 @@ pub fn first_cursor(c: Convention, res: ResultType) -> Cursor
 
 // The rules of the arguments of a convention, with an ellipsis or without.
 pub fn rules_in(c: Convention, ellipsis: bool) -> CallRules
-    ensures { result ≡ withEllipsis ellipsis (rulesOf c) }
+    ensures { result ≡ with_ellipsis ellipsis (rules_of c) }
 {
     plan_places::with_ellipsis(both_abi::call_rules_of(c), ellipsis)
 }
@@ -47,7 +47,7 @@ struct KeptArguments {
 }
 
 fn none_kept(fault: Fault) -> KeptArguments
-    ensures { (result.measured ≡ measureOf (refusedPlan fault)) × (result.unclear ≡ 0) }
+    ensures { (result.measured ≡ measure_of (refused_plan fault)) × (result.unclear ≡ 0) }
 {
     KeptArguments {
         measured: plan_planning::no_measure(fault),
@@ -67,9 +67,9 @@ fn keep_arguments(
     earlier: usize,
     kept: &mut [u16],
 ) -> KeptArguments
-    requires { (at ≤ end) × (end ≤ length s.now) × (end ≤ 2 ^ 16) × (earlier ≤ 2 ^ 16) × RoomFor rowLength at end (length kept.old) }
-    ensures measured_value { (result.measured ≡ measureOf (planWith convention false returned earlier (length s.now) (argumentsIn convention s.now at end))) × (result.unclear ≡ unclearWith convention returned (length s.now) (argumentsIn convention s.now at end)) }
-    ensures kept_with { KeptWith convention ellipsis returned (length s.now) (argumentsIn convention s.now at end) kept.new result.count }
+    requires { (at ≤ end) × (end ≤ length s.now) × (end ≤ 2 ^ 16) × (earlier ≤ 2 ^ 16) × RoomFor row_length at end (length kept.old) }
+    ensures measured_value { (result.measured ≡ measure_of (plan_with convention false returned earlier (length s.now) (arguments_in convention s.now at end))) × (result.unclear ≡ unclear_with convention returned (length s.now) (arguments_in convention s.now at end)) }
+    ensures kept_with { KeptWith convention ellipsis returned (length s.now) (arguments_in convention s.now at end) kept.new result.count }
 {
     let rules = rules_in(convention, ellipsis);
     let mut c = first_cursor(convention, returned);
@@ -131,7 +131,7 @@ fn keep_arguments(
 
 // The outcome of a call whose first unclear argument has this number, counted from 1, or 0; `read` is the outcome of its reading.
 fn outcome_of(sig: &[u8], unclear: usize, read: Outcome) -> Outcome
-    ensures { result ≡ outcomeBy unclear read (signature_of sig.now) }
+    ensures { result ≡ outcome_by unclear read (signature_of sig.now) }
 {
     if unclear == 0 {
         return read;
@@ -150,8 +150,8 @@ pub fn keep_call(
     earlier: usize,
     kept: &mut [u16],
 ) -> KeptCall
-    requires { HeadIs sig.now convention returned ellipsis at end earlier × RoomFor rowLength at end (length kept.old) }
-    ensures sizes_value { result.sizes ≡ sizesFor sig.now }
+    requires { HeadIs sig.now convention returned ellipsis at end earlier × RoomFor row_length at end (length kept.old) }
+    ensures sizes_value { result.sizes ≡ sizes_for sig.now }
     ensures kept_where { KeptWhere result.sizes.outcome sig.now convention kept.new result.count }
 {
     let p = keep_arguments(sig, convention, ellipsis, returned, at, end, earlier, kept);
@@ -178,7 +178,7 @@ pub fn measure_none(
     earlier: usize,
 ) -> Measured
     requires { NoneLeft sig.now convention returned end earlier }
-    ensures { result ≡ sizesFor sig.now }
+    ensures { result ≡ sizes_for sig.now }
 {
     let counted = earlier + 1;
     if end < sig.len() {

@@ -2,16 +2,16 @@
 ghost use Rattle.std.specs.Prelude.{◌≡◌, [], length};
 ghost use Rattle.sig_signatures.specs.Helpers.{RoomFor};
 ghost use Rattle.call_slots.specs.Buffers.{buffers, put_all};
-ghost use Rattle.call_slots.specs.Placements.{slotsOfAll, hiddenSlots};
+ghost use Rattle.call_slots.specs.Placements.{slots_of_all, hidden_slots};
 ghost use Rattle.call_slots.specs.Refusals.{first_of};
 ghost use Rattle.base_conventions.specs.Numbers.{word_bytes};
-ghost use Rattle.plan_places.specs.Spots.{imageBytes};
-ghost use Rattle.call_slots.specs.Helpers.{sizesOf};
+ghost use Rattle.plan_places.specs.Spots.{image_bytes};
+ghost use Rattle.call_slots.specs.Helpers.{sizes_of};
 ghost use Rattle.call_marshal.specs.Helpers.{CanPut};
-ghost use Rattle.call_kept.specs.Helpers.{rowLength, keptAll, KeptEach};
+ghost use Rattle.call_kept.specs.Helpers.{row_length, kept_all, KeptEach};
 ghost use Rattle.call_arguments.specs.Helpers.{HeadIs, NoneLeft};
-ghost use Rattle.call_fill.specs.Fill.{badCopies, highAddress, fillTests, fillAnswer, fillBuffers, fillLengths};
-ghost use Rattle.call_fill.specs.Helpers.{addressPlaces};
+ghost use Rattle.call_fill.specs.Fill.{bad_copies, high_address, fill_tests, fill_answer, fill_buffers, fill_lengths};
+ghost use Rattle.call_fill.specs.Helpers.{address_places};
 
 use base_conventions::Convention;
 use call_kept::ROW;
@@ -40,8 +40,8 @@ fn put_arguments(
     values: &[u8],
     base: u64,
 )
-    requires { KeptEach (CanPut rules base (length image.old) (length area.old) (length copies.old)) convention kept.now count × (sizesOf (keptAll convention kept.now count) ≡ length values.now) }
-    ensures { buffers image.new area.new copies.new ≡ put_all (slotsOfAll rules base (keptAll convention kept.now count) values.now) (buffers image.old area.old copies.old) }
+    requires { KeptEach (CanPut rules base (length image.old) (length area.old) (length copies.old)) convention kept.now count × (sizes_of (kept_all convention kept.now count) ≡ length values.now) }
+    ensures { buffers image.new area.new copies.new ≡ put_all (slots_of_all rules base (kept_all convention kept.now count) values.now) (buffers image.old area.old copies.old) }
 {
     let mut v: usize = 0;
     let mut i: usize = 0;
@@ -58,8 +58,8 @@ fn put_arguments(
 
 // The hidden address of a result in the first general register of its convention, a word, where there is one.
 fn put_hidden(image: &mut [u8], c: Convention, hidden: bool, address: u64)
-    requires { length image.old ≡ imageBytes }
-    ensures { buffers image.new [] [] ≡ put_all (hiddenSlots (word_bytes c) (addressPlaces c hidden) address) (buffers image.old [] []) }
+    requires { length image.old ≡ image_bytes }
+    ensures { buffers image.new [] [] ≡ put_all (hidden_slots (word_bytes c) (address_places c hidden) address) (buffers image.old [] []) }
 {
     if hidden {
         let k = both_abi::cursor_of(c);
@@ -71,7 +71,7 @@ fn put_hidden(image: &mut [u8], c: Convention, hidden: bool, address: u64)
 
 // Whether copies that end at e can't stand in a copy buffer of n bytes at its base.
 fn bad_copies(e: usize, n: usize, base: u64) -> bool
-    ensures { result ≡ badCopies e n base }
+    ensures { result ≡ bad_copies e n base }
 {
     if e == 0 {
         return false;
@@ -87,7 +87,7 @@ fn bad_copies(e: usize, n: usize, base: u64) -> bool
 
 // Whether a hidden address is needed that a word has no room for.
 fn high_address(c: Convention, hidden: bool, address: u64) -> bool
-    ensures { result ≡ highAddress (word_bytes c) (addressPlaces c hidden) address }
+    ensures { result ≡ high_address (word_bytes c) (address_places c hidden) address }
 {
     if hidden {
         return base_words::zero_extend(address, base_conventions::word_bytes(c)) < address;
@@ -104,7 +104,7 @@ fn tested(
     base: u64,
     high: bool,
 ) -> CallAnswer
-    ensures { result ≡ first_of (fillTests have values area copies base high) }
+    ensures { result ≡ first_of (fill_tests have values area copies base high) }
 {
     if have.image != IMAGE_BYTES {
         return CallAnswer::Refused(CallRefusal::ImageSize);
@@ -139,8 +139,8 @@ fn fill_none(
     earlier: usize,
 ) -> CallAnswer
     requires { NoneLeft sig.now convention returned end earlier }
-    ensures value { result ≡ fillAnswer sig.now (fillLengths values.now image.old area.old copies.old) base address }
-    ensures copies_after { buffers image.new area.new copies.new ≡ fillBuffers sig.now values.now base address result (buffers image.old area.old copies.old) }
+    ensures value { result ≡ fill_answer sig.now (fill_lengths values.now image.old area.old copies.old) base address }
+    ensures copies_after { buffers image.new area.new copies.new ≡ fill_buffers sig.now values.now base address result (buffers image.old area.old copies.old) }
 {
     let m = call_arguments::measure_none(sig, convention, returned, end, earlier);
     let outcome = m.outcome;
@@ -182,9 +182,9 @@ fn fill_part(
     earlier: usize,
     kept: &mut [u16],
 ) -> CallAnswer
-    requires { HeadIs sig.now convention returned ellipsis at end earlier × RoomFor rowLength at end (length kept.old) }
-    ensures value { result ≡ fillAnswer sig.now (fillLengths values.now image.old area.old copies.old) base address }
-    ensures copies_after { buffers image.new area.new copies.new ≡ fillBuffers sig.now values.now base address result (buffers image.old area.old copies.old) }
+    requires { HeadIs sig.now convention returned ellipsis at end earlier × RoomFor row_length at end (length kept.old) }
+    ensures value { result ≡ fill_answer sig.now (fill_lengths values.now image.old area.old copies.old) base address }
+    ensures copies_after { buffers image.new area.new copies.new ≡ fill_buffers sig.now values.now base address result (buffers image.old area.old copies.old) }
 {
     let p = call_arguments::keep_call(sig, convention, ellipsis, returned, at, end, earlier, kept);
     let count = p.count;
@@ -226,8 +226,8 @@ pub fn fill(
     base: u64,
     hidden: u64,
 ) -> CallAnswer
-    ensures value { result ≡ fillAnswer sig.now (fillLengths values.now image.old area.old copies.old) base hidden }
-    ensures copies_after { buffers image.new area.new copies.new ≡ fillBuffers sig.now values.now base hidden result (buffers image.old area.old copies.old) }
+    ensures value { result ≡ fill_answer sig.now (fill_lengths values.now image.old area.old copies.old) base hidden }
+    ensures copies_after { buffers image.new area.new copies.new ≡ fill_buffers sig.now values.now base hidden result (buffers image.old area.old copies.old) }
 {
     match sig_head::read_head(sig) {
         HeadRead::Refused(fault) => CallAnswer::Unread(fault),

@@ -5,25 +5,25 @@ use Prim.Native.Nat.{ℕ}
 use native.Mathlib.Omega.{arith}
 use Rattle.sig_items.specs.declared.Fault.{Fault}
 use Rattle.sig_signatures.specs.declared.Outcome.{Outcome}
-use Rattle.plan_plans.specs.Call.{outcomeFor}
-use Rattle.call_slots.specs.Refusals.{afterReading, isDone}
+use Rattle.plan_plans.specs.Call.{outcome_for}
+use Rattle.call_slots.specs.Refusals.{after_reading, is_done}
 use Rattle.call_slots.specs.Buffers.{Buffers}
 use Rattle.call_fill.specs.declared.FillLengths.{FillLengths}
-use Rattle.call_fill.specs.Fill.{fillAnswer, fillBuffers}
+use Rattle.call_fill.specs.Fill.{fill_answer, fill_buffers}
 use Rattle.plan_stored.specs.declared.CheckAnswer.{CheckAnswer}
-use Rattle.plan_stored.specs.Stored.{storedOf, compared, checkBy, checkAnswer}
+use Rattle.plan_stored.specs.Stored.{stored_of, compared, check_by, check_answer}
 use Rattle.plan_stored.proofs.Theorems.{checks-exactly, refused-check}
-use Rattle.call_fill_stored.specs.FillStored.{storedFillAnswer, storedFillBuffers}
+use Rattle.call_fill_stored.specs.FillStored.{stored_fill_answer, stored_fill_buffers}
 use Rattle.call_fill_stored.specs.Plain.{FillsAsPlain, RefusesAsPlain, StaleFillsNothing}
 
 pub fills-as-plain : FillsAsPlain
-unfolding storedFillAnswer storedFillBuffers
-fills-as-plain s values have base hidden b a = let fresh = (checks-exactly (storedOf s) s).all a refl in (rw fresh, rw fresh)
+unfolding stored_fill_answer stored_fill_buffers
+fills-as-plain s values have base hidden b a = let fresh = (checks-exactly (stored_of s) s).all a refl in (rw fresh, rw fresh)
 
 pub refuses-as-plain : RefusesAsPlain
-unfolding storedFillAnswer storedFillBuffers fillAnswer fillBuffers
+unfolding stored_fill_answer stored_fill_buffers fill_answer fill_buffers
 refuses-as-plain stored s values have base hidden b f h = let o = refused-check stored s f h in (rw (h, o), rw (h, o))
 
 pub stale-fills-nothing : StaleFillsNothing
-unfolding storedFillAnswer storedFillBuffers
+unfolding stored_fill_answer stored_fill_buffers
 stale-fills-nothing stored s values have base hidden b place h = (rw h, rw h)

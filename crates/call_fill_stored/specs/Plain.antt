@@ -4,29 +4,29 @@ use Rattle.std.specs.Prelude.{ℕ, ◌≡◌, List}
 use Rattle.sig_items.specs.declared.Fault.{Fault}
 use Rattle.call_slots.specs.Buffers.{Buffers}
 use Rattle.call_fill.specs.declared.FillLengths.{FillLengths}
-use Rattle.call_fill.specs.Fill.{fillAnswer, fillBuffers}
+use Rattle.call_fill.specs.Fill.{fill_answer, fill_buffers}
 use Rattle.plan_stored.specs.declared.CheckAnswer.{CheckAnswer}
-use Rattle.plan_stored.specs.Stored.{storedOf, checkAnswer}
+use Rattle.plan_stored.specs.Stored.{stored_of, check_answer}
 use Rattle.plan_stored.specs.Exact.{Accepts}
 use Rattle.call_fill_stored.specs.declared.StoredFill.{StoredFill}
-use Rattle.call_fill_stored.specs.FillStored.{storedFillAnswer, storedFillBuffers}
+use Rattle.call_fill_stored.specs.FillStored.{stored_fill_answer, stored_fill_buffers}
 
 -- the same answer and the same bytes as plain filling
 abbrev pub AsPlain : List ℕ → List ℕ → List ℕ → FillLengths → ℕ → ℕ → Buffers → Type 0
 AsPlain stored s values have base hidden b =
-    (storedFillAnswer stored s have base hidden ≡ StoredFill.Plain (fillAnswer s have base hidden))
-    × (storedFillBuffers stored s values have base hidden b ≡ fillBuffers s values base hidden (fillAnswer s have base hidden) b)
+    (stored_fill_answer stored s have base hidden ≡ StoredFill.Plain (fill_answer s have base hidden))
+    × (stored_fill_buffers stored s values have base hidden b ≡ fill_buffers s values base hidden (fill_answer s have base hidden) b)
 
 -- what the writer gave for this signature, whatever the buffers
 abbrev pub FillsAsPlain : Type 0
-FillsAsPlain = (s values : List ℕ) (have : FillLengths) (base hidden : ℕ) (b : Buffers) → Accepts s → AsPlain (storedOf s) s values have base hidden b
+FillsAsPlain = (s values : List ℕ) (have : FillLengths) (base hidden : ℕ) (b : Buffers) → Accepts s → AsPlain (stored_of s) s values have base hidden b
 
 -- a signature that is refused: whatever is stored
 abbrev pub RefusesAsPlain : Type 0
-RefusesAsPlain = (stored s values : List ℕ) (have : FillLengths) (base hidden : ℕ) (b : Buffers) (f : Fault) → checkAnswer stored s ≡ CheckAnswer.Refused f
+RefusesAsPlain = (stored s values : List ℕ) (have : FillLengths) (base hidden : ℕ) (b : Buffers) (f : Fault) → check_answer stored s ≡ CheckAnswer.Refused f
     → AsPlain stored s values have base hidden b
 
 -- stale bytes: 27 before all that filling tests, and no byte changes
 abbrev pub StaleFillsNothing : Type 0
-StaleFillsNothing = (stored s values : List ℕ) (have : FillLengths) (base hidden : ℕ) (b : Buffers) (place : ℕ) → checkAnswer stored s ≡ CheckAnswer.Differs place
-    → (storedFillAnswer stored s have base hidden ≡ StoredFill.Stale place) × (storedFillBuffers stored s values have base hidden b ≡ b)
+StaleFillsNothing = (stored s values : List ℕ) (have : FillLengths) (base hidden : ℕ) (b : Buffers) (place : ℕ) → check_answer stored s ≡ CheckAnswer.Differs place
+    → (stored_fill_answer stored s have base hidden ≡ StoredFill.Stale place) × (stored_fill_buffers stored s values have base hidden b ≡ b)

@@ -1,8 +1,8 @@
 // Filling from a stored plan: the check of the stored bytes against the fresh signature first, then plain filling.
 ghost use Rattle.std.specs.Prelude.{◌≡◌};
 ghost use Rattle.call_slots.specs.Buffers.{buffers};
-ghost use Rattle.call_fill.specs.Fill.{fillLengths};
-ghost use Rattle.call_fill_stored.specs.FillStored.{storedFillAnswer, storedFillBuffers};
+ghost use Rattle.call_fill.specs.Fill.{fill_lengths};
+ghost use Rattle.call_fill_stored.specs.FillStored.{stored_fill_answer, stored_fill_buffers};
 
 use call_slots::CallAnswer;
 use plan_stored::CheckAnswer;
@@ -24,8 +24,8 @@ pub fn fill_stored(
     base: u64,
     hidden: u64,
 ) -> StoredFill
-    ensures value { result ≡ storedFillAnswer stored.now sig.now (fillLengths values.now image.old area.old copies.old) base hidden }
-    ensures copies_after { buffers image.new area.new copies.new ≡ storedFillBuffers stored.now sig.now values.now (fillLengths values.now image.old area.old copies.old) base hidden (buffers image.old area.old copies.old) }
+    ensures value { result ≡ stored_fill_answer stored.now sig.now (fill_lengths values.now image.old area.old copies.old) base hidden }
+    ensures copies_after { buffers image.new area.new copies.new ≡ stored_fill_buffers stored.now sig.now values.now (fill_lengths values.now image.old area.old copies.old) base hidden (buffers image.old area.old copies.old) }
 {
     match plan_stored::check_plan(stored, sig) {
         CheckAnswer::Differs(place) => StoredFill::Stale(place),

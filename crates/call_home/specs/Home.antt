@@ -5,40 +5,40 @@ use Rattle.std.specs.Prelude.{ℕ, List, [], ◌∷◌, ltb, length}
 use Rattle.base_words.specs.Basics.{pick}
 use Rattle.base_words.specs.Splice.{splice}
 use Rattle.plan_places.specs.declared.CallRules.{CallRules}
-use Rattle.plan_places.specs.Spots.{imageBytes}
+use Rattle.plan_places.specs.Spots.{image_bytes}
 use Rattle.call_slots.specs.declared.CallRefusal.{CallRefusal}
 use Rattle.call_slots.specs.declared.CallAnswer.{CallAnswer}
 use Rattle.call_slots.specs.Placements.{Placement}
-use Rattle.call_slots.specs.Refusals.{Test, test, differ, first_of, afterReading, or_else, firstOfAll, isDone}
-use Rattle.plan_plans.specs.Call.{outcomeFor}
-use Rattle.call_slots.specs.Arguments.{argumentsOf, planFor, rulesFor}
-use Rattle.call_home_slot.specs.Homes.{homeless, registerAnswer, homedBytes}
+use Rattle.call_slots.specs.Refusals.{Test, test, differ, first_of, after_reading, or_else, first_of_all, is_done}
+use Rattle.plan_plans.specs.Call.{outcome_for}
+use Rattle.call_slots.specs.Arguments.{arguments_of, plan_for, rules_for}
+use Rattle.call_home_slot.specs.Homes.{homeless, register_answer, homed_bytes}
 
 -- ---- the answer
 
 -- "14 by argument, left to right"
-unfoldable pub registersAnswer : CallRules → List Placement → List ℕ → CallAnswer
-registersAnswer r ps image = firstOfAll (λ (p : Placement). registerAnswer r p.ty p.span image) ps
+unfoldable pub registers_answer : CallRules → List Placement → List ℕ → CallAnswer
+registers_answer r ps image = first_of_all (λ (p : Placement). register_answer r p.ty p.span image) ps
 
 -- "After reading: 24, 15, .. 11": of an image of i bytes and an area of `have`, where the plan asks for `area`
-unfoldable pub homeTests : CallRules → ℕ → ℕ → ℕ → List Test
-homeTests r i have area =
-    test (homeless r) CallRefusal.NoView ∷ test (differ i imageBytes) CallRefusal.ImageSize ∷ test (ltb have area) CallRefusal.AreaTooShort ∷ []
+unfoldable pub home_tests : CallRules → ℕ → ℕ → ℕ → List Test
+home_tests r i have area =
+    test (homeless r) CallRefusal.NoView ∷ test (differ i image_bytes) CallRefusal.ImageSize ∷ test (ltb have area) CallRefusal.AreaTooShort ∷ []
 
 -- of a signature's bytes s, an image, and an area of `have` bytes
-unfoldable pub homeAnswer : List ℕ → List ℕ → ℕ → CallAnswer
-homeAnswer s image have =
-    afterReading (outcomeFor s)
-    (or_else (first_of (homeTests (rulesFor s) (length image) have (planFor s).area))
-    (registersAnswer (rulesFor s) (argumentsOf s) image))
+unfoldable pub home_answer : List ℕ → List ℕ → ℕ → CallAnswer
+home_answer s image have =
+    after_reading (outcome_for s)
+    (or_else (first_of (home_tests (rules_for s) (length image) have (plan_for s).area))
+    (registers_answer (rules_for s) (arguments_of s) image))
 
 -- ---- the area
 
 -- "copies each argument's register doublewords into the area at its offset .. all else stay"
 unfoldable pub homed : CallRules → List Placement → List ℕ → List ℕ → List ℕ
 homed r [] image area = area
-homed r (p ∷ ps) image area = homed r ps image (splice area p.span.home.start (homedBytes r p image))
+homed r (p ∷ ps) image area = homed r ps image (splice area p.span.home.start (homed_bytes r p image))
 
 -- "Every refusal leaves all buffers .. untouched"
-unfoldable pub homeArea : List ℕ → CallAnswer → List ℕ → List ℕ → List ℕ
-homeArea s answer image area = pick (isDone answer) (homed (rulesFor s) (argumentsOf s) image area) area
+unfoldable pub home_area : List ℕ → CallAnswer → List ℕ → List ℕ → List ℕ
+home_area s answer image area = pick (is_done answer) (homed (rules_for s) (arguments_of s) image area) area

@@ -1,8 +1,8 @@
 // Home: the arguments of a PowerPC call that came in registers, copied into the parameter area.
 ghost use Rattle.std.specs.Prelude.{◌≡◌, ◌≤◌, length};
 ghost use Rattle.call_slots.specs.Refusals.{first_of};
-ghost use Rattle.call_slots.specs.Arguments.{placementsIn, rulesIn};
-ghost use Rattle.call_home.specs.Home.{registersAnswer, homeTests, homeAnswer, homed, homeArea};
+ghost use Rattle.call_slots.specs.Arguments.{placements_in, rules_in};
+ghost use Rattle.call_home.specs.Home.{registers_answer, home_tests, home_answer, homed, home_area};
 ghost use Rattle.call_home.specs.Helpers.{AllRegistered};
 
 use call_slots::{CallAnswer, CallRefusal};
@@ -13,7 +13,7 @@ use sig_signatures::{Outcome, SignatureRead};
 // The refusal of the first argument, left to right, that can't be homed.
 fn first_unwidened(image: &[u8], g: SignatureRead, p: Plan) -> CallAnswer
     requires { AllRegistered g p (length image.now) }
-    ensures { result ≡ registersAnswer (rulesIn g) (placementsIn g p) image.now }
+    ensures { result ≡ registers_answer (rules_in g) (placements_in g p) image.now }
 {
     let convention = g.convention;
     let count = g.count;
@@ -35,7 +35,7 @@ fn first_unwidened(image: &[u8], g: SignatureRead, p: Plan) -> CallAnswer
 // All arguments, each in the part of the area that starts at its home.
 fn put_homes(area: &mut [u8], image: &[u8], g: SignatureRead, p: Plan)
     requires { AllRegistered g p (length image.now) × (p.area ≤ length area.old) }
-    ensures { area.new ≡ homed (rulesIn g) (placementsIn g p) image.now area.old }
+    ensures { area.new ≡ homed (rules_in g) (placements_in g p) image.now area.old }
 {
     let convention = g.convention;
     let count = g.count;
@@ -53,7 +53,7 @@ fn put_homes(area: &mut [u8], image: &[u8], g: SignatureRead, p: Plan)
 
 // Whether there are homes, and the image and the area have the lengths that a plan asks for.
 fn home_tested(r: CallRules, image: usize, lent: usize, area: usize) -> CallAnswer
-    ensures { result ≡ first_of (homeTests r image lent area) }
+    ensures { result ≡ first_of (home_tests r image lent area) }
 {
     if call_home_slot::is_homeless(r) {
         return CallAnswer::Refused(CallRefusal::NoView);
@@ -70,8 +70,8 @@ fn home_tested(r: CallRules, image: usize, lent: usize, area: usize) -> CallAnsw
 // Copies the arguments of a PowerPC call that are in registers into their homes in the parameter area. Takes any bytes as signature, and buffers of any
 // lengths; every FPR is tested before anything is written.
 pub fn home(sig: &[u8], image: &[u8], area: &mut [u8]) -> CallAnswer
-    ensures value { result ≡ homeAnswer sig.now image.now (length area.old) }
-    ensures area_after { area.new ≡ homeArea sig.now result image.now area.old }
+    ensures value { result ≡ home_answer sig.now image.now (length area.old) }
+    ensures area_after { area.new ≡ home_area sig.now result image.now area.old }
 {
     let g = sig_whole::read_signature(sig);
     let p = plan_planning::plan_signature(g);

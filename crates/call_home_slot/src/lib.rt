@@ -2,10 +2,10 @@
 ghost use Rattle.std.specs.Prelude.{◌≡◌, ◌+◌, ◌≤◌, length};
 ghost use Rattle.base_words.specs.Splice.{overlay, part};
 ghost use Rattle.sig_types.specs.Sizes.{size_of};
-ghost use Rattle.plan_places.specs.Step.{rulesOf};
+ghost use Rattle.plan_places.specs.Step.{rules_of};
 ghost use Rattle.call_slots.specs.Placements.{placement};
-ghost use Rattle.call_home_slot.specs.Homes.{homeless, registerAnswer, homedBytes};
-ghost use Rattle.call_home_slot.specs.Helpers.{homeWord, floatHome, HomeSized, FprsFit, Registered};
+ghost use Rattle.call_home_slot.specs.Homes.{homeless, register_answer, homed_bytes};
+ghost use Rattle.call_home_slot.specs.Helpers.{home_word, float_home, HomeSized, FprsFit, Registered};
 
 use base_conventions::Convention;
 use base_ieee::Narrowed;
@@ -26,7 +26,7 @@ pub fn is_homeless(r: CallRules) -> bool
 // Whether one argument's FPRs, if it has any, can be homed.
 pub fn register_answer(image: &[u8], r: CallRules, t: ValueType, s: Span) -> CallAnswer
     requires { FprsFit t s (length image.now) }
-    ensures { result ≡ registerAnswer r t s image.now }
+    ensures { result ≡ register_answer r t s image.now }
 {
     let floating = s.floating;
     if 0 < floating.count {
@@ -38,7 +38,7 @@ pub fn register_answer(image: &[u8], r: CallRules, t: ValueType, s: Span) -> Cal
 
 // The 64 bits in memory of a float whose FPR has the bits x.
 fn memory_word(e: Equivalent, x: u64) -> u64
-    ensures { result ≡ homeWord e x }
+    ensures { result ≡ home_word e x }
 {
     match e {
         Equivalent::Nothing => x,
@@ -53,7 +53,7 @@ fn memory_word(e: Equivalent, x: u64) -> u64
 // A float in its memory form, at the head of its home of `room` bytes; its FPRs' n bytes start at `at` of the image.
 fn home_float(place: &mut [u8], image: &[u8], e: Equivalent, at: usize, n: usize, room: usize)
     requires { (at + n ≤ length image.now) × (room ≤ length place.old) × HomeSized e n room }
-    ensures { place.new ≡ overlay place.old (floatHome room n e (part at n image.now)) }
+    ensures { place.new ≡ overlay place.old (float_home room n e (part at n image.now)) }
 {
     match e {
         Equivalent::Nothing => {
@@ -71,8 +71,8 @@ fn home_float(place: &mut [u8], image: &[u8], e: Equivalent, at: usize, n: usize
 
 // The register words of one argument at the head of its home.
 pub fn put_home(place: &mut [u8], image: &[u8], c: Convention, t: ValueType, s: Span)
-    requires { Registered (rulesOf c) (s.home.start + length place.old) (length image.now) (placement t (size_of c t) s) }
-    ensures { place.new ≡ overlay place.old (homedBytes (rulesOf c) (placement t (size_of c t) s) image.now) }
+    requires { Registered (rules_of c) (s.home.start + length place.old) (length image.now) (placement t (size_of c t) s) }
+    ensures { place.new ≡ overlay place.old (homed_bytes (rules_of c) (placement t (size_of c t) s) image.now) }
 {
     let floating = s.floating;
     let general = s.general;

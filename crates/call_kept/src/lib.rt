@@ -2,8 +2,8 @@
 // structs can't be lent, only handed on by value; words can, and are cleared and copied once.
 ghost use Rattle.std.specs.Prelude.{◌≡◌, ◌+◌, ◌*◌, ◌≤◌, length, get_or};
 ghost use Rattle.base_words.specs.Splice.{overlay, splice};
-ghost use Rattle.sig_items.specs.Encode.{integerNumber, floatNumber};
-ghost use Rattle.call_kept.specs.Helpers.{rowLength, Codable, kindFrom, formatFrom, equivalentCode, equivalentFrom, type_code, typeFrom, rangeCode, rangeFrom, flagFrom, row_of, spanFrom};
+ghost use Rattle.sig_items.specs.Encode.{integer_number, float_number};
+ghost use Rattle.call_kept.specs.Helpers.{row_length, Codable, kind_from, format_from, equivalent_code, equivalent_from, type_code, type_from, range_code, range_from, flag_from, row_of, span_from};
 
 use plan_places::{ByteRange, RegisterRange, Span};
 use sig_types::{Equivalent, FloatFormat, IntegerKind, Shape, ValueType};
@@ -12,7 +12,7 @@ use sig_types::{Equivalent, FloatFormat, IntegerKind, Shape, ValueType};
 pub const ROW: usize = 10;
 
 fn kind_code(k: IntegerKind) -> u16
-    ensures { result ≡ integerNumber k }
+    ensures { result ≡ integer_number k }
 {
     match k {
         IntegerKind::I8 => 0,
@@ -29,7 +29,7 @@ fn kind_code(k: IntegerKind) -> u16
 
 // Numbers to names and back are looked up, not jumped to: which type comes next can't be foreseen.
 fn kind_from(x: u16) -> IntegerKind
-    ensures { result ≡ kindFrom x }
+    ensures { result ≡ kind_from x }
 {
     match x {
         0 => IntegerKind::I8,
@@ -45,7 +45,7 @@ fn kind_from(x: u16) -> IntegerKind
 }
 
 fn format_code(f: FloatFormat) -> u16
-    ensures { result ≡ floatNumber f }
+    ensures { result ≡ float_number f }
 {
     match f {
         FloatFormat::Single => 0,
@@ -55,7 +55,7 @@ fn format_code(f: FloatFormat) -> u16
 }
 
 fn format_from(x: u16) -> FloatFormat
-    ensures { result ≡ formatFrom x }
+    ensures { result ≡ format_from x }
 {
     match x {
         0 => FloatFormat::Single,
@@ -65,7 +65,7 @@ fn format_from(x: u16) -> FloatFormat
 }
 
 fn equivalent_code(e: Equivalent) -> u16
-    ensures { result ≡ equivalentCode e }
+    ensures { result ≡ equivalent_code e }
 {
     match e {
         Equivalent::Nothing => 0,
@@ -75,7 +75,7 @@ fn equivalent_code(e: Equivalent) -> u16
 }
 
 fn equivalent_from(x: u16) -> Equivalent
-    ensures { result ≡ equivalentFrom x }
+    ensures { result ≡ equivalent_from x }
 {
     match x {
         0 => Equivalent::Nothing,
@@ -100,7 +100,7 @@ fn type_code(t: ValueType) -> u16
 }
 
 fn type_from(x: u16) -> ValueType
-    ensures { result ≡ typeFrom x }
+    ensures { result ≡ type_from x }
 {
     if x < 16 {
         return ValueType::Integer(kind_from(x));
@@ -117,13 +117,13 @@ fn type_from(x: u16) -> ValueType
 }
 
 fn range_code(r: RegisterRange) -> u16
-    ensures { result ≡ rangeCode r }
+    ensures { result ≡ range_code r }
 {
     256 * (r.first as u16) + (r.count as u16)
 }
 
 fn range_from(x: u16) -> RegisterRange
-    ensures { result ≡ rangeFrom x }
+    ensures { result ≡ range_from x }
 {
     let first = x / 256;
     let count = x % 256;
@@ -134,7 +134,7 @@ fn range_from(x: u16) -> RegisterRange
 }
 
 fn flag_from(x: u16) -> bool
-    ensures { result ≡ flagFrom x }
+    ensures { result ≡ flag_from x }
 {
     if x == 0 {
         return false;
@@ -144,7 +144,7 @@ fn flag_from(x: u16) -> bool
 
 // A row, at the head of `kept`.
 fn put_row(kept: &mut [u16], t: ValueType, s: Span)
-    requires { (rowLength ≤ length kept.old) × Codable t }
+    requires { (row_length ≤ length kept.old) × Codable t }
     ensures { kept.new ≡ overlay kept.old (row_of t s) }
 {
     let general = s.general;
@@ -167,8 +167,8 @@ fn put_row(kept: &mut [u16], t: ValueType, s: Span)
 
 // The row of argument i among those that are kept.
 pub fn keep(kept: &mut [u16], i: usize, t: ValueType, s: Span)
-    requires { (rowLength * i + rowLength ≤ length kept.old) × Codable t }
-    ensures { kept.new ≡ splice kept.old (rowLength * i) (row_of t s) }
+    requires { (row_length * i + row_length ≤ length kept.old) × Codable t }
+    ensures { kept.new ≡ splice kept.old (row_length * i) (row_of t s) }
 {
     let at = ROW * i;
     put_row(&mut kept[at..], t, s);
@@ -176,16 +176,16 @@ pub fn keep(kept: &mut [u16], i: usize, t: ValueType, s: Span)
 
 // The type of argument i.
 pub fn type_at(kept: &[u16], i: usize) -> ValueType
-    requires { rowLength * i + rowLength ≤ length kept.now }
-    ensures { result ≡ typeFrom (get_or kept.now (rowLength * i) 0) }
+    requires { row_length * i + row_length ≤ length kept.now }
+    ensures { result ≡ type_from (get_or kept.now (row_length * i) 0) }
 {
     type_from(kept[ROW * i])
 }
 
 // The span of argument i.
 pub fn span_at(kept: &[u16], i: usize) -> Span
-    requires { rowLength * i + rowLength ≤ length kept.now }
-    ensures { result ≡ spanFrom kept.now (rowLength * i) }
+    requires { row_length * i + row_length ≤ length kept.now }
+    ensures { result ≡ span_from kept.now (row_length * i) }
 {
     let at = ROW * i;
     let general = range_from(kept[at + 1]);

@@ -16,13 +16,13 @@ use Rattle.base_words.proofs.Basics.{le-or-lt}
 use Rattle.base_words.proofs.Splices.{splice-nothing}
 use Rattle.sig_types.specs.declared.Equivalent.{Equivalent}
 use Rattle.sig_types.specs.declared.ValueType.{ValueType}
-use Rattle.sig_types.specs.Sizes.{equivalentOf}
+use Rattle.sig_types.specs.Sizes.{equivalent_of}
 use Rattle.plan_places.specs.declared.CallRules.{CallRules}
-use Rattle.plan_places.specs.Step.{wordOf}
+use Rattle.plan_places.specs.Step.{word_of}
 use Rattle.call_registers.specs.Registers.{spread}
-use Rattle.call_slots.specs.Buffers.{buffers, generalAt, floatingAt, put, put_all}
-use Rattle.call_slots.specs.Forms.{roomOf, startsAtHead, extended, homeBytes, floatForm, floatBytes}
-use Rattle.call_slots.specs.Placements.{Placement, standing, copyBytes, slots_of}
+use Rattle.call_slots.specs.Buffers.{buffers, general_at, floating_at, put, put_all}
+use Rattle.call_slots.specs.Forms.{room_of, starts_at_head, extended, home_bytes, float_form, float_bytes}
+use Rattle.call_slots.specs.Placements.{Placement, standing, copy_bytes, slots_of}
 use Rattle.call_slots.specs.Helpers.{FloatSized, Held}
 use Rattle.call_marshal.specs.Helpers.{NumberFits, FprsTake}
 use Rattle.call_slots.proofs.Limits.{form-length, one_word, one_address, one-doubleword}
@@ -35,15 +35,15 @@ float-room Equivalent.Nothing m n l h k = omega (arith, h.0, h.1)
 
 module _ (r : CallRules) (base : ℕ) (p : Placement) (v image area copies : List ℕ) (h : Held r p) where
   -- what FPRs have room for is the whole form
-  pub fprs-some : 0 < p.span.floating.count → length v ≡ p.size → floatForm r (equivalentOf p.ty) v ≡ take (8 * p.span.floating.count) (floatBytes r p.ty v)
-  unfolding floatBytes
+  pub fprs-some : 0 < p.span.floating.count → length v ≡ p.size → float_form r (equivalent_of p.ty) v ≡ take (8 * p.span.floating.count) (float_bytes r p.ty v)
+  unfolding float_bytes
   fprs-some some size =
       let k : ℕ = p.span.floating.count in
-      let f : List ℕ = floatForm r (equivalentOf p.ty) v in
-      let sized : FloatSized (equivalentOf p.ty) k (length v) = rw size (h.float some) in
-      sym (take_all (8 * k) f (omega (arith, form-length r (equivalentOf p.ty) k v sized)))
+      let f : List ℕ = float_form r (equivalent_of p.ty) v in
+      let sized : FloatSized (equivalent_of p.ty) k (length v) = rw size (h.float some) in
+      sym (take_all (8 * k) f (omega (arith, form-length r (equivalent_of p.ty) k v sized)))
 
-  pub fprs-none : p.span.floating.count ≤ 0 → splice image (floatingAt p.span.floating.first) (take (8 * p.span.floating.count) (floatBytes r p.ty v)) ≡ image
+  pub fprs-none : p.span.floating.count ≤ 0 → splice image (floating_at p.span.floating.first) (take (8 * p.span.floating.count) (float_bytes r p.ty v)) ≡ image
   fprs-none none = let no : p.span.floating.count ≡ 0 = omega arith in rw (no, splice-nothing)
 
   -- who is passed by a pointer has no FPR
@@ -56,54 +56,54 @@ module _ (r : CallRules) (base : ℕ) (p : Placement) (v image area copies : Lis
 
   -- in FPRs, where it has any, and in words, which are those of the value
   pub argument-direct : (i j a : List ℕ) → p.span.indirect ≡ false → length v ≡ p.size
-      → i ≡ splice image (floatingAt p.span.floating.first) (take (8 * p.span.floating.count) (floatBytes r p.ty v))
-      → j ≡ splice i (generalAt p.span.general.first) (spread (wordOf r) p.span.general.count (homeBytes r p.ty (length v) v))
-      → a ≡ splice area p.span.memory.start (part (wordOf r * p.span.general.count) p.span.memory.length (homeBytes r p.ty (length v) v))
+      → i ≡ splice image (floating_at p.span.floating.first) (take (8 * p.span.floating.count) (float_bytes r p.ty v))
+      → j ≡ splice i (general_at p.span.general.first) (spread (word_of r) p.span.general.count (home_bytes r p.ty (length v) v))
+      → a ≡ splice area p.span.memory.start (part (word_of r * p.span.general.count) p.span.memory.length (home_bytes r p.ty (length v) v))
       → buffers j a copies ≡ put_all (slots_of r base p v) (buffers image area copies)
   unfolding slots_of put_all put standing
   argument-direct i j a direct size x y z = rw (direct, splice-nothing, ← size, ← x, ← y, ← z)
 
   -- in general registers and memory, where the words bs stand there
   pub argument-words : (bs i a c : List ℕ) → p.span.floating.count ≤ 0 → standing r base p v ≡ bs
-      → i ≡ splice image (generalAt p.span.general.first) (spread (wordOf r) p.span.general.count bs)
-      → a ≡ splice area p.span.memory.start (part (wordOf r * p.span.general.count) p.span.memory.length bs)
-      → c ≡ splice copies p.span.copy.start (copyBytes p v)
+      → i ≡ splice image (general_at p.span.general.first) (spread (word_of r) p.span.general.count bs)
+      → a ≡ splice area p.span.memory.start (part (word_of r * p.span.general.count) p.span.memory.length bs)
+      → c ≡ splice copies p.span.copy.start (copy_bytes p v)
       → buffers i a c ≡ put_all (slots_of r base p v) (buffers image area copies)
   unfolding slots_of put_all put
   argument-words bs i a c none e x y z =
-      let f : List ℕ = floatBytes r p.ty v in
+      let f : List ℕ = float_bytes r p.ty v in
       let fpr = fprs-none none in
-      let i' : splice (splice image (floatingAt p.span.floating.first) (take (8 * p.span.floating.count) f)) (generalAt p.span.general.first) (spread (wordOf r) p.span.general.count (standing r base p v)) ≡ i =
-      ap₂ (λ (l m : List ℕ). splice l (generalAt p.span.general.first) (spread (wordOf r) p.span.general.count m)) fpr e ∙ sym x in
-      let a' : splice area p.span.memory.start (part (wordOf r * p.span.general.count) p.span.memory.length (standing r base p v)) ≡ a =
-      ap (λ (m : List ℕ). splice area p.span.memory.start (part (wordOf r * p.span.general.count) p.span.memory.length m)) e ∙ sym y in
+      let i' : splice (splice image (floating_at p.span.floating.first) (take (8 * p.span.floating.count) f)) (general_at p.span.general.first) (spread (word_of r) p.span.general.count (standing r base p v)) ≡ i =
+      ap₂ (λ (l m : List ℕ). splice l (general_at p.span.general.first) (spread (word_of r) p.span.general.count m)) fpr e ∙ sym x in
+      let a' : splice area p.span.memory.start (part (word_of r * p.span.general.count) p.span.memory.length (standing r base p v)) ≡ a =
+      ap (λ (m : List ℕ). splice area p.span.memory.start (part (word_of r * p.span.general.count) p.span.memory.length m)) e ∙ sym y in
       rw (i', a', ← z)
 
 -- what stands in the words: the address of a copy, or the value
 pub stands-address : (r : CallRules) (base : ℕ) (p : Placement) (v : List ℕ) → Held r p → p.span.floating.count ≤ 0 → p.span.indirect ≡ true
-    → standing r base p v ≡ bytes_of (wordOf r * p.span.general.count + p.span.memory.length) (base + p.span.copy.start)
+    → standing r base p v ≡ bytes_of (word_of r * p.span.general.count + p.span.memory.length) (base + p.span.copy.start)
 unfolding standing
 stands-address r base p v h none e = rw (e, one_word r p h none e)
 
 pub stands-value : (r : CallRules) (base : ℕ) (p : Placement) (v : List ℕ) → p.span.indirect ≡ false → length v ≡ p.size
-    → standing r base p v ≡ homeBytes r p.ty (length v) v
+    → standing r base p v ≡ home_bytes r p.ty (length v) v
 unfolding standing
 stands-value r base p v e n = rw (e, n)
 
 -- the value from its head on, or at the end of its words, which have `room` bytes
-pub home-head : (r : CallRules) (t : ValueType) (v : List ℕ) (room : ℕ) → startsAtHead r t ≡ true → room ≡ roomOf r (length v)
-    → v ++ replicate (room - length v) 0 ≡ homeBytes r t (length v) v
-unfolding homeBytes
+pub home-head : (r : CallRules) (t : ValueType) (v : List ℕ) (room : ℕ) → starts_at_head r t ≡ true → room ≡ room_of r (length v)
+    → v ++ replicate (room - length v) 0 ≡ home_bytes r t (length v) v
+unfolding home_bytes
 home-head r t v room s e = rw (s, e)
 
-pub home-end : (r : CallRules) (t : ValueType) (v : List ℕ) (room : ℕ) → startsAtHead r t ≡ false → room ≡ roomOf r (length v)
-    → bytes_of room (extended t (length v) (value_of v)) ≡ homeBytes r t (length v) v
-unfolding homeBytes
+pub home-end : (r : CallRules) (t : ValueType) (v : List ℕ) (room : ℕ) → starts_at_head r t ≡ false → room ≡ room_of r (length v)
+    → bytes_of room (extended t (length v) (value_of v)) ≡ home_bytes r t (length v) v
+unfolding home_bytes
 home-end r t v room s e = rw (s, e)
 
 -- what stands at the end of its words is a number of at most eight bytes
-pub number_fits : (r : CallRules) (p : Placement) → Held r p → p.span.indirect ≡ false → startsAtHead r p.ty ≡ false
-    → 0 < wordOf r * p.span.general.count + p.span.memory.length → NumberFits (wordOf r) p.span
+pub number_fits : (r : CallRules) (p : Placement) → Held r p → p.span.indirect ≡ false → starts_at_head r p.ty ≡ false
+    → 0 < word_of r * p.span.general.count + p.span.memory.length → NumberFits (word_of r) p.span
 number_fits r p h d e some =
     let small = h.small e d in
     let words = h.also some in (
@@ -126,9 +126,9 @@ words-some w k m least e =
     omega (arith, mul-le-mul_right k least)
 
 -- no copy is put where there is none
-pub copy-none : (p : Placement) (v copies : List ℕ) → p.span.indirect ≡ false → copies ≡ splice copies p.span.copy.start (copyBytes p v)
+pub copy-none : (p : Placement) (v copies : List ℕ) → p.span.indirect ≡ false → copies ≡ splice copies p.span.copy.start (copy_bytes p v)
 copy-none p v copies e = rw (e, splice-nothing)
 
 pub copy-put : (p : Placement) (v copies : List ℕ) → p.span.indirect ≡ true
-    → splice copies p.span.copy.start (copyBytes p v) ≡ splice copies p.span.copy.start v
+    → splice copies p.span.copy.start (copy_bytes p v) ≡ splice copies p.span.copy.start v
 copy-put p v copies e = rw e

@@ -12,7 +12,7 @@ use lib.Seq.{take_all, drop-append-le, length-take-le}
 use Rattle.base_words.specs.Splice.{splice, part}
 use Rattle.base_words.specs.Numbers.{bytes_of}
 use Rattle.base_words.proofs.Splices.{splice-nothing}
-use Rattle.base_words.proofs.Numbers.{length-bytesOf}
+use Rattle.base_words.proofs.Numbers.{length-bytes_of}
 use Rattle.call_registers.specs.Registers.{spread}
 use Rattle.call_registers.proofs.Registers.{spread-take, spread-doublewords}
 
@@ -23,7 +23,7 @@ module _ (l a : List ℕ) (g s x : ℕ) (k m : ℕ) (one : 8 * k + m ≡ 8) wher
   word-general h =
       let e : k ≡ 1 = omega arith in
       let z : m ≡ 0 = omega arith in
-      let all : take 8 (bytes_of 8 x) ≡ bytes_of 8 x = take_all 8 (bytes_of 8 x) (omega (arith, length-bytesOf 8 x)) in
+      let all : take 8 (bytes_of 8 x) ≡ bytes_of 8 x = take_all 8 (bytes_of 8 x) (omega (arith, length-bytes_of 8 x)) in
       (rw (e, all), rw z (sym (splice-nothing a s)))
 
   pub word-memory : k ≤ 0
@@ -31,7 +31,7 @@ module _ (l a : List ℕ) (g s x : ℕ) (k m : ℕ) (one : 8 * k + m ≡ 8) wher
   word-memory h =
       let e : k ≡ 0 = omega arith in
       let z : m ≡ 8 = omega arith in
-      let all : take 8 (bytes_of 8 x) ≡ bytes_of 8 x = take_all 8 (bytes_of 8 x) (omega (arith, length-bytesOf 8 x)) in
+      let all : take 8 (bytes_of 8 x) ≡ bytes_of 8 x = take_all 8 (bytes_of 8 x) (omega (arith, length-bytes_of 8 x)) in
       (rw e (sym (splice-nothing l g)), rw (e, z, all))
 
 -- it is put by the rule for words of any width

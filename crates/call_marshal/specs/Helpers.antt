@@ -4,7 +4,7 @@ use Rattle.std.specs.Prelude.{ℕ, ◌+◌, ◌-◌, ◌*◌, ◌^◌, ◌≤◌
 use Rattle.sig_types.specs.declared.Equivalent.{Equivalent}
 use Rattle.plan_places.specs.declared.CallRules.{CallRules}
 use Rattle.plan_places.specs.declared.Span.{Span}
-use Rattle.plan_places.specs.Spots.{imageBytes}
+use Rattle.plan_places.specs.Spots.{image_bytes}
 use Rattle.call_slots.specs.Placements.{Placement}
 use Rattle.call_slots.specs.Helpers.{InImage}
 
@@ -18,7 +18,7 @@ SpanTakes w s image area =
     (1 ≤ w)
     × (w ≤ 8)
     × (s.general.first + s.general.count ≤ 32)
-    × (length image ≡ imageBytes)
+    × (length image ≡ image_bytes)
     × (s.memory.start + s.memory.length ≤ length area)
     × (0 < s.memory.length → w ≤ s.memory.length)
 

@@ -3,10 +3,10 @@
 ghost use Rattle.std.specs.Prelude.{◌≡◌, false, eqb, ◌+◌, ◌*◌, ◌≤◌, ◌<◌, length, take};
 ghost use Rattle.base_words.specs.Splice.{overlay, splice, part};
 ghost use Rattle.base_words.specs.Numbers.{bytes_of};
-ghost use Rattle.plan_places.specs.Step.{wordOf};
+ghost use Rattle.plan_places.specs.Step.{word_of};
 ghost use Rattle.call_registers.specs.Registers.{spread};
-ghost use Rattle.call_slots.specs.Buffers.{buffers, floatingAt, put_all};
-ghost use Rattle.call_slots.specs.Forms.{homeBytes, floatForm, floatBytes};
+ghost use Rattle.call_slots.specs.Buffers.{buffers, floating_at, put_all};
+ghost use Rattle.call_slots.specs.Forms.{home_bytes, float_form, float_bytes};
 ghost use Rattle.call_slots.specs.Placements.{placement, slots_of};
 ghost use Rattle.call_slots.specs.Helpers.{Held, InImage};
 ghost use Rattle.call_marshal.specs.Helpers.{padded, SpanTakes, NumberFits, FprsTake, CanPut};
@@ -81,7 +81,7 @@ fn put_bytes(image: &mut [u8], area: &mut [u8], word: usize, s: Span, v: &[u8])
 // A float's form in its FPRs, at the head of `place`.
 fn put_float(place: &mut [u8], r: CallRules, e: Equivalent, v: &[u8])
     requires { FprsTake e (length v.now) (length place.old) }
-    ensures { place.new ≡ overlay place.old (floatForm r e v.now) }
+    ensures { place.new ≡ overlay place.old (float_form r e v.now) }
 {
     match e {
         Equivalent::Nothing => {
@@ -111,8 +111,8 @@ fn no_words(s: Span) -> bool
 
 // A value v of type t in the general registers and the memory of its span, where it has any.
 fn put_value(image: &mut [u8], area: &mut [u8], r: CallRules, t: ValueType, s: Span, v: &[u8])
-    requires { SpanTakes (wordOf r) s image.old area.old × Held r (placement t (length v.now) s) × (s.indirect ≡ false) }
-    ensures { (image.new ≡ splice image.old (8 * s.general.first) (spread (wordOf r) s.general.count (homeBytes r t (length v.now) v.now))) × (area.new ≡ splice area.old s.memory.start (part (wordOf r * s.general.count) s.memory.length (homeBytes r t (length v.now) v.now))) }
+    requires { SpanTakes (word_of r) s image.old area.old × Held r (placement t (length v.now) s) × (s.indirect ≡ false) }
+    ensures { (image.new ≡ splice image.old (8 * s.general.first) (spread (word_of r) s.general.count (home_bytes r t (length v.now) v.now))) × (area.new ≡ splice area.old s.memory.start (part (word_of r * s.general.count) s.memory.length (home_bytes r t (length v.now) v.now))) }
 {
     if no_words(s) {
         return;
@@ -128,7 +128,7 @@ fn put_value(image: &mut [u8], area: &mut [u8], r: CallRules, t: ValueType, s: S
 // The form of a value in its FPRs, where it has any. The words of the value are then put in one place for all: so that is compiled in line.
 fn put_fprs(image: &mut [u8], r: CallRules, t: ValueType, s: Span, v: &[u8])
     requires { InImage r (length image.old) (placement t (length v.now) s) }
-    ensures { image.new ≡ splice image.old (floatingAt s.floating.first) (take (8 * s.floating.count) (floatBytes r t v.now)) }
+    ensures { image.new ≡ splice image.old (floating_at s.floating.first) (take (8 * s.floating.count) (float_bytes r t v.now)) }
 {
     let floating = s.floating;
     if 0 < floating.count {

@@ -3,18 +3,18 @@
 use Rattle.std.specs.Prelude.{ℕ, ◌<◌, ◌≡◌, Bool, true, List, ltb, length}
 use Rattle.base_words.specs.Basics.{pick}
 use Rattle.base_words.specs.Numbers.{value_of}
-use Rattle.sig_types.specs.Sizes.{equivalentOf}
+use Rattle.sig_types.specs.Sizes.{equivalent_of}
 use Rattle.plan_places.specs.declared.CallRules.{CallRules}
 use Rattle.plan_places.specs.declared.Span.{Span}
 use Rattle.call_slots.specs.declared.CallAnswer.{CallAnswer}
 use Rattle.call_slots.specs.Buffers.{Buffers}
-use Rattle.call_slots.specs.Placements.{Placement, fprBytesAt}
-use Rattle.call_slots.specs.Refusals.{first_of, afterReading, floatAnswer}
+use Rattle.call_slots.specs.Placements.{Placement, fpr_bytes_at}
+use Rattle.call_slots.specs.Refusals.{first_of, after_reading, float_answer}
 use Rattle.call_slots.specs.Helpers.{InImage}
-use Rattle.call_slots.specs.Arguments.{planFor}
-use Rattle.plan_plans.specs.Call.{outcomeFor}
+use Rattle.call_slots.specs.Arguments.{plan_for}
+use Rattle.plan_plans.specs.Call.{outcome_for}
 use Rattle.call_read.specs.declared.ReadLengths.{ReadLengths}
-use Rattle.call_read.specs.Read.{readTests}
+use Rattle.call_read.specs.Read.{read_tests}
 
 -- what 13, 14 or 26 can refuse: an argument in FPRs, or one that is passed by pointer to a copy (law `nothing-asked`)
 abbrev pub asks : Span → Bool
@@ -25,8 +25,8 @@ pub record Compared (r : CallRules) (p : Placement) (b : Buffers) : Type 0 where
   pub registers : InImage r (length b.image) p
   pub float : 0 < p.span.floating.count
   pub also : 0 < p.span.general.count
-  pub exact : floatAnswer r (equivalentOf p.ty) (value_of (fprBytesAt p.span b)) ≡ CallAnswer.Done
+  pub exact : float_answer r (equivalent_of p.ty) (value_of (fpr_bytes_at p.span b)) ≡ CallAnswer.Done
 
 -- the answer for a call without arguments: of the lengths alone
-abbrev pub lengthsAnswer : List ℕ → ReadLengths → CallAnswer
-lengthsAnswer s have = afterReading (outcomeFor s) (first_of (readTests have (planFor s).values (planFor s).area))
+abbrev pub lengths_answer : List ℕ → ReadLengths → CallAnswer
+lengths_answer s have = after_reading (outcome_for s) (first_of (read_tests have (plan_for s).values (plan_for s).area))

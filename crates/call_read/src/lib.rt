@@ -6,10 +6,10 @@ ghost use Rattle.call_slots.specs.Buffers.{buffers};
 ghost use Rattle.call_slots.specs.Placements.{placement};
 ghost use Rattle.call_slots.specs.Refusals.{first_of};
 ghost use Rattle.call_arguments.specs.Helpers.{HeadIs, NoneLeft};
-ghost use Rattle.call_kept.specs.Helpers.{rowLength, keptAll, KeptEach};
+ghost use Rattle.call_kept.specs.Helpers.{row_length, kept_all, KeptEach};
 ghost use Rattle.call_unmarshal.specs.Helpers.{InBuffers};
-ghost use Rattle.call_read.specs.Read.{inCopies, copyAnswer, sameBytes, agrees, agreeAnswer, argumentAnswer, argumentsAnswer, readTests, readAnswer, readValues, read_lengths};
-ghost use Rattle.call_read.specs.Helpers.{Compared, asks as asksOf, lengthsAnswer};
+ghost use Rattle.call_read.specs.Read.{in_copies, copy_answer, same_bytes, agrees, agree_answer, argument_answer, arguments_answer, read_tests, read_answer, read_values, read_lengths};
+ghost use Rattle.call_read.specs.Helpers.{Compared, asks as asks_of, lengths_answer};
 
 use base_conventions::Convention;
 use call_kept::ROW;
@@ -28,7 +28,7 @@ pub struct ReadLengths {
 
 // Whether n bytes at an address lie in a copy buffer of `length` bytes at its base.
 fn in_copies(address: u64, base: u64, n: usize, length: usize) -> bool
-    ensures { result ≡ inCopies address base n length }
+    ensures { result ≡ in_copies address base n length }
 {
     if address < base {
         return false;
@@ -40,7 +40,7 @@ fn in_copies(address: u64, base: u64, n: usize, length: usize) -> bool
 }
 
 fn copy_answer(inside: bool) -> CallAnswer
-    ensures { result ≡ copyAnswer inside }
+    ensures { result ≡ copy_answer inside }
 {
     if inside {
         return CallAnswer::Done;
@@ -51,7 +51,7 @@ fn copy_answer(inside: bool) -> CallAnswer
 // Whether the first n bytes of a and of b are the same.
 fn same_bytes(a: &[u8], b: &[u8], n: usize) -> bool
     requires { (n ≤ length a.now) × (n ≤ length b.now) }
-    ensures { result ≡ sameBytes (take n a.now) (take n b.now) }
+    ensures { result ≡ same_bytes (take n a.now) (take n b.now) }
 {
     let mut i: usize = 0;
     while i < n {
@@ -92,7 +92,7 @@ fn floats_agree(image: &[u8], r: CallRules, t: ValueType, n: usize, s: Span) -> 
 }
 
 fn agree_answer(same: bool) -> CallAnswer
-    ensures { result ≡ agreeAnswer same }
+    ensures { result ≡ agree_answer same }
 {
     if same {
         return CallAnswer::Done;
@@ -112,7 +112,7 @@ pub fn argument_answer(
     base: u64,
 ) -> CallAnswer
     requires { InBuffers r (length image.now) (length area.now) (placement t n s) }
-    ensures { result ≡ argumentAnswer r base (placement t n s) (buffers image.now area.now copies.now) }
+    ensures { result ≡ argument_answer r base (placement t n s) (buffers image.now area.now copies.now) }
 {
     let general = s.general;
     let floating = s.floating;
@@ -137,7 +137,7 @@ pub fn argument_answer(
 
 // Whether anything is asked of an argument before it is read. Of most nothing is, and then nobody need know their types.
 fn asks(s: Span) -> bool
-    ensures { result ≡ asksOf s }
+    ensures { result ≡ asks_of s }
 {
     let floating = s.floating;
     if 0 < floating.count {
@@ -158,7 +158,7 @@ pub fn first_refusal(
     base: u64,
 ) -> CallAnswer
     requires { KeptEach (InBuffers rules (length image.now) (length area.now)) convention kept.now count }
-    ensures { result ≡ argumentsAnswer rules base (keptAll convention kept.now count) (buffers image.now area.now copies.now) }
+    ensures { result ≡ arguments_answer rules base (kept_all convention kept.now count) (buffers image.now area.now copies.now) }
 {
     let mut i: usize = 0;
     while i < count {
@@ -178,7 +178,7 @@ pub fn first_refusal(
 
 // Whether the buffers have the lengths that a plan asks for.
 fn tested(have: ReadLengths, values: usize, area: usize) -> CallAnswer
-    ensures { result ≡ first_of (readTests have values area) }
+    ensures { result ≡ first_of (read_tests have values area) }
 {
     if have.image != IMAGE_BYTES {
         return CallAnswer::Refused(CallRefusal::ImageSize);
@@ -208,9 +208,9 @@ fn read_part(
     earlier: usize,
     kept: &mut [u16],
 ) -> CallAnswer
-    requires { HeadIs sig.now convention returned ellipsis at end earlier × RoomFor rowLength at end (length kept.old) }
-    ensures value { result ≡ readAnswer sig.now (read_lengths values.old image.now area.now) base (buffers image.now area.now copies.now) }
-    ensures values_after { values.new ≡ readValues sig.now base result (buffers image.now area.now copies.now) values.old }
+    requires { HeadIs sig.now convention returned ellipsis at end earlier × RoomFor row_length at end (length kept.old) }
+    ensures value { result ≡ read_answer sig.now (read_lengths values.old image.now area.now) base (buffers image.now area.now copies.now) }
+    ensures values_after { values.new ≡ read_values sig.now base result (buffers image.now area.now copies.now) values.old }
 {
     let k = call_arguments::keep_call(sig, convention, ellipsis, returned, at, end, earlier, kept);
     let count = k.count;
@@ -253,7 +253,7 @@ fn read_none(
     earlier: usize,
 ) -> CallAnswer
     requires { NoneLeft sig.now convention returned end earlier }
-    ensures { result ≡ lengthsAnswer sig.now (read_lengths values.now image.now area.now) }
+    ensures { result ≡ lengths_answer sig.now (read_lengths values.now image.now area.now) }
 {
     let m = call_arguments::measure_none(sig, convention, returned, end, earlier);
     let outcome = m.outcome;
@@ -280,8 +280,8 @@ pub fn read(
     copies: &[u8],
     base: u64,
 ) -> CallAnswer
-    ensures value { result ≡ readAnswer sig.now (read_lengths values.old image.now area.now) base (buffers image.now area.now copies.now) }
-    ensures values_after { values.new ≡ readValues sig.now base result (buffers image.now area.now copies.now) values.old }
+    ensures value { result ≡ read_answer sig.now (read_lengths values.old image.now area.now) base (buffers image.now area.now copies.now) }
+    ensures values_after { values.new ≡ read_values sig.now base result (buffers image.now area.now copies.now) values.old }
 {
     match sig_head::read_head(sig) {
         HeadRead::Refused(fault) => CallAnswer::Unread(fault),

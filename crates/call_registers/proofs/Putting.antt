@@ -11,9 +11,9 @@ use lib.Dec.{ltb}
 use lib.ListN.{length, take, drop, replicate, length-append, length-drop, length-replicate}
 use lib.Seq.{take_all, take-append-le, drop-append-le}
 use Rattle.base_words.specs.Splice.{overlay, splice, part}
-use Rattle.base_words.specs.Numbers.{bytes_of, zeroExtended}
+use Rattle.base_words.specs.Numbers.{bytes_of, zero_extended}
 use Rattle.base_words.proofs.Splices.{length-splice, overlay-append}
-use Rattle.base_words.proofs.Numbers.{length-bytesOf, bytesOf-middle}
+use Rattle.base_words.proofs.Numbers.{length-bytes_of, bytes_of-middle}
 use Rattle.call_registers.specs.Registers.{in_register, spread}
 use Rattle.call_registers.proofs.Registers.{length-spread, spread-more, register-number}
 use Rattle.call_registers.specs.Helpers.{RegistersTake}
@@ -138,19 +138,19 @@ module _ (s₀ : List ℕ) (w k room x : ℕ) where
       pub number-room : w ≤ rest
       number-room = omega (arith, t.left, mul-suc w i, mul-le-mul_left w some)
 
-      pub number_more : NumberPut (splice s (8 * i) (bytes_of 8 (zeroExtended w (x / 2 ^ (8 * (rest - w)))))) (i + 1) (rest - w)
+      pub number_more : NumberPut (splice s (8 * i) (bytes_of 8 (zero_extended w (x / 2 ^ (8 * (rest - w)))))) (i + 1) (rest - w)
       number_more =
           let r = number-room in
           let l = t.left in
           let e : w * i + (w + (rest - w)) ≡ room = omega arith in
-          let word : bytes_of 8 (zeroExtended w (x / 2 ^ (8 * (rest - w)))) ≡ in_register w (part (w * i) w (bytes_of room x)) =
+          let word : bytes_of 8 (zero_extended w (x / 2 ^ (8 * (rest - w)))) ≡ in_register w (part (w * i) w (bytes_of room x)) =
           register-number w (x / 2 ^ (8 * (rest - w))) most
-          ∙ ap (in_register w) (sym (bytesOf-middle (w * i) w (rest - w) x) ∙ ap (λ (n : ℕ). part (w * i) w (bytes_of n x)) e) in
+          ∙ ap (in_register w) (sym (bytes_of-middle (w * i) w (rest - w) x) ∙ ap (λ (n : ℕ). part (w * i) w (bytes_of n x)) e) in
           record {
             most = omega arith;
             size = length-splice s (8 * i) _ ∙ t.size;
             left = omega (arith, mul-suc w i, ap (λ (n : ℕ). w * n) (add-one i));
-            now = ap₂ (λ (a c : List ℕ). splice a (8 * i) c) t.now word ∙ register-more s₀ (bytes_of room x) w i most (omega (arith, length-bytesOf room x));
+            now = ap₂ (λ (a c : List ℕ). splice a (8 * i) c) t.now word ∙ register-more s₀ (bytes_of room x) w i most (omega (arith, length-bytes_of room x));
           }
 
     pub number-end : (s : List ℕ) (i rest : ℕ) → NumberPut s i rest → k ≤ i → s ≡ overlay s₀ (spread w k (bytes_of room x))

@@ -8,9 +8,9 @@ use native.Mathlib.Nat.{mul-suc, mul-zero, mul-le-mul_left, mul-one, mod-eq_of_l
 use lib.ListN.{length, take, drop, replicate, length-append, length-take, length-drop, length-replicate}
 use lib.Seq.{length-take-le, take_all, take-nil, drop-nil, take_at, drop_at, drop-drop, take-add, take-append-le, drop-append-le, take-append-add, drop-append-add}
 use Rattle.base_words.specs.Splice.{part}
-use Rattle.base_words.specs.Numbers.{bytes_of, zeroExtended}
+use Rattle.base_words.specs.Numbers.{bytes_of, zero_extended}
 use Rattle.base_words.proofs.Splices.{length_part, part-part}
-use Rattle.base_words.proofs.Numbers.{length-bytesOf, doubleword-zeroExtended}
+use Rattle.base_words.proofs.Numbers.{length-bytes_of, doubleword-zero_extended}
 use Rattle.call_registers.specs.Registers.{in_register, spread, gather}
 
 -- ---- lengths
@@ -129,8 +129,8 @@ gather-doublewords (suc k) bs =
 -- ---- a number in one register
 
 -- its lowest w bytes
-pub register-number : (w x : ℕ) → w ≤ 8 → bytes_of 8 (zeroExtended w x) ≡ in_register w (bytes_of w x)
-register-number w x h = doubleword-zeroExtended w x h
+pub register-number : (w x : ℕ) → w ≤ 8 → bytes_of 8 (zero_extended w x) ≡ in_register w (bytes_of w x)
+register-number w x h = doubleword-zero_extended w x h
 
 pub spread-one : (w : ℕ) (bs : List ℕ) → length bs ≡ w → spread w 1 bs ≡ in_register w bs
 unfolding spread

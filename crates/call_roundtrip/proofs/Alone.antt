@@ -15,17 +15,17 @@ use Rattle.base_words.specs.Splice.{splice, part}
 use Rattle.base_words.proofs.Splices.{splice-at-other}
 use Rattle.base_words.specs.Numbers.{value_of}
 use Rattle.plan_places.specs.declared.CallRules.{CallRules}
-use Rattle.plan_places.specs.Step.{wordOf}
+use Rattle.plan_places.specs.Step.{word_of}
 use Rattle.plan_places.specs.Spots.{Spot, general, floating, area, copies}
-use Rattle.call_slots.specs.Buffers.{Buffers, Slot, generalAt, floatingAt, put, put_all, bytes_at}
-use Rattle.call_slots.specs.Forms.{floatValue, ownStart}
-use Rattle.call_slots.specs.Placements.{Placement, wordsAt, fprBytesAt, addressAt, wordsValue, value_at}
-use Rattle.call_slots.specs.Arguments.{argumentsOf, rulesFor}
-use Rattle.call_fill.specs.Fill.{filledSlots, fillBuffers}
-use Rattle.call_home.specs.Home.{homed, homeArea}
-use Rattle.call_roundtrip.specs.Places.{Byte, inImage, in_area, inCopies, byte_at, Among, CoversFrom, Touches, FillOnly, ReadOwn}
+use Rattle.call_slots.specs.Buffers.{Buffers, Slot, general_at, floating_at, put, put_all, bytes_at}
+use Rattle.call_slots.specs.Forms.{float_value, own_start}
+use Rattle.call_slots.specs.Placements.{Placement, words_at, fpr_bytes_at, address_at, words_value, value_at}
+use Rattle.call_slots.specs.Arguments.{arguments_of, rules_for}
+use Rattle.call_fill.specs.Fill.{filled_slots, fill_buffers}
+use Rattle.call_home.specs.Home.{homed, home_area}
+use Rattle.call_roundtrip.specs.Places.{Byte, in_image, in_area, in_copies, byte_at, Among, CoversFrom, Touches, FillOnly, ReadOwn}
 use Rattle.call_roundtrip.specs.Views.{HomeTouches, HomeOnly}
-use Rattle.call_home_slot.specs.Homes.{homedBytes}
+use Rattle.call_home_slot.specs.Homes.{homed_bytes}
 
 splice-kept : (l : List ℕ) (n : ℕ) (bs : List ℕ) (i : ℕ) → (Among n (length bs) i → ⊥) → get_or (splice l n bs) i 0 ≡ get_or l i 0
 splice-kept l n bs i h = go (ltb i n) refl
@@ -40,18 +40,18 @@ splice-kept l n bs i h = go (ltb i n) refl
 
 put-kept : (p : Spot) (bs : List ℕ) (b : Buffers) (x : Byte) → (CoversFrom p (length bs) x → ⊥) → byte_at x (put p bs b) ≡ byte_at x b
 unfolding put
-put-kept (general n) bs b (inImage i) h = splice-kept b.image (generalAt n) bs i h
+put-kept (general n) bs b (in_image i) h = splice-kept b.image (general_at n) bs i h
 put-kept (general n) bs b (in_area i) h = refl
-put-kept (general n) bs b (inCopies i) h = refl
-put-kept (floating n) bs b (inImage i) h = splice-kept b.image (floatingAt n) bs i h
+put-kept (general n) bs b (in_copies i) h = refl
+put-kept (floating n) bs b (in_image i) h = splice-kept b.image (floating_at n) bs i h
 put-kept (floating n) bs b (in_area i) h = refl
-put-kept (floating n) bs b (inCopies i) h = refl
-put-kept (area n) bs b (inImage i) h = refl
+put-kept (floating n) bs b (in_copies i) h = refl
+put-kept (area n) bs b (in_image i) h = refl
 put-kept (area n) bs b (in_area i) h = splice-kept b.area n bs i h
-put-kept (area n) bs b (inCopies i) h = refl
-put-kept (copies n) bs b (inImage i) h = refl
+put-kept (area n) bs b (in_copies i) h = refl
+put-kept (copies n) bs b (in_image i) h = refl
 put-kept (copies n) bs b (in_area i) h = refl
-put-kept (copies n) bs b (inCopies i) h = splice-kept b.copies n bs i h
+put-kept (copies n) bs b (in_copies i) h = splice-kept b.copies n bs i h
 
 all-kept : (ss : List Slot) (b : Buffers) (x : Byte) → (Touches ss x → ⊥) → byte_at x (put_all ss b) ≡ byte_at x b
 unfolding put_all Touches
@@ -60,8 +60,8 @@ all-kept (s ∷ ss) b x h =
     all-kept ss (put s.spot s.bytes b) x (λ t. h (inr t)) ∙ put-kept s.spot s.bytes b x (λ t. h (inl t))
 
 pub fill-only : FillOnly
-unfolding fillBuffers
-fill-only s values base hidden b x h = all-kept (filledSlots s values base hidden) b x h
+unfolding fill_buffers
+fill-only s values base hidden b x h = all-kept (filled_slots s values base hidden) b x h
 
 -- ---- home
 
@@ -69,31 +69,31 @@ homed-only : (r : CallRules) (ps : List Placement) (image l : List ℕ) (i : ℕ
 unfolding homed HomeTouches
 homed-only r [] image l i h = refl
 homed-only r (p ∷ ps) image l i h =
-    homed-only r ps image (splice l p.span.home.start (homedBytes r p image)) i (λ t. h (inr t)) ∙ splice-kept l p.span.home.start (homedBytes r p image) i (λ t. h (inl t))
+    homed-only r ps image (splice l p.span.home.start (homed_bytes r p image)) i (λ t. h (inr t)) ∙ splice-kept l p.span.home.start (homed_bytes r p image) i (λ t. h (inl t))
 
 pub home-only : HomeOnly
-unfolding homeArea
-home-only s image l i h = homed-only (rulesFor s) (argumentsOf s) image l i h
+unfolding home_area
+home-only s image l i h = homed-only (rules_for s) (arguments_of s) image l i h
 
 -- ---- reading
 
 pub read-own : ReadOwn
-unfolding value_at wordsValue
+unfolding value_at words_value
 read-own r base p b c h = go (ltb 0 p.span.floating.count) refl
   where
     w : ℕ
-    w = wordOf r
+    w = word_of r
 
     in_words : (i : Bool) → p.span.indirect ≡ i
-        → pick i (bytes_at (copies (addressAt w p.span b - base)) p.size b) (part (ownStart r p.ty p.size) p.size (wordsAt w p.span b))
-        ≡ pick i (bytes_at (copies (addressAt w p.span c - base)) p.size c) (part (ownStart r p.ty p.size) p.size (wordsAt w p.span c))
+        → pick i (bytes_at (copies (address_at w p.span b - base)) p.size b) (part (own_start r p.ty p.size) p.size (words_at w p.span b))
+        ≡ pick i (bytes_at (copies (address_at w p.span c - base)) p.size c) (part (own_start r p.ty p.size) p.size (words_at w p.span c))
     in_words true q = h.copy q ∙ ap (λ (l : List ℕ). bytes_at (copies (value_of l - base)) p.size c) h.words
-    in_words false q = ap (part (ownStart r p.ty p.size) p.size) h.words
+    in_words false q = ap (part (own_start r p.ty p.size) p.size) h.words
 
     go : (f : Bool) → ltb 0 p.span.floating.count ≡ f
-        → pick f (floatValue r p.ty (fprBytesAt p.span b))
-        (pick p.span.indirect (bytes_at (copies (addressAt w p.span b - base)) p.size b) (part (ownStart r p.ty p.size) p.size (wordsAt w p.span b)))
-        ≡ pick f (floatValue r p.ty (fprBytesAt p.span c))
-        (pick p.span.indirect (bytes_at (copies (addressAt w p.span c - base)) p.size c) (part (ownStart r p.ty p.size) p.size (wordsAt w p.span c)))
-    go true q = ap (floatValue r p.ty) (h.float (ltb-true 0 p.span.floating.count q))
+        → pick f (float_value r p.ty (fpr_bytes_at p.span b))
+        (pick p.span.indirect (bytes_at (copies (address_at w p.span b - base)) p.size b) (part (own_start r p.ty p.size) p.size (words_at w p.span b)))
+        ≡ pick f (float_value r p.ty (fpr_bytes_at p.span c))
+        (pick p.span.indirect (bytes_at (copies (address_at w p.span c - base)) p.size c) (part (own_start r p.ty p.size) p.size (words_at w p.span c)))
+    go true q = ap (float_value r p.ty) (h.float (ltb-true 0 p.span.floating.count q))
     go false q = in_words p.span.indirect refl

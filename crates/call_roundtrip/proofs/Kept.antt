@@ -16,15 +16,15 @@ use Rattle.sig_types.specs.Sizes.{size_of}
 use Rattle.plan_places.specs.declared.Cursor.{Cursor}
 use Rattle.plan_places.specs.declared.CallRules.{CallRules}
 use Rattle.plan_places.specs.Spots.{Spot, general, floating, area, copies}
-use Rattle.plan_places.specs.Step.{wordOf, span_of, nextOf}
+use Rattle.plan_places.specs.Step.{word_of, span_of, next_of}
 use Rattle.plan_places.proofs.Bounds.{Named, named-next}
 use Rattle.plan_places.proofs.Between.{From, from-earlier, step-between, step-forward}
 use Rattle.plan_places.proofs.Registers.{step-numbered}
-use Rattle.plan_plans.specs.Plan.{spansOf}
+use Rattle.plan_plans.specs.Plan.{spans_of}
 use Rattle.call_slots.specs.Buffers.{Buffers, Slot, put, put_all, bytes_at}
-use Rattle.call_slots.specs.Forms.{floatBytes}
+use Rattle.call_slots.specs.Forms.{float_bytes}
 use Rattle.call_registers.proofs.Registers.{spread-short}
-use Rattle.call_slots.specs.Placements.{Placement, placement, placements, standing, slots_of, slotsOfAll}
+use Rattle.call_slots.specs.Placements.{Placement, placement, placements, standing, slots_of, slots_of_all}
 
 -- m bytes from a spot on end at or before a cursor
 abbrev pub Upto : Cursor → Spot → ℕ → Type 0
@@ -74,27 +74,27 @@ kept-all k p m (s ∷ ss) b u x h =
 
 -- ---- the slots of arguments
 
-pub slots-later : (r : CallRules) (base : ℕ) (k : Cursor) (t : ValueType) (n : ℕ) (v : List ℕ) → wordOf r ≤ 8 → Named r k
+pub slots-later : (r : CallRules) (base : ℕ) (k : Cursor) (t : ValueType) (n : ℕ) (v : List ℕ) → word_of r ≤ 8 → Named r k
     → All (Later k) (slots_of r base (placement t n (span_of r k t n)) v)
 unfolding slots_of All
 slots-later r base k t n v most named =
     let b = step-between r k t n in
     let q = step-numbered r k t n named in
     let p : Placement = placement t n (span_of r k t n) in (
-      (b.floating-from, omega (arith, take_short (8 * p.span.floating.count) (floatBytes r t v))),
+      (b.floating-from, omega (arith, take_short (8 * p.span.floating.count) (float_bytes r t v))),
       (
-        (b.general-from, omega (arith, spread-short (wordOf r) p.span.general.count (standing r base p v) most)),
+        (b.general-from, omega (arith, spread-short (word_of r) p.span.general.count (standing r base p v) most)),
         ((omega arith, tt), ((b.copy-from, tt), tt)),
       ),
     )
 
-pub all-later : (c : Convention) (r : CallRules) (base : ℕ) (k : Cursor) (ts : List ValueType) (v : List ℕ) → wordOf r ≤ 8 → Named r k
-    → All (Later k) (slotsOfAll r base (placements c ts (spansOf c r k ts)) v)
-unfolding placements spansOf slotsOfAll All
+pub all-later : (c : Convention) (r : CallRules) (base : ℕ) (k : Cursor) (ts : List ValueType) (v : List ℕ) → word_of r ≤ 8 → Named r k
+    → All (Later k) (slots_of_all r base (placements c ts (spans_of c r k ts)) v)
+unfolding placements spans_of slots_of_all All
 all-later c r base k [] v most named = tt
 all-later c r base k (t ∷ ts) v most named =
     let n : ℕ = size_of c t in
-    let d : Cursor = nextOf r k t n in
-    each_both (Later k) (slots_of r base (placement t n (span_of r k t n)) (take n v)) (slotsOfAll r base (placements c ts (spansOf c r d ts)) (drop n v))
+    let d : Cursor = next_of r k t n in
+    each_both (Later k) (slots_of r base (placement t n (span_of r k t n)) (take n v)) (slots_of_all r base (placements c ts (spans_of c r d ts)) (drop n v))
     (slots-later r base k t n (take n v) most named)
-    (each_more (Later d) (Later k) (λ s h. (from-earlier (step-forward r k t n) s.spot h.0, h.1)) (slotsOfAll r base (placements c ts (spansOf c r d ts)) (drop n v)) (all-later c r base d ts (drop n v) most (named-next r k t n named)))
+    (each_more (Later d) (Later k) (λ s h. (from-earlier (step-forward r k t n) s.spot h.0, h.1)) (slots_of_all r base (placements c ts (spans_of c r d ts)) (drop n v)) (all-later c r base d ts (drop n v) most (named-next r k t n named)))

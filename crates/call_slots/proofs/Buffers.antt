@@ -24,14 +24,14 @@ put-lengths (floating n) bs b = record { image = length-splice b.image _ bs; are
 put-lengths (area n) bs b = record { image = refl; area = length-splice b.area n bs; copies = refl }
 put-lengths (copies n) bs b = record { image = refl; area = refl; copies = length-splice b.copies n bs }
 
-pub putAll-lengths : (ss : List Slot) (b : Buffers) → SameLengths b (put_all ss b)
+pub put_all-lengths : (ss : List Slot) (b : Buffers) → SameLengths b (put_all ss b)
 unfolding put_all
-putAll-lengths [] b = record { image = refl; area = refl; copies = refl }
-putAll-lengths (s ∷ ss) b = same_then (put-lengths s.spot s.bytes b) (putAll-lengths ss (put s.spot s.bytes b))
+put_all-lengths [] b = record { image = refl; area = refl; copies = refl }
+put_all-lengths (s ∷ ss) b = same_then (put-lengths s.spot s.bytes b) (put_all-lengths ss (put s.spot s.bytes b))
 
 -- ---- one after another
 
-pub putAll-append : (ss ts : List Slot) (b : Buffers) → put_all (ss ++ ts) b ≡ put_all ts (put_all ss b)
+pub put_all-append : (ss ts : List Slot) (b : Buffers) → put_all (ss ++ ts) b ≡ put_all ts (put_all ss b)
 unfolding put_all
-putAll-append [] ts b = refl
-putAll-append (s ∷ ss) ts b = putAll-append ss ts (put s.spot s.bytes b)
+put_all-append [] ts b = refl
+put_all-append (s ∷ ss) ts b = put_all-append ss ts (put s.spot s.bytes b)

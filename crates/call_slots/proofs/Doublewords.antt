@@ -8,38 +8,38 @@ use lib.ListN.{take, drop, length-take}
 use lib.Seq.{take_all}
 use Rattle.base_words.specs.Splice.{part}
 use Rattle.base_words.specs.Numbers.{bytes_of}
-use Rattle.base_words.proofs.Numbers.{length-bytesOf}
+use Rattle.base_words.proofs.Numbers.{length-bytes_of}
 use Rattle.plan_places.specs.declared.CallRules.{CallRules}
 use Rattle.plan_places.specs.declared.Span.{Span}
 use Rattle.plan_places.specs.declared.ResultPlaces.{ResultPlaces}
-use Rattle.plan_places.specs.Step.{wordOf}
+use Rattle.plan_places.specs.Step.{word_of}
 use Rattle.plan_places.specs.Spots.{general, floating, area, copies}
-use Rattle.call_slots.specs.Buffers.{Buffers, Slot, slot, generalAt, bytes_at}
+use Rattle.call_slots.specs.Buffers.{Buffers, Slot, slot, general_at, bytes_at}
 use Rattle.call_registers.specs.Registers.{spread, gather}
-use Rattle.call_slots.specs.Forms.{floatBytes}
-use Rattle.call_slots.specs.Placements.{Placement, standing, copyBytes, slots_of, hiddenSlots, wordsAt}
+use Rattle.call_slots.specs.Forms.{float_bytes}
+use Rattle.call_slots.specs.Placements.{Placement, standing, copy_bytes, slots_of, hidden_slots, words_at}
 use Rattle.call_registers.proofs.Registers.{spread-doublewords, gather-doublewords}
 
-pub slots-doublewords : (r : CallRules) (base : ℕ) (p : Placement) (v : List ℕ) → wordOf r ≡ 8
+pub slots-doublewords : (r : CallRules) (base : ℕ) (p : Placement) (v : List ℕ) → word_of r ≡ 8
     → slots_of r base p v
-    ≡ slot (floating p.span.floating.first) (take (8 * p.span.floating.count) (floatBytes r p.ty v))
+    ≡ slot (floating p.span.floating.first) (take (8 * p.span.floating.count) (float_bytes r p.ty v))
     ∷ slot (general p.span.general.first) (take (8 * p.span.general.count) (standing r base p v))
     ∷ slot (area p.span.memory.start) (part (8 * p.span.general.count) p.span.memory.length (standing r base p v))
-    ∷ slot (copies p.span.copy.start) (copyBytes p v)
+    ∷ slot (copies p.span.copy.start) (copy_bytes p v)
     ∷ []
 unfolding slots_of
 slots-doublewords r base p v e = rw (e, spread-doublewords p.span.general.count (standing r base p v))
 
-pub hidden-doublewords : (s : Span) (address : ℕ) → hiddenSlots 8 (ResultPlaces.Hidden s) address ≡ slot (general s.general.first) (bytes_of 8 address) ∷ []
+pub hidden-doublewords : (s : Span) (address : ℕ) → hidden_slots 8 (ResultPlaces.Hidden s) address ≡ slot (general s.general.first) (bytes_of 8 address) ∷ []
 hidden-doublewords s address =
     ap (λ (bs : List ℕ). slot (general s.general.first) bs ∷ [])
-    (spread-doublewords 1 (bytes_of 8 address) ∙ take_all 8 (bytes_of 8 address) (omega (arith, length-bytesOf 8 address)))
+    (spread-doublewords 1 (bytes_of 8 address) ∙ take_all 8 (bytes_of 8 address) (omega (arith, length-bytes_of 8 address)))
 
 pub words-doublewords : (s : Span) (b : Buffers)
-    → wordsAt 8 s b ≡ bytes_at (general s.general.first) (8 * s.general.count) b ++ bytes_at (area s.memory.start) s.memory.length b
-unfolding wordsAt bytes_at
+    → words_at 8 s b ≡ bytes_at (general s.general.first) (8 * s.general.count) b ++ bytes_at (area s.memory.start) s.memory.length b
+unfolding words_at bytes_at
 words-doublewords s b =
     let k : ℕ = 8 * s.general.count in
-    let bs : List ℕ = part (generalAt s.general.first) k b.image in
+    let bs : List ℕ = part (general_at s.general.first) k b.image in
     ap (λ (l : List ℕ). l ++ part s.memory.start s.memory.length b.area)
-    (gather-doublewords s.general.count bs ∙ take_all k bs (omega (arith, length-take k (drop (generalAt s.general.first) b.image))))
+    (gather-doublewords s.general.count bs ∙ take_all k bs (omega (arith, length-take k (drop (general_at s.general.first) b.image))))

@@ -4,14 +4,14 @@ use mathlib.Core.Path.{◌≡◌, refl}
 use mathlib.Core.Bool.{Bool, true, false}
 use Prim.Native.Nat.{ℕ, ◌+◌, max}
 use native.Mathlib.Omega.{arith}
-use Rattle.base_words.specs.Basics.{roundUp, All}
+use Rattle.base_words.specs.Basics.{round_up, All}
 use Rattle.base_conventions.specs.declared.Convention.{Convention}
 use Rattle.sig_types.specs.declared.FloatFormat.{FloatFormat}
 use Rattle.sig_types.specs.declared.Equivalent.{Equivalent}
 use Rattle.sig_types.specs.declared.ValueType.{ValueType}
 use Rattle.sig_types.specs.declared.Fields.{Fields}
-use Rattle.sig_types.specs.Sizes.{size_of, align_of, equivalentOf, Sized}
-use Rattle.sig_types.specs.Structs.{withField, equivalentAfter, shape_of}
+use Rattle.sig_types.specs.Sizes.{size_of, align_of, equivalent_of, Sized}
+use Rattle.sig_types.specs.Structs.{with_field, equivalent_after, shape_of}
 use Rattle.sig_types.specs.Trees.{Tree, Trees, integer, float, struct, none, ◌▸◌, type_of, fields_of}
 use Rattle.sig_types.specs.Limits.{AllSized}
 use Rattle.sig_signatures.specs.Types.{types_of}
@@ -24,8 +24,8 @@ LaidAs Equivalent.Double n a = (n ≡ 8) × (a ≡ 8)
 LaidAs Equivalent.Nothing n a = Unit {0}
 
 -- the first field of a struct, at 0
-first-laid : (e : Equivalent) (end align n a : ℕ) → end ≡ 0 → align ≡ 1 → LaidAs e n a → LaidAs e (roundUp end a + n) (max align a)
-unfolding roundUp
+first-laid : (e : Equivalent) (end align n a : ℕ) → end ≡ 0 → align ≡ 1 → LaidAs e n a → LaidAs e (round_up end a + n) (max align a)
+unfolding round_up
 first-laid Equivalent.Single end align n a p q h = rw (p, q, h.0, h.1) (refl, refl)
 first-laid Equivalent.Double end align n a p q h = rw (p, q, h.0, h.1) (refl, refl)
 first-laid Equivalent.Nothing end align n a p q h = tt
@@ -35,31 +35,31 @@ record Blank (l : Fields) : Type 0 where
   end : l.empty ≡ true → l.end ≡ 0
   align : l.empty ≡ true → l.align ≡ 1
 
-more-laid : (c : Convention) (l : Fields) (t : ValueType) → Blank l → LaidAs (equivalentOf t) (size_of c t) (align_of c t)
-    → LaidAs (withField c l t).equivalent (withField c l t).end (withField c l t).align
-unfolding withField
+more-laid : (c : Convention) (l : Fields) (t : ValueType) → Blank l → LaidAs (equivalent_of t) (size_of c t) (align_of c t)
+    → LaidAs (with_field c l t).equivalent (with_field c l t).end (with_field c l t).align
+unfolding with_field
 more-laid c l t b h = go l.empty b.end b.align
   where
     go : (e : Bool) → (e ≡ true → l.end ≡ 0) → (e ≡ true → l.align ≡ 1)
-        → LaidAs (equivalentAfter e t) (roundUp l.end (align_of c t) + size_of c t) (max l.align (align_of c t))
-    go true p q = first-laid (equivalentOf t) l.end l.align (size_of c t) (align_of c t) (p refl) (q refl) h
+        → LaidAs (equivalent_after e t) (round_up l.end (align_of c t) + size_of c t) (max l.align (align_of c t))
+    go true p q = first-laid (equivalent_of t) l.end l.align (size_of c t) (align_of c t) (p refl) (q refl) h
     go false p q = tt
 
-closed-laid : (e : Equivalent) (end align : ℕ) → LaidAs e end align → LaidAs e (roundUp end align) align
-unfolding roundUp
+closed-laid : (e : Equivalent) (end align : ℕ) → LaidAs e end align → LaidAs e (round_up end align) align
+unfolding round_up
 closed-laid Equivalent.Single end align h = rw (h.0, h.1) (refl, refl)
 closed-laid Equivalent.Double end align h = rw (h.0, h.1) (refl, refl)
 closed-laid Equivalent.Nothing end align h = tt
 
 fields-blank : (c : Convention) (ts : Trees) → Blank (fields_of c ts)
-unfolding fields_of withField
+unfolding fields_of with_field
 fields-blank c none = record { end = λ e. refl; align = λ e. refl }
 fields-blank c (ts ▸ t) = record { end = λ e. let z : ◌≡◌ {A = ℕ} 0 1 = cc in absurd (omega arith); align = λ e. let z : ◌≡◌ {A = ℕ} 0 1 = cc in absurd (omega arith) }
 
 mutual
   unfolding type_of shape_of
 
-  pub type-laid : (c : Convention) (t : Tree) → LaidAs (equivalentOf (type_of c t)) (size_of c (type_of c t)) (align_of c (type_of c t))
+  pub type-laid : (c : Convention) (t : Tree) → LaidAs (equivalent_of (type_of c t)) (size_of c (type_of c t)) (align_of c (type_of c t))
   type-laid c (integer k) = tt
   type-laid c (float FloatFormat.Single) = (refl, refl)
   type-laid c (float FloatFormat.Double) = (refl, refl)
@@ -80,7 +80,7 @@ EquivalentSized Equivalent.Nothing n = Unit {0}
 
 pub record Typed (c : Convention) (t : ValueType) : Type 0 where
   pub sized : Sized c t
-  pub float : EquivalentSized (equivalentOf t) (size_of c t)
+  pub float : EquivalentSized (equivalent_of t) (size_of c t)
 
 laid-sized : (e : Equivalent) (n a : ℕ) → LaidAs e n a → EquivalentSized e n
 laid-sized Equivalent.Single n a h = h.0
@@ -89,7 +89,7 @@ laid-sized Equivalent.Nothing n a h = tt
 
 -- a type within the limits has its float's size
 pub typed : (c : Convention) (t : Tree) → Sized c (type_of c t) → Typed c (type_of c t)
-typed c t h = record { sized = h; float = laid-sized (equivalentOf (type_of c t)) (size_of c (type_of c t)) (align_of c (type_of c t)) (type-laid c t) }
+typed c t h = record { sized = h; float = laid-sized (equivalent_of (type_of c t)) (size_of c (type_of c t)) (align_of c (type_of c t)) (type-laid c t) }
 
 -- and so have the arguments that a signature may have
 pub all_typed : (c : Convention) (ts : Trees) → AllSized c ts → All (Typed c) (types_of c ts)

@@ -5,35 +5,35 @@ use Rattle.base_words.specs.Basics.{pick}
 use Rattle.base_ieee.specs.declared.Narrowed.{Narrowed}
 use Rattle.base_ieee.specs.Narrowing.{narrow}
 use Rattle.sig_types.specs.declared.Equivalent.{Equivalent}
-use Rattle.sig_items.specs.Refusals.{refusalNumber}
+use Rattle.sig_items.specs.Refusals.{refusal_number}
 use Rattle.sig_signatures.specs.declared.Outcome.{Outcome}
 use Rattle.plan_places.specs.declared.CallRules.{CallRules}
 use Rattle.call_slots.specs.declared.CallRefusal.{CallRefusal}
 use Rattle.call_slots.specs.declared.CallAnswer.{CallAnswer}
 
-abbrev pub callRefusalNumber : CallRefusal → ℕ
+abbrev pub call_refusal_number : CallRefusal → ℕ
 -- "value buffer not exactly the arguments' total size"
-callRefusalNumber CallRefusal.ValuesSize = 10
+call_refusal_number CallRefusal.ValuesSize = 10
 -- "parameter buffer shorter than the area"
-callRefusalNumber CallRefusal.AreaTooShort = 11
+call_refusal_number CallRefusal.AreaTooShort = 11
 -- "filling only: last copy ends at C, C above 0, and copy buffer under C, base not a multiple of 8, or base + C over 2^64 - 1"
-callRefusalNumber CallRefusal.BadCopies = 12
+call_refusal_number CallRefusal.BadCopies = 12
 -- "a by-pointer argument not wholly inside the copy buffer"
-callRefusalNumber CallRefusal.OutsideCopies = 13
+call_refusal_number CallRefusal.OutsideCopies = 13
 -- "a single's PPC64 FPR that is no widened single"
-callRefusalNumber CallRefusal.NotWidened = 14
+call_refusal_number CallRefusal.NotWidened = 14
 -- "register image not 512 bytes"
-callRefusalNumber CallRefusal.ImageSize = 15
+call_refusal_number CallRefusal.ImageSize = 15
 -- 02, No. 5: "when the GPRs of a float argument hold other value bytes than its FPR"
-callRefusalNumber CallRefusal.FloatsDiffer = 26
+call_refusal_number CallRefusal.FloatsDiffer = 26
 -- "home or view asked of Z, or a view of an argument that isn't there"
-callRefusalNumber CallRefusal.NoView = 24
+call_refusal_number CallRefusal.NoView = 24
 
 -- the number of an answer: 0 where nothing is refused
-abbrev pub callAnswerNumber : CallAnswer → ℕ
-callAnswerNumber CallAnswer.Done = 0
-callAnswerNumber (CallAnswer.Unread f) = refusalNumber f.reason
-callAnswerNumber (CallAnswer.Refused reason) = callRefusalNumber reason
+abbrev pub call_answer_number : CallAnswer → ℕ
+call_answer_number CallAnswer.Done = 0
+call_answer_number (CallAnswer.Unread f) = refusal_number f.reason
+call_answer_number (CallAnswer.Refused reason) = call_refusal_number reason
 
 -- "not exactly", "not 512 bytes": two numbers are not the same
 abbrev pub differ : ℕ → ℕ → Bool
@@ -53,9 +53,9 @@ first_of [] = CallAnswer.Done
 first_of (t ∷ ts) = pick t.holds (CallAnswer.Refused t.reason) (first_of ts)
 
 -- a signature's refusal comes before all others, and is handed on whole
-abbrev pub afterReading : Outcome → CallAnswer → CallAnswer
-afterReading (Outcome.Accepted n) a = a
-afterReading (Outcome.Refused f) a = CallAnswer.Unread f
+abbrev pub after_reading : Outcome → CallAnswer → CallAnswer
+after_reading (Outcome.Accepted n) a = a
+after_reading (Outcome.Refused f) a = CallAnswer.Unread f
 
 -- of two answers, the first that refuses
 abbrev pub or_else : CallAnswer → CallAnswer → CallAnswer
@@ -64,14 +64,14 @@ or_else (CallAnswer.Unread f) a = CallAnswer.Unread f
 or_else (CallAnswer.Refused reason) a = CallAnswer.Refused reason
 
 -- "by argument, left to right": of several, the first that refuses
-unfoldable pub firstOfAll : {A : Type 0} → (A → CallAnswer) → List A → CallAnswer
-firstOfAll f [] = CallAnswer.Done
-firstOfAll f (x ∷ xs) = or_else (f x) (firstOfAll f xs)
+unfoldable pub first_of_all : {A : Type 0} → (A → CallAnswer) → List A → CallAnswer
+first_of_all f [] = CallAnswer.Done
+first_of_all f (x ∷ xs) = or_else (f x) (first_of_all f xs)
 
-abbrev pub isDone : CallAnswer → Bool
-isDone CallAnswer.Done = true
-isDone (CallAnswer.Unread f) = false
-isDone (CallAnswer.Refused reason) = false
+abbrev pub is_done : CallAnswer → Bool
+is_done CallAnswer.Done = true
+is_done (CallAnswer.Unread f) = false
+is_done (CallAnswer.Refused reason) = false
 
 abbrev pub is_refused : CallAnswer → Bool
 is_refused CallAnswer.Done = false
@@ -80,13 +80,13 @@ is_refused (CallAnswer.Refused reason) = true
 
 -- ---- an FPR
 
-abbrev pub narrowedAnswer : Narrowed → CallAnswer
-narrowedAnswer (Narrowed.Single x) = CallAnswer.Done
-narrowedAnswer Narrowed.NotWidened = CallAnswer.Refused CallRefusal.NotWidened
+abbrev pub narrowed_answer : Narrowed → CallAnswer
+narrowed_answer (Narrowed.Single x) = CallAnswer.Done
+narrowed_answer Narrowed.NotWidened = CallAnswer.Refused CallRefusal.NotWidened
 
 -- 14: "a single's PPC64 FPR that is no widened single"; x are the bits of a float's FPRs, which for a single are one FPR's 64
-abbrev pub floatAnswer : CallRules → Equivalent → ℕ → CallAnswer
-floatAnswer (CallRules.Power f) Equivalent.Single x = narrowedAnswer (narrow x)
-floatAnswer (CallRules.Power f) Equivalent.Double x = CallAnswer.Done
-floatAnswer (CallRules.Power f) Equivalent.Nothing x = CallAnswer.Done
-floatAnswer CallRules.Z e x = CallAnswer.Done
+abbrev pub float_answer : CallRules → Equivalent → ℕ → CallAnswer
+float_answer (CallRules.Power f) Equivalent.Single x = narrowed_answer (narrow x)
+float_answer (CallRules.Power f) Equivalent.Double x = CallAnswer.Done
+float_answer (CallRules.Power f) Equivalent.Nothing x = CallAnswer.Done
+float_answer CallRules.Z e x = CallAnswer.Done

@@ -2,9 +2,9 @@
 // of filling, reading, home and view.
 ghost use Rattle.std.specs.Prelude.{◌≡◌, ◌^◌, ◌≤◌, ◌<◌, length};
 ghost use Rattle.base_words.specs.Numbers.{value_of};
-ghost use Rattle.call_slots.specs.Forms.{signedKind, is_signed, structAtHead, headFirst, startsAtHead, extended, roomOf, ownStart, singleWord};
-ghost use Rattle.base_ieee.specs.Narrowing.{narrow as narrowOf};
-ghost use Rattle.call_slots.specs.Refusals.{callRefusalNumber, is_refused, narrowedAnswer, floatAnswer};
+ghost use Rattle.call_slots.specs.Forms.{signed_kind, is_signed, struct_at_head, head_first, starts_at_head, extended, room_of, own_start, single_word};
+ghost use Rattle.base_ieee.specs.Narrowing.{narrow as narrow_of};
+ghost use Rattle.call_slots.specs.Refusals.{call_refusal_number, is_refused, narrowed_answer, float_answer};
 
 use base_ieee::Narrowed;
 use plan_places::CallRules;
@@ -33,7 +33,7 @@ pub enum CallAnswer {
 }
 
 pub fn call_refusal_number(r: CallRefusal) -> u64
-    ensures { result ≡ callRefusalNumber r }
+    ensures { result ≡ call_refusal_number r }
 {
     match r {
         CallRefusal::ValuesSize => 10,
@@ -48,7 +48,7 @@ pub fn call_refusal_number(r: CallRefusal) -> u64
 }
 
 fn signed_kind(k: IntegerKind) -> bool
-    ensures { result ≡ signedKind k }
+    ensures { result ≡ signed_kind k }
 {
     match k {
         IntegerKind::I8 => true,
@@ -76,7 +76,7 @@ fn is_signed(t: ValueType) -> bool
 // Whether a PowerPC struct of n bytes starts at the head of its words of `word` bytes: all do but those smaller than a doubleword where
 // words are doublewords.
 fn struct_at_head(word: usize, n: usize) -> bool
-    ensures { result ≡ structAtHead word n }
+    ensures { result ≡ struct_at_head word n }
 {
     if word == 8 {
         return 8 <= n;
@@ -85,7 +85,7 @@ fn struct_at_head(word: usize, n: usize) -> bool
 }
 
 fn head_first(word: usize, t: ValueType) -> bool
-    ensures { result ≡ headFirst word t }
+    ensures { result ≡ head_first word t }
 {
     match t {
         ValueType::Integer(_) => false,
@@ -100,7 +100,7 @@ fn head_first(word: usize, t: ValueType) -> bool
 
 // Whether a value starts at the head of its first word, and zeros fill the last one; else it stands at the end of its words.
 pub fn starts_at_head(r: CallRules, t: ValueType) -> bool
-    ensures { result ≡ startsAtHead r t }
+    ensures { result ≡ starts_at_head r t }
 {
     match r {
         CallRules::Power(f) => head_first(f.word, t),
@@ -124,7 +124,7 @@ pub fn value_word(t: ValueType, v: &[u8]) -> u64
 // The 64 bits of an FPR that holds a single, or on Z a struct that is placed as one.
 pub fn single_word(r: CallRules, x: u64) -> u64
     requires { x < 2 ^ 32 }
-    ensures { result ≡ singleWord r x }
+    ensures { result ≡ single_word r x }
 {
     match r {
         CallRules::Power(_) => base_ieee::widen(x as u32),
@@ -135,8 +135,8 @@ pub fn single_word(r: CallRules, x: u64) -> u64
 // Where in its words, which have `room` bytes, a value's own bytes start: a value of n bytes that stands at the end of its words is in
 // the last n of them.
 pub fn own_start(r: CallRules, t: ValueType, n: usize, room: usize) -> usize
-    requires { (room ≡ roomOf r n) × (n ≤ room) }
-    ensures { result ≡ ownStart r t n }
+    requires { (room ≡ room_of r n) × (n ≤ room) }
+    ensures { result ≡ own_start r t n }
 {
     if starts_at_head(r, t) {
         return 0;
@@ -145,7 +145,7 @@ pub fn own_start(r: CallRules, t: ValueType, n: usize, room: usize) -> usize
 }
 
 fn narrowed_answer(x: u64) -> CallAnswer
-    ensures { result ≡ narrowedAnswer (narrowOf x) }
+    ensures { result ≡ narrowed_answer (narrow_of x) }
 {
     match base_ieee::narrow(x) {
         Narrowed::Single(_) => CallAnswer::Done,
@@ -155,7 +155,7 @@ fn narrowed_answer(x: u64) -> CallAnswer
 
 // Whether an FPR's 64 bits can be read.
 pub fn float_answer(r: CallRules, e: Equivalent, x: u64) -> CallAnswer
-    ensures { result ≡ floatAnswer r e x }
+    ensures { result ≡ float_answer r e x }
 {
     match r {
         CallRules::Power(_) => match e {

@@ -12,22 +12,22 @@ use Rattle.base_words.specs.Basics.{pick, All}
 use Rattle.base_words.specs.Splice.{part}
 use Rattle.base_words.specs.Numbers.{value_of}
 use Rattle.base_words.proofs.Splices.{length_part}
-use Rattle.base_words.proofs.Numbers.{length-bytesOf}
+use Rattle.base_words.proofs.Numbers.{length-bytes_of}
 use Rattle.base_ieee.specs.declared.Narrowed.{Narrowed}
 use Rattle.base_ieee.specs.Narrowing.{narrow}
 use Rattle.sig_types.specs.declared.Equivalent.{Equivalent}
-use Rattle.sig_types.specs.Sizes.{equivalentOf}
+use Rattle.sig_types.specs.Sizes.{equivalent_of}
 use Rattle.plan_places.specs.declared.CallRules.{CallRules}
-use Rattle.plan_places.specs.Step.{wordOf}
+use Rattle.plan_places.specs.Step.{word_of}
 use Rattle.plan_places.specs.Spots.{copies}
 use Rattle.call_registers.specs.Registers.{gather}
 use Rattle.call_registers.proofs.Registers.{length-gather}
 use Rattle.call_slots.specs.declared.CallAnswer.{CallAnswer}
 use Rattle.call_slots.specs.Buffers.{Buffers, bytes_at}
-use Rattle.call_slots.specs.Forms.{startsAtHead, ownStart, roomOf, narrowedBytes, floatValueAs, floatValue}
-use Rattle.call_slots.specs.Placements.{Placement, wordsAt, fprBytesAt, addressAt, wordsValue, value_at, valuesAt}
-use Rattle.call_slots.specs.Helpers.{FloatSized, Held, sizesOf}
-use Rattle.call_slots.specs.Refusals.{narrowedAnswer, floatAnswer}
+use Rattle.call_slots.specs.Forms.{starts_at_head, own_start, room_of, narrowed_bytes, float_value_as, float_value}
+use Rattle.call_slots.specs.Placements.{Placement, words_at, fpr_bytes_at, address_at, words_value, value_at, values_at}
+use Rattle.call_slots.specs.Helpers.{FloatSized, Held, sizes_of}
+use Rattle.call_slots.specs.Refusals.{narrowed_answer, float_answer}
 use Rattle.call_unmarshal.specs.Helpers.{LiesIn, FprsHold, Readable}
 
 pub float-room : (e : Equivalent) (m n l : ℕ) → FloatSized e m n → n ≤ l → FprsHold e (8 * m) l
@@ -36,11 +36,11 @@ float-room Equivalent.Double m n l h k = (omega (arith, h.0), omega (arith, h.1)
 float-room Equivalent.Nothing m n l h k = omega (arith, h.0, h.1)
 
 -- a value's own bytes start in its first word
-pub own_first : (r : CallRules) (p : Placement) → Held r p → p.span.indirect ≡ false → ownStart r p.ty p.size < wordOf r
-unfolding ownStart
-own_first r p h e = go (startsAtHead r p.ty)
+pub own_first : (r : CallRules) (p : Placement) → Held r p → p.span.indirect ≡ false → own_start r p.ty p.size < word_of r
+unfolding own_start
+own_first r p h e = go (starts_at_head r p.ty)
   where
-    go : (s : Bool) → pick s 0 (roomOf r p.size - p.size) < wordOf r
+    go : (s : Bool) → pick s 0 (room_of r p.size - p.size) < word_of r
     go true = omega (arith, h.word)
     go false = omega (arith, h.room e, h.word)
 
@@ -51,40 +51,40 @@ stored-length s (suc m) l h = length_part s (suc m) l (h (omega arith))
 module _ (r : CallRules) (base : ℕ) (p : Placement) (b : Buffers) (h : Readable r base p b) where
   -- the value's own bytes lie in its words
   pub own-within : p.span.floating.count ≤ 0 → p.span.indirect ≡ false
-      → ownStart r p.ty p.size + p.size ≤ wordOf r * p.span.general.count + p.span.memory.length
-  unfolding ownStart
-  own-within none e = go (startsAtHead r p.ty)
+      → own_start r p.ty p.size + p.size ≤ word_of r * p.span.general.count + p.span.memory.length
+  unfolding own_start
+  own-within none e = go (starts_at_head r p.ty)
     where
       no : p.span.floating.count ≡ 0
       no = omega arith
 
-      go : (s : Bool) → pick s 0 (roomOf r p.size - p.size) + p.size ≤ wordOf r * p.span.general.count + p.span.memory.length
+      go : (s : Bool) → pick s 0 (room_of r p.size - p.size) + p.size ≤ word_of r * p.span.general.count + p.span.memory.length
       go true = omega (arith, h.ready.registers.held.room e, h.ready.registers.held.words no)
       go false = omega (arith, h.ready.registers.held.room e, h.ready.registers.held.words no)
 
-  length-words : length (wordsAt (wordOf r) p.span b) ≡ wordOf r * p.span.general.count + p.span.memory.length
-  unfolding wordsAt bytes_at
+  length-words : length (words_at (word_of r) p.span b) ≡ word_of r * p.span.general.count + p.span.memory.length
+  unfolding words_at bytes_at
   length-words =
       let k : ℕ = p.span.general.count in
       let bs : List ℕ = part (8 * p.span.general.first) (8 * k) b.image in
       let size : length bs ≡ 8 * k = length_part (8 * p.span.general.first) (8 * k) b.image (omega (arith, h.ready)) in
-      length-append (gather (wordOf r) k bs) (part p.span.memory.start p.span.memory.length b.area)
+      length-append (gather (word_of r) k bs) (part p.span.memory.start p.span.memory.length b.area)
       ∙ rw (
-        length-gather (wordOf r) k bs h.ready.registers.held.word.1 (omega arith),
+        length-gather (word_of r) k bs h.ready.registers.held.word.1 (omega arith),
         stored-length p.span.memory.start p.span.memory.length b.area h.ready.memory,
       )
 
-  length-fprs : length (fprBytesAt p.span b) ≡ 8 * p.span.floating.count
+  length-fprs : length (fpr_bytes_at p.span b) ≡ 8 * p.span.floating.count
   unfolding bytes_at
   length-fprs = length_part (256 + 8 * p.span.floating.first) (8 * p.span.floating.count) b.image (omega (arith, h.ready))
 
 -- a value in FPRs
-narrowed-length : (q : Narrowed) → narrowedAnswer q ≡ CallAnswer.Done → length (narrowedBytes q) ≡ 4
-narrowed-length (Narrowed.Single x) e = length-bytesOf 4 x
+narrowed-length : (q : Narrowed) → narrowed_answer q ≡ CallAnswer.Done → length (narrowed_bytes q) ≡ 4
+narrowed-length (Narrowed.Single x) e = length-bytes_of 4 x
 narrowed-length Narrowed.NotWidened e = let z : ◌≡◌ {A = ℕ} 0 1 = cc in absurd (omega arith)
 
-pub float-length : (r : CallRules) (e : Equivalent) (bs : List ℕ) (m n : ℕ) → FloatSized e m n → length bs ≡ 8 * m → floatAnswer r e (value_of bs) ≡ CallAnswer.Done
-    → length (floatValueAs r e bs) ≡ n
+pub float-length : (r : CallRules) (e : Equivalent) (bs : List ℕ) (m n : ℕ) → FloatSized e m n → length bs ≡ 8 * m → float_answer r e (value_of bs) ≡ CallAnswer.Done
+    → length (float_value_as r e bs) ≡ n
 float-length (CallRules.Power f) Equivalent.Single bs m n s l d = narrowed-length (narrow (value_of bs)) d ∙ sym s.1
 float-length CallRules.Z Equivalent.Single bs m n s l d = length-take-le 4 bs (omega (arith, s.0)) ∙ sym s.1
 float-length r Equivalent.Double bs m n s l d = omega (arith, s.0, s.1)
@@ -96,32 +96,32 @@ copy-length at n b h = length_part at n b.copies h
 
 -- every value that can be read has its size
 pub value-length : (r : CallRules) (base : ℕ) (p : Placement) (b : Buffers) → Readable r base p b → length (value_at r base p b) ≡ p.size
-unfolding value_at wordsValue floatValue
+unfolding value_at words_value float_value
 value-length r base p b h = go (ltb 0 p.span.floating.count) refl
   where
     words : (i : Bool) → p.span.indirect ≡ i → p.span.floating.count ≤ 0
         → length
-        (pick i (bytes_at (copies (addressAt (wordOf r) p.span b - base)) p.size b) (part (ownStart r p.ty p.size) p.size (wordsAt (wordOf r) p.span b)))
+        (pick i (bytes_at (copies (address_at (word_of r) p.span b - base)) p.size b) (part (own_start r p.ty p.size) p.size (words_at (word_of r) p.span b)))
         ≡ p.size
-    words true q none = copy-length (addressAt (wordOf r) p.span b - base) p.size b (h.inside none q).1
+    words true q none = copy-length (address_at (word_of r) p.span b - base) p.size b (h.inside none q).1
     words false q none =
-        length_part (ownStart r p.ty p.size) p.size (wordsAt (wordOf r) p.span b) (omega (arith, own-within r base p b h none q, length-words r base p b h))
+        length_part (own_start r p.ty p.size) p.size (words_at (word_of r) p.span b) (omega (arith, own-within r base p b h none q, length-words r base p b h))
 
     go : (f : Bool) → ltb 0 p.span.floating.count ≡ f
         → length
-        (pick f (floatValueAs r (equivalentOf p.ty) (fprBytesAt p.span b))
-        (pick p.span.indirect (bytes_at (copies (addressAt (wordOf r) p.span b - base)) p.size b)
-        (part (ownStart r p.ty p.size) p.size (wordsAt (wordOf r) p.span b))))
+        (pick f (float_value_as r (equivalent_of p.ty) (fpr_bytes_at p.span b))
+        (pick p.span.indirect (bytes_at (copies (address_at (word_of r) p.span b - base)) p.size b)
+        (part (own_start r p.ty p.size) p.size (words_at (word_of r) p.span b))))
         ≡ p.size
     go true q =
         let some : 0 < p.span.floating.count = ltb-true 0 p.span.floating.count q in
-        float-length r (equivalentOf p.ty) (fprBytesAt p.span b) p.span.floating.count p.size (h.ready.registers.held.float some) (length-fprs r base p b h)
+        float-length r (equivalent_of p.ty) (fpr_bytes_at p.span b) p.span.floating.count p.size (h.ready.registers.held.float some) (length-fprs r base p b h)
         (h.exact some)
     go false q = words p.span.indirect refl (ltb-false 0 p.span.floating.count q)
 
 -- and so have those of several, one after the other
-pub length-values : (r : CallRules) (base : ℕ) (ps : List Placement) (b : Buffers) → All (λ (p : Placement). Readable r base p b) ps → length (valuesAt r base ps b) ≡ sizesOf ps
-unfolding All valuesAt sizesOf
+pub length-values : (r : CallRules) (base : ℕ) (ps : List Placement) (b : Buffers) → All (λ (p : Placement). Readable r base p b) ps → length (values_at r base ps b) ≡ sizes_of ps
+unfolding All values_at sizes_of
 length-values r base [] b h = refl
 length-values r base (p ∷ ps) b h =
-    length-append (value_at r base p b) (valuesAt r base ps b) ∙ rw (value-length r base p b h.0, length-values r base ps b h.1)
+    length-append (value_at r base p b) (values_at r base ps b) ∙ rw (value-length r base p b h.0, length-values r base ps b h.1)

@@ -10,8 +10,8 @@ use Rattle.base_words.specs.Splice.{overlay, splice}
 use Rattle.base_words.proofs.Splices.{length-splice, splice-head, splice-nothing, splice-append}
 use Rattle.plan_places.specs.declared.CallRules.{CallRules}
 use Rattle.call_slots.specs.Buffers.{Buffers}
-use Rattle.call_slots.specs.Placements.{Placement, value_at, valuesAt}
-use Rattle.call_slots.specs.Helpers.{sizesOf}
+use Rattle.call_slots.specs.Placements.{Placement, value_at, values_at}
+use Rattle.call_slots.specs.Helpers.{sizes_of}
 use Rattle.call_unmarshal.specs.Helpers.{Readable}
 use Rattle.call_unmarshal.proofs.Arguments.{value-length}
 
@@ -20,10 +20,10 @@ module _ (r : CallRules) (base : ℕ) (ps : List Placement) (b : Buffers) where
   pub record Taking (l₀ l : List ℕ) (v i : ℕ) : Type 0 where
     pub same : length l ≡ length l₀
     pub each : All (λ (q : Placement). Readable r base q b) (drop i ps)
-    pub left : v + sizesOf (drop i ps) ≡ length l₀
-    pub rest : splice l v (valuesAt r base (drop i ps) b) ≡ splice l₀ 0 (valuesAt r base ps b)
+    pub left : v + sizes_of (drop i ps) ≡ length l₀
+    pub rest : splice l v (values_at r base (drop i ps) b) ≡ splice l₀ 0 (values_at r base ps b)
 
-  pub taking-start : (l : List ℕ) → All (λ (q : Placement). Readable r base q b) ps → sizesOf ps ≡ length l → Taking l l 0 0
+  pub taking-start : (l : List ℕ) → All (λ (q : Placement). Readable r base q b) ps → sizes_of ps ≡ length l → Taking l l 0 0
   taking-start l each total = record { same = refl; each = each; left = omega arith; rest = refl }
 
   module _ (l₀ l : List ℕ) (v i : ℕ) (p : Placement) (e : drop i ps ≡ p ∷ drop (suc i) ps) (t : Taking l₀ l v i) where
@@ -34,19 +34,19 @@ module _ (r : CallRules) (base : ℕ) (ps : List Placement) (b : Buffers) where
         each.0
 
     pub taking-within : v + p.size ≤ length l
-    unfolding sizesOf
+    unfolding sizes_of
     taking-within =
-        let left : v + (p.size + sizesOf (drop (suc i) ps)) ≡ length l₀ = rw e at t.left in
+        let left : v + (p.size + sizes_of (drop (suc i) ps)) ≡ length l₀ = rw e at t.left in
         omega (arith, t.same)
 
     pub taking-more : Taking l₀ (splice l v (value_at r base p b)) (v + p.size) (i + 1)
-    unfolding All sizesOf valuesAt
+    unfolding All sizes_of values_at
     taking-more =
         let each : Readable r base p b × All (λ (q : Placement). Readable r base q b) (drop (suc i) ps) = rw e at t.each in
-        let left : v + (p.size + sizesOf (drop (suc i) ps)) ≡ length l₀ = rw e at t.left in
+        let left : v + (p.size + sizes_of (drop (suc i) ps)) ≡ length l₀ = rw e at t.left in
         let x : List ℕ = value_at r base p b in
-        let y : List ℕ = valuesAt r base (drop (suc i) ps) b in
-        let rest : splice l v (x ++ y) ≡ splice l₀ 0 (valuesAt r base ps b) = rw e at t.rest in
+        let y : List ℕ = values_at r base (drop (suc i) ps) b in
+        let rest : splice l v (x ++ y) ≡ splice l₀ 0 (values_at r base ps b) = rw e at t.rest in
         let size : length x ≡ p.size = value-length r base p b taking-readable in
         record {
           same = length-splice l v x ∙ t.same;
@@ -55,8 +55,8 @@ module _ (r : CallRules) (base : ℕ) (ps : List Placement) (b : Buffers) where
           rest = rw add-one (ap (λ (n : ℕ). splice (splice l v x) (v + n) y) (sym size) ∙ sym (splice-append l v x y) ∙ rest);
         }
 
-  pub taking-end : (l₀ l : List ℕ) (v i : ℕ) → drop i ps ≡ [] → Taking l₀ l v i → l ≡ overlay l₀ (valuesAt r base ps b)
-  unfolding valuesAt
+  pub taking-end : (l₀ l : List ℕ) (v i : ℕ) → drop i ps ≡ [] → Taking l₀ l v i → l ≡ overlay l₀ (values_at r base ps b)
+  unfolding values_at
   taking-end l₀ l v i e t =
-      let rest : splice l v [] ≡ splice l₀ 0 (valuesAt r base ps b) = rw e at t.rest in
-      sym (splice-nothing l v) ∙ rest ∙ splice-head l₀ (valuesAt r base ps b)
+      let rest : splice l v [] ≡ splice l₀ 0 (values_at r base ps b) = rw e at t.rest in
+      sym (splice-nothing l v) ∙ rest ∙ splice-head l₀ (values_at r base ps b)

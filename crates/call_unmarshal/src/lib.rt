@@ -1,12 +1,12 @@
 // The values of arguments taken out of their registers, memory and copies. An argument is taken only where nothing refuses its reading.
 ghost use Rattle.std.specs.Prelude.{◌≡◌, [], ◌+◌, ◌*◌, ◌≤◌, ◌<◌, length};
 ghost use Rattle.base_words.specs.Splice.{overlay, part};
-ghost use Rattle.base_ieee.specs.Narrowing.{narrow as narrowOf};
+ghost use Rattle.base_ieee.specs.Narrowing.{narrow as narrow_of};
 ghost use Rattle.call_slots.specs.Buffers.{buffers};
-ghost use Rattle.call_slots.specs.Forms.{narrowedBytes, floatValueAs};
-ghost use Rattle.call_slots.specs.Placements.{Placement, placement, wordsAt, addressAt, value_at, valuesAt};
-ghost use Rattle.call_slots.specs.Helpers.{sizesOf};
-ghost use Rattle.call_kept.specs.Helpers.{keptAll, KeptEach};
+ghost use Rattle.call_slots.specs.Forms.{narrowed_bytes, float_value_as};
+ghost use Rattle.call_slots.specs.Placements.{Placement, placement, words_at, address_at, value_at, values_at};
+ghost use Rattle.call_slots.specs.Helpers.{sizes_of};
+ghost use Rattle.call_kept.specs.Helpers.{kept_all, KeptEach};
 ghost use Rattle.call_unmarshal.specs.Helpers.{SpanHolds, FprsHold, Readable};
 
 use base_conventions::Convention;
@@ -17,7 +17,7 @@ use sig_types::{Equivalent, ValueType};
 // The address in a span's only word, a doubleword: no convention with smaller words passes copies.
 pub fn word_at(image: &[u8], area: &[u8], s: Span) -> u64
     requires { SpanHolds 8 s image.now area.now × (8 * s.general.count + s.memory.length ≡ 8) }
-    ensures { result ≡ addressAt 8 s (buffers image.now area.now []) }
+    ensures { result ≡ address_at 8 s (buffers image.now area.now []) }
 {
     let general = s.general;
     let memory = s.memory;
@@ -30,7 +30,7 @@ pub fn word_at(image: &[u8], area: &[u8], s: Span) -> u64
 // The bytes of a span's words from lo on, which is in the first word, n of them, at the head of out.
 fn take_words(out: &mut [u8], image: &[u8], area: &[u8], word: usize, s: Span, lo: usize, n: usize)
     requires { SpanHolds word s image.now area.now × (lo < word) × (lo + n ≤ word * s.general.count + s.memory.length) × (n ≤ length out.old) }
-    ensures { out.new ≡ overlay out.old (part lo n (wordsAt word s (buffers image.now area.now []))) }
+    ensures { out.new ≡ overlay out.old (part lo n (words_at word s (buffers image.now area.now []))) }
 {
     let general = s.general;
     let memory = s.memory;
@@ -54,7 +54,7 @@ fn take_words(out: &mut [u8], image: &[u8], area: &[u8], word: usize, s: Span, l
 // The value of a PPC64 single in an FPR at the head of out.
 fn take_narrowed(out: &mut [u8], x: u64)
     requires { 4 ≤ length out.old }
-    ensures { out.new ≡ overlay out.old (narrowedBytes (narrowOf x)) }
+    ensures { out.new ≡ overlay out.old (narrowed_bytes (narrow_of x)) }
 {
     match base_ieee::narrow(x) {
         Narrowed::Single(bits) => {
@@ -67,7 +67,7 @@ fn take_narrowed(out: &mut [u8], x: u64)
 // The value in FPRs, whose n bytes start at `at` of the image, at the head of out.
 pub fn take_float(out: &mut [u8], image: &[u8], r: CallRules, e: Equivalent, at: usize, n: usize)
     requires { (at + n ≤ length image.now) × (FprsHold e n (length out.old)) }
-    ensures { out.new ≡ overlay out.old (floatValueAs r e (part at n image.now)) }
+    ensures { out.new ≡ overlay out.old (float_value_as r e (part at n image.now)) }
 {
     match e {
         Equivalent::Nothing => {
@@ -142,8 +142,8 @@ pub fn take_arguments(
     kept: &[u16],
     base: u64,
 )
-    requires { KeptEach (λ (q : Placement). Readable rules base q (buffers image.now area.now copies.now)) convention kept.now count × (sizesOf (keptAll convention kept.now count) ≡ length values.old) }
-    ensures { values.new ≡ overlay values.old (valuesAt rules base (keptAll convention kept.now count) (buffers image.now area.now copies.now)) }
+    requires { KeptEach (λ (q : Placement). Readable rules base q (buffers image.now area.now copies.now)) convention kept.now count × (sizes_of (kept_all convention kept.now count) ≡ length values.old) }
+    ensures { values.new ≡ overlay values.old (values_at rules base (kept_all convention kept.now count) (buffers image.now area.now copies.now)) }
 {
     let mut v: usize = 0;
     let mut i: usize = 0;

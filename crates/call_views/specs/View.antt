@@ -6,16 +6,16 @@ use Rattle.base_words.specs.Splice.{part}
 use Rattle.sig_types.specs.declared.IntegerKind.{IntegerKind}
 use Rattle.sig_types.specs.declared.ValueType.{ValueType}
 use Rattle.sig_signatures.specs.Read.{signature_of}
-use Rattle.sig_signatures.specs.Answer.{signatureAnswer}
+use Rattle.sig_signatures.specs.Answer.{signature_answer}
 use Rattle.plan_places.specs.declared.CallRules.{CallRules}
-use Rattle.plan_plans.specs.Plan.{noSpan}
+use Rattle.plan_plans.specs.Plan.{no_span}
 use Rattle.call_slots.specs.declared.CallRefusal.{CallRefusal}
 use Rattle.call_slots.specs.declared.CallAnswer.{CallAnswer}
-use Rattle.call_slots.specs.Forms.{ownStart}
+use Rattle.call_slots.specs.Forms.{own_start}
 use Rattle.call_slots.specs.Placements.{Placement, placement}
-use Rattle.call_slots.specs.Refusals.{Test, test, first_of, afterReading, isDone}
-use Rattle.plan_plans.specs.Call.{outcomeFor}
-use Rattle.call_slots.specs.Arguments.{argumentsOf, planFor, rulesFor}
+use Rattle.call_slots.specs.Refusals.{Test, test, first_of, after_reading, is_done}
+use Rattle.plan_plans.specs.Call.{outcome_for}
+use Rattle.call_slots.specs.Arguments.{arguments_of, plan_for, rules_for}
 use Rattle.call_views.specs.declared.ViewPart.{ViewPart}
 use Rattle.call_home_slot.specs.Homes.{homeless}
 
@@ -24,31 +24,31 @@ abbrev pub no_view : CallRules → ℕ → ℕ → Bool
 no_view r count index = pick (homeless r) true (leb count index)
 
 -- "24, .. 11", where the plan asks for an area of this size
-unfoldable pub viewTests : CallRules → ℕ → ℕ → ℕ → ℕ → List Test
-viewTests r count index have area = test (no_view r count index) CallRefusal.NoView ∷ test (ltb have area) CallRefusal.AreaTooShort ∷ []
+unfoldable pub view_tests : CallRules → ℕ → ℕ → ℕ → ℕ → List Test
+view_tests r count index have area = test (no_view r count index) CallRefusal.NoView ∷ test (ltb have area) CallRefusal.AreaTooShort ∷ []
 
-unfoldable pub viewAnswer : List ℕ → ℕ → ℕ → CallAnswer
-viewAnswer s have index =
-    afterReading (outcomeFor s)
-    (first_of (viewTests (rulesFor s) (signatureAnswer (signature_of s)).count index have (planFor s).area))
+unfoldable pub view_answer : List ℕ → ℕ → ℕ → CallAnswer
+view_answer s have index =
+    after_reading (outcome_for s)
+    (first_of (view_tests (rules_for s) (signature_answer (signature_of s)).count index have (plan_for s).area))
 
-abbrev pub noArgument : Placement
-noArgument = placement (ValueType.Integer IntegerKind.I8) 1 noSpan
+abbrev pub no_argument : Placement
+no_argument = placement (ValueType.Integer IntegerKind.I8) 1 no_span
 
 -- where an argument's own bytes start in the area
 abbrev pub field_own : CallRules → Placement → ℕ
-field_own r p = p.span.home.start + ownStart r p.ty p.size
+field_own r p = p.span.home.start + own_start r p.ty p.size
 
 -- an argument's own bytes in its home
-abbrev pub ownBytes : CallRules → Placement → List ℕ → List ℕ
-ownBytes r p area = part (field_own r p) p.size area
+abbrev pub own_bytes : CallRules → Placement → List ℕ → List ℕ
+own_bytes r p area = part (field_own r p) p.size area
 
 unfoldable pub view_of : List ℕ → List ℕ → ℕ → List ℕ
-view_of s area index = pick (isDone (viewAnswer s (length area) index)) (ownBytes (rulesFor s) (get_or (argumentsOf s) index noArgument) area) []
+view_of s area index = pick (is_done (view_answer s (length area) index)) (own_bytes (rules_for s) (get_or (arguments_of s) index no_argument) area) []
 
 -- the same bytes by their start and length
-abbrev pub ownPart : CallAnswer → CallRules → Placement → ViewPart
-ownPart a r p = record { answer = a; start = pick (isDone a) (field_own r p) 0; length = pick (isDone a) p.size 0 }
+abbrev pub own_part : CallAnswer → CallRules → Placement → ViewPart
+own_part a r p = record { answer = a; start = pick (is_done a) (field_own r p) 0; length = pick (is_done a) p.size 0 }
 
-unfoldable pub viewPart : List ℕ → ℕ → ℕ → ViewPart
-viewPart s have index = ownPart (viewAnswer s have index) (rulesFor s) (get_or (argumentsOf s) index noArgument)
+unfoldable pub view_part : List ℕ → ℕ → ℕ → ViewPart
+view_part s have index = own_part (view_answer s have index) (rules_for s) (get_or (arguments_of s) index no_argument)

@@ -1,7 +1,7 @@
 // Views of arguments in a homed parameter area: each is an argument's own bytes as a part of the caller's slice.
 ghost use Rattle.std.specs.Prelude.{◌≡◌, length};
-ghost use Rattle.call_slots.specs.Refusals.{first_of, afterReading};
-ghost use Rattle.call_views.specs.View.{viewTests, viewAnswer, viewPart, view_of};
+ghost use Rattle.call_slots.specs.Refusals.{first_of, after_reading};
+ghost use Rattle.call_views.specs.View.{view_tests, view_answer, view_part, view_of};
 
 use call_slots::{CallAnswer, CallRefusal};
 use plan_places::CallRules;
@@ -17,7 +17,7 @@ pub struct ViewPart {
 
 // Whether there is a view of argument `index` of `count` in an area of `have` bytes.
 fn view_tested(r: CallRules, count: usize, index: usize, have: usize, area: usize) -> CallAnswer
-    ensures { result ≡ first_of (viewTests r count index have area) }
+    ensures { result ≡ first_of (view_tests r count index have area) }
 {
     if call_home_slot::is_homeless(r) {
         return CallAnswer::Refused(CallRefusal::NoView);
@@ -39,7 +39,7 @@ fn view_answer(
     have: usize,
     area: usize,
 ) -> CallAnswer
-    ensures { result ≡ afterReading outcome (first_of (viewTests r count index have area)) }
+    ensures { result ≡ after_reading outcome (first_of (view_tests r count index have area)) }
 {
     match outcome {
         Outcome::Refused(fault) => CallAnswer::Unread(fault),
@@ -49,7 +49,7 @@ fn view_answer(
 
 // Where the own bytes of argument `index` lie in a homed area of `have` bytes.
 pub fn view_part(sig: &[u8], index: usize, have: usize) -> ViewPart
-    ensures { result ≡ viewPart sig.now have index }
+    ensures { result ≡ view_part sig.now have index }
 {
     let g = sig_whole::read_signature(sig);
     let p = plan_planning::plan_signature(g);
@@ -80,7 +80,7 @@ pub fn view_part(sig: &[u8], index: usize, have: usize) -> ViewPart
 
 // The answer on the same inputs as `view`'s.
 pub fn check_view(area: &[u8], sig: &[u8], index: usize) -> CallAnswer
-    ensures { result ≡ viewAnswer sig.now (length area.now) index }
+    ensures { result ≡ view_answer sig.now (length area.now) index }
 {
     let p = view_part(sig, index, area.len());
     p.answer

@@ -8,13 +8,13 @@ use lib.Dec.{leb}
 use Rattle.base_words.proofs.Tests.{and_yes, and_both, or_yes, or_left, or_right, not-no}
 use Rattle.sig_types.proofs.Sized.{all-within-sized}
 use Rattle.plan_places.specs.declared.CallRules.{CallRules}
-use Rattle.plan_places.specs.Step.{rulesOf, start_of}
+use Rattle.plan_places.specs.Step.{rules_of, start_of}
 use Rattle.plan_places.proofs.Bounds.{rules-lawful}
 use Rattle.sig_signatures.specs.Types.{types_of}
 use Rattle.call_slots.proofs.Typed.{all_typed}
 use Rattle.call_walker.specs.declared.Counters.{Counters}
 use Rattle.call_walker.specs.declared.Walker.{Walker}
-use Rattle.call_walker.specs.Walker.{countersOf, powerPossible, zPossible, possible, in_range, lost}
+use Rattle.call_walker.specs.Walker.{counters_of, power_possible, z_possible, possible, in_range, lost}
 use Rattle.call_walker.specs.Walks.{Led, Small, LostExactly}
 use Rattle.call_walker.proofs.Reached.{Possible, reached-start, reached-last, reached-possible, counters-back, possible-led}
 
@@ -38,7 +38,7 @@ ways-back s g f (inr (inl x)) = or_right (leb s 160) (leb 7 g || leb 8 f) (or_le
 ways-back s g f (inr (inr x)) = or_right (leb s 160) (leb 7 g || leb 8 f) (or_right (leb 7 g) (leb 8 f) (le-leb 8 f x))
 
 tested-possible : (r : CallRules) (hidden : Bool) (k : Counters) → possible r hidden k ≡ true → Possible r hidden k
-unfolding possible powerPossible zPossible
+unfolding possible power_possible z_possible
 tested-possible (CallRules.Power f) hidden k e =
     let a = and_yes _ _ e in
     let b = and_yes _ _ a.1 in
@@ -60,7 +60,7 @@ tested-possible CallRules.Z hidden k e =
     )
 
 possible-tested : (r : CallRules) (hidden : Bool) (k : Counters) → Possible r hidden k → possible r hidden k ≡ true
-unfolding possible powerPossible zPossible
+unfolding possible power_possible z_possible
 possible-tested (CallRules.Power f) hidden k h = and_both _ _ (le-leb _ _ h.0) (and_both _ _ (le-leb _ _ h.1) (eq-eqb _ _ h.2))
 possible-tested CallRules.Z hidden k h =
     and_both _ _ (le-leb _ _ h.0)
@@ -72,9 +72,9 @@ possible-tested CallRules.Z hidden k h =
 -- ---- a walker that is not lost
 
 module _ (w : Walker) (e : lost w ≡ false) where
-  pub found-possible : Possible (rulesOf w.convention) w.hidden w.at
+  pub found-possible : Possible (rules_of w.convention) w.hidden w.at
   unfolding lost
-  found-possible = tested-possible (rulesOf w.convention) w.hidden w.at (and_yes (in_range w.at) _ (not-no _ e)).1
+  found-possible = tested-possible (rules_of w.convention) w.hidden w.at (and_yes (in_range w.at) _ (not-no _ e)).1
 
   pub found-small : Small w.at
   unfolding lost in_range
@@ -83,12 +83,12 @@ module _ (w : Walker) (e : lost w ≡ false) where
       let b = and_yes _ _ a.1 in
       record { general = leb-true _ _ a.0; floating = leb-true _ _ b.0; stack = leb-true _ _ b.1 }
 
-pub possible-found : (w : Walker) → Small w.at → Possible (rulesOf w.convention) w.hidden w.at → lost w ≡ false
+pub possible-found : (w : Walker) → Small w.at → Possible (rules_of w.convention) w.hidden w.at → lost w ≡ false
 unfolding lost in_range
 possible-found w s h =
     ap not
     (and_both _ _ (and_both _ _ (le-leb _ _ s.general) (and_both _ _ (le-leb _ _ s.floating) (le-leb _ _ s.stack)))
-    (possible-tested (rulesOf w.convention) w.hidden w.at h))
+    (possible-tested (rules_of w.convention) w.hidden w.at h))
 
 -- the theorem
 pub lost-exactly : (w : Walker) → LostExactly w
@@ -98,16 +98,16 @@ lost-exactly w = record { small = found-small w; led = led; found = found }
     led e =
         let p = found-possible w e in
         let l = rules-lawful w.convention in
-        let t = possible-led w.convention (rulesOf w.convention) w.hidden w.at l p in
+        let t = possible-led w.convention (rules_of w.convention) w.hidden w.at l p in
         record {
           arguments = t.arguments;
           within = t.within;
-          last = ap (countersOf (rulesOf w.convention)) t.last ∙ counters-back (rulesOf w.convention) w.hidden w.at l p;
+          last = ap (counters_of (rules_of w.convention)) t.last ∙ counters-back (rules_of w.convention) w.hidden w.at l p;
         }
 
     found : Small w.at → Led w → lost w ≡ false
     found s t =
-        let r = rulesOf w.convention in
+        let r = rules_of w.convention in
         let l = rules-lawful w.convention in
         let typed = all_typed w.convention t.arguments (all-within-sized w.convention t.arguments t.within) in
         let reached = reached-last w.convention r w.hidden (start_of r w.hidden) (types_of w.convention t.arguments) l typed (reached-start r w.hidden l) in

@@ -12,7 +12,7 @@ use Rattle.base_conventions.specs.declared.Convention.{Convention}
 use Rattle.sig_types.specs.declared.FloatFormat.{FloatFormat}
 use Rattle.sig_types.specs.declared.IntegerKind.{IntegerKind}
 use Rattle.sig_types.specs.declared.ValueType.{ValueType}
-use Rattle.sig_types.specs.Sizes.{size_of, lacksFloat}
+use Rattle.sig_types.specs.Sizes.{size_of, lacks_float}
 use Rattle.sig_types.specs.Trees.{Tree, Trees, integer, float, none, ◌▸◌, type_of}
 use Rattle.sig_types.specs.Limits.{depth_of, Fits, TypeWithin, AllWithin}
 use Rattle.plan_places.specs.declared.Edition.{Edition}
@@ -21,9 +21,9 @@ use Rattle.plan_places.specs.declared.Cursor.{Cursor}
 use Rattle.plan_places.specs.declared.CallRules.{CallRules}
 use Rattle.plan_places.specs.declared.ZClass.{ZClass}
 use Rattle.plan_places.specs.Values.{cursor}
-use Rattle.plan_places.specs.Power.{words, fprs, covered, share_of, powerShare}
-use Rattle.plan_places.specs.ZSeries.{zClass, zNextOf}
-use Rattle.plan_places.specs.Step.{nextOf, start_of}
+use Rattle.plan_places.specs.Power.{words, fprs, covered, share_of, power_share}
+use Rattle.plan_places.specs.ZSeries.{z_class, z_next_of}
+use Rattle.plan_places.specs.Step.{next_of, start_of}
 use Rattle.plan_places.specs.Helpers.{LawfulCalls}
 use Rattle.plan_places.proofs.Shares.{share-marked, share-room, share-asked, words-some, words-two, words-one}
 use Rattle.plan_places.proofs.Written.{counted, next-counted, start-written, hidden-written, z-start-written, z-hidden-written}
@@ -32,7 +32,7 @@ use Rattle.plan_plans.specs.Plan.{last_of}
 use Rattle.plan_plans.proofs.Fold.{last_more}
 use Rattle.call_slots.proofs.Typed.{Typed}
 use Rattle.call_walker.specs.declared.Counters.{Counters}
-use Rattle.call_walker.specs.Walker.{counters, cursorAt, countersOf}
+use Rattle.call_walker.specs.Walker.{counters, cursor_at, counters_of}
 
 -- what the test of 23 says of counters
 abbrev pub Possible : CallRules → Bool → Counters → Type 0
@@ -78,8 +78,8 @@ z-more d (suc x) h g f a b k = go (h (omega arith))
     go (inr (inl e)) = inr (inl (omega arith))
     go (inr (inr e)) = inr (inr (omega arith))
 
-z-reached : (hidden : Bool) (d : Cursor) (class : ZClass) (n : ℕ) → Reached CallRules.Z hidden d → Reached CallRules.Z hidden (zNextOf d class n)
-unfolding zNextOf
+z-reached : (hidden : Bool) (d : Cursor) (class : ZClass) (n : ℕ) → Reached CallRules.Z hidden d → Reached CallRules.Z hidden (z_next_of d class n)
+unfolding z_next_of
 z-reached hidden d ZClass.Float n h = (
   omega (arith, h.0),
   omega (arith, h.1),
@@ -106,8 +106,8 @@ z-reached hidden d ZClass.Reference n h = (
 )
 
 pub reached-next : (c : Convention) (r : CallRules) (hidden : Bool) (d : Cursor) (t : ValueType) → LawfulCalls r → 0 < size_of c t → Reached r hidden d
-    → Reached r hidden (nextOf r d t (size_of c t))
-unfolding nextOf powerShare
+    → Reached r hidden (next_of r d t (size_of c t))
+unfolding next_of power_share
 reached-next c (CallRules.Power f) hidden d t l s h =
     let n : ℕ = words f.word (size_of c t) in
     let w : ℕ = h.0 in
@@ -121,20 +121,20 @@ reached-next c (CallRules.Power f) hidden d t l s h =
       omega (arith, room, h.4),
       omega (arith, few, most, h.5),
     )
-reached-next c CallRules.Z hidden d t l s h = z-reached hidden d (zClass t (size_of c t)) (size_of c t) h
+reached-next c CallRules.Z hidden d t l s h = z-reached hidden d (z_class t (size_of c t)) (size_of c t) h
 
 pub reached-last : (c : Convention) (r : CallRules) (hidden : Bool) (d : Cursor) (ts : List ValueType) → LawfulCalls r → All (Typed c) ts → Reached r hidden d
     → Reached r hidden (last_of c r d ts)
 unfolding last_of All
 reached-last c r hidden d [] l a h = h
-reached-last c r hidden d (t ∷ ts) l a h = reached-last c r hidden (nextOf r d t (size_of c t)) ts l a.1 (reached-next c r hidden d t l a.0.sized.some h)
+reached-last c r hidden d (t ∷ ts) l a h = reached-last c r hidden (next_of r d t (size_of c t)) ts l a.1 (reached-next c r hidden d t l a.0.sized.some h)
 
 z-offset : (d : Cursor) → (d.stack ≤ 0) ⊎ ((7 ≤ d.general) ⊎ (8 ≤ d.floating)) → (160 + d.stack ≤ 160) ⊎ ((7 ≤ d.general) ⊎ (8 ≤ d.floating))
 z-offset d (inl e) = inl (omega arith)
 z-offset d (inr e) = inr e
 
-pub reached-possible : (r : CallRules) (hidden : Bool) (d : Cursor) → LawfulCalls r → Reached r hidden d → Possible r hidden (countersOf r d)
-unfolding countersOf
+pub reached-possible : (r : CallRules) (hidden : Bool) (d : Cursor) → LawfulCalls r → Reached r hidden d → Possible r hidden (counters_of r d)
+unfolding counters_of
 reached-possible (CallRules.Power f) hidden d l h =
     let some : 0 < f.word = omega arith in
     let w : d.stack / f.word ≡ h.0 = ap (λ (x : ℕ). x / f.word) h.1 ∙ mul-div_cancel_left h.0 some in
@@ -143,8 +143,8 @@ reached-possible CallRules.Z hidden d l h = (h.0, h.1, h.2, h.3, omega arith, om
 
 -- the counters tell the cursor, but for its copies
 pub reached-cursor : (r : CallRules) (hidden : Bool) (d : Cursor) → LawfulCalls r → Reached r hidden d
-    → cursorAt r (countersOf r d) ≡ cursor d.general d.floating d.stack 0
-unfolding cursorAt countersOf
+    → cursor_at r (counters_of r d) ≡ cursor d.general d.floating d.stack 0
+unfolding cursor_at counters_of
 reached-cursor (CallRules.Power f) hidden d l h =
     let some : 0 < f.word = omega arith in
     let w : d.stack / f.word ≡ h.0 = ap (λ (x : ℕ). x / f.word) h.1 ∙ mul-div_cancel_left h.0 some in
@@ -153,8 +153,8 @@ reached-cursor (CallRules.Power f) hidden d l h =
 reached-cursor CallRules.Z hidden d l h = let e : 160 + d.stack - 160 ≡ d.stack = omega arith in rw e
 
 -- counters that pass are those of a cursor that can be reached
-pub possible-reached : (r : CallRules) (hidden : Bool) (k : Counters) → LawfulCalls r → Possible r hidden k → Reached r hidden (cursorAt r k)
-unfolding cursorAt
+pub possible-reached : (r : CallRules) (hidden : Bool) (k : Counters) → LawfulCalls r → Possible r hidden k → Reached r hidden (cursor_at r k)
+unfolding cursor_at
 possible-reached (CallRules.Power f) hidden k l h = (k.general, refl, refl, omega arith, omega (arith, h.0), omega (arith, h.1))
 possible-reached CallRules.Z hidden k l h = (h.0, h.1, h.2, h.3, omega (arith, h.4, h.5), back h.6)
   where
@@ -163,8 +163,8 @@ possible-reached CallRules.Z hidden k l h = (h.0, h.1, h.2, h.3, omega (arith, h
     back (inr e) = inr e
 
 -- the counters of that cursor are these
-pub counters-back : (r : CallRules) (hidden : Bool) (k : Counters) → LawfulCalls r → Possible r hidden k → countersOf r (cursorAt r k) ≡ k
-unfolding countersOf cursorAt
+pub counters-back : (r : CallRules) (hidden : Bool) (k : Counters) → LawfulCalls r → Possible r hidden k → counters_of r (cursor_at r k) ≡ k
+unfolding counters_of cursor_at
 counters-back (CallRules.Power f) hidden k l h =
     let some : 0 < f.word = omega arith in
     let m : 1 + k.floating - 1 ≡ k.floating = omega arith in
@@ -183,7 +183,7 @@ within-int : (c : Convention) → TypeWithin c int
 unfolding depth_of Fits
 within-int c = record { depth = omega arith; fits = tt }
 
-carries-single : (c : Convention) → lacksFloat c false FloatFormat.Single ≡ false
+carries-single : (c : Convention) → lacks_float c false FloatFormat.Single ≡ false
 carries-single Convention.Ppc64 = refl
 carries-single Convention.Z = refl
 carries-single Convention.Aix = refl
@@ -204,14 +204,14 @@ unfolding AllWithin last_of types_of
 lead-start c r hidden d e = record { arguments = none; within = tt; last = e }
 
 -- and one more
-lead-more : (c : Convention) (r : CallRules) (hidden : Bool) (d e : Cursor) (t : Tree) → TypeWithin c t → nextOf r d (type_of c t) (size_of c (type_of c t)) ≡ e
+lead-more : (c : Convention) (r : CallRules) (hidden : Bool) (d e : Cursor) (t : Tree) → TypeWithin c t → next_of r d (type_of c t) (size_of c (type_of c t)) ≡ e
     → LeadTo c r hidden d → LeadTo c r hidden e
 unfolding AllWithin types_of
 lead-more c r hidden d e t w q h = record {
   arguments = h.arguments ▸ t;
   within = (h.within, w);
   last = last_more c r (start_of r hidden) (types_of c h.arguments) (type_of c t)
-      ∙ (ap (λ (k : Cursor). nextOf r k (type_of c t) (size_of c (type_of c t))) h.last ∙ q);
+      ∙ (ap (λ (k : Cursor). next_of r k (type_of c t) (size_of c (type_of c t))) h.last ∙ q);
 }
 
 -- PowerPC: one word each, and an FPR for a single while one is left
@@ -227,13 +227,13 @@ module _ (c : Convention) (f : PowerRules) (hidden : Bool) (l : LawfulCalls (Cal
   one-fpr : (m n k : ℕ) → m ≤ 13 → m + (share_of f.ellipsis (fprs f.edition (type_of c single)) (14 - m) n k).floating ≡ m + 1
   one-fpr m n k h = ap (λ (x : ℕ). m + x) (share-marked f.ellipsis (fprs f.edition (type_of c single)) (14 - m) n k ∙ single-fpr m n k h)
 
-  power-int : (w m : ℕ) → nextOf (CallRules.Power f) (counted f.word w m 0) (type_of c int) (size_of c (type_of c int)) ≡ counted f.word (w + 1) m 0
+  power-int : (w m : ℕ) → next_of (CallRules.Power f) (counted f.word w m 0) (type_of c int) (size_of c (type_of c int)) ≡ counted f.word (w + 1) m 0
   unfolding type_of
   power-int w m =
       let x : words f.word 4 ≡ 1 = words-one f.word 4 (omega arith) (omega arith) in
       next-counted f w m 0 (type_of c int) 4 ∙ rw (no-fprs m (words f.word 4) (min (words f.word 4) (8 - w)), x)
 
-  power-single : (w m : ℕ) → m ≤ 13 → nextOf (CallRules.Power f) (counted f.word w m 0) (type_of c single) (size_of c (type_of c single)) ≡ counted f.word (w + 1) (m + 1) 0
+  power-single : (w m : ℕ) → m ≤ 13 → next_of (CallRules.Power f) (counted f.word w m 0) (type_of c single) (size_of c (type_of c single)) ≡ counted f.word (w + 1) (m + 1) 0
   unfolding type_of
   power-single w m h =
       let x : words f.word 4 ≡ 1 = words-one f.word 4 (omega arith) (omega arith) in
@@ -265,28 +265,28 @@ module _ (c : Convention) (f : PowerRules) (hidden : Bool) (l : LawfulCalls (Cal
 
 -- Z: registers while they are left, then eight bytes each
 module _ (c : Convention) (hidden : Bool) where
-  z-int : (g m s : ℕ) → g ≤ 6 → nextOf CallRules.Z (cursor g m s 0) (type_of c int) (size_of c (type_of c int)) ≡ cursor (g + 1) m s 0
-  unfolding nextOf zClass zNextOf type_of
+  z-int : (g m s : ℕ) → g ≤ 6 → next_of CallRules.Z (cursor g m s 0) (type_of c int) (size_of c (type_of c int)) ≡ cursor (g + 1) m s 0
+  unfolding next_of z_class z_next_of type_of
   z-int g m s h =
       let a : min 1 (7 - g) ≡ 1 = omega arith in
       let b : m + 2 * 0 ≡ m = omega arith in
       let d : s + 8 * (1 - (1 + 0)) ≡ s = omega arith in
       rw (a, b, d)
 
-  z-single : (g m s : ℕ) → m ≤ 7 → nextOf CallRules.Z (cursor g m s 0) (type_of c single) (size_of c (type_of c single)) ≡ cursor g (m + 2) s 0
-  unfolding nextOf zClass zNextOf type_of
+  z-single : (g m s : ℕ) → m ≤ 7 → next_of CallRules.Z (cursor g m s 0) (type_of c single) (size_of c (type_of c single)) ≡ cursor g (m + 2) s 0
+  unfolding next_of z_class z_next_of type_of
   z-single g m s h =
       let a : min 1 (8 - m) ≡ 1 = omega arith in
       let b : g + 0 ≡ g = omega arith in
       let d : s + 8 * (1 - (0 + 1)) ≡ s = omega arith in
       rw (a, b, d)
 
-  z-int-stack : (m s : ℕ) → nextOf CallRules.Z (cursor 7 m s 0) (type_of c int) (size_of c (type_of c int)) ≡ cursor 7 m (s + 8) 0
-  unfolding nextOf zClass zNextOf type_of
+  z-int-stack : (m s : ℕ) → next_of CallRules.Z (cursor 7 m s 0) (type_of c int) (size_of c (type_of c int)) ≡ cursor 7 m (s + 8) 0
+  unfolding next_of z_class z_next_of type_of
   z-int-stack m s = let b : m + 2 * 0 ≡ m = omega arith in rw b
 
-  z-single-stack : (g s : ℕ) → nextOf CallRules.Z (cursor g 8 s 0) (type_of c single) (size_of c (type_of c single)) ≡ cursor g 8 (s + 8) 0
-  unfolding nextOf zClass zNextOf type_of
+  z-single-stack : (g s : ℕ) → next_of CallRules.Z (cursor g 8 s 0) (type_of c single) (size_of c (type_of c single)) ≡ cursor g 8 (s + 8) 0
+  unfolding next_of z_class z_next_of type_of
   z-single-stack g s = let b : g + 0 ≡ g = omega arith in rw b
 
   z-ints : (n g m s : ℕ) → g + n ≤ 7 → LeadTo c CallRules.Z hidden (cursor g m s 0) → LeadTo c CallRules.Z hidden (cursor (g + n) m s 0)
@@ -336,8 +336,8 @@ module _ (c : Convention) (hidden : Bool) where
       let n : 0 + 8 * (s / 8) ≡ s = omega arith in
       rw z (subst (λ (y : ℕ). LeadTo c CallRules.Z hidden (cursor g 8 y 0)) n (z-singles-stack (s / 8) g 0 (rw z at (z-registers g m a b d e))))
 
-pub possible-led : (c : Convention) (r : CallRules) (hidden : Bool) (k : Counters) → LawfulCalls r → Possible r hidden k → LeadTo c r hidden (cursorAt r k)
-unfolding cursorAt
+pub possible-led : (c : Convention) (r : CallRules) (hidden : Bool) (k : Counters) → LawfulCalls r → Possible r hidden k → LeadTo c r hidden (cursor_at r k)
+unfolding cursor_at
 possible-led c (CallRules.Power f) hidden k l h = power-led c f hidden l k.general k.floating h.0 h.1
 possible-led c CallRules.Z hidden k l h =
     let d = possible-reached CallRules.Z hidden k l h in

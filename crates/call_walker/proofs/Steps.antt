@@ -15,9 +15,9 @@ use Rattle.plan_places.specs.declared.CallRules.{CallRules}
 use Rattle.plan_places.specs.declared.Span.{Span}
 use Rattle.plan_places.specs.declared.ZClass.{ZClass}
 use Rattle.plan_places.specs.Values.{cursor}
-use Rattle.plan_places.specs.Power.{powerShare}
-use Rattle.plan_places.specs.ZSeries.{zClass, zNextOf}
-use Rattle.plan_places.specs.Step.{rulesOf, span_of, nextOf, unclearFor}
+use Rattle.plan_places.specs.Power.{power_share}
+use Rattle.plan_places.specs.ZSeries.{z_class, z_next_of}
+use Rattle.plan_places.specs.Step.{rules_of, span_of, next_of, unclear_for}
 use Rattle.plan_places.specs.Helpers.{LawfulCalls}
 use Rattle.plan_places.proofs.Between.{step-between}
 use Rattle.plan_places.proofs.Marked.{next-marked}
@@ -26,10 +26,10 @@ use Rattle.call_slots.specs.declared.CallAnswer.{CallAnswer}
 use Rattle.call_slots.specs.Buffers.{Buffers}
 use Rattle.call_slots.specs.Placements.{placement, value_at}
 use Rattle.call_slots.specs.Refusals.{first_of}
-use Rattle.call_read.specs.Read.{argumentAnswer}
+use Rattle.call_read.specs.Read.{argument_answer}
 use Rattle.call_walker.specs.declared.Walker.{Walker}
-use Rattle.call_walker.specs.Walker.{countersOf, walker, cursorOf}
-use Rattle.call_walker.specs.Step.{rulesBy, asked, passes, stepTests, stepAnswer, stepValue, stepOn}
+use Rattle.call_walker.specs.Walker.{counters_of, walker, cursor_of}
+use Rattle.call_walker.specs.Step.{rules_by, asked, passes, step_tests, step_answer, step_value, step_on}
 use Rattle.call_walker.specs.Helpers.{local}
 use Rattle.call_walker.proofs.Shifted.{span-shifts, value-shift, answer-shift}
 use Rattle.call_walker.proofs.Reached.{Reached, reached-cursor}
@@ -39,19 +39,19 @@ use Rattle.call_walker.proofs.Reached.{Reached, reached-cursor}
 abbrev pub uncopied : Cursor → Cursor
 uncopied d = cursor d.general d.floating d.stack 0
 
-z-uncopied : (d : Cursor) (class : ZClass) (n : ℕ) → countersOf CallRules.Z (zNextOf (uncopied d) class n) ≡ countersOf CallRules.Z (zNextOf d class n)
-unfolding countersOf zNextOf
+z-uncopied : (d : Cursor) (class : ZClass) (n : ℕ) → counters_of CallRules.Z (z_next_of (uncopied d) class n) ≡ counters_of CallRules.Z (z_next_of d class n)
+unfolding counters_of z_next_of
 z-uncopied d ZClass.Float n = refl
 z-uncopied d ZClass.Simple n = refl
 z-uncopied d ZClass.Reference n = refl
 
-next-uncopied : (r : CallRules) (d : Cursor) (t : ValueType) (n : ℕ) → countersOf r (nextOf r (uncopied d) t n) ≡ countersOf r (nextOf r d t n)
-unfolding nextOf powerShare countersOf
+next-uncopied : (r : CallRules) (d : Cursor) (t : ValueType) (n : ℕ) → counters_of r (next_of r (uncopied d) t n) ≡ counters_of r (next_of r d t n)
+unfolding next_of power_share counters_of
 next-uncopied (CallRules.Power f) d t n = refl
-next-uncopied CallRules.Z d t n = z-uncopied d (zClass t n) n
+next-uncopied CallRules.Z d t n = z-uncopied d (z_class t n) n
 
 module _ (r : CallRules) (base : ℕ) (d : Cursor) (t : ValueType) (n : ℕ) (b : Buffers) where
-  answer-uncopied : argumentAnswer r base (placement t n (span_of r (uncopied d) t n)) b ≡ argumentAnswer r base (placement t n (span_of r d t n)) b
+  answer-uncopied : argument_answer r base (placement t n (span_of r (uncopied d) t n)) b ≡ argument_answer r base (placement t n (span_of r d t n)) b
   answer-uncopied =
       answer-shift t n d.stack (span_of r (uncopied d) t n) (span_of r (local d) t n) b (span-shifts r (uncopied d) t n) r base
       ∙ sym (answer-shift t n d.stack (span_of r d t n) (span_of r (local d) t n) b (span-shifts r d t n) r base)
@@ -62,7 +62,7 @@ module _ (r : CallRules) (base : ℕ) (d : Cursor) (t : ValueType) (n : ℕ) (b 
       ∙ sym (value-shift t n d.stack (span_of r d t n) (span_of r (local d) t n) b (span-shifts r d t n) r base)
 
 -- no length is refused where the next cursor lies in the area
-inside-passes : (r : CallRules) (d : Cursor) (t : ValueType) (n l : ℕ) → (nextOf r d t n).stack ≤ l → passes (span_of r d t n) l ≡ false
+inside-passes : (r : CallRules) (d : Cursor) (t : ValueType) (n l : ℕ) → (next_of r d t n).stack ≤ l → passes (span_of r d t n) l ≡ false
 unfolding passes
 inside-passes r d t n l h =
     let w = step-between r d t n in
@@ -70,37 +70,37 @@ inside-passes r d t n l h =
     let inside : s.memory.start + s.memory.length ≤ l = omega (arith, w.memory-to, w.home-to) in
     ap (λ (x : Bool). ltb 0 s.memory.length && x) (le-ltb l (s.memory.start + s.memory.length) inside) ∙ and_no (ltb 0 s.memory.length)
 
-z-stack : (d : Cursor) (class : ZClass) (n : ℕ) → (zNextOf (uncopied d) class n).stack ≡ (zNextOf d class n).stack
-unfolding zNextOf
+z-stack : (d : Cursor) (class : ZClass) (n : ℕ) → (z_next_of (uncopied d) class n).stack ≡ (z_next_of d class n).stack
+unfolding z_next_of
 z-stack d ZClass.Float n = refl
 z-stack d ZClass.Simple n = refl
 z-stack d ZClass.Reference n = refl
 
-next-stack : (r : CallRules) (d : Cursor) (t : ValueType) (n : ℕ) → (nextOf r (uncopied d) t n).stack ≡ (nextOf r d t n).stack
-unfolding nextOf powerShare
+next-stack : (r : CallRules) (d : Cursor) (t : ValueType) (n : ℕ) → (next_of r (uncopied d) t n).stack ≡ (next_of r d t n).stack
+unfolding next_of power_share
 next-stack (CallRules.Power f) d t n = refl
-next-stack CallRules.Z d t n = z-stack d (zClass t n) n
+next-stack CallRules.Z d t n = z-stack d (z_class t n) n
 
-module _ (c : Convention) (v hidden : Bool) (d : Cursor) (h : Reached (rulesOf c) hidden d) (l : LawfulCalls (rulesOf c)) (t : ValueType) (base : ℕ) (b : Buffers) where
+module _ (c : Convention) (v hidden : Bool) (d : Cursor) (h : Reached (rules_of c) hidden d) (l : LawfulCalls (rules_of c)) (t : ValueType) (base : ℕ) (b : Buffers) where
   -- the walker there
   abbrev pub here : Walker
-  here = walker c v hidden (countersOf (rulesOf c) d)
+  here = walker c v hidden (counters_of (rules_of c) d)
 
-  at-cursor : cursorOf here ≡ uncopied d
-  at-cursor = reached-cursor (rulesOf c) hidden d l h
+  at-cursor : cursor_of here ≡ uncopied d
+  at-cursor = reached-cursor (rules_of c) hidden d l h
 
-  pub step-done : unclearFor (rulesOf c) d t ≡ false → length b.image ≡ 512 → (nextOf (rulesOf c) d t (size_of c t)).stack ≤ length b.area
-      → argumentAnswer (rulesBy here) base (placement t (size_of c t) (span_of (rulesBy here) d t (size_of c t))) b ≡ CallAnswer.Done
-      → (m : ℕ) → m ≡ size_of c t → stepAnswer here t m base b ≡ CallAnswer.Done
-  unfolding stepAnswer stepTests first_of asked
+  pub step-done : unclear_for (rules_of c) d t ≡ false → length b.image ≡ 512 → (next_of (rules_of c) d t (size_of c t)).stack ≤ length b.area
+      → argument_answer (rules_by here) base (placement t (size_of c t) (span_of (rules_by here) d t (size_of c t))) b ≡ CallAnswer.Done
+      → (m : ℕ) → m ≡ size_of c t → step_answer here t m base b ≡ CallAnswer.Done
+  unfolding step_answer step_tests first_of asked
   step-done clear image area done m size =
-      let inside = inside-passes (rulesBy here) (uncopied d) t (size_of c t) (length b.area) (omega (arith, next-stack (rulesBy here) d t (size_of c t), ap (λ (k : Cursor). k.stack) (next-marked v (rulesOf c) d t (size_of c t)))) in
-      rw (at-cursor, unclear-floating (rulesOf c) (uncopied d) d t refl ∙ clear, eq-eqb (length b.image) 512 image, eq-eqb m (size_of c t) size, inside) (answer-uncopied (rulesBy here) base d t (size_of c t) b ∙ done)
+      let inside = inside-passes (rules_by here) (uncopied d) t (size_of c t) (length b.area) (omega (arith, next-stack (rules_by here) d t (size_of c t), ap (λ (k : Cursor). k.stack) (next-marked v (rules_of c) d t (size_of c t)))) in
+      rw (at-cursor, unclear-floating (rules_of c) (uncopied d) d t refl ∙ clear, eq-eqb (length b.image) 512 image, eq-eqb m (size_of c t) size, inside) (answer-uncopied (rules_by here) base d t (size_of c t) b ∙ done)
 
-  pub step_value : stepValue here t base b ≡ value_at (rulesBy here) base (placement t (size_of c t) (span_of (rulesBy here) d t (size_of c t))) b
+  pub step_value_lem : step_value here t base b ≡ value_at (rules_by here) base (placement t (size_of c t) (span_of (rules_by here) d t (size_of c t))) b
   unfolding asked
-  step_value = rw at-cursor (value-uncopied (rulesBy here) base d t (size_of c t) b)
+  step_value_lem = rw at-cursor (value-uncopied (rules_by here) base d t (size_of c t) b)
 
-  pub step-on : stepOn here t ≡ walker c v hidden (countersOf (rulesOf c) (nextOf (rulesOf c) d t (size_of c t)))
-  unfolding stepOn
-  step-on = ap (walker c v hidden) (ap (λ (k : Cursor). countersOf (rulesOf c) (nextOf (rulesOf c) k t (size_of c t))) at-cursor ∙ next-uncopied (rulesOf c) d t (size_of c t))
+  pub step-on : step_on here t ≡ walker c v hidden (counters_of (rules_of c) (next_of (rules_of c) d t (size_of c t)))
+  unfolding step_on
+  step-on = ap (walker c v hidden) (ap (λ (k : Cursor). counters_of (rules_of c) (next_of (rules_of c) k t (size_of c t))) at-cursor ∙ next-uncopied (rules_of c) d t (size_of c t))

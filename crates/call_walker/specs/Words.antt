@@ -4,7 +4,7 @@ use Rattle.std.specs.Prelude.{ℕ, Bool, ◌&&◌, List, [], ◌∷◌, leb, eqb
 use Rattle.base_words.specs.Basics.{pick, flag}
 use Rattle.base_words.specs.Splice.{overlay}
 use Rattle.base_conventions.specs.declared.ConventionCode.{ConventionCode}
-use Rattle.base_conventions.specs.Numbers.{code_of, conventionCode}
+use Rattle.base_conventions.specs.Numbers.{code_of, convention_code}
 use Rattle.sig_types.specs.declared.ValueType.{ValueType}
 use Rattle.sig_types.specs.Trees.{Tree, type_of}
 use Rattle.sig_items.specs.Reading.{Reading, got, no}
@@ -15,8 +15,8 @@ use Rattle.call_slots.specs.Buffers.{Buffers}
 use Rattle.call_walker.specs.declared.WalkerAnswer.{WalkerAnswer}
 use Rattle.call_walker.specs.declared.Walker.{Walker}
 use Rattle.call_walker.specs.declared.WalkerRead.{WalkerRead}
-use Rattle.call_walker.specs.Walker.{counters, walker, walkerOf, lost}
-use Rattle.call_walker.specs.Step.{typeItem, stepAnswer, stepValue, stepOn}
+use Rattle.call_walker.specs.Walker.{counters, walker, walker_of, lost}
+use Rattle.call_walker.specs.Step.{type_item, step_answer, step_value, step_on}
 
 -- ---- the words
 
@@ -24,33 +24,33 @@ abbrev pub unlost : Walker → WalkerRead
 unlost w = pick (lost w) WalkerRead.Lost (WalkerRead.Walker w)
 
 -- 23 also where the convention is none, or a mark over 1
-abbrev pub walkerBy : ConventionCode → List ℕ → WalkerRead
-walkerBy ConventionCode.Unknown ws = WalkerRead.Lost
-walkerBy (ConventionCode.Known c) ws =
+abbrev pub walker_by : ConventionCode → List ℕ → WalkerRead
+walker_by ConventionCode.Unknown ws = WalkerRead.Lost
+walker_by (ConventionCode.Known c) ws =
     pick (leb (get_or ws 1 0) 1 && leb (get_or ws 2 0) 1)
     (unlost (walker c (eqb (get_or ws 1 0) 1) (eqb (get_or ws 2 0) 1) (counters (get_or ws 3 0) (get_or ws 4 0) (get_or ws 5 0))))
     WalkerRead.Lost
 
-unfoldable pub walkerIn : List ℕ → WalkerRead
-walkerIn ws = walkerBy (conventionCode (get_or ws 0 0)) ws
+unfoldable pub walker_in : List ℕ → WalkerRead
+walker_in ws = walker_by (convention_code (get_or ws 0 0)) ws
 
 -- the words of a walker
-abbrev pub walkerLength : ℕ
-walkerLength = 6
+abbrev pub walker_length : ℕ
+walker_length = 6
 
-unfoldable pub walkerWords : Walker → List ℕ
-walkerWords w = code_of w.convention ∷ flag w.ellipsis ∷ flag w.hidden ∷ w.at.general ∷ w.at.floating ∷ w.at.stack ∷ []
+unfoldable pub walker_words : Walker → List ℕ
+walker_words w = code_of w.convention ∷ flag w.ellipsis ∷ flag w.hidden ∷ w.at.general ∷ w.at.floating ∷ w.at.stack ∷ []
 
 -- ---- the start
 
 -- the answer and the words after it, ws before: an accepted signature's walker; "A refused start leaves the walker as it was"
-abbrev pub walkStartAnswer : Reading Signature → WalkerAnswer
-walkStartAnswer (got g next n) = WalkerAnswer.Called CallAnswer.Done
-walkStartAnswer (no f) = WalkerAnswer.Called (CallAnswer.Unread f)
+abbrev pub walk_start_answer : Reading Signature → WalkerAnswer
+walk_start_answer (got g next n) = WalkerAnswer.Called CallAnswer.Done
+walk_start_answer (no f) = WalkerAnswer.Called (CallAnswer.Unread f)
 
-abbrev pub walkerStartWords : Reading Signature → List ℕ → List ℕ
-walkerStartWords (got g next n) ws = walkerWords (walkerOf g)
-walkerStartWords (no f) ws = ws
+abbrev pub walker_start_words : Reading Signature → List ℕ → List ℕ
+walker_start_words (got g next n) ws = walker_words (walker_of g)
+walker_start_words (no f) ws = ws
 
 -- ---- a step
 
@@ -60,29 +60,29 @@ pub record WalkerOutcome : Type 0 where
   pub words : List ℕ
   pub value : List ℕ
 
-abbrev pub walkerOutcome : WalkerAnswer → List ℕ → List ℕ → WalkerOutcome
-walkerOutcome a ws v = record { answer = a; words = ws; value = v }
+abbrev pub walker_outcome : WalkerAnswer → List ℕ → List ℕ → WalkerOutcome
+walker_outcome a ws v = record { answer = a; words = ws; value = v }
 
 -- by the answer a on a type: "Every refusal leaves all buffers and the state untouched"
-abbrev pub stepBy : CallAnswer → List ℕ → Walker → ValueType → ℕ → Buffers → List ℕ → WalkerOutcome
-stepBy CallAnswer.Done ws w t base b v = walkerOutcome (WalkerAnswer.Called CallAnswer.Done) (walkerWords (stepOn w t)) (overlay v (stepValue w t base b))
-stepBy (CallAnswer.Unread f) ws w t base b v = walkerOutcome (WalkerAnswer.Called (CallAnswer.Unread f)) ws v
-stepBy (CallAnswer.Refused r) ws w t base b v = walkerOutcome (WalkerAnswer.Called (CallAnswer.Refused r)) ws v
+abbrev pub step_by : CallAnswer → List ℕ → Walker → ValueType → ℕ → Buffers → List ℕ → WalkerOutcome
+step_by CallAnswer.Done ws w t base b v = walker_outcome (WalkerAnswer.Called CallAnswer.Done) (walker_words (step_on w t)) (overlay v (step_value w t base b))
+step_by (CallAnswer.Unread f) ws w t base b v = walker_outcome (WalkerAnswer.Called (CallAnswer.Unread f)) ws v
+step_by (CallAnswer.Refused r) ws w t base b v = walker_outcome (WalkerAnswer.Called (CallAnswer.Refused r)) ws v
 
 -- a walker w, in the words ws, that is asked for a type
-unfoldable pub stepFor : List ℕ → Walker → ValueType → ℕ → Buffers → List ℕ → WalkerOutcome
-stepFor ws w t base b v = stepBy (stepAnswer w t (length v) base b) ws w t base b v
+unfoldable pub step_for : List ℕ → Walker → ValueType → ℕ → Buffers → List ℕ → WalkerOutcome
+step_for ws w t base b v = step_by (step_answer w t (length v) base b) ws w t base b v
 
 -- by what was read of the item
-abbrev pub walkByItem : Reading Tree → List ℕ → Walker → ℕ → Buffers → List ℕ → WalkerOutcome
-walkByItem (got t next n) ws w base b v = stepFor ws w (type_of w.convention t) base b v
-walkByItem (no f) ws w base b v = walkerOutcome (WalkerAnswer.Called (CallAnswer.Unread f)) ws v
+abbrev pub walk_by_item : Reading Tree → List ℕ → Walker → ℕ → Buffers → List ℕ → WalkerOutcome
+walk_by_item (got t next n) ws w base b v = step_for ws w (type_of w.convention t) base b v
+walk_by_item (no f) ws w base b v = walker_outcome (WalkerAnswer.Called (CallAnswer.Unread f)) ws v
 
 -- by what the words are: 23 comes "first"
-abbrev pub walkBy : WalkerRead → List ℕ → List ℕ → ℕ → Buffers → List ℕ → WalkerOutcome
-walkBy WalkerRead.Lost ws s base b v = walkerOutcome WalkerAnswer.Lost ws v
-walkBy (WalkerRead.Walker w) ws s base b v = walkByItem (typeItem w.convention s) ws w base b v
+abbrev pub walk_by : WalkerRead → List ℕ → List ℕ → ℕ → Buffers → List ℕ → WalkerOutcome
+walk_by WalkerRead.Lost ws s base b v = walker_outcome WalkerAnswer.Lost ws v
+walk_by (WalkerRead.Walker w) ws s base b v = walk_by_item (type_item w.convention s) ws w base b v
 
 -- the words ws asked with the item's bytes s, of a value buffer v, the register image, the area and the copies b, which start at the address `base`
-unfoldable pub walkerStep : List ℕ → List ℕ → ℕ → Buffers → List ℕ → WalkerOutcome
-walkerStep ws s base b v = walkBy (walkerIn ws) ws s base b v
+unfoldable pub walker_step : List ℕ → List ℕ → ℕ → Buffers → List ℕ → WalkerOutcome
+walker_step ws s base b v = walk_by (walker_in ws) ws s base b v

@@ -1,8 +1,8 @@
 // A walker read from six 64-bit words, with refusal 23, and written to them.
 ghost use Rattle.std.specs.Prelude.{◌≡◌, ◌≤◌, length};
 ghost use Rattle.base_conventions.specs.declared.ConventionCode.TheVariants.{Known};
-ghost use Rattle.call_walker.specs.Walker.{possible, powerPossible, zPossible, in_range, lost};
-ghost use Rattle.call_walker.specs.Words.{walkerBy, walkerIn, walkerWords, walkerLength};
+ghost use Rattle.call_walker.specs.Walker.{possible, power_possible, z_possible, in_range, lost};
+ghost use Rattle.call_walker.specs.Words.{walker_by, walker_in, walker_words, walker_length};
 
 use base_conventions::{Convention, ConventionCode};
 use call_walker::{Counters, MAX_COUNTER, WALKER_WORDS, Walker, WalkerRead};
@@ -15,7 +15,7 @@ pub const AREA_OFFSET: u64 = both_abi::Z::HEADER as u64;
 
 fn power_possible(hidden: u64, k: Counters) -> bool
     requires { hidden ≤ 1 }
-    ensures { result ≡ powerPossible hidden k }
+    ensures { result ≡ power_possible hidden k }
 {
     if 13 < k.floating {
         return false;
@@ -28,7 +28,7 @@ fn power_possible(hidden: u64, k: Counters) -> bool
 
 fn z_possible(hidden: u64, k: Counters) -> bool
     requires { hidden ≤ 1 }
-    ensures { result ≡ zPossible hidden k }
+    ensures { result ≡ z_possible hidden k }
 {
     if k.general < 2 + hidden {
         return false;
@@ -94,7 +94,7 @@ fn is_lost(w: Walker) -> bool
 }
 
 fn walker_by(c: Convention, words: &[u64; WALKER_WORDS]) -> WalkerRead
-    ensures { result ≡ walkerBy (Known c) words.now }
+    ensures { result ≡ walker_by (Known c) words.now }
 {
     let ellipsis = words[1];
     let hidden = words[2];
@@ -122,7 +122,7 @@ fn walker_by(c: Convention, words: &[u64; WALKER_WORDS]) -> WalkerRead
 
 // The walker that six words are, or that they are none's (23).
 pub fn walker_in(words: &[u64; WALKER_WORDS]) -> WalkerRead
-    ensures { result ≡ walkerIn words.now }
+    ensures { result ≡ walker_in words.now }
 {
     match base_conventions::convention_code(words[0]) {
         ConventionCode::Known(c) => walker_by(c, words),
@@ -134,8 +134,8 @@ pub fn walker_in(words: &[u64; WALKER_WORDS]) -> WalkerRead
 
 // All six words of a walker.
 pub fn put_walker(words: &mut [u64], w: Walker)
-    requires { length words.old ≡ walkerLength }
-    ensures { words.new ≡ walkerWords w }
+    requires { length words.old ≡ walker_length }
+    ensures { words.new ≡ walker_words w }
 {
     let c = w.convention;
     let k = w.at;

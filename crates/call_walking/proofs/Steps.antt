@@ -18,7 +18,7 @@ use Rattle.sig_items.specs.Reading.{fault}
 use Rattle.plan_places.specs.declared.Cursor.{Cursor}
 use Rattle.plan_places.specs.declared.CallRules.{CallRules}
 use Rattle.plan_places.specs.declared.Span.{Span}
-use Rattle.plan_places.specs.Step.{rulesOf, span_of, nextOf, unclearFor}
+use Rattle.plan_places.specs.Step.{rules_of, span_of, next_of, unclear_for}
 use Rattle.plan_places.specs.Helpers.{LawfulCalls}
 use Rattle.plan_places.proofs.Bounds.{rules-lawful, unclear-floating}
 use Rattle.plan_places.proofs.Marked.{next-marked, named-marked}
@@ -26,22 +26,22 @@ use Rattle.plan_places.proofs.Registers.{step-numbered}
 use Rattle.call_slots.specs.declared.CallAnswer.{CallAnswer}
 use Rattle.call_slots.specs.Buffers.{Buffers, buffers}
 use Rattle.call_slots.specs.Placements.{Placement, placement, value_at}
-use Rattle.call_slots.specs.Refusals.{first_of, or_else, firstOfAll, is_refused}
+use Rattle.call_slots.specs.Refusals.{first_of, or_else, first_of_all, is_refused}
 use Rattle.call_slots.proofs.Typed.{Typed, typed}
 use Rattle.call_slots.proofs.Held.{step-held}
 use Rattle.call_slots.proofs.Refusals.{first_done, differ-false, or-refused, not-refused}
 use Rattle.call_unmarshal.specs.Helpers.{InBuffers, Readable}
-use Rattle.call_read.specs.Read.{argumentAnswer, argumentsAnswer}
+use Rattle.call_read.specs.Read.{argument_answer, arguments_answer}
 use Rattle.call_read.proofs.Arguments.{all-readable}
 use Rattle.call_walker.specs.declared.WalkerAnswer.{WalkerAnswer}
 use Rattle.call_walker.specs.declared.Walker.{Walker}
-use Rattle.call_walker.specs.Walker.{countersOf, walker, cursorOf, lost}
-use Rattle.call_walker.specs.Step.{sizeBy, rulesBy, asked, passes, stepTests, stepAnswer, stepValue, stepOn}
-use Rattle.call_walker.specs.Words.{walkerWords, walkerOutcome, stepBy, stepFor}
+use Rattle.call_walker.specs.Walker.{counters_of, walker, cursor_of, lost}
+use Rattle.call_walker.specs.Step.{size_by, rules_by, asked, passes, step_tests, step_answer, step_value, step_on}
+use Rattle.call_walker.specs.Words.{walker_words, walker_outcome, step_by, step_for}
 use Rattle.call_walker.specs.Helpers.{local, Shifted}
-use Rattle.call_walker.proofs.Shifted.{areaFrom, span-shifts, value-shift, answer-shift, tests-shift}
+use Rattle.call_walker.proofs.Shifted.{area_from, span-shifts, value-shift, answer-shift, tests-shift}
 use Rattle.call_walker.proofs.Exactly.{found-possible}
-use Rattle.call_walking.specs.Helpers.{Declared, countersAfter}
+use Rattle.call_walking.specs.Helpers.{Declared, counters_after}
 use Rattle.call_walking.proofs.Parts.{local-named, next-after}
 
 -- ---- what the lengths tell
@@ -51,8 +51,8 @@ pub record Passed (n : ℕ) (s : Span) (v i a : ℕ) : Type 0 where
   pub value : v ≡ n
   pub inside : passes s a ≡ false
 
-pub lengths-passed : (n : ℕ) (s : Span) (value image area : ℕ) → first_of (stepTests n s value image area) ≡ CallAnswer.Done → Passed n s value image area
-unfolding stepTests
+pub lengths-passed : (n : ℕ) (s : Span) (value image area : ℕ) → first_of (step_tests n s value image area) ≡ CallAnswer.Done → Passed n s value image area
+unfolding step_tests
 lengths-passed n s value image area e =
     let a = first_done _ _ e in
     let b = first_done _ _ a.1 in
@@ -67,7 +67,7 @@ stored s l e some = ltb-false l (s.memory.start + s.memory.length) (rw (lt-ltb 0
 
 -- a refusal leaves all as it was
 step-no : (a : CallAnswer) (ws : List ℕ) (w : Walker) (t : ValueType) (base : ℕ) (b : Buffers) (v : List ℕ) → is_refused a ≡ true
-    → walkerOutcome (WalkerAnswer.Called a) ws v ≡ stepBy a ws w t base b v
+    → walker_outcome (WalkerAnswer.Called a) ws v ≡ step_by a ws w t base b v
 step-no CallAnswer.Done ws w t base b v h = let z : ◌≡◌ {A = ℕ} 0 1 = cc in absurd (omega arith)
 step-no (CallAnswer.Unread f) ws w t base b v h = refl
 step-no (CallAnswer.Refused r) ws w t base b v h = refl
@@ -75,76 +75,76 @@ step-no (CallAnswer.Refused r) ws w t base b v h = refl
 module _ (w : Walker) (t : ValueType) (base : ℕ) (b : Buffers) where
   -- the cursor at offset 0, its offset, and the span there
   abbrev pub near : Cursor
-  near = local (cursorOf w)
+  near = local (cursor_of w)
 
   abbrev pub span : Span
-  span = span_of (rulesBy w) near t (sizeBy w t)
+  span = span_of (rules_by w) near t (size_by w t)
 
   abbrev part : List ℕ
-  part = drop (cursorOf w).stack b.area
+  part = drop (cursor_of w).stack b.area
 
-  shifted : Shifted (cursorOf w).stack (span_of (rulesBy w) (cursorOf w) t (sizeBy w t)) span
-  shifted = span-shifts (rulesBy w) (cursorOf w) t (sizeBy w t)
+  shifted : Shifted (cursor_of w).stack (span_of (rules_by w) (cursor_of w) t (size_by w t)) span
+  shifted = span-shifts (rules_by w) (cursor_of w) t (size_by w t)
 
   abbrev unclear : CallAnswer
   unclear = CallAnswer.Unread (fault Refusal.UnclearPlace 0 0)
 
   near-answer : (v : ℕ)
-      → stepAnswer w t v base b
-      ≡ pick (unclearFor (rulesOf w.convention) near t) unclear
-      (or_else (first_of (stepTests (sizeBy w t) span v (length b.image) (length part)))
-      (argumentAnswer (rulesBy w) base (placement t (sizeBy w t) span) (areaFrom (cursorOf w).stack b)))
-  unfolding stepAnswer asked
+      → step_answer w t v base b
+      ≡ pick (unclear_for (rules_of w.convention) near t) unclear
+      (or_else (first_of (step_tests (size_by w t) span v (length b.image) (length part)))
+      (argument_answer (rules_by w) base (placement t (size_by w t) span) (area_from (cursor_of w).stack b)))
+  unfolding step_answer asked
   near-answer v =
-      let s : Span = span_of (rulesBy w) (cursorOf w) t (sizeBy w t) in
-      let tests = tests-shift t (sizeBy w t) (cursorOf w).stack s span b shifted v in
-      let answer = answer-shift t (sizeBy w t) (cursorOf w).stack s span b shifted (rulesBy w) base in
-      ap₂ (λ (u : Bool) (x : CallAnswer). pick u unclear x) (sym (unclear-floating (rulesOf w.convention) (local (cursorOf w)) (cursorOf w) t refl)) (ap₂ or_else tests answer)
+      let s : Span = span_of (rules_by w) (cursor_of w) t (size_by w t) in
+      let tests = tests-shift t (size_by w t) (cursor_of w).stack s span b shifted v in
+      let answer = answer-shift t (size_by w t) (cursor_of w).stack s span b shifted (rules_by w) base in
+      ap₂ (λ (u : Bool) (x : CallAnswer). pick u unclear x) (sym (unclear-floating (rules_of w.convention) (local (cursor_of w)) (cursor_of w) t refl)) (ap₂ or_else tests answer)
 
   module _ (ws v : List ℕ) where
-    by_answer : (a : CallAnswer) → stepAnswer w t (length v) base b ≡ a → is_refused a ≡ true → walkerOutcome (WalkerAnswer.Called a) ws v ≡ stepFor ws w t base b v
-    unfolding stepFor
-    by_answer a e h = step-no a ws w t base b v h ∙ ap (λ (x : CallAnswer). stepBy x ws w t base b v) (sym e)
+    by_answer : (a : CallAnswer) → step_answer w t (length v) base b ≡ a → is_refused a ≡ true → walker_outcome (WalkerAnswer.Called a) ws v ≡ step_for ws w t base b v
+    unfolding step_for
+    by_answer a e h = step-no a ws w t base b v h ∙ ap (λ (x : CallAnswer). step_by x ws w t base b v) (sym e)
 
-    pub step-unclear : unclearFor (rulesOf w.convention) near t ≡ true → walkerOutcome (WalkerAnswer.Called unclear) ws v ≡ stepFor ws w t base b v
+    pub step-unclear : unclear_for (rules_of w.convention) near t ≡ true → walker_outcome (WalkerAnswer.Called unclear) ws v ≡ step_for ws w t base b v
     step-unclear e = by_answer unclear (near-answer (length v) ∙ rw e) refl
 
-    module _ (clear : unclearFor (rulesOf w.convention) near t ≡ false) (l : CallAnswer)
-        (lengths : l ≡ first_of (stepTests (sizeBy w t) span (length v) (length b.image) (length part))) where
-      answer-is : stepAnswer w t (length v) base b
-          ≡ or_else l (argumentAnswer (rulesBy w) base (placement t (sizeBy w t) span) (areaFrom (cursorOf w).stack b))
+    module _ (clear : unclear_for (rules_of w.convention) near t ≡ false) (l : CallAnswer)
+        (lengths : l ≡ first_of (step_tests (size_by w t) span (length v) (length b.image) (length part))) where
+      answer-is : step_answer w t (length v) base b
+          ≡ or_else l (argument_answer (rules_by w) base (placement t (size_by w t) span) (area_from (cursor_of w).stack b))
       answer-is = near-answer (length v) ∙ rw (clear, lengths)
 
-      pub step-lengths : is_refused l ≡ true → walkerOutcome (WalkerAnswer.Called l) ws v ≡ stepFor ws w t base b v
+      pub step-lengths : is_refused l ≡ true → walker_outcome (WalkerAnswer.Called l) ws v ≡ step_for ws w t base b v
       step-lengths h = by_answer l (answer-is ∙ or-refused l _ h) h
 
       module _ (passed : is_refused l ≡ false) (a : CallAnswer)
-          (answer : a ≡ argumentAnswer (rulesBy w) base (placement t (sizeBy w t) span) (areaFrom (cursorOf w).stack b)) where
-        last : stepAnswer w t (length v) base b ≡ a
+          (answer : a ≡ argument_answer (rules_by w) base (placement t (size_by w t) span) (area_from (cursor_of w).stack b)) where
+        last : step_answer w t (length v) base b ≡ a
         last = answer-is ∙ ap₂ or_else (not-refused l passed) (sym answer)
 
-        pub step-answer : is_refused a ≡ true → walkerOutcome (WalkerAnswer.Called a) ws v ≡ stepFor ws w t base b v
+        pub step-answer : is_refused a ≡ true → walker_outcome (WalkerAnswer.Called a) ws v ≡ step_for ws w t base b v
         step-answer h = by_answer a last h
 
         pub step-done : is_refused a ≡ false
-            → walkerOutcome (WalkerAnswer.Called CallAnswer.Done) (walkerWords (stepOn w t)) (overlay v (value_at (rulesBy w) base (placement t (sizeBy w t) span) (areaFrom (cursorOf w).stack b)))
-            ≡ stepFor ws w t base b v
-        unfolding stepFor asked
+            → walker_outcome (WalkerAnswer.Called CallAnswer.Done) (walker_words (step_on w t)) (overlay v (value_at (rules_by w) base (placement t (size_by w t) span) (area_from (cursor_of w).stack b)))
+            ≡ step_for ws w t base b v
+        unfolding step_for asked
         step-done h =
-            let value = value-shift t (sizeBy w t) (cursorOf w).stack (span_of (rulesBy w) (cursorOf w) t (sizeBy w t)) span b shifted (rulesBy w) base in
-            ap (λ (x : List ℕ). walkerOutcome (WalkerAnswer.Called CallAnswer.Done) (walkerWords (stepOn w t)) (overlay v x)) (sym value)
-            ∙ ap (λ (x : CallAnswer). stepBy x ws w t base b v) (sym (last ∙ not-refused a h))
+            let value = value-shift t (size_by w t) (cursor_of w).stack (span_of (rules_by w) (cursor_of w) t (size_by w t)) span b shifted (rules_by w) base in
+            ap (λ (x : List ℕ). walker_outcome (WalkerAnswer.Called CallAnswer.Done) (walker_words (step_on w t)) (overlay v x)) (sym value)
+            ∙ ap (λ (x : CallAnswer). step_by x ws w t base b v) (sym (last ∙ not-refused a h))
 
   module _ (found : lost w ≡ false) (known : Declared w.convention t) where
-    lawful : LawfulCalls (rulesOf w.convention)
+    lawful : LawfulCalls (rules_of w.convention)
     lawful = rules-lawful w.convention
 
     -- "and moves on"
-    pub step-moves : stepOn w t ≡ walker w.convention w.ellipsis w.hidden (countersAfter (rulesOf w.convention) w.at (nextOf (rulesBy w) near t (sizeBy w t)))
-    unfolding stepOn
+    pub step-moves : step_on w t ≡ walker w.convention w.ellipsis w.hidden (counters_after (rules_of w.convention) w.at (next_of (rules_by w) near t (size_by w t)))
+    unfolding step_on
     step-moves =
         ap (walker w.convention w.ellipsis w.hidden)
-        (sym (ap (countersAfter (rulesOf w.convention) w.at) (next-marked w.ellipsis (rulesOf w.convention) near t (sizeBy w t)) ∙ next-after (rulesOf w.convention) w.hidden w.at t (sizeBy w t) lawful (found-possible w found)))
+        (sym (ap (counters_after (rules_of w.convention) w.at) (next-marked w.ellipsis (rules_of w.convention) near t (size_by w t)) ∙ next-after (rules_of w.convention) w.hidden w.at t (size_by w t) lawful (found-possible w found)))
 
     is-typed : Typed w.convention t
     is-typed =
@@ -152,17 +152,17 @@ module _ (w : Walker) (t : ValueType) (base : ℕ) (b : Buffers) where
         (typed w.convention known.tree (subst (Sized w.convention) (sym known.same) known.sized))
 
     -- the argument can be looked at
-    pub step-ready : length b.image ≡ 512 → passes span (length part) ≡ false → InBuffers (rulesBy w) (length b.image) (length part) (placement t (sizeBy w t) span)
+    pub step-ready : length b.image ≡ 512 → passes span (length part) ≡ false → InBuffers (rules_by w) (length b.image) (length part) (placement t (size_by w t) span)
     step-ready image inside =
-        let q = step-numbered (rulesBy w) near t (sizeBy w t) (named-marked w.ellipsis (rulesOf w.convention) near (local-named (rulesOf w.convention) w.hidden w.at (found-possible w found))) in
+        let q = step-numbered (rules_by w) near t (size_by w t) (named-marked w.ellipsis (rules_of w.convention) near (local-named (rules_of w.convention) w.hidden w.at (found-possible w found))) in
         record {
           registers = record { held = step-held w.convention w.ellipsis near t is-typed; general = q.1; floating = q.0; image = image };
           memory = stored span (length part) inside;
         }
 
     -- and where nothing refuses it, be read
-    pub step-readable : InBuffers (rulesBy w) (length b.image) (length part) (placement t (sizeBy w t) span)
-        → argumentAnswer (rulesBy w) base (placement t (sizeBy w t) span) (areaFrom (cursorOf w).stack b) ≡ CallAnswer.Done
-        → Readable (rulesBy w) base (placement t (sizeBy w t) span) (areaFrom (cursorOf w).stack b)
-    unfolding All argumentsAnswer firstOfAll
-    step-readable ready done = (all-readable (rulesBy w) base (areaFrom (cursorOf w).stack b) (placement t (sizeBy w t) span ∷ []) (ready, tt) (rw done)).0
+    pub step-readable : InBuffers (rules_by w) (length b.image) (length part) (placement t (size_by w t) span)
+        → argument_answer (rules_by w) base (placement t (size_by w t) span) (area_from (cursor_of w).stack b) ≡ CallAnswer.Done
+        → Readable (rules_by w) base (placement t (size_by w t) span) (area_from (cursor_of w).stack b)
+    unfolding All arguments_answer first_of_all
+    step-readable ready done = (all-readable (rules_by w) base (area_from (cursor_of w).stack b) (placement t (size_by w t) span ∷ []) (ready, tt) (rw done)).0

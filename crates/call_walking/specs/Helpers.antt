@@ -8,7 +8,7 @@ use Rattle.sig_types.specs.Trees.{Tree, type_of}
 use Rattle.plan_places.specs.declared.Cursor.{Cursor}
 use Rattle.plan_places.specs.declared.CallRules.{CallRules}
 use Rattle.call_walker.specs.declared.Counters.{Counters}
-use Rattle.call_walker.specs.Walker.{counters, areaOffset, maxCounter}
+use Rattle.call_walker.specs.Walker.{counters, area_offset, max_counter}
 
 -- a type that an item was read as
 pub record Declared (c : Convention) (t : ValueType) : Type 0 where
@@ -19,14 +19,14 @@ pub record Declared (c : Convention) (t : ValueType) : Type 0 where
 -- counters whose offset in the area is a number: their words' bytes, or what is past the header
 abbrev pub Offset : CallRules → Counters → Type 0
 Offset (CallRules.Power f) k = f.word ≤ 8
-Offset CallRules.Z k = areaOffset ≤ k.stack
+Offset CallRules.Z k = area_offset ≤ k.stack
 
 -- a cursor whose counters are numbers
 abbrev pub Countable : CallRules → Cursor → Type 0
-Countable (CallRules.Power f) d = (1 ≤ f.word) × (1 ≤ d.floating) × (d.stack ≤ maxCounter)
-Countable CallRules.Z d = d.stack ≤ maxCounter
+Countable (CallRules.Power f) d = (1 ≤ f.word) × (1 ≤ d.floating) × (d.stack ≤ max_counter)
+Countable CallRules.Z d = d.stack ≤ max_counter
 
 -- the counters k, and from offset 0 on those of the cursor d
-unfoldable pub countersAfter : CallRules → Counters → Cursor → Counters
-countersAfter (CallRules.Power f) k d = counters (k.general + d.stack / f.word) (d.floating - 1) 0
-countersAfter CallRules.Z k d = counters d.general d.floating (k.stack + d.stack)
+unfoldable pub counters_after : CallRules → Counters → Cursor → Counters
+counters_after (CallRules.Power f) k d = counters (k.general + d.stack / f.word) (d.floating - 1) 0
+counters_after CallRules.Z k d = counters d.general d.floating (k.stack + d.stack)

@@ -1,18 +1,18 @@
 // The calls of a walker over its six words. A step tests all before it writes anything, and works in the part of the area that starts at the walker's
 // offset, since a cursor's own numbers are small.
 ghost use Rattle.std.specs.Prelude.{◌≡◌, false, ◌≤◌, length};
-ghost use Rattle.sig_items.specs.Answer.{itemAnswer};
+ghost use Rattle.sig_items.specs.Answer.{item_answer};
 ghost use Rattle.sig_signatures.specs.Read.{signature_of};
-ghost use Rattle.plan_places.specs.Step.{rulesOf};
-ghost use Rattle.plan_plans.specs.Plan.{hiddenIn, start_in};
+ghost use Rattle.plan_places.specs.Step.{rules_of};
+ghost use Rattle.plan_plans.specs.Plan.{hidden_in, start_in};
 ghost use Rattle.call_slots.specs.Buffers.{buffers};
 ghost use Rattle.call_slots.specs.Refusals.{first_of};
-ghost use Rattle.call_walker.specs.Walker.{walker as walkerAt, counters, countersOf, cursorAt, lost};
-ghost use Rattle.call_walker.specs.Step.{typeItem, passes, stepTests};
-ghost use Rattle.call_walker.specs.Words.{walkStartAnswer, walkerStartWords, stepFor, walkerStep};
+ghost use Rattle.call_walker.specs.Walker.{walker as walker_at, counters, counters_of, cursor_at, lost};
+ghost use Rattle.call_walker.specs.Step.{type_item, passes, step_tests};
+ghost use Rattle.call_walker.specs.Words.{walk_start_answer, walker_start_words, step_for, walker_step};
 ghost use Rattle.call_walker.specs.Walks.{Small};
 ghost use Rattle.call_walker.specs.Helpers.{local};
-ghost use Rattle.call_walking.specs.Helpers.{Declared, Offset, Countable, countersAfter};
+ghost use Rattle.call_walking.specs.Helpers.{Declared, Offset, Countable, counters_after};
 
 use base_conventions::Convention;
 use call_slots::{CallAnswer, CallRefusal};
@@ -28,7 +28,7 @@ use sig_types::ValueType;
 // The counters k, and from offset 0 of the area on those of a cursor.
 fn counters_after(r: CallRules, k: Counters, d: Cursor) -> Counters
     requires { Small k × Countable r d }
-    ensures { result ≡ countersAfter r k d }
+    ensures { result ≡ counters_after r k d }
 {
     match r {
         CallRules::Power(f) => Counters {
@@ -47,7 +47,7 @@ fn counters_after(r: CallRules, k: Counters, d: Cursor) -> Counters
 // The cursor that counters stand for, at offset 0.
 fn local_cursor(r: CallRules, k: Counters) -> Cursor
     requires { Small k }
-    ensures { result ≡ local (cursorAt r k) }
+    ensures { result ≡ local (cursor_at r k) }
 {
     match r {
         CallRules::Power(_) => Cursor {
@@ -68,7 +68,7 @@ fn local_cursor(r: CallRules, k: Counters) -> Cursor
 // Its offset in the area.
 fn offset_of(r: CallRules, k: Counters) -> usize
     requires { Small k × Offset r k }
-    ensures { result ≡ (cursorAt r k).stack }
+    ensures { result ≡ (cursor_at r k).stack }
 {
     match r {
         CallRules::Power(f) => f.word * (k.general as usize),
@@ -79,7 +79,7 @@ fn offset_of(r: CallRules, k: Counters) -> usize
 // ---- the start
 
 fn walker_of(c: Convention, ellipsis: bool, res: ResultType) -> Walker
-    ensures { result ≡ walkerAt c ellipsis (hiddenIn c res) (countersOf (rulesOf c) (start_in c res)) }
+    ensures { result ≡ walker_at c ellipsis (hidden_in c res) (counters_of (rules_of c) (start_in c res)) }
 {
     let r = both_abi::call_rules_of(c);
     let hidden = plan_planning::hidden_in(c, res);
@@ -100,8 +100,8 @@ fn walker_of(c: Convention, ellipsis: bool, res: ResultType) -> Walker
 
 // The walker of a signature, at its first argument. A refused start leaves the words as they were.
 pub fn start(words: &mut [u64; WALKER_WORDS], sig: &[u8]) -> WalkerAnswer
-    ensures value { result ≡ walkStartAnswer (signature_of sig.now) }
-    ensures words_after { words.new ≡ walkerStartWords (signature_of sig.now) words.old }
+    ensures value { result ≡ walk_start_answer (signature_of sig.now) }
+    ensures words_after { words.new ≡ walker_start_words (signature_of sig.now) words.old }
 {
     let g = sig_whole::read_signature(sig);
     let outcome = g.outcome;
@@ -122,7 +122,7 @@ pub fn start(words: &mut [u64; WALKER_WORDS], sig: &[u8]) -> WalkerAnswer
 
 // One type item and nothing after it.
 fn read_type(s: &[u8], c: Convention) -> ItemRead
-    ensures { result ≡ itemAnswer c (typeItem c s.now) }
+    ensures { result ≡ item_answer c (type_item c s.now) }
 {
     if MAX_LENGTH < s.len() {
         return ItemRead::Refused(Fault {
@@ -159,7 +159,7 @@ fn passes_area(s: Span, area: usize) -> bool
 
 // The tests of the lengths.
 fn tested(n: usize, s: Span, value: usize, image: usize, area: usize) -> CallAnswer
-    ensures { result ≡ first_of (stepTests n s value image area) }
+    ensures { result ≡ first_of (step_tests n s value image area) }
 {
     if image != IMAGE_BYTES {
         return CallAnswer::Refused(CallRefusal::ImageSize);
@@ -185,9 +185,9 @@ fn step(
     base: u64,
 ) -> WalkerAnswer
     requires { (lost w ≡ false) × Declared w.convention t }
-    ensures value { result ≡ (stepFor words.old w t base (buffers image.now area.now copies.now) value.old).answer }
-    ensures words_after { words.new ≡ (stepFor words.old w t base (buffers image.now area.now copies.now) value.old).words }
-    ensures value_after { value.new ≡ (stepFor words.old w t base (buffers image.now area.now copies.now) value.old).value }
+    ensures value { result ≡ (step_for words.old w t base (buffers image.now area.now copies.now) value.old).answer }
+    ensures words_after { words.new ≡ (step_for words.old w t base (buffers image.now area.now copies.now) value.old).words }
+    ensures value_after { value.new ≡ (step_for words.old w t base (buffers image.now area.now copies.now) value.old).value }
 {
     let c = w.convention;
     let k = w.at;
@@ -240,9 +240,9 @@ pub fn walk(
     copies: &[u8],
     base: u64,
 ) -> WalkerAnswer
-    ensures value { result ≡ (walkerStep words.old item.now base (buffers image.now area.now copies.now) value.old).answer }
-    ensures words_after { words.new ≡ (walkerStep words.old item.now base (buffers image.now area.now copies.now) value.old).words }
-    ensures value_after { value.new ≡ (walkerStep words.old item.now base (buffers image.now area.now copies.now) value.old).value }
+    ensures value { result ≡ (walker_step words.old item.now base (buffers image.now area.now copies.now) value.old).answer }
+    ensures words_after { words.new ≡ (walker_step words.old item.now base (buffers image.now area.now copies.now) value.old).words }
+    ensures value_after { value.new ≡ (walker_step words.old item.now base (buffers image.now area.now copies.now) value.old).value }
 {
     match call_walker_words::walker_in(words) {
         WalkerRead::Lost => WalkerAnswer::Lost,

@@ -1,8 +1,8 @@
 // Whether a memory lies where it may, which refusal 16 asks at the start and 23 of every state, and whether registers fit their words.
 ghost use Rattle.std.specs.Prelude.{◌≡◌};
 ghost use Rattle.frame_rules.specs.Helpers.{LawfulFrames};
-ghost use Rattle.frame_rules.specs.Frames.{allWithin, okRegisters};
-ghost use Rattle.frame_machine.specs.Machine.{okMemory};
+ghost use Rattle.frame_rules.specs.Frames.{all_within, ok_registers};
+ghost use Rattle.frame_machine.specs.Machine.{ok_memory};
 
 use frame_rules::{FrameRules, Registers};
 
@@ -14,7 +14,7 @@ const MAX_MEMORY: usize = 65536;
 // Are a memory's base and length in range? (Refusal 16.)
 pub fn memory_ok(k: FrameRules, base: u64, n: usize) -> bool
     requires { LawfulFrames k }
-    ensures { result ≡ okMemory k base n }
+    ensures { result ≡ ok_memory k base n }
 {
     if n % 16 != 0 {
         return false;
@@ -36,7 +36,7 @@ pub fn memory_ok(k: FrameRules, base: u64, n: usize) -> bool
 
 // Are all 32 numbers at most m?
 fn all_within(m: u64, xs: [u64; 32]) -> bool
-    ensures { result ≡ allWithin m xs 32 }
+    ensures { result ≡ all_within m xs 32 }
 {
     let mut i: usize = 32;
     while 0 < i {
@@ -50,7 +50,7 @@ fn all_within(m: u64, xs: [u64; 32]) -> bool
 
 // Do the general registers and LR fit a word?
 pub fn registers_ok(k: FrameRules, r: Registers) -> bool
-    ensures { result ≡ okRegisters k r }
+    ensures { result ≡ ok_registers k r }
 {
     let gpr = r.gpr;
     if !all_within(k.limit, gpr) {

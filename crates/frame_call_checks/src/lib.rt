@@ -1,8 +1,8 @@
 // What each call of the machine answers: the tests of the state, then those of the call, in their order; and which bytes of the memory a frame may write.
 ghost use Rattle.std.specs.Prelude.{◌≡◌, ◌+◌, ◌≤◌};
 ghost use Rattle.frame_rules.specs.Helpers.{LawfulFrames};
-ghost use Rattle.frame_rules.specs.Frames.{maxOutgoing, outgoingLength, maxMemory};
-ghost use Rattle.frame_machine.specs.Machine.{inside, outgoingFrom, localsFrom, writableBytes, writableAddress, enterAnswer, writeRegisterAnswer, writeMemoryAnswer, leaveAnswer};
+ghost use Rattle.frame_rules.specs.Frames.{max_outgoing, outgoing_length, max_memory};
+ghost use Rattle.frame_machine.specs.Machine.{inside, outgoing_from, locals_from, writable_bytes, writable_address, enter_answer, write_register_answer, write_memory_answer, leave_answer};
 ghost use Rattle.frame_machine.specs.Helpers.{Sound};
 
 use frame_machine::{FrameAnswer, FrameRefusal, MAX_ENTERED, State};
@@ -26,8 +26,8 @@ fn lies_inside(a: usize, n: usize, b: usize, e: usize) -> bool
 
 // Where the own outgoing area and the locals of the frame f start, with its pointer at o.
 fn outgoing_from(k: FrameRules, f: Frame, o: usize) -> usize
-    requires { (LawfulFrames k) × (k.floor ≤ o) × (o ≤ maxMemory) }
-    ensures { result ≡ outgoingFrom k f o }
+    requires { (LawfulFrames k) × (k.floor ≤ o) × (o ≤ max_memory) }
+    ensures { result ≡ outgoing_from k f o }
 {
     if f.leaf {
         return o - k.floor;
@@ -36,8 +36,8 @@ fn outgoing_from(k: FrameRules, f: Frame, o: usize) -> usize
 }
 
 fn locals_from(k: FrameRules, f: Frame, o: usize) -> usize
-    requires { (LawfulFrames k) × (k.floor ≤ o) × (o ≤ maxMemory) × (outgoingLength k f ≤ maxOutgoing + 256) }
-    ensures { result ≡ localsFrom k f o }
+    requires { (LawfulFrames k) × (k.floor ≤ o) × (o ≤ max_memory) × (outgoing_length k f ≤ max_outgoing + 256) }
+    ensures { result ≡ locals_from k f o }
 {
     if f.leaf {
         return o - k.floor;
@@ -48,7 +48,7 @@ fn locals_from(k: FrameRules, f: Frame, o: usize) -> usize
 // May the n bytes from offset a be written?
 fn bytes_writable(k: FrameRules, s: State, a: usize, n: usize, len: usize) -> bool
     requires { (LawfulFrames k) × (Sound k s len) }
-    ensures { result ≡ writableBytes k s a n }
+    ensures { result ≡ writable_bytes k s a n }
 {
     if n < 1 {
         return false;
@@ -86,7 +86,7 @@ fn bytes_writable(k: FrameRules, s: State, a: usize, n: usize, len: usize) -> bo
 // The same of n bytes at an address.
 pub fn address_writable(k: FrameRules, s: State, address: u64, n: usize, len: usize) -> bool
     requires { (LawfulFrames k) × (Sound k s len) }
-    ensures { result ≡ writableAddress k s address n }
+    ensures { result ≡ writable_address k s address n }
 {
     let b = s.base;
     if address < b {
@@ -97,7 +97,7 @@ pub fn address_writable(k: FrameRules, s: State, address: u64, n: usize, len: us
 
 pub fn judge_enter(k: FrameRules, s: State, n: usize, f: Frame) -> FrameAnswer
     requires { LawfulFrames k }
-    ensures { result ≡ enterAnswer k s n f }
+    ensures { result ≡ enter_answer k s n f }
 {
     let a = frame_state_checks::judge_state(k, s, n);
     match a {
@@ -132,7 +132,7 @@ pub fn judge_write_register(
     value: u64,
 ) -> FrameAnswer
     requires { LawfulFrames k }
-    ensures { result ≡ writeRegisterAnswer k s n bank number value }
+    ensures { result ≡ write_register_answer k s n bank number value }
 {
     let a = frame_state_checks::judge_state(k, s, n);
     match a {
@@ -150,7 +150,7 @@ pub fn judge_write_register(
 
 pub fn judge_write_memory(k: FrameRules, s: State, n: usize, address: u64, m: usize) -> FrameAnswer
     requires { LawfulFrames k }
-    ensures { result ≡ writeMemoryAnswer k s n address m }
+    ensures { result ≡ write_memory_answer k s n address m }
 {
     let a = frame_state_checks::judge_state(k, s, n);
     match a {
@@ -166,7 +166,7 @@ pub fn judge_write_memory(k: FrameRules, s: State, n: usize, address: u64, m: us
 
 pub fn judge_leave(k: FrameRules, s: State, memory: &[u8]) -> FrameAnswer
     requires { LawfulFrames k }
-    ensures { result ≡ leaveAnswer k s memory.now }
+    ensures { result ≡ leave_answer k s memory.now }
 {
     let a = frame_state_checks::judge_state(k, s, memory.len());
     match a {

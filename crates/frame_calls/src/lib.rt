@@ -2,7 +2,7 @@
 // call changes nothing.
 ghost use Rattle.std.specs.Prelude.{◌≡◌, length};
 ghost use Rattle.frame_rules.specs.Helpers.{LawfulFrames};
-ghost use Rattle.frame_machine.specs.Machine.{entered, enteredMemory, left, enterOutcome, enterMemory, writeRegisterOutcome, writeMemoryOutcome, writeMemoryMemory, leaveOutcome};
+ghost use Rattle.frame_machine.specs.Machine.{entered, entered_memory, left, enter_outcome, enter_memory, write_register_outcome, write_memory_outcome, write_memory_memory, leave_outcome};
 ghost use Rattle.frame_machine.specs.Helpers.{Sound, CanEnter, CanLeave};
 
 use frame_machine::{FrameAnswer, FrameOutcome, State};
@@ -28,7 +28,7 @@ pub fn push(k: FrameRules, s: State, f: Frame) -> State
 // The back chain at the new stack pointer, which a leaf has not, and the saves.
 pub fn save_frame(memory: &mut [u8], k: FrameRules, s: State, f: Frame)
     requires { (LawfulFrames k) × (Sound k s (length memory.old)) × (CanEnter k s f) }
-    ensures { memory.new ≡ enteredMemory k s memory.old f }
+    ensures { memory.new ≡ entered_memory k s memory.old f }
 {
     let p = frame_state_checks::stack_pointer(k, s);
     let z = frame_requests::frame_size(k, f);
@@ -68,8 +68,8 @@ pub fn pop(k: FrameRules, s: State, memory: &[u8]) -> State
 
 // Enters a frame.
 pub fn enter(s: State, memory: &mut [u8], f: Frame) -> FrameOutcome
-    ensures value { result ≡ enterOutcome s (length memory.old) f }
-    ensures memory_after { memory.new ≡ enterMemory s memory.old f }
+    ensures value { result ≡ enter_outcome s (length memory.old) f }
+    ensures memory_after { memory.new ≡ enter_memory s memory.old f }
 {
     let c = s.convention;
     let k = both_abi::frame_rules_of(c);
@@ -93,7 +93,7 @@ pub fn enter(s: State, memory: &mut [u8], f: Frame) -> FrameOutcome
 
 // Writes a value to a register: bank 0 general, 1 floating, 2 LR (whatever the number), 3 a field of CR.
 pub fn write_register(s: State, memory: &[u8], bank: u64, number: u64, value: u64) -> FrameOutcome
-    ensures { result ≡ writeRegisterOutcome s (length memory.now) bank number value }
+    ensures { result ≡ write_register_outcome s (length memory.now) bank number value }
 {
     let c = s.convention;
     let k = both_abi::frame_rules_of(c);
@@ -120,8 +120,8 @@ pub fn write_register(s: State, memory: &[u8], bank: u64, number: u64, value: u6
 
 // Writes bytes to the memory at an address.
 pub fn write_memory(s: State, memory: &mut [u8], address: u64, bytes: &[u8]) -> FrameOutcome
-    ensures value { result ≡ writeMemoryOutcome s (length memory.old) address (length bytes.now) }
-    ensures memory_after { memory.new ≡ writeMemoryMemory s memory.old address bytes.now }
+    ensures value { result ≡ write_memory_outcome s (length memory.old) address (length bytes.now) }
+    ensures memory_after { memory.new ≡ write_memory_memory s memory.old address bytes.now }
 {
     let c = s.convention;
     let k = both_abi::frame_rules_of(c);
@@ -145,7 +145,7 @@ pub fn write_memory(s: State, memory: &mut [u8], address: u64, bytes: &[u8]) -> 
 
 // Leaves the frame entered last.
 pub fn leave(s: State, memory: &[u8]) -> FrameOutcome
-    ensures { result ≡ leaveOutcome s memory.now }
+    ensures { result ≡ leave_outcome s memory.now }
 {
     let c = s.convention;
     let k = both_abi::frame_rules_of(c);

@@ -16,7 +16,7 @@ use Rattle.base_words.proofs.Tests.{and_yes}
 use Rattle.frame_saves.specs.Saves.{load}
 use Rattle.frame_rules.specs.declared.FrameRules.{FrameRules}
 use Rattle.frame_rules.specs.Helpers.{LawfulFrames}
-use Rattle.frame_dump.specs.Walk.{WalkRefusal, BadAddress, ChainTooLong, ListTooShort, Found, Frames, Refused, Walked, frames, refused, okAddress, prepend, walkFrom, maxFrames, walk, fitted, walkInto, foundIn, counted}
+use Rattle.frame_dump.specs.Walk.{WalkRefusal, BadAddress, ChainTooLong, ListTooShort, Found, Frames, Refused, Walked, frames, refused, ok_address, prepend, walk_from, max_frames, walk, fitted, walk_into, found_in, counted}
 
 -- a word has a byte at least
 pub word_some : (k : FrameRules) → LawfulFrames k → 0 < k.word
@@ -26,8 +26,8 @@ word_some k law = go k.word law.limit
     go zero e = absurd (omega (arith, e, law.memory))
     go (suc w) e = omega arith
 
-pub address-yes : (k : FrameRules) (b n least a : ℕ) → okAddress k b n least a ≡ true → (b ≤ a) × (a + k.header ≤ b + n)
-unfolding okAddress
+pub address-yes : (k : FrameRules) (b n least a : ℕ) → ok_address k b n least a ≡ true → (b ≤ a) × (a + k.header ≤ b + n)
+unfolding ok_address
 address-yes k b n least a e =
     let p = and_yes (eqb (a % k.alignment) 0) _ e in
     let q = and_yes (leb b a) _ p.1 in
@@ -37,24 +37,24 @@ address-yes k b n least a e =
 -- ---- one turn
 
 module _ (k : FrameRules) (b : ℕ) (l : List ℕ) (least a : ℕ) where
-  pub walk-bad : (n : ℕ) → 0 < n → okAddress k b (length l) least a ≡ false → walkFrom n k b l least a ≡ refused (BadAddress a)
-  unfolding walkFrom
+  pub walk-bad : (n : ℕ) → 0 < n → ok_address k b (length l) least a ≡ false → walk_from n k b l least a ≡ refused (BadAddress a)
+  unfolding walk_from
   walk-bad zero h e = absurd (omega arith)
   walk-bad (suc n) h e = rw e
 
-  pub walk-last : (n : ℕ) → 0 < n → okAddress k b (length l) least a ≡ true → load l (a - b) k.word ≡ 0 → walkFrom n k b l least a ≡ frames (a ∷ [])
-  unfolding walkFrom
+  pub walk-last : (n : ℕ) → 0 < n → ok_address k b (length l) least a ≡ true → load l (a - b) k.word ≡ 0 → walk_from n k b l least a ≡ frames (a ∷ [])
+  unfolding walk_from
   walk-last zero h e z = absurd (omega arith)
   walk-last (suc n) h e z = rw (e, z)
 
-  pub walk_more : (n : ℕ) → 0 < n → okAddress k b (length l) least a ≡ true → (load l (a - b) k.word ≡ 0 → ⊥)
-      → walkFrom n k b l least a ≡ prepend a (walkFrom (n - 1) k b l (a + 1) (load l (a - b) k.word))
-  unfolding walkFrom
+  pub walk_more : (n : ℕ) → 0 < n → ok_address k b (length l) least a ≡ true → (load l (a - b) k.word ≡ 0 → ⊥)
+      → walk_from n k b l least a ≡ prepend a (walk_from (n - 1) k b l (a + 1) (load l (a - b) k.word))
+  unfolding walk_from
   walk_more zero h e z = absurd (omega arith)
   walk_more (suc n) h e z = let d : suc n - 1 ≡ n = omega arith in rw (d, e, ne_eqb (load l (a - b) k.word) 0 z)
 
-pub walk-out : (k : FrameRules) (b : ℕ) (l : List ℕ) (n least a : ℕ) → n ≤ 0 → walkFrom n k b l least a ≡ refused ChainTooLong
-unfolding walkFrom
+pub walk-out : (k : FrameRules) (b : ℕ) (l : List ℕ) (n least a : ℕ) → n ≤ 0 → walk_from n k b l least a ≡ refused ChainTooLong
+unfolding walk_from
 walk-out k b l zero least a h = refl
 walk-out k b l (suc n) least a h = absurd (omega arith)
 
@@ -69,20 +69,20 @@ abbrev pub Follow : FrameRules → ℕ → List ℕ → ℕ → List ℕ → Typ
 Follow k b l a [] = Unit {0}
 Follow k b l a (x ∷ xs) = (x ≡ a) × (b ≤ a) × (a + k.header ≤ b + length l) × Follow k b l (load l (a - b) k.word) xs
 
-follow-prepend : (k : FrameRules) (b : ℕ) (l : List ℕ) (a : ℕ) (w : Walked) → b ≤ a → a + k.header ≤ b + length l → Follow k b l (load l (a - b) k.word) (foundIn w) → Follow k b l a (foundIn (prepend a w))
+follow-prepend : (k : FrameRules) (b : ℕ) (l : List ℕ) (a : ℕ) (w : Walked) → b ≤ a → a + k.header ≤ b + length l → Follow k b l (load l (a - b) k.word) (found_in w) → Follow k b l a (found_in (prepend a w))
 follow-prepend k b l a (frames xs) p q f = (refl, p, q, f)
 follow-prepend k b l a (refused r) p q f = tt
 
-pub follow : (n : ℕ) (k : FrameRules) (b : ℕ) (l : List ℕ) (least a : ℕ) → Follow k b l a (foundIn (walkFrom n k b l least a))
-unfolding walkFrom
+pub follow : (n : ℕ) (k : FrameRules) (b : ℕ) (l : List ℕ) (least a : ℕ) → Follow k b l a (found_in (walk_from n k b l least a))
+unfolding walk_from
 follow zero k b l least a = tt
-follow (suc n) k b l least a = go (okAddress k b (length l) least a) refl (eqb (load l (a - b) k.word) 0) (follow n k b l (a + 1) (load l (a - b) k.word))
+follow (suc n) k b l least a = go (ok_address k b (length l) least a) refl (eqb (load l (a - b) k.word) 0) (follow n k b l (a + 1) (load l (a - b) k.word))
   where
-    go : (ok : Bool) → okAddress k b (length l) least a ≡ ok → (last : Bool)
-        → Follow k b l (load l (a - b) k.word) (foundIn (walkFrom n k b l (a + 1) (load l (a - b) k.word)))
-        → Follow k b l a (foundIn (pick ok (pick last (frames (a ∷ [])) (prepend a (walkFrom n k b l (a + 1) (load l (a - b) k.word)))) (refused (BadAddress a))))
+    go : (ok : Bool) → ok_address k b (length l) least a ≡ ok → (last : Bool)
+        → Follow k b l (load l (a - b) k.word) (found_in (walk_from n k b l (a + 1) (load l (a - b) k.word)))
+        → Follow k b l a (found_in (pick ok (pick last (frames (a ∷ [])) (prepend a (walk_from n k b l (a + 1) (load l (a - b) k.word)))) (refused (BadAddress a))))
     go true e true f = let y = address-yes k b (length l) least a e in (refl, y.0, y.1, tt)
-    go true e false f = let y = address-yes k b (length l) least a e in follow-prepend k b l a (walkFrom n k b l (a + 1) (load l (a - b) k.word)) y.0 y.1 f
+    go true e false f = let y = address-yes k b (length l) least a e in follow-prepend k b l a (walk_from n k b l (a + 1) (load l (a - b) k.word)) y.0 y.1 f
     go false e last f = tt
 
 -- what a count says of the walk
@@ -90,11 +90,11 @@ abbrev tag : Found → ℕ
 tag (Frames m) = 0
 tag (Refused r) = 1
 
-pub counted-length : (w : Walked) (n : ℕ) → counted 0 w ≡ Frames n → length (foundIn w) ≡ n
+pub counted-length : (w : Walked) (n : ℕ) → counted 0 w ≡ Frames n → length (found_in w) ≡ n
 counted-length (frames xs) n e = let z : 0 + length xs ≡ n = cc in omega arith
 counted-length (refused r) n e = absurd (let z : ◌≡◌ {A = ℕ} 1 0 = ap tag e in omega arith)
 
-counted-frames : (w : Walked) (n : ℕ) → counted 0 w ≡ Frames n → w ≡ frames (foundIn w)
+counted-frames : (w : Walked) (n : ℕ) → counted 0 w ≡ Frames n → w ≡ frames (found_in w)
 counted-frames (frames xs) n e = refl
 counted-frames (refused r) n e = absurd (let z : ◌≡◌ {A = ℕ} 1 0 = ap tag e in omega arith)
 
@@ -105,31 +105,31 @@ counted-refused (refused x) r e = let a : x ≡ r = cc in rw a
 -- ---- the whole walk, into a slice of m numbers
 
 module _ (k : FrameRules) (b : ℕ) (l : List ℕ) (p m : ℕ) where
-  pub into-over : 2 ^ 64 - 1 < b + length l → walkInto k b l p m ≡ refused (BadAddress b)
-  unfolding walkInto walk
+  pub into-over : 2 ^ 64 - 1 < b + length l → walk_into k b l p m ≡ refused (BadAddress b)
+  unfolding walk_into walk
   into-over h = rw (lt-leb (b + length l) (2 ^ 64 - 1) h)
 
   module _ (h : b + length l ≤ 2 ^ 64 - 1) where
-    walked : walkInto k b l p m ≡ fitted m (walkFrom maxFrames k b l 0 p)
-    unfolding walkInto walk
+    walked : walk_into k b l p m ≡ fitted m (walk_from max_frames k b l 0 p)
+    unfolding walk_into walk
     walked = rw (le-leb (b + length l) (2 ^ 64 - 1) h)
 
-    pub into-refused : (r : WalkRefusal) → counted 0 (walkFrom maxFrames k b l 0 p) ≡ Refused r → walkInto k b l p m ≡ refused r
-    into-refused r e = walked ∙ ap (fitted m) (counted-refused (walkFrom maxFrames k b l 0 p) r e)
+    pub into-refused : (r : WalkRefusal) → counted 0 (walk_from max_frames k b l 0 p) ≡ Refused r → walk_into k b l p m ≡ refused r
+    into-refused r e = walked ∙ ap (fitted m) (counted-refused (walk_from max_frames k b l 0 p) r e)
 
-    module _ (n : ℕ) (e : counted 0 (walkFrom maxFrames k b l 0 p) ≡ Frames n) where
-      fitted-is : walkInto k b l p m ≡ pick (leb (length (foundIn (walkFrom maxFrames k b l 0 p))) m) (frames (foundIn (walkFrom maxFrames k b l 0 p))) (refused ListTooShort)
-      fitted-is = walked ∙ ap (fitted m) (counted-frames (walkFrom maxFrames k b l 0 p) n e)
+    module _ (n : ℕ) (e : counted 0 (walk_from max_frames k b l 0 p) ≡ Frames n) where
+      fitted-is : walk_into k b l p m ≡ pick (leb (length (found_in (walk_from max_frames k b l 0 p))) m) (frames (found_in (walk_from max_frames k b l 0 p))) (refused ListTooShort)
+      fitted-is = walked ∙ ap (fitted m) (counted-frames (walk_from max_frames k b l 0 p) n e)
 
-      pub into-short : m < n → walkInto k b l p m ≡ refused ListTooShort
+      pub into-short : m < n → walk_into k b l p m ≡ refused ListTooShort
       into-short s =
-          let size = counted-length (walkFrom maxFrames k b l 0 p) n e in
-          fitted-is ∙ rw (lt-leb (length (foundIn (walkFrom maxFrames k b l 0 p))) m (omega (arith, size)))
+          let size = counted-length (walk_from max_frames k b l 0 p) n e in
+          fitted-is ∙ rw (lt-leb (length (found_in (walk_from max_frames k b l 0 p))) m (omega (arith, size)))
 
-      pub into-frames : n ≤ m → walkInto k b l p m ≡ frames (foundIn (walkFrom maxFrames k b l 0 p))
+      pub into-frames : n ≤ m → walk_into k b l p m ≡ frames (found_in (walk_from max_frames k b l 0 p))
       into-frames s =
-          let size = counted-length (walkFrom maxFrames k b l 0 p) n e in
-          fitted-is ∙ rw (le-leb (length (foundIn (walkFrom maxFrames k b l 0 p))) m (omega (arith, size)))
+          let size = counted-length (walk_from max_frames k b l 0 p) n e in
+          fitted-is ∙ rw (le-leb (length (found_in (walk_from max_frames k b l 0 p))) m (omega (arith, size)))
 
 -- one frame of those found, and the rest of them
 module _ (k : FrameRules) (b : ℕ) (l : List ℕ) (a : ℕ) (xs : List ℕ) (i : ℕ) (h : i < length xs) (f : Follow k b l a (drop i xs)) where

@@ -3,17 +3,17 @@
 use Rattle.std.specs.Prelude.{ℕ, ◌+◌, ◌-◌, ◌%◌, ◌^◌, ◌≤◌, ◌<◌, ◌≡◌, List, [], ◌∷◌, length}
 use Rattle.frame_saves.specs.Saves.{load}
 use Rattle.frame_rules.specs.declared.FrameRules.{FrameRules}
-use Rattle.frame_dump.specs.Walk.{Walked, frames, maxFrames, walkInto}
+use Rattle.frame_dump.specs.Walk.{Walked, frames, max_frames, walk_into}
 
 -- the first of the addresses, or zero where there is none
-abbrev pub firstAddress : List ℕ → ℕ
-firstAddress [] = 0
-firstAddress (x ∷ xs) = x
+abbrev pub first_address : List ℕ → ℕ
+first_address [] = 0
+first_address (x ∷ xs) = x
 
 -- "following the back chain until a zero word": the word at each address is the next one, that at the last is zero
 abbrev pub Linked : FrameRules → ℕ → List ℕ → List ℕ → Type 0
 Linked k b l [] = Unit {0}
-Linked k b l (x ∷ xs) = (load l (x - b) k.word ≡ firstAddress xs) × Linked k b l xs
+Linked k b l (x ∷ xs) = (load l (x - b) k.word ≡ first_address xs) × Linked k b l xs
 
 -- "Each address must be aligned", "wholly inside the dump with its header"; n is the dump's length
 abbrev pub Inside : FrameRules → ℕ → ℕ → List ℕ → Type 0
@@ -29,13 +29,13 @@ Ascending least (x ∷ xs) = (least ≤ x) × Ascending (x + 1) xs
 pub record Chain (k : FrameRules) (b : ℕ) (l : List ℕ) (p : ℕ) (xs : List ℕ) : Type 0 where
   pub end : b + length l ≤ 2 ^ 64 - 1
   pub some : 0 < length xs
-  pub first : firstAddress xs ≡ p
+  pub first : first_address xs ≡ p
   pub linked : Linked k b l xs
   pub inside : Inside k b (length l) xs
   pub ascending : Ascending 0 xs
-  pub count : length xs ≤ maxFrames
+  pub count : length xs ≤ max_frames
 
 -- m is the length of the slice
 abbrev pub WalksExactly : Type 0
 WalksExactly = (k : FrameRules) (b : ℕ) (l : List ℕ) (p m : ℕ) (xs : List ℕ)
-    → (walkInto k b l p m ≡ frames xs → Chain k b l p xs × (length xs ≤ m)) × (Chain k b l p xs → length xs ≤ m → walkInto k b l p m ≡ frames xs)
+    → (walk_into k b l p m ≡ frames xs → Chain k b l p xs × (length xs ≤ m)) × (Chain k b l p xs → length xs ≤ m → walk_into k b l p m ≡ frames xs)

@@ -1,7 +1,7 @@
 // The frames of a dump: memory bytes, their base and a stack pointer, with the back chain followed to its zero word. The definitions of a walk stand in specs/;
 // `frame_dump_walk` has the code.
 ghost use Rattle.std.specs.Prelude.{◌≡◌};
-ghost use Rattle.frame_dump.specs.Walk.{walkRefusalNumber, refusalPlace};
+ghost use Rattle.frame_dump.specs.Walk.{walk_refusal_number, refusal_place};
 
 // Why a walk is refused.
 #[derive(Drop)]
@@ -23,7 +23,7 @@ pub enum Found {
 
 // Document 02's number of a refusal, and its place.
 pub fn walk_refusal_number(r: WalkRefusal) -> u64
-    ensures { result ≡ walkRefusalNumber r }
+    ensures { result ≡ walk_refusal_number r }
 {
     match r {
         WalkRefusal::BadAddress(_) => 30,
@@ -33,7 +33,7 @@ pub fn walk_refusal_number(r: WalkRefusal) -> u64
 }
 
 pub fn refusal_place(r: WalkRefusal) -> u64
-    ensures { result ≡ refusalPlace r }
+    ensures { result ≡ refusal_place r }
 {
     match r {
         WalkRefusal::BadAddress(a) => a,

@@ -9,7 +9,7 @@ use native.Mathlib.Nat.{dvd-zero, dvd-mul_left, dvd_trans, dvd-add, dvd-sub, dvd
 use lib.ListN.{length, get_or}
 use lib.Dec.{leb, eqb}
 use borrow.Author.Tests.{le-leb, eq-eqb, ne_eqb, eqb-true}
-use Rattle.base_words.specs.Basics.{roundUp}
+use Rattle.base_words.specs.Basics.{round_up}
 use Rattle.base_words.proofs.Tests.{and_yes, either}
 use Rattle.frame_saves.specs.Saves.{load}
 use Rattle.base_conventions.specs.declared.Convention.{Convention}
@@ -17,16 +17,16 @@ use Rattle.base_conventions.specs.declared.Convention.TheVariants.{Ppc64, Z, Aix
 use Rattle.frame_rules.specs.declared.FrameRules.{FrameRules}
 use Rattle.frame_rules.specs.declared.Frame.{Frame}
 use Rattle.frame_rules.specs.Rules.{rules}
-use Rattle.frame_rules.specs.Frames.{outgoingLength, below, fullSize, frameSize}
+use Rattle.frame_rules.specs.Frames.{outgoing_length, below, full_size, frame_size}
 use Rattle.frame_rules.specs.Helpers.{LawfulFrames}
 use Rattle.frame_rules.proofs.Places.{leaf-size, solid-size, size-parts}
 use Rattle.frame_machine.specs.declared.State.{State}
-use Rattle.frame_machine.specs.Machine.{stackPointer, offset, frame_at, okMemory, sizes}
+use Rattle.frame_machine.specs.Machine.{stack_pointer, offset, frame_at, ok_memory, sizes}
 use Rattle.frame_machine.specs.Helpers.{Sound}
 use Rattle.frame_history.specs.Calls.{Machine}
-use Rattle.frame_history.specs.Preserved.{OpenEnter, callerOf}
+use Rattle.frame_history.specs.Preserved.{OpenEnter, caller_of}
 use Rattle.frame_history.proofs.Invariant.{Invariant, base-of}
-use Rattle.frame_dump.specs.Walk.{Walked, frames, okAddress, walkFrom}
+use Rattle.frame_dump.specs.Walk.{Walked, frames, ok_address, walk_from}
 use Rattle.frame_dump.proofs.Laws.{word_some}
 use Rattle.frame_dump_history.proofs.Pointers.{callers}
 use Rattle.frame_dump_history.proofs.Chains.{Chains}
@@ -46,11 +46,11 @@ aligned Ppc64b = record { divides = refl; room = refl }
 
 module _ (k : FrameRules) (law : LawfulFrames k) (even : Aligned k) where
   -- a frame moves the pointer by a multiple of the alignment
-  size-aligned : (f : Frame) → k.alignment ∣ frameSize k f
-  unfolding fullSize roundUp
+  size-aligned : (f : Frame) → k.alignment ∣ frame_size k f
+  unfolding full_size round_up
   size-aligned f =
       either f.leaf (λ e. rw (leaf-size k f e) (dvd-zero k.alignment))
-      (λ e. rw (solid-size k f e) (dvd-mul_left k.alignment ((k.header + outgoingLength k f + f.locals + below k.linkage k f + (k.alignment - 1)) / k.alignment)))
+      (λ e. rw (solid-size k f e) (dvd-mul_left k.alignment ((k.header + outgoing_length k f + f.locals + below k.linkage k f + (k.alignment - 1)) / k.alignment)))
 
   sizes-aligned : (fs : List Frame) (d : ℕ) → k.alignment ∣ sizes k fs d
   unfolding sizes
@@ -60,8 +60,8 @@ module _ (k : FrameRules) (law : LawfulFrames k) (even : Aligned k) where
   by-16 : (n : ℕ) → n % 16 ≡ 0 → k.alignment ∣ n
   by-16 n e = dvd_trans k.alignment (dvd_of_mod-eq-zero k.alignment even.divides) (dvd_of_mod-eq-zero 16 e)
 
-  memory-16 : (b n : ℕ) → okMemory k b n ≡ true → (n % 16 ≡ 0) × (b % 16 ≡ 0)
-  unfolding okMemory
+  memory-16 : (b n : ℕ) → ok_memory k b n ≡ true → (n % 16 ≡ 0) × (b % 16 ≡ 0)
+  unfolding ok_memory
   memory-16 b n e =
       let p = and_yes (eqb (n % 16) 0) _ e in
       let q = and_yes (leb 256 n) _ p.1 in
@@ -70,32 +70,32 @@ module _ (k : FrameRules) (law : LawfulFrames k) (even : Aligned k) where
       (eqb-true (n % 16) 0 p.0, eqb-true (b % 16) 0 s.0)
 
   -- the pointer of a sound state is aligned
-  pointer-aligned : (s : State) (n : ℕ) → Sound k s n → stackPointer k s % k.alignment ≡ 0
+  pointer-aligned : (s : State) (n : ℕ) → Sound k s n → stack_pointer k s % k.alignment ≡ 0
   pointer-aligned s n y =
       let m = memory-16 s.base s.size y.memory in
       let up = dvd-add k.alignment (by-16 s.base m.1) (by-16 s.size m.0) in
       let down = dvd-add k.alignment (sizes-aligned s.frames s.depth) (dvd_of_mod-eq-zero k.alignment even.room) in
-      let e : stackPointer k s ≡ s.base + s.size - (sizes k s.frames s.depth + k.room) = omega (arith, y.sum) in
+      let e : stack_pointer k s ≡ s.base + s.size - (sizes k s.frames s.depth + k.room) = omega (arith, y.sum) in
       mod-eq-zero_of_dvd k.alignment (rw e (dvd-sub k.alignment up down))
 
   -- ---- one address
 
   -- the pointer passes the tests of a walk
-  address-ok : (s : State) (n least : ℕ) → Sound k s n → least ≤ stackPointer k s → okAddress k s.base n least (stackPointer k s) ≡ true
-  unfolding okAddress
+  address-ok : (s : State) (n least : ℕ) → Sound k s n → least ≤ stack_pointer k s → ok_address k s.base n least (stack_pointer k s) ≡ true
+  unfolding ok_address
   address-ok s n least y h =
       rw (
         pointer-aligned s n y,
-        le-leb s.base (stackPointer k s) (omega (arith, y.over)),
-        le-leb (stackPointer k s + k.header) (s.base + n) (omega (arith, y.sum, y.length, law.head)),
-        le-leb least (stackPointer k s) h,
+        le-leb s.base (stack_pointer k s) (omega (arith, y.over)),
+        le-leb (stack_pointer k s + k.header) (s.base + n) (omega (arith, y.sum, y.length, law.head)),
+        le-leb least (stack_pointer k s) h,
       )
 
   -- ---- all of them
 
-  pub memory-walk : (os : List OpenEnter) (m : Machine) (l : List ℕ) (n least : ℕ) → Invariant k os m → (callerOf k os).leaf ≡ false → Chains k os m l → length l ≡ m.state.size
-      → length os < n → least ≤ stackPointer k m.state → walkFrom n k m.state.base l least (stackPointer k m.state) ≡ frames (stackPointer k m.state ∷ callers k os)
-  unfolding walkFrom
+  pub memory-walk : (os : List OpenEnter) (m : Machine) (l : List ℕ) (n least : ℕ) → Invariant k os m → (caller_of k os).leaf ≡ false → Chains k os m l → length l ≡ m.state.size
+      → length os < n → least ≤ stack_pointer k m.state → walk_from n k m.state.base l least (stack_pointer k m.state) ≡ frames (stack_pointer k m.state ∷ callers k os)
+  unfolding walk_from
   memory-walk os m l zero least i z c e h p = absurd (omega arith)
   memory-walk [] m l (suc n) least i z c e h p =
       let y = i.0.sound in
@@ -105,7 +105,7 @@ module _ (k : FrameRules) (law : LawfulFrames k) (even : Aligned k) where
       let t = i.1 in
       let y = i.0.sound in
       let size : length l ≡ length m.memory = e ∙ sym y.length in
-      let up : stackPointer k m.state + 1 ≤ stackPointer k o.before.state = omega (arith, t.pointer, size-parts k law o.request t.request z, law.chain, word_some k law) in
-      let more : eqb (stackPointer k o.before.state) 0 ≡ false = ne_eqb (stackPointer k o.before.state) 0 (λ q. omega arith) in
-      let rest = memory-walk os o.before l n (stackPointer k m.state + 1) i.2 t.solid c.1 (e ∙ t.size) (omega arith) up in
+      let up : stack_pointer k m.state + 1 ≤ stack_pointer k o.before.state = omega (arith, t.pointer, size-parts k law o.request t.request z, law.chain, word_some k law) in
+      let more : eqb (stack_pointer k o.before.state) 0 ≡ false = ne_eqb (stack_pointer k o.before.state) 0 (λ q. omega arith) in
+      let rest = memory-walk os o.before l n (stack_pointer k m.state + 1) i.2 t.solid c.1 (e ∙ t.size) (omega arith) up in
       rw (size, address-ok m.state (length m.memory) least y p, c.0, more, t.base, rest)

@@ -7,31 +7,31 @@ use Rattle.base_conventions.specs.declared.Convention.{Convention}
 use Rattle.frame_rules.specs.declared.FrameRules.{FrameRules}
 use Rattle.frame_rules.specs.Rules.{rules}
 use Rattle.frame_machine.specs.declared.FrameAnswer.TheVariants.{Accepted}
-use Rattle.frame_machine.specs.Machine.{stackPointer, startOutcome}
-use Rattle.frame_word_layout.specs.Words.{registersWords, registersIn, stateIn}
+use Rattle.frame_machine.specs.Machine.{stack_pointer, start_outcome}
+use Rattle.frame_word_layout.specs.Words.{registers_words, registers_in, state_in}
 use Rattle.frame_history.specs.Calls as states
-use Rattle.frame_history.specs.Preserved.{OpenEnter, callerOf, CallsFit}
+use Rattle.frame_history.specs.Preserved.{OpenEnter, caller_of, CallsFit}
 use Rattle.frame_word_history.specs.Calls.{Call, Lent, run, fresh}
-use Rattle.frame_word_history.specs.Demand3.{callsIn, openedBy, WordsFit}
-use Rattle.frame_dump.specs.Walk.{Walked, frames, walkInto}
+use Rattle.frame_word_history.specs.Demand3.{calls_in, opened_by, WordsFit}
+use Rattle.frame_dump.specs.Walk.{Walked, frames, walk_into}
 
 -- the address of the frame that an enter opened: the stack pointer just after it
-abbrev pub frameAddress : FrameRules → OpenEnter → ℕ
-frameAddress k o = stackPointer k (states.after (states.enter o.request) o.before).state
+abbrev pub frame_address : FrameRules → OpenEnter → ℕ
+frame_address k o = stack_pointer k (states.after (states.enter o.request) o.before).state
 
 -- "its entered frames and the start", whose stack pointer is p: the latest first
 abbrev pub shown : FrameRules → List OpenEnter → ℕ → List ℕ
 shown k [] p = p ∷ []
-shown k (o ∷ os) p = frameAddress k o ∷ shown k os p
+shown k (o ∷ os) p = frame_address k o ∷ shown k os p
 
 -- the stack pointer of a machine
-abbrev pub pointerIn : FrameRules → Lent → ℕ
-pointerIn k m = stackPointer k (stateIn m.words)
+abbrev pub pointer_in : FrameRules → Lent → ℕ
+pointer_in k m = stack_pointer k (state_in m.words)
 
 -- NO. 13. In each convention, from each accepted start, after every list of exported calls; the premises are those of `Demand3`. No enter is accepted above a leaf, so only
--- the latest open enter can be one of a leaf. n is the length of the slice; what `fz_walk_dump_ppc64`, `_z` and `_aix` answer and write is told by `walkInto`.
+-- the latest open enter can be one of a leaf. n is the length of the slice; what `fz_walk_dump_ppc64`, `_z` and `_aix` answer and write is told by `walk_into`.
 abbrev pub WalkShows : Type 0
-WalkShows = (c : Convention) (b : ℕ) (l rs : List ℕ) → WordsFit registersWords rs → (startOutcome c b (length l) (registersIn rs 0)).answer ≡ Accepted → (cs : List Call) → CallsFit (callsIn cs)
-    → (callerOf (rules c) (openedBy cs (fresh c b l rs) [])).leaf ≡ false → (n : ℕ) → suc (length (openedBy cs (fresh c b l rs) [])) ≤ n
-    → walkInto (rules c) (stateIn (run cs (fresh c b l rs)).words).base (run cs (fresh c b l rs)).memory (pointerIn (rules c) (run cs (fresh c b l rs))) n
-    ≡ frames (shown (rules c) (openedBy cs (fresh c b l rs) []) (pointerIn (rules c) (fresh c b l rs)))
+WalkShows = (c : Convention) (b : ℕ) (l rs : List ℕ) → WordsFit registers_words rs → (start_outcome c b (length l) (registers_in rs 0)).answer ≡ Accepted → (cs : List Call) → CallsFit (calls_in cs)
+    → (caller_of (rules c) (opened_by cs (fresh c b l rs) [])).leaf ≡ false → (n : ℕ) → suc (length (opened_by cs (fresh c b l rs) [])) ≤ n
+    → walk_into (rules c) (state_in (run cs (fresh c b l rs)).words).base (run cs (fresh c b l rs)).memory (pointer_in (rules c) (run cs (fresh c b l rs))) n
+    ≡ frames (shown (rules c) (opened_by cs (fresh c b l rs) []) (pointer_in (rules c) (fresh c b l rs)))

@@ -2,7 +2,7 @@
 ghost use Rattle.std.specs.Prelude.{◌≡◌, ◌+◌, ◌-◌, ◌^◌, ◌≤◌, length};
 ghost use Rattle.base_words.specs.Splice.{splice};
 ghost use Rattle.frame_rules.specs.Helpers.{LawfulFrames};
-ghost use Rattle.frame_dump.specs.Walk.{okAddress, walkFrom, maxFrames, walkInto, foundIn, counted, framesListed};
+ghost use Rattle.frame_dump.specs.Walk.{ok_address, walk_from, max_frames, walk_into, found_in, counted, frames_listed};
 
 use frame_dump::{Found, WalkRefusal};
 use frame_rules::FrameRules;
@@ -13,7 +13,7 @@ const MAX_FRAMES: usize = 4096;
 // Is the address a that of a frame whose header lies in the n bytes from `base` on, and not below `least`?
 fn address_ok(k: FrameRules, base: u64, n: usize, least: u64, a: u64) -> bool
     requires { (LawfulFrames k) × (base + n ≤ 2 ^ 64 - 1) }
-    ensures { result ≡ okAddress k base n least a }
+    ensures { result ≡ ok_address k base n least a }
 {
     if a % (k.alignment as u64) != 0 {
         return false;
@@ -34,7 +34,7 @@ fn address_ok(k: FrameRules, base: u64, n: usize, least: u64, a: u64) -> bool
 // How many frames a walk finds, or why it is refused.
 fn count(memory: &[u8], k: FrameRules, base: u64, pointer: u64) -> Found
     requires { (LawfulFrames k) × (base + length memory.now ≤ 2 ^ 64 - 1) }
-    ensures { result ≡ counted 0 (walkFrom maxFrames k base memory.now 0 pointer) }
+    ensures { result ≡ counted 0 (walk_from max_frames k base memory.now 0 pointer) }
 {
     let n = memory.len();
     let mut a = pointer;
@@ -60,8 +60,8 @@ fn count(memory: &[u8], k: FrameRules, base: u64, pointer: u64) -> Found
 // The addresses of the n frames that a walk finds, over the first numbers of `list`.
 fn put(memory: &[u8], k: FrameRules, base: u64, pointer: u64, list: &mut [u64], n: usize)
     requires lawful_frames { (LawfulFrames k) × (base + length memory.now ≤ 2 ^ 64 - 1) × (n ≤ length list.old) }
-    requires pointer_value { counted 0 (walkFrom maxFrames k base memory.now 0 pointer) ≡ Found.Frames n }
-    ensures { list.new ≡ splice list.old 0 (foundIn (walkFrom maxFrames k base memory.now 0 pointer)) }
+    requires pointer_value { counted 0 (walk_from max_frames k base memory.now 0 pointer) ≡ Found.Frames n }
+    ensures { list.new ≡ splice list.old 0 (found_in (walk_from max_frames k base memory.now 0 pointer)) }
 {
     let mut a = pointer;
     let mut i: usize = 0;
@@ -75,8 +75,8 @@ fn put(memory: &[u8], k: FrameRules, base: u64, pointer: u64, list: &mut [u64], 
 // The walk of a dump from a stack pointer, into the lent list; nothing is written where it is refused.
 pub fn walk(memory: &[u8], k: FrameRules, base: u64, pointer: u64, list: &mut [u64]) -> Found
     requires { LawfulFrames k }
-    ensures value { result ≡ counted 0 (walkInto k base memory.now pointer (length list.old)) }
-    ensures list_after { list.new ≡ framesListed (walkInto k base memory.now pointer (length list.old)) list.old }
+    ensures value { result ≡ counted 0 (walk_into k base memory.now pointer (length list.old)) }
+    ensures list_after { list.new ≡ frames_listed (walk_into k base memory.now pointer (length list.old)) list.old }
 {
     let length = memory.len();
     if 18446744073709551615 - (length as u64) < base {

@@ -6,22 +6,22 @@ use mathlib.Core.Path.{◌≡◌, refl}
 use mathlib.Core.Bool.{true, false}
 use mathlib.Core.List.{List, [], ◌∷◌, ◌++◌}
 use lib.ListN.{replicate}
-use Rattle.base_words.specs.Basics.{roundUp}
+use Rattle.base_words.specs.Basics.{round_up}
 use Rattle.base_words.specs.Splice.{overlay, splice}
 use Rattle.base_words.specs.Numbers.{bytes_of, value_of}
-use Rattle.frame_saves.specs.Saves.{store, load, saveRun, loadRun}
+use Rattle.frame_saves.specs.Saves.{store, load, save_run, load_run}
 use Rattle.base_conventions.specs.declared.Convention.TheVariants.{Ppc64, Z, Aix}
 use Rattle.frame_rules.specs.declared.Frame.{Frame}
 use Rattle.frame_rules.specs.declared.Registers.{Registers}
-use Rattle.frame_rules.specs.Frames.{withPointer, allWithin, lowered, okRegisters, cleared, okLeaf, okRequest, below, fullSize, frameSize, chainWidth, gprAt, savesBy, linkAt, mergeFields, restoredLr, restoredCr, restored, bankOf, writableField, writableRegister, withConditionField, withRegister}
-use Rattle.frame_machine.specs.Answers.{frameAnswerNumber, judge}
-use Rattle.frame_machine.specs.Machine.{topFrame, callerFrame, okFrames, sizes, okMemory, okState, startAnswer, started, startedMemory, enterAnswer, entered, enteredMemory, writableBytes, writableAddress, writeRegisterAnswer, writeMemoryAnswer, writtenRegister, writtenMemory, leaveAnswer, left, startOutcome, startMemory, enterOutcome, enterMemory, writeRegisterOutcome, writeMemoryOutcome, writeMemoryMemory, leaveOutcome}
-use Rattle.frame_history.specs.Calls.{Call, enter, writeRegister, writeMemory, leave, Machine, answer, after, fresh}
+use Rattle.frame_rules.specs.Frames.{with_pointer, all_within, lowered, ok_registers, cleared, ok_leaf, ok_request, below, full_size, frame_size, chain_width, gpr_at, saves_by, link_at, merge_fields, restored_lr, restored_cr, restored, bank_of, writable_field, writable_register, with_condition_field, with_register}
+use Rattle.frame_machine.specs.Answers.{frame_answer_number, judge}
+use Rattle.frame_machine.specs.Machine.{top_frame, caller_frame, ok_frames, sizes, ok_memory, ok_state, start_answer, started, started_memory, enter_answer, entered, entered_memory, writable_bytes, writable_address, write_register_answer, write_memory_answer, written_register, written_memory, leave_answer, left, start_outcome, start_memory, enter_outcome, enter_memory, write_register_outcome, write_memory_outcome, write_memory_memory, leave_outcome}
+use Rattle.frame_history.specs.Calls.{Call, enter, write_register, write_memory, leave, Machine, answer, after, fresh}
 
 -- the numbers of the answers to a list of calls, and the machine after them
 abbrev numbers : List Call → Machine → List ℕ
 numbers [] m = []
-numbers (c ∷ cs) m = frameAnswerNumber (answer c m) ∷ numbers cs (after c m)
+numbers (c ∷ cs) m = frame_answer_number (answer c m) ∷ numbers cs (after c m)
 
 abbrev run : List Call → Machine → Machine
 run [] m = m
@@ -37,12 +37,12 @@ abbrev calls : List Call
 calls =
     leave
     ∷ enter request
-    ∷ writeRegister 0 30 5
-    ∷ writeRegister 0 28 5
-    ∷ writeRegister 2 0 6
-    ∷ writeRegister 3 2 15
-    ∷ writeMemory (4096 + 640 - 112 - 176 + 48) (1 ∷ 2 ∷ [])
-    ∷ writeMemory (4096 + 640 - 112 - 176) (1 ∷ 2 ∷ [])
+    ∷ write_register 0 30 5
+    ∷ write_register 0 28 5
+    ∷ write_register 2 0 6
+    ∷ write_register 3 2 15
+    ∷ write_memory (4096 + 640 - 112 - 176 + 48) (1 ∷ 2 ∷ [])
+    ∷ write_memory (4096 + 640 - 112 - 176) (1 ∷ 2 ∷ [])
     ∷ leave
     ∷ leave
     ∷ []
@@ -58,12 +58,12 @@ abbrev calls-z : List Call
 calls-z =
     enter request
     ∷ enter request-z
-    ∷ writeRegister 0 6 5
-    ∷ writeRegister 0 14 5
-    ∷ writeRegister 0 15 5
-    ∷ writeRegister 1 8 5
-    ∷ writeRegister 2 0 5
-    ∷ writeRegister 3 0 5
+    ∷ write_register 0 6 5
+    ∷ write_register 0 14 5
+    ∷ write_register 0 15 5
+    ∷ write_register 1 8 5
+    ∷ write_register 2 0 5
+    ∷ write_register 3 0 5
     ∷ leave
     ∷ []
 
@@ -79,12 +79,12 @@ calls-leaf =
     enter request
     ∷ enter leaf
     ∷ enter leaf
-    ∷ writeRegister 0 30 5
-    ∷ writeRegister 2 0 5
-    ∷ writeMemory 4160 (1 ∷ 2 ∷ [])
-    ∷ writeMemory 4159 (1 ∷ 2 ∷ [])
-    ∷ writeMemory 4431 (1 ∷ 2 ∷ [])
-    ∷ writeMemory 4496 (1 ∷ 2 ∷ [])
+    ∷ write_register 0 30 5
+    ∷ write_register 2 0 5
+    ∷ write_memory 4160 (1 ∷ 2 ∷ [])
+    ∷ write_memory 4159 (1 ∷ 2 ∷ [])
+    ∷ write_memory 4431 (1 ∷ 2 ∷ [])
+    ∷ write_memory 4496 (1 ∷ 2 ∷ [])
     ∷ leave
     ∷ leave
     ∷ []
@@ -98,7 +98,7 @@ pub worked : (numbers calls start ≡ 22 ∷ 0 ∷ 0 ∷ 20 ∷ 0 ∷ 0 ∷ 0 �
     × ((run calls-z start-z).state.registers ≡ record { gpr = replicate 15 7 ++ (4096 + 512 - 160) ∷ replicate 16 7; fpr = replicate 32 9; lr = 11; cr = 0 })
     × (numbers calls-leaf start ≡ 0 ∷ 0 ∷ 28 ∷ 0 ∷ 20 ∷ 0 ∷ 20 ∷ 20 ∷ 0 ∷ 0 ∷ 0 ∷ [])
     × ((run calls-leaf start).state.registers ≡ record { gpr = 7 ∷ (4096 + 640 - 112) ∷ replicate 30 7; fpr = replicate 32 9; lr = 11; cr = 0 })
-unfolding overlay splice bytes_of value_of store load saveRun loadRun withPointer allWithin lowered okRegisters cleared okLeaf okRequest below roundUp fullSize frameSize chainWidth gprAt savesBy linkAt mergeFields restoredLr restoredCr restored bankOf writableField writableRegister withConditionField withRegister judge topFrame callerFrame okFrames sizes okMemory okState startAnswer started startedMemory enterAnswer entered enteredMemory writableBytes writableAddress writeRegisterAnswer writeMemoryAnswer writtenRegister writtenMemory leaveAnswer left startOutcome startMemory enterOutcome enterMemory writeRegisterOutcome writeMemoryOutcome writeMemoryMemory leaveOutcome
+unfolding overlay splice bytes_of value_of store load save_run load_run with_pointer all_within lowered ok_registers cleared ok_leaf ok_request below round_up full_size frame_size chain_width gpr_at saves_by link_at merge_fields restored_lr restored_cr restored bank_of writable_field writable_register with_condition_field with_register judge top_frame caller_frame ok_frames sizes ok_memory ok_state start_answer started started_memory enter_answer entered entered_memory writable_bytes writable_address write_register_answer write_memory_answer written_register written_memory leave_answer left start_outcome start_memory enter_outcome enter_memory write_register_outcome write_memory_outcome write_memory_memory leave_outcome
 worked = (refl, refl, refl, refl, refl, refl)
 
 -- on AIX: registers handed in with high halves, and a frame that saves r13 and up
@@ -113,14 +113,14 @@ abbrev calls-aix : List Call
 calls-aix =
     leave
     ∷ enter request-aix
-    ∷ writeRegister 0 13 5
-    ∷ writeRegister 0 13 (2 ^ 32)
-    ∷ writeRegister 2 0 (2 ^ 32 - 1)
-    ∷ writeRegister 2 0 (2 ^ 32)
-    ∷ writeRegister 1 31 (2 ^ 32)
-    ∷ writeRegister 3 2 15
-    ∷ writeMemory 4488 (1 ∷ 2 ∷ [])
-    ∷ writeMemory 4487 (1 ∷ 2 ∷ [])
+    ∷ write_register 0 13 5
+    ∷ write_register 0 13 (2 ^ 32)
+    ∷ write_register 2 0 (2 ^ 32 - 1)
+    ∷ write_register 2 0 (2 ^ 32)
+    ∷ write_register 1 31 (2 ^ 32)
+    ∷ write_register 3 2 15
+    ∷ write_memory 4488 (1 ∷ 2 ∷ [])
+    ∷ write_memory 4487 (1 ∷ 2 ∷ [])
     ∷ leave
     ∷ leave
     ∷ []
@@ -134,15 +134,15 @@ calls-leaf-aix =
     enter request-aix
     ∷ enter leaf
     ∷ enter leaf
-    ∷ writeRegister 0 30 5
-    ∷ writeRegister 2 0 5
-    ∷ writeMemory 4244 (1 ∷ 2 ∷ [])
-    ∷ writeMemory 4243 (1 ∷ 2 ∷ [])
-    ∷ writeMemory 4455 (1 ∷ 2 ∷ [])
-    ∷ writeMemory 4488 (1 ∷ 2 ∷ [])
+    ∷ write_register 0 30 5
+    ∷ write_register 2 0 5
+    ∷ write_memory 4244 (1 ∷ 2 ∷ [])
+    ∷ write_memory 4243 (1 ∷ 2 ∷ [])
+    ∷ write_memory 4455 (1 ∷ 2 ∷ [])
+    ∷ write_memory 4488 (1 ∷ 2 ∷ [])
     ∷ leave
     ∷ enter leaf-aix
-    ∷ writeMemory 4244 (1 ∷ [])
+    ∷ write_memory 4244 (1 ∷ [])
     ∷ leave
     ∷ leave
     ∷ []
@@ -156,5 +156,5 @@ pub worked-aix : (numbers calls-aix start-aix ≡ 22 ∷ 0 ∷ 0 ∷ 20 ∷ 0 �
     × ((run calls-aix start-aix).state.registers ≡ record { gpr = 7 ∷ (4096 + 640 - 64) ∷ replicate 30 7; fpr = replicate 32 (2 ^ 32 + 9); lr = 11; cr = 0 })
     × (numbers calls-leaf-aix start-aix ≡ 0 ∷ 0 ∷ 28 ∷ 0 ∷ 20 ∷ 0 ∷ 20 ∷ 20 ∷ 0 ∷ 0 ∷ 0 ∷ 20 ∷ 0 ∷ 0 ∷ [])
     × ((run calls-leaf-aix start-aix).state.registers ≡ record { gpr = 7 ∷ (4096 + 640 - 64) ∷ replicate 30 7; fpr = replicate 32 (2 ^ 32 + 9); lr = 11; cr = 0 })
-unfolding overlay splice bytes_of value_of store load saveRun loadRun withPointer allWithin lowered okRegisters cleared okLeaf okRequest below roundUp fullSize frameSize chainWidth gprAt savesBy linkAt mergeFields restoredLr restoredCr restored bankOf writableField writableRegister withConditionField withRegister judge topFrame callerFrame okFrames sizes okMemory okState startAnswer started startedMemory enterAnswer entered enteredMemory writableBytes writableAddress writeRegisterAnswer writeMemoryAnswer writtenRegister writtenMemory leaveAnswer left startOutcome startMemory enterOutcome enterMemory writeRegisterOutcome writeMemoryOutcome writeMemoryMemory leaveOutcome
+unfolding overlay splice bytes_of value_of store load save_run load_run with_pointer all_within lowered ok_registers cleared ok_leaf ok_request below round_up full_size frame_size chain_width gpr_at saves_by link_at merge_fields restored_lr restored_cr restored bank_of writable_field writable_register with_condition_field with_register judge top_frame caller_frame ok_frames sizes ok_memory ok_state start_answer started started_memory enter_answer entered entered_memory writable_bytes writable_address write_register_answer write_memory_answer written_register written_memory leave_answer left start_outcome start_memory enter_outcome enter_memory write_register_outcome write_memory_outcome write_memory_memory leave_outcome
 worked-aix = (refl, refl, refl, refl)

@@ -18,7 +18,7 @@ use Rattle.frame_saves.proofs.Taking.{taken-length, taken-under, taken_in, taken
 use Rattle.frame_rules.specs.declared.FrameRules.{FrameRules}
 use Rattle.frame_rules.specs.declared.Registers.{Registers}
 use Rattle.frame_rules.specs.Rules.{within}
-use Rattle.frame_rules.specs.Frames.{firstGpr, firstFpr, noFrame, below, frameSize, saves, gprSave, fprSave, linkAt, restored, returnAddress, preservedCondition}
+use Rattle.frame_rules.specs.Frames.{first_gpr_of, first_fpr_of, no_frame, below, frame_size, saves, gpr_save, fpr_save, link_at, restored, return_address, preserved_condition}
 use Rattle.frame_rules.specs.Helpers.{LawfulFrames}
 use Rattle.frame_rules.proofs.Conventions.{pointer-unpreserved, before-lt}
 use Rattle.frame_rules.proofs.Places.{ranges, solid-chain, gpr-end, fpr-end, room_for, ascending, chain-outside}
@@ -27,7 +27,7 @@ use Rattle.frame_machine.specs.declared.FrameAnswer.TheVariants.{Accepted, Refus
 use Rattle.frame_machine.specs.declared.FrameRefusal.TheVariants.{NothingEntered}
 use Rattle.frame_machine.specs.declared.State.{State}
 use Rattle.frame_machine.specs.Answers.{judge}
-use Rattle.frame_machine.specs.Machine.{stackPointer, offset, frame_at, topFrame, okFrames, sizes, stateTests, leaveTests, leaveAnswer, left}
+use Rattle.frame_machine.specs.Machine.{stack_pointer, offset, frame_at, top_frame, ok_frames, sizes, state_tests, leave_tests, leave_answer, left}
 use Rattle.frame_machine.proofs.Judging.{judge-next}
 use Rattle.frame_machine.proofs.States.{state-accepted, frames-agree, sizes-agree}
 use Rattle.frame_history.specs.Calls.{Machine}
@@ -35,9 +35,9 @@ use Rattle.frame_history.specs.Preserved.{OpenEnter, Preserved, RegistersFit}
 use Rattle.frame_history.proofs.Invariant.{fit_small, Base, Invariant, base-of, top-is, RestsAll, Keeps, room-below, saves-below, invariant-keeps}
 
 -- with nothing open, refusal 22
-pub leave-refused : (k : FrameRules) (m : Machine) → Invariant k [] m → leaveAnswer k m.state m.memory ≡ Refused NothingEntered
-unfolding leaveAnswer judge
-leave-refused k m i = judge-next (stateTests k m.state (length m.memory)) (leaveTests k m.state m.memory) (state-accepted k m.state (length m.memory) i.0.sound) ∙ rw i.1
+pub leave-refused : (k : FrameRules) (m : Machine) → Invariant k [] m → leave_answer k m.state m.memory ≡ Refused NothingEntered
+unfolding leave_answer judge
+leave-refused k m i = judge-next (state_tests k m.state (length m.memory)) (leave_tests k m.state m.memory) (state-accepted k m.state (length m.memory) i.0.sound) ∙ rw i.1
 
 -- what the frame below rests on is as it was before the matching enter
 rests-down : (k : FrameRules) → LawfulFrames k → (os : List OpenEnter) (o : OpenEnter) (m : Machine) → Invariant k (o ∷ os) m → RestsAll k os (offset k o.before.state) o.before.memory m.memory
@@ -52,7 +52,7 @@ rests-down k law (p ∷ ps) o m i =
     let r = offset k p.before.state in
     let fits-o = saves-below k law o (p ∷ ps) m i.0 t in
     let fits-p = room-below k p ps o.before i.2.0 u in
-    let at : s ≡ r - frameSize k p.request = omega (arith, u.pointer, u.base) in
+    let at : s ≡ r - frame_size k p.request = omega (arith, u.pointer, u.base) in
     let under = room_for k law p.request u.request r fits-p t.solid in
     let width = solid-chain k p.request t.solid in
     let hd = law.chain in
@@ -75,41 +75,41 @@ module _ (k : FrameRules) (law : LawfulFrames k) (o : OpenEnter) (os : List Open
   abbrev c₀ : ℕ
   c₀ = offset k s₀
 
-  fits : frameSize k o.request ≤ c₀
+  fits : frame_size k o.request ≤ c₀
   fits = room-below k o os m i.0 i.1
 
-  top : topFrame k s.frames s.depth ≡ o.request
+  top : top_frame k s.frames s.depth ≡ o.request
   top = top-is k (o ∷ os) m i
 
   was : Base k o.before
   was = base-of k os o.before i.2
 
-  at : offset k s ≡ c₀ - frameSize k o.request
+  at : offset k s ≡ c₀ - frame_size k o.request
   at = omega (arith, i.1.pointer, i.1.base)
 
-  caller-at : offset k s + frameSize k o.request ≡ c₀
+  caller-at : offset k s + frame_size k o.request ≡ c₀
   caller-at = omega (arith, at, fits)
 
-  gpr-least : firstGpr o.request ≤ k.gpr.request.last
+  gpr-least : first_gpr_of o.request ≤ k.gpr.request.last
   gpr-least = (ranges k o.request i.1.request).gpr.1
 
   -- with an enter open, no refusal
-  accepted : leaveAnswer k s m.memory ≡ Accepted
-  unfolding leaveAnswer judge
+  accepted : leave_answer k s m.memory ≡ Accepted
+  unfolding leave_answer judge
   accepted =
       let deep : ltb 0 s.depth ≡ true = lt-ltb 0 s.depth (omega (arith, i.1.deep)) in
-      let next = judge-next (stateTests k s (length m.memory)) (leaveTests k s m.memory) (state-accepted k s (length m.memory) i.0.sound) in
+      let next = judge-next (state_tests k s (length m.memory)) (leave_tests k s m.memory) (state-accepted k s (length m.memory) i.0.sound) in
       either o.request.leaf (λ e. next ∙ rw (deep, top, e))
-      (λ e. let link : load m.memory (linkAt k.linkage k (offset k s) c₀) k.word ≡ stackPointer k s₀
-      = link-held k o.request c₀ s₀.registers m.memory k.linkage law.linkage (offset k s) (stackPointer k s₀) gpr-least i.1.held (rw at (i.1.chain e)) refl in
-      next ∙ rw (deep, top, caller-at, i.1.pointer, eq-eqb (load m.memory (linkAt k.linkage k (offset k s) c₀) k.word) (stackPointer k s₀) link, e))
+      (λ e. let link : load m.memory (link_at k.linkage k (offset k s) c₀) k.word ≡ stack_pointer k s₀
+      = link-held k o.request c₀ s₀.registers m.memory k.linkage law.linkage (offset k s) (stack_pointer k s₀) gpr-least i.1.held (rw at (i.1.chain e)) refl in
+      next ∙ rw (deep, top, caller-at, i.1.pointer, eq-eqb (load m.memory (link_at k.linkage k (offset k s) c₀) k.word) (stack_pointer k s₀) link, e))
 
   -- the runs that the matching enter saved, and that the memory still holds
   abbrev general : Save
-  general = gprSave k.linkage k o.request c₀ s₀.registers.gpr
+  general = gpr_save k.linkage k o.request c₀ s₀.registers.gpr
 
   abbrev floating : Save
-  floating = fprSave k o.request c₀ s₀.registers.fpr
+  floating = fpr_save k o.request c₀ s₀.registers.fpr
 
   gpr-there : Held m.memory general
   gpr-there = gpr-held k o.request c₀ s₀.registers m.memory k.linkage i.1.held
@@ -117,45 +117,45 @@ module _ (k : FrameRules) (law : LawfulFrames k) (o : OpenEnter) (os : List Open
   fpr-there : Held m.memory floating
   fpr-there = fpr-held k o.request c₀ s₀.registers m.memory k.linkage i.1.held
 
-  gpr-ends : firstGpr o.request + (k.end - firstGpr o.request) ≤ length s.registers.gpr
+  gpr-ends : first_gpr_of o.request + (k.end - first_gpr_of o.request) ≤ length s.registers.gpr
   gpr-ends = omega (arith, gpr-end k law o.request i.1.request, law.end, i.0.fit.gprs)
 
-  fpr-ends : firstFpr o.request + (k.end - firstFpr o.request) ≤ length s.registers.fpr
+  fpr-ends : first_fpr_of o.request + (k.end - first_fpr_of o.request) ≤ length s.registers.fpr
   fpr-ends = omega (arith, fpr-end k law o.request i.1.request, law.end, i.0.fit.fprs)
 
   -- the registers after the leave, in the words of the matching enter
   abbrev r : Registers
-  r = restored k o.request c₀ m.memory (stackPointer k s₀) s.registers
+  r = restored k o.request c₀ m.memory (stack_pointer k s₀) s.registers
 
   abbrev m' : Machine
   m' = record { state = left k s m.memory; memory = m.memory }
 
   left_is : left k s m.memory
-      ≡ record { convention = s.convention; base = s.base; size = s.size; depth = s.depth - 1; registers = r; frames = set s.frames (s.depth - 1) noFrame }
+      ≡ record { convention = s.convention; base = s.base; size = s.size; depth = s.depth - 1; registers = r; frames = set s.frames (s.depth - 1) no_frame }
   unfolding left
   left_is = rw (top, caller-at, i.1.pointer)
 
   length-given : length (taken s.registers.gpr m.memory general) ≡ 32
   length-given = taken-length general s.registers.gpr m.memory ∙ i.0.fit.gprs
 
-  pointer_back : get_or r.gpr k.pointer 0 ≡ stackPointer k s₀
+  pointer_back : get_or r.gpr k.pointer 0 ≡ stack_pointer k s₀
   unfolding restored
-  pointer_back = get_or-set_same (taken s.registers.gpr m.memory general) k.pointer (stackPointer k s₀) 0 (omega (arith, length-given, law.pointer))
+  pointer_back = get_or-set_same (taken s.registers.gpr m.memory general) k.pointer (stack_pointer k s₀) 0 (omega (arith, length-given, law.pointer))
 
   -- a register but the pointer, in the run or preserved
-  gpr-in-run : (n : ℕ) → (n ≡ k.pointer → ⊥) → firstGpr o.request ≤ n → n < k.end → get_or r.gpr n 0 ≡ get_or s₀.registers.gpr n 0
+  gpr-in-run : (n : ℕ) → (n ≡ k.pointer → ⊥) → first_gpr_of o.request ≤ n → n < k.end → get_or r.gpr n 0 ≡ get_or s₀.registers.gpr n 0
   unfolding restored
   gpr-in-run n z p q =
-      get_or-set_other (taken s.registers.gpr m.memory general) k.pointer n (stackPointer k s₀) 0 z
+      get_or-set_other (taken s.registers.gpr m.memory general) k.pointer n (stack_pointer k s₀) 0 z
       ∙ taken_in general s.registers.gpr m.memory gpr-ends gpr-there n p (omega (arith, gpr-end k law o.request i.1.request))
 
   gprs-back : (n : ℕ) → within k.gpr.preserved n ≡ true → get_or r.gpr n 0 ≡ get_or s₀.registers.gpr n 0
   unfolding restored
   gprs-back n p =
       ⊎_elim (λ q. gpr-in-run n (λ z. pointer-unpreserved k law n p z) q (before-lt k.gpr.preserved k.end n law.gpr.inside p))
-      (λ q. get_or-set_other (taken s.registers.gpr m.memory general) k.pointer n (stackPointer k s₀) 0 (λ z. pointer-unpreserved k law n p z)
+      (λ q. get_or-set_other (taken s.registers.gpr m.memory general) k.pointer n (stack_pointer k s₀) 0 (λ z. pointer-unpreserved k law n p z)
       ∙ taken-under general s.registers.gpr m.memory n q ∙ i.1.gprs n p q)
-      (le-or-lt (firstGpr o.request) n)
+      (le-or-lt (first_gpr_of o.request) n)
 
   fprs-back : (n : ℕ) → within k.fpr.preserved n ≡ true → get_or r.fpr n 0 ≡ get_or s₀.registers.fpr n 0
   unfolding restored
@@ -163,22 +163,22 @@ module _ (k : FrameRules) (law : LawfulFrames k) (o : OpenEnter) (os : List Open
       ⊎_elim (λ q. taken_in floating s.registers.fpr m.memory fpr-ends fpr-there n q
       (omega (arith, fpr-end k law o.request i.1.request, before-lt k.fpr.preserved k.end n law.fpr.inside p)))
       (λ q. taken-under floating s.registers.fpr m.memory n q ∙ i.1.fprs n p q)
-      (le-or-lt (firstFpr o.request) n)
+      (le-or-lt (first_fpr_of o.request) n)
 
-  return_back : returnAddress k.linkage r ≡ returnAddress k.linkage s₀.registers
+  return_back : return_address k.linkage r ≡ return_address k.linkage s₀.registers
   unfolding restored
   return_back = return_held k o.request c₀ s₀.registers m.memory k.linkage law.linkage r s.registers.lr gpr-least i.1.held i.1.lr refl gpr-in-run
 
-  fields_back : preservedCondition k.linkage r.cr ≡ preservedCondition k.linkage s₀.registers.cr
+  fields_back : preserved_condition k.linkage r.cr ≡ preserved_condition k.linkage s₀.registers.cr
   unfolding restored
   fields_back = cr-held k o.request c₀ s₀.registers m.memory k.linkage s.registers.cr i.1.held i.1.fields
 
   fit-back : RegistersFit k.word r
   unfolding restored
   fit-back = record {
-    gprs = length-set (taken s.registers.gpr m.memory general) k.pointer (stackPointer k s₀) ∙ length-given;
+    gprs = length-set (taken s.registers.gpr m.memory general) k.pointer (stack_pointer k s₀) ∙ length-given;
     fprs = taken-length floating s.registers.fpr m.memory ∙ i.0.fit.fprs;
-    gpr = fit-set (taken s.registers.gpr m.memory general) k.pointer (stackPointer k s₀) (2 ^ (8 * k.word))
+    gpr = fit-set (taken s.registers.gpr m.memory general) k.pointer (stack_pointer k s₀) (2 ^ (8 * k.word))
         (taken-fit general s.registers.gpr m.memory gpr-ends gpr-there (2 ^ (8 * k.word)) i.0.fit.gpr was.fit.gpr) (was.fit.gpr k.pointer);
     fpr = taken-fit floating s.registers.fpr m.memory fpr-ends fpr-there (2 ^ 64) i.0.fit.fpr was.fit.fpr;
     lr = lr-fit k o.request c₀ s₀.registers m.memory k.linkage s.registers.lr (2 ^ (8 * k.word)) i.1.held i.1.lr i.0.fit.lr was.fit.lr;
@@ -192,21 +192,21 @@ module _ (k : FrameRules) (law : LawfulFrames k) (o : OpenEnter) (os : List Open
   less : s.depth - 1 ≡ s₀.depth
   less = omega (arith, i.1.deep)
 
-  frames-back : (d : ℕ) → d < s₀.depth → frame_at (set s.frames (s.depth - 1) noFrame) d ≡ frame_at s₀.frames d
-  frames-back d p = get_or-set_other s.frames (s.depth - 1) d noFrame noFrame (λ e. omega (arith, less)) ∙ i.1.older d p
+  frames-back : (d : ℕ) → d < s₀.depth → frame_at (set s.frames (s.depth - 1) no_frame) d ≡ frame_at s₀.frames d
+  frames-back d p = get_or-set_other s.frames (s.depth - 1) d no_frame no_frame (λ e. omega (arith, less)) ∙ i.1.older d p
 
-  requests-back : okFrames k (set s.frames (s.depth - 1) noFrame) (s.depth - 1) ≡ true
-  requests-back = rw less (frames-agree k s₀.depth (set s.frames s₀.depth noFrame) s₀.frames (rw less at frames-back) ∙ was.sound.requests)
+  requests-back : ok_frames k (set s.frames (s.depth - 1) no_frame) (s.depth - 1) ≡ true
+  requests-back = rw less (frames-agree k s₀.depth (set s.frames s₀.depth no_frame) s₀.frames (rw less at frames-back) ∙ was.sound.requests)
 
-  sizes-back : sizes k (set s.frames (s.depth - 1) noFrame) (s.depth - 1) ≡ sizes k s₀.frames s₀.depth
-  sizes-back = rw less (sizes-agree k s₀.depth (set s.frames s₀.depth noFrame) s₀.frames (rw less at frames-back))
+  sizes-back : sizes k (set s.frames (s.depth - 1) no_frame) (s.depth - 1) ≡ sizes k s₀.frames s₀.depth
+  sizes-back = rw less (sizes-agree k s₀.depth (set s.frames s₀.depth no_frame) s₀.frames (rw less at frames-back))
 
   base-left : Base k m'
   base-left =
       let b = i.0 in
       rw left_is (record {
         fit = fit-back;
-        frames = length-set s.frames (s.depth - 1) noFrame ∙ b.frames;
+        frames = length-set s.frames (s.depth - 1) no_frame ∙ b.frames;
         rules = b.rules;
         sound = record {
           small = fit_small k law r fit-back;
@@ -236,7 +236,7 @@ module _ (k : FrameRules) (law : LawfulFrames k) (o : OpenEnter) (os : List Open
   invariant-left : Invariant k os m'
   invariant-left = invariant-keeps k law os o.before m' i.2 base-left keeps-left
 
-pub leave-accepted : (k : FrameRules) → LawfulFrames k → (o : OpenEnter) (os : List OpenEnter) (m : Machine) → Invariant k (o ∷ os) m → leaveAnswer k m.state m.memory ≡ Accepted
+pub leave-accepted : (k : FrameRules) → LawfulFrames k → (o : OpenEnter) (os : List OpenEnter) (m : Machine) → Invariant k (o ∷ os) m → leave_answer k m.state m.memory ≡ Accepted
 leave-accepted k law o os m i = accepted k law o os m i
 
 pub leave-keeps : (k : FrameRules) → LawfulFrames k → (o : OpenEnter) (os : List OpenEnter) (m : Machine) → Invariant k (o ∷ os) m

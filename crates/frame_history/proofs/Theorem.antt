@@ -15,17 +15,17 @@ use Rattle.base_conventions.specs.declared.Convention.{Convention}
 use Rattle.frame_rules.specs.declared.FrameRules.{FrameRules}
 use Rattle.frame_rules.specs.declared.Registers.{Registers}
 use Rattle.frame_rules.specs.Rules.{rules}
-use Rattle.frame_rules.specs.Frames.{withPointer, lowered, cleared}
+use Rattle.frame_rules.specs.Frames.{with_pointer, lowered, cleared}
 use Rattle.frame_rules.specs.Helpers.{LawfulFrames}
 use Rattle.frame_rules.proofs.Halves.{lowered-length, lowered-fit}
 use Rattle.frame_rules.proofs.Conventions.{lawful}
 use Rattle.frame_machine.specs.declared.FrameAnswer.{FrameAnswer}
 use Rattle.frame_machine.specs.declared.FrameAnswer.TheVariants.{Accepted, Refused}
-use Rattle.frame_machine.specs.Machine.{okMemory, okFrames, sizes, startAnswer, started, startedMemory, startOutcome, startMemory, enterOutcome, enterMemory, writeRegisterOutcome, writeMemoryOutcome, writeMemoryMemory, leaveOutcome}
+use Rattle.frame_machine.specs.Machine.{ok_memory, ok_frames, sizes, start_answer, started, started_memory, start_outcome, start_memory, enter_outcome, enter_memory, write_register_outcome, write_memory_outcome, write_memory_memory, leave_outcome}
 use Rattle.frame_machine.proofs.Judging.{never, holds-yes}
 use Rattle.frame_machine.proofs.States.{memory-yes}
-use Rattle.frame_history.specs.Calls.{Call, enter, writeRegister, writeMemory, leave, Machine, answer, after, fresh}
-use Rattle.frame_history.specs.Preserved.{OpenEnter, openAfter, CallHolds, Holds, RegistersFit, CallFits, CallsFit, Demand3OfStates}
+use Rattle.frame_history.specs.Calls.{Call, enter, write_register, write_memory, leave, Machine, answer, after, fresh}
+use Rattle.frame_history.specs.Preserved.{OpenEnter, open_after, CallHolds, Holds, RegistersFit, CallFits, CallsFit, Demand3OfStates}
 use Rattle.frame_history.proofs.Invariant.{fit_small, Base, Invariant, base-of}
 use Rattle.frame_history.proofs.Entering.{enter-keeps}
 use Rattle.frame_history.proofs.Writing.{write-register-keeps, write-memory-keeps}
@@ -35,17 +35,17 @@ use Rattle.frame_history.proofs.Leaving.{leave-refused, leave-accepted, leave-ke
 
 module _ (k : FrameRules) (law : LawfulFrames k) where
   pub step : (c : Call) → CallFits c → (os : List OpenEnter) (m : Machine) → Invariant k os m → (a : FrameAnswer) → answer c m ≡ a
-      → CallHolds k c a os (after c m) × Invariant k (openAfter c a m os) (after c m)
-  unfolding enterOutcome enterMemory writeRegisterOutcome writeMemoryOutcome writeMemoryMemory leaveOutcome
+      → CallHolds k c a os (after c m) × Invariant k (open_after c a m os) (after c m)
+  unfolding enter_outcome enter_memory write_register_outcome write_memory_outcome write_memory_memory leave_outcome
   step (enter f) w os m i Accepted e =
       let r = (base-of k os m i).rules in (tt, rw (e, r) (enter-keeps k law os m f i (rw r at e)))
   step (enter f) w os m i (Refused x) e = (tt, rw e i)
-  step (writeRegister b n v) w os m i Accepted e =
+  step (write_register b n v) w os m i Accepted e =
       let r = (base-of k os m i).rules in (tt, rw e (write-register-keeps k law os m b n v w i (rw r at e)))
-  step (writeRegister b n v) w os m i (Refused x) e = (tt, rw e i)
-  step (writeMemory a bs) w os m i Accepted e =
+  step (write_register b n v) w os m i (Refused x) e = (tt, rw e i)
+  step (write_memory a bs) w os m i Accepted e =
       let r = (base-of k os m i).rules in (tt, rw e (write-memory-keeps k law os m a bs i (rw r at e)))
-  step (writeMemory a bs) w os m i (Refused x) e = (tt, rw e i)
+  step (write_memory a bs) w os m i (Refused x) e = (tt, rw e i)
   step leave w [] m i Accepted e = absurd (never _ (sym (leave-refused k m i) ∙ rw i.0.rules at e))
   step leave w [] m i (Refused x) e = (tt, rw e i)
   step leave w (o ∷ os) m i Accepted e = let r = i.0.rules in rw (e, r) (leave-keeps k law o os m i)
@@ -58,11 +58,11 @@ module _ (k : FrameRules) (law : LawfulFrames k) where
   holds [] w os m i = tt
   holds (c ∷ cs) w os m i =
       let r = step c w.0 os m i (answer c m) refl in
-      (r.0, holds cs w.1 (openAfter c (answer c m) m os) (after c m) r.1)
+      (r.0, holds cs w.1 (open_after c (answer c m) m os) (after c m) r.1)
 
 -- ---- the start
 
-module _ (c : Convention) (b : ℕ) (l : List ℕ) (r : Registers) (fit : RegistersFit 8 r) (e : startAnswer c b (length l) ≡ Accepted) where
+module _ (c : Convention) (b : ℕ) (l : List ℕ) (r : Registers) (fit : RegistersFit 8 r) (e : start_answer c b (length l) ≡ Accepted) where
   abbrev k : FrameRules
   k = rules c
 
@@ -72,8 +72,8 @@ module _ (c : Convention) (b : ℕ) (l : List ℕ) (r : Registers) (fit : Regist
   law : LawfulFrames k
   law = lawful c
 
-  okay : okMemory k b n ≡ true
-  unfolding startAnswer
+  okay : ok_memory k b n ≡ true
+  unfolding start_answer
   okay = (holds-yes _ _ e).0
 
   bounds : (256 ≤ n) × (n ≤ 65536) × (b + n ≤ k.limit) × (k.room + k.floor ≤ n)
@@ -91,10 +91,10 @@ module _ (c : Convention) (b : ℕ) (l : List ℕ) (r : Registers) (fit : Regist
   pointer = get_or-set_same low k.pointer (b + n - k.room) 0 (omega (arith, fit.gprs, law.pointer, lowered-length k.limit r.gpr 32))
 
   abbrev registers : Registers
-  registers = withPointer k (cleared k r) (b + n - k.room)
+  registers = with_pointer k (cleared k r) (b + n - k.room)
 
   fits : RegistersFit k.word registers
-  unfolding withPointer cleared
+  unfolding with_pointer cleared
   fits =
       let pos : 0 < k.limit + 1 = omega arith in
       record {
@@ -106,8 +106,8 @@ module _ (c : Convention) (b : ℕ) (l : List ℕ) (r : Registers) (fit : Regist
         cr = fit.cr;
       }
 
-  base : Base k (record { state = started c b n r; memory = startedMemory k l })
-  unfolding started startedMemory withPointer cleared okFrames sizes
+  base : Base k (record { state = started c b n r; memory = started_memory k l })
+  unfolding started started_memory with_pointer cleared ok_frames sizes
   base = record {
     fit = fits;
     frames = refl;
@@ -123,17 +123,17 @@ module _ (c : Convention) (b : ℕ) (l : List ℕ) (r : Registers) (fit : Regist
     };
   }
 
-  zero_word : load (startedMemory k l) (get_or (set low k.pointer (b + n - k.room)) k.pointer 0 - b) k.word ≡ 0
-  unfolding startedMemory
+  zero_word : load (started_memory k l) (get_or (set low k.pointer (b + n - k.room)) k.pointer 0 - b) k.word ≡ 0
+  unfolding started_memory
   zero_word =
       let at : get_or (set low k.pointer (b + n - k.room)) k.pointer 0 - b ≡ n - k.room = omega (arith, pointer, bounds, law.room) in
       rw at (load_store l (n - k.room) k.word 0 (omega (arith, law.limit)) (omega (arith, bounds, law.head, law.room, law.chain)))
 
   pub start-invariant : Invariant k [] (fresh c b l r)
-  unfolding startOutcome startMemory started withPointer cleared
+  unfolding start_outcome start_memory started with_pointer cleared
   start-invariant = rw e (base, refl, zero_word)
 
 -- DEMAND 3 of the machine's own calls
 pub calls-hold : Demand3OfStates
-unfolding startOutcome
+unfolding start_outcome
 calls-hold c b l r fit e cs w = holds (rules c) (lawful c) cs w [] (fresh c b l r) (start-invariant c b l r fit e)

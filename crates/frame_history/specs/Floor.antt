@@ -8,20 +8,20 @@ use Rattle.frame_rules.specs.declared.Registers.{Registers}
 use Rattle.frame_rules.specs.Rules.{rules}
 use Rattle.frame_rules.specs.Frames.{below}
 use Rattle.frame_machine.specs.declared.FrameAnswer.TheVariants.{Accepted}
-use Rattle.frame_machine.specs.Machine.{stackPointer, offset, top, startOutcome}
-use Rattle.frame_history.specs.Calls.{Call, enter, writeRegister, writeMemory, leave, Machine, after, fresh}
+use Rattle.frame_machine.specs.Machine.{stack_pointer, offset, top, start_outcome}
+use Rattle.frame_history.specs.Calls.{Call, enter, write_register, write_memory, leave, Machine, after, fresh}
 use Rattle.frame_history.specs.Preserved.{RegistersFit, CallsFit}
 
 -- the floor under the stack pointer lies inside the memory
 pub record FloorInside (k : FrameRules) (m : Machine) : Type 0 where
-  pub first : m.state.base + k.floor ≤ stackPointer k m.state
-  pub last : stackPointer k m.state ≤ m.state.base + length m.memory
+  pub first : m.state.base + k.floor ≤ stack_pointer k m.state
+  pub last : stack_pointer k m.state ≤ m.state.base + length m.memory
 
 -- the byte b below the stack pointer is a leaf's to change: as it is entered one that it saves, later one that it writes; in offsets from the base
 abbrev pub ByLeaf : FrameRules → Call → Machine → ℕ → Type 0
 ByLeaf k (enter f) m b = (f.leaf ≡ true) × (offset k m.state ≤ b + below k.linkage k f)
-ByLeaf k (writeRegister i n v) m b = ⊥
-ByLeaf k (writeMemory a bs) m b = ((top k m.state).leaf ≡ true) × (a ≤ m.state.base + b) × (m.state.base + b < a + length bs)
+ByLeaf k (write_register i n v) m b = ⊥
+ByLeaf k (write_memory a bs) m b = ((top k m.state).leaf ≡ true) × (a ≤ m.state.base + b) × (m.state.base + b < a + length bs)
 ByLeaf k leave m b = ⊥
 
 -- from m to m' by a call no byte below the stack pointer of m' has changed, but for one of the floor that is a leaf's
@@ -36,5 +36,5 @@ FloorHolds k (c ∷ cs) m = FloorInside k m × Untouched k c m (after c m) × Fl
 
 -- `RegistersFit` and `CallsFit` restrict nothing: the types of the program's numbers are so.
 abbrev pub KeepsFloorOfStates : Type 0
-KeepsFloorOfStates = (c : Convention) (b : ℕ) (l : List ℕ) (r : Registers) → RegistersFit 8 r → (startOutcome c b (length l) r).answer ≡ Accepted → (cs : List Call) → CallsFit cs
+KeepsFloorOfStates = (c : Convention) (b : ℕ) (l : List ℕ) (r : Registers) → RegistersFit 8 r → (start_outcome c b (length l) r).answer ≡ Accepted → (cs : List Call) → CallsFit cs
     → FloorHolds (rules c) cs (fresh c b l r)

@@ -10,35 +10,35 @@ use Rattle.base_words.proofs.Basics.{le-or-lt}
 use Rattle.base_words.proofs.Tests.{and_yes, not_yes}
 use Rattle.frame_rules.specs.declared.FrameRules.{FrameRules}
 use Rattle.frame_rules.specs.declared.Frame.{Frame}
-use Rattle.frame_rules.specs.Frames.{startFrame, maxOutgoing, okRequest, outgoingLength, frameSize}
+use Rattle.frame_rules.specs.Frames.{start_frame, max_outgoing, ok_request, outgoing_length, frame_size}
 use Rattle.frame_rules.specs.Helpers.{LawfulFrames, SavesFit}
 use Rattle.frame_rules.proofs.Conventions.{lawful}
 use Rattle.frame_rules.proofs.Places.{ranges, below-reach}
-use Rattle.frame_machine.specs.Machine.{State, offset, frame_at, topFrame, callerFrame, top, caller, okFrames, sizes}
+use Rattle.frame_machine.specs.Machine.{State, offset, frame_at, top_frame, caller_frame, top, caller, ok_frames, sizes}
 use Rattle.frame_machine.specs.Helpers.{Sound, CanEnter}
 use Rattle.frame_machine.proofs.States.{memory-yes}
 
 -- ---- the records, one turn of a loop
 
-pub frames-down : (k : FrameRules) (fs : List Frame) (d : ℕ) → 0 < d → okFrames k fs d ≡ (okRequest k (frame_at fs (d - 1)) && (not (topFrame k fs (d - 1)).leaf && okFrames k fs (d - 1)))
-unfolding okFrames
+pub frames-down : (k : FrameRules) (fs : List Frame) (d : ℕ) → 0 < d → ok_frames k fs d ≡ (ok_request k (frame_at fs (d - 1)) && (not (top_frame k fs (d - 1)).leaf && ok_frames k fs (d - 1)))
+unfolding ok_frames
 frames-down k fs zero h = absurd (omega arith)
 frames-down k fs (suc d) h = let e : suc d - 1 ≡ d = omega arith in rw e
 
 -- the record read is in range, what is under it is no leaf, and the records below it are in range
-pub frames-read : (k : FrameRules) (fs : List Frame) (d : ℕ) → 0 < d → okFrames k fs d ≡ true
-    → (okRequest k (frame_at fs (d - 1)) ≡ true) × ((topFrame k fs (d - 1)).leaf ≡ false) × (okFrames k fs (d - 1) ≡ true)
+pub frames-read : (k : FrameRules) (fs : List Frame) (d : ℕ) → 0 < d → ok_frames k fs d ≡ true
+    → (ok_request k (frame_at fs (d - 1)) ≡ true) × ((top_frame k fs (d - 1)).leaf ≡ false) × (ok_frames k fs (d - 1) ≡ true)
 frames-read k fs d h e =
-    let p = and_yes (okRequest k (frame_at fs (d - 1))) _ (sym (frames-down k fs d h) ∙ e) in
-    let q = and_yes (not (topFrame k fs (d - 1)).leaf) _ p.1 in
-    (p.0, not_yes (topFrame k fs (d - 1)).leaf q.0, q.1)
+    let p = and_yes (ok_request k (frame_at fs (d - 1))) _ (sym (frames-down k fs d h) ∙ e) in
+    let q = and_yes (not (top_frame k fs (d - 1)).leaf) _ p.1 in
+    (p.0, not_yes (top_frame k fs (d - 1)).leaf q.0, q.1)
 
-pub frames-none : (k : FrameRules) (fs : List Frame) (d : ℕ) → d ≤ 0 → okFrames k fs d ≡ true
-unfolding okFrames
+pub frames-none : (k : FrameRules) (fs : List Frame) (d : ℕ) → d ≤ 0 → ok_frames k fs d ≡ true
+unfolding ok_frames
 frames-none k fs zero h = refl
 frames-none k fs (suc d) h = absurd (omega arith)
 
-pub sizes-down : (k : FrameRules) (fs : List Frame) (d : ℕ) → 0 < d → sizes k fs d ≡ sizes k fs (d - 1) + frameSize k (frame_at fs (d - 1))
+pub sizes-down : (k : FrameRules) (fs : List Frame) (d : ℕ) → 0 < d → sizes k fs d ≡ sizes k fs (d - 1) + frame_size k (frame_at fs (d - 1))
 unfolding sizes
 sizes-down k fs zero h = absurd (omega arith)
 sizes-down k fs (suc d) h = let e : suc d - 1 ≡ d = omega arith in rw e
@@ -50,40 +50,40 @@ sizes-none k fs (suc d) h = absurd (omega arith)
 
 -- ---- the top frame and its caller
 
-pub top-none : (k : FrameRules) (fs : List Frame) (d : ℕ) → d ≤ 0 → topFrame k fs d ≡ startFrame k
-unfolding topFrame
+pub top-none : (k : FrameRules) (fs : List Frame) (d : ℕ) → d ≤ 0 → top_frame k fs d ≡ start_frame k
+unfolding top_frame
 top-none k fs zero h = refl
 top-none k fs (suc d) h = absurd (omega arith)
 
-pub top-some : (k : FrameRules) (fs : List Frame) (d : ℕ) → 0 < d → topFrame k fs d ≡ frame_at fs (d - 1)
-unfolding topFrame
+pub top-some : (k : FrameRules) (fs : List Frame) (d : ℕ) → 0 < d → top_frame k fs d ≡ frame_at fs (d - 1)
+unfolding top_frame
 top-some k fs zero h = absurd (omega arith)
 top-some k fs (suc d) h = let e : suc d - 1 ≡ d = omega arith in rw e
 
-pub caller-none : (k : FrameRules) (fs : List Frame) (d : ℕ) → d ≤ 1 → callerFrame k fs d ≡ startFrame k
-unfolding callerFrame topFrame
+pub caller-none : (k : FrameRules) (fs : List Frame) (d : ℕ) → d ≤ 1 → caller_frame k fs d ≡ start_frame k
+unfolding caller_frame top_frame
 caller-none k fs zero h = refl
 caller-none k fs (suc zero) h = refl
 caller-none k fs (suc (suc d)) h = absurd (omega arith)
 
-pub caller-some : (k : FrameRules) (fs : List Frame) (d : ℕ) → 1 < d → callerFrame k fs d ≡ frame_at fs (d - 2)
-unfolding callerFrame topFrame
+pub caller-some : (k : FrameRules) (fs : List Frame) (d : ℕ) → 1 < d → caller_frame k fs d ≡ frame_at fs (d - 2)
+unfolding caller_frame top_frame
 caller-some k fs zero h = absurd (omega arith)
 caller-some k fs (suc zero) h = absurd (omega arith)
 caller-some k fs (suc (suc d)) h = let e : suc (suc d) - 2 ≡ d = omega arith in rw e
 
 -- each record of a sound state is in range
-pub frame-request : (k : FrameRules) (fs : List Frame) (d i : ℕ) → okFrames k fs d ≡ true → i < d → okRequest k (frame_at fs i) ≡ true
-unfolding okFrames
+pub frame-request : (k : FrameRules) (fs : List Frame) (d i : ℕ) → ok_frames k fs d ≡ true → i < d → ok_request k (frame_at fs i) ≡ true
+unfolding ok_frames
 frame-request k fs zero i e h = absurd (omega arith)
 frame-request k fs (suc d) i e h =
-    let t = and_yes (okRequest k (frame_at fs d)) _ e in
-    ⊎_elim (λ p. frame-request k fs d i (and_yes (not (topFrame k fs d).leaf) _ t.1).1 p) (λ p. let x : i ≡ d = omega arith in rw x t.0) (le-or-lt (suc i) d)
+    let t = and_yes (ok_request k (frame_at fs d)) _ e in
+    ⊎_elim (λ p. frame-request k fs d i (and_yes (not (top_frame k fs d).leaf) _ t.1).1 p) (λ p. let x : i ≡ d = omega arith in rw x t.0) (le-or-lt (suc i) d)
 
-outgoing-small : (k : FrameRules) → LawfulFrames k → (f : Frame) → okRequest k f ≡ true → outgoingLength k f ≤ maxOutgoing + 256
+outgoing-small : (k : FrameRules) → LawfulFrames k → (f : Frame) → ok_request k f ≡ true → outgoing_length k f ≤ max_outgoing + 256
 outgoing-small k law f e = omega (arith, (ranges k f e).outgoing, law.least)
 
-start_small : (k : FrameRules) → LawfulFrames k → outgoingLength k (startFrame k) ≤ maxOutgoing + 256
+start_small : (k : FrameRules) → LawfulFrames k → outgoing_length k (start_frame k) ≤ max_outgoing + 256
 start_small k law = omega (arith, law.least)
 
 module _ (k : FrameRules) (law : LawfulFrames k) (s : State) (n : ℕ) (sound : Sound k s n) where
@@ -97,33 +97,33 @@ module _ (k : FrameRules) (law : LawfulFrames k) (s : State) (n : ℕ) (sound : 
   pub pointer-limit : s.base + s.size ≤ k.limit
   pointer-limit = omega (arith, memory-yes k s.base s.size sound.memory)
 
-  pub top-outgoing : outgoingLength k (top k s) ≤ maxOutgoing + 256
+  pub top-outgoing : outgoing_length k (top k s) ≤ max_outgoing + 256
   top-outgoing =
-      ⊎_elim (λ p. subst (λ (f : Frame). outgoingLength k f ≤ maxOutgoing + 256) (sym (top-none k s.frames s.depth p)) (start_small k law))
-      (λ p. subst (λ (f : Frame). outgoingLength k f ≤ maxOutgoing + 256) (sym (top-some k s.frames s.depth p))
+      ⊎_elim (λ p. subst (λ (f : Frame). outgoing_length k f ≤ max_outgoing + 256) (sym (top-none k s.frames s.depth p)) (start_small k law))
+      (λ p. subst (λ (f : Frame). outgoing_length k f ≤ max_outgoing + 256) (sym (top-some k s.frames s.depth p))
       (outgoing-small k law (frame_at s.frames (s.depth - 1)) (frame-request k s.frames s.depth (s.depth - 1) sound.requests (omega arith))))
       (le-or-lt s.depth 0)
 
-  pub caller-outgoing : outgoingLength k (caller k s) ≤ maxOutgoing + 256
+  pub caller-outgoing : outgoing_length k (caller k s) ≤ max_outgoing + 256
   caller-outgoing =
-      ⊎_elim (λ p. subst (λ (f : Frame). outgoingLength k f ≤ maxOutgoing + 256) (sym (caller-none k s.frames s.depth p)) (start_small k law))
-      (λ p. subst (λ (f : Frame). outgoingLength k f ≤ maxOutgoing + 256) (sym (caller-some k s.frames s.depth p))
+      ⊎_elim (λ p. subst (λ (f : Frame). outgoing_length k f ≤ max_outgoing + 256) (sym (caller-none k s.frames s.depth p)) (start_small k law))
+      (λ p. subst (λ (f : Frame). outgoing_length k f ≤ max_outgoing + 256) (sym (caller-some k s.frames s.depth p))
       (outgoing-small k law (frame_at s.frames (s.depth - 2)) (frame-request k s.frames s.depth (s.depth - 2) sound.requests (omega arith))))
       (le-or-lt s.depth 1)
 
   -- where a frame is entered, it lies below its caller's pointer, whose header is in the memory
   module _ (deep : 0 < s.depth) where
-    pub top-request : okRequest k (top k s) ≡ true
+    pub top-request : ok_request k (top k s) ≡ true
     top-request =
         rw (top-some k s.frames s.depth deep) (frame-request k s.frames s.depth (s.depth - 1) sound.requests (omega arith))
 
-    pub top-room : offset k s + frameSize k (top k s) + k.room ≤ n
+    pub top-room : offset k s + frame_size k (top k s) + k.room ≤ n
     top-room =
-        let e : sizes k s.frames s.depth ≡ sizes k s.frames (s.depth - 1) + frameSize k (top k s)
+        let e : sizes k s.frames s.depth ≡ sizes k s.frames (s.depth - 1) + frame_size k (top k s)
         = sizes-down k s.frames s.depth deep ∙ rw (top-some k s.frames s.depth deep) in
         omega (arith, e, pointer-room)
 
-    pub top_placed : SavesFit k (top k s) (offset k s + frameSize k (top k s)) n
+    pub top_placed : SavesFit k (top k s) (offset k s + frame_size k (top k s)) n
     top_placed = record {
       lawful = law;
       request = top-request;

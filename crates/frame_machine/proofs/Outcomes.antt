@@ -9,77 +9,77 @@ use Rattle.frame_rules.specs.declared.Frame.{Frame}
 use Rattle.frame_rules.specs.declared.FrameRules.{FrameRules}
 use Rattle.frame_rules.specs.declared.Registers.{Registers}
 use Rattle.frame_rules.specs.Rules.{rules}
-use Rattle.frame_rules.specs.Frames.{noFrame, frameSize, restored, bankOf, withRegister}
+use Rattle.frame_rules.specs.Frames.{no_frame, frame_size, restored, bank_of, with_register}
 use Rattle.frame_machine.specs.Answers.{Accepted, Refused, FrameRefusal, BadMemory, judge}
-use Rattle.frame_machine.specs.Machine.{State, stateRules, stackPointer, offset, top, okMemory, startAnswer, started, startedMemory, notStarted, enterAnswer, entered, enteredMemory, writeRegisterAnswer, writeMemoryAnswer, writtenRegister, writtenMemory, leaveAnswer, left, startOutcome, startMemory, enterOutcome, enterMemory, writeRegisterOutcome, writeMemoryOutcome, writeMemoryMemory, leaveOutcome}
+use Rattle.frame_machine.specs.Machine.{State, state_rules, stack_pointer, offset, top, ok_memory, start_answer, started, started_memory, not_started, enter_answer, entered, entered_memory, write_register_answer, write_memory_answer, written_register, written_memory, leave_answer, left, start_outcome, start_memory, enter_outcome, enter_memory, write_register_outcome, write_memory_outcome, write_memory_memory, leave_outcome}
 
-pub accepted-start : (c : Convention) (b n : ℕ) → okMemory (rules c) b n ≡ true → startAnswer c b n ≡ Accepted
-unfolding startAnswer judge
+pub accepted-start : (c : Convention) (b n : ℕ) → ok_memory (rules c) b n ≡ true → start_answer c b n ≡ Accepted
+unfolding start_answer judge
 accepted-start c b n e = rw e
 
-pub refused-start : (c : Convention) (b n : ℕ) → okMemory (rules c) b n ≡ false → startAnswer c b n ≡ Refused BadMemory
-unfolding startAnswer judge
+pub refused-start : (c : Convention) (b n : ℕ) → ok_memory (rules c) b n ≡ false → start_answer c b n ≡ Refused BadMemory
+unfolding start_answer judge
 refused-start c b n e = rw e
 
 module _ (c : Convention) (b : ℕ) (l : List ℕ) (r : Registers) where
-  pub start-accepted : startAnswer c b (length l) ≡ Accepted
-      → (startOutcome c b (length l) r ≡ record { answer = Accepted; state = started c b (length l) r }) × (startMemory c b l ≡ startedMemory (rules c) l)
-  unfolding startOutcome startMemory
+  pub start-accepted : start_answer c b (length l) ≡ Accepted
+      → (start_outcome c b (length l) r ≡ record { answer = Accepted; state = started c b (length l) r }) × (start_memory c b l ≡ started_memory (rules c) l)
+  unfolding start_outcome start_memory
   start-accepted e = (rw e, rw e)
 
-  pub start-refused : (x : FrameRefusal) → startAnswer c b (length l) ≡ Refused x
-      → (startOutcome c b (length l) r ≡ record { answer = Refused x; state = notStarted c r }) × (startMemory c b l ≡ l)
-  unfolding startOutcome startMemory
+  pub start-refused : (x : FrameRefusal) → start_answer c b (length l) ≡ Refused x
+      → (start_outcome c b (length l) r ≡ record { answer = Refused x; state = not_started c r }) × (start_memory c b l ≡ l)
+  unfolding start_outcome start_memory
   start-refused x e = (rw e, rw e)
 
 module _ (s : State) (l : List ℕ) (f : Frame) where
-  pub enter-accepted : enterAnswer (stateRules s) s (length l) f ≡ Accepted
-      → (enterOutcome s (length l) f ≡ record { answer = Accepted; state = entered (stateRules s) s f }) × (enterMemory s l f ≡ enteredMemory (stateRules s) s l f)
-  unfolding enterOutcome enterMemory
+  pub enter-accepted : enter_answer (state_rules s) s (length l) f ≡ Accepted
+      → (enter_outcome s (length l) f ≡ record { answer = Accepted; state = entered (state_rules s) s f }) × (enter_memory s l f ≡ entered_memory (state_rules s) s l f)
+  unfolding enter_outcome enter_memory
   enter-accepted e = (rw e, rw e)
 
-  pub enter-refused : (x : FrameRefusal) → enterAnswer (stateRules s) s (length l) f ≡ Refused x
-      → (enterOutcome s (length l) f ≡ record { answer = Refused x; state = s }) × (enterMemory s l f ≡ l)
-  unfolding enterOutcome enterMemory
+  pub enter-refused : (x : FrameRefusal) → enter_answer (state_rules s) s (length l) f ≡ Refused x
+      → (enter_outcome s (length l) f ≡ record { answer = Refused x; state = s }) × (enter_memory s l f ≡ l)
+  unfolding enter_outcome enter_memory
   enter-refused x e = (rw e, rw e)
 
 module _ (s : State) (n b i v : ℕ) where
-  pub write-register-accepted : writeRegisterAnswer (stateRules s) s n b i v ≡ Accepted → writeRegisterOutcome s n b i v ≡ record { answer = Accepted; state = writtenRegister s b i v }
-  unfolding writeRegisterOutcome
+  pub write-register-accepted : write_register_answer (state_rules s) s n b i v ≡ Accepted → write_register_outcome s n b i v ≡ record { answer = Accepted; state = written_register s b i v }
+  unfolding write_register_outcome
   write-register-accepted e = rw e
 
-  pub write-register-refused : (x : FrameRefusal) → writeRegisterAnswer (stateRules s) s n b i v ≡ Refused x → writeRegisterOutcome s n b i v ≡ record { answer = Refused x; state = s }
-  unfolding writeRegisterOutcome
+  pub write-register-refused : (x : FrameRefusal) → write_register_answer (state_rules s) s n b i v ≡ Refused x → write_register_outcome s n b i v ≡ record { answer = Refused x; state = s }
+  unfolding write_register_outcome
   write-register-refused x e = rw e
 
 -- the state with its registers stored anew, where they are what the definition says
-pub registers-written : (s : State) (b i v : ℕ) (r : Registers) → r ≡ withRegister s.registers (bankOf b) i v
-    → record { convention = s.convention; base = s.base; size = s.size; depth = s.depth; registers = r; frames = s.frames } ≡ writtenRegister s b i v
-unfolding writtenRegister
+pub registers-written : (s : State) (b i v : ℕ) (r : Registers) → r ≡ with_register s.registers (bank_of b) i v
+    → record { convention = s.convention; base = s.base; size = s.size; depth = s.depth; registers = r; frames = s.frames } ≡ written_register s b i v
+unfolding written_register
 registers-written s b i v r e = rw e
 
 module _ (s : State) (l : List ℕ) (a : ℕ) (bs : List ℕ) where
-  pub write-memory-accepted : writeMemoryAnswer (stateRules s) s (length l) a (length bs) ≡ Accepted
-      → (writeMemoryOutcome s (length l) a (length bs) ≡ record { answer = Accepted; state = s }) × (writeMemoryMemory s l a bs ≡ writtenMemory s l a bs)
-  unfolding writeMemoryOutcome writeMemoryMemory
+  pub write-memory-accepted : write_memory_answer (state_rules s) s (length l) a (length bs) ≡ Accepted
+      → (write_memory_outcome s (length l) a (length bs) ≡ record { answer = Accepted; state = s }) × (write_memory_memory s l a bs ≡ written_memory s l a bs)
+  unfolding write_memory_outcome write_memory_memory
   write-memory-accepted e = (rw e, rw e)
 
-  pub write-memory-refused : (x : FrameRefusal) → writeMemoryAnswer (stateRules s) s (length l) a (length bs) ≡ Refused x
-      → (writeMemoryOutcome s (length l) a (length bs) ≡ record { answer = Refused x; state = s }) × (writeMemoryMemory s l a bs ≡ l)
-  unfolding writeMemoryOutcome writeMemoryMemory
+  pub write-memory-refused : (x : FrameRefusal) → write_memory_answer (state_rules s) s (length l) a (length bs) ≡ Refused x
+      → (write_memory_outcome s (length l) a (length bs) ≡ record { answer = Refused x; state = s }) × (write_memory_memory s l a bs ≡ l)
+  unfolding write_memory_outcome write_memory_memory
   write-memory-refused x e = (rw e, rw e)
 
 module _ (s : State) (l : List ℕ) where
-  pub leave-accepted : leaveAnswer (stateRules s) s l ≡ Accepted → leaveOutcome s l ≡ record { answer = Accepted; state = left (stateRules s) s l }
-  unfolding leaveOutcome
+  pub leave-accepted : leave_answer (state_rules s) s l ≡ Accepted → leave_outcome s l ≡ record { answer = Accepted; state = left (state_rules s) s l }
+  unfolding leave_outcome
   leave-accepted e = rw e
 
-  pub leave-refused : (x : FrameRefusal) → leaveAnswer (stateRules s) s l ≡ Refused x → leaveOutcome s l ≡ record { answer = Refused x; state = s }
-  unfolding leaveOutcome
+  pub leave-refused : (x : FrameRefusal) → leave_answer (state_rules s) s l ≡ Refused x → leave_outcome s l ≡ record { answer = Refused x; state = s }
+  unfolding leave_outcome
   leave-refused x e = rw e
 
 pub registers-restored : (k : FrameRules) (s : State) (l : List ℕ) (r : Registers)
-    → r ≡ restored k (top k s) (offset k s + frameSize k (top k s)) l (stackPointer k s + frameSize k (top k s)) s.registers
-    → record { convention = s.convention; base = s.base; size = s.size; depth = s.depth - 1; registers = r; frames = set s.frames (s.depth - 1) noFrame } ≡ left k s l
+    → r ≡ restored k (top k s) (offset k s + frame_size k (top k s)) l (stack_pointer k s + frame_size k (top k s)) s.registers
+    → record { convention = s.convention; base = s.base; size = s.size; depth = s.depth - 1; registers = r; frames = set s.frames (s.depth - 1) no_frame } ≡ left k s l
 unfolding left
 registers-restored k s l r e = rw e

@@ -7,21 +7,21 @@ pub use Rattle.frame_machine.specs.declared.FrameAnswer.{FrameAnswer}
 pub use Rattle.frame_machine.specs.declared.FrameAnswer.TheVariants.{Accepted, Refused}
 
 -- document 01's number of each refusal ("No"), and document 02's 28; its place is 0 for all of them
-abbrev pub frameRefusalNumber : FrameRefusal → ℕ
-frameRefusalNumber BadMemory = 16
-frameRefusalNumber BadRequest = 17
-frameRefusalNumber TooManyFrames = 18
-frameRefusalNumber NoRoom = 19
-frameRefusalNumber NotPermitted = 20
-frameRefusalNumber BrokenChain = 21
-frameRefusalNumber NothingEntered = 22
-frameRefusalNumber BadState = 23
-frameRefusalNumber AboveLeaf = 28
+abbrev pub frame_refusal_number : FrameRefusal → ℕ
+frame_refusal_number BadMemory = 16
+frame_refusal_number BadRequest = 17
+frame_refusal_number TooManyFrames = 18
+frame_refusal_number NoRoom = 19
+frame_refusal_number NotPermitted = 20
+frame_refusal_number BrokenChain = 21
+frame_refusal_number NothingEntered = 22
+frame_refusal_number BadState = 23
+frame_refusal_number AboveLeaf = 28
 
 -- an answer's number: 0 for an accepted call
-abbrev pub frameAnswerNumber : FrameAnswer → ℕ
-frameAnswerNumber Accepted = 0
-frameAnswerNumber (Refused r) = frameRefusalNumber r
+abbrev pub frame_answer_number : FrameAnswer → ℕ
+frame_answer_number Accepted = 0
+frame_answer_number (Refused r) = frame_refusal_number r
 
 -- What must hold for a call to be accepted, and the refusal given where it does not.
 pub record Requirement : Type 0 where

@@ -1,7 +1,7 @@
 // The frame machine, a stack of frames in lent memory: its state, and what a call answers. The definitions of all calls stand in specs/; `frame_state_checks`, `both_abi`,
 // `frame_call_checks` and `frame_calls` have their code.
 ghost use Rattle.std.specs.Prelude.{◌≡◌};
-ghost use Rattle.frame_machine.specs.Answers.{frameRefusalNumber, frameAnswerNumber};
+ghost use Rattle.frame_machine.specs.Answers.{frame_refusal_number, frame_answer_number};
 
 use base_conventions::Convention;
 use frame_rules::{Frame, Registers};
@@ -37,7 +37,7 @@ pub enum FrameAnswer {
 
 // Document 01's number of a refusal, and of an answer: 0 for an accepted call.
 fn frame_refusal_number(r: FrameRefusal) -> u64
-    ensures { result ≡ frameRefusalNumber r }
+    ensures { result ≡ frame_refusal_number r }
 {
     match r {
         FrameRefusal::BadMemory => 16,
@@ -53,7 +53,7 @@ fn frame_refusal_number(r: FrameRefusal) -> u64
 }
 
 pub fn answer_number(a: FrameAnswer) -> u64
-    ensures { result ≡ frameAnswerNumber a }
+    ensures { result ≡ frame_answer_number a }
 {
     match a {
         FrameAnswer::Accepted => 0,

@@ -1,8 +1,8 @@
 // What an enter saves and a leave gives back: the registers that a request names, with CR and LR where the convention keeps them, in the lent memory around the caller's stack pointer.
 ghost use Rattle.std.specs.Prelude.{◌≡◌, [], ◌∷◌, ◌+◌, ◌≤◌, length};
 ghost use Rattle.base_words.specs.Basics.{flag};
-ghost use Rattle.frame_saves.specs.Saves.{saveRun, saveAll};
-ghost use Rattle.frame_rules.specs.Frames.{saves, gprAt, gprSave, fprSave, linkAt, mergeFields, restoredLr, restoredCr, restored};
+ghost use Rattle.frame_saves.specs.Saves.{save_run, save_all};
+ghost use Rattle.frame_rules.specs.Frames.{saves, gpr_at, gpr_save, fpr_save, link_at, merge_fields, restored_lr, restored_cr, restored};
 ghost use Rattle.frame_rules.specs.Helpers.{SavesFit, LawfulFrames};
 
 use frame_rules::{Frame, FrameRules, Linkage, Registers};
@@ -10,7 +10,7 @@ use frame_rules::{Frame, FrameRules, Linkage, Registers};
 // Where the general registers of a frame are saved, with the caller's pointer at s.
 pub fn gpr_at(k: FrameRules, f: Frame, s: usize, n: usize) -> usize
     requires { SavesFit k f s n }
-    ensures { result ≡ gprAt k.linkage k f s }
+    ensures { result ≡ gpr_at k.linkage k f s }
 {
     let e = k.end;
     let w = k.word;
@@ -26,7 +26,7 @@ pub fn gpr_at(k: FrameRules, f: Frame, s: usize, n: usize) -> usize
 // The number x in the word of w bytes at `at`, or nothing.
 fn save_word(memory: &mut [u8], at: usize, w: usize, on: bool, x: u64)
     requires { at + w ≤ length memory.old }
-    ensures { memory.new ≡ saveRun memory.old (x ∷ []) at w 0 (flag on) }
+    ensures { memory.new ≡ save_run memory.old (x ∷ []) at w 0 (flag on) }
 {
     if on {
         base_words::store(memory, at, w, x);
@@ -35,7 +35,7 @@ fn save_word(memory: &mut [u8], at: usize, w: usize, on: bool, x: u64)
 
 fn save_general(memory: &mut [u8], k: FrameRules, f: Frame, r: Registers, s: usize)
     requires { SavesFit k f s (length memory.old) }
-    ensures { memory.new ≡ saveAll memory.old (gprSave k.linkage k f s r.gpr ∷ []) }
+    ensures { memory.new ≡ save_all memory.old (gpr_save k.linkage k f s r.gpr ∷ []) }
 {
     let n = memory.len();
     let at = gpr_at(k, f, s, n);
@@ -46,7 +46,7 @@ fn save_general(memory: &mut [u8], k: FrameRules, f: Frame, r: Registers, s: usi
 
 fn save_floating(memory: &mut [u8], k: FrameRules, f: Frame, r: Registers, s: usize)
     requires { SavesFit k f s (length memory.old) }
-    ensures { memory.new ≡ saveAll memory.old (fprSave k f s r.fpr ∷ []) }
+    ensures { memory.new ≡ save_all memory.old (fpr_save k f s r.fpr ∷ []) }
 {
     let fpr = r.fpr;
     let m = f.first_fpr;
@@ -57,7 +57,7 @@ fn save_floating(memory: &mut [u8], k: FrameRules, f: Frame, r: Registers, s: us
 // All that an enter saves besides the back chain, with the caller's pointer at s.
 pub fn save_registers(memory: &mut [u8], k: FrameRules, f: Frame, r: Registers, s: usize)
     requires { SavesFit k f s (length memory.old) }
-    ensures { memory.new ≡ saveAll memory.old (saves k f s r) }
+    ensures { memory.new ≡ save_all memory.old (saves k f s r) }
 {
     let linkage = k.linkage;
     match linkage {
@@ -77,7 +77,7 @@ pub fn save_registers(memory: &mut [u8], k: FrameRules, f: Frame, r: Registers, 
 // Where the caller's pointer must stand, with the frame's own pointer at o and the caller's at s.
 pub fn link_at(k: FrameRules, o: usize, s: usize) -> usize
     requires { (LawfulFrames k) × (s ≤ 100000) }
-    ensures { result ≡ linkAt k.linkage k o s }
+    ensures { result ≡ link_at k.linkage k o s }
 {
     let linkage = k.linkage;
     match linkage {
@@ -88,7 +88,7 @@ pub fn link_at(k: FrameRules, o: usize, s: usize) -> usize
 
 // Condition fields 2 to 4 of new in old.
 fn merge_fields(old: u32, new: u64) -> u32
-    ensures { result ≡ mergeFields old new }
+    ensures { result ≡ merge_fields old new }
 {
     let n = (new / 4096 % 4096) as u32;
     old / 16777216 * 16777216 + n * 4096 + old % 4096
@@ -96,7 +96,7 @@ fn merge_fields(old: u32, new: u64) -> u32
 
 fn restore_lr(memory: &[u8], k: FrameRules, f: Frame, s: usize, x: u64) -> u64
     requires { (LawfulFrames k) × (s + k.header ≤ length memory.now) }
-    ensures { result ≡ restoredLr k.linkage k f s memory.now x }
+    ensures { result ≡ restored_lr k.linkage k f s memory.now x }
 {
     let linkage = k.linkage;
     match linkage {
@@ -113,7 +113,7 @@ fn restore_lr(memory: &[u8], k: FrameRules, f: Frame, s: usize, x: u64) -> u64
 
 fn restore_cr(memory: &[u8], k: FrameRules, f: Frame, s: usize, x: u32) -> u32
     requires { (LawfulFrames k) × (s + k.header ≤ length memory.now) }
-    ensures { result ≡ restoredCr k.linkage f s memory.now x }
+    ensures { result ≡ restored_cr k.linkage f s memory.now x }
 {
     let linkage = k.linkage;
     match linkage {

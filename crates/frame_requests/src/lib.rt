@@ -1,13 +1,13 @@
 // What a request may ask, and how large its frame is, by the rules of any convention.
 ghost use Rattle.std.specs.Prelude.{◌≡◌, true};
-ghost use Rattle.frame_rules.specs.Frames.{okLeaf, okRequest, outgoingLength, below, fullSize, frameSize, chainWidth};
+ghost use Rattle.frame_rules.specs.Frames.{ok_leaf, ok_request, outgoing_length, below, full_size, frame_size, chain_width};
 ghost use Rattle.frame_rules.specs.Helpers.{LawfulFrames};
 
 use frame_rules::{Frame, FrameRules, Linkage};
 
 // Is a request that asks for a leaf one that may?
 fn leaf_ok(k: FrameRules, f: Frame) -> bool
-    ensures { result ≡ okLeaf k f }
+    ensures { result ≡ ok_leaf k f }
 {
     if !f.leaf {
         return true;
@@ -22,14 +22,14 @@ fn leaf_ok(k: FrameRules, f: Frame) -> bool
     f.outgoing == 0
 }
 
-// The largest outgoing area that a request may ask for: `maxOutgoing` of frame_rules/specs/Frames.antt.
+// The largest outgoing area that a request may ask for: `max_outgoing` of frame_rules/specs/Frames.antt.
 pub const MAX_OUTGOING: usize = 32776;
 // The largest locals.
 const MAX_LOCALS: usize = 32000;
 
 // Is a request in range?
 pub fn request_ok(k: FrameRules, f: Frame) -> bool
-    ensures { result ≡ okRequest k f }
+    ensures { result ≡ ok_request k f }
 {
     let g = k.gpr.request;
     if !frame_rules::in_span(g, f.first_gpr) {
@@ -61,7 +61,7 @@ pub fn request_ok(k: FrameRules, f: Frame) -> bool
 
 // The length of a frame's outgoing area.
 pub fn outgoing_length(k: FrameRules, f: Frame) -> usize
-    ensures { result ≡ outgoingLength k f }
+    ensures { result ≡ outgoing_length k f }
 {
     base_words::larger(k.least, f.outgoing)
 }
@@ -69,7 +69,7 @@ pub fn outgoing_length(k: FrameRules, f: Frame) -> usize
 // The bytes that a frame saves below its caller's pointer.
 pub fn below_size(k: FrameRules, f: Frame) -> usize
     requires lawful_frames { LawfulFrames k }
-    requires f_value { okRequest k f ≡ true }
+    requires f_value { ok_request k f ≡ true }
     ensures { result ≡ below k.linkage k f }
 {
     let e = k.end;
@@ -86,8 +86,8 @@ pub fn below_size(k: FrameRules, f: Frame) -> usize
 // The size of a frame that is no leaf.
 fn full_size(k: FrameRules, f: Frame) -> usize
     requires lawful_frames { LawfulFrames k }
-    requires f_value { okRequest k f ≡ true }
-    ensures { result ≡ fullSize k f }
+    requires f_value { ok_request k f ≡ true }
+    ensures { result ≡ full_size k f }
 {
     let b = below_size(k, f);
     let p = outgoing_length(k, f);
@@ -97,8 +97,8 @@ fn full_size(k: FrameRules, f: Frame) -> usize
 // How far an enter moves the stack pointer.
 pub fn frame_size(k: FrameRules, f: Frame) -> usize
     requires lawful_frames { LawfulFrames k }
-    requires f_value { okRequest k f ≡ true }
-    ensures { result ≡ frameSize k f }
+    requires f_value { ok_request k f ≡ true }
+    ensures { result ≡ frame_size k f }
 {
     if f.leaf {
         return 0;
@@ -108,7 +108,7 @@ pub fn frame_size(k: FrameRules, f: Frame) -> usize
 
 // The bytes of a frame's back chain.
 pub fn chain_width(k: FrameRules, f: Frame) -> usize
-    ensures { result ≡ chainWidth k f }
+    ensures { result ≡ chain_width k f }
 {
     if f.leaf {
         return 0;

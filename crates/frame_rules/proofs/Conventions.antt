@@ -9,12 +9,12 @@ use lib.Dec.{leb, ltb}
 use borrow.Author.Tests.{ltb-true}
 use Rattle.base_words.proofs.Tests.{and_yes, or_yes}
 use Rattle.base_words.proofs.Basics.{between}
-use Rattle.frame_rules.specs.Rules.{Convention, Ppc64, Z, Aix, Ppc64b, RegisterSpan, in_span, within, BankRules, FrameRules, ppc64Frames, rules}
+use Rattle.frame_rules.specs.Rules.{Convention, Ppc64, Z, Aix, Ppc64b, RegisterSpan, in_span, within, BankRules, FrameRules, ppc64_frames, rules}
 use Rattle.frame_rules.specs.Frames.{writable}
 use Rattle.frame_rules.specs.Helpers.{apart, disjoint, before, BankLaw, LawfulFrames}
 
 -- of codes 1 and 4
-ppc64-lawful : LawfulFrames ppc64Frames
+ppc64-lawful : LawfulFrames ppc64_frames
 ppc64-lawful = record {
   word = omega arith;
   chain = omega arith;

@@ -13,29 +13,29 @@ use borrow.Author.Tests.{leb-true, le-leb}
 use Rattle.base_words.proofs.Basics.{le-or-lt}
 use Rattle.base_words.proofs.Tests.{and_yes}
 use Rattle.base_words.proofs.Fitting.{fit_at}
-use Rattle.frame_rules.specs.Frames.{allWithin, lowered}
+use Rattle.frame_rules.specs.Frames.{all_within, lowered}
 
 -- all of the first n are at most m exactly where each is
-pub within-each : (m : ℕ) (xs : List ℕ) (n : ℕ) → allWithin m xs n ≡ true → (i : ℕ) → i < n → get_or xs i 0 ≤ m
-unfolding allWithin
+pub within-each : (m : ℕ) (xs : List ℕ) (n : ℕ) → all_within m xs n ≡ true → (i : ℕ) → i < n → get_or xs i 0 ≤ m
+unfolding all_within
 within-each m xs zero e i h = absurd (omega arith)
 within-each m xs (suc n) e i h =
     let p = and_yes (leb (get_or xs n 0) m) _ e in
     ⊎_elim (λ q. within-each m xs n p.1 i q) (λ q. let x : i ≡ n = omega arith in rw x (leb-true (get_or xs n 0) m p.0)) (le-or-lt (suc i) n)
 
-pub each_within : (m : ℕ) (xs : List ℕ) (n : ℕ) → ((i : ℕ) → get_or xs i 0 ≤ m) → allWithin m xs n ≡ true
-unfolding allWithin
+pub each_within : (m : ℕ) (xs : List ℕ) (n : ℕ) → ((i : ℕ) → get_or xs i 0 ≤ m) → all_within m xs n ≡ true
+unfolding all_within
 each_within m xs zero h = refl
 each_within m xs (suc n) h = rw (le-leb (get_or xs n 0) m (h n)) (each_within m xs n h)
 
 -- one turn of a loop
-pub within-down : (m : ℕ) (xs : List ℕ) (n : ℕ) → 0 < n → allWithin m xs n ≡ (leb (get_or xs (n - 1) 0) m && allWithin m xs (n - 1))
-unfolding allWithin
+pub within-down : (m : ℕ) (xs : List ℕ) (n : ℕ) → 0 < n → all_within m xs n ≡ (leb (get_or xs (n - 1) 0) m && all_within m xs (n - 1))
+unfolding all_within
 within-down m xs zero h = absurd (omega arith)
 within-down m xs (suc n) h = let e : suc n - 1 ≡ n = omega arith in rw e
 
-pub within_none : (m : ℕ) (xs : List ℕ) (n : ℕ) → n ≤ 0 → allWithin m xs n ≡ true
-unfolding allWithin
+pub within_none : (m : ℕ) (xs : List ℕ) (n : ℕ) → n ≤ 0 → all_within m xs n ≡ true
+unfolding all_within
 within_none m xs zero h = refl
 within_none m xs (suc n) h = absurd (omega arith)
 

@@ -3,7 +3,7 @@
 -- and what the functions that save, restore and write ask of their numbers. Assumes nothing.
 use Rattle.std.specs.Prelude.{ℕ, ◌+◌, ◌-◌, ◌*◌, ◌^◌, ◌≤◌, ◌<◌, ◌≡◌, ◌⊎◌, Bool, true, false, ◌&&◌, ◌||◌, List, [], ◌∷◌, ltb}
 use Rattle.frame_rules.specs.Rules.{RegisterSpan, within, BankRules, Linkage, LinkRegister, SaveArea, FrameRules, Frame, RegisterBank, General, Floating, Link, ConditionField, None}
-use Rattle.frame_rules.specs.Frames.{okRequest, below, maxMemory}
+use Rattle.frame_rules.specs.Frames.{ok_request, below, max_memory}
 
 -- no register of the span, and of the spans, is in the others
 abbrev pub apart : RegisterSpan → List RegisterSpan → Bool
@@ -47,7 +47,7 @@ pub record LawfulFrames (k : FrameRules) : Type 0 where
   pub end : k.end ≤ 32
   pub pointer : k.pointer < 32
   pub limit : k.limit + 1 ≡ 2 ^ (8 * k.word)
-  pub memory : maxMemory ≤ k.limit
+  pub memory : max_memory ≤ k.limit
   pub unkept : within k.gpr.preserved k.pointer ≡ false
   pub unfree : within k.gpr.volatile k.pointer ≡ false
   pub unsaved : (k.pointer < k.gpr.request.first) ⊎ (k.gpr.last < k.pointer)
@@ -59,7 +59,7 @@ pub record LawfulFrames (k : FrameRules) : Type 0 where
 -- a request in range whose saves fit below the offset s of the caller's pointer, with the caller's header inside n bytes of memory
 pub record SavesFit (k : FrameRules) (f : Frame) (s n : ℕ) : Type 0 where
   pub lawful : LawfulFrames k
-  pub request : okRequest k f ≡ true
+  pub request : ok_request k f ≡ true
   pub fits : below k.linkage k f ≤ s
   pub room : s + k.header ≤ n
 

@@ -3,7 +3,7 @@
 
 ghost use Rattle.std.specs.Prelude.{◌≡◌, ◌<◌};
 ghost use Rattle.frame_rules.specs.Rules.{in_span};
-ghost use Rattle.frame_rules.specs.Frames.{startFrame, withPointer, hasCondition};
+ghost use Rattle.frame_rules.specs.Frames.{start_frame, with_pointer, has_condition};
 
 // The registers `first` to `last`.
 #[derive(Drop)]
@@ -102,7 +102,7 @@ pub fn in_span(v: RegisterSpan, n: usize) -> bool
 
 // The start as a frame: nothing saved, no locals, no outgoing area asked for.
 pub fn start_frame(k: FrameRules) -> Frame
-    ensures { result ≡ startFrame k }
+    ensures { result ≡ start_frame k }
 {
     Frame {
         first_gpr: k.gpr.request.last,
@@ -116,7 +116,7 @@ pub fn start_frame(k: FrameRules) -> Frame
 
 // Has the convention a condition register and a link register?
 pub fn has_condition(p: Linkage) -> bool
-    ensures { result ≡ hasCondition p }
+    ensures { result ≡ has_condition p }
 {
     match p {
         Linkage::LinkRegister(_, _) => true,
@@ -127,7 +127,7 @@ pub fn has_condition(p: Linkage) -> bool
 // The registers with the stack pointer at p.
 pub fn with_pointer(k: FrameRules, r: Registers, p: u64) -> Registers
     requires { k.pointer < 32 }
-    ensures { result ≡ withPointer k r p }
+    ensures { result ≡ with_pointer k r p }
 {
     let i = k.pointer;
     let mut q = r;

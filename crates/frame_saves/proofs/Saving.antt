@@ -8,7 +8,7 @@ use native.Mathlib.Omega.{arith}
 use lib.ListN.{length, get_or}
 use Rattle.base_words.specs.Basics.{All}
 use Rattle.base_words.proofs.Basics.{word_in}
-use Rattle.frame_saves.specs.Saves.{load, Save, end_of, saved, saveAll, Outside}
+use Rattle.frame_saves.specs.Saves.{load, Save, end_of, saved, save_all, Outside}
 use Rattle.frame_saves.proofs.Words.{load-agree}
 use Rattle.frame_saves.proofs.Runs.{save-length, save-below, save-above, load-save}
 
@@ -35,7 +35,7 @@ narrow g c d p q = record { lengths = g.lengths; bytes = λ k s t. g.bytes k (om
 
 -- ---- lengths and shape
 
-pub all-length : (vs : List Save) (l : List ℕ) → length (saveAll l vs) ≡ length l
+pub all-length : (vs : List Save) (l : List ℕ) → length (save_all l vs) ≡ length l
 all-length [] l = refl
 all-length (v ∷ vs) l = all-length vs (saved l v) ∙ save-length v.count l v.values v.at v.width v.from
 
@@ -53,7 +53,7 @@ outside_above (v ∷ vs) lo hi b a h = (inr (omega (arith, ascending-le vs (end_
 
 -- ---- other places
 
-pub all-outside : (vs : List Save) (l : List ℕ) (b : ℕ) → Outside b vs → get_or (saveAll l vs) b 0 ≡ get_or l b 0
+pub all-outside : (vs : List Save) (l : List ℕ) (b : ℕ) → Outside b vs → get_or (save_all l vs) b 0 ≡ get_or l b 0
 all-outside [] l b o = refl
 all-outside (v ∷ vs) l b o =
     all-outside vs (saved l v) b o.1
@@ -72,13 +72,13 @@ all-agree (v ∷ vs) lo hi l l' a g h =
     let top = ascending-le vs (end_of v) hi a.1 in
     (held-agree v l l' (narrow g v.at (end_of v) a.0 top) h.0, all-agree vs (end_of v) hi l l' a.1 (narrow g (end_of v) hi (omega arith) (omega arith)) h.1)
 
-pub all_held : (vs : List Save) (lo hi : ℕ) (l : List ℕ) → Ascending lo vs hi → hi ≤ length l → All Fitting vs → All (Held (saveAll l vs)) vs
+pub all_held : (vs : List Save) (lo hi : ℕ) (l : List ℕ) → Ascending lo vs hi → hi ≤ length l → All Fitting vs → All (Held (save_all l vs)) vs
 unfolding All
 all_held [] lo hi l a r f = tt
 all_held (v ∷ vs) lo hi l a r f =
     let l₁ = saved l v in
     let top = ascending-le vs (end_of v) hi a.1 in (
-      held-agree v l₁ (saveAll l₁ vs)
+      held-agree v l₁ (save_all l₁ vs)
           (record { lengths = sym (all-length vs l₁); bytes = λ k s t. sym (all-outside vs l₁ k (outside_below vs (end_of v) hi k a.1 t)) })
           (load-save v.count l v.values v.at v.width v.from f.0 (omega arith)),
       all_held vs (end_of v) hi l₁ a.1 (rw (save-length v.count l v.values v.at v.width v.from) r) f.1,

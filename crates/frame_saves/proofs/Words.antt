@@ -8,7 +8,7 @@ use native.Mathlib.Omega.{arith}
 use lib.ListN.{length, get_or}
 use Rattle.base_words.specs.Numbers.{bytes_of, value_of}
 use Rattle.base_words.proofs.Splices.{length-splice, splice-at-other, part-agree}
-use Rattle.base_words.proofs.Numbers.{length-bytesOf, load-after-store}
+use Rattle.base_words.proofs.Numbers.{length-bytes_of, load-after-store}
 use Rattle.frame_saves.specs.Saves.{store, load}
 
 pub store_length : (l : List ℕ) (at w v : ℕ) → length (store l at w v) ≡ length l
@@ -27,7 +27,7 @@ store_below l at w v b h = splice-at-other l at (bytes_of w v) b 0 (inl (omega a
 
 pub store-above : (l : List ℕ) (at w v b : ℕ) → at + w ≤ b → get_or (store l at w v) b 0 ≡ get_or l b 0
 unfolding store
-store-above l at w v b h = splice-at-other l at (bytes_of w v) b 0 (inr (omega (arith, length-bytesOf w v)))
+store-above l at w v b h = splice-at-other l at (bytes_of w v) b 0 (inr (omega (arith, length-bytes_of w v)))
 
 -- two memories of one length that agree on a word's bytes hold the same number there
 pub load-agree : (l l' : List ℕ) (at w : ℕ) → length l ≡ length l' → ((b : ℕ) → at ≤ b → b < at + w → get_or l b 0 ≡ get_or l' b 0) → load l at w ≡ load l' at w

@@ -14,14 +14,14 @@ unfoldable pub load : List ℕ → ℕ → ℕ → ℕ
 load l at w = value_of (part at w l)
 
 -- l with the c registers of xs from number n on, in ascending words of w bytes from `at` on
-unfoldable pub saveRun : List ℕ → List ℕ → ℕ → ℕ → ℕ → ℕ → List ℕ
-saveRun l xs at w n zero = l
-saveRun l xs at w n (suc c) = saveRun (store l at w (get_or xs n 0)) xs (at + w) w (n + 1) c
+unfoldable pub save_run : List ℕ → List ℕ → ℕ → ℕ → ℕ → ℕ → List ℕ
+save_run l xs at w n zero = l
+save_run l xs at w n (suc c) = save_run (store l at w (get_or xs n 0)) xs (at + w) w (n + 1) c
 
 -- the registers xs with the c from number n on taken from the words of w bytes of l from `at` on
-unfoldable pub loadRun : List ℕ → List ℕ → ℕ → ℕ → ℕ → ℕ → List ℕ
-loadRun xs l at w n zero = xs
-loadRun xs l at w n (suc c) = loadRun (set xs n (load l at w)) l (at + w) w (n + 1) c
+unfoldable pub load_run : List ℕ → List ℕ → ℕ → ℕ → ℕ → ℕ → List ℕ
+load_run xs l at w n zero = xs
+load_run xs l at w n (suc c) = load_run (set xs n (load l at w)) l (at + w) w (n + 1) c
 
 -- A run of saved registers: `count` of `values` from number `from` on, in words of `width` bytes from the offset `at` on.
 pub record Save : Type 0 where
@@ -37,15 +37,15 @@ end_of v = v.at + v.width * v.count
 
 -- l with one run saved, and with several, one after the other
 abbrev pub saved : List ℕ → Save → List ℕ
-saved l v = saveRun l v.values v.at v.width v.from v.count
+saved l v = save_run l v.values v.at v.width v.from v.count
 
-abbrev pub saveAll : List ℕ → List Save → List ℕ
-saveAll l [] = l
-saveAll l (v ∷ vs) = saveAll (saved l v) vs
+abbrev pub save_all : List ℕ → List Save → List ℕ
+save_all l [] = l
+save_all l (v ∷ vs) = save_all (saved l v) vs
 
 -- the registers xs with those of a run taken back from l
 abbrev pub taken : List ℕ → List ℕ → Save → List ℕ
-taken xs l v = loadRun xs l v.at v.width v.from v.count
+taken xs l v = load_run xs l v.at v.width v.from v.count
 
 -- the byte at the offset b lies in none of the runs
 abbrev pub Outside : ℕ → List Save → Type 0

@@ -2,7 +2,7 @@
 ghost use Rattle.std.specs.Prelude.{◌≡◌, ◌+◌, ◌%◌, length};
 ghost use Rattle.frame_rules.specs.Rules.{rules};
 ghost use Rattle.frame_rules.specs.Frames.{lowered, cleared};
-ghost use Rattle.frame_machine.specs.Machine.{startOutcome, startMemory};
+ghost use Rattle.frame_machine.specs.Machine.{start_outcome, start_memory};
 
 use base_conventions::Convention;
 use frame_machine::{FrameAnswer, FrameOutcome, FrameRefusal, MAX_ENTERED, State};
@@ -57,8 +57,8 @@ pub fn start(
     registers: Registers,
 ) -> FrameOutcome
     requires { k ≡ rules c }
-    ensures value { result ≡ startOutcome c base (length memory.old) registers }
-    ensures memory_after { memory.new ≡ startMemory c base memory.old }
+    ensures value { result ≡ start_outcome c base (length memory.old) registers }
+    ensures memory_after { memory.new ≡ start_memory c base memory.old }
 {
     let n = memory.len();
     let none = Frame {

@@ -1,17 +1,17 @@
 // The tests that every call makes of a state and its memory (refusals 23 and 16), and what calls read of a state: the stack pointer, the frame entered last and its caller.
 ghost use Rattle.std.specs.Prelude.{◌≡◌, true, ◌*◌, ◌≤◌};
 ghost use Rattle.frame_rules.specs.Helpers.{LawfulFrames};
-ghost use Rattle.frame_rules.specs.Frames.{mostSize};
+ghost use Rattle.frame_rules.specs.Frames.{most_size};
 ghost use Rattle.frame_machine.specs.Answers.{judge};
-ghost use Rattle.frame_machine.specs.Machine.{maxEntered, stackPointer, topFrame, top, caller, okFrames, sizes, okState, stateTests};
+ghost use Rattle.frame_machine.specs.Machine.{max_entered, stack_pointer, top_frame, top, caller, ok_frames, sizes, ok_state, state_tests};
 
 use frame_machine::{FrameAnswer, FrameRefusal, MAX_ENTERED, State};
 use frame_rules::{Frame, FrameRules};
 
 // The frame entered last of d; the start where there is none.
 fn frame_under(k: FrameRules, fs: [Frame; MAX_ENTERED], d: usize) -> Frame
-    requires { d ≤ maxEntered }
-    ensures { result ≡ topFrame k fs d }
+    requires { d ≤ max_entered }
+    ensures { result ≡ top_frame k fs d }
 {
     if d == 0 {
         return frame_rules::start_frame(k);
@@ -20,8 +20,8 @@ fn frame_under(k: FrameRules, fs: [Frame; MAX_ENTERED], d: usize) -> Frame
 }
 
 fn frames_ok(k: FrameRules, fs: [Frame; MAX_ENTERED], depth: usize) -> bool
-    requires { depth ≤ maxEntered }
-    ensures { result ≡ okFrames k fs depth }
+    requires { depth ≤ max_entered }
+    ensures { result ≡ ok_frames k fs depth }
 {
     let mut d = depth;
     while 0 < d {
@@ -39,8 +39,8 @@ fn frames_ok(k: FrameRules, fs: [Frame; MAX_ENTERED], depth: usize) -> bool
 }
 
 fn sizes_of(k: FrameRules, fs: [Frame; MAX_ENTERED], depth: usize) -> usize
-    requires { (LawfulFrames k) × (depth ≤ maxEntered) × (okFrames k fs depth ≡ true) }
-    ensures { (result ≡ sizes k fs depth) × (result ≤ maxEntered * mostSize) }
+    requires { (LawfulFrames k) × (depth ≤ max_entered) × (ok_frames k fs depth ≡ true) }
+    ensures { (result ≡ sizes k fs depth) × (result ≤ max_entered * most_size) }
 {
     let mut d = depth;
     let mut sum: usize = 0;
@@ -55,7 +55,7 @@ fn sizes_of(k: FrameRules, fs: [Frame; MAX_ENTERED], depth: usize) -> usize
 // The word of the stack pointer's register.
 pub fn stack_pointer(k: FrameRules, s: State) -> u64
     requires { LawfulFrames k }
-    ensures { result ≡ stackPointer k s }
+    ensures { result ≡ stack_pointer k s }
 {
     let i = k.pointer;
     let registers = s.registers;
@@ -64,7 +64,7 @@ pub fn stack_pointer(k: FrameRules, s: State) -> u64
 
 fn state_ok(k: FrameRules, s: State) -> bool
     requires { LawfulFrames k }
-    ensures { result ≡ okState k s }
+    ensures { result ≡ ok_state k s }
 {
     let registers = s.registers;
     if !frame_bounds::registers_ok(k, registers) {
@@ -98,7 +98,7 @@ fn state_ok(k: FrameRules, s: State) -> bool
 // Refusals 23 and 16.
 pub fn judge_state(k: FrameRules, s: State, n: usize) -> FrameAnswer
     requires { LawfulFrames k }
-    ensures { result ≡ judge (stateTests k s n) }
+    ensures { result ≡ judge (state_tests k s n) }
 {
     if !state_ok(k, s) {
         return FrameAnswer::Refused(FrameRefusal::BadState);
@@ -111,7 +111,7 @@ pub fn judge_state(k: FrameRules, s: State, n: usize) -> FrameAnswer
 
 // The frame entered last, and its caller; the start where there is none.
 pub fn top_frame(k: FrameRules, s: State) -> Frame
-    requires { s.depth ≤ maxEntered }
+    requires { s.depth ≤ max_entered }
     ensures { result ≡ top k s }
 {
     let fs = s.frames;
@@ -119,7 +119,7 @@ pub fn top_frame(k: FrameRules, s: State) -> Frame
 }
 
 pub fn caller_frame(k: FrameRules, s: State) -> Frame
-    requires { s.depth ≤ maxEntered }
+    requires { s.depth ≤ max_entered }
     ensures { result ≡ caller k s }
 {
     let d = s.depth;

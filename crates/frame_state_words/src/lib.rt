@@ -1,8 +1,8 @@
 // The frame machine's state read from 64-bit words, and written to them.
 ghost use Rattle.std.specs.Prelude.{◌≡◌, ◌+◌, ◌≤◌, ◌<◌, length};
 ghost use Rattle.base_words.specs.Splice.{splice, part};
-ghost use Rattle.frame_machine.specs.Machine.{maxEntered};
-ghost use Rattle.frame_word_layout.specs.Words.{machineWords, registersWords, recordWords, recordsAt, conventionOf, isKnown, depthIn, registersIn, frameIn, framesIn, stateIn, registerWords, framesWords, stateWords, withRegisters, withFrame};
+ghost use Rattle.frame_machine.specs.Machine.{max_entered};
+ghost use Rattle.frame_word_layout.specs.Words.{machine_words, registers_words, record_words, records_at, convention_of, is_known, depth_in, registers_in, frame_in, frames_in, state_in, register_words, frames_words, state_words, with_registers, with_frame};
 ghost use Rattle.frame_word_layout.specs.Calls.{changed};
 
 use base_conventions::{Convention, ConventionCode};
@@ -29,8 +29,8 @@ fn copy(to: &mut [u64], at: usize, from: &[u64], start: usize, n: usize)
 
 // The registers in the words from `at` on; of CR the low 32 bits.
 pub fn registers_in(words: &[u64], at: usize) -> Registers
-    requires { at + registersWords ≤ length words.now }
-    ensures { result ≡ registersIn words.now at }
+    requires { at + registers_words ≤ length words.now }
+    ensures { result ≡ registers_in words.now at }
 {
     let mut gpr: [u64; 32] = [0; 32];
     let mut fpr: [u64; 32] = [0; 32];
@@ -46,8 +46,8 @@ pub fn registers_in(words: &[u64], at: usize) -> Registers
 
 // The request or the record in the six words from `at` on; one that is refused where a flag of it is neither 0 nor 1.
 pub fn frame_in(words: &[u64], at: usize) -> Frame
-    requires { at + recordWords ≤ length words.now }
-    ensures { result ≡ frameIn words.now at }
+    requires { at + record_words ≤ length words.now }
+    ensures { result ≡ frame_in words.now at }
 {
     let flag = words[at + 2];
     if 1 < flag {
@@ -83,8 +83,8 @@ pub fn frame_in(words: &[u64], at: usize) -> Frame
 
 // All 32 records.
 fn frames_in(words: &[u64]) -> [Frame; MAX_ENTERED]
-    requires { length words.now ≡ machineWords }
-    ensures { result ≡ framesIn maxEntered words.now 0 }
+    requires { length words.now ≡ machine_words }
+    ensures { result ≡ frames_in max_entered words.now 0 }
 {
     let none = Frame {
         first_gpr: 0,
@@ -106,7 +106,7 @@ fn frames_in(words: &[u64]) -> [Frame; MAX_ENTERED]
 
 // A code's convention; a code that is none is not accepted by `depth_in`.
 fn convention_of(code: ConventionCode) -> Convention
-    ensures { result ≡ conventionOf code }
+    ensures { result ≡ convention_of code }
 {
     match code {
         ConventionCode::Known(c) => c,
@@ -115,7 +115,7 @@ fn convention_of(code: ConventionCode) -> Convention
 }
 
 fn is_known(code: ConventionCode) -> bool
-    ensures { result ≡ isKnown code }
+    ensures { result ≡ is_known code }
 {
     match code {
         ConventionCode::Known(_) => true,
@@ -128,8 +128,8 @@ const NO_DEPTH: usize = MAX_ENTERED + 1;
 
 // The depth; `NO_DEPTH` where the convention's code or CR cannot be.
 fn depth_in(words: &[u64]) -> usize
-    requires { length words.now ≡ machineWords }
-    ensures { result ≡ depthIn words.now }
+    requires { length words.now ≡ machine_words }
+    ensures { result ≡ depth_in words.now }
 {
     let code = base_conventions::convention_code(words[0]);
     if !is_known(code) {
@@ -143,8 +143,8 @@ fn depth_in(words: &[u64]) -> usize
 
 // The state that a machine's words are read as.
 pub fn state_in(words: &[u64]) -> State
-    requires { length words.now ≡ machineWords }
-    ensures { result ≡ stateIn words.now }
+    requires { length words.now ≡ machine_words }
+    ensures { result ≡ state_in words.now }
 {
     let convention = convention_of(base_conventions::convention_code(words[0]));
     let depth = depth_in(words);
@@ -172,8 +172,8 @@ fn put_bank(words: &mut [u64], at: usize, bank: [u64; 32])
 
 // The registers over their words.
 pub fn put_registers(words: &mut [u64], r: Registers)
-    requires { length words.old ≡ machineWords }
-    ensures { (words.new ≡ withRegisters words.old r) × (length (registerWords r) ≡ registersWords) }
+    requires { length words.old ≡ machine_words }
+    ensures { (words.new ≡ with_registers words.old r) × (length (register_words r) ≡ registers_words) }
 {
     let gpr = r.gpr;
     let fpr = r.fpr;
@@ -185,8 +185,8 @@ pub fn put_registers(words: &mut [u64], r: Registers)
 
 // The record i.
 fn put_frame(words: &mut [u64], i: usize, f: Frame)
-    requires { (length words.old ≡ machineWords) × (i < maxEntered) }
-    ensures { words.new ≡ withFrame words.old i f }
+    requires { (length words.old ≡ machine_words) × (i < max_entered) }
+    ensures { words.new ≡ with_frame words.old i f }
 {
     let at = RECORDS_AT + RECORD_WORDS * i;
     words[at] = f.first_gpr as u64;
@@ -199,8 +199,8 @@ fn put_frame(words: &mut [u64], i: usize, f: Frame)
 
 // All 32 records.
 fn put_frames(words: &mut [u64], fs: [Frame; MAX_ENTERED])
-    requires { length words.old ≡ machineWords }
-    ensures { (words.new ≡ splice words.old recordsAt (framesWords fs)) × (length fs ≡ 32) }
+    requires { length words.old ≡ machine_words }
+    ensures { (words.new ≡ splice words.old records_at (frames_words fs)) × (length fs ≡ 32) }
 {
     let mut i: usize = 0;
     while i < MAX_ENTERED {
@@ -212,8 +212,8 @@ fn put_frames(words: &mut [u64], fs: [Frame; MAX_ENTERED])
 
 // All words of a state.
 pub fn put_state(words: &mut [u64], s: State)
-    requires { length words.old ≡ machineWords }
-    ensures { words.new ≡ stateWords s }
+    requires { length words.old ≡ machine_words }
+    ensures { words.new ≡ state_words s }
 {
     let c = s.convention;
     let registers = s.registers;
@@ -228,7 +228,7 @@ pub fn put_state(words: &mut [u64], s: State)
 
 // What an enter or a leave changes: the depth, the registers, and the record i.
 pub fn put_changed(words: &mut [u64], s: State, i: usize)
-    requires { (length words.old ≡ machineWords) × (i < maxEntered) }
+    requires { (length words.old ≡ machine_words) × (i < max_entered) }
     ensures { words.new ≡ changed words.old s i }
 {
     let registers = s.registers;

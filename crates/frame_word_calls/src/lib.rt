@@ -1,9 +1,9 @@
 // The machine's calls over a state in 64-bit words, as a caller in C lends it. A call reads the words into a state, makes the machine's own call, and where that is
 // accepted puts back the words that the call may change.
 ghost use Rattle.std.specs.Prelude.{◌≡◌, length};
-ghost use Rattle.frame_machine.specs.Machine.{enterOutcome, enterMemory, writeRegisterOutcome, writeMemoryOutcome, writeMemoryMemory, leaveOutcome};
-ghost use Rattle.frame_word_layout.specs.Words.{frameIn, stateIn};
-ghost use Rattle.frame_word_layout.specs.Calls.{enterWords, writeRegisterWords, leaveWords};
+ghost use Rattle.frame_machine.specs.Machine.{enter_outcome, enter_memory, write_register_outcome, write_memory_outcome, write_memory_memory, leave_outcome};
+ghost use Rattle.frame_word_layout.specs.Words.{frame_in, state_in};
+ghost use Rattle.frame_word_layout.specs.Calls.{enter_words, write_register_words, leave_words};
 
 use frame_machine::FrameAnswer;
 use frame_word_layout::{MACHINE_WORDS, RECORD_WORDS};
@@ -14,9 +14,9 @@ pub fn enter(
     request: &[u64; RECORD_WORDS],
     memory: &mut [u8],
 ) -> FrameAnswer
-    ensures value { result ≡ (enterOutcome (stateIn words.old) (length memory.old) (frameIn request.now 0)).answer }
-    ensures words_after { words.new ≡ enterWords words.old (length memory.old) request.now }
-    ensures memory_after { memory.new ≡ enterMemory (stateIn words.old) memory.old (frameIn request.now 0) }
+    ensures value { result ≡ (enter_outcome (state_in words.old) (length memory.old) (frame_in request.now 0)).answer }
+    ensures words_after { words.new ≡ enter_words words.old (length memory.old) request.now }
+    ensures memory_after { memory.new ≡ enter_memory (state_in words.old) memory.old (frame_in request.now 0) }
 {
     let s = frame_state_words::state_in(words);
     let f = frame_state_words::frame_in(request, 0);
@@ -40,8 +40,8 @@ pub fn write_register(
     value: u64,
     memory: &[u8],
 ) -> FrameAnswer
-    ensures value { result ≡ (writeRegisterOutcome (stateIn words.old) (length memory.now) bank number value).answer }
-    ensures words_after { words.new ≡ writeRegisterWords words.old (length memory.now) bank number value }
+    ensures value { result ≡ (write_register_outcome (state_in words.old) (length memory.now) bank number value).answer }
+    ensures words_after { words.new ≡ write_register_words words.old (length memory.now) bank number value }
 {
     let s = frame_state_words::state_in(words);
     let o = frame_calls::write_register(s, memory, bank, number, value);
@@ -64,8 +64,8 @@ pub fn write_memory(
     bytes: &[u8],
     memory: &mut [u8],
 ) -> FrameAnswer
-    ensures value { result ≡ (writeMemoryOutcome (stateIn words.now) (length memory.old) address (length bytes.now)).answer }
-    ensures memory_after { memory.new ≡ writeMemoryMemory (stateIn words.now) memory.old address bytes.now }
+    ensures value { result ≡ (write_memory_outcome (state_in words.now) (length memory.old) address (length bytes.now)).answer }
+    ensures memory_after { memory.new ≡ write_memory_memory (state_in words.now) memory.old address bytes.now }
 {
     let s = frame_state_words::state_in(words);
     let o = frame_calls::write_memory(s, memory, address, bytes);
@@ -74,8 +74,8 @@ pub fn write_memory(
 
 // Leaves the frame entered last.
 pub fn leave(words: &mut [u64; MACHINE_WORDS], memory: &[u8]) -> FrameAnswer
-    ensures value { result ≡ (leaveOutcome (stateIn words.old) memory.now).answer }
-    ensures words_after { words.new ≡ leaveWords words.old memory.now }
+    ensures value { result ≡ (leave_outcome (state_in words.old) memory.now).answer }
+    ensures words_after { words.new ≡ leave_words words.old memory.now }
 {
     let s = frame_state_words::state_in(words);
     let o = frame_calls::leave(s, memory);

@@ -4,15 +4,15 @@
 use Rattle.std.specs.Prelude.{ℕ, List, [], ◌∷◌, length}
 use Rattle.base_conventions.specs.declared.Convention.{Convention}
 use Rattle.frame_machine.specs.declared.FrameAnswer.{FrameAnswer}
-use Rattle.frame_machine.specs.Machine.{startMemory, enterOutcome, enterMemory, writeRegisterOutcome, writeMemoryOutcome, writeMemoryMemory, leaveOutcome}
-use Rattle.frame_word_layout.specs.Words.{frameIn, stateIn}
-use Rattle.frame_word_layout.specs.Calls.{startWords, enterWords, writeRegisterWords, leaveWords}
+use Rattle.frame_machine.specs.Machine.{start_memory, enter_outcome, enter_memory, write_register_outcome, write_memory_outcome, write_memory_memory, leave_outcome}
+use Rattle.frame_word_layout.specs.Words.{frame_in, state_in}
+use Rattle.frame_word_layout.specs.Calls.{start_words, enter_words, write_register_words, leave_words}
 
 -- any enter, write or leave, with what it is handed besides the machine and the memory: the words of a request; a bank, a number and a value; an address and bytes
 pub data Call : Type 0 where
   enter : List ℕ → Call
-  writeRegister : ℕ → ℕ → ℕ → Call
-  writeMemory : ℕ → List ℕ → Call
+  write_register : ℕ → ℕ → ℕ → Call
+  write_memory : ℕ → List ℕ → Call
   leave : Call
 
 -- what is lent to each call: the machine's words and its memory
@@ -20,29 +20,29 @@ pub record Lent : Type 0 where
   pub words : List ℕ
   pub memory : List ℕ
 
--- what a call answers; the number that C gets is 0 for an accepted one and else the refusal's (`frameAnswer`, crates/c_frame_answers/specs/Frames.antt)
+-- what a call answers; the number that C gets is 0 for an accepted one and else the refusal's (`frame_answer`, crates/c_frame_answers/specs/Frames.antt)
 abbrev pub answer : Call → Lent → FrameAnswer
-answer (enter q) m = (enterOutcome (stateIn m.words) (length m.memory) (frameIn q 0)).answer
-answer (writeRegister b n v) m = (writeRegisterOutcome (stateIn m.words) (length m.memory) b n v).answer
-answer (writeMemory a bs) m = (writeMemoryOutcome (stateIn m.words) (length m.memory) a (length bs)).answer
-answer leave m = (leaveOutcome (stateIn m.words) m.memory).answer
+answer (enter q) m = (enter_outcome (state_in m.words) (length m.memory) (frame_in q 0)).answer
+answer (write_register b n v) m = (write_register_outcome (state_in m.words) (length m.memory) b n v).answer
+answer (write_memory a bs) m = (write_memory_outcome (state_in m.words) (length m.memory) a (length bs)).answer
+answer leave m = (leave_outcome (state_in m.words) m.memory).answer
 
 -- the words after it
-abbrev pub wordsAfter : Call → Lent → List ℕ
-wordsAfter (enter q) m = enterWords m.words (length m.memory) q
-wordsAfter (writeRegister b n v) m = writeRegisterWords m.words (length m.memory) b n v
-wordsAfter (writeMemory a bs) m = m.words
-wordsAfter leave m = leaveWords m.words m.memory
+abbrev pub words_after : Call → Lent → List ℕ
+words_after (enter q) m = enter_words m.words (length m.memory) q
+words_after (write_register b n v) m = write_register_words m.words (length m.memory) b n v
+words_after (write_memory a bs) m = m.words
+words_after leave m = leave_words m.words m.memory
 
 -- the memory after it
-abbrev pub memoryAfter : Call → Lent → List ℕ
-memoryAfter (enter q) m = enterMemory (stateIn m.words) m.memory (frameIn q 0)
-memoryAfter (writeRegister b n v) m = m.memory
-memoryAfter (writeMemory a bs) m = writeMemoryMemory (stateIn m.words) m.memory a bs
-memoryAfter leave m = m.memory
+abbrev pub memory_after : Call → Lent → List ℕ
+memory_after (enter q) m = enter_memory (state_in m.words) m.memory (frame_in q 0)
+memory_after (write_register b n v) m = m.memory
+memory_after (write_memory a bs) m = write_memory_memory (state_in m.words) m.memory a bs
+memory_after leave m = m.memory
 
 abbrev pub after : Call → Lent → Lent
-after c m = record { words = wordsAfter c m; memory = memoryAfter c m }
+after c m = record { words = words_after c m; memory = memory_after c m }
 
 -- what is lent after a list of calls
 unfoldable pub run : List Call → Lent → Lent
@@ -51,4 +51,4 @@ run (c ∷ cs) m = run cs (after c m)
 
 -- what an accepted or refused start in a convention leaves, from a base b, the memory l and the words rs of the registers; it writes all the machine's words
 abbrev pub fresh : Convention → ℕ → List ℕ → List ℕ → Lent
-fresh c b l rs = record { words = startWords c rs b (length l); memory = startMemory c b l }
+fresh c b l rs = record { words = start_words c rs b (length l); memory = start_memory c b l }

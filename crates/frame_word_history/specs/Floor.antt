@@ -6,20 +6,20 @@ use Rattle.base_conventions.specs.declared.Convention.{Convention}
 use Rattle.frame_rules.specs.declared.FrameRules.{FrameRules}
 use Rattle.frame_rules.specs.Rules.{rules}
 use Rattle.frame_machine.specs.declared.FrameAnswer.TheVariants.{Accepted}
-use Rattle.frame_machine.specs.Machine.{startOutcome}
-use Rattle.frame_word_layout.specs.Words.{registersWords, registersIn}
+use Rattle.frame_machine.specs.Machine.{start_outcome}
+use Rattle.frame_word_layout.specs.Words.{registers_words, registers_in}
 use Rattle.frame_history.specs.Preserved.{CallsFit}
 use Rattle.frame_history.specs.Floor.{FloorInside, Untouched}
 use Rattle.frame_word_history.specs.Calls.{Call, Lent, after, fresh}
-use Rattle.frame_word_history.specs.Demand3.{machineIn, call_in, callsIn, WordsFit}
+use Rattle.frame_word_history.specs.Demand3.{machine_in, call_in, calls_in, WordsFit}
 
 -- before the first of the calls and after each of them the floor is inside the memory, and each call leaves what lies below the stack pointer that it leaves behind,
 -- but for what is a leaf's
 abbrev pub FloorHolds : FrameRules → List Call → Lent → Type 0
-FloorHolds k [] m = FloorInside k (machineIn m)
-FloorHolds k (c ∷ cs) m = FloorInside k (machineIn m) × Untouched k (call_in c) (machineIn m) (machineIn (after c m)) × FloorHolds k cs (after c m)
+FloorHolds k [] m = FloorInside k (machine_in m)
+FloorHolds k (c ∷ cs) m = FloorInside k (machine_in m) × Untouched k (call_in c) (machine_in m) (machine_in (after c m)) × FloorHolds k cs (after c m)
 
 -- in each convention, from each accepted start, of every list of exported calls; the premises are those of `Demand3`
 abbrev pub KeepsFloor : Type 0
-KeepsFloor = (c : Convention) (b : ℕ) (l rs : List ℕ) → WordsFit registersWords rs → (startOutcome c b (length l) (registersIn rs 0)).answer ≡ Accepted → (cs : List Call) → CallsFit (callsIn cs)
+KeepsFloor = (c : Convention) (b : ℕ) (l rs : List ℕ) → WordsFit registers_words rs → (start_outcome c b (length l) (registers_in rs 0)).answer ≡ Accepted → (cs : List Call) → CallsFit (calls_in cs)
     → FloorHolds (rules c) cs (fresh c b l rs)

@@ -7,78 +7,78 @@ use Rattle.std.specs.Prelude.{ℕ, zero, suc, ◌+◌, ◌-◌, ◌*◌, ◌%◌
 use Rattle.base_words.specs.Splice.{splice, part}
 use Rattle.base_conventions.specs.declared.Convention.{Convention}
 use Rattle.base_conventions.specs.declared.ConventionCode.{ConventionCode}
-use Rattle.base_conventions.specs.Numbers.{code_of, conventionCode}
+use Rattle.base_conventions.specs.Numbers.{code_of, convention_code}
 use Rattle.frame_rules.specs.declared.Frame.{Frame}
 use Rattle.frame_rules.specs.declared.Registers.{Registers}
 use Rattle.base_words.specs.Basics.{pick, flag}
-use Rattle.frame_rules.specs.Frames.{firstGpr, firstFpr, savesCr, noFrame}
+use Rattle.frame_rules.specs.Frames.{first_gpr_of, first_fpr_of, saves_cr_of, no_frame}
 use Rattle.frame_machine.specs.declared.State.{State}
-use Rattle.frame_machine.specs.Machine.{maxEntered}
+use Rattle.frame_machine.specs.Machine.{max_entered}
 
 -- ---- the numbers of the layout
 
 -- words of the whole state, of the registers (`fz_registers`), of a record or a request (`fz_frame`)
-abbrev pub machineWords : ℕ
-machineWords = 262
+abbrev pub machine_words : ℕ
+machine_words = 262
 
-abbrev pub registersWords : ℕ
-registersWords = 66
+abbrev pub registers_words : ℕ
+registers_words = 66
 
-abbrev pub recordWords : ℕ
-recordWords = 6
+abbrev pub record_words : ℕ
+record_words = 6
 
 -- where the depth stands, and where the registers and the records start
-abbrev pub depthAt : ℕ
-depthAt = 3
+abbrev pub depth_at : ℕ
+depth_at = 3
 
-abbrev pub registersAt : ℕ
-registersAt = 4
+abbrev pub registers_at : ℕ
+registers_at = 4
 
-abbrev pub recordsAt : ℕ
-recordsAt = 70
+abbrev pub records_at : ℕ
+records_at = 70
 
 -- in the registers: where the floating ones start, and LR and CR stand
-abbrev pub floatingIn : ℕ
-floatingIn = 32
+abbrev pub floating_in : ℕ
+floating_in = 32
 
-abbrev pub lrIn : ℕ
-lrIn = 64
+abbrev pub lr_in : ℕ
+lr_in = 64
 
-abbrev pub crIn : ℕ
-crIn = 65
+abbrev pub cr_in : ℕ
+cr_in = 65
 
 -- ---- reading
 
--- a code's convention; where it is no convention's code some one stands there, and `isMachine` says no
-abbrev pub conventionOf : ConventionCode → Convention
-conventionOf (ConventionCode.Known c) = c
-conventionOf ConventionCode.Unknown = Convention.Z
+-- a code's convention; where it is no convention's code some one stands there, and `is_machine` says no
+abbrev pub convention_of : ConventionCode → Convention
+convention_of (ConventionCode.Known c) = c
+convention_of ConventionCode.Unknown = Convention.Z
 
-abbrev pub isKnown : ConventionCode → Bool
-isKnown (ConventionCode.Known c) = true
-isKnown ConventionCode.Unknown = false
+abbrev pub is_known : ConventionCode → Bool
+is_known (ConventionCode.Known c) = true
+is_known ConventionCode.Unknown = false
 
 -- Are the words a machine's? Not where word 0 is no convention's code, or CR's word no 32-bit word ("CR is one 32-bit word").
-unfoldable pub isMachine : List ℕ → Bool
-isMachine ws = isKnown (conventionCode (get_or ws 0 0)) && leb (get_or ws (registersAt + crIn) 0) (2 ^ 32 - 1)
+unfoldable pub is_machine : List ℕ → Bool
+is_machine ws = is_known (convention_code (get_or ws 0 0)) && leb (get_or ws (registers_at + cr_in) 0) (2 ^ 32 - 1)
 
 -- the depth; words that are no machine's are read as one of depth 33, which is refused by 23 ("depth over 32") before anything else
-unfoldable pub depthIn : List ℕ → ℕ
-depthIn ws = pick (isMachine ws) (get_or ws depthAt 0) (maxEntered + 1)
+unfoldable pub depth_in : List ℕ → ℕ
+depth_in ws = pick (is_machine ws) (get_or ws depth_at 0) (max_entered + 1)
 
--- the registers in the `registersWords` words from `at` on; of CR's word the low 32 bits
-unfoldable pub registersIn : List ℕ → ℕ → Registers
-registersIn ws at = record {
+-- the registers in the `registers_words` words from `at` on; of CR's word the low 32 bits
+unfoldable pub registers_in : List ℕ → ℕ → Registers
+registers_in ws at = record {
   gpr = part at 32 ws;
-  fpr = part (at + floatingIn) 32 ws;
-  lr = get_or ws (at + lrIn) 0;
-  cr = get_or ws (at + crIn) 0 % 2 ^ 32;
+  fpr = part (at + floating_in) 32 ws;
+  lr = get_or ws (at + lr_in) 0;
+  cr = get_or ws (at + cr_in) 0 % 2 ^ 32;
 }
 
 -- the request or the record in the six words from `at` on; where "CR or not" or the mark of a leaf is neither 0 nor 1, one that 17 refuses: r0 is the first register
 -- saved
-unfoldable pub frameIn : List ℕ → ℕ → Frame
-frameIn ws at =
+unfoldable pub frame_in : List ℕ → ℕ → Frame
+frame_in ws at =
     pick (leb (get_or ws (at + 2) 0) 1 && leb (get_or ws (at + 5) 0) 1)
     (record {
       first_gpr = get_or ws at 0;
@@ -88,46 +88,46 @@ frameIn ws at =
       outgoing = get_or ws (at + 4) 0;
       leaf = eqb (get_or ws (at + 5) 0) 1;
     })
-    noFrame
+    no_frame
 
 -- the n records from record i on
-unfoldable pub framesIn : ℕ → List ℕ → ℕ → List Frame
-framesIn zero ws i = []
-framesIn (suc n) ws i = frameIn ws (recordsAt + recordWords * i) ∷ framesIn n ws (i + 1)
+unfoldable pub frames_in : ℕ → List ℕ → ℕ → List Frame
+frames_in zero ws i = []
+frames_in (suc n) ws i = frame_in ws (records_at + record_words * i) ∷ frames_in n ws (i + 1)
 
 -- the state that 262 words are read as
-unfoldable pub stateIn : List ℕ → State
-stateIn ws = record {
-  convention = conventionOf (conventionCode (get_or ws 0 0));
+unfoldable pub state_in : List ℕ → State
+state_in ws = record {
+  convention = convention_of (convention_code (get_or ws 0 0));
   base = get_or ws 1 0;
   size = get_or ws 2 0;
-  depth = depthIn ws;
-  registers = registersIn ws registersAt;
-  frames = framesIn maxEntered ws 0;
+  depth = depth_in ws;
+  registers = registers_in ws registers_at;
+  frames = frames_in max_entered ws 0;
 }
 
 -- ---- writing
 
-unfoldable pub registerWords : Registers → List ℕ
-registerWords r = r.gpr ++ (r.fpr ++ r.lr ∷ r.cr ∷ [])
+unfoldable pub register_words : Registers → List ℕ
+register_words r = r.gpr ++ (r.fpr ++ r.lr ∷ r.cr ∷ [])
 
-unfoldable pub frameWords : Frame → List ℕ
-frameWords f = firstGpr f ∷ firstFpr f ∷ flag (savesCr f) ∷ f.locals ∷ f.outgoing ∷ flag f.leaf ∷ []
+unfoldable pub frame_words : Frame → List ℕ
+frame_words f = first_gpr_of f ∷ first_fpr_of f ∷ flag (saves_cr_of f) ∷ f.locals ∷ f.outgoing ∷ flag f.leaf ∷ []
 
-unfoldable pub framesWords : List Frame → List ℕ
-framesWords [] = []
-framesWords (f ∷ fs) = frameWords f ++ framesWords fs
+unfoldable pub frames_words : List Frame → List ℕ
+frames_words [] = []
+frames_words (f ∷ fs) = frame_words f ++ frames_words fs
 
 -- all the words of a state
-unfoldable pub stateWords : State → List ℕ
-stateWords s = code_of s.convention ∷ s.base ∷ s.size ∷ s.depth ∷ (registerWords s.registers ++ framesWords s.frames)
+unfoldable pub state_words : State → List ℕ
+state_words s = code_of s.convention ∷ s.base ∷ s.size ∷ s.depth ∷ (register_words s.registers ++ frames_words s.frames)
 
 -- ws with the depth d; with the registers r; with the record i at f
-abbrev pub withDepth : List ℕ → ℕ → List ℕ
-withDepth ws d = set ws depthAt d
+abbrev pub with_depth : List ℕ → ℕ → List ℕ
+with_depth ws d = set ws depth_at d
 
-abbrev pub withRegisters : List ℕ → Registers → List ℕ
-withRegisters ws r = splice ws registersAt (registerWords r)
+abbrev pub with_registers : List ℕ → Registers → List ℕ
+with_registers ws r = splice ws registers_at (register_words r)
 
-abbrev pub withFrame : List ℕ → ℕ → Frame → List ℕ
-withFrame ws i f = splice ws (recordsAt + recordWords * i) (frameWords f)
+abbrev pub with_frame : List ℕ → ℕ → Frame → List ℕ
+with_frame ws i f = splice ws (records_at + record_words * i) (frame_words f)

@@ -1,9 +1,9 @@
 // The fresh starts over a state in 64-bit words, as a caller in C lends it: all the words are written, also where a start is refused.
 ghost use Rattle.std.specs.Prelude.{◌≡◌, length, get_or, set, ◌+◌};
 ghost use Rattle.frame_machine.specs.Answers.{settle};
-ghost use Rattle.frame_machine.specs.Machine.{startOutcome, startMemory};
-ghost use Rattle.frame_word_layout.specs.Words.{registersAt, crIn, registersIn, stateWords};
-ghost use Rattle.frame_word_layout.specs.Calls.{startWords};
+ghost use Rattle.frame_machine.specs.Machine.{start_outcome, start_memory};
+ghost use Rattle.frame_word_layout.specs.Words.{registers_at, cr_in, registers_in, state_words};
+ghost use Rattle.frame_word_layout.specs.Calls.{start_words};
 
 use base_conventions::Convention;
 use both_abi::{Aix, Ppc64, Ppc64b, Z};
@@ -17,7 +17,7 @@ fn put_start(
     o: FrameOutcome,
 ) -> FrameAnswer
     ensures value { result ≡ o.answer }
-    ensures words_after { words.new ≡ settle o.answer (stateWords o.state) (set (stateWords o.state) (registersAt + crIn) (get_or registers.now crIn 0)) }
+    ensures words_after { words.new ≡ settle o.answer (state_words o.state) (set (state_words o.state) (registers_at + cr_in) (get_or registers.now cr_in 0)) }
 {
     let s = o.state;
     frame_state_words::put_state(words, s);
@@ -38,9 +38,9 @@ pub fn start_ppc64(
     base: u64,
     memory: &mut [u8],
 ) -> FrameAnswer
-    ensures value { result ≡ (startOutcome Convention.Ppc64 base (length memory.old) (registersIn registers.now 0)).answer }
-    ensures words_after { words.new ≡ startWords Convention.Ppc64 registers.now base (length memory.old) }
-    ensures memory_after { memory.new ≡ startMemory Convention.Ppc64 base memory.old }
+    ensures value { result ≡ (start_outcome Convention.Ppc64 base (length memory.old) (registers_in registers.now 0)).answer }
+    ensures words_after { words.new ≡ start_words Convention.Ppc64 registers.now base (length memory.old) }
+    ensures memory_after { memory.new ≡ start_memory Convention.Ppc64 base memory.old }
 {
     let o = Ppc64::start(memory, base, frame_state_words::registers_in(registers, 0));
     put_start(words, registers, o)
@@ -53,9 +53,9 @@ pub fn start_z(
     base: u64,
     memory: &mut [u8],
 ) -> FrameAnswer
-    ensures value { result ≡ (startOutcome Convention.Z base (length memory.old) (registersIn registers.now 0)).answer }
-    ensures words_after { words.new ≡ startWords Convention.Z registers.now base (length memory.old) }
-    ensures memory_after { memory.new ≡ startMemory Convention.Z base memory.old }
+    ensures value { result ≡ (start_outcome Convention.Z base (length memory.old) (registers_in registers.now 0)).answer }
+    ensures words_after { words.new ≡ start_words Convention.Z registers.now base (length memory.old) }
+    ensures memory_after { memory.new ≡ start_memory Convention.Z base memory.old }
 {
     let o = Z::start(memory, base, frame_state_words::registers_in(registers, 0));
     put_start(words, registers, o)
@@ -68,9 +68,9 @@ pub fn start_aix(
     base: u64,
     memory: &mut [u8],
 ) -> FrameAnswer
-    ensures value { result ≡ (startOutcome Convention.Aix base (length memory.old) (registersIn registers.now 0)).answer }
-    ensures words_after { words.new ≡ startWords Convention.Aix registers.now base (length memory.old) }
-    ensures memory_after { memory.new ≡ startMemory Convention.Aix base memory.old }
+    ensures value { result ≡ (start_outcome Convention.Aix base (length memory.old) (registers_in registers.now 0)).answer }
+    ensures words_after { words.new ≡ start_words Convention.Aix registers.now base (length memory.old) }
+    ensures memory_after { memory.new ≡ start_memory Convention.Aix base memory.old }
 {
     let o = Aix::start(memory, base, frame_state_words::registers_in(registers, 0));
     put_start(words, registers, o)
@@ -83,9 +83,9 @@ pub fn start_ppc64b(
     base: u64,
     memory: &mut [u8],
 ) -> FrameAnswer
-    ensures value { result ≡ (startOutcome Convention.Ppc64b base (length memory.old) (registersIn registers.now 0)).answer }
-    ensures words_after { words.new ≡ startWords Convention.Ppc64b registers.now base (length memory.old) }
-    ensures memory_after { memory.new ≡ startMemory Convention.Ppc64b base memory.old }
+    ensures value { result ≡ (start_outcome Convention.Ppc64b base (length memory.old) (registers_in registers.now 0)).answer }
+    ensures words_after { words.new ≡ start_words Convention.Ppc64b registers.now base (length memory.old) }
+    ensures memory_after { memory.new ≡ start_memory Convention.Ppc64b base memory.old }
 {
     let o = Ppc64b::start(memory, base, frame_state_words::registers_in(registers, 0));
     put_start(words, registers, o)

@@ -1,7 +1,7 @@
 // Writing registers: which of them a frame may write, and the registers after a write.
 ghost use Rattle.std.specs.Prelude.{◌≡◌, ◌≤◌, ◌<◌};
 ghost use Rattle.frame_rules.specs.Rules.{within};
-ghost use Rattle.frame_rules.specs.Frames.{writable, writableField, bankOf, writableRegister, unit_of, withConditionField, withRegister};
+ghost use Rattle.frame_rules.specs.Frames.{writable, writable_field, bank_of, writable_register, unit_of, with_condition_field, with_register};
 ghost use Rattle.frame_rules.specs.Helpers.{Named};
 
 use frame_rules::{BankRules, Frame, FrameRules, RegisterBank, RegisterSpan, Registers};
@@ -35,7 +35,7 @@ fn bank_writable(b: BankRules, from: usize, n: usize) -> bool
 }
 
 fn field_writable(k: FrameRules, f: Frame, n: usize, v: u64) -> bool
-    ensures { result ≡ writableField k f n v }
+    ensures { result ≡ writable_field k f n v }
 {
     let linkage = k.linkage;
     if !frame_rules::has_condition(linkage) {
@@ -58,7 +58,7 @@ fn field_writable(k: FrameRules, f: Frame, n: usize, v: u64) -> bool
 
 // The bank of a number.
 pub fn bank_of(b: u64) -> RegisterBank
-    ensures { result ≡ bankOf b }
+    ensures { result ≡ bank_of b }
 {
     if b == 0 {
         return RegisterBank::General;
@@ -76,7 +76,7 @@ pub fn bank_of(b: u64) -> RegisterBank
 }
 
 fn general_writable(k: FrameRules, f: Frame, n: usize, v: u64) -> bool
-    ensures { result ≡ writableRegister k f RegisterBank.General n v }
+    ensures { result ≡ writable_register k f RegisterBank.General n v }
 {
     let general = k.gpr;
     if !bank_writable(general, f.first_gpr, n) {
@@ -86,7 +86,7 @@ fn general_writable(k: FrameRules, f: Frame, n: usize, v: u64) -> bool
 }
 
 fn link_writable(k: FrameRules, f: Frame, n: usize, v: u64) -> bool
-    ensures { result ≡ writableRegister k f RegisterBank.Link n v }
+    ensures { result ≡ writable_register k f RegisterBank.Link n v }
 {
     let linkage = k.linkage;
     if !frame_rules::has_condition(linkage) {
@@ -100,7 +100,7 @@ fn link_writable(k: FrameRules, f: Frame, n: usize, v: u64) -> bool
 
 // May the frame f write v to register n of the bank b?
 pub fn register_writable(k: FrameRules, f: Frame, b: RegisterBank, n: usize, v: u64) -> bool
-    ensures { result ≡ writableRegister k f b n v }
+    ensures { result ≡ writable_register k f b n v }
 {
     let floating = k.fpr;
     match b {
@@ -131,7 +131,7 @@ fn unit(n: usize) -> u64
 // A condition register with field n at v.
 fn with_condition_field(c: u32, n: usize, v: u64) -> u32
     requires { (n ≤ 7) × (v ≤ 15) }
-    ensures { result ≡ withConditionField c n v }
+    ensures { result ≡ with_condition_field c n v }
 {
     let u = unit(n);
     let x = c as u64;
@@ -141,7 +141,7 @@ fn with_condition_field(c: u32, n: usize, v: u64) -> u32
 // The registers with v in register n of the bank b.
 pub fn with_register(r: Registers, b: RegisterBank, n: usize, v: u64) -> Registers
     requires { Named b n v }
-    ensures { result ≡ withRegister r b n v }
+    ensures { result ≡ with_register r b n v }
 {
     let mut q = r;
     match b {

@@ -7,10 +7,10 @@ use native.Mathlib.Numerals.{add-one}
 use borrow.Author.Tests.{le-ltb, lt-ltb}
 use lib.ListN.{length, get_or, set, take}
 use lib.Seq.{take-suc, length-take-le}
-use Rattle.base_words.specs.Splice.{overlay, overlayWhole}
+use Rattle.base_words.specs.Splice.{overlay, overlay_whole}
 use Rattle.base_words.proofs.Splices.{overlay-nothing, overlay-more}
 
-pub tabled-nothing : (table : List ℕ) → table ≡ overlayWhole table []
+pub tabled-nothing : (table : List ℕ) → table ≡ overlay_whole table []
 tabled-nothing table = rw (le-ltb (length table) 0 (omega arith)) (overlay-nothing table)
 
 module _ (table kept : List ℕ) where
@@ -27,8 +27,8 @@ module _ (table kept : List ℕ) where
     many : length (take n kept) ≡ n
     many = length-take-le n kept within
 
-    pub copy-none : length table < n → table ≡ overlayWhole table (take n kept)
+    pub copy-none : length table < n → table ≡ overlay_whole table (take n kept)
     copy-none h = rw (lt-ltb (length table) (length (take n kept)) (omega (arith, many)))
 
-    pub copy-all : n ≤ length table → overlay table (take n kept) ≡ overlayWhole table (take n kept)
+    pub copy-all : n ≤ length table → overlay table (take n kept) ≡ overlay_whole table (take n kept)
     copy-all h = rw (le-ltb (length table) (length (take n kept)) (omega (arith, many)))

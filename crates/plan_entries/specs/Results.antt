@@ -5,8 +5,8 @@ use Rattle.plan_places.specs.declared.ResultPlaces.{ResultPlaces}
 use Rattle.plan_entries.specs.declared.ResultWords.{ResultWords}
 use Rattle.plan_entries.specs.Words.{first_word}
 
-abbrev pub resultRegisterWords : ℕ → Span → ResultWords
-resultRegisterWords kind s = record {
+abbrev pub result_register_words : ℕ → Span → ResultWords
+result_register_words kind s = record {
   kind = kind;
   gpr = first_word s.general;
   gprs = s.general.count;
@@ -15,7 +15,7 @@ resultRegisterWords kind s = record {
 }
 
 -- "Results": 0 none, 1 in registers; 2 hidden, in memory whose address is in a register
-abbrev pub resultWords : ResultPlaces → ResultWords
-resultWords ResultPlaces.Nothing = record { kind = 0; gpr = 0; gprs = 0; fpr = 0; fprs = 0 }
-resultWords (ResultPlaces.Registers s) = resultRegisterWords 1 s
-resultWords (ResultPlaces.Hidden s) = resultRegisterWords 2 s
+abbrev pub result_words : ResultPlaces → ResultWords
+result_words ResultPlaces.Nothing = record { kind = 0; gpr = 0; gprs = 0; fpr = 0; fprs = 0 }
+result_words (ResultPlaces.Registers s) = result_register_words 1 s
+result_words (ResultPlaces.Hidden s) = result_register_words 2 s

@@ -11,21 +11,21 @@ use Rattle.plan_places.specs.declared.Span.{Span}
 abbrev pub first_word : RegisterRange → ℕ
 first_word r = pick (eqb r.count 0) 0 r.first
 
-abbrev pub startWord : ByteRange → ℕ
-startWord r = pick (eqb r.length 0) 0 r.start
+abbrev pub start_word : ByteRange → ℕ
+start_word r = pick (eqb r.length 0) 0 r.start
 
 -- the words of an entry
-abbrev pub entryLength : ℕ
-entryLength = 13
+abbrev pub entry_length : ℕ
+entry_length = 13
 
 -- where the type item stands in the signature; the value's size, and where it starts in the values; the general and the floating
 -- registers; the bytes of the area, used or not, and those of them that hold it; the copy
-unfoldable pub entryWords : ℕ → ℕ → ℕ → Span → List ℕ
-entryWords item size value s =
+unfoldable pub entry_words : ℕ → ℕ → ℕ → Span → List ℕ
+entry_words item size value s =
     item ∷ size ∷ value
     ∷ first_word s.general ∷ s.general.count
     ∷ first_word s.floating ∷ s.floating.count
-    ∷ startWord s.home ∷ s.home.length
-    ∷ startWord s.memory ∷ s.memory.length
-    ∷ startWord s.copy ∷ s.copy.length
+    ∷ start_word s.home ∷ s.home.length
+    ∷ start_word s.memory ∷ s.memory.length
+    ∷ start_word s.copy ∷ s.copy.length
     ∷ []

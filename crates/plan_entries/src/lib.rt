@@ -1,7 +1,7 @@
 // The words of a plan: an argument's entry, what a result's are, and the table that the caller lends.
 ghost use Rattle.std.specs.Prelude.{◌≡◌, ◌+◌, ◌*◌, ◌^◌, ◌≤◌, ◌<◌, length, take};
-ghost use Rattle.base_words.specs.Splice.{overlay, splice, overlayWhole};
-ghost use Rattle.plan_entries.specs.Words.{first_word, startWord, entryWords, entryLength};
+ghost use Rattle.base_words.specs.Splice.{overlay, splice, overlay_whole};
+ghost use Rattle.plan_entries.specs.Words.{first_word, start_word, entry_words, entry_length};
 
 use plan_places::{ByteRange, RegisterRange, Span};
 
@@ -30,7 +30,7 @@ fn first_word(r: RegisterRange) -> u16
 
 // The first byte of a range; 0 where there is none.
 fn start_word(r: ByteRange) -> u16
-    ensures { result ≡ startWord r }
+    ensures { result ≡ start_word r }
 {
     if r.length == 0 {
         return 0;
@@ -40,8 +40,8 @@ fn start_word(r: ByteRange) -> u16
 
 // The entry of one argument, at the head of `kept`: 16 bits are enough for each of its words.
 fn put_entry(kept: &mut [u16], item: usize, size: usize, value: usize, s: Span)
-    requires { (entryLength ≤ length kept.old) × (item < 2 ^ 16) × (size < 2 ^ 16) × (value < 2 ^ 16) }
-    ensures { kept.new ≡ overlay kept.old (entryWords item size value s) }
+    requires { (entry_length ≤ length kept.old) × (item < 2 ^ 16) × (size < 2 ^ 16) × (value < 2 ^ 16) }
+    ensures { kept.new ≡ overlay kept.old (entry_words item size value s) }
 {
     let general = s.general;
     let floating = s.floating;
@@ -65,8 +65,8 @@ fn put_entry(kept: &mut [u16], item: usize, size: usize, value: usize, s: Span)
 
 // The entry of argument i among those that are kept.
 pub fn keep_entry(kept: &mut [u16], i: usize, item: usize, size: usize, value: usize, s: Span)
-    requires { (entryLength * i + entryLength ≤ length kept.old) × (item < 2 ^ 16) × (size < 2 ^ 16) × (value < 2 ^ 16) }
-    ensures { kept.new ≡ splice kept.old (entryLength * i) (entryWords item size value s) }
+    requires { (entry_length * i + entry_length ≤ length kept.old) × (item < 2 ^ 16) × (size < 2 ^ 16) × (value < 2 ^ 16) }
+    ensures { kept.new ≡ splice kept.old (entry_length * i) (entry_words item size value s) }
 {
     let at = ENTRY * i;
     put_entry(&mut kept[at..], item, size, value, s);
@@ -81,7 +81,7 @@ fn wide(word: u16) -> u64
 // The first n words that are kept, at the head of the table; one that is too short for them is left as it was.
 pub fn write_table(table: &mut [u64], kept: &[u16], n: usize)
     requires { n ≤ length kept.now }
-    ensures { table.new ≡ overlayWhole table.old (take n kept.now) }
+    ensures { table.new ≡ overlay_whole table.old (take n kept.now) }
 {
     if table.len() < n {
         return;

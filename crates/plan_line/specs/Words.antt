@@ -2,24 +2,24 @@
 use Rattle.std.specs.Prelude.{ℕ, List, [], ◌∷◌}
 
 -- " r"
-abbrev pub generalMark : List ℕ
-generalMark = 32 ∷ 114 ∷ []
+abbrev pub general_mark : List ℕ
+general_mark = 32 ∷ 114 ∷ []
 
 -- " f"
-abbrev pub floatingMark : List ℕ
-floatingMark = 32 ∷ 102 ∷ []
+abbrev pub floating_mark : List ℕ
+floating_mark = 32 ∷ 102 ∷ []
 
 -- " mem"
-abbrev pub memoryWord : List ℕ
-memoryWord = 32 ∷ 109 ∷ 101 ∷ 109 ∷ []
+abbrev pub memory_word : List ℕ
+memory_word = 32 ∷ 109 ∷ 101 ∷ 109 ∷ []
 
 -- " @"
-abbrev pub offsetMark : List ℕ
-offsetMark = 32 ∷ 64 ∷ []
+abbrev pub offset_mark : List ℕ
+offset_mark = 32 ∷ 64 ∷ []
 
 -- " ref"
-abbrev pub referenceWord : List ℕ
-referenceWord = 32 ∷ 114 ∷ 101 ∷ 102 ∷ []
+abbrev pub reference_word : List ℕ
+reference_word = 32 ∷ 114 ∷ 101 ∷ 102 ∷ []
 
 -- "newline after each line"
 abbrev pub newline : List ℕ

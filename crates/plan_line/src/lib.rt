@@ -1,11 +1,11 @@
 // The line of one argument in a printed plan: its number, its registers, `mem` where some of it is in memory, its offset, and `ref` where
 // it is passed by a pointer to a copy.
 ghost use Rattle.std.specs.Prelude.{◌++◌, ◌+◌, ◌^◌, ◌≤◌, ◌<◌};
-ghost use Rattle.plan_places.specs.Places.{registersOf, Numbered};
+ghost use Rattle.plan_places.specs.Places.{registers_of, Numbered};
 ghost use Rattle.plan_text.specs.Decimals.{decimal};
 ghost use Rattle.plan_text.specs.Writing.{Wrote};
-ghost use Rattle.plan_line.specs.Words.{offsetMark};
-ghost use Rattle.plan_line.specs.Line.{mark_of, placeText, placesText, memoryText, offsetText, referenceText, lineText};
+ghost use Rattle.plan_line.specs.Words.{offset_mark};
+ghost use Rattle.plan_line.specs.Line.{mark_of, place_text, places_text, memory_text, offset_text, reference_text, line_text};
 
 use base_conventions::Convention;
 use plan_places::{Bank, Place, Span};
@@ -23,7 +23,7 @@ fn put_mark(text: &mut [u8], at: usize, bank: Bank) -> usize
 
 fn put_place(text: &mut [u8], at: usize, p: Place) -> usize
     requires { at < 2 ^ 31 }
-    ensures { Wrote text.old text.new at result (placeText p) × (result ≤ at + 22) }
+    ensures { Wrote text.old text.new at result (place_text p) × (result ≤ at + 22) }
 {
     match p {
         Place::Register { bank, number } => {
@@ -36,7 +36,7 @@ fn put_place(text: &mut [u8], at: usize, p: Place) -> usize
 
 pub fn put_registers(text: &mut [u8], at: usize, s: Span) -> usize
     requires { (at < 2 ^ 30) × Numbered s }
-    ensures { Wrote text.old text.new at result (placesText (registersOf s)) × (result ≤ at + 2000) }
+    ensures { Wrote text.old text.new at result (places_text (registers_of s)) × (result ≤ at + 2000) }
 {
     let floating = s.floating;
     let general = s.general;
@@ -53,7 +53,7 @@ pub fn put_registers(text: &mut [u8], at: usize, s: Span) -> usize
 
 fn put_memory(text: &mut [u8], at: usize, s: Span) -> usize
     requires { at < 2 ^ 31 }
-    ensures { Wrote text.old text.new at result (memoryText s) × (result ≤ at + 22) }
+    ensures { Wrote text.old text.new at result (memory_text s) × (result ≤ at + 22) }
 {
     let memory = s.memory;
     let offset = memory.start;
@@ -65,14 +65,14 @@ fn put_memory(text: &mut [u8], at: usize, s: Span) -> usize
 
 fn put_at(text: &mut [u8], at: usize, offset: usize) -> usize
     requires { at < 2 ^ 31 }
-    ensures { Wrote text.old text.new at result (offsetMark ++ decimal offset) × (result ≤ at + 22) }
+    ensures { Wrote text.old text.new at result (offset_mark ++ decimal offset) × (result ≤ at + 22) }
 {
     put_labelled(text, at, b" @", offset)
 }
 
 fn put_offset(text: &mut [u8], at: usize, c: Convention, s: Span) -> usize
     requires { at < 2 ^ 31 }
-    ensures { Wrote text.old text.new at result (offsetText c s) × (result ≤ at + 22) }
+    ensures { Wrote text.old text.new at result (offset_text c s) × (result ≤ at + 22) }
 {
     let home = s.home;
     let memory = s.memory;
@@ -91,7 +91,7 @@ fn put_offset(text: &mut [u8], at: usize, c: Convention, s: Span) -> usize
 
 fn put_reference(text: &mut [u8], at: usize, indirect: bool) -> usize
     requires { at < 2 ^ 31 }
-    ensures { Wrote text.old text.new at result (referenceText indirect) × (result ≤ at + 4) }
+    ensures { Wrote text.old text.new at result (reference_text indirect) × (result ≤ at + 4) }
 {
     if indirect {
         return put_bytes(text, at, b" ref");
@@ -102,7 +102,7 @@ fn put_reference(text: &mut [u8], at: usize, indirect: bool) -> usize
 // The line of argument i.
 pub fn put_line(text: &mut [u8], at: usize, c: Convention, i: usize, s: Span) -> usize
     requires { (at < 2 ^ 29) × Numbered s }
-    ensures { Wrote text.old text.new at result (lineText c i s) × (result ≤ at + 2100) }
+    ensures { Wrote text.old text.new at result (line_text c i s) × (result ≤ at + 2100) }
 {
     let a = put_decimal(text, at, i);
     let b = put_registers(text, a, s);

@@ -3,63 +3,63 @@ use Rattle.std.specs.Prelude.{ℕ, suc, Bool, List, [], ◌∷◌, ◌++◌, tak
 use Rattle.base_words.specs.Basics.{pick}
 use Rattle.base_conventions.specs.declared.Convention.{Convention}
 use Rattle.sig_items.specs.declared.Fault.{Fault}
-use Rattle.sig_items.specs.Refusals.{refusalNumber}
+use Rattle.sig_items.specs.Refusals.{refusal_number}
 use Rattle.sig_signatures.specs.declared.Outcome.{Outcome}
 use Rattle.plan_places.specs.declared.Span.{Span}
 use Rattle.plan_places.specs.declared.ResultPlaces.{ResultPlaces}
-use Rattle.plan_places.specs.Places.{registersOf}
+use Rattle.plan_places.specs.Places.{registers_of}
 use Rattle.plan_plans.specs.declared.Plan.{Plan}
-use Rattle.plan_plans.specs.Plan.{planAnswer}
+use Rattle.plan_plans.specs.Plan.{plan_answer}
 use Rattle.plan_plans.specs.Call.{call_of}
 use Rattle.plan_text.specs.Decimals.{decimal}
 use Rattle.plan_line.specs.Words.{newline}
-use Rattle.plan_line.specs.Line.{placesText, lineText}
-use Rattle.plan_listing.specs.Words.{ppc64Name, zName, aixName, ppc64bName, argsWord, areaWord, varWord, resultWord, noneWord, hiddenWord, refusedWord, atWord, afterWord}
+use Rattle.plan_line.specs.Line.{places_text, line_text}
+use Rattle.plan_listing.specs.Words.{ppc64_name, z_name, aix_name, ppc64b_name, args_word, area_word, var_word, result_word, none_word, hidden_word, refused_word, at_word, after_word}
 
 abbrev pub name_of : Convention → List ℕ
-name_of Convention.Ppc64 = ppc64Name
-name_of Convention.Z = zName
-name_of Convention.Aix = aixName
-name_of Convention.Ppc64b = ppc64bName
+name_of Convention.Ppc64 = ppc64_name
+name_of Convention.Z = z_name
+name_of Convention.Aix = aix_name
+name_of Convention.Ppc64b = ppc64b_name
 
 -- the lines of the arguments from i on
-unfoldable pub linesText : Convention → ℕ → List Span → List ℕ
-linesText c i [] = []
-linesText c i (s ∷ ss) = lineText c i s ++ linesText c (suc i) ss
+unfoldable pub lines_text : Convention → ℕ → List Span → List ℕ
+lines_text c i [] = []
+lines_text c i (s ∷ ss) = line_text c i s ++ lines_text c (suc i) ss
 
 -- 02, No. 5: "The printed listing adds ` var` at the end of its first line"
-abbrev pub ellipsisText : Bool → List ℕ
-ellipsisText v = pick v varWord []
+abbrev pub ellipsis_text : Bool → List ℕ
+ellipsis_text v = pick v var_word []
 
-unfoldable pub headText : Convention → Bool → ℕ → ℕ → List ℕ
-headText c v args area = name_of c ++ (argsWord ++ (decimal args ++ (areaWord ++ (decimal area ++ (ellipsisText v ++ newline)))))
+unfoldable pub head_text : Convention → Bool → ℕ → ℕ → List ℕ
+head_text c v args area = name_of c ++ (args_word ++ (decimal args ++ (area_word ++ (decimal area ++ (ellipsis_text v ++ newline)))))
 
 -- "Other results: `none`, `f1 f2`, `hidden r3`"
-abbrev pub resultPlacesText : ResultPlaces → List ℕ
-resultPlacesText ResultPlaces.Nothing = noneWord
-resultPlacesText (ResultPlaces.Registers s) = placesText (registersOf s)
-resultPlacesText (ResultPlaces.Hidden s) = hiddenWord ++ placesText (registersOf s)
+abbrev pub result_places_text : ResultPlaces → List ℕ
+result_places_text ResultPlaces.Nothing = none_word
+result_places_text (ResultPlaces.Registers s) = places_text (registers_of s)
+result_places_text (ResultPlaces.Hidden s) = hidden_word ++ places_text (registers_of s)
 
-unfoldable pub resultText : ResultPlaces → List ℕ
-resultText r = resultWord ++ (resultPlacesText r ++ newline)
+unfoldable pub result_text : ResultPlaces → List ℕ
+result_text r = result_word ++ (result_places_text r ++ newline)
 
 -- "the printed line becomes `refused 2 at 0 after 0`"
-unfoldable pub refusalText : Fault → List ℕ
-refusalText f =
-    refusedWord ++ (decimal (refusalNumber f.reason) ++ (atWord ++ (decimal f.place ++ (afterWord ++ (decimal f.passed ++ newline)))))
+unfoldable pub refusal_text : Fault → List ℕ
+refusal_text f =
+    refused_word ++ (decimal (refusal_number f.reason) ++ (at_word ++ (decimal f.place ++ (after_word ++ (decimal f.passed ++ newline)))))
 
-unfoldable pub acceptedText : Plan → List ℕ
-acceptedText p =
-    headText p.convention p.ellipsis p.count p.area
-    ++ (linesText p.convention 0 (take p.count p.spans) ++ resultText p.result)
+unfoldable pub accepted_text : Plan → List ℕ
+accepted_text p =
+    head_text p.convention p.ellipsis p.count p.area
+    ++ (lines_text p.convention 0 (take p.count p.spans) ++ result_text p.result)
 
-abbrev pub planTextBy : Outcome → Plan → List ℕ
-planTextBy (Outcome.Accepted n) p = acceptedText p
-planTextBy (Outcome.Refused f) p = refusalText f
+abbrev pub plan_text_by : Outcome → Plan → List ℕ
+plan_text_by (Outcome.Accepted n) p = accepted_text p
+plan_text_by (Outcome.Refused f) p = refusal_text f
 
-unfoldable pub planText : Plan → List ℕ
-planText p = planTextBy p.outcome p
+unfoldable pub plan_text_of : Plan → List ℕ
+plan_text_of p = plan_text_by p.outcome p
 
 -- of a signature's bytes
-unfoldable pub listingOf : List ℕ → List ℕ
-listingOf s = planText (planAnswer (call_of s))
+unfoldable pub listing_of : List ℕ → List ℕ
+listing_of s = plan_text_of (plan_answer (call_of s))

@@ -1,10 +1,10 @@
 // The printed plan of a signature. The writer runs twice, the first time to find the length, so that a buffer that is too short stays as
 // it was.
 ghost use Rattle.std.specs.Prelude.{◌≡◌, ◌+◌, ◌^◌, ◌≤◌, ◌<◌, length};
-ghost use Rattle.base_words.specs.Splice.{overlayWhole};
+ghost use Rattle.base_words.specs.Splice.{overlay_whole};
 ghost use Rattle.plan_places.specs.Helpers.{ResultNumbered};
 ghost use Rattle.plan_text.specs.Writing.{Wrote};
-ghost use Rattle.plan_listing.specs.Text.{name_of, ellipsisText, headText, resultPlacesText, resultText, refusalText, acceptedText, planText, listingOf};
+ghost use Rattle.plan_listing.specs.Text.{name_of, ellipsis_text, head_text, result_places_text, result_text, refusal_text, accepted_text, plan_text_of, listing_of};
 ghost use Rattle.plan_plans.specs.Helpers.{Printable};
 
 use base_conventions::Convention;
@@ -29,7 +29,7 @@ fn put_name(text: &mut [u8], at: usize, c: Convention) -> usize
 
 fn put_ellipsis(text: &mut [u8], at: usize, ellipsis: bool) -> usize
     requires { at < 2 ^ 31 }
-    ensures { Wrote text.old text.new at result (ellipsisText ellipsis) × (result ≤ at + 4) }
+    ensures { Wrote text.old text.new at result (ellipsis_text ellipsis) × (result ≤ at + 4) }
 {
     if ellipsis {
         return put_bytes(text, at, b" var");
@@ -47,7 +47,7 @@ fn put_head(
     area: usize,
 ) -> usize
     requires { at < 2 ^ 30 }
-    ensures { Wrote text.old text.new at result (headText c ellipsis args area) × (result ≤ at + 64) }
+    ensures { Wrote text.old text.new at result (head_text c ellipsis args area) × (result ≤ at + 64) }
 {
     let a = put_name(text, at, c);
     let b = put_labelled(text, a, b" args ", args);
@@ -58,7 +58,7 @@ fn put_head(
 
 fn put_result_places(text: &mut [u8], at: usize, r: ResultPlaces) -> usize
     requires { (at < 2 ^ 29) × ResultNumbered r }
-    ensures { Wrote text.old text.new at result (resultPlacesText r) × (result ≤ at + 2010) }
+    ensures { Wrote text.old text.new at result (result_places_text r) × (result ≤ at + 2010) }
 {
     match r {
         ResultPlaces::Nothing => put_bytes(text, at, b" none"),
@@ -73,7 +73,7 @@ fn put_result_places(text: &mut [u8], at: usize, r: ResultPlaces) -> usize
 // The last line.
 fn put_result(text: &mut [u8], at: usize, r: ResultPlaces) -> usize
     requires { (at < 2 ^ 28) × ResultNumbered r }
-    ensures { Wrote text.old text.new at result (resultText r) }
+    ensures { Wrote text.old text.new at result (result_text r) }
 {
     let a = put_bytes(text, at, b"result");
     let b = put_result_places(text, a, r);
@@ -81,7 +81,7 @@ fn put_result(text: &mut [u8], at: usize, r: ResultPlaces) -> usize
 }
 
 fn put_refusal(text: &mut [u8], fault: Fault) -> usize
-    ensures { Wrote text.old text.new 0 result (refusalText fault) }
+    ensures { Wrote text.old text.new 0 result (refusal_text fault) }
 {
     let reason = fault.reason;
     let number = sig_items::refusal_number(reason) as usize;
@@ -94,7 +94,7 @@ fn put_refusal(text: &mut [u8], fault: Fault) -> usize
 // The lines of an accepted plan.
 fn put_lines(text: &mut [u8], p: Plan) -> usize
     requires { Printable p }
-    ensures { Wrote text.old text.new 0 result (acceptedText p) }
+    ensures { Wrote text.old text.new 0 result (accepted_text p) }
 {
     let c = p.convention;
     let count = p.count;
@@ -111,7 +111,7 @@ fn put_lines(text: &mut [u8], p: Plan) -> usize
 
 fn put_plan(text: &mut [u8], p: Plan) -> usize
     requires { Printable p }
-    ensures { Wrote text.old text.new 0 result (planText p) }
+    ensures { Wrote text.old text.new 0 result (plan_text_of p) }
 {
     let outcome = p.outcome;
     match outcome {
@@ -123,7 +123,7 @@ fn put_plan(text: &mut [u8], p: Plan) -> usize
 // The printed plan of a signature's bytes, any bytes at all, at the head of `text`; its length is returned. Where `text` is
 // too short it is left as it was.
 pub fn listing(s: &[u8], text: &mut [u8]) -> usize
-    ensures { (result ≡ length (listingOf s.now)) × (text.new ≡ overlayWhole text.old (listingOf s.now)) }
+    ensures { (result ≡ length (listing_of s.now)) × (text.new ≡ overlay_whole text.old (listing_of s.now)) }
 {
     let p = plan_planning::plan_of(s);
     let mut unused = [0u8; 1];

@@ -1,10 +1,10 @@
 // The sizes of a signature's plan, without a table of its arguments: each is read, passed and let go.
 ghost use Rattle.std.specs.Prelude.{◌≡◌, false, ◌^◌, ◌≤◌, length};
-ghost use Rattle.sig_signatures.specs.Read.{argumentsIn, signature_of};
-ghost use Rattle.sig_signatures.specs.Answer.{signatureAnswer};
+ghost use Rattle.sig_signatures.specs.Read.{arguments_in, signature_of};
+ghost use Rattle.sig_signatures.specs.Answer.{signature_answer};
 ghost use Rattle.sig_signatures.specs.Helpers.{SmallResult};
-ghost use Rattle.plan_plans.specs.Plan.{refusedPlan, planAnswer, measureOf};
-ghost use Rattle.plan_plans.specs.Helpers.{planWith, unclearWith, measuredBy};
+ghost use Rattle.plan_plans.specs.Plan.{refused_plan, plan_answer, measure_of};
+ghost use Rattle.plan_plans.specs.Helpers.{plan_with, unclear_with, measured_by};
 ghost use Rattle.plan_plans.specs.Call.{call_of};
 
 use base_conventions::Convention;
@@ -23,7 +23,7 @@ fn measure_plain(
     earlier: usize,
 ) -> Measured
     requires { (at ≤ end) × (end ≤ length s.now) × (end ≤ 2 ^ 16) × (earlier ≤ 2 ^ 16) }
-    ensures { result ≡ measureOf (planWith convention false returned earlier (length s.now) (argumentsIn convention s.now at end)) }
+    ensures { result ≡ measure_of (plan_with convention false returned earlier (length s.now) (arguments_in convention s.now at end)) }
 {
     let rules = both_abi::call_rules_of(convention);
     let hidden = plan_planning::hidden_in(convention, returned);
@@ -83,7 +83,7 @@ struct Passed {
 }
 
 fn not_passed(fault: Fault) -> Passed
-    ensures { (result.measured ≡ measureOf (refusedPlan fault)) × (result.unclear ≡ 0) }
+    ensures { (result.measured ≡ measure_of (refused_plan fault)) × (result.unclear ≡ 0) }
 {
     Passed {
         measured: plan_planning::no_measure(fault),
@@ -101,7 +101,7 @@ fn measure_arguments(
     earlier: usize,
 ) -> Passed
     requires { (at ≤ end) × (end ≤ length s.now) × (end ≤ 2 ^ 16) × (earlier ≤ 2 ^ 16) }
-    ensures { (result.measured ≡ measureOf (planWith convention false returned earlier (length s.now) (argumentsIn convention s.now at end))) × (result.unclear ≡ unclearWith convention returned (length s.now) (argumentsIn convention s.now at end)) }
+    ensures { (result.measured ≡ measure_of (plan_with convention false returned earlier (length s.now) (arguments_in convention s.now at end))) × (result.unclear ≡ unclear_with convention returned (length s.now) (arguments_in convention s.now at end)) }
 {
     let rules = both_abi::call_rules_of(convention);
     let hidden = plan_planning::hidden_in(convention, returned);
@@ -160,7 +160,7 @@ fn measure_arguments(
 
 // The answer of a call that was passed, where an unclear argument refuses it.
 fn judged(s: &[u8], a: Passed) -> Measured
-    ensures { result ≡ measuredBy a.unclear a.measured (signature_of s.now) }
+    ensures { result ≡ measured_by a.unclear a.measured (signature_of s.now) }
 {
     let unclear = a.unclear;
     if unclear == 0 {
@@ -179,7 +179,7 @@ fn measure_call(
     earlier: usize,
 ) -> Measured
     requires { (at ≤ end) × (end ≤ length s.now) × (end ≤ 2 ^ 16) × (earlier ≤ 2 ^ 16) }
-    ensures { result ≡ measuredBy (unclearWith convention returned (length s.now) (argumentsIn convention s.now at end)) (measureOf (planWith convention false returned earlier (length s.now) (argumentsIn convention s.now at end))) (signature_of s.now) }
+    ensures { result ≡ measured_by (unclear_with convention returned (length s.now) (arguments_in convention s.now at end)) (measure_of (plan_with convention false returned earlier (length s.now) (arguments_in convention s.now at end))) (signature_of s.now) }
 {
     if plan_placing::always_clear(both_abi::call_rules_of(convention)) {
         return measure_plain(s, convention, returned, at, end, earlier);
@@ -190,7 +190,7 @@ fn measure_call(
 
 // The sizes of the plan of a signature's bytes: any bytes at all.
 pub fn measure(s: &[u8]) -> Measured
-    ensures { result ≡ measureOf (planAnswer (call_of s.now)) }
+    ensures { result ≡ measure_of (plan_answer (call_of s.now)) }
 {
     match sig_head::read_head(s) {
         HeadRead::Refused(fault) => plan_planning::no_measure(fault),
@@ -207,7 +207,7 @@ pub fn measure(s: &[u8]) -> Measured
 
 // The outcome of reading a signature's bytes: any bytes at all. No place refuses it.
 pub fn outcome_of(s: &[u8]) -> Outcome
-    ensures { result ≡ (signatureAnswer (signature_of s.now)).outcome }
+    ensures { result ≡ (signature_answer (signature_of s.now)).outcome }
 {
     match sig_head::read_head(s) {
         HeadRead::Refused(fault) => Outcome::Refused(fault),

@@ -2,7 +2,7 @@
 -- Assumes nothing.
 use Prim.Native.Nat.{ℕ, ◌+◌, ◌-◌, ◌≤◌, ◌<◌}
 use native.Mathlib.Omega.{arith}
-use Rattle.base_words.specs.Basics.{roundUp}
+use Rattle.base_words.specs.Basics.{round_up}
 use Rattle.base_words.proofs.Basics.{words-split}
 use Rattle.sig_types.specs.declared.ValueType.{ValueType}
 use Rattle.plan_places.specs.declared.Cursor.{Cursor}
@@ -10,10 +10,10 @@ use Rattle.plan_places.specs.declared.Span.{Span}
 use Rattle.plan_places.specs.declared.Share.{Share}
 use Rattle.plan_places.specs.declared.CallRules.{CallRules}
 use Rattle.plan_places.specs.declared.ZClass.{ZClass}
-use Rattle.plan_places.specs.Power.{words, covered, powerShare, powerSpan, powerNext}
+use Rattle.plan_places.specs.Power.{words, covered, power_share, power_span, power_next}
 use Rattle.plan_places.specs.Helpers.{Shared}
-use Rattle.plan_places.specs.ZSeries.{zClass, zSpanOf, zNextOf}
-use Rattle.plan_places.specs.Step.{span_of, nextOf}
+use Rattle.plan_places.specs.ZSeries.{z_class, z_span_of, z_next_of}
+use Rattle.plan_places.specs.Step.{span_of, next_of}
 use Rattle.plan_places.specs.Spots.{Spot, general, floating, area, copies, Owns}
 use Rattle.plan_places.proofs.Shares.{share-shared, fprs-most}
 
@@ -30,7 +30,7 @@ pub record Between (c : Cursor) (s : Span) (d : Cursor) : Type 0 where
   pub copy-from : c.copies ≤ s.copy.start
   pub copy-to : s.copy.start + s.copy.length ≤ d.copies
 
-power-between : (w : ℕ) (c : Cursor) (n : ℕ) (s : Share) → Shared s n (covered c n) → Between c (powerSpan w c n s) (powerNext w c n s)
+power-between : (w : ℕ) (c : Cursor) (n : ℕ) (s : Share) → Shared s n (covered c n) → Between c (power_span w c n s) (power_next w c n s)
 power-between w c n s h =
     let a = words-split w s.memory n h.memory in
     record {
@@ -46,17 +46,17 @@ power-between w c n s h =
       copy-to = omega arith;
     }
 
-z-between : (c : Cursor) (class : ZClass) (n : ℕ) → Between c (zSpanOf c class n) (zNextOf c class n)
-unfolding zSpanOf zNextOf roundUp
+z-between : (c : Cursor) (class : ZClass) (n : ℕ) → Between c (z_span_of c class n) (z_next_of c class n)
+unfolding z_span_of z_next_of round_up
 z-between c ZClass.Float n = omega arith
 z-between c ZClass.Simple n = omega arith
 z-between c ZClass.Reference n = omega arith
 
 -- at every cursor, for every type and size
-pub step-between : (r : CallRules) (c : Cursor) (t : ValueType) (n : ℕ) → Between c (span_of r c t n) (nextOf r c t n)
-unfolding span_of nextOf powerShare
-step-between (CallRules.Power f) c t n = power-between f.word c (words f.word n) (powerShare f c t n) (share-shared _ _ _ _ _ (fprs-most f.edition t))
-step-between CallRules.Z c t n = z-between c (zClass t n) n
+pub step-between : (r : CallRules) (c : Cursor) (t : ValueType) (n : ℕ) → Between c (span_of r c t n) (next_of r c t n)
+unfolding span_of next_of power_share
+step-between (CallRules.Power f) c t n = power-between f.word c (words f.word n) (power_share f c t n) (share-shared _ _ _ _ _ (fprs-most f.edition t))
+step-between CallRules.Z c t n = z-between c (z_class t n) n
 
 -- ---- what a span owns lies from its cursor on and before the next
 
@@ -104,7 +104,7 @@ from-earlier f (area n) a = omega (arith, f)
 from-earlier f (copies n) a = omega (arith, f)
 
 module _ (r : CallRules) (c : Cursor) (t : ValueType) (n : ℕ) where
-  pub step-forward : Forward c (nextOf r c t n)
+  pub step-forward : Forward c (next_of r c t n)
   step-forward = let b = step-between r c t n in record { general = omega arith; floating = omega arith; stack = omega arith; copies = omega arith }
 
   pub owns-from : (x : Spot) → Owns (span_of r c t n) x → From c x
@@ -113,7 +113,7 @@ module _ (r : CallRules) (c : Cursor) (t : ValueType) (n : ℕ) where
   owns-from (area k) o = let b = step-between r c t n in omega arith
   owns-from (copies k) o = let b = step-between r c t n in omega arith
 
-  pub owns-before : (x : Spot) → Owns (span_of r c t n) x → Before (nextOf r c t n) x
+  pub owns-before : (x : Spot) → Owns (span_of r c t n) x → Before (next_of r c t n) x
   owns-before (general k) o = let b = step-between r c t n in omega arith
   owns-before (floating k) o = let b = step-between r c t n in omega arith
   owns-before (area k) o = let b = step-between r c t n in omega arith

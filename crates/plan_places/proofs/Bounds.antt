@@ -4,30 +4,30 @@ use mathlib.Core.Bool.{Bool, true, false}
 use Prim.Native.Nat.{ℕ, zero, suc, ◌+◌, ◌-◌, ◌*◌, ◌/◌, ◌%◌, ◌≤◌, ◌<◌}
 use native.Mathlib.Omega.{arith}
 use native.Mathlib.Nat.{div-mul-le_self, mul_comm}
-use Rattle.base_words.specs.Basics.{roundUp}
+use Rattle.base_words.specs.Basics.{round_up}
 use Rattle.base_conventions.specs.declared.Convention.{Convention}
-use Rattle.base_conventions.specs.Numbers.{word_bytes, leastArea}
+use Rattle.base_conventions.specs.Numbers.{word_bytes, least_area}
 use Rattle.sig_types.specs.declared.ValueType.{ValueType}
 use Rattle.plan_places.specs.declared.Cursor.{Cursor}
 use Rattle.plan_places.specs.declared.CallRules.{CallRules}
 use Rattle.plan_places.specs.declared.ZClass.{ZClass}
 use Rattle.plan_places.specs.Values.{pointer}
-use Rattle.plan_places.specs.Power.{words, fprs, covered, powerShare, unclear}
-use Rattle.plan_places.specs.ZSeries.{zClass, zNextOf}
-use Rattle.plan_places.specs.Step.{rulesOf, wordOf, nextOf, unclearFor, freshCursor, start_of, areaOf, returning}
-use Rattle.plan_places.specs.Helpers.{LawfulCalls, Roomy, unclearAfter}
+use Rattle.plan_places.specs.Power.{words, fprs, covered, power_share, unclear}
+use Rattle.plan_places.specs.ZSeries.{z_class, z_next_of}
+use Rattle.plan_places.specs.Step.{rules_of, word_of, next_of, unclear_for, fresh_cursor, start_of, area_of, returning}
+use Rattle.plan_places.specs.Helpers.{LawfulCalls, Roomy, unclear_after}
 use Rattle.plan_places.proofs.Shares.{share-room}
 
 -- ---- the conventions
 
-pub rules-lawful : (c : Convention) → LawfulCalls (rulesOf c)
+pub rules-lawful : (c : Convention) → LawfulCalls (rules_of c)
 rules-lawful Convention.Ppc64 = omega arith
 rules-lawful Convention.Z = tt
 rules-lawful Convention.Aix = omega arith
 rules-lawful Convention.Ppc64b = omega arith
 
 -- a pointer is a word
-pub rules-word : (c : Convention) → wordOf (rulesOf c) ≡ word_bytes c
+pub rules-word : (c : Convention) → word_of (rules_of c) ≡ word_bytes c
 rules-word Convention.Ppc64 = refl
 rules-word Convention.Z = refl
 rules-word Convention.Aix = refl
@@ -38,11 +38,11 @@ unfolding returning
 returning-lawful (CallRules.Power f) h = h
 returning-lawful CallRules.Z h = tt
 
-pub word_some : (r : CallRules) → LawfulCalls r → 0 < wordOf r
+pub word_some : (r : CallRules) → LawfulCalls r → 0 < word_of r
 word_some (CallRules.Power f) h = omega arith
 word_some CallRules.Z h = omega arith
 
-pub word-most : (r : CallRules) → LawfulCalls r → wordOf r ≤ 8
+pub word-most : (r : CallRules) → LawfulCalls r → word_of r ≤ 8
 word-most (CallRules.Power f) h = omega arith
 word-most CallRules.Z h = omega arith
 
@@ -53,27 +53,27 @@ abbrev pub Named : CallRules → Cursor → Type 0
 Named (CallRules.Power f) c = (3 ≤ c.general) × (c.general ≤ 11) × (1 ≤ c.floating) × (c.floating ≤ 14)
 Named CallRules.Z c = (2 ≤ c.general) × (c.general ≤ 7) × (c.floating ≤ 8) × (c.floating % 2 ≡ 0)
 
-pub named-fresh : (r : CallRules) → Named r (freshCursor r)
-unfolding freshCursor
+pub named-fresh : (r : CallRules) → Named r (fresh_cursor r)
+unfolding fresh_cursor
 named-fresh (CallRules.Power f) = omega arith
 named-fresh CallRules.Z = omega arith
 
-z-named : (c : Cursor) (class : ZClass) (n : ℕ) → Named CallRules.Z c → Named CallRules.Z (zNextOf c class n)
-unfolding zNextOf
+z-named : (c : Cursor) (class : ZClass) (n : ℕ) → Named CallRules.Z c → Named CallRules.Z (z_next_of c class n)
+unfolding z_next_of
 z-named c ZClass.Float n h = omega arith
 z-named c ZClass.Simple n h = omega arith
 z-named c ZClass.Reference n h = omega arith
 
-pub named-next : (r : CallRules) (c : Cursor) (t : ValueType) (n : ℕ) → Named r c → Named r (nextOf r c t n)
-unfolding nextOf powerShare
+pub named-next : (r : CallRules) (c : Cursor) (t : ValueType) (n : ℕ) → Named r c → Named r (next_of r c t n)
+unfolding next_of power_share
 named-next (CallRules.Power f) c t n h =
-    let room : (powerShare f c t n).floating ≤ 14 - c.floating = share-room f.ellipsis (fprs f.edition t) (14 - c.floating) (words f.word n) (covered c (words f.word n)) in
+    let room : (power_share f c t n).floating ≤ 14 - c.floating = share-room f.ellipsis (fprs f.edition t) (14 - c.floating) (words f.word n) (covered c (words f.word n)) in
     omega arith
-named-next CallRules.Z c t n h = z-named c (zClass t n) n h
+named-next CallRules.Z c t n h = z-named c (z_class t n) n h
 
 pub named_start : (r : CallRules) (hidden : Bool) → Named r (start_of r hidden)
 unfolding start_of
-named_start r true = named-next r (freshCursor r) pointer (wordOf r) (named-fresh r)
+named_start r true = named-next r (fresh_cursor r) pointer (word_of r) (named-fresh r)
 named_start r false = named-fresh r
 
 -- ---- the bytes
@@ -87,62 +87,62 @@ pub record Near (c d : Cursor) : Type 0 where
   pub stack : d.stack ≤ c.stack + 264
   pub copies : d.copies ≤ c.copies + 264
 
-z-near : (c : Cursor) (class : ZClass) (n : ℕ) → n ≤ 256 → Near c (zNextOf c class n)
-unfolding zNextOf roundUp
+z-near : (c : Cursor) (class : ZClass) (n : ℕ) → n ≤ 256 → Near c (z_next_of c class n)
+unfolding z_next_of round_up
 z-near c ZClass.Float n h = omega arith
 z-near c ZClass.Simple n h = omega arith
 z-near c ZClass.Reference n h = omega arith
 
-pub near_next : (r : CallRules) (c : Cursor) (t : ValueType) (n : ℕ) → LawfulCalls r → n ≤ 256 → Near c (nextOf r c t n)
-unfolding nextOf
+pub near_next : (r : CallRules) (c : Cursor) (t : ValueType) (n : ℕ) → LawfulCalls r → n ≤ 256 → Near c (next_of r c t n)
+unfolding next_of
 near_next (CallRules.Power f) c t n l h = let b = word_bound f.word n l.0 l.1 h in record { stack = omega arith; copies = omega arith }
-near_next CallRules.Z c t n l h = z-near c (zClass t n) n h
+near_next CallRules.Z c t n l h = z-near c (z_class t n) n h
 
 -- the bytes of the first cursor: none
-fresh-bytes : (r : CallRules) → ((freshCursor r).stack ≡ 0) × ((freshCursor r).copies ≡ 0)
-unfolding freshCursor
+fresh-bytes : (r : CallRules) → ((fresh_cursor r).stack ≡ 0) × ((fresh_cursor r).copies ≡ 0)
+unfolding fresh_cursor
 fresh-bytes (CallRules.Power f) = (refl, refl)
 fresh-bytes CallRules.Z = (refl, refl)
 
 pub start-bytes : (r : CallRules) (hidden : Bool) → LawfulCalls r → ((start_of r hidden).stack ≤ 264) × ((start_of r hidden).copies ≤ 264)
 unfolding start_of
-start-bytes r true l = let b = near_next r (freshCursor r) pointer (wordOf r) l (omega (arith, word-most r l)) in omega (arith, fresh-bytes r)
+start-bytes r true l = let b = near_next r (fresh_cursor r) pointer (word_of r) l (omega (arith, word-most r l)) in omega (arith, fresh-bytes r)
 start-bytes r false l = omega (arith, fresh-bytes r)
 
 pub named-roomy : (r : CallRules) (c : Cursor) → Named r c → c.stack ≤ 60000 → c.copies ≤ 60000 → Roomy c
 named-roomy (CallRules.Power f) c h s k = omega arith
 named-roomy CallRules.Z c h s k = omega arith
 
-pub fresh-roomy : (r : CallRules) → Roomy (freshCursor r)
-fresh-roomy r = named-roomy r (freshCursor r) (named-fresh r) (omega (arith, fresh-bytes r)) (omega (arith, fresh-bytes r))
+pub fresh-roomy : (r : CallRules) → Roomy (fresh_cursor r)
+fresh-roomy r = named-roomy r (fresh_cursor r) (named-fresh r) (omega (arith, fresh-bytes r)) (omega (arith, fresh-bytes r))
 
 -- "The area is 8 times the larger of 8 and the final w": never less than the least area
-pub least-area : (c : Convention) (e : Cursor) → leastArea c ≤ areaOf c e
-unfolding areaOf
+pub least-area : (c : Convention) (e : Cursor) → least_area c ≤ area_of c e
+unfolding area_of
 least-area c e = omega arith
 
 -- all bytes before the last cursor lie in the area
-pub area-holds : (c : Convention) (e : Cursor) → e.stack ≤ areaOf c e
-unfolding areaOf
+pub area-holds : (c : Convention) (e : Cursor) → e.stack ≤ area_of c e
+unfolding area_of
 area-holds c e = omega arith
 
 -- ---- the first unclear argument
 
 -- 29 looks at the FPRs alone: at neither the offset nor the copies
-pub unclear-floating : (r : CallRules) (k d : Cursor) (t : ValueType) → k.floating ≡ d.floating → unclearFor r k t ≡ unclearFor r d t
-unfolding unclearFor unclear
+pub unclear-floating : (r : CallRules) (k d : Cursor) (t : ValueType) → k.floating ≡ d.floating → unclear_for r k t ≡ unclear_for r d t
+unfolding unclear_for unclear
 unclear-floating (CallRules.Power f) k d t e = rw e
 unclear-floating CallRules.Z k d t e = refl
 
-pub unclear-kept : (u : ℕ) (b : Bool) (i : ℕ) → 0 < u → u ≡ unclearAfter u b i
-unfolding unclearAfter
+pub unclear-kept : (u : ℕ) (b : Bool) (i : ℕ) → 0 < u → u ≡ unclear_after u b i
+unfolding unclear_after
 unclear-kept zero b i h = absurd (omega arith)
 unclear-kept (suc u) b i h = refl
 
-pub unclear-found : (u : ℕ) (b : Bool) (i : ℕ) → u ≡ 0 → b ≡ true → i + 1 ≡ unclearAfter u b i
-unfolding unclearAfter
+pub unclear-found : (u : ℕ) (b : Bool) (i : ℕ) → u ≡ 0 → b ≡ true → i + 1 ≡ unclear_after u b i
+unfolding unclear_after
 unclear-found u b i e q = rw (e, q) (omega arith)
 
-pub unclear-none : (u : ℕ) (b : Bool) (i : ℕ) → u ≡ 0 → b ≡ false → 0 ≡ unclearAfter u b i
-unfolding unclearAfter
+pub unclear-none : (u : ℕ) (b : Bool) (i : ℕ) → u ≡ 0 → b ≡ false → 0 ≡ unclear_after u b i
+unfolding unclear_after
 unclear-none u b i e q = rw (e, q)

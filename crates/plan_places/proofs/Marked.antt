@@ -8,28 +8,28 @@ use Rattle.plan_places.specs.declared.Cursor.{Cursor}
 use Rattle.plan_places.specs.declared.PowerRules.{PowerRules}
 use Rattle.plan_places.specs.declared.CallRules.{CallRules}
 use Rattle.plan_places.specs.Values.{pointer}
-use Rattle.plan_places.specs.Power.{words, fprs, covered, share_of, powerShare, powerNext, unclear}
-use Rattle.plan_places.specs.Step.{rulesOf, withEllipsis, wordOf, span_of, nextOf, unclearFor, freshCursor, start_of, hiddenFor, returning, result_of}
-use Rattle.plan_places.specs.Helpers.{LawfulCalls, alwaysClear}
+use Rattle.plan_places.specs.Power.{words, fprs, covered, share_of, power_share, power_next, unclear}
+use Rattle.plan_places.specs.Step.{rules_of, with_ellipsis, word_of, span_of, next_of, unclear_for, fresh_cursor, start_of, hidden_for, returning, result_of}
+use Rattle.plan_places.specs.Helpers.{LawfulCalls, always_clear}
 use Rattle.plan_places.specs.Spots.{Spot, general, floating, area, copies, ArgumentRegister}
 use Rattle.plan_places.proofs.Shares.{share-marked}
 use Rattle.plan_places.proofs.Bounds.{Named}
 
 -- ---- the rules
 
-pub lawful-marked : (v : Bool) (r : CallRules) → LawfulCalls r → LawfulCalls (withEllipsis v r)
-unfolding withEllipsis
+pub lawful-marked : (v : Bool) (r : CallRules) → LawfulCalls r → LawfulCalls (with_ellipsis v r)
+unfolding with_ellipsis
 lawful-marked v (CallRules.Power f) h = h
 lawful-marked v CallRules.Z h = tt
 
-pub word-marked : (v : Bool) (r : CallRules) → wordOf (withEllipsis v r) ≡ wordOf r
-unfolding withEllipsis
+pub word-marked : (v : Bool) (r : CallRules) → word_of (with_ellipsis v r) ≡ word_of r
+unfolding with_ellipsis
 word-marked v (CallRules.Power f) = refl
 word-marked v CallRules.Z = refl
 
 -- a convention's own rules are those without one
-pub rules-plain : (c : Convention) → withEllipsis false (rulesOf c) ≡ rulesOf c
-unfolding withEllipsis
+pub rules-plain : (c : Convention) → with_ellipsis false (rules_of c) ≡ rules_of c
+unfolding with_ellipsis
 rules-plain Convention.Ppc64 = refl
 rules-plain Convention.Z = refl
 rules-plain Convention.Aix = refl
@@ -39,36 +39,36 @@ rules-plain Convention.Ppc64b = refl
 
 -- so that it can be found without looking for one
 pub next-plain : (f : PowerRules) (c : Cursor) (t : ValueType) (n : ℕ)
-    → powerNext f.word c (words f.word n) (powerShare (record { word = f.word; edition = f.edition; ellipsis = false }) c t n) ≡ nextOf (CallRules.Power f) c t n
-unfolding nextOf powerShare
+    → power_next f.word c (words f.word n) (power_share (record { word = f.word; edition = f.edition; ellipsis = false }) c t n) ≡ next_of (CallRules.Power f) c t n
+unfolding next_of power_share
 next-plain f c t n =
     let len : ℕ = words f.word n in
     rw (share-marked f.ellipsis (fprs f.edition t) (14 - c.floating) len (covered c len))
 
-pub next-marked : (v : Bool) (r : CallRules) (c : Cursor) (t : ValueType) (n : ℕ) → nextOf (withEllipsis v r) c t n ≡ nextOf r c t n
-unfolding withEllipsis
+pub next-marked : (v : Bool) (r : CallRules) (c : Cursor) (t : ValueType) (n : ℕ) → next_of (with_ellipsis v r) c t n ≡ next_of r c t n
+unfolding with_ellipsis
 next-marked v (CallRules.Power f) c t n = sym (next-plain (record { word = f.word; edition = f.edition; ellipsis = v }) c t n) ∙ next-plain f c t n
 next-marked v CallRules.Z c t n = refl
 
-pub fresh-marked : (v : Bool) (r : CallRules) → freshCursor (withEllipsis v r) ≡ freshCursor r
-unfolding withEllipsis freshCursor
+pub fresh-marked : (v : Bool) (r : CallRules) → fresh_cursor (with_ellipsis v r) ≡ fresh_cursor r
+unfolding with_ellipsis fresh_cursor
 fresh-marked v (CallRules.Power f) = refl
 fresh-marked v CallRules.Z = refl
 
-pub start-marked : (v : Bool) (r : CallRules) (hidden : Bool) → start_of (withEllipsis v r) hidden ≡ start_of r hidden
+pub start-marked : (v : Bool) (r : CallRules) (hidden : Bool) → start_of (with_ellipsis v r) hidden ≡ start_of r hidden
 unfolding start_of
-start-marked v r true = rw (word-marked v r, fresh-marked v r) (next-marked v r (freshCursor r) pointer (wordOf r))
+start-marked v r true = rw (word-marked v r, fresh-marked v r) (next-marked v r (fresh_cursor r) pointer (word_of r))
 start-marked v r false = fresh-marked v r
 
 -- ---- the registers are those of any argument
 
-pub named-marked : (v : Bool) (r : CallRules) (c : Cursor) → Named r c → Named (withEllipsis v r) c
-unfolding withEllipsis
+pub named-marked : (v : Bool) (r : CallRules) (c : Cursor) → Named r c → Named (with_ellipsis v r) c
+unfolding with_ellipsis
 named-marked v (CallRules.Power f) c h = h
 named-marked v CallRules.Z c h = h
 
-pub register-marked : (v : Bool) (r : CallRules) (x : Spot) → ArgumentRegister (withEllipsis v r) x → ArgumentRegister r x
-unfolding withEllipsis
+pub register-marked : (v : Bool) (r : CallRules) (x : Spot) → ArgumentRegister (with_ellipsis v r) x → ArgumentRegister r x
+unfolding with_ellipsis
 register-marked v (CallRules.Power f) (general n) h = h
 register-marked v (CallRules.Power f) (floating n) h = h
 register-marked v (CallRules.Power f) (area n) h = tt
@@ -77,28 +77,28 @@ register-marked v CallRules.Z x h = h
 
 -- ---- 29
 
-pub unclear-marked : (v : Bool) (r : CallRules) (c : Cursor) (t : ValueType) → unclearFor (withEllipsis v r) c t ≡ unclearFor r c t
-unfolding withEllipsis unclearFor unclear
+pub unclear-marked : (v : Bool) (r : CallRules) (c : Cursor) (t : ValueType) → unclear_for (with_ellipsis v r) c t ≡ unclear_for r c t
+unfolding with_ellipsis unclear_for unclear
 unclear-marked v (CallRules.Power f) c t = refl
 unclear-marked v CallRules.Z c t = refl
 
-pub always-marked : (v : Bool) (r : CallRules) → alwaysClear (withEllipsis v r) ≡ alwaysClear r
-unfolding withEllipsis alwaysClear
+pub always-marked : (v : Bool) (r : CallRules) → always_clear (with_ellipsis v r) ≡ always_clear r
+unfolding with_ellipsis always_clear
 always-marked v (CallRules.Power f) = refl
 always-marked v CallRules.Z = refl
 
 -- ---- the result
 
-pub hidden-marked : (v : Bool) (r : CallRules) (t : ValueType) → hiddenFor (withEllipsis v r) t ≡ hiddenFor r t
-unfolding withEllipsis hiddenFor
+pub hidden-marked : (v : Bool) (r : CallRules) (t : ValueType) → hidden_for (with_ellipsis v r) t ≡ hidden_for r t
+unfolding with_ellipsis hidden_for
 hidden-marked v (CallRules.Power f) (ValueType.Integer k) = refl
 hidden-marked v (CallRules.Power f) (ValueType.Float x) = refl
 hidden-marked v (CallRules.Power f) (ValueType.Struct s) = refl
 hidden-marked v CallRules.Z t = refl
 
 -- a float result is in its FPRs alone
-pub result-marked : (v : Bool) (r : CallRules) (t : ValueType) (n : ℕ) → result_of (withEllipsis v r) t n ≡ result_of r t n
-unfolding withEllipsis result_of hiddenFor returning span_of freshCursor powerShare share_of fprs
+pub result-marked : (v : Bool) (r : CallRules) (t : ValueType) (n : ℕ) → result_of (with_ellipsis v r) t n ≡ result_of r t n
+unfolding with_ellipsis result_of hidden_for returning span_of fresh_cursor power_share share_of fprs
 result-marked v (CallRules.Power f) (ValueType.Integer k) n = refl
 result-marked v (CallRules.Power f) (ValueType.Float x) n = refl
 result-marked v (CallRules.Power f) (ValueType.Struct s) n = refl

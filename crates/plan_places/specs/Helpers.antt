@@ -18,24 +18,24 @@ LawfulCalls CallRules.Z = Unit {0}
 abbrev pub Roomy : Cursor → Type 0
 Roomy c = (c.general ≤ 11) × (c.floating ≤ 14) × (c.stack ≤ 60000) × (c.copies ≤ 60000)
 
-abbrev pub isEarlier : Edition → Bool
-isEarlier Edition.Earlier = true
-isEarlier Edition.Later = false
+abbrev pub is_earlier : Edition → Bool
+is_earlier Edition.Earlier = true
+is_earlier Edition.Later = false
 
 -- the rules by which no argument's place is open (29): all but the later edition's
-unfoldable pub alwaysClear : CallRules → Bool
-alwaysClear (CallRules.Power f) = isEarlier f.edition
-alwaysClear CallRules.Z = true
+unfoldable pub always_clear : CallRules → Bool
+always_clear (CallRules.Power f) = is_earlier f.edition
+always_clear CallRules.Z = true
 
 -- The number of the first unclear argument, counted from 1, or 0 where none is: u of the first i, and after one more.
-unfoldable pub unclearAfter : ℕ → Bool → ℕ → ℕ
-unclearAfter zero true i = suc i
-unclearAfter zero false i = 0
-unclearAfter (suc u) b i = suc u
+unfoldable pub unclear_after : ℕ → Bool → ℕ → ℕ
+unclear_after zero true i = suc i
+unclear_after zero false i = 0
+unclear_after (suc u) b i = suc u
 
 -- how many registers a span names
-abbrev pub registerCount : Span → ℕ
-registerCount s = s.floating.count + s.general.count
+abbrev pub register_count : Span → ℕ
+register_count s = s.floating.count + s.general.count
 
 -- register numbers of a result that fit their type
 abbrev pub ResultNumbered : ResultPlaces → Type 0

@@ -11,26 +11,26 @@ unfoldable pub up_from : ℕ → ℕ → ℕ → List ℕ
 up_from first by zero = []
 up_from first by (suc n) = first ∷ up_from (first + by) by n
 
-abbrev pub registerPlace : Bank → ℕ → Place
-registerPlace b n = Place.Register b n
+abbrev pub register_place : Bank → ℕ → Place
+register_place b n = Place.Register b n
 
-abbrev pub rangePlaces : Bank → RegisterRange → List Place
-rangePlaces b r = map (registerPlace b) (up_from r.first 1 r.count)
+abbrev pub range_places : Bank → RegisterRange → List Place
+range_places b r = map (register_place b) (up_from r.first 1 r.count)
 
 -- the registers: floating ones before general ones
-unfoldable pub registersOf : Span → List Place
-registersOf s = rangePlaces Bank.Floating s.floating ++ rangePlaces Bank.General s.general
+unfoldable pub registers_of : Span → List Place
+registers_of s = range_places Bank.Floating s.floating ++ range_places Bank.General s.general
 
 -- register numbers that fit their type
 abbrev pub Numbered : Span → Type 0
 Numbered s = (s.floating.first + s.floating.count ≤ 32) × (s.general.first + s.general.count ≤ 32)
 
 -- the words of w bytes in memory
-unfoldable pub memoryOf : ℕ → Span → List Place
-memoryOf w s = map Place.Memory (up_from s.memory.start w (s.memory.length / w))
+unfoldable pub memory_of : ℕ → Span → List Place
+memory_of w s = map Place.Memory (up_from s.memory.start w (s.memory.length / w))
 
 unfoldable pub places_of : ℕ → Span → List Place
-places_of w s = registersOf s ++ memoryOf w s
+places_of w s = registers_of s ++ memory_of w s
 
-abbrev pub noPlace : Place
-noPlace = Place.Memory 0
+abbrev pub no_place : Place
+no_place = Place.Memory 0

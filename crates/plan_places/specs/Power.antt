@@ -42,19 +42,19 @@ share_of false (suc m) room n k = pick (leb (suc m) room) (share 0 (suc m) 0) (s
 share_of true (suc m) room n k = share k (pick (leb (suc m) room) (suc m) 0) (n - k)
 
 -- FPRs are left up to f13
-abbrev pub fprsLeft : Cursor → ℕ
-fprsLeft c = 14 - c.floating
+abbrev pub fprs_left : Cursor → ℕ
+fprs_left c = 14 - c.floating
 
-unfoldable pub powerShare : PowerRules → Cursor → ValueType → ℕ → Share
-powerShare f c t n = share_of f.ellipsis (fprs f.edition t) (fprsLeft c) (words f.word n) (covered c (words f.word n))
+unfoldable pub power_share : PowerRules → Cursor → ValueType → ℕ → Share
+power_share f c t n = share_of f.ellipsis (fprs f.edition t) (fprs_left c) (words f.word n) (covered c (words f.word n))
 
 -- 29, 02, No. 12: "When only f13 is left the editions we hold aren't clear": some FPRs are left, but fewer than the type asks for
 unfoldable pub unclear : PowerRules → Cursor → ValueType → Bool
-unclear f c t = pick (ltb 0 (fprsLeft c)) (ltb (fprsLeft c) (fprs f.edition t)) false
+unclear f c t = pick (ltb 0 (fprs_left c)) (ltb (fprs_left c) (fprs f.edition t)) false
 
 -- "Offset in the area is 8w": the argument's home; the words in memory are its last ones
-abbrev pub powerSpan : ℕ → Cursor → ℕ → Share → Span
-powerSpan w c n s = record {
+abbrev pub power_span : ℕ → Cursor → ℕ → Share → Span
+power_span w c n s = record {
   general = registers c.general s.general;
   floating = registers c.floating s.floating;
   home = bytes c.stack (w * n);
@@ -64,5 +64,5 @@ powerSpan w c n s = record {
 }
 
 -- every argument uses up its words and the GPRs that go with them, a float too
-abbrev pub powerNext : ℕ → Cursor → ℕ → Share → Cursor
-powerNext w c n s = cursor (c.general + covered c n) (c.floating + s.floating) (c.stack + w * n) c.copies
+abbrev pub power_next : ℕ → Cursor → ℕ → Share → Cursor
+power_next w c n s = cursor (c.general + covered c n) (c.floating + s.floating) (c.stack + w * n) c.copies

@@ -27,19 +27,19 @@ Owns s (area n) = InBytes s.home n
 Owns s (copies n) = InBytes s.copy n
 
 -- "The image holds GPR n at 8n, FPR n at 256 + 8n": its bytes, and where the FPRs start
-abbrev pub imageBytes : ℕ
-imageBytes = 512
+abbrev pub image_bytes : ℕ
+image_bytes = 512
 
-abbrev pub fprsAt : ℕ
-fprsAt = 256
+abbrev pub fprs_at : ℕ
+fprs_at = 256
 
-abbrev spotAt : Bool → ℕ → Spot
-spotAt true b = general (b / 8)
-spotAt false b = floating ((b - fprsAt) / 8)
+abbrev spot_at : Bool → ℕ → Spot
+spot_at true b = general (b / 8)
+spot_at false b = floating ((b - fprs_at) / 8)
 
 -- the register that byte b of the image is of
-abbrev pub imageSpot : ℕ → Spot
-imageSpot b = spotAt (ltb b fprsAt) b
+abbrev pub image_spot : ℕ → Spot
+image_spot b = spot_at (ltb b fprs_at) b
 
 -- the registers that arguments may have: r3 to r10 and f1 to f13; Z: "r2 to r6" and "f0, f2, f4, f6"
 abbrev pub ArgumentRegister : CallRules → Spot → Type 0

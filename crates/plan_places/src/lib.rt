@@ -1,10 +1,10 @@
 // Where a calling convention puts arguments and results: the types of cursors, spans and places. The code of the steps is in the crates above.
 // A convention is a value, `CallRules`; its type, with its constants and its starting cursor, is in `both_abi`.
 ghost use Rattle.std.specs.Prelude.{◌≡◌, ◌<◌, get_or};
-ghost use Rattle.plan_places.specs.Step.{withEllipsis, wordOf};
+ghost use Rattle.plan_places.specs.Step.{with_ellipsis, word_of};
 ghost use Rattle.plan_places.specs.Values.{registers, bytes};
-ghost use Rattle.plan_places.specs.Places.{registersOf, Numbered, noPlace};
-ghost use Rattle.plan_places.specs.Helpers.{registerCount};
+ghost use Rattle.plan_places.specs.Places.{registers_of, Numbered, no_place};
+ghost use Rattle.plan_places.specs.Helpers.{register_count};
 
 use base_conventions::Convention;
 
@@ -124,7 +124,7 @@ impl PowerRules {
 
 // The bytes of a word of the argument list, and of a pointer.
 pub fn word_of(r: CallRules) -> usize
-    ensures { result ≡ wordOf r }
+    ensures { result ≡ word_of r }
 {
     match r {
         CallRules::Power(f) => f.word,
@@ -134,7 +134,7 @@ pub fn word_of(r: CallRules) -> usize
 
 // The rules of a call with an ellipsis, or of one without.
 pub fn with_ellipsis(r: CallRules, ellipsis: bool) -> CallRules
-    ensures { result ≡ withEllipsis ellipsis r }
+    ensures { result ≡ with_ellipsis ellipsis r }
 {
     match r {
         CallRules::Power(f) => {
@@ -171,8 +171,8 @@ pub fn byte_range(start: usize, length: usize) -> ByteRange
 
 // A span's register number i, in the order of a listing: floating registers before general ones.
 pub fn register_of(s: Span, i: usize) -> Place
-    requires { (i < registerCount s) × Numbered s }
-    ensures { result ≡ get_or (registersOf s) i noPlace }
+    requires { (i < register_count s) × Numbered s }
+    ensures { result ≡ get_or (registers_of s) i no_place }
 {
     let floating = s.floating;
     let general = s.general;

@@ -1,9 +1,9 @@
 // The places of arguments and of a result in every convention: the step of its cursor, where the first argument starts, and the size of the area.
 ghost use Rattle.std.specs.Prelude.{◌≡◌, true, ◌^◌, ◌≤◌, ◌<◌};
 ghost use Rattle.plan_places.specs.Values.{pointer};
-ghost use Rattle.plan_places.specs.Step.{rulesOf, wordOf, nextOf, unclearFor, placed, freshCursor, start_of, areaOf, returning, hiddenFor, result_of};
-ghost use Rattle.plan_places.specs.Helpers.{LawfulCalls, Roomy, isEarlier, alwaysClear, unclearAfter};
-ghost use Rattle.sig_types.specs.Sizes.{maxSize};
+ghost use Rattle.plan_places.specs.Step.{rules_of, word_of, next_of, unclear_for, placed, fresh_cursor, start_of, area_of, returning, hidden_for, result_of};
+ghost use Rattle.plan_places.specs.Helpers.{LawfulCalls, Roomy, is_earlier, always_clear, unclear_after};
+ghost use Rattle.sig_types.specs.Sizes.{max_size};
 
 use base_conventions::Convention;
 use plan_places::{CallRules, Cursor, Edition, Placed, PowerRules, ResultPlaces};
@@ -11,7 +11,7 @@ use sig_types::{FloatFormat, IntegerKind, ValueType};
 
 // One argument of a type and its size: what belongs to it, and where the next one starts.
 pub fn step(r: CallRules, c: Cursor, t: ValueType, size: usize) -> Placed
-    requires { LawfulCalls r × Roomy c × (size ≤ maxSize) }
+    requires { LawfulCalls r × Roomy c × (size ≤ max_size) }
     ensures { result ≡ placed r c t size }
 {
     match r {
@@ -22,8 +22,8 @@ pub fn step(r: CallRules, c: Cursor, t: ValueType, size: usize) -> Placed
 
 // The next cursor of the step, without the span.
 pub fn advance(r: CallRules, c: Cursor, t: ValueType, size: usize) -> Cursor
-    requires { LawfulCalls r × Roomy c × (size ≤ maxSize) }
-    ensures { result ≡ nextOf r c t size }
+    requires { LawfulCalls r × Roomy c × (size ≤ max_size) }
+    ensures { result ≡ next_of r c t size }
 {
     match r {
         CallRules::Power(f) => plan_power_step::advance(f, c, t, size),
@@ -34,7 +34,7 @@ pub fn advance(r: CallRules, c: Cursor, t: ValueType, size: usize) -> Cursor
 // Whether the papers leave open where an argument of this type goes (29).
 pub fn unclear_for(r: CallRules, c: Cursor, t: ValueType) -> bool
     requires { Roomy c }
-    ensures { result ≡ unclearFor r c t }
+    ensures { result ≡ unclear_for r c t }
 {
     match r {
         CallRules::Power(f) => plan_power_step::is_unclear(f, c, t),
@@ -43,7 +43,7 @@ pub fn unclear_for(r: CallRules, c: Cursor, t: ValueType) -> bool
 }
 
 fn is_earlier(e: Edition) -> bool
-    ensures { result ≡ isEarlier e }
+    ensures { result ≡ is_earlier e }
 {
     match e {
         Edition::Earlier => true,
@@ -53,7 +53,7 @@ fn is_earlier(e: Edition) -> bool
 
 // Whether the rules are clear wherever an argument stands.
 pub fn always_clear(r: CallRules) -> bool
-    ensures { result ≡ alwaysClear r }
+    ensures { result ≡ always_clear r }
 {
     match r {
         CallRules::Power(f) => {
@@ -67,7 +67,7 @@ pub fn always_clear(r: CallRules) -> bool
 // The same as below.
 fn unclear_in(unclear: usize, r: CallRules, c: Cursor, t: ValueType, count: usize) -> usize
     requires { Roomy c × (count < 2 ^ 16) }
-    ensures { result ≡ unclearAfter unclear (unclearFor r c t) count }
+    ensures { result ≡ unclear_after unclear (unclear_for r c t) count }
 {
     if unclear != 0 {
         return unclear;
@@ -82,7 +82,7 @@ fn unclear_in(unclear: usize, r: CallRules, c: Cursor, t: ValueType, count: usiz
 // The test that all conventions but one end with comes first, and alone, so that it is compiled in line.
 pub fn unclear_after(unclear: usize, r: CallRules, c: Cursor, t: ValueType, count: usize) -> usize
     requires { Roomy c × (count < 2 ^ 16) }
-    ensures { result ≡ unclearAfter unclear (unclearFor r c t) count }
+    ensures { result ≡ unclear_after unclear (unclear_for r c t) count }
 {
     if always_clear(r) {
         return unclear;
@@ -92,7 +92,7 @@ pub fn unclear_after(unclear: usize, r: CallRules, c: Cursor, t: ValueType, coun
 
 // The hidden address of a result, placed as a first argument.
 fn hidden_step(c: Convention) -> Placed
-    ensures { result ≡ placed (rulesOf c) (freshCursor (rulesOf c)) pointer (wordOf (rulesOf c)) }
+    ensures { result ≡ placed (rules_of c) (fresh_cursor (rules_of c)) pointer (word_of (rules_of c)) }
 {
     let r = both_abi::call_rules_of(c);
     let k = both_abi::cursor_of(c);
@@ -103,7 +103,7 @@ fn hidden_step(c: Convention) -> Placed
 // The cursor after a hidden address, by the numbers: it takes the first general register and, on PowerPC, that register's word. The step is left to the
 // arguments: called in one place alone, it is compiled in line there.
 fn past_address(c: Convention) -> Cursor
-    ensures { result ≡ start_of (rulesOf c) true }
+    ensures { result ≡ start_of (rules_of c) true }
 {
     let k = both_abi::cursor_of(c);
     match both_abi::call_rules_of(c) {
@@ -124,7 +124,7 @@ fn past_address(c: Convention) -> Cursor
 
 // The cursor of the first argument: a hidden address goes before it.
 pub fn start(c: Convention, hidden: bool) -> Cursor
-    ensures { result ≡ start_of (rulesOf c) hidden }
+    ensures { result ≡ start_of (rules_of c) hidden }
 {
     if hidden {
         return past_address(c);
@@ -134,14 +134,14 @@ pub fn start(c: Convention, hidden: bool) -> Cursor
 
 // The bytes of the parameter area, from the cursor past the last argument.
 pub fn area_of(c: Convention, e: Cursor) -> usize
-    ensures { result ≡ areaOf c e }
+    ensures { result ≡ area_of c e }
 {
     base_words::larger(both_abi::least_area_of(c), e.stack)
 }
 
 // Whether a result of this type is handed over through memory.
 pub fn hidden_for(r: CallRules, t: ValueType) -> bool
-    ensures { result ≡ hiddenFor r t }
+    ensures { result ≡ hidden_for r t }
 {
     match t {
         ValueType::Integer(_) => false,
@@ -171,8 +171,8 @@ fn returning_of(r: CallRules) -> CallRules
 }
 
 pub fn result_places(c: Convention, t: ValueType, size: usize) -> ResultPlaces
-    requires { size ≤ maxSize }
-    ensures { result ≡ result_of (rulesOf c) t size }
+    requires { size ≤ max_size }
+    ensures { result ≡ result_of (rules_of c) t size }
 {
     let r = both_abi::call_rules_of(c);
     if hidden_for(r, t) {

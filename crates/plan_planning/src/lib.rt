@@ -1,11 +1,11 @@
 // The plan of a signature: the code.
 ghost use Rattle.std.specs.Prelude.{◌≡◌};
 ghost use Rattle.sig_signatures.specs.Read.{signature_of};
-ghost use Rattle.plan_plans.specs.Plan.{hiddenIn, resultPlacesIn, blankPlan, refusedPlan, planAnswer, measureOf};
-ghost use Rattle.plan_plans.specs.Helpers.{planned, unclearOf};
-ghost use Rattle.sig_signatures.specs.Answer.{signatureAnswer};
+ghost use Rattle.plan_plans.specs.Plan.{hidden_in, result_places_in, blank_plan, refused_plan, plan_answer, measure_of};
+ghost use Rattle.plan_plans.specs.Helpers.{planned, unclear_of};
+ghost use Rattle.sig_signatures.specs.Answer.{signature_answer};
 ghost use Rattle.sig_signatures.specs.Helpers.{SmallResult, Plannable};
-ghost use Rattle.plan_plans.specs.Call.{call_of, outcomeFor};
+ghost use Rattle.plan_plans.specs.Call.{call_of, outcome_for};
 
 use base_conventions::Convention;
 use plan_places::{ByteRange, RegisterRange, ResultPlaces, Span};
@@ -21,7 +21,7 @@ fn blank(
     res: ResultPlaces,
     count: usize,
 ) -> Plan
-    ensures { result ≡ blankPlan outcome convention ellipsis res count }
+    ensures { result ≡ blank_plan outcome convention ellipsis res count }
 {
     let none = RegisterRange { first: 0, count: 0 };
     let empty = ByteRange {
@@ -50,7 +50,7 @@ fn blank(
 
 // The sizes of a call that is refused.
 pub fn no_measure(fault: Fault) -> Measured
-    ensures { result ≡ measureOf (refusedPlan fault) }
+    ensures { result ≡ measure_of (refused_plan fault) }
 {
     Measured {
         outcome: Outcome::Refused(fault),
@@ -62,7 +62,7 @@ pub fn no_measure(fault: Fault) -> Measured
 
 // Whether a result is handed over through memory, at a hidden address.
 pub fn hidden_in(c: Convention, res: ResultType) -> bool
-    ensures { result ≡ hiddenIn c res }
+    ensures { result ≡ hidden_in c res }
 {
     match res {
         ResultType::Nothing => false,
@@ -72,7 +72,7 @@ pub fn hidden_in(c: Convention, res: ResultType) -> bool
 
 pub fn result_in(c: Convention, res: ResultType) -> ResultPlaces
     requires { SmallResult c res }
-    ensures { result ≡ resultPlacesIn c res }
+    ensures { result ≡ result_places_in c res }
 {
     match res {
         ResultType::Nothing => ResultPlaces::Nothing,
@@ -126,7 +126,7 @@ pub fn plan_signature(g: SignatureRead) -> Plan
 // through.
 pub fn first_unclear(g: SignatureRead) -> usize
     requires { Plannable g }
-    ensures { result ≡ unclearOf g }
+    ensures { result ≡ unclear_of g }
 {
     let convention = g.convention;
     let returned = g.result;
@@ -152,8 +152,8 @@ pub fn first_unclear(g: SignatureRead) -> usize
 
 // The same as below, where the rules leave something open.
 fn later_outcome(sig: &[u8], g: SignatureRead) -> Outcome
-    requires { g ≡ signatureAnswer (signature_of sig.now) }
-    ensures { result ≡ outcomeFor sig.now }
+    requires { g ≡ signature_answer (signature_of sig.now) }
+    ensures { result ≡ outcome_for sig.now }
 {
     let unclear = first_unclear(g);
     if unclear == 0 {
@@ -165,8 +165,8 @@ fn later_outcome(sig: &[u8], g: SignatureRead) -> Outcome
 
 // The outcome of a call, by its signature's bytes and what was read of them.
 pub fn call_outcome(sig: &[u8], g: SignatureRead) -> Outcome
-    requires { g ≡ signatureAnswer (signature_of sig.now) }
-    ensures { result ≡ outcomeFor sig.now }
+    requires { g ≡ signature_answer (signature_of sig.now) }
+    ensures { result ≡ outcome_for sig.now }
 {
     let convention = g.convention;
     let rules = both_abi::call_rules_of(convention);
@@ -178,8 +178,8 @@ pub fn call_outcome(sig: &[u8], g: SignatureRead) -> Outcome
 
 // The plan of a call, by the same.
 fn plan_call(sig: &[u8], g: SignatureRead) -> Plan
-    requires { g ≡ signatureAnswer (signature_of sig.now) }
-    ensures { result ≡ planAnswer (call_of sig.now) }
+    requires { g ≡ signature_answer (signature_of sig.now) }
+    ensures { result ≡ plan_answer (call_of sig.now) }
 {
     let unclear = first_unclear(g);
     if unclear == 0 {
@@ -197,7 +197,7 @@ fn plan_call(sig: &[u8], g: SignatureRead) -> Plan
 
 // The plan of a signature's bytes: any bytes at all.
 pub fn plan_of(s: &[u8]) -> Plan
-    ensures { result ≡ planAnswer (call_of s.now) }
+    ensures { result ≡ plan_answer (call_of s.now) }
 {
     plan_call(s, sig_whole::read_signature(s))
 }

@@ -11,47 +11,47 @@ use Rattle.sig_types.specs.Sizes.{size_of}
 use Rattle.plan_places.specs.declared.Cursor.{Cursor}
 use Rattle.plan_places.specs.declared.Span.{Span}
 use Rattle.plan_places.specs.declared.CallRules.{CallRules}
-use Rattle.plan_places.specs.Step.{withEllipsis, span_of, nextOf, start_of}
+use Rattle.plan_places.specs.Step.{with_ellipsis, span_of, next_of, start_of}
 use Rattle.plan_places.specs.Helpers.{LawfulCalls, Roomy}
 use Rattle.plan_places.proofs.Bounds.{Named, named_start, named-next, named-roomy, near_next, start-bytes}
 use Rattle.plan_places.proofs.Marked.{next-marked}
 use Rattle.plan_places.proofs.Between.{Forward, forward-same, forward-then, step-forward}
-use Rattle.sig_signatures.specs.Limits.{maxArguments}
+use Rattle.sig_signatures.specs.Limits.{max_arguments}
 use Rattle.sig_signatures.specs.Types.{values_of}
-use Rattle.plan_plans.specs.Plan.{spansOf, last_of}
+use Rattle.plan_plans.specs.Plan.{spans_of, last_of}
 
-pub length-spans : (c : Convention) (r : CallRules) (k : Cursor) (ts : List ValueType) → length (spansOf c r k ts) ≡ length ts
-unfolding spansOf
+pub length-spans : (c : Convention) (r : CallRules) (k : Cursor) (ts : List ValueType) → length (spans_of c r k ts) ≡ length ts
+unfolding spans_of
 length-spans c r k [] = refl
-length-spans c r k (t ∷ ts) = ap suc (length-spans c r (nextOf r k t (size_of c t)) ts)
+length-spans c r k (t ∷ ts) = ap suc (length-spans c r (next_of r k t (size_of c t)) ts)
 
 pub last-named : (c : Convention) (r : CallRules) (k : Cursor) (ts : List ValueType) → Named r k → Named r (last_of c r k ts)
 unfolding last_of
 last-named c r k [] h = h
-last-named c r k (t ∷ ts) h = last-named c r (nextOf r k t (size_of c t)) ts (named-next r k t (size_of c t) h)
+last-named c r k (t ∷ ts) h = last-named c r (next_of r k t (size_of c t)) ts (named-next r k t (size_of c t) h)
 
 pub last-forward : (c : Convention) (r : CallRules) (k : Cursor) (ts : List ValueType) → Forward k (last_of c r k ts)
 unfolding last_of
 last-forward c r k [] = forward-same k
-last-forward c r k (t ∷ ts) = forward-then (step-forward r k t (size_of c t)) (last-forward c r (nextOf r k t (size_of c t)) ts)
+last-forward c r k (t ∷ ts) = forward-then (step-forward r k t (size_of c t)) (last-forward c r (next_of r k t (size_of c t)) ts)
 
 -- an ellipsis moves no cursor
-pub last-marked : (c : Convention) (v : Bool) (r : CallRules) (k : Cursor) (ts : List ValueType) → last_of c (withEllipsis v r) k ts ≡ last_of c r k ts
+pub last-marked : (c : Convention) (v : Bool) (r : CallRules) (k : Cursor) (ts : List ValueType) → last_of c (with_ellipsis v r) k ts ≡ last_of c r k ts
 unfolding last_of
 last-marked c v r k [] = refl
-last-marked c v r k (t ∷ ts) = rw (next-marked v r k t (size_of c t)) (last-marked c v r (nextOf r k t (size_of c t)) ts)
+last-marked c v r k (t ∷ ts) = rw (next-marked v r k t (size_of c t)) (last-marked c v r (next_of r k t (size_of c t)) ts)
 
 -- more arguments after the first ones: they go on from there
 
-pub spans-append : (c : Convention) (r : CallRules) (k : Cursor) (ts us : List ValueType) → spansOf c r k (ts ++ us) ≡ spansOf c r k ts ++ spansOf c r (last_of c r k ts) us
-unfolding spansOf last_of
+pub spans-append : (c : Convention) (r : CallRules) (k : Cursor) (ts us : List ValueType) → spans_of c r k (ts ++ us) ≡ spans_of c r k ts ++ spans_of c r (last_of c r k ts) us
+unfolding spans_of last_of
 spans-append c r k [] us = refl
-spans-append c r k (t ∷ ts) us = ap (λ (l : List Span). span_of r k t (size_of c t) ∷ l) (spans-append c r (nextOf r k t (size_of c t)) ts us)
+spans-append c r k (t ∷ ts) us = ap (λ (l : List Span). span_of r k t (size_of c t) ∷ l) (spans-append c r (next_of r k t (size_of c t)) ts us)
 
 pub last-append : (c : Convention) (r : CallRules) (k : Cursor) (ts us : List ValueType) → last_of c r k (ts ++ us) ≡ last_of c r (last_of c r k ts) us
 unfolding last_of
 last-append c r k [] us = refl
-last-append c r k (t ∷ ts) us = last-append c r (nextOf r k t (size_of c t)) ts us
+last-append c r k (t ∷ ts) us = last-append c r (next_of r k t (size_of c t)) ts us
 
 pub values-append : (c : Convention) (ts us : List ValueType) → values_of c (ts ++ us) ≡ values_of c ts + values_of c us
 unfolding values_of
@@ -61,11 +61,11 @@ values-append c (t ∷ ts) us = omega (arith, values-append c ts us)
 -- one argument more
 
 pub spans-more : (c : Convention) (r : CallRules) (k : Cursor) (ts : List ValueType) (t : ValueType)
-    → spansOf c r k (ts ++ t ∷ []) ≡ spansOf c r k ts ++ span_of r (last_of c r k ts) t (size_of c t) ∷ []
-unfolding spansOf
+    → spans_of c r k (ts ++ t ∷ []) ≡ spans_of c r k ts ++ span_of r (last_of c r k ts) t (size_of c t) ∷ []
+unfolding spans_of
 spans-more c r k ts t = spans-append c r k ts (t ∷ [])
 
-pub last_more : (c : Convention) (r : CallRules) (k : Cursor) (ts : List ValueType) (t : ValueType) → last_of c r k (ts ++ t ∷ []) ≡ nextOf r (last_of c r k ts) t (size_of c t)
+pub last_more : (c : Convention) (r : CallRules) (k : Cursor) (ts : List ValueType) (t : ValueType) → last_of c r k (ts ++ t ∷ []) ≡ next_of r (last_of c r k ts) t (size_of c t)
 unfolding last_of
 last_more c r k ts t = last-append c r k ts (t ∷ [])
 
@@ -90,7 +90,7 @@ reached-start r hidden l =
     let b = start-bytes r hidden l in
     record { named = named_start r hidden; stack = omega arith; copies = omega arith; small = omega arith }
 
-pub reached-more : (r : CallRules) (k : Cursor) (v i : ℕ) (t : ValueType) (n : ℕ) → LawfulCalls r → n ≤ 256 → Reached r k v i → Reached r (nextOf r k t n) (v + n) (i + 1)
+pub reached-more : (r : CallRules) (k : Cursor) (v i : ℕ) (t : ValueType) (n : ℕ) → LawfulCalls r → n ≤ 256 → Reached r k v i → Reached r (next_of r k t n) (v + n) (i + 1)
 reached-more r k v i t n l h g =
     let b = near_next r k t n l h in
     record {
@@ -101,5 +101,5 @@ reached-more r k v i t n l h g =
     }
 
 -- the registers and the bytes that the step asks for
-pub reached-roomy : (r : CallRules) (k : Cursor) (v i : ℕ) → i ≤ maxArguments → Reached r k v i → Roomy k
+pub reached-roomy : (r : CallRules) (k : Cursor) (v i : ℕ) → i ≤ max_arguments → Reached r k v i → Roomy k
 reached-roomy r k v i few g = named-roomy r k g.named (omega (arith, g.stack)) (omega (arith, g.copies))

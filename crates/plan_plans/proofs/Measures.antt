@@ -17,27 +17,27 @@ use Rattle.sig_items.specs.declared.Fault.{Fault}
 use Rattle.sig_items.specs.declared.ItemRead.{ItemRead}
 use Rattle.sig_items.specs.Reading.{Reading, fault, got, no, later}
 use Rattle.sig_items.specs.Read.{item_at}
-use Rattle.sig_items.specs.Answer.{itemAnswer}
+use Rattle.sig_items.specs.Answer.{item_answer}
 use Rattle.sig_items.proofs.Loop.{item-answered}
-use Rattle.sig_signatures.specs.Limits.{maxArguments}
+use Rattle.sig_signatures.specs.Limits.{max_arguments}
 use Rattle.sig_signatures.specs.declared.Outcome.{Outcome}
 use Rattle.sig_signatures.specs.declared.ResultType.{ResultType}
 use Rattle.sig_signatures.specs.declared.HeadRead.{HeadRead}
 use Rattle.sig_signatures.specs.Signature.{Result, Signature}
-use Rattle.sig_signatures.specs.Read.{argumentsIn, signature_of, head_of}
-use Rattle.sig_signatures.specs.Answer.{resultType, headAnswer, signatureAnswer}
-use Rattle.sig_signatures.proofs.Laws.{thenArguments, signature-then}
+use Rattle.sig_signatures.specs.Read.{arguments_in, signature_of, head_of}
+use Rattle.sig_signatures.specs.Answer.{result_type, head_answer, signature_answer}
+use Rattle.sig_signatures.proofs.Laws.{then_arguments, signature-then}
 use Rattle.sig_signatures.proofs.Loop.{Turn, turn-start, turn_more, turn_last}
 use Rattle.sig_signatures.specs.Types.{values_of, types_of}
 use Rattle.sig_signatures.proofs.Types.{table-types, length-of-types}
 use Rattle.plan_places.specs.declared.Cursor.{Cursor}
 use Rattle.plan_places.specs.declared.CallRules.{CallRules}
-use Rattle.plan_places.specs.Step.{rulesOf, nextOf, unclearFor, start_of, areaOf}
-use Rattle.plan_places.specs.Helpers.{LawfulCalls, unclearAfter}
+use Rattle.plan_places.specs.Step.{rules_of, next_of, unclear_for, start_of, area_of}
+use Rattle.plan_places.specs.Helpers.{LawfulCalls, unclear_after}
 use Rattle.plan_plans.specs.declared.Measured.{Measured}
-use Rattle.plan_plans.specs.Plan.{last_of, start_in, planIn, refusedPlan, planAnswer, measureOf}
-use Rattle.plan_plans.specs.Helpers.{planWith, unclearOf, unclearWith}
-use Rattle.plan_plans.specs.Call.{firstUnclear}
+use Rattle.plan_plans.specs.Plan.{last_of, start_in, plan_in, refused_plan, plan_answer, measure_of}
+use Rattle.plan_plans.specs.Helpers.{plan_with, unclear_of, unclear_with}
+use Rattle.plan_plans.specs.Call.{first_unclear}
 use Rattle.plan_plans.proofs.Calls.{unclear-more, same-unclear}
 use Rattle.plan_plans.proofs.Fold.{last_more, same_step, values-more, Reached, reached-start, reached-more}
 
@@ -48,7 +48,7 @@ pub record SoFar (c : Convention) (s : List ℕ) (at e : ℕ) (r : CallRules) (s
   pub turn : Turn c s at e ts count next n
   pub last : k ≡ last_of c r start (types_of c ts)
   pub total : v ≡ values_of c (types_of c ts)
-  pub unclear : u ≡ firstUnclear c r start 0 (types_of c ts)
+  pub unclear : u ≡ first_unclear c r start 0 (types_of c ts)
   pub reached : Reached r k v count
 
 -- of some arguments
@@ -62,7 +62,7 @@ count-types c s at e ts count next n t = omega (arith, t.many, length-of-types c
 
 module _ (c : Convention) (s : List ℕ) (at e : ℕ) (r : CallRules) where
   pub none_so_far : (hidden : Bool) → LawfulCalls r → at ≤ e → SoFar c s at e r (start_of r hidden) none (start_of r hidden) 0 0 0 at 1
-  unfolding types_of last_of values_of firstUnclear
+  unfolding types_of last_of values_of first_unclear
   none_so_far hidden l h = record { turn = turn-start c s at e h; last = refl; total = refl; unclear = refl; reached = reached-start r hidden l }
 
   pub measuring-start : (hidden : Bool) → LawfulCalls r → at ≤ e → Measuring c s at e r (start_of r hidden) (start_of r hidden) 0 0 0 at 1
@@ -71,22 +71,22 @@ module _ (c : Convention) (s : List ℕ) (at e : ℕ) (r : CallRules) where
   -- one argument more, of the type t
   pub more-so-far : (start : Cursor) (ts : Trees) (k : Cursor) (v u count next n : ℕ) → SoFar c s at e r start ts k v u count next n → LawfulCalls r → (t : ValueType) → size_of c t ≤ 256
       → (tree : Tree) → t ≡ type_of c tree → (after m : ℕ) → Turn c s at e (ts ▸ tree) (count + 1) after m
-      → SoFar c s at e r start (ts ▸ tree) (nextOf r k t (size_of c t)) (v + size_of c t) (unclearAfter u (unclearFor r k t) count) (count + 1) after m
+      → SoFar c s at e r start (ts ▸ tree) (next_of r k t (size_of c t)) (v + size_of c t) (unclear_after u (unclear_for r k t) count) (count + 1) after m
   unfolding types_of
   more-so-far start ts k v u count next n g l t small tree same after m turn =
       let so_far : List ValueType = types_of c ts in
       let w : ValueType = type_of c tree in
       record {
         turn = turn;
-        last = same_step (nextOf r) c g.last same ∙ sym (last_more c r start so_far w);
+        last = same_step (next_of r) c g.last same ∙ sym (last_more c r start so_far w);
         total = omega (arith, g.total, ap (size_of c) same, values-more c so_far w);
         unclear = same-unclear r g.unclear g.last same (count-types c s at e ts count next n g.turn) ∙ sym (unclear-more c r start 0 so_far w);
         reached = reached-more r k v count t (size_of c t) l small g.reached;
       }
 
   module _ (start k : Cursor) (v u count next n : ℕ) (m : Measuring c s at e r start k v u count next n) where
-    pub measuring-more : LawfulCalls r → next < e → (count ≡ maxArguments → ⊥) → (x : ItemRead) → x ≡ itemAnswer c (item_at c 8 s e next) → (t : ValueType) (after j : ℕ) →
-        x ≡ ItemRead.Item t after j → Measuring c s at e r start (nextOf r k t (size_of c t)) (v + size_of c t) (unclearAfter u (unclearFor r k t) count) (count + 1) after (n + j)
+    pub measuring-more : LawfulCalls r → next < e → (count ≡ max_arguments → ⊥) → (x : ItemRead) → x ≡ item_answer c (item_at c 8 s e next) → (t : ValueType) (after j : ℕ) →
+        x ≡ ItemRead.Item t after j → Measuring c s at e r start (next_of r k t (size_of c t)) (v + size_of c t) (unclear_after u (unclear_for r k t) count) (count + 1) after (n + j)
     measuring-more l h some x found t after j q =
         let a = item-answered c 8 s e next x t after j (omega arith) found q in
         let more = turn_more c s at e m.ts count next n m.so_far.turn h some x found t after j q in
@@ -95,85 +95,85 @@ module _ (c : Convention) (s : List ℕ) (at e : ℕ) (r : CallRules) where
 -- ---- the answers
 
 module _ (c : Convention) (s : List ℕ) (at e : ℕ) (result : ResultType) (earlier : ℕ) where
-  pub measure-no : (f : Fault) → argumentsIn c s at e ≡ no f →
-      measureOf (refusedPlan (later earlier f)) ≡ measureOf (planWith c false result earlier (length s) (argumentsIn c s at e))
+  pub measure-no : (f : Fault) → arguments_in c s at e ≡ no f →
+      measure_of (refused_plan (later earlier f)) ≡ measure_of (plan_with c false result earlier (length s) (arguments_in c s at e))
   measure-no f q = rw q
 
-  pub unclear-no : (f : Fault) → argumentsIn c s at e ≡ no f → 0 ≡ unclearWith c result (length s) (argumentsIn c s at e)
+  pub unclear-no : (f : Fault) → arguments_in c s at e ≡ no f → 0 ≡ unclear_with c result (length s) (arguments_in c s at e)
   unclear-no f q = rw q
 
-  module _ (k : Cursor) (v u count next n : ℕ) (m : Measuring c s at e (rulesOf c) (start_in c result) k v u count next n) (last : e ≤ next) where
+  module _ (k : Cursor) (v u count next n : ℕ) (m : Measuring c s at e (rules_of c) (start_in c result) k v u count next n) (last : e ≤ next) where
     pub measure-trailing : next < length s →
-        measureOf (refusedPlan (fault Refusal.TrailingBytes next (earlier + n))) ≡ measureOf (planWith c false result earlier (length s) (argumentsIn c s at e))
+        measure_of (refused_plan (fault Refusal.TrailingBytes next (earlier + n))) ≡ measure_of (plan_with c false result earlier (length s) (arguments_in c s at e))
     measure-trailing h = rw (turn_last c s at e m.ts count next n m.so_far.turn last, lt-ltb next (length s) h)
 
     pub measure-end : length s ≤ next →
-        ◌≡◌ {A = Measured} (record { outcome = Outcome.Accepted (earlier + n); area = areaOf c k; values = v; copies = k.copies })
-        (measureOf (planWith c false result earlier (length s) (argumentsIn c s at e)))
-    unfolding planIn
+        ◌≡◌ {A = Measured} (record { outcome = Outcome.Accepted (earlier + n); area = area_of c k; values = v; copies = k.copies })
+        (measure_of (plan_with c false result earlier (length s) (arguments_in c s at e)))
+    unfolding plan_in
     measure-end h = rw (turn_last c s at e m.ts count next n m.so_far.turn last, le-ltb next (length s) h) (cc (m.so_far.last, m.so_far.total))
 
-    pub unclear-trailing : next < length s → 0 ≡ unclearWith c result (length s) (argumentsIn c s at e)
+    pub unclear-trailing : next < length s → 0 ≡ unclear_with c result (length s) (arguments_in c s at e)
     unclear-trailing h = rw (turn_last c s at e m.ts count next n m.so_far.turn last, lt-ltb next (length s) h)
 
-    pub unclear-end : length s ≤ next → u ≡ unclearWith c result (length s) (argumentsIn c s at e)
+    pub unclear-end : length s ≤ next → u ≡ unclear_with c result (length s) (arguments_in c s at e)
     unclear-end h = rw (turn_last c s at e m.ts count next n m.so_far.turn last, le-ltb next (length s) h) m.so_far.unclear
 
 -- no size depends on an ellipsis
-measured-marked : (c : Convention) (v : Bool) (r : ResultType) (n all : ℕ) (x : Reading Trees) → measureOf (planWith c false r n all x) ≡ measureOf (planWith c v r n all x)
-unfolding planIn
+measured-marked : (c : Convention) (v : Bool) (r : ResultType) (n all : ℕ) (x : Reading Trees) → measure_of (plan_with c false r n all x) ≡ measure_of (plan_with c v r n all x)
+unfolding plan_in
 measured-marked c v r n all (got ts next m) = go (ltb next all)
   where
-    go : (more : Bool) → measureOf (pick more (refusedPlan (fault Refusal.TrailingBytes next (n + m))) (planIn (n + m) c false r (types_of c ts)))
-        ≡ measureOf (pick more (refusedPlan (fault Refusal.TrailingBytes next (n + m))) (planIn (n + m) c v r (types_of c ts)))
+    go : (more : Bool) → measure_of (pick more (refused_plan (fault Refusal.TrailingBytes next (n + m))) (plan_in (n + m) c false r (types_of c ts)))
+        ≡ measure_of (pick more (refused_plan (fault Refusal.TrailingBytes next (n + m))) (plan_in (n + m) c v r (types_of c ts)))
     go true = refl
     go false = refl
 measured-marked c v r n all (no f) = refl
 
 -- the plan of what is read from the arguments on
 plan-then : (s : List ℕ) (c : Convention) (r : Result) (v : Bool) (n : ℕ) (x : Reading Trees) →
-    planAnswer (thenArguments s c r v n x) ≡ planWith c v (resultType c r) n (length s) x
-unfolding planAnswer
+    plan_answer (then_arguments s c r v n x) ≡ plan_with c v (result_type c r) n (length s) x
+unfolding plan_answer
 plan-then s c r v n (got ts next m) = go (ltb next (length s))
   where
     go : (more : Bool) →
-        planAnswer (pick more (no (fault Refusal.TrailingBytes next (n + m))) (got (record { convention = c; result = r; ellipsis = v; arguments = ts }) next (n + m)))
-        ≡ pick more (refusedPlan (fault Refusal.TrailingBytes next (n + m))) (planIn (n + m) c v (resultType c r) (types_of c ts))
+        plan_answer (pick more (no (fault Refusal.TrailingBytes next (n + m))) (got (record { convention = c; result = r; ellipsis = v; arguments = ts }) next (n + m)))
+        ≡ pick more (refused_plan (fault Refusal.TrailingBytes next (n + m))) (plan_in (n + m) c v (result_type c r) (types_of c ts))
     go true = refl
     go false = refl
 plan-then s c r v n (no f) = refl
 
-pub plan-arguments : (s : List ℕ) (x : HeadRead) → x ≡ headAnswer (head_of s) → (c : Convention) (t : ResultType) (v : Bool) (at b n : ℕ) → x ≡ HeadRead.Head c t v at b n →
-    planAnswer (signature_of s) ≡ planWith c v t n (length s) (argumentsIn c s at b)
+pub plan-arguments : (s : List ℕ) (x : HeadRead) → x ≡ head_answer (head_of s) → (c : Convention) (t : ResultType) (v : Bool) (at b n : ℕ) → x ≡ HeadRead.Head c t v at b n →
+    plan_answer (signature_of s) ≡ plan_with c v t n (length s) (arguments_in c s at b)
 plan-arguments s x found c t v at b n q =
     let (r, read, same) = signature-then s x found c t v at b n q in
-    ap planAnswer read
-    ∙ plan-then s c r v n (argumentsIn c s at b)
-    ∙ ap (λ (u : ResultType). planWith c v u n (length s) (argumentsIn c s at b)) (sym same)
+    ap plan_answer read
+    ∙ plan-then s c r v n (arguments_in c s at b)
+    ∙ ap (λ (u : ResultType). plan_with c v u n (length s) (arguments_in c s at b)) (sym same)
 
 -- the sizes alone: whatever the mark is
-pub measured-arguments : (s : List ℕ) (x : HeadRead) → x ≡ headAnswer (head_of s) → (c : Convention) (t : ResultType) (v : Bool) (at b n : ℕ) → x ≡ HeadRead.Head c t v at b n →
-    measureOf (planWith c false t n (length s) (argumentsIn c s at b)) ≡ measureOf (planAnswer (signature_of s))
+pub measured-arguments : (s : List ℕ) (x : HeadRead) → x ≡ head_answer (head_of s) → (c : Convention) (t : ResultType) (v : Bool) (at b n : ℕ) → x ≡ HeadRead.Head c t v at b n →
+    measure_of (plan_with c false t n (length s) (arguments_in c s at b)) ≡ measure_of (plan_answer (signature_of s))
 measured-arguments s x found c t v at b n q =
-    measured-marked c v t n (length s) (argumentsIn c s at b) ∙ sym (ap measureOf (plan-arguments s x found c t v at b n q))
+    measured-marked c v t n (length s) (arguments_in c s at b) ∙ sym (ap measure_of (plan-arguments s x found c t v at b n q))
 
 -- the first unclear argument of what is read from the arguments on
 unclear-then : (s : List ℕ) (c : Convention) (r : Result) (v : Bool) (n : ℕ) (x : Reading Trees) →
-    unclearOf (signatureAnswer (thenArguments s c r v n x)) ≡ unclearWith c (resultType c r) (length s) x
-unfolding firstUnclear
+    unclear_of (signature_answer (then_arguments s c r v n x)) ≡ unclear_with c (result_type c r) (length s) x
+unfolding first_unclear
 unclear-then s c r v n (got ts next m) = go (ltb next (length s))
   where
     go : (more : Bool) →
-        unclearOf (signatureAnswer (pick more (no (fault Refusal.TrailingBytes next (n + m))) (got (record { convention = c; result = r; ellipsis = v; arguments = ts }) next (n + m))))
-        ≡ pick more 0 (firstUnclear c (rulesOf c) (start_in c (resultType c r)) 0 (types_of c ts))
+        unclear_of (signature_answer (pick more (no (fault Refusal.TrailingBytes next (n + m))) (got (record { convention = c; result = r; ellipsis = v; arguments = ts }) next (n + m))))
+        ≡ pick more 0 (first_unclear c (rules_of c) (start_in c (result_type c r)) 0 (types_of c ts))
     go true = refl
-    go false = ap (firstUnclear c (rulesOf c) (start_in c (resultType c r)) 0) (table-types c ts)
+    go false = ap (first_unclear c (rules_of c) (start_in c (result_type c r)) 0) (table-types c ts)
 unclear-then s c r v n (no f) = refl
 
-pub unclear-arguments : (s : List ℕ) (x : HeadRead) → x ≡ headAnswer (head_of s) → (c : Convention) (t : ResultType) (v : Bool) (at b n : ℕ) → x ≡ HeadRead.Head c t v at b n →
-    unclearOf (signatureAnswer (signature_of s)) ≡ unclearWith c t (length s) (argumentsIn c s at b)
+pub unclear-arguments : (s : List ℕ) (x : HeadRead) → x ≡ head_answer (head_of s) → (c : Convention) (t : ResultType) (v : Bool) (at b n : ℕ) → x ≡ HeadRead.Head c t v at b n →
+    unclear_of (signature_answer (signature_of s)) ≡ unclear_with c t (length s) (arguments_in c s at b)
 unclear-arguments s x found c t v at b n q =
     let (r, read, same) = signature-then s x found c t v at b n q in
-    ap (λ (y : Reading Signature). unclearOf (signatureAnswer y)) read
-    ∙ unclear-then s c r v n (argumentsIn c s at b)
-    ∙ ap (λ (u : ResultType). unclearWith c u (length s) (argumentsIn c s at b)) (sym same)
+    ap (λ (y : Reading Signature). unclear_of (signature_answer y)) read
+    ∙ unclear-then s c r v n (arguments_in c s at b)
+    ∙ ap (λ (u : ResultType). unclear_with c u (length s) (arguments_in c s at b)) (sym same)

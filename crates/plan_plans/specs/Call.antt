@@ -9,32 +9,32 @@ use Rattle.sig_items.specs.Reading.{Reading, got, no}
 use Rattle.sig_signatures.specs.declared.Outcome.{Outcome}
 use Rattle.sig_signatures.specs.Signature.{Signature}
 use Rattle.sig_signatures.specs.Read.{signature_of}
-use Rattle.sig_signatures.specs.Answer.{resultType}
+use Rattle.sig_signatures.specs.Answer.{result_type}
 use Rattle.sig_signatures.specs.Types.{types_of}
-use Rattle.sig_reader.specs.Argument.{unclearFault}
+use Rattle.sig_reader.specs.Argument.{unclear_fault}
 use Rattle.plan_places.specs.declared.Cursor.{Cursor}
 use Rattle.plan_places.specs.declared.CallRules.{CallRules}
-use Rattle.plan_places.specs.Step.{rulesOf, nextOf, unclearFor}
-use Rattle.plan_plans.specs.Plan.{start_in, planAnswer}
+use Rattle.plan_places.specs.Step.{rules_of, next_of, unclear_for}
+use Rattle.plan_plans.specs.Plan.{start_in, plan_answer}
 
 -- Of the arguments from the cursor k on, i of which came before: the number of the first that is unclear, counted from 1; 0 where none is.
-unfoldable pub firstUnclear : Convention → CallRules → Cursor → ℕ → List ValueType → ℕ
-firstUnclear c r k i [] = 0
-firstUnclear c r k i (t ∷ ts) = pick (unclearFor r k t) (suc i) (firstUnclear c r (nextOf r k t (size_of c t)) (suc i) ts)
+unfoldable pub first_unclear : Convention → CallRules → Cursor → ℕ → List ValueType → ℕ
+first_unclear c r k i [] = 0
+first_unclear c r k i (t ∷ ts) = pick (unclear_for r k t) (suc i) (first_unclear c r (next_of r k t (size_of c t)) (suc i) ts)
 
 -- of a whole signature
-abbrev pub unclearIn : Signature → ℕ
-unclearIn g =
-    firstUnclear g.convention (rulesOf g.convention) (start_in g.convention (resultType g.convention g.result)) 0
+abbrev pub unclear_in : Signature → ℕ
+unclear_in g =
+    first_unclear g.convention (rules_of g.convention) (start_in g.convention (result_type g.convention g.result)) 0
     (types_of g.convention g.arguments)
 
 -- 29 where the first unclear argument is number u, counted from 1
-abbrev pub clearRead : ℕ → Signature → ℕ → ℕ → Reading Signature
-clearRead zero g next n = got g next n
-clearRead (suc i) g next n = no (unclearFault i (got g next n))
+abbrev pub clear_read : ℕ → Signature → ℕ → ℕ → Reading Signature
+clear_read zero g next n = got g next n
+clear_read (suc i) g next n = no (unclear_fault i (got g next n))
 
 unfoldable pub called : Reading Signature → Reading Signature
-called (got g next n) = clearRead (unclearIn g) g next n
+called (got g next n) = clear_read (unclear_in g) g next n
 called (no f) = no f
 
 -- of a signature's bytes: the reading's refusals come first
@@ -42,5 +42,5 @@ abbrev pub call_of : List ℕ → Reading Signature
 call_of s = called (signature_of s)
 
 -- what a call is accepted or refused with; all else of it is the plan's of its reading
-abbrev pub outcomeFor : List ℕ → Outcome
-outcomeFor s = (planAnswer (call_of s)).outcome
+abbrev pub outcome_for : List ℕ → Outcome
+outcome_for s = (plan_answer (call_of s)).outcome

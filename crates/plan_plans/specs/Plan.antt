@@ -9,74 +9,74 @@ use Rattle.sig_items.specs.Reading.{Reading, got, no}
 use Rattle.sig_signatures.specs.declared.ResultType.{ResultType}
 use Rattle.sig_signatures.specs.declared.Outcome.{Outcome}
 use Rattle.sig_signatures.specs.Signature.{Signature}
-use Rattle.sig_signatures.specs.Limits.{maxArguments}
-use Rattle.sig_signatures.specs.Answer.{resultType}
+use Rattle.sig_signatures.specs.Limits.{max_arguments}
+use Rattle.sig_signatures.specs.Answer.{result_type}
 use Rattle.sig_signatures.specs.Types.{types_of, values_of}
 use Rattle.plan_places.specs.declared.Cursor.{Cursor}
 use Rattle.plan_places.specs.declared.Span.{Span}
 use Rattle.plan_places.specs.declared.ResultPlaces.{ResultPlaces}
 use Rattle.plan_places.specs.declared.CallRules.{CallRules}
 use Rattle.plan_places.specs.Values.{registers, bytes}
-use Rattle.plan_places.specs.Step.{rulesOf, withEllipsis, span_of, nextOf, start_of, areaOf, hiddenFor, result_of}
+use Rattle.plan_places.specs.Step.{rules_of, with_ellipsis, span_of, next_of, start_of, area_of, hidden_for, result_of}
 use Rattle.plan_plans.specs.declared.Plan.{Plan}
 use Rattle.plan_plans.specs.declared.Measured.{Measured}
 
 -- ---- the fold, over any rules
 
 -- the span of each argument, from the cursor k on
-unfoldable pub spansOf : Convention → CallRules → Cursor → List ValueType → List Span
-spansOf c r k [] = []
-spansOf c r k (t ∷ ts) = span_of r k t (size_of c t) ∷ spansOf c r (nextOf r k t (size_of c t)) ts
+unfoldable pub spans_of : Convention → CallRules → Cursor → List ValueType → List Span
+spans_of c r k [] = []
+spans_of c r k (t ∷ ts) = span_of r k t (size_of c t) ∷ spans_of c r (next_of r k t (size_of c t)) ts
 
 -- the cursor past the last argument
 unfoldable pub last_of : Convention → CallRules → Cursor → List ValueType → Cursor
 last_of c r k [] = k
-last_of c r k (t ∷ ts) = last_of c r (nextOf r k t (size_of c t)) ts
+last_of c r k (t ∷ ts) = last_of c r (next_of r k t (size_of c t)) ts
 
 -- ---- the result
 
-abbrev pub hiddenIn : Convention → ResultType → Bool
-hiddenIn c ResultType.Nothing = false
-hiddenIn c (ResultType.Value t) = hiddenFor (rulesOf c) t
+abbrev pub hidden_in : Convention → ResultType → Bool
+hidden_in c ResultType.Nothing = false
+hidden_in c (ResultType.Value t) = hidden_for (rules_of c) t
 
-abbrev pub resultPlacesIn : Convention → ResultType → ResultPlaces
-resultPlacesIn c ResultType.Nothing = ResultPlaces.Nothing
-resultPlacesIn c (ResultType.Value t) = result_of (rulesOf c) t (size_of c t)
+abbrev pub result_places_in : Convention → ResultType → ResultPlaces
+result_places_in c ResultType.Nothing = ResultPlaces.Nothing
+result_places_in c (ResultType.Value t) = result_of (rules_of c) t (size_of c t)
 
 -- ---- the plan
 
-abbrev pub noSpan : Span
-noSpan = record { general = registers 0 0; floating = registers 0 0; home = bytes 0 0; memory = bytes 0 0; copy = bytes 0 0; indirect = false }
+abbrev pub no_span : Span
+no_span = record { general = registers 0 0; floating = registers 0 0; home = bytes 0 0; memory = bytes 0 0; copy = bytes 0 0; indirect = false }
 
 -- the program's table: the spans in order, and after them spans of nothing
 unfoldable pub table_of : List Span → List Span
-table_of l = l ++ replicate (maxArguments - length l) noSpan
+table_of l = l ++ replicate (max_arguments - length l) no_span
 
 -- the cursor of the first argument
 abbrev pub start_in : Convention → ResultType → Cursor
-start_in c r = start_of (rulesOf c) (hiddenIn c r)
+start_in c r = start_of (rules_of c) (hidden_in c r)
 
-abbrev pub lastCursorIn : Convention → ResultType → List ValueType → Cursor
-lastCursorIn c r ts = last_of c (rulesOf c) (start_in c r) ts
+abbrev pub last_cursor_in : Convention → ResultType → List ValueType → Cursor
+last_cursor_in c r ts = last_of c (rules_of c) (start_in c r) ts
 
 -- a signature of n items: its convention, whether it has an ellipsis, its result and its arguments' types. 02, No. 5: an ellipsis puts floats in
 -- more places, and moves none, so that the cursors and the sizes are by the convention's own rules
-unfoldable pub planIn : ℕ → Convention → Bool → ResultType → List ValueType → Plan
-planIn n c v r ts = record {
+unfoldable pub plan_in : ℕ → Convention → Bool → ResultType → List ValueType → Plan
+plan_in n c v r ts = record {
   outcome = Outcome.Accepted n;
   convention = c;
   ellipsis = v;
-  result = resultPlacesIn c r;
+  result = result_places_in c r;
   count = length ts;
-  area = areaOf c (lastCursorIn c r ts);
+  area = area_of c (last_cursor_in c r ts);
   values = values_of c ts;
-  copies = (lastCursorIn c r ts).copies;
-  spans = table_of (spansOf c (withEllipsis v (rulesOf c)) (start_in c r) ts);
+  copies = (last_cursor_in c r ts).copies;
+  spans = table_of (spans_of c (with_ellipsis v (rules_of c)) (start_in c r) ts);
 }
 
 -- a plan without spans and sizes
-abbrev pub blankPlan : Outcome → Convention → Bool → ResultPlaces → ℕ → Plan
-blankPlan o c v r n = record {
+abbrev pub blank_plan : Outcome → Convention → Bool → ResultPlaces → ℕ → Plan
+blank_plan o c v r n = record {
   outcome = o;
   convention = c;
   ellipsis = v;
@@ -85,20 +85,20 @@ blankPlan o c v r n = record {
   area = 0;
   values = 0;
   copies = 0;
-  spans = replicate maxArguments noSpan;
+  spans = replicate max_arguments no_span;
 }
 
 -- "Every refusal leaves all buffers and the state untouched"
-abbrev pub refusedPlan : Fault → Plan
-refusedPlan f = blankPlan (Outcome.Refused f) Convention.Ppc64 false ResultPlaces.Nothing 0
+abbrev pub refused_plan : Fault → Plan
+refused_plan f = blank_plan (Outcome.Refused f) Convention.Ppc64 false ResultPlaces.Nothing 0
 
 -- of what the reader finds in a signature's bytes
-unfoldable pub planAnswer : Reading Signature → Plan
-planAnswer (got g next n) = planIn n g.convention g.ellipsis (resultType g.convention g.result) (types_of g.convention g.arguments)
-planAnswer (no f) = refusedPlan f
+unfoldable pub plan_answer : Reading Signature → Plan
+plan_answer (got g next n) = plan_in n g.convention g.ellipsis (result_type g.convention g.result) (types_of g.convention g.arguments)
+plan_answer (no f) = refused_plan f
 
 -- ---- the sizes alone
 
 -- of a plan: its outcome and its sizes, without the places
-abbrev pub measureOf : Plan → Measured
-measureOf p = record { outcome = p.outcome; area = p.area; values = p.values; copies = p.copies }
+abbrev pub measure_of : Plan → Measured
+measure_of p = record { outcome = p.outcome; area = p.area; values = p.values; copies = p.copies }

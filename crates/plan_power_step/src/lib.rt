@@ -1,18 +1,18 @@
 // One argument on PowerPC: how many of its words have a GPR, an FPR or memory, and where they stand.
 ghost use Rattle.std.specs.Prelude.{◌≡◌, true, ◌*◌, ◌≤◌};
 ghost use Rattle.plan_places.specs.declared.CallRules.{CallRules};
-ghost use Rattle.plan_places.specs.Power.{words, fprs, unclear, share_of, powerShare, powerSpan, powerNext};
-ghost use Rattle.plan_places.specs.Step.{placedAs, nextOf, placed};
+ghost use Rattle.plan_places.specs.Power.{words, fprs, unclear, share_of, power_share, power_span, power_next};
+ghost use Rattle.plan_places.specs.Step.{placed_as, next_of, placed};
 ghost use Rattle.plan_places.specs.Helpers.{Roomy};
 ghost use Rattle.plan_power_step.specs.Helpers.{Counted};
-ghost use Rattle.sig_types.specs.Sizes.{maxSize};
+ghost use Rattle.sig_types.specs.Sizes.{max_size};
 
 use plan_places::{Cursor, Edition, Placed, PowerRules, Share, Span};
 use sig_types::{FloatFormat, ValueType};
 
 // The words of the argument list that a value of `size` bytes takes.
 fn words_of(word: usize, size: usize) -> usize
-    requires { (4 ≤ word) × (word ≤ 8) × (size ≤ maxSize) }
+    requires { (4 ≤ word) × (word ≤ 8) × (size ≤ max_size) }
     ensures { (result ≡ words word size) × (word * result ≤ 264) }
 {
     // The usual width by a shift: a division by a variable is slow. One for words of 4 bytes would make the step too long to be compiled in line.
@@ -98,8 +98,8 @@ struct PowerTaken {
 }
 
 fn taken_of(f: PowerRules, c: Cursor, t: ValueType, size: usize) -> PowerTaken
-    requires { (4 ≤ f.word) × (f.word ≤ 8) × Roomy c × (size ≤ maxSize) }
-    ensures { (result.count ≡ words f.word size) × (result.share ≡ powerShare f c t size) × Counted f.word c result.count result.covered result.share }
+    requires { (4 ≤ f.word) × (f.word ≤ 8) × Roomy c × (size ≤ max_size) }
+    ensures { (result.count ≡ words f.word size) × (result.share ≡ power_share f c t size) × Counted f.word c result.count result.covered result.share }
 {
     let word = f.word;
     let edition = f.edition;
@@ -122,7 +122,7 @@ fn taken_of(f: PowerRules, c: Cursor, t: ValueType, size: usize) -> PowerTaken
 // Every argument uses up its words and the GPRs that go with them, a float too.
 fn next_of(word: usize, c: Cursor, a: PowerTaken) -> Cursor
     requires { Roomy c × Counted word c a.count a.covered a.share }
-    ensures { result ≡ powerNext word c a.count a.share }
+    ensures { result ≡ power_next word c a.count a.share }
 {
     let s = a.share;
     Cursor {
@@ -136,7 +136,7 @@ fn next_of(word: usize, c: Cursor, a: PowerTaken) -> Cursor
 // The span and the next cursor, from what the argument takes.
 fn place(word: usize, c: Cursor, a: PowerTaken) -> Placed
     requires { Roomy c × Counted word c a.count a.covered a.share }
-    ensures { result ≡ placedAs (powerSpan word c a.count a.share) (powerNext word c a.count a.share) }
+    ensures { result ≡ placed_as (power_span word c a.count a.share) (power_next word c a.count a.share) }
 {
     let general = c.general;
     let floating = c.floating;
@@ -161,7 +161,7 @@ fn place(word: usize, c: Cursor, a: PowerTaken) -> Placed
 }
 
 pub fn step(f: PowerRules, c: Cursor, t: ValueType, size: usize) -> Placed
-    requires { (4 ≤ f.word) × (f.word ≤ 8) × Roomy c × (size ≤ maxSize) }
+    requires { (4 ≤ f.word) × (f.word ≤ 8) × Roomy c × (size ≤ max_size) }
     ensures { result ≡ placed (CallRules.Power f) c t size }
 {
     let word = f.word;
@@ -170,8 +170,8 @@ pub fn step(f: PowerRules, c: Cursor, t: ValueType, size: usize) -> Placed
 
 // The next cursor of the step, without the span. An ellipsis moves no cursor, so that none is looked for.
 pub fn advance(f: PowerRules, c: Cursor, t: ValueType, size: usize) -> Cursor
-    requires { (4 ≤ f.word) × (f.word ≤ 8) × Roomy c × (size ≤ maxSize) }
-    ensures { result ≡ nextOf (CallRules.Power f) c t size }
+    requires { (4 ≤ f.word) × (f.word ≤ 8) × Roomy c × (size ≤ max_size) }
+    ensures { result ≡ next_of (CallRules.Power f) c t size }
 {
     let word = f.word;
     let edition = f.edition;

@@ -14,10 +14,10 @@ use Rattle.base_words.proofs.Splices.{overlay-is}
 use Rattle.sig_items.specs.declared.Fault.{Fault}
 use Rattle.sig_items.specs.Encode.{item}
 use Rattle.sig_signatures.specs.declared.Outcome.{Outcome}
-use Rattle.plan_plans.specs.Call.{outcomeFor}
+use Rattle.plan_plans.specs.Call.{outcome_for}
 use Rattle.plan_stored.specs.declared.StoreAnswer.{StoreAnswer}
 use Rattle.plan_stored.specs.declared.CheckAnswer.{CheckAnswer}
-use Rattle.plan_stored.specs.Stored.{planBytes, storedOf, storeBy, storeAnswer, bufferBy, storedBuffer, alike, comparedTo, compared, checkBy, checkAnswer}
+use Rattle.plan_stored.specs.Stored.{plan_bytes, stored_of, store_by, store_answer, buffer_by, stored_buffer, alike, compared_to, compared, check_by, check_answer}
 use Rattle.plan_stored.specs.Exact.{Accepts, ChecksExactly, Written, WrittenIsFresh, FormsApart, OthersStale, FirstDifference, DiffersFirst, ChangeFound, CutFound, ExtensionFound}
 use Rattle.plan_stored.proofs.Alike.{alike-left, alike_right, compared-long, compared-short, compared-all}
 
@@ -94,15 +94,15 @@ compared-other xs ys other = rw (ne_eqb (alike xs ys) (max (length xs) (length y
 
 -- ---- the check
 
-accepted-check : (stored s : List ℕ) → Accepts s → checkAnswer stored s ≡ compared stored (storedOf s)
-unfolding checkAnswer
+accepted-check : (stored s : List ℕ) → Accepts s → check_answer stored s ≡ compared stored (stored_of s)
+unfolding check_answer
 accepted-check stored s a = rw a.outcome
 
-by-outcome : (o : Outcome) (stored t s : List ℕ) → outcomeFor s ≡ o → checkBy o stored t ≡ CheckAnswer.Same → Accepts s × (stored ≡ t)
+by-outcome : (o : Outcome) (stored t s : List ℕ) → outcome_for s ≡ o → check_by o stored t ≡ CheckAnswer.Same → Accepts s × (stored ≡ t)
 by-outcome (Outcome.Accepted k) stored t s e h = (record { items = k; outcome = e }, same-compared stored t h)
 by-outcome (Outcome.Refused f) stored t s e h = let z : ◌≡◌ {A = ℕ} 0 1 = cc in absurd (omega arith)
 
-refused-by : (o : Outcome) (stored t : List ℕ) (f : Fault) → checkBy o stored t ≡ CheckAnswer.Refused f → o ≡ Outcome.Refused f
+refused-by : (o : Outcome) (stored t : List ℕ) (f : Fault) → check_by o stored t ≡ CheckAnswer.Refused f → o ≡ Outcome.Refused f
 unfolding compared
 refused-by (Outcome.Accepted k) stored t f h = absurd (go (eqb (alike stored t) (max (length stored) (length t))) h)
   where
@@ -112,21 +112,21 @@ refused-by (Outcome.Accepted k) stored t f h = absurd (go (eqb (alike stored t) 
 refused-by (Outcome.Refused g) stored t f h = cc
 
 -- a refusal other than 27 is the call's own
-pub refused-check : (stored s : List ℕ) (f : Fault) → checkAnswer stored s ≡ CheckAnswer.Refused f → outcomeFor s ≡ Outcome.Refused f
-unfolding checkAnswer
-refused-check stored s f h = refused-by (outcomeFor s) stored (storedOf s) f h
+pub refused-check : (stored s : List ℕ) (f : Fault) → check_answer stored s ≡ CheckAnswer.Refused f → outcome_for s ≡ Outcome.Refused f
+unfolding check_answer
+refused-check stored s f h = refused-by (outcome_for s) stored (stored_of s) f h
 
 pub checks-exactly : ChecksExactly
-unfolding checkAnswer
+unfolding check_answer
 checks-exactly stored s = record {
-  only = λ h. by-outcome (outcomeFor s) stored (storedOf s) s refl h;
-  all = λ a e. rw (a.outcome, e) (compared-self (storedOf s));
+  only = λ h. by-outcome (outcome_for s) stored (stored_of s) s refl h;
+  all = λ a e. rw (a.outcome, e) (compared-self (stored_of s));
 }
 
 -- ---- what was written
 
-written-by : (o : Outcome) (t buffer : List ℕ) (n : ℕ) → storeBy o (length t) (length buffer) ≡ StoreAnswer.Stored n
-    → (n ≡ length t) × (bufferBy o t buffer ≡ t ++ drop (length t) buffer)
+written-by : (o : Outcome) (t buffer : List ℕ) (n : ℕ) → store_by o (length t) (length buffer) ≡ StoreAnswer.Stored n
+    → (n ≡ length t) × (buffer_by o t buffer ≡ t ++ drop (length t) buffer)
 written-by (Outcome.Accepted k) t buffer n h = go (ltb (length buffer) (length t)) refl h
   where
     go : (b : Bool) → ltb (length buffer) (length t) ≡ b → pick b StoreAnswer.TooShort (StoreAnswer.Stored (length t)) ≡ StoreAnswer.Stored n
@@ -135,19 +135,19 @@ written-by (Outcome.Accepted k) t buffer n h = go (ltb (length buffer) (length t
     go false q e = let same : n ≡ length t = cc in (same, overlay-is buffer t (ltb-false (length buffer) (length t) q))
 written-by (Outcome.Refused f) t buffer n h = let z : ◌≡◌ {A = ℕ} 0 1 = cc in absurd (omega arith)
 
-accepted-by : (o : Outcome) (s : List ℕ) (m room n : ℕ) → outcomeFor s ≡ o → storeBy o m room ≡ StoreAnswer.Stored n → Accepts s
+accepted-by : (o : Outcome) (s : List ℕ) (m room n : ℕ) → outcome_for s ≡ o → store_by o m room ≡ StoreAnswer.Stored n → Accepts s
 accepted-by (Outcome.Accepted k) s m room n e h = record { items = k; outcome = e }
 accepted-by (Outcome.Refused f) s m room n e h = let z : ◌≡◌ {A = ℕ} 0 1 = cc in absurd (omega arith)
 
 pub written-is-fresh : WrittenIsFresh
-unfolding storeAnswer storedBuffer
+unfolding store_answer stored_buffer
 written-is-fresh s buffer n h =
-    let t : List ℕ = storedOf s in
-    let w = written-by (outcomeFor s) t buffer n h in
-    let bytes : take n (storedBuffer s buffer) ≡ t = ap₂ take w.0 w.1 ∙ take_at t (drop (length t) buffer) (length t) refl in
+    let t : List ℕ = stored_of s in
+    let w = written-by (outcome_for s) t buffer n h in
+    let bytes : take n (stored_buffer s buffer) ≡ t = ap₂ take w.0 w.1 ∙ take_at t (drop (length t) buffer) (length t) refl in
     record {
       bytes = bytes;
-      fresh = (checks-exactly (take n (storedBuffer s buffer)) s).all (accepted-by (outcomeFor s) s (length t) (length buffer) n refl h) bytes;
+      fresh = (checks-exactly (take n (stored_buffer s buffer)) s).all (accepted-by (outcome_for s) s (length t) (length buffer) n refl h) bytes;
       past = ap₂ drop w.0 w.1 ∙ drop_at t (drop (length t) buffer) (length t) refl ∙ ap (λ (m : ℕ). drop m buffer) (sym w.0);
     }
 
@@ -163,15 +163,15 @@ items-apart tag s u r q e =
     sym (take_at s r (length s) refl) ∙ ap (take (length s)) rest ∙ take_at u q (length s) same
 
 pub forms-apart : FormsApart
-unfolding storedOf planBytes
+unfolding stored_of plan_bytes
 forms-apart s u e = items-apart 0x20 s u _ _ e
 
 pub others-stale : OthersStale
-others-stale s u other a = accepted-check (storedOf s) u a ∙ compared-other (storedOf s) (storedOf u) (λ e. other (forms-apart s u e))
+others-stale s u other a = accepted-check (stored_of s) u a ∙ compared-other (stored_of s) (stored_of u) (λ e. other (forms-apart s u e))
 
 -- ---- 27's place
 
-first_by : (o : Outcome) (stored t : List ℕ) (i : ℕ) → checkBy o stored t ≡ CheckAnswer.Differs i → FirstDifference stored t i
+first_by : (o : Outcome) (stored t : List ℕ) (i : ℕ) → check_by o stored t ≡ CheckAnswer.Differs i → FirstDifference stored t i
 first_by (Outcome.Accepted k) stored t i h =
     let at = differs_at stored t i h in
     let left = alike-left stored t in
@@ -187,8 +187,8 @@ first_by (Outcome.Accepted k) stored t i h =
 first_by (Outcome.Refused f) stored t i h = let z : ◌≡◌ {A = ℕ} 0 1 = cc in absurd (omega arith)
 
 pub differs-first : DiffersFirst
-unfolding checkAnswer
-differs-first stored s i h = first_by (outcomeFor s) stored (storedOf s) i h
+unfolding check_answer
+differs-first stored s i h = first_by (outcome_for s) stored (stored_of s) i h
 
 alike_set : (t : List ℕ) (i b : ℕ) → i < length t → (b ≡ get_or t i 0 → ⊥) → alike (set t i b) t ≡ i
 unfolding alike
@@ -198,7 +198,7 @@ alike_set (x ∷ t) (suc i) b h other = rw (eq-eqb x x refl) (ap suc (alike_set 
 
 pub change-found : ChangeFound
 change-found s i b a h other =
-    let t : List ℕ = storedOf s in
+    let t : List ℕ = stored_of s in
     accepted-check (set t i b) s a ∙ sym (compared-short (set t i b) t i (sym (alike_set t i b h other)) h)
 
 alike-take : (t : List ℕ) (n : ℕ) → n ≤ length t → alike (take n t) t ≡ n
@@ -209,7 +209,7 @@ alike-take (x ∷ t) (suc n) h = rw (eq-eqb x x refl) (ap suc (alike-take t n (o
 
 pub cut-found : CutFound
 cut-found s n a h =
-    let t : List ℕ = storedOf s in
+    let t : List ℕ = stored_of s in
     accepted-check (take n t) s a ∙ sym (compared-short (take n t) t n (sym (alike-take t n (omega arith))) h)
 
 alike-more : (t more : List ℕ) → alike (t ++ more) t ≡ length t
@@ -224,6 +224,6 @@ some (x ∷ l) h = omega arith
 
 pub extension-found : ExtensionFound
 extension-found s more a other =
-    let t : List ℕ = storedOf s in
+    let t : List ℕ = stored_of s in
     let longer = length-append t more in
     accepted-check (t ++ more) s a ∙ sym (compared-long (t ++ more) t (length t) (sym (alike-more t more)) (omega (arith, longer, some more other)))

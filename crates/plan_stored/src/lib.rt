@@ -1,9 +1,9 @@
 // Stored plans: a plan written to bytes together with its signature, and the check of stored bytes against a fresh signature. The check makes
 // one item after the other, and holds no second plan.
 ghost use Rattle.std.specs.Prelude.{◌≡◌, ◌+◌, ◌^◌, ◌≤◌, ◌<◌, length, take, drop};
-ghost use Rattle.sig_signatures.specs.Limits.{maxLength};
+ghost use Rattle.sig_signatures.specs.Limits.{max_length};
 ghost use Rattle.plan_text.specs.Writing.{Wrote};
-ghost use Rattle.plan_stored.specs.Stored.{planBytes, lengthAnswer, storeAnswer, storedBuffer, alike, compared, checkAnswer};
+ghost use Rattle.plan_stored.specs.Stored.{plan_bytes, length_answer, store_answer, stored_buffer, alike, compared, check_answer};
 ghost use Rattle.plan_stored.specs.Helpers.{Writable};
 
 use plan_plans::Plan;
@@ -28,8 +28,8 @@ pub enum CheckAnswer {
 
 // The length of the stored plan.
 fn plan_length(s: &[u8], p: Plan) -> usize
-    requires { (length s.now ≤ maxLength) × Writable p }
-    ensures { result ≡ length (planBytes s.now p) }
+    requires { (length s.now ≤ max_length) × Writable p }
+    ensures { result ≡ length (plan_bytes s.now p) }
 {
     let c = p.convention;
     let count = p.count;
@@ -47,8 +47,8 @@ fn plan_length(s: &[u8], p: Plan) -> usize
 
 // A stored plan at the head of `bytes`; what passes the end of `bytes` is lost.
 fn put_plan(bytes: &mut [u8], s: &[u8], p: Plan) -> usize
-    requires { (length s.now ≤ maxLength) × Writable p }
-    ensures { Wrote bytes.old bytes.new 0 result (planBytes s.now p) }
+    requires { (length s.now ≤ max_length) × Writable p }
+    ensures { Wrote bytes.old bytes.new 0 result (plan_bytes s.now p) }
 {
     let c = p.convention;
     let count = p.count;
@@ -67,7 +67,7 @@ fn put_plan(bytes: &mut [u8], s: &[u8], p: Plan) -> usize
 
 // What `store_plan` would write.
 pub fn stored_length(s: &[u8]) -> StoreAnswer
-    ensures { result ≡ lengthAnswer s.now }
+    ensures { result ≡ length_answer s.now }
 {
     let p = plan_planning::plan_of(s);
     let outcome = p.outcome;
@@ -82,7 +82,7 @@ pub fn stored_length(s: &[u8]) -> StoreAnswer
 
 // The plan of a signature's bytes, any bytes at all, stored at the head of `stored`; where it is too short it is left as it was.
 pub fn store_plan(s: &[u8], stored: &mut [u8]) -> StoreAnswer
-    ensures { (result ≡ storeAnswer s.now (length stored.old)) × (stored.new ≡ storedBuffer s.now stored.old) }
+    ensures { (result ≡ store_answer s.now (length stored.old)) × (stored.new ≡ stored_buffer s.now stored.old) }
 {
     let p = plan_planning::plan_of(s);
     let outcome = p.outcome;
@@ -119,8 +119,8 @@ fn alike_from(stored: &[u8], at: usize, part: &[u8], n: usize) -> usize
 
 // Where the stored bytes and those of a plan differ, or the end of the shorter of both.
 fn alike_plan(stored: &[u8], s: &[u8], p: Plan) -> usize
-    requires { (length s.now ≤ maxLength) × Writable p }
-    ensures { result ≡ alike stored.now (planBytes s.now p) }
+    requires { (length s.now ≤ max_length) × Writable p }
+    ensures { result ≡ alike stored.now (plan_bytes s.now p) }
 {
     let c = p.convention;
     let count = p.count;
@@ -153,8 +153,8 @@ fn alike_plan(stored: &[u8], s: &[u8], p: Plan) -> usize
 
 // The answer on stored bytes and a plan that was accepted.
 fn compare_plan(stored: &[u8], s: &[u8], p: Plan) -> CheckAnswer
-    requires { (length s.now ≤ maxLength) × Writable p }
-    ensures { result ≡ compared stored.now (planBytes s.now p) }
+    requires { (length s.now ≤ max_length) × Writable p }
+    ensures { result ≡ compared stored.now (plan_bytes s.now p) }
 {
     let place = alike_plan(stored, s, p);
     if place < stored.len() {
@@ -168,7 +168,7 @@ fn compare_plan(stored: &[u8], s: &[u8], p: Plan) -> CheckAnswer
 
 // Whether the stored bytes are what `store_plan` would give for this signature today.
 pub fn check_plan(stored: &[u8], s: &[u8]) -> CheckAnswer
-    ensures { result ≡ checkAnswer stored.now s.now }
+    ensures { result ≡ check_answer stored.now s.now }
 {
     let p = plan_planning::plan_of(s);
     let outcome = p.outcome;

@@ -1,9 +1,9 @@
 // The items of places in a stored plan: an argument's and the result's. As with text, bytes past the end of the buffer are lost and still counted.
 ghost use Rattle.std.specs.Prelude.{◌≡◌, ◌∷◌, [], ◌++◌, ◌+◌, ◌*◌, ◌/◌, ◌%◌, ◌^◌, ◌≤◌, ◌<◌, length};
 ghost use Rattle.plan_places.specs.Helpers.{ResultNumbered, LawfulCalls};
-ghost use Rattle.plan_places.specs.Step.{wordOf};
+ghost use Rattle.plan_places.specs.Step.{word_of};
 ghost use Rattle.plan_text.specs.Writing.{Wrote};
-ghost use Rattle.plan_stored_items.specs.Places.{placeBytes, placesBytes, placesIn, registerRun, noPlaces, bytesInArea, listedFrom, floatingRun, generalRun, memoryRun, copyRun, argumentItem, resultFirst, resultSecond, resultItem};
+ghost use Rattle.plan_stored_items.specs.Places.{place_bytes, places_bytes, places_in, register_run, no_places, bytes_in_area, listed_from, floating_run, general_run, memory_run, copy_run, argument_item, result_first, result_second, result_item};
 ghost use Rattle.plan_stored_items.specs.Helpers.{RunFits, Storable};
 
 use plan_places::{CallRules, RegisterRange, ResultPlaces, Span};
@@ -53,7 +53,7 @@ pub fn put_header(bytes: &mut [u8], at: usize, tag: u8, n: usize) -> usize
 
 fn put_place(bytes: &mut [u8], at: usize, p: StoredPlace) -> usize
     requires { at < 2 ^ 31 }
-    ensures { Wrote bytes.old bytes.new at result (placeBytes p) × (result ≡ at + 5) }
+    ensures { Wrote bytes.old bytes.new at result (place_bytes p) × (result ≡ at + 5) }
 {
     let kind = p.kind;
     let bank = p.bank;
@@ -67,7 +67,7 @@ fn put_place(bytes: &mut [u8], at: usize, p: StoredPlace) -> usize
 
 fn put_places(bytes: &mut [u8], at: usize, q: PlaceRun) -> usize
     requires { (at < 2 ^ 30) × RunFits q }
-    ensures { Wrote bytes.old bytes.new at result (placesBytes (placesIn q)) × (result ≡ at + 5 * q.count) }
+    ensures { Wrote bytes.old bytes.new at result (places_bytes (places_in q)) × (result ≡ at + 5 * q.count) }
 {
     let kind = q.kind;
     let bank = q.bank;
@@ -93,7 +93,7 @@ fn put_places(bytes: &mut [u8], at: usize, q: PlaceRun) -> usize
 }
 
 fn bytes_in_area(rules: CallRules, n: usize) -> usize
-    ensures { result ≡ bytesInArea rules n }
+    ensures { result ≡ bytes_in_area rules n }
 {
     match rules {
         CallRules::Power(_) => n,
@@ -102,7 +102,7 @@ fn bytes_in_area(rules: CallRules, n: usize) -> usize
 }
 
 fn listed_from(rules: CallRules) -> usize
-    ensures { (result ≡ listedFrom rules) × (result ≤ 160) }
+    ensures { (result ≡ listed_from rules) × (result ≤ 160) }
 {
     match rules {
         CallRules::Power(_) => 0,
@@ -113,7 +113,7 @@ fn listed_from(rules: CallRules) -> usize
 // The words in `length` bytes of memory.
 fn words_in(rules: CallRules, length: usize) -> usize
     requires { LawfulCalls rules × (length ≤ 264) }
-    ensures { (result ≡ length / wordOf rules) × (result ≤ 66) }
+    ensures { (result ≡ length / word_of rules) × (result ≤ 66) }
 {
     let word = plan_places::word_of(rules);
     // The usual width by a shift: a division by a variable is slow.
@@ -124,7 +124,7 @@ fn words_in(rules: CallRules, length: usize) -> usize
 }
 
 fn register_run(bank: u8, g: RegisterRange, offset: usize, by: usize) -> PlaceRun
-    ensures { result ≡ registerRun bank g offset by }
+    ensures { result ≡ register_run bank g offset by }
 {
     PlaceRun {
         kind: 0,
@@ -139,7 +139,7 @@ fn register_run(bank: u8, g: RegisterRange, offset: usize, by: usize) -> PlaceRu
 
 fn floating_run(rules: CallRules, s: Span) -> PlaceRun
     requires { Storable s }
-    ensures { (result ≡ floatingRun rules s) × RunFits result × (result.count ≤ 32) }
+    ensures { (result ≡ floating_run rules s) × RunFits result × (result.count ≤ 32) }
 {
     let home = s.home;
     let registers = s.floating;
@@ -150,7 +150,7 @@ fn floating_run(rules: CallRules, s: Span) -> PlaceRun
 
 fn general_run(rules: CallRules, s: Span) -> PlaceRun
     requires { LawfulCalls rules × Storable s }
-    ensures { (result ≡ generalRun rules s) × RunFits result × (result.count ≤ 32) }
+    ensures { (result ≡ general_run rules s) × RunFits result × (result.count ≤ 32) }
 {
     let home = s.home;
     let registers = s.general;
@@ -162,7 +162,7 @@ fn general_run(rules: CallRules, s: Span) -> PlaceRun
 
 fn memory_run(rules: CallRules, s: Span) -> PlaceRun
     requires { LawfulCalls rules × Storable s }
-    ensures { (result ≡ memoryRun rules s) × RunFits result × (result.count ≤ 66) }
+    ensures { (result ≡ memory_run rules s) × RunFits result × (result.count ≤ 66) }
 {
     let memory = s.memory;
     let by = plan_places::word_of(rules);
@@ -181,7 +181,7 @@ fn memory_run(rules: CallRules, s: Span) -> PlaceRun
 
 fn copy_run(s: Span) -> PlaceRun
     requires { Storable s }
-    ensures { (result ≡ copyRun s) × RunFits result × (result.count ≤ 1) }
+    ensures { (result ≡ copy_run s) × RunFits result × (result.count ≤ 1) }
 {
     let copy = s.copy;
     let indirect = s.indirect;
@@ -200,7 +200,7 @@ fn copy_run(s: Span) -> PlaceRun
 // The item of one argument.
 pub fn put_argument(bytes: &mut [u8], at: usize, rules: CallRules, s: Span) -> usize
     requires { (at < 2 ^ 29) × LawfulCalls rules × Storable s }
-    ensures { Wrote bytes.old bytes.new at result (argumentItem rules s) × (result ≤ at + 658) }
+    ensures { Wrote bytes.old bytes.new at result (argument_item rules s) × (result ≤ at + 658) }
 {
     let f = floating_run(rules, s);
     let g = general_run(rules, s);
@@ -217,7 +217,7 @@ pub fn put_argument(bytes: &mut [u8], at: usize, rules: CallRules, s: Span) -> u
 // The length of that item.
 pub fn argument_length(rules: CallRules, s: Span) -> usize
     requires { LawfulCalls rules × Storable s }
-    ensures { (result ≡ length (argumentItem rules s)) × (result ≤ 658) }
+    ensures { (result ≡ length (argument_item rules s)) × (result ≤ 658) }
 {
     let floating = s.floating;
     let general = s.general;
@@ -229,7 +229,7 @@ pub fn argument_length(rules: CallRules, s: Span) -> usize
 }
 
 fn no_places() -> PlaceRun
-    ensures { result ≡ noPlaces }
+    ensures { result ≡ no_places }
 {
     PlaceRun {
         kind: 0,
@@ -244,7 +244,7 @@ fn no_places() -> PlaceRun
 
 fn result_first(x: ResultPlaces) -> PlaceRun
     requires { ResultNumbered x }
-    ensures { (result ≡ resultFirst x) × RunFits result × (result.count ≤ 32) }
+    ensures { (result ≡ result_first x) × RunFits result × (result.count ≤ 32) }
 {
     match x {
         ResultPlaces::Nothing => no_places(),
@@ -269,7 +269,7 @@ fn result_first(x: ResultPlaces) -> PlaceRun
 
 fn result_second(x: ResultPlaces) -> PlaceRun
     requires { ResultNumbered x }
-    ensures { (result ≡ resultSecond x) × RunFits result × (result.count ≤ 32) }
+    ensures { (result ≡ result_second x) × RunFits result × (result.count ≤ 32) }
 {
     match x {
         ResultPlaces::Nothing => no_places(),
@@ -284,7 +284,7 @@ fn result_second(x: ResultPlaces) -> PlaceRun
 // The item of the result.
 pub fn put_result(bytes: &mut [u8], at: usize, x: ResultPlaces) -> usize
     requires { (at < 2 ^ 29) × ResultNumbered x }
-    ensures { Wrote bytes.old bytes.new at result (resultItem x) × (result ≤ at + 323) }
+    ensures { Wrote bytes.old bytes.new at result (result_item x) × (result ≤ at + 323) }
 {
     let f = result_first(x);
     let g = result_second(x);
@@ -297,7 +297,7 @@ pub fn put_result(bytes: &mut [u8], at: usize, x: ResultPlaces) -> usize
 // The length of that item.
 pub fn result_length(x: ResultPlaces) -> usize
     requires { ResultNumbered x }
-    ensures { (result ≡ length (resultItem x)) × (result ≤ 323) }
+    ensures { (result ≡ length (result_item x)) × (result ≤ 323) }
 {
     let f = result_first(x);
     let g = result_second(x);

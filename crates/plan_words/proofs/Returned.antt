@@ -9,45 +9,45 @@ use Rattle.sig_types.specs.declared.IntegerKind.{IntegerKind}
 use Rattle.sig_types.specs.declared.FloatFormat.{FloatFormat}
 use Rattle.sig_types.specs.declared.Shape.{Shape}
 use Rattle.sig_types.specs.declared.ValueType.{ValueType}
-use Rattle.sig_types.specs.Sizes.{integerSize}
+use Rattle.sig_types.specs.Sizes.{integer_size}
 use Rattle.plan_places.specs.declared.PowerRules.{PowerRules}
 use Rattle.plan_places.specs.declared.CallRules.{CallRules}
-use Rattle.plan_places.specs.Power.{words, fprs, share_of, powerShare}
-use Rattle.plan_places.specs.ZSeries.{zClass, zSpanOf}
-use Rattle.plan_places.specs.Step.{rulesOf, span_of, freshCursor, hiddenFor, returning, result_of}
+use Rattle.plan_places.specs.Power.{words, fprs, share_of, power_share}
+use Rattle.plan_places.specs.ZSeries.{z_class, z_span_of}
+use Rattle.plan_places.specs.Step.{rules_of, span_of, fresh_cursor, hidden_for, returning, result_of}
 use Rattle.plan_entries.specs.declared.ResultWords.{ResultWords}
-use Rattle.plan_entries.specs.Results.{resultWords}
+use Rattle.plan_entries.specs.Results.{result_words}
 
 -- n registers from the first on
-abbrev pub inGeneral : ℕ → CallRules → ℕ → ResultWords
-inGeneral kind r n = record { kind = kind; gpr = (freshCursor r).general; gprs = n; fpr = 0; fprs = 0 }
+abbrev pub in_general : ℕ → CallRules → ℕ → ResultWords
+in_general kind r n = record { kind = kind; gpr = (fresh_cursor r).general; gprs = n; fpr = 0; fprs = 0 }
 
-abbrev pub inFloating : CallRules → ℕ → ResultWords
-inFloating r n = record { kind = 1; gpr = 0; gprs = 0; fpr = (freshCursor r).floating; fprs = n }
+abbrev pub in_floating : CallRules → ℕ → ResultWords
+in_floating r n = record { kind = 1; gpr = 0; gprs = 0; fpr = (fresh_cursor r).floating; fprs = n }
 
 -- a float in one FPR
-pub single-result : (r : CallRules) (n : ℕ) → inFloating r 1 ≡ resultWords (result_of r (ValueType.Float FloatFormat.Single) n)
-unfolding result_of hiddenFor returning span_of freshCursor powerShare fprs share_of zClass zSpanOf
+pub single-result : (r : CallRules) (n : ℕ) → in_floating r 1 ≡ result_words (result_of r (ValueType.Float FloatFormat.Single) n)
+unfolding result_of hidden_for returning span_of fresh_cursor power_share fprs share_of z_class z_span_of
 single-result (CallRules.Power f) n = refl
 single-result CallRules.Z n = refl
 
-pub double-result : (r : CallRules) (n : ℕ) → inFloating r 1 ≡ resultWords (result_of r (ValueType.Float FloatFormat.Double) n)
-unfolding result_of hiddenFor returning span_of freshCursor powerShare fprs share_of zClass zSpanOf
+pub double-result : (r : CallRules) (n : ℕ) → in_floating r 1 ≡ result_words (result_of r (ValueType.Float FloatFormat.Double) n)
+unfolding result_of hidden_for returning span_of fresh_cursor power_share fprs share_of z_class z_span_of
 double-result (CallRules.Power f) n = refl
 double-result CallRules.Z n = refl
 
 -- a long double: in two, or hidden
-pub long-power : (f : PowerRules) (n : ℕ) → inFloating (CallRules.Power f) 2 ≡ resultWords (result_of (CallRules.Power f) (ValueType.Float FloatFormat.LongDouble) n)
-unfolding result_of hiddenFor returning span_of freshCursor powerShare fprs share_of
+pub long-power : (f : PowerRules) (n : ℕ) → in_floating (CallRules.Power f) 2 ≡ result_words (result_of (CallRules.Power f) (ValueType.Float FloatFormat.LongDouble) n)
+unfolding result_of hidden_for returning span_of fresh_cursor power_share fprs share_of
 long-power f n = refl
 
-pub long-z : (n : ℕ) → inGeneral 2 CallRules.Z 1 ≡ resultWords (result_of CallRules.Z (ValueType.Float FloatFormat.LongDouble) n)
-unfolding result_of hiddenFor span_of freshCursor zClass zSpanOf
+pub long-z : (n : ℕ) → in_general 2 CallRules.Z 1 ≡ result_words (result_of CallRules.Z (ValueType.Float FloatFormat.LongDouble) n)
+unfolding result_of hidden_for span_of fresh_cursor z_class z_span_of
 long-z n = refl
 
 -- a struct is hidden
-pub struct-result : (c : Convention) (s : Shape) (n : ℕ) → inGeneral 2 (rulesOf c) 1 ≡ resultWords (result_of (rulesOf c) (ValueType.Struct s) n)
-unfolding result_of hiddenFor span_of freshCursor words powerShare fprs share_of zClass zSpanOf
+pub struct-result : (c : Convention) (s : Shape) (n : ℕ) → in_general 2 (rules_of c) 1 ≡ result_words (result_of (rules_of c) (ValueType.Struct s) n)
+unfolding result_of hidden_for span_of fresh_cursor words power_share fprs share_of z_class z_span_of
 struct-result Convention.Ppc64 s n = refl
 struct-result Convention.Z s n = refl
 struct-result Convention.Aix s n = refl
@@ -55,8 +55,8 @@ struct-result Convention.Ppc64b s n = refl
 
 -- an integer has one word, or two
 pub integer-result : (c : Convention) (k : IntegerKind) →
-    inGeneral 1 (rulesOf c) (pick (ltb (word_bytes c) (integerSize c k)) 2 1) ≡ resultWords (result_of (rulesOf c) (ValueType.Integer k) (integerSize c k))
-unfolding result_of hiddenFor returning span_of freshCursor words powerShare fprs share_of zClass zSpanOf
+    in_general 1 (rules_of c) (pick (ltb (word_bytes c) (integer_size c k)) 2 1) ≡ result_words (result_of (rules_of c) (ValueType.Integer k) (integer_size c k))
+unfolding result_of hidden_for returning span_of fresh_cursor words power_share fprs share_of z_class z_span_of
 integer-result Convention.Ppc64 IntegerKind.I8 = refl
 integer-result Convention.Ppc64 IntegerKind.U8 = refl
 integer-result Convention.Ppc64 IntegerKind.I16 = refl

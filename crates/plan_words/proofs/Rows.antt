@@ -20,29 +20,29 @@ use Rattle.sig_signatures.specs.declared.ResultType.{ResultType}
 use Rattle.sig_signatures.specs.declared.HeadRead.{HeadRead}
 use Rattle.sig_signatures.specs.declared.SignatureRead.{SignatureRead}
 use Rattle.sig_signatures.specs.Signature.{Result, Signature}
-use Rattle.sig_signatures.specs.Limits.{maxArguments}
-use Rattle.sig_signatures.specs.Read.{argumentsIn, signature_of, head_of}
-use Rattle.sig_signatures.specs.Answer.{accepted, resultType, headAnswer, signatureAnswer}
-use Rattle.sig_signatures.specs.Helpers.{withArguments, SmallResult}
-use Rattle.sig_signatures.proofs.Laws.{thenArguments, signature-arguments}
+use Rattle.sig_signatures.specs.Limits.{max_arguments}
+use Rattle.sig_signatures.specs.Read.{arguments_in, signature_of, head_of}
+use Rattle.sig_signatures.specs.Answer.{accepted, result_type, head_answer, signature_answer}
+use Rattle.sig_signatures.specs.Helpers.{with_arguments, SmallResult}
+use Rattle.sig_signatures.proofs.Laws.{then_arguments, signature-arguments}
 use Rattle.sig_signatures.specs.Types.{values_of, types_of}
 use Rattle.sig_signatures.proofs.Types.{length-of-types, answer-plannable}
 use Rattle.sig_reader.specs.declared.ArgumentRead.{ArgumentRead}
-use Rattle.sig_reader.specs.Argument.{argumentIn, argumentsPlace, argumentOf, itemIn, unclearFault}
+use Rattle.sig_reader.specs.Argument.{argument_in, arguments_place, argument_of, item_in, unclear_fault}
 use Rattle.sig_reader.proofs.Found.{begun}
 use Rattle.plan_places.specs.declared.Cursor.{Cursor}
 use Rattle.plan_places.specs.declared.Span.{Span}
-use Rattle.plan_places.specs.Step.{rulesOf, withEllipsis, span_of}
-use Rattle.plan_plans.specs.Plan.{spansOf, noSpan, table_of, start_in, lastCursorIn, planIn, refusedPlan, planAnswer}
-use Rattle.plan_plans.specs.Disjoint.{spanAt}
+use Rattle.plan_places.specs.Step.{rules_of, with_ellipsis, span_of}
+use Rattle.plan_plans.specs.Plan.{spans_of, no_span, table_of, start_in, last_cursor_in, plan_in, refused_plan, plan_answer}
+use Rattle.plan_plans.specs.Disjoint.{span_at}
 use Rattle.plan_plans.proofs.Fold.{length-spans, last-marked, spans-more, values-more}
 use Rattle.plan_plans.specs.Call.{called, call_of}
-use Rattle.plan_plans.specs.Helpers.{unclearOf}
+use Rattle.plan_plans.specs.Helpers.{unclear_of}
 use Rattle.plan_plans.proofs.Calls.{called-clear, unclear-plan}
 use Rattle.plan_words.specs.declared.Planned.{Planned}
-use Rattle.plan_words.specs.Planned.{plannedOf}
-use Rattle.plan_words.specs.Entries.{sizeIn, size_at, valueStart, entriesUpTo, entriesOf}
-use Rattle.plan_words.specs.Helpers.{itemAfter, rows_of, rowsWith, plannedBy, rows_by}
+use Rattle.plan_words.specs.Planned.{planned_of}
+use Rattle.plan_words.specs.Entries.{size_in, size_at, value_start, entries_up_to, entries_of}
+use Rattle.plan_words.specs.Helpers.{item_after, rows_of, rows_with, planned_by, rows_by}
 use Rattle.plan_words.proofs.Turns.{same-words}
 
 same-append : {a b x y : List ℕ} → a ≡ b → x ≡ y → a ++ x ≡ b ++ y
@@ -51,138 +51,138 @@ same-append p q = cc
 -- A reading of the arguments ts, and its entries one by one: an argument more changes nothing of those before it.
 module _ (c : Convention) (g : Result) (v : Bool) (next n : ℕ) where
   abbrev start : ℕ
-  start = argumentsPlace g v
+  start = arguments_place g v
 
   abbrev r : ResultType
-  r = resultType c g
+  r = result_type c g
 
   abbrev read : Trees → Reading Signature
   read ts = got (record { convention = c; result = g; ellipsis = v; arguments = ts }) next n
 
   abbrev spans : Trees → List Span
-  spans ts = spansOf c (withEllipsis v (rulesOf c)) (start_in c r) (types_of c ts)
+  spans ts = spans_of c (with_ellipsis v (rules_of c)) (start_in c r) (types_of c ts)
 
   length-of-spans : (ts : Trees) → length (spans ts) ≡ count_of ts
-  length-of-spans ts = length-spans c (withEllipsis v (rulesOf c)) (start_in c r) (types_of c ts) ∙ length-of-types c ts
+  length-of-spans ts = length-spans c (with_ellipsis v (rules_of c)) (start_in c r) (types_of c ts) ∙ length-of-types c ts
 
-  span-in : (ts : Trees) (i : ℕ) → i < count_of ts → spanAt (planAnswer (read ts)) i ≡ get_or (spans ts) i noSpan
-  unfolding planAnswer planIn table_of
+  span-in : (ts : Trees) (i : ℕ) → i < count_of ts → span_at (plan_answer (read ts)) i ≡ get_or (spans ts) i no_span
+  unfolding plan_answer plan_in table_of
   span-in ts i h =
       let less : i < length (spans ts) = omega (arith, length-of-spans ts) in
-      get_or-append (spans ts) (replicate (maxArguments - length (spans ts)) noSpan) noSpan i less
+      get_or-append (spans ts) (replicate (max_arguments - length (spans ts)) no_span) no_span i less
 
   module _ (ts : Trees) (t : Tree) where
     abbrev here : Span
-    here = span_of (withEllipsis v (rulesOf c)) (lastCursorIn c r (types_of c ts)) (type_of c t) (size_of c (type_of c t))
+    here = span_of (with_ellipsis v (rules_of c)) (last_cursor_in c r (types_of c ts)) (type_of c t) (size_of c (type_of c t))
 
     spans-then : spans (ts ▸ t) ≡ spans ts ++ here ∷ []
     unfolding types_of
     spans-then =
-        spans-more c (withEllipsis v (rulesOf c)) (start_in c r) (types_of c ts) (type_of c t)
-        ∙ ap (λ (k : Cursor). spans ts ++ span_of (withEllipsis v (rulesOf c)) k (type_of c t) (size_of c (type_of c t)) ∷ []) (last-marked c v (rulesOf c) (start_in c r) (types_of c ts))
+        spans-more c (with_ellipsis v (rules_of c)) (start_in c r) (types_of c ts) (type_of c t)
+        ∙ ap (λ (k : Cursor). spans ts ++ span_of (with_ellipsis v (rules_of c)) k (type_of c t) (size_of c (type_of c t)) ∷ []) (last-marked c v (rules_of c) (start_in c r) (types_of c ts))
 
-    argument-same : (i : ℕ) → i < count_of ts → argumentOf i (read (ts ▸ t)) ≡ argumentOf i (read ts)
-    unfolding argumentIn
+    argument-same : (i : ℕ) → i < count_of ts → argument_of i (read (ts ▸ t)) ≡ argument_of i (read ts)
+    unfolding argument_in
     argument-same i h = rw (ne_eqb i (count_of ts) (λ q. omega arith))
 
-    argument-last : argumentOf (count_of ts) (read (ts ▸ t)) ≡ ArgumentRead.Argument (type_of c t) (itemAfter start ts)
-    unfolding argumentIn
+    argument-last : argument_of (count_of ts) (read (ts ▸ t)) ≡ ArgumentRead.Argument (type_of c t) (item_after start ts)
+    unfolding argument_in
     argument-last = rw (eq-eqb (count_of ts) (count_of ts) refl)
 
-    span_same : (i : ℕ) → i < count_of ts → spanAt (planAnswer (read (ts ▸ t))) i ≡ spanAt (planAnswer (read ts)) i
+    span_same : (i : ℕ) → i < count_of ts → span_at (plan_answer (read (ts ▸ t))) i ≡ span_at (plan_answer (read ts)) i
     unfolding count_of
     span_same i h =
         let less : i < length (spans ts) = omega (arith, length-of-spans ts) in
         span-in (ts ▸ t) i (omega arith)
-        ∙ ap (λ (l : List Span). get_or l i noSpan) spans-then
-        ∙ get_or-append (spans ts) (here ∷ []) noSpan i less
+        ∙ ap (λ (l : List Span). get_or l i no_span) spans-then
+        ∙ get_or-append (spans ts) (here ∷ []) no_span i less
         ∙ sym (span-in ts i h)
 
-    span_last : spanAt (planAnswer (read (ts ▸ t))) (count_of ts) ≡ here
+    span_last : span_at (plan_answer (read (ts ▸ t))) (count_of ts) ≡ here
     unfolding count_of
     span_last =
         span-in (ts ▸ t) (count_of ts) (omega arith)
-        ∙ ap (λ (l : List Span). get_or l (count_of ts) noSpan) spans-then
-        ∙ get_or_at (spans ts) here [] noSpan (count_of ts) (length-of-spans ts)
+        ∙ ap (λ (l : List Span). get_or l (count_of ts) no_span) spans-then
+        ∙ get_or_at (spans ts) here [] no_span (count_of ts) (length-of-spans ts)
 
     size_same : (i : ℕ) → i < count_of ts → size_at (read (ts ▸ t)) i ≡ size_at (read ts) i
-    unfolding planAnswer planIn
-    size_same i h = ap (sizeIn c) (argument-same i h)
+    unfolding plan_answer plan_in
+    size_same i h = ap (size_in c) (argument-same i h)
 
     size-last : size_at (read (ts ▸ t)) (count_of ts) ≡ size_of c (type_of c t)
-    unfolding planAnswer planIn
-    size-last = ap (sizeIn c) argument-last
+    unfolding plan_answer plan_in
+    size-last = ap (size_in c) argument-last
 
-    value_same : (i : ℕ) → i ≤ count_of ts → valueStart (read (ts ▸ t)) i ≡ valueStart (read ts) i
-    unfolding valueStart
+    value_same : (i : ℕ) → i ≤ count_of ts → value_start (read (ts ▸ t)) i ≡ value_start (read ts) i
+    unfolding value_start
     value_same zero h = refl
     value_same (suc i) h = omega (arith, value_same i (omega arith), size_same i (omega arith))
 
-    entries-same : (i : ℕ) → i ≤ count_of ts → entriesUpTo (read (ts ▸ t)) i ≡ entriesUpTo (read ts) i
-    unfolding entriesUpTo
+    entries-same : (i : ℕ) → i ≤ count_of ts → entries_up_to (read (ts ▸ t)) i ≡ entries_up_to (read ts) i
+    unfolding entries_up_to
     entries-same zero h = refl
     entries-same (suc i) h =
         same-append (entries-same i (omega arith))
-        (same-words (ap itemIn (argument-same i (omega arith))) (size_same i (omega arith)) (value_same i (omega arith)) (span_same i (omega arith)))
+        (same-words (ap item_in (argument-same i (omega arith))) (size_same i (omega arith)) (value_same i (omega arith)) (span_same i (omega arith)))
 
   -- "without gaps": the last value starts where all before it end
-  value-all : (ts : Trees) → valueStart (read ts) (count_of ts) ≡ values_of c (types_of c ts)
-  unfolding valueStart count_of types_of values_of
+  value-all : (ts : Trees) → value_start (read ts) (count_of ts) ≡ values_of c (types_of c ts)
+  unfolding value_start count_of types_of values_of
   value-all none = refl
   value-all (ts ▸ t) =
       rw add-one (omega (arith, value_same ts t (count_of ts) (omega arith), value-all ts, size-last ts t, values-more c (types_of c ts) (type_of c t)))
 
-  entries-all : (ts : Trees) → rows_of c v r start ts ≡ entriesUpTo (read ts) (count_of ts)
-  unfolding rows_of entriesUpTo count_of
+  entries-all : (ts : Trees) → rows_of c v r start ts ≡ entries_up_to (read ts) (count_of ts)
+  unfolding rows_of entries_up_to count_of
   entries-all none = refl
   entries-all (ts ▸ t) =
       rw add-one
       (same-append (entries-all ts ∙ sym (entries-same ts t (count_of ts) (omega arith)))
-      (same-words (sym (ap itemIn (argument-last ts t))) (sym (size-last ts t)) (sym (value_same ts t (count_of ts) (omega arith) ∙ value-all ts)) (sym (span_last ts t))))
+      (same-words (sym (ap item_in (argument-last ts t))) (sym (size-last ts t)) (sym (value_same ts t (count_of ts) (omega arith) ∙ value-all ts)) (sym (span_last ts t))))
 
-  accepted-rows : (ts : Trees) → rows_of c v r start ts ≡ entriesOf (read ts)
-  unfolding entriesOf planAnswer planIn
-  accepted-rows ts = entries-all ts ∙ ap (entriesUpTo (read ts)) (sym (length-of-types c ts))
+  accepted-rows : (ts : Trees) → rows_of c v r start ts ≡ entries_of (read ts)
+  unfolding entries_of plan_answer plan_in
+  accepted-rows ts = entries-all ts ∙ ap (entries_up_to (read ts)) (sym (length-of-types c ts))
 
 -- a refused one
-refused-rows : (y : Reading Signature) (f : Fault) → planAnswer y ≡ refusedPlan f → [] ≡ entriesOf y
-unfolding entriesOf entriesUpTo
+refused-rows : (y : Reading Signature) (f : Fault) → plan_answer y ≡ refused_plan f → [] ≡ entries_of y
+unfolding entries_of entries_up_to
 refused-rows y f plan = rw plan
 
 rows-of : (s : List ℕ) (c : Convention) (g : Result) (v : Bool) (n : ℕ) (x : Reading Trees) →
-    rowsWith c v (resultType c g) (argumentsPlace g v) (length s) x ≡ entriesOf (thenArguments s c g v n x)
-unfolding planAnswer
+    rows_with c v (result_type c g) (arguments_place g v) (length s) x ≡ entries_of (then_arguments s c g v n x)
+unfolding plan_answer
 rows-of s c g v n (no f) = refused-rows (no (later n f)) (later n f) refl
 rows-of s c g v n (got ts next m) = go (ltb next (length s))
   where
-    go : (more : Bool) → pick more [] (rows_of c v (resultType c g) (argumentsPlace g v) ts)
-        ≡ entriesOf (pick more (no (fault Refusal.TrailingBytes next (n + m))) (got (record { convention = c; result = g; ellipsis = v; arguments = ts }) next (n + m)))
+    go : (more : Bool) → pick more [] (rows_of c v (result_type c g) (arguments_place g v) ts)
+        ≡ entries_of (pick more (no (fault Refusal.TrailingBytes next (n + m))) (got (record { convention = c; result = g; ellipsis = v; arguments = ts }) next (n + m)))
     go true = refused-rows (no (fault Refusal.TrailingBytes next (n + m))) (fault Refusal.TrailingBytes next (n + m)) refl
     go false = accepted-rows c g v next (n + m) ts
 
-pub rows-entries : (s : List ℕ) (x : HeadRead) → x ≡ headAnswer (head_of s) → (c : Convention) (t : ResultType) (v : Bool) (at b n : ℕ) → x ≡ HeadRead.Head c t v at b n →
-    rowsWith c v t at (length s) (argumentsIn c s at b) ≡ entriesOf (signature_of s)
+pub rows-entries : (s : List ℕ) (x : HeadRead) → x ≡ head_answer (head_of s) → (c : Convention) (t : ResultType) (v : Bool) (at b n : ℕ) → x ≡ HeadRead.Head c t v at b n →
+    rows_with c v t at (length s) (arguments_in c s at b) ≡ entries_of (signature_of s)
 rows-entries s x found c t v at b n q =
     let g = begun s x found c t v at b n q in
-    let y : Reading Trees = argumentsIn c s at b in
-    ap (λ (u : ResultType). rowsWith c v u at (length s) y) g.same
-    ∙ ap (λ (k : ℕ). rowsWith c v (resultType c g.result) k (length s) y) g.starts
+    let y : Reading Trees = arguments_in c s at b in
+    ap (λ (u : ResultType). rows_with c v u at (length s) y) g.same
+    ∙ ap (λ (k : ℕ). rows_with c v (result_type c g.result) k (length s) y) g.starts
     ∙ rows-of s c g.result v n y
-    ∙ ap entriesOf (sym g.whole)
+    ∙ ap entries_of (sym g.whole)
 
-pub no-entries : (s : List ℕ) (f : Fault) → signature_of s ≡ no f → [] ≡ entriesOf (call_of s)
-unfolding called planAnswer
+pub no-entries : (s : List ℕ) (f : Fault) → signature_of s ≡ no f → [] ≡ entries_of (call_of s)
+unfolding called plan_answer
 no-entries s f q = refused-rows (call_of s) f (rw q)
 
 -- ---- a call
 
-pub planned-called : (x : Reading Signature) (m : Planned) (u : ℕ) → m ≡ plannedOf (planAnswer x) → u ≡ unclearOf (signatureAnswer x)
-    → plannedBy u m x ≡ plannedOf (planAnswer (called x))
-unfolding plannedBy
-planned-called x m zero e q = e ∙ ap (λ (y : Reading Signature). plannedOf (planAnswer y)) (sym (called-clear x (sym q)))
-planned-called x m (suc i) e q = ap plannedOf (unclear-plan x (signatureAnswer x) i refl (sym q))
+pub planned-called : (x : Reading Signature) (m : Planned) (u : ℕ) → m ≡ planned_of (plan_answer x) → u ≡ unclear_of (signature_answer x)
+    → planned_by u m x ≡ planned_of (plan_answer (called x))
+unfolding planned_by
+planned-called x m zero e q = e ∙ ap (λ (y : Reading Signature). planned_of (plan_answer y)) (sym (called-clear x (sym q)))
+planned-called x m (suc i) e q = ap planned_of (unclear-plan x (signature_answer x) i refl (sym q))
 
-pub rows-called : (x : Reading Signature) (rows : List ℕ) (u : ℕ) → rows ≡ entriesOf x → u ≡ unclearOf (signatureAnswer x) → rows_by u rows ≡ entriesOf (called x)
+pub rows-called : (x : Reading Signature) (rows : List ℕ) (u : ℕ) → rows ≡ entries_of x → u ≡ unclear_of (signature_answer x) → rows_by u rows ≡ entries_of (called x)
 unfolding rows_by
-rows-called x rows zero e q = e ∙ ap entriesOf (sym (called-clear x (sym q)))
-rows-called x rows (suc i) e q = refused-rows (called x) (unclearFault i x) (sym (unclear-plan x (signatureAnswer x) i refl (sym q)))
+rows-called x rows zero e q = e ∙ ap entries_of (sym (called-clear x (sym q)))
+rows-called x rows (suc i) e q = refused-rows (called x) (unclear_fault i x) (sym (unclear-plan x (signature_answer x) i refl (sym q)))

@@ -7,33 +7,33 @@ use Rattle.sig_types.specs.Sizes.{size_of}
 use Rattle.sig_items.specs.Reading.{Reading}
 use Rattle.sig_signatures.specs.Signature.{Signature}
 use Rattle.sig_reader.specs.declared.ArgumentRead.{ArgumentRead}
-use Rattle.sig_reader.specs.Argument.{argumentOf, itemIn}
-use Rattle.plan_plans.specs.Plan.{planAnswer}
-use Rattle.plan_plans.specs.Disjoint.{spanAt}
-use Rattle.plan_entries.specs.Words.{entryWords}
+use Rattle.sig_reader.specs.Argument.{argument_of, item_in}
+use Rattle.plan_plans.specs.Plan.{plan_answer}
+use Rattle.plan_plans.specs.Disjoint.{span_at}
+use Rattle.plan_entries.specs.Words.{entry_words}
 
 -- of what the reader says of an argument
-abbrev pub sizeIn : Convention → ArgumentRead → ℕ
-sizeIn c (ArgumentRead.Argument t place) = size_of c t
-sizeIn c ArgumentRead.Missing = 0
-sizeIn c (ArgumentRead.Refused f) = 0
+abbrev pub size_in : Convention → ArgumentRead → ℕ
+size_in c (ArgumentRead.Argument t place) = size_of c t
+size_in c ArgumentRead.Missing = 0
+size_in c (ArgumentRead.Refused f) = 0
 
 -- the bytes of argument i
 abbrev pub size_at : Reading Signature → ℕ → ℕ
-size_at x i = sizeIn (planAnswer x).convention (argumentOf i x)
+size_at x i = size_in (plan_answer x).convention (argument_of i x)
 
 -- "The value buffer holds the arguments in order without gaps": where argument i's value starts
-unfoldable pub valueStart : Reading Signature → ℕ → ℕ
-valueStart x zero = 0
-valueStart x (suc i) = valueStart x i + size_at x i
+unfoldable pub value_start : Reading Signature → ℕ → ℕ
+value_start x zero = 0
+value_start x (suc i) = value_start x i + size_at x i
 
 abbrev pub entry_at : Reading Signature → ℕ → List ℕ
-entry_at x i = entryWords (itemIn (argumentOf i x)) (size_at x i) (valueStart x i) (spanAt (planAnswer x) i)
+entry_at x i = entry_words (item_in (argument_of i x)) (size_at x i) (value_start x i) (span_at (plan_answer x) i)
 
 -- those of the first n arguments
-unfoldable pub entriesUpTo : Reading Signature → ℕ → List ℕ
-entriesUpTo x zero = []
-entriesUpTo x (suc i) = entriesUpTo x i ++ entry_at x i
+unfoldable pub entries_up_to : Reading Signature → ℕ → List ℕ
+entries_up_to x zero = []
+entries_up_to x (suc i) = entries_up_to x i ++ entry_at x i
 
-unfoldable pub entriesOf : Reading Signature → List ℕ
-entriesOf x = entriesUpTo x (planAnswer x).count
+unfoldable pub entries_of : Reading Signature → List ℕ
+entries_of x = entries_up_to x (plan_answer x).count

@@ -1,21 +1,21 @@
 // A plan in 64-bit words: an entry for each argument in a table that the caller lends, and beside the table the sizes and the
 // result's places.
 ghost use Rattle.std.specs.Prelude.{◌≡◌, ltb, ◌^◌, ◌≤◌, ◌<◌, length};
-ghost use Rattle.base_words.specs.Splice.{overlayWhole};
-ghost use Rattle.sig_signatures.specs.Limits.{maxLength};
-ghost use Rattle.sig_signatures.specs.Read.{argumentsIn, signature_of};
+ghost use Rattle.base_words.specs.Splice.{overlay_whole};
+ghost use Rattle.sig_signatures.specs.Limits.{max_length};
+ghost use Rattle.sig_signatures.specs.Read.{arguments_in, signature_of};
 ghost use Rattle.base_words.specs.Basics.{pick};
 ghost use Rattle.sig_types.specs.Sizes.{size_of};
 ghost use Rattle.sig_signatures.specs.Helpers.{RoomFor};
 ghost use Rattle.plan_places.specs.declared.ResultPlaces.{ResultPlaces};
-ghost use Rattle.plan_places.specs.Step.{rulesOf, result_of};
-ghost use Rattle.plan_plans.specs.Plan.{refusedPlan, resultPlacesIn, planAnswer};
+ghost use Rattle.plan_places.specs.Step.{rules_of, result_of};
+ghost use Rattle.plan_plans.specs.Plan.{refused_plan, result_places_in, plan_answer};
 ghost use Rattle.plan_plans.specs.Call.{call_of};
-ghost use Rattle.plan_entries.specs.Results.{resultWords};
-ghost use Rattle.plan_entries.specs.Words.{entryLength};
-ghost use Rattle.plan_words.specs.Entries.{entriesOf};
-ghost use Rattle.plan_words.specs.Helpers.{planCalled, rowsCalled};
-ghost use Rattle.plan_words.specs.Planned.{plannedOf};
+ghost use Rattle.plan_entries.specs.Results.{result_words};
+ghost use Rattle.plan_entries.specs.Words.{entry_length};
+ghost use Rattle.plan_words.specs.Entries.{entries_of};
+ghost use Rattle.plan_words.specs.Helpers.{plan_called, rows_called};
+ghost use Rattle.plan_words.specs.Planned.{planned_of};
 
 use base_conventions::Convention;
 use plan_entries::{ENTRY, ResultWords};
@@ -38,7 +38,7 @@ pub struct Planned {
 }
 
 fn no_result() -> ResultWords
-    ensures { result ≡ resultWords ResultPlaces.Nothing }
+    ensures { result ≡ result_words ResultPlaces.Nothing }
 {
     ResultWords {
         kind: 0,
@@ -62,7 +62,7 @@ fn integer_words(word: usize, size: usize) -> u64
 // The words of a result of a type, from the registers that its convention begins with. Nothing is placed for it: the step is then called for arguments
 // alone, and compiled in line there.
 fn value_words(c: Convention, t: ValueType) -> ResultWords
-    ensures { result ≡ resultWords (result_of (rulesOf c) t (size_of c t)) }
+    ensures { result ≡ result_words (result_of (rules_of c) t (size_of c t)) }
 {
     let k = both_abi::cursor_of(c);
     let general = k.general as u64;
@@ -114,7 +114,7 @@ fn value_words(c: Convention, t: ValueType) -> ResultWords
 }
 
 fn result_words(c: Convention, res: ResultType) -> ResultWords
-    ensures { result ≡ resultWords (resultPlacesIn c res) }
+    ensures { result ≡ result_words (result_places_in c res) }
 {
     match res {
         ResultType::Nothing => no_result(),
@@ -123,7 +123,7 @@ fn result_words(c: Convention, res: ResultType) -> ResultWords
 }
 
 fn no_plan(fault: Fault) -> Planned
-    ensures { result ≡ plannedOf (refusedPlan fault) }
+    ensures { result ≡ planned_of (refused_plan fault) }
 {
     Planned {
         outcome: Outcome::Refused(fault),
@@ -150,9 +150,9 @@ fn plan_arguments(
     kept: &mut [u16],
     places: &mut [u64],
 ) -> Planned
-    requires { (at ≤ end) × (end ≤ length sig.now) × (length sig.now ≤ maxLength) × (earlier ≤ 2 ^ 16) × RoomFor entryLength at end (length kept.old) }
-    ensures value { result ≡ planCalled convention ellipsis returned earlier (length sig.now) (argumentsIn convention sig.now at end) (signature_of sig.now) }
-    ensures places_after { places.new ≡ overlayWhole places.old (rowsCalled convention ellipsis returned at (length sig.now) (argumentsIn convention sig.now at end)) }
+    requires { (at ≤ end) × (end ≤ length sig.now) × (length sig.now ≤ max_length) × (earlier ≤ 2 ^ 16) × RoomFor entry_length at end (length kept.old) }
+    ensures value { result ≡ plan_called convention ellipsis returned earlier (length sig.now) (arguments_in convention sig.now at end) (signature_of sig.now) }
+    ensures places_after { places.new ≡ overlay_whole places.old (rows_called convention ellipsis returned at (length sig.now) (arguments_in convention sig.now at end)) }
 {
     let rules = plan_places::with_ellipsis(both_abi::call_rules_of(convention), ellipsis);
     let hidden = plan_planning::hidden_in(convention, returned);
@@ -229,9 +229,9 @@ fn plan_part(
     earlier: usize,
     places: &mut [u64],
 ) -> Planned
-    requires { (at ≤ end) × (end ≤ length sig.now) × (length sig.now ≤ maxLength) × (earlier ≤ 2 ^ 16) }
-    ensures value { result ≡ planCalled convention ellipsis returned earlier (length sig.now) (argumentsIn convention sig.now at end) (signature_of sig.now) }
-    ensures places_after { places.new ≡ overlayWhole places.old (rowsCalled convention ellipsis returned at (length sig.now) (argumentsIn convention sig.now at end)) }
+    requires { (at ≤ end) × (end ≤ length sig.now) × (length sig.now ≤ max_length) × (earlier ≤ 2 ^ 16) }
+    ensures value { result ≡ plan_called convention ellipsis returned earlier (length sig.now) (arguments_in convention sig.now at end) (signature_of sig.now) }
+    ensures places_after { places.new ≡ overlay_whole places.old (rows_called convention ellipsis returned at (length sig.now) (arguments_in convention sig.now at end)) }
 {
     if end - at <= FEW_BYTES {
         let mut few = [0u16; ENTRY * FEW_ARGUMENTS];
@@ -247,8 +247,8 @@ fn plan_part(
 
 // The plan of a signature's bytes, any bytes at all. A table that is too short for all arguments is left as it was.
 pub fn plan_words(sig: &[u8], places: &mut [u64]) -> Planned
-    ensures value { result ≡ plannedOf (planAnswer (call_of sig.now)) }
-    ensures places_after { places.new ≡ overlayWhole places.old (entriesOf (call_of sig.now)) }
+    ensures value { result ≡ planned_of (plan_answer (call_of sig.now)) }
+    ensures places_after { places.new ≡ overlay_whole places.old (entries_of (call_of sig.now)) }
 {
     match sig_head::read_head(sig) {
         HeadRead::Refused(fault) => no_plan(fault),

@@ -1,11 +1,11 @@
 // One argument on Z: its class, and the register, the memory or the copy that the class asks for.
 ghost use Rattle.std.specs.Prelude.{◌≡◌, ◌+◌, ◌-◌, ◌*◌, ◌≤◌, min};
 ghost use Rattle.plan_places.specs.declared.CallRules.{CallRules};
-ghost use Rattle.plan_places.specs.ZSeries.{by_size, byEquivalent, zClass, zWord, zSpan, zNext, zSpanOf, zNextOf};
+ghost use Rattle.plan_places.specs.ZSeries.{by_size, by_equivalent, z_class, z_word, z_span, z_next, z_span_of, z_next_of};
 ghost use Rattle.plan_places.specs.Values.{bytes};
-ghost use Rattle.plan_places.specs.Step.{placedAs, nextOf, placed};
+ghost use Rattle.plan_places.specs.Step.{placed_as, next_of, placed};
 ghost use Rattle.plan_places.specs.Helpers.{Roomy};
-ghost use Rattle.sig_types.specs.Sizes.{maxSize};
+ghost use Rattle.sig_types.specs.Sizes.{max_size};
 
 use both_abi::Z;
 use plan_places::{Cursor, Placed, Span, ZClass};
@@ -30,7 +30,7 @@ fn by_size(size: usize) -> ZClass
 }
 
 fn by_equivalent(e: Equivalent, size: usize) -> ZClass
-    ensures { result ≡ byEquivalent e size }
+    ensures { result ≡ by_equivalent e size }
 {
     match e {
         Equivalent::Nothing => by_size(size),
@@ -40,7 +40,7 @@ fn by_equivalent(e: Equivalent, size: usize) -> ZClass
 }
 
 fn class_of(t: ValueType, size: usize) -> ZClass
-    ensures { result ≡ zClass t size }
+    ensures { result ≡ z_class t size }
 {
     match t {
         ValueType::Integer(_) => ZClass::Simple,
@@ -74,8 +74,8 @@ struct ZTaken {
 }
 
 fn taken_of(c: Cursor, class: ZClass, size: usize) -> ZTaken
-    requires { Roomy c × (size ≤ maxSize) }
-    ensures { (zSpanOf c class size ≡ zSpan c result.general result.floating (bytes result.copy result.length) result.indirect) × (zNextOf c class size ≡ zNext c result.general result.floating (result.copy + result.length)) × (result.general + result.floating ≤ 1) × (result.copy + result.length ≤ 60300) }
+    requires { Roomy c × (size ≤ max_size) }
+    ensures { (z_span_of c class size ≡ z_span c result.general result.floating (bytes result.copy result.length) result.indirect) × (z_next_of c class size ≡ z_next c result.general result.floating (result.copy + result.length)) × (result.general + result.floating ≤ 1) × (result.copy + result.length ≤ 60300) }
 {
     let general = c.general;
     let floating = c.floating;
@@ -117,7 +117,7 @@ fn taken_of(c: Cursor, class: ZClass, size: usize) -> ZTaken
 // The bytes of memory of an argument in g GPRs or f FPRs.
 fn stored(g: usize, f: usize) -> usize
     requires { g + f ≤ 1 }
-    ensures { result ≡ zWord * (1 - (g + f)) }
+    ensures { result ≡ z_word * (1 - (g + f)) }
 {
     Z::WORD * (1 - (g + f))
 }
@@ -125,7 +125,7 @@ fn stored(g: usize, f: usize) -> usize
 // Floating registers count by two: only the even ones are used.
 fn next_of(c: Cursor, a: ZTaken) -> Cursor
     requires { Roomy c × (a.general + a.floating ≤ 1) × (a.copy + a.length ≤ 60300) }
-    ensures { result ≡ zNext c a.general a.floating (a.copy + a.length) }
+    ensures { result ≡ z_next c a.general a.floating (a.copy + a.length) }
 {
     Cursor {
         general: c.general + a.general,
@@ -138,7 +138,7 @@ fn next_of(c: Cursor, a: ZTaken) -> Cursor
 // The span and the next cursor, from what the argument takes.
 fn place(c: Cursor, a: ZTaken) -> Placed
     requires { Roomy c × (a.general + a.floating ≤ 1) × (a.copy + a.length ≤ 60300) }
-    ensures { result ≡ placedAs (zSpan c a.general a.floating (bytes a.copy a.length) a.indirect) (zNext c a.general a.floating (a.copy + a.length)) }
+    ensures { result ≡ placed_as (z_span c a.general a.floating (bytes a.copy a.length) a.indirect) (z_next c a.general a.floating (a.copy + a.length)) }
 {
     let general = c.general;
     let floating = c.floating;
@@ -160,7 +160,7 @@ fn place(c: Cursor, a: ZTaken) -> Placed
 }
 
 pub fn step(c: Cursor, t: ValueType, size: usize) -> Placed
-    requires { Roomy c × (size ≤ maxSize) }
+    requires { Roomy c × (size ≤ max_size) }
     ensures { result ≡ placed CallRules.Z c t size }
 {
     place(c, taken_of(c, class_of(t, size), size))
@@ -168,8 +168,8 @@ pub fn step(c: Cursor, t: ValueType, size: usize) -> Placed
 
 // The next cursor of the step, without the span.
 pub fn advance(c: Cursor, t: ValueType, size: usize) -> Cursor
-    requires { Roomy c × (size ≤ maxSize) }
-    ensures { result ≡ nextOf CallRules.Z c t size }
+    requires { Roomy c × (size ≤ max_size) }
+    ensures { result ≡ next_of CallRules.Z c t size }
 {
     next_of(c, taken_of(c, class_of(t, size), size))
 }

@@ -7,17 +7,17 @@ use Rattle.sig_types.specs.declared.ValueType.{ValueType}
 use Rattle.sig_types.specs.Sizes.{size_of}
 use Rattle.sig_signatures.specs.declared.ResultType.{ResultType}
 use Rattle.sig_signatures.specs.Helpers.{SmallResult}
-use Rattle.second_parameters.specs.Values.{numbers, runOf, no_run}
+use Rattle.second_parameters.specs.Values.{numbers, run_of, no_run}
 
 -- ---- runs
 
-pub run_none : (a n : ℕ) → n ≡ 0 → no_run ≡ runOf a n
-unfolding runOf
+pub run_none : (a n : ℕ) → n ≡ 0 → no_run ≡ run_of a n
+unfolding run_of
 run_none a zero h = refl
 run_none a (suc n) h = absurd (omega arith)
 
-pub run-some : (a n : ℕ) → (n ≡ 0 → ⊥) → numbers a n ≡ runOf a n
-unfolding runOf
+pub run-some : (a n : ℕ) → (n ≡ 0 → ⊥) → numbers a n ≡ run_of a n
+unfolding run_of
 run-some a zero h = absurd (h refl)
 run-some a (suc n) h = refl
 

@@ -6,23 +6,23 @@ use native.Mathlib.Omega.{arith}
 use lib.ListN.{length, drop, drop_of_length-le}
 use Rattle.base_words.proofs.Tables.{Table, table-end}
 use Rattle.sig_types.specs.Sizes.{size_of}
-use Rattle.sig_signatures.specs.Limits.{maxArguments}
+use Rattle.sig_signatures.specs.Limits.{max_arguments}
 use Rattle.sig_signatures.specs.declared.SignatureRead.{SignatureRead}
 use Rattle.sig_signatures.specs.Types.{types_in}
 use Rattle.sig_signatures.specs.Helpers.{type_at, Plannable}
 use Rattle.sig_signatures.proofs.Types.{length_types, types-drop}
-use Rattle.second_parameters.specs.Values.{tableWith}
+use Rattle.second_parameters.specs.Values.{table_with}
 
 -- ---- the table that a loop has filled
 
-pub table-whole : {A : Type 0} (x : A) (ss whole : List A) (i : ℕ) → Table maxArguments x ss [] whole i → ss ≡ tableWith x whole
-unfolding tableWith
-table-whole x ss whole i g = table-end maxArguments x ss whole i g
+pub table-whole : {A : Type 0} (x : A) (ss whole : List A) (i : ℕ) → Table max_arguments x ss [] whole i → ss ≡ table_with x whole
+unfolding table_with
+table-whole x ss whole i g = table-end max_arguments x ss whole i g
 
 -- ---- the argument of a turn
 
 pub record Here (g : SignatureRead) (i : ℕ) : Type 0 where
-  pub few : i < maxArguments
+  pub few : i < max_arguments
   pub small : size_of g.convention (type_at g i) ≤ 256
   pub next : drop i (types_in g) ≡ type_at g i ∷ drop (suc i) (types_in g)
 

@@ -1,7 +1,7 @@
 // Where a parameter and a result are, in the second planner's terms.
 ghost use Rattle.std.specs.Prelude.{◌≡◌, replicate};
-ghost use Rattle.sig_signatures.specs.Limits.{maxArguments};
-ghost use Rattle.second_parameters.specs.Values.{runOf, no_run, noParameter};
+ghost use Rattle.sig_signatures.specs.Limits.{max_arguments};
+ghost use Rattle.second_parameters.specs.Values.{run_of, no_run, no_parameter};
 
 use sig_signatures::MAX_ARGUMENTS;
 
@@ -34,7 +34,7 @@ pub enum Returned {
 }
 
 pub fn run_of(first: usize, count: usize) -> Run
-    ensures { result ≡ runOf first count }
+    ensures { result ≡ run_of first count }
 {
     if count == 0 {
         return Run { first: 0, count: 0 };
@@ -49,7 +49,7 @@ pub fn no_run() -> Run
 }
 
 pub fn no_parameters() -> [Parameter; MAX_ARGUMENTS]
-    ensures { result ≡ replicate maxArguments noParameter }
+    ensures { result ≡ replicate max_arguments no_parameter }
 {
     let none = no_run();
     [Parameter {

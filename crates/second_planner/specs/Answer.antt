@@ -8,62 +8,62 @@ use Rattle.sig_items.specs.Reading.{Reading, got, no}
 use Rattle.sig_signatures.specs.declared.Outcome.{Outcome}
 use Rattle.sig_signatures.specs.declared.ResultType.{ResultType}
 use Rattle.sig_signatures.specs.Signature.{Signature}
-use Rattle.sig_signatures.specs.Limits.{maxArguments}
-use Rattle.sig_signatures.specs.Answer.{resultType}
+use Rattle.sig_signatures.specs.Limits.{max_arguments}
+use Rattle.sig_signatures.specs.Answer.{result_type}
 use Rattle.sig_signatures.specs.Types.{types_of, values_of}
-use Rattle.sig_reader.specs.Argument.{unclearFault}
+use Rattle.sig_reader.specs.Argument.{unclear_fault}
 use Rattle.second_parameters.specs.declared.Parameter.{Parameter}
 use Rattle.second_parameters.specs.declared.Returned.{Returned}
-use Rattle.second_parameters.specs.Values.{noParameter, tableWith}
-use Rattle.second_structure.specs.Structure.{fieldsFrom, words_to, hiddenWords, area_bytes, registersOver, firstStraddling, powerHidden, powerReturned}
-use Rattle.second_slot_scan.specs.Slots.{initial, slotsFrom, scannedTo, zHidden, zReturned}
+use Rattle.second_parameters.specs.Values.{no_parameter, table_with}
+use Rattle.second_structure.specs.Structure.{fields_from, words_to, hidden_words, area_bytes, registers_over, first_straddling, power_hidden, power_returned}
+use Rattle.second_slot_scan.specs.Slots.{initial, slots_from, scanned_to, z_hidden, z_returned}
 use Rattle.second_planner.specs.declared.SecondPlan.{SecondPlan}
 
 -- ---- an accepted signature's
 
 -- PowerPC: registers over the structure of all parameters
-unfoldable pub powerParameters : Bool → Bool → ℕ → Convention → ResultType → List ValueType → List Parameter
-powerParameters ellipsis paired w c r ts = registersOver ellipsis paired w 0 ts (fieldsFrom c w (hiddenWords (powerHidden r)) ts)
+unfoldable pub power_parameters : Bool → Bool → ℕ → Convention → ResultType → List ValueType → List Parameter
+power_parameters ellipsis paired w c r ts = registers_over ellipsis paired w 0 ts (fields_from c w (hidden_words (power_hidden r)) ts)
 
-unfoldable pub powerPlan : Bool → Bool → ℕ → ℕ → Convention → ResultType → List ValueType → SecondPlan
-powerPlan ellipsis paired w n c r ts = record {
+unfoldable pub power_plan : Bool → Bool → ℕ → ℕ → Convention → ResultType → List ValueType → SecondPlan
+power_plan ellipsis paired w n c r ts = record {
   outcome = Outcome.Accepted n;
   convention = c;
   ellipsis = ellipsis;
-  result = powerReturned c w r;
+  result = power_returned c w r;
   count = length ts;
-  area = area_bytes w (words_to c w (hiddenWords (powerHidden r)) ts);
+  area = area_bytes w (words_to c w (hidden_words (power_hidden r)) ts);
   values = values_of c ts;
   copies = 0;
-  parameters = tableWith noParameter (powerParameters ellipsis paired w c r ts);
+  parameters = table_with no_parameter (power_parameters ellipsis paired w c r ts);
 }
 
 -- Z: slot by slot; 02, No. 5: with an ellipsis "Z's places stay"
-unfoldable pub zPlan : Bool → ℕ → Convention → ResultType → List ValueType → SecondPlan
-zPlan ellipsis n c r ts = record {
+unfoldable pub z_plan : Bool → ℕ → Convention → ResultType → List ValueType → SecondPlan
+z_plan ellipsis n c r ts = record {
   outcome = Outcome.Accepted n;
   convention = c;
   ellipsis = ellipsis;
-  result = zReturned r;
+  result = z_returned r;
   count = length ts;
-  area = (scannedTo c (initial (zHidden r)) ts).starg;
+  area = (scanned_to c (initial (z_hidden r)) ts).starg;
   values = values_of c ts;
-  copies = (scannedTo c (initial (zHidden r)) ts).copies;
-  parameters = tableWith noParameter (slotsFrom c (initial (zHidden r)) ts);
+  copies = (scanned_to c (initial (z_hidden r)) ts).copies;
+  parameters = table_with no_parameter (slots_from c (initial (z_hidden r)) ts);
 }
 
 -- "for codes 1, 3 and 4, and a slot-by-slot one for Z": doublewords, 4-byte words, and the edition where a long double takes two FPRs
-abbrev pub secondIn : ℕ → Convention → Bool → ResultType → List ValueType → SecondPlan
-secondIn n Convention.Ppc64 ellipsis r ts = powerPlan ellipsis false 8 n Convention.Ppc64 r ts
-secondIn n Convention.Z ellipsis r ts = zPlan ellipsis n Convention.Z r ts
-secondIn n Convention.Aix ellipsis r ts = powerPlan ellipsis false 4 n Convention.Aix r ts
-secondIn n Convention.Ppc64b ellipsis r ts = powerPlan ellipsis true 8 n Convention.Ppc64b r ts
+abbrev pub second_in : ℕ → Convention → Bool → ResultType → List ValueType → SecondPlan
+second_in n Convention.Ppc64 ellipsis r ts = power_plan ellipsis false 8 n Convention.Ppc64 r ts
+second_in n Convention.Z ellipsis r ts = z_plan ellipsis n Convention.Z r ts
+second_in n Convention.Aix ellipsis r ts = power_plan ellipsis false 4 n Convention.Aix r ts
+second_in n Convention.Ppc64b ellipsis r ts = power_plan ellipsis true 8 n Convention.Ppc64b r ts
 
 -- ---- a refused one's
 
 -- "Every refusal leaves all buffers and the state untouched; counts are 0"
-abbrev pub noPlan : Fault → SecondPlan
-noPlan f = record {
+abbrev pub no_plan : Fault → SecondPlan
+no_plan f = record {
   outcome = Outcome.Refused f;
   convention = Convention.Ppc64;
   ellipsis = false;
@@ -72,26 +72,26 @@ noPlan f = record {
   area = 0;
   values = 0;
   copies = 0;
-  parameters = replicate maxArguments noParameter;
+  parameters = replicate max_arguments no_parameter;
 }
 
 -- the number of the first parameter for which the papers are not clear, counted from 1; 0 where there is none
-abbrev pub straddlingIn : Convention → List ValueType → ℕ
-straddlingIn Convention.Ppc64 ts = firstStraddling false 0 0 ts
-straddlingIn Convention.Z ts = 0
-straddlingIn Convention.Aix ts = firstStraddling false 0 0 ts
-straddlingIn Convention.Ppc64b ts = firstStraddling true 0 0 ts
+abbrev pub straddling_in : Convention → List ValueType → ℕ
+straddling_in Convention.Ppc64 ts = first_straddling false 0 0 ts
+straddling_in Convention.Z ts = 0
+straddling_in Convention.Aix ts = first_straddling false 0 0 ts
+straddling_in Convention.Ppc64b ts = first_straddling true 0 0 ts
 
 -- 02, No. 12: "give new refusal 29 at that argument's header, after reading"
-unfoldable pub unlessStraddling : ℕ → Reading Signature → SecondPlan → SecondPlan
-unlessStraddling zero x p = p
-unlessStraddling (suc i) x p = noPlan (unclearFault i x)
+unfoldable pub unless_straddling : ℕ → Reading Signature → SecondPlan → SecondPlan
+unless_straddling zero x p = p
+unless_straddling (suc i) x p = no_plan (unclear_fault i x)
 
 -- ---- the answer
 
 -- of what the reader finds in a signature's bytes
-unfoldable pub secondAnswer : Reading Signature → SecondPlan
-secondAnswer (got g next n) =
-    unlessStraddling (straddlingIn g.convention (types_of g.convention g.arguments)) (got g next n)
-    (secondIn n g.convention g.ellipsis (resultType g.convention g.result) (types_of g.convention g.arguments))
-secondAnswer (no f) = noPlan f
+unfoldable pub second_answer : Reading Signature → SecondPlan
+second_answer (got g next n) =
+    unless_straddling (straddling_in g.convention (types_of g.convention g.arguments)) (got g next n)
+    (second_in n g.convention g.ellipsis (result_type g.convention g.result) (types_of g.convention g.arguments))
+second_answer (no f) = no_plan f

@@ -2,10 +2,10 @@
 ghost use Rattle.std.specs.Prelude.{◌≡◌, ◌≤◌, ◌<◌};
 ghost use Rattle.sig_signatures.specs.declared.Outcome.{Outcome};
 ghost use Rattle.sig_signatures.specs.Read.{signature_of};
-ghost use Rattle.sig_signatures.specs.Answer.{signatureAnswer};
+ghost use Rattle.sig_signatures.specs.Answer.{signature_answer};
 ghost use Rattle.sig_signatures.specs.Types.{types_in, values_of};
 ghost use Rattle.sig_signatures.specs.Helpers.{Plannable};
-ghost use Rattle.second_planner.specs.Answer.{powerPlan, zPlan, noPlan, secondIn, straddlingIn, secondAnswer};
+ghost use Rattle.second_planner.specs.Answer.{power_plan, z_plan, no_plan, second_in, straddling_in, second_answer};
 
 use base_conventions::Convention;
 use second_parameters::{Parameter, Returned};
@@ -46,7 +46,7 @@ fn values_in(g: SignatureRead) -> usize
 // An accepted signature's plan on PowerPC, of n items.
 fn power_plan(paired: bool, word: usize, n: usize, g: SignatureRead) -> SecondPlan
     requires { (0 < word) × (word ≤ 8) × Plannable g }
-    ensures { result ≡ powerPlan g.ellipsis paired word n g.convention g.result (types_in g) }
+    ensures { result ≡ power_plan g.ellipsis paired word n g.convention g.result (types_in g) }
 {
     let convention = g.convention;
     let ellipsis = g.ellipsis;
@@ -77,7 +77,7 @@ fn power_plan(paired: bool, word: usize, n: usize, g: SignatureRead) -> SecondPl
 // An accepted signature's plan on Z, of n items.
 fn z_plan(n: usize, g: SignatureRead) -> SecondPlan
     requires { Plannable g }
-    ensures { result ≡ zPlan g.ellipsis n g.convention g.result (types_in g) }
+    ensures { result ≡ z_plan g.ellipsis n g.convention g.result (types_in g) }
 {
     let convention = g.convention;
     let ellipsis = g.ellipsis;
@@ -103,7 +103,7 @@ fn z_plan(n: usize, g: SignatureRead) -> SecondPlan
 
 fn accepted_plan(n: usize, g: SignatureRead) -> SecondPlan
     requires { Plannable g }
-    ensures { result ≡ secondIn n g.convention g.ellipsis g.result (types_in g) }
+    ensures { result ≡ second_in n g.convention g.ellipsis g.result (types_in g) }
 {
     let convention = g.convention;
     match convention {
@@ -115,7 +115,7 @@ fn accepted_plan(n: usize, g: SignatureRead) -> SecondPlan
 }
 
 fn no_plan(fault: Fault) -> SecondPlan
-    ensures { result ≡ noPlan fault }
+    ensures { result ≡ no_plan fault }
 {
     let none = second_parameters::no_parameters();
     SecondPlan {
@@ -134,7 +134,7 @@ fn no_plan(fault: Fault) -> SecondPlan
 // The number of the first parameter for which the papers are not clear, counted from 1; 0 where there is none.
 fn straddling_in(g: SignatureRead) -> usize
     requires { Plannable g }
-    ensures { result ≡ straddlingIn g.convention (types_in g) }
+    ensures { result ≡ straddling_in g.convention (types_in g) }
 {
     let convention = g.convention;
     match convention {
@@ -147,8 +147,8 @@ fn straddling_in(g: SignatureRead) -> usize
 
 // The plan of n items that were read, by the signature's bytes and what was read of them.
 fn clear_plan(sig: &[u8], n: usize, g: SignatureRead) -> SecondPlan
-    requires { (g ≡ signatureAnswer (signature_of sig.now)) × (g.outcome ≡ Outcome.Accepted n) }
-    ensures { result ≡ secondAnswer (signature_of sig.now) }
+    requires { (g ≡ signature_answer (signature_of sig.now)) × (g.outcome ≡ Outcome.Accepted n) }
+    ensures { result ≡ second_answer (signature_of sig.now) }
 {
     let straddling = straddling_in(g);
     if straddling == 0 {
@@ -158,8 +158,8 @@ fn clear_plan(sig: &[u8], n: usize, g: SignatureRead) -> SecondPlan
 }
 
 fn second(sig: &[u8], g: SignatureRead) -> SecondPlan
-    requires { g ≡ signatureAnswer (signature_of sig.now) }
-    ensures { result ≡ secondAnswer (signature_of sig.now) }
+    requires { g ≡ signature_answer (signature_of sig.now) }
+    ensures { result ≡ second_answer (signature_of sig.now) }
 {
     let outcome = g.outcome;
     match outcome {
@@ -170,7 +170,7 @@ fn second(sig: &[u8], g: SignatureRead) -> SecondPlan
 
 // The second plan of a signature's bytes: any bytes at all.
 pub fn second_plan_of(s: &[u8]) -> SecondPlan
-    ensures { result ≡ secondAnswer (signature_of s.now) }
+    ensures { result ≡ second_answer (signature_of s.now) }
 {
     second(s, sig_whole::read_signature(s))
 }

@@ -2,9 +2,9 @@
 ghost use Rattle.std.specs.Prelude.{◌≡◌, ◌≤◌, ◌^◌};
 ghost use Rattle.sig_signatures.specs.Types.{types_in};
 ghost use Rattle.sig_signatures.specs.Helpers.{Plannable};
-ghost use Rattle.second_slot_scan.specs.Slots.{initial, doubleOrFloat, otherSize, copiedStruct, copied, copy_at, inFloating, inGeneral, inOther, slot_by, slot_of, scannedOf, zHidden, zReturned};
+ghost use Rattle.second_slot_scan.specs.Slots.{initial, double_or_float, other_size, copied_struct, copied, copy_at, in_floating, in_general, in_other, slot_by, slot_of, scanned_of, z_hidden, z_returned};
 ghost use Rattle.second_slot_scan.specs.Helpers.{RoomyScan};
-ghost use Rattle.sig_types.specs.Sizes.{maxSize};
+ghost use Rattle.sig_types.specs.Sizes.{max_size};
 
 use second_parameters::{Parameter, Returned, Run};
 use sig_signatures::{MAX_ARGUMENTS, ResultType, SignatureRead};
@@ -40,7 +40,7 @@ pub struct Scanned {
 }
 
 fn double_or_float(t: ValueType) -> bool
-    ensures { result ≡ doubleOrFloat t }
+    ensures { result ≡ double_or_float t }
 {
     match sig_types::equivalent_of(t) {
         Equivalent::Nothing => false,
@@ -50,7 +50,7 @@ fn double_or_float(t: ValueType) -> bool
 }
 
 fn other_size(n: usize) -> bool
-    ensures { result ≡ otherSize n }
+    ensures { result ≡ other_size n }
 {
     if n == 1 {
         return false;
@@ -68,7 +68,7 @@ fn other_size(n: usize) -> bool
 }
 
 fn copied_struct(e: Equivalent, size: usize) -> bool
-    ensures { result ≡ copiedStruct e size }
+    ensures { result ≡ copied_struct e size }
 {
     match e {
         Equivalent::Nothing => other_size(size),
@@ -96,7 +96,7 @@ fn is_copied(t: ValueType, size: usize) -> bool
 }
 
 fn copy_at(reference: bool, at: usize, size: usize) -> Copied
-    requires { (at ≤ 2 ^ 20) × (size ≤ maxSize) }
+    requires { (at ≤ 2 ^ 20) × (size ≤ max_size) }
     ensures { result ≡ copy_at reference at size }
 {
     let none = second_parameters::no_run();
@@ -117,7 +117,7 @@ fn copy_at(reference: bool, at: usize, size: usize) -> Copied
 
 fn in_floating(s: Scan, k: Copied) -> ScannedSlot
     requires { s.fr ≤ 2 ^ 20 }
-    ensures { result ≡ inFloating s k }
+    ensures { result ≡ in_floating s k }
 {
     let none = second_parameters::no_run();
     let copy = k.bytes;
@@ -141,7 +141,7 @@ fn in_floating(s: Scan, k: Copied) -> ScannedSlot
 
 fn in_general(s: Scan, k: Copied) -> ScannedSlot
     requires { s.gr ≤ 2 ^ 20 }
-    ensures { result ≡ inGeneral s k }
+    ensures { result ≡ in_general s k }
 {
     let none = second_parameters::no_run();
     let copy = k.bytes;
@@ -165,7 +165,7 @@ fn in_general(s: Scan, k: Copied) -> ScannedSlot
 
 fn in_other(s: Scan, k: Copied) -> ScannedSlot
     requires { s.starg ≤ 2 ^ 20 }
-    ensures { result ≡ inOther s k }
+    ensures { result ≡ in_other s k }
 {
     let none = second_parameters::no_run();
     let copy = k.bytes;
@@ -205,7 +205,7 @@ fn slot_by(float: bool, s: Scan, k: Copied) -> ScannedSlot
 }
 
 fn slot_for(s: Scan, t: ValueType, size: usize) -> ScannedSlot
-    requires { RoomyScan s × (size ≤ maxSize) }
+    requires { RoomyScan s × (size ≤ max_size) }
     ensures { result ≡ slot_of s t size }
 {
     let k = copy_at(is_copied(t, size), s.copies, size);
@@ -215,7 +215,7 @@ fn slot_for(s: Scan, t: ValueType, size: usize) -> ScannedSlot
 // The slots of all arguments, one after the other.
 pub fn scan_all(g: SignatureRead, hidden: bool) -> Scanned
     requires { Plannable g }
-    ensures { result ≡ scannedOf g.convention (initial hidden) (types_in g) }
+    ensures { result ≡ scanned_of g.convention (initial hidden) (types_in g) }
 {
     let convention = g.convention;
     let count = g.count;
@@ -258,7 +258,7 @@ fn start_of(hidden: bool) -> Scan
 }
 
 pub fn z_hidden(r: ResultType) -> bool
-    ensures { result ≡ zHidden r }
+    ensures { result ≡ z_hidden r }
 {
     match r {
         ResultType::Nothing => false,
@@ -275,7 +275,7 @@ pub fn z_hidden(r: ResultType) -> bool
 }
 
 pub fn z_returned(r: ResultType) -> Returned
-    ensures { result ≡ zReturned r }
+    ensures { result ≡ z_returned r }
 {
     match r {
         ResultType::Nothing => Returned::Nothing,

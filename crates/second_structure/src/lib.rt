@@ -1,13 +1,13 @@
 // PowerPC as source document 004 works: all parameters are laid out as one structure in memory first, then the registers are laid
 // over it.
 ghost use Rattle.std.specs.Prelude.{◌≡◌, ◌*◌, ◌+◌, ◌-◌, ◌≤◌, ◌<◌, ◌^◌};
-ghost use Rattle.sig_signatures.specs.Limits.{maxArguments};
+ghost use Rattle.sig_signatures.specs.Limits.{max_arguments};
 ghost use Rattle.sig_signatures.specs.Types.{types_in};
 ghost use Rattle.sig_signatures.specs.Helpers.{SmallResult, Plannable};
-ghost use Rattle.second_parameters.specs.Values.{noParameter, tableWith};
-ghost use Rattle.second_structure.specs.Structure.{words_in, structureOf, hiddenWords, area_bytes, fieldBytes, overWords, overFloats, overNothing, floats, laidOver, registersOver, straddles, firstStraddling, powerHidden, powerReturned};
+ghost use Rattle.second_parameters.specs.Values.{no_parameter, table_with};
+ghost use Rattle.second_structure.specs.Structure.{words_in, structure_of, hidden_words, area_bytes, field_bytes, over_words, over_floats, over_nothing, floats, laid_over, registers_over, straddles, first_straddling, power_hidden, power_returned};
 ghost use Rattle.second_structure.specs.Helpers.{Bounded};
-ghost use Rattle.sig_types.specs.Sizes.{maxSize};
+ghost use Rattle.sig_types.specs.Sizes.{max_size};
 
 use base_conventions::Convention;
 use second_parameters::{Parameter, Returned, Run};
@@ -23,7 +23,7 @@ pub struct Structure {
 
 // The words of a parameter with its padding.
 fn words_in(word: usize, size: usize) -> usize
-    requires { (0 < word) × (word ≤ 8) × (size ≤ maxSize) }
+    requires { (0 < word) × (word ≤ 8) × (size ≤ max_size) }
     ensures { (result ≡ words_in word size) × (result ≤ 264) }
 {
     base_words::round_up(size, word) / word
@@ -39,7 +39,7 @@ fn bytes_of(word: usize, n: usize) -> usize
 // The structure: each parameter at the next word, from the word `at` on.
 pub fn lay_out(word: usize, at: usize, g: SignatureRead) -> Structure
     requires { (0 < word) × (word ≤ 8) × (at ≤ 1) × Plannable g }
-    ensures { (result ≡ structureOf g.convention word at (types_in g)) × (result.words ≤ 2 ^ 16) }
+    ensures { (result ≡ structure_of g.convention word at (types_in g)) × (result.words ≤ 2 ^ 16) }
 {
     let convention = g.convention;
     let count = g.count;
@@ -83,7 +83,7 @@ fn left(a: usize, b: usize) -> usize
 
 fn field_bytes(word: usize, f: Run) -> Run
     requires { (word ≤ 8) × (f.first + f.count ≤ 2 ^ 20) }
-    ensures { result ≡ fieldBytes word f }
+    ensures { result ≡ field_bytes word f }
 {
     second_parameters::run_of(bytes_of(word, f.first), bytes_of(word, f.count))
 }
@@ -91,7 +91,7 @@ fn field_bytes(word: usize, f: Run) -> Run
 // The first eight words are placed in GPR3 to GPR10, the rest in the parameter area; with an ellipsis there may be FPRs as well.
 fn over_words(word: usize, fprs: Run, f: Run) -> Parameter
     requires { (word ≤ 8) × (f.first + f.count ≤ 2 ^ 20) }
-    ensures { result ≡ overWords word fprs f }
+    ensures { result ≡ over_words word fprs f }
 {
     let first = f.first;
     let end = first + f.count;
@@ -112,7 +112,7 @@ fn over_words(word: usize, fprs: Run, f: Run) -> Parameter
 // A float in its registers alone.
 fn over_floats(word: usize, fprs: Run, f: Run) -> Parameter
     requires { (word ≤ 8) × (f.first + f.count ≤ 2 ^ 20) }
-    ensures { result ≡ overFloats word fprs f }
+    ensures { result ≡ over_floats word fprs f }
 {
     let none = second_parameters::no_run();
     Parameter {
@@ -128,7 +128,7 @@ fn over_floats(word: usize, fprs: Run, f: Run) -> Parameter
 // A float for which no register is left.
 fn over_nothing(word: usize, f: Run) -> Parameter
     requires { (word ≤ 8) × (f.first + f.count ≤ 2 ^ 20) }
-    ensures { result ≡ overNothing word f }
+    ensures { result ≡ over_nothing word f }
 {
     let none = second_parameters::no_run();
     let field = field_bytes(word, f);
@@ -165,7 +165,7 @@ fn floats_of(paired: bool, t: ValueType) -> usize
 // A parameter that asks for `asked` FPRs, where those before it asked for `earlier`.
 fn lay_over(ellipsis: bool, word: usize, asked: usize, earlier: usize, f: Run) -> Parameter
     requires { (word ≤ 8) × (f.first + f.count ≤ 2 ^ 20) × (earlier ≤ 2 ^ 20) × (asked ≤ 2) }
-    ensures { result ≡ laidOver ellipsis word asked earlier f }
+    ensures { result ≡ laid_over ellipsis word asked earlier f }
 {
     let none = second_parameters::no_run();
     if asked == 0 {
@@ -193,7 +193,7 @@ pub fn lay_registers(
     s: Structure,
 ) -> [Parameter; MAX_ARGUMENTS]
     requires { (word ≤ 8) × Plannable g × Bounded s.fields }
-    ensures { result ≡ tableWith noParameter (registersOver ellipsis paired word 0 (types_in g) s.fields) }
+    ensures { result ≡ table_with no_parameter (registers_over ellipsis paired word 0 (types_in g) s.fields) }
 {
     let count = g.count;
     let mut laid = second_parameters::no_parameters();
@@ -225,7 +225,7 @@ fn is_straddling(earlier: usize, asked: usize) -> bool
 // The number of the first such parameter, counted from 1; 0 where there is none.
 pub fn first_straddling(paired: bool, g: SignatureRead) -> usize
     requires { Plannable g }
-    ensures { result ≡ firstStraddling paired 0 0 (types_in g) }
+    ensures { result ≡ first_straddling paired 0 0 (types_in g) }
 {
     let count = g.count;
     let mut earlier: usize = 0;
@@ -244,7 +244,7 @@ pub fn first_straddling(paired: bool, g: SignatureRead) -> usize
 }
 
 pub fn power_hidden(r: ResultType) -> bool
-    ensures { result ≡ powerHidden r }
+    ensures { result ≡ power_hidden r }
 {
     match r {
         ResultType::Nothing => false,
@@ -258,7 +258,7 @@ pub fn power_hidden(r: ResultType) -> bool
 
 pub fn power_returned(c: Convention, word: usize, r: ResultType) -> Returned
     requires { (0 < word) × (word ≤ 8) × SmallResult c r }
-    ensures { result ≡ powerReturned c word r }
+    ensures { result ≡ power_returned c word r }
 {
     match r {
         ResultType::Nothing => Returned::Nothing,
@@ -278,7 +278,7 @@ pub fn power_returned(c: Convention, word: usize, r: ResultType) -> Returned
 }
 
 pub fn hidden_words(hidden: bool) -> usize
-    ensures { (result ≡ hiddenWords hidden) × (result ≤ 1) }
+    ensures { (result ≡ hidden_words hidden) × (result ≤ 1) }
 {
     if hidden {
         return 1;

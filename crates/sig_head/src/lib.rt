@@ -1,18 +1,18 @@
 // Reads what stands before a signature's arguments: the convention, the result's type and the ellipsis.
 ghost use Rattle.std.specs.Prelude.{◌≡◌, ◌+◌, ◌^◌, ◌≤◌, ◌<◌, length};
-ghost use Rattle.sig_signatures.specs.Read.{conventionAt, resultIn, result_at, ellipsisAt, headAfter, head_of};
-ghost use Rattle.sig_signatures.specs.Answer.{conventionAnswer, resultAnswer, ellipsisAnswer, headAnswer};
+ghost use Rattle.sig_signatures.specs.Read.{convention_at, result_in, result_at, ellipsis_at, head_after, head_of};
+ghost use Rattle.sig_signatures.specs.Answer.{convention_answer, result_answer, ellipsis_answer, head_answer};
 
 use base_conventions::{Convention, ConventionCode};
 use sig_items::{Body, Fault, ItemRead, Refusal};
 use sig_signatures::{ConventionRead, EllipsisRead, HeadRead, ResultRead, ResultType};
 
-// The most bytes that a signature may have: `maxLength` of crates/sig_signatures/specs/Limits.antt.
+// The most bytes that a signature may have: `max_length` of crates/sig_signatures/specs/Limits.antt.
 pub const MAX_LENGTH: usize = 16384;
 
 // The first item, at 0.
 fn read_convention(s: &[u8]) -> ConventionRead
-    ensures { result ≡ conventionAnswer (conventionAt s.now) }
+    ensures { result ≡ convention_answer (convention_at s.now) }
 {
     match sig_item_headers::read_body(s, 0x01, 0x01, 0, s.len()) {
         Body::Refused(reason) => ConventionRead::Refused(Fault {
@@ -40,7 +40,7 @@ fn read_convention(s: &[u8]) -> ConventionRead
 // The result's type, in the second item's body from `at` to `end`.
 fn read_result_body(s: &[u8], c: Convention, at: usize, end: usize) -> ResultRead
     requires { (at ≤ end) × (end ≤ length s.now) × (end ≤ 2 ^ 16) }
-    ensures { result ≡ resultAnswer c (resultIn c s.now at end) }
+    ensures { result ≡ result_answer c (result_in c s.now at end) }
 {
     if at == end {
         return ResultRead::Result {
@@ -72,7 +72,7 @@ fn read_result_body(s: &[u8], c: Convention, at: usize, end: usize) -> ResultRea
 // The second item, at `at`.
 fn read_result(s: &[u8], c: Convention, at: usize) -> ResultRead
     requires { (at ≤ length s.now) × (length s.now ≤ 2 ^ 16) }
-    ensures { result ≡ resultAnswer c (result_at c s.now at) }
+    ensures { result ≡ result_answer c (result_at c s.now at) }
 {
     match sig_item_headers::read_body(s, 0x02, 0x02, at, s.len()) {
         Body::Refused(reason) => ResultRead::Refused(Fault {
@@ -87,7 +87,7 @@ fn read_result(s: &[u8], c: Convention, at: usize) -> ResultRead
 // The ellipsis's item, at `at`: mostly there is none, which one byte says.
 fn read_ellipsis(s: &[u8], at: usize) -> EllipsisRead
     requires { (at ≤ length s.now) × (length s.now ≤ 2 ^ 16) }
-    ensures { result ≡ ellipsisAnswer (ellipsisAt s.now at) }
+    ensures { result ≡ ellipsis_answer (ellipsis_at s.now at) }
 {
     let absent = EllipsisRead::Ellipsis {
         present: false,
@@ -126,7 +126,7 @@ fn read_ellipsis(s: &[u8], at: usize) -> EllipsisRead
 // The second item, the ellipsis and the last item's header.
 fn read_head_after(s: &[u8], c: Convention) -> HeadRead
     requires { (4 ≤ length s.now) × (length s.now ≤ 2 ^ 16) }
-    ensures { result ≡ headAnswer (headAfter s.now c 4 1) }
+    ensures { result ≡ head_answer (head_after s.now c 4 1) }
 {
     match read_result(s, c, 4) {
         ResultRead::Refused(fault) => HeadRead::Refused(sig_items::later_by(1, fault)),
@@ -170,7 +170,7 @@ fn read_head_after(s: &[u8], c: Convention) -> HeadRead
 // All that comes before the arguments, of any bytes at all. No table of arguments is made here: what plans without one starts
 // from this.
 pub fn read_head(s: &[u8]) -> HeadRead
-    ensures { result ≡ headAnswer (head_of s.now) }
+    ensures { result ≡ head_answer (head_of s.now) }
 {
     if MAX_LENGTH < s.len() {
         return HeadRead::Refused(Fault {

@@ -13,7 +13,7 @@ use Rattle.base_words.specs.Basics.{pick}
 use Rattle.base_conventions.specs.declared.Convention.{Convention}
 use Rattle.sig_types.specs.declared.FloatFormat.{FloatFormat}
 use Rattle.sig_types.specs.declared.ValueType.{ValueType}
-use Rattle.sig_types.specs.Structs.{shape_of, unlessTooLarge, closed}
+use Rattle.sig_types.specs.Structs.{shape_of, unless_too_large, closed}
 use Rattle.sig_types.specs.Trees.{Tree, Trees, struct, none, ◌▸◌, type_of, fields_of}
 use Rattle.sig_items.specs.declared.Refusal.{Refusal}
 use Rattle.sig_items.specs.declared.Fault.{Fault}
@@ -22,8 +22,8 @@ use Rattle.sig_items.specs.declared.IntegerCode.{IntegerCode}
 use Rattle.sig_items.specs.declared.FloatCode.{FloatCode}
 use Rattle.sig_items.specs.declared.ItemRead.{ItemRead}
 use Rattle.sig_items.specs.Reading.{Reading, fault, got, no, later}
-use Rattle.sig_items.specs.Read.{length_at, body_at, integerCode, floatCode, integerBy, integerAt, floatBy, float_at, sequence, sizedAt, contentsAt, itemBy, struct_at, item_at}
-use Rattle.sig_items.specs.Answer.{itemAnswer, closedAnswer}
+use Rattle.sig_items.specs.Read.{length_at, body_at, integer_code, float_code, integer_by, integer_at, float_by, float_at, sequence, sized_at, contents_at, item_by, struct_at, item_at}
+use Rattle.sig_items.specs.Answer.{item_answer, closed_answer}
 
 -- a header
 
@@ -100,88 +100,88 @@ module _ (c : Convention) (d : ℕ) (s : List ℕ) (at b : ℕ) where
   contents = sequence (item_at c (d - 1) s b) b (b - (at + 3)) (at + 3) 1 none
 
   module _ (some : 0 < d) where
-    below : struct_at c d s at b ≡ contentsAt c (item_at c (d - 1) s b) at b
+    below : struct_at c d s at b ≡ contents_at c (item_at c (d - 1) s b) at b
     unfolding struct_at item_at
     below = go d some
       where
-        go : (k : ℕ) → 0 < k → struct_at c k s at b ≡ contentsAt c (item_at c (k - 1) s b) at b
+        go : (k : ℕ) → 0 < k → struct_at c k s at b ≡ contents_at c (item_at c (k - 1) s b) at b
         go zero z = absurd (omega arith)
         go (suc k) z = rw sub-one
 
     pub struct-empty : b ≡ at + 3 → struct_at c d s at b ≡ no (fault Refusal.Malformed at 0)
-    unfolding contentsAt
+    unfolding contents_at
     struct-empty q = below ∙ rw (eq-eqb b (at + 3) q)
 
     module _ (more : at + 3 < b) where
       pub struct-refused : (f : Fault) → contents ≡ no f → struct_at c d s at b ≡ no f
-      unfolding contentsAt
+      unfolding contents_at
       struct-refused f q = below ∙ rw (ne_eqb b (at + 3) (omega arith), q)
 
-      pub struct-read : (ts : Trees) (next n : ℕ) → contents ≡ got ts next n → struct_at c d s at b ≡ sizedAt c at b n ts
-      unfolding contentsAt
+      pub struct-read : (ts : Trees) (next n : ℕ) → contents ≡ got ts next n → struct_at c d s at b ≡ sized_at c at b n ts
+      unfolding contents_at
       struct-read ts next n q = below ∙ rw (ne_eqb b (at + 3) (omega arith), q)
 
 -- an item
 
 module _ (c : Convention) (d : ℕ) (s : List ℕ) (e at : ℕ) where
   pub item_refused : (r : Refusal) → body_at s 0x10 0x12 e at ≡ Body.Refused r → item_at c d s e at ≡ no (fault r at 0)
-  unfolding item_at itemBy
+  unfolding item_at item_by
   item_refused r q = rw q
 
   module _ (b : ℕ) (body : body_at s 0x10 0x12 e at ≡ Body.To b) where
-    pub item-integer : get_or s at 0 ≡ 0x10 → item_at c d s e at ≡ integerAt s at b
-    unfolding item_at itemBy
+    pub item-integer : get_or s at 0 ≡ 0x10 → item_at c d s e at ≡ integer_at s at b
+    unfolding item_at item_by
     item-integer q = rw (body, eq-eqb (get_or s at 0) 0x10 q)
 
     pub item-float : get_or s at 0 ≡ 0x11 → item_at c d s e at ≡ float_at c s (ltb d 8) at b
-    unfolding item_at itemBy
+    unfolding item_at item_by
     item-float q = rw (body, ne_eqb (get_or s at 0) 0x10 (omega arith), eq-eqb (get_or s at 0) 0x11 q)
 
     pub item-struct : (get_or s at 0 ≡ 0x10 → ⊥) → (get_or s at 0 ≡ 0x11 → ⊥) → item_at c d s e at ≡ struct_at c d s at b
-    unfolding item_at itemBy
+    unfolding item_at item_by
     item-struct q r = rw (body, ne_eqb (get_or s at 0) 0x10 q, ne_eqb (get_or s at 0) 0x11 r)
 
 -- the bodies of one byte, by their code
 
 module _ (c : Convention) (s : List ℕ) (at b : ℕ) where
-  pub integer-length : (b ≡ at + 4 → ⊥) → itemAnswer c (integerAt s at b) ≡ ItemRead.Refused (fault Refusal.Malformed at 0)
-  unfolding integerAt
+  pub integer-length : (b ≡ at + 4 → ⊥) → item_answer c (integer_at s at b) ≡ ItemRead.Refused (fault Refusal.Malformed at 0)
+  unfolding integer_at
   integer-length h = rw (ne_eqb b (at + 4) h)
 
-  pub integer-by : b ≡ at + 4 → (x : IntegerCode) → x ≡ integerCode (get_or s (at + 3) 0) → itemAnswer c (integerAt s at b) ≡ itemAnswer c (integerBy x at b)
-  unfolding integerAt
+  pub integer-by : b ≡ at + 4 → (x : IntegerCode) → x ≡ integer_code (get_or s (at + 3) 0) → item_answer c (integer_at s at b) ≡ item_answer c (integer_by x at b)
+  unfolding integer_at
   integer-by h x q = rw (eq-eqb b (at + 4) h, ← q)
 
   module _ (inside : Bool) where
-    pub float-length : (b ≡ at + 4 → ⊥) → itemAnswer c (float_at c s inside at b) ≡ ItemRead.Refused (fault Refusal.Malformed at 0)
+    pub float-length : (b ≡ at + 4 → ⊥) → item_answer c (float_at c s inside at b) ≡ ItemRead.Refused (fault Refusal.Malformed at 0)
     unfolding float_at
     float-length h = rw (ne_eqb b (at + 4) h)
 
-    pub float-by : b ≡ at + 4 → (x : FloatCode) → x ≡ floatCode (get_or s (at + 3) 0) → itemAnswer c (float_at c s inside at b) ≡ itemAnswer c (floatBy c x inside at b)
+    pub float-by : b ≡ at + 4 → (x : FloatCode) → x ≡ float_code (get_or s (at + 3) 0) → item_answer c (float_at c s inside at b) ≡ item_answer c (float_by c x inside at b)
     unfolding float_at
     float-by h x q = rw (eq-eqb b (at + 4) h, ← q)
 
-    pub long-double-by : b ≡ at + 4 → FloatCode.Format FloatFormat.LongDouble ≡ floatCode (get_or s (at + 3) 0) → (i : Bool) → inside ≡ i →
-        itemAnswer c (float_at c s inside at b) ≡ itemAnswer c (floatBy c (FloatCode.Format FloatFormat.LongDouble) i at b)
+    pub long-double-by : b ≡ at + 4 → FloatCode.Format FloatFormat.LongDouble ≡ float_code (get_or s (at + 3) 0) → (i : Bool) → inside ≡ i →
+        item_answer c (float_at c s inside at b) ≡ item_answer c (float_by c (FloatCode.Format FloatFormat.LongDouble) i at b)
     long-double-by h q i r = float-by h (FloatCode.Format FloatFormat.LongDouble) q ∙ rw r
 
 -- what a program's answer says of the reading
 
 module _ (c : Convention) where
-  pub item-got : (x : Reading Tree) (t : ValueType) (next n : ℕ) → ItemRead.Item t next n ≡ itemAnswer c x →
+  pub item-got : (x : Reading Tree) (t : ValueType) (next n : ℕ) → ItemRead.Item t next n ≡ item_answer c x →
       (tree : Tree) × (x ≡ got tree next n) × (t ≡ type_of c tree)
   item-got (got tree a m) t next n q = (tree, cc, cc)
   item-got (no f) t next n q = let z : ◌≡◌ {A = ℕ} 0 1 = cc in absurd (omega arith)
 
-  pub item-no : (x : Reading Tree) (f : Fault) → ItemRead.Refused f ≡ itemAnswer c x → x ≡ no f
+  pub item-no : (x : Reading Tree) (f : Fault) → ItemRead.Refused f ≡ item_answer c x → x ≡ no f
   item-no (got tree a m) f q = let z : ◌≡◌ {A = ℕ} 0 1 = cc in absurd (omega arith)
   item-no (no g) f q = cc
 
-  pub sized-answer : (at b n : ℕ) (ts : Trees) → itemAnswer c (sizedAt c at b n ts) ≡ closedAnswer at b n (closed (fields_of c ts))
-  unfolding sizedAt closed type_of
+  pub sized-answer : (at b n : ℕ) (ts : Trees) → item_answer c (sized_at c at b n ts) ≡ closed_answer at b n (closed (fields_of c ts))
+  unfolding sized_at closed type_of
   sized-answer at b n ts = go (ltb 256 (shape_of (fields_of c ts)).size)
     where
       go : (large : Bool) →
-          itemAnswer c (pick large (no (fault Refusal.StructTooLarge at (n - 1))) (got (struct ts) b n)) ≡ closedAnswer at b n (unlessTooLarge large (shape_of (fields_of c ts)))
+          item_answer c (pick large (no (fault Refusal.StructTooLarge at (n - 1))) (got (struct ts) b n)) ≡ closed_answer at b n (unless_too_large large (shape_of (fields_of c ts)))
       go true = refl
       go false = refl

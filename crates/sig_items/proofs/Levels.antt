@@ -8,9 +8,9 @@ use native.Mathlib.Omega.{arith}
 use borrow.Author.Tests.{ltb-true, ltb-false, lt-ltb}
 use Rattle.base_conventions.specs.declared.Convention.{Convention}
 use Rattle.sig_types.specs.declared.FloatFormat.{FloatFormat}
-use Rattle.sig_types.specs.Sizes.{size_of, lacksFloat, Sized}
+use Rattle.sig_types.specs.Sizes.{size_of, lacks_float, Sized}
 use Rattle.sig_types.specs.Trees.{Tree, Trees, integer, float, struct, none, ◌▸◌, type_of}
-use Rattle.sig_types.specs.Limits.{depth_of, depthIn, FloatFits, Some, Fits, AllFit, TypeWithin, AllWithin}
+use Rattle.sig_types.specs.Limits.{depth_of, depth_in, FloatFits, Some, Fits, AllFit, TypeWithin, AllWithin}
 use Rattle.sig_types.proofs.Sized.{fits-sized}
 
 -- a long double stands outside any struct only, where all 8 levels are left
@@ -23,7 +23,7 @@ FloatLeft d FloatFormat.LongDouble = 8 ≤ d
 unfoldable mutual
   pub Left : Convention → ℕ → Tree → Type 0
   Left c d (integer k) = Unit {0}
-  Left c d (float f) = FloatLeft d f × (lacksFloat c (ltb d 8) f ≡ false)
+  Left c d (float f) = FloatLeft d f × (lacks_float c (ltb d 8) f ≡ false)
   Left c d (struct ts) = (0 < d) × Some ts × AllLeft c (d - 1) ts × (size_of c (type_of c (struct ts)) ≤ 256)
 
   pub AllLeft : Convention → ℕ → Trees → Type 0
@@ -51,7 +51,7 @@ module _ (c : Convention) where
     fits-left (float g) d inside q l h f = (float-left d g inside q f.0, rw q f.1)
     fits-left (struct ts) d inside q l h f = (omega arith, f.0, all-fit-left ts (d - 1) (omega arith) (omega arith) f.1, f.2)
 
-    all-fit-left : (ts : Trees) (d : ℕ) → d < 8 → depthIn ts ≤ d → AllFit c ts → AllLeft c d ts
+    all-fit-left : (ts : Trees) (d : ℕ) → d < 8 → depth_in ts ≤ d → AllFit c ts → AllLeft c d ts
     all-fit-left none d l h f = tt
     all-fit-left (ts ▸ t) d l h f = (all-fit-left ts d l (omega arith) f.0, fits-left t d true (lt-ltb d 8 l) (omega arith) (omega arith) f.1)
 
@@ -66,7 +66,7 @@ module _ (c : Convention) where
         let (deep, f) = all-left-fit ts (d - 1) (omega arith) w.2 in
         (omega arith, (w.1, f, w.3))
 
-    all-left-fit : (ts : Trees) (d : ℕ) → d < 8 → AllLeft c d ts → (depthIn ts ≤ d) × AllFit c ts
+    all-left-fit : (ts : Trees) (d : ℕ) → d < 8 → AllLeft c d ts → (depth_in ts ≤ d) × AllFit c ts
     all-left-fit none d l w = (omega arith, tt)
     all-left-fit (ts ▸ t) d l w =
         let (deep, f) = all-left-fit ts d l w.0 in

@@ -6,28 +6,28 @@ use native.Mathlib.Omega.{arith}
 use Rattle.base_conventions.specs.declared.Convention.{Convention}
 use Rattle.sig_types.specs.declared.ValueType.{ValueType}
 use Rattle.sig_types.specs.declared.Fields.{Fields}
-use Rattle.sig_types.specs.Structs.{noFields, withField, closed}
+use Rattle.sig_types.specs.Structs.{no_fields, with_field, closed}
 use Rattle.sig_types.specs.Trees.{Trees, none, ◌▸◌, fields_of}
 use Rattle.sig_types.proofs.Laws.{Aligned, none-aligned, more-aligned, more-end}
 use Rattle.sig_items.specs.declared.Fault.{Fault}
 use Rattle.sig_items.specs.declared.ItemRead.{ItemRead}
 use Rattle.sig_items.specs.Reading.{later}
 use Rattle.sig_items.specs.Read.{sequence, struct_at, item_at}
-use Rattle.sig_items.specs.Answer.{itemAnswer, closedAnswer}
+use Rattle.sig_items.specs.Answer.{item_answer, closed_answer}
 use Rattle.sig_items.proofs.Laws.{contents, sequence-done, sequence-more, sequence-no, struct-refused, struct-read, item-got, item-no, sized-answer}
 use Rattle.sig_items.proofs.Sound.{Taken, item-taken}
 use Rattle.sig_items.proofs.HowFar.{fault-third}
 
 -- what an answer says of an item within the end e; the tree is gone, its type is there
 pub item-answered : (c : Convention) (d : ℕ) (s : List ℕ) (e at : ℕ) (r : ItemRead) (t : ValueType) (next n : ℕ) → d ≤ 8 →
-    r ≡ itemAnswer c (item_at c d s e at) → r ≡ ItemRead.Item t next n → Taken c e at t next n
+    r ≡ item_answer c (item_at c d s e at) → r ≡ ItemRead.Item t next n → Taken c e at t next n
 item-answered c d s e at r t next n h found q =
     let (tree, is, same) = item-got c (item_at c d s e at) t next n (sym q ∙ found) in
     rw same (item-taken c d s e at tree next n h is)
 
 -- and of a refused one: three bytes or more for each header that had passed
 pub fault-answered : (c : Convention) (d : ℕ) (s : List ℕ) (e at : ℕ) (r : ItemRead) (f : Fault) → at ≤ e →
-    r ≡ itemAnswer c (item_at c d s e at) → r ≡ ItemRead.Refused f → at + 3 * f.passed ≤ e
+    r ≡ item_answer c (item_at c d s e at) → r ≡ ItemRead.Refused f → at + 3 * f.passed ≤ e
 fault-answered c d s e at r f h found q = fault-third c d s e at f h (item-no c (item_at c d s e at) f (sym q ∙ found))
 
 -- the fields so far, and that reading on from here gives what the struct's contents are
@@ -43,11 +43,11 @@ pub record Turn (c : Convention) (d : ℕ) (s : List ℕ) (at b : ℕ) (fields :
   pub aligned : Aligned fields
   pub end : fields.end ≤ 272 * next
 
-same-field : (c : Convention) {l k : Fields} {t u : ValueType} → l ≡ k → t ≡ u → withField c l t ≡ withField c k u
+same-field : (c : Convention) {l k : Fields} {t u : ValueType} → l ≡ k → t ≡ u → with_field c l t ≡ with_field c k u
 same-field c p q = cc
 
 module _ (c : Convention) (d : ℕ) (s : List ℕ) (at b : ℕ) where
-  pub turn-start : (l : Fields) → l ≡ noFields → at + 3 < b → Turn c d s at b l (at + 3) 1
+  pub turn-start : (l : Fields) → l ≡ no_fields → at + 3 < b → Turn c d s at b l (at + 3) 1
   unfolding fields_of
   turn-start l q h = record {
     ts = none;
@@ -63,8 +63,8 @@ module _ (c : Convention) (d : ℕ) (s : List ℕ) (at b : ℕ) where
   }
 
   module _ (l : Fields) (next n : ℕ) (turn : Turn c d s at b l next n) (h : next < b) (r : ItemRead)
-      (found : r ≡ itemAnswer c (item_at c (d - 1) s b next)) where
-    pub turn_more : d ≤ 8 → (t : ValueType) (after m : ℕ) → r ≡ ItemRead.Item t after m → (k : Fields) → k ≡ withField c l t →
+      (found : r ≡ item_answer c (item_at c (d - 1) s b next)) where
+    pub turn_more : d ≤ 8 → (t : ValueType) (after m : ℕ) → r ≡ ItemRead.Item t after m → (k : Fields) → k ≡ with_field c l t →
         Turn c d s at b k after (n + m)
     unfolding fields_of
     turn_more deep t after m q k is =
@@ -85,15 +85,15 @@ module _ (c : Convention) (d : ℕ) (s : List ℕ) (at b : ℕ) where
         }
 
     pub turn-no : 0 < d → at + 3 < b → (f : Fault) → r ≡ ItemRead.Refused f →
-        ItemRead.Refused (later n f) ≡ itemAnswer c (struct_at c d s at b)
+        ItemRead.Refused (later n f) ≡ item_answer c (struct_at c d s at b)
     turn-no some more f q =
         let read = item-no c (item_at c (d - 1) s b next) f (sym q ∙ found) in
-        sym (ap (itemAnswer c) (struct-refused c d s at b some more (later n f)
+        sym (ap (item_answer c) (struct-refused c d s at b some more (later n f)
         (sequence-no (item_at c (d - 1) s b) b (contents c d s at b) turn.left next n turn.ts turn.rest h (omega arith) f read)))
 
   pub turn_end : (l : Fields) (next n : ℕ) → Turn c d s at b l next n → b ≤ next → 0 < d → at + 3 < b →
-      closedAnswer at b n (closed l) ≡ itemAnswer c (struct_at c d s at b)
+      closed_answer at b n (closed l) ≡ item_answer c (struct_at c d s at b)
   turn_end l next n turn h some more =
       let read = sequence-done (item_at c (d - 1) s b) b (contents c d s at b) turn.left next n turn.ts turn.rest h in
-      ap (λ (k : Fields). closedAnswer at b n (closed k)) turn.layout
-      ∙ sym (ap (itemAnswer c) (struct-read c d s at b some more turn.ts next n read) ∙ sized-answer c at b n turn.ts)
+      ap (λ (k : Fields). closed_answer at b n (closed k)) turn.layout
+      ∙ sym (ap (item_answer c) (struct-read c d s at b some more turn.ts next n read) ∙ sized-answer c at b n turn.ts)

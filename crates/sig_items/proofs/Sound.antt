@@ -13,16 +13,16 @@ use Rattle.base_words.proofs.Tests.{by-pick}
 use Rattle.base_conventions.specs.declared.Convention.{Convention}
 use Rattle.sig_types.specs.declared.FloatFormat.{FloatFormat}
 use Rattle.sig_types.specs.declared.ValueType.{ValueType}
-use Rattle.sig_types.specs.Sizes.{lacksFloat, Sized}
+use Rattle.sig_types.specs.Sizes.{lacks_float, Sized}
 use Rattle.sig_types.specs.Structs.{shape_of}
 use Rattle.sig_types.specs.Trees.{Tree, Trees, none, ◌▸◌, type_of, fields_of, count_of}
 use Rattle.sig_items.specs.declared.IntegerCode.{IntegerCode}
 use Rattle.sig_items.specs.declared.FloatCode.{FloatCode}
 use Rattle.sig_items.specs.declared.Body.{Body}
 use Rattle.sig_items.specs.declared.Refusal.{Refusal}
-use Rattle.sig_items.specs.Reading.{Reading, got, no, laterReading, choose, and_then, in_body}
-use Rattle.sig_items.specs.Read.{length_at, body_at, integerCode, floatCode, integerBy, integerAt, float_of, floatBy, float_at, sequence, sizedAt, contentsAt, itemBy, struct_at, item_at}
-use Rattle.sig_items.specs.Encode.{integerNumber, floatNumber, item, encodeTree, encodeTrees, items_of, items_in}
+use Rattle.sig_items.specs.Reading.{Reading, got, no, later_reading, choose, and_then, in_body}
+use Rattle.sig_items.specs.Read.{length_at, body_at, integer_code, float_code, integer_by, integer_at, float_of, float_by, float_at, sequence, sized_at, contents_at, item_by, struct_at, item_at}
+use Rattle.sig_items.specs.Encode.{integer_number, float_number, item, encode_tree, encode_trees, items_of, items_in}
 use Rattle.sig_items.proofs.Levels.{FloatLeft, Left, AllLeft, left-sized}
 use Rattle.sig_items.proofs.Has.{Has, has_move, has-append, has-item, length-item}
 use Rattle.sig_items.proofs.Trees.{tree-long, tree-third, long-some}
@@ -57,7 +57,7 @@ by-then P Q (no r) f p q = tt
 
 -- the same where n headers came before the first
 pub by_next : {A B : Type 0} (P : A → ℕ → ℕ → Type 0) (Q : B → ℕ → ℕ → Type 0) (n : ℕ) (x : Reading A) (f : A → ℕ → ℕ → Reading B) →
-    Got P x → ((a : A) (next m : ℕ) → P a next m → Got Q (f a next (n + m))) → Got Q (and_then (laterReading n x) f)
+    Got P x → ((a : A) (next m : ℕ) → P a next m → Got Q (f a next (n + m))) → Got Q (and_then (later_reading n x) f)
 by_next P Q n (got a next m) f p q = q a next m p
 by_next P Q n (no r) f p q = tt
 
@@ -99,11 +99,11 @@ by-body P s low high e at f g = body-cases (λ x. Got P (in_body x at f)) s low 
 -- the codes
 
 abbrev IntegerIs : ℕ → IntegerCode → Type 0
-IntegerIs x (IntegerCode.Kind k) = x ≡ integerNumber k
+IntegerIs x (IntegerCode.Kind k) = x ≡ integer_number k
 IntegerIs x IntegerCode.Unknown = Unit {0}
 
-integer-is : (x : ℕ) → IntegerIs x (integerCode x)
-unfolding integerCode
+integer-is : (x : ℕ) → IntegerIs x (integer_code x)
+unfolding integer_code
 integer-is x =
     by-pick (IntegerIs x) (eqb x 0) _ _ (eqb-true x 0)
     (λ _. by-pick (IntegerIs x) (eqb x 1) _ _ (eqb-true x 1)
@@ -116,11 +116,11 @@ integer-is x =
     (λ _. by-pick (IntegerIs x) (eqb x 8) _ _ (eqb-true x 8) (λ _. tt)))))))))
 
 abbrev FloatIs : ℕ → FloatCode → Type 0
-FloatIs x (FloatCode.Format f) = x ≡ floatNumber f
+FloatIs x (FloatCode.Format f) = x ≡ float_number f
 FloatIs x FloatCode.Unknown = Unit {0}
 
-float_is : (x : ℕ) → FloatIs x (floatCode x)
-unfolding floatCode
+float_is : (x : ℕ) → FloatIs x (float_code x)
+unfolding float_code
 float_is x =
     by-pick (FloatIs x) (eqb x 0) _ _ (eqb-true x 0)
     (λ _. by-pick (FloatIs x) (eqb x 1) _ _ (eqb-true x 1)
@@ -129,8 +129,8 @@ float_is x =
 -- what is got of a type item at `at`: that its bytes stand there needs that they are bytes, and the rest does not
 pub record Read (c : Convention) (d : ℕ) (s : List ℕ) (e at : ℕ) (t : Tree) (next n : ℕ) : Type 0 where
   pub within : Left c d t
-  pub here : Bytes s → Has s at (encodeTree t)
-  pub ends : next ≡ at + length (encodeTree t)
+  pub here : Bytes s → Has s at (encode_tree t)
+  pub ends : next ≡ at + length (encode_tree t)
   pub inside : next ≤ e
   pub count : n ≡ items_of t
 
@@ -139,28 +139,28 @@ module _ (c : Convention) (d : ℕ) (s : List ℕ) (e at b : ℕ) (framed : Fram
   unfolding Has
   has-byte tag x t q v bytes = has-item s bytes tag (x ∷ []) at t (omega arith) (v, tt)
 
-  integer-sound : get_or s at 0 ≡ 0x10 → Got (Read c d s e at) (integerAt s at b)
-  unfolding integerAt encodeTree Left items_of
+  integer-sound : get_or s at 0 ≡ 0x10 → Got (Read c d s e at) (integer_at s at b)
+  unfolding integer_at encode_tree Left items_of
   integer-sound t = by-pick (Got (Read c d s e at)) (eqb b (at + 4)) _ _
-      (λ q. go (integerCode (get_or s (at + 3) 0)) (eqb-true b (at + 4) q) (integer-is (get_or s (at + 3) 0))) (λ _. tt)
+      (λ q. go (integer_code (get_or s (at + 3) 0)) (eqb-true b (at + 4) q) (integer-is (get_or s (at + 3) 0))) (λ _. tt)
     where
-      go : (x : IntegerCode) → b ≡ at + 4 → IntegerIs (get_or s (at + 3) 0) x → Got (Read c d s e at) (integerBy x at b)
+      go : (x : IntegerCode) → b ≡ at + 4 → IntegerIs (get_or s (at + 3) 0) x → Got (Read c d s e at) (integer_by x at b)
       go (IntegerCode.Kind k) q v =
-          let size = length-item 0x10 (integerNumber k ∷ []) in
-          record { within = tt; here = has-byte 0x10 (integerNumber k) t q v; ends = omega arith; inside = framed.inside; count = refl }
+          let size = length-item 0x10 (integer_number k ∷ []) in
+          record { within = tt; here = has-byte 0x10 (integer_number k) t q v; ends = omega arith; inside = framed.inside; count = refl }
       go IntegerCode.Unknown q v = tt
 
   float-sound : get_or s at 0 ≡ 0x11 → Got (Read c d s e at) (float_at c s (ltb d 8) at b)
-  unfolding float_at float_of encodeTree Left items_of
+  unfolding float_at float_of encode_tree Left items_of
   float-sound t = by-pick (Got (Read c d s e at)) (eqb b (at + 4)) _ _
-      (λ q. go (floatCode (get_or s (at + 3) 0)) (eqb-true b (at + 4) q) (float_is (get_or s (at + 3) 0))) (λ _. tt)
+      (λ q. go (float_code (get_or s (at + 3) 0)) (eqb-true b (at + 4) q) (float_is (get_or s (at + 3) 0))) (λ _. tt)
     where
-      one : (f : FloatFormat) → b ≡ at + 4 → get_or s (at + 3) 0 ≡ floatNumber f → FloatLeft d f → Got (Read c d s e at) (float_of c f (ltb d 8) at b)
-      one f q v w = by-pick (Got (Read c d s e at)) (lacksFloat c (ltb d 8) f) _ _ (λ _. tt) (λ l.
-          let size = length-item 0x11 (floatNumber f ∷ []) in
-          record { within = (w, l); here = has-byte 0x11 (floatNumber f) t q v; ends = omega arith; inside = framed.inside; count = refl })
+      one : (f : FloatFormat) → b ≡ at + 4 → get_or s (at + 3) 0 ≡ float_number f → FloatLeft d f → Got (Read c d s e at) (float_of c f (ltb d 8) at b)
+      one f q v w = by-pick (Got (Read c d s e at)) (lacks_float c (ltb d 8) f) _ _ (λ _. tt) (λ l.
+          let size = length-item 0x11 (float_number f ∷ []) in
+          record { within = (w, l); here = has-byte 0x11 (float_number f) t q v; ends = omega arith; inside = framed.inside; count = refl })
 
-      go : (x : FloatCode) → b ≡ at + 4 → FloatIs (get_or s (at + 3) 0) x → Got (Read c d s e at) (floatBy c x (ltb d 8) at b)
+      go : (x : FloatCode) → b ≡ at + 4 → FloatIs (get_or s (at + 3) 0) x → Got (Read c d s e at) (float_by c x (ltb d 8) at b)
       go (FloatCode.Format FloatFormat.Single) q v = one FloatFormat.Single q v tt
       go (FloatCode.Format FloatFormat.Double) q v = one FloatFormat.Double q v tt
       go (FloatCode.Format FloatFormat.LongDouble) q v =
@@ -170,8 +170,8 @@ module _ (c : Convention) (d : ℕ) (s : List ℕ) (e at b : ℕ) (framed : Fram
 -- types one after the other, from `start` on, after n₀ items
 pub record AllRead (c : Convention) (d : ℕ) (s : List ℕ) (b start n₀ : ℕ) (ts : Trees) (next n : ℕ) : Type 0 where
   pub within : AllLeft c d ts
-  pub here : Bytes s → Has s start (encodeTrees ts)
-  pub ends : next ≡ start + length (encodeTrees ts)
+  pub here : Bytes s → Has s start (encode_trees ts)
+  pub ends : next ≡ start + length (encode_trees ts)
   pub inside : next ≤ b
   pub count : n ≡ n₀ + items_in ts
 
@@ -182,18 +182,18 @@ pub record Ended (c : Convention) (d : ℕ) (s : List ℕ) (b start n₀ limit :
   pub few : count_of ts ≤ limit
 
 pub none_read : (c : Convention) (d : ℕ) (s : List ℕ) (b start n₀ : ℕ) → start ≤ b → AllRead c d s b start n₀ none start n₀
-unfolding encodeTrees Has AllLeft items_in
+unfolding encode_trees Has AllLeft items_in
 none_read c d s b start n₀ h = record { within = tt; here = λ _. tt; ends = omega arith; inside = h; count = omega arith }
 
-pub one-read : (c : Convention) (d : ℕ) (s : List ℕ) (b start n₀ : ℕ) (ts : Trees) (next n : ℕ) (t : Tree) (laterReading m : ℕ) →
-    AllRead c d s b start n₀ ts next n → Read c d s b next t laterReading m → AllRead c d s b start n₀ (ts ▸ t) laterReading (n + m)
-unfolding encodeTrees AllLeft items_in
-one-read c d s b start n₀ ts next n t laterReading m a r =
-    let size = length-append (encodeTrees ts) (encodeTree t) in
+pub one-read : (c : Convention) (d : ℕ) (s : List ℕ) (b start n₀ : ℕ) (ts : Trees) (next n : ℕ) (t : Tree) (later_reading m : ℕ) →
+    AllRead c d s b start n₀ ts next n → Read c d s b next t later_reading m → AllRead c d s b start n₀ (ts ▸ t) later_reading (n + m)
+unfolding encode_trees AllLeft items_in
+one-read c d s b start n₀ ts next n t later_reading m a r =
+    let size = length-append (encode_trees ts) (encode_tree t) in
     record {
       within = (a.within, r.within);
-      here = λ bytes. has-append s (encodeTrees ts) (encodeTree t) start (a.here bytes)
-          (has_move s (encodeTree t) next (start + length (encodeTrees ts)) a.ends (r.here bytes));
+      here = λ bytes. has-append s (encode_trees ts) (encode_tree t) start (a.here bytes)
+          (has_move s (encode_tree t) next (start + length (encode_trees ts)) a.ends (r.here bytes));
       ends = omega arith;
       inside = r.inside;
       count = omega arith;
@@ -216,10 +216,10 @@ left_below c d k ts q w = rw q at w
 
 module _ (c : Convention) (d : ℕ) (s : List ℕ) (e at b : ℕ) (framed : Framed s 0x10 0x12 e at b) (tag : get_or s at 0 ≡ 0x12)
     (reader : ℕ → Reading Tree) (sound : (k : ℕ) → Got (Read c d s b k) (reader k)) where
-  sized-sound : at + 3 < b → (limit : ℕ) (ts : Trees) (next n : ℕ) → Ended c d s b (at + 3) 1 limit ts next n → Got (Read c (suc d) s e at) (sizedAt c at b n ts)
-  unfolding sizedAt encodeTree Left items_of type_of
+  sized-sound : at + 3 < b → (limit : ℕ) (ts : Trees) (next n : ℕ) → Ended c d s b (at + 3) 1 limit ts next n → Got (Read c (suc d) s e at) (sized_at c at b n ts)
+  unfolding sized_at encode_tree Left items_of type_of
   sized-sound some limit ts next n r =
-      let size = length-item 0x12 (encodeTrees ts) in
+      let size = length-item 0x12 (encode_trees ts) in
       let ends = r.all.ends in
       let inside = r.all.inside in
       let last = r.last in
@@ -227,14 +227,14 @@ module _ (c : Convention) (d : ℕ) (s : List ℕ) (e at b : ℕ) (framed : Fram
       by-pick (Got (Read c (suc d) s e at)) (ltb 256 (shape_of (fields_of c ts)).size) _ _ (λ _. tt)
       (λ small. record {
         within = (omega arith, long-some ts (omega arith), left_below c d (suc d - 1) ts (omega arith) r.all.within, ltb-false 256 (shape_of (fields_of c ts)).size small);
-        here = λ bytes. has-item s bytes 0x12 (encodeTrees ts) at tag (omega arith) (r.all.here bytes);
+        here = λ bytes. has-item s bytes 0x12 (encode_trees ts) at tag (omega arith) (r.all.here bytes);
         ends = omega arith;
         inside = framed.inside;
         count = omega arith;
       })
 
-  contents-sound : Got (Read c (suc d) s e at) (contentsAt c reader at b)
-  unfolding contentsAt count_of
+  contents-sound : Got (Read c (suc d) s e at) (contents_at c reader at b)
+  unfolding contents_at count_of
   contents-sound = by-choose (Got (Read c (suc d) s e at)) (eqb b (at + 3)) _ _ (λ _. tt)
       (λ q.
       let differs = eqb-false b (at + 3) q in
@@ -244,8 +244,8 @@ module _ (c : Convention) (d : ℕ) (s : List ℕ) (e at b : ℕ) (framed : Fram
       (sized-sound (omega arith) limit))
 
 item-by-sound : (c : Convention) (d : ℕ) (s : List ℕ) (e at : ℕ) (structure : ℕ → ℕ → Reading Tree) →
-    ((b : ℕ) → Framed s 0x10 0x12 e at b → get_or s at 0 ≡ 0x12 → Got (Read c d s e at) (structure at b)) → Got (Read c d s e at) (itemBy c structure (ltb d 8) s e at)
-unfolding itemBy
+    ((b : ℕ) → Framed s 0x10 0x12 e at b → get_or s at 0 ≡ 0x12 → Got (Read c d s e at) (structure at b)) → Got (Read c d s e at) (item_by c structure (ltb d 8) s e at)
+unfolding item_by
 item-by-sound c d s e at structure sound = by-body (Read c d s e at) s 0x10 0x12 e at _ (λ b framed.
     by-choose (Got (Read c d s e at)) (eqb (get_or s at 0) 0x10) _ _ (λ q. integer-sound c d s e at b framed (eqb-true (get_or s at 0) 0x10 q))
     (λ q. by-choose (Got (Read c d s e at)) (eqb (get_or s at 0) 0x11) _ _ (λ r. float-sound c d s e at b framed (eqb-true (get_or s at 0) 0x11 r))
@@ -258,7 +258,7 @@ struct-sound : (c : Convention) (d : ℕ) (s : List ℕ) (e at b : ℕ) → Fram
 unfolding struct_at
 struct-sound c zero s e at b framed tag = tt
 struct-sound c (suc d) s e at b framed tag =
-    contents-sound c d s e at b framed tag (λ k. itemBy c (struct_at c d s) (ltb d 8) s b k)
+    contents-sound c d s e at b framed tag (λ k. item_by c (struct_at c d s) (ltb d 8) s b k)
     (λ k. item-by-sound c d s b k (struct_at c d s) (λ b' framed' tag'. struct-sound c d s b k b' framed' tag'))
 
 pub item-sound : (c : Convention) (d : ℕ) (s : List ℕ) (e at : ℕ) → Got (Read c d s e at) (item_at c d s e at)

@@ -8,11 +8,11 @@ use Rattle.sig_items.specs.declared.Refusal.{Refusal}
 use Rattle.sig_items.specs.declared.ItemRead.{ItemRead}
 use Rattle.sig_items.specs.Reading.{Reading, fault, got, no}
 
-abbrev pub itemAnswer : Convention → Reading Tree → ItemRead
-itemAnswer c (got t next n) = ItemRead.Item (type_of c t) next n
-itemAnswer c (no f) = ItemRead.Refused f
+abbrev pub item_answer : Convention → Reading Tree → ItemRead
+item_answer c (got t next n) = ItemRead.Item (type_of c t) next n
+item_answer c (no f) = ItemRead.Refused f
 
 -- of a struct, by its layout alone
-abbrev pub closedAnswer : ℕ → ℕ → ℕ → Closed → ItemRead
-closedAnswer at b n (Closed.Shape s) = ItemRead.Item (ValueType.Struct s) b n
-closedAnswer at b n Closed.TooLarge = ItemRead.Refused (fault Refusal.StructTooLarge at (n - 1))
+abbrev pub closed_answer : ℕ → ℕ → ℕ → Closed → ItemRead
+closed_answer at b n (Closed.Shape s) = ItemRead.Item (ValueType.Struct s) b n
+closed_answer at b n Closed.TooLarge = ItemRead.Refused (fault Refusal.StructTooLarge at (n - 1))

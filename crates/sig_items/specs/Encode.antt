@@ -5,35 +5,35 @@ use Rattle.sig_types.specs.declared.IntegerKind.{IntegerKind}
 use Rattle.sig_types.specs.declared.FloatFormat.{FloatFormat}
 use Rattle.sig_types.specs.Trees.{Tree, Trees, integer, float, struct, none, ◌▸◌}
 
-abbrev pub integerNumber : IntegerKind → ℕ
-integerNumber IntegerKind.I8 = 0
-integerNumber IntegerKind.U8 = 1
-integerNumber IntegerKind.I16 = 2
-integerNumber IntegerKind.U16 = 3
-integerNumber IntegerKind.I32 = 4
-integerNumber IntegerKind.U32 = 5
-integerNumber IntegerKind.I64 = 6
-integerNumber IntegerKind.U64 = 7
-integerNumber IntegerKind.Pointer = 8
+abbrev pub integer_number : IntegerKind → ℕ
+integer_number IntegerKind.I8 = 0
+integer_number IntegerKind.U8 = 1
+integer_number IntegerKind.I16 = 2
+integer_number IntegerKind.U16 = 3
+integer_number IntegerKind.I32 = 4
+integer_number IntegerKind.U32 = 5
+integer_number IntegerKind.I64 = 6
+integer_number IntegerKind.U64 = 7
+integer_number IntegerKind.Pointer = 8
 
-abbrev pub floatNumber : FloatFormat → ℕ
-floatNumber FloatFormat.Single = 0
-floatNumber FloatFormat.Double = 1
-floatNumber FloatFormat.LongDouble = 2
+abbrev pub float_number : FloatFormat → ℕ
+float_number FloatFormat.Single = 0
+float_number FloatFormat.Double = 1
+float_number FloatFormat.LongDouble = 2
 
 -- "An item is a one-byte tag, a two-byte length and a body"
 unfoldable pub item : ℕ → List ℕ → List ℕ
 item tag body = tag ∷ length body / 256 ∷ length body % 256 ∷ body
 
 unfoldable mutual
-  pub encodeTree : Tree → List ℕ
-  encodeTree (integer k) = item 0x10 (integerNumber k ∷ [])
-  encodeTree (float f) = item 0x11 (floatNumber f ∷ [])
-  encodeTree (struct ts) = item 0x12 (encodeTrees ts)
+  pub encode_tree : Tree → List ℕ
+  encode_tree (integer k) = item 0x10 (integer_number k ∷ [])
+  encode_tree (float f) = item 0x11 (float_number f ∷ [])
+  encode_tree (struct ts) = item 0x12 (encode_trees ts)
 
-  pub encodeTrees : Trees → List ℕ
-  encodeTrees none = []
-  encodeTrees (ts ▸ t) = encodeTrees ts ++ encodeTree t
+  pub encode_trees : Trees → List ℕ
+  encode_trees none = []
+  encode_trees (ts ▸ t) = encode_trees ts ++ encode_tree t
 
 -- "its count of items, headers of nested ones included"
 unfoldable mutual

@@ -12,37 +12,37 @@ abbrev pub encloses : ℕ → Bool
 encloses tag = pick (eqb tag 0x02) true (pick (eqb tag 0x03) true (eqb tag 0x12))
 
 -- the place after the header at `at`: in the body of an item that encloses others, past that of any other
-unfoldable pub nextHeader : List ℕ → ℕ → ℕ
-nextHeader s at = pick (encloses (get_or s at 0)) (at + 3) (at + 3 + length_at s at)
+unfoldable pub next_header : List ℕ → ℕ → ℕ
+next_header s at = pick (encloses (get_or s at 0)) (at + 3) (at + 3 + length_at s at)
 
 -- the place after n headers from `at` on, which is that of header n, counted from 0
-unfoldable pub placeOfHeader : List ℕ → ℕ → ℕ → ℕ
-placeOfHeader s at zero = at
-placeOfHeader s at (suc n) = placeOfHeader s (nextHeader s at) n
+unfoldable pub place_of_header : List ℕ → ℕ → ℕ → ℕ
+place_of_header s at zero = at
+place_of_header s at (suc n) = place_of_header s (next_header s at) n
 
 -- 8 is found once a struct's contents are read; any other fault where it stands: "bytes left over (4, 7, 9)" stand where the next
 -- header would
-abbrev pub isLarge : Refusal → Bool
-isLarge Refusal.TooLong = false
-isLarge Refusal.Truncated = false
-isLarge Refusal.UnexpectedTag = false
-isLarge Refusal.Malformed = false
-isLarge Refusal.LongDoubleInStruct = false
-isLarge Refusal.TooDeep = false
-isLarge Refusal.TooManyArguments = false
-isLarge Refusal.StructTooLarge = true
-isLarge Refusal.TrailingBytes = false
-isLarge Refusal.FloatNotCarried = false
-isLarge Refusal.UnclearPlace = false
+abbrev pub is_large : Refusal → Bool
+is_large Refusal.TooLong = false
+is_large Refusal.Truncated = false
+is_large Refusal.UnexpectedTag = false
+is_large Refusal.Malformed = false
+is_large Refusal.LongDoubleInStruct = false
+is_large Refusal.TooDeep = false
+is_large Refusal.TooManyArguments = false
+is_large Refusal.StructTooLarge = true
+is_large Refusal.TrailingBytes = false
+is_large Refusal.FloatNotCarried = false
+is_large Refusal.UnclearPlace = false
 
 -- where the reading stopped: at the fault's place; for 8 at the end of the struct's body
-abbrev pub stopOf : List ℕ → Fault → ℕ
-stopOf s f = pick (isLarge f.reason) (f.place + 3 + length_at s f.place) f.place
+abbrev pub stop_of : List ℕ → Fault → ℕ
+stop_of s f = pick (is_large f.reason) (f.place + 3 + length_at s f.place) f.place
 
 -- the headers that the walk meets before that: those counted; for 8 also the struct's own, since "The refused item's own header isn't
 -- counted"
-abbrev pub metBy : Fault → ℕ
-metBy f = pick (isLarge f.reason) (f.passed + 1) f.passed
+abbrev pub met_by : Fault → ℕ
+met_by f = pick (is_large f.reason) (f.passed + 1) f.passed
 
 -- the tags of a signature's own items, an ellipsis's among them, and of types
 abbrev pub IsTag : ℕ → Type 0
@@ -55,15 +55,15 @@ pub record PassedHeader (s : List ℕ) (e at : ℕ) : Type 0 where
 
 -- each of the first n headers from `at` on did
 unfoldable pub HeadersPassed : List ℕ → ℕ → ℕ → ℕ → Type 0
-HeadersPassed s e at n = (i : ℕ) → i < n → PassedHeader s e (placeOfHeader s at i)
+HeadersPassed s e at n = (i : ℕ) → i < n → PassedHeader s e (place_of_header s at i)
 
 -- A reading from `at` on, within e, that was refused. `stop` fixes the count, since each step of the walk goes at least three bytes on
 -- (law `far-unique`).
 pub record HowFar (s : List ℕ) (e at : ℕ) (f : Fault) : Type 0 where
   -- the headers passed lead from the first item to where the reading stopped
-  pub stop : placeOfHeader s at (metBy f) ≡ stopOf s f
-  pub inside : stopOf s f ≤ e
-  pub passed : HeadersPassed s e at (metBy f)
+  pub stop : place_of_header s at (met_by f) ≡ stop_of s f
+  pub inside : stop_of s f ≤ e
+  pub passed : HeadersPassed s e at (met_by f)
   -- and the faulty item is met on the way
   pub met : ℕ
-  pub place : placeOfHeader s at met ≡ f.place
+  pub place : place_of_header s at met ≡ f.place

@@ -6,14 +6,14 @@ use Rattle.base_words.specs.Basics.{pick}
 use Rattle.base_conventions.specs.declared.Convention.{Convention}
 use Rattle.sig_types.specs.declared.IntegerKind.{IntegerKind}
 use Rattle.sig_types.specs.declared.FloatFormat.{FloatFormat}
-use Rattle.sig_types.specs.Sizes.{lacksFloat, maxDepth}
-use Rattle.sig_types.specs.Structs.{shape_of, tooLarge}
+use Rattle.sig_types.specs.Sizes.{lacks_float, max_depth}
+use Rattle.sig_types.specs.Structs.{shape_of, too_large}
 use Rattle.sig_types.specs.Trees.{Tree, Trees, integer, float, struct, none, ◌▸◌, fields_of}
 use Rattle.sig_items.specs.declared.Refusal.{Refusal}
 use Rattle.sig_items.specs.declared.Body.{Body}
 use Rattle.sig_items.specs.declared.IntegerCode.{IntegerCode}
 use Rattle.sig_items.specs.declared.FloatCode.{FloatCode}
-use Rattle.sig_items.specs.Reading.{Reading, fault, got, no, laterReading, choose, and_then, in_body}
+use Rattle.sig_items.specs.Reading.{Reading, fault, got, no, later_reading, choose, and_then, in_body}
 
 -- "a two-byte length", big-endian, after the "one-byte tag"
 abbrev pub length_at : List ℕ → ℕ → ℕ
@@ -29,8 +29,8 @@ body_at s low high e at =
     (Body.To (at + 3 + length_at s at)))))
 
 -- "codes 0 to 8 for i8, u8, i16, u16, i32, u32, i64, u64, pointer"
-unfoldable pub integerCode : ℕ → IntegerCode
-integerCode x =
+unfoldable pub integer_code : ℕ → IntegerCode
+integer_code x =
     pick (eqb x 0) (IntegerCode.Kind IntegerKind.I8)
     (pick (eqb x 1) (IntegerCode.Kind IntegerKind.U8)
     (pick (eqb x 2) (IntegerCode.Kind IntegerKind.I16)
@@ -42,34 +42,34 @@ integerCode x =
     (pick (eqb x 8) (IntegerCode.Kind IntegerKind.Pointer) IntegerCode.Unknown))))))))
 
 -- "codes 0 single, 1 double, 2 long double"
-unfoldable pub floatCode : ℕ → FloatCode
-floatCode x =
+unfoldable pub float_code : ℕ → FloatCode
+float_code x =
     pick (eqb x 0) (FloatCode.Format FloatFormat.Single)
     (pick (eqb x 1) (FloatCode.Format FloatFormat.Double)
     (pick (eqb x 2) (FloatCode.Format FloatFormat.LongDouble) FloatCode.Unknown))
 
-abbrev pub integerBy : IntegerCode → ℕ → ℕ → Reading Tree
-integerBy (IntegerCode.Kind k) at b = got (integer k) b 1
-integerBy IntegerCode.Unknown at b = no (fault Refusal.Malformed at 0)
+abbrev pub integer_by : IntegerCode → ℕ → ℕ → Reading Tree
+integer_by (IntegerCode.Kind k) at b = got (integer k) b 1
+integer_by IntegerCode.Unknown at b = no (fault Refusal.Malformed at 0)
 
 -- "0x10 whole number, length 1"
-unfoldable pub integerAt : List ℕ → ℕ → ℕ → Reading Tree
-integerAt s at b = pick (eqb b (at + 4)) (integerBy (integerCode (get_or s (at + 3) 0)) at b) (no (fault Refusal.Malformed at 0))
+unfoldable pub integer_at : List ℕ → ℕ → ℕ → Reading Tree
+integer_at s at b = pick (eqb b (at + 4)) (integer_by (integer_code (get_or s (at + 3) 0)) at b) (no (fault Refusal.Malformed at 0))
 
 -- 25: a float that the convention has not
 unfoldable pub float_of : Convention → FloatFormat → Bool → ℕ → ℕ → Reading Tree
-float_of c f inside at b = pick (lacksFloat c inside f) (no (fault Refusal.FloatNotCarried at 0)) (got (float f) b 1)
+float_of c f inside at b = pick (lacks_float c inside f) (no (fault Refusal.FloatNotCarried at 0)) (got (float f) b 1)
 
 -- 5: "long double inside a struct"; 25 is "tested after 5"
-abbrev pub floatBy : Convention → FloatCode → Bool → ℕ → ℕ → Reading Tree
-floatBy c (FloatCode.Format FloatFormat.Single) inside at b = float_of c FloatFormat.Single inside at b
-floatBy c (FloatCode.Format FloatFormat.Double) inside at b = float_of c FloatFormat.Double inside at b
-floatBy c (FloatCode.Format FloatFormat.LongDouble) inside at b = pick inside (no (fault Refusal.LongDoubleInStruct at 0)) (float_of c FloatFormat.LongDouble inside at b)
-floatBy c FloatCode.Unknown inside at b = no (fault Refusal.Malformed at 0)
+abbrev pub float_by : Convention → FloatCode → Bool → ℕ → ℕ → Reading Tree
+float_by c (FloatCode.Format FloatFormat.Single) inside at b = float_of c FloatFormat.Single inside at b
+float_by c (FloatCode.Format FloatFormat.Double) inside at b = float_of c FloatFormat.Double inside at b
+float_by c (FloatCode.Format FloatFormat.LongDouble) inside at b = pick inside (no (fault Refusal.LongDoubleInStruct at 0)) (float_of c FloatFormat.LongDouble inside at b)
+float_by c FloatCode.Unknown inside at b = no (fault Refusal.Malformed at 0)
 
 -- "0x11 float, length 1"
 unfoldable pub float_at : Convention → List ℕ → Bool → ℕ → ℕ → Reading Tree
-float_at c s inside at b = pick (eqb b (at + 4)) (floatBy c (floatCode (get_or s (at + 3) 0)) inside at b) (no (fault Refusal.Malformed at 0))
+float_at c s inside at b = pick (eqb b (at + 4)) (float_by c (float_code (get_or s (at + 3) 0)) inside at b) (no (fault Refusal.Malformed at 0))
 
 -- Type items one after the other up to the end e, at most `most` of them, after the types ts; n headers came before, those of
 -- the types and the enclosing one. Only arguments are limited: a struct's `most` is its body's length, and no item is shorter
@@ -77,32 +77,32 @@ float_at c s inside at b = pick (eqb b (at + 4)) (floatBy c (floatCode (get_or s
 unfoldable pub sequence : (ℕ → Reading Tree) → ℕ → ℕ → ℕ → ℕ → Trees → Reading Trees
 sequence item e zero next n ts = pick (ltb next e) (no (fault Refusal.TooManyArguments next n)) (got ts next n)
 sequence item e (suc most) next n ts =
-    choose (ltb next e) (λ _. and_then (laterReading n (item next)) (λ t onward m. sequence item e most onward m (ts ▸ t))) (λ _. got ts next n)
+    choose (ltb next e) (λ _. and_then (later_reading n (item next)) (λ t onward m. sequence item e most onward m (ts ▸ t))) (λ _. got ts next n)
 
 -- "size (8)": a struct of the types ts, whose body ends at b; of its n headers "the refused item's own header isn't counted"
-unfoldable pub sizedAt : Convention → ℕ → ℕ → ℕ → Trees → Reading Tree
-sizedAt c at b n ts = pick (tooLarge (shape_of (fields_of c ts))) (no (fault Refusal.StructTooLarge at (n - 1))) (got (struct ts) b n)
+unfoldable pub sized_at : Convention → ℕ → ℕ → ℕ → Trees → Reading Tree
+sized_at c at b n ts = pick (too_large (shape_of (fields_of c ts))) (no (fault Refusal.StructTooLarge at (n - 1))) (got (struct ts) b n)
 
 -- "0x12 struct: one or more type items"; n counts its own header first
-unfoldable pub contentsAt : Convention → (ℕ → Reading Tree) → ℕ → ℕ → Reading Tree
-contentsAt c item at b =
+unfoldable pub contents_at : Convention → (ℕ → Reading Tree) → ℕ → ℕ → Reading Tree
+contents_at c item at b =
     choose (eqb b (at + 3)) (λ _. no (fault Refusal.Malformed at 0))
-    (λ _. and_then (sequence item b (b - (at + 3)) (at + 3) 1 none) (λ ts next n. sizedAt c at b n ts))
+    (λ _. and_then (sequence item b (b - (at + 3)) (at + 3) 1 none) (λ ts next n. sized_at c at b n ts))
 
 -- by the tag, 0x10, 0x11 or 0x12
 abbrev pub by_tag : ℕ → Reading Tree → Reading Tree → (Unit {0} → Reading Tree) → Reading Tree
 by_tag tag i f s = choose (eqb tag 0x10) (λ _. i) (λ _. choose (eqb tag 0x11) (λ _. f) s)
 
 -- a type item, by what a struct's is
-unfoldable pub itemBy : Convention → (ℕ → ℕ → Reading Tree) → Bool → List ℕ → ℕ → ℕ → Reading Tree
-itemBy c structure inside s e at =
-    in_body (body_at s 0x10 0x12 e at) at (λ b. by_tag (get_or s at 0) (integerAt s at b) (float_at c s inside at b) (λ _. structure at b))
+unfoldable pub item_by : Convention → (ℕ → ℕ → Reading Tree) → Bool → List ℕ → ℕ → ℕ → Reading Tree
+item_by c structure inside s e at =
+    in_body (body_at s 0x10 0x12 e at) at (λ b. by_tag (get_or s at 0) (integer_at s at b) (float_at c s inside at b) (λ _. structure at b))
 
 -- "Reading a struct and reading a field call each other, and the depth left falls": d levels of structs are left, 8 outside
 -- any struct. 6: "struct depth over 8"
 unfoldable pub struct_at : Convention → ℕ → List ℕ → ℕ → ℕ → Reading Tree
 struct_at c zero s at b = no (fault Refusal.TooDeep at 0)
-struct_at c (suc d) s at b = contentsAt c (λ k. itemBy c (struct_at c d s) (ltb d maxDepth) s b k) at b
+struct_at c (suc d) s at b = contents_at c (λ k. item_by c (struct_at c d s) (ltb d max_depth) s b k) at b
 
 unfoldable pub item_at : Convention → ℕ → List ℕ → ℕ → ℕ → Reading Tree
-item_at c d s e at = itemBy c (struct_at c d s) (ltb d maxDepth) s e at
+item_at c d s e at = item_by c (struct_at c d s) (ltb d max_depth) s e at

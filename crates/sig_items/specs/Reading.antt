@@ -19,9 +19,9 @@ abbrev pub later : ℕ → Fault → Fault
 later n f = record { reason = f.reason; place = f.place; passed = n + f.passed }
 
 -- a reading after n headers: both counts have them too, "enclosing and nested ones alike"
-abbrev pub laterReading : {A : Type 0} → ℕ → Reading A → Reading A
-laterReading n (got x next m) = got x next (n + m)
-laterReading n (no f) = no (later n f)
+abbrev pub later_reading : {A : Type 0} → ℕ → Reading A → Reading A
+later_reading n (got x next m) = got x next (n + m)
+later_reading n (no f) = no (later n f)
 
 -- a choice by a test where a case must wait for the test
 abbrev pub choose : {A : Type 0} → Bool → (Unit {0} → A) → (Unit {0} → A) → A

@@ -4,7 +4,7 @@ use Rattle.std.specs.Prelude.{ℕ, ◌≡◌, List}
 use Rattle.base_conventions.specs.declared.Convention.{Convention}
 use Rattle.sig_items.specs.Reading.{Reading}
 use Rattle.sig_items.specs.Read.{struct_at, item_at}
-use Rattle.sig_items.specs.Refusals.{readingNumber}
+use Rattle.sig_items.specs.Refusals.{reading_number}
 
 -- another number than 7
 abbrev pub Other : ℕ → Type 0
@@ -12,7 +12,7 @@ Other n = n ≡ 7 → ⊥
 
 -- a reading that 7 does not refuse
 abbrev pub NotSeven : {A : Type 0} → Reading A → Type 0
-NotSeven x = Other (readingNumber x)
+NotSeven x = Other (reading_number x)
 
 -- no type item gives 7, and no struct's body, whatever the bytes, the place, the end and the depth left
 abbrev pub ItemsNotSeven : Type 0

@@ -1,6 +1,6 @@
 // One type item of a signature: why it is refused, and what reading it gives. The readers are in the crates above.
 ghost use Rattle.std.specs.Prelude.{◌≡◌, ◌+◌, ◌^◌, ◌<◌};
-ghost use Rattle.sig_items.specs.Refusals.{refusalNumber};
+ghost use Rattle.sig_items.specs.Refusals.{refusal_number};
 ghost use Rattle.sig_items.specs.Reading.{later};
 
 use sig_types::{FloatFormat, IntegerKind, ValueType};
@@ -22,7 +22,7 @@ pub enum Refusal {
 }
 
 pub fn refusal_number(r: Refusal) -> u64
-    ensures { result ≡ refusalNumber r }
+    ensures { result ≡ refusal_number r }
 {
     match r {
         Refusal::TooLong => 1,

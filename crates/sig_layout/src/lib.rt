@@ -1,7 +1,7 @@
 // The layout of a struct: its fields one after the other, each at the next multiple of its alignment.
 ghost use Rattle.std.specs.Prelude.{◌≡◌, ◌^◌, ◌≤◌, ◌<◌};
 ghost use Rattle.sig_types.specs.Sizes.{size_of, align_of, Sized};
-ghost use Rattle.sig_types.specs.Structs.{noFields, withField, equivalentAfter, closed};
+ghost use Rattle.sig_types.specs.Structs.{no_fields, with_field, equivalent_after, closed};
 
 use base_conventions::Convention;
 use sig_types::{Closed, Equivalent, Fields, Shape, ValueType};
@@ -19,7 +19,7 @@ fn align_of(c: Convention, t: ValueType, size: usize) -> usize
 }
 
 fn equivalent_after(empty: bool, t: ValueType) -> Equivalent
-    ensures { result ≡ equivalentAfter empty t }
+    ensures { result ≡ equivalent_after empty t }
 {
     if empty {
         sig_types::equivalent_of(t)
@@ -29,7 +29,7 @@ fn equivalent_after(empty: bool, t: ValueType) -> Equivalent
 }
 
 pub fn no_fields() -> Fields
-    ensures { result ≡ noFields }
+    ensures { result ≡ no_fields }
 {
     Fields {
         end: 0,
@@ -42,7 +42,7 @@ pub fn no_fields() -> Fields
 // One field more, at the next multiple of its alignment.
 pub fn with_field(l: Fields, c: Convention, t: ValueType) -> Fields
     requires { (l.end < 2 ^ 32) × Sized c t }
-    ensures { result ≡ withField c l t }
+    ensures { result ≡ with_field c l t }
 {
     let end = l.end;
     let align = l.align;

@@ -1,8 +1,8 @@
 // Any type item: an integer's and a float's, which have none in them, and the reader of an item and that of a struct, which call each other.
 ghost use Rattle.std.specs.Prelude.{◌≡◌, ◌+◌, ◌≤◌, ◌^◌, ◌<◌, ltb, length};
-ghost use Rattle.sig_items.specs.Read.{integerCode, floatCode, integerAt, float_of, float_at, struct_at, item_at};
-ghost use Rattle.sig_items.specs.Answer.{itemAnswer, closedAnswer};
-ghost use Rattle.sig_types.specs.Sizes.{maxDepth};
+ghost use Rattle.sig_items.specs.Read.{integer_code, float_code, integer_at, float_of, float_at, struct_at, item_at};
+ghost use Rattle.sig_items.specs.Answer.{item_answer, closed_answer};
+ghost use Rattle.sig_types.specs.Sizes.{max_depth};
 ghost use Rattle.sig_types.specs.Structs.{closed};
 
 use base_conventions::Convention;
@@ -10,7 +10,7 @@ use sig_items::{Body, Fault, FloatCode, IntegerCode, ItemRead, Refusal};
 use sig_types::{Closed, Fields, FloatFormat, IntegerKind, ValueType};
 
 fn integer_code(code: u8) -> IntegerCode
-    ensures { result ≡ integerCode code }
+    ensures { result ≡ integer_code code }
 {
     match code {
         0 => IntegerCode::Kind(IntegerKind::I8),
@@ -27,7 +27,7 @@ fn integer_code(code: u8) -> IntegerCode
 }
 
 fn float_code(code: u8) -> FloatCode
-    ensures { result ≡ floatCode code }
+    ensures { result ≡ float_code code }
 {
     match code {
         0 => FloatCode::Format(FloatFormat::Single),
@@ -40,7 +40,7 @@ fn float_code(code: u8) -> FloatCode
 // The integer item at `at`, whose body ends at `end`.
 pub fn read_integer(s: &[u8], c: Convention, at: usize, end: usize) -> ItemRead
     requires { (at + 3 ≤ end) × (end ≤ length s.now) }
-    ensures { result ≡ itemAnswer c (integerAt s.now at end) }
+    ensures { result ≡ item_answer c (integer_at s.now at end) }
 {
     if end - at != 4 {
         return sig_item_headers::refused_here(Refusal::Malformed, at);
@@ -57,7 +57,7 @@ pub fn read_integer(s: &[u8], c: Convention, at: usize, end: usize) -> ItemRead
 
 // A float item at `at` that 5 does not refuse: whether the convention has it.
 fn float_item(c: Convention, f: FloatFormat, at: usize, end: usize, depth: usize) -> ItemRead
-    ensures { result ≡ itemAnswer c (float_of c f (ltb depth maxDepth) at end) }
+    ensures { result ≡ item_answer c (float_of c f (ltb depth max_depth) at end) }
 {
     let inside = depth < sig_types::MAX_DEPTH;
     if sig_types::lacks_float(c, inside, f) {
@@ -73,7 +73,7 @@ fn float_item(c: Convention, f: FloatFormat, at: usize, end: usize, depth: usize
 // The float item at `at`, whose body ends at `end`, with `depth` levels of structs left: fewer than MAX_DEPTH inside a struct.
 pub fn read_float(s: &[u8], c: Convention, at: usize, end: usize, depth: usize) -> ItemRead
     requires { (at + 3 ≤ end) × (end ≤ length s.now) }
-    ensures { result ≡ itemAnswer c (float_at c s.now (ltb depth maxDepth) at end) }
+    ensures { result ≡ item_answer c (float_at c s.now (ltb depth max_depth) at end) }
 {
     if end - at != 4 {
         return sig_item_headers::refused_here(Refusal::Malformed, at);
@@ -97,7 +97,7 @@ pub fn read_float(s: &[u8], c: Convention, at: usize, end: usize, depth: usize) 
 // The struct item at `at`, whose fields are all read and whose body ends at `end`; of its items the first is its own header.
 fn closed_item(at: usize, end: usize, items: usize, fields: Fields) -> ItemRead
     requires { (0 < items) × (fields.end < 2 ^ 32) × (0 < fields.align) × (fields.align ≤ 16) }
-    ensures { result ≡ closedAnswer at end items (closed fields) }
+    ensures { result ≡ closed_answer at end items (closed fields) }
 {
     match sig_layout::close(fields) {
         Closed::Shape(shape) => ItemRead::Item {
@@ -116,8 +116,8 @@ fn closed_item(at: usize, end: usize, items: usize, fields: Fields) -> ItemRead
 // The type item at `at` within `end`, with `depth` levels of structs left: MAX_DEPTH outside any struct.
 #[cycle(read_item_read_struct)]
 pub fn read_item(s: &[u8], c: Convention, at: usize, end: usize, depth: usize) -> ItemRead
-    requires { (at ≤ end) × (end ≤ length s.now) × (end ≤ 2 ^ 16) × (depth ≤ maxDepth) }
-    ensures { result ≡ itemAnswer c (item_at c depth s.now end at) }
+    requires { (at ≤ end) × (end ≤ length s.now) × (end ≤ 2 ^ 16) × (depth ≤ max_depth) }
+    ensures { result ≡ item_answer c (item_at c depth s.now end at) }
 {
     match sig_item_headers::read_body(s, 0x10, 0x12, at, end) {
         Body::Refused(reason) => sig_item_headers::refused_here(reason, at),
@@ -137,8 +137,8 @@ pub fn read_item(s: &[u8], c: Convention, at: usize, end: usize, depth: usize) -
 // The struct item at `at`, whose body ends at `end`.
 #[cycle(read_item_read_struct)]
 fn read_struct(s: &[u8], c: Convention, at: usize, end: usize, depth: usize) -> ItemRead
-    requires { (at + 3 ≤ end) × (end ≤ length s.now) × (end ≤ 2 ^ 16) × (depth ≤ maxDepth) }
-    ensures { result ≡ itemAnswer c (struct_at c depth s.now at end) }
+    requires { (at + 3 ≤ end) × (end ≤ length s.now) × (end ≤ 2 ^ 16) × (depth ≤ max_depth) }
+    ensures { result ≡ item_answer c (struct_at c depth s.now at end) }
 {
     if depth == 0 {
         return sig_item_headers::refused_here(Refusal::TooDeep, at);

@@ -4,16 +4,16 @@ use mathlib.Core.Path.{◌≡◌, refl}
 use Rattle.sig_items.specs.declared.Fault.{Fault}
 use Rattle.sig_items.specs.declared.Body.{Body}
 use Rattle.sig_items.specs.Reading.{no}
-use Rattle.sig_items.specs.Refusals.{bodyNumber, readingNumber}
+use Rattle.sig_items.specs.Refusals.{body_number, reading_number}
 use Rattle.sig_signatures.specs.Signature.{Signature}
-use Rattle.sig_stepping.specs.Step.{headerBy}
-use Rattle.sig_reader.specs.Argument.{argumentOf}
-use Rattle.sig_reader.specs.Numbers.{headerNumber, argumentNumber}
+use Rattle.sig_stepping.specs.Step.{header_by}
+use Rattle.sig_reader.specs.Argument.{argument_of}
+use Rattle.sig_reader.specs.Numbers.{header_number, argument_number}
 
-pub header-number : (tag : ℕ) (x : Body) → headerNumber (headerBy tag x) ≡ bodyNumber x
+pub header-number : (tag : ℕ) (x : Body) → header_number (header_by tag x) ≡ body_number x
 header-number tag (Body.To b) = refl
 header-number tag (Body.Refused r) = refl
 
 -- a refused signature's number is that of each of its arguments
-pub argument-number : (index : ℕ) (f : Fault) → argumentNumber (argumentOf index (no f)) ≡ readingNumber {A = Signature} (no f)
+pub argument-number : (index : ℕ) (f : Fault) → argument_number (argument_of index (no f)) ≡ reading_number {A = Signature} (no f)
 argument-number index f = refl

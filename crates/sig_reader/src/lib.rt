@@ -2,13 +2,13 @@
 // functions over plain bytes, for every other caller, which step with readers: an argument by its number, and 29 at its place. Functions over bytes
 // and numbers do the work: the reader's own only take it apart and put it together.
 ghost use Rattle.std.specs.Prelude.{◌≡◌, ◌^◌, ◌≤◌, length};
-ghost use Rattle.sig_items.specs.Answer.{itemAnswer};
-ghost use Rattle.sig_signatures.specs.Limits.{maxLength};
-ghost use Rattle.sig_signatures.specs.Read.{argumentsIn, signature_of};
-ghost use Rattle.sig_stepping.specs.Step.{leftAt, headerIn, typeIn};
-ghost use Rattle.sig_reader.specs.Reader.{readerStarted, skipped, readerEntered, advanced};
-ghost use Rattle.sig_reader.specs.Argument.{argumentOf, itemIn, unclearFault};
-ghost use Rattle.sig_reader.specs.Helpers.{argumentWith, notedAs};
+ghost use Rattle.sig_items.specs.Answer.{item_answer};
+ghost use Rattle.sig_signatures.specs.Limits.{max_length};
+ghost use Rattle.sig_signatures.specs.Read.{arguments_in, signature_of};
+ghost use Rattle.sig_stepping.specs.Step.{left_at, header_in, type_in};
+ghost use Rattle.sig_reader.specs.Reader.{reader_started, skipped, reader_entered, advanced};
+ghost use Rattle.sig_reader.specs.Argument.{argument_of, item_in, unclear_fault};
+ghost use Rattle.sig_reader.specs.Helpers.{argument_with, noted_as};
 
 use base_conventions::Convention;
 use sig_items::{Fault, ItemRead, Refusal};
@@ -35,7 +35,7 @@ pub enum ArgumentRead {
 impl<'a> Reader<'a> {
     // At the first item of the whole signature.
     pub fn new(signature: &'a [u8]) -> Reader<'a>
-        ensures { result ≡ readerStarted signature.entry }
+        ensures { result ≡ reader_started signature.entry }
     {
         Reader {
             signature,
@@ -46,14 +46,14 @@ impl<'a> Reader<'a> {
 
     // How many bytes are left.
     pub fn left(self) -> usize
-        ensures { result ≡ leftAt self.entry.signature.now self.entry.at self.entry.end }
+        ensures { result ≡ left_at self.entry.signature.now self.entry.at self.entry.end }
     {
         sig_stepping::left_at(self.signature, self.at, self.end)
     }
 
     // The item's header.
     pub fn header(self) -> Header
-        ensures { result ≡ headerIn self.entry.signature.now self.entry.at self.entry.end }
+        ensures { result ≡ header_in self.entry.signature.now self.entry.at self.entry.end }
     {
         sig_stepping::header_in(self.signature, self.at, self.end)
     }
@@ -72,7 +72,7 @@ impl<'a> Reader<'a> {
 
     // Into the item's body; nothing is left there if the header is refused.
     pub fn enter(self) -> Reader<'a>
-        ensures { result ≡ readerEntered self.entry }
+        ensures { result ≡ reader_entered self.entry }
     {
         let at = sig_stepping::body_start(self.signature, self.at, self.end);
         let end = sig_stepping::body_end(self.signature, self.at, self.end);
@@ -85,14 +85,14 @@ impl<'a> Reader<'a> {
 
     // The item as a type item, with its type.
     pub fn type_item(self, c: Convention) -> ItemRead
-        ensures { result ≡ itemAnswer c (typeIn c self.entry.signature.now self.entry.at self.entry.end) }
+        ensures { result ≡ item_answer c (type_in c self.entry.signature.now self.entry.at self.entry.end) }
     {
         sig_stepping::type_in(self.signature, self.at, self.end, c)
     }
 
     // The same, and the reader moves past it; after a refusal it stays where it is.
     pub fn next_type<'s>(&'s mut self, c: Convention) -> ItemRead
-        ensures { (result ≡ itemAnswer c (typeIn c self.old.signature.now self.old.at self.old.end))
+        ensures { (result ≡ item_answer c (type_in c self.old.signature.now self.old.at self.old.end))
             × (self.new ≡ advanced c self.old) }
     {
         let at = self.at;
@@ -105,7 +105,7 @@ impl<'a> Reader<'a> {
 
 // The type item at `at`, by a reader of the part up to `end`.
 fn type_of_part(s: &[u8], at: usize, end: usize, c: Convention) -> ItemRead
-    ensures { result ≡ itemAnswer c (typeIn c s.now at end) }
+    ensures { result ≡ item_answer c (type_in c s.now at end) }
 {
     Reader {
         signature: s,
@@ -123,7 +123,7 @@ fn noted(
     ty: ValueType,
     place: usize,
 ) -> ArgumentRead
-    ensures { result ≡ notedAs found index count ty place }
+    ensures { result ≡ noted_as found index count ty place }
 {
     if index == count {
         return ArgumentRead::Argument { ty, place };
@@ -141,8 +141,8 @@ fn argument_from(
     earlier: usize,
     index: usize,
 ) -> ArgumentRead
-    requires { (at ≤ end) × (end ≤ length s.now) × (length s.now ≤ maxLength) × (earlier ≤ 2 ^ 16) }
-    ensures { result ≡ argumentWith c at earlier (length s.now) index (argumentsIn c s.now at end) }
+    requires { (at ≤ end) × (end ≤ length s.now) × (length s.now ≤ max_length) × (earlier ≤ 2 ^ 16) }
+    ensures { result ≡ argument_with c at earlier (length s.now) index (arguments_in c s.now at end) }
 {
     let mut found = ArgumentRead::Missing;
     let mut count: usize = 0;
@@ -185,7 +185,7 @@ fn argument_from(
 
 // Argument number `index` of any bytes, counted from 0: its type, and where its item stands.
 pub fn argument_at(s: &[u8], index: usize) -> ArgumentRead
-    ensures { result ≡ argumentOf index (signature_of s.now) }
+    ensures { result ≡ argument_of index (signature_of s.now) }
 {
     match sig_head::read_head(s) {
         HeadRead::Refused(fault) => ArgumentRead::Refused(fault),
@@ -202,7 +202,7 @@ pub fn argument_at(s: &[u8], index: usize) -> ArgumentRead
 
 // The place of an argument's item.
 fn item_in(a: ArgumentRead) -> usize
-    ensures { result ≡ itemIn a }
+    ensures { result ≡ item_in a }
 {
     match a {
         ArgumentRead::Argument { ty, place } => place,
@@ -213,7 +213,7 @@ fn item_in(a: ArgumentRead) -> usize
 
 // 29 of argument number `index`, counted from 0. The signature is read again to find its place: nothing else asks for that.
 pub fn unclear_fault(s: &[u8], index: usize) -> Fault
-    ensures { result ≡ unclearFault index (signature_of s.now) }
+    ensures { result ≡ unclear_fault index (signature_of s.now) }
 {
     let a = argument_at(s, index);
     let place = item_in(a);

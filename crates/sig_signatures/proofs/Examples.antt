@@ -4,20 +4,20 @@ use Prim.Native.Nat.{ℕ, zero, suc}
 use mathlib.Core.Path.{◌≡◌, refl}
 use mathlib.Core.Bool.{true, false}
 use mathlib.Core.List.{List, [], ◌∷◌, map}
-use Rattle.base_words.specs.Basics.{roundUp}
+use Rattle.base_words.specs.Basics.{round_up}
 use Rattle.base_conventions.specs.declared.Convention.{Convention}
-use Rattle.base_conventions.specs.Numbers.{conventionCode}
+use Rattle.base_conventions.specs.Numbers.{convention_code}
 use Rattle.sig_types.specs.declared.IntegerKind.{IntegerKind}
 use Rattle.sig_types.specs.declared.FloatFormat.{FloatFormat}
 use Rattle.sig_types.specs.Trees.{Tree, Trees, integer, float, struct, none, ◌▸◌, fields_of}
-use Rattle.sig_items.specs.Refusals.{refusalNumber}
+use Rattle.sig_items.specs.Refusals.{refusal_number}
 use Rattle.sig_items.specs.Reading.{Reading, got, no}
-use Rattle.sig_types.specs.Structs.{withField, shape_of}
-use Rattle.sig_items.specs.Read.{body_at, integerCode, floatCode, integerAt, float_of, float_at, sequence, sizedAt, contentsAt, itemBy, struct_at, item_at}
-use Rattle.sig_items.specs.Encode.{item, encodeTree}
+use Rattle.sig_types.specs.Structs.{with_field, shape_of}
+use Rattle.sig_items.specs.Read.{body_at, integer_code, float_code, integer_at, float_of, float_at, sequence, sized_at, contents_at, item_by, struct_at, item_at}
+use Rattle.sig_items.specs.Encode.{item, encode_tree}
 use Rattle.sig_signatures.specs.Signature.{nothing, Signature}
-use Rattle.sig_signatures.specs.Read.{conventionAt, resultIn, result_at, ellipsisAt, argumentsIn, argumentsAt, afterEllipsis, afterResult, afterConvention, signature_of}
-use Rattle.sig_signatures.specs.Encode.{encodeResult, ellipsisItem, encode}
+use Rattle.sig_signatures.specs.Read.{convention_at, result_in, result_at, ellipsis_at, arguments_in, arguments_at, after_ellipsis, after_result, after_convention, signature_of}
+use Rattle.sig_signatures.specs.Encode.{encode_result, ellipsis_item, encode}
 
 -- "PPC64, no result, arguments i32 and double: `01 0001 01 02 0000 03 0008 10 0001 04 11 0001 01` (18 bytes, 5 items)"
 pub example : List ℕ
@@ -25,7 +25,7 @@ example = 0x01 ∷ 0 ∷ 1 ∷ 1 ∷ 0x02 ∷ 0 ∷ 0 ∷ 0x03 ∷ 0 ∷ 8 ∷ 0
 
 pub example-read : signature_of example ≡
     got (record { convention = Convention.Ppc64; result = nothing; ellipsis = false; arguments = none ▸ integer IntegerKind.I32 ▸ float FloatFormat.Double }) 18 5
-unfolding example body_at integerCode floatCode integerAt float_of float_at sequence roundUp withField shape_of fields_of sizedAt contentsAt itemBy struct_at item_at conventionCode conventionAt resultIn result_at ellipsisAt argumentsIn argumentsAt afterEllipsis afterResult afterConvention signature_of
+unfolding example body_at integer_code float_code integer_at float_of float_at sequence round_up with_field shape_of fields_of sized_at contents_at item_by struct_at item_at convention_code convention_at result_in result_at ellipsis_at arguments_in arguments_at after_ellipsis after_result after_convention signature_of
 example-read = refl
 
 -- the same with an ellipsis: 21 bytes, 6 items
@@ -34,13 +34,13 @@ with-ellipsis = 0x01 ∷ 0 ∷ 1 ∷ 1 ∷ 0x02 ∷ 0 ∷ 0 ∷ 0x04 ∷ 0 ∷ 0
 
 pub with-ellipsis-read : signature_of with-ellipsis ≡
     got (record { convention = Convention.Ppc64; result = nothing; ellipsis = true; arguments = none ▸ integer IntegerKind.I32 ▸ float FloatFormat.Double }) 21 6
-unfolding with-ellipsis body_at integerCode floatCode integerAt float_of float_at sequence roundUp withField shape_of fields_of sizedAt contentsAt itemBy struct_at item_at conventionCode conventionAt resultIn result_at ellipsisAt argumentsIn argumentsAt afterEllipsis afterResult afterConvention signature_of
+unfolding with-ellipsis body_at integer_code float_code integer_at float_of float_at sequence round_up with_field shape_of fields_of sized_at contents_at item_by struct_at item_at convention_code convention_at result_in result_at ellipsis_at arguments_in arguments_at after_ellipsis after_result after_convention signature_of
 with-ellipsis-read = refl
 
 -- the answer in document 01's numbers: number, place and count of headers
 answer : Reading Signature → List ℕ
 answer (got g next n) = 0 ∷ 0 ∷ n ∷ []
-answer (no f) = refusalNumber f.reason ∷ f.place ∷ f.passed ∷ []
+answer (no f) = refusal_number f.reason ∷ f.place ∷ f.passed ∷ []
 
 nested : ℕ → Tree
 nested zero = integer IntegerKind.I8
@@ -94,5 +94,5 @@ rows =
     ∷ []
 
 pub rows-hold : map (λ (r : List ℕ × List ℕ). r.0) rows ≡ map (λ (r : List ℕ × List ℕ). r.1) rows
-unfolding rows answer nested several of aix item encodeTree encodeResult ellipsisItem encode body_at integerCode floatCode integerAt float_of float_at sequence roundUp withField shape_of fields_of sizedAt contentsAt itemBy struct_at item_at conventionCode conventionAt resultIn result_at ellipsisAt argumentsIn argumentsAt afterEllipsis afterResult afterConvention signature_of
+unfolding rows answer nested several of aix item encode_tree encode_result ellipsis_item encode body_at integer_code float_code integer_at float_of float_at sequence round_up with_field shape_of fields_of sized_at contents_at item_by struct_at item_at convention_code convention_at result_in result_at ellipsis_at arguments_in arguments_at after_ellipsis after_result after_convention signature_of
 rows-hold = refl

@@ -17,38 +17,38 @@ use Rattle.sig_items.specs.declared.Refusal.{Refusal}
 use Rattle.sig_items.specs.declared.Fault.{Fault}
 use Rattle.sig_items.specs.declared.Body.{Body}
 use Rattle.sig_items.specs.declared.ItemRead.{ItemRead}
-use Rattle.sig_items.specs.Reading.{Reading, fault, got, no, later, laterReading, choose, and_then, in_body}
+use Rattle.sig_items.specs.Reading.{Reading, fault, got, no, later, later_reading, choose, and_then, in_body}
 use Rattle.sig_items.specs.Read.{body_at, item_at}
-use Rattle.sig_items.specs.Answer.{itemAnswer}
+use Rattle.sig_items.specs.Answer.{item_answer}
 use Rattle.sig_items.proofs.Laws.{item-got, item-no}
 use Rattle.base_conventions.specs.declared.ConventionCode.{ConventionCode}
-use Rattle.base_conventions.specs.Numbers.{conventionCode}
-use Rattle.sig_types.specs.Sizes.{maxDepth}
+use Rattle.base_conventions.specs.Numbers.{convention_code}
+use Rattle.sig_types.specs.Sizes.{max_depth}
 use Rattle.sig_signatures.specs.declared.ConventionRead.{ConventionRead}
 use Rattle.sig_signatures.specs.declared.ResultType.{ResultType}
 use Rattle.sig_signatures.specs.declared.ResultRead.{ResultRead}
 use Rattle.sig_signatures.specs.declared.EllipsisRead.{EllipsisRead}
 use Rattle.sig_signatures.specs.declared.HeadRead.{HeadRead}
 use Rattle.sig_signatures.specs.Signature.{Result, nothing, Signature, Head}
-use Rattle.sig_signatures.specs.Limits.{maxLength}
-use Rattle.sig_signatures.specs.Read.{conventionBy, conventionAt, resultIn, result_at, ellipsisAt, argumentsIn, argumentsAt, afterEllipsis, afterResult, afterConvention, signature_of, headBy, headThen, headAfter, head_of}
-use Rattle.sig_signatures.specs.Answer.{conventionAnswer, resultType, resultAnswer, ellipsisAnswer, headAnswer, refusedSignature, accepted, signatureAnswer}
-use Rattle.sig_signatures.specs.Helpers.{withArguments}
+use Rattle.sig_signatures.specs.Limits.{max_length}
+use Rattle.sig_signatures.specs.Read.{convention_by, convention_at, result_in, result_at, ellipsis_at, arguments_in, arguments_at, after_ellipsis, after_result, after_convention, signature_of, head_by, head_then, head_after, head_of}
+use Rattle.sig_signatures.specs.Answer.{convention_answer, result_type, result_answer, ellipsis_answer, head_answer, refused_signature, accepted, signature_answer}
+use Rattle.sig_signatures.specs.Helpers.{with_arguments}
 
 -- the convention
 
 module _ (s : List ℕ) where
-  pub convention-no : (r : Refusal) → body_at s 0x01 0x01 (length s) 0 ≡ Body.Refused r → conventionAt s ≡ no (fault r 0 0)
-  unfolding conventionAt
+  pub convention-no : (r : Refusal) → body_at s 0x01 0x01 (length s) 0 ≡ Body.Refused r → convention_at s ≡ no (fault r 0 0)
+  unfolding convention_at
   convention-no r q = rw q
 
   module _ (b : ℕ) (body : body_at s 0x01 0x01 (length s) 0 ≡ Body.To b) where
-    pub convention-length : (b ≡ 4 → ⊥) → conventionAt s ≡ no (fault Refusal.Malformed 0 0)
-    unfolding conventionAt
+    pub convention-length : (b ≡ 4 → ⊥) → convention_at s ≡ no (fault Refusal.Malformed 0 0)
+    unfolding convention_at
     convention-length h = rw (body, ne_eqb b 4 h)
 
-    pub convention-by : b ≡ 4 → (x : ConventionCode) → x ≡ conventionCode (get_or s 3 0) → conventionAt s ≡ conventionBy x
-    unfolding conventionAt
+    pub convention-by : b ≡ 4 → (x : ConventionCode) → x ≡ convention_code (get_or s 3 0) → convention_at s ≡ convention_by x
+    unfolding convention_at
     convention-by h x q = rw (body, eq-eqb b 4 h, ← q)
 
 -- a convention ends at 4 and is one item
@@ -57,53 +57,53 @@ abbrev First : Reading Convention → Type 0
 First (got c next n) = (next ≡ 4) × (n ≡ 1)
 First (no f) = Unit {0}
 
-convention-first : (s : List ℕ) → First (conventionAt s)
-unfolding conventionAt
+convention-first : (s : List ℕ) → First (convention_at s)
+unfolding convention_at
 convention-first s = go (body_at s 0x01 0x01 (length s) 0)
   where
-    code : (x : ConventionCode) → First (conventionBy x)
+    code : (x : ConventionCode) → First (convention_by x)
     code (ConventionCode.Known c) = (refl, refl)
     code ConventionCode.Unknown = tt
 
-    go : (x : Body) → First (in_body x 0 (λ b. pick (eqb b 4) (conventionBy (conventionCode (get_or s 3 0))) (no (fault Refusal.Malformed 0 0))))
-    go (Body.To b) = by-pick First (eqb b 4) _ _ (λ _. code (conventionCode (get_or s 3 0))) (λ _. tt)
+    go : (x : Body) → First (in_body x 0 (λ b. pick (eqb b 4) (convention_by (convention_code (get_or s 3 0))) (no (fault Refusal.Malformed 0 0))))
+    go (Body.To b) = by-pick First (eqb b 4) _ _ (λ _. code (convention_code (get_or s 3 0))) (λ _. tt)
     go (Body.Refused r) = tt
 
 -- so the program's answer says what was read
-first-known : (x : Reading Convention) (c : Convention) → First x → ConventionRead.Known c ≡ conventionAnswer x → x ≡ got c 4 1
+first-known : (x : Reading Convention) (c : Convention) → First x → ConventionRead.Known c ≡ convention_answer x → x ≡ got c 4 1
 first-known (got k next n) c f q = cc (f.0, f.1)
 first-known (no r) c f q = let z : ◌≡◌ {A = ℕ} 0 1 = cc in absurd (omega arith)
 
-convention-refused : (x : Reading Convention) (f : Fault) → ConventionRead.Refused f ≡ conventionAnswer x → x ≡ no f
+convention-refused : (x : Reading Convention) (f : Fault) → ConventionRead.Refused f ≡ convention_answer x → x ≡ no f
 convention-refused (got k next n) f q = let z : ◌≡◌ {A = ℕ} 0 1 = cc in absurd (omega arith)
 convention-refused (no x) f q = cc
 
-pub convention-known : (s : List ℕ) (x : ConventionRead) (c : Convention) → x ≡ conventionAnswer (conventionAt s) → x ≡ ConventionRead.Known c → conventionAt s ≡ got c 4 1
-convention-known s x c found q = first-known (conventionAt s) c (convention-first s) (sym q ∙ found)
+pub convention-known : (s : List ℕ) (x : ConventionRead) (c : Convention) → x ≡ convention_answer (convention_at s) → x ≡ ConventionRead.Known c → convention_at s ≡ got c 4 1
+convention-known s x c found q = first-known (convention_at s) c (convention-first s) (sym q ∙ found)
 
 -- the result
 
 module _ (c : Convention) (s : List ℕ) (at b : ℕ) where
-  pub result-none : at ≡ b → resultIn c s at b ≡ got nothing b 1
-  unfolding resultIn
+  pub result-none : at ≡ b → result_in c s at b ≡ got nothing b 1
+  unfolding result_in
   result-none q = rw (eq-eqb at b q)
 
-  module _ (some : at ≡ b → ⊥) (r : ItemRead) (found : r ≡ itemAnswer c (item_at c maxDepth s b at)) where
-    pub result-no : (f : Fault) → r ≡ ItemRead.Refused f → resultIn c s at b ≡ no (later 1 f)
-    unfolding resultIn
-    result-no f q = rw (ne_eqb at b some, item-no c (item_at c maxDepth s b at) f (sym q ∙ found))
+  module _ (some : at ≡ b → ⊥) (r : ItemRead) (found : r ≡ item_answer c (item_at c max_depth s b at)) where
+    pub result-no : (f : Fault) → r ≡ ItemRead.Refused f → result_in c s at b ≡ no (later 1 f)
+    unfolding result_in
+    result-no f q = rw (ne_eqb at b some, item-no c (item_at c max_depth s b at) f (sym q ∙ found))
 
     module _ (t : ValueType) (next n : ℕ) (q : r ≡ ItemRead.Item t next n) where
-      pub result-more : next < b → resultIn c s at b ≡ no (fault Refusal.Malformed next (1 + n))
-      unfolding resultIn
+      pub result-more : next < b → result_in c s at b ≡ no (fault Refusal.Malformed next (1 + n))
+      unfolding result_in
       result-more h =
-          let (tree, read, same) = item-got c (item_at c maxDepth s b at) t next n (sym q ∙ found) in
+          let (tree, read, same) = item-got c (item_at c max_depth s b at) t next n (sym q ∙ found) in
           rw (ne_eqb at b some, read, lt-ltb next b h)
 
-      pub result-one : b ≤ next → resultAnswer c (resultIn c s at b) ≡ ResultRead.Result (ResultType.Value t) b (1 + n)
-      unfolding resultIn
+      pub result-one : b ≤ next → result_answer c (result_in c s at b) ≡ ResultRead.Result (ResultType.Value t) b (1 + n)
+      unfolding result_in
       result-one h =
-          let (tree, read, same) = item-got c (item_at c maxDepth s b at) t next n (sym q ∙ found) in
+          let (tree, read, same) = item-got c (item_at c max_depth s b at) t next n (sym q ∙ found) in
           rw (ne_eqb at b some, read, le-ltb next b h) (ap (λ (u : ValueType). ResultRead.Result (ResultType.Value u) b (1 + n)) (sym same))
 
 module _ (c : Convention) (s : List ℕ) (at : ℕ) where
@@ -111,101 +111,101 @@ module _ (c : Convention) (s : List ℕ) (at : ℕ) where
   unfolding result_at
   result-refused r q = rw q
 
-  pub result-to : (b : ℕ) → body_at s 0x02 0x02 (length s) at ≡ Body.To b → result_at c s at ≡ resultIn c s (at + 3) b
+  pub result-to : (b : ℕ) → body_at s 0x02 0x02 (length s) at ≡ Body.To b → result_at c s at ≡ result_in c s (at + 3) b
   unfolding result_at
   result-to b q = rw q
 
-  pub arguments-to : (b : ℕ) → body_at s 0x03 0x03 (length s) at ≡ Body.To b → argumentsAt c s at ≡ argumentsIn c s (at + 3) b
-  unfolding argumentsAt
+  pub arguments-to : (b : ℕ) → body_at s 0x03 0x03 (length s) at ≡ Body.To b → arguments_at c s at ≡ arguments_in c s (at + 3) b
+  unfolding arguments_at
   arguments-to b q = rw q
 
 -- what a program's answer says of the result
 
-pub result-got : (c : Convention) (x : Reading Result) (t : ResultType) (next n : ℕ) → ResultRead.Result t next n ≡ resultAnswer c x →
-    (r : Result) × (x ≡ got r next n) × (t ≡ resultType c r)
+pub result-got : (c : Convention) (x : Reading Result) (t : ResultType) (next n : ℕ) → ResultRead.Result t next n ≡ result_answer c x →
+    (r : Result) × (x ≡ got r next n) × (t ≡ result_type c r)
 result-got c (got r a m) t next n q = (r, cc, cc)
 result-got c (no f) t next n q = let z : ◌≡◌ {A = ℕ} 0 1 = cc in absurd (omega arith)
 
-pub result-was-refused : (c : Convention) (x : Reading Result) (f : Fault) → ResultRead.Refused f ≡ resultAnswer c x → x ≡ no f
+pub result-was-refused : (c : Convention) (x : Reading Result) (f : Fault) → ResultRead.Refused f ≡ result_answer c x → x ≡ no f
 result-was-refused c (got y a m) f q = let z : ◌≡◌ {A = ℕ} 0 1 = cc in absurd (omega arith)
 result-was-refused c (no x) f q = cc
 
 -- the ellipsis
 
 module _ (s : List ℕ) (at : ℕ) where
-  pub ellipsis-none : (get_or s at 0 ≡ 0x04 → ⊥) → ellipsisAt s at ≡ got false at 0
-  unfolding ellipsisAt
+  pub ellipsis-none : (get_or s at 0 ≡ 0x04 → ⊥) → ellipsis_at s at ≡ got false at 0
+  unfolding ellipsis_at
   ellipsis-none h = rw (ne_eqb (get_or s at 0) 0x04 h)
 
-  pub ellipsis-end : length s ≤ at → ellipsisAt s at ≡ got false at 0
+  pub ellipsis-end : length s ≤ at → ellipsis_at s at ≡ got false at 0
   ellipsis-end h = let z = get_or-eq_default s 0 {n = at} h in ellipsis-none (λ q. omega arith)
 
   module _ (tag : get_or s at 0 ≡ 0x04) where
-    pub ellipsis-no : (r : Refusal) → body_at s 0x04 0x04 (length s) at ≡ Body.Refused r → ellipsisAt s at ≡ no (fault r at 0)
-    unfolding ellipsisAt
+    pub ellipsis-no : (r : Refusal) → body_at s 0x04 0x04 (length s) at ≡ Body.Refused r → ellipsis_at s at ≡ no (fault r at 0)
+    unfolding ellipsis_at
     ellipsis-no r q = rw (eq-eqb (get_or s at 0) 0x04 tag, q)
 
     module _ (b : ℕ) (body : body_at s 0x04 0x04 (length s) at ≡ Body.To b) where
-      pub ellipsis-more : (b ≡ at + 3 → ⊥) → ellipsisAt s at ≡ no (fault Refusal.Malformed at 0)
-      unfolding ellipsisAt
+      pub ellipsis-more : (b ≡ at + 3 → ⊥) → ellipsis_at s at ≡ no (fault Refusal.Malformed at 0)
+      unfolding ellipsis_at
       ellipsis-more h = rw (eq-eqb (get_or s at 0) 0x04 tag, body, ne_eqb b (at + 3) h)
 
-      pub ellipsis-one : b ≡ at + 3 → ellipsisAt s at ≡ got true b 1
-      unfolding ellipsisAt
+      pub ellipsis-one : b ≡ at + 3 → ellipsis_at s at ≡ got true b 1
+      unfolding ellipsis_at
       ellipsis-one h = rw (eq-eqb (get_or s at 0) 0x04 tag, body, eq-eqb b (at + 3) h)
 
 -- what a program's answer says of the ellipsis
 
-pub ellipsis-got : (x : Reading Bool) (v : Bool) (next n : ℕ) → EllipsisRead.Ellipsis v next n ≡ ellipsisAnswer x → x ≡ got v next n
+pub ellipsis-got : (x : Reading Bool) (v : Bool) (next n : ℕ) → EllipsisRead.Ellipsis v next n ≡ ellipsis_answer x → x ≡ got v next n
 ellipsis-got (got w a m) v next n q = cc
 ellipsis-got (no f) v next n q = let z : ◌≡◌ {A = ℕ} 0 1 = cc in absurd (omega arith)
 
-pub ellipsis-was-refused : (x : Reading Bool) (f : Fault) → EllipsisRead.Refused f ≡ ellipsisAnswer x → x ≡ no f
+pub ellipsis-was-refused : (x : Reading Bool) (f : Fault) → EllipsisRead.Refused f ≡ ellipsis_answer x → x ≡ no f
 ellipsis-was-refused (got v a m) f q = let z : ◌≡◌ {A = ℕ} 0 1 = cc in absurd (omega arith)
 ellipsis-was-refused (no x) f q = cc
 
 -- what comes before the arguments
 
-module _ (s : List ℕ) (c : Convention) (at n : ℕ) (x : ResultRead) (found : x ≡ resultAnswer c (result_at c s at)) where
-  pub head-no-result : (f : Fault) → x ≡ ResultRead.Refused f → headAfter s c at n ≡ no (later n f)
-  unfolding headAfter
+module _ (s : List ℕ) (c : Convention) (at n : ℕ) (x : ResultRead) (found : x ≡ result_answer c (result_at c s at)) where
+  pub head-no-result : (f : Fault) → x ≡ ResultRead.Refused f → head_after s c at n ≡ no (later n f)
+  unfolding head_after
   head-no-result f q = rw (result-was-refused c (result_at c s at) f (sym q ∙ found))
 
   module _ (t : ResultType) (next m : ℕ) (q : x ≡ ResultRead.Result t next m) where
-    module _ (y : EllipsisRead) (marked : y ≡ ellipsisAnswer (ellipsisAt s next)) where
-      pub head-no-ellipsis : (f : Fault) → y ≡ EllipsisRead.Refused f → headAfter s c at n ≡ no (later (n + m) f)
-      unfolding headAfter headThen
+    module _ (y : EllipsisRead) (marked : y ≡ ellipsis_answer (ellipsis_at s next)) where
+      pub head-no-ellipsis : (f : Fault) → y ≡ EllipsisRead.Refused f → head_after s c at n ≡ no (later (n + m) f)
+      unfolding head_after head_then
       head-no-ellipsis f e =
           let (tree, read, same) = result-got c (result_at c s at) t next m (sym q ∙ found) in
-          rw (read, ellipsis-was-refused (ellipsisAt s next) f (sym e ∙ marked))
+          rw (read, ellipsis-was-refused (ellipsis_at s next) f (sym e ∙ marked))
 
       module _ (v : Bool) (last k : ℕ) (e : y ≡ EllipsisRead.Ellipsis v last k) where
-        pub head-no-arguments : (r : Refusal) → body_at s 0x03 0x03 (length s) last ≡ Body.Refused r → headAfter s c at n ≡ no (fault r last (n + m + k))
-        unfolding headAfter headThen
+        pub head-no-arguments : (r : Refusal) → body_at s 0x03 0x03 (length s) last ≡ Body.Refused r → head_after s c at n ≡ no (fault r last (n + m + k))
+        unfolding head_after head_then
         head-no-arguments r body =
             let (tree, read, same) = result-got c (result_at c s at) t next m (sym q ∙ found) in
-            rw (read, ellipsis-got (ellipsisAt s next) v last k (sym e ∙ marked), body)
+            rw (read, ellipsis-got (ellipsis_at s next) v last k (sym e ∙ marked), body)
 
-        pub head-to : (b : ℕ) → body_at s 0x03 0x03 (length s) last ≡ Body.To b → headAnswer (headAfter s c at n) ≡ HeadRead.Head c t v (last + 3) b (n + m + k)
-        unfolding headAfter headThen
+        pub head-to : (b : ℕ) → body_at s 0x03 0x03 (length s) last ≡ Body.To b → head_answer (head_after s c at n) ≡ HeadRead.Head c t v (last + 3) b (n + m + k)
+        unfolding head_after head_then
         head-to b body =
             let (tree, read, same) = result-got c (result_at c s at) t next m (sym q ∙ found) in
-            rw (read, ellipsis-got (ellipsisAt s next) v last k (sym e ∙ marked), body)
+            rw (read, ellipsis-got (ellipsis_at s next) v last k (sym e ∙ marked), body)
             (ap (λ (u : ResultType). HeadRead.Head c u v (last + 3) b (n + m + k)) (sym same))
 
 module _ (s : List ℕ) where
-  pub head-long : maxLength < length s → head_of s ≡ no (fault Refusal.TooLong 0 0)
+  pub head-long : max_length < length s → head_of s ≡ no (fault Refusal.TooLong 0 0)
   unfolding head_of
-  head-long h = rw (lt-ltb maxLength (length s) h)
+  head-long h = rw (lt-ltb max_length (length s) h)
 
-  module _ (short : length s ≤ maxLength) (x : ConventionRead) (found : x ≡ conventionAnswer (conventionAt s)) where
+  module _ (short : length s ≤ max_length) (x : ConventionRead) (found : x ≡ convention_answer (convention_at s)) where
     pub head-no-convention : (f : Fault) → x ≡ ConventionRead.Refused f → head_of s ≡ no f
     unfolding head_of
-    head-no-convention f q = rw (le-ltb maxLength (length s) short, convention-refused (conventionAt s) f (sym q ∙ found))
+    head-no-convention f q = rw (le-ltb max_length (length s) short, convention-refused (convention_at s) f (sym q ∙ found))
 
-    pub head-known : (c : Convention) → x ≡ ConventionRead.Known c → head_of s ≡ headAfter s c 4 1
+    pub head-known : (c : Convention) → x ≡ ConventionRead.Known c → head_of s ≡ head_after s c 4 1
     unfolding head_of
-    head-known c q = rw (le-ltb maxLength (length s) short, convention-known s x c found q)
+    head-known c q = rw (le-ltb max_length (length s) short, convention-known s x c found q)
 
 -- what a program's answer says of it
 
@@ -213,12 +213,12 @@ same_head : {c k : Convention} (r : Result) {v w : Bool} {b d at next n m : ℕ}
     ◌≡◌ {A = Reading Head} (got (record { convention = k; result = r; ellipsis = w; end = d }) next m) (got (record { convention = c; result = r; ellipsis = v; end = b }) at n)
 same_head r p z q u v = cc
 
-pub head-got : (x : Reading Head) (c : Convention) (t : ResultType) (v : Bool) (at b n : ℕ) → HeadRead.Head c t v at b n ≡ headAnswer x →
-    (r : Result) × (x ≡ got (record { convention = c; result = r; ellipsis = v; end = b }) at n) × (t ≡ resultType c r)
+pub head-got : (x : Reading Head) (c : Convention) (t : ResultType) (v : Bool) (at b n : ℕ) → HeadRead.Head c t v at b n ≡ head_answer x →
+    (r : Result) × (x ≡ got (record { convention = c; result = r; ellipsis = v; end = b }) at n) × (t ≡ result_type c r)
 head-got (got h next m) c t v at b n q = (h.result, same_head h.result (cc) (cc) (cc) (cc) (cc), cc)
 head-got (no f) c t v at b n q = let z : ◌≡◌ {A = ℕ} 0 1 = cc in absurd (omega arith)
 
-pub head-was-refused : (x : Reading Head) (f : Fault) → HeadRead.Refused f ≡ headAnswer x → x ≡ no f
+pub head-was-refused : (x : Reading Head) (f : Fault) → HeadRead.Refused f ≡ head_answer x → x ≡ no f
 head-was-refused (got h next m) f q = let z : ◌≡◌ {A = ℕ} 0 1 = cc in absurd (omega arith)
 head-was-refused (no x) f q = cc
 
@@ -226,72 +226,72 @@ head-was-refused (no x) f q = cc
 
 module _ (s : List ℕ) where
   -- a signature from its arguments on, where n items came before theirs
-  abbrev pub thenArguments : Convention → Result → Bool → ℕ → Reading Trees → Reading Signature
-  thenArguments c r v n x =
-      and_then (laterReading n x) (λ ts next m.
+  abbrev pub then_arguments : Convention → Result → Bool → ℕ → Reading Trees → Reading Signature
+  then_arguments c r v n x =
+      and_then (later_reading n x) (λ ts next m.
       pick (ltb next (length s)) (no (fault Refusal.TrailingBytes next m)) (got (record { convention = c; result = r; ellipsis = v; arguments = ts }) next m))
 
   abbrev pub after_head : Head → ℕ → ℕ → Reading Signature
-  after_head h at n = thenArguments h.convention h.result h.ellipsis n (argumentsIn h.convention s at h.end)
+  after_head h at n = then_arguments h.convention h.result h.ellipsis n (arguments_in h.convention s at h.end)
 
   pub signature-head : signature_of s ≡ and_then (head_of s) after_head
-  unfolding signature_of head_of afterConvention headAfter afterResult headThen afterEllipsis argumentsAt
-  signature-head = whole (ltb maxLength (length s))
+  unfolding signature_of head_of after_convention head_after after_result head_then after_ellipsis arguments_at
+  signature-head = whole (ltb max_length (length s))
     where
       last : (c : Convention) (r : Result) (v : Bool) (at n : ℕ) (x : Body) →
-          thenArguments c r v n (in_body x at (λ b. argumentsIn c s (at + 3) b))
-          ≡ and_then (headBy c r v at n x) after_head
+          then_arguments c r v n (in_body x at (λ b. arguments_in c s (at + 3) b))
+          ≡ and_then (head_by c r v at n x) after_head
       last c r v at n (Body.To b) = refl
       last c r v at n (Body.Refused x) = let same : n + 0 ≡ n = omega arith in ap (λ (k : ℕ). no (fault x at k)) same
 
       third : (c : Convention) (r : Result) (n : ℕ) (x : Reading Bool) →
-          and_then (laterReading n x) (afterEllipsis s c r)
-          ≡ and_then (and_then (laterReading n x) (λ v next m. headBy c r v next m (body_at s 0x03 0x03 (length s) next))) after_head
+          and_then (later_reading n x) (after_ellipsis s c r)
+          ≡ and_then (and_then (later_reading n x) (λ v next m. head_by c r v next m (body_at s 0x03 0x03 (length s) next))) after_head
       third c r n (got v next m) = last c r v next (n + m) (body_at s 0x03 0x03 (length s) next)
       third c r n (no f) = refl
 
       second : (c : Convention) (n : ℕ) (x : Reading Result) →
-          and_then (laterReading n x) (afterResult s c) ≡ and_then (and_then (laterReading n x) (headThen s c)) after_head
-      second c n (got r next m) = third c r (n + m) (ellipsisAt s next)
+          and_then (later_reading n x) (after_result s c) ≡ and_then (and_then (later_reading n x) (head_then s c)) after_head
+      second c n (got r next m) = third c r (n + m) (ellipsis_at s next)
       second c n (no f) = refl
 
-      first : (x : Reading Convention) → and_then x (afterConvention s) ≡ and_then (and_then x (headAfter s)) after_head
+      first : (x : Reading Convention) → and_then x (after_convention s) ≡ and_then (and_then x (head_after s)) after_head
       first (got c at n) = second c n (result_at c s at)
       first (no f) = refl
 
       whole : (long : Bool) →
-          choose long (λ _. no (fault Refusal.TooLong 0 0)) (λ _. and_then (conventionAt s) (afterConvention s))
-          ≡ and_then (choose long (λ _. no (fault Refusal.TooLong 0 0)) (λ _. and_then (conventionAt s) (headAfter s))) after_head
+          choose long (λ _. no (fault Refusal.TooLong 0 0)) (λ _. and_then (convention_at s) (after_convention s))
+          ≡ and_then (choose long (λ _. no (fault Refusal.TooLong 0 0)) (λ _. and_then (convention_at s) (head_after s))) after_head
       whole true = refl
-      whole false = first (conventionAt s)
+      whole false = first (convention_at s)
 
   -- the arguments' answer is the signature's
   arguments-answer : (c : Convention) (r : Result) (v : Bool) (n : ℕ) (x : Reading Trees) →
-      signatureAnswer (thenArguments c r v n x) ≡ withArguments c (resultType c r) v n (length s) x
+      signature_answer (then_arguments c r v n x) ≡ with_arguments c (result_type c r) v n (length s) x
   arguments-answer c r v n (got ts next m) = go (ltb next (length s))
     where
       go : (more : Bool) →
-          signatureAnswer (pick more (no (fault Refusal.TrailingBytes next (n + m))) (got (record { convention = c; result = r; ellipsis = v; arguments = ts }) next (n + m)))
-          ≡ pick more (refusedSignature (fault Refusal.TrailingBytes next (n + m))) (accepted c (resultType c r) v ts (n + m))
+          signature_answer (pick more (no (fault Refusal.TrailingBytes next (n + m))) (got (record { convention = c; result = r; ellipsis = v; arguments = ts }) next (n + m)))
+          ≡ pick more (refused_signature (fault Refusal.TrailingBytes next (n + m))) (accepted c (result_type c r) v ts (n + m))
       go true = refl
       go false = refl
   arguments-answer c r v n (no f) = refl
 
-  module _ (x : HeadRead) (found : x ≡ headAnswer (head_of s)) where
+  module _ (x : HeadRead) (found : x ≡ head_answer (head_of s)) where
     pub signature-refused : (f : Fault) → x ≡ HeadRead.Refused f → signature_of s ≡ no f
     signature-refused f q = signature-head ∙ ap (λ (y : Reading Head). and_then y after_head) (head-was-refused (head_of s) f (sym q ∙ found))
 
     -- the result's tree is gone, its type is there
     pub signature-then : (c : Convention) (t : ResultType) (v : Bool) (at b n : ℕ) → x ≡ HeadRead.Head c t v at b n →
-        (r : Result) × (signature_of s ≡ thenArguments c r v n (argumentsIn c s at b)) × (t ≡ resultType c r)
+        (r : Result) × (signature_of s ≡ then_arguments c r v n (arguments_in c s at b)) × (t ≡ result_type c r)
     signature-then c t v at b n q =
         let (r, read, same) = head-got (head_of s) c t v at b n (sym q ∙ found) in
         (r, signature-head ∙ ap (λ (y : Reading Head). and_then y after_head) read, same)
 
     pub signature-arguments : (c : Convention) (t : ResultType) (v : Bool) (at b n : ℕ) → x ≡ HeadRead.Head c t v at b n →
-        signatureAnswer (signature_of s) ≡ withArguments c t v n (length s) (argumentsIn c s at b)
+        signature_answer (signature_of s) ≡ with_arguments c t v n (length s) (arguments_in c s at b)
     signature-arguments c t v at b n q =
         let (r, read, same) = signature-then c t v at b n q in
-        ap signatureAnswer read
-        ∙ arguments-answer c r v n (argumentsIn c s at b)
-        ∙ ap (λ (u : ResultType). withArguments c u v n (length s) (argumentsIn c s at b)) (sym same)
+        ap signature_answer read
+        ∙ arguments-answer c r v n (arguments_in c s at b)
+        ∙ ap (λ (u : ResultType). with_arguments c u v n (length s) (arguments_in c s at b)) (sym same)

@@ -16,19 +16,19 @@ use Rattle.sig_items.specs.declared.Fault.{Fault}
 use Rattle.sig_items.specs.declared.ItemRead.{ItemRead}
 use Rattle.sig_items.specs.Reading.{fault, got, no, later}
 use Rattle.sig_items.specs.Read.{sequence, item_at}
-use Rattle.sig_items.specs.Answer.{itemAnswer}
-use Rattle.sig_items.specs.Encode.{encodeTree, encodeTrees}
+use Rattle.sig_items.specs.Answer.{item_answer}
+use Rattle.sig_items.specs.Encode.{encode_tree, encode_trees}
 use Rattle.sig_items.proofs.Laws.{sequence-done, sequence-full, sequence-more, sequence-no, item-got, item-no}
 use Rattle.sig_items.proofs.Loop.{item-answered}
 use Rattle.sig_items.proofs.Sound.{item-read}
-use Rattle.sig_signatures.specs.Limits.{maxArguments}
+use Rattle.sig_signatures.specs.Limits.{max_arguments}
 use Rattle.sig_signatures.specs.declared.Argument.{Argument}
 use Rattle.sig_signatures.specs.declared.ResultType.{ResultType}
 use Rattle.sig_signatures.specs.declared.SignatureRead.{SignatureRead}
 use Rattle.sig_signatures.specs.declared.Outcome.{Outcome}
-use Rattle.sig_signatures.specs.Read.{argumentsIn}
-use Rattle.sig_signatures.specs.Answer.{argument, no_arguments, listed, table, refusedSignature}
-use Rattle.sig_signatures.specs.Helpers.{withArguments}
+use Rattle.sig_signatures.specs.Read.{arguments_in}
+use Rattle.sig_signatures.specs.Answer.{argument, no_arguments, listed, table, refused_signature}
+use Rattle.sig_signatures.specs.Helpers.{with_arguments}
 
 -- the table
 
@@ -41,10 +41,10 @@ table_none : (c : Convention) → no_arguments ≡ table c none
 unfolding table listed count_of
 table_none c = refl
 
-table_more : (c : Convention) (ts : Trees) (t : Tree) → count_of ts < maxArguments → set (table c ts) (count_of ts) (argument (type_of c t)) ≡ table c (ts ▸ t)
+table_more : (c : Convention) (ts : Trees) (t : Tree) → count_of ts < max_arguments → set (table c ts) (count_of ts) (argument (type_of c t)) ≡ table c (ts ▸ t)
 unfolding table listed count_of
 table_more c ts t h =
-    filled_more maxArguments (argument (ValueType.Integer IntegerKind.I8)) (listed c ts) (count_of ts) (argument (type_of c t)) (listed-length c ts) h
+    filled_more max_arguments (argument (ValueType.Integer IntegerKind.I8)) (listed c ts) (count_of ts) (argument (type_of c t)) (listed-length c ts) h
 
 same_set : {l k : List Argument} {i j : ℕ} {t u : ValueType} → l ≡ k → i ≡ j → t ≡ u → set l i (argument t) ≡ set k j (argument u)
 same_set p q r = cc
@@ -52,13 +52,13 @@ same_set p q r = cc
 -- the arguments so far, each of three bytes or more, with the place after their items, and that reading on from here gives all of them
 pub record Turn (c : Convention) (s : List ℕ) (start e : ℕ) (ts : Trees) (count next n : ℕ) : Type 0 where
   pub left : ℕ
-  pub few : count + left ≡ maxArguments
+  pub few : count + left ≡ max_arguments
   pub many : count ≡ count_of ts
   pub within : next ≤ e
   pub third : start + 3 * n ≤ next + 3
   pub apart : start + 3 * count ≤ next
-  pub ends : next ≡ start + length (encodeTrees ts)
-  pub rest : argumentsIn c s start e ≡ sequence (item_at c 8 s e) e left next n ts
+  pub ends : next ≡ start + length (encode_trees ts)
+  pub rest : arguments_in c s start e ≡ sequence (item_at c 8 s e) e left next n ts
 
 -- an argument more, whose tree is known to the definitions alone
 pub record More (c : Convention) (s : List ℕ) (start e : ℕ) (ts : Trees) (t : ValueType) (count next n : ℕ) : Type 0 where
@@ -68,22 +68,22 @@ pub record More (c : Convention) (s : List ℕ) (start e : ℕ) (ts : Trees) (t 
 
 module _ (c : Convention) (s : List ℕ) (start e : ℕ) where
   pub turn-start : start ≤ e → Turn c s start e none 0 start 1
-  unfolding argumentsIn count_of encodeTrees
-  turn-start h = record { left = maxArguments; few = refl; many = refl; within = h; third = omega arith; apart = omega arith; ends = omega arith; rest = refl }
+  unfolding arguments_in count_of encode_trees
+  turn-start h = record { left = max_arguments; few = refl; many = refl; within = h; third = omega arith; apart = omega arith; ends = omega arith; rest = refl }
 
   module _ (ts : Trees) (count next n : ℕ) (turn : Turn c s start e ts count next n) where
     module _ (h : next < e) where
-      pub turn-full : count ≡ maxArguments → argumentsIn c s start e ≡ no (fault Refusal.TooManyArguments next n)
-      turn-full q = sequence-full (item_at c 8 s e) e (argumentsIn c s start e) turn.left next n ts turn.rest h (omega arith)
+      pub turn-full : count ≡ max_arguments → arguments_in c s start e ≡ no (fault Refusal.TooManyArguments next n)
+      turn-full q = sequence-full (item_at c 8 s e) e (arguments_in c s start e) turn.left next n ts turn.rest h (omega arith)
 
-      module _ (some : count ≡ maxArguments → ⊥) (r : ItemRead) (found : r ≡ itemAnswer c (item_at c 8 s e next)) where
-        pub turn-no : (f : Fault) → r ≡ ItemRead.Refused f → argumentsIn c s start e ≡ no (later n f)
+      module _ (some : count ≡ max_arguments → ⊥) (r : ItemRead) (found : r ≡ item_answer c (item_at c 8 s e next)) where
+        pub turn-no : (f : Fault) → r ≡ ItemRead.Refused f → arguments_in c s start e ≡ no (later n f)
         turn-no f q =
-            sequence-no (item_at c 8 s e) e (argumentsIn c s start e) turn.left next n ts turn.rest h (omega arith) f
+            sequence-no (item_at c 8 s e) e (arguments_in c s start e) turn.left next n ts turn.rest h (omega arith) f
             (item-no c (item_at c 8 s e next) f (sym q ∙ found))
 
         pub turn_more : (t : ValueType) (after m : ℕ) → r ≡ ItemRead.Item t after m → More c s start e ts t (count + 1) after (n + m)
-        unfolding count_of encodeTrees
+        unfolding count_of encode_trees
         turn_more t after m q =
             let (tree, read, same) = item-got c (item_at c 8 s e next) t after m (sym q ∙ found) in
             let a = item-answered c 8 s e next r t after m (omega arith) found q in
@@ -99,13 +99,13 @@ module _ (c : Convention) (s : List ℕ) (start e : ℕ) where
                 apart = omega (arith, turn.apart, a.on);
                 ends =
                     let r = item-read c 8 s e next tree after m read in
-                    omega (arith, turn.ends, r.ends, length-append (encodeTrees ts) (encodeTree tree));
-                rest = sequence-more (item_at c 8 s e) e (argumentsIn c s start e) turn.left next n ts turn.rest h (omega arith) tree after m read;
+                    omega (arith, turn.ends, r.ends, length-append (encode_trees ts) (encode_tree tree));
+                rest = sequence-more (item_at c 8 s e) e (arguments_in c s start e) turn.left next n ts turn.rest h (omega arith) tree after m read;
               };
             }
 
-    pub turn_last : e ≤ next → argumentsIn c s start e ≡ got ts next n
-    turn_last last = sequence-done (item_at c 8 s e) e (argumentsIn c s start e) turn.left next n ts turn.rest last
+    pub turn_last : e ≤ next → arguments_in c s start e ≡ got ts next n
+    turn_last last = sequence-done (item_at c 8 s e) e (arguments_in c s start e) turn.left next n ts turn.rest last
 
 -- the same with the table of their types
 pub record Tabled (c : Convention) (s : List ℕ) (start e : ℕ) (arguments : List Argument) (count next n : ℕ) : Type 0 where
@@ -118,7 +118,7 @@ module _ (c : Convention) (s : List ℕ) (start e : ℕ) where
   tabled_start l q h = record { ts = none; turn = turn-start c s start e h; types = q ∙ table_none c }
 
   module _ (l : List Argument) (count next n : ℕ) (tabled : Tabled c s start e l count next n) where
-    pub tabled-more : next < e → (count ≡ maxArguments → ⊥) → (r : ItemRead) → r ≡ itemAnswer c (item_at c 8 s e next) → (t : ValueType) (after m : ℕ) →
+    pub tabled-more : next < e → (count ≡ max_arguments → ⊥) → (r : ItemRead) → r ≡ item_answer c (item_at c 8 s e next) → (t : ValueType) (after m : ℕ) →
         r ≡ ItemRead.Item t after m → Tabled c s start e (set l count (argument t)) (count + 1) after (n + m)
     tabled-more h some r found t after m q =
         let turn = tabled.turn in
@@ -130,14 +130,14 @@ module _ (c : Convention) (s : List ℕ) (start e : ℕ) where
         }
 
     module _ (last : e ≤ next) (result : ResultType) (v : Bool) (before : ℕ) where
-      pub tabled-trailing : next < length s → refusedSignature (fault Refusal.TrailingBytes next (before + n)) ≡ withArguments c result v before (length s) (argumentsIn c s start e)
+      pub tabled-trailing : next < length s → refused_signature (fault Refusal.TrailingBytes next (before + n)) ≡ with_arguments c result v before (length s) (arguments_in c s start e)
       tabled-trailing h = rw (turn_last c s start e tabled.ts count next n tabled.turn last, lt-ltb next (length s) h)
 
       pub tabled-end : length s ≤ next →
           ◌≡◌ {A = SignatureRead} (record { outcome = Outcome.Accepted (before + n); convention = c; result = result; ellipsis = v; count = count; arguments = l })
-          (withArguments c result v before (length s) (argumentsIn c s start e))
+          (with_arguments c result v before (length s) (arguments_in c s start e))
       tabled-end h = rw (turn_last c s start e tabled.ts count next n tabled.turn last, le-ltb next (length s) h) (cc (tabled.turn.many, tabled.types))
 
-  pub arguments-no : (f : Fault) → argumentsIn c s start e ≡ no f → (result : ResultType) (v : Bool) (before all : ℕ) →
-      refusedSignature (later before f) ≡ withArguments c result v before all (argumentsIn c s start e)
+  pub arguments-no : (f : Fault) → arguments_in c s start e ≡ no f → (result : ResultType) (v : Bool) (before all : ℕ) →
+      refused_signature (later before f) ≡ with_arguments c result v before all (arguments_in c s start e)
   arguments-no f q result v before all = rw q

@@ -14,11 +14,11 @@ use Rattle.base_conventions.proofs.Laws.{code-byte}
 use Rattle.sig_types.proofs.Sized.{within-sized, all-within-sized}
 use Rattle.sig_items.specs.declared.Fault.{Fault}
 use Rattle.sig_items.specs.Reading.{got, no}
-use Rattle.sig_items.specs.Encode.{item, encodeTrees}
+use Rattle.sig_items.specs.Encode.{item, encode_trees}
 use Rattle.sig_items.proofs.Trees.{bytes-item, tree-bytes, trees-bytes}
 use Rattle.sig_signatures.specs.Signature.{Result, nothing, value, Signature}
 use Rattle.sig_signatures.specs.Read.{signature_of}
-use Rattle.sig_signatures.specs.Encode.{encodeResult, ellipsisItem, encode, signatureItems, ResultWithin, SignatureWithin}
+use Rattle.sig_signatures.specs.Encode.{encode_result, ellipsis_item, encode, signature_items, ResultWithin, SignatureWithin}
 use Rattle.sig_signatures.specs.Exact.{ReadsExactly, ResultSized, Accepted}
 use Rattle.sig_signatures.proofs.Sound.{signature-read, length-encode, encode-third}
 use Rattle.sig_signatures.proofs.Complete.{encode-reads}
@@ -60,19 +60,19 @@ encode-not-refused g w f q =
 -- two signatures within the limits have different bytes
 pub encode_injective : (g h : Signature) → SignatureWithin g → SignatureWithin h → encode g ≡ encode h → g ≡ h
 encode_injective g h w v q =
-    let read : got g (length (encode g)) (signatureItems g) ≡ got h (length (encode h)) (signatureItems h) =
+    let read : got g (length (encode g)) (signature_items g) ≡ got h (length (encode h)) (signature_items h) =
     sym (encode-reads g w) ∙ ap signature_of q ∙ encode-reads h v in
     cc
 
 -- an encoding within the limits is a list of bytes
 
-result-bytes : (r : Result) → length (encodeResult r) < 65536 → Bytes (encodeResult r)
-unfolding encodeResult
+result-bytes : (r : Result) → length (encode_result r) < 65536 → Bytes (encode_result r)
+unfolding encode_result
 result-bytes nothing l = bytes-none
 result-bytes (value t) l = tree-bytes t l
 
-ellipsis-bytes : (v : Bool) → Bytes (ellipsisItem v)
-unfolding ellipsisItem
+ellipsis-bytes : (v : Bool) → Bytes (ellipsis_item v)
+unfolding ellipsis_item
 ellipsis-bytes true = bytes-item 0x04 [] (omega arith) (omega arith) bytes-none
 ellipsis-bytes false = bytes-none
 
@@ -83,11 +83,11 @@ encode-bytes g w =
     let short = w.short in
     let c = code_of g.convention in
     let one = item 0x01 (c ∷ []) in
-    let two = item 0x02 (encodeResult g.result) in
-    let mark = ellipsisItem g.ellipsis in
-    let three = item 0x03 (encodeTrees g.arguments) in
+    let two = item 0x02 (encode_result g.result) in
+    let mark = ellipsis_item g.ellipsis in
+    let three = item 0x03 (encode_trees g.arguments) in
     bytes-append one (two ++ (mark ++ three))
     (bytes-item 0x01 (c ∷ []) (omega arith) (omega arith) (bytes-cons c [] (code-byte g.convention) bytes-none))
-    (bytes-append two (mark ++ three) (bytes-item 0x02 (encodeResult g.result) (omega arith) (omega arith) (result-bytes g.result (omega arith)))
+    (bytes-append two (mark ++ three) (bytes-item 0x02 (encode_result g.result) (omega arith) (omega arith) (result-bytes g.result (omega arith)))
     (bytes-append mark three (ellipsis-bytes g.ellipsis)
-    (bytes-item 0x03 (encodeTrees g.arguments) (omega arith) (omega arith) (trees-bytes g.arguments (omega arith)))))
+    (bytes-item 0x03 (encode_trees g.arguments) (omega arith) (omega arith) (trees-bytes g.arguments (omega arith)))))

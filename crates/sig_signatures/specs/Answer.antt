@@ -15,27 +15,27 @@ use Rattle.sig_signatures.specs.declared.ResultRead.{ResultRead}
 use Rattle.sig_signatures.specs.declared.EllipsisRead.{EllipsisRead}
 use Rattle.sig_signatures.specs.declared.HeadRead.{HeadRead}
 use Rattle.sig_signatures.specs.Signature.{Result, nothing, value, Signature, Head}
-use Rattle.sig_signatures.specs.Limits.{maxArguments}
+use Rattle.sig_signatures.specs.Limits.{max_arguments}
 
-abbrev pub conventionAnswer : Reading Convention → ConventionRead
-conventionAnswer (got c next n) = ConventionRead.Known c
-conventionAnswer (no f) = ConventionRead.Refused f
+abbrev pub convention_answer : Reading Convention → ConventionRead
+convention_answer (got c next n) = ConventionRead.Known c
+convention_answer (no f) = ConventionRead.Refused f
 
-abbrev pub resultType : Convention → Result → ResultType
-resultType c nothing = ResultType.Nothing
-resultType c (value t) = ResultType.Value (type_of c t)
+abbrev pub result_type : Convention → Result → ResultType
+result_type c nothing = ResultType.Nothing
+result_type c (value t) = ResultType.Value (type_of c t)
 
-abbrev pub resultAnswer : Convention → Reading Result → ResultRead
-resultAnswer c (got r next n) = ResultRead.Result (resultType c r) next n
-resultAnswer c (no f) = ResultRead.Refused f
+abbrev pub result_answer : Convention → Reading Result → ResultRead
+result_answer c (got r next n) = ResultRead.Result (result_type c r) next n
+result_answer c (no f) = ResultRead.Refused f
 
-abbrev pub ellipsisAnswer : Reading Bool → EllipsisRead
-ellipsisAnswer (got v next n) = EllipsisRead.Ellipsis v next n
-ellipsisAnswer (no f) = EllipsisRead.Refused f
+abbrev pub ellipsis_answer : Reading Bool → EllipsisRead
+ellipsis_answer (got v next n) = EllipsisRead.Ellipsis v next n
+ellipsis_answer (no f) = EllipsisRead.Refused f
 
-abbrev pub headAnswer : Reading Head → HeadRead
-headAnswer (got h next n) = HeadRead.Head h.convention (resultType h.convention h.result) h.ellipsis next h.end n
-headAnswer (no f) = HeadRead.Refused f
+abbrev pub head_answer : Reading Head → HeadRead
+head_answer (got h next n) = HeadRead.Head h.convention (result_type h.convention h.result) h.ellipsis next h.end n
+head_answer (no f) = HeadRead.Refused f
 
 -- the table of arguments: their types in order, and an i8 in each place after them
 
@@ -43,18 +43,18 @@ abbrev pub argument : ValueType → Argument
 argument t = record { ty = t }
 
 abbrev pub no_arguments : List Argument
-no_arguments = replicate maxArguments (argument (ValueType.Integer IntegerKind.I8))
+no_arguments = replicate max_arguments (argument (ValueType.Integer IntegerKind.I8))
 
 unfoldable pub listed : Convention → Trees → List Argument
 listed c none = []
 listed c (ts ▸ t) = listed c ts ++ argument (type_of c t) ∷ []
 
 unfoldable pub table : Convention → Trees → List Argument
-table c ts = listed c ts ++ replicate (maxArguments - count_of ts) (argument (ValueType.Integer IntegerKind.I8))
+table c ts = listed c ts ++ replicate (max_arguments - count_of ts) (argument (ValueType.Integer IntegerKind.I8))
 
 -- "Every refusal leaves all buffers and the state untouched"
-abbrev pub refusedSignature : Fault → SignatureRead
-refusedSignature f = record {
+abbrev pub refused_signature : Fault → SignatureRead
+refused_signature f = record {
   outcome = Outcome.Refused f;
   convention = Convention.Ppc64;
   result = ResultType.Nothing;
@@ -66,6 +66,6 @@ refusedSignature f = record {
 abbrev pub accepted : Convention → ResultType → Bool → Trees → ℕ → SignatureRead
 accepted c r v ts n = record { outcome = Outcome.Accepted n; convention = c; result = r; ellipsis = v; count = count_of ts; arguments = table c ts }
 
-abbrev pub signatureAnswer : Reading Signature → SignatureRead
-signatureAnswer (got g next n) = accepted g.convention (resultType g.convention g.result) g.ellipsis g.arguments n
-signatureAnswer (no f) = refusedSignature f
+abbrev pub signature_answer : Reading Signature → SignatureRead
+signature_answer (got g next n) = accepted g.convention (result_type g.convention g.result) g.ellipsis g.arguments n
+signature_answer (no f) = refused_signature f

@@ -7,16 +7,16 @@ use Rattle.sig_types.specs.Trees.{type_of}
 use Rattle.sig_types.specs.Limits.{AllSized}
 use Rattle.sig_items.specs.declared.Fault.{Fault}
 use Rattle.sig_items.specs.Reading.{fault, got, no}
-use Rattle.sig_items.specs.HowFar.{placeOfHeader, stopOf, metBy, HowFar}
+use Rattle.sig_items.specs.HowFar.{place_of_header, stop_of, met_by, HowFar}
 use Rattle.sig_signatures.specs.Signature.{Result, nothing, value, Signature}
 use Rattle.sig_signatures.specs.Read.{signature_of}
-use Rattle.sig_signatures.specs.Encode.{encode, signatureItems, SignatureWithin}
+use Rattle.sig_signatures.specs.Encode.{encode, signature_items, SignatureWithin}
 
 -- the bytes s are those of the signature g, which has n items
 pub record Encodes (s : List ℕ) (g : Signature) (n : ℕ) : Type 0 where
   pub within : SignatureWithin g
   pub bytes : s ≡ encode g
-  pub items : n ≡ signatureItems g
+  pub items : n ≡ signature_items g
 
 -- The encoder theorem: reading accepts exactly the byte strings that the encoder gives for a signature within the limits, and
 -- gives that signature back with the count of its items.
@@ -43,8 +43,8 @@ pub record Stopped (s : List ℕ) (f : Fault) : Type 0 where
   -- the headers that had passed lead, one after the other, from the first byte to where the reading stopped
   pub far : HowFar s (length s) 0 f
   -- each of them begins before that place, and three bytes or more after the one before
-  pub before : (i : ℕ) → i < metBy f → placeOfHeader s 0 i + 3 ≤ stopOf s f
-  pub ascending : (i j : ℕ) → i < j → placeOfHeader s 0 i + 3 ≤ placeOfHeader s 0 j
+  pub before : (i : ℕ) → i < met_by f → place_of_header s 0 i + 3 ≤ stop_of s f
+  pub ascending : (i j : ℕ) → i < j → place_of_header s 0 i + 3 ≤ place_of_header s 0 j
   -- and no other count would be so
   pub only : (n : ℕ) → HowFar s (length s) 0 (fault f.reason f.place n) → n ≡ f.passed
 

@@ -5,11 +5,11 @@ use Rattle.std.specs.Prelude.{ℕ, ◌≤◌, ◌<◌, ◌+◌, ◌*◌, length,
 use Rattle.base_conventions.specs.declared.Convention.{Convention}
 use Rattle.sig_types.specs.declared.IntegerKind.{IntegerKind}
 use Rattle.sig_types.specs.declared.ValueType.{ValueType}
-use Rattle.sig_types.specs.Sizes.{size_of, maxSize}
+use Rattle.sig_types.specs.Sizes.{size_of, max_size}
 use Rattle.sig_signatures.specs.declared.ResultType.{ResultType}
 use Rattle.sig_signatures.specs.declared.SignatureRead.{SignatureRead}
-use Rattle.sig_signatures.specs.Limits.{maxArguments}
-use Rattle.sig_signatures.specs.Answer.{argument, refusedSignature, accepted}
+use Rattle.sig_signatures.specs.Limits.{max_arguments}
+use Rattle.sig_signatures.specs.Answer.{argument, refused_signature, accepted}
 use Rattle.base_words.specs.Basics.{pick}
 use Rattle.sig_types.specs.Trees.{Trees}
 use Rattle.sig_items.specs.declared.Refusal.{Refusal}
@@ -18,22 +18,22 @@ use Rattle.sig_items.specs.Reading.{Reading, fault, got, no, later}
 -- refusal 8: no "struct size over 256"
 abbrev pub SmallResult : Convention → ResultType → Type 0
 SmallResult c ResultType.Nothing = Unit {0}
-SmallResult c (ResultType.Value t) = size_of c t ≤ maxSize
+SmallResult c (ResultType.Value t) = size_of c t ≤ max_size
 
 abbrev pub type_at : SignatureRead → ℕ → ValueType
 type_at g i = (get_or g.arguments i (argument (ValueType.Integer IntegerKind.I8))).ty
 
 pub record Plannable (g : SignatureRead) : Type 0 where
-  pub few : g.count ≤ maxArguments
+  pub few : g.count ≤ max_arguments
   pub room : g.count ≤ length g.arguments
   pub result : SmallResult g.convention g.result
-  pub small : (i : ℕ) → i < g.count → size_of g.convention (type_at g i) ≤ maxSize
+  pub small : (i : ℕ) → i < g.count → size_of g.convention (type_at g i) ≤ max_size
 
 -- from the arguments on, in a signature of `all` bytes, where the convention and the result's type took n items
-abbrev pub withArguments : Convention → ResultType → Bool → ℕ → ℕ → Reading Trees → SignatureRead
-withArguments c r v n all (got ts next m) = pick (ltb next all) (refusedSignature (fault Refusal.TrailingBytes next (n + m))) (accepted c r v ts (n + m))
-withArguments c r v n all (no f) = refusedSignature (later n f)
+abbrev pub with_arguments : Convention → ResultType → Bool → ℕ → ℕ → Reading Trees → SignatureRead
+with_arguments c r v n all (got ts next m) = pick (ltb next all) (refused_signature (fault Refusal.TrailingBytes next (n + m))) (accepted c r v ts (n + m))
+with_arguments c r v n all (no f) = refused_signature (later n f)
 
 -- n words, w for each, are enough for as many arguments as can stand between `at` and e: each takes three bytes or more
 abbrev pub RoomFor : ℕ → ℕ → ℕ → ℕ → Type 0
-RoomFor w at e n = (i : ℕ) → i ≤ maxArguments → at + 3 * i ≤ e → w * i ≤ n
+RoomFor w at e n = (i : ℕ) → i ≤ max_arguments → at + 3 * i ≤ e → w * i ≤ n

@@ -2,9 +2,9 @@
 use Rattle.std.specs.Prelude.{ℕ}
 
 -- 1: "signature over" 16,384 bytes (document 02, No. 6)
-abbrev pub maxLength : ℕ
-maxLength = 16384
+abbrev pub max_length : ℕ
+max_length = 16384
 
 -- 7: "bytes left after the" 128th "argument" (document 02, No. 6)
-abbrev pub maxArguments : ℕ
-maxArguments = 128
+abbrev pub max_arguments : ℕ
+max_arguments = 128

@@ -17,8 +17,8 @@ unfoldable pub values_of : Convention → List ValueType → ℕ
 values_of c [] = 0
 values_of c (t ∷ ts) = size_of c t + values_of c ts
 
-abbrev pub argumentType : Argument → ValueType
-argumentType a = a.ty
+abbrev pub argument_type : Argument → ValueType
+argument_type a = a.ty
 
 abbrev pub types_in : SignatureRead → List ValueType
-types_in g = map argumentType (take g.count g.arguments)
+types_in g = map argument_type (take g.count g.arguments)

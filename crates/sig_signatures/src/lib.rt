@@ -6,7 +6,7 @@ use base_conventions::Convention;
 use sig_items::Fault;
 use sig_types::{IntegerKind, ValueType};
 
-// The most arguments: `maxArguments` of specs/Limits.antt.
+// The most arguments: `max_arguments` of specs/Limits.antt.
 pub const MAX_ARGUMENTS: usize = 128;
 
 // Room for what is kept of arguments is cleared before it is used, so that a little of it is worth a test: an argument takes three bytes or more, so

@@ -5,13 +5,13 @@ use Rattle.std.specs.Prelude.{ℕ, ◌+◌, ◌-◌, List, length, get_or, ltb}
 use Rattle.base_words.specs.Basics.{pick}
 use Rattle.base_conventions.specs.declared.Convention.{Convention}
 use Rattle.sig_types.specs.Trees.{Tree}
-use Rattle.sig_types.specs.Sizes.{maxDepth}
+use Rattle.sig_types.specs.Sizes.{max_depth}
 use Rattle.sig_items.specs.declared.Refusal.{Refusal}
 use Rattle.sig_items.specs.declared.Body.{Body}
 use Rattle.sig_items.specs.declared.ItemRead.{ItemRead}
 use Rattle.sig_items.specs.Reading.{Reading, fault, no}
 use Rattle.sig_items.specs.Read.{body_at, item_at}
-use Rattle.sig_signatures.specs.Limits.{maxLength}
+use Rattle.sig_signatures.specs.Limits.{max_length}
 use Rattle.sig_stepping.specs.declared.Header.{Header}
 
 -- no part goes past the bytes
@@ -19,19 +19,19 @@ unfoldable pub end_in : List ℕ → ℕ → ℕ
 end_in s e = pick (ltb (length s) e) (length s) e
 
 -- how many bytes are left: none where the place is past the end
-unfoldable pub leftAt : List ℕ → ℕ → ℕ → ℕ
-leftAt s at e = end_in s e - at
+unfoldable pub left_at : List ℕ → ℕ → ℕ → ℕ
+left_at s at e = end_in s e - at
 
 -- the header of an item with any tag; "1 first"
-unfoldable pub bodyIn : List ℕ → ℕ → ℕ → Body
-bodyIn s at e = pick (ltb maxLength (length s)) (Body.Refused Refusal.TooLong) (body_at s 0x00 0xff (end_in s e) at)
+unfoldable pub body_in : List ℕ → ℕ → ℕ → Body
+body_in s at e = pick (ltb max_length (length s)) (Body.Refused Refusal.TooLong) (body_at s 0x00 0xff (end_in s e) at)
 
-abbrev pub headerBy : ℕ → Body → Header
-headerBy tag (Body.To b) = Header.Found tag b
-headerBy tag (Body.Refused r) = Header.Refused r
+abbrev pub header_by : ℕ → Body → Header
+header_by tag (Body.To b) = Header.Found tag b
+header_by tag (Body.Refused r) = Header.Refused r
 
-unfoldable pub headerIn : List ℕ → ℕ → ℕ → Header
-headerIn s at e = headerBy (get_or s at 0) (bodyIn s at e)
+unfoldable pub header_in : List ℕ → ℕ → ℕ → Header
+header_in s at e = header_by (get_or s at 0) (body_in s at e)
 
 -- where the item's body starts and ends; a refused header has none, and a reader stays where it is
 
@@ -39,21 +39,21 @@ abbrev pub start_by : ℕ → Body → ℕ
 start_by at (Body.To b) = at + 3
 start_by at (Body.Refused r) = at
 
-unfoldable pub bodyStart : List ℕ → ℕ → ℕ → ℕ
-bodyStart s at e = start_by at (bodyIn s at e)
+unfoldable pub body_start : List ℕ → ℕ → ℕ → ℕ
+body_start s at e = start_by at (body_in s at e)
 
-abbrev pub endBy : ℕ → Body → ℕ
-endBy at (Body.To b) = b
-endBy at (Body.Refused r) = at
+abbrev pub end_by : ℕ → Body → ℕ
+end_by at (Body.To b) = b
+end_by at (Body.Refused r) = at
 
-unfoldable pub bodyEnd : List ℕ → ℕ → ℕ → ℕ
-bodyEnd s at e = endBy at (bodyIn s at e)
+unfoldable pub body_end : List ℕ → ℕ → ℕ → ℕ
+body_end s at e = end_by at (body_in s at e)
 
 -- a type item outside any struct; "1 first"
-unfoldable pub typeIn : Convention → List ℕ → ℕ → ℕ → Reading Tree
-typeIn c s at e = pick (ltb maxLength (length s)) (no (fault Refusal.TooLong 0 0)) (item_at c maxDepth s (end_in s e) at)
+unfoldable pub type_in : Convention → List ℕ → ℕ → ℕ → Reading Tree
+type_in c s at e = pick (ltb max_length (length s)) (no (fault Refusal.TooLong 0 0)) (item_at c max_depth s (end_in s e) at)
 
 -- the place after a type item; a reader stays where it is after a refusal
-abbrev pub placeAfter : ItemRead → ℕ → ℕ
-placeAfter (ItemRead.Item t next n) at = next
-placeAfter (ItemRead.Refused f) at = at
+abbrev pub place_after : ItemRead → ℕ → ℕ
+place_after (ItemRead.Item t next n) at = next
+place_after (ItemRead.Refused f) at = at

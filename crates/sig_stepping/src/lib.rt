@@ -1,7 +1,7 @@
 // What stands at a place of any bytes: an item's header, its body, its type. Functions over bytes and numbers, which a reader is made of.
 ghost use Rattle.std.specs.Prelude.{◌≡◌};
-ghost use Rattle.sig_items.specs.Answer.{itemAnswer};
-ghost use Rattle.sig_stepping.specs.Step.{end_in, leftAt, bodyIn, headerIn, bodyStart, bodyEnd, typeIn, placeAfter};
+ghost use Rattle.sig_items.specs.Answer.{item_answer};
+ghost use Rattle.sig_stepping.specs.Step.{end_in, left_at, body_in, header_in, body_start, body_end, type_in, place_after};
 
 use base_conventions::Convention;
 use sig_items::{Body, ItemRead, Refusal};
@@ -25,7 +25,7 @@ fn end_in(s: &[u8], end: usize) -> usize
 
 // How many bytes of a part are left from `at` on.
 pub fn left_at(s: &[u8], at: usize, end: usize) -> usize
-    ensures { result ≡ leftAt s.now at end }
+    ensures { result ≡ left_at s.now at end }
 {
     let to = end_in(s, end);
     if to < at {
@@ -36,7 +36,7 @@ pub fn left_at(s: &[u8], at: usize, end: usize) -> usize
 
 // The header of the item at `at`, whatever its tag.
 fn body_in(s: &[u8], at: usize, end: usize) -> Body
-    ensures { result ≡ bodyIn s.now at end }
+    ensures { result ≡ body_in s.now at end }
 {
     if sig_head::MAX_LENGTH < s.len() {
         return Body::Refused(Refusal::TooLong);
@@ -50,7 +50,7 @@ fn body_in(s: &[u8], at: usize, end: usize) -> Body
 
 // The same, with the item's tag.
 pub fn header_in(s: &[u8], at: usize, end: usize) -> Header
-    ensures { result ≡ headerIn s.now at end }
+    ensures { result ≡ header_in s.now at end }
 {
     match body_in(s, at, end) {
         Body::To(to) => Header::Found {
@@ -63,7 +63,7 @@ pub fn header_in(s: &[u8], at: usize, end: usize) -> Header
 
 // Where the item's body starts; `at` if the header is refused.
 pub fn body_start(s: &[u8], at: usize, end: usize) -> usize
-    ensures { result ≡ bodyStart s.now at end }
+    ensures { result ≡ body_start s.now at end }
 {
     match body_in(s, at, end) {
         Body::To(to) => at + 3,
@@ -73,7 +73,7 @@ pub fn body_start(s: &[u8], at: usize, end: usize) -> usize
 
 // Where the item's body ends; `at` if the header is refused.
 pub fn body_end(s: &[u8], at: usize, end: usize) -> usize
-    ensures { result ≡ bodyEnd s.now at end }
+    ensures { result ≡ body_end s.now at end }
 {
     match body_in(s, at, end) {
         Body::To(to) => to,
@@ -83,7 +83,7 @@ pub fn body_end(s: &[u8], at: usize, end: usize) -> usize
 
 // The type item at `at`, outside any struct.
 pub fn type_in(s: &[u8], at: usize, end: usize, c: Convention) -> ItemRead
-    ensures { result ≡ itemAnswer c (typeIn c s.now at end) }
+    ensures { result ≡ item_answer c (type_in c s.now at end) }
 {
     if sig_head::MAX_LENGTH < s.len() {
         return sig_item_headers::refused_here(Refusal::TooLong, 0);
@@ -97,7 +97,7 @@ pub fn type_in(s: &[u8], at: usize, end: usize, c: Convention) -> ItemRead
 
 // The place after an item that was read; a reader stays where it is after a refusal.
 pub fn place_after(item: ItemRead, at: usize) -> usize
-    ensures { result ≡ placeAfter item at }
+    ensures { result ≡ place_after item at }
 {
     match item {
         ItemRead::Item { ty, next, items } => next,

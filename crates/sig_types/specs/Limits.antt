@@ -3,7 +3,7 @@
 use Rattle.std.specs.Prelude.{ℕ, ◌+◌, ◌≤◌, max, ◌≡◌, Bool, true, false}
 use Rattle.base_conventions.specs.declared.Convention.{Convention}
 use Rattle.sig_types.specs.declared.FloatFormat.{FloatFormat}
-use Rattle.sig_types.specs.Sizes.{size_of, lacksFloat, Sized, maxSize, maxDepth}
+use Rattle.sig_types.specs.Sizes.{size_of, lacks_float, Sized, max_size, max_depth}
 use Rattle.sig_types.specs.Trees.{Tree, Trees, integer, float, struct, none, ◌▸◌, type_of}
 
 -- how deep structs stand in each other: "an argument or result struct has depth 1"
@@ -11,11 +11,11 @@ unfoldable mutual
   pub depth_of : Tree → ℕ
   depth_of (integer k) = 0
   depth_of (float f) = 0
-  depth_of (struct ts) = 1 + depthIn ts
+  depth_of (struct ts) = 1 + depth_in ts
 
-  pub depthIn : Trees → ℕ
-  depthIn none = 0
-  depthIn (ts ▸ t) = max (depthIn ts) (depth_of t)
+  pub depth_in : Trees → ℕ
+  depth_in none = 0
+  depth_in (ts ▸ t) = max (depth_in ts) (depth_of t)
 
 -- 5: no "long double inside a struct"
 abbrev pub FloatFits : Bool → FloatFormat → Type 0
@@ -33,8 +33,8 @@ Some (ts ▸ t) = Unit {0}
 unfoldable mutual
   pub Fits : Convention → Bool → Tree → Type 0
   Fits c inside (integer k) = Unit {0}
-  Fits c inside (float f) = FloatFits inside f × (lacksFloat c inside f ≡ false)
-  Fits c inside (struct ts) = Some ts × AllFit c ts × (size_of c (type_of c (struct ts)) ≤ maxSize)
+  Fits c inside (float f) = FloatFits inside f × (lacks_float c inside f ≡ false)
+  Fits c inside (struct ts) = Some ts × AllFit c ts × (size_of c (type_of c (struct ts)) ≤ max_size)
 
   -- each field of a struct
   pub AllFit : Convention → Trees → Type 0
@@ -43,7 +43,7 @@ unfoldable mutual
 
 -- a result's or an argument's type within the limits; 6: no "struct depth over 8"
 pub record TypeWithin (c : Convention) (t : Tree) : Type 0 where
-  pub depth : depth_of t ≤ maxDepth
+  pub depth : depth_of t ≤ max_depth
   pub fits : Fits c false t
 
 -- and each of several

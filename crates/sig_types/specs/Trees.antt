@@ -6,7 +6,7 @@ use Rattle.sig_types.specs.declared.IntegerKind.{IntegerKind}
 use Rattle.sig_types.specs.declared.FloatFormat.{FloatFormat}
 use Rattle.sig_types.specs.declared.ValueType.{ValueType}
 use Rattle.sig_types.specs.declared.Fields.{Fields}
-use Rattle.sig_types.specs.Structs.{noFields, withField, shape_of}
+use Rattle.sig_types.specs.Structs.{no_fields, with_field, shape_of}
 
 infixl 20 ◌▸◌
 -- "A type is one of these kinds, and each kind carries its own code set"; types in order, the last one outermost
@@ -27,8 +27,8 @@ unfoldable mutual
   type_of c (struct ts) = ValueType.Struct (shape_of (fields_of c ts))
 
   pub fields_of : Convention → Trees → Fields
-  fields_of c none = noFields
-  fields_of c (ts ▸ t) = withField c (fields_of c ts) (type_of c t)
+  fields_of c none = no_fields
+  fields_of c (ts ▸ t) = with_field c (fields_of c ts) (type_of c t)
 
 -- how many types
 unfoldable pub count_of : Trees → ℕ

@@ -1,6 +1,6 @@
 // The types that a signature names: integers, floats and structs, with the size of each. The code of a struct's layout is in the crate above.
 ghost use Rattle.std.specs.Prelude.{◌≡◌};
-ghost use Rattle.sig_types.specs.Sizes.{integerSize, floatSize, size_of, equivalentOf, lacksFloat};
+ghost use Rattle.sig_types.specs.Sizes.{integer_size, float_size, size_of, equivalent_of, lacks_float};
 
 use base_conventions::Convention;
 
@@ -56,7 +56,7 @@ pub enum ValueType {
 
 // Whether a convention has no such float, inside a struct or not.
 pub fn lacks_float(c: Convention, inside: bool, f: FloatFormat) -> bool
-    ensures { result ≡ lacksFloat c inside f }
+    ensures { result ≡ lacks_float c inside f }
 {
     match c {
         Convention::Ppc64 => false,
@@ -73,7 +73,7 @@ pub fn lacks_float(c: Convention, inside: bool, f: FloatFormat) -> bool
 // The size of an integer where a pointer has 8 bytes, and where it has 4. Numbers alone, which are looked up: where a pointer's case asked for
 // the convention, each kind would be a jump, and which one comes next can't be foreseen.
 fn wide_size(k: IntegerKind) -> usize
-    ensures { result ≡ integerSize Convention.Ppc64 k }
+    ensures { result ≡ integer_size Convention.Ppc64 k }
 {
     match k {
         IntegerKind::I8 => 1,
@@ -89,7 +89,7 @@ fn wide_size(k: IntegerKind) -> usize
 }
 
 fn narrow_size(k: IntegerKind) -> usize
-    ensures { result ≡ integerSize Convention.Aix k }
+    ensures { result ≡ integer_size Convention.Aix k }
 {
     match k {
         IntegerKind::I8 => wide_size(k),
@@ -106,7 +106,7 @@ fn narrow_size(k: IntegerKind) -> usize
 
 // By the word alone, so that it is small enough to be compiled in line.
 pub fn integer_size(c: Convention, k: IntegerKind) -> usize
-    ensures { result ≡ integerSize c k }
+    ensures { result ≡ integer_size c k }
 {
     if base_conventions::word_bytes(c) == Convention::AIX_WORD {
         return narrow_size(k);
@@ -115,7 +115,7 @@ pub fn integer_size(c: Convention, k: IntegerKind) -> usize
 }
 
 pub fn float_size(f: FloatFormat) -> usize
-    ensures { result ≡ floatSize f }
+    ensures { result ≡ float_size f }
 {
     match f {
         FloatFormat::Single => 4,
@@ -135,7 +135,7 @@ pub fn size_of(c: Convention, t: ValueType) -> usize
 }
 
 pub fn equivalent_of(t: ValueType) -> Equivalent
-    ensures { result ≡ equivalentOf t }
+    ensures { result ≡ equivalent_of t }
 {
     match t {
         ValueType::Integer(_) => Equivalent::Nothing,

@@ -1,15 +1,15 @@
 // Reads a whole signature: the convention, the result's type and the types of 0 to 128 arguments.
 ghost use Rattle.std.specs.Prelude.{◌≡◌, ◌+◌, ◌^◌, ◌≤◌, ◌<◌, length};
-ghost use Rattle.sig_signatures.specs.Read.{argumentsIn, signature_of};
-ghost use Rattle.sig_signatures.specs.Answer.{refusedSignature, signatureAnswer};
-ghost use Rattle.sig_signatures.specs.Helpers.{withArguments};
+ghost use Rattle.sig_signatures.specs.Read.{arguments_in, signature_of};
+ghost use Rattle.sig_signatures.specs.Answer.{refused_signature, signature_answer};
+ghost use Rattle.sig_signatures.specs.Helpers.{with_arguments};
 
 use base_conventions::Convention;
 use sig_items::{Fault, ItemRead, Refusal};
 use sig_signatures::{Argument, HeadRead, MAX_ARGUMENTS, Outcome, ResultType, SignatureRead};
 
 fn refuse(fault: Fault) -> SignatureRead
-    ensures { result ≡ refusedSignature fault }
+    ensures { result ≡ refused_signature fault }
 {
     let arguments = sig_signatures::no_arguments();
     SignatureRead {
@@ -33,7 +33,7 @@ fn read_arguments(
     earlier: usize,
 ) -> SignatureRead
     requires { (at ≤ end) × (end ≤ length s.now) × (end ≤ 2 ^ 16) × (earlier ≤ 2 ^ 16) }
-    ensures { result ≡ withArguments c res ellipsis earlier (length s.now) (argumentsIn c s.now at end) }
+    ensures { result ≡ with_arguments c res ellipsis earlier (length s.now) (arguments_in c s.now at end) }
 {
     let mut arguments = sig_signatures::no_arguments();
     let mut count: usize = 0;
@@ -83,7 +83,7 @@ fn read_arguments(
 
 // A signature: any bytes at all.
 pub fn read_signature(s: &[u8]) -> SignatureRead
-    ensures { result ≡ signatureAnswer (signature_of s.now) }
+    ensures { result ≡ signature_answer (signature_of s.now) }
 {
     match sig_head::read_head(s) {
         HeadRead::Refused(fault) => refuse(fault),

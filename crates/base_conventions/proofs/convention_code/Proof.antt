@@ -1,27 +1,27 @@
 -- The definition's own tests, in their order. Assumes nothing.
 use borrow.Author.Tests.{eq-eqb, ne_eqb}
-use Rattle.base_conventions.specs.Numbers.{conventionCode}
+use Rattle.base_conventions.specs.Numbers.{convention_code}
 use Rattle.base_conventions.proofs.convention_code.Statement.{statement}
 use Rattle.base_conventions.proofs.convention_code.Tie as tie
 
 returns : tie.Need-returns
-unfolding conventionCode
+unfolding convention_code
 returns c = rw (eq-eqb _ _ c.if1.true)
 
 returns-2 : tie.Need-returns-2
-unfolding conventionCode
+unfolding convention_code
 returns-2 c = rw (ne_eqb _ _ c.before.if1.false, eq-eqb _ _ c.if2.true)
 
 returns-3 : tie.Need-returns-3
-unfolding conventionCode
+unfolding convention_code
 returns-3 c = rw (ne_eqb _ _ c.before.before.if1.false, ne_eqb _ _ c.before.if2.false, eq-eqb _ _ c.if3.true)
 
 returns-4 : tie.Need-returns-4
-unfolding conventionCode
+unfolding convention_code
 returns-4 c = rw (ne_eqb _ _ c.before.before.before.if1.false, ne_eqb _ _ c.before.before.if2.false, ne_eqb _ _ c.before.if3.false, eq-eqb _ _ c.if4.true)
 
 returns-5 : tie.Need-returns-5
-unfolding conventionCode
+unfolding convention_code
 returns-5 c = rw (ne_eqb _ _ c.before.before.before.if1.false, ne_eqb _ _ c.before.before.if2.false, ne_eqb _ _ c.before.if3.false, ne_eqb _ _ c.if4.false)
 
 pub convention-code-spec : {M : Type 1} → statement M

@@ -5,13 +5,13 @@ use mathlib.Core.Path.{◌≡◌, ap}
 use Prim.Native.Nat.{ℕ, ◌+◌, ◌-◌, ◌/◌, ◌^◌}
 use native.Mathlib.Omega.{arith}
 use Rattle.base_ieee.specs.Format.{single, positive, join}
-use Rattle.base_ieee.specs.Helpers.{candidateMagnitude}
+use Rattle.base_ieee.specs.Helpers.{candidate_magnitude}
 use Rattle.base_ieee.proofs.Magnitudes.{candidate-low, candidate-high, candidate-none}
 use Rattle.base_ieee.proofs.candidate_magnitude.Statement.{statement}
 use Rattle.base_ieee.proofs.candidate_magnitude.Tie as tie
 
 returns : tie.Need-returns
-unfolding candidateMagnitude join
+unfolding candidate_magnitude join
 returns c =
     let e : ℕ = c.before.args.exponent in
     let f : ℕ = c.before.args.fraction in
@@ -27,7 +27,7 @@ shr-result : tie.Need-overflow-shr-result
 shr-result c = search rules
 
 returns-2 : tie.Need-returns-2
-unfolding candidateMagnitude join
+unfolding candidate_magnitude join
 returns-2 c =
     let e : ℕ = c.before.before.args.exponent in
     let f : ℕ = c.before.before.args.fraction in
@@ -44,7 +44,7 @@ add-result-2 : tie.Need-overflow-add-result-2
 add-result-2 c = search rules
 
 returns-3 : tie.Need-returns-3
-unfolding candidateMagnitude join
+unfolding candidate_magnitude join
 returns-3 c =
     let e : ℕ = c.before.before.before.args.exponent in
     let f : ℕ = c.before.before.before.args.fraction in
@@ -54,7 +54,7 @@ add-result-3 : tie.Need-overflow-add-result-3
 add-result-3 c = search rules
 
 returns-4 : tie.Need-returns-4
-unfolding candidateMagnitude join
+unfolding candidate_magnitude join
 returns-4 c =
     let e : ℕ = c.before.before.before.args.exponent in
     let f : ℕ = c.before.before.before.args.fraction in

@@ -9,7 +9,7 @@ use lib.ListN.{length, set, length-set}
 use Rattle.base_words.specs.Splice.{overlay}
 use Rattle.base_words.specs.Numbers.{bytes_of}
 use Rattle.base_words.proofs.Splices.{overlay-append, overlay-commute, splice-one}
-use Rattle.base_words.proofs.Numbers.{bytesOf-append, length-bytesOf}
+use Rattle.base_words.proofs.Numbers.{bytes_of-append, length-bytes_of}
 use Rattle.base_words.proofs.put_number.Statement.{statement}
 use Rattle.base_words.proofs.put_number.Tie as tie
 
@@ -22,14 +22,14 @@ decreases-loop s₀ n x i₀ rest₀ s i rest = i
 -- the lowest byte is the last
 last : (n x : ℕ) → bytes_of (n + 1) x ≡ bytes_of n (x / 256) ++ x % 256 ∷ []
 unfolding bytes_of
-last n x = bytesOf-append n 1 x ∙ rw div-one
+last n x = bytes_of-append n 1 x ∙ rw div-one
 
 -- a turn
 turn : (l : List ℕ) (n x : ℕ) → overlay (set l n (x % 256)) (bytes_of n (x / 256)) ≡ overlay l (bytes_of (n + 1) x)
 turn l n x =
     let low : ℕ = x % 256 in
     let rest : List ℕ = bytes_of n (x / 256) in
-    let e : length rest ≡ n = length-bytesOf n (x / 256) in
+    let e : length rest ≡ n = length-bytes_of n (x / 256) in
     sym (ap (overlay l) (last n x) ∙ overlay-append l rest (low ∷ []) ∙ overlay-commute l rest (length rest) (low ∷ []) (le_refl (length rest))
     ∙ ap (λ (t : List ℕ). overlay t rest) (splice-one l (length rest) low ∙ rw e))
 

@@ -1,6 +1,6 @@
 -- The sum does not wrap, and the product is at most the sum. Assumes nothing.
 use native.Mathlib.Nat.{div-mul-le_self}
-use Rattle.base_words.specs.Basics.{roundUp}
+use Rattle.base_words.specs.Basics.{round_up}
 use Prim.Native.Nat.{◌+◌, ◌-◌}
 use native.Mathlib.Omega.{arith}
 use mathlib.Core.Path.{refl}
@@ -21,7 +21,7 @@ mul-result : tie.Need-overflow-mul-result
 mul-result c = omega (arith, div-mul-le_self (c.args.x + (c.args.a - 1)) c.args.a)
 
 returns : tie.Need-returns
-unfolding roundUp
+unfolding round_up
 returns c = refl
 
 pub round-up-spec : {M : Type 1} → statement M

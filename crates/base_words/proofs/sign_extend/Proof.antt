@@ -5,8 +5,8 @@ use Prim.Native.Nat.{ℕ, ◌-◌, ◌*◌, ◌%◌, ◌^◌, ◌≤◌, ◌<◌
 use native.Mathlib.Nat.{one-mul}
 use native.Mathlib.Omega.{arith}
 use lib.Pow.{pow_pos, pow_mono, shl_exact}
-use Rattle.base_words.specs.Numbers.{zeroExtended}
-use Rattle.base_words.proofs.Numbers.{halves, zeroExtended-below, signExtended-positive, signExtended-negative}
+use Rattle.base_words.specs.Numbers.{zero_extended}
+use Rattle.base_words.proofs.Numbers.{halves, zero_extended-below, sign_extended-positive, sign_extended-negative}
 use Rattle.base_words.proofs.sign_extend.Statement.{statement}
 use Rattle.base_words.proofs.sign_extend.Tie as tie
 
@@ -44,8 +44,8 @@ returns c =
     let n : ℕ = c.before.before.args.n in
     let x : ℕ = c.before.before.args.x in
     let s = sign_of n c.before.before.requires in
-    let small : zeroExtended n x < 2 ^ (8 * n - 1) = omega arith in
-    c.before.zero-extend.ensures ∙ sym (signExtended-positive n x c.before.before.requires.0 small)
+    let small : zero_extended n x < 2 ^ (8 * n - 1) = omega arith in
+    c.before.zero-extend.ensures ∙ sym (sign_extended-positive n x c.before.before.requires.0 small)
 
 sub-result : tie.Need-overflow-sub-result
 sub-result c = let s = sign_of c.before.before.args.n c.before.before.requires in omega arith
@@ -60,15 +60,15 @@ add-result : tie.Need-overflow-add-result
 add-result c =
     let n : ℕ = c.before.before.args.n in
     let s = sign_of n c.before.before.requires in
-    omega (arith, zeroExtended-below n c.before.before.args.x)
+    omega (arith, zero_extended-below n c.before.before.args.x)
 
 returns-2 : tie.Need-returns-2
 returns-2 c =
     let n : ℕ = c.before.before.args.n in
     let x : ℕ = c.before.before.args.x in
     let s = sign_of n c.before.before.requires in
-    let large : 2 ^ (8 * n - 1) ≤ zeroExtended n x = omega arith in
-    omega (arith, signExtended-negative n x c.before.before.requires.0 large)
+    let large : 2 ^ (8 * n - 1) ≤ zero_extended n x = omega arith in
+    omega (arith, sign_extended-negative n x c.before.before.requires.0 large)
 
 pub sign-extend-spec : {M : Type 1} → statement M
 sign-extend-spec =

@@ -4,7 +4,7 @@ use mathlib.Core.Path.{◌≡◌, ap, ◌∙◌}
 use Prim.Native.Nat.{ℕ, ◌+◌, ◌-◌, ◌*◌, ◌/◌, ◌%◌, ◌^◌}
 use native.Mathlib.Omega.{arith}
 use lib.Pow.{field, shl-shr}
-use Rattle.base_words.specs.Numbers.{zeroExtended}
+use Rattle.base_words.specs.Numbers.{zero_extended}
 use Rattle.base_words.proofs.zero_extend.Statement.{statement}
 use Rattle.base_words.proofs.zero_extend.Tie as tie
 
@@ -21,7 +21,7 @@ shr-result : tie.Need-overflow-shr-result
 shr-result c = search rules
 
 returns : tie.Need-returns
-unfolding zeroExtended
+unfolding zero_extended
 returns c =
     let n : ℕ = c.args.n in
     let x : ℕ = c.args.x in

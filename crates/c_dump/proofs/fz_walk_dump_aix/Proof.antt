@@ -1,7 +1,7 @@
 -- By the walk of dump, with the convention's rules. Assumes nothing.
 use Rattle.base_conventions.specs.declared.Convention.TheVariants.{Aix}
 use Rattle.frame_rules.proofs.Conventions.{lawful}
-use Rattle.c_dump.specs.Dump.{walkedAnswer}
+use Rattle.c_dump.specs.Dump.{walked_answer}
 use mathlib.Core.Path.{ap, ◌∙◌}
 use borrow.Author.Rules.{rules}
 use Rattle.c_dump.proofs.fz_walk_dump_aix.Statement.{statement}
@@ -23,7 +23,7 @@ returns : tie.Need-returns
 returns c =
     let walk = c.before.before.before.walk in
     let frame-rules = c.before.before.before.before.before.frame-rules in
-    (c.walked-of.ensures ∙ ap walkedAnswer (rw frame-rules.ensures at walk.ensures.0), rw frame-rules.ensures at walk.ensures.1)
+    (c.walked-of.ensures ∙ ap walked_answer (rw frame-rules.ensures at walk.ensures.0), rw frame-rules.ensures at walk.ensures.1)
 
 pub fz-walk-dump-aix-spec : {M : Type 1} → statement M
 fz-walk-dump-aix-spec = tie.close (tie.spec frame-rules-requires walk-requires walked-of-requires same_length returns)

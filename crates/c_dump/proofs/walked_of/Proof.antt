@@ -1,5 +1,5 @@
 -- By what was found. Assumes nothing.
-use Rattle.c_dump.specs.Dump.{walkedAnswer}
+use Rattle.c_dump.specs.Dump.{walked_answer}
 use borrow.Author.Rules.{rules}
 use Rattle.c_dump.proofs.walked_of.Statement.{statement}
 use Rattle.c_dump.proofs.walked_of.Tie as tie
@@ -17,11 +17,11 @@ refusal-place-requires : tie.Need-refusal-place-requires
 refusal-place-requires c κs = search rules
 
 returns : tie.Need-returns
-unfolding walkedAnswer
+unfolding walked_answer
 returns c = rw c.before.f.given.1
 
 returns-2 : tie.Need-returns-2
-unfolding walkedAnswer
+unfolding walked_answer
 returns-2 c = rw (c.before.before.before.f2.given.1, c.before.walk-refusal-number.ensures, c.refusal-place.ensures)
 
 pub walked-of-spec : {M : Type 1} → statement M

@@ -2,8 +2,8 @@
 use mathlib.Core.Path.{ap, ◌∙◌}
 use Rattle.call_slots.specs.declared.CallAnswer.{CallAnswer}
 use Rattle.call_slots.specs.Buffers.{buffers}
-use Rattle.call_fill.specs.Fill.{fillBuffers}
-use Rattle.c_call_answers.specs.Calls.{callAnswer}
+use Rattle.call_fill.specs.Fill.{fill_buffers}
+use Rattle.c_call_answers.specs.Calls.{call_answer}
 use borrow.Author.Rules.{rules}
 use Rattle.c_fill.proofs.fz_fill.Statement.{statement}
 use Rattle.c_fill.proofs.fz_fill.Tie as tie
@@ -28,8 +28,8 @@ returns c =
     let start = c.before.before.before.before.before.before.before.before.before.before.before.before.before.before.before.before in
     let fill = c.before.before.before.before.before.before.before.fill in
     let lent = buffers start.args.image.now start.args.area.now start.args.copies.now in (
-      c.answer-of.ensures ∙ ap callAnswer fill.ensures.0,
-      fill.ensures.1 ∙ ap (λ (a : CallAnswer). fillBuffers start.args.sig.now start.args.values.now start.args.base start.args.hidden a lent) fill.ensures.0,
+      c.answer-of.ensures ∙ ap call_answer fill.ensures.0,
+      fill.ensures.1 ∙ ap (λ (a : CallAnswer). fill_buffers start.args.sig.now start.args.values.now start.args.base start.args.hidden a lent) fill.ensures.0,
     )
 
 pub fz-fill-spec : {M : Type 1} → statement M

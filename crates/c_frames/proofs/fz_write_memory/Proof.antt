@@ -1,5 +1,5 @@
 -- By the call of machine_words. Assumes nothing.
-use Rattle.c_frame_answers.specs.Frames.{frameAnswer}
+use Rattle.c_frame_answers.specs.Frames.{frame_answer}
 use mathlib.Core.Path.{ap, ◌∙◌}
 use borrow.Author.Rules.{rules}
 use Rattle.c_frames.proofs.fz_write_memory.Statement.{statement}
@@ -17,7 +17,7 @@ same_length c = search rules
 returns : tie.Need-returns
 returns c =
     let write-memory = c.before.before.before.write-memory in
-    (c.answer-of.ensures ∙ ap frameAnswer write-memory.ensures.0, write-memory.ensures.1)
+    (c.answer-of.ensures ∙ ap frame_answer write-memory.ensures.0, write-memory.ensures.1)
 
 pub fz-write-memory-spec : {M : Type 1} → statement M
 fz-write-memory-spec =

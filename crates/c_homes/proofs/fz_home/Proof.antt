@@ -1,8 +1,8 @@
 -- By the call of home.
 use mathlib.Core.Path.{ap, ◌∙◌}
 use Rattle.call_slots.specs.declared.CallAnswer.{CallAnswer}
-use Rattle.call_home.specs.Home.{homeArea}
-use Rattle.c_call_answers.specs.Calls.{callAnswer}
+use Rattle.call_home.specs.Home.{home_area}
+use Rattle.c_call_answers.specs.Calls.{call_answer}
 use borrow.Author.Rules.{rules}
 use Rattle.c_homes.proofs.fz_home.Statement.{statement}
 use Rattle.c_homes.proofs.fz_home.Tie as tie
@@ -20,8 +20,8 @@ returns : tie.Need-returns
 returns c =
     let start = c.before.before.before.before.before.before.before.before in
     let home = c.before.before.before.home in (
-      c.answer-of.ensures ∙ ap callAnswer home.ensures.0,
-      home.ensures.1 ∙ ap (λ (a : CallAnswer). homeArea start.args.sig.now a start.args.image.now start.args.area.now) home.ensures.0,
+      c.answer-of.ensures ∙ ap call_answer home.ensures.0,
+      home.ensures.1 ∙ ap (λ (a : CallAnswer). home_area start.args.sig.now a start.args.image.now start.args.area.now) home.ensures.0,
     )
 
 pub fz-home-spec : {M : Type 1} → statement M

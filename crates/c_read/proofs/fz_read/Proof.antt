@@ -2,8 +2,8 @@
 use mathlib.Core.Path.{ap, ◌∙◌}
 use Rattle.call_slots.specs.declared.CallAnswer.{CallAnswer}
 use Rattle.call_slots.specs.Buffers.{buffers}
-use Rattle.call_read.specs.Read.{readValues}
-use Rattle.c_call_answers.specs.Calls.{callAnswer}
+use Rattle.call_read.specs.Read.{read_values}
+use Rattle.c_call_answers.specs.Calls.{call_answer}
 use borrow.Author.Rules.{rules}
 use Rattle.c_read.proofs.fz_read.Statement.{statement}
 use Rattle.c_read.proofs.fz_read.Tie as tie
@@ -22,8 +22,8 @@ returns c =
     let start = c.before.before.before.before.before.before.before.before.before.before in
     let read = c.before.before.before.read in
     let lent = buffers start.args.image.now start.args.area.now start.args.copies.now in (
-      c.answer-of.ensures ∙ ap callAnswer read.ensures.0,
-      read.ensures.1 ∙ ap (λ (a : CallAnswer). readValues start.args.sig.now start.args.base a lent start.args.values.now) read.ensures.0,
+      c.answer-of.ensures ∙ ap call_answer read.ensures.0,
+      read.ensures.1 ∙ ap (λ (a : CallAnswer). read_values start.args.sig.now start.args.base a lent start.args.values.now) read.ensures.0,
     )
 
 pub fz-read-spec : {M : Type 1} → statement M

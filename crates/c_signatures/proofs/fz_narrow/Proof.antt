@@ -2,7 +2,7 @@
 use borrow.Author.Rules.{rules}
 use Rattle.c_signatures.proofs.fz_narrow.Statement.{statement}
 use mathlib.Core.Path.{sym, ap, ◌∙◌}
-use Rattle.c_signatures.specs.Surface.{narrowingAnswer}
+use Rattle.c_signatures.specs.Surface.{narrowing_answer}
 use Rattle.c_signatures.proofs.fz_narrow.Tie as tie
 
 narrow-requires : tie.Need-narrow-requires
@@ -18,12 +18,12 @@ enum_told : tie.Need-enum-told
 enum_told c = search rules
 
 returns : tie.Need-returns
-unfolding narrowingAnswer
-returns c = ap narrowingAnswer (sym c.before.x.given.1 ∙ c.before.before.before.narrow.ensures)
+unfolding narrowing_answer
+returns c = ap narrowing_answer (sym c.before.x.given.1 ∙ c.before.before.before.narrow.ensures)
 
 returns-2 : tie.Need-returns-2
-unfolding narrowingAnswer
-returns-2 c = ap narrowingAnswer (sym c.enum_told.given.1 ∙ c.before.before.narrow.ensures)
+unfolding narrowing_answer
+returns-2 c = ap narrowing_answer (sym c.enum_told.given.1 ∙ c.before.before.narrow.ensures)
 
 pub fz-narrow-spec : {M : Type 1} → statement M
 fz-narrow-spec =

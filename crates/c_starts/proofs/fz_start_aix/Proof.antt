@@ -1,5 +1,5 @@
 -- By the call of machine_words. Assumes nothing.
-use Rattle.c_frame_answers.specs.Frames.{frameAnswer}
+use Rattle.c_frame_answers.specs.Frames.{frame_answer}
 use mathlib.Core.Path.{ap, ◌∙◌}
 use borrow.Author.Rules.{rules}
 use Rattle.c_starts.proofs.fz_start_aix.Statement.{statement}
@@ -17,7 +17,7 @@ same_length c = search rules
 returns : tie.Need-returns
 returns c =
     let start-aix = c.before.before.before.start-aix in
-    (c.answer-of.ensures ∙ ap frameAnswer start-aix.ensures.0, start-aix.ensures.1)
+    (c.answer-of.ensures ∙ ap frame_answer start-aix.ensures.0, start-aix.ensures.1)
 
 pub fz-start-aix-spec : {M : Type 1} → statement M
 fz-start-aix-spec =

@@ -1,5 +1,5 @@
 -- By the call of machine_words. Assumes nothing.
-use Rattle.c_frame_answers.specs.Frames.{frameAnswer}
+use Rattle.c_frame_answers.specs.Frames.{frame_answer}
 use mathlib.Core.Path.{ap, ◌∙◌}
 use borrow.Author.Rules.{rules}
 use Rattle.c_starts.proofs.fz_start_ppc64b.Statement.{statement}
@@ -17,7 +17,7 @@ same_length c = search rules
 returns : tie.Need-returns
 returns c =
     let start-ppc64b = c.before.before.before.start-ppc64b in
-    (c.answer-of.ensures ∙ ap frameAnswer start-ppc64b.ensures.0, start-ppc64b.ensures.1)
+    (c.answer-of.ensures ∙ ap frame_answer start-ppc64b.ensures.0, start-ppc64b.ensures.1)
 
 pub fz-start-ppc64b-spec : {M : Type 1} → statement M
 fz-start-ppc64b-spec =

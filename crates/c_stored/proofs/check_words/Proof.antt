@@ -1,6 +1,6 @@
 -- By cases on the answer.
 use mathlib.Core.Path.{◌∙◌}
-use Rattle.c_stored.specs.Stored.{checkWords}
+use Rattle.c_stored.specs.Stored.{check_words}
 use borrow.Author.Rules.{rules}
 use Rattle.c_stored.proofs.check_words.Statement.{statement}
 use Rattle.c_stored.proofs.check_words.Tie as tie
@@ -24,15 +24,15 @@ answer-of-requires-2 : tie.Need-answer-of-requires-2
 answer-of-requires-2 c κs = search rules
 
 returns : tie.Need-returns
-unfolding checkWords
+unfolding check_words
 returns c = c.answer-of.ensures ∙ rw c.before.enum_told.given.1
 
 returns-2 : tie.Need-returns-2
-unfolding checkWords
+unfolding check_words
 returns-2 c = c.fault-answer.ensures ∙ rw c.before.before.a.given.1
 
 returns-3 : tie.Need-returns-3
-unfolding checkWords
+unfolding check_words
 returns-3 c = c.answer-of2.ensures ∙ rw c.before.before.a2.given.1
 
 pub check-words-spec : {M : Type 1} → statement M

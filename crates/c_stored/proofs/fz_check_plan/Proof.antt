@@ -1,6 +1,6 @@
 -- By the call of check_plan.
 use mathlib.Core.Path.{ap, ◌∙◌}
-use Rattle.c_stored.specs.Stored.{checkWords}
+use Rattle.c_stored.specs.Stored.{check_words}
 use borrow.Author.Rules.{rules}
 use Rattle.c_stored.proofs.fz_check_plan.Statement.{statement}
 use Rattle.c_stored.proofs.fz_check_plan.Tie as tie
@@ -12,7 +12,7 @@ check-words-requires : tie.Need-check-words-requires
 check-words-requires c κs = search rules
 
 returns : tie.Need-returns
-returns c = c.check-words.ensures ∙ ap checkWords c.before.check-plan.ensures
+returns c = c.check-words.ensures ∙ ap check_words c.before.check-plan.ensures
 
 pub fz-check-plan-spec : {M : Type 1} → statement M
 fz-check-plan-spec = tie.close (tie.spec check-plan-requires check-words-requires returns)

@@ -1,6 +1,6 @@
 -- By the call of fill_stored.
 use mathlib.Core.Path.{ap, ◌∙◌}
-use Rattle.c_stored.specs.Stored.{storedFillWords}
+use Rattle.c_stored.specs.Stored.{stored_fill_words}
 use borrow.Author.Rules.{rules}
 use Rattle.c_stored.proofs.fz_fill_stored.Statement.{statement}
 use Rattle.c_stored.proofs.fz_fill_stored.Tie as tie
@@ -21,7 +21,7 @@ same-length-3 : tie.Need-same-length-3
 same-length-3 c = search rules
 
 returns : tie.Need-returns
-returns c = (c.stored-fill-words.ensures ∙ ap storedFillWords c.before.before.before.before.before.before.before.fill-stored.ensures.0, c.before.before.before.before.before.before.before.fill-stored.ensures.1)
+returns c = (c.stored-fill-words.ensures ∙ ap stored_fill_words c.before.before.before.before.before.before.before.fill-stored.ensures.0, c.before.before.before.before.before.before.before.fill-stored.ensures.1)
 
 pub fz-fill-stored-spec : {M : Type 1} → statement M
 fz-fill-stored-spec =

@@ -1,6 +1,6 @@
 -- By cases on the answer.
 use mathlib.Core.Path.{◌∙◌}
-use Rattle.c_stored.specs.Stored.{storedFillWords}
+use Rattle.c_stored.specs.Stored.{stored_fill_words}
 use borrow.Author.Rules.{rules}
 use Rattle.c_stored.proofs.stored_fill_words.Statement.{statement}
 use Rattle.c_stored.proofs.stored_fill_words.Tie as tie
@@ -18,11 +18,11 @@ answer-of-requires-2 : tie.Need-answer-of-requires-2
 answer-of-requires-2 c κs = search rules
 
 returns : tie.Need-returns
-unfolding storedFillWords
+unfolding stored_fill_words
 returns c = c.answer-of.ensures ∙ rw c.before.before.a.given.1
 
 returns-2 : tie.Need-returns-2
-unfolding storedFillWords
+unfolding stored_fill_words
 returns-2 c = c.answer-of2.ensures ∙ rw c.before.before.a2.given.1
 
 pub stored-fill-words-spec : {M : Type 1} → statement M

@@ -1,5 +1,5 @@
 -- By cases on the answer.
-use Rattle.c_stored.specs.Stored.{storedWords}
+use Rattle.c_stored.specs.Stored.{stored_words}
 use borrow.Author.Rules.{rules}
 use Rattle.c_stored.proofs.stored_words.Statement.{statement}
 use Rattle.c_stored.proofs.stored_words.Tie as tie
@@ -23,15 +23,15 @@ answer-of-requires-2 : tie.Need-answer-of-requires-2
 answer-of-requires-2 c κs = search rules
 
 returns : tie.Need-returns
-unfolding storedWords
+unfolding stored_words
 returns c = rw (c.before.before.a.given.1, c.answer-of.ensures)
 
 returns-2 : tie.Need-returns-2
-unfolding storedWords
+unfolding stored_words
 returns-2 c = rw (c.before.before.a2.given.1, c.fault-answer.ensures)
 
 returns-3 : tie.Need-returns-3
-unfolding storedWords
+unfolding stored_words
 returns-3 c = rw (c.before.enum_told.given.1, c.answer-of2.ensures)
 
 pub stored-words-spec : {M : Type 1} → statement M

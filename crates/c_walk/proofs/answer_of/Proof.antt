@@ -1,6 +1,6 @@
 -- 23, or the answer of a call. Assumes nothing.
 use mathlib.Core.Path.{sym, ap, ◌∙◌}
-use Rattle.c_walk.specs.Walk.{walkAnswer}
+use Rattle.c_walk.specs.Walk.{walk_answer}
 use borrow.Author.Rules.{rules}
 use Rattle.c_walk.proofs.answer_of.Statement.{statement}
 use Rattle.c_walk.proofs.answer_of.Tie as tie
@@ -15,12 +15,12 @@ answer-of-requires : tie.Need-answer-of-requires
 answer-of-requires c κs = search rules
 
 returns : tie.Need-returns
-unfolding walkAnswer
+unfolding walk_answer
 returns c = rw c.enum_told.given.1
 
 returns-2 : tie.Need-returns-2
-unfolding walkAnswer
-returns-2 c = c.answer-of.ensures ∙ ap walkAnswer (sym c.before.before.a.given.1)
+unfolding walk_answer
+returns-2 c = c.answer-of.ensures ∙ ap walk_answer (sym c.before.before.a.given.1)
 
 pub answer-of-spec : {M : Type 1} → statement M
 answer-of-spec = tie.close (tie.spec enum_told enum-known-a answer-of-requires returns returns-2)

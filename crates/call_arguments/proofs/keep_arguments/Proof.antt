@@ -10,7 +10,7 @@ use Rattle.sig_items.proofs.Laws.{later-later}
 use Rattle.sig_items.proofs.Loop.{item-answered, fault-answered}
 use Rattle.sig_signatures.proofs.Loop.{turn-full, turn-no}
 use Rattle.plan_places.specs.Step.{placed}
-use Rattle.plan_plans.specs.Plan.{refusedPlan, measureOf}
+use Rattle.plan_plans.specs.Plan.{refused_plan, measure_of}
 use Rattle.plan_plans.proofs.Fold.{reached-roomy}
 use Rattle.plan_plans.proofs.Measures.{measure-no, measure-trailing, measure-end, unclear-no, unclear-trailing, unclear-end}
 use Rattle.call_kept.proofs.Codes.{sized-codable}
@@ -121,7 +121,7 @@ returns-2 : tie.Need-returns-2 invariant-loop decreases-loop
 returns-2 c =
     let refused-by = turn-no _ _ _ _ _ _ _ _ c.before.before.before.before.before.before.before.before.loop.invariant.sizes.so_far.turn c.before.before.before.before.before.before.before.loop-test.true c.before.before.before.before.before.before.if1.false _ c.before.before.before.before.before.read-item.ensures _ c.before.before.before.fault.given.1 in (
       (
-        c.none-kept2.ensures.0 ∙ ap (λ (f : Fault). measureOf (refusedPlan f)) (c.before.later-by.ensures ∙ later-later _ _ _) ∙ measure-no _ _ _ _ _ _ _ refused-by,
+        c.none-kept2.ensures.0 ∙ ap (λ (f : Fault). measure_of (refused_plan f)) (c.before.later-by.ensures ∙ later-later _ _ _) ∙ measure-no _ _ _ _ _ _ _ refused-by,
         c.none-kept2.ensures.1 ∙ unclear-no _ _ _ _ _ c.before.before.before.before.before.before.before.before.before.before.before.before.before.args.earlier _ refused-by,
       ),
       kept-no _ _ _ _ _ _ _ refused-by _ _,

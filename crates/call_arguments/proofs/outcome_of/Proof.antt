@@ -4,13 +4,13 @@ use native.Mathlib.Omega.{arith}
 use mathlib.Core.Path.{ap, ◌∙◌}
 use Rattle.sig_items.specs.declared.Fault.{Fault}
 use Rattle.sig_signatures.specs.declared.Outcome.{Outcome}
-use Rattle.call_arguments.specs.Helpers.{outcomeBy}
+use Rattle.call_arguments.specs.Helpers.{outcome_by}
 use Rattle.call_arguments.proofs.Kept.{unclear-by}
 use Rattle.call_arguments.proofs.outcome_of.Statement.{statement}
 use Rattle.call_arguments.proofs.outcome_of.Tie as tie
 
 returns : tie.Need-returns
-unfolding outcomeBy
+unfolding outcome_by
 returns c = rw c.if1.true
 
 sub-unclear-fault : tie.Need-overflow-sub-unclear-fault

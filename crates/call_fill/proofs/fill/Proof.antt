@@ -5,7 +5,7 @@ use mathlib.Core.Path.{refl, sym, ◌∙◌}
 use Rattle.sig_signatures.proofs.Laws.{signature-refused}
 use Rattle.sig_signatures.proofs.Sound.{head-bounded}
 use Rattle.call_arguments.proofs.Kept.{none_left}
-use Rattle.call_fill.specs.Fill.{fillBuffers}
+use Rattle.call_fill.specs.Fill.{fill_buffers}
 use Rattle.call_fill.proofs.Accepted.{answer-unread}
 use Rattle.call_fill.proofs.fill.Statement.{statement}
 use Rattle.call_fill.proofs.fill.Tie as tie
@@ -62,7 +62,7 @@ fill-part-requires-2 : tie.Need-fill-part-requires-2
 fill-part-requires-2 c κs = (sym c.before.before.before.before.before.before.before.before.before.read_head.ensures ∙ c.before.before.before.before.before.before.before.convention.given.1, λ i few within. omega arith)
 
 returns-3 : tie.Need-returns-3
-unfolding fillBuffers
+unfolding fill_buffers
 returns-3 c = (answer-unread _ _ _ _ _ (signature-refused _ _ c.before.before.before.read_head.ensures _ c.before.fault.given.1), refl)
 
 same-length-7 : tie.Need-same-length-7

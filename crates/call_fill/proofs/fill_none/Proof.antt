@@ -7,13 +7,13 @@ use Prim.Native.Nat.{ℕ}
 use Rattle.sig_signatures.specs.declared.Outcome.{Outcome}
 use Rattle.plan_plans.specs.declared.Measured.{Measured}
 use Rattle.call_slots.specs.Buffers.{put_all}
-use Rattle.call_slots.specs.Placements.{slotsOfAll}
+use Rattle.call_slots.specs.Placements.{slots_of_all}
 use Rattle.call_slots.proofs.Refusals.{not-refused}
 use Rattle.call_arguments.specs.Helpers.{KeptWhere}
 use Rattle.call_arguments.proofs.Kept.{none-arguments, headed}
 use Rattle.base_conventions.specs.Numbers.{word_bytes}
-use Rattle.call_fill.specs.Fill.{fillBuffers}
-use Rattle.call_fill.specs.Helpers.{addressPlaces}
+use Rattle.call_fill.specs.Fill.{fill_buffers}
+use Rattle.call_fill.specs.Helpers.{address_places}
 use Rattle.call_fill.proofs.Accepted.{tests-lent, all-ready, all-sizes, answer-refused, answer-tested, slots-are, hidden-length, buffers-kept, buffers-done}
 use Rattle.call_fill.proofs.fill_none.Statement.{statement}
 use Rattle.call_fill.proofs.fill_none.Tie as tie
@@ -57,14 +57,14 @@ put-hidden-requires c κs =
     lent.image
 
 returns-2 : tie.Need-returns-2
-unfolding fillBuffers
+unfolding fill_buffers
 returns-2 c = (answer-refused c.before.before.before.before.before.before.before.before.before.args.sig.now _ c.before.before.before.before.before.before.before.before.before.args.base c.before.before.before.before.before.before.before.before.before.args.address _ _ c.before.before.before.measure-none.ensures c.before.outcome.given.1, refl)
 
 same_length : tie.Need-same-length
 same_length c = search rules
 
 returns-3 : tie.Need-returns-3
-unfolding put_all slotsOfAll
+unfolding put_all slots_of_all
 returns-3 c =
     let s : List ℕ = c.before.before.before.before.before.before.before.before.before.before.before.before.before.before.before.before.before.args.sig.now in
     let sizes = c.before.before.before.before.before.before.before.before.before.before.before.measure-none.ensures in
@@ -74,7 +74,7 @@ returns-3 c =
     let done = not-refused _ (sym c.before.before.before.before.before.is-refused.ensures ∙ c.before.before.before.before.if1.false) in
     let slots = slots-are s _ _ _ head c.before.before.before.before.before.before.before.before.before.before.before.before.before.before.before.before.before.args.values.now c.before.before.before.before.before.before.before.before.before.before.before.before.before.before.before.before.before.args.base c.before.before.before.before.before.before.before.before.before.before.before.before.before.before.before.before.before.args.address _ [] c.before.before.before.before.before.before.before.before.hidden-in.ensures (sym (none-arguments s _ _ _ _ _ c.before.before.before.before.before.before.before.before.before.before.before.before.before.before.before.before.before.requires.1)) in (
       sym done ∙ answer,
-      buffers-done s c.before.before.before.before.before.before.before.before.before.before.before.before.before.before.before.before.before.args.values.now c.before.before.before.before.before.before.before.before.before.before.before.before.before.before.before.before.before.args.image.now c.before.before.before.before.before.before.before.before.before.before.before.before.before.before.before.before.before.args.area.now c.before.before.before.before.before.before.before.before.before.before.before.before.before.before.before.before.before.args.copies.now _ c.before.before.before.before.before.before.before.before.before.before.before.before.before.before.before.before.before.args.base c.before.before.before.before.before.before.before.before.before.before.before.before.before.before.before.before.before.args.address (word_bytes c.before.before.before.before.before.before.before.before.before.before.before.before.before.before.before.before.before.args.convention) (addressPlaces c.before.before.before.before.before.before.before.before.before.before.before.before.before.before.before.before.before.args.convention c.before.before.before.before.before.before.before.before.hidden-in.result) [] _ slots c.before.before.put-hidden.ensures refl,
+      buffers-done s c.before.before.before.before.before.before.before.before.before.before.before.before.before.before.before.before.before.args.values.now c.before.before.before.before.before.before.before.before.before.before.before.before.before.before.before.before.before.args.image.now c.before.before.before.before.before.before.before.before.before.before.before.before.before.before.before.before.before.args.area.now c.before.before.before.before.before.before.before.before.before.before.before.before.before.before.before.before.before.args.copies.now _ c.before.before.before.before.before.before.before.before.before.before.before.before.before.before.before.before.before.args.base c.before.before.before.before.before.before.before.before.before.before.before.before.before.before.before.before.before.args.address (word_bytes c.before.before.before.before.before.before.before.before.before.before.before.before.before.before.before.before.before.args.convention) (address_places c.before.before.before.before.before.before.before.before.before.before.before.before.before.before.before.before.before.args.convention c.before.before.before.before.before.before.before.before.hidden-in.result) [] _ slots c.before.before.put-hidden.ensures refl,
     )
 
 pub fill-none-spec : {M : Type 1} → statement M

@@ -8,7 +8,7 @@ use native.Mathlib.Nat.{add-sub_cancel_left}
 use lib.ListN.{length, drop, take, length-drop}
 use lib.Seq.{length-take-le}
 use Rattle.call_slots.specs.Buffers.{buffers}
-use Rattle.call_kept.specs.Helpers.{keptAll}
+use Rattle.call_kept.specs.Helpers.{kept_all}
 use Rattle.call_kept.proofs.Rows.{kept-placed, kept-end}
 use Rattle.call_marshal.specs.Helpers.{CanPut}
 use Rattle.call_fill.proofs.Turns.{Going, going_start, at-hand, going_more, going_end}
@@ -17,7 +17,7 @@ use Rattle.call_fill.proofs.put_arguments.Tie as tie
 
 abbrev invariant-loop : tie.invariant-loop
 invariant-loop image₀ area₀ copies₀ rules convention count kept values base v₀ i₀ image area copies v i =
-    Going rules base (CanPut rules base (length image₀) (length area₀) (length copies₀)) (keptAll convention kept count) values (buffers image₀ area₀ copies₀) (buffers image area copies) v i
+    Going rules base (CanPut rules base (length image₀) (length area₀) (length copies₀)) (kept_all convention kept count) values (buffers image₀ area₀ copies₀) (buffers image area copies) v i
 
 abbrev decreases-loop : tie.decreases-loop
 decreases-loop image₀ area₀ copies₀ rules convention count kept values base v₀ i₀ image area copies v i = count - i

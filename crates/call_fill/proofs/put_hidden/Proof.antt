@@ -7,15 +7,15 @@ use native.Mathlib.Omega.{arith}
 use lib.ListN.{length}
 use borrow.Rule.Slice.PartMut.{put_mid}
 use Rattle.base_words.specs.Splice.{splice}
-use Rattle.base_words.specs.Numbers.{bytes_of, zeroExtended}
+use Rattle.base_words.specs.Numbers.{bytes_of, zero_extended}
 use Rattle.base_words.proofs.Splices.{lent-tail}
 use Rattle.base_conventions.specs.Numbers.{word_bytes}
 use Rattle.base_conventions.proofs.Laws.{word-bounds}
 use Rattle.plan_places.specs.declared.Cursor.{Cursor}
-use Rattle.plan_places.specs.Step.{rulesOf, freshCursor}
+use Rattle.plan_places.specs.Step.{rules_of, fresh_cursor}
 use Rattle.call_slots.specs.Buffers.{buffers, put, put_all}
-use Rattle.call_slots.specs.Placements.{hiddenSlots}
-use Rattle.call_fill.specs.Helpers.{addressPlaces}
+use Rattle.call_slots.specs.Placements.{hidden_slots}
+use Rattle.call_fill.specs.Helpers.{address_places}
 use Rattle.call_fill.proofs.Accepted.{address_word, hidden-put, register-low}
 use borrow.Author.Rules.{rules}
 use Rattle.call_fill.proofs.put_hidden.Statement.{statement}
@@ -52,13 +52,13 @@ returns c =
     let at : ℕ = 8 * c.before.before.before.before.before.before.cursor-of.result.general in
     ap (λ (i : List ℕ). buffers i [] []) (ap (put_mid at (length l - at) l) c.before.before.put-number.ensures ∙ lent-tail l at (bytes_of 8 c.before.before.before.zero-extend.result))
     ∙ rw (c.before.before.before.zero-extend.ensures, c.before.before.before.before.before.before.cursor-of.ensures, c.before.before.before.before.before.word_Bytes.ensures) (hidden-put args.c l args.address)
-    ∙ sym (ap (λ (b : Bool). put_all (hiddenSlots (word_bytes args.c) (addressPlaces args.c b) args.address) (buffers l [] [])) c.before.before.before.before.before.before.before.if1.true)
+    ∙ sym (ap (λ (b : Bool). put_all (hidden_slots (word_bytes args.c) (address_places args.c b) args.address) (buffers l [] [])) c.before.before.before.before.before.before.before.if1.true)
 
 returns-2 : tie.Need-returns-2
 unfolding put_all
 returns-2 c =
     let args = c.before.before.args in
-    sym (ap (λ (b : Bool). put_all (hiddenSlots (word_bytes args.c) (addressPlaces args.c b) args.address) (buffers args.image.now [] [])) c.if1.false)
+    sym (ap (λ (b : Bool). put_all (hidden_slots (word_bytes args.c) (address_places args.c b) args.address) (buffers args.image.now [] [])) c.if1.false)
 
 same_length : tie.Need-same-length
 same_length c = search rules

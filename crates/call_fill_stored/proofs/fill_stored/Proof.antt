@@ -1,5 +1,5 @@
 -- By cases on what the check says.
-use Rattle.call_fill_stored.specs.FillStored.{storedFillAnswer, storedFillBuffers}
+use Rattle.call_fill_stored.specs.FillStored.{stored_fill_answer, stored_fill_buffers}
 use Rattle.call_fill_stored.specs.declared.StoredFill.{StoredFill}
 use mathlib.Core.Path.{sym, ap, ◌∙◌}
 use borrow.Author.Rules.{rules}
@@ -22,11 +22,11 @@ fill-requires : tie.Need-fill-requires
 fill-requires c κs = search rules
 
 returns : tie.Need-returns
-unfolding storedFillAnswer storedFillBuffers
+unfolding stored_fill_answer stored_fill_buffers
 returns c = let q = sym c.before.before.before.check-plan.ensures ∙ c.before.place.given.1 in (rw q, rw q)
 
 returns-2 : tie.Need-returns-2
-unfolding storedFillAnswer storedFillBuffers
+unfolding stored_fill_answer stored_fill_buffers
 returns-2 c = let q = sym c.before.before.before.check-plan.ensures ∙ c.before.fault.given.1 in (rw q, rw q)
 
 same_length : tie.Need-same-length
@@ -39,7 +39,7 @@ same-length-3 : tie.Need-same-length-3
 same-length-3 c = search rules
 
 returns-3 : tie.Need-returns-3
-unfolding storedFillAnswer storedFillBuffers
+unfolding stored_fill_answer stored_fill_buffers
 returns-3 c =
     let q = sym c.before.before.before.before.before.before.before.before.before.before.before.before.check-plan.ensures ∙ c.before.before.before.before.before.before.before.before.before.before.enum_told.given.1 in
     let e = c.before.before.before.before.before.before.fill.ensures in

@@ -7,7 +7,7 @@ use Rattle.sig_signatures.proofs.Types.{answer-plannable}
 use Rattle.call_slots.specs.declared.CallAnswer.{CallAnswer}
 use Rattle.call_slots.proofs.Answered.{plan-same}
 use Rattle.call_slots.proofs.Refusals.{not-refused}
-use Rattle.call_home.specs.Home.{homeArea}
+use Rattle.call_home.specs.Home.{home_area}
 use Rattle.call_home.specs.Helpers.{AllRegistered}
 use Rattle.call_home.proofs.Registers.{tests-marked, home-passed, all-registered, home-refused, home-lengths, home-registers, area-kept, area-homed}
 use borrow.Author.Rules.{rules}
@@ -77,7 +77,7 @@ put-homes-requires : tie.Need-put-homes-requires
 put-homes-requires c κs = passed c.before.before.before.before
 
 returns-3 : tie.Need-returns-3
-unfolding homeArea
+unfolding home_area
 returns-3 c =
     let start = c.before.before.before.before.before.before.before.before.before in
     (home-refused start.args.sig.now start.args.image.now _ _ (sym c.before.before.before.call-outcome.ensures ∙ c.before.outcome.given.1), refl)

@@ -1,5 +1,5 @@
 -- The loop puts one argument a turn; those that are left give what all give (`Homing`).
-use Rattle.call_home_slot.specs.Homes.{homedBytes}
+use Rattle.call_home_slot.specs.Homes.{homed_bytes}
 use Rattle.call_home_slot.specs.Helpers.{Registered}
 use Rattle.call_home_slot.proofs.Forms.{registered-at}
 use Rattle.call_home_slot.proofs.Marked.{bytes-marked, registered-marked}
@@ -12,28 +12,28 @@ use lib.ListN.{length, drop}
 use borrow.Rule.Slice.PartMut.{put_mid}
 use Rattle.base_words.specs.Splice.{overlay, splice, part}
 use Rattle.base_words.proofs.Splices.{lent-tail, length_part}
-use Rattle.plan_places.specs.Step.{rulesOf}
+use Rattle.plan_places.specs.Step.{rules_of}
 use Rattle.call_slots.specs.Placements.{Placement}
-use Rattle.call_slots.specs.Arguments.{placementsIn, rulesIn}
-use Rattle.call_slots.proofs.Turns.{argumentAt, next-argument, no-argument}
+use Rattle.call_slots.specs.Arguments.{placements_in, rules_in}
+use Rattle.call_slots.proofs.Turns.{argument_at, next-argument, no-argument}
 use Rattle.call_home.proofs.Registers.{Homing, homing-start, homing-ready, homing-more, homing-end}
 use Rattle.call_home.proofs.put_homes.Statement.{statement}
 use Rattle.call_home.proofs.put_homes.Tie as tie
 
 abbrev invariant-loop : tie.invariant-loop
-invariant-loop area₀ image g p convention count i₀ area i = Homing p.area (length image) (rulesIn g) (placementsIn g p) image area₀ area i
+invariant-loop area₀ image g p convention count i₀ area i = Homing p.area (length image) (rules_in g) (placements_in g p) image area₀ area i
 
 abbrev decreases-loop : tie.decreases-loop
 decreases-loop area₀ image g p convention count i₀ area i = count - i
 
 -- the argument at hand
 abbrev hand : (c : tie.After-s invariant-loop decreases-loop) → Placement
-hand c = argumentAt c.before.before.before.before.before.before.args.t3 c.before.before.before.before.before.before.args.t4 c.before.before.before.loop.i
+hand c = argument_at c.before.before.before.before.before.before.args.t3 c.before.before.before.before.before.before.args.t4 c.before.before.before.loop.i
 
-next : (c : tie.After-s invariant-loop decreases-loop) → drop c.before.before.before.loop.i (placementsIn c.before.before.before.before.before.before.args.t3 c.before.before.before.before.before.before.args.t4) ≡ hand c ∷ drop (suc c.before.before.before.loop.i) (placementsIn c.before.before.before.before.before.before.args.t3 c.before.before.before.before.before.before.args.t4)
+next : (c : tie.After-s invariant-loop decreases-loop) → drop c.before.before.before.loop.i (placements_in c.before.before.before.before.before.before.args.t3 c.before.before.before.before.before.before.args.t4) ≡ hand c ∷ drop (suc c.before.before.before.loop.i) (placements_in c.before.before.before.before.before.before.args.t3 c.before.before.before.before.before.before.args.t4)
 next c = next-argument c.before.before.before.before.before.before.args.t3 c.before.before.before.before.before.before.args.t4 c.before.before.before.loop.i c.before.before.loop-test.true c.before.before.before.before.before.before.requires.0.tables.types c.before.before.before.before.before.before.requires.0.tables.spans
 
-ready : (c : tie.After-s invariant-loop decreases-loop) → Registered (rulesIn c.before.before.before.before.before.before.args.t3) c.before.before.before.before.before.before.args.t4.area (length c.before.before.before.before.before.before.args.image.now) (hand c)
+ready : (c : tie.After-s invariant-loop decreases-loop) → Registered (rules_in c.before.before.before.before.before.before.args.t3) c.before.before.before.before.before.before.args.t4.area (length c.before.before.before.before.before.before.args.image.now) (hand c)
 ready c = homing-ready _ _ _ _ _ _ _ _ (hand c) (next c) c.before.before.before.loop.invariant
 
 within : (c : tie.After-s invariant-loop decreases-loop) → (hand c).span.home.start ≤ length c.before.before.before.loop.area
@@ -74,7 +74,7 @@ put-home-requires c κs =
     let size : length (part start (length l - start) l) ≡ length l - start = length_part start (length l - start) l (omega (arith, within h)) in
     let g = h.before.before.before.before.before.before.args.t3 in
     registered-at _ _ _ _ _ (omega (arith, size, within h, h.before.before.before.before.before.before.requires.1, h.before.before.before.loop.invariant.same))
-    (registered-marked g.ellipsis (rulesOf g.convention) _ _ _ (ready h))
+    (registered-marked g.ellipsis (rules_of g.convention) _ _ _ (ready h))
 
 add-i : tie.Need-overflow-add-i invariant-loop decreases-loop
 add-i c = omega (arith, c.before.before.before.before.before.before.before.before.before.before.before.before.requires.0.tables.few, c.before.before.before.before.before.before.before.before.loop-test.true)
@@ -89,8 +89,8 @@ loop-again c =
     let image : List ℕ = h.before.before.before.before.before.before.args.image.now in
     let start : ℕ = (hand h).span.home.start in
     let g = h.before.before.before.before.before.before.args.t3 in
-    let x : List ℕ = homedBytes (rulesIn g) (hand h) image in
-    let put = c.before.before.put-home.ensures ∙ ap (overlay _) (sym (bytes-marked g.ellipsis (rulesOf g.convention) (hand h) image)) in
+    let x : List ℕ = homed_bytes (rules_in g) (hand h) image in
+    let put = c.before.before.put-home.ensures ∙ ap (overlay _) (sym (bytes-marked g.ellipsis (rules_of g.convention) (hand h) image)) in
     let e : put_mid start (length l - start) l c.before.before.put-home.new.0 ≡ splice l start x = ap (put_mid start (length l - start) l) put ∙ lent-tail l start x in
     rw e (homing-more _ _ _ _ _ _ _ _ (hand h) (next h) h.before.before.before.loop.invariant)
 

@@ -8,7 +8,7 @@ use lib.ListN.{length, take, drop, replicate, length-take}
 use Rattle.base_words.specs.Splice.{overlay, part}
 use Rattle.base_words.specs.Numbers.{bytes_of, value_of}
 use Rattle.sig_types.specs.declared.Equivalent.{Equivalent}
-use Rattle.call_home_slot.specs.Helpers.{homeWord, floatHome, HomeSized}
+use Rattle.call_home_slot.specs.Helpers.{home_word, float_home, HomeSized}
 use borrow.Author.Rules.{rules}
 use Rattle.call_home_slot.proofs.home_float.Statement.{statement}
 use Rattle.call_home_slot.proofs.home_float.Tie as tie
@@ -74,7 +74,7 @@ returns c =
     let a = c.before.before.before.before.before.before.before.before.before.args in
     c.before.before.put-padded.ensures
     ∙ ap (λ (k : ℕ). overlay a.place.now (take k (drop a.at a.image.now) ++ replicate (a.room - a.n) 0)) (add-sub_cancel_left a.at a.n)
-    ∙ ap (λ (e : Equivalent). overlay a.place.now (floatHome a.room a.n e (part a.at a.n a.image.now))) (sym c.before.before.before.before.before.enum_told.given.1)
+    ∙ ap (λ (e : Equivalent). overlay a.place.now (float_home a.room a.n e (part a.at a.n a.image.now))) (sym c.before.before.before.before.before.enum_told.given.1)
 
 same-length-2 : tie.Need-same-length-2
 same-length-2 c = search rules
@@ -83,7 +83,7 @@ returns-2 : tie.Need-returns-2
 returns-2 c =
     let a = c.before.before.before.before.before.before.before.before.before.before.args in
     let n : a.n ≡ 8 = sized c.before.before.before.before.before.before.before.before.before.before _ c.before.before.before.before.before.before.enum-told2.given.1 in
-    let x = ap (homeWord a.e) (c.before.before.before.before.load.ensures ∙ ap (λ (m : ℕ). value_of (part a.at m a.image.now)) (sym n)) in
+    let x = ap (home_word a.e) (c.before.before.before.before.load.ensures ∙ ap (λ (m : ℕ). value_of (part a.at m a.image.now)) (sym n)) in
     c.before.before.put-number.ensures ∙ ap (λ (w : ℕ). overlay a.place.now (bytes_of a.room w)) (c.before.before.before.memory_word.ensures ∙ x) ∙ rw c.before.before.before.before.before.before.enum-told2.given.1
 
 same-length-3 : tie.Need-same-length-3
@@ -93,7 +93,7 @@ returns-3 : tie.Need-returns-3
 returns-3 c =
     let a = c.before.before.before.before.before.before.before.before.before.before.args in
     let n : a.n ≡ 8 = sized c.before.before.before.before.before.before.before.before.before.before _ c.before.before.before.before.before.before.enum-told3.given.1 in
-    let x = ap (homeWord a.e) (c.before.before.before.before.load2.ensures ∙ ap (λ (m : ℕ). value_of (part a.at m a.image.now)) (sym n)) in
+    let x = ap (home_word a.e) (c.before.before.before.before.load2.ensures ∙ ap (λ (m : ℕ). value_of (part a.at m a.image.now)) (sym n)) in
     c.before.before.put-number2.ensures ∙ ap (λ (w : ℕ). overlay a.place.now (bytes_of a.room w)) (c.before.before.before.memory-word2.ensures ∙ x) ∙ rw c.before.before.before.before.before.before.enum-told3.given.1
 
 pub home-float-spec : {M : Type 1} → statement M

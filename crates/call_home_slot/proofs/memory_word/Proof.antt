@@ -1,6 +1,6 @@
 -- By the float, and what narrowing finds.
 use mathlib.Core.Path.{sym, ap, ◌∙◌}
-use Rattle.call_home_slot.specs.Helpers.{narrowedWord}
+use Rattle.call_home_slot.specs.Helpers.{narrowed_word}
 use borrow.Author.Rules.{rules}
 use Rattle.call_home_slot.proofs.memory_word.Statement.{statement}
 use Rattle.call_home_slot.proofs.memory_word.Tie as tie
@@ -30,10 +30,10 @@ returns : tie.Need-returns
 returns c = search rules
 
 returns-2 : tie.Need-returns-2
-returns-2 c = ap narrowedWord (sym c.before.bits.given.1 ∙ c.before.before.before.narrow.ensures) ∙ rw c.before.before.before.before.enum-told2.given.1
+returns-2 c = ap narrowed_word (sym c.before.bits.given.1 ∙ c.before.before.before.narrow.ensures) ∙ rw c.before.before.before.before.enum-told2.given.1
 
 returns-3 : tie.Need-returns-3
-returns-3 c = ap narrowedWord (sym c.enum-told3.given.1 ∙ c.before.before.narrow.ensures) ∙ rw c.before.before.before.enum-told2.given.1
+returns-3 c = ap narrowed_word (sym c.enum-told3.given.1 ∙ c.before.before.narrow.ensures) ∙ rw c.before.before.before.enum-told2.given.1
 
 returns-4 : tie.Need-returns-4
 returns-4 c = search rules

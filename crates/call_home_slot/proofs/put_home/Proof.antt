@@ -11,18 +11,18 @@ use Rattle.base_words.specs.Numbers.{value_of}
 use Rattle.base_words.proofs.Splices.{length_part}
 use Rattle.base_words.proofs.Numbers.{value-below, bytes-part}
 use Rattle.sig_types.specs.declared.Equivalent.{Equivalent}
-use Rattle.plan_places.specs.Step.{rulesOf, wordOf}
+use Rattle.plan_places.specs.Step.{rules_of, word_of}
 use Rattle.plan_places.proofs.Bounds.{rules-word}
 use Rattle.call_registers.specs.Registers.{gather}
 use Rattle.call_registers.proofs.Registers.{length-gather}
 use Rattle.call_home_slot.proofs.Forms.{homed-float, float-sized, homed-general, float-room, general-room}
-use Rattle.call_home_slot.specs.Helpers.{floatHome}
+use Rattle.call_home_slot.specs.Helpers.{float_home}
 use borrow.Author.Rules.{rules}
 use Rattle.call_home_slot.proofs.put_home.Statement.{statement}
 use Rattle.call_home_slot.proofs.put_home.Tie as tie
 
 -- the bytes of a word
-word : (c : tie.After-take-registers-arg) → c.before.before.before.word_Bytes.result ≡ wordOf (rulesOf c.before.before.before.before.before.before.before.before.before.before.before.args.c)
+word : (c : tie.After-take-registers-arg) → c.before.before.before.word_Bytes.result ≡ word_of (rules_of c.before.before.before.before.before.before.before.before.before.before.before.args.c)
 word c = c.before.before.before.word_Bytes.ensures ∙ sym (rules-word c.before.before.before.before.before.before.before.before.before.before.before.args.c)
 
 cast-at : tie.Need-overflow-cast-at
@@ -67,7 +67,7 @@ returns c =
     let low : value_of bs < 2 ^ (8 * length bs) = value-below bs (bytes-part at (8 * k) image (λ i. (c.before.before.before.before.before.before.before.before.before.before.before.before.before.shared-slice-known.given i).fits)) in
     let one : k ≡ 1 → value_of bs < 2 ^ 64 = λ e. subst (λ (n : ℕ). value_of bs < 2 ^ (8 * n)) (size ∙ ap (λ (m : ℕ). 8 * m) e) low in
     c.before.before.home-float.ensures
-    ∙ ap (λ (e : Equivalent). overlay start.args.place.now (floatHome s.home.length (8 * k) e bs)) c.before.before.before.equivalent-of.ensures
+    ∙ ap (λ (e : Equivalent). overlay start.args.place.now (float_home s.home.length (8 * k) e bs)) c.before.before.before.equivalent-of.ensures
     ∙ ap (overlay start.args.place.now) (sym (homed-float _ _ _ _ image start.requires c.before.before.before.before.before.before.before.before.if1.true one))
 
 word-bytes-requires : tie.Need-word-bytes-requires
@@ -96,7 +96,7 @@ returns-2 c =
     let start = c.before.before.before.before.before.before.before.before.before.before.before.before.before.before in
     let s = start.args.s in
     let k : ℕ = s.general.count in
-    let w : ℕ = wordOf (rulesOf start.args.c) in
+    let w : ℕ = word_of (rules_of start.args.c) in
     let h = start.requires in
     let bs : List ℕ = part (8 * s.general.first) (8 * k) start.args.image.now in
     let size : length bs ≡ 8 * k = length_part (8 * s.general.first) (8 * k) start.args.image.now (omega (arith, h.registers.general, h.registers.image)) in

@@ -1,10 +1,10 @@
 -- Only FPRs are tested, and of these only a single's.
 use mathlib.Core.Path.{◌∙◌}
 use Prim.Native.Nat.{◌+◌, ◌*◌}
-use Rattle.sig_types.specs.Sizes.{equivalentOf}
+use Rattle.sig_types.specs.Sizes.{equivalent_of}
 use Rattle.call_slots.proofs.Limits.{answer-first}
 use borrow.Author.Tests.{lt-ltb, le-ltb}
-use Rattle.call_home_slot.specs.Homes.{registerAnswer}
+use Rattle.call_home_slot.specs.Homes.{register_answer}
 use borrow.Author.Rules.{rules}
 use Rattle.call_home_slot.proofs.register_answer.Statement.{statement}
 use Rattle.call_home_slot.proofs.register_answer.Tie as tie
@@ -28,7 +28,7 @@ float-answer-requires : tie.Need-float-answer-requires
 float-answer-requires c κs = search rules
 
 returns : tie.Need-returns
-unfolding registerAnswer
+unfolding register_answer
 returns c =
     let start = c.before.before.before.before.before.before.before.before in
     let s = start.args.s in
@@ -37,10 +37,10 @@ returns c =
     simp (lt-ltb _ _ some)
     (c.float-answer.ensures
     ∙ rw (c.before.equivalent-of.ensures, c.before.before.load.ensures)
-    (answer-first start.args.r (equivalentOf start.args.t) s.floating.count sized.0 (256 + 8 * s.floating.first) start.args.image.now sized.1))
+    (answer-first start.args.r (equivalent_of start.args.t) s.floating.count sized.0 (256 + 8 * s.floating.first) start.args.image.now sized.1))
 
 returns-2 : tie.Need-returns-2
-unfolding registerAnswer
+unfolding register_answer
 returns-2 c = simp (le-ltb _ _ c.if1.false)
 
 pub register-answer-spec : {M : Type 1} → statement M

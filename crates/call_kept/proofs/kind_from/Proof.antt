@@ -1,43 +1,43 @@
 -- Each number by the equations of the match.
 use Rattle.call_kept.proofs.kind_from.Statement.{statement}
 use borrow.Author.Tests.{ne_eqb}
-use Rattle.call_kept.specs.Helpers.{kindFrom}
+use Rattle.call_kept.specs.Helpers.{kind_from}
 use Rattle.call_kept.proofs.kind_from.Tie as tie
 
 returns : tie.Need-returns
-unfolding kindFrom
+unfolding kind_from
 returns c = rw c.match.keys1
 
 returns-2 : tie.Need-returns-2
-unfolding kindFrom
+unfolding kind_from
 returns-2 c = rw c.match.keys2
 
 returns-3 : tie.Need-returns-3
-unfolding kindFrom
+unfolding kind_from
 returns-3 c = rw c.match.keys3
 
 returns-4 : tie.Need-returns-4
-unfolding kindFrom
+unfolding kind_from
 returns-4 c = rw c.match.keys4
 
 returns-5 : tie.Need-returns-5
-unfolding kindFrom
+unfolding kind_from
 returns-5 c = rw c.match.keys5
 
 returns-6 : tie.Need-returns-6
-unfolding kindFrom
+unfolding kind_from
 returns-6 c = rw c.match.keys6
 
 returns-7 : tie.Need-returns-7
-unfolding kindFrom
+unfolding kind_from
 returns-7 c = rw c.match.keys7
 
 returns-8 : tie.Need-returns-8
-unfolding kindFrom
+unfolding kind_from
 returns-8 c = rw c.match.keys8
 
 returns-9 : tie.Need-returns-9
-unfolding kindFrom
+unfolding kind_from
 returns-9 c = simp (ne_eqb _ _ c.match.rest.1, ne_eqb _ _ c.match.rest.0.1, ne_eqb _ _ c.match.rest.0.0.1, ne_eqb _ _ c.match.rest.0.0.0.1, ne_eqb _ _ c.match.rest.0.0.0.0.1, ne_eqb _ _ c.match.rest.0.0.0.0.0.1, ne_eqb _ _ c.match.rest.0.0.0.0.0.0.1, ne_eqb _ _ c.match.rest.0.0.0.0.0.0.0.1)
 
 pub kind-from-spec : {M : Type 1} → statement M

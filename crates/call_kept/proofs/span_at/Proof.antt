@@ -1,7 +1,7 @@
 -- Word by word.
 use borrow.Author.Rules.{rules}
 use Rattle.call_kept.proofs.span_at.Statement.{statement}
-use Rattle.call_kept.specs.Helpers.{spanFrom}
+use Rattle.call_kept.specs.Helpers.{span_from}
 use Rattle.call_kept.proofs.span_at.Tie as tie
 
 mul_at : tie.Need-overflow-mul-at
@@ -98,7 +98,7 @@ shared-slice-read-t35 : tie.Need-shared-slice-read-t35
 shared-slice-read-t35 c = search rules
 
 returns : tie.Need-returns
-unfolding spanFrom
+unfolding span_from
 returns c =
     rw (c.before.before.before.before.before.before.before.before.before.before.range-from.ensures, c.before.before.before.before.before.before.before.before.range-from2.ensures, c.before.before.before.before.before.before.flag-from.ensures)
 

@@ -7,7 +7,7 @@ use lib.ListN.{length}
 use borrow.Rule.Slice.PartMut.{put_mid}
 use Rattle.base_words.specs.Numbers.{bytes_of}
 use Rattle.base_words.proofs.Splices.{lent-tail, length-splice}
-use Rattle.plan_places.specs.Step.{wordOf}
+use Rattle.plan_places.specs.Step.{word_of}
 use Rattle.call_slots.specs.Placements.{Placement, placement}
 use Rattle.call_marshal.proofs.Arguments.{pointer-alone, argument-direct, argument-words, stands-address, copy-put}
 use Rattle.call_marshal.proofs.Pieces.{number-plain}
@@ -65,10 +65,10 @@ returns c =
     let s = c.before.before.before.before.before.before.before.before.before.before.before.before.before.before.before.before.before.before.args.s in
     let pre = c.before.before.before.before.before.before.before.before.before.before.before.before.before.before.before.before.before.before.requires in
     let none = (pointer-alone c.before.before.before.before.before.before.before.before.before.before.before.before.before.before.before.before.before.before.args.r c.before.before.before.before.before.before.before.before.before.before.before.before.before.before.before.before.before.before.args.base (argument c.before.before.before.before.before.before.before.before.before.before.before.before.before.before.before.before.before.before) c.before.before.before.before.before.before.before.before.before.before.before.before.before.before.before.before.before.before.args.v.now c.before.before.before.before.before.before.before.before.before.before.before.before.before.before.before.before.before.before.args.image.now c.before.before.before.before.before.before.before.before.before.before.before.before.before.before.before.before.before.before.args.area.now c.before.before.before.before.before.before.before.before.before.before.before.before.before.before.before.before.before.before.args.copies.now c.before.before.before.before.before.before.before.before.before.before.before.before.before.before.before.before.before.before.requires.registers.held c.before.before.before.before.before.before.before.before.before.before.before.before.if1.true) in
-    let put = number-plain _ _ _ _ _ _ _ (wordOf c.before.before.before.before.before.before.before.before.before.before.before.before.before.before.before.before.before.before.args.r) _ _ (pre.registers.held.address c.before.before.before.before.before.before.before.before.before.before.before.before.if1.true).0 (one_address c.before.before.before.before.before.before.before.before.before.before.before.before.before.before.before.before.before.before.args.r (argument c.before.before.before.before.before.before.before.before.before.before.before.before.before.before.before.before.before.before) pre.registers.held none c.before.before.before.before.before.before.before.before.before.before.before.before.if1.true) c.before.before.before.before.put_word.ensures in
+    let put = number-plain _ _ _ _ _ _ _ (word_of c.before.before.before.before.before.before.before.before.before.before.before.before.before.before.before.before.before.before.args.r) _ _ (pre.registers.held.address c.before.before.before.before.before.before.before.before.before.before.before.before.if1.true).0 (one_address c.before.before.before.before.before.before.before.before.before.before.before.before.before.before.before.before.before.before.args.r (argument c.before.before.before.before.before.before.before.before.before.before.before.before.before.before.before.before.before.before) pre.registers.held none c.before.before.before.before.before.before.before.before.before.before.before.before.if1.true) c.before.before.before.before.put_word.ensures in
     let copied = ap (put_mid at (length l - at) l) c.before.before.before.before.before.before.before.before.before.put.ensures ∙ lent-tail l at v in
     argument-words c.before.before.before.before.before.before.before.before.before.before.before.before.before.before.before.before.before.before.args.r c.before.before.before.before.before.before.before.before.before.before.before.before.before.before.before.before.before.before.args.base (argument c.before.before.before.before.before.before.before.before.before.before.before.before.before.before.before.before.before.before) v c.before.before.before.before.before.before.before.before.before.before.before.before.before.before.before.before.before.before.args.image.now c.before.before.before.before.before.before.before.before.before.before.before.before.before.before.before.before.before.before.args.area.now l pre.registers.held
-    (bytes_of (wordOf c.before.before.before.before.before.before.before.before.before.before.before.before.before.before.before.before.before.before.args.r * s.general.count + s.memory.length) (c.before.before.before.before.before.before.before.before.before.before.before.before.before.before.before.before.before.before.args.base + at)) _ _ _ none
+    (bytes_of (word_of c.before.before.before.before.before.before.before.before.before.before.before.before.before.before.before.before.before.before.args.r * s.general.count + s.memory.length) (c.before.before.before.before.before.before.before.before.before.before.before.before.before.before.before.before.before.before.args.base + at)) _ _ _ none
     (stands-address c.before.before.before.before.before.before.before.before.before.before.before.before.before.before.before.before.before.before.args.r c.before.before.before.before.before.before.before.before.before.before.before.before.before.before.before.before.before.before.args.base (argument c.before.before.before.before.before.before.before.before.before.before.before.before.before.before.before.before.before.before) v pre.registers.held none c.before.before.before.before.before.before.before.before.before.before.before.before.if1.true)
     put.0 put.1
     (copied ∙ sym (copy-put (argument c.before.before.before.before.before.before.before.before.before.before.before.before.before.before.before.before.before.before) v l c.before.before.before.before.before.before.before.before.before.before.before.before.if1.true))
@@ -80,7 +80,7 @@ put-value-requires : tie.Need-put-value-requires
 put-value-requires c κs =
     let pre = c.before.before.before.before.before.before.before.before.before.before.before.before.requires in
     let l : List ℕ = c.before.before.before.before.before.before.before.before.before.before.before.before.args.image.now in
-    let least : 1 ≤ wordOf c.before.before.before.before.before.before.before.before.before.before.before.before.args.r = omega (arith, pre.registers.held.word) in
+    let least : 1 ≤ word_of c.before.before.before.before.before.before.before.before.before.before.before.before.args.r = omega (arith, pre.registers.held.word) in
     let long = ap length c.before.before.before.before.put-fprs.ensures ∙ length-splice l _ _ in
     ((least, pre.registers.held.word.1, pre.registers.general, long ∙ pre.registers.image, pre.memory, pre.registers.held.stored), pre.registers.held, c.before.before.before.before.before.before.if1.false)
 

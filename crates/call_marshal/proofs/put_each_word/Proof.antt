@@ -8,7 +8,7 @@ use borrow.Rule.Slice.PartMut.{put_mid}
 use Rattle.base_words.specs.Splice.{splice}
 use Rattle.base_words.specs.Numbers.{bytes_of}
 use Rattle.base_words.proofs.Splices.{lent-tail}
-use Rattle.base_words.proofs.Numbers.{bytesOf-last}
+use Rattle.base_words.proofs.Numbers.{bytes_of-last}
 use Rattle.call_registers.specs.Registers.{spread}
 use borrow.Author.Rules.{rules}
 use Rattle.call_marshal.proofs.put_each_word.Statement.{statement}
@@ -78,7 +78,7 @@ returns c =
     let at : ℕ = 8 * s.general.first in (
       ap (put_mid at (length l - at) l) c.before.before.before.before.before.before.put-number-registers.ensures ∙ lent-tail l at (spread w k (bytes_of (w * k + m) x)),
       ap (put_mid s.memory.start (length a - s.memory.start) a) c.before.before.put-number.ensures ∙ lent-tail a s.memory.start (bytes_of m x)
-          ∙ ap (splice a s.memory.start) (sym (bytesOf-last (w * k) m x)),
+          ∙ ap (splice a s.memory.start) (sym (bytes_of-last (w * k) m x)),
     )
 
 pub put-each-word-spec : {M : Type 1} → statement M

@@ -8,7 +8,7 @@ use Rattle.base_words.specs.Splice.{overlay, part}
 use Rattle.base_words.specs.Numbers.{bytes_of, value_of}
 use Rattle.base_words.proofs.Numbers.{value-below}
 use Rattle.sig_types.specs.declared.Equivalent.{Equivalent}
-use Rattle.call_slots.specs.Forms.{singleWord}
+use Rattle.call_slots.specs.Forms.{single_word}
 use Rattle.call_marshal.specs.Helpers.{FprsTake}
 use borrow.Author.Rules.{rules}
 use Rattle.call_marshal.proofs.put_float.Statement.{statement}
@@ -65,7 +65,7 @@ returns-3 c =
     let room = subst (λ (e : Equivalent). FprsTake e (length v) (length l)) c.before.before.before.before.before.before.enum-told3.given.1 c.before.before.before.before.before.before.before.before.before.before.requires in
     let all : part 0 4 v ≡ v = take_all 4 v (omega arith) in
     c.before.before.put-number.ensures
-    ∙ ap (λ x. overlay l (bytes_of 8 x)) (c.before.before.before.single-word.ensures ∙ ap (singleWord c.before.before.before.before.before.before.before.before.before.before.args.r) (c.before.before.before.before.load.ensures ∙ ap value_of all))
+    ∙ ap (λ x. overlay l (bytes_of 8 x)) (c.before.before.before.single-word.ensures ∙ ap (single_word c.before.before.before.before.before.before.before.before.before.before.args.r) (c.before.before.before.before.load.ensures ∙ ap value_of all))
     ∙ rw c.before.before.before.before.before.before.enum-told3.given.1
 
 pub put-float-spec : {M : Type 1} → statement M

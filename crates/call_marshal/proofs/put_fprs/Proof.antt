@@ -8,8 +8,8 @@ use borrow.Rule.Slice.PartMut.{put_mid}
 use Rattle.base_words.specs.Splice.{splice}
 use Rattle.base_words.proofs.Splices.{lent-tail}
 use Rattle.sig_types.specs.declared.Equivalent.{Equivalent}
-use Rattle.sig_types.specs.Sizes.{equivalentOf}
-use Rattle.call_slots.specs.Forms.{floatForm}
+use Rattle.sig_types.specs.Sizes.{equivalent_of}
+use Rattle.call_slots.specs.Forms.{float_form}
 use Rattle.call_slots.specs.Placements.{placement}
 use Rattle.call_marshal.specs.Helpers.{FprsTake}
 use Rattle.call_marshal.proofs.Arguments.{float-room, fprs-some, fprs-none}
@@ -45,7 +45,7 @@ put-float-requires c κs =
     let pre = c.before.before.before.before.before.before.before.before.requires in
     let room : 8 * c.before.before.before.before.before.before.before.before.args.s.floating.count ≤ length (take (length l - at) (drop at l)) = omega (arith, pre.floating, pre.image, length-take (length l - at) (drop at l), length-drop at l) in
     subst (λ (e : Equivalent). FprsTake e (length c.before.before.before.before.before.before.before.before.args.v.now) (length (take (length l - at) (drop at l)))) (sym c.equivalent-of.ensures)
-    (float-room (equivalentOf c.before.before.before.before.before.before.before.before.args.t) c.before.before.before.before.before.before.before.before.args.s.floating.count (length c.before.before.before.before.before.before.before.before.args.v.now) _ (pre.held.float c.before.before.before.if1.true) room)
+    (float-room (equivalent_of c.before.before.before.before.before.before.before.before.args.t) c.before.before.before.before.before.before.before.before.args.s.floating.count (length c.before.before.before.before.before.before.before.before.args.v.now) _ (pre.held.float c.before.before.before.if1.true) room)
 
 same_length : tie.Need-same-length
 same_length c = search rules
@@ -56,7 +56,7 @@ returns c =
     let v : List ℕ = c.before.before.before.before.before.before.before.before.before.before.before.args.v.now in
     let at : ℕ = 256 + 8 * c.before.before.before.before.before.before.before.before.before.before.before.args.s.floating.first in
     let whole = fprs-some c.before.before.before.before.before.before.before.before.before.before.before.args.r 0 (placement c.before.before.before.before.before.before.before.before.before.before.before.args.t (length v) c.before.before.before.before.before.before.before.before.before.before.before.args.s) v l l l c.before.before.before.before.before.before.before.before.before.before.before.requires.held c.before.before.before.before.before.before.if1.true refl in
-    ap (put_mid at (length l - at) l) c.before.before.put-float.ensures ∙ lent-tail l at _ ∙ ap (λ (e : Equivalent). splice l at (floatForm c.before.before.before.before.before.before.before.before.before.before.before.args.r e v)) c.before.before.before.equivalent-of.ensures ∙ ap (splice l at) whole
+    ap (put_mid at (length l - at) l) c.before.before.put-float.ensures ∙ lent-tail l at _ ∙ ap (λ (e : Equivalent). splice l at (float_form c.before.before.before.before.before.before.before.before.before.before.before.args.r e v)) c.before.before.before.equivalent-of.ensures ∙ ap (splice l at) whole
 
 returns-2 : tie.Need-returns-2
 returns-2 c =

@@ -8,10 +8,10 @@ use lib.Dec.{eqb}
 use lib.ListN.{length}
 use Rattle.base_words.specs.Splice.{splice, part}
 use Rattle.base_words.specs.Numbers.{bytes_of}
-use Rattle.plan_places.specs.Step.{wordOf}
+use Rattle.plan_places.specs.Step.{word_of}
 use Rattle.call_registers.specs.Registers.{spread}
 use Rattle.call_slots.specs.Placements.{placement}
-use Rattle.call_slots.specs.Forms.{roomOf, startsAtHead}
+use Rattle.call_slots.specs.Forms.{room_of, starts_at_head}
 use Rattle.call_marshal.proofs.Arguments.{home-head, home-end, number_fits, words-none, words-some}
 use borrow.Author.Rules.{rules}
 use Rattle.call_marshal.proofs.put_value.Statement.{statement}
@@ -19,11 +19,11 @@ use Rattle.call_marshal.proofs.put_value.Tie as tie
 
 -- where there are words, they have room for the whole value
 some : (c : tie.Start) → eqb (c.args.s.general.count + c.args.s.memory.length) 0 ≡ false
-    → 0 < wordOf c.args.r * c.args.s.general.count + c.args.s.memory.length
-some c e = words-some (wordOf c.args.r) c.args.s.general.count c.args.s.memory.length c.requires.0.0 e
+    → 0 < word_of c.args.r * c.args.s.general.count + c.args.s.memory.length
+some c e = words-some (word_of c.args.r) c.args.s.general.count c.args.s.memory.length c.requires.0.0 e
 
 all : (c : tie.Start) → eqb (c.args.s.general.count + c.args.s.memory.length) 0 ≡ false
-    → wordOf c.args.r * c.args.s.general.count + c.args.s.memory.length ≡ roomOf c.args.r (length c.args.v.now)
+    → word_of c.args.r * c.args.s.general.count + c.args.s.memory.length ≡ room_of c.args.r (length c.args.v.now)
 all c e = c.requires.1.also (some c e)
 
 no-words-requires : tie.Need-no-words-requires
@@ -33,7 +33,7 @@ returns : tie.Need-returns
 returns c =
     let start = c.before.before.before.before.before in
     let s = start.args.s in
-    words-none start.args.image.now start.args.area.now _ (8 * s.general.first) s.memory.start (wordOf start.args.r) s.general.count s.memory.length
+    words-none start.args.image.now start.args.area.now _ (8 * s.general.first) s.memory.start (word_of start.args.r) s.general.count s.memory.length
     (sym c.before.no_words.ensures ∙ c.if1.true)
 
 word-of-requires : tie.Need-word-of-requires
@@ -60,7 +60,7 @@ returns-2 c =
     let start = c.before.before.before.before.before.before.before.before.before.before.before.before.before.before.before in
     let v : List ℕ = start.args.v.now in
     let s = start.args.s in
-    let w : ℕ = wordOf start.args.r in
+    let w : ℕ = word_of start.args.r in
     let room = all start (sym c.before.before.before.before.before.before.before.before.before.before.before.no_words.ensures ∙ c.before.before.before.before.before.before.before.before.before.before.if1.false) in
     let same = home-head start.args.r start.args.t v _ (sym c.before.before.before.before.before.before.before.before.starts-at-head.ensures ∙ c.before.before.before.before.before.before.before.if2.true) room in
     let put = rw c.before.before.before.before.before.before.before.before.before.word_of.ensures at c.before.before.before.before.put-bytes.ensures in (
@@ -90,7 +90,7 @@ returns-3 c =
     let start = c.before.before.before.before.before.before.before.before.before.before.before.before.before.before.before.before in
     let v : List ℕ = start.args.v.now in
     let s = start.args.s in
-    let w : ℕ = wordOf start.args.r in
+    let w : ℕ = word_of start.args.r in
     let room = all start (sym c.before.before.before.before.before.before.before.before.before.before.before.before.no_words.ensures ∙ c.before.before.before.before.before.before.before.before.before.before.before.if1.false) in
     let same = ap (bytes_of (w * s.general.count + s.memory.length)) c.before.before.before.before.before.value-word.ensures ∙ home-end start.args.r start.args.t v _ (sym c.before.before.before.before.before.before.before.before.before.starts-at-head.ensures ∙ c.before.before.before.before.before.before.before.before.if2.false) room in
     let put = rw c.before.before.before.before.before.before.before.before.before.before.word_of.ensures at c.before.before.before.before.put-words.ensures in (

@@ -5,11 +5,11 @@ use Prim.Native.Nat.{ℕ, ◌+◌, ◌*◌, ◌≤◌, ◌<◌}
 use native.Mathlib.Omega.{arith}
 use borrow.Author.Tests.{le-ltb}
 use Rattle.base_words.specs.Numbers.{value_of}
-use Rattle.sig_types.specs.Sizes.{equivalentOf}
+use Rattle.sig_types.specs.Sizes.{equivalent_of}
 use Rattle.call_slots.specs.Buffers.{Buffers, buffers, bytes_at}
-use Rattle.call_slots.specs.Placements.{Placement, placement, wordsAt, fprBytesAt}
-use Rattle.call_slots.specs.Refusals.{floatAnswer}
-use Rattle.call_read.specs.Read.{ownHeld, agrees, agreeAnswer, argumentAnswer}
+use Rattle.call_slots.specs.Placements.{Placement, placement, words_at, fpr_bytes_at}
+use Rattle.call_slots.specs.Refusals.{float_answer}
+use Rattle.call_read.specs.Read.{own_held, agrees, agree_answer, argument_answer}
 use Rattle.call_slots.proofs.Limits.{answer-first, one_address}
 use Rattle.call_slots.proofs.Refusals.{not-refused}
 use Rattle.call_read.proofs.Arguments.{argument-float, argument-unwidened, argument-compared}
@@ -24,14 +24,14 @@ abbrev lent : (c : tie.Start) → Buffers
 lent c = buffers c.args.image.now c.args.area.now c.args.copies.now
 
 -- 14
-asked : (c : tie.After-float-answer) → c.float-answer.result ≡ floatAnswer c.before.before.before.before.before.before.before.before.before.before.before.args.r (equivalentOf c.before.before.before.before.before.before.before.before.before.before.before.args.t) (value_of (fprBytesAt c.before.before.before.before.before.before.before.before.before.before.before.args.s (lent c.before.before.before.before.before.before.before.before.before.before.before)))
+asked : (c : tie.After-float-answer) → c.float-answer.result ≡ float_answer c.before.before.before.before.before.before.before.before.before.before.before.args.r (equivalent_of c.before.before.before.before.before.before.before.before.before.before.before.args.t) (value_of (fpr_bytes_at c.before.before.before.before.before.before.before.before.before.before.before.args.s (lent c.before.before.before.before.before.before.before.before.before.before.before)))
 unfolding bytes_at
 asked c =
     let start = c.before.before.before.before.before.before.before.before.before.before.before in
     let s = start.args.s in
     c.float-answer.ensures
     ∙ rw (c.before.equivalent-of.ensures, c.before.before.load.ensures)
-    (answer-first start.args.r (equivalentOf start.args.t) s.floating.count start.args.n (256 + 8 * s.floating.first) start.args.image.now (start.requires.registers.held.float c.before.before.before.before.if1.true))
+    (answer-first start.args.r (equivalent_of start.args.t) s.floating.count start.args.n (256 + 8 * s.floating.first) start.args.image.now (start.requires.registers.held.float c.before.before.before.before.if1.true))
 
 cast-load : tie.Need-overflow-cast-load
 cast-load c = search rules
@@ -81,11 +81,11 @@ agree-answer-requires : tie.Need-agree-answer-requires
 agree-answer-requires c κs = search rules
 
 returns-3 : tie.Need-returns-3
-unfolding agrees ownHeld bytes_at
+unfolding agrees own_held bytes_at
 returns-3 c =
     let start = c.before.before.before.before.before.before.before.before.before.before.before.before.before.before.before.before.before in
     argument-compared start.args.r start.args.base (argument start) (lent start) c.before.before.before.before.before.before.before.before.before.before.if1.true _ (asked c.before.before.before.before.before.before) _ (sym c.before.before.before.is-refused.ensures ∙ c.before.before.if3.false)
-    (c.agree-answer.ensures ∙ ap agreeAnswer c.before.floats-agree.ensures)
+    (c.agree-answer.ensures ∙ ap agree_answer c.before.floats-agree.ensures)
 
 word-at-requires : tie.Need-word-at-requires
 word-at-requires c κs =
@@ -100,11 +100,11 @@ copy-answer-requires : tie.Need-copy-answer-requires
 copy-answer-requires c κs = search rules
 
 returns-4 : tie.Need-returns-4
-unfolding argumentAnswer wordsAt bytes_at
+unfolding argument_answer words_at bytes_at
 returns-4 c = simp (le-ltb _ _ c.before.before.before.before.if1.false) (rw c.before.before.before.if4.true (c.copy-answer.ensures ∙ rw (c.before.in-copies.ensures, c.before.before.word_at.ensures, (c.before.before.before.before.before.before.before.before.before.before.before.requires.registers.held.address c.before.before.before.if4.true).0)))
 
 returns-5 : tie.Need-returns-5
-unfolding argumentAnswer
+unfolding argument_answer
 returns-5 c = simp (le-ltb _ _ c.before.if1.false, c.if4.false)
 
 pub argument-answer-spec : {M : Type 1} → statement M

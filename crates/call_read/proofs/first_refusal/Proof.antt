@@ -11,10 +11,10 @@ use Rattle.call_slots.specs.declared.CallAnswer.{CallAnswer}
 use Rattle.call_slots.specs.Buffers.{Buffers, buffers}
 use Rattle.call_slots.specs.Placements.{Placement, placement}
 use Rattle.call_slots.proofs.Turns.{Checking, checking-start, checking-ready, checking-refused, checking-more, checking-end}
-use Rattle.call_kept.specs.Helpers.{kept_at, keptAll}
+use Rattle.call_kept.specs.Helpers.{kept_at, kept_all}
 use Rattle.call_kept.proofs.Rows.{kept-hand, kept-end}
 use Rattle.call_unmarshal.specs.Helpers.{InBuffers}
-use Rattle.call_read.specs.Read.{argumentAnswer, argumentsAnswer}
+use Rattle.call_read.specs.Read.{argument_answer, arguments_answer}
 use Rattle.call_read.specs.Helpers.{asks}
 use Rattle.call_read.proofs.Arguments.{nothing-asked}
 use Rattle.call_read.proofs.first_refusal.Statement.{statement}
@@ -22,7 +22,7 @@ use Rattle.call_read.proofs.first_refusal.Tie as tie
 
 abbrev invariant-loop : tie.invariant-loop
 invariant-loop image area copies rules convention count kept base i₀ i =
-    Checking (λ (q : Placement). argumentAnswer rules base q (buffers image area copies)) (InBuffers rules (length image) (length area)) (keptAll convention kept count) i
+    Checking (λ (q : Placement). argument_answer rules base q (buffers image area copies)) (InBuffers rules (length image) (length area)) (kept_all convention kept count) i
 
 abbrev decreases-loop : tie.decreases-loop
 decreases-loop image area copies rules convention count kept base i₀ i = count - i
@@ -31,7 +31,7 @@ abbrev lent : (c : tie.Start invariant-loop decreases-loop) → Buffers
 lent c = buffers c.args.image.now c.args.area.now c.args.copies.now
 
 abbrev all : (c : tie.Start invariant-loop decreases-loop) → List Placement
-all c = keptAll c.args.convention c.args.kept.now c.args.count
+all c = kept_all c.args.convention c.args.kept.now c.args.count
 
 -- the argument at hand
 abbrev hand : (c : tie.In-loop invariant-loop decreases-loop) → Placement
@@ -45,11 +45,11 @@ unfolding kept_at
 ready c = rw (c.type_size.ensures, c.before.type_at.ensures, c.before.before.before.before.span-at.ensures) (checking-ready _ _ _ _ (hand c.before.before.before.before.before) (next c.before.before.before.before.before) c.before.before.before.before.before.before.loop.invariant)
 
 -- what is found of it
-asked : (c : tie.After-argument-answer invariant-loop decreases-loop) → c.argument-answer.result ≡ argumentAnswer c.before.before.before.before.before.before.before.before.before.before.before.before.args.rules c.before.before.before.before.before.before.before.before.before.before.before.before.args.base (hand c.before.before.before.before.before.before) (lent c.before.before.before.before.before.before.before.before.before.before.before.before)
+asked : (c : tie.After-argument-answer invariant-loop decreases-loop) → c.argument-answer.result ≡ argument_answer c.before.before.before.before.before.before.before.before.before.before.before.before.args.rules c.before.before.before.before.before.before.before.before.before.before.before.before.args.base (hand c.before.before.before.before.before.before) (lent c.before.before.before.before.before.before.before.before.before.before.before.before)
 unfolding kept_at
 asked c = c.argument-answer.ensures ∙ rw (c.before.type_size.ensures, c.before.before.type_at.ensures, c.before.before.before.before.before.span-at.ensures)
 
-unasked : (c : tie.After-asks invariant-loop decreases-loop) → c.asks.result ≡ false → CallAnswer.Done ≡ argumentAnswer c.before.before.before.before.before.before.before.before.args.rules c.before.before.before.before.before.before.before.before.args.base (hand c.before.before) (lent c.before.before.before.before.before.before.before.before)
+unasked : (c : tie.After-asks invariant-loop decreases-loop) → c.asks.result ≡ false → CallAnswer.Done ≡ argument_answer c.before.before.before.before.before.before.before.before.args.rules c.before.before.before.before.before.before.before.before.args.base (hand c.before.before) (lent c.before.before.before.before.before.before.before.before)
 unfolding kept_at
 unasked c e = nothing-asked c.before.before.before.before.before.before.before.before.args.rules c.before.before.before.before.before.before.before.before.args.base (hand c.before.before) (lent c.before.before.before.before.before.before.before.before) (ap asks (sym c.before.span-at.ensures) ∙ sym c.asks.ensures ∙ e)
 
@@ -75,7 +75,7 @@ is-refused-requires : tie.Need-is-refused-requires invariant-loop decreases-loop
 is-refused-requires c κs = search rules
 
 returns : tie.Need-returns invariant-loop decreases-loop
-unfolding argumentsAnswer
+unfolding arguments_answer
 returns c =
     let turn = c.before.before.before.before.before.before.before.before in
     checking-refused _ _ _ _ (hand turn) (next turn) turn.before.loop.invariant _ (asked c.before.before) (sym c.before.is-refused.ensures ∙ c.if2.true)
@@ -97,7 +97,7 @@ loop-again c =
     c.if1.branch
 
 returns-2 : tie.Need-returns-2 invariant-loop decreases-loop
-unfolding argumentsAnswer
+unfolding arguments_answer
 returns-2 c =
     let start = c.before.before.before.before.before.before in
     checking-end _ _ _ _ (kept-end start.args.convention start.args.kept.now c.before.loop.i start.args.count (omega (arith, c.loop-test.false))) c.before.loop.invariant

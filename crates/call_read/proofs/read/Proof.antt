@@ -6,7 +6,7 @@ use Rattle.sig_signatures.proofs.Laws.{signature-refused}
 use Rattle.sig_signatures.proofs.Sound.{head-bounded}
 use Rattle.call_slots.specs.Buffers.{Buffers, buffers}
 use Rattle.call_arguments.proofs.Kept.{none_left, none-arguments}
-use Rattle.call_read.specs.Read.{readValues}
+use Rattle.call_read.specs.Read.{read_values}
 use Rattle.call_read.proofs.Accepted.{answer-unread, answer-none, values-none}
 use Rattle.call_read.proofs.read.Statement.{statement}
 use Rattle.call_read.proofs.read.Tie as tie
@@ -58,7 +58,7 @@ read-part-requires-2 : tie.Need-read-part-requires-2
 read-part-requires-2 c κs = (sym c.before.before.before.before.before.before.before.read_head.ensures ∙ c.before.before.before.before.before.convention.given.1, λ i few within. omega arith)
 
 returns-3 : tie.Need-returns-3
-unfolding readValues
+unfolding read_values
 returns-3 c = (answer-unread _ _ _ _ _ (signature-refused _ _ c.before.before.before.read_head.ensures _ c.before.fault.given.1), refl)
 
 same-length-3 : tie.Need-same-length-3

@@ -5,11 +5,11 @@ use Rattle.sig_signatures.specs.declared.Outcome.{Outcome}
 use Rattle.plan_plans.specs.declared.Measured.{Measured}
 use Rattle.call_slots.specs.declared.CallAnswer.{CallAnswer}
 use Rattle.call_slots.specs.Buffers.{Buffers, buffers}
-use Rattle.call_slots.specs.Arguments.{sizesFor, planFor, rulesFor}
+use Rattle.call_slots.specs.Arguments.{sizes_for, plan_for, rules_for}
 use Rattle.call_slots.proofs.Refusals.{not-refused}
 use Rattle.call_arguments.specs.Helpers.{KeptOf, KeptWhere}
 use Rattle.call_arguments.proofs.Kept.{headed}
-use Rattle.call_read.specs.Read.{read_lengths, readValues}
+use Rattle.call_read.specs.Read.{read_lengths, read_values}
 use Rattle.call_read.proofs.Arguments.{all-readable}
 use Rattle.call_read.proofs.Accepted.{Lent, tests-lent, all-ready, all-sizes, answer-refused, answer-lengths, answer-arguments, values-kept, values-taken}
 use Rattle.call_read.proofs.read_part.Statement.{statement}
@@ -22,7 +22,7 @@ keep-call-requires : tie.Need-keep-call-requires
 keep-call-requires c κs = search rules
 
 -- what is measured are the sizes of the plan
-sizes : (c : tie.After-keep-call) → c.keep-call.result.sizes ≡ sizesFor c.before.before.before.before.before.before.before.before.args.sig.now
+sizes : (c : tie.After-keep-call) → c.keep-call.result.sizes ≡ sizes_for c.before.before.before.before.before.before.before.before.args.sig.now
 sizes c = c.keep-call.ensures.0
 
 -- where the call is accepted, its arguments are kept, and its rules are known
@@ -31,14 +31,14 @@ rows c =
     let read = c.before.before.before.before.before.keep-call in
     subst (λ (o : Outcome). KeptWhere o c.before.before.before.before.before.before.before.before.before.before.before.before.before.args.sig.now c.before.before.before.before.before.before.before.before.before.before.before.before.before.args.convention read.new.1.1.1.1.1.1.1.0 read.result.count) c.enum_told.given.1 read.ensures.1
 
-rules : (c : tie.After-rules-in) → c.rules-in.result ≡ rulesFor c.before.before.before.before.before.before.before.before.before.before.before.before.before.before.before.before.before.args.sig.now
+rules : (c : tie.After-rules-in) → c.rules-in.result ≡ rules_for c.before.before.before.before.before.before.before.before.before.before.before.before.before.before.before.before.before.args.sig.now
 rules c =
     let start = c.before.before.before.before.before.before.before.before.before.before.before.before.before.before.before.before.before in
     c.rules-in.ensures
     ∙ (headed start.args.sig.now _ _ _ _ _ _ start.requires.0 _ (sym (ap (λ (m : Measured). m.outcome) (sizes c.before.before.before.before.before.before.before.before.before)) ∙ c.before.before.before.before.enum_told.given.1)).rules
 
 -- where no length is refused
-passed : (c : tie.Else1) → Lent (read_lengths c.before.before.before.before.before.before.before.before.before.before.before.before.before.before.before.before.args.values.now c.before.before.before.before.before.before.before.before.before.before.before.before.before.before.before.before.args.image.now c.before.before.before.before.before.before.before.before.before.before.before.before.before.before.before.before.args.area.now) (planFor c.before.before.before.before.before.before.before.before.before.before.before.before.before.before.before.before.args.sig.now)
+passed : (c : tie.Else1) → Lent (read_lengths c.before.before.before.before.before.before.before.before.before.before.before.before.before.before.before.before.args.values.now c.before.before.before.before.before.before.before.before.before.before.before.before.before.before.before.before.args.image.now c.before.before.before.before.before.before.before.before.before.before.before.before.before.before.before.before.args.area.now) (plan_for c.before.before.before.before.before.before.before.before.before.before.before.before.before.before.before.before.args.sig.now)
 passed c = tests-lent c.before.before.before.before.before.before.before.before.before.before.before.before.before.before.before.before.args.sig.now _ _ (sizes c.before.before.before.before.before.before.before.before) (sym c.before.before.tested.ensures ∙ not-refused _ (sym c.before.is-refused.ensures ∙ c.if1.false))
 
 enum-known-outcome : tie.Need-enum-known-outcome
@@ -97,7 +97,7 @@ same-length-3 : tie.Need-same-length-3
 same-length-3 c = search rules
 
 returns-3 : tie.Need-returns-3
-unfolding readValues
+unfolding read_values
 returns-3 c = (answer-refused c.before.before.before.before.before.before.before.before.before.before.before.before.before.before.args.sig.now _ c.before.before.before.before.before.before.before.before.before.before.before.before.before.before.args.base _ _ (sizes c.before.before.before.before.before.before) _ c.before.outcome.given.1, refl)
 
 same-length-4 : tie.Need-same-length-4

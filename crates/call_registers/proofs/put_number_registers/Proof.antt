@@ -6,7 +6,7 @@ use native.Mathlib.Omega.{arith}
 use lib.ListN.{length}
 use borrow.Rule.Slice.PartMut.{put_mid}
 use Rattle.base_words.specs.Splice.{splice}
-use Rattle.base_words.specs.Numbers.{bytes_of, zeroExtended}
+use Rattle.base_words.specs.Numbers.{bytes_of, zero_extended}
 use Rattle.base_words.proofs.Splices.{lent-tail, length_part}
 use Rattle.call_registers.proofs.Putting.{NumberPut, number-start, number-room, number_more, number-end}
 use borrow.Author.Rules.{rules}
@@ -68,7 +68,7 @@ loop-again c =
     let i : ℕ = at.loop.i in
     let z = c.before.before.before.zero-extend in
     let more = number_more _ _ _ _ _ start.requires.1 start.requires.2 _ _ _ at.loop.invariant c.before.before.before.before.before.loop-test.true in
-    let put : put_mid (8 * i) (length l - 8 * i) l c.before.before.put-number.new.0 ≡ splice l (8 * i) (bytes_of 8 (zeroExtended start.args.word (start.args.x / 2 ^ (8 * (at.loop.rest - start.args.word))))) =
+    let put : put_mid (8 * i) (length l - 8 * i) l c.before.before.put-number.new.0 ≡ splice l (8 * i) (bytes_of 8 (zero_extended start.args.word (start.args.x / 2 ^ (8 * (at.loop.rest - start.args.word))))) =
     ap (put_mid (8 * i) (length l - 8 * i) l) c.before.before.put-number.ensures ∙ lent-tail l (8 * i) (bytes_of 8 z.result)
     ∙ ap (λ (n : ℕ). splice l (8 * i) (bytes_of 8 n)) z.ensures in
     rw put more

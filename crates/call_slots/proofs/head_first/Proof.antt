@@ -1,6 +1,6 @@
 -- By cases on the type.
 use mathlib.Core.Path.{sym, ap, ◌∙◌}
-use Rattle.call_slots.specs.Forms.{headFirst}
+use Rattle.call_slots.specs.Forms.{head_first}
 use borrow.Author.Rules.{rules}
 use Rattle.call_slots.proofs.head_first.Statement.{statement}
 use Rattle.call_slots.proofs.head_first.Tie as tie
@@ -42,7 +42,7 @@ returns-4 : tie.Need-returns-4
 returns-4 c = search rules
 
 returns-5 : tie.Need-returns-5
-returns-5 c = c.struct-at-head.ensures ∙ sym (ap (headFirst _) c.before.before.before.t2.given.1)
+returns-5 c = c.struct-at-head.ensures ∙ sym (ap (head_first _) c.before.before.before.t2.given.1)
 
 pub head-first-spec : {M : Type 1} → statement M
 head-first-spec =

@@ -1,6 +1,6 @@
 -- By the convention.
 use mathlib.Core.Path.{◌∙◌}
-use Rattle.call_slots.specs.Forms.{startsAtHead}
+use Rattle.call_slots.specs.Forms.{starts_at_head}
 use borrow.Author.Rules.{rules}
 use Rattle.call_slots.proofs.starts_at_head.Statement.{statement}
 use Rattle.call_slots.proofs.starts_at_head.Tie as tie
@@ -15,11 +15,11 @@ enum_told : tie.Need-enum-told
 enum_told c = search rules
 
 returns : tie.Need-returns
-unfolding startsAtHead
+unfolding starts_at_head
 returns c = c.Head-first.ensures ∙ rw c.before.before.r.given.1
 
 returns-2 : tie.Need-returns-2
-unfolding startsAtHead
+unfolding starts_at_head
 returns-2 c = rw c.enum_told.given.1
 
 pub starts-at-head-spec : {M : Type 1} → statement M

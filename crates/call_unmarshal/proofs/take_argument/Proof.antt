@@ -7,11 +7,11 @@ use native.Mathlib.Nat.{mul-le-mul_right}
 use borrow.Author.Tests.{lt-ltb, le-ltb}
 use lib.ListN.{length}
 use Rattle.base_words.specs.Splice.{overlay, part}
-use Rattle.sig_types.specs.Sizes.{equivalentOf}
-use Rattle.plan_places.specs.Step.{wordOf}
+use Rattle.sig_types.specs.Sizes.{equivalent_of}
+use Rattle.plan_places.specs.Step.{word_of}
 use Rattle.call_slots.specs.Buffers.{Buffers, buffers, bytes_at}
-use Rattle.call_slots.specs.Forms.{floatValue}
-use Rattle.call_slots.specs.Placements.{Placement, placement, wordsAt, addressAt, wordsValue, value_at}
+use Rattle.call_slots.specs.Forms.{float_value}
+use Rattle.call_slots.specs.Placements.{Placement, placement, words_at, address_at, words_value, value_at}
 use Rattle.call_slots.proofs.Limits.{one_address}
 use Rattle.call_unmarshal.proofs.Arguments.{float-room, own-within, own_first}
 use borrow.Author.Rules.{rules}
@@ -25,17 +25,17 @@ abbrev lent : (c : tie.Start) → Buffers
 lent c = buffers c.args.image.now c.args.area.now c.args.copies.now
 
 inside : (c : tie.Start) → c.args.s.floating.count ≤ 0 → c.args.s.indirect ≡ true
-    → (c.args.base ≤ addressAt (wordOf c.args.r) c.args.s (lent c)) × (addressAt (wordOf c.args.r) c.args.s (lent c) - c.args.base + c.args.n ≤ length c.args.copies.now)
+    → (c.args.base ≤ address_at (word_of c.args.r) c.args.s (lent c)) × (address_at (word_of c.args.r) c.args.s (lent c) - c.args.base + c.args.n ≤ length c.args.copies.now)
 inside c none e = c.requires.0.inside none e
 
-address : (c : tie.After-word-at) → c.word_at.result ≡ addressAt (wordOf c.before.before.before.before.before.before.before.before.before.args.r) c.before.before.before.before.before.before.before.before.before.args.s (lent c.before.before.before.before.before.before.before.before.before)
-unfolding wordsAt bytes_at
+address : (c : tie.After-word-at) → c.word_at.result ≡ address_at (word_of c.before.before.before.before.before.before.before.before.before.args.r) c.before.before.before.before.before.before.before.before.before.args.s (lent c.before.before.before.before.before.before.before.before.before)
+unfolding words_at bytes_at
 address c =
     let start = c.before.before.before.before.before.before.before.before.before in
-    c.word_at.ensures ∙ ap (λ (w : ℕ). addressAt w start.args.s (lent start)) (sym (start.requires.0.ready.registers.held.address c.before.if2.true).0)
+    c.word_at.ensures ∙ ap (λ (w : ℕ). address_at w start.args.s (lent start)) (sym (start.requires.0.ready.registers.held.address c.before.if2.true).0)
 
 -- the bytes of a word
-least : (c : tie.Start) → 1 ≤ wordOf c.args.r
+least : (c : tie.Start) → 1 ≤ word_of c.args.r
 least c = omega (arith, c.requires.0.ready.registers.held.word)
 
 cast-at : tie.Need-overflow-cast-at
@@ -60,13 +60,13 @@ take-float-requires : tie.Need-take-float-requires
 take-float-requires c κs =
     let start = c.before.before.before.before.before.before.before.before.before.before.before in
     let ready = start.requires.0.ready in
-    (omega (arith, ready), rw c.equivalent-of.ensures (float-room (equivalentOf start.args.t) start.args.s.floating.count start.args.n (length start.args.out.now) (ready.registers.held.float c.before.before.before.before.if1.true) start.requires.1))
+    (omega (arith, ready), rw c.equivalent-of.ensures (float-room (equivalent_of start.args.t) start.args.s.floating.count start.args.n (length start.args.out.now) (ready.registers.held.float c.before.before.before.before.if1.true) start.requires.1))
 
 same_length : tie.Need-same-length
 same_length c = search rules
 
 returns : tie.Need-returns
-unfolding value_at floatValue bytes_at
+unfolding value_at float_value bytes_at
 returns c =
     let start = c.before.before.before.before.before.before.before.before.before.before.before.before.before.before in
     simp (lt-ltb 0 start.args.s.floating.count (omega (arith, c.before.before.before.before.before.before.before.if1.true))) (c.before.before.take-float.ensures ∙ rw c.before.before.before.equivalent-of.ensures)
@@ -93,7 +93,7 @@ same-length-2 : tie.Need-same-length-2
 same-length-2 c = search rules
 
 returns-2 : tie.Need-returns-2
-unfolding value_at wordsValue bytes_at
+unfolding value_at words_value bytes_at
 returns-2 c =
     let start = c.before.before.before.before.before.before.before.before.before.before.before.before.before in
     simp (le-ltb _ _ c.before.before.before.before.before.before.if1.false, c.before.before.before.before.before.if2.true)
@@ -135,7 +135,7 @@ same-length-3 : tie.Need-same-length-3
 same-length-3 c = search rules
 
 returns-3 : tie.Need-returns-3
-unfolding value_at wordsValue wordsAt bytes_at
+unfolding value_at words_value words_at bytes_at
 returns-3 c =
     let start = c.before.before.before.before.before.before.before.before.before.before.before.before.before.before.before.before.before.before in
     simp (le-ltb _ _ c.before.before.before.before.before.before.before.before.before.before.before.if1.false, c.before.before.before.before.before.before.before.before.before.before.if2.false) (rw (c.before.before.before.before.before.before.before.before.before.word_of.ensures, c.before.before.before.own-start.ensures) at c.before.before.take_words.ensures)

@@ -10,7 +10,7 @@ use Rattle.base_words.specs.Splice.{splice}
 use Rattle.base_words.proofs.Splices.{lent-tail}
 use Rattle.call_slots.specs.Buffers.{Buffers, buffers}
 use Rattle.call_slots.specs.Placements.{Placement, placement, value_at}
-use Rattle.call_kept.specs.Helpers.{keptAll}
+use Rattle.call_kept.specs.Helpers.{kept_all}
 use Rattle.call_kept.proofs.Rows.{kept-placed, kept-end}
 use Rattle.call_unmarshal.proofs.Turns.{Taking, taking-start, taking-readable, taking-within, taking-more, taking-end}
 use Rattle.call_unmarshal.proofs.take_arguments.Statement.{statement}
@@ -18,7 +18,7 @@ use Rattle.call_unmarshal.proofs.take_arguments.Tie as tie
 
 abbrev invariant-loop : tie.invariant-loop
 invariant-loop values₀ image area copies rules convention count kept base v₀ i₀ values v i =
-    Taking rules base (keptAll convention kept count) (buffers image area copies) values₀ values v i
+    Taking rules base (kept_all convention kept count) (buffers image area copies) values₀ values v i
 
 abbrev decreases-loop : tie.decreases-loop
 decreases-loop values₀ image area copies rules convention count kept base v₀ i₀ values v i = count - i
@@ -27,7 +27,7 @@ abbrev lent : (c : tie.Start invariant-loop decreases-loop) → Buffers
 lent c = buffers c.args.image.now c.args.area.now c.args.copies.now
 
 abbrev all : (c : tie.Start invariant-loop decreases-loop) → List Placement
-all c = keptAll c.args.convention c.args.kept.now c.args.count
+all c = kept_all c.args.convention c.args.kept.now c.args.count
 
 -- the argument at hand
 abbrev hand : (c : tie.After-size-of invariant-loop decreases-loop) → Placement

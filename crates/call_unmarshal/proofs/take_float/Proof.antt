@@ -8,7 +8,7 @@ use Rattle.base_words.specs.Splice.{overlay, part}
 use Rattle.base_words.specs.Numbers.{value_of}
 use Rattle.sig_types.specs.declared.Equivalent.{Equivalent}
 use Rattle.plan_places.specs.declared.CallRules.{CallRules}
-use Rattle.call_slots.specs.Forms.{floatValueAs, narrowedBytes}
+use Rattle.call_slots.specs.Forms.{float_value_as, narrowed_bytes}
 use Rattle.base_ieee.specs.Narrowing.{narrow}
 use Rattle.call_unmarshal.specs.Helpers.{FprsHold}
 use borrow.Author.Rules.{rules}
@@ -66,7 +66,7 @@ returns : tie.Need-returns
 returns c =
     let a = c.before.before.before.before.before.before.before.before.args in
     c.before.before.take_part.ensures
-    ∙ ap (λ (e : Equivalent). overlay a.out.now (floatValueAs a.r e (part a.at a.n a.image.now))) (sym c.before.before.before.before.enum_told.given.1)
+    ∙ ap (λ (e : Equivalent). overlay a.out.now (float_value_as a.r e (part a.at a.n a.image.now))) (sym c.before.before.before.before.enum_told.given.1)
 
 same-length-2 : tie.Need-same-length-2
 same-length-2 c = search rules
@@ -76,7 +76,7 @@ returns-2 c =
     let a = c.before.before.before.before.before.before.before.before.args in
     let room = subst (λ (e : Equivalent). FprsHold e a.n (length a.out.now)) c.before.before.before.before.enum-told2.given.1 c.before.before.before.before.before.before.before.before.requires.1 in
     c.before.before.take-part2.ensures ∙ ap (λ (n : ℕ). overlay a.out.now (part a.at n a.image.now)) (sym room.0)
-    ∙ ap (λ (e : Equivalent). overlay a.out.now (floatValueAs a.r e (part a.at a.n a.image.now))) (sym c.before.before.before.before.enum-told2.given.1)
+    ∙ ap (λ (e : Equivalent). overlay a.out.now (float_value_as a.r e (part a.at a.n a.image.now))) (sym c.before.before.before.before.enum-told2.given.1)
 
 same-length-3 : tie.Need-same-length-3
 same-length-3 c = search rules
@@ -85,9 +85,9 @@ returns-3 : tie.Need-returns-3
 returns-3 c =
     let a = c.before.before.before.before.before.before.before.before.before.before.before.args in
     let room = subst (λ (e : Equivalent). FprsHold e a.n (length a.out.now)) c.before.before.before.before.before.before.before.enum-told3.given.1 c.before.before.before.before.before.before.before.before.before.before.before.requires.1 in
-    c.before.before.take-narrowed.ensures ∙ ap (λ (x : ℕ). overlay a.out.now (narrowedBytes (narrow x))) (c.before.before.before.load.ensures ∙ ap (λ (n : ℕ). value_of (part a.at n a.image.now)) (sym room.0))
-    ∙ ap (λ (e : Equivalent). overlay a.out.now (floatValueAs (CallRules.Power c.before.before.before.before.before.enum-told4.given.0.0) e (part a.at a.n a.image.now))) (sym c.before.before.before.before.before.before.before.enum-told3.given.1)
-    ∙ ap (λ (r : CallRules). overlay a.out.now (floatValueAs r a.e (part a.at a.n a.image.now))) (sym c.before.before.before.before.before.enum-told4.given.1)
+    c.before.before.take-narrowed.ensures ∙ ap (λ (x : ℕ). overlay a.out.now (narrowed_bytes (narrow x))) (c.before.before.before.load.ensures ∙ ap (λ (n : ℕ). value_of (part a.at n a.image.now)) (sym room.0))
+    ∙ ap (λ (e : Equivalent). overlay a.out.now (float_value_as (CallRules.Power c.before.before.before.before.before.enum-told4.given.0.0) e (part a.at a.n a.image.now))) (sym c.before.before.before.before.before.before.before.enum-told3.given.1)
+    ∙ ap (λ (r : CallRules). overlay a.out.now (float_value_as r a.e (part a.at a.n a.image.now))) (sym c.before.before.before.before.before.enum-told4.given.1)
 
 same-length-4 : tie.Need-same-length-4
 same-length-4 c = search rules
@@ -98,8 +98,8 @@ returns-4 c =
     let room = subst (λ (e : Equivalent). FprsHold e a.n (length a.out.now)) c.before.before.before.before.before.before.enum-told3.given.1 c.before.before.before.before.before.before.before.before.before.before.requires.1 in
     c.before.before.take-part3.ensures
     ∙ ap (overlay a.out.now) (sym (take-take 4 a.n (drop a.at a.image.now) (omega (arith, room))))
-    ∙ ap (λ (e : Equivalent). overlay a.out.now (floatValueAs CallRules.Z e (part a.at a.n a.image.now))) (sym c.before.before.before.before.before.before.enum-told3.given.1)
-    ∙ ap (λ (r : CallRules). overlay a.out.now (floatValueAs r a.e (part a.at a.n a.image.now))) (sym c.before.before.before.before.enum-told5.given.1)
+    ∙ ap (λ (e : Equivalent). overlay a.out.now (float_value_as CallRules.Z e (part a.at a.n a.image.now))) (sym c.before.before.before.before.before.before.enum-told3.given.1)
+    ∙ ap (λ (r : CallRules). overlay a.out.now (float_value_as r a.e (part a.at a.n a.image.now))) (sym c.before.before.before.before.enum-told5.given.1)
 
 pub take-float-spec : {M : Type 1} → statement M
 take-float-spec =

@@ -1,7 +1,7 @@
 -- By what narrowing finds: a single's four bytes, or nothing.
 use mathlib.Core.Path.{sym, ap, ◌∙◌}
 use Rattle.base_words.specs.Splice.{overlay}
-use Rattle.call_slots.specs.Forms.{narrowedBytes}
+use Rattle.call_slots.specs.Forms.{narrowed_bytes}
 use Rattle.base_ieee.specs.declared.Narrowed.{Narrowed}
 use borrow.Author.Rules.{rules}
 use Rattle.call_unmarshal.proofs.take_narrowed.Statement.{statement}
@@ -26,11 +26,11 @@ same_length : tie.Need-same-length
 same_length c = search rules
 
 returns : tie.Need-returns
-returns c = c.before.before.put-number.ensures ∙ ap (λ (q : Narrowed). overlay c.before.before.before.before.before.before.before.before.before.args.out.now (narrowedBytes q)) (sym c.before.before.before.before.before.bits.given.1 ∙ c.before.before.before.before.before.before.before.narrow.ensures)
+returns c = c.before.before.put-number.ensures ∙ ap (λ (q : Narrowed). overlay c.before.before.before.before.before.before.before.before.before.args.out.now (narrowed_bytes q)) (sym c.before.before.before.before.before.bits.given.1 ∙ c.before.before.before.before.before.before.before.narrow.ensures)
 
 returns-2 : tie.Need-returns-2
 unfolding overlay
-returns-2 c = ap (λ (q : Narrowed). overlay c.before.before.before.before.args.out.now (narrowedBytes q)) (sym c.enum_told.given.1 ∙ c.before.before.narrow.ensures)
+returns-2 c = ap (λ (q : Narrowed). overlay c.before.before.before.before.args.out.now (narrowed_bytes q)) (sym c.enum_told.given.1 ∙ c.before.before.narrow.ensures)
 
 pub take-narrowed-spec : {M : Type 1} → statement M
 take-narrowed-spec =

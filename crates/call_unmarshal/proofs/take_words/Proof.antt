@@ -10,7 +10,7 @@ use Rattle.base_words.specs.Splice.{overlay, splice, part}
 use Rattle.base_words.proofs.Splices.{lent-tail, overlay-append, length_part}
 use Rattle.call_registers.specs.Registers.{gather}
 use Rattle.call_slots.specs.Buffers.{bytes_at}
-use Rattle.call_slots.specs.Placements.{wordsAt}
+use Rattle.call_slots.specs.Placements.{words_at}
 use Rattle.call_registers.proofs.Registers.{length-gather}
 use Rattle.call_unmarshal.proofs.Parts.{own-registers, own-memory, own-both}
 use borrow.Author.Rules.{rules}
@@ -39,7 +39,7 @@ same_length : tie.Need-same-length
 same_length c = search rules
 
 returns : tie.Need-returns
-unfolding wordsAt bytes_at
+unfolding words_at bytes_at
 returns c =
     let start = c.before.before.before.before.before.before.before.before.before.before.before.before.before in
     let s = start.args.s in
@@ -64,7 +64,7 @@ same-length-2 : tie.Need-same-length-2
 same-length-2 c = search rules
 
 returns-2 : tie.Need-returns-2
-unfolding wordsAt bytes_at
+unfolding words_at bytes_at
 returns-2 c =
     let start = c.before.before.before.before.before.before.before.before.before.before.before.before.before.before in
     let s = start.args.s in
@@ -105,7 +105,7 @@ same-length-3 : tie.Need-same-length-3
 same-length-3 c = search rules
 
 returns-3 : tie.Need-returns-3
-unfolding wordsAt bytes_at
+unfolding words_at bytes_at
 returns-3 c =
     let start = c.before.before.before.before.before.before.before.before.before.before.before.before.before.before.before.before.before.before in
     let s = start.args.s in

@@ -1,12 +1,12 @@
 -- Where nothing is refused, the argument's own bytes lie in its home, and this in the area (`Hand`).
 use mathlib.Core.Path.{◌≡◌, sym, ◌∙◌}
 use native.Mathlib.Omega.{arith}
-use Rattle.plan_places.specs.Step.{rulesOf}
+use Rattle.plan_places.specs.Step.{rules_of}
 use Rattle.sig_signatures.proofs.Types.{answer-plannable}
-use Rattle.call_slots.specs.Forms.{ownStart}
+use Rattle.call_slots.specs.Forms.{own_start}
 use Rattle.call_slots.proofs.Answered.{plan-same}
 use Rattle.call_slots.proofs.Refusals.{not-refused}
-use Rattle.call_slots.proofs.Turns.{argumentAt}
+use Rattle.call_slots.proofs.Turns.{argument_at}
 use Rattle.call_views.proofs.Viewed.{Hand, hand, answer-same, part-refused, part-shown}
 use Rattle.call_home_slot.proofs.Homed.{own-homed}
 use borrow.Author.Rules.{rules}
@@ -19,7 +19,7 @@ viewed c =
     (plan-same c.before.before.before.before.before.before.before.before.args.sig.now _ _ c.before.before.before.before.before.before.read-signature.ensures c.before.before.before.before.before.plan-signature.ensures) (rw (c.before.before.before.call-rules-of.ensures, c.before.before.before.before.call-outcome.ensures) at c.before.before.view-answer.ensures) (not-refused _ (sym c.before.is-refused.ensures ∙ c.if1.false))
 
 -- where the value's own bytes start
-own : (c : tie.After-own-start) → c.own-start.result ≡ ownStart (rulesOf c.before.before.before.before.before.before.before.before.before.before.before.before.before.read-signature.result.convention) (argumentAt c.before.before.before.before.before.before.before.before.before.before.before.before.before.read-signature.result c.before.before.before.before.before.before.before.before.before.before.before.before.plan-signature.result c.before.before.before.before.before.before.before.before.before.before.before.before.before.before.before.args.index).ty (argumentAt c.before.before.before.before.before.before.before.before.before.before.before.before.before.read-signature.result c.before.before.before.before.before.before.before.before.before.before.before.before.plan-signature.result c.before.before.before.before.before.before.before.before.before.before.before.before.before.before.before.args.index).size
+own : (c : tie.After-own-start) → c.own-start.result ≡ own_start (rules_of c.before.before.before.before.before.before.before.before.before.before.before.before.before.read-signature.result.convention) (argument_at c.before.before.before.before.before.before.before.before.before.before.before.before.before.read-signature.result c.before.before.before.before.before.before.before.before.before.before.before.before.plan-signature.result c.before.before.before.before.before.before.before.before.before.before.before.before.before.before.before.args.index).ty (argument_at c.before.before.before.before.before.before.before.before.before.before.before.before.before.read-signature.result c.before.before.before.before.before.before.before.before.before.before.before.before.plan-signature.result c.before.before.before.before.before.before.before.before.before.before.before.before.before.before.before.args.index).size
 own c = c.own-start.ensures ∙ rw (c.before.before.before.before.before.before.before.before.before.before.call-rules-of.ensures, c.before.before.before.type_size.ensures)
 
 read-signature-requires : tie.Need-read-signature-requires

@@ -4,7 +4,7 @@ use mathlib.Core.List.{List, [], ◌∷◌}
 use Prim.Native.Nat.{ℕ}
 use native.Mathlib.Omega.{arith}
 use lib.ListN.{length, set, length-set}
-use Rattle.call_walker.specs.Words.{walkerWords}
+use Rattle.call_walker.specs.Words.{walker_words}
 use borrow.Author.Rules.{rules}
 use Rattle.call_walker_words.proofs.put_walker.Statement.{statement}
 use Rattle.call_walker_words.proofs.put_walker.Tie as tie
@@ -50,7 +50,7 @@ same_length : tie.Need-same-length
 same_length c = simp length-set
 
 returns : tie.Need-returns
-unfolding walkerWords
+unfolding walker_words
 returns c = rw (c.before.before.code_of_lem.ensures, c.before.flag.ensures, c.flag2.ensures) (all-six c.before.before.before.before.before.args.words.now c.before.before.before.before.before.requires _ _ _ _ _ _)
 
 pub put-walker-spec : {M : Type 1} → statement M

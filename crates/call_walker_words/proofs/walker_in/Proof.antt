@@ -1,7 +1,7 @@
 -- By the code of the convention. Assumes nothing.
 use mathlib.Core.Path.{sym, ap, ◌∙◌}
 use Rattle.base_conventions.specs.declared.ConventionCode.{ConventionCode}
-use Rattle.call_walker.specs.Words.{walkerBy, walkerIn}
+use Rattle.call_walker.specs.Words.{walker_by, walker_in}
 use borrow.Author.Rules.{rules}
 use Rattle.call_walker_words.proofs.walker_in.Statement.{statement}
 use Rattle.call_walker_words.proofs.walker_in.Tie as tie
@@ -22,12 +22,12 @@ enum_told : tie.Need-enum-told
 enum_told c = search rules
 
 returns : tie.Need-returns
-unfolding walkerIn
-returns c = c.walker-by.ensures ∙ ap (λ (k : ConventionCode). walkerBy k c.before.before.before.before.before.before.args.words.now) (sym c.before.before.c.given.1 ∙ c.before.before.before.before.convention-code.ensures)
+unfolding walker_in
+returns c = c.walker-by.ensures ∙ ap (λ (k : ConventionCode). walker_by k c.before.before.before.before.before.before.args.words.now) (sym c.before.before.c.given.1 ∙ c.before.before.before.before.convention-code.ensures)
 
 returns-2 : tie.Need-returns-2
-unfolding walkerIn
-returns-2 c = ap (λ (k : ConventionCode). walkerBy k c.before.before.before.before.args.words.now) (sym c.enum_told.given.1 ∙ c.before.before.convention-code.ensures)
+unfolding walker_in
+returns-2 c = ap (λ (k : ConventionCode). walker_by k c.before.before.before.before.args.words.now) (sym c.enum_told.given.1 ∙ c.before.before.convention-code.ensures)
 
 pub walker-in-spec : {M : Type 1} → statement M
 walker-in-spec =

@@ -1,7 +1,7 @@
 -- By the family of conventions. Assumes nothing.
 use native.Mathlib.Nat.{div-le_self}
 use native.Mathlib.Omega.{arith}
-use Rattle.call_walking.specs.Helpers.{countersAfter}
+use Rattle.call_walking.specs.Helpers.{counters_after}
 use borrow.Author.Rules.{rules}
 use Rattle.call_walking.proofs.counters_after.Statement.{statement}
 use Rattle.call_walking.proofs.counters_after.Tie as tie
@@ -25,11 +25,11 @@ add-t14 : tie.Need-overflow-add-t14
 add-t14 c = let h = rw c.before.enum_told.given.1 at c.before.before.before.requires.1 in omega (arith, h, c.before.before.before.requires.0)
 
 returns : tie.Need-returns
-unfolding countersAfter
+unfolding counters_after
 returns c = rw c.before.before.before.before.before.r.given.1
 
 returns-2 : tie.Need-returns-2
-unfolding countersAfter
+unfolding counters_after
 returns-2 c = rw c.before.enum_told.given.1
 
 pub counters-after-spec : {M : Type 1} → statement M

@@ -1,5 +1,5 @@
 -- By the family of conventions. Assumes nothing.
-use Rattle.call_walker.specs.Walker.{cursorAt}
+use Rattle.call_walker.specs.Walker.{cursor_at}
 use borrow.Author.Rules.{rules}
 use Rattle.call_walking.proofs.local_cursor.Statement.{statement}
 use Rattle.call_walking.proofs.local_cursor.Tie as tie
@@ -20,11 +20,11 @@ enum-told-2 : tie.Need-enum-told-2
 enum-told-2 c = search rules
 
 returns : tie.Need-returns
-unfolding cursorAt
+unfolding cursor_at
 returns c = rw (c.before.enum_told.given.1, c.smaller.ensures)
 
 returns-2 : tie.Need-returns-2
-unfolding cursorAt
+unfolding cursor_at
 returns-2 c = rw c.enum-told2.given.1
 
 pub local-cursor-spec : {M : Type 1} → statement M

@@ -1,7 +1,7 @@
 -- By the family of conventions. Assumes nothing.
 use native.Mathlib.Nat.{mul-le-mul_right}
 use native.Mathlib.Omega.{arith}
-use Rattle.call_walker.specs.Walker.{cursorAt}
+use Rattle.call_walker.specs.Walker.{cursor_at}
 use borrow.Author.Rules.{rules}
 use Rattle.call_walking.proofs.offset_of.Statement.{statement}
 use Rattle.call_walking.proofs.offset_of.Tie as tie
@@ -19,11 +19,11 @@ sub-result : tie.Need-overflow-sub-result
 sub-result c = let h = rw c.before.enum_told.given.1 at c.before.before.before.requires.1 in omega (arith, h)
 
 returns : tie.Need-returns
-unfolding cursorAt
+unfolding cursor_at
 returns c = rw c.before.before.r.given.1
 
 returns-2 : tie.Need-returns-2
-unfolding cursorAt
+unfolding cursor_at
 returns-2 c = rw c.before.enum_told.given.1
 
 pub offset-of-spec : {M : Type 1} → statement M

@@ -1,7 +1,7 @@
 -- The counters of the first cursor, from none on. Assumes nothing.
 use mathlib.Core.Path.{ap}
 use native.Mathlib.Omega.{arith}
-use Rattle.plan_places.specs.Step.{rulesOf}
+use Rattle.plan_places.specs.Step.{rules_of}
 use Rattle.plan_places.proofs.Bounds.{rules-lawful}
 use Rattle.call_walker.specs.Walker.{walker}
 use Rattle.call_walking.proofs.Parts.{start-countable, start-after}
@@ -19,10 +19,10 @@ start-requires : tie.Need-start-requires
 start-requires c κs = search rules
 
 counters-after-requires : tie.Need-counters-after-requires
-counters-after-requires c κs = (record { general = omega arith; floating = omega arith; stack = omega arith }, rw (c.before.before.call-rules-of.ensures, c.start.ensures) (start-countable (rulesOf c.before.before.before.args.c) _ (rules-lawful c.before.before.before.args.c)))
+counters-after-requires c κs = (record { general = omega arith; floating = omega arith; stack = omega arith }, rw (c.before.before.call-rules-of.ensures, c.start.ensures) (start-countable (rules_of c.before.before.before.args.c) _ (rules-lawful c.before.before.before.args.c)))
 
 returns : tie.Need-returns
-returns c = rw (c.counters-after.ensures, c.before.before.before.call-rules-of.ensures, c.before.start.ensures, c.before.before.hidden-in.ensures) (ap (walker _ _ _) (start-after (rulesOf c.before.before.before.before.args.c) _))
+returns c = rw (c.counters-after.ensures, c.before.before.before.call-rules-of.ensures, c.before.start.ensures, c.before.before.hidden-in.ensures) (ap (walker _ _ _) (start-after (rules_of c.before.before.before.before.args.c) _))
 
 pub walker-of-spec : {M : Type 1} → statement M
 walker-of-spec =

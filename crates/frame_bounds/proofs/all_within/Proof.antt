@@ -1,6 +1,6 @@
 -- Down from the last: what is left to test decides the whole. Assumes nothing.
 use Rattle.frame_rules.proofs.Halves.{within-down, within_none}
-use Rattle.frame_rules.specs.Frames.{allWithin}
+use Rattle.frame_rules.specs.Frames.{all_within}
 use borrow.Author.Tests.{lt-leb, le-leb}
 use lib.ListN.{get_or}
 use Prim.Native.Nat.{◌-◌, ◌≤◌}
@@ -10,7 +10,7 @@ use Rattle.frame_bounds.proofs.all_within.Statement.{statement}
 use Rattle.frame_bounds.proofs.all_within.Tie as tie
 
 abbrev invariant-loop : tie.invariant-loop
-invariant-loop m xs i₀ i = (allWithin m xs i ≡ allWithin m xs 32) × (i ≤ 32)
+invariant-loop m xs i₀ i = (all_within m xs i ≡ all_within m xs 32) × (i ≤ 32)
 
 abbrev decreases-loop : tie.decreases-loop
 decreases-loop m xs i₀ i = i

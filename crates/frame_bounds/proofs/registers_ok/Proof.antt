@@ -1,5 +1,5 @@
 -- The two tests in their order. Assumes nothing.
-use Rattle.frame_rules.specs.Frames.{okRegisters}
+use Rattle.frame_rules.specs.Frames.{ok_registers}
 use borrow.Author.Tests.{not-true, not-false}
 use mathlib.Core.Path.{sym, ◌∙◌}
 use borrow.Author.Rules.{rules}
@@ -10,11 +10,11 @@ all-within-requires : tie.Need-all-within-requires
 all-within-requires c κs = search rules
 
 returns : tie.Need-returns
-unfolding okRegisters
+unfolding ok_registers
 returns c = rw (sym c.before.all-within.ensures ∙ not-true c.before.all-within.result c.if1.true)
 
 returns-2 : tie.Need-returns-2
-unfolding okRegisters
+unfolding ok_registers
 returns-2 c =
     let all-within = c.before.before.before.all-within in
     rw (sym all-within.ensures ∙ not-false all-within.result c.before.before.if1.false)

@@ -1,8 +1,8 @@
 -- The three areas in the definition's order; each lies in the memory, so no sum wraps. Assumes nothing.
 use Rattle.frame_rules.proofs.Places.{below-reach}
 use Rattle.frame_machine.proofs.Coding.{pointer-room, memory-small, top-outgoing, caller-outgoing, top-request, top-room}
-use Rattle.frame_rules.specs.Frames.{outgoingLength, below, frameSize}
-use Rattle.frame_machine.specs.Machine.{offset, top, caller, inside, outgoingFrom, localsFrom, writableBytes}
+use Rattle.frame_rules.specs.Frames.{outgoing_length, below, frame_size}
+use Rattle.frame_machine.specs.Machine.{offset, top, caller, inside, outgoing_from, locals_from, writable_bytes}
 use mathlib.Core.Bool.{true, false}
 use borrow.Author.Tests.{lt-leb, le-leb, lt-ltb, le-ltb}
 use Prim.Native.Nat.{◌+◌, ◌-◌, ◌<◌}
@@ -13,13 +13,13 @@ use Rattle.frame_call_checks.proofs.bytes_writable.Statement.{statement}
 use Rattle.frame_call_checks.proofs.bytes_writable.Tie as tie
 
 returns : tie.Need-returns
-unfolding writableBytes
+unfolding writable_bytes
 returns c =
     let z = c.before in
     rw (lt-leb 1 z.args.n (omega arith))
 
 returns-2 : tie.Need-returns-2
-unfolding writableBytes
+unfolding writable_bytes
 returns-2 c =
     let z = c.before.before in
     rw (le-leb 1 z.args.n (omega arith), lt-leb z.args.n 256 (omega arith))
@@ -45,13 +45,13 @@ locals-from-requires c κs =
     let z = c.before.before.before.before.before in
     let k = z.args.k in
     let s = z.args.s in
-    (z.requires.0, omega (arith, c.before.stack-pointer.ensures, z.requires.1.over), omega (arith, c.before.stack-pointer.ensures, pointer-room k z.requires.0 s z.args.len z.requires.1, memory-small k z.requires.0 s z.args.len z.requires.1), omega (arith, top-outgoing k z.requires.0 s z.args.len z.requires.1, ap (outgoingLength k) c.before.before.top_frame.ensures))
+    (z.requires.0, omega (arith, c.before.stack-pointer.ensures, z.requires.1.over), omega (arith, c.before.stack-pointer.ensures, pointer-room k z.requires.0 s z.args.len z.requires.1, memory-small k z.requires.0 s z.args.len z.requires.1), omega (arith, top-outgoing k z.requires.0 s z.args.len z.requires.1, ap (outgoing_length k) c.before.before.top_frame.ensures))
 
 lies-inside-requires : tie.Need-lies-inside-requires
 lies-inside-requires c κs = search rules
 
 returns-3 : tie.Need-returns-3
-unfolding writableBytes
+unfolding writable_bytes
 returns-3 c =
     let z = c.before.before.before.before.before.before.before.before in
     let k = z.args.k in
@@ -62,12 +62,12 @@ returns-3 c =
     let top_frame = c.before.before.before.before.before.top_frame in
     let if1 = c.before.before.before.before.before.before.before.if1 in
     let if2 = c.before.before.before.before.before.before.if2 in
-    let own : inside z.args.a z.args.n (outgoingFrom k (top k s) (offset k s)) (localsFrom k (top k s) (offset k s)) ≡ true
+    let own : inside z.args.a z.args.n (outgoing_from k (top k s) (offset k s)) (locals_from k (top k s) (offset k s)) ≡ true
     = sym (rw (locals-from.ensures, outgoing-from.ensures, stack-pointer.ensures, top_frame.ensures) at c.before.lies-inside.ensures) ∙ c.if3.true in
     rw (le-leb 1 z.args.n (omega (arith, if1.false)), le-leb z.args.n 256 (omega (arith, if2.false)), own)
 
 returns-4 : tie.Need-returns-4
-unfolding writableBytes
+unfolding writable_bytes
 returns-4 c =
     let z = c.before.before.before.before.before.before.before.before.before in
     let k = z.args.k in
@@ -79,7 +79,7 @@ returns-4 c =
     let lies-inside = c.before.before.lies-inside in
     let if1 = c.before.before.before.before.before.before.before.before.if1 in
     let if2 = c.before.before.before.before.before.before.before.if2 in
-    let own : inside z.args.a z.args.n (outgoingFrom k (top k s) (offset k s)) (localsFrom k (top k s) (offset k s)) ≡ false
+    let own : inside z.args.a z.args.n (outgoing_from k (top k s) (offset k s)) (locals_from k (top k s) (offset k s)) ≡ false
     = sym (rw (locals-from.ensures, outgoing-from.ensures, stack-pointer.ensures, top_frame.ensures) at lies-inside.ensures) ∙ c.before.if3.false in
     rw (
       le-leb 1 z.args.n (omega (arith, if1.false)),
@@ -103,7 +103,7 @@ add-c c =
     let top_frame = c.before.before.before.before.before.before.before.top_frame in
     let stack-pointer = c.before.before.before.before.before.before.stack-pointer in
     let deep : 0 < s.depth = omega (arith, c.before.if4.false) in
-    let size : c.frame-size.result ≡ frameSize k (top k s) = c.frame-size.ensures ∙ ap (frameSize k) top_frame.ensures in
+    let size : c.frame-size.result ≡ frame_size k (top k s) = c.frame-size.ensures ∙ ap (frame_size k) top_frame.ensures in
     omega (
       arith,
       size,
@@ -127,7 +127,7 @@ sub-saves c =
     let if4 = c.before.before.if4 in
     let top_frame = c.before.before.before.before.before.before.before.before.top_frame in
     let deep : 0 < s.depth = omega (arith, if4.false) in
-    let size : c.before.frame-size.result ≡ frameSize k (top k s) = c.before.frame-size.ensures ∙ ap (frameSize k) top_frame.ensures in
+    let size : c.before.frame-size.result ≡ frame_size k (top k s) = c.before.frame-size.ensures ∙ ap (frame_size k) top_frame.ensures in
     let under : c.below-size.result ≡ below k.linkage k (top k s) = c.below-size.ensures ∙ ap (below k.linkage k) top_frame.ensures in
     omega (arith, size, under, c.before.before.before.before.before.before.before.stack-pointer.ensures, z.requires.1.over, below-reach k z.requires.0 (top k s) (top-request k z.requires.0 s z.args.len z.requires.1 deep))
 
@@ -135,7 +135,7 @@ lies-inside-requires-2 : tie.Need-lies-inside-requires-2
 lies-inside-requires-2 c κs = search rules
 
 returns-5 : tie.Need-returns-5
-unfolding writableBytes
+unfolding writable_bytes
 returns-5 c =
     let z = c.before.before.before.before.before.before.before.before.before.before.before.before.before in
     let k = z.args.k in
@@ -152,9 +152,9 @@ returns-5 c =
     let if1 = c.before.before.before.before.before.before.before.before.before.before.before.before.if1 in
     let if2 = c.before.before.before.before.before.before.before.before.before.before.before.if2 in
     let deep : 0 < s.depth = omega (arith, if4.false) in
-    let own : inside z.args.a z.args.n (outgoingFrom k (top k s) (offset k s)) (localsFrom k (top k s) (offset k s)) ≡ false
+    let own : inside z.args.a z.args.n (outgoing_from k (top k s) (offset k s)) (locals_from k (top k s) (offset k s)) ≡ false
     = sym (rw (locals-from.ensures, outgoing-from.ensures, stack-pointer.ensures, top_frame.ensures) at lies-inside.ensures) ∙ if3.false in
-    let locals : inside z.args.a z.args.n (localsFrom k (top k s) (offset k s)) ((offset k s + frameSize k (top k s)) - below k.linkage k (top k s)) ≡ true
+    let locals : inside z.args.a z.args.n (locals_from k (top k s) (offset k s)) ((offset k s + frame_size k (top k s)) - below k.linkage k (top k s)) ≡ true
     = sym (rw (
       locals-from.ensures,
       stack-pointer.ensures,
@@ -177,7 +177,7 @@ add-callers c =
     let top_frame = c.before.before.before.before.before.before.before.before.before.before.before.before.top_frame in
     let stack-pointer = c.before.before.before.before.before.before.before.before.before.before.before.stack-pointer in
     let deep : 0 < s.depth = omega (arith, if4.false) in
-    let size : frame-size.result ≡ frameSize k (top k s) = frame-size.ensures ∙ ap (frameSize k) top_frame.ensures in
+    let size : frame-size.result ≡ frame_size k (top k s) = frame-size.ensures ∙ ap (frame_size k) top_frame.ensures in
     omega (
       arith,
       size,
@@ -202,9 +202,9 @@ add-lies-inside c =
     let caller-frame = c.before.before.caller-frame in
     let stack-pointer = c.before.before.before.before.before.before.before.before.before.before.before.before.stack-pointer in
     let deep : 0 < s.depth = omega (arith, if4.false) in
-    let size : frame-size.result ≡ frameSize k (top k s) = frame-size.ensures ∙ ap (frameSize k) top_frame.ensures in
-    let out : c.outgoing-length.result ≡ outgoingLength k (caller k s)
-    = c.outgoing-length.ensures ∙ ap (outgoingLength k) caller-frame.ensures in
+    let size : frame-size.result ≡ frame_size k (top k s) = frame-size.ensures ∙ ap (frame_size k) top_frame.ensures in
+    let out : c.outgoing-length.result ≡ outgoing_length k (caller k s)
+    = c.outgoing-length.ensures ∙ ap (outgoing_length k) caller-frame.ensures in
     omega (
       arith,
       size,
@@ -221,7 +221,7 @@ lies-inside-requires-3 : tie.Need-lies-inside-requires-3
 lies-inside-requires-3 c κs = search rules
 
 returns-6 : tie.Need-returns-6
-unfolding writableBytes
+unfolding writable_bytes
 returns-6 c =
     let z = c.before.before.before.before.before.before.before.before.before.before.before.before.before.before.before.before.before in
     let k = z.args.k in
@@ -241,9 +241,9 @@ returns-6 c =
     let if1 = c.before.before.before.before.before.before.before.before.before.before.before.before.before.before.before.before.if1 in
     let if2 = c.before.before.before.before.before.before.before.before.before.before.before.before.before.before.before.if2 in
     let deep : 0 < s.depth = omega (arith, if4.false) in
-    let own : inside z.args.a z.args.n (outgoingFrom k (top k s) (offset k s)) (localsFrom k (top k s) (offset k s)) ≡ false
+    let own : inside z.args.a z.args.n (outgoing_from k (top k s) (offset k s)) (locals_from k (top k s) (offset k s)) ≡ false
     = sym (rw (locals-from.ensures, outgoing-from.ensures, stack-pointer.ensures, top_frame.ensures) at lies-inside.ensures) ∙ if3.false in
-    let locals : inside z.args.a z.args.n (localsFrom k (top k s) (offset k s)) ((offset k s + frameSize k (top k s)) - below k.linkage k (top k s)) ≡ false
+    let locals : inside z.args.a z.args.n (locals_from k (top k s) (offset k s)) ((offset k s + frame_size k (top k s)) - below k.linkage k (top k s)) ≡ false
     = sym (rw (
       locals-from.ensures,
       stack-pointer.ensures,
@@ -251,7 +251,7 @@ returns-6 c =
       below-size.ensures,
       top_frame.ensures,
     ) at lies-inside2.ensures) ∙ if5.false in
-    let callers : c.lies-inside3.result ≡ inside z.args.a z.args.n ((offset k s + frameSize k (top k s)) + k.header) ((offset k s + frameSize k (top k s)) + k.header + outgoingLength k (caller k s))
+    let callers : c.lies-inside3.result ≡ inside z.args.a z.args.n ((offset k s + frame_size k (top k s)) + k.header) ((offset k s + frame_size k (top k s)) + k.header + outgoing_length k (caller k s))
     = rw (
       stack-pointer.ensures,
       frame-size.ensures,

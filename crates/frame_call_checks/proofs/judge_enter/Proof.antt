@@ -2,11 +2,11 @@
 use Rattle.frame_machine.proofs.States.{state-yes}
 use Rattle.frame_machine.proofs.Judging.{judge-next, judge-stops}
 use Rattle.frame_rules.specs.declared.Frame.{Frame}
-use Rattle.frame_rules.specs.Frames.{frameSize}
+use Rattle.frame_rules.specs.Frames.{frame_size}
 use Rattle.frame_rules.proofs.Places.{size_small}
 use Rattle.frame_machine.specs.declared.FrameAnswer.TheVariants.{Accepted}
 use Rattle.frame_machine.specs.Answers.{judge}
-use Rattle.frame_machine.specs.Machine.{stackPointer, top, stateTests, enterTests, enterAnswer}
+use Rattle.frame_machine.specs.Machine.{stack_pointer, top, state_tests, enter_tests, enter_answer}
 use lib.Dec.{leb}
 use mathlib.Core.Bool.{true, false}
 use borrow.Author.Tests.{lt-leb, le-leb, lt-ltb, le-ltb, not-true, not-false}
@@ -30,24 +30,24 @@ request-ok-requires : tie.Need-request-ok-requires
 request-ok-requires c κs = search rules
 
 returns : tie.Need-returns
-unfolding enterAnswer judge
+unfolding enter_answer judge
 returns c =
     let z = c.before.before.before.before.before in
     let k = z.args.k in
     let s = z.args.s in
     let judge-state = c.before.before.before.before.judge-state in
     let enum_told = c.before.before.enum_told in
-    let acc : judge (stateTests k s z.args.n) ≡ Accepted = sym judge-state.ensures ∙ enum_told.given.1 in
-    sym (judge-next (stateTests k s z.args.n) (enterTests k s z.args.f) acc ∙ rw (sym c.before.request-ok.ensures ∙ not-true c.before.request-ok.result c.if1.true))
+    let acc : judge (state_tests k s z.args.n) ≡ Accepted = sym judge-state.ensures ∙ enum_told.given.1 in
+    sym (judge-next (state_tests k s z.args.n) (enter_tests k s z.args.f) acc ∙ rw (sym c.before.request-ok.ensures ∙ not-true c.before.request-ok.result c.if1.true))
 
 top-frame-requires : tie.Need-top-frame-requires
 top-frame-requires c κs =
     let z = c.before.before.before.before.before in
-    let acc : judge (stateTests z.args.k z.args.s z.args.n) ≡ Accepted = sym c.before.before.before.before.judge-state.ensures ∙ c.before.before.enum_told.given.1 in
+    let acc : judge (state_tests z.args.k z.args.s z.args.n) ≡ Accepted = sym c.before.before.before.before.judge-state.ensures ∙ c.before.before.enum_told.given.1 in
     (state-yes z.args.k z.args.s z.args.n acc).shallow
 
 returns-2 : tie.Need-returns-2
-unfolding enterAnswer judge
+unfolding enter_answer judge
 returns-2 c =
     let z = c.before.before.before.before.before.before.before in
     let k = z.args.k in
@@ -57,15 +57,15 @@ returns-2 c =
     let enum_told = c.before.before.before.before.enum_told in
     let request-ok = c.before.before.before.request-ok in
     let top_frame = c.before.top_frame in
-    let acc : judge (stateTests k s z.args.n) ≡ Accepted = sym judge-state.ensures ∙ enum_told.given.1 in
+    let acc : judge (state_tests k s z.args.n) ≡ Accepted = sym judge-state.ensures ∙ enum_told.given.1 in
     let leaf : (top k s).leaf ≡ true = ap (λ (f : Frame). f.leaf) (sym top_frame.ensures) ∙ c.if2.true in
-    sym (judge-next (stateTests k s z.args.n) (enterTests k s f) acc ∙ rw (
+    sym (judge-next (state_tests k s z.args.n) (enter_tests k s f) acc ∙ rw (
       sym request-ok.ensures ∙ not-false request-ok.result c.before.before.if1.false,
       leaf,
     ))
 
 returns-3 : tie.Need-returns-3
-unfolding enterAnswer judge
+unfolding enter_answer judge
 returns-3 c =
     let z = c.before.before.before.before.before.before.before.before.before in
     let k = z.args.k in
@@ -75,9 +75,9 @@ returns-3 c =
     let enum_told = c.before.before.before.before.before.before.enum_told in
     let request-ok = c.before.before.before.before.before.request-ok in
     let top_frame = c.before.before.before.top_frame in
-    let acc : judge (stateTests k s z.args.n) ≡ Accepted = sym judge-state.ensures ∙ enum_told.given.1 in
+    let acc : judge (state_tests k s z.args.n) ≡ Accepted = sym judge-state.ensures ∙ enum_told.given.1 in
     let leaf : (top k s).leaf ≡ false = ap (λ (f : Frame). f.leaf) (sym top_frame.ensures) ∙ c.before.before.if2.false in
-    sym (judge-next (stateTests k s z.args.n) (enterTests k s f) acc ∙ rw (
+    sym (judge-next (state_tests k s z.args.n) (enter_tests k s f) acc ∙ rw (
       sym request-ok.ensures ∙ not-false request-ok.result c.before.before.before.before.if1.false,
       leaf,
       le-ltb s.depth 32 (omega arith),
@@ -95,7 +95,7 @@ frame-size-requires c κs =
 sub-if4 : tie.Need-overflow-sub-if4
 sub-if4 c =
     let z = c.before.before.before.before.before.before.before.before.before.before.before.before in
-    let acc : judge (stateTests z.args.k z.args.s z.args.n) ≡ Accepted = sym c.before.before.before.before.before.before.before.before.before.before.before.judge-state.ensures ∙ c.before.before.before.before.before.before.before.before.before.enum_told.given.1 in
+    let acc : judge (state_tests z.args.k z.args.s z.args.n) ≡ Accepted = sym c.before.before.before.before.before.before.before.before.before.before.before.judge-state.ensures ∙ c.before.before.before.before.before.before.before.before.before.enum_told.given.1 in
     omega (arith, c.before.before.stack-pointer.ensures, (state-yes z.args.k z.args.s z.args.n acc).over)
 
 add-if4 : tie.Need-overflow-add-if4
@@ -110,7 +110,7 @@ add-if4 c =
     )
 
 returns-4 : tie.Need-returns-4
-unfolding enterAnswer judge
+unfolding enter_answer judge
 returns-4 c =
     let z = c.before.before.before.before.before.before.before.before.before.before.before.before.before.before in
     let k = z.args.k in
@@ -122,11 +122,11 @@ returns-4 c =
     let top_frame = c.before.before.before.before.before.before.before.before.top_frame in
     let stack-pointer = c.before.before.before.before.stack-pointer in
     let frame-size = c.before.before.before.frame-size in
-    let acc : judge (stateTests k s z.args.n) ≡ Accepted = sym judge-state.ensures ∙ enum_told.given.1 in
+    let acc : judge (state_tests k s z.args.n) ≡ Accepted = sym judge-state.ensures ∙ enum_told.given.1 in
     let leaf : (top k s).leaf ≡ false = ap (λ (f : Frame). f.leaf) (sym top_frame.ensures) ∙ c.before.before.before.before.before.before.before.if2.false in
-    let no : leb (s.base + frameSize k f + k.floor) (stackPointer k s) ≡ false
-    = lt-leb (s.base + frameSize k f + k.floor) (stackPointer k s) (omega (arith, stack-pointer.ensures, frame-size.ensures, (state-yes k s z.args.n acc).over)) in
-    sym (judge-next (stateTests k s z.args.n) (enterTests k s f) acc ∙ rw (
+    let no : leb (s.base + frame_size k f + k.floor) (stack_pointer k s) ≡ false
+    = lt-leb (s.base + frame_size k f + k.floor) (stack_pointer k s) (omega (arith, stack-pointer.ensures, frame-size.ensures, (state-yes k s z.args.n acc).over)) in
+    sym (judge-next (state_tests k s z.args.n) (enter_tests k s f) acc ∙ rw (
       sym request-ok.ensures ∙ not-false request-ok.result c.before.before.before.before.before.before.before.before.before.if1.false,
       leaf,
       lt-ltb s.depth 32 (omega arith),
@@ -134,14 +134,14 @@ returns-4 c =
     ))
 
 returns-5 : tie.Need-returns-5
-unfolding enterAnswer
+unfolding enter_answer
 returns-5 c =
     let z = c.before.before.before.before in
     let judge-state = c.before.before.before.judge-state in
-    sym (judge-stops (stateTests z.args.k z.args.s z.args.n) (enterTests z.args.k z.args.s z.args.f) _ (sym judge-state.ensures ∙ c.before.a.given.1))
+    sym (judge-stops (state_tests z.args.k z.args.s z.args.n) (enter_tests z.args.k z.args.s z.args.f) _ (sym judge-state.ensures ∙ c.before.a.given.1))
 
 returns-6 : tie.Need-returns-6
-unfolding enterAnswer judge
+unfolding enter_answer judge
 returns-6 c =
     let z = c.before.before.before.before.before.before.before.before.before.before.before.before.before.before in
     let k = z.args.k in
@@ -153,11 +153,11 @@ returns-6 c =
     let top_frame = c.before.before.before.before.before.before.before.before.top_frame in
     let stack-pointer = c.before.before.before.before.stack-pointer in
     let frame-size = c.before.before.before.frame-size in
-    let acc : judge (stateTests k s z.args.n) ≡ Accepted = sym judge-state.ensures ∙ enum_told.given.1 in
+    let acc : judge (state_tests k s z.args.n) ≡ Accepted = sym judge-state.ensures ∙ enum_told.given.1 in
     let leaf : (top k s).leaf ≡ false = ap (λ (f : Frame). f.leaf) (sym top_frame.ensures) ∙ c.before.before.before.before.before.before.before.if2.false in
-    let yes : leb (s.base + frameSize k f + k.floor) (stackPointer k s) ≡ true
-    = le-leb (s.base + frameSize k f + k.floor) (stackPointer k s) (omega (arith, stack-pointer.ensures, frame-size.ensures, (state-yes k s z.args.n acc).over)) in
-    sym (judge-next (stateTests k s z.args.n) (enterTests k s f) acc ∙ rw (
+    let yes : leb (s.base + frame_size k f + k.floor) (stack_pointer k s) ≡ true
+    = le-leb (s.base + frame_size k f + k.floor) (stack_pointer k s) (omega (arith, stack-pointer.ensures, frame-size.ensures, (state-yes k s z.args.n acc).over)) in
+    sym (judge-next (state_tests k s z.args.n) (enter_tests k s f) acc ∙ rw (
       sym request-ok.ensures ∙ not-false request-ok.result c.before.before.before.before.before.before.before.before.before.if1.false,
       leaf,
       lt-ltb s.depth 32 (omega arith),

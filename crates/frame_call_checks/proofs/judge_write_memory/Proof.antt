@@ -1,5 +1,5 @@
 -- The state's tests, then the write's. Assumes nothing.
-use Rattle.frame_machine.specs.Machine.{stateTests, writableAddress, writeMemoryAnswer}
+use Rattle.frame_machine.specs.Machine.{state_tests, writable_address, write_memory_answer}
 use Rattle.frame_machine.proofs.States.{state-yes}
 use Rattle.frame_machine.proofs.Judging.{judge-next, judge-stops}
 use Rattle.frame_machine.specs.declared.FrameAnswer.TheVariants.{Accepted}
@@ -25,37 +25,37 @@ address-writable-requires : tie.Need-address-writable-requires
 address-writable-requires c κs =
     let z = c.before.before.before in
     let judge-state = c.before.before.judge-state in
-    let acc : judge (stateTests z.args.k z.args.s z.args.n) ≡ Accepted = sym judge-state.ensures ∙ c.enum_told.given.1 in
+    let acc : judge (state_tests z.args.k z.args.s z.args.n) ≡ Accepted = sym judge-state.ensures ∙ c.enum_told.given.1 in
     (z.requires, state-yes z.args.k z.args.s z.args.n acc)
 
 returns : tie.Need-returns
-unfolding writeMemoryAnswer judge
+unfolding write_memory_answer judge
 returns c =
     let z = c.before.before.before.before.before in
     let k = z.args.k in
     let s = z.args.s in
     let judge-state = c.before.before.before.before.judge-state in
     let enum_told = c.before.before.enum_told in
-    let acc : judge (stateTests k s z.args.n) ≡ Accepted = sym judge-state.ensures ∙ enum_told.given.1 in
-    sym (judge-next (stateTests k s z.args.n) (require (writableAddress k s z.args.address z.args.m) NotPermitted ∷ []) acc ∙ rw (sym c.before.address-writable.ensures ∙ not-true c.before.address-writable.result c.if1.true))
+    let acc : judge (state_tests k s z.args.n) ≡ Accepted = sym judge-state.ensures ∙ enum_told.given.1 in
+    sym (judge-next (state_tests k s z.args.n) (require (writable_address k s z.args.address z.args.m) NotPermitted ∷ []) acc ∙ rw (sym c.before.address-writable.ensures ∙ not-true c.before.address-writable.result c.if1.true))
 
 returns-2 : tie.Need-returns-2
-unfolding writeMemoryAnswer
+unfolding write_memory_answer
 returns-2 c =
     let z = c.before.before.before.before in
     let judge-state = c.before.before.before.judge-state in
-    sym (judge-stops (stateTests z.args.k z.args.s z.args.n) (require (writableAddress z.args.k z.args.s z.args.address z.args.m) NotPermitted ∷ []) _ (sym judge-state.ensures ∙ c.before.a.given.1))
+    sym (judge-stops (state_tests z.args.k z.args.s z.args.n) (require (writable_address z.args.k z.args.s z.args.address z.args.m) NotPermitted ∷ []) _ (sym judge-state.ensures ∙ c.before.a.given.1))
 
 returns-3 : tie.Need-returns-3
-unfolding writeMemoryAnswer judge
+unfolding write_memory_answer judge
 returns-3 c =
     let z = c.before.before.before.before.before in
     let k = z.args.k in
     let s = z.args.s in
     let judge-state = c.before.before.before.before.judge-state in
     let enum_told = c.before.before.enum_told in
-    let acc : judge (stateTests k s z.args.n) ≡ Accepted = sym judge-state.ensures ∙ enum_told.given.1 in
-    sym (judge-next (stateTests k s z.args.n) (require (writableAddress k s z.args.address z.args.m) NotPermitted ∷ []) acc ∙ rw (sym c.before.address-writable.ensures ∙ not-false c.before.address-writable.result c.if1.false))
+    let acc : judge (state_tests k s z.args.n) ≡ Accepted = sym judge-state.ensures ∙ enum_told.given.1 in
+    sym (judge-next (state_tests k s z.args.n) (require (writable_address k s z.args.address z.args.m) NotPermitted ∷ []) acc ∙ rw (sym c.before.address-writable.ensures ∙ not-false c.before.address-writable.result c.if1.false))
 
 pub judge-write-memory-spec : {M : Type 1} → statement M
 judge-write-memory-spec =

@@ -1,6 +1,6 @@
 -- The state's tests, then the write's. Assumes nothing.
-use Rattle.frame_rules.specs.Frames.{bankOf, writableRegister}
-use Rattle.frame_machine.specs.Machine.{stateTests, top, writeRegisterAnswer}
+use Rattle.frame_rules.specs.Frames.{bank_of, writable_register}
+use Rattle.frame_machine.specs.Machine.{state_tests, top, write_register_answer}
 use mathlib.Core.Bool.{true, false}
 use Rattle.frame_machine.proofs.States.{state-yes}
 use Rattle.frame_machine.proofs.Judging.{judge-next, judge-stops}
@@ -27,7 +27,7 @@ top-frame-requires : tie.Need-top-frame-requires
 top-frame-requires c κs =
     let z = c.before.before.before in
     let judge-state = c.before.before.judge-state in
-    let acc : judge (stateTests z.args.k z.args.s z.args.n) ≡ Accepted = sym judge-state.ensures ∙ c.enum_told.given.1 in
+    let acc : judge (state_tests z.args.k z.args.s z.args.n) ≡ Accepted = sym judge-state.ensures ∙ c.enum_told.given.1 in
     (state-yes z.args.k z.args.s z.args.n acc).shallow
 
 bank-of-requires : tie.Need-bank-of-requires
@@ -37,7 +37,7 @@ register-writable-requires : tie.Need-register-writable-requires
 register-writable-requires c κs = search rules
 
 returns : tie.Need-returns
-unfolding writeRegisterAnswer judge
+unfolding write_register_answer judge
 returns c =
     let z = c.before.before.before.before.before.before.before in
     let k = z.args.k in
@@ -46,21 +46,21 @@ returns c =
     let enum_told = c.before.before.before.before.enum_told in
     let bank-of = c.before.before.bank-of in
     let top_frame = c.before.before.before.top_frame in
-    let acc : judge (stateTests k s z.args.n) ≡ Accepted = sym judge-state.ensures ∙ enum_told.given.1 in
-    let test : writableRegister k (top k s) (bankOf z.args.bank) z.args.number z.args.value ≡ false
+    let acc : judge (state_tests k s z.args.n) ≡ Accepted = sym judge-state.ensures ∙ enum_told.given.1 in
+    let test : writable_register k (top k s) (bank_of z.args.bank) z.args.number z.args.value ≡ false
     = sym (rw (bank-of.ensures, top_frame.ensures) at c.before.register-writable.ensures) ∙ not-true c.before.register-writable.result c.if1.true in
-    sym (judge-next (stateTests k s z.args.n) (require (writableRegister k (top k s) (bankOf z.args.bank) z.args.number z.args.value) NotPermitted ∷ []) acc ∙ rw test)
+    sym (judge-next (state_tests k s z.args.n) (require (writable_register k (top k s) (bank_of z.args.bank) z.args.number z.args.value) NotPermitted ∷ []) acc ∙ rw test)
 
 returns-2 : tie.Need-returns-2
-unfolding writeRegisterAnswer
+unfolding write_register_answer
 returns-2 c =
     let z = c.before.before.before.before in
     let k = z.args.k in
     let judge-state = c.before.before.before.judge-state in
-    sym (judge-stops (stateTests k z.args.s z.args.n) (require (writableRegister k (top k z.args.s) (bankOf z.args.bank) z.args.number z.args.value) NotPermitted ∷ []) _ (sym judge-state.ensures ∙ c.before.a.given.1))
+    sym (judge-stops (state_tests k z.args.s z.args.n) (require (writable_register k (top k z.args.s) (bank_of z.args.bank) z.args.number z.args.value) NotPermitted ∷ []) _ (sym judge-state.ensures ∙ c.before.a.given.1))
 
 returns-3 : tie.Need-returns-3
-unfolding writeRegisterAnswer judge
+unfolding write_register_answer judge
 returns-3 c =
     let z = c.before.before.before.before.before.before.before in
     let k = z.args.k in
@@ -69,10 +69,10 @@ returns-3 c =
     let enum_told = c.before.before.before.before.enum_told in
     let bank-of = c.before.before.bank-of in
     let top_frame = c.before.before.before.top_frame in
-    let acc : judge (stateTests k s z.args.n) ≡ Accepted = sym judge-state.ensures ∙ enum_told.given.1 in
-    let test : writableRegister k (top k s) (bankOf z.args.bank) z.args.number z.args.value ≡ true
+    let acc : judge (state_tests k s z.args.n) ≡ Accepted = sym judge-state.ensures ∙ enum_told.given.1 in
+    let test : writable_register k (top k s) (bank_of z.args.bank) z.args.number z.args.value ≡ true
     = sym (rw (bank-of.ensures, top_frame.ensures) at c.before.register-writable.ensures) ∙ not-false c.before.register-writable.result c.if1.false in
-    sym (judge-next (stateTests k s z.args.n) (require (writableRegister k (top k s) (bankOf z.args.bank) z.args.number z.args.value) NotPermitted ∷ []) acc ∙ rw test)
+    sym (judge-next (state_tests k s z.args.n) (require (writable_register k (top k s) (bank_of z.args.bank) z.args.number z.args.value) NotPermitted ∷ []) acc ∙ rw test)
 
 pub judge-write-register-spec : {M : Type 1} → statement M
 judge-write-register-spec =

@@ -2,7 +2,7 @@ use Rattle.frame_machine.proofs.Outcomes.{registers-restored}
 -- The top frame lies below its caller's pointer, whose header is in the memory. Assumes nothing.
 use Rattle.frame_rules.proofs.Places.{limit-64}
 use Rattle.frame_machine.proofs.Coding.{top-request, top-room, top_placed, memory-small, pointer-limit}
-use Rattle.frame_rules.specs.Frames.{frameSize}
+use Rattle.frame_rules.specs.Frames.{frame_size}
 use Rattle.frame_machine.specs.Machine.{top}
 use lib.ListN.{length}
 use native.Mathlib.Omega.{arith}
@@ -37,7 +37,7 @@ add-restore c =
     let frame-size = c.before.before.before.frame-size in
     let top_frame = c.before.before.before.before.top_frame in
     let stack-pointer = c.before.before.stack-pointer in
-    let size : frame-size.result ≡ frameSize k (top k s) = frame-size.ensures ∙ ap (frameSize k) top_frame.ensures in
+    let size : frame-size.result ≡ frame_size k (top k s) = frame-size.ensures ∙ ap (frame_size k) top_frame.ensures in
     omega (
       arith,
       size,
@@ -55,7 +55,7 @@ add-restore-2 c =
     let frame-size = c.before.before.before.frame-size in
     let top_frame = c.before.before.before.before.top_frame in
     let stack-pointer = c.before.before.stack-pointer in
-    let size : frame-size.result ≡ frameSize k (top k s) = frame-size.ensures ∙ ap (frameSize k) top_frame.ensures in
+    let size : frame-size.result ≡ frame_size k (top k s) = frame-size.ensures ∙ ap (frame_size k) top_frame.ensures in
     omega (
       arith,
       size,

@@ -1,8 +1,8 @@
 -- The back chain, then the saves, in the definition's order. Assumes nothing.
 use Rattle.frame_saves.specs.Saves.{store}
-use Rattle.frame_rules.specs.Frames.{frameSize}
+use Rattle.frame_rules.specs.Frames.{frame_size}
 use Rattle.frame_rules.proofs.Places.{chain-in}
-use Rattle.frame_machine.specs.Machine.{offset, enteredMemory}
+use Rattle.frame_machine.specs.Machine.{offset, entered_memory}
 use Rattle.frame_machine.proofs.Coding.{pointer-room, enter-placed}
 use lib.ListN.{length}
 use Prim.Native.Nat.{◌≤◌}
@@ -34,7 +34,7 @@ store-requires c κs =
     let f = z.args.f in
     let n = length z.args.memory.now in
     let can = z.requires.2 in
-    let fits : frameSize k f ≤ offset k s = omega (arith, can.room) in
+    let fits : frame_size k f ≤ offset k s = omega (arith, can.room) in
     omega (
       arith,
       c.chain-width.ensures,
@@ -62,7 +62,7 @@ same_length : tie.Need-same-length
 same_length c = search rules
 
 returns : tie.Need-returns
-unfolding enteredMemory store
+unfolding entered_memory store
 returns c =
     let save-registers = c.before.before.save-registers in
     let store = c.before.before.before.before.before.before.store in

@@ -3,7 +3,7 @@ use Rattle.base_words.proofs.Splices.{lent-tail}
 use Rattle.frame_machine.proofs.Areas.{address-yes}
 use Rattle.frame_machine.proofs.States.{write-memory-yes}
 use Rattle.frame_machine.proofs.Outcomes.{write-memory-accepted, write-memory-refused}
-use Rattle.frame_machine.specs.Machine.{writtenMemory}
+use Rattle.frame_machine.specs.Machine.{written_memory}
 use Rattle.frame_rules.specs.Helpers.{LawfulFrames}
 use Rattle.frame_rules.proofs.Conventions.{lawful}
 use lib.ListN.{length, length-take, length-drop}
@@ -92,7 +92,7 @@ same_length : tie.Need-same-length
 same_length c = search rules
 
 returns-2 : tie.Need-returns-2
-unfolding writtenMemory
+unfolding written_memory
 returns-2 c =
     let z = c.before.before.before.before.before.before.before.before.before.before in
     let l = z.args.memory.now in

@@ -4,7 +4,7 @@ use Rattle.frame_machine.specs.declared.State.{State}
 use Rattle.frame_rules.proofs.Writing.{writable-named}
 use Rattle.frame_machine.proofs.States.{write-register-yes}
 use Rattle.frame_machine.proofs.Outcomes.{write-register-accepted, write-register-refused, registers-written}
-use Rattle.frame_rules.specs.Frames.{bankOf}
+use Rattle.frame_rules.specs.Frames.{bank_of}
 use Rattle.frame_machine.specs.Machine.{top}
 use Rattle.frame_rules.specs.Helpers.{LawfulFrames}
 use Rattle.frame_rules.proofs.Conventions.{lawful}
@@ -39,7 +39,7 @@ with-register-requires c κs =
     let judge-write-register = c.before.before.before.before.judge-write-register in
     let enum_told = c.before.before.enum_told in
     let law : LawfulFrames frame-rules-of.result = rw frame-rules-of.ensures (lawful s.convention) in
-    rw c.before.bank-of.ensures (writable-named frame-rules-of.result law (top frame-rules-of.result s) (bankOf z.args.bank) z.args.number z.args.value (write-register-yes frame-rules-of.result s (length z.args.memory.now) z.args.bank z.args.number z.args.value (sym judge-write-register.ensures ∙ enum_told.given.1)).1)
+    rw c.before.bank-of.ensures (writable-named frame-rules-of.result law (top frame-rules-of.result s) (bank_of z.args.bank) z.args.number z.args.value (write-register-yes frame-rules-of.result s (length z.args.memory.now) z.args.bank z.args.number z.args.value (sym judge-write-register.ensures ∙ enum_told.given.1)).1)
 
 returns : tie.Need-returns
 returns c =

@@ -1,5 +1,5 @@
 -- The definition's tests in their order; the header is compared with a difference, which cannot wrap. Assumes nothing.
-use Rattle.frame_dump.specs.Walk.{okAddress}
+use Rattle.frame_dump.specs.Walk.{ok_address}
 use borrow.Author.Tests.{lt-leb, le-leb, eq-eqb, ne_eqb}
 use Prim.Native.Nat.{◌+◌, ◌%◌}
 use native.Mathlib.Omega.{arith}
@@ -11,18 +11,18 @@ rem-if1 : tie.Need-nonzero-rem-if1
 rem-if1 c = omega (arith, c.requires.0.some)
 
 returns : tie.Need-returns
-unfolding okAddress
+unfolding ok_address
 returns c = let z = c.before in rw (ne_eqb (z.args.a % z.args.k.alignment) 0 (λ e. c.if1.true e))
 
 returns-2 : tie.Need-returns-2
-unfolding okAddress
+unfolding ok_address
 returns-2 c = let z = c.before.before in rw (eq-eqb (z.args.a % z.args.k.alignment) 0 c.before.if1.false, lt-leb z.args.base z.args.a c.if2.true)
 
 add-end : tie.Need-overflow-add-end
 add-end c = let z = c.before.before in omega (arith, z.requires.1)
 
 returns-3 : tie.Need-returns-3
-unfolding okAddress
+unfolding ok_address
 returns-3 c =
     let z = c.before.before.before in
     rw (
@@ -32,7 +32,7 @@ returns-3 c =
     )
 
 returns-4 : tie.Need-returns-4
-unfolding okAddress
+unfolding ok_address
 returns-4 c =
     let z = c.before.before.before.before in
     rw (
@@ -42,7 +42,7 @@ returns-4 c =
     )
 
 returns-5 : tie.Need-returns-5
-unfolding okAddress
+unfolding ok_address
 returns-5 c =
     let z = c.before.before.before.before in
     rw (

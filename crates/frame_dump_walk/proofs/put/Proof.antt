@@ -2,7 +2,7 @@
 use Rattle.frame_saves.specs.Saves.{load}
 use Rattle.base_words.specs.Splice.{splice}
 use Rattle.base_words.proofs.Splices.{splice-nothing}
-use Rattle.frame_dump.specs.Walk.{walkFrom, maxFrames, foundIn}
+use Rattle.frame_dump.specs.Walk.{walk_from, max_frames, found_in}
 use Rattle.frame_dump.proofs.Laws.{Follow, follow, follow-in, follow-next, follow-put, counted-length}
 use lib.ListN.{length, drop, length-set, drop_of_length-le}
 use Prim.Native.Nat.{◌-◌, ◌≤◌}
@@ -14,14 +14,14 @@ use Rattle.frame_dump_walk.proofs.put.Tie as tie
 
 abbrev invariant-loop : tie.invariant-loop
 invariant-loop memory k base pointer list₀ n a₀ i₀ list a i =
-    let xs = foundIn (walkFrom maxFrames k base memory 0 pointer) in
+    let xs = found_in (walk_from max_frames k base memory 0 pointer) in
     (splice list i (drop i xs) ≡ splice list₀ 0 xs) × Follow k base memory a (drop i xs) × (i ≤ n) × (length list ≡ length list₀)
 
 abbrev decreases-loop : tie.decreases-loop
 decreases-loop memory k base pointer list₀ n a₀ i₀ list a i = n - i
 
 loop-holds : tie.Need-loop-init invariant-loop decreases-loop
-loop-holds c = let z = c.before.before in (refl, follow maxFrames z.args.k z.args.base z.args.memory.now 0 z.args.pointer, omega arith, refl)
+loop-holds c = let z = c.before.before in (refl, follow max_frames z.args.k z.args.base z.args.memory.now 0 z.args.pointer, omega arith, refl)
 
 mul-list : tie.Need-overflow-mul-list invariant-loop decreases-loop
 mul-list c = search rules
@@ -36,8 +36,8 @@ sub-load c =
     let k = z.args.k in
     let b = z.args.base in
     let l = z.args.memory.now in
-    let xs = foundIn (walkFrom maxFrames k b l 0 z.args.pointer) in
-    let all : length xs ≡ z.args.n = counted-length (walkFrom maxFrames k b l 0 z.args.pointer) z.args.n z.requires.1 in
+    let xs = found_in (walk_from max_frames k b l 0 z.args.pointer) in
+    let all : length xs ≡ z.args.n = counted-length (walk_from max_frames k b l 0 z.args.pointer) z.args.n z.requires.1 in
     omega (arith, follow-in k b l loop.a xs loop.i (omega (arith, all)) loop.invariant.1)
 
 load-requires : tie.Need-load-requires invariant-loop decreases-loop
@@ -47,8 +47,8 @@ load-requires c κs =
     let k = z.args.k in
     let b = z.args.base in
     let l = z.args.memory.now in
-    let xs = foundIn (walkFrom maxFrames k b l 0 z.args.pointer) in
-    let all : length xs ≡ z.args.n = counted-length (walkFrom maxFrames k b l 0 z.args.pointer) z.args.n z.requires.1 in
+    let xs = found_in (walk_from max_frames k b l 0 z.args.pointer) in
+    let all : length xs ≡ z.args.n = counted-length (walk_from max_frames k b l 0 z.args.pointer) z.args.n z.requires.1 in
     (z.requires.0.0.word, omega (arith, follow-in k b l loop.a xs loop.i (omega (arith, all)) loop.invariant.1, z.requires.0.0.chain))
 
 add-i : tie.Need-overflow-add-i invariant-loop decreases-loop
@@ -65,8 +65,8 @@ loop-again c =
     let k = z.args.k in
     let b = z.args.base in
     let l = z.args.memory.now in
-    let xs = foundIn (walkFrom maxFrames k b l 0 z.args.pointer) in
-    let all : length xs ≡ z.args.n = counted-length (walkFrom maxFrames k b l 0 z.args.pointer) z.args.n z.requires.1 in (
+    let xs = found_in (walk_from max_frames k b l 0 z.args.pointer) in
+    let all : length xs ≡ z.args.n = counted-length (walk_from max_frames k b l 0 z.args.pointer) z.args.n z.requires.1 in (
       follow-put k b l loop.a xs loop.i (omega (arith, all)) loop.invariant.1 loop.list ∙ loop.invariant.0,
       rw c.load.ensures (follow-next k b l loop.a xs loop.i (omega (arith, all)) loop.invariant.1),
       omega arith,
@@ -83,8 +83,8 @@ returns c =
     let k = z.args.k in
     let b = z.args.base in
     let l = z.args.memory.now in
-    let xs = foundIn (walkFrom maxFrames k b l 0 z.args.pointer) in
-    let all : length xs ≡ z.args.n = counted-length (walkFrom maxFrames k b l 0 z.args.pointer) z.args.n z.requires.1 in
+    let xs = found_in (walk_from max_frames k b l 0 z.args.pointer) in
+    let all : length xs ≡ z.args.n = counted-length (walk_from max_frames k b l 0 z.args.pointer) z.args.n z.requires.1 in
     sym (rw (drop_of_length-le xs {i = loop.i} (omega (arith, all))) (splice-nothing loop.list loop.i)) ∙ loop.invariant.0
 
 pub put_spec : {M : Type 1} → statement M

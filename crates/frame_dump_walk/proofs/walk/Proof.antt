@@ -1,6 +1,6 @@
 -- The sum is tested first; then what the count says is what the walk gives, and only frames that fit are put. Assumes nothing.
 use Rattle.frame_dump.specs.declared.Found.TheVariants.{Frames}
-use Rattle.frame_dump.specs.Walk.{Walked, frames, walkFrom, maxFrames, walkInto, foundIn, counted, framesListed}
+use Rattle.frame_dump.specs.Walk.{Walked, frames, walk_from, max_frames, walk_into, found_in, counted, frames_listed}
 use Rattle.frame_dump.proofs.Laws.{into-over, into-refused, into-short, into-frames, counted-length}
 use lib.ListN.{length}
 use Prim.Native.Nat.{◌+◌, ◌-◌, ◌^◌, ◌≤◌}
@@ -57,7 +57,7 @@ returns-4 c =
     let bound : z.args.base + length l ≤ 2 ^ 64 - 1 = omega (arith, c.before.before.before.before.before.before.before.before.before.if1.false) in
     let count = sym c.before.before.before.before.before.before.before.before.count.ensures ∙ c.before.before.before.before.before.before.c2.given.1 in
     let e = into-frames z.args.k z.args.base l z.args.pointer (length z.args.list.now) bound _ count c.before.before.before.before.if2.false in
-    let size = counted-length (walkFrom maxFrames z.args.k z.args.base l 0 z.args.pointer) _ count in
+    let size = counted-length (walk_from max_frames z.args.k z.args.base l 0 z.args.pointer) _ count in
     (rw e (ap Frames (omega (arith, size))), rw e c.before.before.put.ensures)
 
 pub walk-spec : {M : Type 1} → statement M

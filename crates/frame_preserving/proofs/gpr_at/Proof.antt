@@ -1,7 +1,7 @@
 -- By the linkage, the definition's own arithmetic: the saves fit below the caller's pointer, or in its header. Assumes nothing.
 use Rattle.frame_rules.proofs.Places.{gpr-end, fpr-end, fpr-le, gpr-in, words_small}
 use Rattle.frame_rules.specs.declared.Linkage.{Linkage}
-use Rattle.frame_rules.specs.Frames.{below, gprAt}
+use Rattle.frame_rules.specs.Frames.{below, gpr_at}
 use Prim.Native.Nat.{◌-◌}
 use native.Mathlib.Omega.{arith}
 use mathlib.Core.Path.{sym, ap}
@@ -58,23 +58,23 @@ mul-result-3 c =
     )
 
 add-result : tie.Need-overflow-add-result
-unfolding gprAt
+unfolding gpr_at
 add-result c =
     let z = c.before.before in
-    let e = ap (λ (p : Linkage). gprAt p z.args.k z.args.f z.args.s) c.enum-told2.given.1 in
+    let e = ap (λ (p : Linkage). gpr_at p z.args.k z.args.f z.args.s) c.enum-told2.given.1 in
     omega (arith, e, gpr-in z.args.k z.requires.lawful z.args.f z.requires.request z.args.s z.requires.fits, z.requires.room)
 
 returns : tie.Need-returns
-unfolding gprAt
+unfolding gpr_at
 returns c =
     let z = c.before.before in
-    sym (ap (λ (p : Linkage). gprAt p z.args.k z.args.f z.args.s) c.enum_told.given.1)
+    sym (ap (λ (p : Linkage). gpr_at p z.args.k z.args.f z.args.s) c.enum_told.given.1)
 
 returns-2 : tie.Need-returns-2
-unfolding gprAt
+unfolding gpr_at
 returns-2 c =
     let z = c.before.before in
-    sym (ap (λ (p : Linkage). gprAt p z.args.k z.args.f z.args.s) c.enum-told2.given.1)
+    sym (ap (λ (p : Linkage). gpr_at p z.args.k z.args.f z.args.s) c.enum-told2.given.1)
 
 pub gpr-at-spec : {M : Type 1} → statement M
 gpr-at-spec =

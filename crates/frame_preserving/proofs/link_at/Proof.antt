@@ -2,7 +2,7 @@
 -- By the linkage; the slot lies near the caller's pointer. Assumes nothing.
 use Rattle.frame_rules.proofs.Places.{words_small}
 use Rattle.frame_rules.specs.declared.Linkage.{Linkage}
-use Rattle.frame_rules.specs.Frames.{linkAt}
+use Rattle.frame_rules.specs.Frames.{link_at}
 use native.Mathlib.Omega.{arith}
 use mathlib.Core.Path.{sym, ap}
 use borrow.Author.Rules.{rules}
@@ -26,16 +26,16 @@ add-result c =
     omega (arith, words_small z.args.k.word z.args.k.pointer z.requires.0.word (omega (arith, z.requires.0.pointer)))
 
 returns : tie.Need-returns
-unfolding linkAt
+unfolding link_at
 returns c =
     let z = c.before.before in
-    sym (ap (λ (p : Linkage). linkAt p z.args.k z.args.o z.args.s) c.enum_told.given.1)
+    sym (ap (λ (p : Linkage). link_at p z.args.k z.args.o z.args.s) c.enum_told.given.1)
 
 returns-2 : tie.Need-returns-2
-unfolding linkAt
+unfolding link_at
 returns-2 c =
     let z = c.before.before.before in
-    sym (ap (λ (p : Linkage). linkAt p z.args.k z.args.o z.args.s) c.before.enum-told2.given.1)
+    sym (ap (λ (p : Linkage). link_at p z.args.k z.args.o z.args.s) c.before.enum-told2.given.1)
 
 pub link-at-spec : {M : Type 1} → statement M
 link-at-spec = tie.close (tie.spec enum_told enum-told-2 mul-result add-result returns returns-2)

@@ -1,5 +1,5 @@
 -- The definition's own arithmetic, in 32 bits. Assumes nothing.
-use Rattle.frame_rules.specs.Frames.{mergeFields}
+use Rattle.frame_rules.specs.Frames.{merge_fields}
 use mathlib.Core.Path.{refl}
 use borrow.Author.Rules.{rules}
 use Rattle.frame_preserving.proofs.merge_fields.Statement.{statement}
@@ -21,7 +21,7 @@ add-result-2 : tie.Need-overflow-add-result-2
 add-result-2 c = search rules
 
 returns : tie.Need-returns
-unfolding mergeFields
+unfolding merge_fields
 returns c = refl
 
 pub merge-fields-spec : {M : Type 1} → statement M

@@ -3,7 +3,7 @@
 use Rattle.frame_saves.specs.Saves.{load}
 use Rattle.frame_rules.proofs.Facts.{law-at}
 use Rattle.frame_rules.specs.declared.Linkage.{Linkage}
-use Rattle.frame_rules.specs.Frames.{restoredCr}
+use Rattle.frame_rules.specs.Frames.{restored_cr}
 use native.Mathlib.Omega.{arith}
 use mathlib.Core.Path.{sym, ap, ◌∙◌}
 use borrow.Author.Rules.{rules}
@@ -32,25 +32,25 @@ enum_told : tie.Need-enum-told
 enum_told c = search rules
 
 returns : tie.Need-returns
-unfolding restoredCr load
+unfolding restored_cr load
 returns c =
     let z = c.before.before.before.before.before.before.before in
     let linkage = c.before.before.before.before.linkage in
     let if1 = c.before.before.if1 in
-    sym (ap (λ (p : Linkage). restoredCr p z.args.f z.args.s z.args.memory.now z.args.x) linkage.given.1 ∙ rw (if1.true, c.merge-fields.ensures, c.before.load.ensures))
+    sym (ap (λ (p : Linkage). restored_cr p z.args.f z.args.s z.args.memory.now z.args.x) linkage.given.1 ∙ rw (if1.true, c.merge-fields.ensures, c.before.load.ensures))
 
 returns-2 : tie.Need-returns-2
-unfolding restoredCr
+unfolding restored_cr
 returns-2 c =
     let z = c.before.before.before.before.before in
     let linkage = c.before.before.linkage in
-    sym (ap (λ (p : Linkage). restoredCr p z.args.f z.args.s z.args.memory.now z.args.x) linkage.given.1 ∙ rw c.if1.false)
+    sym (ap (λ (p : Linkage). restored_cr p z.args.f z.args.s z.args.memory.now z.args.x) linkage.given.1 ∙ rw c.if1.false)
 
 returns-3 : tie.Need-returns-3
-unfolding restoredCr
+unfolding restored_cr
 returns-3 c =
     let z = c.before.before.before in
-    sym (ap (λ (p : Linkage). restoredCr p z.args.f z.args.s z.args.memory.now z.args.x) c.enum_told.given.1)
+    sym (ap (λ (p : Linkage). restored_cr p z.args.f z.args.s z.args.memory.now z.args.x) c.enum_told.given.1)
 
 pub restore-cr-spec : {M : Type 1} → statement M
 restore-cr-spec =

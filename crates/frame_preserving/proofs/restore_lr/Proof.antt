@@ -2,7 +2,7 @@
 use Rattle.frame_saves.specs.Saves.{load}
 use Rattle.frame_rules.proofs.Facts.{law-at}
 use Rattle.frame_rules.specs.declared.Linkage.{Linkage}
-use Rattle.frame_rules.specs.Frames.{restoredLr}
+use Rattle.frame_rules.specs.Frames.{restored_lr}
 use native.Mathlib.Omega.{arith}
 use mathlib.Core.Path.{sym, ap, ◌∙◌}
 use borrow.Author.Rules.{rules}
@@ -26,22 +26,22 @@ enum_told : tie.Need-enum-told
 enum_told c = search rules
 
 returns : tie.Need-returns
-unfolding restoredLr
+unfolding restored_lr
 returns c =
     let z = c.before.before.before.before.before in
-    sym (ap (λ (p : Linkage). restoredLr p z.args.k z.args.f z.args.s z.args.memory.now z.args.x) c.before.before.linkage.given.1 ∙ rw c.if1.true)
+    sym (ap (λ (p : Linkage). restored_lr p z.args.k z.args.f z.args.s z.args.memory.now z.args.x) c.before.before.linkage.given.1 ∙ rw c.if1.true)
 
 returns-2 : tie.Need-returns-2
-unfolding restoredLr load
+unfolding restored_lr load
 returns-2 c =
     let z = c.before.before.before.before.before.before in
-    sym (ap (λ (p : Linkage). restoredLr p z.args.k z.args.f z.args.s z.args.memory.now z.args.x) c.before.before.before.linkage.given.1 ∙ rw (c.before.if1.false, c.load.ensures))
+    sym (ap (λ (p : Linkage). restored_lr p z.args.k z.args.f z.args.s z.args.memory.now z.args.x) c.before.before.before.linkage.given.1 ∙ rw (c.before.if1.false, c.load.ensures))
 
 returns-3 : tie.Need-returns-3
-unfolding restoredLr
+unfolding restored_lr
 returns-3 c =
     let z = c.before.before.before in
-    sym (ap (λ (p : Linkage). restoredLr p z.args.k z.args.f z.args.s z.args.memory.now z.args.x) c.enum_told.given.1)
+    sym (ap (λ (p : Linkage). restored_lr p z.args.k z.args.f z.args.s z.args.memory.now z.args.x) c.enum_told.given.1)
 
 pub restore-lr-spec : {M : Type 1} → statement M
 restore-lr-spec =

@@ -1,6 +1,6 @@
 -- The parts of a lawful frame stay small, and their sum is the definition's. Assumes nothing.
 use Rattle.frame_rules.proofs.Places.{full-small, full-parts}
-use Rattle.frame_rules.specs.Frames.{fullSize}
+use Rattle.frame_rules.specs.Frames.{full_size}
 use native.Mathlib.Omega.{arith}
 use borrow.Author.Rules.{rules}
 use Rattle.frame_requests.proofs.full_size.Statement.{statement}
@@ -62,7 +62,7 @@ round-up-requires c κs =
     )
 
 returns : tie.Need-returns
-unfolding fullSize
+unfolding full_size
 returns c =
     let outgoing-length = c.before.before.before.outgoing-length in
     let below-size = c.before.before.before.before.below-size in

@@ -1,5 +1,5 @@
 -- The definition's tests in their order. Assumes nothing.
-use Rattle.frame_rules.specs.Frames.{okLeaf}
+use Rattle.frame_rules.specs.Frames.{ok_leaf}
 use borrow.Author.Tests.{eq-eqb, ne_eqb, not-true, not-false}
 use native.Mathlib.Omega.{arith}
 use mathlib.Core.Path.{sym, ◌∙◌}
@@ -8,20 +8,20 @@ use Rattle.frame_requests.proofs.leaf_ok.Statement.{statement}
 use Rattle.frame_requests.proofs.leaf_ok.Tie as tie
 
 returns : tie.Need-returns
-unfolding okLeaf
+unfolding ok_leaf
 returns c = let z = c.before.before in rw (not-true z.args.f.leaf c.if1.true)
 
 has-condition-requires : tie.Need-has-condition-requires
 has-condition-requires c κs = search rules
 
 returns-2 : tie.Need-returns-2
-unfolding okLeaf
+unfolding ok_leaf
 returns-2 c =
     let z = c.before.before.before.before in
     rw (not-false z.args.f.leaf c.before.before.if1.false, sym c.before.has-condition.ensures ∙ not-true c.before.has-condition.result c.if2.true)
 
 returns-3 : tie.Need-returns-3
-unfolding okLeaf
+unfolding ok_leaf
 returns-3 c =
     let z = c.before.before.before.before.before.before in
     let has-condition = c.before.before.before.has-condition in
@@ -32,7 +32,7 @@ returns-3 c =
     )
 
 returns-4 : tie.Need-returns-4
-unfolding okLeaf
+unfolding ok_leaf
 returns-4 c =
     let z = c.before.before.before.before.before.before.before in
     let has-condition = c.before.before.before.before.has-condition in

@@ -1,5 +1,5 @@
 -- One register is stored. Assumes nothing.
-use Rattle.frame_rules.specs.Frames.{withPointer}
+use Rattle.frame_rules.specs.Frames.{with_pointer}
 use mathlib.Core.Path.{refl}
 use borrow.Author.Rules.{rules}
 use Rattle.frame_rules.proofs.with_pointer.Statement.{statement}
@@ -12,7 +12,7 @@ element-write-q : tie.Need-element-write-q
 element-write-q c = search rules
 
 returns : tie.Need-returns
-unfolding withPointer
+unfolding with_pointer
 returns c = refl
 
 pub with-pointer-spec : {M : Type 1} → statement M

@@ -5,14 +5,14 @@ use native.Mathlib.Omega.{arith}
 use borrow.Author.Rules.{rules}
 use lib.ListN.{length}
 use Rattle.base_words.proofs.Basics.{words-turn}
-use Rattle.frame_saves.specs.Saves.{loadRun, load}
+use Rattle.frame_saves.specs.Saves.{load_run, load}
 use Rattle.frame_saves.proofs.Runs.{load-turn, load-none}
 use Rattle.frame_saves.proofs.load_run.Statement.{statement}
 use Rattle.frame_saves.proofs.load_run.Tie as tie
 
 abbrev invariant-loop : tie.invariant-loop
 invariant-loop memory at w n c ys₀ a₀ i₀ k₀ ys a i k =
-    (loadRun ys memory a w i k ≡ loadRun ys₀ memory at w n c) × (a + w * k ≤ length memory) × (i + k ≤ 32)
+    (load_run ys memory a w i k ≡ load_run ys₀ memory at w n c) × (a + w * k ≤ length memory) × (i + k ≤ 32)
 
 abbrev decreases-loop : tie.decreases-loop
 decreases-loop memory at w n c ys₀ a₀ i₀ k₀ ys a i k = k

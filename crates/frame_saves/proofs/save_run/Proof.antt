@@ -5,14 +5,14 @@ use native.Mathlib.Omega.{arith}
 use borrow.Author.Rules.{rules}
 use lib.ListN.{length}
 use Rattle.base_words.proofs.Basics.{words-turn}
-use Rattle.frame_saves.specs.Saves.{saveRun, store}
+use Rattle.frame_saves.specs.Saves.{save_run, store}
 use Rattle.frame_saves.proofs.Runs.{save-turn, save-none}
 use Rattle.frame_saves.proofs.save_run.Statement.{statement}
 use Rattle.frame_saves.proofs.save_run.Tie as tie
 
 abbrev invariant-loop : tie.invariant-loop
 invariant-loop memory₀ xs at w n c a₀ i₀ k₀ memory a i k =
-    (saveRun memory xs a w i k ≡ saveRun memory₀ xs at w n c) × (a + w * k ≤ length memory₀) × (i + k ≤ 32) × (length memory ≡ length memory₀)
+    (save_run memory xs a w i k ≡ save_run memory₀ xs at w n c) × (a + w * k ≤ length memory₀) × (i + k ≤ 32) × (length memory ≡ length memory₀)
 
 abbrev decreases-loop : tie.decreases-loop
 decreases-loop memory₀ xs at w n c a₀ i₀ k₀ memory a i k = k

@@ -6,7 +6,7 @@ use Rattle.frame_machine.proofs.Outcomes.{start-accepted, start-refused, accepte
 use Rattle.frame_machine.specs.declared.FrameRefusal.TheVariants.{BadMemory}
 use Rattle.frame_rules.specs.Helpers.{LawfulFrames}
 use Rattle.frame_rules.specs.Rules.{rules}
-use Rattle.frame_machine.specs.Machine.{okMemory, started, startedMemory, notStarted}
+use Rattle.frame_machine.specs.Machine.{ok_memory, started, started_memory, not_started}
 use Rattle.frame_rules.proofs.Conventions.{lawful}
 use lib.ListN.{length}
 use mathlib.Core.Bool.{true, false}
@@ -24,11 +24,11 @@ memory-ok-requires c κs =
     rw z.pre (lawful z.args.c)
 
 returns : tie.Need-returns
-unfolding notStarted
+unfolding not_started
 returns c =
     let z = c.before.before.before in
     let l = z.args.memory.now in
-    let no : okMemory (rules z.args.c) z.args.base (length l) ≡ false
+    let no : ok_memory (rules z.args.c) z.args.base (length l) ≡ false
     = sym (rw z.pre at c.before.memory-ok.ensures) ∙ not-true c.before.memory-ok.result c.if1.taken in
     let e = start-refused z.args.c z.args.base l z.args.registers BadMemory (refused-start z.args.c z.args.base (length l) no) in
     (sym e.0, sym e.1)
@@ -70,7 +70,7 @@ same_length : tie.Need-same-length
 same_length c = search rules
 
 returns-2 : tie.Need-returns-2
-unfolding started startedMemory store
+unfolding started started_memory store
 returns-2 c =
     let z = c.before.before.before.before.before.before.before.before.before.before in
     let l = z.args.memory.now in
@@ -80,7 +80,7 @@ returns-2 c =
     let store = c.before.before.store in
     let law : LawfulFrames z.args.k = rw z.pre (lawful z.args.c) in
     let yes = memory-yes z.args.k z.args.base (length l) (sym memory-ok.ensures ∙ not-false memory-ok.result if1.left) in
-    let ok : okMemory (rules z.args.c) z.args.base (length l) ≡ true
+    let ok : ok_memory (rules z.args.c) z.args.base (length l) ≡ true
     = sym (rw z.pre at memory-ok.ensures) ∙ not-false memory-ok.result if1.left in
     let e = start-accepted z.args.c z.args.base l z.args.registers (accepted-start z.args.c z.args.base (length l) ok) in
     let at : z.args.base + (length l - z.args.k.room) ≡ z.args.base + length l - z.args.k.room

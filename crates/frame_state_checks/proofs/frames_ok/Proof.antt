@@ -1,8 +1,8 @@
 -- Down from the top record: what is left to test decides the whole. Assumes nothing.
 use Rattle.frame_machine.proofs.Coding.{frames-down, frames-none}
-use Rattle.frame_rules.specs.Frames.{okRequest}
+use Rattle.frame_rules.specs.Frames.{ok_request}
 use Rattle.frame_rules.specs.declared.Frame.{Frame}
-use Rattle.frame_machine.specs.Machine.{okFrames, frame_at, topFrame}
+use Rattle.frame_machine.specs.Machine.{ok_frames, frame_at, top_frame}
 use mathlib.Core.Bool.{true, false}
 use borrow.Author.Tests.{not-true, not-false}
 use Prim.Native.Nat.{◌-◌, ◌≤◌}
@@ -12,7 +12,7 @@ use Rattle.frame_state_checks.proofs.frames_ok.Statement.{statement}
 use Rattle.frame_state_checks.proofs.frames_ok.Tie as tie
 
 abbrev invariant-loop : tie.invariant-loop
-invariant-loop k depth fs d₀ d = (okFrames k fs d ≡ okFrames k fs depth) × (d ≤ depth)
+invariant-loop k depth fs d₀ d = (ok_frames k fs d ≡ ok_frames k fs depth) × (d ≤ depth)
 
 abbrev decreases-loop : tie.decreases-loop
 decreases-loop k depth fs d₀ d = d
@@ -36,7 +36,7 @@ returns : tie.Need-returns invariant-loop decreases-loop
 returns c =
     let z = c.before.before.before.before.before in
     let loop = c.before.before.before.before.loop in
-    let e : okRequest z.args.k (frame_at z.args.t2 (loop.d - 1)) ≡ false
+    let e : ok_request z.args.k (frame_at z.args.t2 (loop.d - 1)) ≡ false
     = sym c.before.request-ok.ensures ∙ not-true c.before.request-ok.result c.if1.true in
     sym (sym loop.invariant.0 ∙ frames-down z.args.k z.args.t2 loop.d (omega arith) ∙ rw e)
 
@@ -51,9 +51,9 @@ returns-2 c =
     let z = c.before.before.before.before.before.before.before in
     let loop = c.before.before.before.before.before.before.loop in
     let request-ok = c.before.before.before.request-ok in
-    let e : okRequest z.args.k (frame_at z.args.t2 (loop.d - 1)) ≡ true
+    let e : ok_request z.args.k (frame_at z.args.t2 (loop.d - 1)) ≡ true
     = sym request-ok.ensures ∙ not-false request-ok.result c.before.before.if1.false in
-    let u : (topFrame z.args.k z.args.t2 (loop.d - 1)).leaf ≡ true = ap (λ (f : Frame). f.leaf) (sym c.before.frame-under.ensures) ∙ c.if2.true in
+    let u : (top_frame z.args.k z.args.t2 (loop.d - 1)).leaf ≡ true = ap (λ (f : Frame). f.leaf) (sym c.before.frame-under.ensures) ∙ c.if2.true in
     sym (sym loop.invariant.0 ∙ frames-down z.args.k z.args.t2 loop.d (omega arith) ∙ rw (e, u))
 
 loop-again : tie.Need-loop-preserved invariant-loop decreases-loop
@@ -61,9 +61,9 @@ loop-again c =
     let z = c.before.before.before.before.before.before.before in
     let loop = c.before.before.before.before.before.before.loop in
     let request-ok = c.before.before.before.request-ok in
-    let e : okRequest z.args.k (frame_at z.args.t2 (loop.d - 1)) ≡ true
+    let e : ok_request z.args.k (frame_at z.args.t2 (loop.d - 1)) ≡ true
     = sym request-ok.ensures ∙ not-false request-ok.result c.before.before.if1.false in
-    let u : (topFrame z.args.k z.args.t2 (loop.d - 1)).leaf ≡ false = ap (λ (f : Frame). f.leaf) (sym c.before.frame-under.ensures) ∙ c.if2.false in
+    let u : (top_frame z.args.k z.args.t2 (loop.d - 1)).leaf ≡ false = ap (λ (f : Frame). f.leaf) (sym c.before.frame-under.ensures) ∙ c.if2.false in
     (sym (frames-down z.args.k z.args.t2 loop.d (omega arith) ∙ rw (e, u)) ∙ loop.invariant.0, omega arith)
 
 returns-3 : tie.Need-returns-3 invariant-loop decreases-loop

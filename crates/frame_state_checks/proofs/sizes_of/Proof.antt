@@ -1,8 +1,8 @@
 -- Down from the top record: the sum so far and the sizes left make the whole. Assumes nothing.
-use Rattle.frame_rules.specs.Frames.{mostSize}
+use Rattle.frame_rules.specs.Frames.{most_size}
 use Rattle.frame_rules.proofs.Places.{size_small}
 use Rattle.frame_machine.proofs.Coding.{sizes-down, sizes-none, frames-read}
-use Rattle.frame_machine.specs.Machine.{okFrames, frame_at, sizes}
+use Rattle.frame_machine.specs.Machine.{ok_frames, frame_at, sizes}
 use mathlib.Core.Bool.{true}
 use Prim.Native.Nat.{◌+◌, ◌-◌, ◌*◌, ◌≤◌}
 use native.Mathlib.Omega.{arith}
@@ -11,7 +11,7 @@ use Rattle.frame_state_checks.proofs.sizes_of.Statement.{statement}
 use Rattle.frame_state_checks.proofs.sizes_of.Tie as tie
 
 abbrev invariant-loop : tie.invariant-loop
-invariant-loop k depth fs d₀ sum₀ d sum = (sum + sizes k fs d ≡ sizes k fs depth) × (d ≤ depth) × (okFrames k fs d ≡ true) × (sum + mostSize * d ≤ mostSize * depth)
+invariant-loop k depth fs d₀ sum₀ d sum = (sum + sizes k fs d ≡ sizes k fs depth) × (d ≤ depth) × (ok_frames k fs d ≡ true) × (sum + most_size * d ≤ most_size * depth)
 
 abbrev decreases-loop : tie.decreases-loop
 decreases-loop k depth fs d₀ sum₀ d sum = d

@@ -2,7 +2,7 @@
 use Rattle.base_words.proofs.Basics.{eqb-sub}
 use Rattle.frame_machine.proofs.States.{memory-yes}
 use Rattle.frame_rules.proofs.Places.{limit-64}
-use Rattle.frame_machine.specs.Machine.{okState, stackPointer, sizes}
+use Rattle.frame_machine.specs.Machine.{ok_state, stack_pointer, sizes}
 use lib.Dec.{eqb}
 use mathlib.Core.Bool.{false}
 use borrow.Author.Tests.{lt-leb, le-leb, ne_eqb, not-true, not-false}
@@ -17,11 +17,11 @@ registers-ok-requires : tie.Need-registers-ok-requires
 registers-ok-requires c κs = search rules
 
 returns : tie.Need-returns
-unfolding okState
+unfolding ok_state
 returns c = rw (sym c.before.registers-ok.ensures ∙ not-true c.before.registers-ok.result c.if1.true)
 
 returns-2 : tie.Need-returns-2
-unfolding okState
+unfolding ok_state
 returns-2 c =
     let z = c.before.before.before.before in
     let k = z.args.k in
@@ -36,7 +36,7 @@ frames-ok-requires : tie.Need-frames-ok-requires
 frames-ok-requires c κs = search rules
 
 returns-3 : tie.Need-returns-3
-unfolding okState
+unfolding ok_state
 returns-3 c =
     let z = c.before.before.before.before.before.before.before in
     let k = z.args.k in
@@ -53,7 +53,7 @@ memory-ok-requires : tie.Need-memory-ok-requires
 memory-ok-requires c κs = search rules
 
 returns-4 : tie.Need-returns-4
-unfolding okState
+unfolding ok_state
 returns-4 c =
     let z = c.before.before.before.before.before.before.before.before.before in
     let k = z.args.k in
@@ -80,7 +80,7 @@ add-if5 c =
     omega (arith, memory-yes k s.base s.size (sym memory-ok.ensures ∙ not-false memory-ok.result c.before.if4.false), limit-64 k z.requires)
 
 returns-5 : tie.Need-returns-5
-unfolding okState
+unfolding ok_state
 returns-5 c =
     let z = c.before.before.before.before.before.before.before.before.before.before.before in
     let k = z.args.k in
@@ -94,7 +94,7 @@ returns-5 c =
       le-leb s.depth 32 (omega (arith, c.before.before.before.before.before.before.before.if2.false)),
       sym frames-ok.ensures ∙ not-false frames-ok.result c.before.before.before.before.if3.false,
       sym memory-ok.ensures ∙ not-false memory-ok.result c.before.before.if4.false,
-      lt-leb (s.base + k.floor) (stackPointer k s) (omega (arith, stack-pointer.ensures)),
+      lt-leb (s.base + k.floor) (stack_pointer k s) (omega (arith, stack-pointer.ensures)),
     )
 
 sizes-of-requires : tie.Need-sizes-of-requires
@@ -115,7 +115,7 @@ add-end c =
     omega (arith, memory-yes k s.base s.size (sym memory-ok.ensures ∙ not-false memory-ok.result c.before.before.before.before.if4.false), limit-64 k z.requires)
 
 returns-6 : tie.Need-returns-6
-unfolding okState
+unfolding ok_state
 returns-6 c =
     let z = c.before.before.before.before.before.before.before.before.before.before.before.before.before.before in
     let k = z.args.k in
@@ -125,19 +125,19 @@ returns-6 c =
     let memory-ok = c.before.before.before.before.before.before.memory-ok in
     let stack-pointer = c.before.before.before.before.stack-pointer in
     let sizes-of = c.before.before.sizes-of in
-    let no : eqb (stackPointer k s + sizes k s.frames s.depth + k.room) (s.base + s.size) ≡ false
-    = ne_eqb (stackPointer k s + sizes k s.frames s.depth + k.room) (s.base + s.size) (λ e. omega (arith, sizes-of.ensures.0, c.if6.true)) in
+    let no : eqb (stack_pointer k s + sizes k s.frames s.depth + k.room) (s.base + s.size) ≡ false
+    = ne_eqb (stack_pointer k s + sizes k s.frames s.depth + k.room) (s.base + s.size) (λ e. omega (arith, sizes-of.ensures.0, c.if6.true)) in
     rw (
       sym registers-ok.ensures ∙ not-false registers-ok.result c.before.before.before.before.before.before.before.before.before.before.before.if1.false,
       le-leb s.depth 32 (omega (arith, c.before.before.before.before.before.before.before.before.before.before.if2.false)),
       sym frames-ok.ensures ∙ not-false frames-ok.result c.before.before.before.before.before.before.before.if3.false,
       sym memory-ok.ensures ∙ not-false memory-ok.result c.before.before.before.before.before.if4.false,
-      le-leb (s.base + k.floor) (stackPointer k s) (omega (arith, stack-pointer.ensures, c.before.before.before.if5.false)),
+      le-leb (s.base + k.floor) (stack_pointer k s) (omega (arith, stack-pointer.ensures, c.before.before.before.if5.false)),
       no,
     )
 
 returns-7 : tie.Need-returns-7
-unfolding okState
+unfolding ok_state
 returns-7 c =
     let z = c.before.before.before.before.before.before.before.before.before.before.before.before.before.before in
     let k = z.args.k in
@@ -147,7 +147,7 @@ returns-7 c =
     let memory-ok = c.before.before.before.before.before.before.memory-ok in
     let stack-pointer = c.before.before.before.before.stack-pointer in
     let sizes-of = c.before.before.sizes-of in
-    let sum : stackPointer k s + (sizes k s.frames s.depth + k.room) ≡ stackPointer k s + sizes k s.frames s.depth + k.room = omega arith in
+    let sum : stack_pointer k s + (sizes k s.frames s.depth + k.room) ≡ stack_pointer k s + sizes k s.frames s.depth + k.room = omega arith in
     rw (
       stack-pointer.ensures,
       sizes-of.ensures.0,
@@ -155,9 +155,9 @@ returns-7 c =
       le-leb s.depth 32 (omega (arith, c.before.before.before.before.before.before.before.before.before.before.if2.false)),
       sym frames-ok.ensures ∙ not-false frames-ok.result c.before.before.before.before.before.before.before.if3.false,
       sym memory-ok.ensures ∙ not-false memory-ok.result c.before.before.before.before.before.if4.false,
-      le-leb (s.base + k.floor) (stackPointer k s) (omega (arith, stack-pointer.ensures, c.before.before.before.if5.false)),
+      le-leb (s.base + k.floor) (stack_pointer k s) (omega (arith, stack-pointer.ensures, c.before.before.before.if5.false)),
     )
-    (eqb-sub (stackPointer k s) (sizes k s.frames s.depth + k.room) (s.base + s.size) (omega (arith, sizes-of.ensures.0, c.if6.false)) ∙ rw sum)
+    (eqb-sub (stack_pointer k s) (sizes k s.frames s.depth + k.room) (s.base + s.size) (omega (arith, sizes-of.ensures.0, c.if6.false)) ∙ rw sum)
 
 pub state-ok-spec : {M : Type 1} → statement M
 state-ok-spec =

@@ -1,6 +1,6 @@
 -- The definition's own tests of the two flags. Assumes nothing.
 use borrow.Author.Tests.{le-leb, lt-leb}
-use Rattle.frame_word_layout.specs.Words.{frameIn}
+use Rattle.frame_word_layout.specs.Words.{frame_in}
 use borrow.Author.Rules.{rules}
 use Rattle.frame_state_words.proofs.frame_in.Statement.{statement}
 use Rattle.frame_state_words.proofs.frame_in.Tie as tie
@@ -15,7 +15,7 @@ shared-slice-read-flag : tie.Need-shared-slice-read-flag
 shared-slice-read-flag c = search rules
 
 returns : tie.Need-returns
-unfolding frameIn
+unfolding frame_in
 returns c = rw (lt-leb _ 1 c.if1.true)
 
 add-mark : tie.Need-overflow-add-mark
@@ -28,7 +28,7 @@ shared-slice-read-mark : tie.Need-shared-slice-read-mark
 shared-slice-read-mark c = search rules
 
 returns-2 : tie.Need-returns-2
-unfolding frameIn
+unfolding frame_in
 returns-2 c = rw (le-leb _ 1 c.before.before.if1.false, lt-leb _ 1 c.if2.true)
 
 mul-t5 : tie.Need-overflow-mul-t5
@@ -65,7 +65,7 @@ shared-slice-read-t25 : tie.Need-shared-slice-read-t25
 shared-slice-read-t25 c = search rules
 
 returns-3 : tie.Need-returns-3
-unfolding frameIn
+unfolding frame_in
 returns-3 c = rw (le-leb _ 1 c.before.before.before.before.before.before.if1.false, le-leb _ 1 c.before.before.before.before.if2.false)
 
 pub frame-in-spec : {M : Type 1} → statement M

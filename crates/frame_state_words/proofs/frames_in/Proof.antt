@@ -1,5 +1,5 @@
 -- After i turns the first i records are read. Assumes nothing.
-use Rattle.frame_word_layout.specs.Words.{framesIn}
+use Rattle.frame_word_layout.specs.Words.{frames_in}
 use Rattle.frame_word_layout.proofs.Laws.{frames-next}
 use lib.ListN.{length, take, length-set}
 use lib.Seq.{take-suc-set, take_all}
@@ -12,13 +12,13 @@ use Rattle.frame_state_words.proofs.frames_in.Statement.{statement}
 use Rattle.frame_state_words.proofs.frames_in.Tie as tie
 
 abbrev invariant-loop : tie.invariant-loop
-invariant-loop words fs₀ i₀ fs i = (take i fs ≡ framesIn i words 0) × (length fs ≡ 32) × (i ≤ 32)
+invariant-loop words fs₀ i₀ fs i = (take i fs ≡ frames_in i words 0) × (length fs ≡ 32) × (i ≤ 32)
 
 abbrev decreases-loop : tie.decreases-loop
 decreases-loop words fs₀ i₀ fs i = 32 - i
 
 loop-holds : tie.Need-loop-init invariant-loop decreases-loop
-unfolding framesIn
+unfolding frames_in
 loop-holds c = (refl, refl, zero-le)
 
 mul-frame-in : tie.Need-overflow-mul-frame-in invariant-loop decreases-loop
@@ -53,7 +53,7 @@ returns c =
     let loop = c.before.loop in
     let z = c.before.before.before in
     let end : loop.i ≡ 32 = omega arith in
-    sym (take_all loop.i loop.fs (omega arith)) ∙ loop.invariant.0 ∙ ap (λ (n : ℕ). framesIn n z.args.words.now 0) end
+    sym (take_all loop.i loop.fs (omega arith)) ∙ loop.invariant.0 ∙ ap (λ (n : ℕ). frames_in n z.args.words.now 0) end
 
 pub frames-in-spec : {M : Type 1} → statement M
 frames-in-spec =

@@ -1,6 +1,6 @@
 -- Six stores are a splice. Assumes nothing.
 use Rattle.base_words.specs.Basics.{flag}
-use Rattle.frame_word_layout.specs.Words.{recordWords, recordsAt, frameWords}
+use Rattle.frame_word_layout.specs.Words.{record_words, records_at, frame_words}
 use Rattle.frame_word_layout.proofs.Laws.{six-words}
 use lib.ListN.{length-set}
 use Prim.Native.Nat.{◌+◌, ◌*◌}
@@ -76,10 +76,10 @@ same_length : tie.Need-same-length
 same_length c = search rules
 
 returns : tie.Need-returns
-unfolding frameWords
+unfolding frame_words
 returns c =
     let z = c.before.before.before in
-    rw (c.flag2.ensures, c.before.flag.ensures) (six-words z.args.words.now (recordsAt + recordWords * z.args.i) z.args.f.first_gpr z.args.f.first_fpr (flag z.args.f.saves_cr) z.args.f.locals z.args.f.outgoing (flag z.args.f.leaf))
+    rw (c.flag2.ensures, c.before.flag.ensures) (six-words z.args.words.now (records_at + record_words * z.args.i) z.args.f.first_gpr z.args.f.first_fpr (flag z.args.f.saves_cr) z.args.f.locals z.args.f.outgoing (flag z.args.f.leaf))
 
 pub put-frame-spec : {M : Type 1} → statement M
 put-frame-spec =

@@ -1,6 +1,6 @@
 -- What is left to put, put from here, gives the whole. Assumes nothing.
 use Rattle.base_words.specs.Splice.{splice}
-use Rattle.frame_word_layout.specs.Words.{recordWords, recordsAt, framesWords}
+use Rattle.frame_word_layout.specs.Words.{record_words, records_at, frames_words}
 use Rattle.frame_word_layout.proofs.Laws.{frames-turn, frames-end}
 use lib.ListN.{length, drop}
 use Prim.Native.Nat.{◌+◌, ◌-◌, ◌*◌, ◌≤◌, zero-le}
@@ -12,7 +12,7 @@ use Rattle.frame_state_words.proofs.put_frames.Tie as tie
 
 abbrev invariant-loop : tie.invariant-loop
 invariant-loop words₀ fs i₀ words i =
-    (splice words (recordsAt + recordWords * i) (framesWords (drop i fs)) ≡ splice words₀ 70 (framesWords fs)) × (i ≤ 32) × (length words ≡ length words₀)
+    (splice words (records_at + record_words * i) (frames_words (drop i fs)) ≡ splice words₀ 70 (frames_words fs)) × (i ≤ 32) × (length words ≡ length words₀)
 
 abbrev decreases-loop : tie.decreases-loop
 decreases-loop words₀ fs i₀ words i = 32 - i
@@ -52,7 +52,7 @@ returns c =
     let z = c.before.before.before in
     let loop = c.before.loop in
     let all : length z.args.t2 ≡ 32 = z.well-formed.1.0.1.0.1 in
-    (sym (frames-end loop.words z.args.t2 (recordsAt + recordWords * loop.i) loop.i (omega arith)) ∙ loop.invariant.0, all)
+    (sym (frames-end loop.words z.args.t2 (records_at + record_words * loop.i) loop.i (omega arith)) ∙ loop.invariant.0, all)
 
 pub put-frames-spec : {M : Type 1} → statement M
 put-frames-spec =

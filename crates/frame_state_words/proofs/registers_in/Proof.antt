@@ -1,7 +1,7 @@
 -- Each bank is copied whole. Assumes nothing.
 use Rattle.base_words.specs.Splice.{part}
 use Rattle.base_words.proofs.Splices.{length_part, splice-whole}
-use Rattle.frame_word_layout.specs.Words.{registersIn}
+use Rattle.frame_word_layout.specs.Words.{registers_in}
 use lib.ListN.{replicate}
 use Prim.Native.Nat.{◌+◌}
 use native.Mathlib.Omega.{arith}
@@ -47,7 +47,7 @@ cast-t21 : tie.Need-overflow-cast-t21
 cast-t21 c = search rules
 
 returns : tie.Need-returns
-unfolding registersIn
+unfolding registers_in
 returns c =
     let z = c.before.before.before.before.before.before.before.before.before in
     let ws = z.args.words.now in

@@ -1,5 +1,5 @@
 -- By the parts of the definition. Assumes nothing.
-use Rattle.frame_word_layout.specs.Words.{stateIn}
+use Rattle.frame_word_layout.specs.Words.{state_in}
 use borrow.Author.Rules.{rules}
 use Rattle.frame_state_words.proofs.state_in.Statement.{statement}
 use Rattle.frame_state_words.proofs.state_in.Tie as tie
@@ -29,7 +29,7 @@ shared-slice-read-t11 : tie.Need-shared-slice-read-t11
 shared-slice-read-t11 c = search rules
 
 returns : tie.Need-returns
-unfolding stateIn
+unfolding state_in
 returns c = rw (c.before.before.before.before.before.convention-of.ensures, c.before.before.before.before.before.before.convention-code.ensures, c.before.before.before.before.depth-in.ensures, c.before.before.before.registers-in.ensures, c.before.before.frames-in.ensures)
 
 pub state-in-spec : {M : Type 1} → statement M

@@ -1,24 +1,24 @@
 -- Each number up to 3 has its bank. Assumes nothing.
-use Rattle.frame_rules.specs.Frames.{bankOf}
+use Rattle.frame_rules.specs.Frames.{bank_of}
 use native.Mathlib.Omega.{arith}
 use borrow.Author.Tests.{eq-eqb, ne_eqb}
 use Rattle.frame_writing.proofs.bank_of.Statement.{statement}
 use Rattle.frame_writing.proofs.bank_of.Tie as tie
 
 returns : tie.Need-returns
-unfolding bankOf
+unfolding bank_of
 returns c = rw (eq-eqb c.before.args.b 0 (omega arith))
 
 returns-2 : tie.Need-returns-2
-unfolding bankOf
+unfolding bank_of
 returns-2 c = let b = c.before.before.args.b in rw (ne_eqb b 0 (λ e. omega arith), eq-eqb b 1 (omega arith))
 
 returns-3 : tie.Need-returns-3
-unfolding bankOf
+unfolding bank_of
 returns-3 c = let b = c.before.before.before.args.b in rw (ne_eqb b 0 (λ e. omega arith), ne_eqb b 1 (λ e. omega arith), eq-eqb b 2 (omega arith))
 
 returns-4 : tie.Need-returns-4
-unfolding bankOf
+unfolding bank_of
 returns-4 c = let b = c.before.before.before.before.args.b in rw (
   ne_eqb b 0 (λ e. omega arith),
   ne_eqb b 1 (λ e. omega arith),
@@ -27,7 +27,7 @@ returns-4 c = let b = c.before.before.before.before.args.b in rw (
 )
 
 returns-5 : tie.Need-returns-5
-unfolding bankOf
+unfolding bank_of
 returns-5 c = let b = c.before.before.before.before.args.b in rw (
   ne_eqb b 0 (λ e. omega arith),
   ne_eqb b 1 (λ e. omega arith),

@@ -1,5 +1,5 @@
 -- The definition's tests in their order. Assumes nothing.
-use Rattle.frame_rules.specs.Frames.{writableField}
+use Rattle.frame_rules.specs.Frames.{writable_field}
 use borrow.Author.Tests.{lt-leb, le-leb, not-true, not-false}
 use native.Mathlib.Omega.{arith}
 use mathlib.Core.Path.{sym, ◌∙◌}
@@ -11,18 +11,18 @@ has-condition-requires : tie.Need-has-condition-requires
 has-condition-requires c κs = search rules
 
 returns : tie.Need-returns
-unfolding writableField
+unfolding writable_field
 returns c = rw (sym c.before.has-condition.ensures ∙ not-true c.before.has-condition.result c.if1.true)
 
 returns-2 : tie.Need-returns-2
-unfolding writableField
+unfolding writable_field
 returns-2 c =
     let z = c.before.before.before in
     let has-condition = c.before.before.has-condition in
     rw (sym has-condition.ensures ∙ not-false has-condition.result c.before.if1.false, lt-leb z.args.v 15 (omega arith))
 
 returns-3 : tie.Need-returns-3
-unfolding writableField
+unfolding writable_field
 returns-3 c =
     let z = c.before.before.before.before in
     let has-condition = c.before.before.before.has-condition in
@@ -37,7 +37,7 @@ in-span-requires : tie.Need-in-span-requires
 in-span-requires c κs = search rules
 
 returns-4 : tie.Need-returns-4
-unfolding writableField
+unfolding writable_field
 returns-4 c =
     let z = c.before.before.before.before.before.before in
     let has-condition = c.before.before.before.before.before.has-condition in
@@ -50,7 +50,7 @@ returns-4 c =
     )
 
 returns-5 : tie.Need-returns-5
-unfolding writableField
+unfolding writable_field
 returns-5 c =
     let z = c.before.before.before.before.before.before.before.before in
     let has-condition = c.before.before.before.before.before.before.before.has-condition in
@@ -69,7 +69,7 @@ in-span-requires-2 : tie.Need-in-span-requires-2
 in-span-requires-2 c κs = search rules
 
 returns-6 : tie.Need-returns-6
-unfolding writableField
+unfolding writable_field
 returns-6 c =
     let z = c.before.before.before.before.before.before.before.before.before in
     let has-condition = c.before.before.before.before.before.before.before.before.has-condition in

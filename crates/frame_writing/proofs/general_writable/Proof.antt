@@ -1,5 +1,5 @@
 -- The two tests in their order. Assumes nothing.
-use Rattle.frame_rules.specs.Frames.{writableRegister}
+use Rattle.frame_rules.specs.Frames.{writable_register}
 use borrow.Author.Tests.{not-true, not-false}
 use mathlib.Core.Path.{sym, ◌∙◌}
 use borrow.Author.Rules.{rules}
@@ -10,11 +10,11 @@ bank-writable-requires : tie.Need-bank-writable-requires
 bank-writable-requires c κs = search rules
 
 returns : tie.Need-returns
-unfolding writableRegister
+unfolding writable_register
 returns c = rw (sym c.before.bank-writable.ensures ∙ not-true c.before.bank-writable.result c.if1.true)
 
 returns-2 : tie.Need-returns-2
-unfolding writableRegister
+unfolding writable_register
 returns-2 c =
     let bank-writable = c.before.before.bank-writable in
     rw (sym bank-writable.ensures ∙ not-false bank-writable.result c.before.if1.false)

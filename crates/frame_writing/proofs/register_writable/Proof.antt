@@ -1,6 +1,6 @@
 -- By the bank. Assumes nothing.
 use Rattle.frame_rules.specs.declared.RegisterBank.{RegisterBank}
-use Rattle.frame_rules.specs.Frames.{writableRegister}
+use Rattle.frame_rules.specs.Frames.{writable_register}
 use mathlib.Core.Path.{sym, ap, ◌∙◌}
 use borrow.Author.Rules.{rules}
 use Rattle.frame_writing.proofs.register_writable.Statement.{statement}
@@ -34,34 +34,34 @@ enum-told-5 : tie.Need-enum-told-5
 enum-told-5 c = search rules
 
 returns : tie.Need-returns
-unfolding writableRegister
+unfolding writable_register
 returns c =
     let z = c.before.before.before.before in
-    c.general-writable.ensures ∙ sym (ap (λ (b : RegisterBank). writableRegister z.args.k z.args.f b z.args.n z.args.v) c.before.enum_told.given.1)
+    c.general-writable.ensures ∙ sym (ap (λ (b : RegisterBank). writable_register z.args.k z.args.f b z.args.n z.args.v) c.before.enum_told.given.1)
 
 returns-2 : tie.Need-returns-2
-unfolding writableRegister
+unfolding writable_register
 returns-2 c =
     let z = c.before.before.before.before in
-    c.bank-writable.ensures ∙ sym (ap (λ (b : RegisterBank). writableRegister z.args.k z.args.f b z.args.n z.args.v) c.before.enum-told2.given.1)
+    c.bank-writable.ensures ∙ sym (ap (λ (b : RegisterBank). writable_register z.args.k z.args.f b z.args.n z.args.v) c.before.enum-told2.given.1)
 
 returns-3 : tie.Need-returns-3
-unfolding writableRegister
+unfolding writable_register
 returns-3 c =
     let z = c.before.before.before.before in
-    c.link-writable.ensures ∙ sym (ap (λ (b : RegisterBank). writableRegister z.args.k z.args.f b z.args.n z.args.v) c.before.enum-told3.given.1)
+    c.link-writable.ensures ∙ sym (ap (λ (b : RegisterBank). writable_register z.args.k z.args.f b z.args.n z.args.v) c.before.enum-told3.given.1)
 
 returns-4 : tie.Need-returns-4
-unfolding writableRegister
+unfolding writable_register
 returns-4 c =
     let z = c.before.before.before.before in
-    c.field-writable.ensures ∙ sym (ap (λ (b : RegisterBank). writableRegister z.args.k z.args.f b z.args.n z.args.v) c.before.enum-told4.given.1)
+    c.field-writable.ensures ∙ sym (ap (λ (b : RegisterBank). writable_register z.args.k z.args.f b z.args.n z.args.v) c.before.enum-told4.given.1)
 
 returns-5 : tie.Need-returns-5
-unfolding writableRegister
+unfolding writable_register
 returns-5 c =
     let z = c.before.before.before in
-    sym (ap (λ (b : RegisterBank). writableRegister z.args.k z.args.f b z.args.n z.args.v) c.enum-told5.given.1)
+    sym (ap (λ (b : RegisterBank). writable_register z.args.k z.args.f b z.args.n z.args.v) c.enum-told5.given.1)
 
 pub register-writable-spec : {M : Type 1} → statement M
 register-writable-spec =

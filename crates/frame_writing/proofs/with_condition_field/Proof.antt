@@ -2,7 +2,7 @@
 -- The definition's own arithmetic in 64 bits; the sum fits 32. Assumes nothing.
 use Rattle.frame_rules.proofs.Writing.{field_fit}
 use Rattle.frame_writing.proofs.Fields.{field-parts}
-use Rattle.frame_rules.specs.Frames.{withConditionField}
+use Rattle.frame_rules.specs.Frames.{with_condition_field}
 use native.Mathlib.Omega.{arith}
 use borrow.Author.Rules.{rules}
 use Rattle.frame_writing.proofs.with_condition_field.Statement.{statement}
@@ -44,13 +44,13 @@ add-result-2 c =
     omega (arith, field-parts z.args.c c.unit.result z.args.v (omega arith) (omega arith))
 
 cast-result : tie.Need-overflow-cast-result
-unfolding withConditionField
+unfolding with_condition_field
 cast-result c =
     let z = c.before in
     let h = field_fit z.args.n z.args.c z.args.v (omega arith) (omega arith) (omega arith) in rw c.unit.ensures.0 (omega (arith, h))
 
 returns : tie.Need-returns
-unfolding withConditionField
+unfolding with_condition_field
 returns c = rw c.unit.ensures.0
 
 pub with-condition-field-spec : {M : Type 1} → statement M

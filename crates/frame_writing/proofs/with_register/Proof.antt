@@ -2,7 +2,7 @@
 -- By the bank, one register is stored. Assumes nothing.
 use Rattle.frame_rules.specs.Helpers.{Named}
 use Rattle.frame_rules.specs.declared.RegisterBank.{RegisterBank}
-use Rattle.frame_rules.specs.Frames.{withRegister}
+use Rattle.frame_rules.specs.Frames.{with_register}
 use native.Mathlib.Omega.{arith}
 use mathlib.Core.Path.{sym, ap, subst}
 use borrow.Author.Rules.{rules}
@@ -50,34 +50,34 @@ enum-told-5 : tie.Need-enum-told-5
 enum-told-5 c = search rules
 
 returns : tie.Need-returns
-unfolding withRegister
+unfolding with_register
 returns c =
     let z = c.before.before in
-    sym (ap (λ (b : RegisterBank). withRegister z.args.r b z.args.n z.args.v) c.enum_told.given.1)
+    sym (ap (λ (b : RegisterBank). with_register z.args.r b z.args.n z.args.v) c.enum_told.given.1)
 
 returns-2 : tie.Need-returns-2
-unfolding withRegister
+unfolding with_register
 returns-2 c =
     let z = c.before.before in
-    sym (ap (λ (b : RegisterBank). withRegister z.args.r b z.args.n z.args.v) c.enum-told2.given.1)
+    sym (ap (λ (b : RegisterBank). with_register z.args.r b z.args.n z.args.v) c.enum-told2.given.1)
 
 returns-3 : tie.Need-returns-3
-unfolding withRegister
+unfolding with_register
 returns-3 c =
     let z = c.before.before in
-    sym (ap (λ (b : RegisterBank). withRegister z.args.r b z.args.n z.args.v) c.enum-told3.given.1)
+    sym (ap (λ (b : RegisterBank). with_register z.args.r b z.args.n z.args.v) c.enum-told3.given.1)
 
 returns-4 : tie.Need-returns-4
-unfolding withRegister
+unfolding with_register
 returns-4 c =
     let z = c.before.before.before in
-    rw c.with-condition-field.ensures (sym (ap (λ (b : RegisterBank). withRegister z.args.r b z.args.n z.args.v) c.before.enum-told4.given.1))
+    rw c.with-condition-field.ensures (sym (ap (λ (b : RegisterBank). with_register z.args.r b z.args.n z.args.v) c.before.enum-told4.given.1))
 
 returns-5 : tie.Need-returns-5
-unfolding withRegister
+unfolding with_register
 returns-5 c =
     let z = c.before.before in
-    sym (ap (λ (b : RegisterBank). withRegister z.args.r b z.args.n z.args.v) c.enum-told5.given.1)
+    sym (ap (λ (b : RegisterBank). with_register z.args.r b z.args.n z.args.v) c.enum-told5.given.1)
 
 pub with-register-spec : {M : Type 1} → statement M
 with-register-spec =

@@ -6,7 +6,7 @@ use Prim.Native.Nat.{◌-◌, ◌*◌}
 use lib.ListN.{length}
 use borrow.Rule.Slice.PartMut.{put_mid}
 use Rattle.base_words.proofs.Splices.{lent-tail, length_part}
-use Rattle.plan_entries.specs.Words.{entryWords}
+use Rattle.plan_entries.specs.Words.{entry_words}
 use Rattle.plan_entries.proofs.keep_entry.Statement.{statement}
 use Rattle.plan_entries.proofs.keep_entry.Tie as tie
 
@@ -39,7 +39,7 @@ returns c =
     let z = c.before.before.before.before.before.args in
     let l = z.kept.now in
     let at = 13 * z.i in
-    ap (put_mid at (length l - at) l) c.before.before.put-entry.ensures ∙ lent-tail l at (entryWords z.item z.size z.value z.s)
+    ap (put_mid at (length l - at) l) c.before.before.put-entry.ensures ∙ lent-tail l at (entry_words z.item z.size z.value z.s)
 
 pub keep-entry-spec : {M : Type 1} → statement M
 keep-entry-spec =

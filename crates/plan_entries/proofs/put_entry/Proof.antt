@@ -3,7 +3,7 @@ use borrow.Author.Rules.{rules}
 use mathlib.Core.Path.{refl}
 use native.Mathlib.Omega.{arith}
 use lib.ListN.{length-set}
-use Rattle.plan_entries.specs.Words.{entryWords}
+use Rattle.plan_entries.specs.Words.{entry_words}
 use Rattle.plan_entries.proofs.Stores.{stored, stored-overlay}
 use Rattle.plan_entries.proofs.put_entry.Statement.{statement}
 use Rattle.plan_entries.proofs.put_entry.Tie as tie
@@ -81,11 +81,11 @@ same_length : tie.Need-same-length
 same_length c = simp length-set refl
 
 returns : tie.Need-returns
-unfolding stored entryWords
+unfolding stored entry_words
 returns c =
     let z = c.before.before.before.before.before.before.before.before.before.before.before.before.before.args in
     rw (c.start-word3.ensures, c.before.start-word2.ensures, c.before.before.start_word.ensures, c.before.before.before.before.first-word2.ensures, c.before.before.before.before.before.before.first_word.ensures)
-    (stored-overlay z.kept.now (entryWords z.item z.size z.value z.s))
+    (stored-overlay z.kept.now (entry_words z.item z.size z.value z.s))
 
 pub put-entry-spec : {M : Type 1} → statement M
 put-entry-spec =

@@ -1,6 +1,6 @@
 -- Each part in its turn.
 use Rattle.plan_text.proofs.Writing.{wrote_then}
-use Rattle.plan_line.specs.Line.{lineText}
+use Rattle.plan_line.specs.Line.{line_text}
 use native.Mathlib.Omega.{arith}
 use borrow.Author.Rules.{rules}
 use Rattle.plan_line.proofs.put_line.Statement.{statement}
@@ -28,7 +28,7 @@ same_length : tie.Need-same-length
 same_length c = search rules
 
 returns : tie.Need-returns
-unfolding lineText
+unfolding line_text
 returns c =
     let number = c.before.before.before.before.before.before.before.before.before.before.before.before.before.before.before.before.before.before.before.before.before.before.put-decimal.ensures in
     let registers = c.before.before.before.before.before.before.before.before.before.before.before.before.before.before.before.before.before.before.put-registers.ensures in

@@ -2,9 +2,9 @@
 use Rattle.plan_line.proofs.Places.{wrote-place}
 use Rattle.plan_text.proofs.Writing.{wrote-length, wrote_nothing}
 use Rattle.plan_text.specs.Writing.{Wrote}
-use Rattle.plan_line.specs.Line.{placesText}
+use Rattle.plan_line.specs.Line.{places_text}
 use Rattle.plan_places.proofs.Registers.{length-registers}
-use Rattle.plan_places.specs.Places.{registersOf}
+use Rattle.plan_places.specs.Places.{registers_of}
 use lib.Seq.{take_all}
 use lib.ListN.{take}
 use borrow.Author.Rules.{rules}
@@ -14,7 +14,7 @@ use Rattle.plan_line.proofs.put_registers.Statement.{statement}
 use Rattle.plan_line.proofs.put_registers.Tie as tie
 
 abbrev invariant-loop : tie.invariant-loop
-invariant-loop text₀ at s count next₀ i₀ text next i = Wrote text₀ text at next (placesText (take i (registersOf s))) × (i ≤ count) × (next ≤ at + 22 * i)
+invariant-loop text₀ at s count next₀ i₀ text next i = Wrote text₀ text at next (places_text (take i (registers_of s))) × (i ≤ count) × (next ≤ at + 22 * i)
 
 abbrev decreases-loop : tie.decreases-loop
 decreases-loop text₀ at s count next₀ i₀ text next i = count - i
@@ -29,7 +29,7 @@ add-count : tie.Need-overflow-add-count invariant-loop decreases-loop
 add-count c = search rules
 
 loop-holds : tie.Need-loop-init invariant-loop decreases-loop
-unfolding placesText
+unfolding places_text
 loop-holds c = (wrote_nothing _ _, omega arith, omega arith)
 
 register-of-requires : tie.Need-register-of-requires invariant-loop decreases-loop
@@ -50,7 +50,7 @@ loop-again c =
     let i = c.before.before.before.before.before.before.loop.i in
     let w = c.before.before.put-place.ensures in
     let inv = c.before.before.before.before.before.before.loop.invariant in
-    (wrote-place (registersOf s) i (omega (arith, length-registers s)) inv.0 (rw c.before.before.before.before.register_of.ensures at w.0), omega arith, omega (arith, w.1, inv.2))
+    (wrote-place (registers_of s) i (omega (arith, length-registers s)) inv.0 (rw c.before.before.before.before.register_of.ensures at w.0), omega arith, omega (arith, w.1, inv.2))
 
 same_length : tie.Need-same-length invariant-loop decreases-loop
 same_length c = wrote-length c.before.loop.invariant.0
@@ -59,7 +59,7 @@ returns : tie.Need-returns invariant-loop decreases-loop
 returns c =
     let s = c.before.before.before.before.before.before.before.args.s in
     let inv = c.before.loop.invariant in
-    let all = take_all c.before.loop.i (registersOf s) (omega (arith, length-registers s)) in
+    let all = take_all c.before.loop.i (registers_of s) (omega (arith, length-registers s)) in
     (rw all at inv.0, omega (arith, inv.1, inv.2))
 
 pub put-registers-spec : {M : Type 1} → statement M

@@ -1,6 +1,6 @@
 -- Each part in its turn.
 use Rattle.plan_text.proofs.Writing.{wrote_then}
-use Rattle.plan_listing.specs.Text.{headText}
+use Rattle.plan_listing.specs.Text.{head_text}
 use native.Mathlib.Omega.{arith}
 use borrow.Author.Rules.{rules}
 use Rattle.plan_listing.proofs.put_head.Statement.{statement}
@@ -31,7 +31,7 @@ same_length : tie.Need-same-length
 same_length c = search rules
 
 returns : tie.Need-returns
-unfolding headText
+unfolding head_text
 returns c =
     let name = c.before.before.before.before.before.before.before.before.before.before.before.before.before.before.before.before.before.before.before.before.put-name.ensures in
     let count = c.before.before.before.before.before.before.before.before.before.before.before.before.before.before.before.put-labelled.ensures in

@@ -2,8 +2,8 @@
 use Rattle.plan_listing.proofs.Lines.{wrote-line}
 use Rattle.plan_text.proofs.Writing.{wrote-length, wrote_nothing, wrote_then}
 use Rattle.plan_text.specs.Writing.{Wrote}
-use Rattle.plan_listing.specs.Text.{acceptedText, linesText}
-use Rattle.plan_plans.specs.Plan.{noSpan}
+use Rattle.plan_listing.specs.Text.{accepted_text, lines_text}
+use Rattle.plan_plans.specs.Plan.{no_span}
 use lib.Seq.{take_all, length-take-le, get_or-take}
 use lib.ListN.{take}
 use native.Mathlib.Omega.{arith}
@@ -13,7 +13,7 @@ use Rattle.plan_listing.proofs.put_lines.Statement.{statement}
 use Rattle.plan_listing.proofs.put_lines.Tie as tie
 
 abbrev invariant-loop : tie.invariant-loop
-invariant-loop text₀ p c count result next₀ i₀ text next i = Wrote text₀ text next₀ next (linesText c 0 (take i (take count p.spans))) × (i ≤ count) × (next ≤ 64 + 2100 * i)
+invariant-loop text₀ p c count result next₀ i₀ text next i = Wrote text₀ text next₀ next (lines_text c 0 (take i (take count p.spans))) × (i ≤ count) × (next ≤ 64 + 2100 * i)
 
 abbrev decreases-loop : tie.decreases-loop
 decreases-loop text₀ p c count result next₀ i₀ text next i = count - i
@@ -22,7 +22,7 @@ put-head-requires : tie.Need-put-head-requires invariant-loop decreases-loop
 put-head-requires c κs = omega arith
 
 loop-holds : tie.Need-loop-init invariant-loop decreases-loop
-unfolding linesText
+unfolding lines_text
 loop-holds c = (wrote_nothing _ _, omega arith, omega (arith, c.before.before.put-head.ensures.1))
 
 mul-s : tie.Need-overflow-mul-s invariant-loop decreases-loop
@@ -47,7 +47,7 @@ loop-again c =
     let w = c.before.before.put-line.ensures in
     let inv = c.before.before.before.before.before.before.loop.invariant in
     let many = length-take-le p.count p.spans c.before.before.before.before.before.before.before.before.before.before.before.before.requires.room in
-    let same = get_or-take p.count p.spans i noSpan (omega arith) in
+    let same = get_or-take p.count p.spans i no_span (omega arith) in
     (wrote-line p.convention (take p.count p.spans) i (omega arith) inv.0 (rw (sym same) at w.0), omega arith, omega (arith, w.1, inv.2))
 
 put-result-requires : tie.Need-put-result-requires invariant-loop decreases-loop
@@ -57,7 +57,7 @@ same_length : tie.Need-same-length invariant-loop decreases-loop
 same_length c = wrote-length (wrote_then c.before.before.before.before.before.before.before.before.put-head.ensures.0 (wrote_then c.before.before.before.before.before.loop.invariant.0 c.before.before.put-result.ensures))
 
 returns : tie.Need-returns invariant-loop decreases-loop
-unfolding acceptedText
+unfolding accepted_text
 returns c =
     let p = c.before.before.before.before.before.before.before.before.before.before.before.args.t2 in
     let many = length-take-le p.count p.spans c.before.before.before.before.before.before.before.before.before.before.before.requires.room in

@@ -1,5 +1,5 @@
 -- By cases on the outcome.
-use Rattle.plan_listing.specs.Text.{planText, acceptedText}
+use Rattle.plan_listing.specs.Text.{plan_text_of, accepted_text}
 use borrow.Author.Rules.{rules}
 use Rattle.plan_listing.proofs.put_plan.Statement.{statement}
 use Rattle.plan_listing.proofs.put_plan.Tie as tie
@@ -20,14 +20,14 @@ same_length : tie.Need-same-length
 same_length c = search rules
 
 returns : tie.Need-returns
-unfolding planText acceptedText
+unfolding plan_text_of accepted_text
 returns c = rw c.before.before.before.before.enum_told.given.1 c.before.before.put-lines.ensures
 
 same-length-2 : tie.Need-same-length-2
 same-length-2 c = search rules
 
 returns-2 : tie.Need-returns-2
-unfolding planText
+unfolding plan_text_of
 returns-2 c = rw c.before.before.before.before.before.outcome.given.1 c.before.before.put-refusal.ensures
 
 pub put-plan-spec : {M : Type 1} → statement M

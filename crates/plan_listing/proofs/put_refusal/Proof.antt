@@ -1,6 +1,6 @@
 -- Each part in its turn.
 use Rattle.plan_text.proofs.Writing.{wrote_then}
-use Rattle.plan_listing.specs.Text.{refusalText}
+use Rattle.plan_listing.specs.Text.{refusal_text}
 use borrow.Author.Rules.{rules}
 use Rattle.plan_listing.proofs.put_refusal.Statement.{statement}
 use Rattle.plan_listing.proofs.put_refusal.Tie as tie
@@ -33,7 +33,7 @@ same_length : tie.Need-same-length
 same_length c = search rules
 
 returns : tie.Need-returns
-unfolding refusalText
+unfolding refusal_text
 returns c =
     let number = c.before.before.before.before.before.before.before.before.before.before.before.before.before.before.before.before.put-labelled.ensures.0 in
     let place = c.before.before.before.before.before.before.before.before.before.before.before.put-labelled2.ensures.0 in

@@ -1,6 +1,6 @@
 -- Each part in its turn.
 use Rattle.plan_text.proofs.Writing.{wrote_then}
-use Rattle.plan_listing.specs.Text.{resultText}
+use Rattle.plan_listing.specs.Text.{result_text}
 use borrow.Author.Rules.{rules}
 use Rattle.plan_listing.proofs.put_result.Statement.{statement}
 use Rattle.plan_listing.proofs.put_result.Tie as tie
@@ -21,7 +21,7 @@ same_length : tie.Need-same-length
 same_length c = search rules
 
 returns : tie.Need-returns
-unfolding resultText
+unfolding result_text
 returns c = wrote_then c.before.before.before.before.before.before.before.before.before.before.put-bytes.ensures (wrote_then c.before.before.before.before.before.before.put-result-places.ensures.0 c.before.before.put_byte.ensures)
 
 pub put-result-spec : {M : Type 1} → statement M

@@ -4,8 +4,8 @@ use mathlib.Core.Path.{sym, ap, ◌∙◌}
 use mathlib.Core.List.{List}
 use Prim.Native.Nat.{ℕ}
 use lib.ListN.{length}
-use Rattle.sig_signatures.specs.Read.{argumentsIn, signature_of}
-use Rattle.plan_places.specs.Helpers.{alwaysClear}
+use Rattle.sig_signatures.specs.Read.{arguments_in, signature_of}
+use Rattle.plan_places.specs.Helpers.{always_clear}
 use Rattle.plan_measuring.proofs.Sizing.{measured-clear, same-measured}
 use Rattle.plan_measuring.proofs.measure_call.Statement.{statement}
 use Rattle.plan_measuring.proofs.measure_call.Tie as tie
@@ -23,9 +23,9 @@ returns : tie.Need-returns
 returns c =
     let a = c.before.before.before.before.before.args in
     let s : List ℕ = a.s.now in
-    let clear = sym (ap alwaysClear c.before.before.before.call-rules-of.ensures) ∙ sym c.before.before.always-clear.ensures ∙ c.before.if1.true in
+    let clear = sym (ap always_clear c.before.before.before.call-rules-of.ensures) ∙ sym c.before.before.always-clear.ensures ∙ c.before.if1.true in
     c.measure-plain.ensures
-    ∙ measured-clear a.convention a.returned (length s) (argumentsIn a.convention s a.at a.end) _ (signature_of s) clear
+    ∙ measured-clear a.convention a.returned (length s) (arguments_in a.convention s a.at a.end) _ (signature_of s) clear
 
 measure-arguments-requires : tie.Need-measure-arguments-requires
 measure-arguments-requires c κs = search rules

@@ -9,7 +9,7 @@ use Rattle.sig_items.proofs.Laws.{later-later}
 use Rattle.sig_items.proofs.Loop.{item-answered, fault-answered}
 use Rattle.sig_signatures.proofs.Loop.{turn-full, turn-no}
 use Rattle.plan_places.proofs.Bounds.{rules-lawful}
-use Rattle.plan_plans.specs.Plan.{refusedPlan, measureOf}
+use Rattle.plan_plans.specs.Plan.{refused_plan, measure_of}
 use Rattle.plan_plans.proofs.Fold.{reached-roomy}
 use Rattle.plan_plans.proofs.Measures.{measuring-start, measure-no, measure-trailing, measure-end}
 use Rattle.plan_measuring.proofs.Sizing.{Sizing, sizing-more}
@@ -99,7 +99,7 @@ no-measure-requires-2 c κs = search rules
 returns-2 : tie.Need-returns-2 invariant-loop decreases-loop
 returns-2 c =
     let refused-by = turn-no _ _ _ _ _ _ _ _ c.before.before.before.before.before.before.before.before.loop.invariant.1.so_far.turn c.before.before.before.before.before.before.before.loop-test.true c.before.before.before.before.before.before.if1.false _ c.before.before.before.before.before.read-item.ensures _ c.before.before.before.fault.given.1 in
-    c.no-measure2.ensures ∙ ap (λ (f : Fault). measureOf (refusedPlan f)) (c.before.later-by.ensures ∙ later-later _ _ _) ∙ measure-no _ _ _ _ _ _ _ refused-by
+    c.no-measure2.ensures ∙ ap (λ (f : Fault). measure_of (refused_plan f)) (c.before.later-by.ensures ∙ later-later _ _ _) ∙ measure-no _ _ _ _ _ _ _ refused-by
 
 add-counted : tie.Need-overflow-add-counted invariant-loop decreases-loop
 add-counted c = omega arith

@@ -1,5 +1,5 @@
 -- By cases on the family.
-use Rattle.plan_places.specs.Helpers.{alwaysClear}
+use Rattle.plan_places.specs.Helpers.{always_clear}
 use borrow.Author.Rules.{rules}
 use Rattle.plan_placing.proofs.always_clear.Statement.{statement}
 use Rattle.plan_placing.proofs.always_clear.Tie as tie
@@ -14,11 +14,11 @@ enum_told : tie.Need-enum-told
 enum_told c = search rules
 
 returns : tie.Need-returns
-unfolding alwaysClear
+unfolding always_clear
 returns c = rw c.before.before.r.given.1 c.is-earlier.ensures
 
 returns-2 : tie.Need-returns-2
-unfolding alwaysClear
+unfolding always_clear
 returns-2 c = rw c.enum_told.given.1
 
 pub always-clear-spec : {M : Type 1} → statement M

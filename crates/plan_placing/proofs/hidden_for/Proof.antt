@@ -1,5 +1,5 @@
 -- By cases on the type and, for a float, on the family and the format.
-use Rattle.plan_places.specs.Step.{hiddenFor}
+use Rattle.plan_places.specs.Step.{hidden_for}
 use borrow.Author.Rules.{rules}
 use Rattle.plan_placing.proofs.hidden_for.Statement.{statement}
 use Rattle.plan_placing.proofs.hidden_for.Tie as tie
@@ -29,27 +29,27 @@ enum-told-7 : tie.Need-enum-told-7
 enum-told-7 c = search rules
 
 returns : tie.Need-returns
-unfolding hiddenFor
+unfolding hidden_for
 returns c = rw c.enum_told.given.1
 
 returns-2 : tie.Need-returns-2
-unfolding hiddenFor
+unfolding hidden_for
 returns-2 c = rw (c.before.before.before.t.given.1, c.enum-told2.given.1)
 
 returns-3 : tie.Need-returns-3
-unfolding hiddenFor
+unfolding hidden_for
 returns-3 c = rw (c.before.before.before.before.before.t.given.1, c.before.before.enum-told3.given.1, c.enum-told4.given.1)
 
 returns-4 : tie.Need-returns-4
-unfolding hiddenFor
+unfolding hidden_for
 returns-4 c = rw (c.before.before.before.before.before.t.given.1, c.before.before.enum-told3.given.1, c.enum-told5.given.1)
 
 returns-5 : tie.Need-returns-5
-unfolding hiddenFor
+unfolding hidden_for
 returns-5 c = rw (c.before.before.before.before.before.t.given.1, c.before.before.enum-told3.given.1, c.enum-told6.given.1)
 
 returns-6 : tie.Need-returns-6
-unfolding hiddenFor
+unfolding hidden_for
 returns-6 c = rw c.enum-told7.given.1
 
 pub hidden-for-spec : {M : Type 1} → statement M

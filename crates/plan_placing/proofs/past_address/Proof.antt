@@ -2,7 +2,7 @@
 use borrow.Author.Rules.{rules}
 use mathlib.Core.Path.{sym, ap, ◌∙◌}
 use native.Mathlib.Omega.{arith}
-use Rattle.plan_places.specs.Step.{rulesOf, freshCursor, start_of}
+use Rattle.plan_places.specs.Step.{rules_of, fresh_cursor, start_of}
 use mathlib.Core.Bool.{true}
 use Rattle.plan_places.specs.declared.CallRules.{CallRules}
 use Rattle.plan_places.proofs.Bounds.{rules-lawful, fresh-roomy}
@@ -20,13 +20,13 @@ enum-known-f : tie.Need-enum-known-f
 enum-known-f c = search rules
 
 add-t6 : tie.Need-overflow-add-t6
-add-t6 c = rw c.before.before.before.before.before.cursor-of.ensures (omega (arith, fresh-roomy (rulesOf c.before.before.before.before.before.before.args.c)))
+add-t6 c = rw c.before.before.before.before.before.cursor-of.ensures (omega (arith, fresh-roomy (rules_of c.before.before.before.before.before.before.args.c)))
 
 enum_told : tie.Need-enum-told
 enum_told c = search rules
 
 add-t7 : tie.Need-overflow-add-t7
-add-t7 c = rw c.before.before.before.before.cursor-of.ensures (omega (arith, fresh-roomy (rulesOf c.before.before.before.before.before.args.c)))
+add-t7 c = rw c.before.before.before.before.cursor-of.ensures (omega (arith, fresh-roomy (rules_of c.before.before.before.before.before.args.c)))
 
 returns : tie.Need-returns
 returns c =

@@ -2,14 +2,14 @@
 use Prim.Native.Nat.{ℕ, zero, suc}
 use mathlib.Core.Bool.{Bool, false}
 use mathlib.Core.Path.{◌≡◌, refl, sym, ◌∙◌}
-use Rattle.plan_places.specs.Helpers.{unclearAfter}
+use Rattle.plan_places.specs.Helpers.{unclear_after}
 use Rattle.plan_places.proofs.Written.{always-clear}
 use borrow.Author.Rules.{rules}
 use Rattle.plan_placing.proofs.unclear_after.Statement.{statement}
 use Rattle.plan_placing.proofs.unclear_after.Tie as tie
 
-stays : (u i : ℕ) (b : Bool) → b ≡ false → u ≡ unclearAfter u b i
-unfolding unclearAfter
+stays : (u i : ℕ) (b : Bool) → b ≡ false → u ≡ unclear_after u b i
+unfolding unclear_after
 stays zero i b e = rw e
 stays (suc u) i b e = refl
 

@@ -1,5 +1,5 @@
 -- By cases on the family.
-use Rattle.plan_places.specs.Step.{unclearFor}
+use Rattle.plan_places.specs.Step.{unclear_for}
 use borrow.Author.Rules.{rules}
 use Rattle.plan_placing.proofs.unclear_for.Statement.{statement}
 use Rattle.plan_placing.proofs.unclear_for.Tie as tie
@@ -14,11 +14,11 @@ enum_told : tie.Need-enum-told
 enum_told c = search rules
 
 returns : tie.Need-returns
-unfolding unclearFor
+unfolding unclear_for
 returns c = rw c.before.before.r.given.1 c.is-unclear.ensures
 
 returns-2 : tie.Need-returns-2
-unfolding unclearFor
+unfolding unclear_for
 returns-2 c = rw c.enum_told.given.1
 
 pub unclear-for-spec : {M : Type 1} → statement M

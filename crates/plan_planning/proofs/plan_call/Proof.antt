@@ -2,7 +2,7 @@
 use mathlib.Core.Path.{◌≡◌, sym, ap, ◌∙◌}
 use native.Mathlib.Omega.{arith}
 use Prim.Native.Nat.{suc, ◌-◌}
-use Rattle.plan_plans.specs.Plan.{refusedPlan}
+use Rattle.plan_plans.specs.Plan.{refused_plan}
 use Rattle.sig_signatures.proofs.Types.{answer-plannable}
 use Rattle.plan_plans.proofs.Calls.{clear-plan, unclear-plan}
 use borrow.Author.Rules.{rules}
@@ -32,7 +32,7 @@ returns-2 c =
     let n = c.before.before.before.first-unclear.result in
     let some : n ≡ suc (n - 1) = omega (arith, c.before.before.if1.false) in
     c.blank.ensures
-    ∙ ap refusedPlan c.before.unclear-fault.ensures
+    ∙ ap refused_plan c.before.unclear-fault.ensures
     ∙ unclear-plan _ _ _ c.before.before.before.before.before.requires (sym c.before.before.before.first-unclear.ensures ∙ some)
 
 pub plan-call-spec : {M : Type 1} → statement M

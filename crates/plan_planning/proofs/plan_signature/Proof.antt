@@ -7,7 +7,7 @@ use Rattle.plan_plans.specs.declared.Plan.{Plan}
 use Rattle.plan_plans.proofs.Fold.{reached-roomy}
 use Rattle.plan_places.proofs.Bounds.{rules-lawful}
 use Rattle.plan_places.proofs.Marked.{lawful-marked}
-use Rattle.plan_places.specs.Step.{rulesOf, withEllipsis, start_of, placed}
+use Rattle.plan_places.specs.Step.{rules_of, with_ellipsis, start_of, placed}
 use borrow.Author.Rules.{rules}
 use native.Mathlib.Omega.{arith}
 use Prim.Native.Nat.{◌-◌}
@@ -106,7 +106,7 @@ loop-again c =
     let pre = start.requires in
     let i = turn.loop.i in
     let kept = turn.loop.invariant.1 in
-    let rules = turn.before.before.before.before.before.with-ellipsis.ensures ∙ ap (withEllipsis start.args.t1.ellipsis) turn.before.before.before.before.before.before.call-rules-of.ensures in
+    let rules = turn.before.before.before.before.before.with-ellipsis.ensures ∙ ap (with_ellipsis start.args.t1.ellipsis) turn.before.before.before.before.before.before.call-rules-of.ensures in
     let n = start.args.t1.count in
     let l = start.args.t1.arguments in
     let many = length_types n l pre.room in (
@@ -133,8 +133,8 @@ returns-2 c =
     let blank = c.before.before.before.blank2.ensures in
     rw c.before.before.before.before.before.before.before.before.before.enum-told2.given.1
     (gone-plan _ g.convention g.ellipsis g.result (types_in g) _ _ _ c.before.before.loop.plan _ _
-    (c.before.before.before.before.before.before.before.with-ellipsis.ensures ∙ ap (withEllipsis g.ellipsis) c.before.before.before.before.before.before.before.before.call-rules-of.ensures)
-    (c.before.before.before.before.start.ensures ∙ ap (start_of (rulesOf g.convention)) c.before.before.before.before.before.before.hidden-in.ensures)
+    (c.before.before.before.before.before.before.before.with-ellipsis.ensures ∙ ap (with_ellipsis g.ellipsis) c.before.before.before.before.before.before.before.before.call-rules-of.ensures)
+    (c.before.before.before.before.start.ensures ∙ ap (start_of (rules_of g.convention)) c.before.before.before.before.before.before.hidden-in.ensures)
     (going_end _ _ _ _ _ _ _ _ (omega arith) c.before.before.loop.invariant.0)
     (kept.outcome ∙ ap (λ (p : Plan). p.outcome) blank ∙ c.before.before.before.before.before.before.before.before.before.enum-told2.given.1)
     (kept.convention ∙ ap (λ (p : Plan). p.convention) blank)

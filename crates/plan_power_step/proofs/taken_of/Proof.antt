@@ -1,6 +1,6 @@
 -- Each part is what a callee gives, put together as the definition does.
 use Rattle.plan_places.proofs.Shares.{share-shared}
-use Rattle.plan_places.specs.Power.{powerShare}
+use Rattle.plan_places.specs.Power.{power_share}
 use Prim.Native.Nat.{◌-◌}
 use native.Mathlib.Omega.{arith}
 use borrow.Author.Rules.{rules}
@@ -26,7 +26,7 @@ share-of-requires : tie.Need-share-of-requires
 share-of-requires c κs = search rules
 
 returns : tie.Need-returns
-unfolding powerShare
+unfolding power_share
 returns c =
     let s = share-shared c.before.before.before.before.before.before.args.f.ellipsis c.before.before.fprs-of.result (14 - c.before.before.before.before.before.before.args.c.floating) c.before.before.before.before.before.words_of.result c.before.before.before.smaller.result (omega arith) in (
       c.before.before.before.before.before.words_of.ensures.0,

@@ -6,20 +6,20 @@ use mathlib.Core.Path.{◌≡◌, sym, ap, subst, ◌∙◌}
 use mathlib.Core.List.{List, ◌++◌}
 use lib.ListN.{length, take, drop}
 use lib.Seq.{take-length, length-take-le, get_or-take}
-use Rattle.plan_plans.specs.Plan.{noSpan}
+use Rattle.plan_plans.specs.Plan.{no_span}
 use Rattle.plan_places.proofs.Bounds.{rules-lawful}
-use Rattle.plan_places.specs.Step.{rulesOf}
+use Rattle.plan_places.specs.Step.{rules_of}
 use Rattle.plan_places.specs.Helpers.{LawfulCalls}
 use Rattle.plan_text.proofs.Writing.{wrote-length}
-use Rattle.plan_stored_items.specs.Places.{resultItem}
-use Rattle.plan_stored.specs.Stored.{argumentItems, planBytes, alike}
+use Rattle.plan_stored_items.specs.Places.{result_item}
+use Rattle.plan_stored.specs.Stored.{argument_items, plan_bytes, alike}
 use Rattle.plan_stored.proofs.Items.{items-next, items-none, plan-start}
 use Rattle.plan_stored.proofs.Alike.{Abreast, abreast-more, abreast-stops, made_more, made-stops, made-end}
 use Rattle.plan_stored.proofs.alike_plan.Statement.{statement}
 use Rattle.plan_stored.proofs.alike_plan.Tie as tie
 
 abbrev invariant-loop : tie.invariant-loop
-invariant-loop stored s p count result rules item₀ head signature next₀ i₀ item next i = Abreast stored (planBytes s p) (argumentItems rules (drop i (take count p.spans)) ++ resultItem result) next × (i ≤ count) × (length item ≡ 658)
+invariant-loop stored s p count result rules item₀ head signature next₀ i₀ item next i = Abreast stored (plan_bytes s p) (argument_items rules (drop i (take count p.spans)) ++ result_item result) next × (i ≤ count) × (length item ≡ 658)
 
 abbrev decreases-loop : tie.decreases-loop
 decreases-loop stored s p count result rules item₀ head signature next₀ i₀ item next i = count - i
@@ -91,8 +91,8 @@ returns-3 c =
     let inv = c.before.before.before.before.before.before.before.before.loop.invariant in
     let w = c.before.before.before.before.put-argument.ensures in
     let many = length-take-le p.count p.spans c.before.before.before.before.before.before.before.before.before.before.before.before.before.before.before.before.before.before.before.before.requires.1.printable.room in
-    let same = get_or-take p.count p.spans i noSpan (omega arith) in
-    let next = rw (items-next c.before.before.before.before.before.before.before.before.before.before.before.before.before.before.before.before.before.call-rules-of.result (take p.count p.spans) i (resultItem p.result) (omega arith), same) at inv.0 in
+    let same = get_or-take p.count p.spans i no_span (omega arith) in
+    let next = rw (items-next c.before.before.before.before.before.before.before.before.before.before.before.before.before.before.before.before.before.call-rules-of.result (take p.count p.spans) i (result_item p.result) (omega arith), same) at inv.0 in
     made-stops xs _ _ _ _ _ _ _ w.0 (omega (arith, w.1, inv.2)) c.before.alike-from3.ensures _ next (omega arith)
 
 add-i : tie.Need-overflow-add-i invariant-loop decreases-loop
@@ -109,8 +109,8 @@ loop-again c =
     let inv = c.before.before.before.before.before.before.before.before.loop.invariant in
     let w = c.before.before.before.before.put-argument.ensures in
     let many = length-take-le p.count p.spans c.before.before.before.before.before.before.before.before.before.before.before.before.before.before.before.before.before.before.before.before.requires.1.printable.room in
-    let same = get_or-take p.count p.spans i noSpan (omega arith) in
-    let next = rw (items-next c.before.before.before.before.before.before.before.before.before.before.before.before.before.before.before.before.before.call-rules-of.result (take p.count p.spans) i (resultItem p.result) (omega arith), same) at inv.0 in
+    let same = get_or-take p.count p.spans i no_span (omega arith) in
+    let next = rw (items-next c.before.before.before.before.before.before.before.before.before.before.before.before.before.before.before.before.before.call-rules-of.result (take p.count p.spans) i (result_item p.result) (omega arith), same) at inv.0 in
     (made_more xs _ _ _ _ _ _ _ w.0 (omega (arith, w.1, inv.2)) c.before.alike-from3.ensures _ next (omega arith), omega arith, wrote-length w.0 ∙ inv.2)
 
 slice-aggregate-put-result : tie.Need-slice-aggregate-put-result invariant-loop decreases-loop
@@ -133,7 +133,7 @@ returns-4 c =
     let inv = c.before.before.before.before.before.before.loop.invariant in
     let w = c.before.before.before.put-result.ensures in
     let many = length-take-le p.count p.spans c.before.before.before.before.before.before.before.before.before.before.before.before.before.before.before.before.before.before.requires.1.printable.room in
-    let last = rw (items-none c.before.before.before.before.before.before.before.before.before.before.before.before.before.before.before.call-rules-of.result (take p.count p.spans) i (resultItem p.result) (omega arith)) at inv.0 in
+    let last = rw (items-none c.before.before.before.before.before.before.before.before.before.before.before.before.before.before.before.call-rules-of.result (take p.count p.spans) i (result_item p.result) (omega arith)) at inv.0 in
     made-end xs _ _ _ _ _ _ _ w.0 (omega (arith, w.1, inv.2)) c.alike-from4.ensures last
 
 pub alike-plan-spec : {M : Type 1} → statement M

@@ -1,6 +1,6 @@
 -- The lengths of the items so far are added up.
 use mathlib.Core.List.{◌++◌}
-use Rattle.plan_stored_items.specs.Places.{argumentItem, resultItem}
+use Rattle.plan_stored_items.specs.Places.{argument_item, result_item}
 use Rattle.plan_places.specs.Helpers.{LawfulCalls}
 use borrow.Author.Rules.{rules}
 use mathlib.Core.Path.{◌≡◌, sym, ap, subst, ◌∙◌}
@@ -8,17 +8,17 @@ use Prim.Native.Nat.{ℕ, ◌-◌, ◌+◌, ◌*◌, ◌≤◌, ◌<◌}
 use native.Mathlib.Omega.{arith}
 use lib.ListN.{length, take, get_or, length-append}
 use lib.Seq.{length-take-le, get_or-take, take_all}
-use Rattle.plan_plans.specs.Plan.{noSpan}
+use Rattle.plan_plans.specs.Plan.{no_span}
 use Rattle.plan_places.proofs.Bounds.{rules-lawful}
-use Rattle.plan_places.specs.Step.{rulesOf}
+use Rattle.plan_places.specs.Step.{rules_of}
 use Rattle.sig_items.specs.Encode.{item}
-use Rattle.plan_stored.specs.Stored.{argumentItems, planBytes}
+use Rattle.plan_stored.specs.Stored.{argument_items, plan_bytes}
 use Rattle.plan_stored.proofs.Items.{length_more}
 use Rattle.plan_stored.proofs.plan_length.Statement.{statement}
 use Rattle.plan_stored.proofs.plan_length.Tie as tie
 
 abbrev invariant-loop : tie.invariant-loop
-invariant-loop s p count result rules next₀ i₀ next i = (next ≡ next₀ + length (argumentItems rules (take i (take count p.spans)))) × (i ≤ count) × (next ≤ next₀ + 658 * i)
+invariant-loop s p count result rules next₀ i₀ next i = (next ≡ next₀ + length (argument_items rules (take i (take count p.spans)))) × (i ≤ count) × (next ≤ next₀ + 658 * i)
 
 abbrev decreases-loop : tie.decreases-loop
 decreases-loop s p count result rules next₀ i₀ next i = count - i
@@ -30,7 +30,7 @@ add-next : tie.Need-overflow-add-next invariant-loop decreases-loop
 add-next c = omega (arith, c.before.before.requires.0)
 
 loop-holds : tie.Need-loop-init invariant-loop decreases-loop
-unfolding argumentItems
+unfolding argument_items
 loop-holds c = (omega arith, omega arith, omega arith)
 
 mul-a : tie.Need-overflow-mul-a invariant-loop decreases-loop
@@ -59,9 +59,9 @@ loop-again c =
     let inv = c.before.before.before.loop.invariant in
     let n = c.argument-length.ensures in
     let many = length-take-le p.count p.spans c.before.before.before.before.before.before.requires.1.printable.room in
-    let same = get_or-take p.count p.spans i noSpan (omega arith) in
+    let same = get_or-take p.count p.spans i no_span (omega arith) in
     let more = length_more rules (take p.count p.spans) i (omega arith) in
-    let item = ap (λ s. length (argumentItem rules s)) same in
+    let item = ap (λ s. length (argument_item rules s)) same in
     (omega (arith, inv.0, n.0, more, item), omega arith, omega (arith, inv.2, n.1))
 
 result-length-requires : tie.Need-result-length-requires invariant-loop decreases-loop
@@ -71,7 +71,7 @@ add-result : tie.Need-overflow-add-result invariant-loop decreases-loop
 add-result c = omega (arith, c.before.before.loop.invariant.1, c.before.before.loop.invariant.2, c.result-length.ensures.1, c.before.before.before.before.before.requires.0, c.before.before.before.before.before.requires.1.printable.few)
 
 returns : tie.Need-returns invariant-loop decreases-loop
-unfolding planBytes item
+unfolding plan_bytes item
 returns c =
     let p = c.before.before.before.before.before.args.t2 in
     let i = c.before.before.loop.i in
@@ -79,8 +79,8 @@ returns c =
     let many = length-take-le p.count p.spans c.before.before.before.before.before.requires.1.printable.room in
     let all = take_all i (take p.count p.spans) (omega arith) in
     let items = rw (all, c.before.before.before.call-rules-of.ensures) at inv.0 in
-    let tail = length-append (argumentItems (rulesOf p.convention) (take p.count p.spans)) (resultItem p.result) in
-    let whole = length-append c.before.before.before.before.before.args.s.now (argumentItems (rulesOf p.convention) (take p.count p.spans) ++ resultItem p.result) in
+    let tail = length-append (argument_items (rules_of p.convention) (take p.count p.spans)) (result_item p.result) in
+    let whole = length-append c.before.before.before.before.before.args.s.now (argument_items (rules_of p.convention) (take p.count p.spans) ++ result_item p.result) in
     omega (arith, items, c.result-length.ensures.0, tail, whole)
 
 pub plan-length-spec : {M : Type 1} → statement M

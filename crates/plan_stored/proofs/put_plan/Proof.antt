@@ -5,20 +5,20 @@ use Prim.Native.Nat.{◌+◌, ◌-◌, ◌*◌, ◌≤◌}
 use mathlib.Core.Path.{sym, subst}
 use lib.ListN.{take}
 use lib.Seq.{take_all, length-take-le, get_or-take}
-use Rattle.plan_plans.specs.Plan.{noSpan}
+use Rattle.plan_plans.specs.Plan.{no_span}
 use Rattle.plan_places.proofs.Bounds.{rules-lawful}
-use Rattle.plan_places.specs.Step.{rulesOf}
+use Rattle.plan_places.specs.Step.{rules_of}
 use Rattle.plan_places.specs.Helpers.{LawfulCalls}
 use Rattle.sig_items.specs.Encode.{item}
 use Rattle.plan_text.specs.Writing.{Wrote}
 use Rattle.plan_text.proofs.Writing.{wrote-length, wrote_nothing, wrote_then}
-use Rattle.plan_stored.specs.Stored.{argumentItems, planBytes}
+use Rattle.plan_stored.specs.Stored.{argument_items, plan_bytes}
 use Rattle.plan_stored.proofs.Items.{wrote-item}
 use Rattle.plan_stored.proofs.put_plan.Statement.{statement}
 use Rattle.plan_stored.proofs.put_plan.Tie as tie
 
 abbrev invariant-loop : tie.invariant-loop
-invariant-loop bytes₀ s p count result rules head next₀ i₀ bytes next i = Wrote bytes₀ bytes next₀ next (argumentItems rules (take i (take count p.spans))) × (i ≤ count) × (next ≤ 16387 + 658 * i)
+invariant-loop bytes₀ s p count result rules head next₀ i₀ bytes next i = Wrote bytes₀ bytes next₀ next (argument_items rules (take i (take count p.spans))) × (i ≤ count) × (next ≤ 16387 + 658 * i)
 
 abbrev decreases-loop : tie.decreases-loop
 decreases-loop bytes₀ s p count result rules head next₀ i₀ bytes next i = count - i
@@ -33,7 +33,7 @@ put-bytes-requires : tie.Need-put-bytes-requires invariant-loop decreases-loop
 put-bytes-requires c κs = omega (arith, c.before.before.before.put-header.ensures.1, c.before.before.before.before.before.before.before.before.requires.0)
 
 loop-holds : tie.Need-loop-init invariant-loop decreases-loop
-unfolding argumentItems
+unfolding argument_items
 loop-holds c = (wrote_nothing _ _, omega arith, omega (arith, c.before.before.put-bytes.ensures.end, c.before.before.before.before.before.before.put-header.ensures.1, c.before.before.before.before.before.before.before.before.before.before.before.requires.0))
 
 mul-a : tie.Need-overflow-mul-a invariant-loop decreases-loop
@@ -58,7 +58,7 @@ loop-again c =
     let w = c.before.before.put-argument.ensures in
     let inv = c.before.before.before.before.before.before.loop.invariant in
     let many = length-take-le p.count p.spans c.before.before.before.before.before.before.before.before.before.before.before.before.before.before.before.before.before.before.requires.1.printable.room in
-    let same = get_or-take p.count p.spans i noSpan (omega arith) in
+    let same = get_or-take p.count p.spans i no_span (omega arith) in
     (wrote-item c.before.before.before.before.before.before.before.before.before.before.before.before.before.before.before.call-rules-of.result (take p.count p.spans) i (omega arith) inv.0 (rw (sym same) at w.0), omega arith, omega (arith, w.1, inv.2))
 
 put-result-requires : tie.Need-put-result-requires invariant-loop decreases-loop
@@ -68,7 +68,7 @@ same_length : tie.Need-same-length invariant-loop decreases-loop
 same_length c = wrote-length (wrote_then c.before.before.before.before.before.before.before.before.before.before.before.before.put-header.ensures.0 (wrote_then c.before.before.before.before.before.before.before.before.put-bytes.ensures (wrote_then c.before.before.before.before.before.loop.invariant.0 c.before.before.put-result.ensures.0)))
 
 returns : tie.Need-returns invariant-loop decreases-loop
-unfolding planBytes item
+unfolding plan_bytes item
 returns c =
     let p = c.before.before.before.before.before.before.before.before.before.before.before.before.before.before.before.before.before.args.t3 in
     let many = length-take-le p.count p.spans c.before.before.before.before.before.before.before.before.before.before.before.before.before.before.before.before.before.requires.1.printable.room in

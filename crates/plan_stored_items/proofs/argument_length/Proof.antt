@@ -2,7 +2,7 @@
 use mathlib.Core.Path.{sym, ◌∙◌}
 use native.Mathlib.Omega.{arith}
 use Rattle.base_words.proofs.Tests.{flag-le, flag-pick}
-use Rattle.plan_stored_items.specs.Places.{floatingRun, generalRun, memoryRun, copyRun}
+use Rattle.plan_stored_items.specs.Places.{floating_run, general_run, memory_run, copy_run}
 use Rattle.plan_stored_items.proofs.Laws.{length-argument}
 use borrow.Author.Rules.{rules}
 use Rattle.plan_stored_items.proofs.argument_length.Statement.{statement}
@@ -39,7 +39,7 @@ add-result-4 : tie.Need-overflow-add-result-4
 add-result-4 c = omega (arith, c.before.before.before.before.before.before.before.before.requires.1.numbered.0, c.before.before.before.before.before.before.before.before.requires.1.numbered.1, c.before.before.before.words-in.ensures.1, c.before.before.flag.ensures, flag-le c.before.before.before.before.before.before.before.before.args.s.indirect)
 
 returns : tie.Need-returns
-unfolding floatingRun generalRun memoryRun copyRun
+unfolding floating_run general_run memory_run copy_run
 returns c = (rw (c.before.before.before.words-in.ensures.0, c.before.before.flag.ensures, flag-pick c.before.before.before.before.before.before.before.before.args.s.indirect) (sym (length-argument c.before.before.before.before.before.before.before.before.args.rules c.before.before.before.before.before.before.before.before.args.s)), omega (arith, c.before.before.before.before.before.before.before.before.requires.1.numbered.0, c.before.before.before.before.before.before.before.before.requires.1.numbered.1, c.before.before.before.words-in.ensures.1, c.before.before.flag.ensures, flag-le c.before.before.before.before.before.before.before.before.args.s.indirect))
 
 pub argument-length-spec : {M : Type 1} → statement M

@@ -1,7 +1,7 @@
 -- Each part is the definition's.
 use mathlib.Core.Path.{◌∙◌}
 use Rattle.plan_stored_items.proofs.Laws.{floating-run}
-use Rattle.plan_stored_items.specs.Places.{floatingRun}
+use Rattle.plan_stored_items.specs.Places.{floating_run}
 use borrow.Author.Rules.{rules}
 use Rattle.plan_stored_items.proofs.floating_run.Statement.{statement}
 use Rattle.plan_stored_items.proofs.floating_run.Tie as tie
@@ -19,7 +19,7 @@ register-run-requires : tie.Need-register-run-requires
 register-run-requires c κs = search rules
 
 returns : tie.Need-returns
-unfolding floatingRun
+unfolding floating_run
 returns c = floating-run c.before.before.before.before.before.before.args.rules c.before.before.before.before.before.before.args.s c.before.before.before.before.before.before.requires _ (c.register-run.ensures ∙ rw (c.before.bytes-in-area2.ensures, c.before.before.bytes-in-area.ensures))
 
 pub floating-run-spec : {M : Type 1} → statement M

@@ -1,7 +1,7 @@
 -- Each part is the definition's.
 use mathlib.Core.Path.{◌∙◌}
 use Rattle.plan_stored_items.proofs.Laws.{general-run}
-use Rattle.plan_stored_items.specs.Places.{generalRun}
+use Rattle.plan_stored_items.specs.Places.{general_run}
 use borrow.Author.Rules.{rules}
 use Rattle.plan_stored_items.proofs.general_run.Statement.{statement}
 use Rattle.plan_stored_items.proofs.general_run.Tie as tie
@@ -22,7 +22,7 @@ register-run-requires : tie.Need-register-run-requires
 register-run-requires c κs = search rules
 
 returns : tie.Need-returns
-unfolding generalRun
+unfolding general_run
 returns c = general-run c.before.before.before.before.before.before.before.args.rules c.before.before.before.before.before.before.before.args.s c.before.before.before.before.before.before.before.requires.0 c.before.before.before.before.before.before.before.requires.1 _ (c.register-run.ensures ∙ rw (c.before.bytes-in-area2.ensures, c.before.before.word_of.ensures, c.before.before.before.bytes-in-area.ensures))
 
 pub general-run-spec : {M : Type 1} → statement M

@@ -1,7 +1,7 @@
 -- Each part is the definition's.
 use native.Mathlib.Omega.{arith}
 use Rattle.plan_stored_items.proofs.Laws.{memory-run}
-use Rattle.plan_stored_items.specs.Places.{memoryRun}
+use Rattle.plan_stored_items.specs.Places.{memory_run}
 use borrow.Author.Rules.{rules}
 use Rattle.plan_stored_items.proofs.memory_run.Statement.{statement}
 use Rattle.plan_stored_items.proofs.memory_run.Tie as tie
@@ -25,7 +25,7 @@ add-t8 : tie.Need-overflow-add-t8
 add-t8 c = search rules
 
 returns : tie.Need-returns
-unfolding memoryRun
+unfolding memory_run
 returns c = memory-run c.before.before.before.before.before.before.args.rules c.before.before.before.before.before.before.args.s c.before.before.before.before.before.before.requires.0 c.before.before.before.before.before.before.requires.1 _ (rw (c.before.words-in.ensures.0, c.before.before.before.listed-from.ensures.0, c.before.before.before.before.word_of.ensures))
 
 pub memory-run-spec : {M : Type 1} → statement M

@@ -1,5 +1,5 @@
 -- A byte after the other.
-use Rattle.plan_stored_items.specs.Places.{placeBytes}
+use Rattle.plan_stored_items.specs.Places.{place_bytes}
 use Rattle.plan_text.proofs.Writing.{wrote_then}
 use native.Mathlib.Omega.{arith}
 use borrow.Author.Rules.{rules}
@@ -25,7 +25,7 @@ same_length : tie.Need-same-length
 same_length c = search rules
 
 returns : tie.Need-returns
-unfolding placeBytes
+unfolding place_bytes
 returns c = (wrote_then c.before.before.before.before.before.before.before.before.before.before.before.before.before.before.put_byte.ensures (wrote_then c.before.before.before.before.before.before.before.before.before.before.put-byte2.ensures (wrote_then c.before.before.before.before.before.before.put-byte3.ensures c.before.before.put_two.ensures.0)), omega (arith, c.before.before.before.before.before.before.before.before.before.before.before.before.before.before.put_byte.ensures.end, c.before.before.before.before.before.before.before.before.before.before.put-byte2.ensures.end, c.before.before.before.before.before.before.put-byte3.ensures.end, c.before.before.put_two.ensures.1))
 
 pub put-place-spec : {M : Type 1} → statement M

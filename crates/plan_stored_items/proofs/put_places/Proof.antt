@@ -1,6 +1,6 @@
 -- The places so far are written.
 use Rattle.plan_text.proofs.Writing.{wrote-length}
-use Rattle.plan_stored_items.specs.Places.{placeRun}
+use Rattle.plan_stored_items.specs.Places.{place_run}
 use Rattle.plan_stored_items.proofs.Laws.{Going, going_start, going_more, going_end}
 use borrow.Author.Rules.{rules}
 use native.Mathlib.Omega.{arith}
@@ -8,7 +8,7 @@ use Rattle.plan_stored_items.proofs.put_places.Statement.{statement}
 use Rattle.plan_stored_items.proofs.put_places.Tie as tie
 
 abbrev invariant-loop : tie.invariant-loop
-invariant-loop bytes₀ at kind bank on by number₀ offset₀ left₀ next₀ bytes number offset left next = Going (placeRun kind bank on by number₀ offset₀ left₀) bytes₀ bytes at next number offset left
+invariant-loop bytes₀ at kind bank on by number₀ offset₀ left₀ next₀ bytes number offset left next = Going (place_run kind bank on by number₀ offset₀ left₀) bytes₀ bytes at next number offset left
 
 abbrev decreases-loop : tie.decreases-loop
 decreases-loop bytes₀ at kind bank on by number₀ offset₀ left₀ next₀ bytes number offset left next = left

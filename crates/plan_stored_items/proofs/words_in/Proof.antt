@@ -1,6 +1,6 @@
 -- A quotient times its divisor is at most the dividend.
 use Prim.Native.Nat.{ℕ, ◌/◌, ◌≤◌}
-use Rattle.plan_places.specs.Step.{wordOf}
+use Rattle.plan_places.specs.Step.{word_of}
 use mathlib.Core.Path.{◌≡◌, sym, ap, ◌∙◌}
 use native.Mathlib.Omega.{arith}
 use Rattle.plan_places.proofs.Bounds.{word_some}
@@ -13,7 +13,7 @@ word-of-requires : tie.Need-word-of-requires
 word-of-requires c κs = search rules
 
 returns : tie.Need-returns
-returns c = let same : 8 ≡ wordOf c.before.before.args.rules = sym c.if1.true ∙ c.before.word_of.ensures in
+returns c = let same : 8 ≡ word_of c.before.before.args.rules = sym c.if1.true ∙ c.before.word_of.ensures in
     (ap (λ (w : ℕ). c.before.before.args.length / w) same, omega (arith, c.before.before.requires.1))
 
 div-result : tie.Need-nonzero-div-result

@@ -3,7 +3,7 @@ use borrow.Author.Rules.{rules}
 use mathlib.Core.Path.{refl, sym, ap, ◌∙◌}
 use native.Mathlib.Omega.{arith}
 use Prim.Native.Nat.{◌+◌, ◌-◌}
-use Rattle.base_words.specs.Splice.{overlayWhole}
+use Rattle.base_words.specs.Splice.{overlay_whole}
 use Rattle.sig_items.specs.declared.Fault.{Fault}
 use Rattle.sig_items.proofs.Laws.{later-later}
 use Rattle.sig_items.proofs.Loop.{item-answered, fault-answered}
@@ -11,9 +11,9 @@ use Rattle.sig_signatures.proofs.Loop.{turn-full, turn-no}
 use Rattle.plan_places.specs.Step.{placed}
 use Rattle.plan_places.proofs.Bounds.{rules-lawful}
 use Rattle.plan_places.proofs.Marked.{lawful-marked}
-use Rattle.plan_plans.specs.Plan.{refusedPlan}
+use Rattle.plan_plans.specs.Plan.{refused_plan}
 use Rattle.plan_plans.proofs.Fold.{reached-roomy}
-use Rattle.plan_words.specs.Planned.{plannedOf}
+use Rattle.plan_words.specs.Planned.{planned_of}
 use Rattle.plan_words.proofs.Turns.{Keeping, keeping_start, keeping-more, keeping-length, plan-no, rows-no, plan-trailing, rows-trailing, plan-end, rows_end, plan-unclear, rows-unclear}
 use Rattle.plan_words.proofs.plan_arguments.Statement.{statement}
 use Rattle.plan_words.proofs.plan_arguments.Tie as tie
@@ -134,7 +134,7 @@ same-length-2 c = keeping-length _ _ _ _ _ _ _ _ _ _ _ _ _ _ c.before.before.bef
 returns-2 : tie.Need-returns-2 invariant-loop decreases-loop
 returns-2 c =
     let stopped = turn-no _ _ _ _ _ _ _ _ c.before.before.before.before.before.before.before.before.loop.invariant.sizes.turn c.before.before.before.before.before.before.before.loop-test.true c.before.before.before.before.before.before.if1.false _ c.before.before.before.before.before.read-item.ensures _ c.before.before.before.fault.given.1 in (
-      c.no-plan2.ensures ∙ ap (λ (f : Fault). plannedOf (refusedPlan f)) (c.before.later-by.ensures ∙ later-later _ _ _) ∙ plan-no _ _ _ _ _ _ _ _ stopped,
+      c.no-plan2.ensures ∙ ap (λ (f : Fault). planned_of (refused_plan f)) (c.before.later-by.ensures ∙ later-later _ _ _) ∙ plan-no _ _ _ _ _ _ _ _ stopped,
       rows-no _ _ _ _ _ _ c.before.before.before.before.before.before.before.before.before.before.before.before.before.before.before.before.args.earlier _ stopped _,
     )
 
@@ -168,7 +168,7 @@ returns-4 c =
     let left = c.before.before.before.before.loop-test.false in
     let last = c.before.before.before.if2.false in
     let some = c.before.before.if3.true in (
-      c.no-plan4.ensures ∙ ap (λ (f : Fault). plannedOf (refusedPlan f)) c.before.unclear-fault.ensures ∙ plan-unclear _ _ _ _ _ _ _ _ _ _ _ _ _ _ _ m left last (omega (arith, some)),
+      c.no-plan4.ensures ∙ ap (λ (f : Fault). planned_of (refused_plan f)) c.before.unclear-fault.ensures ∙ plan-unclear _ _ _ _ _ _ _ _ _ _ _ _ _ _ _ m left last (omega (arith, some)),
       rows-unclear _ _ _ _ _ _ c.before.before.before.before.before.before.before.before.before.before.before.before.before.args.earlier _ _ _ _ _ _ _ _ m left last (omega (arith, some)) _,
     )
 
@@ -198,7 +198,7 @@ returns-5 c =
     let m = c.before.before.before.before.before.before.before.before.before.before.loop.invariant in
     let room = c.before.before.before.before.before.before.before.before.before.before.before.before.before.before.before.before.before.before.requires.4 c.before.before.before.before.before.before.before.before.before.before.loop.count (omega (arith, m.sizes.turn.few)) (omega (arith, m.sizes.turn.apart, m.sizes.turn.within)) in (
       rw (c.area_of.ensures, c.before.result_words.ensures) (plan-end _ _ _ _ _ _ _ _ _ _ _ _ _ _ _ m c.before.before.before.before.before.before.before.before.before.loop-test.false c.before.before.before.before.before.before.before.before.if2.false (omega (arith, c.before.before.before.before.before.before.before.if3.false))),
-      c.before.before.before.before.write-table.ensures ∙ ap (overlayWhole c.before.before.before.before.before.before.before.before.before.before.before.before.before.before.before.before.before.before.args.places.now) (rows_end _ _ _ _ _ _ c.before.before.before.before.before.before.before.before.before.before.before.before.before.before.before.before.before.before.args.earlier _ _ _ _ _ _ _ _ m c.before.before.before.before.before.before.before.before.before.loop-test.false c.before.before.before.before.before.before.before.before.if2.false (omega (arith, c.before.before.before.before.before.before.before.if3.false)) room),
+      c.before.before.before.before.write-table.ensures ∙ ap (overlay_whole c.before.before.before.before.before.before.before.before.before.before.before.before.before.before.before.before.before.before.args.places.now) (rows_end _ _ _ _ _ _ c.before.before.before.before.before.before.before.before.before.before.before.before.before.before.before.before.before.before.args.earlier _ _ _ _ _ _ _ _ m c.before.before.before.before.before.before.before.before.before.loop-test.false c.before.before.before.before.before.before.before.before.if2.false (omega (arith, c.before.before.before.before.before.before.before.if3.false)) room),
     )
 
 pub plan-arguments-spec : {M : Type 1} → statement M

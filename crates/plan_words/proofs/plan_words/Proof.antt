@@ -2,13 +2,13 @@
 use borrow.Author.Rules.{rules}
 use mathlib.Core.Path.{sym, ap, ◌∙◌}
 use native.Mathlib.Omega.{arith}
-use Rattle.base_words.specs.Splice.{overlayWhole}
+use Rattle.base_words.specs.Splice.{overlay_whole}
 use Rattle.sig_signatures.proofs.Laws.{signature-refused}
 use Rattle.sig_signatures.proofs.Sound.{head-bounded}
-use Rattle.plan_plans.specs.Plan.{planAnswer}
+use Rattle.plan_plans.specs.Plan.{plan_answer}
 use Rattle.plan_plans.specs.Call.{called}
 use Rattle.plan_plans.proofs.Measures.{plan-arguments, unclear-arguments}
-use Rattle.plan_words.specs.Planned.{plannedOf}
+use Rattle.plan_words.specs.Planned.{planned_of}
 use Rattle.plan_entries.proofs.Copies.{tabled-nothing}
 use Rattle.plan_words.proofs.Rows.{rows-entries, no-entries, planned-called, rows-called}
 use Rattle.plan_words.proofs.plan_words.Statement.{statement}
@@ -34,11 +34,11 @@ plan-part-requires c κs =
     (omega arith, omega arith, k.short, omega arith)
 
 returns : tie.Need-returns
-unfolding called planAnswer
+unfolding called plan_answer
 returns c =
     let none = signature-refused _ _ c.before.before.before.before.read_head.ensures _ c.before.before.fault.given.1 in
     let table = c.before.before.before.before.before.before.before.args.places.now in
-    (c.no-plan.ensures ∙ rw none, tabled-nothing table ∙ ap (overlayWhole table) (no-entries _ _ none))
+    (c.no-plan.ensures ∙ rw none, tabled-nothing table ∙ ap (overlay_whole table) (no-entries _ _ none))
 
 same_length : tie.Need-same-length
 same_length c = search rules
@@ -48,8 +48,8 @@ returns-2 c =
     let found = c.before.before.before.before.before.before.before.read_head.ensures in
     let is = c.before.before.before.before.before.convention.given.1 in
     let unclear = sym (unclear-arguments _ _ found _ _ _ _ _ _ is) in (
-      c.before.before.plan-part.ensures.0 ∙ planned-called _ _ _ (sym (ap plannedOf (plan-arguments _ _ found _ _ _ _ _ _ is))) unclear,
-      c.before.before.plan-part.ensures.1 ∙ ap (overlayWhole c.before.before.before.before.before.before.before.before.before.before.args.places.now) (rows-called _ _ _ (rows-entries _ _ found _ _ _ _ _ _ is) unclear),
+      c.before.before.plan-part.ensures.0 ∙ planned-called _ _ _ (sym (ap planned_of (plan-arguments _ _ found _ _ _ _ _ _ is))) unclear,
+      c.before.before.plan-part.ensures.1 ∙ ap (overlay_whole c.before.before.before.before.before.before.before.before.before.before.args.places.now) (rows-called _ _ _ (rows-entries _ _ found _ _ _ _ _ _ is) unclear),
     )
 
 pub plan-words-spec : {M : Type 1} → statement M

@@ -1,5 +1,5 @@
 -- The next cursor of what the class takes.
-use Rattle.plan_places.specs.Step.{nextOf}
+use Rattle.plan_places.specs.Step.{next_of}
 use mathlib.Core.Path.{sym, ◌∙◌}
 use borrow.Author.Rules.{rules}
 use Rattle.plan_z_step.proofs.advance.Statement.{statement}
@@ -15,7 +15,7 @@ next-of-requires : tie.Need-next-of-requires
 next-of-requires c κs = search rules
 
 returns : tie.Need-returns
-unfolding nextOf
+unfolding next_of
 returns c = c.next_of.ensures ∙ sym (simp c.before.before.class_of.ensures at c.before.Taken-of.ensures.1)
 
 pub advance-spec : {M : Type 1} → statement M

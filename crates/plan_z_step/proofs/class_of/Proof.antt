@@ -1,5 +1,5 @@
 -- By cases on the type.
-use Rattle.plan_places.specs.ZSeries.{zClass}
+use Rattle.plan_places.specs.ZSeries.{z_class}
 use borrow.Author.Rules.{rules}
 use Rattle.plan_z_step.proofs.class_of.Statement.{statement}
 use Rattle.plan_z_step.proofs.class_of.Tie as tie
@@ -26,23 +26,23 @@ by-equivalent-requires : tie.Need-by-equivalent-requires
 by-equivalent-requires c κs = search rules
 
 returns : tie.Need-returns
-unfolding zClass
+unfolding z_class
 returns c = rw c.enum_told.given.1
 
 returns-2 : tie.Need-returns-2
-unfolding zClass
+unfolding z_class
 returns-2 c = rw (c.before.before.before.t.given.1, c.enum-told2.given.1)
 
 returns-3 : tie.Need-returns-3
-unfolding zClass
+unfolding z_class
 returns-3 c = rw (c.before.before.before.t.given.1, c.enum-told3.given.1)
 
 returns-4 : tie.Need-returns-4
-unfolding zClass
+unfolding z_class
 returns-4 c = rw (c.before.before.before.t.given.1, c.enum-told4.given.1)
 
 returns-5 : tie.Need-returns-5
-unfolding zClass
+unfolding z_class
 returns-5 c = rw c.before.before.t2.given.1 c.by-equivalent.ensures
 
 pub class-of-spec : {M : Type 1} → statement M

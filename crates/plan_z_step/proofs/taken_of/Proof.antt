@@ -1,6 +1,6 @@
 -- By cases on the class.
-use Rattle.base_words.specs.Basics.{roundUp}
-use Rattle.plan_places.specs.ZSeries.{zSpanOf, zNextOf}
+use Rattle.base_words.specs.Basics.{round_up}
+use Rattle.plan_places.specs.ZSeries.{z_span_of, z_next_of}
 use native.Mathlib.Nat.{add-zero}
 use native.Mathlib.Omega.{arith}
 use borrow.Author.Rules.{rules}
@@ -32,15 +32,15 @@ mul-t13 : tie.Need-overflow-mul-t13
 mul-t13 c = search rules
 
 returns : tie.Need-returns
-unfolding zSpanOf zNextOf
+unfolding z_span_of z_next_of
 returns c = (rw (c.before.enum_told.given.1, c.one_left.ensures.0), rw (c.before.enum_told.given.1, c.one_left.ensures.0, add-zero c.before.before.before.args.c.copies), omega arith, omega arith)
 
 returns-2 : tie.Need-returns-2
-unfolding zSpanOf zNextOf
+unfolding z_span_of z_next_of
 returns-2 c = (rw (c.before.enum-told2.given.1, c.one-left2.ensures.0), rw (c.before.enum-told2.given.1, c.one-left2.ensures.0, add-zero c.before.before.before.args.c.copies), omega arith, omega arith)
 
 returns-3 : tie.Need-returns-3
-unfolding zSpanOf zNextOf roundUp
+unfolding z_span_of z_next_of round_up
 returns-3 c = (rw (c.before.enum-told3.given.1, c.one-left3.ensures.0), rw (c.before.enum-told3.given.1, c.one-left3.ensures.0), omega arith, omega arith)
 
 pub taken-of-spec : {M : Type 1} → statement M

@@ -3,7 +3,7 @@ use mathlib.Core.Path.{◌≡◌, sym, ap, ◌∙◌}
 use Prim.Native.Nat.{suc, ◌-◌}
 use native.Mathlib.Omega.{arith}
 use Rattle.sig_signatures.proofs.Types.{answer-plannable}
-use Rattle.second_planner.specs.Answer.{noPlan}
+use Rattle.second_planner.specs.Answer.{no_plan}
 use Rattle.second_planner.proofs.Answers.{answer-clear, answer-straddling}
 use borrow.Author.Rules.{rules}
 use Rattle.second_planner.proofs.clear_plan.Statement.{statement}
@@ -32,7 +32,7 @@ returns-2 c =
     let n = c.before.before.before.straddling-in.result in
     let some : n ≡ suc (n - 1) = omega (arith, c.before.before.if1.false) in
     c.no-plan.ensures
-    ∙ ap noPlan c.before.unclear-fault.ensures
+    ∙ ap no_plan c.before.unclear-fault.ensures
     ∙ answer-straddling _ _ _ _ c.before.before.before.before.before.requires.0 c.before.before.before.before.before.requires.1 (sym c.before.before.before.straddling-in.ensures ∙ some)
 
 pub clear-plan-spec : {M : Type 1} → statement M

@@ -1,9 +1,9 @@
 -- Each part is the definition's; the registers take the table of fields, whose places past the last are not looked at.
 use Rattle.sig_signatures.specs.Types.{types_in}
 use Rattle.sig_signatures.proofs.Types.{length_types}
-use Rattle.second_structure.specs.Structure.{hiddenWords, powerHidden}
+use Rattle.second_structure.specs.Structure.{hidden_words, power_hidden}
 use Rattle.second_structure.proofs.Turns.{fields-bounded, over-table}
-use Rattle.second_planner.specs.Answer.{powerPlan, powerParameters}
+use Rattle.second_planner.specs.Answer.{power_plan, power_parameters}
 use borrow.Author.Rules.{rules}
 use Rattle.second_planner.proofs.power_plan.Statement.{statement}
 use Rattle.second_planner.proofs.power_plan.Tie as tie
@@ -32,11 +32,11 @@ lay-registers-requires c κs =
     (c.before.before.before.before.before.before.requires.1, c.before.before.before.before.before.before.requires.2, rw e.0 (fields-bounded _ _ _ _ (rw e.0 at e.1)))
 
 returns : tie.Need-returns
-unfolding powerPlan powerParameters
+unfolding power_plan power_parameters
 returns c =
     let g = c.before.before.before.before.before.before.before.args.g in
     let many = length_types g.count g.arguments c.before.before.before.before.before.before.before.requires.2.room in
-    let same = over-table g.ellipsis c.before.before.before.before.before.before.before.args.paired g.convention c.before.before.before.before.before.before.before.args.word 0 (hiddenWords (powerHidden g.result)) (types_in g) in
+    let same = over-table g.ellipsis c.before.before.before.before.before.before.before.args.paired g.convention c.before.before.before.before.before.before.before.args.word 0 (hidden_words (power_hidden g.result)) (types_in g) in
     rw (c.lay-registers.ensures, c.before.area-bytes.ensures, c.before.before.lay-out.ensures.0, c.before.before.before.hidden-words.ensures.0, c.before.before.before.before.power-hidden.ensures, c.before.before.before.before.before.values-in.ensures, c.before.before.before.before.before.before.power-returned.ensures, many, same)
 
 pub power-plan-spec : {M : Type 1} → statement M

@@ -1,5 +1,5 @@
 -- Each part is the definition's.
-use Rattle.second_planner.specs.Answer.{zPlan}
+use Rattle.second_planner.specs.Answer.{z_plan}
 use Rattle.sig_signatures.proofs.Types.{length_types}
 use borrow.Author.Rules.{rules}
 use Rattle.second_planner.proofs.z_plan.Statement.{statement}
@@ -18,7 +18,7 @@ scan-all-requires : tie.Need-scan-all-requires
 scan-all-requires c κs = search rules
 
 returns : tie.Need-returns
-unfolding zPlan
+unfolding z_plan
 returns c =
     let many = length_types c.before.before.before.before.before.before.args.g.count c.before.before.before.before.before.before.args.g.arguments c.before.before.before.before.before.before.requires.room in
     rw (c.before.before.scan-all.ensures, c.before.before.before.z-hidden.ensures, c.before.before.before.before.values-in.ensures, c.before.before.before.before.before.z-returned.ensures, many)

@@ -1,5 +1,5 @@
 -- By cases on the mark.
-use Rattle.base_words.specs.Basics.{roundUp}
+use Rattle.base_words.specs.Basics.{round_up}
 use native.Mathlib.Omega.{arith}
 use borrow.Author.Rules.{rules}
 use Rattle.second_slot_scan.proofs.copy_at.Statement.{statement}
@@ -15,7 +15,7 @@ run-of-requires : tie.Need-run-of-requires
 run-of-requires c κs = search rules
 
 add-t8 : tie.Need-overflow-add-t8
-unfolding roundUp
+unfolding round_up
 add-t8 c = omega (arith, c.before.round_up.ensures)
 
 returns : tie.Need-returns

@@ -1,5 +1,5 @@
 -- 001's SCAN, argument by argument.
-use Rattle.second_slot_scan.specs.Slots.{initial, slotsFrom, scannedTo}
+use Rattle.second_slot_scan.specs.Slots.{initial, slots_from, scanned_to}
 use Rattle.sig_signatures.specs.Types.{types_in}
 use Prim.Native.Nat.{◌-◌}
 use Rattle.second_slot_scan.proofs.Turns.{Scanning, scanning-start, scanning-more, near-roomy}
@@ -54,7 +54,7 @@ loop-again c =
     rw (c.before.before.slot-for.ensures, c.before.before.before.type_size.ensures) (scanning-more _ _ _ _ _ _ _ h.few h.small h.next c.before.before.before.before.before.before.loop.invariant)
 
 returns : tie.Need-returns invariant-loop decreases-loop
-unfolding slotsFrom scannedTo
+unfolding slots_from scanned_to
 returns c = let z = gone _ c.before.loop.i c.before.before.before.before.requires (omega arith) in let g = c.before.loop.invariant in let t = table-whole _ _ _ _ (rw z at g.table) in let l = rw z at g.last in cc
 
 pub scan-all-spec : {M : Type 1} → statement M

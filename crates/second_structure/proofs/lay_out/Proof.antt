@@ -1,6 +1,6 @@
 -- Each field starts where the one before it ends.
 use Prim.Native.Nat.{◌≤◌}
-use Rattle.second_structure.specs.Structure.{fieldsFrom, words_to}
+use Rattle.second_structure.specs.Structure.{fields_from, words_to}
 use Rattle.sig_signatures.specs.Types.{types_in}
 use Prim.Native.Nat.{◌-◌}
 use Rattle.second_structure.proofs.Turns.{Laying, laying-start, laying-more}
@@ -50,7 +50,7 @@ loop-again : tie.Need-loop-preserved invariant-loop decreases-loop
 loop-again c = let h = here _ c.before.before.before.before.loop.i c.before.before.before.before.before.requires.3 (omega arith) in (rw (c.words-in.ensures.0, c.before.type_size.ensures) (laying-more _ _ _ _ _ _ _ _ c.before.before.before.before.before.requires.0 c.before.before.before.before.before.requires.1 h.few h.small h.next c.before.before.before.before.loop.invariant.0), omega arith)
 
 returns : tie.Need-returns invariant-loop decreases-loop
-unfolding fieldsFrom words_to
+unfolding fields_from words_to
 returns c = let z = gone _ c.before.loop.i c.before.before.requires.3 (omega arith) in let g = c.before.loop.invariant.0 in let t = table-whole _ _ _ _ (rw z at g.table) in let l = rw z at g.last in (cc, omega (arith, g.small, c.before.loop.invariant.1, c.before.before.requires.3.few))
 
 pub lay-out-spec : {M : Type 1} → statement M

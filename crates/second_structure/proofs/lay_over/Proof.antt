@@ -2,7 +2,7 @@
 use mathlib.Core.Path.{sym, ◌∙◌}
 use Rattle.second_structure.proofs.Laws.{laid-words, laid-nothing, laid-open, laid-floats, laid_both}
 use native.Mathlib.Omega.{arith}
-use Rattle.second_structure.specs.Structure.{laidOver}
+use Rattle.second_structure.specs.Structure.{laid_over}
 use borrow.Author.Rules.{rules}
 use Rattle.second_structure.proofs.lay_over.Statement.{statement}
 use Rattle.second_structure.proofs.lay_over.Tie as tie

@@ -1,6 +1,6 @@
 -- The FPRs that were asked for so far tell where the next float goes.
 use lib.Seq.{drop-cons}
-use Rattle.second_structure.specs.Structure.{registersOver}
+use Rattle.second_structure.specs.Structure.{registers_over}
 use Rattle.second_parameters.specs.Values.{no_run}
 use Rattle.sig_signatures.specs.Types.{types_in}
 use Prim.Native.Nat.{◌-◌}
@@ -64,7 +64,7 @@ loop-again c =
     rw (c.lay-over.ensures, c.before.floats-of.ensures.0) (covering-more _ _ _ _ _ _ _ _ _ _ h.few two h.next field c.before.before.before.before.before.loop.invariant)
 
 returns : tie.Need-returns invariant-loop decreases-loop
-unfolding registersOver
+unfolding registers_over
 returns c = let z = gone _ c.before.loop.i c.before.before.before.requires.1 (omega arith) in table-whole _ _ _ _ (rw z at c.before.loop.invariant.table)
 
 pub lay-registers-spec : {M : Type 1} → statement M

@@ -1,5 +1,5 @@
 -- Each part is the definition's.
-use Rattle.second_structure.specs.Structure.{overFloats}
+use Rattle.second_structure.specs.Structure.{over_floats}
 use borrow.Author.Rules.{rules}
 use Rattle.second_structure.proofs.over_floats.Statement.{statement}
 use Rattle.second_structure.proofs.over_floats.Tie as tie
@@ -11,7 +11,7 @@ field-bytes-requires : tie.Need-field-bytes-requires
 field-bytes-requires c κs = search rules
 
 returns : tie.Need-returns
-unfolding overFloats
+unfolding over_floats
 returns c = rw (c.field-bytes.ensures, c.before.no_run.ensures)
 
 pub over-floats-spec : {M : Type 1} → statement M

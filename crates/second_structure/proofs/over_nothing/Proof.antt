@@ -1,6 +1,6 @@
 -- Each part is the definition's.
-use Rattle.second_structure.specs.Structure.{overNothing}
-use Rattle.second_parameters.specs.Values.{runOf}
+use Rattle.second_structure.specs.Structure.{over_nothing}
+use Rattle.second_parameters.specs.Values.{run_of}
 use borrow.Author.Rules.{rules}
 use Rattle.second_structure.proofs.over_nothing.Statement.{statement}
 use Rattle.second_structure.proofs.over_nothing.Tie as tie
@@ -12,7 +12,7 @@ field-bytes-requires : tie.Need-field-bytes-requires
 field-bytes-requires c κs = search rules
 
 returns : tie.Need-returns
-unfolding overNothing
+unfolding over_nothing
 returns c = rw (c.field-bytes.ensures, c.before.no_run.ensures)
 
 pub over-nothing-spec : {M : Type 1} → statement M

@@ -1,6 +1,6 @@
 -- Each part is the definition's.
-use Rattle.second_structure.specs.Structure.{overWords}
-use Rattle.second_parameters.specs.Values.{runOf}
+use Rattle.second_structure.specs.Structure.{over_words}
+use Rattle.second_parameters.specs.Values.{run_of}
 use borrow.Author.Rules.{rules}
 use Rattle.second_structure.proofs.over_words.Statement.{statement}
 use Rattle.second_structure.proofs.over_words.Tie as tie
@@ -42,7 +42,7 @@ run-of-requires-2 : tie.Need-run-of-requires-2
 run-of-requires-2 c κs = search rules
 
 returns : tie.Need-returns
-unfolding overWords
+unfolding over_words
 returns c = rw (c.run-of2.ensures, c.before.bytes-of2.ensures, c.before.before.bytes_of.ensures, c.before.before.before.field-bytes.ensures, c.before.before.before.before.run_of.ensures, c.before.before.before.before.before.no_run.ensures, c.before.before.before.before.before.before.left2.ensures, c.before.before.before.before.before.before.before.left.ensures, c.before.before.before.before.before.before.before.before.smaller.ensures, c.before.before.before.before.before.before.before.before.before.larger.ensures)
 
 pub over-words-spec : {M : Type 1} → statement M

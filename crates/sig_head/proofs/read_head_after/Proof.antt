@@ -4,7 +4,7 @@ use Rattle.sig_head.proofs.read_head_after.Statement.{statement}
 use mathlib.Core.Path.{sym, ap, ◌∙◌}
 use native.Mathlib.Omega.{arith}
 use Rattle.sig_signatures.specs.declared.HeadRead.{HeadRead}
-use Rattle.sig_signatures.specs.Answer.{headAnswer}
+use Rattle.sig_signatures.specs.Answer.{head_answer}
 use Rattle.sig_signatures.proofs.Laws.{head-no-result, head-no-ellipsis, head-no-arguments, head-to}
 use Rattle.sig_signatures.proofs.Sound.{result-bounded, ellipsis-bounded}
 use Rattle.sig_signatures.proofs.HowFar.{result-fault-third, ellipsis-fault-third}
@@ -53,13 +53,13 @@ add-t25 : tie.Need-overflow-add-t25
 add-t25 c = let k = result-bounded _ _ _ _ _ _ _ c.before.before.before.before.before.before.before.before.before.before.before.read_result.ensures c.before.before.before.before.before.before.before.before.before.ty.given.1 in let e = ellipsis-bounded _ _ _ _ _ _ k.inside c.before.before.before.before.before.before.before.read-ellipsis.ensures c.before.before.before.before.before.present.given.1 in omega arith
 
 returns : tie.Need-returns
-returns c = ap HeadRead.Refused c.later-by.ensures ∙ sym (ap headAnswer (head-no-result _ _ _ _ _ c.before.before.before.before.read_result.ensures _ c.before.before.fault.given.1))
+returns c = ap HeadRead.Refused c.later-by.ensures ∙ sym (ap head_answer (head-no-result _ _ _ _ _ c.before.before.before.before.read_result.ensures _ c.before.before.fault.given.1))
 
 returns-2 : tie.Need-returns-2
-returns-2 c = ap HeadRead.Refused c.later-by2.ensures ∙ sym (ap headAnswer (head-no-ellipsis _ _ _ _ _ c.before.before.before.before.before.before.before.before.read_result.ensures _ _ _ c.before.before.before.before.before.before.ty.given.1 _ c.before.before.before.before.read-ellipsis.ensures _ c.before.before.fault2.given.1))
+returns-2 c = ap HeadRead.Refused c.later-by2.ensures ∙ sym (ap head_answer (head-no-ellipsis _ _ _ _ _ c.before.before.before.before.before.before.before.before.read_result.ensures _ _ _ c.before.before.before.before.before.before.ty.given.1 _ c.before.before.before.before.read-ellipsis.ensures _ c.before.before.fault2.given.1))
 
 returns-3 : tie.Need-returns-3
-returns-3 c = sym (ap headAnswer (head-no-arguments _ _ _ _ _ c.before.before.before.before.before.before.before.before.before.before.before.read_result.ensures _ _ _ c.before.before.before.before.before.before.before.before.before.ty.given.1 _ c.before.before.before.before.before.before.before.read-ellipsis.ensures _ _ _ c.before.before.before.before.before.present.given.1 _ (sym c.before.before.before.read-body.ensures ∙ c.before.reason.given.1)))
+returns-3 c = sym (ap head_answer (head-no-arguments _ _ _ _ _ c.before.before.before.before.before.before.before.before.before.before.before.read_result.ensures _ _ _ c.before.before.before.before.before.before.before.before.before.ty.given.1 _ c.before.before.before.before.before.before.before.read-ellipsis.ensures _ _ _ c.before.before.before.before.before.present.given.1 _ (sym c.before.before.before.read-body.ensures ∙ c.before.reason.given.1)))
 
 returns-4 : tie.Need-returns-4
 returns-4 c = sym (head-to _ _ _ _ _ c.before.before.before.before.before.before.before.before.before.before.before.read_result.ensures _ _ _ c.before.before.before.before.before.before.before.before.before.ty.given.1 _ c.before.before.before.before.before.before.before.read-ellipsis.ensures _ _ _ c.before.before.before.before.before.present.given.1 _ (sym c.before.before.before.read-body.ensures ∙ c.before.to.given.1))

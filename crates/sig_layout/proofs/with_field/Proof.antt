@@ -2,7 +2,7 @@
 use borrow.Author.Rules.{rules}
 use Rattle.sig_layout.proofs.with_field.Statement.{statement}
 use native.Mathlib.Omega.{arith}
-use Rattle.sig_types.specs.Structs.{withField}
+use Rattle.sig_types.specs.Structs.{with_field}
 use Rattle.base_words.proofs.Basics.{round-up-most}
 use Rattle.sig_layout.proofs.with_field.Tie as tie
 
@@ -25,7 +25,7 @@ add-t12 : tie.Need-overflow-add-t12
 add-t12 c = omega (arith, round-up-most c.before.before.before.before.before.args.l.end c.before.before.before.align-of.result (omega arith))
 
 returns : tie.Need-returns
-unfolding withField
+unfolding with_field
 returns c =
     rw (
       c.before.before.before.before.type_size.ensures,

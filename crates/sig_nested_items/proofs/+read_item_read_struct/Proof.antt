@@ -9,7 +9,7 @@ use mathlib.Core.Path.{sym, ap, ◌∙◌}
 use native.Mathlib.Omega.{arith}
 use borrow.Author.Rules.{rules}
 use Rattle.sig_items.specs.declared.ItemRead.{ItemRead}
-use Rattle.sig_items.specs.Answer.{itemAnswer}
+use Rattle.sig_items.specs.Answer.{item_answer}
 use Rattle.sig_items.proofs.Laws.{struct-deep, struct-empty, item_refused, item-integer, item-float, item-struct}
 use Rattle.sig_items.proofs.Sound.{body-framed}
 use Rattle.sig_items.proofs.Loop.{Turn, turn-start, turn_more, turn-no, turn_end, item-answered, fault-answered}
@@ -75,22 +75,22 @@ read-item-read-integer-requires : (t : ℕ) → read-item-lts.Need-read-integer-
 read-item-read-integer-requires t c κs = let f = body-framed _ _ _ _ _ _ (sym c.before.before.before.before.before.read-body.ensures ∙ c.before.before.before.to.given.1) in omega arith
 
 read-item-returns : (t : ℕ) → read-item-lts.Need-returns (item-calls t) (read-item-at t) read-item.Post
-read-item-returns t c = c.read-integer.ensures ∙ sym (ap (itemAnswer _) (item-integer _ _ _ _ _ _ (sym c.before.before.before.before.before.before.read-body.ensures ∙ c.before.before.before.before.to.given.1) c.before.if1.true))
+read-item-returns t c = c.read-integer.ensures ∙ sym (ap (item_answer _) (item-integer _ _ _ _ _ _ (sym c.before.before.before.before.before.before.read-body.ensures ∙ c.before.before.before.before.to.given.1) c.before.if1.true))
 
 read-item-read-float-requires : (t : ℕ) → read-item-lts.Need-read-float-requires (item-calls t) (read-item-at t) read-item.Post
 read-item-read-float-requires t c κs = let f = body-framed _ _ _ _ _ _ (sym c.before.before.before.before.before.before.read-body.ensures ∙ c.before.before.before.before.to.given.1) in omega arith
 
 read-item-returns-2 : (t : ℕ) → read-item-lts.Need-returns-2 (item-calls t) (read-item-at t) read-item.Post
-read-item-returns-2 t c = c.read_float.ensures ∙ sym (ap (itemAnswer _) (item-float _ _ _ _ _ _ (sym c.before.before.before.before.before.before.before.read-body.ensures ∙ c.before.before.before.before.before.to.given.1) c.before.if2.true))
+read-item-returns-2 t c = c.read_float.ensures ∙ sym (ap (item_answer _) (item-float _ _ _ _ _ _ (sym c.before.before.before.before.before.before.before.read-body.ensures ∙ c.before.before.before.before.before.to.given.1) c.before.if2.true))
 
 read-item-read-struct-requires : (t : ℕ) → read-item-lts.Need-read-struct-requires (item-calls t) (read-item-at t) read-item.Post
 read-item-read-struct-requires t c κs = let f = body-framed _ _ _ _ _ _ (sym c.before.before.before.before.before.before.read-body.ensures ∙ c.before.before.before.before.to.given.1) in (omega arith, omega arith)
 
 read-item-returns-3 : (t : ℕ) → read-item-lts.Need-returns-3 (item-calls t) (read-item-at t) read-item.Post
-read-item-returns-3 t c = c.refused-here.ensures ∙ sym (ap (itemAnswer _) (item_refused _ _ _ _ _ _ (sym c.before.before.before.before.read-body.ensures ∙ c.before.before.reason.given.1)))
+read-item-returns-3 t c = c.refused-here.ensures ∙ sym (ap (item_answer _) (item_refused _ _ _ _ _ _ (sym c.before.before.before.before.read-body.ensures ∙ c.before.before.reason.given.1)))
 
 read-item-returns-4 : (t : ℕ) → read-item-lts.Need-returns-4 (item-calls t) (read-item-at t) read-item.Post
-read-item-returns-4 t c = c.read-struct.ensures ∙ sym (ap (itemAnswer _) (item-struct _ _ _ _ _ _ (sym c.before.before.before.before.before.before.before.read-body.ensures ∙ c.before.before.before.before.before.to.given.1) c.before.before.if1.false c.before.if2.false))
+read-item-returns-4 t c = c.read-struct.ensures ∙ sym (ap (item_answer _) (item-struct _ _ _ _ _ _ (sym c.before.before.before.before.before.before.before.read-body.ensures ∙ c.before.before.before.before.before.to.given.1) c.before.before.if1.false c.before.if2.false))
 
 abbrev read-struct-Inv-loop : read-struct-lts.invariant-loop
 read-struct-Inv-loop s c at end depth fields₀ next₀ items₀ fields next items = Turn c depth s at end fields next items
@@ -102,7 +102,7 @@ read-struct-refused-here-requires : (t : ℕ) → read-struct-lts.Need-refused-h
 read-struct-refused-here-requires t c κs = search rules
 
 read-struct-returns : (t : ℕ) → read-struct-lts.Need-returns (struct-calls t) (read-struct-at t) read-struct.Post read-struct-Inv-loop read-struct-μ-loop
-read-struct-returns t c = c.refused-here.ensures ∙ sym (ap (itemAnswer _) (struct-deep _ _ _ _ _ c.before.if1.true))
+read-struct-returns t c = c.refused-here.ensures ∙ sym (ap (item_answer _) (struct-deep _ _ _ _ _ c.before.if1.true))
 
 read-struct-sub-if2 : (t : ℕ) → read-struct-lts.Need-overflow-sub-if2 (struct-calls t) (read-struct-at t) read-struct.Post read-struct-Inv-loop read-struct-μ-loop
 read-struct-sub-if2 t c = omega arith
@@ -111,7 +111,7 @@ read-struct-refused-here-requires-2 : (t : ℕ) → read-struct-lts.Need-refused
 read-struct-refused-here-requires-2 t c κs = search rules
 
 read-struct-returns-2 : (t : ℕ) → read-struct-lts.Need-returns-2 (struct-calls t) (read-struct-at t) read-struct.Post read-struct-Inv-loop read-struct-μ-loop
-read-struct-returns-2 t c = c.refused-here2.ensures ∙ sym (ap (itemAnswer _) (struct-empty _ _ _ _ _ (omega arith) (omega arith)))
+read-struct-returns-2 t c = c.refused-here2.ensures ∙ sym (ap (item_answer _) (struct-empty _ _ _ _ _ (omega arith) (omega arith)))
 
 read-struct-no-fields-requires : (t : ℕ) → read-struct-lts.Need-no-fields-requires (struct-calls t) (read-struct-at t) read-struct.Post read-struct-Inv-loop read-struct-μ-loop
 read-struct-no-fields-requires t c κs = search rules

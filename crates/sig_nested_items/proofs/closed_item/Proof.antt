@@ -3,7 +3,7 @@ use borrow.Author.Rules.{rules}
 use Rattle.sig_nested_items.proofs.closed_item.Statement.{statement}
 use mathlib.Core.Path.{sym, ap, ◌∙◌}
 use native.Mathlib.Omega.{arith}
-use Rattle.sig_items.specs.Answer.{closedAnswer}
+use Rattle.sig_items.specs.Answer.{closed_answer}
 use Rattle.sig_nested_items.proofs.closed_item.Tie as tie
 
 close-requires : tie.Need-close-requires
@@ -19,10 +19,10 @@ sub-t10 : tie.Need-overflow-sub-t10
 sub-t10 c = omega arith
 
 returns : tie.Need-returns
-returns c = ap (closedAnswer _ _ _) (sym c.before.shape.given.1 ∙ c.before.before.before.close.ensures)
+returns c = ap (closed_answer _ _ _) (sym c.before.shape.given.1 ∙ c.before.before.before.close.ensures)
 
 returns-2 : tie.Need-returns-2
-returns-2 c = ap (closedAnswer _ _ _) (sym c.enum_told.given.1 ∙ c.before.before.close.ensures)
+returns-2 c = ap (closed_answer _ _ _) (sym c.enum_told.given.1 ∙ c.before.before.close.ensures)
 
 pub closed-item-spec : {M : Type 1} → statement M
 closed-item-spec = tie.close (tie.spec close-requires enum-known-shape enum_told sub-t10 returns returns-2)

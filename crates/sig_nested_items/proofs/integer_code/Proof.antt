@@ -1,47 +1,47 @@
 -- Each code by the equations of the match.
 use Rattle.sig_nested_items.proofs.integer_code.Statement.{statement}
 use borrow.Author.Tests.{ne_eqb}
-use Rattle.sig_items.specs.Read.{integerCode}
+use Rattle.sig_items.specs.Read.{integer_code}
 use Rattle.sig_nested_items.proofs.integer_code.Tie as tie
 
 returns : tie.Need-returns
-unfolding integerCode
+unfolding integer_code
 returns c = rw c.match.keys1
 
 returns-2 : tie.Need-returns-2
-unfolding integerCode
+unfolding integer_code
 returns-2 c = rw c.match.keys2
 
 returns-3 : tie.Need-returns-3
-unfolding integerCode
+unfolding integer_code
 returns-3 c = rw c.match.keys3
 
 returns-4 : tie.Need-returns-4
-unfolding integerCode
+unfolding integer_code
 returns-4 c = rw c.match.keys4
 
 returns-5 : tie.Need-returns-5
-unfolding integerCode
+unfolding integer_code
 returns-5 c = rw c.match.keys5
 
 returns-6 : tie.Need-returns-6
-unfolding integerCode
+unfolding integer_code
 returns-6 c = rw c.match.keys6
 
 returns-7 : tie.Need-returns-7
-unfolding integerCode
+unfolding integer_code
 returns-7 c = rw c.match.keys7
 
 returns-8 : tie.Need-returns-8
-unfolding integerCode
+unfolding integer_code
 returns-8 c = rw c.match.keys8
 
 returns-9 : tie.Need-returns-9
-unfolding integerCode
+unfolding integer_code
 returns-9 c = rw c.match.keys9
 
 returns-10 : tie.Need-returns-10
-unfolding integerCode
+unfolding integer_code
 returns-10 c = simp (ne_eqb _ _ c.match.rest.1, ne_eqb _ _ c.match.rest.0.1, ne_eqb _ _ c.match.rest.0.0.1, ne_eqb _ _ c.match.rest.0.0.0.1, ne_eqb _ _ c.match.rest.0.0.0.0.1, ne_eqb _ _ c.match.rest.0.0.0.0.0.1, ne_eqb _ _ c.match.rest.0.0.0.0.0.0.1, ne_eqb _ _ c.match.rest.0.0.0.0.0.0.0.1, ne_eqb _ _ c.match.rest.0.0.0.0.0.0.0.0.1)
 
 pub integer-code-spec : {M : Type 1} → statement M

@@ -4,7 +4,7 @@ use mathlib.Core.Path.{sym, ap, ◌∙◌}
 use native.Mathlib.Omega.{arith}
 use Rattle.sig_signatures.proofs.Laws.{signature-refused}
 use Rattle.sig_signatures.proofs.Sound.{head-bounded}
-use Rattle.sig_reader.specs.Argument.{argumentOf}
+use Rattle.sig_reader.specs.Argument.{argument_of}
 use Rattle.sig_reader.proofs.Found.{begun, argument-begun}
 use Rattle.sig_reader.proofs.argument_at.Statement.{statement}
 use Rattle.sig_reader.proofs.argument_at.Tie as tie
@@ -22,7 +22,7 @@ argument-from-requires : tie.Need-argument-from-requires
 argument-from-requires c κs = let k = head-bounded _ _ _ _ _ _ _ _ c.before.before.before.read_head.ensures c.before.convention.given.1 in omega arith
 
 returns : tie.Need-returns
-returns c = sym (ap (argumentOf c.before.before.before.before.before.args.index) (signature-refused _ _ c.before.before.before.read_head.ensures _ c.before.fault.given.1))
+returns c = sym (ap (argument_of c.before.before.before.before.before.args.index) (signature-refused _ _ c.before.before.before.read_head.ensures _ c.before.fault.given.1))
 
 returns-2 : tie.Need-returns-2
 returns-2 c = c.argument-from.ensures ∙ sym (argument-begun _ _ _ _ _ _ _ _ (begun _ _ c.before.before.before.before.read_head.ensures _ _ _ _ _ _ c.before.before.convention.given.1))

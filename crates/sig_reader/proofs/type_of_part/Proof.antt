@@ -42,8 +42,8 @@ use denote.Exit.{yes}
 use denote.Triple.Clauses.{ensured, lasts}
 use Rattle.base_conventions.specs.declared.Convention.{Convention}
 use Rattle.sig_items.specs.declared.ItemRead.{ItemRead}
-use Rattle.sig_items.specs.Answer.{itemAnswer}
-use Rattle.sig_stepping.specs.Step.{typeIn}
+use Rattle.sig_items.specs.Answer.{item_answer}
+use Rattle.sig_stepping.specs.Step.{type_in}
 use Rattle.sig_reader.specs.declared.Reader.{Reader}
 use Rattle.base_conventions.specs.contracts.Convention as Cv
 use Rattle.base_conventions.proofs.Convention.TheLaws as Cv'
@@ -92,7 +92,7 @@ module _ {M : Type 1} {𝓤 : Ura M} (𝓛 : Logic 𝓤) (mem : Memory → SProp
   made = record { signature = s; at = at; end = end }
 
   abbrev found : ItemRead
-  found = itemAnswer c (typeIn c s.now at end)
+  found = item_answer c (type_in c s.now at end)
 
   abbrev Post : Val → SProp 𝓤
   Post = (walk_of 𝓛 type-of-part.ended stayed (type-of-part.clauses 𝓛 mem run)).post (((κ, tt), (q, tt), tt, args, vals), tt)

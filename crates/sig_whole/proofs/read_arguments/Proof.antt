@@ -6,7 +6,7 @@ use borrow.Author.Rules.{rules}
 use native.Mathlib.Omega.{arith}
 use Rattle.sig_items.proofs.Loop.{item-answered, fault-answered}
 use Rattle.sig_items.proofs.Laws.{later-later}
-use Rattle.sig_signatures.specs.Answer.{refusedSignature}
+use Rattle.sig_signatures.specs.Answer.{refused_signature}
 use Rattle.sig_signatures.proofs.Loop.{Tabled, turn-full, turn-no, tabled_start, tabled-more, tabled-trailing, tabled-end, arguments-no}
 use Rattle.sig_whole.proofs.read_arguments.Tie as tie
 
@@ -68,7 +68,7 @@ refuse-requires-2 : tie.Need-refuse-requires-2 invariant-loop decreases-loop
 refuse-requires-2 c κs = search rules
 
 returns-2 : tie.Need-returns-2 invariant-loop decreases-loop
-returns-2 c = c.refuse2.ensures ∙ ap refusedSignature (c.before.later-by.ensures ∙ later-later _ _ _) ∙ arguments-no _ _ _ _ _ (turn-no _ _ _ _ _ _ _ _ c.before.before.before.before.before.before.before.before.loop.invariant.turn c.before.before.before.before.before.before.before.loop-test.true c.before.before.before.before.before.before.if1.false _ c.before.before.before.before.before.read-item.ensures _ c.before.before.before.fault.given.1) _ _ _ _
+returns-2 c = c.refuse2.ensures ∙ ap refused_signature (c.before.later-by.ensures ∙ later-later _ _ _) ∙ arguments-no _ _ _ _ _ (turn-no _ _ _ _ _ _ _ _ c.before.before.before.before.before.before.before.before.loop.invariant.turn c.before.before.before.before.before.before.before.loop-test.true c.before.before.before.before.before.before.if1.false _ c.before.before.before.before.before.read-item.ensures _ c.before.before.before.fault.given.1) _ _ _ _
 
 add-counted : tie.Need-overflow-add-counted invariant-loop decreases-loop
 add-counted c = omega arith

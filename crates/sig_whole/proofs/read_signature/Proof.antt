@@ -3,7 +3,7 @@ use borrow.Author.Rules.{rules}
 use Rattle.sig_whole.proofs.read_signature.Statement.{statement}
 use mathlib.Core.Path.{sym, ap, ◌∙◌}
 use native.Mathlib.Omega.{arith}
-use Rattle.sig_signatures.specs.Answer.{signatureAnswer}
+use Rattle.sig_signatures.specs.Answer.{signature_answer}
 use Rattle.sig_signatures.proofs.Laws.{signature-refused, signature-arguments}
 use Rattle.sig_signatures.proofs.Sound.{head-bounded}
 use Rattle.sig_whole.proofs.read_signature.Tie as tie
@@ -24,7 +24,7 @@ read-arguments-requires : tie.Need-read-arguments-requires
 read-arguments-requires c κs = let k = head-bounded _ _ _ _ _ _ _ _ c.before.before.before.read_head.ensures c.before.convention.given.1 in omega arith
 
 returns : tie.Need-returns
-returns c = c.refuse.ensures ∙ sym (ap signatureAnswer (signature-refused _ _ c.before.before.before.before.read_head.ensures _ c.before.before.fault.given.1))
+returns c = c.refuse.ensures ∙ sym (ap signature_answer (signature-refused _ _ c.before.before.before.before.read_head.ensures _ c.before.before.fault.given.1))
 
 returns-2 : tie.Need-returns-2
 returns-2 c = c.read-arguments.ensures ∙ sym (signature-arguments _ _ c.before.before.before.before.read_head.ensures _ _ _ _ _ _ c.before.before.convention.given.1)

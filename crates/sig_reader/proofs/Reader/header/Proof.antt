@@ -43,7 +43,7 @@ use denote.Triple.Table.{entered, cited}
 use denote.Triple.Walked.{says, Stays, stay_none, walk_of, Goes-none, Walks, ends_at, walked, walk_Meets}
 use denote.Exit.{yes}
 use denote.Triple.Clauses.{ensured, lasts}
-use Rattle.sig_stepping.specs.Step.{headerIn}
+use Rattle.sig_stepping.specs.Step.{header_in}
 use Rattle.sig_reader.specs.declared.Reader.{Reader}
 use Rattle.sig_stepping.specs.declared.Header.{Header}
 use Rattle.sig_stepping.specs.contracts.Header as S
@@ -82,7 +82,7 @@ module _ {M : Type 1} {𝓤 : Ura M} (𝓛 : Logic 𝓤) (mem : Memory → SProp
   v = slice_val d.signature.ref_ptr (length d.signature.now)
 
   abbrev found : Header
-  found = headerIn d.signature.now d.at d.end
+  found = header_in d.signature.now d.at d.end
 
   abbrev Post : Val → SProp 𝓤
   Post = (walk_of 𝓛 header.ended stayed (header.clauses 𝓛 mem run)).post (((κ, tt), (q, tt), tt, (d, tt), (mach ∷ [], tt)), tt)

@@ -42,7 +42,7 @@ use denote.Triple.Table.{entered, cited}
 use denote.Triple.Walked.{says, Stays, stay_none, walk_of, Goes-none, Walks, ends_at, walked, walk_Meets}
 use denote.Exit.{yes}
 use denote.Triple.Clauses.{ensured, lasts}
-use Rattle.sig_stepping.specs.Step.{leftAt}
+use Rattle.sig_stepping.specs.Step.{left_at}
 use Rattle.sig_reader.specs.declared.Reader.{Reader}
 use Rattle.sig_reader.specs.contracts.Reader as T
 use Rattle.sig_reader.proofs.Reader.TheLaws as T'
@@ -78,7 +78,7 @@ module _ {M : Type 1} {𝓤 : Ura M} (𝓛 : Logic 𝓤) (mem : Memory → SProp
   v = slice_val d.signature.ref_ptr (length d.signature.now)
 
   abbrev found : ℕ
-  found = leftAt d.signature.now d.at d.end
+  found = left_at d.signature.now d.at d.end
 
   abbrev Post : Val → SProp 𝓤
   Post = (walk_of 𝓛 left.ended stayed (left.clauses 𝓛 mem run)).post (((κ, tt), (q, tt), tt, (d, tt), (mach ∷ [], tt)), tt)

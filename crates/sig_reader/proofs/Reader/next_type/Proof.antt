@@ -50,8 +50,8 @@ use denote.Triple.Walked.{says, Stays, stay_ref, stay_none, walk_of, Goes-none, 
 use denote.Exit.{yes}
 use Rattle.base_conventions.specs.declared.Convention.{Convention}
 use Rattle.sig_items.specs.declared.ItemRead.{ItemRead}
-use Rattle.sig_items.specs.Answer.{itemAnswer}
-use Rattle.sig_stepping.specs.Step.{typeIn, placeAfter}
+use Rattle.sig_items.specs.Answer.{item_answer}
+use Rattle.sig_stepping.specs.Step.{type_in, place_after}
 use Rattle.sig_reader.specs.declared.Reader.{Reader}
 use Rattle.base_conventions.specs.contracts.Convention as Cv
 use Rattle.base_conventions.proofs.Convention.TheLaws as Cv'
@@ -115,7 +115,7 @@ module _ {M : Type 1} {𝓤 : Ura M} (𝓛 : Logic 𝓤) (at_mem : Memory → SP
   moved m = record { signature = h.signature; at = m; end = h.end }
 
   abbrev found : ItemRead
-  found = itemAnswer c (typeIn c h.signature.now h.at h.end)
+  found = item_answer c (type_in c h.signature.now h.at h.end)
 
   abbrev Post : Val → SProp 𝓤
   Post = (walk_of 𝓛 next-type.ended stayed (next-type.clauses 𝓛 at_mem run)).post (((κ, (κ', tt)), (q, (q', tt)), bounds, x, at), tt)
@@ -184,19 +184,19 @@ module _ {M : Type 1} {𝓤 : Ura M} (𝓛 : Logic 𝓤) (at_mem : Memory → SP
   goes-place t u at-fits =
       qed 𝓛 (‵ (ItemOwn t u) ∷ []) ∵ nothing ! $ owned ! usize (Is usize) (uint_Makes 𝓛 w64) h.at _ (refl, at-fits) $ fjoin ! $ move ! (1 ∷ 0 ∷ []) $ fjoin ! $ nothing ! $ join ! $ frame ! $ done !
 
-  said-place : (t : ItemRead) (r : ℕ) → ent 𝓤 (ensured 𝓛 place_after.ended (place_after.clauses 𝓛 at_mem run) tt (t, (h.at, tt)) tt r) (fact 𝓤 (r ≡ placeAfter t h.at))
-  said-place t r = ex_e 𝓤 _ (λ ws. snd∗ 𝓤 (sem 𝓛 (lasts place_after.ended tt (t, (h.at, tt)) ws)) (fact 𝓤 (r ≡ placeAfter t h.at)))
+  said-place : (t : ItemRead) (r : ℕ) → ent 𝓤 (ensured 𝓛 place_after.ended (place_after.clauses 𝓛 at_mem run) tt (t, (h.at, tt)) tt r) (fact 𝓤 (r ≡ place_after t h.at))
+  said-place t r = ex_e 𝓤 _ (λ ws. snd∗ 𝓤 (sem 𝓛 (lasts place_after.ended tt (t, (h.at, tt)) ws)) (fact 𝓤 (r ≡ place_after t h.at)))
 
   -- what the slice owns is kept, and the place's facts are made anew
   again : (r : ℕ) → r < 2 ^ 64 → ent 𝓤 (sem 𝓛 ReaderOwn) (sem 𝓛 ((B κ').own (moved r) (T'.lowered (moved r) ∷ [])))
   again r fits = qed 𝓛 (‵ ReaderOwn ∷ []) ∵ owned ! usize (Is usize) (uint_Makes 𝓛 w64) r _ (refl, fits) $ move ! (1 ∷ 0 ∷ []) $ by ! (own_put 𝓛 D L 1 vh r (T'.lowered h))
 
-  exits : (t : ItemRead) (u : Val) (r : ℕ) → t ≡ found → r ≡ placeAfter t h.at
+  exits : (t : ItemRead) (u : Val) (r : ℕ) → t ≡ found → r ≡ place_after t h.at
       → ent 𝓤 (⋆ 𝓛 (‵ (fobs γ ((B κ').coded.code (moved r))) ∷ ‵ (fbor κ (Body (mem (B κ')) b o γ)) ∷ ‵ (flft κ q) ∷ (‵ (flft κ' q') ⊛ ‵ ftrue) ∷ ‵ (fsep ConventionOwn ftrue) ∷ ‵ (ItemOwn t u) ∷ [])) (Post u)
   exits t u r e e' =
       qed 𝓛 (‵ (fobs γ ((B κ').coded.code (moved r))) ∷ ‵ (fbor κ (Body (mem (B κ')) b o γ)) ∷ ‵ (flft κ q) ∷ (‵ (flft κ' q') ⊛ ‵ ftrue) ∷ ‵ (fsep ConventionOwn ftrue) ∷ ‵ (ItemOwn t u) ∷ []) ∵
       suffices ! _ (ends_at 𝓛 next-type.ended stayed (next-type.clauses 𝓛 at_mem run) (((κ, (κ', tt)), (q, (q', tt)), bounds, x, at), tt) u t (moved r, (tt, tt)) (tt, (tt, tt))) $
-      says ! (e, ap moved (e' ∙ ap (λ (y : ItemRead). placeAfter y h.at) e)) $
+      says ! (e, ap moved (e' ∙ ap (λ (y : ItemRead). place_after y h.at) e)) $
       move ! (2 ∷ 3 ∷ []) $ join ! $ frame ! $ feq_i ! (List Val) (vptr b o ∷ []) (vptr b o ∷ []) refl $ fjoin3 ! $ fjoin ! $ done !
 
   module _ (C : Calls 𝓤 H) (Λ : Loops 𝓤 H) (fm : FmC 𝓤 H 𝓛.laws C) (known-type : Triple 𝓤 (C #stepping·type-in) (TypeIn 𝓛 at_mem run)) (known-place : Triple 𝓤 (C #stepping·place-after) (PlaceAfter 𝓛 at_mem run)) where
@@ -224,7 +224,7 @@ module _ {M : Type 1} {𝓤 : Ura M} (𝓛 : Logic 𝓤) (at_mem : Memory → SP
         use1 𝓛 (‵ (ItemOwn t u) ⊛ ‵ (ItemOwn t u)) ((EL.copy S.the_type S'.the_copy 𝓛).twice t (u ∷ [])) $ split ! $ use1 𝓛 (raw ((PlaceAfter 𝓛 at_mem run).pre (to-place t u))) (goes-place t u (typed was).1.1.0.fits) $
         calls_at ! fm (PlaceAfter 𝓛 at_mem run) known-place (to-place t u) (and_then ! (load ! (from ! (stop !)) (look ! 14 refl)) (and_then ! (load ! (from ! (stop !)) (look ! 16 refl)) (no_more !))) (λ w.
         use1 𝓛 (later (some (λ (r : ℕ). (‵ ftrue ⊛ ‵ (usize.own_val r (w ∷ []))) ⊛ raw (ensured 𝓛 place_after.ended (place_after.clauses 𝓛 at_mem run) tt (t, (h.at, tt)) tt r)))) (id⊢ 𝓤 _) $ await ! tt $ pick ! (λ r.
-        split ! $ move ! (1 ∷ []) $ use1 𝓛 (raw (fact 𝓤 (r ≡ placeAfter t h.at))) (said-place t r) $ heard ! (r ≡ placeAfter t h.at) (λ e'. split ! $ drop ! $
+        split ! $ move ! (1 ∷ []) $ use1 𝓛 (raw (fact 𝓤 (r ≡ place_after t h.at))) (said-place t r) $ heard ! (r ≡ place_after t h.at) (λ e'. split ! $ drop ! $
         peeks ! usize (Is usize) (shows 𝓛 usize) r (w ∷ []) (λ is'.
         land ! (from ! (stop !)) (init ! 12 refl ((uint_Lawful 𝓛 w64).typed r _ is').0) $ rewrite ! 12 (λ (z : Val). ‵ (fat full_share (ty_int w64) l₅ 0 z)) (ap only is'.0) refl $ drop ! $
         -- [the item's; 'a's token; what is kept; the reader's cell; the open borrow; obs; auth; the locals]

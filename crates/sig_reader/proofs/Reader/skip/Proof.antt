@@ -42,7 +42,7 @@ use denote.Triple.Table as table
 use denote.Triple.Walked.{says, Stays, stay_none, walk_of, Goes-none, Walks, ends_at, walked, walk_Meets}
 use denote.Exit.{yes}
 use denote.Triple.Clauses.{ensured, lasts}
-use Rattle.sig_stepping.specs.Step.{bodyEnd}
+use Rattle.sig_stepping.specs.Step.{body_end}
 use Rattle.sig_reader.specs.declared.Reader.{Reader}
 use Rattle.sig_reader.specs.contracts.Reader as T
 use Rattle.sig_reader.proofs.Reader.TheLaws as T'
@@ -113,7 +113,7 @@ module _ {M : Type 1} {𝓤 : Ura M} (𝓛 : Logic 𝓤) (mem : Memory → SProp
       move ! (2 ∷ 0 ∷ []) $ use2 𝓛 (raw ((End 𝓛 mem run).pre to_end)) asked-end $ frame ! $ done !)
 
   abbrev Said-end : ℕ → Type 0
-  Said-end r = r ≡ bodyEnd d.signature.now d.at d.end
+  Said-end r = r ≡ body_end d.signature.now d.at d.end
 
   said-end : (r : ℕ) → ent 𝓤 (ensured 𝓛 body_end.ended (body_end.clauses 𝓛 mem run) (κ, tt) (d.signature, (d.at, (d.end, tt))) tt r) (fact 𝓤 (Said-end r))
   said-end r = ex_e 𝓤 _ (λ ws. snd∗ 𝓤 (sem 𝓛 (lasts body_end.ended (κ, tt) (d.signature, (d.at, (d.end, tt))) ws)) (fact 𝓤 (Said-end r)))

@@ -44,8 +44,8 @@ use denote.Triple.Walked.{says, Stays, stay_none, walk_of, Goes-none, Walks, end
 use denote.Exit.{yes}
 use denote.Triple.Clauses.{ensured, lasts}
 use Rattle.base_conventions.specs.declared.Convention.{Convention}
-use Rattle.sig_items.specs.Answer.{itemAnswer}
-use Rattle.sig_stepping.specs.Step.{typeIn}
+use Rattle.sig_items.specs.Answer.{item_answer}
+use Rattle.sig_stepping.specs.Step.{type_in}
 use Rattle.sig_reader.specs.declared.Reader.{Reader}
 use Rattle.sig_items.specs.declared.ItemRead.{ItemRead}
 use Rattle.base_conventions.specs.contracts.Convention as Cv
@@ -90,7 +90,7 @@ module _ {M : Type 1} {𝓤 : Ura M} (𝓛 : Logic 𝓤) (mem : Memory → SProp
   cv = EL.val Cv.the_type Cv'.the_laws c
 
   abbrev found : ItemRead
-  found = itemAnswer c (typeIn c d.signature.now d.at d.end)
+  found = item_answer c (type_in c d.signature.now d.at d.end)
 
   abbrev Post : Val → SProp 𝓤
   Post = (walk_of 𝓛 type-item.ended stayed (type-item.clauses 𝓛 mem run)).post (((κ, tt), (q, tt), tt, (d, (c, tt)), (mach ∷ [], (cv ∷ [], tt))), tt)
