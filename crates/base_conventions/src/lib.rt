@@ -3,7 +3,7 @@
 ghost use Rattle.std.specs.Prelude.{◌≡◌};
 ghost use Rattle.base_conventions.specs.Numbers.{word_bytes, code_of, convention_code};
 
-#[derive(Drop)]
+#[derive(Clone, Copy)]
 pub enum Convention {
     Ppc64,
     Z,
@@ -12,7 +12,7 @@ pub enum Convention {
 }
 
 // What a code says.
-#[derive(Drop)]
+#[derive(Clone, Copy)]
 pub enum ConventionCode {
     Known(Convention),
     Unknown,

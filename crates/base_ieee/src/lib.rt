@@ -56,7 +56,7 @@ pub fn widen(x: u32) -> u64
 }
 
 // What narrowing finds: the single that widens to the 64 bits, or that there is none.
-#[derive(Drop)]
+#[derive(Clone, Copy)]
 pub enum Narrowed {
     Single(u32),
     NotWidened,

@@ -13,7 +13,7 @@ use frame_rules::{BankRules, FrameRules, Linkage, RegisterSpan, Registers};
 use plan_places::{Cursor, Edition, PowerRules};
 
 // PPC64: document 000.
-#[derive(Drop)]
+#[derive(Clone, Copy)]
 pub struct Ppc64 {}
 
 impl Ppc64 {
@@ -96,7 +96,7 @@ impl Ppc64 {
 }
 
 // Z: document 001.
-#[derive(Drop)]
+#[derive(Clone, Copy)]
 pub struct Z {}
 
 impl Z {
@@ -198,7 +198,7 @@ impl Z {
 }
 
 // 32-bit AIX: document 003. PPC64's rules by words of 4 bytes, with r13 among the saved registers.
-#[derive(Drop)]
+#[derive(Clone, Copy)]
 pub struct Aix {}
 
 impl Aix {
@@ -273,7 +273,7 @@ impl Aix {
 }
 
 // PPC64 by the later edition of its supplement: its own rule is the edition, all numbers are PPC64's.
-#[derive(Drop)]
+#[derive(Clone, Copy)]
 pub struct Ppc64b {}
 
 impl Ppc64b {

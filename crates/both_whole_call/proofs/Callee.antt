@@ -33,7 +33,7 @@ use Rattle.call_roundtrip.specs.Views.{homed_area, Viewed}
 use Rattle.call_roundtrip.proofs.Arguments.{AllPut}
 use Rattle.call_roundtrip.proofs.Theorems.{Left, filled-left, filled-answer, read_left}
 use Rattle.call_roundtrip.proofs.Views.{length-homed, view-as-read}
-use Rattle.call_roundtrip.proofs.Hidden.{hidden-stands}
+use Rattle.call_roundtrip.proofs.HiddenAddress.{hidden-stands}
 use Rattle.frame_rules.specs.declared.FrameRules.{FrameRules}
 use Rattle.frame_rules.specs.declared.Frame.{Frame}
 use Rattle.frame_rules.specs.declared.Registers.{Registers}

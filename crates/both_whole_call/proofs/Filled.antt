@@ -49,7 +49,7 @@ use Rattle.call_fill.proofs.Accepted.{tests-low}
 use Rattle.call_roundtrip.specs.RoundTrip.{Filled, left_by_fill}
 use Rattle.call_roundtrip.proofs.Arguments.{Put, AllPut, EachValue}
 use Rattle.call_roundtrip.proofs.Theorems.{reading-done}
-use Rattle.call_roundtrip.proofs.Hidden.{hidden-stands}
+use Rattle.call_roundtrip.proofs.HiddenAddress.{hidden-stands}
 use Rattle.frame_rules.specs.Rules.{rules}
 use Rattle.frame_rules.proofs.Conventions.{lawful}
 use Rattle.both_meeting.proofs.Theorem.{agree}

@@ -11,7 +11,7 @@ use frame_dump::Found;
 
 // `fz_walked` of include/flakuzhen.h.
 #[repr(C)]
-#[derive(Drop)]
+#[derive(Clone, Copy)]
 pub struct WalkedDump {
     pub answer: Answer,
     pub count: u64,

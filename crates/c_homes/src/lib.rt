@@ -10,7 +10,7 @@ use c_answers::Answer;
 
 // `fz_part`: `length` bytes of a buffer from `start` on.
 #[repr(C)]
-#[derive(Drop)]
+#[derive(Clone, Copy)]
 pub struct Part {
     pub answer: Answer,
     pub start: u64,

@@ -11,7 +11,7 @@ use sig_signatures::Outcome;
 
 // `fz_sizes`: the bytes that the values, the parameter area and the copies of a call take.
 #[repr(C)]
-#[derive(Drop)]
+#[derive(Clone, Copy)]
 pub struct Sizes {
     pub answer: Answer,
     pub values: u64,
@@ -22,7 +22,7 @@ pub struct Sizes {
 // `fz_planned`: the plan without its arguments' places. `result` is 0 for none, 1 in registers, 2 in memory, and after it come the
 // result's registers, or the one with its address. `ellipsis` is 1 for a signature with one, else 0.
 #[repr(C)]
-#[derive(Drop)]
+#[derive(Clone, Copy)]
 pub struct PlanAnswer {
     pub answer: Answer,
     pub convention: u64,

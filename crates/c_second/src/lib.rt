@@ -10,7 +10,7 @@ use sig_signatures::{MAX_ARGUMENTS, Outcome};
 
 // A result: 0 none, 1 in general registers, 2 in floating registers, 3 in memory whose address is in a general register; with the first and the count
 // of the registers.
-#[derive(Drop)]
+#[derive(Clone, Copy)]
 pub struct ReturnedWords {
     pub kind: u64,
     pub first: u64,
@@ -19,7 +19,7 @@ pub struct ReturnedWords {
 
 // The plan without its arguments' places. An accepted one's answer has the count of items.
 #[repr(C)]
-#[derive(Drop)]
+#[derive(Clone, Copy)]
 pub struct SecondAnswer {
     pub answer: Answer,
     pub convention: u64,
@@ -35,7 +35,7 @@ pub struct SecondAnswer {
 
 // The places of one argument: the first and the count of each run; a run of none is 0 and 0.
 #[repr(C)]
-#[derive(Drop)]
+#[derive(Clone, Copy)]
 pub struct SecondPlace {
     pub gpr: u64,
     pub gprs: u64,

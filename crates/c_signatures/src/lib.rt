@@ -12,7 +12,7 @@ use sig_signatures::Outcome;
 
 // `fz_narrowed`: number 0 is yes, 14 no.
 #[repr(C)]
-#[derive(Drop)]
+#[derive(Clone, Copy)]
 pub struct NarrowingAnswer {
     pub number: u64,
     pub place: u64,

@@ -14,7 +14,7 @@ use plan_stored::{CheckAnswer, StoreAnswer};
 
 // `fz_stored` of include/flakuzhen.h.
 #[repr(C)]
-#[derive(Drop)]
+#[derive(Clone, Copy)]
 pub struct Stored {
     pub answer: Answer,
     pub length: u64,

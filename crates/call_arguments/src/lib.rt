@@ -17,7 +17,7 @@ use sig_items::{Fault, ItemRead, Refusal};
 use sig_signatures::{MAX_ARGUMENTS, Outcome, ResultType};
 
 // The sizes of a call, with its outcome, and how many arguments are kept.
-#[derive(Drop)]
+#[derive(Clone, Copy)]
 pub struct KeptCall {
     pub sizes: Measured,
     pub count: usize,
@@ -39,7 +39,7 @@ pub fn rules_in(c: Convention, ellipsis: bool) -> CallRules
 }
 
 // The sizes by the reading alone, the number of the first unclear argument, counted from 1, or 0, and how many are kept.
-#[derive(Drop)]
+#[derive(Clone, Copy)]
 struct KeptArguments {
     measured: Measured,
     unclear: usize,

@@ -20,7 +20,7 @@ use plan_places::{CallRules, IMAGE_BYTES};
 use sig_signatures::{FEW_ARGUMENTS, FEW_BYTES, HeadRead, MAX_ARGUMENTS, Outcome, ResultType};
 
 // The lengths of the lent buffers.
-#[derive(Drop)]
+#[derive(Clone, Copy)]
 pub struct FillLengths {
     pub values: usize,
     pub image: usize,

@@ -8,7 +8,7 @@ use call_slots::CallAnswer;
 use plan_stored::CheckAnswer;
 
 // As plain filling answers; or stored bytes that are stale, with the place of the first difference.
-#[derive(Drop)]
+#[derive(Clone, Copy)]
 pub enum StoredFill {
     Plain(CallAnswer),
     Stale(usize),

@@ -19,7 +19,7 @@ use sig_signatures::{FEW_ARGUMENTS, FEW_BYTES, HeadRead, MAX_ARGUMENTS, Outcome,
 use sig_types::ValueType;
 
 // The lengths of the lent buffers that are tested.
-#[derive(Drop)]
+#[derive(Clone, Copy)]
 pub struct ReadLengths {
     pub values: usize,
     pub image: usize,

@@ -6,5 +6,5 @@ pub mod Theorems
 pub mod Places
 pub mod Alone
 pub mod Views
-pub mod Hidden
+pub mod HiddenAddress
 pub mod Some

@@ -1,5 +1,5 @@
 -- Demand 2's round trip: what fill accepts and leaves, read with the same signature and copy base accepts, and gives the values back,
--- all of them, struct padding included; and the hidden address stands in its register. proofs/Theorems.antt and proofs/Hidden.antt
+-- all of them, struct padding included; and the hidden address stands in its register. proofs/Theorems.antt and proofs/HiddenAddress.antt
 -- prove it. Assumes nothing.
 use Rattle.std.specs.Prelude.{ℕ, ◌^◌, ◌<◌, ◌≡◌, List, length}
 use Rattle.base_words.specs.Numbers.{Bytes, bytes_of}

@@ -12,7 +12,7 @@ use sig_items::Fault;
 use sig_types::{Equivalent, FloatFormat, IntegerKind, ValueType};
 
 // Why a call is refused once its signature is read; `call_refusal_number` gives document 01's number.
-#[derive(Drop)]
+#[derive(Clone, Copy)]
 pub enum CallRefusal {
     ValuesSize,
     AreaTooShort,
@@ -25,7 +25,7 @@ pub enum CallRefusal {
 }
 
 // The answer of a call: done; or its signature is refused, by the reading's fault; or the call is, at place 0.
-#[derive(Drop)]
+#[derive(Clone, Copy)]
 pub enum CallAnswer {
     Done,
     Unread(Fault),

@@ -8,7 +8,7 @@ use plan_places::CallRules;
 use sig_signatures::Outcome;
 
 // The part of an area that is an argument's own bytes: none where the answer refuses.
-#[derive(Drop)]
+#[derive(Clone, Copy)]
 pub struct ViewPart {
     pub answer: CallAnswer,
     pub start: usize,

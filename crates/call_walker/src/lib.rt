@@ -9,7 +9,7 @@ pub const WALKER_WORDS: usize = 6;
 pub const MAX_COUNTER: u64 = 4294967296;
 
 // How far a walker is. PowerPC: the words passed so far, the FPRs used so far, and 0. Z: the next GPR, the next FPR, the next stack offset.
-#[derive(Drop)]
+#[derive(Clone, Copy)]
 pub struct Counters {
     pub general: u64,
     pub floating: u64,
@@ -17,7 +17,7 @@ pub struct Counters {
 }
 
 // The convention, the marks of an ellipsis and of a hidden address, and how far it is.
-#[derive(Drop)]
+#[derive(Clone, Copy)]
 pub struct Walker {
     pub convention: Convention,
     pub ellipsis: bool,
@@ -26,14 +26,14 @@ pub struct Walker {
 }
 
 // What six words are read as.
-#[derive(Drop)]
+#[derive(Clone, Copy)]
 pub enum WalkerRead {
     Walker(Walker),
     Lost,
 }
 
 // The answer of a call: the words are no walker's, or what the reading of a signature, of an item or of an argument answers.
-#[derive(Drop)]
+#[derive(Clone, Copy)]
 pub enum WalkerAnswer {
     Lost,
     Called(CallAnswer),

@@ -4,7 +4,7 @@ ghost use Rattle.std.specs.Prelude.{◌≡◌};
 ghost use Rattle.frame_dump.specs.Walk.{walk_refusal_number, refusal_place};
 
 // Why a walk is refused.
-#[derive(Drop)]
+#[derive(Clone, Copy)]
 pub enum WalkRefusal {
     // This address is that of no frame after the one before, or the dump from this base on ends past the highest address.
     BadAddress(u64),
@@ -15,7 +15,7 @@ pub enum WalkRefusal {
 }
 
 // What a walk found: how many frames, or why it is refused.
-#[derive(Drop)]
+#[derive(Clone, Copy)]
 pub enum Found {
     Frames(usize),
     Refused(WalkRefusal),

@@ -7,7 +7,7 @@ use base_conventions::Convention;
 use frame_rules::{Frame, Registers};
 
 // Why a call is refused.
-#[derive(Drop)]
+#[derive(Clone, Copy)]
 pub enum FrameRefusal {
     // The memory's length or base is out of range, or its length is not that of the start.
     BadMemory,
@@ -29,7 +29,7 @@ pub enum FrameRefusal {
     AboveLeaf,
 }
 
-#[derive(Drop)]
+#[derive(Clone, Copy)]
 pub enum FrameAnswer {
     Accepted,
     Refused(FrameRefusal),
@@ -65,7 +65,7 @@ pub fn answer_number(a: FrameAnswer) -> u64
 pub const MAX_ENTERED: usize = 32;
 
 // A machine between two calls. Its memory has `size` bytes from the address `base` on; the first `depth` of `frames` are entered.
-#[derive(Drop)]
+#[derive(Clone, Copy)]
 pub struct State {
     pub convention: Convention,
     pub base: u64,
@@ -76,7 +76,7 @@ pub struct State {
 }
 
 // What a call answers, and the state after it.
-#[derive(Drop)]
+#[derive(Clone, Copy)]
 pub struct FrameOutcome {
     pub answer: FrameAnswer,
     pub state: State,

@@ -6,7 +6,7 @@ ghost use Rattle.frame_rules.specs.Rules.{in_span};
 ghost use Rattle.frame_rules.specs.Frames.{start_frame, with_pointer, has_condition};
 
 // The registers `first` to `last`.
-#[derive(Drop)]
+#[derive(Clone, Copy)]
 pub struct RegisterSpan {
     pub first: usize,
     pub last: usize,
@@ -14,7 +14,7 @@ pub struct RegisterSpan {
 
 // A bank of registers: the range of the first register that a request saves, the last register that a frame may write for having saved it,
 // and the volatile and the preserved registers. (A set of one span says it twice.)
-#[derive(Drop)]
+#[derive(Clone, Copy)]
 pub struct BankRules {
     pub request: RegisterSpan,
     pub last: usize,
@@ -23,7 +23,7 @@ pub struct BankRules {
 }
 
 // Where the general registers are saved, and where the return address stands.
-#[derive(Drop)]
+#[derive(Clone, Copy)]
 pub enum Linkage {
     // In LR. The general registers are saved below the floating registers, CR and LR in the caller's header at these offsets.
     LinkRegister(usize, usize),
@@ -32,7 +32,7 @@ pub enum Linkage {
 }
 
 // A convention's numbers.
-#[derive(Drop)]
+#[derive(Clone, Copy)]
 pub struct FrameRules {
     // Bytes of a general register, and so of a back chain.
     pub word: usize,
@@ -59,7 +59,7 @@ pub struct FrameRules {
 // A frame: what a request asks for, and what is recorded of an entered one. The general registers from `first_gpr` on and the floating
 // registers from `first_fpr` on are saved, CR if `saves_cr`; `locals` and `outgoing` are bytes. A leaf has no frame: its saves lie below
 // the stack pointer, which stays.
-#[derive(Drop)]
+#[derive(Clone, Copy)]
 pub struct Frame {
     pub first_gpr: usize,
     pub first_fpr: usize,
@@ -70,7 +70,7 @@ pub struct Frame {
 }
 
 // The bank that a register to write is named in; `None` is none.
-#[derive(Drop)]
+#[derive(Clone, Copy)]
 pub enum RegisterBank {
     General,
     Floating,
@@ -80,7 +80,7 @@ pub enum RegisterBank {
 }
 
 // A machine's registers.
-#[derive(Drop)]
+#[derive(Clone, Copy)]
 pub struct Registers {
     pub gpr: [u64; 32],
     pub fpr: [u64; 32],

@@ -9,7 +9,7 @@ use plan_places::{ByteRange, RegisterRange, Span};
 pub const ENTRY: usize = 13;
 
 // Where a result is, 0 nowhere, 1 in registers, 2 in memory; and its registers, or the one with its address.
-#[derive(Drop)]
+#[derive(Clone, Copy)]
 pub struct ResultWords {
     pub kind: u64,
     pub gpr: u64,

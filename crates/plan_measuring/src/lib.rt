@@ -76,7 +76,7 @@ fn measure_plain(
 }
 
 // The sizes of a plan by the reading alone, and the number of its first unclear argument, counted from 1; 0 where none is.
-#[derive(Drop)]
+#[derive(Clone, Copy)]
 struct Passed {
     measured: Measured,
     unclear: usize,

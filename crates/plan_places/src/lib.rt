@@ -14,14 +14,14 @@ pub const IMAGE_BYTES: usize = 512;
 pub const FPRS_AT: usize = 256;
 
 // The edition of the PowerPC supplement. In the later one a long double takes two FPRs.
-#[derive(Drop)]
+#[derive(Clone, Copy)]
 pub enum Edition {
     Earlier,
     Later,
 }
 
 // What calls on PowerPC differ in: the bytes of a word of the argument list, the edition, and whether the call has an ellipsis.
-#[derive(Drop)]
+#[derive(Clone, Copy)]
 pub struct PowerRules {
     pub word: usize,
     pub edition: Edition,
@@ -29,14 +29,14 @@ pub struct PowerRules {
 }
 
 // A convention's rules for arguments and results.
-#[derive(Drop)]
+#[derive(Clone, Copy)]
 pub enum CallRules {
     Power(PowerRules),
     Z,
 }
 
 // What comes next: a general register, a floating register, a byte of the parameter area, a byte of the copies.
-#[derive(Drop)]
+#[derive(Clone, Copy)]
 pub struct Cursor {
     pub general: usize,
     pub floating: usize,
@@ -45,14 +45,14 @@ pub struct Cursor {
 }
 
 // Registers of one bank, one after the other.
-#[derive(Drop)]
+#[derive(Clone, Copy)]
 pub struct RegisterRange {
     pub first: u8,
     pub count: u8,
 }
 
 // Bytes of the parameter area or of the copies, one after the other.
-#[derive(Drop)]
+#[derive(Clone, Copy)]
 pub struct ByteRange {
     pub start: u16,
     pub length: u16,
@@ -60,7 +60,7 @@ pub struct ByteRange {
 
 // What belongs to one argument: its registers; its home in the parameter area, used or not; the part of that home that
 // holds it; its copy, where it is passed by a pointer to one. Kept small: a plan has a table of these.
-#[derive(Drop)]
+#[derive(Clone, Copy)]
 pub struct Span {
     pub general: RegisterRange,
     pub floating: RegisterRange,
@@ -71,27 +71,27 @@ pub struct Span {
 }
 
 // An argument's span, and the cursor of the next argument.
-#[derive(Drop)]
+#[derive(Clone, Copy)]
 pub struct Placed {
     pub span: Span,
     pub next: Cursor,
 }
 
-#[derive(Drop)]
+#[derive(Clone, Copy)]
 pub enum Bank {
     General,
     Floating,
 }
 
 // One place of an argument: a register, or a word of memory at its offset in the parameter area.
-#[derive(Drop)]
+#[derive(Clone, Copy)]
 pub enum Place {
     Register { bank: Bank, number: u8 },
     Memory { offset: u16 },
 }
 
 // Where a result is: in registers, or in memory whose address is handed over as a hidden first argument.
-#[derive(Drop)]
+#[derive(Clone, Copy)]
 pub enum ResultPlaces {
     Nothing,
     Registers(Span),
@@ -99,7 +99,7 @@ pub enum ResultPlaces {
 }
 
 // Of the words of an argument on PowerPC: how many are in GPRs, and how many in memory. Of the FPRs: how many hold it.
-#[derive(Drop)]
+#[derive(Clone, Copy)]
 pub struct Share {
     pub general: usize,
     pub floating: usize,
@@ -107,7 +107,7 @@ pub struct Share {
 }
 
 // How Z passes an argument: as a float, as an integer, or as a pointer to a copy.
-#[derive(Drop)]
+#[derive(Clone, Copy)]
 pub enum ZClass {
     Float,
     Simple,

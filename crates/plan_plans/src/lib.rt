@@ -7,7 +7,7 @@ use sig_signatures::{MAX_ARGUMENTS, Outcome};
 // The plan of a signature, or the reader's refusal. `ellipsis` says whether the signature has one; `area` is the size of the parameter area, `values`
 // that of all arguments' values, and `copies` the end of the last copy. Of `spans` the first `count` belong to arguments, the others to none. A
 // refused signature has a plan of nothing.
-#[derive(Drop)]
+#[derive(Clone, Copy)]
 pub struct Plan {
     pub outcome: Outcome,
     pub convention: Convention,
@@ -21,7 +21,7 @@ pub struct Plan {
 }
 
 // A plan's outcome and sizes, without its places.
-#[derive(Drop)]
+#[derive(Clone, Copy)]
 pub struct Measured {
     pub outcome: Outcome,
     pub area: usize,

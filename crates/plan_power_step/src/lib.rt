@@ -90,7 +90,7 @@ fn share_of(ellipsis: bool, m: usize, room: usize, n: usize, k: usize) -> Share
 }
 
 // What an argument takes: its words, those of them that have a GPR, and its share.
-#[derive(Drop)]
+#[derive(Clone, Copy)]
 struct PowerTaken {
     count: usize,
     covered: usize,

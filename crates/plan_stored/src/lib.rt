@@ -11,7 +11,7 @@ use sig_items::Fault;
 use sig_signatures::Outcome;
 
 // The stored plan's length; or the signature's refusal; or a buffer that is too short.
-#[derive(Drop)]
+#[derive(Clone, Copy)]
 pub enum StoreAnswer {
     Stored(usize),
     Refused(Fault),
@@ -19,7 +19,7 @@ pub enum StoreAnswer {
 }
 
 // The stored bytes are those of the fresh signature's plan; or the signature's refusal; or where the bytes differ.
-#[derive(Drop)]
+#[derive(Clone, Copy)]
 pub enum CheckAnswer {
     Same,
     Refused(Fault),

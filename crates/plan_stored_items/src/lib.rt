@@ -10,7 +10,7 @@ use plan_places::{CallRules, RegisterRange, ResultPlaces, Span};
 use plan_text::put_byte;
 
 // One place as it is stored.
-#[derive(Drop)]
+#[derive(Clone, Copy)]
 pub struct StoredPlace {
     pub kind: u8,
     pub bank: u8,
@@ -19,7 +19,7 @@ pub struct StoredPlace {
 }
 
 // Places one after the other: each has a number `on` higher and an offset `by` higher than the one before.
-#[derive(Drop)]
+#[derive(Clone, Copy)]
 pub struct PlaceRun {
     pub kind: u8,
     pub bank: u8,

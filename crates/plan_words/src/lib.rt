@@ -25,7 +25,7 @@ use sig_signatures::{FEW_ARGUMENTS, FEW_BYTES, HeadRead, MAX_ARGUMENTS, Outcome,
 use sig_types::{FloatFormat, ValueType};
 
 // A plan without the places of its arguments.
-#[derive(Drop)]
+#[derive(Clone, Copy)]
 pub struct Planned {
     pub outcome: Outcome,
     pub convention: Convention,

@@ -64,7 +64,7 @@ fn one_left(next: usize, past: usize) -> usize
 }
 
 // What an argument takes: GPRs, FPRs or, where it has neither, a word of memory; the bytes of its copy.
-#[derive(Drop)]
+#[derive(Clone, Copy)]
 struct ZTaken {
     general: usize,
     floating: usize,

@@ -6,7 +6,7 @@ ghost use Rattle.second_parameters.specs.Values.{run_of, no_run, no_parameter};
 use sig_signatures::MAX_ARGUMENTS;
 
 // Numbers one after the other: registers, words or bytes. Of none, 0 stands for the first.
-#[derive(Drop)]
+#[derive(Clone, Copy)]
 pub struct Run {
     pub first: usize,
     pub count: usize,
@@ -14,7 +14,7 @@ pub struct Run {
 
 // Where a parameter is: its general and floating registers; its field, that is its bytes of the parameter area, used or not; the
 // bytes there that hold it; the bytes of its copy, where it is passed by reference.
-#[derive(Drop)]
+#[derive(Clone, Copy)]
 pub struct Parameter {
     pub general: Run,
     pub floating: Run,
@@ -25,7 +25,7 @@ pub struct Parameter {
 }
 
 // Where a result is: in general registers, in floating registers, or in memory whose address is in a general register.
-#[derive(Drop)]
+#[derive(Clone, Copy)]
 pub enum Returned {
     Nothing,
     General(Run),

@@ -12,7 +12,7 @@ use second_parameters::{Parameter, Returned};
 use sig_items::Fault;
 use sig_signatures::{MAX_ARGUMENTS, Outcome, SignatureRead};
 
-#[derive(Drop)]
+#[derive(Clone, Copy)]
 pub struct SecondPlan {
     pub outcome: Outcome,
     pub convention: Convention,

@@ -11,7 +11,7 @@ use sig_signatures::{MAX_ARGUMENTS, ResultType, SignatureRead};
 use sig_types::{Equivalent, FloatFormat, ValueType};
 
 // 001's gr, fr and starg, and the end of the copies.
-#[derive(Drop)]
+#[derive(Clone, Copy)]
 pub struct Scan {
     pub gr: usize,
     pub fr: usize,
@@ -20,20 +20,20 @@ pub struct Scan {
 }
 
 // The copy of an argument that is passed by reference, and the end of the copies.
-#[derive(Drop)]
+#[derive(Clone, Copy)]
 pub struct Copied {
     pub bytes: Run,
     pub end: usize,
     pub reference: bool,
 }
 
-#[derive(Drop)]
+#[derive(Clone, Copy)]
 pub struct ScannedSlot {
     pub parameter: Parameter,
     pub next: Scan,
 }
 
-#[derive(Drop)]
+#[derive(Clone, Copy)]
 pub struct Scanned {
     pub parameters: [Parameter; MAX_ARGUMENTS],
     pub end: Scan,

@@ -15,7 +15,7 @@ use sig_signatures::{MAX_ARGUMENTS, ResultType, SignatureRead};
 use sig_types::{FloatFormat, ValueType};
 
 // All parameters as one structure: the words of each, and how many words there are.
-#[derive(Drop)]
+#[derive(Clone, Copy)]
 pub struct Structure {
     pub fields: [Run; MAX_ARGUMENTS],
     pub words: usize,

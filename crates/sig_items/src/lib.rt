@@ -6,7 +6,7 @@ ghost use Rattle.sig_items.specs.Reading.{later};
 use sig_types::{FloatFormat, IntegerKind, ValueType};
 
 // Why a signature is refused, by its reading or, the last, by its plan; `refusal_number` gives the papers' number.
-#[derive(Drop)]
+#[derive(Clone, Copy)]
 pub enum Refusal {
     TooLong,
     Truncated,
@@ -40,7 +40,7 @@ pub fn refusal_number(r: Refusal) -> u64
 }
 
 // A refused reading: why and where, and how many headers had passed header room, tag and length room when it stopped.
-#[derive(Drop)]
+#[derive(Clone, Copy)]
 pub struct Fault {
     pub reason: Refusal,
     pub place: usize,
@@ -61,14 +61,14 @@ pub fn later_by(earlier: usize, f: Fault) -> Fault
 }
 
 // An item's header: where its body ends, or why it is refused.
-#[derive(Drop)]
+#[derive(Clone, Copy)]
 pub enum Body {
     To(usize),
     Refused(Refusal),
 }
 
 // A type item: its type, where the next item starts and how many items it is with those in it; or its fault.
-#[derive(Drop)]
+#[derive(Clone, Copy)]
 pub enum ItemRead {
     Item {
         ty: ValueType,
@@ -78,13 +78,13 @@ pub enum ItemRead {
     Refused(Fault),
 }
 
-#[derive(Drop)]
+#[derive(Clone, Copy)]
 pub enum IntegerCode {
     Kind(IntegerKind),
     Unknown,
 }
 
-#[derive(Drop)]
+#[derive(Clone, Copy)]
 pub enum FloatCode {
     Format(FloatFormat),
     Unknown,

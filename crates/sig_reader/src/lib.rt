@@ -17,7 +17,7 @@ use sig_stepping::Header;
 use sig_types::ValueType;
 
 // The bytes, the place of the next item, and the end of the part that is stepped through. Any numbers are allowed.
-#[derive(Drop)]
+#[derive(Clone, Copy)]
 pub struct Reader<'a> {
     pub signature: &'a [u8],
     pub at: usize,
@@ -25,7 +25,7 @@ pub struct Reader<'a> {
 }
 
 // An argument's type and the place of its item; or none has that number; or the signature is refused.
-#[derive(Drop)]
+#[derive(Clone, Copy)]
 pub enum ArgumentRead {
     Argument { ty: ValueType, place: usize },
     Missing,

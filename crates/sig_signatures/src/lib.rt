@@ -15,26 +15,26 @@ pub const FEW_ARGUMENTS: usize = 12;
 
 pub const FEW_BYTES: usize = 3 * FEW_ARGUMENTS;
 
-#[derive(Drop)]
+#[derive(Clone, Copy)]
 pub enum ResultType {
     Nothing,
     Value(ValueType),
 }
 
-#[derive(Drop)]
+#[derive(Clone, Copy)]
 pub struct Argument {
     pub ty: ValueType,
 }
 
 // Accepted, with the count of items; or refused.
-#[derive(Drop)]
+#[derive(Clone, Copy)]
 pub enum Outcome {
     Accepted(usize),
     Refused(Fault),
 }
 
 // The answer on a signature. A refused one has no result, no ellipsis and no arguments; the places of the table past `count` hold an i8.
-#[derive(Drop)]
+#[derive(Clone, Copy)]
 pub struct SignatureRead {
     pub outcome: Outcome,
     pub convention: Convention,
@@ -45,14 +45,14 @@ pub struct SignatureRead {
 }
 
 // The first item.
-#[derive(Drop)]
+#[derive(Clone, Copy)]
 pub enum ConventionRead {
     Known(Convention),
     Refused(Fault),
 }
 
 // The second item, with the place after it and the count of its items.
-#[derive(Drop)]
+#[derive(Clone, Copy)]
 pub enum ResultRead {
     Result {
         ty: ResultType,
@@ -63,7 +63,7 @@ pub enum ResultRead {
 }
 
 // The ellipsis's item, or none, with the place of the last item and the count of its items.
-#[derive(Drop)]
+#[derive(Clone, Copy)]
 pub enum EllipsisRead {
     Ellipsis {
         present: bool,
@@ -75,7 +75,7 @@ pub enum EllipsisRead {
 
 // What stands before the arguments: the convention, the result's type and whether there is an ellipsis; the arguments' bytes are those from `at` to `end`,
 // and `earlier` items came before theirs.
-#[derive(Drop)]
+#[derive(Clone, Copy)]
 pub enum HeadRead {
     Head {
         convention: Convention,

@@ -7,7 +7,7 @@ use base_conventions::Convention;
 use sig_items::{Body, ItemRead, Refusal};
 
 // An item's header: its tag and where its body ends; or why it is refused.
-#[derive(Drop)]
+#[derive(Clone, Copy)]
 pub enum Header {
     Found { tag: u8, end: usize },
     Refused(Refusal),

@@ -10,7 +10,7 @@ pub const MAX_SIZE: usize = 256;
 pub const MAX_DEPTH: usize = 8;
 
 // An integer type or a pointer. Document 01 calls these whole numbers.
-#[derive(Drop)]
+#[derive(Clone, Copy)]
 pub enum IntegerKind {
     I8,
     U8,
@@ -23,7 +23,7 @@ pub enum IntegerKind {
     Pointer,
 }
 
-#[derive(Drop)]
+#[derive(Clone, Copy)]
 pub enum FloatFormat {
     Single,
     Double,
@@ -31,7 +31,7 @@ pub enum FloatFormat {
 }
 
 // The float that a struct is equivalent to: that of its only field, however deep it stands.
-#[derive(Drop)]
+#[derive(Clone, Copy)]
 pub enum Equivalent {
     Nothing,
     Single,
@@ -40,14 +40,14 @@ pub enum Equivalent {
 
 // A struct's size and alignment in bytes, at most MAX_SIZE and 16, and its equivalent float. Kept small: a signature has a
 // table of these.
-#[derive(Drop)]
+#[derive(Clone, Copy)]
 pub struct Shape {
     pub size: u16,
     pub align: u8,
     pub equivalent: Equivalent,
 }
 
-#[derive(Drop)]
+#[derive(Clone, Copy)]
 pub enum ValueType {
     Integer(IntegerKind),
     Float(FloatFormat),
@@ -150,7 +150,7 @@ pub fn equivalent_of(t: ValueType) -> Equivalent
 
 // The fields of a struct so far: where the last one ends, the largest alignment, whether there is none yet, and the float
 // that the only one is equivalent to.
-#[derive(Drop)]
+#[derive(Clone, Copy)]
 pub struct Fields {
     pub end: usize,
     pub align: usize,
@@ -159,7 +159,7 @@ pub struct Fields {
 }
 
 // What a struct is once its last field is there.
-#[derive(Drop)]
+#[derive(Clone, Copy)]
 pub enum Closed {
     Shape(Shape),
     TooLarge,
