@@ -1,5 +1,7 @@
 // The calling conventions by name and by code: what a signature's first item and a machine's state say. The numbers that calls and frames share
 // stand in specs/; the type of each convention, with its constants, is in `both_abi`.
+#![tactic(auto)]
+
 ghost use Rattle.std.specs.Prelude.{◌≡◌};
 ghost use Rattle.base_conventions.specs.Numbers.{word_bytes, code_of, convention_code};
 

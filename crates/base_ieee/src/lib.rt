@@ -1,5 +1,7 @@
 // A single's 32 bits as the 64 bits of the double that it widens to, and back where there is such a single. The work is on
 // the bits as integers and never on floats, so no NaN is quieted.
+#![tactic(auto)]
+
 ghost use Rattle.std.specs.Prelude.{◌≡◌, ◌/◌, ◌%◌, ◌^◌, ◌<◌};
 ghost use Rattle.base_ieee.specs.Widening.{widen as widen_of};
 ghost use Rattle.base_ieee.specs.Narrowing.{narrow as narrow_of, candidate as candidate_of};

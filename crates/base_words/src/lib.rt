@@ -1,6 +1,8 @@
 // Big-endian numbers in lent bytes, and bytes put at the head of a lent part. A function that writes is lent the part that starts where it is to write,
 // so that every caller's write is a splice (the law `lent-tail`). The loops are plain: at the constant width 8 the compiler makes of `load` and `store` one
 // load or store with its bytes swapped. Beside them stand the few functions on numbers that layers of both families use. Nothing here knows of signatures or frames.
+#![tactic(auto)]
+
 ghost use Rattle.std.specs.Prelude.{◌≡◌, ◌+◌, ◌^◌, ◌≤◌, ◌<◌, min, max, length, replicate};
 ghost use Rattle.base_words.specs.Basics.{flag, round_up};
 ghost use Rattle.base_words.specs.Splice.{overlay, splice, part};

@@ -1,5 +1,7 @@
 // Each convention as one type: its constants, its rules for calls and for frames, its starting cursor and its fresh machine. The functions below the
 // types go from a `Convention` to what its type says.
+#![tactic(auto)]
+
 ghost use Rattle.std.specs.Prelude.{◌≡◌, length};
 ghost use Rattle.base_conventions.specs.Numbers.{least_area};
 ghost use Rattle.plan_places.specs.declared.Edition.{Edition};

@@ -1,4 +1,6 @@
 // An answer of a call on values as an exported function answers it: number, place and count, in 64-bit words.
+#![tactic(auto)]
+
 ghost use Rattle.std.specs.Prelude.{◌≡◌};
 ghost use Rattle.c_call_answers.specs.Calls.{call_answer};
 

@@ -1,4 +1,6 @@
 // The walk of a dump for C and Rust: the frame addresses in walking order, in the lent list, and how many they are. A refused walk leaves the list as it was.
+#![tactic(auto)]
+
 ghost use Rattle.std.specs.Prelude.{◌≡◌, length};
 ghost use Rattle.base_conventions.specs.declared.Convention.TheVariants as convention;
 ghost use Rattle.frame_rules.specs.Rules.{rules};

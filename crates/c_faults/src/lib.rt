@@ -1,4 +1,6 @@
 // A reading's fault as an exported function answers it: number, place and the count of headers that had passed, in 64-bit words.
+#![tactic(auto)]
+
 ghost use Rattle.std.specs.Prelude.{◌≡◌};
 ghost use Rattle.c_faults.specs.Faults.{fault_answer};
 

@@ -1,5 +1,7 @@
 // The surface for C and Rust, which include/flakuzhen.h declares: filling. It and reading are objects of their own, in which what each
 // calls once is compiled in line.
+#![tactic(auto)]
+
 ghost use Rattle.std.specs.Prelude.{◌≡◌};
 ghost use Rattle.call_slots.specs.Buffers.{buffers};
 ghost use Rattle.call_fill.specs.Fill.{fill_lengths, fill_answer, fill_buffers};

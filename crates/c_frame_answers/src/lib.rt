@@ -1,4 +1,6 @@
 // The answer of a call of the frame machine, as C sees it.
+#![tactic(auto)]
+
 ghost use Rattle.std.specs.Prelude.{◌≡◌};
 ghost use Rattle.c_frame_answers.specs.Frames.{frame_answer};
 

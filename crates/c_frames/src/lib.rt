@@ -1,5 +1,7 @@
 // The calls of the frame machine for C and Rust: `fz_machine` and `fz_frame` are words in the layout of the crate frame_word_layout. A refused call leaves the machine's
 // words and the memory as they were.
+#![tactic(auto)]
+
 ghost use Rattle.std.specs.Prelude.{◌≡◌, length};
 ghost use Rattle.frame_machine.specs.Machine.{enter_outcome, enter_memory, write_register_outcome, write_memory_outcome, write_memory_memory, leave_outcome};
 ghost use Rattle.frame_word_layout.specs.Words.{frame_in, state_in};

@@ -1,5 +1,7 @@
 // The surface for C and Rust, which include/flakuzhen.h declares: the homes of register arguments, and views of arguments there. Each function
 // calls one of the crates below and lays its answer out in 64-bit words.
+#![tactic(auto)]
+
 ghost use Rattle.std.specs.Prelude.{◌≡◌, length};
 ghost use Rattle.call_home.specs.Home.{home_answer, home_area};
 ghost use Rattle.c_call_answers.specs.Calls.{call_answer};

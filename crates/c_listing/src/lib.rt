@@ -1,5 +1,7 @@
 // The surface for C and Rust on listings: the printed plan. It is an object of its own: a listing plans by a table of spans, and beside it the
 // planners of the other object would no longer have the step compiled in line.
+#![tactic(auto)]
+
 ghost use Rattle.std.specs.Prelude.{◌≡◌, length};
 ghost use Rattle.base_words.specs.Splice.{overlay_whole};
 ghost use Rattle.plan_listing.specs.Text.{listing_of};

@@ -1,5 +1,7 @@
 // The surface for C and Rust on plans: the sizes of a call and its whole plan. It is an object of its own beside those on signatures and listings, so that each
 // has the planner's code where it is used.
+#![tactic(auto)]
+
 ghost use Rattle.std.specs.Prelude.{◌≡◌};
 ghost use Rattle.base_words.specs.Splice.{overlay_whole};
 ghost use Rattle.plan_plans.specs.Call.{call_of};

@@ -1,4 +1,6 @@
 // The surface for C and Rust, which include/flakuzhen.h declares: reading.
+#![tactic(auto)]
+
 ghost use Rattle.std.specs.Prelude.{◌≡◌};
 ghost use Rattle.call_slots.specs.Buffers.{buffers};
 ghost use Rattle.call_read.specs.Read.{read_lengths, read_answer, read_values};

@@ -1,4 +1,6 @@
 // The second planner for programs that are held to it: its plan and each argument's places, in 64-bit words. It is no part of the library.
+#![tactic(auto)]
+
 ghost use Rattle.std.specs.Prelude.{◌≡◌};
 ghost use Rattle.sig_signatures.specs.Read.{signature_of};
 ghost use Rattle.second_planner.specs.Answer.{second_answer};

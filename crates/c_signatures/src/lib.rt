@@ -1,5 +1,7 @@
 // The surface for C and Rust, which include/flakuzhen.h declares: the version, signatures and floats. Each function of the last two calls one
 // of the crates below and lays its answer out in 64-bit words.
+#![tactic(auto)]
+
 ghost use Rattle.std.specs.Prelude.{◌≡◌, ◌%◌, ◌^◌};
 ghost use Rattle.base_ieee.specs.Widening.{widen};
 ghost use Rattle.base_ieee.specs.Narrowing.{narrow};

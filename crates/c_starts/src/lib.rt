@@ -1,5 +1,7 @@
 // The fresh starts of the frame machine for C and Rust: `fz_machine` and `fz_registers` are words in the layout of the crate frame_word_layout. A refused start leaves
 // the convention, the registers as handed in and all else 0.
+#![tactic(auto)]
+
 ghost use Rattle.std.specs.Prelude.{◌≡◌, length};
 ghost use Rattle.base_conventions.specs.declared.Convention.TheVariants.{Ppc64, Z, Aix, Ppc64b};
 ghost use Rattle.frame_machine.specs.Machine.{start_outcome, start_memory};

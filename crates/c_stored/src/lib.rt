@@ -1,5 +1,7 @@
 // The surface for C and Rust on stored plans: how long a plan's bytes are, writing them, checking them against a fresh signature, and filling after that
 // check. Each function calls one of the crates below and lays its answer out in 64-bit words.
+#![tactic(auto)]
+
 ghost use Rattle.std.specs.Prelude.{◌≡◌, length};
 ghost use Rattle.c_answers.specs.Answers.{answer_of};
 ghost use Rattle.call_slots.specs.Buffers.{buffers};

@@ -1,5 +1,7 @@
 // The walker for C and Rust, which include/flakuzhen.h declares: `fz_walker` is six words, in the layout of crates/call_walker/specs/Words.antt. A refused call leaves the walker
 // and the value buffer as they were.
+#![tactic(auto)]
+
 ghost use Rattle.std.specs.Prelude.{◌≡◌};
 ghost use Rattle.sig_signatures.specs.Read.{signature_of};
 ghost use Rattle.call_slots.specs.Buffers.{buffers};

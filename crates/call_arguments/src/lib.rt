@@ -1,5 +1,7 @@
 // The arguments of a call, read once: each is placed, and its type and span are kept in words until all tests are made. Who then moves values goes
 // over these, without the signature.
+#![tactic(auto)]
+
 ghost use Rattle.std.specs.Prelude.{◌≡◌, false, ◌^◌, ◌≤◌, length};
 ghost use Rattle.sig_signatures.specs.Read.{arguments_in, signature_of};
 ghost use Rattle.plan_places.specs.Step.{rules_of, with_ellipsis};

@@ -1,4 +1,6 @@
 // Filling from a stored plan: the check of the stored bytes against the fresh signature first, then plain filling.
+#![tactic(auto)]
+
 ghost use Rattle.std.specs.Prelude.{◌≡◌};
 ghost use Rattle.call_slots.specs.Buffers.{buffers};
 ghost use Rattle.call_fill.specs.Fill.{fill_lengths};

@@ -1,4 +1,6 @@
 // Home: the arguments of a PowerPC call that came in registers, copied into the parameter area.
+#![tactic(auto)]
+
 ghost use Rattle.std.specs.Prelude.{◌≡◌, ◌≤◌, length};
 ghost use Rattle.call_slots.specs.Refusals.{first_of};
 ghost use Rattle.call_slots.specs.Arguments.{placements_in, rules_in};

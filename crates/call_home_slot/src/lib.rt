@@ -1,4 +1,6 @@
 // The home of one argument of a PowerPC call in the parameter area: what stands there once its registers are copied, and whether they can be.
+#![tactic(auto)]
+
 ghost use Rattle.std.specs.Prelude.{◌≡◌, ◌+◌, ◌≤◌, length};
 ghost use Rattle.base_words.specs.Splice.{overlay, part};
 ghost use Rattle.sig_types.specs.Sizes.{size_of};

@@ -1,5 +1,7 @@
 // The arguments of a call, kept in lent 16-bit words until all tests are made: the type and the span of each, a row of ten words. A table of
 // structs can't be lent, only handed on by value; words can, and are cleared and copied once.
+#![tactic(auto)]
+
 ghost use Rattle.std.specs.Prelude.{◌≡◌, ◌+◌, ◌*◌, ◌≤◌, length, get_or};
 ghost use Rattle.base_words.specs.Splice.{overlay, splice};
 ghost use Rattle.sig_items.specs.Encode.{integer_number, float_number};

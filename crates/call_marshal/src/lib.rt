@@ -1,5 +1,7 @@
 // The value of one argument put where its span says: in registers, memory and copy. A slot or a copy is written through the part of its
 // buffer that starts at its offset.
+#![tactic(auto)]
+
 ghost use Rattle.std.specs.Prelude.{◌≡◌, false, eqb, ◌+◌, ◌*◌, ◌≤◌, ◌<◌, length, take};
 ghost use Rattle.base_words.specs.Splice.{overlay, splice, part};
 ghost use Rattle.base_words.specs.Numbers.{bytes_of};

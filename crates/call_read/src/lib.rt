@@ -1,5 +1,7 @@
 // Reading: the values of a call's arguments out of its registers, memory and copies. A first pass over the arguments finds the first
 // that can't be read, and only then are the values taken, so that a refused reading leaves the value buffer as it was.
+#![tactic(auto)]
+
 ghost use Rattle.std.specs.Prelude.{◌≡◌, [], ◌≤◌, length, take};
 ghost use Rattle.sig_signatures.specs.Helpers.{RoomFor};
 ghost use Rattle.call_slots.specs.Buffers.{buffers};

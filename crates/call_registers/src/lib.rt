@@ -1,5 +1,7 @@
 // Words in the general registers of an image, which has eight bytes for each: a word of at most eight bytes stands in the low ones. Where a
 // word is a doubleword, registers are plain bytes, and are copied as such; else word goes by word.
+#![tactic(auto)]
+
 ghost use Rattle.std.specs.Prelude.{◌≡◌, ◌++◌, ◌+◌, ◌-◌, ◌*◌, ◌≤◌, ◌<◌, length, replicate};
 ghost use Rattle.base_words.specs.Splice.{overlay, part};
 ghost use Rattle.base_words.specs.Numbers.{bytes_of};

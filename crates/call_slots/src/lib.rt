@@ -1,5 +1,7 @@
 // What stands in the slots of one argument: the 64 bits of a value in a general register, in memory or in an FPR, and the refusals
 // of filling, reading, home and view.
+#![tactic(auto)]
+
 ghost use Rattle.std.specs.Prelude.{◌≡◌, ◌^◌, ◌≤◌, ◌<◌, length};
 ghost use Rattle.base_words.specs.Numbers.{value_of};
 ghost use Rattle.call_slots.specs.Forms.{signed_kind, is_signed, struct_at_head, head_first, starts_at_head, extended, room_of, own_start, single_word};

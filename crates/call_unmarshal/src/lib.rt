@@ -1,4 +1,6 @@
 // The values of arguments taken out of their registers, memory and copies. An argument is taken only where nothing refuses its reading.
+#![tactic(auto)]
+
 ghost use Rattle.std.specs.Prelude.{◌≡◌, [], ◌+◌, ◌*◌, ◌≤◌, ◌<◌, length};
 ghost use Rattle.base_words.specs.Splice.{overlay, part};
 ghost use Rattle.base_ieee.specs.Narrowing.{narrow as narrow_of};

@@ -1,4 +1,6 @@
 // Views of arguments in a homed parameter area: each is an argument's own bytes as a part of the caller's slice.
+#![tactic(auto)]
+
 ghost use Rattle.std.specs.Prelude.{◌≡◌, length};
 ghost use Rattle.call_slots.specs.Refusals.{first_of, after_reading};
 ghost use Rattle.call_views.specs.View.{view_tests, view_answer, view_part, view_of};

@@ -1,5 +1,7 @@
 // A walker over the arguments of a call, type by type: its state, and the answer of its calls. No code: what they mean is in specs/, and the functions are
 // in the crates above.
+#![tactic(auto)]
+
 use base_conventions::Convention;
 use call_slots::CallAnswer;
 

@@ -1,4 +1,6 @@
 // A walker read from six 64-bit words, with refusal 23, and written to them.
+#![tactic(auto)]
+
 ghost use Rattle.std.specs.Prelude.{◌≡◌, ◌≤◌, length};
 ghost use Rattle.base_conventions.specs.declared.ConventionCode.TheVariants.{Known};
 ghost use Rattle.call_walker.specs.Walker.{possible, power_possible, z_possible, in_range, lost};

@@ -1,5 +1,7 @@
 // The calls of a walker over its six words. A step tests all before it writes anything, and works in the part of the area that starts at the walker's
 // offset, since a cursor's own numbers are small.
+#![tactic(auto)]
+
 ghost use Rattle.std.specs.Prelude.{◌≡◌, false, ◌≤◌, length};
 ghost use Rattle.sig_items.specs.Answer.{item_answer};
 ghost use Rattle.sig_signatures.specs.Read.{signature_of};

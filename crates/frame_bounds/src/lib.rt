@@ -1,4 +1,6 @@
 // Whether a memory lies where it may, which refusal 16 asks at the start and 23 of every state, and whether registers fit their words.
+#![tactic(auto)]
+
 ghost use Rattle.std.specs.Prelude.{◌≡◌};
 ghost use Rattle.frame_rules.specs.Helpers.{LawfulFrames};
 ghost use Rattle.frame_rules.specs.Frames.{all_within, ok_registers};

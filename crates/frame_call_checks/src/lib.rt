@@ -1,4 +1,6 @@
 // What each call of the machine answers: the tests of the state, then those of the call, in their order; and which bytes of the memory a frame may write.
+#![tactic(auto)]
+
 ghost use Rattle.std.specs.Prelude.{◌≡◌, ◌+◌, ◌≤◌};
 ghost use Rattle.frame_rules.specs.Helpers.{LawfulFrames};
 ghost use Rattle.frame_rules.specs.Frames.{max_outgoing, outgoing_length, max_memory};

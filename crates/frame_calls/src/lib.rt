@@ -1,5 +1,7 @@
 // Entering, writing and leaving frames; first what an accepted enter and an accepted leave do to the state and to the memory. A machine's state goes in by value and comes back; its memory is lent. A refused
 // call changes nothing.
+#![tactic(auto)]
+
 ghost use Rattle.std.specs.Prelude.{◌≡◌, length};
 ghost use Rattle.frame_rules.specs.Helpers.{LawfulFrames};
 ghost use Rattle.frame_machine.specs.Machine.{entered, entered_memory, left, enter_outcome, enter_memory, write_register_outcome, write_memory_outcome, write_memory_memory, leave_outcome};

@@ -1,5 +1,7 @@
 // The frames of a dump: memory bytes, their base and a stack pointer, with the back chain followed to its zero word. The definitions of a walk stand in specs/;
 // `frame_dump_walk` has the code.
+#![tactic(auto)]
+
 ghost use Rattle.std.specs.Prelude.{◌≡◌};
 ghost use Rattle.frame_dump.specs.Walk.{walk_refusal_number, refusal_place};
 

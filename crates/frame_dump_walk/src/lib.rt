@@ -1,4 +1,6 @@
 // The walk of a dump in code. It is made twice: once to find how many frames there are and that nothing refuses them, and only then to write their addresses.
+#![tactic(auto)]
+
 ghost use Rattle.std.specs.Prelude.{◌≡◌, ◌+◌, ◌-◌, ◌^◌, ◌≤◌, length};
 ghost use Rattle.base_words.specs.Splice.{splice};
 ghost use Rattle.frame_rules.specs.Helpers.{LawfulFrames};

@@ -1,5 +1,7 @@
 // The frame machine, a stack of frames in lent memory: its state, and what a call answers. The definitions of all calls stand in specs/; `frame_state_checks`, `both_abi`,
 // `frame_call_checks` and `frame_calls` have their code.
+#![tactic(auto)]
+
 ghost use Rattle.std.specs.Prelude.{◌≡◌};
 ghost use Rattle.frame_machine.specs.Answers.{frame_refusal_number, frame_answer_number};
 

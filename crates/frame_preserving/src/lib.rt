@@ -1,4 +1,6 @@
 // What an enter saves and a leave gives back: the registers that a request names, with CR and LR where the convention keeps them, in the lent memory around the caller's stack pointer.
+#![tactic(auto)]
+
 ghost use Rattle.std.specs.Prelude.{◌≡◌, [], ◌∷◌, ◌+◌, ◌≤◌, length};
 ghost use Rattle.base_words.specs.Basics.{flag};
 ghost use Rattle.frame_saves.specs.Saves.{save_run, save_all};

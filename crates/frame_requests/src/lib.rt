@@ -1,4 +1,6 @@
 // What a request may ask, and how large its frame is, by the rules of any convention.
+#![tactic(auto)]
+
 ghost use Rattle.std.specs.Prelude.{◌≡◌, true};
 ghost use Rattle.frame_rules.specs.Frames.{ok_leaf, ok_request, outgoing_length, below, full_size, frame_size, chain_width};
 ghost use Rattle.frame_rules.specs.Helpers.{LawfulFrames};

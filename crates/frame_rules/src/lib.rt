@@ -1,6 +1,8 @@
 // The rules of a convention's stack frames as numbers. The definitions of what a request may ask, of its frame's size, of what is saved where and of what may be
 // written stand here too; `frame_requests`, `frame_preserving` and `frame_writing` have their code. Every function is written once over a `FrameRules`, so a convention is a value and no code.
 
+#![tactic(auto)]
+
 ghost use Rattle.std.specs.Prelude.{◌≡◌, ◌<◌};
 ghost use Rattle.frame_rules.specs.Rules.{in_span};
 ghost use Rattle.frame_rules.specs.Frames.{start_frame, with_pointer, has_condition};

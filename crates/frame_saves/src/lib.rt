@@ -1,4 +1,6 @@
 // Runs of registers saved to lent bytes and restored from them: big-endian words, one after the other.
+#![tactic(auto)]
+
 ghost use Rattle.std.specs.Prelude.{◌≡◌, ◌+◌, ◌*◌, ◌≤◌, length};
 ghost use Rattle.frame_saves.specs.Saves.{save_run, load_run};
 

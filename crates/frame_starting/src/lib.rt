@@ -1,4 +1,6 @@
 // The fresh machine of any convention, by the rules of its frames.
+#![tactic(auto)]
+
 ghost use Rattle.std.specs.Prelude.{◌≡◌, ◌+◌, ◌%◌, length};
 ghost use Rattle.frame_rules.specs.Rules.{rules};
 ghost use Rattle.frame_rules.specs.Frames.{lowered, cleared};

@@ -1,4 +1,6 @@
 // The tests that every call makes of a state and its memory (refusals 23 and 16), and what calls read of a state: the stack pointer, the frame entered last and its caller.
+#![tactic(auto)]
+
 ghost use Rattle.std.specs.Prelude.{◌≡◌, true, ◌*◌, ◌≤◌};
 ghost use Rattle.frame_rules.specs.Helpers.{LawfulFrames};
 ghost use Rattle.frame_rules.specs.Frames.{most_size};

@@ -1,4 +1,6 @@
 // The frame machine's state read from 64-bit words, and written to them.
+#![tactic(auto)]
+
 ghost use Rattle.std.specs.Prelude.{◌≡◌, ◌+◌, ◌≤◌, ◌<◌, length};
 ghost use Rattle.base_words.specs.Splice.{splice, part};
 ghost use Rattle.frame_machine.specs.Machine.{max_entered};

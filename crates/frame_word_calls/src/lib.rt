@@ -1,5 +1,7 @@
 // The machine's calls over a state in 64-bit words, as a caller in C lends it. A call reads the words into a state, makes the machine's own call, and where that is
 // accepted puts back the words that the call may change.
+#![tactic(auto)]
+
 ghost use Rattle.std.specs.Prelude.{◌≡◌, length};
 ghost use Rattle.frame_machine.specs.Machine.{enter_outcome, enter_memory, write_register_outcome, write_memory_outcome, write_memory_memory, leave_outcome};
 ghost use Rattle.frame_word_layout.specs.Words.{frame_in, state_in};

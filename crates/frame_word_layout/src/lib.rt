@@ -2,6 +2,8 @@
 // state of the machine's own call, and that every other word is as it was. There is no code but the layout's numbers: `frame_state_words` reads and writes the words, `frame_word_calls` has the calls.
 
 // Words of the whole state, of the registers in it, of a record or a request.
+#![tactic(auto)]
+
 pub const MACHINE_WORDS: usize = 262;
 
 pub const REGISTERS_WORDS: usize = 66;

@@ -1,4 +1,6 @@
 // The fresh starts over a state in 64-bit words, as a caller in C lends it: all the words are written, also where a start is refused.
+#![tactic(auto)]
+
 ghost use Rattle.std.specs.Prelude.{◌≡◌, length, get_or, set, ◌+◌};
 ghost use Rattle.frame_machine.specs.Answers.{settle};
 ghost use Rattle.frame_machine.specs.Machine.{start_outcome, start_memory};

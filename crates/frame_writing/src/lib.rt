@@ -1,4 +1,6 @@
 // Writing registers: which of them a frame may write, and the registers after a write.
+#![tactic(auto)]
+
 ghost use Rattle.std.specs.Prelude.{◌≡◌, ◌≤◌, ◌<◌};
 ghost use Rattle.frame_rules.specs.Rules.{within};
 ghost use Rattle.frame_rules.specs.Frames.{writable, writable_field, bank_of, writable_register, unit_of, with_condition_field, with_register};

@@ -1,4 +1,6 @@
 // The words of a plan: an argument's entry, what a result's are, and the table that the caller lends.
+#![tactic(auto)]
+
 ghost use Rattle.std.specs.Prelude.{◌≡◌, ◌+◌, ◌*◌, ◌^◌, ◌≤◌, ◌<◌, length, take};
 ghost use Rattle.base_words.specs.Splice.{overlay, splice, overlay_whole};
 ghost use Rattle.plan_entries.specs.Words.{first_word, start_word, entry_words, entry_length};

@@ -1,5 +1,7 @@
 // The line of one argument in a printed plan: its number, its registers, `mem` where some of it is in memory, its offset, and `ref` where
 // it is passed by a pointer to a copy.
+#![tactic(auto)]
+
 ghost use Rattle.std.specs.Prelude.{◌++◌, ◌+◌, ◌^◌, ◌≤◌, ◌<◌};
 ghost use Rattle.plan_places.specs.Places.{registers_of, Numbered};
 ghost use Rattle.plan_text.specs.Decimals.{decimal};

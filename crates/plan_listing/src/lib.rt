@@ -1,5 +1,7 @@
 // The printed plan of a signature. The writer runs twice, the first time to find the length, so that a buffer that is too short stays as
 // it was.
+#![tactic(auto)]
+
 ghost use Rattle.std.specs.Prelude.{◌≡◌, ◌+◌, ◌^◌, ◌≤◌, ◌<◌, length};
 ghost use Rattle.base_words.specs.Splice.{overlay_whole};
 ghost use Rattle.plan_places.specs.Helpers.{ResultNumbered};

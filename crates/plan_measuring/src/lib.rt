@@ -1,4 +1,6 @@
 // The sizes of a signature's plan, without a table of its arguments: each is read, passed and let go.
+#![tactic(auto)]
+
 ghost use Rattle.std.specs.Prelude.{◌≡◌, false, ◌^◌, ◌≤◌, length};
 ghost use Rattle.sig_signatures.specs.Read.{arguments_in, signature_of};
 ghost use Rattle.sig_signatures.specs.Answer.{signature_answer};

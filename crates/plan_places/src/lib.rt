@@ -1,5 +1,7 @@
 // Where a calling convention puts arguments and results: the types of cursors, spans and places. The code of the steps is in the crates above.
 // A convention is a value, `CallRules`; its type, with its constants and its starting cursor, is in `both_abi`.
+#![tactic(auto)]
+
 ghost use Rattle.std.specs.Prelude.{◌≡◌, ◌<◌, get_or};
 ghost use Rattle.plan_places.specs.Step.{with_ellipsis, word_of};
 ghost use Rattle.plan_places.specs.Values.{registers, bytes};

@@ -1,4 +1,6 @@
 // The places of arguments and of a result in every convention: the step of its cursor, where the first argument starts, and the size of the area.
+#![tactic(auto)]
+
 ghost use Rattle.std.specs.Prelude.{◌≡◌, true, ◌^◌, ◌≤◌, ◌<◌};
 ghost use Rattle.plan_places.specs.Values.{pointer};
 ghost use Rattle.plan_places.specs.Step.{rules_of, word_of, next_of, unclear_for, placed, fresh_cursor, start_of, area_of, returning, hidden_for, result_of};

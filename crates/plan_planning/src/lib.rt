@@ -1,4 +1,6 @@
 // The plan of a signature: the code.
+#![tactic(auto)]
+
 ghost use Rattle.std.specs.Prelude.{◌≡◌};
 ghost use Rattle.sig_signatures.specs.Read.{signature_of};
 ghost use Rattle.plan_plans.specs.Plan.{hidden_in, result_places_in, blank_plan, refused_plan, plan_answer, measure_of};

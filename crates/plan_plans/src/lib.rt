@@ -1,5 +1,7 @@
 // What a plan is: for each argument its registers, memory and copy; the sizes of the parameter area, the values and the copies; the places of
 // the result.
+#![tactic(auto)]
+
 use base_conventions::Convention;
 use plan_places::{ResultPlaces, Span};
 use sig_signatures::{MAX_ARGUMENTS, Outcome};

@@ -1,4 +1,6 @@
 // One argument on PowerPC: how many of its words have a GPR, an FPR or memory, and where they stand.
+#![tactic(auto)]
+
 ghost use Rattle.std.specs.Prelude.{◌≡◌, true, ◌*◌, ◌≤◌};
 ghost use Rattle.plan_places.specs.declared.CallRules.{CallRules};
 ghost use Rattle.plan_places.specs.Power.{words, fprs, unclear, share_of, power_share, power_span, power_next};

@@ -1,5 +1,7 @@
 // Stored plans: a plan written to bytes together with its signature, and the check of stored bytes against a fresh signature. The check makes
 // one item after the other, and holds no second plan.
+#![tactic(auto)]
+
 ghost use Rattle.std.specs.Prelude.{◌≡◌, ◌+◌, ◌^◌, ◌≤◌, ◌<◌, length, take, drop};
 ghost use Rattle.sig_signatures.specs.Limits.{max_length};
 ghost use Rattle.plan_text.specs.Writing.{Wrote};

@@ -1,4 +1,6 @@
 // The items of places in a stored plan: an argument's and the result's. As with text, bytes past the end of the buffer are lost and still counted.
+#![tactic(auto)]
+
 ghost use Rattle.std.specs.Prelude.{◌≡◌, ◌∷◌, [], ◌++◌, ◌+◌, ◌*◌, ◌/◌, ◌%◌, ◌^◌, ◌≤◌, ◌<◌, length};
 ghost use Rattle.plan_places.specs.Helpers.{ResultNumbered, LawfulCalls};
 ghost use Rattle.plan_places.specs.Step.{word_of};

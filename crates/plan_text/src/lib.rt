@@ -1,5 +1,7 @@
 // Text in a lent buffer of bytes: a byte, some bytes, a number in base ten. A function that writes takes the place where it starts and
 // returns the place where it ends; bytes past the end of the buffer are lost, so that a first run in a buffer of no use finds the length.
+#![tactic(auto)]
+
 ghost use Rattle.std.specs.Prelude.{◌∷◌, [], ◌++◌, ◌+◌, ◌^◌, ◌≤◌, ◌<◌, length};
 ghost use Rattle.plan_text.specs.Decimals.{decimal};
 ghost use Rattle.plan_text.specs.Writing.{Wrote};

@@ -1,5 +1,7 @@
 // A plan in 64-bit words: an entry for each argument in a table that the caller lends, and beside the table the sizes and the
 // result's places.
+#![tactic(auto)]
+
 ghost use Rattle.std.specs.Prelude.{◌≡◌, ltb, ◌^◌, ◌≤◌, ◌<◌, length};
 ghost use Rattle.base_words.specs.Splice.{overlay_whole};
 ghost use Rattle.sig_signatures.specs.Limits.{max_length};

@@ -1,4 +1,6 @@
 // One argument on Z: its class, and the register, the memory or the copy that the class asks for.
+#![tactic(auto)]
+
 ghost use Rattle.std.specs.Prelude.{◌≡◌, ◌+◌, ◌-◌, ◌*◌, ◌≤◌, min};
 ghost use Rattle.plan_places.specs.declared.CallRules.{CallRules};
 ghost use Rattle.plan_places.specs.ZSeries.{by_size, by_equivalent, z_class, z_word, z_span, z_next, z_span_of, z_next_of};

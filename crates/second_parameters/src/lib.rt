@@ -1,4 +1,6 @@
 // Where a parameter and a result are, in the second planner's terms.
+#![tactic(auto)]
+
 ghost use Rattle.std.specs.Prelude.{◌≡◌, replicate};
 ghost use Rattle.sig_signatures.specs.Limits.{max_arguments};
 ghost use Rattle.second_parameters.specs.Values.{run_of, no_run, no_parameter};

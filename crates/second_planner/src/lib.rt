@@ -1,4 +1,6 @@
 // A second planner, which knows nothing of the first: any signature's plan, by the structure of its parameters or slot by slot.
+#![tactic(auto)]
+
 ghost use Rattle.std.specs.Prelude.{◌≡◌, ◌≤◌, ◌<◌};
 ghost use Rattle.sig_signatures.specs.declared.Outcome.{Outcome};
 ghost use Rattle.sig_signatures.specs.Read.{signature_of};

@@ -1,4 +1,6 @@
 // Z slot by slot, as source document 001 works: each argument is put in the next floating register, general register or stack slot.
+#![tactic(auto)]
+
 ghost use Rattle.std.specs.Prelude.{◌≡◌, ◌≤◌, ◌^◌};
 ghost use Rattle.sig_signatures.specs.Types.{types_in};
 ghost use Rattle.sig_signatures.specs.Helpers.{Plannable};

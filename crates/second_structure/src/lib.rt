@@ -1,5 +1,7 @@
 // PowerPC as source document 004 works: all parameters are laid out as one structure in memory first, then the registers are laid
 // over it.
+#![tactic(auto)]
+
 ghost use Rattle.std.specs.Prelude.{◌≡◌, ◌*◌, ◌+◌, ◌-◌, ◌≤◌, ◌<◌, ◌^◌};
 ghost use Rattle.sig_signatures.specs.Limits.{max_arguments};
 ghost use Rattle.sig_signatures.specs.Types.{types_in};

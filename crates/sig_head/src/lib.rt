@@ -1,4 +1,6 @@
 // Reads what stands before a signature's arguments: the convention, the result's type and the ellipsis.
+#![tactic(auto)]
+
 ghost use Rattle.std.specs.Prelude.{◌≡◌, ◌+◌, ◌^◌, ◌≤◌, ◌<◌, length};
 ghost use Rattle.sig_signatures.specs.Read.{convention_at, result_in, result_at, ellipsis_at, head_after, head_of};
 ghost use Rattle.sig_signatures.specs.Answer.{convention_answer, result_answer, ellipsis_answer, head_answer};

@@ -1,4 +1,6 @@
 // The header of an item: its tag, its length and the end of its body; and a fault of the item itself.
+#![tactic(auto)]
+
 ghost use Rattle.std.specs.Prelude.{◌≡◌, ◌+◌, ◌*◌, ◌≤◌, length};
 ghost use Rattle.sig_items.specs.Read.{body_at};
 ghost use Rattle.sig_items.specs.Reading.{fault};

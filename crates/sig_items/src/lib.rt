@@ -1,4 +1,6 @@
 // One type item of a signature: why it is refused, and what reading it gives. The readers are in the crates above.
+#![tactic(auto)]
+
 ghost use Rattle.std.specs.Prelude.{◌≡◌, ◌+◌, ◌^◌, ◌<◌};
 ghost use Rattle.sig_items.specs.Refusals.{refusal_number};
 ghost use Rattle.sig_items.specs.Reading.{later};

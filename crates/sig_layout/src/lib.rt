@@ -1,4 +1,6 @@
 // The layout of a struct: its fields one after the other, each at the next multiple of its alignment.
+#![tactic(auto)]
+
 ghost use Rattle.std.specs.Prelude.{◌≡◌, ◌^◌, ◌≤◌, ◌<◌};
 ghost use Rattle.sig_types.specs.Sizes.{size_of, align_of, Sized};
 ghost use Rattle.sig_types.specs.Structs.{no_fields, with_field, equivalent_after, closed};

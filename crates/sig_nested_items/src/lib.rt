@@ -1,4 +1,6 @@
 // Any type item: an integer's and a float's, which have none in them, and the reader of an item and that of a struct, which call each other.
+#![tactic(auto)]
+
 ghost use Rattle.std.specs.Prelude.{◌≡◌, ◌+◌, ◌≤◌, ◌^◌, ◌<◌, ltb, length};
 ghost use Rattle.sig_items.specs.Read.{integer_code, float_code, integer_at, float_of, float_at, struct_at, item_at};
 ghost use Rattle.sig_items.specs.Answer.{item_answer, closed_answer};

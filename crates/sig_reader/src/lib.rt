@@ -1,6 +1,8 @@
 // A reader that keeps a signature's bytes and its place in them together, to step through items one by one; and above it
 // functions over plain bytes, for every other caller, which step with readers: an argument by its number, and 29 at its place. Functions over bytes
 // and numbers do the work: the reader's own only take it apart and put it together.
+#![tactic(auto)]
+
 ghost use Rattle.std.specs.Prelude.{◌≡◌, ◌^◌, ◌≤◌, length};
 ghost use Rattle.sig_items.specs.Answer.{item_answer};
 ghost use Rattle.sig_signatures.specs.Limits.{max_length};

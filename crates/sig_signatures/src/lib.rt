@@ -1,4 +1,6 @@
 // What a signature says: the convention, the result's type, whether it has an ellipsis, and the types of 0 to 128 arguments.
+#![tactic(auto)]
+
 ghost use Rattle.std.specs.Prelude.{◌≡◌};
 ghost use Rattle.sig_signatures.specs.Answer.{no_arguments};
 

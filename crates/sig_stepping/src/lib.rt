@@ -1,4 +1,6 @@
 // What stands at a place of any bytes: an item's header, its body, its type. Functions over bytes and numbers, which a reader is made of.
+#![tactic(auto)]
+
 ghost use Rattle.std.specs.Prelude.{◌≡◌};
 ghost use Rattle.sig_items.specs.Answer.{item_answer};
 ghost use Rattle.sig_stepping.specs.Step.{end_in, left_at, body_in, header_in, body_start, body_end, type_in, place_after};

@@ -1,4 +1,6 @@
 // The types that a signature names: integers, floats and structs, with the size of each. The code of a struct's layout is in the crate above.
+#![tactic(auto)]
+
 ghost use Rattle.std.specs.Prelude.{◌≡◌};
 ghost use Rattle.sig_types.specs.Sizes.{integer_size, float_size, size_of, equivalent_of, lacks_float};
 

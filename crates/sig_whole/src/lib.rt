@@ -1,4 +1,6 @@
 // Reads a whole signature: the convention, the result's type and the types of 0 to 128 arguments.
+#![tactic(auto)]
+
 ghost use Rattle.std.specs.Prelude.{◌≡◌, ◌+◌, ◌^◌, ◌≤◌, ◌<◌, length};
 ghost use Rattle.sig_signatures.specs.Read.{arguments_in, signature_of};
 ghost use Rattle.sig_signatures.specs.Answer.{refused_signature, signature_answer};

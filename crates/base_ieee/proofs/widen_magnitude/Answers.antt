@@ -1,0 +1,128 @@
+-- `widen_magnitude` meets its contract: each way through the tests is one class of the definition. A subnormal's shifted
+-- fraction lies between 2^23 and 2^24, so nothing is shifted out, no sum passes 64 bits, and the leading one counts one in
+-- the exponent field. Assumes nothing.
+use borrow.Author.Rules.{rules}
+use mathlib.Core.Path.{◌≡◌, refl, sym, ap, ap₂, ◌∙◌}
+use Prim.Native.Nat.{ℕ, ◌+◌, ◌-◌, ◌*◌, ◌/◌, ◌%◌, ◌^◌, ◌<◌}
+use native.Mathlib.Nat.{pos_of_ne-zero}
+use native.Mathlib.Omega.{arith}
+use lib.Count.{count_leading_zeros}
+use Rattle.base_ieee.specs.Format.{single, join}
+use Rattle.base_ieee.specs.Widening.{signed-zero, subnormal, normal, infinity-or-nan, shift}
+use Rattle.base_ieee.specs.Helpers.{magnitude}
+use Rattle.base_ieee.proofs.Classes.{Normalised, normalised, leading-longer}
+use Rattle.base_ieee.proofs.Magnitudes.{magnitude-as}
+use Rattle.base_ieee.proofs.widen_magnitude.Goals as goal
+
+-- Of a subnormal: the shift, which the code counts in 32 bits and the definition in 24, and the shifted fraction.
+record Shifted (f : ℕ) : Type 0 where
+  some : 0 < f
+  normal-form : Normalised single f
+  count : count_leading_zeros 32 f ≡ shift single f + 8
+  product : f * 2 ^ (count_leading_zeros 32 f - 8) ≡ f * 2 ^ shift single f
+  fields : magnitude (f / 2 ^ 23) (f % 2 ^ 23) ≡ magnitude 0 f
+
+pub returns-then-m-eq0 : goal.returns-then-m-eq0
+unfolding join
+returns-then-m-eq0 c = sym (magnitude-as signed-zero _ _ (omega arith, omega arith))
+
+pub overflow_sub-shift : goal.overflow_sub-shift
+overflow_sub-shift c = omega (
+  arith,
+  (let it : Shifted c.args.m = let pos : 0 < c.args.m = pos_of_ne-zero c.if-m-eq0.false in
+      let e : count_leading_zeros 32 c.args.m ≡ shift single c.args.m + 8 = leading-longer 24 8 c.args.m (omega arith) in record {
+        some = pos;
+        normal-form = normalised single c.args.m pos (omega arith);
+        count = e;
+        product = ap (λ (n : ℕ). c.args.m * 2 ^ n) (omega arith);
+        fields = ap₂ magnitude (omega arith) (omega arith);
+      } in it),
+)
+
+pub overflow_cast-shift-then-m-lt-SINGLE_UNIT : goal.overflow_cast-shift-then-m-lt-SINGLE_UNIT
+overflow_cast-shift-then-m-lt-SINGLE_UNIT c = omega (
+  arith,
+  (let it : Shifted c.args.m = let pos : 0 < c.args.m = pos_of_ne-zero c.if-m-eq0.false in
+      let e : count_leading_zeros 32 c.args.m ≡ shift single c.args.m + 8 = leading-longer 24 8 c.args.m (omega arith) in record {
+        some = pos;
+        normal-form = normalised single c.args.m pos (omega arith);
+        count = e;
+        product = ap (λ (n : ℕ). c.args.m * 2 ^ n) (omega arith);
+        fields = ap₂ magnitude (omega arith) (omega arith);
+      } in it),
+)
+
+pub overflow_sub-result : goal.overflow_sub-result
+overflow_sub-result c = omega (
+  arith,
+  (let it : Shifted c.args.m = let pos : 0 < c.args.m = pos_of_ne-zero c.if-m-eq0.false in
+      let e : count_leading_zeros 32 c.args.m ≡ shift single c.args.m + 8 = leading-longer 24 8 c.args.m (omega arith) in record {
+        some = pos;
+        normal-form = normalised single c.args.m pos (omega arith);
+        count = e;
+        product = ap (λ (n : ℕ). c.args.m * 2 ^ n) (omega arith);
+        fields = ap₂ magnitude (omega arith) (omega arith);
+      } in it),
+)
+
+pub overflow_shl-result : goal.overflow_shl-result
+overflow_shl-result c = omega (
+  arith,
+  (let it : Shifted c.args.m = let pos : 0 < c.args.m = pos_of_ne-zero c.if-m-eq0.false in
+      let e : count_leading_zeros 32 c.args.m ≡ shift single c.args.m + 8 = leading-longer 24 8 c.args.m (omega arith) in record {
+        some = pos;
+        normal-form = normalised single c.args.m pos (omega arith);
+        count = e;
+        product = ap (λ (n : ℕ). c.args.m * 2 ^ n) (omega arith);
+        fields = ap₂ magnitude (omega arith) (omega arith);
+      } in it),
+)
+
+pub overflow_mul-result-then-m-lt-SINGLE_UNIT : goal.overflow_mul-result-then-m-lt-SINGLE_UNIT
+overflow_mul-result-then-m-lt-SINGLE_UNIT c = omega (
+  arith,
+  (let it : Shifted c.args.m = let pos : 0 < c.args.m = pos_of_ne-zero c.if-m-eq0.false in
+      let e : count_leading_zeros 32 c.args.m ≡ shift single c.args.m + 8 = leading-longer 24 8 c.args.m (omega arith) in record {
+        some = pos;
+        normal-form = normalised single c.args.m pos (omega arith);
+        count = e;
+        product = ap (λ (n : ℕ). c.args.m * 2 ^ n) (omega arith);
+        fields = ap₂ magnitude (omega arith) (omega arith);
+      } in it),
+)
+
+pub overflow_add-result : goal.overflow_add-result
+overflow_add-result c = omega (
+  arith,
+  (let it : Shifted c.args.m = let pos : 0 < c.args.m = pos_of_ne-zero c.if-m-eq0.false in
+      let e : count_leading_zeros 32 c.args.m ≡ shift single c.args.m + 8 = leading-longer 24 8 c.args.m (omega arith) in record {
+        some = pos;
+        normal-form = normalised single c.args.m pos (omega arith);
+        count = e;
+        product = ap (λ (n : ℕ). c.args.m * 2 ^ n) (omega arith);
+        fields = ap₂ magnitude (omega arith) (omega arith);
+      } in it),
+)
+
+pub returns-then-m-lt-SINGLE_UNIT : goal.returns-then-m-lt-SINGLE_UNIT
+unfolding join
+returns-then-m-lt-SINGLE_UNIT c =
+    let k = (let it : Shifted c.args.m = let pos : 0 < c.args.m = pos_of_ne-zero c.if-m-eq0.false in
+    let e : count_leading_zeros 32 c.args.m ≡ shift single c.args.m + 8 = leading-longer 24 8 c.args.m (omega arith) in record {
+      some = pos;
+      normal-form = normalised single c.args.m pos (omega arith);
+      count = e;
+      product = ap (λ (n : ℕ). c.args.m * 2 ^ n) (omega arith);
+      fields = ap₂ magnitude (omega arith) (omega arith);
+    } in it) in
+    omega (arith, k, magnitude-as subnormal 0 c.args.m (refl, k.some))
+
+pub returns-then-m-lt-SINGLE_INFINITY : goal.returns-then-m-lt-SINGLE_INFINITY
+unfolding join
+returns-then-m-lt-SINGLE_INFINITY c =
+    omega (arith, magnitude-as normal (c.args.m / 2 ^ 23) (c.args.m % 2 ^ 23) (omega arith, omega arith))
+
+pub returns : goal.returns
+unfolding join
+returns c =
+    omega (arith, magnitude-as infinity-or-nan (c.args.m / 2 ^ 23) (c.args.m % 2 ^ 23) (omega arith))

@@ -1,0 +1,12 @@
+-- The start of this convention. Assumes nothing.
+use borrow.Author.Rules.{rules}
+use Rattle.both_abi.proofs.Aix.start.Goals as goal
+
+pub start-requires : goal.start-requires
+start-requires c = c.frame_rules.ensures
+
+pub returns : goal.returns
+returns c = let told = c.start.ensures in record {
+  value = told.0;
+  memory_after = told.1;
+}

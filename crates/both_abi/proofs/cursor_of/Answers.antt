@@ -1,0 +1,16 @@
+-- By cases on the convention.
+use mathlib.Core.Path.{◌∙◌}
+use borrow.Author.Rules.{rules}
+use Rattle.both_abi.proofs.cursor_of.Goals as goal
+
+pub returns-in-Ppc64 : goal.returns-in-Ppc64
+returns-in-Ppc64 c = c.cursor.ensures ∙ rw c.in-Ppc64.is
+
+pub returns-in-Z : goal.returns-in-Z
+returns-in-Z c = c.cursor-in-Z.ensures ∙ rw c.in-Z.is
+
+pub returns-in-Aix : goal.returns-in-Aix
+returns-in-Aix c = c.cursor-in-Aix.ensures ∙ rw c.in-Aix.is
+
+pub returns-in-Ppc64b : goal.returns-in-Ppc64b
+returns-in-Ppc64b c = c.cursor-in-Ppc64b.ensures ∙ rw c.in-Ppc64b.is

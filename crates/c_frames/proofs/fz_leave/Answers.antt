@@ -1,0 +1,11 @@
+-- By the call of machine_words. Assumes nothing.
+use Rattle.c_frame_answers.specs.Frames.{frame_answer}
+use mathlib.Core.Path.{ap, ◌∙◌}
+use borrow.Author.Rules.{rules}
+use Rattle.c_frames.proofs.fz_leave.Goals as goal
+
+pub returns : goal.returns
+returns c = record {
+  value = c.answer_of.ensures ∙ ap frame_answer c.leave-a.ensures.value;
+  machine_after = c.leave-a.ensures.words_after;
+}

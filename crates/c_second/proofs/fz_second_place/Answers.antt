@@ -1,0 +1,13 @@
+-- The table's element, or nothing past its end.
+use mathlib.Core.Path.{ap, ◌∙◌}
+use Rattle.second_planner.specs.declared.SecondPlan.{SecondPlan}
+use Rattle.c_second.specs.Words.{place_at}
+use Rattle.c_second.proofs.Laws.{place-within, place-past}
+use borrow.Author.Rules.{rules}
+use Rattle.c_second.proofs.fz_second_place.Goals as goal
+
+pub returns-then-i-lt-MAX_ARGUMENTS : goal.returns-then-i-lt-MAX_ARGUMENTS
+returns-then-i-lt-MAX_ARGUMENTS c = c.place_words.ensures ∙ place-within _ _ c.if-i-lt-MAX_ARGUMENTS.true ∙ ap (λ (q : SecondPlan). place_at q c.args.index) c.second_plan_of-plan.ensures
+
+pub returns : goal.returns
+returns c = place-past _ _ c.if-i-lt-MAX_ARGUMENTS.false

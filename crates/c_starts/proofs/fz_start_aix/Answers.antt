@@ -1,0 +1,12 @@
+-- By the call of machine_words. Assumes nothing.
+use Rattle.c_frame_answers.specs.Frames.{frame_answer}
+use mathlib.Core.Path.{ap, ◌∙◌}
+use borrow.Author.Rules.{rules}
+use Rattle.c_starts.proofs.fz_start_aix.Goals as goal
+
+pub returns : goal.returns
+returns c = record {
+  value = c.answer_of.ensures ∙ ap frame_answer c.start_aix-a.ensures.value;
+  machine_after = (c.start_aix-a.ensures.words_after).0;
+  memory_after = (c.start_aix-a.ensures.words_after).1;
+}

@@ -1,0 +1,16 @@
+-- Each number by the equations of the match.
+use borrow.Author.Tests.{ne_eqb}
+use Rattle.call_kept.specs.Helpers.{equivalent_from}
+use Rattle.call_kept.proofs.equivalent_from.Goals as goal
+
+pub returns-in-0 : goal.returns-in-0
+unfolding equivalent_from
+returns-in-0 c = rw c.in-0.is
+
+pub returns-in-1 : goal.returns-in-1
+unfolding equivalent_from
+returns-in-1 c = rw c.in-1.is
+
+pub returns-in_default : goal.returns-in_default
+unfolding equivalent_from
+returns-in_default c = simp (ne_eqb _ _ c.in_default.rest.1, ne_eqb _ _ c.in_default.rest.0.1)

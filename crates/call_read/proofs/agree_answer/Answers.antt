@@ -1,0 +1,6 @@
+-- Done where they agree, refused where they differ.
+use borrow.Author.Rules.{rules}
+use Rattle.call_read.proofs.agree_answer.Goals as goal
+
+pub returns : goal.returns
+returns c = rw c.if-same.false

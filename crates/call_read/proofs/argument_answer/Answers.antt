@@ -1,0 +1,64 @@
+-- By the way that the argument is passed: 14 and then 26, or 13.
+use mathlib.Core.Path.{◌≡◌, sym, ap, ◌∙◌}
+use mathlib.Core.List.{[]}
+use Prim.Native.Nat.{ℕ, ◌+◌, ◌*◌, ◌≤◌, ◌<◌}
+use native.Mathlib.Omega.{arith}
+use borrow.Author.Tests.{le-ltb}
+use Rattle.base_words.specs.Numbers.{value_of}
+use Rattle.sig_types.specs.Sizes.{equivalent_of}
+use Rattle.call_slots.specs.Buffers.{Buffers, buffers, bytes_at}
+use Rattle.call_slots.specs.Placements.{Placement, placement, words_at, fpr_bytes_at}
+use Rattle.call_slots.specs.Refusals.{float_answer}
+use Rattle.call_read.specs.Read.{own_held, agrees, agree_answer, argument_answer}
+use Rattle.call_slots.proofs.Limits.{answer-first, one_address}
+use Rattle.call_slots.proofs.Refusals.{not-refused}
+use Rattle.call_read.proofs.Arguments.{argument-float, argument-unwidened, argument-compared}
+use borrow.Author.Rules.{rules}
+use Rattle.call_read.proofs.argument_answer.Goals as goal
+
+pub returns-then-general-eq0 : goal.returns-then-general-eq0
+unfolding bytes_at
+returns-then-general-eq0 c =
+    argument-float c.args.r c.args.base ((placement c.args.t c.args.n c.args.s)) ((buffers c.args.image.now c.args.area.now c.args.copies.now)) c.if-floating-gt0.true _ ((let it : c.float_answer-answer.result ≡ float_answer c.args.r (equivalent_of c.args.t) (value_of (fpr_bytes_at c.args.s ((buffers c.args.image.now c.args.area.now c.args.copies.now)))) = c.float_answer-answer.ensures
+    ∙ rw (c.equivalent_of.ensures, c.load-x.ensures)
+    (answer-first c.args.r (equivalent_of c.args.t) c.args.s.floating.count c.args.n (256 + 8 * c.args.s.floating.first) c.args.image.now (c.requires.registers.held.float c.if-floating-gt0.true)) in it)) c.if-general-eq0.true
+
+pub returns-then-is_refused : goal.returns-then-is_refused
+unfolding bytes_at
+returns-then-is_refused c =
+    argument-unwidened c.args.r c.args.base ((placement c.args.t c.args.n c.args.s)) ((buffers c.args.image.now c.args.area.now c.args.copies.now)) c.if-floating-gt0.true _ ((let it : c.float_answer-answer.result ≡ float_answer c.args.r (equivalent_of c.args.t) (value_of (fpr_bytes_at c.args.s ((buffers c.args.image.now c.args.area.now c.args.copies.now)))) = c.float_answer-answer.ensures
+    ∙ rw (c.equivalent_of.ensures, c.load-x.ensures)
+    (answer-first c.args.r (equivalent_of c.args.t) c.args.s.floating.count c.args.n (256 + 8 * c.args.s.floating.first) c.args.image.now (c.requires.registers.held.float c.if-floating-gt0.true)) in it)) (sym c.is_refused.ensures ∙ c.if-is_refused.true)
+
+pub floats_agree-requires : goal.floats_agree-requires
+unfolding bytes_at
+floats_agree-requires c =
+    let some : 0 < c.args.s.general.count = omega (arith, c.if-general-eq0.false) in
+    record {
+      registers = c.requires.registers;
+      float = c.if-floating-gt0.true;
+      also = some;
+      exact = sym ((let it : c.float_answer-answer.result ≡ float_answer c.args.r (equivalent_of c.args.t) (value_of (fpr_bytes_at c.args.s ((buffers c.args.image.now c.args.area.now c.args.copies.now)))) = c.float_answer-answer.ensures
+          ∙ rw (c.equivalent_of.ensures, c.load-x.ensures)
+          (answer-first c.args.r (equivalent_of c.args.t) c.args.s.floating.count c.args.n (256 + 8 * c.args.s.floating.first) c.args.image.now (c.requires.registers.held.float c.if-floating-gt0.true)) in it)) ∙ not-refused _ (sym c.is_refused.ensures ∙ c.if-is_refused.false);
+    }
+
+pub returns-then-floating-gt0 : goal.returns-then-floating-gt0
+unfolding agrees own_held bytes_at
+returns-then-floating-gt0 c =
+    argument-compared c.args.r c.args.base ((placement c.args.t c.args.n c.args.s)) ((buffers c.args.image.now c.args.area.now c.args.copies.now)) c.if-floating-gt0.true _ ((let it : c.float_answer-answer.result ≡ float_answer c.args.r (equivalent_of c.args.t) (value_of (fpr_bytes_at c.args.s ((buffers c.args.image.now c.args.area.now c.args.copies.now)))) = c.float_answer-answer.ensures
+    ∙ rw (c.equivalent_of.ensures, c.load-x.ensures)
+    (answer-first c.args.r (equivalent_of c.args.t) c.args.s.floating.count c.args.n (256 + 8 * c.args.s.floating.first) c.args.image.now (c.requires.registers.held.float c.if-floating-gt0.true)) in it)) _ (sym c.is_refused.ensures ∙ c.if-is_refused.false)
+    (c.agree_answer.ensures ∙ ap agree_answer c.floats_agree.ensures)
+
+pub word_at-address-requires : goal.word_at-address-requires
+word_at-address-requires c =
+    ((omega arith, omega arith, c.requires.registers.general, c.requires.registers.image, c.requires.memory), one_address c.args.r ((placement c.args.t c.args.n c.args.s)) c.requires.registers.held c.if-floating-gt0.false c.if-indirect.true)
+
+pub returns-then-indirect : goal.returns-then-indirect
+unfolding argument_answer words_at bytes_at
+returns-then-indirect c = simp (le-ltb _ _ c.if-floating-gt0.false) (rw c.if-indirect.true (c.copy_answer.ensures ∙ rw (c.in_copies.ensures, c.word_at-address.ensures, (c.requires.registers.held.address c.if-indirect.true).0)))
+
+pub returns : goal.returns
+unfolding argument_answer
+returns c = simp (le-ltb _ _ c.if-floating-gt0.false, c.if-indirect.false)

@@ -1,0 +1,6 @@
+-- Done inside, refused outside.
+use borrow.Author.Rules.{rules}
+use Rattle.call_read.proofs.copy_answer.Goals as goal
+
+pub returns : goal.returns
+returns c = rw c.if-inside.false

@@ -1,0 +1,40 @@
+-- The state's tests, then the write's. Assumes nothing.
+use Rattle.frame_rules.specs.Frames.{bank_of, writable_register}
+use Rattle.frame_machine.specs.Machine.{state_tests, top, write_register_answer}
+use mathlib.Core.Bool.{true, false}
+use Rattle.frame_machine.proofs.States.{state-yes}
+use Rattle.frame_machine.proofs.Judging.{judge-next, judge-stops}
+use Rattle.frame_machine.specs.declared.FrameAnswer.TheVariants.{Accepted}
+use Rattle.frame_machine.specs.declared.FrameRefusal.TheVariants.{NotPermitted}
+use Rattle.frame_machine.specs.Answers.{judge, require}
+use mathlib.Core.List.{[], ◌∷◌}
+use borrow.Author.Tests.{not-true, not-false}
+use mathlib.Core.Path.{◌≡◌, sym, ◌∙◌}
+use borrow.Author.Rules.{rules}
+use Rattle.frame_call_checks.proofs.judge_write_register.Goals as goal
+
+pub top_frame-f-requires : goal.top_frame-f-requires
+top_frame-f-requires c =
+    let acc : judge (state_tests c.args.k c.args.s c.args.n) ≡ Accepted = sym c.judge_state-a.ensures ∙ c.in-Accepted.is in
+    (state-yes c.args.k c.args.s c.args.n acc).shallow
+
+pub returns-then-not-register_writable : goal.returns-then-not-register_writable
+unfolding write_register_answer judge
+returns-then-not-register_writable c =
+    let acc : judge (state_tests c.args.k c.args.s c.args.n) ≡ Accepted = sym c.judge_state-a.ensures ∙ c.in-Accepted.is in
+    let test : writable_register c.args.k (top c.args.k c.args.s) (bank_of c.args.bank) c.args.number c.args.value ≡ false
+    = sym (rw (c.bank_of-b.ensures, c.top_frame-f.ensures) at c.register_writable.ensures) ∙ not-true c.register_writable.result c.if-not-register_writable.true-raw in
+    sym (judge-next (state_tests c.args.k c.args.s c.args.n) (require (writable_register c.args.k (top c.args.k c.args.s) (bank_of c.args.bank) c.args.number c.args.value) NotPermitted ∷ []) acc ∙ rw test)
+
+pub returns-in-Refused : goal.returns-in-Refused
+unfolding write_register_answer
+returns-in-Refused c =
+    sym (judge-stops (state_tests c.args.k c.args.s c.args.n) (require (writable_register c.args.k (top c.args.k c.args.s) (bank_of c.args.bank) c.args.number c.args.value) NotPermitted ∷ []) _ (sym c.judge_state-a.ensures ∙ c.in-Refused.is))
+
+pub returns-else-not-register_writable : goal.returns-else-not-register_writable
+unfolding write_register_answer judge
+returns-else-not-register_writable c =
+    let acc : judge (state_tests c.args.k c.args.s c.args.n) ≡ Accepted = sym c.judge_state-a.ensures ∙ c.in-Accepted.is in
+    let test : writable_register c.args.k (top c.args.k c.args.s) (bank_of c.args.bank) c.args.number c.args.value ≡ true
+    = sym (rw (c.bank_of-b.ensures, c.top_frame-f.ensures) at c.register_writable.ensures) ∙ not-false c.register_writable.result c.if-not-register_writable.false-raw in
+    sym (judge-next (state_tests c.args.k c.args.s c.args.n) (require (writable_register c.args.k (top c.args.k c.args.s) (bank_of c.args.bank) c.args.number c.args.value) NotPermitted ∷ []) acc ∙ rw test)

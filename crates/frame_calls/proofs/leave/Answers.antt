@@ -1,0 +1,25 @@
+-- The answer decides: a refused call hands the state back, an accepted one pops the frame. Assumes nothing.
+use Rattle.frame_machine.proofs.States.{leave-yes}
+use Rattle.frame_machine.proofs.Outcomes.{leave-accepted, leave-refused}
+use Rattle.frame_rules.specs.Helpers.{LawfulFrames}
+use Rattle.frame_rules.proofs.Conventions.{lawful}
+use mathlib.Core.Path.{sym, ◌∙◌}
+use borrow.Author.Rules.{rules}
+use Rattle.frame_calls.proofs.leave.Goals as goal
+
+pub judge_leave-a-requires : goal.judge_leave-a-requires
+judge_leave-a-requires c =
+    rw c.frame_rules_of-k.ensures (lawful c.args.s.convention)
+
+pub pop-requires : goal.pop-requires
+pop-requires c =
+    let law : LawfulFrames c.frame_rules_of-k.result = rw c.frame_rules_of-k.ensures (lawful c.args.s.convention) in
+    (law, leave-yes c.frame_rules_of-k.result c.args.s c.args.memory.now (sym c.judge_leave-a.ensures ∙ c.in-Accepted.is))
+
+pub returns-in-Refused : goal.returns-in-Refused
+returns-in-Refused c =
+    sym (leave-refused c.args.s c.args.memory.now _ (rw c.frame_rules_of-k.ensures at (sym c.judge_leave-a.ensures ∙ c.in-Refused.is)))
+
+pub returns-in-Accepted : goal.returns-in-Accepted
+returns-in-Accepted c =
+    rw (c.pop.ensures, c.frame_rules_of-k.ensures) (sym (leave-accepted c.args.s c.args.memory.now (rw c.frame_rules_of-k.ensures at (sym c.judge_leave-a.ensures ∙ c.in-Accepted.is))))

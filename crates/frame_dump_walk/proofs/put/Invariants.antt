@@ -1,0 +1,19 @@
+-- The frames from i on are still to be put, each where the one before points. Assumes nothing.
+use Rattle.frame_saves.specs.Saves.{load}
+use Rattle.base_words.specs.Splice.{splice}
+use Rattle.base_words.proofs.Splices.{splice-nothing}
+use Rattle.frame_dump.specs.Walk.{walk_from, max_frames, found_in}
+use Rattle.frame_dump.proofs.Laws.{Follow, follow, follow-in, follow-next, follow-put, counted-length}
+use lib.ListN.{length, drop, length-set, drop_of_length-le}
+use Prim.Native.Nat.{◌-◌, ◌≤◌}
+use native.Mathlib.Omega.{arith}
+use mathlib.Core.Path.{◌≡◌, refl, sym, ap, ◌∙◌}
+use borrow.Author.Rules.{rules}
+use Rattle.frame_dump_walk.proofs.put.Given as goal
+
+abbrev pub invariant-loop-i : goal.invariant-loop-i
+invariant-loop-i l = let xs = found_in (walk_from max_frames l.k l.base l.memory 0 l.pointer) in
+    (splice l.list l.i (drop l.i xs) ≡ splice l.initial.list 0 xs) × Follow l.k l.base l.memory l.a (drop l.i xs) × (l.i ≤ l.n) × (length l.list ≡ length l.initial.list)
+
+abbrev pub decreases-loop-i : goal.decreases-loop-i
+decreases-loop-i l = l.n - l.i

@@ -1,0 +1,8 @@
+-- Each part as the definition says. Assumes nothing.
+use Rattle.frame_rules.specs.Frames.{cleared}
+use borrow.Author.Rules.{rules}
+use Rattle.frame_starting.proofs.clear.Goals as goal
+
+pub returns : goal.returns
+unfolding cleared
+returns c = rw (c.lower-general.ensures, c.low-lr.ensures)

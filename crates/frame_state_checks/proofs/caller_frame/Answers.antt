@@ -1,0 +1,14 @@
+-- The start, or the record below the top one. Assumes nothing.
+use Rattle.frame_machine.proofs.Coding.{caller-none, caller-some}
+use native.Mathlib.Omega.{arith}
+use mathlib.Core.Path.{sym, ◌∙◌}
+use borrow.Author.Rules.{rules}
+use Rattle.frame_state_checks.proofs.caller_frame.Goals as goal
+
+pub returns-then-d-le1 : goal.returns-then-d-le1
+returns-then-d-le1 c =
+    c.start_frame.ensures ∙ sym (caller-none c.args.k c.args.s.frames c.args.s.depth (omega arith))
+
+pub returns : goal.returns
+returns c =
+    sym (caller-some c.args.k c.args.s.frames c.args.s.depth (omega arith))

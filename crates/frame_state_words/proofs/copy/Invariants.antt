@@ -1,0 +1,14 @@
+-- What is left to copy, copied from here, gives the whole copy. Assumes nothing.
+use Rattle.base_words.specs.Splice.{splice, part}
+use Rattle.frame_word_layout.proofs.Laws.{copy_start, copy-turn, copy-end}
+use lib.ListN.{length, length-set}
+use Prim.Native.Nat.{◌+◌, ◌-◌, ◌≤◌, zero-le}
+use native.Mathlib.Omega.{arith}
+use mathlib.Core.Path.{◌≡◌, refl, sym, ◌∙◌}
+use Rattle.frame_state_words.proofs.copy.Given as goal
+
+abbrev pub invariant-loop-i : goal.invariant-loop-i
+invariant-loop-i l = (splice l.to (l.at + l.i) (part (l.start + l.i) (l.n - l.i) l.from) ≡ splice l.initial.to l.at (part l.start l.n l.from)) × (l.i ≤ l.n) × (length l.to ≡ length l.initial.to)
+
+abbrev pub decreases-loop-i : goal.decreases-loop-i
+decreases-loop-i l = l.n - l.i

@@ -1,0 +1,17 @@
+-- Each part in its turn.
+use Rattle.plan_text.proofs.Writing.{wrote_then}
+use Rattle.plan_listing.specs.Text.{head_text}
+use native.Mathlib.Omega.{arith}
+use borrow.Author.Rules.{rules}
+use Rattle.plan_listing.proofs.put_head.Goals as goal
+
+slice-aggregate-put-labelled : tie.Need-slice-aggregate-put-labelled
+slice-aggregate-put-labelled c = search rules
+
+slice-aggregate-put-labelled-2 : tie.Need-slice-aggregate-put-labelled-2
+slice-aggregate-put-labelled-2 c = search rules
+
+pub returns : goal.returns
+unfolding head_text
+returns c =
+    (wrote_then c.put_name-a.ensures.0 (wrote_then c.put_labelled-b.ensures.0 (wrote_then c.put_labelled-d.ensures.0 (wrote_then c.put_ellipsis-e.ensures.0 c.put_byte.ensures))), omega (arith, c.put_name-a.ensures.1, c.put_labelled-b.ensures.1, c.put_labelled-d.ensures.1, c.put_ellipsis-e.ensures.1, c.put_byte.ensures.end))

@@ -1,0 +1,28 @@
+-- By cases on the convention.
+use native.Mathlib.Omega.{arith}
+use borrow.Author.Rules.{rules}
+use Rattle.plan_listing.proofs.put_name.Goals as goal
+
+slice-aggregate-put-bytes : tie.Need-slice-aggregate-put-bytes
+slice-aggregate-put-bytes c = search rules
+
+slice-aggregate-put-bytes-2 : tie.Need-slice-aggregate-put-bytes-2
+slice-aggregate-put-bytes-2 c = search rules
+
+slice-aggregate-put-bytes-3 : tie.Need-slice-aggregate-put-bytes-3
+slice-aggregate-put-bytes-3 c = search rules
+
+slice-aggregate-put-bytes-4 : tie.Need-slice-aggregate-put-bytes-4
+slice-aggregate-put-bytes-4 c = search rules
+
+pub returns-in-Ppc64 : goal.returns-in-Ppc64
+returns-in-Ppc64 c = (rw c.in-Ppc64.is c.put_bytes.ensures, omega (arith, c.put_bytes.ensures.end))
+
+pub returns-in-Z : goal.returns-in-Z
+returns-in-Z c = (rw c.in-Z.is c.put_bytes-in-Z.ensures, omega (arith, c.put_bytes-in-Z.ensures.end))
+
+pub returns-in-Aix : goal.returns-in-Aix
+returns-in-Aix c = (rw c.in-Aix.is c.put_bytes-in-Aix.ensures, omega (arith, c.put_bytes-in-Aix.ensures.end))
+
+pub returns-in-Ppc64b : goal.returns-in-Ppc64b
+returns-in-Ppc64b c = (rw c.in-Ppc64b.is c.put_bytes-in-Ppc64b.ensures, omega (arith, c.put_bytes-in-Ppc64b.ensures.end))

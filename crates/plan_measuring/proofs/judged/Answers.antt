@@ -1,0 +1,18 @@
+-- 29 where there is an unclear argument.
+use borrow.Author.Rules.{rules}
+use native.Mathlib.Omega.{arith}
+use mathlib.Core.Path.{ap, ◌∙◌}
+use Rattle.sig_items.specs.declared.Fault.{Fault}
+use Rattle.plan_plans.specs.Plan.{refused_plan, measure_of}
+use Rattle.plan_plans.specs.Helpers.{measured_by}
+use Rattle.plan_plans.proofs.Calls.{unclear-measured}
+use Rattle.plan_measuring.proofs.judged.Goals as goal
+
+pub overflow_sub-unclear : goal.overflow_sub-unclear
+overflow_sub-unclear c = omega arith
+
+pub returns : goal.returns
+returns c =
+    c.no_measure.ensures
+    ∙ ap (λ (f : Fault). measure_of (refused_plan f)) c.unclear_fault.ensures
+    ∙ unclear-measured _ _ _ (omega (arith, c.if-unclear-eq0.false))

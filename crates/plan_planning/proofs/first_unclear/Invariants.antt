@@ -1,0 +1,17 @@
+-- The loop looks at one argument a turn; what it found and what is left give the first of all (`Clearing`).
+use mathlib.Core.Path.{sym, ◌∙◌}
+use Prim.Native.Nat.{◌-◌}
+use native.Mathlib.Omega.{arith}
+use Rattle.plan_places.proofs.Bounds.{rules-lawful}
+use Rattle.sig_signatures.specs.Types.{types_in}
+use Rattle.sig_signatures.proofs.Types.{length_types, types-drop}
+use Rattle.plan_plans.proofs.Fold.{reached-roomy}
+use Rattle.plan_plans.proofs.Calls.{none-unclear, Clearing, clearing-start, clearing-more, clearing-end}
+use borrow.Author.Rules.{rules}
+use Rattle.plan_planning.proofs.first_unclear.Given as goal
+
+abbrev pub invariant-loop-i : goal.invariant-loop-i
+invariant-loop-i l = Clearing l.convention l.rules l.initial.c (types_in l.g) l.c l.unclear l.i
+
+abbrev pub decreases-loop-i : goal.decreases-loop-i
+decreases-loop-i l = l.count - l.i

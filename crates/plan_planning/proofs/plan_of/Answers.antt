@@ -1,0 +1,10 @@
+-- The reader's answer, planned.
+use mathlib.Core.Path.{ap, ◌∙◌}
+use borrow.Author.Rules.{rules}
+use Rattle.plan_planning.proofs.plan_of.Goals as goal
+
+pub plan_call-requires : goal.plan_call-requires
+plan_call-requires c = c.read_signature.ensures
+
+pub returns : goal.returns
+returns c = c.plan_call.ensures

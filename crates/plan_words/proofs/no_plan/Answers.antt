@@ -1,0 +1,6 @@
+-- The words of no result.
+use borrow.Author.Rules.{rules}
+use Rattle.plan_words.proofs.no_plan.Goals as goal
+
+pub returns : goal.returns
+returns c = rw c.no_result.ensures

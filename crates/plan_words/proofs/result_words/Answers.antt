@@ -1,0 +1,6 @@
+-- Of nothing, or of a type.
+use borrow.Author.Rules.{rules}
+use Rattle.plan_words.proofs.result_words.Goals as goal
+
+pub returns-in-Value : goal.returns-in-Value
+returns-in-Value c = rw c.in-Value.is c.value_words.ensures

@@ -1,0 +1,6 @@
+-- The table is the one of no parameters.
+use borrow.Author.Rules.{rules}
+use Rattle.second_planner.proofs.no_plan.Goals as goal
+
+pub returns : goal.returns
+returns c = rw c.no_parameters-none.ensures

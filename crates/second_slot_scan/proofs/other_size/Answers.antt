@@ -1,0 +1,18 @@
+-- Each test is one of the definition's.
+use borrow.Author.Tests.{eq-eqb, ne_eqb}
+use Rattle.second_slot_scan.proofs.other_size.Goals as goal
+
+pub returns-then-n-eq1 : goal.returns-then-n-eq1
+returns-then-n-eq1 c = simp (eq-eqb _ _ c.if-n-eq1.true)
+
+pub returns-then-n-eq2 : goal.returns-then-n-eq2
+returns-then-n-eq2 c = simp (ne_eqb _ _ c.if-n-eq1.false, eq-eqb _ _ c.if-n-eq2.true)
+
+pub returns-then-n-eq4 : goal.returns-then-n-eq4
+returns-then-n-eq4 c = simp (ne_eqb _ _ c.if-n-eq1.false, ne_eqb _ _ c.if-n-eq2.false, eq-eqb _ _ c.if-n-eq4.true)
+
+pub returns-then-n-eq8 : goal.returns-then-n-eq8
+returns-then-n-eq8 c = simp (ne_eqb _ _ c.if-n-eq1.false, ne_eqb _ _ c.if-n-eq2.false, ne_eqb _ _ c.if-n-eq4.false, eq-eqb _ _ c.if-n-eq8.true)
+
+pub returns : goal.returns
+returns c = simp (ne_eqb _ _ c.if-n-eq1.false, ne_eqb _ _ c.if-n-eq2.false, ne_eqb _ _ c.if-n-eq4.false, ne_eqb _ _ c.if-n-eq8.false)

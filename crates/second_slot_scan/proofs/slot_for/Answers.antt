@@ -1,0 +1,9 @@
+-- Each part is the definition's.
+use mathlib.Core.Path.{◌∙◌}
+use Rattle.second_slot_scan.specs.Slots.{copied, slot_by, slot_of}
+use borrow.Author.Rules.{rules}
+use Rattle.second_slot_scan.proofs.slot_for.Goals as goal
+
+pub returns : goal.returns
+unfolding slot_of
+returns c = c.slot_by.ensures ∙ rw (c.double_or_float.ensures, c.copy_at-k.ensures, c.is_copied.ensures)

@@ -1,0 +1,12 @@
+-- By cases on the mark.
+use borrow.Author.Rules.{rules}
+use Rattle.second_slot_scan.specs.Slots.{initial}
+use Rattle.second_slot_scan.proofs.start_of.Goals as goal
+
+pub returns-then-hidden : goal.returns-then-hidden
+unfolding initial
+returns-then-hidden c = rw c.if-hidden.true
+
+pub returns : goal.returns
+unfolding initial
+returns c = rw c.if-hidden.false

@@ -1,0 +1,20 @@
+-- The length first, then the items in order.
+use borrow.Author.Rules.{rules}
+use mathlib.Core.Path.{sym, ap, ◌∙◌}
+use native.Mathlib.Omega.{arith}
+use Rattle.sig_signatures.specs.Answer.{head_answer}
+use Rattle.sig_signatures.proofs.Laws.{convention-known, head-long, head-no-convention, head-known}
+use Rattle.sig_signatures.proofs.Sound.{convention-read}
+use Rattle.sig_head.proofs.read_head.Goals as goal
+
+pub returns-then-s-gt-MAX_LENGTH : goal.returns-then-s-gt-MAX_LENGTH
+returns-then-s-gt-MAX_LENGTH c = sym (ap head_answer (head-long _ c.if-s-gt-MAX_LENGTH.true))
+
+pub read_head_after-requires : goal.read_head_after-requires
+read_head_after-requires c = let k = convention-read _ _ _ _ (convention-known _ _ _ c.read_convention.ensures c.in-Known.is) in omega arith
+
+pub returns-in-Refused : goal.returns-in-Refused
+returns-in-Refused c = sym (ap head_answer (head-no-convention _ c.if-s-gt-MAX_LENGTH.false _ c.read_convention.ensures _ c.in-Refused.is))
+
+pub returns-in-Known : goal.returns-in-Known
+returns-in-Known c = c.read_head_after.ensures ∙ sym (ap head_answer (head-known _ c.if-s-gt-MAX_LENGTH.false _ c.read_convention.ensures _ c.in-Known.is))

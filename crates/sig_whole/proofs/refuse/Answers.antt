@@ -1,0 +1,6 @@
+-- The table is the one with no arguments.
+use borrow.Author.Rules.{rules}
+use Rattle.sig_whole.proofs.refuse.Goals as goal
+
+pub returns : goal.returns
+returns c = cc
