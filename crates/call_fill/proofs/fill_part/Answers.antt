@@ -43,10 +43,10 @@ put_arguments-requires c =
     let head = headed c.args.sig.now _ _ _ _ _ _ c.requires.0 _ accepted in
     let answer = answer-tested c.args.sig.now _ _ _ head _ c.args.base c.args.address _ _ _ _ _ c.keep_call-p.ensures.sizes_value c.hidden_in-hidden.ensures c.high_address-high.ensures c.in-Accepted.is c.tested-answer.ensures in
     let lent = tests-lent c.args.sig.now _ c.args.base _ _ c.ranges.base.fits c.keep_call-p.ensures.sizes_value (sym c.tested-answer.ensures ∙ not-refused _ (sym c.is_refused.ensures ∙ c.if-is_refused.false)) in
-    let kept = subst (λ (o : Outcome). KeptWhere o c.args.sig.now c.args.convention c.keep_call-p.new.1.1.1.1.1.1.1.0 c.keep_call-p.result.count) c.in-Accepted.is c.keep_call-p.ensures.kept_where in
+    let kept = subst (λ (o : Outcome). KeptWhere o c.args.sig.now c.args.convention c.keep_call-p.new.kept c.keep_call-p.result.count) c.in-Accepted.is c.keep_call-p.ensures.kept_where in
     let l = hidden-length (word_bytes c.args.convention) (address_places c.args.convention c.hidden_in-hidden.result) c.args.address c.args.image.now _ c.put_hidden.ensures in (
-      all-ready c.args.sig.now _ c.args.convention c.keep_call-p.new.1.1.1.1.1.1.1.0 c.keep_call-p.result.count c.args.base _ _ _ (c.rules_in-rules.ensures ∙ head.rules) kept (l ∙ lent.image) lent.area lent.copies lent.low,
-      all-sizes c.args.sig.now c.args.convention c.keep_call-p.new.1.1.1.1.1.1.1.0 c.keep_call-p.result.count _ kept lent.values,
+      all-ready c.args.sig.now _ c.args.convention c.keep_call-p.new.kept c.keep_call-p.result.count c.args.base _ _ _ (c.rules_in-rules.ensures ∙ head.rules) kept (l ∙ lent.image) lent.area lent.copies lent.low,
+      all-sizes c.args.sig.now c.args.convention c.keep_call-p.new.kept c.keep_call-p.result.count _ kept lent.values,
     )
 
 pub returns-in-Refused : goal.returns-in-Refused
@@ -61,9 +61,9 @@ returns-else-is_refused c =
     let accepted = sym (ap (λ (m : Measured). m.outcome) c.keep_call-p.ensures.sizes_value) ∙ c.in-Accepted.is in
     let head = headed c.args.sig.now _ _ _ _ _ _ c.requires.0 _ accepted in
     let answer = answer-tested c.args.sig.now _ _ _ head _ c.args.base c.args.address _ _ _ _ _ c.keep_call-p.ensures.sizes_value c.hidden_in-hidden.ensures c.high_address-high.ensures c.in-Accepted.is c.tested-answer.ensures in
-    let kept = subst (λ (o : Outcome). KeptWhere o c.args.sig.now c.args.convention c.keep_call-p.new.1.1.1.1.1.1.1.0 c.keep_call-p.result.count) c.in-Accepted.is c.keep_call-p.ensures.kept_where in
+    let kept = subst (λ (o : Outcome). KeptWhere o c.args.sig.now c.args.convention c.keep_call-p.new.kept c.keep_call-p.result.count) c.in-Accepted.is c.keep_call-p.ensures.kept_where in
     let done = not-refused _ (sym c.is_refused.ensures ∙ c.if-is_refused.false) in
-    let slots = slots-are c.args.sig.now _ _ _ head c.args.values.now c.args.base c.args.address _ (kept_all c.args.convention c.keep_call-p.new.1.1.1.1.1.1.1.0 c.keep_call-p.result.count) c.hidden_in-hidden.ensures kept.same in record {
+    let slots = slots-are c.args.sig.now _ _ _ head c.args.values.now c.args.base c.args.address _ (kept_all c.args.convention c.keep_call-p.new.kept c.keep_call-p.result.count) c.hidden_in-hidden.ensures kept.same in record {
       value = sym done ∙ answer;
       copies_after = buffers-done c.args.sig.now c.args.values.now c.args.image.now c.args.area.now c.args.copies.now _ c.args.base c.args.address (word_bytes c.args.convention) (address_places c.args.convention c.hidden_in-hidden.result) _ _ slots c.put_hidden.ensures (rw c.rules_in-rules.ensures at c.put_arguments.ensures);
     }

@@ -57,7 +57,7 @@ loop-i-preserved c =
     let start : ℕ = ((argument_at c.args.g c.args.p c.loop-i.i)).span.home.start in
     let x : List ℕ = homed_bytes (rules_in c.args.g) ((argument_at c.args.g c.args.p c.loop-i.i)) c.args.image.now in
     let put = c.put_home.ensures ∙ ap (overlay _) (sym (bytes-marked c.args.g.ellipsis (rules_of c.args.g.convention) ((argument_at c.args.g c.args.p c.loop-i.i)) c.args.image.now)) in
-    let e : put_mid start (length c.loop-i.area - start) c.loop-i.area c.put_home.new.0 ≡ splice c.loop-i.area start x = ap (put_mid start (length c.loop-i.area - start) c.loop-i.area) put ∙ lent-tail c.loop-i.area start x in
+    let e : put_mid start (length c.loop-i.area - start) c.loop-i.area c.put_home.new.place ≡ splice c.loop-i.area start x = ap (put_mid start (length c.loop-i.area - start) c.loop-i.area) put ∙ lent-tail c.loop-i.area start x in
     rw e (homing-more _ _ _ _ _ _ _ _ ((argument_at c.args.g c.args.p c.loop-i.i)) ((let it : drop c.loop-i.i (placements_in c.args.g c.args.p) ≡ (argument_at c.args.g c.args.p c.loop-i.i) ∷ drop (suc c.loop-i.i) (placements_in c.args.g c.args.p) = next-argument c.args.g c.args.p c.loop-i.i c.loop-i-test.true c.requires.0.tables.types c.requires.0.tables.spans in it)) c.loop-i.invariant)
 
 pub shape_of-area : goal.shape_of-area

@@ -13,26 +13,26 @@ use borrow.Author.Rules.{rules}
 use Rattle.call_home_slot.proofs.home_float.Goals as goal
 
 -- what the home's size says of each float
-sized : (c : tie.Start) (e : Equivalent) → c.args.e ≡ e → HomeSized e c.args.n c.args.room
-sized c e q = subst (λ (e : Equivalent). HomeSized e c.args.n c.args.room) q c.requires.2
+sized : (n room : ℕ) (e x : Equivalent) → HomeSized e n room → e ≡ x → HomeSized x n room
+sized n room e x h q = subst (λ (e : Equivalent). HomeSized e n room) q h
 
 pub overflow_sub-room : goal.overflow_sub-room
-overflow_sub-room c = sized c _ c.in-Nothing.is
+overflow_sub-room c = sized c.args.n c.args.room _ _ c.requires.2 c.in-Nothing.is
 
 pub put_padded-requires : goal.put_padded-requires
 put_padded-requires c =
-    let n = sized c _ c.in-Nothing.is in
+    let n = sized c.args.n c.args.room _ _ c.requires.2 c.in-Nothing.is in
     let taken = add-sub_cancel_left c.args.at c.args.n in
     rw taken (omega (arith, n, c.requires.1, length-take c.args.n (drop c.args.at c.args.image.now)))
 
 pub load-requires : goal.load-requires
-load-requires c = omega (arith, sized c _ c.in-Single.is, c.requires.0)
+load-requires c = omega (arith, sized c.args.n c.args.room _ _ c.requires.2 c.in-Single.is, c.requires.0)
 
 pub put_number-requires : goal.put_number-requires
 put_number-requires c = c.requires.1
 
 pub load-requires-in-Double : goal.load-requires-in-Double
-load-requires-in-Double c = omega (arith, sized c _ c.in-Double.is, c.requires.0)
+load-requires-in-Double c = omega (arith, sized c.args.n c.args.room _ _ c.requires.2 c.in-Double.is, c.requires.0)
 
 pub put_number-requires-in-Double : goal.put_number-requires-in-Double
 put_number-requires-in-Double c = c.requires.1
@@ -45,12 +45,12 @@ returns-in-Nothing c =
 
 pub returns-in-Single : goal.returns-in-Single
 returns-in-Single c =
-    let n : c.args.n ≡ 8 = sized c _ c.in-Single.is in
+    let n : c.args.n ≡ 8 = sized c.args.n c.args.room _ _ c.requires.2 c.in-Single.is in
     let x = ap (home_word c.args.e) (c.load.ensures ∙ ap (λ (m : ℕ). value_of (part c.args.at m c.args.image.now)) (sym n)) in
     c.put_number.ensures ∙ ap (λ (w : ℕ). overlay c.args.place.now (bytes_of c.args.room w)) (c.memory_word.ensures ∙ x) ∙ rw c.in-Single.is
 
 pub returns-in-Double : goal.returns-in-Double
 returns-in-Double c =
-    let n : c.args.n ≡ 8 = sized c _ c.in-Double.is in
+    let n : c.args.n ≡ 8 = sized c.args.n c.args.room _ _ c.requires.2 c.in-Double.is in
     let x = ap (home_word c.args.e) (c.load-in-Double.ensures ∙ ap (λ (m : ℕ). value_of (part c.args.at m c.args.image.now)) (sym n)) in
     c.put_number-in-Double.ensures ∙ ap (λ (w : ℕ). overlay c.args.place.now (bytes_of c.args.room w)) (c.memory_word-in-Double.ensures ∙ x) ∙ rw c.in-Double.is

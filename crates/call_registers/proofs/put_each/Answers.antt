@@ -49,7 +49,7 @@ loop-i-preserved c =
     let more = bytes-more _ _ _ _ c.requires _ _ _ c.loop-i.invariant c.loop-i-test.true in
     let q = bytes-piece _ _ _ _ c.requires _ _ _ c.loop-i.invariant c.loop-i-test.true in
     let size : length piece ≡ c.smaller-to.result - c.loop-i.from = length_part c.loop-i.from (c.smaller-to.result - c.loop-i.from) c.args.v.now (omega (arith, q, c.smaller-to.ensures)) in
-    let put : put_mid (8 * c.loop-i.i) (length c.loop-i.s - 8 * c.loop-i.i) c.loop-i.s c.put_register.new.0 ≡ splice c.loop-i.s (8 * c.loop-i.i) (in_register c.args.word (piece ++ replicate (c.args.word - (c.smaller-to.result - c.loop-i.from)) 0)) =
+    let put : put_mid (8 * c.loop-i.i) (length c.loop-i.s - 8 * c.loop-i.i) c.loop-i.s c.put_register.new.s ≡ splice c.loop-i.s (8 * c.loop-i.i) (in_register c.args.word (piece ++ replicate (c.args.word - (c.smaller-to.result - c.loop-i.from)) 0)) =
     ap (put_mid (8 * c.loop-i.i) (length c.loop-i.s - 8 * c.loop-i.i) c.loop-i.s) c.put_register.ensures ∙ lent-tail c.loop-i.s (8 * c.loop-i.i) (in_register c.args.word (piece ++ replicate (c.args.word - length piece) 0))
     ∙ ap (λ (n : ℕ). splice c.loop-i.s (8 * c.loop-i.i) (in_register c.args.word (piece ++ replicate (c.args.word - n) 0))) size in
     rw (put, c.smaller-to.ensures) more

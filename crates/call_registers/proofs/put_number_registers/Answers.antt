@@ -40,7 +40,7 @@ loop-i-smaller c = omega (arith, c.loop-i-test.true)
 pub loop-i-preserved : goal.loop-i-preserved
 loop-i-preserved c =
     let more = number_more _ _ _ _ _ c.requires.1 c.requires.2 _ _ _ c.loop-i.invariant c.loop-i-test.true in
-    let put : put_mid (8 * c.loop-i.i) (length c.loop-i.s - 8 * c.loop-i.i) c.loop-i.s c.put_number.new.0 ≡ splice c.loop-i.s (8 * c.loop-i.i) (bytes_of 8 (zero_extended c.args.word (c.args.x / 2 ^ (8 * (c.loop-i.rest - c.args.word))))) =
+    let put : put_mid (8 * c.loop-i.i) (length c.loop-i.s - 8 * c.loop-i.i) c.loop-i.s c.put_number.new.s ≡ splice c.loop-i.s (8 * c.loop-i.i) (bytes_of 8 (zero_extended c.args.word (c.args.x / 2 ^ (8 * (c.loop-i.rest - c.args.word))))) =
     ap (put_mid (8 * c.loop-i.i) (length c.loop-i.s - 8 * c.loop-i.i) c.loop-i.s) c.put_number.ensures ∙ lent-tail c.loop-i.s (8 * c.loop-i.i) (bytes_of 8 c.zero_extend.result)
     ∙ ap (λ (n : ℕ). splice c.loop-i.s (8 * c.loop-i.i) (bytes_of 8 n)) c.zero_extend.ensures in
     rw put more

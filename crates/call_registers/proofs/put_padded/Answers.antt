@@ -12,5 +12,5 @@ use Rattle.call_registers.proofs.put_padded.Goals as goal
 pub returns : goal.returns
 returns c =
     let zeros : List ℕ = replicate c.args.zeros 0 in
-    ap (put_mid (length c.args.v.now) (length c.put.new.0 - length c.args.v.now) c.put.new.0) c.put_zeros.ensures ∙ lent-tail c.put.new.0 (length c.args.v.now) zeros
+    ap (put_mid (length c.args.v.now) (length c.put.new.s - length c.args.v.now) c.put.new.s) c.put_zeros.ensures ∙ lent-tail c.put.new.s (length c.args.v.now) zeros
     ∙ ap (λ (t : List ℕ). splice t (length c.args.v.now) zeros) c.put.ensures ∙ sym (overlay-append c.args.s.now c.args.v.now zeros)

@@ -14,7 +14,7 @@ returns c =
     let above : ℕ = 8 - c.args.word in
     let bs : List ℕ = c.args.v.now ++ replicate (c.args.word - length c.args.v.now) 0 in
     let zeros : List ℕ = replicate above 0 in
-    ap (put_mid above (length c.put_zeros.new.0 - above) c.put_zeros.new.0) c.put_padded.ensures ∙ lent-tail c.put_zeros.new.0 above bs
+    ap (put_mid above (length c.put_zeros.new.s - above) c.put_zeros.new.s) c.put_padded.ensures ∙ lent-tail c.put_zeros.new.s above bs
     ∙ ap (λ (t : List ℕ). splice t above bs) c.put_zeros.ensures
     ∙ ap (λ (n : ℕ). splice (overlay c.args.s.now zeros) n bs) (sym (length-replicate {A = ℕ} above 0))
     ∙ sym (overlay-append c.args.s.now zeros bs)

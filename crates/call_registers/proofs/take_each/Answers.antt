@@ -43,7 +43,7 @@ pub loop-done-preserved : goal.loop-done-preserved
 loop-done-preserved c =
     let from : ℕ = 8 * c.loop-done.register + (8 - c.args.word) + c.loop-done.passed in
     let more = taking-more _ _ _ _ _ _ _ c.requires.0 c.requires.1 _ _ _ _ c.loop-done.invariant c.loop-done-test.true in
-    let put : put_mid c.loop-done.done (length c.loop-done.out - c.loop-done.done) c.loop-done.out c.put.new.0 ≡ splice c.loop-done.out c.loop-done.done (part from c.smaller-m.result c.args.image.now) =
+    let put : put_mid c.loop-done.done (length c.loop-done.out - c.loop-done.done) c.loop-done.out c.put.new.s ≡ splice c.loop-done.out c.loop-done.done (part from c.smaller-m.result c.args.image.now) =
     ap (put_mid c.loop-done.done (length c.loop-done.out - c.loop-done.done) c.loop-done.out) c.put.ensures ∙ lent-tail c.loop-done.out c.loop-done.done (part from (from + c.smaller-m.result - from) c.args.image.now)
     ∙ ap (λ (i : ℕ). splice c.loop-done.out c.loop-done.done (part from i c.args.image.now)) (add-sub_cancel_left from c.smaller-m.result) in
     rw (put, c.smaller-m.ensures) more

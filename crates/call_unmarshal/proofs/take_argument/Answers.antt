@@ -17,10 +17,6 @@ use Rattle.call_unmarshal.proofs.Arguments.{float-room, own-within, own_first}
 use borrow.Author.Rules.{rules}
 use Rattle.call_unmarshal.proofs.take_argument.Goals as goal
 
-inside : (c : tie.Start) → c.args.s.floating.count ≤ 0 → c.args.s.indirect ≡ true
-    → (c.args.base ≤ address_at (word_of c.args.r) c.args.s (lent c)) × (address_at (word_of c.args.r) c.args.s (lent c) - c.args.base + c.args.n ≤ length c.args.copies.now)
-inside c none e = c.requires.0.inside none e
-
 pub take_float-requires : goal.take_float-requires
 take_float-requires c =
     (omega (arith, c.requires.0.ready), rw c.equivalent_of.ensures (float-room (equivalent_of c.args.t) c.args.s.floating.count c.args.n (length c.args.out.now) (c.requires.0.ready.registers.held.float c.if-fpr-gt0.true) c.requires.1))
@@ -37,14 +33,14 @@ word_at-requires c =
 pub overflow_sub-from : goal.overflow_sub-from
 unfolding bytes_at words_at
 overflow_sub-from c =
-    let h = inside c c.if-fpr-gt0.false c.if-indirect.true in
+    let h = c.requires.0.inside c.if-fpr-gt0.false c.if-indirect.true in
     let e = (let it : c.word_at.result ≡ address_at (word_of c.args.r) c.args.s ((buffers c.args.image.now c.args.area.now c.args.copies.now)) = c.word_at.ensures ∙ ap (λ (w : ℕ). address_at w c.args.s ((buffers c.args.image.now c.args.area.now c.args.copies.now))) (sym (c.requires.0.ready.registers.held.address c.if-indirect.true).0) in it) in
     omega (arith, h.0, e)
 
 pub take_part-requires : goal.take_part-requires
 unfolding bytes_at words_at
 take_part-requires c =
-    let h = inside c c.if-fpr-gt0.false c.if-indirect.true in
+    let h = c.requires.0.inside c.if-fpr-gt0.false c.if-indirect.true in
     let e = (let it : c.word_at.result ≡ address_at (word_of c.args.r) c.args.s ((buffers c.args.image.now c.args.area.now c.args.copies.now)) = c.word_at.ensures ∙ ap (λ (w : ℕ). address_at w c.args.s ((buffers c.args.image.now c.args.area.now c.args.copies.now))) (sym (c.requires.0.ready.registers.held.address c.if-indirect.true).0) in it) in
     (omega (arith, h.1, e), c.requires.1)
 

@@ -45,7 +45,7 @@ loop-i-smaller c = omega (arith, c.loop-i-test.true)
 pub loop-i-preserved : goal.loop-i-preserved
 loop-i-preserved c =
     let x : List ℕ = value_at c.args.rules c.args.base ((placement c.type_at-t.result c.size_of-n.result c.span_at-s.result)) ((buffers c.args.image.now c.args.area.now c.args.copies.now)) in
-    let e : put_mid c.loop-i.v (length c.loop-i.values - c.loop-i.v) c.loop-i.values c.take_argument.new.0 ≡ splice c.loop-i.values c.loop-i.v x = ap (put_mid c.loop-i.v (length c.loop-i.values - c.loop-i.v) c.loop-i.values) c.take_argument.ensures ∙ lent-tail c.loop-i.values c.loop-i.v x in
+    let e : put_mid c.loop-i.v (length c.loop-i.values - c.loop-i.v) c.loop-i.values c.take_argument.new.out ≡ splice c.loop-i.values c.loop-i.v x = ap (put_mid c.loop-i.v (length c.loop-i.values - c.loop-i.v) c.loop-i.values) c.take_argument.ensures ∙ lent-tail c.loop-i.values c.loop-i.v x in
     rw e (taking-more _ _ _ _ _ _ _ _ ((placement c.type_at-t.result c.size_of-n.result c.span_at-s.result)) ((let it : drop c.loop-i.i ((kept_all c.args.convention c.args.kept.now c.args.count)) ≡ (placement c.type_at-t.result c.size_of-n.result c.span_at-s.result) ∷ drop (suc c.loop-i.i) ((kept_all c.args.convention c.args.kept.now c.args.count)) = kept-placed c.args.convention c.args.kept.now c.loop-i.i c.args.count c.loop-i-test.true _ _ _ c.type_at-t.ensures c.size_of-n.ensures c.span_at-s.ensures in it)) c.loop-i.invariant)
 
 pub shape_of-values : goal.shape_of-values

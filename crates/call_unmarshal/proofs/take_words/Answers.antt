@@ -59,7 +59,7 @@ returns c =
     let second : List ℕ = part c.args.s.memory.start (c.args.n - (c.args.word * c.args.s.general.count - c.args.lo)) c.args.area.now in
     let short : length first ≡ c.args.word * c.args.s.general.count - c.args.lo = length_part c.args.lo (c.args.word * c.args.s.general.count - c.args.lo) ws (omega (arith, c.if-held-lo.false)) in
     let both = own-both ws c.args.area.now c.args.s.memory.start c.args.s.memory.length c.args.lo c.args.n (omega (arith, c.if-held-lo.false)) (omega (arith, c.if-lo-n.false)) (omega (arith, c.requires.2)) in
-    ap (put_mid (c.args.word * c.args.s.general.count - c.args.lo) (length c.take_registers-2.new.0 - (c.args.word * c.args.s.general.count - c.args.lo)) c.take_registers-2.new.0) c.take_part-2.ensures ∙ lent-tail c.take_registers-2.new.0 (c.args.word * c.args.s.general.count - c.args.lo) second
+    ap (put_mid (c.args.word * c.args.s.general.count - c.args.lo) (length c.take_registers-2.new.out - (c.args.word * c.args.s.general.count - c.args.lo)) c.take_registers-2.new.out) c.take_part-2.ensures ∙ lent-tail c.take_registers-2.new.out (c.args.word * c.args.s.general.count - c.args.lo) second
     ∙ ap (λ (t : List ℕ). splice t (c.args.word * c.args.s.general.count - c.args.lo) second) c.take_registers-2.ensures
     ∙ ap (λ (z : ℕ). splice (overlay c.args.out.now first) z second) (sym short) ∙ sym (overlay-append c.args.out.now first second)
     ∙ ap (overlay c.args.out.now) (rw held c.args.s.memory.start both)

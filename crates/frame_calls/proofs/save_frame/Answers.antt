@@ -31,7 +31,7 @@ save_registers-requires c =
       lawful = placed.lawful;
       request = placed.request;
       fits = omega (arith, c.stack_pointer-p.ensures, placed.fits);
-      room = omega (arith, c.stack_pointer-p.ensures, c.store.auto.0, placed.room);
+      room = omega (arith, c.stack_pointer-p.ensures, c.store.auto.s, placed.room);
     }
 
 pub returns : goal.returns

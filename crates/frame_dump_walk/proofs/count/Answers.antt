@@ -22,7 +22,7 @@ address_ok-requires c = (c.requires.0, c.requires.1)
 pub returns-then-not-address_ok : goal.returns-then-not-address_ok
 returns-then-not-address_ok c =
     let no : ok_address c.args.k c.args.base (length c.args.memory.now) c.loop-left.least c.loop-left.a ≡ false = sym c.address_ok.ensures ∙ not-true c.address_ok.result c.if-not-address_ok.true-raw in
-    sym (sym c.loop-left.invariant.0 ∙ ap (counted c.loop-left.found) (walk-bad c.args.k c.args.base c.args.memory.now c.loop-left.least c.loop-left.a c.loop-left.false (omega arith) no))
+    sym (sym c.loop-left.invariant.0 ∙ ap (counted c.loop-left.found) (walk-bad c.args.k c.args.base c.args.memory.now c.loop-left.least c.loop-left.a c.loop-left.left (omega arith) no))
 
 pub overflow_add-found : goal.overflow_add-found
 overflow_add-found c = omega arith
@@ -41,7 +41,7 @@ pub returns-then-next-eq0 : goal.returns-then-next-eq0
 unfolding load
 returns-then-next-eq0 c =
     let yes : ok_address c.args.k c.args.base (length c.args.memory.now) c.loop-left.least c.loop-left.a ≡ true = sym c.address_ok.ensures ∙ not-false c.address_ok.result c.if-not-address_ok.false-raw in
-    let last = walk-last c.args.k c.args.base c.args.memory.now c.loop-left.least c.loop-left.a c.loop-left.false (omega arith) yes (sym c.load-next.ensures ∙ c.if-next-eq0.true) in
+    let last = walk-last c.args.k c.args.base c.args.memory.now c.loop-left.least c.loop-left.a c.loop-left.left (omega arith) yes (sym c.load-next.ensures ∙ c.if-next-eq0.true) in
     sym (sym c.loop-left.invariant.0 ∙ ap (counted c.loop-left.found) last)
 
 pub overflow_add-least : goal.overflow_add-least
@@ -56,9 +56,9 @@ pub loop-left-preserved : goal.loop-left-preserved
 unfolding load
 loop-left-preserved c =
     let yes : ok_address c.args.k c.args.base (length c.args.memory.now) c.loop-left.least c.loop-left.a ≡ true = sym c.address_ok.ensures ∙ not-false c.address_ok.result c.if-not-address_ok.false-raw in
-    let more = walk_more c.args.k c.args.base c.args.memory.now c.loop-left.least c.loop-left.a c.loop-left.false (omega arith) yes (λ e. c.if-next-eq0.false (c.load-next.ensures ∙ e)) in
-    (rw c.load-next.ensures (sym (counted-prepend c.loop-left.found c.loop-left.a (walk_from (c.loop-left.false - 1) c.args.k c.args.base c.args.memory.now (c.loop-left.a + 1) (load c.args.memory.now (c.loop-left.a - c.args.base) c.args.k.word))) ∙ sym (ap (counted c.loop-left.found) more) ∙ c.loop-left.invariant.0), omega arith)
+    let more = walk_more c.args.k c.args.base c.args.memory.now c.loop-left.least c.loop-left.a c.loop-left.left (omega arith) yes (λ e. c.if-next-eq0.false (c.load-next.ensures ∙ e)) in
+    (rw c.load-next.ensures (sym (counted-prepend c.loop-left.found c.loop-left.a (walk_from (c.loop-left.left - 1) c.args.k c.args.base c.args.memory.now (c.loop-left.a + 1) (load c.args.memory.now (c.loop-left.a - c.args.base) c.args.k.word))) ∙ sym (ap (counted c.loop-left.found) more) ∙ c.loop-left.invariant.0), omega arith)
 
 pub returns : goal.returns
 returns c =
-    sym (sym c.loop-left.invariant.0 ∙ ap (counted c.loop-left.found) (walk-out c.args.k c.args.base c.args.memory.now c.loop-left.false c.loop-left.least c.loop-left.a (omega arith)))
+    sym (sym c.loop-left.invariant.0 ∙ ap (counted c.loop-left.found) (walk-out c.args.k c.args.base c.args.memory.now c.loop-left.left c.loop-left.least c.loop-left.a (omega arith)))

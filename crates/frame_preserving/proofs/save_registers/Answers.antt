@@ -12,7 +12,7 @@ overflow_add-s c =
 
 pub save_word-requires : goal.save_word-requires
 save_word-requires c =
-    omega (arith, law-at c.args.k.linkage _ c.args.k c.in-LinkRegister.is c.requires.lawful.linkage, c.requires.room, c.save_general.auto.0, c.save_floating.auto.0)
+    omega (arith, law-at c.args.k.linkage _ c.args.k c.in-LinkRegister.is c.requires.lawful.linkage, c.requires.room, c.save_general.auto.memory, c.save_floating.auto.memory)
 
 pub overflow_add-s-in-LinkRegister : goal.overflow_add-s-in-LinkRegister
 overflow_add-s-in-LinkRegister c =
@@ -20,7 +20,7 @@ overflow_add-s-in-LinkRegister c =
 
 pub save_word-requires-in-LinkRegister : goal.save_word-requires-in-LinkRegister
 save_word-requires-in-LinkRegister c =
-    omega (arith, law-at c.args.k.linkage _ c.args.k c.in-LinkRegister.is c.requires.lawful.linkage, c.requires.room, c.save_general.auto.0, c.save_floating.auto.0, c.save_word.auto.0)
+    omega (arith, law-at c.args.k.linkage _ c.args.k c.in-LinkRegister.is c.requires.lawful.linkage, c.requires.room, c.save_general.auto.memory, c.save_floating.auto.memory, c.save_word.auto.memory)
 
 pub returns-in-LinkRegister : goal.returns-in-LinkRegister
 returns-in-LinkRegister c =

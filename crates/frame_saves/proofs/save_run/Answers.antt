@@ -32,7 +32,7 @@ loop-k-smaller c = omega arith
 pub loop-k-preserved : goal.loop-k-preserved
 unfolding store
 loop-k-preserved c =
-    (rw c.store.ensures (save-turn c.loop-k.k c.loop-k.memory c.args.xs.now c.loop-k.a c.args.w c.loop-k.i (omega arith) ∙ c.loop-k.invariant.0), omega (arith, words-turn c.args.w c.loop-k.k (omega arith)), omega arith, c.store.auto.0 ∙ c.loop-k.invariant.3)
+    (rw c.store.ensures (save-turn c.loop-k.k c.loop-k.memory c.args.xs.now c.loop-k.a c.args.w c.loop-k.i (omega arith) ∙ c.loop-k.invariant.0), omega (arith, words-turn c.args.w c.loop-k.k (omega arith)), omega arith, c.store.auto.s ∙ c.loop-k.invariant.3)
 
 pub shape_of-memory : goal.shape_of-memory
 shape_of-memory c = c.loop-k.invariant.3

@@ -6,10 +6,10 @@ use borrow.Author.Rules.{rules}
 use Rattle.frame_state_words.proofs.put_changed.Goals as goal
 
 pub put_frame-requires : goal.put_frame-requires
-put_frame-requires c = (c.put_registers.auto.0 ∙ simp length-set c.requires.0, c.requires.1)
+put_frame-requires c = (c.put_registers.auto.words ∙ simp length-set c.requires.0, c.requires.1)
 
 pub shape_of-words : goal.shape_of-words
-shape_of-words c = c.put_frame.auto.0 ∙ c.put_registers.auto.0 ∙ simp length-set
+shape_of-words c = c.put_frame.auto.words ∙ c.put_registers.auto.words ∙ simp length-set
 
 pub returns : goal.returns
 unfolding changed

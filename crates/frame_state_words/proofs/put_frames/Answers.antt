@@ -26,7 +26,7 @@ loop-i-smaller c = omega arith
 pub loop-i-preserved : goal.loop-i-preserved
 loop-i-preserved c =
     let turn = frames-turn c.loop-i.words c.args.fs c.loop-i.i (omega arith) in
-    (rw c.put_frame.ensures (turn ∙ c.loop-i.invariant.0), omega arith, c.put_frame.auto.0 ∙ c.loop-i.invariant.2)
+    (rw c.put_frame.ensures (turn ∙ c.loop-i.invariant.0), omega arith, c.put_frame.auto.words ∙ c.loop-i.invariant.2)
 
 pub shape_of-words : goal.shape_of-words
 shape_of-words c = c.loop-i.invariant.2

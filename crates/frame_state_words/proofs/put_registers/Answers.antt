@@ -7,10 +7,10 @@ use borrow.Author.Rules.{rules}
 use Rattle.frame_state_words.proofs.put_registers.Goals as goal
 
 pub bounds-words-69 : goal.bounds-words-69
-bounds-words-69 c = simp length-set (omega (arith, c.put_bank-2.auto.0, c.put_bank.auto.0))
+bounds-words-69 c = simp length-set (omega (arith, c.put_bank-2.auto.words, c.put_bank.auto.words))
 
 pub shape_of-words : goal.shape_of-words
-shape_of-words c = simp length-set (c.put_bank-2.auto.0 ∙ c.put_bank.auto.0)
+shape_of-words c = simp length-set (c.put_bank-2.auto.words ∙ c.put_bank.auto.words)
 
 pub returns : goal.returns
 returns c =

@@ -6,10 +6,10 @@ use borrow.Author.Rules.{rules}
 use Rattle.frame_state_words.proofs.put_state.Goals as goal
 
 pub put_frames-requires : goal.put_frames-requires
-put_frames-requires c = c.put_registers.auto.0 ∙ simp length-set c.requires
+put_frames-requires c = c.put_registers.auto.words ∙ simp length-set c.requires
 
 pub shape_of-words : goal.shape_of-words
-shape_of-words c = c.put_frames.auto.0 ∙ c.put_registers.auto.0 ∙ simp length-set
+shape_of-words c = c.put_frames.auto.words ∙ c.put_registers.auto.words ∙ simp length-set
 
 pub returns : goal.returns
 returns c =

@@ -3,12 +3,6 @@ use native.Mathlib.Omega.{arith}
 use borrow.Author.Rules.{rules}
 use Rattle.plan_line.proofs.put_mark.Goals as goal
 
-slice-aggregate-put-bytes : tie.Need-slice-aggregate-put-bytes
-slice-aggregate-put-bytes c = search rules
-
-slice-aggregate-put-bytes-2 : tie.Need-slice-aggregate-put-bytes-2
-slice-aggregate-put-bytes-2 c = search rules
-
 pub returns-in-General : goal.returns-in-General
 returns-in-General c = (rw c.in-General.is c.put_bytes.ensures, omega (arith, c.put_bytes.ensures.end))
 

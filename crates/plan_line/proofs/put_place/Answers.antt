@@ -4,9 +4,6 @@ use native.Mathlib.Omega.{arith}
 use borrow.Author.Rules.{rules}
 use Rattle.plan_line.proofs.put_place.Goals as goal
 
-slice-aggregate-put-bytes : tie.Need-slice-aggregate-put-bytes
-slice-aggregate-put-bytes c = search rules
-
 pub returns-in-Register : goal.returns-in-Register
 returns-in-Register c =
     (rw c.in-Register.is (wrote_then c.put_mark-next.ensures.0 c.put_decimal.ensures.0), omega (arith, c.put_mark-next.ensures.1, c.put_decimal.ensures.1))

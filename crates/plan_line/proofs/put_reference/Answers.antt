@@ -4,9 +4,6 @@ use native.Mathlib.Omega.{arith}
 use borrow.Author.Rules.{rules}
 use Rattle.plan_line.proofs.put_reference.Goals as goal
 
-slice-aggregate-put-bytes : tie.Need-slice-aggregate-put-bytes
-slice-aggregate-put-bytes c = search rules
-
 pub returns-then-indirect : goal.returns-then-indirect
 returns-then-indirect c = (rw c.if-indirect.true c.put_bytes.ensures, omega (arith, c.put_bytes.ensures.end))
 

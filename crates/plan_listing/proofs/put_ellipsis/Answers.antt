@@ -4,9 +4,6 @@ use native.Mathlib.Omega.{arith}
 use borrow.Author.Rules.{rules}
 use Rattle.plan_listing.proofs.put_ellipsis.Goals as goal
 
-slice-aggregate-put-bytes : tie.Need-slice-aggregate-put-bytes
-slice-aggregate-put-bytes c = search rules
-
 pub returns-then-ellipsis : goal.returns-then-ellipsis
 returns-then-ellipsis c = (rw c.if-ellipsis.true c.put_bytes.ensures, omega (arith, c.put_bytes.ensures.end))
 

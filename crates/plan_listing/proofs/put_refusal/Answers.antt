@@ -4,15 +4,6 @@ use Rattle.plan_listing.specs.Text.{refusal_text}
 use borrow.Author.Rules.{rules}
 use Rattle.plan_listing.proofs.put_refusal.Goals as goal
 
-slice-aggregate-put-labelled : tie.Need-slice-aggregate-put-labelled
-slice-aggregate-put-labelled c = search rules
-
-slice-aggregate-put-labelled-2 : tie.Need-slice-aggregate-put-labelled-2
-slice-aggregate-put-labelled-2 c = search rules
-
-slice-aggregate-put-labelled-3 : tie.Need-slice-aggregate-put-labelled-3
-slice-aggregate-put-labelled-3 c = search rules
-
 pub returns : goal.returns
 unfolding refusal_text
 returns c =

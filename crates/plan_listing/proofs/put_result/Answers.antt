@@ -4,9 +4,6 @@ use Rattle.plan_listing.specs.Text.{result_text}
 use borrow.Author.Rules.{rules}
 use Rattle.plan_listing.proofs.put_result.Goals as goal
 
-slice-aggregate-put-bytes : tie.Need-slice-aggregate-put-bytes
-slice-aggregate-put-bytes c = search rules
-
 pub returns : goal.returns
 unfolding result_text
 returns c = wrote_then c.put_bytes-a.ensures (wrote_then c.put_result_places-b.ensures.0 c.put_byte.ensures)

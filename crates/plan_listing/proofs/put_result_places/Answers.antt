@@ -6,12 +6,6 @@ use mathlib.Core.Path.{subst}
 use borrow.Author.Rules.{rules}
 use Rattle.plan_listing.proofs.put_result_places.Goals as goal
 
-slice-aggregate-put-bytes : tie.Need-slice-aggregate-put-bytes
-slice-aggregate-put-bytes c = search rules
-
-slice-aggregate-put-bytes-2 : tie.Need-slice-aggregate-put-bytes-2
-slice-aggregate-put-bytes-2 c = search rules
-
 pub put_registers-requires : goal.put_registers-requires
 put_registers-requires c = (omega arith, subst ResultNumbered c.in-Registers.is c.requires.1)
 

@@ -16,3 +16,7 @@ returns c =
     c.no_measure.ensures
     ∙ ap (λ (f : Fault). measure_of (refused_plan f)) c.unclear_fault.ensures
     ∙ unclear-measured _ _ _ (omega (arith, c.if-unclear-eq0.false))
+
+pub returns-then-unclear-eq0 : goal.returns-then-unclear-eq0
+unfolding measured_by
+returns-then-unclear-eq0 c = search rules
