@@ -1,16 +1,16 @@
 -- The laws of words in general registers: lengths, one word more, a word's own bytes, the words back, and that nothing changes where a
 -- word is a doubleword. Over any width w of at most 8 bytes. Assumes nothing.
 use mathlib.Core.Path.{◌≡◌, refl, sym, ap, ap₂, ◌∙◌}
-use mathlib.Core.List.{List, [], ◌∷◌, ◌++◌, append_assoc, append-nil}
-use Prim.Native.Nat.{ℕ, zero, suc, ◌+◌, ◌-◌, ◌*◌, ◌^◌, ◌≤◌, ◌<◌, min}
+use mathlib.Core.List.{List, ◌++◌, append_assoc, append-nil}
+use Prim.Native.Nat.{ℕ, zero, suc, ◌+◌, ◌-◌, ◌*◌, ◌≤◌, ◌<◌}
 use native.Mathlib.Omega.{arith}
-use native.Mathlib.Nat.{mul-suc, mul-zero, mul-le-mul_left, mul-one, mod-eq_of_lt}
+use native.Mathlib.Nat.{mul-suc, mul-zero}
 use lib.ListN.{length, take, drop, replicate, length-append, length-take, length-drop, length-replicate}
-use lib.Seq.{length-take-le, take_all, take-nil, drop-nil, take_at, drop_at, drop-drop, take-add, take-append-le, drop-append-le, take-append-add, drop-append-add}
+use lib.Seq.{length-take-le, take_all, take_at, drop_at, drop-drop, take-add, take-append-le, drop-append-le, drop-append-add}
 use Rattle.base_words.specs.Splice.{part}
 use Rattle.base_words.specs.Numbers.{bytes_of, zero_extended}
 use Rattle.base_words.proofs.Splices.{length_part, part-part}
-use Rattle.base_words.proofs.Numbers.{length-bytes_of, doubleword-zero_extended}
+use Rattle.base_words.proofs.Numbers.{doubleword-zero_extended}
 use Rattle.call_registers.specs.Registers.{in_register, spread, gather}
 
 -- ---- lengths

@@ -1,7 +1,7 @@
 -- Words in general registers of the image. The image has eight bytes for each GPR; a word of w bytes stands in the low ones, zeros
 -- above: request No. 1, "Its image keeps each GPR in the low half of its 8 bytes, high half zero". Where a word is a doubleword,
 -- both definitions change nothing (laws `spread-doublewords` and `gather-doublewords`). Assumes nothing.
-use Rattle.std.specs.Prelude.{ℕ, zero, suc, ◌+◌, ◌-◌, List, [], ◌++◌, take, drop, replicate}
+use Rattle.std.specs.Prelude.{ℕ, zero, suc, ◌-◌, List, [], ◌++◌, take, drop, replicate}
 use Rattle.base_words.specs.Splice.{part}
 
 -- a word as a register's eight bytes

@@ -1,16 +1,8 @@
 -- `words::load` meets its contract. After i turns the value is that of the first i bytes, and fits them. Assumes nothing.
-use mathlib.Core.Path.{◌≡◌, refl, ap, ◌∙◌}
-use mathlib.Core.List.{List}
-use Prim.Native.Nat.{ℕ, ◌+◌, ◌-◌, ◌*◌, ◌^◌, ◌≤◌, ◌<◌, zero-le}
-use native.Mathlib.Numerals.{add-one}
-use native.Mathlib.Omega.{arith}
-use lib.ListN.{length, get_or}
-use lib.Seq.{drop-cons}
-use lib.Pow.{pow_mono}
+use mathlib.Core.Path.{◌≡◌}
+use Prim.Native.Nat.{◌-◌, ◌*◌, ◌^◌, ◌≤◌, ◌<◌}
 use Rattle.base_words.specs.Splice.{part}
 use Rattle.base_words.specs.Numbers.{value_of}
-use Rattle.base_words.proofs.Splices.{part-add}
-use Rattle.base_words.proofs.Numbers.{value-append, wider}
 use Rattle.base_words.proofs.load.Given as goal
 
 abbrev pub invariant-loop-i : goal.invariant-loop-i

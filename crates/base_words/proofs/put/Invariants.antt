@@ -1,13 +1,8 @@
 -- `words::put` meets its contract. After i turns the first i bytes of bs stand over the head of s; the last turn leaves them all. Assumes nothing.
-use mathlib.Core.Path.{◌≡◌, refl, sym, ap, ◌∙◌}
-use mathlib.Core.List.{List}
-use Prim.Native.Nat.{ℕ, ◌+◌, ◌-◌, ◌≤◌, ◌<◌, zero-le}
-use native.Mathlib.Numerals.{add-one}
-use native.Mathlib.Omega.{arith}
-use lib.ListN.{length, get_or, set, take, length-set}
-use lib.Seq.{take-suc, take_all, length-take-le}
+use mathlib.Core.Path.{◌≡◌}
+use Prim.Native.Nat.{◌-◌, ◌≤◌}
+use lib.ListN.{length, take}
 use Rattle.base_words.specs.Splice.{overlay}
-use Rattle.base_words.proofs.Splices.{overlay-more}
 use Rattle.base_words.proofs.put.Given as goal
 
 abbrev pub invariant-loop-i : goal.invariant-loop-i

@@ -4,7 +4,6 @@ use Rattle.base_words.specs.Basics.{round_up}
 use Prim.Native.Nat.{◌+◌, ◌-◌}
 use native.Mathlib.Omega.{arith}
 use mathlib.Core.Path.{refl}
-use borrow.Author.Rules.{rules}
 use Rattle.base_words.proofs.round_up.Goals as goal
 
 pub overflow_mul-result : goal.overflow_mul-result

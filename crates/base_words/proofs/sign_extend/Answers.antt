@@ -1,5 +1,4 @@
 -- `words::sign_extend` meets its contract: the sign's bit halves the range of n bytes, and a number in its upper half gets ones above it. Assumes nothing.
-use borrow.Author.Rules.{rules}
 use mathlib.Core.Path.{◌≡◌, sym, ◌∙◌}
 use Prim.Native.Nat.{ℕ, ◌-◌, ◌*◌, ◌%◌, ◌^◌, ◌≤◌, ◌<◌}
 use native.Mathlib.Nat.{one-mul}

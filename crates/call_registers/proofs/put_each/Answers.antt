@@ -1,4 +1,4 @@
-use mathlib.Core.Path.{◌≡◌, sym, ap, ◌∙◌}
+use mathlib.Core.Path.{◌≡◌, ap, ◌∙◌}
 use mathlib.Core.List.{List, ◌++◌}
 use Prim.Native.Nat.{ℕ, ◌+◌, ◌-◌, ◌*◌, ◌≤◌}
 use native.Mathlib.Omega.{arith}
@@ -7,8 +7,7 @@ use borrow.Rule.Slice.PartMut.{put_mid}
 use Rattle.base_words.specs.Splice.{splice, part}
 use Rattle.base_words.proofs.Splices.{lent-tail, length_part}
 use Rattle.call_registers.specs.Registers.{in_register}
-use Rattle.call_registers.proofs.Putting.{BytesPut, bytes-start, bytes-from, bytes-piece, bytes-more, bytes-end}
-use borrow.Author.Rules.{rules}
+use Rattle.call_registers.proofs.Putting.{bytes-start, bytes-piece, bytes-more, bytes-end}
 use Rattle.call_registers.proofs.put_each.Goals as goal
 
 pub loop-i-init : goal.loop-i-init

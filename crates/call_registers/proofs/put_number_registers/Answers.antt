@@ -1,5 +1,4 @@
-use mathlib.Core.Path.{◌≡◌, sym, ap, ◌∙◌}
-use mathlib.Core.List.{List}
+use mathlib.Core.Path.{◌≡◌, ap, ◌∙◌}
 use Prim.Native.Nat.{ℕ, ◌+◌, ◌-◌, ◌*◌, ◌/◌, ◌^◌, ◌≤◌}
 use native.Mathlib.Omega.{arith}
 use lib.ListN.{length}
@@ -7,8 +6,7 @@ use borrow.Rule.Slice.PartMut.{put_mid}
 use Rattle.base_words.specs.Splice.{splice}
 use Rattle.base_words.specs.Numbers.{bytes_of, zero_extended}
 use Rattle.base_words.proofs.Splices.{lent-tail, length_part}
-use Rattle.call_registers.proofs.Putting.{NumberPut, number-start, number-room, number_more, number-end}
-use borrow.Author.Rules.{rules}
+use Rattle.call_registers.proofs.Putting.{number-start, number-room, number_more, number-end}
 use Rattle.call_registers.proofs.put_number_registers.Goals as goal
 
 pub loop-i-init : goal.loop-i-init

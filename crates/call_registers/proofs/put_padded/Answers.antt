@@ -6,7 +6,6 @@ use lib.ListN.{length, replicate}
 use borrow.Rule.Slice.PartMut.{put_mid}
 use Rattle.base_words.specs.Splice.{splice}
 use Rattle.base_words.proofs.Splices.{lent-tail, overlay-append}
-use borrow.Author.Rules.{rules}
 use Rattle.call_registers.proofs.put_padded.Goals as goal
 
 pub returns : goal.returns

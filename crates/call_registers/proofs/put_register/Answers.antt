@@ -1,12 +1,11 @@
 -- Zeros above the word, and then the word through the part that starts below them.
-use mathlib.Core.Path.{◌≡◌, sym, ap, ◌∙◌}
+use mathlib.Core.Path.{sym, ap, ◌∙◌}
 use mathlib.Core.List.{List, ◌++◌}
 use Prim.Native.Nat.{ℕ, ◌-◌}
 use lib.ListN.{length, replicate, length-replicate}
 use borrow.Rule.Slice.PartMut.{put_mid}
 use Rattle.base_words.specs.Splice.{overlay, splice}
 use Rattle.base_words.proofs.Splices.{lent-tail, overlay-append}
-use borrow.Author.Rules.{rules}
 use Rattle.call_registers.proofs.put_register.Goals as goal
 
 pub returns : goal.returns

@@ -1,6 +1,6 @@
 -- Doublewords are plain bytes (the law `spread-plain`); smaller words go one by one.
 use mathlib.Core.Path.{◌≡◌, sym, ap, subst, ◌∙◌}
-use mathlib.Core.List.{List, ◌++◌}
+use mathlib.Core.List.{◌++◌}
 use Prim.Native.Nat.{ℕ, ◌-◌, ◌*◌}
 use native.Mathlib.Omega.{arith}
 use lib.ListN.{length, replicate}
@@ -8,7 +8,6 @@ use Rattle.base_words.specs.Splice.{overlay}
 use Rattle.call_registers.specs.Registers.{spread}
 use Rattle.call_registers.specs.Helpers.{RegistersTake}
 use Rattle.call_registers.proofs.Registers.{spread-plain}
-use borrow.Author.Rules.{rules}
 use Rattle.call_registers.proofs.put_registers.Goals as goal
 
 -- what is asked, of doublewords

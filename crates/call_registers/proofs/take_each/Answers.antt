@@ -1,5 +1,4 @@
-use mathlib.Core.Path.{◌≡◌, sym, ap, ◌∙◌}
-use mathlib.Core.List.{List}
+use mathlib.Core.Path.{◌≡◌, ap, ◌∙◌}
 use Prim.Native.Nat.{ℕ, ◌+◌, ◌-◌, ◌*◌}
 use native.Mathlib.Omega.{arith}
 use native.Mathlib.Nat.{add-sub_cancel_left}
@@ -7,8 +6,7 @@ use lib.ListN.{length}
 use borrow.Rule.Slice.PartMut.{put_mid}
 use Rattle.base_words.specs.Splice.{splice, part}
 use Rattle.base_words.proofs.Splices.{lent-tail}
-use Rattle.call_registers.proofs.Taking.{Taking, taking-start, taking-inside, taking-less, taking-more, taking-end}
-use borrow.Author.Rules.{rules}
+use Rattle.call_registers.proofs.Taking.{taking-start, taking-inside, taking-less, taking-more, taking-end}
 use Rattle.call_registers.proofs.take_each.Goals as goal
 
 pub loop-done-init : goal.loop-done-init

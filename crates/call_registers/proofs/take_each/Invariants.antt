@@ -1,15 +1,6 @@
 -- Each turn takes what of a register's word is asked for; the law `taking-more` is a turn.
-use mathlib.Core.Path.{◌≡◌, sym, ap, ◌∙◌}
-use mathlib.Core.List.{List}
-use Prim.Native.Nat.{ℕ, ◌+◌, ◌-◌, ◌*◌}
-use native.Mathlib.Omega.{arith}
-use native.Mathlib.Nat.{add-sub_cancel_left}
-use lib.ListN.{length}
-use borrow.Rule.Slice.PartMut.{put_mid}
-use Rattle.base_words.specs.Splice.{splice, part}
-use Rattle.base_words.proofs.Splices.{lent-tail}
-use Rattle.call_registers.proofs.Taking.{Taking, taking-start, taking-inside, taking-less, taking-more, taking-end}
-use borrow.Author.Rules.{rules}
+use Prim.Native.Nat.{◌-◌}
+use Rattle.call_registers.proofs.Taking.{Taking}
 use Rattle.call_registers.proofs.take_each.Given as goal
 
 abbrev pub invariant-loop-done : goal.invariant-loop-done

@@ -4,7 +4,6 @@ use Prim.Native.Nat.{ℕ}
 use native.Mathlib.Nat.{add-sub_cancel_left}
 use lib.ListN.{take, drop}
 use Rattle.base_words.specs.Splice.{overlay}
-use borrow.Author.Rules.{rules}
 use Rattle.call_registers.proofs.take_part.Goals as goal
 
 pub returns : goal.returns

@@ -1,13 +1,11 @@
 -- Doublewords are plain bytes (the law `gather-plain`); smaller words go one by one.
 use mathlib.Core.Path.{◌≡◌, sym, ap, subst, ◌∙◌}
-use mathlib.Core.List.{List}
 use Prim.Native.Nat.{ℕ, ◌*◌}
 use native.Mathlib.Omega.{arith}
 use Rattle.base_words.specs.Splice.{overlay, part}
 use Rattle.call_registers.specs.Registers.{gather}
 use Rattle.call_registers.specs.Helpers.{RegistersHold}
 use Rattle.call_registers.proofs.Registers.{gather-plain}
-use borrow.Author.Rules.{rules}
 use Rattle.call_registers.proofs.take_registers.Goals as goal
 
 -- what is asked, of doublewords
