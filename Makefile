@@ -30,10 +30,11 @@ PREFIX = /usr/local
 CC = gcc
 
 # the inputs of a proof: a change of any file or folder here proves the library again
-PROVED_FROM := crates.txt $(shell find crates -print 2>/dev/null)
-# the crates that export functions
+PROVED_FROM := crates.txt $(wildcard HANDLES) \
+    $(shell find $(wildcard crates/*/src crates/*/specs crates/*/proofs) -print 2>/dev/null)
+# the crates that export functions, which are static libraries
 BRIDGES := c_signatures c_plans c_listing c_fill c_read c_homes c_walk c_stored c_starts c_frames c_dump
-# what is proved of these and of the second planner, for compiling
+# what is proved of these and of the second planner, for compiling: a module of each (scripts/static-lib)
 PROVED := build/proved/all
 ARCHIVE := build/libflakuzhen.a
 # the second planner, for the comparisons: no part of the library, and not installed
@@ -80,8 +81,8 @@ build/flakuzhen: $(COMMAND_FROM) $(ARCHIVE)
 test:
 	@.ci/run
 
-# each crate that exports functions is proved once, and compiled from that for every machine; no archive
-# is written where one of them or anything below is not proved
+# each crate that exports functions is proved once, and the module that rattle then makes of it is compiled
+# for every machine; no archive is written where one of them or anything below is not proved
 $(PROVED): $(PROVED_FROM)
 	@scripts/check-toolchain
 	scripts/static-lib prove $(BRIDGES) c_second
@@ -190,4 +191,4 @@ lint: $(ARCHIVE) $(SECOND)
 include targets/targets.mk
 
 clean:
-	rm -rf build target host/target
+	rm -rf build host/target crates/*/out
