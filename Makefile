@@ -1,7 +1,7 @@
 # make run    prove what the command needs, build it and list the call of figure 3-18
 # make command  build/flakuzhen, the command
 # make test   the whole gate: every proof, every must-fail edit, every comparison
-# make lib    build/libflakuzhen.a and build/libflakuzhen.so with its links, from proved code alone
+# make lib    build/libflakuzhen.a and build/libflakuzhen.so, from proved code alone
 # make examples  the same call planned, filled and read by a program in C and one in Rust, a variable
 #             argument list walked in C, and plans kept and checked in both
 # make install  the command with its manual page and completions, the libraries and the headers, under
@@ -48,13 +48,14 @@ SONAME := libflakuzhen.so.$(firstword $(subst ., ,$(VERSION)))
 LINK_SHARED = ln -sf libflakuzhen.so.$(VERSION) $(1)/$(SONAME) && \
     ln -sf $(SONAME) $(1)/libflakuzhen.so
 # makes a rule's shared library, by a compiler, of its archive, which comes first; the rule is named
-# after the link
+# after the linker's name. Here copies stand for the links: `rt ci` refuses a link anywhere below the top
 define MAKE_SHARED
 rm -f $@ $@.*
 $(1) -shared -o $@.$(VERSION) -Wl,-soname,$(SONAME) \
     -Wl,--version-script,include/flakuzhen.map -Wl,--no-undefined \
     -Wl,--whole-archive $< -Wl,--no-whole-archive
-$(call LINK_SHARED,$(@D))
+cp $@.$(VERSION) $(@D)/$(SONAME)
+cp $@.$(VERSION) $@
 endef
 # the command is the same C on every machine
 COMMAND := $(sort $(wildcard command/*.c))
