@@ -1,7 +1,7 @@
 # make run    prove what the command needs, build it and list the call of figure 3-18
 # make command  build/flakuzhen, the command
 # make test   the whole gate: every proof, every must-fail edit, every comparison
-# make lib    build/libflakuzhen.a and build/libflakuzhen.so with its links, from proved code alone
+# make lib    build/libflakuzhen.a and build/libflakuzhen.so, from proved code alone
 # make examples  the same call planned, filled and read by a program in C and one in Rust, a variable
 #             argument list walked in C, and plans kept and checked in both
 # make install  the command with its manual page and completions, the libraries and the headers, under
@@ -30,10 +30,11 @@ PREFIX = /usr/local
 CC = gcc
 
 # the inputs of a proof: a change of any file or folder here proves the library again
-PROVED_FROM := crates.txt $(shell find crates -print 2>/dev/null)
-# the crates that export functions
+PROVED_FROM := crates.txt $(wildcard HANDLES) \
+    $(shell find $(wildcard crates/*/src crates/*/specs crates/*/proofs) -print 2>/dev/null)
+# the crates that export functions, which are static libraries
 BRIDGES := c_signatures c_plans c_listing c_fill c_read c_homes c_walk c_stored c_starts c_frames c_dump
-# what is proved of these and of the second planner, for compiling
+# what is proved of these and of the second planner, for compiling: a module of each (scripts/static-lib)
 PROVED := build/proved/all
 ARCHIVE := build/libflakuzhen.a
 # the second planner, for the comparisons: no part of the library, and not installed
@@ -47,13 +48,14 @@ SONAME := libflakuzhen.so.$(firstword $(subst ., ,$(VERSION)))
 LINK_SHARED = ln -sf libflakuzhen.so.$(VERSION) $(1)/$(SONAME) && \
     ln -sf $(SONAME) $(1)/libflakuzhen.so
 # makes a rule's shared library, by a compiler, of its archive, which comes first; the rule is named
-# after the link
+# after the linker's name. Here copies stand for the links: `rt ci` refuses a link anywhere below the top
 define MAKE_SHARED
 rm -f $@ $@.*
 $(1) -shared -o $@.$(VERSION) -Wl,-soname,$(SONAME) \
     -Wl,--version-script,include/flakuzhen.map -Wl,--no-undefined \
     -Wl,--whole-archive $< -Wl,--no-whole-archive
-$(call LINK_SHARED,$(@D))
+cp $@.$(VERSION) $(@D)/$(SONAME)
+cp $@.$(VERSION) $@
 endef
 # the command is the same C on every machine
 COMMAND := $(sort $(wildcard command/*.c))
@@ -80,8 +82,8 @@ build/flakuzhen: $(COMMAND_FROM) $(ARCHIVE)
 test:
 	@.ci/run
 
-# each crate that exports functions is proved once, and compiled from that for every machine; no archive
-# is written where one of them or anything below is not proved
+# each crate that exports functions is proved once, and the module that rattle then makes of it is compiled
+# for every machine; no archive is written where one of them or anything below is not proved
 $(PROVED): $(PROVED_FROM)
 	@scripts/check-toolchain
 	scripts/static-lib prove $(BRIDGES) c_second
@@ -190,4 +192,4 @@ lint: $(ARCHIVE) $(SECOND)
 include targets/targets.mk
 
 clean:
-	rm -rf build target host/target
+	rm -rf build host/target crates/*/out

@@ -7,13 +7,16 @@ use std::path::Path;
 /// Each crate with those below it.
 type Arrows = BTreeMap<String, BTreeSet<String>>;
 
-/// The crates and arrows of `crates.txt`: a line `NAME: BELOW BELOW ..` for each crate, and
-/// comments.
+/// The crates and arrows of `crates.txt`: a line `NAME: BELOW BELOW ..` for each crate, of a static
+/// library `NAME staticlib: BELOW BELOW ..`, and comments.
 fn listed(text: &str) -> Arrows {
     let lines = text.lines().filter(|line| !line.starts_with('#'));
     let crates = lines.filter_map(|line| line.split_once(':'));
     crates
-        .map(|(name, below)| (name.trim().to_string(), words(below)))
+        .map(|(head, below)| {
+            let name = head.split_whitespace().next().expect("a crate's name");
+            (name.to_string(), words(below))
+        })
         .collect()
 }
 
@@ -184,6 +187,8 @@ fn told(crates: &str, architecture: &str, expected: &[&str]) {
 fn arrows_that_follow_through_others_are_there() {
     let crates = "# all\nbottom:\nmiddle: bottom\nside: bottom\ntop: middle bottom\n";
     told(crates, ARCHITECTURE, &[]);
+    let exports = "bottom:\nmiddle: bottom\nside staticlib: bottom\ntop staticlib: middle bottom\n";
+    told(exports, ARCHITECTURE, &[]);
 }
 
 #[test]

@@ -18,12 +18,20 @@ fn rows(text: &str) -> Vec<Vec<&str>> {
         .collect()
 }
 
+fn is_type(name: &str) -> bool {
+    name.starts_with(|c: char| c.is_ascii_uppercase())
+}
+
 /// What stands in backquotes, if it is one name: letters, digits and what names are joined with.
 fn names(text: &str) -> BTreeSet<&str> {
     let quoted = text.split('`').skip(1).step_by(2);
-    // of `Encodes .items` and `Outcome::Accepted` the first name; `z-..-written` is several
+    // of `Encodes.items` and `Outcome::Accepted` the first name; `z-..-written` is several
     quoted
         .map(|name| name.split([' ', ':']).next().unwrap_or(name))
+        .map(|name| match name.split_once('.') {
+            Some((owner, field)) if is_type(owner) && !field.starts_with('.') => owner,
+            _ => name,
+        })
         .filter(|name| !name.is_empty() && !name.contains("..") && !name.contains('/'))
         .filter(|name| {
             name.chars()
@@ -118,6 +126,11 @@ fn faults(page: &str) -> Vec<String> {
         .collect::<Vec<_>>()
         .join("\n");
     let crates = fs::read_to_string(root.join("crates.txt")).expect("crates.txt");
+    // a line is `NAME: ..` or `NAME staticlib: ..`
+    let crates: BTreeSet<&str> = crates
+        .lines()
+        .filter_map(|line| line.split([' ', ':']).next())
+        .collect();
     let mut faults = Vec::new();
     for path in paths(page).collect::<BTreeSet<_>>() {
         if !root.join(path).exists() {
@@ -134,7 +147,7 @@ fn faults(page: &str) -> Vec<String> {
         }
     }
     for name in names(&tables) {
-        if !known.contains(name) && !crates.contains(&format!("{name}:")) && name != "requires" {
+        if !known.contains(name) && !crates.contains(name) && name != "requires" {
             faults.push(format!("nothing is called {name}"));
         }
     }
@@ -158,7 +171,7 @@ fn what_is_not_there_is_found() {
             "sig_head/refuse_everything",
             "signature_head/refuse_nothing",
         )
-        .replace("`fillAnswer`", "`fillAnswering`")
+        .replace("`fill_answer`", "`fill_answering`")
         .replace(
             "crates/plan_plans/specs/Disjoint.antt",
             "crates/plan_plans/specs/Apart.antt",
@@ -166,7 +179,7 @@ fn what_is_not_there_is_found() {
     let expected = [
         "no file crates/plan_plans/specs/Apart.antt",
         "no edit signature_head/refuse_nothing",
-        "nothing is called fillAnswering",
+        "nothing is called fill_answering",
     ];
     assert_eq!(faults(&page), expected);
 }
@@ -199,8 +212,8 @@ fn quotations_are_word_for_word() {
 fn misquotations_are_found() {
     let file = "crates/frame_history/specs/Preserved.antt";
     let quote = |file: &str, lines: &str| format!("In {file}:\n\n```\n{lines}\n```\n\nAnd on.\n");
-    let closing = "closeLatest [] = []\ncloseLatest (o ∷ os) = os";
-    let opening = "openAfter leave Accepted m os = closeLatest os";
+    let closing = "close_latest [] = []\nclose_latest (o ∷ os) = os";
+    let opening = "open_after leave Accepted m os = close_latest os";
 
     let faithful = quote(file, &format!("{closing}\n\n{opening}"));
     assert!(misquoted(&faithful).is_empty());
@@ -208,8 +221,8 @@ fn misquotations_are_found() {
     assert!(misquoted(&named_last).is_empty());
 
     // another text, lines left out without an empty one, nothing, and another file
-    let other = "closeLatest (o ∷ os) = o";
-    let joined = format!("closeLatest [] = []\n{opening}");
+    let other = "close_latest (o ∷ os) = o";
+    let joined = format!("close_latest [] = []\n{opening}");
     let wrong = [
         (file, other),
         (file, &joined),
@@ -223,4 +236,13 @@ fn misquotations_are_found() {
     }
     let nameless = format!("a quotation of no file: {closing}");
     assert_eq!(misquoted(&quote("no file", closing)), [nameless]);
+}
+
+/// `scripts/check-toolchain` looks at `toolchain.txt`; a reader looks at README.md.
+#[test]
+fn the_readme_names_the_toolchain() {
+    let file = |name| fs::read_to_string(root().join(name)).expect(name);
+    let (toolchain, readme) = (file("toolchain.txt"), file("README.md"));
+    let line = format!("    {}", toolchain.trim_end());
+    assert!(readme.lines().any(|there| there == line), "{line}");
 }

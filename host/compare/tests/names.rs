@@ -34,7 +34,7 @@ fn files(folder: &Path) -> Vec<PathBuf> {
 
 /// The word that a line of definitions defines: `data WORD ..`, `record WORD ..`, or `WORD : ..`.
 fn defined(line: &str) -> Option<&str> {
-    let marks = ["pub", "abbrev", "unfoldable"];
+    let marks = ["pub", "abbrev", "unfoldable", "opaque"];
     let mut words = line.split(' ').skip_while(|word| marks.contains(word));
     match (words.next()?, words.next()?) {
         ("data" | "record", word) => Some(word),
@@ -87,7 +87,7 @@ fn each_word_means_one_thing() {
             }
         }
     }
-    for known in ["signatureOf", "CallRules", "FrameRules", "Demand3"] {
+    for known in ["signature_of", "CallRules", "FrameRules", "Demand3"] {
         assert!(words.contains_key(known), "{known} was not found");
     }
     assert!(words.len() > 900, "only {} words were found", words.len());

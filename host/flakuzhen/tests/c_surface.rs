@@ -196,6 +196,14 @@ fn use_installed(folder: &Path) {
     assert_eq!(output.stdout, listing);
     assert!(prefix.join("share/man/man1/flakuzhen.1").is_file());
     assert!(prefix.join("lib/libflakuzhen.a").is_file());
+    // both links lead to the one file
+    let library = |end: &str| prefix.join("lib").join(format!("libflakuzhen.so{end}"));
+    let file = library(&format!(".{}", VERSION.join(".")))
+        .canonicalize()
+        .expect("it");
+    for link in [library(""), library(&format!(".{}", VERSION[0]))] {
+        assert_eq!(link.canonicalize().expect("what it leads to"), file);
+    }
     // what the header names
     for name in [
         "call.c",
@@ -272,10 +280,12 @@ fn the_shared_library_is_named_by_the_first_number_of_the_version() {
     let mut names = said.lines().filter(|line| line.contains("(SONAME)"));
     let name = names.next().expect("a soname");
     assert!(name.ends_with(&format!("[{soname}]")), "{name}");
-    // both links lead to the one file
+    // all three are one file
+    let bytes = |path| std::fs::read(path).expect("a shared library");
     let file = root().join(format!("build/libflakuzhen.so.{}", VERSION.join(".")));
-    for link in [shared, root().join("build").join(soname)] {
-        assert_eq!(link.canonicalize().expect("what it leads to"), file);
+    let whole = bytes(file);
+    for copy in [shared, root().join("build").join(soname)] {
+        assert!(bytes(copy) == whole, "other bytes");
     }
 }
 

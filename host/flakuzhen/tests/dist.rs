@@ -5,7 +5,7 @@ mod support;
 
 use std::path::{Path, PathBuf};
 use std::process::{Command, Output};
-use support::{root, temporary};
+use support::{root, temporary, Apart};
 
 fn run(command: &mut Command) -> Output {
     let output = command.output();
@@ -39,14 +39,12 @@ fn packed_twice_and_used_elsewhere() {
         "other bytes"
     );
 
-    let folder = temporary("unpacked");
-    let _ = std::fs::remove_dir_all(&folder);
-    std::fs::create_dir_all(&folder).expect("a folder of the test's own");
+    let folder = Apart::new("unpacked");
     run(Command::new("tar")
         .arg("-xzf")
         .arg(&packed)
         .arg("-C")
-        .arg(&folder));
+        .arg(&*folder));
     let name = packed.file_name().and_then(|name| name.to_str());
     let name = name
         .and_then(|name| name.strip_suffix(".tar.gz"))

@@ -6,9 +6,9 @@ mod support;
 use std::ffi::{OsStr, OsString};
 use std::fs;
 use std::os::unix::fs::{symlink, PermissionsExt};
-use std::path::{Path, PathBuf};
+use std::path::Path;
 use std::process::{Command, Output};
-use support::{command, complains, prints};
+use support::{command, complains, prints, Apart};
 
 /// PPC64, no result, arguments i32 and double.
 const EXAMPLE: [u8; 18] = [1, 0, 1, 1, 2, 0, 0, 3, 0, 8, 0x10, 0, 1, 4, 0x11, 0, 1, 1];
@@ -26,11 +26,8 @@ fn run<S: AsRef<OsStr>>(words: &[S], input: &[u8]) -> Output {
 }
 
 /// An empty folder of a test's own.
-fn folder(name: &str) -> PathBuf {
-    let folder = Path::new(env!("CARGO_TARGET_TMPDIR")).join(format!("store-{name}"));
-    let _ = fs::remove_dir_all(&folder);
-    fs::create_dir_all(&folder).expect("a folder of the test's own");
-    folder
+fn folder(name: &str) -> Apart {
+    Apart::new(&format!("store-{name}"))
 }
 
 /// The names of what a folder has.
@@ -214,7 +211,7 @@ fn a_file_without_a_folder_is_in_the_folder_at_hand() {
     fs::write(&signature, EXAMPLE).expect("the signature");
     let output = Command::new(command())
         .args(["store", "signature", "-o", "plan"])
-        .current_dir(&folder)
+        .current_dir(&*folder)
         .output();
     prints(&output.expect("the command starts"), 0, "stored 40 bytes\n");
     assert_eq!(fs::read(folder.join("plan")).expect("the plan"), PLAN);

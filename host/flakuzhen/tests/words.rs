@@ -125,7 +125,7 @@ fn in_shell(name: &str, script: &str) -> String {
     let folder = support::temporary(name);
     let _ = std::fs::remove_dir_all(&folder);
     std::fs::create_dir_all(folder.join("bin")).expect("a folder of the test's own");
-    std::os::unix::fs::symlink(command(), folder.join("bin/flakuzhen")).expect("a link");
+    std::fs::copy(command(), folder.join("bin/flakuzhen")).expect("a copy");
     let path = format!("{}:{}", folder.join("bin").display(), env!("PATH"));
     let output = Command::new("bash")
         .args(["-c", script])

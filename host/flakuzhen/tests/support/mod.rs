@@ -20,6 +20,34 @@ pub fn temporary(name: &str) -> PathBuf {
     Path::new(env!("CARGO_TARGET_TMPDIR")).join(name)
 }
 
+/// An empty folder of a test's own outside of the repository, in which no link may lie. It goes with
+/// the value.
+pub struct Apart(PathBuf);
+
+impl Apart {
+    pub fn new(name: &str) -> Apart {
+        let name = format!("flakuzhen-{name}-{}", std::process::id());
+        let folder = std::env::temp_dir().join(name);
+        let _ = std::fs::remove_dir_all(&folder);
+        std::fs::create_dir_all(&folder).expect("a folder of the test's own");
+        Apart(folder)
+    }
+}
+
+impl std::ops::Deref for Apart {
+    type Target = Path;
+
+    fn deref(&self) -> &Path {
+        &self.0
+    }
+}
+
+impl Drop for Apart {
+    fn drop(&mut self) {
+        let _ = std::fs::remove_dir_all(&self.0);
+    }
+}
+
 /// The words of the compiler for all C here.
 pub const C: [&str; 6] = [
     "gcc",
