@@ -1,6 +1,6 @@
 -- A span lies between its cursor and the next one: what keeps the spans of a signature apart, proved once for each family.
 -- Assumes nothing.
-use Prim.Native.Nat.{ℕ, ◌+◌, ◌-◌, ◌≤◌, ◌<◌}
+use Prim.Native.Nat.{ℕ, ◌+◌, ◌≤◌, ◌<◌}
 use native.Mathlib.Omega.{arith}
 use Rattle.base_words.specs.Basics.{round_up}
 use Rattle.base_words.proofs.Basics.{words-split}

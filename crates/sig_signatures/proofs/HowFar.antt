@@ -7,13 +7,13 @@ use mathlib.Core.List.{List}
 use lib.ListN.{length, get_or}
 use lib.Dec.{ltb, eqb}
 use native.Mathlib.Omega.{arith}
-use borrow.Author.Tests.{ltb-false, eqb-true, eqb-false}
+use borrow.Author.Tests.{ltb-false, eqb-true}
 use Rattle.base_words.proofs.Tests.{by-pick}
 use Rattle.base_conventions.specs.declared.Convention.{Convention}
 use Rattle.sig_types.specs.Trees.{none}
 use Rattle.sig_items.specs.declared.Refusal.{Refusal}
 use Rattle.sig_items.specs.declared.Fault.{Fault}
-use Rattle.sig_items.specs.Reading.{Reading, got, no, later_reading}
+use Rattle.sig_items.specs.Reading.{got, later_reading}
 use Rattle.sig_items.specs.Read.{item_at}
 use Rattle.sig_items.specs.HowFar.{place_of_header, HeadersPassed, HowFar}
 use Rattle.sig_items.proofs.Sound.{by-choose, Framed}

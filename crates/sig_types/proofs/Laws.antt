@@ -11,7 +11,6 @@ use Rattle.base_conventions.proofs.Laws.{word-bounds}
 use Rattle.sig_types.specs.declared.IntegerKind.{IntegerKind}
 use Rattle.sig_types.specs.declared.FloatFormat.{FloatFormat}
 use Rattle.sig_types.specs.declared.ValueType.{ValueType}
-use Rattle.sig_types.specs.declared.Shape.{Shape}
 use Rattle.sig_types.specs.declared.Fields.{Fields}
 use Rattle.sig_types.specs.declared.Closed.{Closed}
 use Rattle.sig_types.specs.Sizes.{integer_size, float_size, align_of, Sized}

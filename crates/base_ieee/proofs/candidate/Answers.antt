@@ -1,5 +1,4 @@
 -- `candidate` meets its contract: the sign takes no part, and stands above 31 bits. Assumes nothing.
-use borrow.Author.Rules.{rules}
 use native.Mathlib.Omega.{arith}
 use Rattle.base_ieee.proofs.Magnitudes.{candidate-magnitude-below, candidate-sign}
 use Rattle.base_ieee.proofs.candidate.Goals as goal

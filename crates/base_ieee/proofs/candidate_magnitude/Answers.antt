@@ -1,6 +1,5 @@
 -- `candidate_magnitude` meets its contract: the definition's two cases, the lower one cut off where the shift would pass 63
 -- and nothing is left, the upper one split by its minimum. Assumes nothing.
-use borrow.Author.Rules.{rules}
 use mathlib.Core.Path.{◌≡◌, ap}
 use Prim.Native.Nat.{ℕ, ◌+◌, ◌-◌, ◌/◌, ◌^◌}
 use native.Mathlib.Omega.{arith}

@@ -1,5 +1,4 @@
 -- `narrow` meets its contract: it makes the definition's one comparison. Assumes nothing.
-use borrow.Author.Rules.{rules}
 use mathlib.Core.Path.{◌≡◌}
 use native.Mathlib.Omega.{arith}
 use borrow.Author.Tests.{eq-eqb, ne_eqb}

@@ -1,8 +1,7 @@
 -- `widen_magnitude` meets its contract: each way through the tests is one class of the definition. A subnormal's shifted
 -- fraction lies between 2^23 and 2^24, so nothing is shifted out, no sum passes 64 bits, and the leading one counts one in
 -- the exponent field. Assumes nothing.
-use borrow.Author.Rules.{rules}
-use mathlib.Core.Path.{◌≡◌, refl, sym, ap, ap₂, ◌∙◌}
+use mathlib.Core.Path.{◌≡◌, refl, sym, ap, ap₂}
 use Prim.Native.Nat.{ℕ, ◌+◌, ◌-◌, ◌*◌, ◌/◌, ◌%◌, ◌^◌, ◌<◌}
 use native.Mathlib.Nat.{pos_of_ne-zero}
 use native.Mathlib.Omega.{arith}

@@ -1,6 +1,5 @@
 -- By cases on the convention.
 use mathlib.Core.Path.{◌∙◌}
-use borrow.Author.Rules.{rules}
 use Rattle.both_abi.proofs.cursor_of.Goals as goal
 
 pub returns-in-Ppc64 : goal.returns-in-Ppc64

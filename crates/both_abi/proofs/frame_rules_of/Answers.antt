@@ -1,5 +1,4 @@
 -- By the convention. Assumes nothing.
-use borrow.Author.Rules.{rules}
 use Rattle.both_abi.proofs.frame_rules_of.Goals as goal
 
 pub returns-in-Ppc64 : goal.returns-in-Ppc64

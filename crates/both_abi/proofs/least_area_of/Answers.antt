@@ -1,5 +1,4 @@
 -- By the convention; the constants are the numbers of the definition. Assumes nothing.
-use borrow.Author.Rules.{rules}
 use Rattle.both_abi.proofs.least_area_of.Goals as goal
 
 pub returns-in-Ppc64 : goal.returns-in-Ppc64

@@ -1,7 +1,6 @@
 -- A refusal's number and place, in the surface's words.
 use Rattle.c_call_answers.proofs.Laws.{done-answer, unread-answer, refused-answer}
 use mathlib.Core.Path.{◌∙◌}
-use borrow.Author.Rules.{rules}
 use Rattle.c_call_answers.proofs.answer_of.Goals as goal
 
 pub returns-in-Done : goal.returns-in-Done

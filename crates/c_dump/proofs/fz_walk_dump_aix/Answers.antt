@@ -3,7 +3,6 @@ use Rattle.base_conventions.specs.declared.Convention.TheVariants.{Aix}
 use Rattle.frame_rules.proofs.Conventions.{lawful}
 use Rattle.c_dump.specs.Dump.{walked_answer}
 use mathlib.Core.Path.{ap, ◌∙◌}
-use borrow.Author.Rules.{rules}
 use Rattle.c_dump.proofs.fz_walk_dump_aix.Goals as goal
 
 pub walk-f-requires : goal.walk-f-requires

@@ -1,6 +1,5 @@
 -- By what was found. Assumes nothing.
 use Rattle.c_dump.specs.Dump.{walked_answer}
-use borrow.Author.Rules.{rules}
 use Rattle.c_dump.proofs.walked_of.Goals as goal
 
 pub returns-in-Frames : goal.returns-in-Frames

@@ -1,5 +1,4 @@
 -- The number is the reason's.
-use borrow.Author.Rules.{rules}
 use Rattle.c_faults.specs.Faults.{fault_answer}
 use Rattle.c_faults.proofs.fault_answer.Goals as goal
 

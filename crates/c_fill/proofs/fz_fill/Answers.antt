@@ -4,7 +4,6 @@ use Rattle.call_slots.specs.declared.CallAnswer.{CallAnswer}
 use Rattle.call_slots.specs.Buffers.{buffers}
 use Rattle.call_fill.specs.Fill.{fill_buffers}
 use Rattle.c_call_answers.specs.Calls.{call_answer}
-use borrow.Author.Rules.{rules}
 use Rattle.c_fill.proofs.fz_fill.Goals as goal
 
 pub returns : goal.returns

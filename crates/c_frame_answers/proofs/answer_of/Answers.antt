@@ -1,6 +1,5 @@
 -- The machine's number, in the surface's words. Assumes nothing.
 use Rattle.c_frame_answers.specs.Frames.{frame_answer}
-use borrow.Author.Rules.{rules}
 use Rattle.c_frame_answers.proofs.answer_of.Goals as goal
 
 pub returns : goal.returns

@@ -3,7 +3,6 @@ use mathlib.Core.Path.{ap, ◌∙◌}
 use Rattle.call_slots.specs.declared.CallAnswer.{CallAnswer}
 use Rattle.call_home.specs.Home.{home_area}
 use Rattle.c_call_answers.specs.Calls.{call_answer}
-use borrow.Author.Rules.{rules}
 use Rattle.c_homes.proofs.fz_home.Goals as goal
 
 pub returns : goal.returns

@@ -1,6 +1,5 @@
 -- By the part that is viewed.
 use Rattle.c_homes.proofs.Laws.{part-answer}
-use borrow.Author.Rules.{rules}
 use Rattle.c_homes.proofs.fz_view.Goals as goal
 
 pub returns : goal.returns

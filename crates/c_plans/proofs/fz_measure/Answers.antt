@@ -1,5 +1,4 @@
 -- By the outcome.
-use borrow.Author.Rules.{rules}
 use Rattle.c_plans.proofs.Laws.{accepted-sizes, refused-sizes}
 use Rattle.c_plans.proofs.fz_measure.Goals as goal
 

@@ -1,5 +1,4 @@
 -- By the outcome; the table is what the plan's writer left.
-use borrow.Author.Rules.{rules}
 use Rattle.c_plans.proofs.Laws.{accepted-plan, refused-plan}
 use Rattle.c_plans.proofs.fz_plan.Goals as goal
 

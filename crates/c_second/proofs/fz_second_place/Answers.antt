@@ -3,7 +3,6 @@ use mathlib.Core.Path.{ap, ◌∙◌}
 use Rattle.second_planner.specs.declared.SecondPlan.{SecondPlan}
 use Rattle.c_second.specs.Words.{place_at}
 use Rattle.c_second.proofs.Laws.{place-within, place-past}
-use borrow.Author.Rules.{rules}
 use Rattle.c_second.proofs.fz_second_place.Goals as goal
 
 pub returns-then-i-lt-MAX_ARGUMENTS : goal.returns-then-i-lt-MAX_ARGUMENTS

@@ -1,5 +1,4 @@
 -- Each word is the plan's.
-use borrow.Author.Rules.{rules}
 use Rattle.c_second.proofs.fz_second_plan.Goals as goal
 
 pub returns : goal.returns

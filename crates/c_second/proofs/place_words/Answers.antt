@@ -1,5 +1,4 @@
 -- Each word is the definition's.
-use borrow.Author.Rules.{rules}
 use Rattle.c_second.proofs.place_words.Goals as goal
 
 pub returns : goal.returns

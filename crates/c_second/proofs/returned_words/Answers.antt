@@ -1,5 +1,4 @@
 -- By cases on where the result is.
-use borrow.Author.Rules.{rules}
 use Rattle.c_second.proofs.returned_words.Goals as goal
 
 pub returns-in-Nothing : goal.returns-in-Nothing

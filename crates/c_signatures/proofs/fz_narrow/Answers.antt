@@ -1,5 +1,4 @@
 -- By what narrowing finds.
-use borrow.Author.Rules.{rules}
 use mathlib.Core.Path.{sym, ap, ◌∙◌}
 use Rattle.c_signatures.specs.Surface.{narrowing_answer}
 use Rattle.c_signatures.proofs.fz_narrow.Goals as goal

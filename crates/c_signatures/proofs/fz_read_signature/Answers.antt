@@ -1,6 +1,5 @@
 -- By the outcome.
 use mathlib.Core.Path.{◌∙◌}
-use borrow.Author.Rules.{rules}
 use Rattle.c_signatures.proofs.Laws.{accepted-answer, refused-answer}
 use Rattle.c_signatures.proofs.fz_read_signature.Goals as goal
 

@@ -1,7 +1,6 @@
 -- By the call of machine_words. Assumes nothing.
 use Rattle.c_frame_answers.specs.Frames.{frame_answer}
 use mathlib.Core.Path.{ap, ◌∙◌}
-use borrow.Author.Rules.{rules}
 use Rattle.c_starts.proofs.fz_start_aix.Goals as goal
 
 pub returns : goal.returns

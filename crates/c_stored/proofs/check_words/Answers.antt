@@ -1,7 +1,6 @@
 -- By cases on the answer.
 use mathlib.Core.Path.{◌∙◌}
 use Rattle.c_stored.specs.Stored.{check_words}
-use borrow.Author.Rules.{rules}
 use Rattle.c_stored.proofs.check_words.Goals as goal
 
 pub returns-in-Same : goal.returns-in-Same

@@ -1,7 +1,6 @@
 -- By the call of check_plan.
 use mathlib.Core.Path.{ap, ◌∙◌}
 use Rattle.c_stored.specs.Stored.{check_words}
-use borrow.Author.Rules.{rules}
 use Rattle.c_stored.proofs.fz_check_plan.Goals as goal
 
 pub returns : goal.returns

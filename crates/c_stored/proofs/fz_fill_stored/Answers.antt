@@ -1,7 +1,6 @@
 -- By the call of fill_stored.
 use mathlib.Core.Path.{ap, ◌∙◌}
 use Rattle.c_stored.specs.Stored.{stored_fill_words}
-use borrow.Author.Rules.{rules}
 use Rattle.c_stored.proofs.fz_fill_stored.Goals as goal
 
 pub returns : goal.returns

@@ -1,7 +1,6 @@
 -- By the call of store_plan.
 use mathlib.Core.Path.{ap, ◌∙◌}
 use Rattle.c_stored.specs.Stored.{stored_words}
-use borrow.Author.Rules.{rules}
 use Rattle.c_stored.proofs.fz_store_plan.Goals as goal
 
 pub returns : goal.returns

@@ -1,7 +1,6 @@
 -- By the call of stored_length.
 use mathlib.Core.Path.{ap, ◌∙◌}
 use Rattle.c_stored.specs.Stored.{stored_words}
-use borrow.Author.Rules.{rules}
 use Rattle.c_stored.proofs.fz_stored_length.Goals as goal
 
 pub returns : goal.returns

@@ -1,7 +1,6 @@
 -- By cases on the answer.
 use mathlib.Core.Path.{◌∙◌}
 use Rattle.c_stored.specs.Stored.{stored_fill_words}
-use borrow.Author.Rules.{rules}
 use Rattle.c_stored.proofs.stored_fill_words.Goals as goal
 
 pub returns-in-Plain : goal.returns-in-Plain

@@ -1,6 +1,5 @@
 -- By cases on the answer.
 use Rattle.c_stored.specs.Stored.{stored_words}
-use borrow.Author.Rules.{rules}
 use Rattle.c_stored.proofs.stored_words.Goals as goal
 
 pub returns-in-Stored : goal.returns-in-Stored

@@ -1,7 +1,6 @@
 -- 23, or the answer of a call. Assumes nothing.
 use mathlib.Core.Path.{sym, ap, ◌∙◌}
 use Rattle.c_walk.specs.Walk.{walk_answer}
-use borrow.Author.Rules.{rules}
 use Rattle.c_walk.proofs.answer_of.Goals as goal
 
 pub returns-in-Lost : goal.returns-in-Lost

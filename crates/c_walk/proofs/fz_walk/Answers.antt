@@ -1,7 +1,6 @@
 -- By the call of walking. Assumes nothing.
 use mathlib.Core.Path.{ap, ◌∙◌}
 use Rattle.c_walk.specs.Walk.{walk_answer}
-use borrow.Author.Rules.{rules}
 use Rattle.c_walk.proofs.fz_walk.Goals as goal
 
 pub returns : goal.returns

@@ -1,5 +1,4 @@
 -- A hidden address goes before the first argument.
-use borrow.Author.Rules.{rules}
 use Rattle.call_arguments.proofs.first_cursor.Goals as goal
 
 pub returns : goal.returns

@@ -1,8 +1,6 @@
-use borrow.Author.Rules.{rules}
 use native.Mathlib.Omega.{arith}
 use Prim.Native.Nat.{◌-◌}
-use lib.ListN.{length}
-use mathlib.Core.Path.{ap, sym, ◌∙◌}
+use mathlib.Core.Path.{ap, ◌∙◌}
 use Rattle.sig_items.specs.declared.Fault.{Fault}
 use Rattle.sig_items.proofs.Laws.{later-later}
 use Rattle.sig_items.proofs.Loop.{item-answered, fault-answered}
@@ -12,7 +10,7 @@ use Rattle.plan_plans.specs.Plan.{refused_plan, measure_of}
 use Rattle.plan_plans.proofs.Fold.{reached-roomy}
 use Rattle.plan_plans.proofs.Measures.{measure-no, measure-trailing, measure-end, unclear-no, unclear-trailing, unclear-end}
 use Rattle.call_kept.proofs.Codes.{sized-codable}
-use Rattle.call_arguments.proofs.Kept.{lawful-in, Keeping, keeping_start, keeping-room, keeping-more, kept-no, kept-trailing, kept-end}
+use Rattle.call_arguments.proofs.Kept.{lawful-in, keeping_start, keeping-room, keeping-more, kept-no, kept-trailing, kept-end}
 use Rattle.call_arguments.proofs.keep_arguments.Goals as goal
 
 pub loop-next-init : goal.loop-next-init

@@ -1,5 +1,4 @@
 -- The arguments after the head, and then the first unclear one.
-use borrow.Author.Rules.{rules}
 use native.Mathlib.Omega.{arith}
 use mathlib.Core.Path.{refl}
 use Rattle.sig_signatures.proofs.Sound.{head-bounded}

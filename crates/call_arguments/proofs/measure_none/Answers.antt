@@ -1,7 +1,6 @@
 -- As the loop would end before its first turn.
-use borrow.Author.Rules.{rules}
 use native.Mathlib.Omega.{arith}
-use mathlib.Core.Path.{refl, ap, ◌∙◌}
+use mathlib.Core.Path.{refl, ◌∙◌}
 use Rattle.sig_signatures.proofs.Sound.{head-bounded}
 use Rattle.call_arguments.proofs.Kept.{none-trailing, none_end}
 use Rattle.call_arguments.proofs.measure_none.Goals as goal

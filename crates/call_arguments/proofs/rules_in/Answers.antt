@@ -1,6 +1,5 @@
 -- The convention's rules, and then the ellipsis.
 use mathlib.Core.Path.{◌∙◌}
-use borrow.Author.Rules.{rules}
 use Rattle.call_arguments.proofs.rules_in.Goals as goal
 
 pub returns : goal.returns

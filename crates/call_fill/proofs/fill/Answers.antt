@@ -1,5 +1,4 @@
 -- By what stands before the arguments: a refusal, no arguments, or some, for which there are rows enough.
-use borrow.Author.Rules.{rules}
 use native.Mathlib.Omega.{arith}
 use mathlib.Core.Path.{refl, sym, ◌∙◌}
 use Rattle.sig_signatures.proofs.Laws.{signature-refused}

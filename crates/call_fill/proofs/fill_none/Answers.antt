@@ -1,20 +1,15 @@
 -- The sizes of a call without arguments; where no test refuses, the hidden address is put.
-use borrow.Author.Rules.{rules}
-use native.Mathlib.Omega.{arith}
-use mathlib.Core.Path.{◌≡◌, refl, sym, ap, subst, ◌∙◌}
-use mathlib.Core.List.{List, []}
-use Prim.Native.Nat.{ℕ}
-use Rattle.sig_signatures.specs.declared.Outcome.{Outcome}
+use mathlib.Core.Path.{refl, sym, ap, ◌∙◌}
+use mathlib.Core.List.{[]}
 use Rattle.plan_plans.specs.declared.Measured.{Measured}
 use Rattle.call_slots.specs.Buffers.{put_all}
 use Rattle.call_slots.specs.Placements.{slots_of_all}
 use Rattle.call_slots.proofs.Refusals.{not-refused}
-use Rattle.call_arguments.specs.Helpers.{KeptWhere}
 use Rattle.call_arguments.proofs.Kept.{none-arguments, headed}
 use Rattle.base_conventions.specs.Numbers.{word_bytes}
 use Rattle.call_fill.specs.Fill.{fill_buffers}
 use Rattle.call_fill.specs.Helpers.{address_places}
-use Rattle.call_fill.proofs.Accepted.{tests-lent, all-ready, all-sizes, answer-refused, answer-tested, slots-are, hidden-length, buffers-kept, buffers-done}
+use Rattle.call_fill.proofs.Accepted.{tests-lent, answer-refused, answer-tested, slots-are, buffers-kept, buffers-done}
 use Rattle.call_fill.proofs.fill_none.Goals as goal
 
 pub measure_none-m-requires : goal.measure_none-m-requires

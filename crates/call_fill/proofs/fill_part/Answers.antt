@@ -1,14 +1,10 @@
 -- The arguments are read and kept; where no test refuses, there is room for every slot (`all-ready`), and the hidden address and then the
 -- arguments are put.
 use borrow.Author.Rules.{rules}
-use mathlib.Core.Path.{◌≡◌, refl, sym, ap, subst, ◌∙◌}
-use mathlib.Core.List.{List}
-use Prim.Native.Nat.{ℕ}
+use mathlib.Core.Path.{refl, sym, ap, subst, ◌∙◌}
 use Rattle.base_conventions.specs.Numbers.{word_bytes}
 use Rattle.sig_signatures.specs.declared.Outcome.{Outcome}
-use Rattle.plan_places.specs.Step.{rules_of, with_ellipsis}
 use Rattle.plan_plans.specs.declared.Measured.{Measured}
-use Rattle.call_slots.specs.Placements.{slots_of_all}
 use Rattle.call_slots.proofs.Refusals.{not-refused}
 use Rattle.call_kept.specs.Helpers.{kept_all}
 use Rattle.call_arguments.specs.Helpers.{KeptWhere}

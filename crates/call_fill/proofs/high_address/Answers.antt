@@ -10,7 +10,6 @@ use Rattle.base_conventions.specs.Numbers.{word_bytes}
 use Rattle.base_conventions.proofs.Laws.{word-bounds}
 use Rattle.call_fill.specs.Fill.{high_address}
 use Rattle.call_fill.specs.Helpers.{address_places}
-use borrow.Author.Rules.{rules}
 use Rattle.call_fill.proofs.high_address.Goals as goal
 
 pub zero_extend-requires : goal.zero_extend-requires

@@ -1,16 +1,11 @@
-use borrow.Author.Rules.{rules}
 use mathlib.Core.Path.{◌≡◌}
-use mathlib.Core.List.{List}
-use Prim.Native.Nat.{ℕ, ◌+◌, ◌-◌, ◌≤◌}
+use Prim.Native.Nat.{◌+◌, ◌-◌, ◌≤◌}
 use native.Mathlib.Omega.{arith}
 use native.Mathlib.Nat.{add-sub_cancel_left}
 use lib.ListN.{length, drop, take, length-drop}
 use lib.Seq.{length-take-le}
-use Rattle.call_slots.specs.Buffers.{buffers}
-use Rattle.call_kept.specs.Helpers.{kept_all}
 use Rattle.call_kept.proofs.Rows.{kept-placed, kept-end}
-use Rattle.call_marshal.specs.Helpers.{CanPut}
-use Rattle.call_fill.proofs.Turns.{Going, going_start, at-hand, going_more, going_end}
+use Rattle.call_fill.proofs.Turns.{going_start, at-hand, going_more, going_end}
 use Rattle.call_fill.proofs.put_arguments.Goals as goal
 
 pub loop-i-init : goal.loop-i-init

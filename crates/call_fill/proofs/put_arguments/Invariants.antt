@@ -1,17 +1,11 @@
 -- The loop puts one argument a turn; what it has put and what is left make up the whole (`Going`).
 use borrow.Author.Rules.{rules}
-use mathlib.Core.Path.{◌≡◌}
-use mathlib.Core.List.{List}
-use Prim.Native.Nat.{ℕ, ◌+◌, ◌-◌, ◌≤◌}
-use native.Mathlib.Omega.{arith}
-use native.Mathlib.Nat.{add-sub_cancel_left}
-use lib.ListN.{length, drop, take, length-drop}
-use lib.Seq.{length-take-le}
+use Prim.Native.Nat.{◌-◌}
+use lib.ListN.{length}
 use Rattle.call_slots.specs.Buffers.{buffers}
 use Rattle.call_kept.specs.Helpers.{kept_all}
-use Rattle.call_kept.proofs.Rows.{kept-placed, kept-end}
 use Rattle.call_marshal.specs.Helpers.{CanPut}
-use Rattle.call_fill.proofs.Turns.{Going, going_start, at-hand, going_more, going_end}
+use Rattle.call_fill.proofs.Turns.{Going}
 use Rattle.call_fill.proofs.put_arguments.Given as goal
 
 abbrev pub invariant-loop-i : goal.invariant-loop-i

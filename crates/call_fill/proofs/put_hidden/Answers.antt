@@ -1,23 +1,20 @@
 -- A hidden address is put in its register, through the part of the image that starts there.
-use mathlib.Core.Path.{◌≡◌, sym, ap, ◌∙◌}
+use mathlib.Core.Path.{sym, ap, ◌∙◌}
 use mathlib.Core.Bool.{Bool}
 use mathlib.Core.List.{List, []}
-use Prim.Native.Nat.{ℕ, ◌-◌, ◌*◌, ◌≤◌}
+use Prim.Native.Nat.{ℕ, ◌-◌, ◌*◌}
 use native.Mathlib.Omega.{arith}
 use lib.ListN.{length}
 use borrow.Rule.Slice.PartMut.{put_mid}
-use Rattle.base_words.specs.Splice.{splice}
-use Rattle.base_words.specs.Numbers.{bytes_of, zero_extended}
+use Rattle.base_words.specs.Numbers.{bytes_of}
 use Rattle.base_words.proofs.Splices.{lent-tail}
 use Rattle.base_conventions.specs.Numbers.{word_bytes}
 use Rattle.base_conventions.proofs.Laws.{word-bounds}
 use Rattle.plan_places.specs.declared.Cursor.{Cursor}
-use Rattle.plan_places.specs.Step.{rules_of, fresh_cursor}
-use Rattle.call_slots.specs.Buffers.{buffers, put, put_all}
+use Rattle.call_slots.specs.Buffers.{buffers, put_all}
 use Rattle.call_slots.specs.Placements.{hidden_slots}
 use Rattle.call_fill.specs.Helpers.{address_places}
-use Rattle.call_fill.proofs.Accepted.{address_word, hidden-put, register-low}
-use borrow.Author.Rules.{rules}
+use Rattle.call_fill.proofs.Accepted.{hidden-put, register-low}
 use Rattle.call_fill.proofs.put_hidden.Goals as goal
 
 pub overflow_mul-at : goal.overflow_mul-at

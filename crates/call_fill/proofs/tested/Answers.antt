@@ -3,7 +3,6 @@ use mathlib.Core.Path.{sym, ◌∙◌}
 use borrow.Author.Tests.{eq-eqb, ne_eqb, lt-ltb, le-ltb}
 use Rattle.call_slots.specs.Refusals.{first_of}
 use Rattle.call_fill.specs.Fill.{fill_tests}
-use borrow.Author.Rules.{rules}
 use Rattle.call_fill.proofs.tested.Goals as goal
 
 pub returns-then-have-ne-IMAGE_BYTES : goal.returns-then-have-ne-IMAGE_BYTES

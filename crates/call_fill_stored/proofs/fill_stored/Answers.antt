@@ -2,7 +2,6 @@
 use Rattle.call_fill_stored.specs.FillStored.{stored_fill_answer, stored_fill_buffers}
 use Rattle.call_fill_stored.specs.declared.StoredFill.{StoredFill}
 use mathlib.Core.Path.{sym, ap, ◌∙◌}
-use borrow.Author.Rules.{rules}
 use Rattle.call_fill_stored.proofs.fill_stored.Goals as goal
 
 pub returns-in-Differs : goal.returns-in-Differs

@@ -1,15 +1,12 @@
 use Rattle.call_home_slot.specs.Homes.{register_answer}
-use Rattle.call_home_slot.specs.Helpers.{Registered}
 use Rattle.call_home_slot.proofs.Marked.{answer-marked}
-use borrow.Author.Rules.{rules}
 use mathlib.Core.Path.{◌≡◌, sym, ◌∙◌}
 use mathlib.Core.List.{◌∷◌}
 use Prim.Native.Nat.{suc, ◌-◌}
 use native.Mathlib.Omega.{arith}
-use lib.ListN.{length, drop}
-use Rattle.call_slots.specs.Placements.{Placement}
+use lib.ListN.{drop}
 use Rattle.call_slots.specs.Arguments.{placements_in, rules_in}
-use Rattle.call_slots.proofs.Turns.{argument_at, next-argument, no-argument, Checking, checking-start, checking-ready, checking-refused, checking-more, checking-end}
+use Rattle.call_slots.proofs.Turns.{argument_at, next-argument, no-argument, checking-start, checking-ready, checking-refused, checking-more, checking-end}
 use Rattle.call_home.specs.Home.{registers_answer}
 use Rattle.call_home.proofs.first_unwidened.Goals as goal
 

@@ -2,7 +2,6 @@
 use mathlib.Core.Path.{refl, sym, ◌∙◌}
 use Prim.Native.Nat.{◌≤◌}
 use lib.ListN.{length}
-use Rattle.plan_plans.specs.declared.Plan.{Plan}
 use Rattle.sig_signatures.proofs.Types.{answer-plannable}
 use Rattle.call_slots.specs.declared.CallAnswer.{CallAnswer}
 use Rattle.call_slots.proofs.Answered.{plan-same}
@@ -10,7 +9,6 @@ use Rattle.call_slots.proofs.Refusals.{not-refused}
 use Rattle.call_home.specs.Home.{home_area}
 use Rattle.call_home.specs.Helpers.{AllRegistered}
 use Rattle.call_home.proofs.Registers.{tests-marked, home-passed, all-registered, home-refused, home-lengths, home-registers, area-kept, area-homed}
-use borrow.Author.Rules.{rules}
 use Rattle.call_home.proofs.home.Goals as goal
 
 pub plan_signature-p-requires : goal.plan_signature-p-requires

@@ -3,7 +3,6 @@ use mathlib.Core.Path.{sym, ◌∙◌}
 use borrow.Author.Tests.{eq-eqb, ne_eqb, lt-ltb, le-ltb}
 use Rattle.call_slots.specs.Refusals.{first_of}
 use Rattle.call_home.specs.Home.{home_tests}
-use borrow.Author.Rules.{rules}
 use Rattle.call_home.proofs.home_tested.Goals as goal
 
 pub returns-then-is_homeless : goal.returns-then-is_homeless

@@ -1,15 +1,14 @@
 -- By the float: a long double as it stands, a single and a double by the word in memory.
 use mathlib.Core.Path.{◌≡◌, sym, ap, ◌∙◌, subst}
-use mathlib.Core.List.{List, ◌++◌}
+use mathlib.Core.List.{◌++◌}
 use Prim.Native.Nat.{ℕ, ◌-◌}
 use native.Mathlib.Omega.{arith}
 use native.Mathlib.Nat.{add-sub_cancel_left}
-use lib.ListN.{length, take, drop, replicate, length-take}
+use lib.ListN.{take, drop, replicate, length-take}
 use Rattle.base_words.specs.Splice.{overlay, part}
 use Rattle.base_words.specs.Numbers.{bytes_of, value_of}
 use Rattle.sig_types.specs.declared.Equivalent.{Equivalent}
 use Rattle.call_home_slot.specs.Helpers.{home_word, float_home, HomeSized}
-use borrow.Author.Rules.{rules}
 use Rattle.call_home_slot.proofs.home_float.Goals as goal
 
 -- what the home's size says of each float

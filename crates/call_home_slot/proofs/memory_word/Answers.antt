@@ -1,7 +1,6 @@
 -- By the float, and what narrowing finds.
 use mathlib.Core.Path.{sym, ap, ◌∙◌}
 use Rattle.call_home_slot.specs.Helpers.{narrowed_word}
-use borrow.Author.Rules.{rules}
 use Rattle.call_home_slot.proofs.memory_word.Goals as goal
 
 pub returns-in-Single-narrow : goal.returns-in-Single-narrow

@@ -17,7 +17,6 @@ use Rattle.call_registers.specs.Registers.{gather}
 use Rattle.call_registers.proofs.Registers.{length-gather}
 use Rattle.call_home_slot.proofs.Forms.{homed-float, float-sized, homed-general, float-room, general-room}
 use Rattle.call_home_slot.specs.Helpers.{float_home}
-use borrow.Author.Rules.{rules}
 use Rattle.call_home_slot.proofs.put_home.Goals as goal
 
 pub home_float-requires : goal.home_float-requires

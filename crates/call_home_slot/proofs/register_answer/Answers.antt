@@ -5,7 +5,6 @@ use Rattle.sig_types.specs.Sizes.{equivalent_of}
 use Rattle.call_slots.proofs.Limits.{answer-first}
 use borrow.Author.Tests.{lt-ltb, le-ltb}
 use Rattle.call_home_slot.specs.Homes.{register_answer}
-use borrow.Author.Rules.{rules}
 use Rattle.call_home_slot.proofs.register_answer.Goals as goal
 
 pub returns-then-floating-gt0 : goal.returns-then-floating-gt0

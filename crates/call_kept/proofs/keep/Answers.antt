@@ -1,7 +1,5 @@
 -- Through the part that starts where the row stands.
-use borrow.Author.Rules.{rules}
 use mathlib.Core.Path.{ap, ◌∙◌}
-use native.Mathlib.Omega.{arith}
 use Prim.Native.Nat.{◌-◌, ◌*◌}
 use lib.ListN.{length}
 use borrow.Rule.Slice.PartMut.{put_mid}

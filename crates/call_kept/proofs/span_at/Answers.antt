@@ -1,5 +1,4 @@
 -- Word by word.
-use borrow.Author.Rules.{rules}
 use Rattle.call_kept.specs.Helpers.{span_from}
 use Rattle.call_kept.proofs.span_at.Goals as goal
 

@@ -1,5 +1,4 @@
 -- Each type by its own sum, which one word has room for.
-use borrow.Author.Rules.{rules}
 use native.Mathlib.Omega.{arith}
 use Rattle.call_kept.proofs.Codes.{format-few, equivalent-few, struct-codable}
 use Rattle.call_kept.proofs.type_code.Goals as goal

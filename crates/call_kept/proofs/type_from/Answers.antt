@@ -1,5 +1,4 @@
 -- By the two tests, and the fields of a struct.
-use borrow.Author.Rules.{rules}
 use borrow.Author.Tests.{lt-ltb, le-ltb}
 use Rattle.call_kept.specs.Helpers.{type_from}
 use Rattle.call_kept.proofs.type_from.Goals as goal

@@ -1,6 +1,5 @@
 -- By the way that the argument is passed: by a pointer to its copy, or in FPRs and words, as far as its span has any.
-use mathlib.Core.Path.{◌≡◌, refl, sym, ap, subst, ◌∙◌}
-use mathlib.Core.List.{List}
+use mathlib.Core.Path.{refl, sym, ap, subst, ◌∙◌}
 use Prim.Native.Nat.{ℕ, ◌+◌, ◌-◌, ◌*◌, ◌≤◌, ◌<◌}
 use native.Mathlib.Omega.{arith}
 use lib.ListN.{length}
@@ -8,11 +7,10 @@ use borrow.Rule.Slice.PartMut.{put_mid}
 use Rattle.base_words.specs.Numbers.{bytes_of}
 use Rattle.base_words.proofs.Splices.{lent-tail, length-splice}
 use Rattle.plan_places.specs.Step.{word_of}
-use Rattle.call_slots.specs.Placements.{Placement, placement}
+use Rattle.call_slots.specs.Placements.{placement}
 use Rattle.call_marshal.proofs.Arguments.{pointer-alone, argument-direct, argument-words, stands-address, copy-put}
 use Rattle.call_marshal.proofs.Pieces.{number-plain}
 use Rattle.call_slots.proofs.Limits.{one_address}
-use borrow.Author.Rules.{rules}
 use Rattle.call_marshal.proofs.put_argument.Goals as goal
 
 pub put-requires : goal.put-requires

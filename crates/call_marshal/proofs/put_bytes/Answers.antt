@@ -2,14 +2,12 @@
 use mathlib.Core.Path.{ap, ◌∙◌}
 use mathlib.Core.List.{List, ◌++◌}
 use Prim.Native.Nat.{ℕ, ◌+◌, ◌-◌, ◌*◌}
-use native.Mathlib.Omega.{arith}
 use lib.ListN.{length, replicate}
 use borrow.Rule.Slice.PartMut.{put_mid}
 use Rattle.base_words.specs.Splice.{part}
 use Rattle.base_words.proofs.Splices.{lent-tail}
 use Rattle.call_registers.specs.Registers.{spread}
 use Rattle.call_marshal.proofs.Pieces.{bytes-general, bytes-both}
-use borrow.Author.Rules.{rules}
 use Rattle.call_marshal.proofs.put_bytes.Goals as goal
 
 pub returns-then-n-held : goal.returns-then-n-held

@@ -1,8 +1,6 @@
 -- The number's words in general registers, and its lowest bytes in memory, each through the part that starts there.
-use mathlib.Core.Path.{◌≡◌, sym, ap, ◌∙◌}
-use mathlib.Core.List.{List}
+use mathlib.Core.Path.{sym, ap, ◌∙◌}
 use Prim.Native.Nat.{ℕ, ◌+◌, ◌-◌, ◌*◌}
-use native.Mathlib.Omega.{arith}
 use lib.ListN.{length}
 use borrow.Rule.Slice.PartMut.{put_mid}
 use Rattle.base_words.specs.Splice.{splice}
@@ -10,7 +8,6 @@ use Rattle.base_words.specs.Numbers.{bytes_of}
 use Rattle.base_words.proofs.Splices.{lent-tail}
 use Rattle.base_words.proofs.Numbers.{bytes_of-last}
 use Rattle.call_registers.specs.Registers.{spread}
-use borrow.Author.Rules.{rules}
 use Rattle.call_marshal.proofs.put_each_word.Goals as goal
 
 pub returns : goal.returns

@@ -1,5 +1,5 @@
 -- By the float: a single's four bytes are widened, every other float stands as it is.
-use mathlib.Core.Path.{◌≡◌, sym, ap, subst, ◌∙◌}
+use mathlib.Core.Path.{◌≡◌, ap, subst, ◌∙◌}
 use Prim.Native.Nat.{◌^◌, ◌*◌, ◌<◌}
 use native.Mathlib.Omega.{arith}
 use lib.ListN.{length}
@@ -10,7 +10,6 @@ use Rattle.base_words.proofs.Numbers.{value-below}
 use Rattle.sig_types.specs.declared.Equivalent.{Equivalent}
 use Rattle.call_slots.specs.Forms.{single_word}
 use Rattle.call_marshal.specs.Helpers.{FprsTake}
-use borrow.Author.Rules.{rules}
 use Rattle.call_marshal.proofs.put_float.Goals as goal
 
 pub put-requires : goal.put-requires

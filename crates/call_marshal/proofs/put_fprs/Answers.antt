@@ -1,6 +1,5 @@
 -- Through the part of the image that starts at the first FPR; nothing where there is none.
-use mathlib.Core.Path.{◌≡◌, refl, sym, ap, subst, ◌∙◌}
-use mathlib.Core.List.{List}
+use mathlib.Core.Path.{refl, sym, ap, subst, ◌∙◌}
 use Prim.Native.Nat.{ℕ, ◌+◌, ◌-◌, ◌*◌, ◌≤◌}
 use native.Mathlib.Omega.{arith}
 use lib.ListN.{length, take, drop, length-take, length-drop}
@@ -13,7 +12,6 @@ use Rattle.call_slots.specs.Forms.{float_form}
 use Rattle.call_slots.specs.Placements.{placement}
 use Rattle.call_marshal.specs.Helpers.{FprsTake}
 use Rattle.call_marshal.proofs.Arguments.{float-room, fprs-some, fprs-none}
-use borrow.Author.Rules.{rules}
 use Rattle.call_marshal.proofs.put_fprs.Goals as goal
 
 pub put_float-requires : goal.put_float-requires

@@ -1,19 +1,17 @@
 -- No words, words from their head on, or their end.
-use mathlib.Core.Path.{◌≡◌, sym, ap, ◌∙◌}
+use mathlib.Core.Path.{sym, ap, ◌∙◌}
 use mathlib.Core.Bool.{true, false}
 use mathlib.Core.List.{List}
-use Prim.Native.Nat.{ℕ, ◌+◌, ◌*◌, ◌≤◌, ◌<◌}
+use Prim.Native.Nat.{ℕ, ◌+◌, ◌*◌}
 use native.Mathlib.Omega.{arith}
-use lib.Dec.{eqb}
 use lib.ListN.{length}
 use Rattle.base_words.specs.Splice.{splice, part}
 use Rattle.base_words.specs.Numbers.{bytes_of}
 use Rattle.plan_places.specs.Step.{word_of}
 use Rattle.call_registers.specs.Registers.{spread}
 use Rattle.call_slots.specs.Placements.{placement}
-use Rattle.call_slots.specs.Forms.{room_of, starts_at_head}
+use Rattle.call_slots.specs.Forms.{starts_at_head}
 use Rattle.call_marshal.proofs.Arguments.{home-head, home-end, number_fits, words-none, words-some}
-use borrow.Author.Rules.{rules}
 use Rattle.call_marshal.proofs.put_value.Goals as goal
 
 pub returns-then-no_words : goal.returns-then-no_words

@@ -1,13 +1,11 @@
 -- The span has one word: a general register or eight bytes of memory, through the part that starts there.
 use mathlib.Core.Path.{ap, ◌∙◌}
-use mathlib.Core.List.{List}
 use Prim.Native.Nat.{ℕ, ◌-◌, ◌*◌}
 use lib.ListN.{length}
 use borrow.Rule.Slice.PartMut.{put_mid}
 use Rattle.base_words.specs.Numbers.{bytes_of}
 use Rattle.base_words.proofs.Splices.{lent-tail}
 use Rattle.call_marshal.proofs.Pieces.{word-general, word-memory}
-use borrow.Author.Rules.{rules}
 use Rattle.call_marshal.proofs.put_word.Goals as goal
 
 pub returns-then-general-gt0 : goal.returns-then-general-gt0

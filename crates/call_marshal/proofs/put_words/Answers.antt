@@ -1,9 +1,8 @@
 -- A doubleword is the only one of its number; smaller words go one by one.
-use mathlib.Core.Path.{◌≡◌, subst}
+use mathlib.Core.Path.{subst}
 use Prim.Native.Nat.{ℕ}
 use Rattle.call_marshal.specs.Helpers.{SpanTakes}
 use Rattle.call_marshal.proofs.Pieces.{number-plain}
-use borrow.Author.Rules.{rules}
 use Rattle.call_marshal.proofs.put_words.Goals as goal
 
 pub put_word-requires : goal.put_word-requires

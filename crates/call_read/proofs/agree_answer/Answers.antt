@@ -1,5 +1,4 @@
 -- Done where they agree, refused where they differ.
-use borrow.Author.Rules.{rules}
 use Rattle.call_read.proofs.agree_answer.Goals as goal
 
 pub returns : goal.returns

@@ -1,19 +1,17 @@
 -- By the way that the argument is passed: 14 and then 26, or 13.
 use mathlib.Core.Path.{◌≡◌, sym, ap, ◌∙◌}
-use mathlib.Core.List.{[]}
-use Prim.Native.Nat.{ℕ, ◌+◌, ◌*◌, ◌≤◌, ◌<◌}
+use Prim.Native.Nat.{◌+◌, ◌*◌, ◌<◌}
 use native.Mathlib.Omega.{arith}
 use borrow.Author.Tests.{le-ltb}
 use Rattle.base_words.specs.Numbers.{value_of}
 use Rattle.sig_types.specs.Sizes.{equivalent_of}
-use Rattle.call_slots.specs.Buffers.{Buffers, buffers, bytes_at}
-use Rattle.call_slots.specs.Placements.{Placement, placement, words_at, fpr_bytes_at}
+use Rattle.call_slots.specs.Buffers.{buffers, bytes_at}
+use Rattle.call_slots.specs.Placements.{placement, words_at, fpr_bytes_at}
 use Rattle.call_slots.specs.Refusals.{float_answer}
 use Rattle.call_read.specs.Read.{own_held, agrees, agree_answer, argument_answer}
 use Rattle.call_slots.proofs.Limits.{answer-first, one_address}
 use Rattle.call_slots.proofs.Refusals.{not-refused}
 use Rattle.call_read.proofs.Arguments.{argument-float, argument-unwidened, argument-compared}
-use borrow.Author.Rules.{rules}
 use Rattle.call_read.proofs.argument_answer.Goals as goal
 
 pub returns-then-general-eq0 : goal.returns-then-general-eq0

@@ -1,5 +1,4 @@
 -- Done inside, refused outside.
-use borrow.Author.Rules.{rules}
 use Rattle.call_read.proofs.copy_answer.Goals as goal
 
 pub returns : goal.returns

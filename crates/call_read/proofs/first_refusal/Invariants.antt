@@ -1,22 +1,13 @@
 -- The loop checks one argument a turn, or finds that nothing is asked of it; those that are left give what all give (`Checking`).
 use borrow.Author.Rules.{rules}
-use mathlib.Core.Path.{◌≡◌, refl, sym, ap, ◌∙◌}
-use mathlib.Core.Bool.{false}
-use mathlib.Core.Logic.{⊎_elim}
-use mathlib.Core.List.{List, ◌∷◌}
-use Prim.Native.Nat.{suc, ◌-◌}
-use native.Mathlib.Omega.{arith}
-use lib.ListN.{length, drop}
-use Rattle.call_slots.specs.declared.CallAnswer.{CallAnswer}
-use Rattle.call_slots.specs.Buffers.{Buffers, buffers}
-use Rattle.call_slots.specs.Placements.{Placement, placement}
-use Rattle.call_slots.proofs.Turns.{Checking, checking-start, checking-ready, checking-refused, checking-more, checking-end}
-use Rattle.call_kept.specs.Helpers.{kept_at, kept_all}
-use Rattle.call_kept.proofs.Rows.{kept-hand, kept-end}
+use Prim.Native.Nat.{◌-◌}
+use lib.ListN.{length}
+use Rattle.call_slots.specs.Buffers.{buffers}
+use Rattle.call_slots.specs.Placements.{Placement}
+use Rattle.call_slots.proofs.Turns.{Checking}
+use Rattle.call_kept.specs.Helpers.{kept_all}
 use Rattle.call_unmarshal.specs.Helpers.{InBuffers}
-use Rattle.call_read.specs.Read.{argument_answer, arguments_answer}
-use Rattle.call_read.specs.Helpers.{asks}
-use Rattle.call_read.proofs.Arguments.{nothing-asked}
+use Rattle.call_read.specs.Read.{argument_answer}
 use Rattle.call_read.proofs.first_refusal.Given as goal
 
 abbrev pub invariant-loop-i : goal.invariant-loop-i

@@ -1,21 +1,19 @@
 -- Its own bytes in general registers and its value are each put in a buffer, and their first bytes are compared (`agrees-compared`).
-use mathlib.Core.Path.{◌≡◌, refl, sym, ap, ap₂, ◌∙◌}
+use mathlib.Core.Path.{◌≡◌, refl, ap, ap₂, ◌∙◌}
 use mathlib.Core.List.{List, []}
-use Prim.Native.Nat.{ℕ, ◌+◌, ◌-◌, ◌*◌, ◌≤◌, ◌<◌, min}
+use Prim.Native.Nat.{ℕ, ◌+◌, ◌-◌, ◌*◌, ◌≤◌}
 use native.Mathlib.Omega.{arith}
-use native.Mathlib.Nat.{mul-le-mul_right, mul-le-mul_left}
+use native.Mathlib.Nat.{mul-le-mul_right}
 use lib.ListN.{length, take}
-use Rattle.base_words.specs.Splice.{overlay, part}
 use Rattle.base_words.proofs.Splices.{length-overlay}
 use Rattle.sig_types.specs.Sizes.{equivalent_of}
 use Rattle.plan_places.specs.Step.{word_of}
-use Rattle.call_slots.specs.Buffers.{Buffers, buffers, bytes_at}
-use Rattle.call_slots.specs.Forms.{room_of, own_start, float_value_as}
-use Rattle.call_slots.specs.Placements.{Placement, placement}
+use Rattle.call_slots.specs.Buffers.{buffers, bytes_at}
+use Rattle.call_slots.specs.Forms.{room_of}
+use Rattle.call_slots.specs.Placements.{placement}
 use Rattle.call_unmarshal.proofs.Arguments.{float-room, own_first}
 use Rattle.call_read.specs.Read.{same_bytes}
 use Rattle.call_read.proofs.Agree.{own_held_lem, value-most, agrees-compared}
-use borrow.Author.Rules.{rules}
 use Rattle.call_read.proofs.floats_agree.Goals as goal
 
 pub overflow_mul-held : goal.overflow_mul-held

@@ -1,10 +1,9 @@
 -- What stands before the arguments is read; then all that follows, with words for few arguments or for as many as there can be.
-use borrow.Author.Rules.{rules}
 use native.Mathlib.Omega.{arith}
 use mathlib.Core.Path.{refl, sym, ◌∙◌}
 use Rattle.sig_signatures.proofs.Laws.{signature-refused}
 use Rattle.sig_signatures.proofs.Sound.{head-bounded}
-use Rattle.call_slots.specs.Buffers.{Buffers, buffers}
+use Rattle.call_slots.specs.Buffers.{buffers}
 use Rattle.call_arguments.proofs.Kept.{none_left, none-arguments}
 use Rattle.call_read.specs.Read.{read_values}
 use Rattle.call_read.proofs.Accepted.{answer-unread, answer-none, values-none}

@@ -1,5 +1,4 @@
 -- The sizes are measured, and the lengths tested by them.
-use borrow.Author.Rules.{rules}
 use Rattle.call_read.proofs.Accepted.{lengths-refused, lengths-tested}
 use Rattle.call_read.proofs.read_none.Goals as goal
 

@@ -4,7 +4,7 @@ use mathlib.Core.Path.{◌≡◌, refl, sym, ap, ◌∙◌, subst}
 use Rattle.sig_signatures.specs.declared.Outcome.{Outcome}
 use Rattle.plan_plans.specs.declared.Measured.{Measured}
 use Rattle.call_slots.specs.declared.CallAnswer.{CallAnswer}
-use Rattle.call_slots.specs.Buffers.{Buffers, buffers}
+use Rattle.call_slots.specs.Buffers.{buffers}
 use Rattle.call_slots.specs.Arguments.{sizes_for, plan_for, rules_for}
 use Rattle.call_slots.proofs.Refusals.{not-refused}
 use Rattle.call_arguments.specs.Helpers.{KeptOf, KeptWhere}

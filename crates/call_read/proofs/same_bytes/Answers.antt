@@ -1,7 +1,6 @@
 use Prim.Native.Nat.{◌-◌}
 use native.Mathlib.Omega.{arith}
-use Rattle.call_read.proofs.Agree.{Comparing, comparing-start, comparing-more, comparing-not, comparing-end}
-use borrow.Author.Rules.{rules}
+use Rattle.call_read.proofs.Agree.{comparing-start, comparing-more, comparing-not, comparing-end}
 use Rattle.call_read.proofs.same_bytes.Goals as goal
 
 pub loop-i-init : goal.loop-i-init

@@ -1,8 +1,6 @@
 -- The loop compares one byte a turn; the bytes that are left tell what all of them tell (`Comparing`).
 use Prim.Native.Nat.{◌-◌}
-use native.Mathlib.Omega.{arith}
-use Rattle.call_read.proofs.Agree.{Comparing, comparing-start, comparing-more, comparing-not, comparing-end}
-use borrow.Author.Rules.{rules}
+use Rattle.call_read.proofs.Agree.{Comparing}
 use Rattle.call_read.proofs.same_bytes.Given as goal
 
 abbrev pub invariant-loop-i : goal.invariant-loop-i

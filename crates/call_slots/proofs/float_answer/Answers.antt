@@ -1,6 +1,5 @@
 -- By the convention and the float.
 use mathlib.Core.Path.{◌∙◌}
-use borrow.Author.Rules.{rules}
 use Rattle.call_slots.proofs.float_answer.Goals as goal
 
 pub returns-in-Single : goal.returns-in-Single

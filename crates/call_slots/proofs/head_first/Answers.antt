@@ -1,7 +1,6 @@
 -- By cases on the type.
 use mathlib.Core.Path.{sym, ap, ◌∙◌}
 use Rattle.call_slots.specs.Forms.{head_first}
-use borrow.Author.Rules.{rules}
 use Rattle.call_slots.proofs.head_first.Goals as goal
 
 pub returns-in-Struct : goal.returns-in-Struct

@@ -1,7 +1,6 @@
 -- By what narrowing finds.
 use mathlib.Core.Path.{ap, sym, ◌∙◌}
 use Rattle.call_slots.specs.Refusals.{narrowed_answer}
-use borrow.Author.Rules.{rules}
 use Rattle.call_slots.proofs.narrowed_answer.Goals as goal
 
 pub returns-in-Single : goal.returns-in-Single

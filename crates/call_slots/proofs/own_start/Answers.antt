@@ -1,9 +1,7 @@
 -- At the head, or in the last n bytes of the words.
 use mathlib.Core.Path.{sym, ◌∙◌}
 use Prim.Native.Nat.{◌-◌}
-use native.Mathlib.Omega.{arith}
 use Rattle.call_slots.specs.Forms.{own_start}
-use borrow.Author.Rules.{rules}
 use Rattle.call_slots.proofs.own_start.Goals as goal
 
 pub returns-then-starts_at_head : goal.returns-then-starts_at_head

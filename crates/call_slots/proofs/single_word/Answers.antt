@@ -1,6 +1,5 @@
 -- By the convention: widened, or moved to the upper half.
 use mathlib.Core.Path.{◌∙◌}
-use borrow.Author.Rules.{rules}
 use Rattle.call_slots.proofs.single_word.Goals as goal
 
 pub returns-in-Power : goal.returns-in-Power

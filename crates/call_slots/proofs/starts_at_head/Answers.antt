@@ -1,7 +1,6 @@
 -- By the convention.
 use mathlib.Core.Path.{◌∙◌}
 use Rattle.call_slots.specs.Forms.{starts_at_head}
-use borrow.Author.Rules.{rules}
 use Rattle.call_slots.proofs.starts_at_head.Goals as goal
 
 pub returns-in-Power : goal.returns-in-Power

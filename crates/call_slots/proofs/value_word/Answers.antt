@@ -4,7 +4,6 @@ use lib.ListN.{length}
 use Rattle.base_words.specs.Numbers.{value_of, sign_extended, zero_extended}
 use Rattle.base_words.proofs.Splices.{part-whole}
 use Rattle.call_slots.specs.Forms.{is_signed, extended}
-use borrow.Author.Rules.{rules}
 use Rattle.call_slots.proofs.value_word.Goals as goal
 
 pub returns-then-is_signed : goal.returns-then-is_signed

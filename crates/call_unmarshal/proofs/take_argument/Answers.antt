@@ -1,7 +1,7 @@
 -- By the way that the argument is passed; a copy lies inside, since it was not refused.
 use mathlib.Core.Path.{◌≡◌, sym, ap, ◌∙◌}
 use mathlib.Core.Bool.{true}
-use Prim.Native.Nat.{ℕ, ◌+◌, ◌-◌, ◌≤◌}
+use Prim.Native.Nat.{ℕ, ◌-◌, ◌≤◌}
 use native.Mathlib.Omega.{arith}
 use native.Mathlib.Nat.{mul-le-mul_right}
 use borrow.Author.Tests.{lt-ltb, le-ltb}
@@ -9,12 +9,11 @@ use lib.ListN.{length}
 use Rattle.base_words.specs.Splice.{overlay, part}
 use Rattle.sig_types.specs.Sizes.{equivalent_of}
 use Rattle.plan_places.specs.Step.{word_of}
-use Rattle.call_slots.specs.Buffers.{Buffers, buffers, bytes_at}
+use Rattle.call_slots.specs.Buffers.{buffers, bytes_at}
 use Rattle.call_slots.specs.Forms.{float_value}
-use Rattle.call_slots.specs.Placements.{Placement, placement, words_at, address_at, words_value, value_at}
+use Rattle.call_slots.specs.Placements.{placement, words_at, address_at, words_value, value_at}
 use Rattle.call_slots.proofs.Limits.{one_address}
 use Rattle.call_unmarshal.proofs.Arguments.{float-room, own-within, own_first}
-use borrow.Author.Rules.{rules}
 use Rattle.call_unmarshal.proofs.take_argument.Goals as goal
 
 pub take_float-requires : goal.take_float-requires

@@ -7,11 +7,11 @@ use lib.ListN.{length, drop}
 use borrow.Rule.Slice.PartMut.{put_mid}
 use Rattle.base_words.specs.Splice.{splice}
 use Rattle.base_words.proofs.Splices.{lent-tail}
-use Rattle.call_slots.specs.Buffers.{Buffers, buffers}
-use Rattle.call_slots.specs.Placements.{Placement, placement, value_at}
+use Rattle.call_slots.specs.Buffers.{buffers}
+use Rattle.call_slots.specs.Placements.{placement, value_at}
 use Rattle.call_kept.specs.Helpers.{kept_all}
 use Rattle.call_kept.proofs.Rows.{kept-placed, kept-end}
-use Rattle.call_unmarshal.proofs.Turns.{Taking, taking-start, taking-readable, taking-within, taking-more, taking-end}
+use Rattle.call_unmarshal.proofs.Turns.{taking-start, taking-readable, taking-within, taking-more, taking-end}
 use Rattle.call_unmarshal.proofs.take_arguments.Goals as goal
 
 pub loop-i-init : goal.loop-i-init

@@ -11,7 +11,6 @@ use Rattle.plan_places.specs.declared.CallRules.{CallRules}
 use Rattle.call_slots.specs.Forms.{float_value_as, narrowed_bytes}
 use Rattle.base_ieee.specs.Narrowing.{narrow}
 use Rattle.call_unmarshal.specs.Helpers.{FprsHold}
-use borrow.Author.Rules.{rules}
 use Rattle.call_unmarshal.proofs.take_float.Goals as goal
 
 pub take_part-requires : goal.take_part-requires

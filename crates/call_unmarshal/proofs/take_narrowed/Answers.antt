@@ -3,7 +3,6 @@ use mathlib.Core.Path.{sym, ap, ◌∙◌}
 use Rattle.base_words.specs.Splice.{overlay}
 use Rattle.call_slots.specs.Forms.{narrowed_bytes}
 use Rattle.base_ieee.specs.declared.Narrowed.{Narrowed}
-use borrow.Author.Rules.{rules}
 use Rattle.call_unmarshal.proofs.take_narrowed.Goals as goal
 
 pub returns-in-Single : goal.returns-in-Single

@@ -7,7 +7,6 @@ use Rattle.base_words.specs.Numbers.{value_of}
 use Rattle.call_slots.specs.Buffers.{buffers, bytes_at}
 use Rattle.call_slots.proofs.Doublewords.{words-doublewords}
 use Rattle.call_unmarshal.proofs.Parts.{word-registers, word-memory}
-use borrow.Author.Rules.{rules}
 use Rattle.call_unmarshal.proofs.word_at.Goals as goal
 
 pub returns-then-general-gt0 : goal.returns-then-general-gt0

@@ -2,7 +2,6 @@
 use mathlib.Core.Path.{ap, ◌∙◌}
 use Rattle.call_views.specs.declared.ViewPart.{ViewPart}
 use Rattle.call_views.proofs.Viewed.{part-answer}
-use borrow.Author.Rules.{rules}
 use Rattle.call_views.proofs.check_view.Goals as goal
 
 pub returns : goal.returns

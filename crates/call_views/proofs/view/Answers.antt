@@ -3,7 +3,6 @@ use Prim.Native.Nat.{◌+◌, ◌≤◌}
 use native.Mathlib.Omega.{arith}
 use lib.ListN.{length}
 use Rattle.call_views.proofs.Viewed.{part-within, part-view}
-use borrow.Author.Rules.{rules}
 use Rattle.call_views.proofs.view.Goals as goal
 
 pub overflow_add-end : goal.overflow_add-end

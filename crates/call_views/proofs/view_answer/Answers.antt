@@ -1,6 +1,5 @@
 -- A signature's refusal, or the tests.
 use mathlib.Core.Path.{◌∙◌}
-use borrow.Author.Rules.{rules}
 use Rattle.call_views.proofs.view_answer.Goals as goal
 
 pub returns-in-Refused : goal.returns-in-Refused

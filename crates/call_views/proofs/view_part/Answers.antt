@@ -9,7 +9,6 @@ use Rattle.call_slots.proofs.Refusals.{not-refused}
 use Rattle.call_slots.proofs.Turns.{argument_at}
 use Rattle.call_views.proofs.Viewed.{Hand, hand, answer-same, part-refused, part-shown}
 use Rattle.call_home_slot.proofs.Homed.{own-homed}
-use borrow.Author.Rules.{rules}
 use Rattle.call_views.proofs.view_part.Goals as goal
 
 pub plan_signature-p-requires : goal.plan_signature-p-requires

@@ -3,7 +3,6 @@ use mathlib.Core.Path.{sym, ◌∙◌}
 use borrow.Author.Tests.{lt-ltb, le-ltb, le-leb, lt-leb}
 use Rattle.call_slots.specs.Refusals.{first_of}
 use Rattle.call_views.specs.View.{view_tests}
-use borrow.Author.Rules.{rules}
 use Rattle.call_views.proofs.view_tested.Goals as goal
 
 pub returns-then-is_homeless : goal.returns-then-is_homeless

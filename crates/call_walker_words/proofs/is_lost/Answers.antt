@@ -1,7 +1,6 @@
 -- The counters are too large, or no arguments lead to them. Assumes nothing.
 use borrow.Author.Tests.{not-true, not-false}
 use Rattle.call_walker.specs.Walker.{lost}
-use borrow.Author.Rules.{rules}
 use Rattle.call_walker_words.proofs.is_lost.Goals as goal
 
 pub returns-then-not-in_range : goal.returns-then-not-in_range

@@ -2,7 +2,6 @@
 use mathlib.Core.Path.{◌∙◌}
 use Rattle.base_words.proofs.Tests.{flag-le}
 use Rattle.call_walker.specs.Walker.{possible}
-use borrow.Author.Rules.{rules}
 use Rattle.call_walker_words.proofs.is_possible.Goals as goal
 
 pub power_possible-requires : goal.power_possible-requires

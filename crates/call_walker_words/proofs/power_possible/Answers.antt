@@ -1,7 +1,6 @@
 -- By the tests in turn.
 use borrow.Author.Tests.{le-leb, lt-leb}
 use Rattle.call_walker.specs.Walker.{power_possible}
-use borrow.Author.Rules.{rules}
 use Rattle.call_walker_words.proofs.power_possible.Goals as goal
 
 pub returns-then-k-gt13 : goal.returns-then-k-gt13

@@ -5,7 +5,6 @@ use Prim.Native.Nat.{ℕ}
 use native.Mathlib.Omega.{arith}
 use lib.ListN.{length, set, length-set}
 use Rattle.call_walker.specs.Words.{walker_words}
-use borrow.Author.Rules.{rules}
 use Rattle.call_walker_words.proofs.put_walker.Goals as goal
 
 all-six : (l : List ℕ) → length l ≡ 6 → (a b c d e f : ℕ) → set (set (set (set (set (set l 0 a) 1 b) 2 c) 3 d) 4 e) 5 f ≡ a ∷ b ∷ c ∷ d ∷ e ∷ f ∷ []

@@ -1,6 +1,5 @@
 -- By the marks, and then by 23 of the counters. Assumes nothing.
 use borrow.Author.Tests.{le-leb, lt-leb}
-use borrow.Author.Rules.{rules}
 use Rattle.call_walker_words.proofs.walker_by.Goals as goal
 
 pub returns-then-ellipsis-gt1 : goal.returns-then-ellipsis-gt1

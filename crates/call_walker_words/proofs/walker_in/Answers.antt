@@ -2,7 +2,6 @@
 use mathlib.Core.Path.{sym, ap, ◌∙◌}
 use Rattle.base_conventions.specs.declared.ConventionCode.{ConventionCode}
 use Rattle.call_walker.specs.Words.{walker_by, walker_in}
-use borrow.Author.Rules.{rules}
 use Rattle.call_walker_words.proofs.walker_in.Goals as goal
 
 pub returns-in-Known : goal.returns-in-Known

@@ -1,7 +1,6 @@
 -- By the tests in turn.
 use borrow.Author.Tests.{le-leb, lt-leb, eq-eqb, ne_eqb}
 use Rattle.call_walker.specs.Walker.{z_possible}
-use borrow.Author.Rules.{rules}
 use Rattle.call_walker_words.proofs.z_possible.Goals as goal
 
 pub returns-then-k-hidden : goal.returns-then-k-hidden

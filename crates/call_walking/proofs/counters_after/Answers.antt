@@ -2,7 +2,6 @@
 use native.Mathlib.Nat.{div-le_self}
 use native.Mathlib.Omega.{arith}
 use Rattle.call_walking.specs.Helpers.{counters_after}
-use borrow.Author.Rules.{rules}
 use Rattle.call_walking.proofs.counters_after.Goals as goal
 
 pub nonzero_div-result : goal.nonzero_div-result

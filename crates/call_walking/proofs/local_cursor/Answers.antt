@@ -1,6 +1,5 @@
 -- By the family of conventions. Assumes nothing.
 use Rattle.call_walker.specs.Walker.{cursor_at}
-use borrow.Author.Rules.{rules}
 use Rattle.call_walking.proofs.local_cursor.Goals as goal
 
 pub returns-in-Power : goal.returns-in-Power

@@ -2,7 +2,6 @@
 use native.Mathlib.Nat.{mul-le-mul_right}
 use native.Mathlib.Omega.{arith}
 use Rattle.call_walker.specs.Walker.{cursor_at}
-use borrow.Author.Rules.{rules}
 use Rattle.call_walking.proofs.offset_of.Goals as goal
 
 pub overflow_mul-result : goal.overflow_mul-result

@@ -1,8 +1,7 @@
 -- An empty place passes nothing. Assumes nothing.
-use borrow.Author.Tests.{lt-ltb, le-ltb}
+use borrow.Author.Tests.{lt-ltb}
 use native.Mathlib.Omega.{arith}
 use Rattle.call_walker.specs.Step.{passes}
-use borrow.Author.Rules.{rules}
 use Rattle.call_walking.proofs.passes_area.Goals as goal
 
 pub returns-then-memory-eq0 : goal.returns-then-memory-eq0

@@ -1,7 +1,6 @@
 -- By the reading of the item, and then by where it ends. Assumes nothing.
 use mathlib.Core.Path.{sym, ◌∙◌}
 use Rattle.call_walking.proofs.Items.{item-long, item-after, item_refused, item-whole}
-use borrow.Author.Rules.{rules}
 use Rattle.call_walking.proofs.read_type.Goals as goal
 
 pub returns-then-s-gt-MAX_LENGTH : goal.returns-then-s-gt-MAX_LENGTH

@@ -2,7 +2,6 @@
 use Rattle.sig_signatures.specs.Read.{signature_of}
 use mathlib.Core.Path.{◌∙◌}
 use Rattle.call_walking.proofs.Items.{start-refused, start-accepted}
-use borrow.Author.Rules.{rules}
 use Rattle.call_walking.proofs.start.Goals as goal
 
 pub returns-in-Refused : goal.returns-in-Refused

@@ -4,7 +4,6 @@ use lib.ListN.{length}
 use Rattle.call_walker.specs.Words.{WalkerOutcome}
 use Rattle.call_walker.proofs.Exactly.{found-small}
 use Rattle.call_walking.proofs.Went.{Went, went-roomy, went-lawful, went-size, went-offset, went-unclear, went-countable, went-ready, went-readable, went-value, went-lengths, went-answer, went-done}
-use borrow.Author.Rules.{rules}
 use Rattle.call_walking.proofs.step.Goals as goal
 
 pub local_cursor-d-requires : goal.local_cursor-d-requires

@@ -2,7 +2,6 @@
 use borrow.Author.Tests.{eq-eqb, ne_eqb}
 use Rattle.call_slots.specs.Refusals.{first_of}
 use Rattle.call_walker.specs.Step.{step_tests}
-use borrow.Author.Rules.{rules}
 use Rattle.call_walking.proofs.tested.Goals as goal
 
 pub returns-then-image-ne-IMAGE_BYTES : goal.returns-then-image-ne-IMAGE_BYTES

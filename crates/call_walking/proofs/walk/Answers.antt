@@ -2,7 +2,6 @@
 use mathlib.Core.Path.{sym, ap, ◌∙◌}
 use Rattle.call_walker.specs.Words.{WalkerOutcome}
 use Rattle.call_walking.proofs.Items.{item-declared, found, walk-lost, walk_refused, walk-item}
-use borrow.Author.Rules.{rules}
 use Rattle.call_walking.proofs.walk.Goals as goal
 
 pub step-requires : goal.step-requires

@@ -5,7 +5,6 @@ use Rattle.plan_places.specs.Step.{rules_of}
 use Rattle.plan_places.proofs.Bounds.{rules-lawful}
 use Rattle.call_walker.specs.Walker.{walker}
 use Rattle.call_walking.proofs.Parts.{start-countable, start-after}
-use borrow.Author.Rules.{rules}
 use Rattle.call_walking.proofs.walker_of.Goals as goal
 
 pub counters_after-at-requires : goal.counters_after-at-requires

@@ -1,10 +1,9 @@
 use Rattle.frame_rules.proofs.Halves.{within-down, within_none}
-use Rattle.frame_rules.specs.Frames.{all_within}
 use borrow.Author.Tests.{lt-leb, le-leb}
 use lib.ListN.{get_or}
-use Prim.Native.Nat.{◌-◌, ◌≤◌}
+use Prim.Native.Nat.{◌-◌}
 use native.Mathlib.Omega.{arith}
-use mathlib.Core.Path.{◌≡◌, refl, sym, ◌∙◌}
+use mathlib.Core.Path.{refl, sym, ◌∙◌}
 use Rattle.frame_bounds.proofs.all_within.Goals as goal
 
 pub loop-i-init : goal.loop-i-init

@@ -3,7 +3,6 @@ use Rattle.frame_machine.specs.Machine.{ok_memory}
 use borrow.Author.Tests.{lt-leb, le-leb, eq-eqb, ne_eqb}
 use Prim.Native.Nat.{◌+◌, ◌%◌}
 use native.Mathlib.Omega.{arith}
-use borrow.Author.Rules.{rules}
 use Rattle.frame_bounds.proofs.memory_ok.Goals as goal
 
 pub returns-then-n-ne0 : goal.returns-then-n-ne0

@@ -2,7 +2,6 @@
 use Rattle.frame_rules.specs.Frames.{ok_registers}
 use borrow.Author.Tests.{not-true, not-false}
 use mathlib.Core.Path.{sym, ◌∙◌}
-use borrow.Author.Rules.{rules}
 use Rattle.frame_bounds.proofs.registers_ok.Goals as goal
 
 pub returns-then-not-all_within : goal.returns-then-not-all_within

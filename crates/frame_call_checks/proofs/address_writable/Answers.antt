@@ -2,7 +2,6 @@
 use Rattle.frame_machine.specs.Machine.{writable_address}
 use borrow.Author.Tests.{lt-leb, le-leb}
 use native.Mathlib.Omega.{arith}
-use borrow.Author.Rules.{rules}
 use Rattle.frame_call_checks.proofs.address_writable.Goals as goal
 
 pub returns-then-address-b : goal.returns-then-address-b

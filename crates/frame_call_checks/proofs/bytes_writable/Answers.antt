@@ -8,7 +8,6 @@ use borrow.Author.Tests.{lt-leb, le-leb, lt-ltb, le-ltb}
 use Prim.Native.Nat.{◌+◌, ◌-◌, ◌<◌}
 use native.Mathlib.Omega.{arith}
 use mathlib.Core.Path.{◌≡◌, sym, ap, ◌∙◌}
-use borrow.Author.Rules.{rules}
 use Rattle.frame_call_checks.proofs.bytes_writable.Goals as goal
 
 pub returns-then-n-lt1 : goal.returns-then-n-lt1

@@ -13,7 +13,6 @@ use borrow.Author.Tests.{lt-leb, le-leb, lt-ltb, le-ltb, not-true, not-false}
 use Prim.Native.Nat.{◌+◌}
 use native.Mathlib.Omega.{arith}
 use mathlib.Core.Path.{◌≡◌, sym, ap, ◌∙◌}
-use borrow.Author.Rules.{rules}
 use Rattle.frame_call_checks.proofs.judge_enter.Goals as goal
 
 pub returns-then-not-request_ok : goal.returns-then-not-request_ok

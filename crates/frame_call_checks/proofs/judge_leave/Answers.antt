@@ -15,7 +15,6 @@ use borrow.Author.Tests.{lt-ltb, le-ltb, eq-eqb, ne_eqb}
 use Prim.Native.Nat.{◌+◌, ◌<◌}
 use native.Mathlib.Omega.{arith}
 use mathlib.Core.Path.{◌≡◌, sym, ap, ◌∙◌}
-use borrow.Author.Rules.{rules}
 use Rattle.frame_call_checks.proofs.judge_leave.Goals as goal
 
 pub returns-then-s-eq0 : goal.returns-then-s-eq0

@@ -8,7 +8,6 @@ use Rattle.frame_machine.specs.Answers.{judge, require}
 use mathlib.Core.List.{[], ◌∷◌}
 use borrow.Author.Tests.{not-true, not-false}
 use mathlib.Core.Path.{◌≡◌, sym, ◌∙◌}
-use borrow.Author.Rules.{rules}
 use Rattle.frame_call_checks.proofs.judge_write_memory.Goals as goal
 
 pub address_writable-requires : goal.address_writable-requires

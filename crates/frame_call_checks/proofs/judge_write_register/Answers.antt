@@ -10,7 +10,6 @@ use Rattle.frame_machine.specs.Answers.{judge, require}
 use mathlib.Core.List.{[], ◌∷◌}
 use borrow.Author.Tests.{not-true, not-false}
 use mathlib.Core.Path.{◌≡◌, sym, ◌∙◌}
-use borrow.Author.Rules.{rules}
 use Rattle.frame_call_checks.proofs.judge_write_register.Goals as goal
 
 pub top_frame-f-requires : goal.top_frame-f-requires

@@ -1,6 +1,5 @@
 -- By the leaf mark. Assumes nothing.
 use native.Mathlib.Omega.{arith}
-use borrow.Author.Rules.{rules}
 use Rattle.frame_call_checks.proofs.locals_from.Goals as goal
 
 pub returns-then-f : goal.returns-then-f

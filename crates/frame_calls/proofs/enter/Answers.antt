@@ -5,7 +5,6 @@ use Rattle.frame_rules.specs.Helpers.{LawfulFrames}
 use Rattle.frame_rules.proofs.Conventions.{lawful}
 use lib.ListN.{length}
 use mathlib.Core.Path.{sym, ◌∙◌}
-use borrow.Author.Rules.{rules}
 use Rattle.frame_calls.proofs.enter.Goals as goal
 
 pub judge_enter-a-requires : goal.judge_enter-a-requires

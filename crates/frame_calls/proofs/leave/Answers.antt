@@ -4,7 +4,6 @@ use Rattle.frame_machine.proofs.Outcomes.{leave-accepted, leave-refused}
 use Rattle.frame_rules.specs.Helpers.{LawfulFrames}
 use Rattle.frame_rules.proofs.Conventions.{lawful}
 use mathlib.Core.Path.{sym, ◌∙◌}
-use borrow.Author.Rules.{rules}
 use Rattle.frame_calls.proofs.leave.Goals as goal
 
 pub judge_leave-a-requires : goal.judge_leave-a-requires

@@ -7,7 +7,6 @@ use Rattle.frame_machine.specs.Machine.{top}
 use lib.ListN.{length}
 use native.Mathlib.Omega.{arith}
 use mathlib.Core.Path.{◌≡◌, ap, ◌∙◌}
-use borrow.Author.Rules.{rules}
 use Rattle.frame_calls.proofs.pop.Goals as goal
 
 pub frame_size-z-requires : goal.frame_size-z-requires

@@ -1,6 +1,5 @@
 -- The stack pointer, the record and the depth are stored. Assumes nothing.
 use Rattle.frame_machine.specs.Machine.{entered}
-use borrow.Author.Rules.{rules}
 use Rattle.frame_calls.proofs.push.Goals as goal
 
 pub returns : goal.returns

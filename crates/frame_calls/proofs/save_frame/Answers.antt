@@ -7,7 +7,6 @@ use Rattle.frame_machine.proofs.Coding.{pointer-room, enter-placed}
 use lib.ListN.{length}
 use Prim.Native.Nat.{◌≤◌}
 use native.Mathlib.Omega.{arith}
-use borrow.Author.Rules.{rules}
 use Rattle.frame_calls.proofs.save_frame.Goals as goal
 
 pub store-requires : goal.store-requires

@@ -10,7 +10,6 @@ use Rattle.frame_rules.specs.Helpers.{LawfulFrames}
 use Rattle.frame_rules.proofs.Conventions.{lawful}
 use lib.ListN.{length}
 use mathlib.Core.Path.{sym, ◌∙◌, ap}
-use borrow.Author.Rules.{rules}
 use Rattle.frame_calls.proofs.write_register.Goals as goal
 
 pub judge_write_register-a-requires : goal.judge_write_register-a-requires

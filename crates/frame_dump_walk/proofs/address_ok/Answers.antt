@@ -3,7 +3,6 @@ use Rattle.frame_dump.specs.Walk.{ok_address}
 use borrow.Author.Tests.{lt-leb, le-leb, eq-eqb, ne_eqb}
 use Prim.Native.Nat.{◌+◌, ◌%◌}
 use native.Mathlib.Omega.{arith}
-use borrow.Author.Rules.{rules}
 use Rattle.frame_dump_walk.proofs.address_ok.Goals as goal
 
 pub nonzero_rem-a : goal.nonzero_rem-a

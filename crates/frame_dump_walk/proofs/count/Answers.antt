@@ -1,5 +1,5 @@
 use Rattle.frame_saves.specs.Saves.{load}
-use Rattle.frame_dump.specs.Walk.{walk_from, max_frames, ok_address, counted}
+use Rattle.frame_dump.specs.Walk.{walk_from, ok_address, counted}
 use Rattle.frame_dump.proofs.Laws.{word_some, address-yes, walk-bad, walk-last, walk_more, walk-out, counted-prepend}
 use lib.ListN.{length}
 use mathlib.Core.Bool.{true, false}
@@ -7,7 +7,6 @@ use borrow.Author.Tests.{not-true, not-false}
 use Prim.Native.Nat.{◌+◌, ◌-◌}
 use native.Mathlib.Omega.{arith}
 use mathlib.Core.Path.{◌≡◌, refl, sym, ap, ◌∙◌}
-use borrow.Author.Rules.{rules}
 use Rattle.frame_dump_walk.proofs.count.Goals as goal
 
 pub loop-left-init : goal.loop-left-init

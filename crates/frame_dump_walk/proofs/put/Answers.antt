@@ -1,13 +1,11 @@
 use Rattle.frame_saves.specs.Saves.{load}
-use Rattle.base_words.specs.Splice.{splice}
 use Rattle.base_words.proofs.Splices.{splice-nothing}
 use Rattle.frame_dump.specs.Walk.{walk_from, max_frames, found_in}
-use Rattle.frame_dump.proofs.Laws.{Follow, follow, follow-in, follow-next, follow-put, counted-length}
-use lib.ListN.{length, drop, length-set, drop_of_length-le}
-use Prim.Native.Nat.{◌-◌, ◌≤◌}
+use Rattle.frame_dump.proofs.Laws.{follow, follow-in, follow-next, follow-put, counted-length}
+use lib.ListN.{length, length-set, drop_of_length-le}
+use Prim.Native.Nat.{◌-◌}
 use native.Mathlib.Omega.{arith}
-use mathlib.Core.Path.{◌≡◌, refl, sym, ap, ◌∙◌}
-use borrow.Author.Rules.{rules}
+use mathlib.Core.Path.{◌≡◌, refl, sym, ◌∙◌}
 use Rattle.frame_dump_walk.proofs.put.Goals as goal
 
 pub loop-i-init : goal.loop-i-init

@@ -1,14 +1,10 @@
 -- The frames from i on are still to be put, each where the one before points. Assumes nothing.
-use Rattle.frame_saves.specs.Saves.{load}
 use Rattle.base_words.specs.Splice.{splice}
-use Rattle.base_words.proofs.Splices.{splice-nothing}
 use Rattle.frame_dump.specs.Walk.{walk_from, max_frames, found_in}
-use Rattle.frame_dump.proofs.Laws.{Follow, follow, follow-in, follow-next, follow-put, counted-length}
-use lib.ListN.{length, drop, length-set, drop_of_length-le}
+use Rattle.frame_dump.proofs.Laws.{Follow}
+use lib.ListN.{length, drop}
 use Prim.Native.Nat.{◌-◌, ◌≤◌}
-use native.Mathlib.Omega.{arith}
-use mathlib.Core.Path.{◌≡◌, refl, sym, ap, ◌∙◌}
-use borrow.Author.Rules.{rules}
+use mathlib.Core.Path.{◌≡◌}
 use Rattle.frame_dump_walk.proofs.put.Given as goal
 
 abbrev pub invariant-loop-i : goal.invariant-loop-i

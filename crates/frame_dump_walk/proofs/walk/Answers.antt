@@ -1,12 +1,11 @@
 -- The sum is tested first; then what the count says is what the walk gives, and only frames that fit are put. Assumes nothing.
 use Rattle.frame_dump.specs.declared.Found.TheVariants.{Frames}
-use Rattle.frame_dump.specs.Walk.{Walked, frames, walk_from, max_frames, walk_into, found_in, counted, frames_listed}
+use Rattle.frame_dump.specs.Walk.{walk_from, max_frames}
 use Rattle.frame_dump.proofs.Laws.{into-over, into-refused, into-short, into-frames, counted-length}
 use lib.ListN.{length}
 use Prim.Native.Nat.{◌+◌, ◌-◌, ◌^◌, ◌≤◌}
 use native.Mathlib.Omega.{arith}
-use mathlib.Core.Path.{◌≡◌, refl, sym, ap, ◌∙◌}
-use borrow.Author.Rules.{rules}
+use mathlib.Core.Path.{sym, ap, ◌∙◌}
 use Rattle.frame_dump_walk.proofs.walk.Goals as goal
 
 pub returns-then-length-base : goal.returns-then-length-base

@@ -5,7 +5,6 @@ use Rattle.frame_rules.specs.Frames.{below, gpr_at}
 use Prim.Native.Nat.{◌-◌}
 use native.Mathlib.Omega.{arith}
 use mathlib.Core.Path.{sym, ap}
-use borrow.Author.Rules.{rules}
 use Rattle.frame_preserving.proofs.gpr_at.Goals as goal
 
 pub overflow_sub-result : goal.overflow_sub-result

@@ -5,7 +5,6 @@ use Rattle.frame_rules.specs.declared.Linkage.{Linkage}
 use Rattle.frame_rules.specs.Frames.{link_at}
 use native.Mathlib.Omega.{arith}
 use mathlib.Core.Path.{sym, ap}
-use borrow.Author.Rules.{rules}
 use Rattle.frame_preserving.proofs.link_at.Goals as goal
 
 pub overflow_mul-result : goal.overflow_mul-result

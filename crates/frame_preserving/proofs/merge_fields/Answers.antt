@@ -1,7 +1,6 @@
 -- The definition's own arithmetic, in 32 bits. Assumes nothing.
 use Rattle.frame_rules.specs.Frames.{merge_fields}
 use mathlib.Core.Path.{refl}
-use borrow.Author.Rules.{rules}
 use Rattle.frame_preserving.proofs.merge_fields.Goals as goal
 
 pub returns : goal.returns

@@ -3,7 +3,6 @@
 use Rattle.frame_rules.proofs.Places.{gpr-end, gpr-in, fpr-end, fpr-le}
 use Rattle.frame_rules.specs.Frames.{restored}
 use native.Mathlib.Omega.{arith}
-use borrow.Author.Rules.{rules}
 use Rattle.frame_preserving.proofs.restore.Goals as goal
 
 pub overflow_sub-c : goal.overflow_sub-c

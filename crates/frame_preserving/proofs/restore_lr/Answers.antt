@@ -5,7 +5,6 @@ use Rattle.frame_rules.specs.declared.Linkage.{Linkage}
 use Rattle.frame_rules.specs.Frames.{restored_lr}
 use native.Mathlib.Omega.{arith}
 use mathlib.Core.Path.{sym, ap, ◌∙◌}
-use borrow.Author.Rules.{rules}
 use Rattle.frame_preserving.proofs.restore_lr.Goals as goal
 
 pub overflow_add-s : goal.overflow_add-s

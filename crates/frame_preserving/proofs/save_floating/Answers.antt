@@ -2,7 +2,6 @@
 -- The run lies below the caller's pointer. Assumes nothing.
 use Rattle.frame_rules.proofs.Places.{fpr-end, fpr-le}
 use native.Mathlib.Omega.{arith}
-use borrow.Author.Rules.{rules}
 use Rattle.frame_preserving.proofs.save_floating.Goals as goal
 
 pub overflow_sub-c : goal.overflow_sub-c

@@ -2,7 +2,6 @@
 -- The run lies below the caller's pointer, or in its header. Assumes nothing.
 use Rattle.frame_rules.proofs.Places.{gpr-end, gpr-in}
 use native.Mathlib.Omega.{arith}
-use borrow.Author.Rules.{rules}
 use Rattle.frame_preserving.proofs.save_general.Goals as goal
 
 pub overflow_sub-k : goal.overflow_sub-k

@@ -3,7 +3,6 @@ use Rattle.frame_rules.proofs.Facts.{law-at}
 use Rattle.frame_preserving.proofs.Order.{saves-link, saves-area}
 use native.Mathlib.Omega.{arith}
 use mathlib.Core.Path.{sym}
-use borrow.Author.Rules.{rules}
 use Rattle.frame_preserving.proofs.save_registers.Goals as goal
 
 pub overflow_add-s : goal.overflow_add-s

@@ -1,6 +1,5 @@
 -- One word, or none. Assumes nothing.
 use Rattle.frame_saves.specs.Saves.{save_run, store}
-use borrow.Author.Rules.{rules}
 use Rattle.frame_preserving.proofs.save_word.Goals as goal
 
 pub returns-then-on : goal.returns-then-on

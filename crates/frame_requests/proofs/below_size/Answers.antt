@@ -5,7 +5,6 @@ use Rattle.frame_rules.specs.Frames.{below}
 use Prim.Native.Nat.{◌-◌}
 use native.Mathlib.Omega.{arith}
 use mathlib.Core.Path.{sym, ap}
-use borrow.Author.Rules.{rules}
 use Rattle.frame_requests.proofs.below_size.Goals as goal
 
 pub overflow_sub-result : goal.overflow_sub-result

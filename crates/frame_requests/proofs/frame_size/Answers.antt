@@ -1,6 +1,5 @@
 -- Nothing for a leaf, else the full size. Assumes nothing.
 use mathlib.Core.Path.{sym, ◌∙◌}
-use borrow.Author.Rules.{rules}
 use Rattle.frame_rules.proofs.Places.{leaf-size, solid-size}
 use Rattle.frame_requests.proofs.frame_size.Goals as goal
 

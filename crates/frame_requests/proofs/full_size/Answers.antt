@@ -2,7 +2,6 @@
 use Rattle.frame_rules.proofs.Places.{full-small, full-parts}
 use Rattle.frame_rules.specs.Frames.{full_size}
 use native.Mathlib.Omega.{arith}
-use borrow.Author.Rules.{rules}
 use Rattle.frame_requests.proofs.full_size.Goals as goal
 
 pub overflow_add-k : goal.overflow_add-k

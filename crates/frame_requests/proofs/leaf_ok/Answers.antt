@@ -3,7 +3,6 @@ use Rattle.frame_rules.specs.Frames.{ok_leaf}
 use borrow.Author.Tests.{eq-eqb, ne_eqb, not-true, not-false}
 use native.Mathlib.Omega.{arith}
 use mathlib.Core.Path.{sym, ◌∙◌}
-use borrow.Author.Rules.{rules}
 use Rattle.frame_requests.proofs.leaf_ok.Goals as goal
 
 pub returns-then-not-f : goal.returns-then-not-f

@@ -4,7 +4,6 @@ use Prim.Native.Nat.{◌%◌}
 use borrow.Author.Tests.{lt-leb, le-leb, eq-eqb, ne_eqb, not-true, not-false}
 use native.Mathlib.Omega.{arith}
 use mathlib.Core.Path.{sym, ◌∙◌}
-use borrow.Author.Rules.{rules}
 use Rattle.frame_requests.proofs.request_ok.Goals as goal
 
 pub returns-then-not-in_span : goal.returns-then-not-in_span

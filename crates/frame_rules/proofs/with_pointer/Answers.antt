@@ -1,7 +1,6 @@
 -- One register is stored. Assumes nothing.
 use Rattle.frame_rules.specs.Frames.{with_pointer}
 use mathlib.Core.Path.{refl}
-use borrow.Author.Rules.{rules}
 use Rattle.frame_rules.proofs.with_pointer.Goals as goal
 
 pub returns : goal.returns

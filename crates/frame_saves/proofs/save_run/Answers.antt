@@ -1,10 +1,7 @@
-use Prim.Native.Nat.{◌+◌, ◌*◌, ◌≤◌}
-use mathlib.Core.Path.{◌≡◌, refl, ◌∙◌}
+use mathlib.Core.Path.{refl, ◌∙◌}
 use native.Mathlib.Omega.{arith}
-use borrow.Author.Rules.{rules}
-use lib.ListN.{length}
 use Rattle.base_words.proofs.Basics.{words-turn}
-use Rattle.frame_saves.specs.Saves.{save_run, store}
+use Rattle.frame_saves.specs.Saves.{store}
 use Rattle.frame_saves.proofs.Runs.{save-turn, save-none}
 use Rattle.frame_saves.proofs.save_run.Goals as goal
 

@@ -1,12 +1,8 @@
 -- Each turn saves one register and leaves the rest of the run to the turns after it: the invariant is that what is left, saved from here, gives the whole run. Assumes nothing.
 use Prim.Native.Nat.{◌+◌, ◌*◌, ◌≤◌}
-use mathlib.Core.Path.{◌≡◌, refl, ◌∙◌}
-use native.Mathlib.Omega.{arith}
-use borrow.Author.Rules.{rules}
+use mathlib.Core.Path.{◌≡◌}
 use lib.ListN.{length}
-use Rattle.base_words.proofs.Basics.{words-turn}
-use Rattle.frame_saves.specs.Saves.{save_run, store}
-use Rattle.frame_saves.proofs.Runs.{save-turn, save-none}
+use Rattle.frame_saves.specs.Saves.{save_run}
 use Rattle.frame_saves.proofs.save_run.Given as goal
 
 abbrev pub invariant-loop-k : goal.invariant-loop-k

@@ -1,6 +1,5 @@
 -- Each part as the definition says. Assumes nothing.
 use Rattle.frame_rules.specs.Frames.{cleared}
-use borrow.Author.Rules.{rules}
 use Rattle.frame_starting.proofs.clear.Goals as goal
 
 pub returns : goal.returns

@@ -1,10 +1,7 @@
 use Rattle.frame_rules.proofs.Halves.{lowered-down, lowered_none}
-use Rattle.frame_rules.specs.Frames.{lowered}
-use lib.ListN.{length, length-set}
-use Prim.Native.Nat.{◌-◌, ◌≤◌}
+use Prim.Native.Nat.{◌-◌}
 use native.Mathlib.Omega.{arith}
-use mathlib.Core.Path.{◌≡◌, refl, sym, ◌∙◌}
-use borrow.Author.Rules.{rules}
+use mathlib.Core.Path.{refl, sym, ◌∙◌}
 use Rattle.frame_starting.proofs.lower.Goals as goal
 
 pub loop-i-init : goal.loop-i-init

@@ -1,11 +1,7 @@
 -- Down from the last: what is left to lower gives the whole. Assumes nothing.
-use Rattle.frame_rules.proofs.Halves.{lowered-down, lowered_none}
 use Rattle.frame_rules.specs.Frames.{lowered}
-use lib.ListN.{length, length-set}
 use Prim.Native.Nat.{◌-◌, ◌≤◌}
-use native.Mathlib.Omega.{arith}
-use mathlib.Core.Path.{◌≡◌, refl, sym, ◌∙◌}
-use borrow.Author.Rules.{rules}
+use mathlib.Core.Path.{◌≡◌}
 use Rattle.frame_starting.proofs.lower.Given as goal
 
 abbrev pub invariant-loop-i : goal.invariant-loop-i

@@ -2,7 +2,6 @@
 use Rattle.frame_machine.proofs.Coding.{caller-none, caller-some}
 use native.Mathlib.Omega.{arith}
 use mathlib.Core.Path.{sym, ◌∙◌}
-use borrow.Author.Rules.{rules}
 use Rattle.frame_state_checks.proofs.caller_frame.Goals as goal
 
 pub returns-then-d-le1 : goal.returns-then-d-le1

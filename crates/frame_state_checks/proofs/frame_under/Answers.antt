@@ -2,7 +2,6 @@
 use Rattle.frame_machine.proofs.Coding.{top-none, top-some}
 use native.Mathlib.Omega.{arith}
 use mathlib.Core.Path.{sym, ◌∙◌}
-use borrow.Author.Rules.{rules}
 use Rattle.frame_state_checks.proofs.frame_under.Goals as goal
 
 pub returns-then-d-eq0 : goal.returns-then-d-eq0

@@ -1,10 +1,10 @@
 use Rattle.frame_machine.proofs.Coding.{frames-down, frames-none}
 use Rattle.frame_rules.specs.Frames.{ok_request}
 use Rattle.frame_rules.specs.declared.Frame.{Frame}
-use Rattle.frame_machine.specs.Machine.{ok_frames, frame_at, top_frame}
+use Rattle.frame_machine.specs.Machine.{frame_at, top_frame}
 use mathlib.Core.Bool.{true, false}
 use borrow.Author.Tests.{not-true, not-false}
-use Prim.Native.Nat.{◌-◌, ◌≤◌}
+use Prim.Native.Nat.{◌-◌}
 use native.Mathlib.Omega.{arith}
 use mathlib.Core.Path.{◌≡◌, refl, sym, ap, ◌∙◌}
 use Rattle.frame_state_checks.proofs.frames_ok.Goals as goal

@@ -3,7 +3,6 @@ use Rattle.frame_machine.specs.Answers.{judge}
 use borrow.Author.Tests.{eq-eqb, ne_eqb, not-true, not-false}
 use native.Mathlib.Omega.{arith}
 use mathlib.Core.Path.{sym, ◌∙◌}
-use borrow.Author.Rules.{rules}
 use Rattle.frame_state_checks.proofs.judge_state.Goals as goal
 
 pub returns-then-not-state_ok : goal.returns-then-not-state_ok

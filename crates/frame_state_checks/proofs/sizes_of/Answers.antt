@@ -1,11 +1,8 @@
-use Rattle.frame_rules.specs.Frames.{most_size}
 use Rattle.frame_rules.proofs.Places.{size_small}
 use Rattle.frame_machine.proofs.Coding.{sizes-down, sizes-none, frames-read}
-use Rattle.frame_machine.specs.Machine.{ok_frames, frame_at, sizes}
-use mathlib.Core.Bool.{true}
-use Prim.Native.Nat.{◌+◌, ◌-◌, ◌*◌, ◌≤◌}
+use Rattle.frame_machine.specs.Machine.{frame_at}
+use Prim.Native.Nat.{◌-◌}
 use native.Mathlib.Omega.{arith}
-use mathlib.Core.Path.{◌≡◌}
 use Rattle.frame_state_checks.proofs.sizes_of.Goals as goal
 
 pub loop-d-init : goal.loop-d-init

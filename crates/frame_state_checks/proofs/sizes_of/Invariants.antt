@@ -1,11 +1,8 @@
 -- Down from the top record: the sum so far and the sizes left make the whole. Assumes nothing.
 use Rattle.frame_rules.specs.Frames.{most_size}
-use Rattle.frame_rules.proofs.Places.{size_small}
-use Rattle.frame_machine.proofs.Coding.{sizes-down, sizes-none, frames-read}
-use Rattle.frame_machine.specs.Machine.{ok_frames, frame_at, sizes}
+use Rattle.frame_machine.specs.Machine.{ok_frames, sizes}
 use mathlib.Core.Bool.{true}
 use Prim.Native.Nat.{◌+◌, ◌-◌, ◌*◌, ◌≤◌}
-use native.Mathlib.Omega.{arith}
 use mathlib.Core.Path.{◌≡◌}
 use Rattle.frame_state_checks.proofs.sizes_of.Given as goal
 

@@ -9,7 +9,6 @@ use borrow.Author.Tests.{lt-leb, le-leb, ne_eqb, not-true, not-false}
 use Prim.Native.Nat.{◌+◌}
 use native.Mathlib.Omega.{arith}
 use mathlib.Core.Path.{◌≡◌, sym, ◌∙◌}
-use borrow.Author.Rules.{rules}
 use Rattle.frame_state_checks.proofs.state_ok.Goals as goal
 
 pub returns-then-not-registers_ok : goal.returns-then-not-registers_ok

@@ -1,9 +1,8 @@
-use Rattle.base_words.specs.Splice.{splice, part}
 use Rattle.frame_word_layout.proofs.Laws.{copy_start, copy-turn, copy-end}
-use lib.ListN.{length, length-set}
-use Prim.Native.Nat.{◌+◌, ◌-◌, ◌≤◌, zero-le}
+use lib.ListN.{length-set}
+use Prim.Native.Nat.{◌+◌, ◌-◌, zero-le}
 use native.Mathlib.Omega.{arith}
-use mathlib.Core.Path.{◌≡◌, refl, sym, ◌∙◌}
+use mathlib.Core.Path.{refl, sym, ◌∙◌}
 use Rattle.frame_state_words.proofs.copy.Goals as goal
 
 pub loop-i-init : goal.loop-i-init

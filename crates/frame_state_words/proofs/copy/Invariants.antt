@@ -1,10 +1,8 @@
 -- What is left to copy, copied from here, gives the whole copy. Assumes nothing.
 use Rattle.base_words.specs.Splice.{splice, part}
-use Rattle.frame_word_layout.proofs.Laws.{copy_start, copy-turn, copy-end}
-use lib.ListN.{length, length-set}
-use Prim.Native.Nat.{◌+◌, ◌-◌, ◌≤◌, zero-le}
-use native.Mathlib.Omega.{arith}
-use mathlib.Core.Path.{◌≡◌, refl, sym, ◌∙◌}
+use lib.ListN.{length}
+use Prim.Native.Nat.{◌+◌, ◌-◌, ◌≤◌}
+use mathlib.Core.Path.{◌≡◌}
 use Rattle.frame_state_words.proofs.copy.Given as goal
 
 abbrev pub invariant-loop-i : goal.invariant-loop-i

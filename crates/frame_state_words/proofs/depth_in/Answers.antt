@@ -2,7 +2,6 @@
 use Prim.Native.Nat.{◌-◌, ◌^◌}
 use borrow.Author.Tests.{le-leb, lt-leb, not-true, not-false}
 use Rattle.frame_word_layout.specs.Words.{is_known, is_machine, depth_in}
-use borrow.Author.Rules.{rules}
 use Rattle.frame_state_words.proofs.depth_in.Goals as goal
 
 pub returns-then-not-is_known : goal.returns-then-not-is_known

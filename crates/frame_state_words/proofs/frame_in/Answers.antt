@@ -1,7 +1,6 @@
 -- The definition's own tests of the two flags. Assumes nothing.
 use borrow.Author.Tests.{le-leb, lt-leb}
 use Rattle.frame_word_layout.specs.Words.{frame_in}
-use borrow.Author.Rules.{rules}
 use Rattle.frame_state_words.proofs.frame_in.Goals as goal
 
 pub returns-then-flag-gt1 : goal.returns-then-flag-gt1

@@ -1,12 +1,11 @@
 use Rattle.frame_word_layout.specs.Words.{frames_in}
 use Rattle.frame_word_layout.proofs.Laws.{frames-next}
-use lib.ListN.{length, take, length-set}
+use lib.ListN.{length-set}
 use lib.Seq.{take-suc-set, take_all}
-use Prim.Native.Nat.{ℕ, ◌-◌, ◌≤◌, zero-le}
+use Prim.Native.Nat.{ℕ, ◌-◌, zero-le}
 use native.Mathlib.Numerals.{add-one}
 use native.Mathlib.Omega.{arith}
 use mathlib.Core.Path.{◌≡◌, refl, sym, ap, ◌∙◌}
-use borrow.Author.Rules.{rules}
 use Rattle.frame_state_words.proofs.frames_in.Goals as goal
 
 pub loop-i-init : goal.loop-i-init

@@ -1,9 +1,7 @@
 -- A bank has 32 registers. Assumes nothing.
 use Rattle.base_words.specs.Splice.{splice}
 use Rattle.base_words.proofs.Splices.{part-whole}
-use lib.ListN.{length}
-use mathlib.Core.Path.{◌≡◌, ap, ◌∙◌}
-use borrow.Author.Rules.{rules}
+use mathlib.Core.Path.{ap, ◌∙◌}
 use Rattle.frame_state_words.proofs.put_bank.Goals as goal
 
 pub returns : goal.returns

@@ -2,7 +2,6 @@
 use Rattle.frame_word_layout.specs.Calls.{changed}
 use lib.ListN.{length-set}
 use mathlib.Core.Path.{◌∙◌}
-use borrow.Author.Rules.{rules}
 use Rattle.frame_state_words.proofs.put_changed.Goals as goal
 
 pub put_frame-requires : goal.put_frame-requires

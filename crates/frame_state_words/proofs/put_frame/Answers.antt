@@ -5,7 +5,6 @@ use Rattle.frame_word_layout.proofs.Laws.{six-words}
 use lib.ListN.{length-set}
 use Prim.Native.Nat.{◌+◌, ◌*◌}
 use native.Mathlib.Omega.{arith}
-use borrow.Author.Rules.{rules}
 use Rattle.frame_state_words.proofs.put_frame.Goals as goal
 
 pub bounds-words-at-2 : goal.bounds-words-at-2

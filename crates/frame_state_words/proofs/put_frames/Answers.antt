@@ -1,11 +1,8 @@
-use Rattle.base_words.specs.Splice.{splice}
-use Rattle.frame_word_layout.specs.Words.{record_words, records_at, frames_words}
+use Rattle.frame_word_layout.specs.Words.{record_words, records_at}
 use Rattle.frame_word_layout.proofs.Laws.{frames-turn, frames-end}
-use lib.ListN.{length, drop}
-use Prim.Native.Nat.{◌+◌, ◌-◌, ◌*◌, ◌≤◌, zero-le}
+use Prim.Native.Nat.{◌+◌, ◌-◌, ◌*◌, zero-le}
 use native.Mathlib.Omega.{arith}
-use mathlib.Core.Path.{◌≡◌, refl, sym, ◌∙◌}
-use borrow.Author.Rules.{rules}
+use mathlib.Core.Path.{refl, sym, ◌∙◌}
 use Rattle.frame_state_words.proofs.put_frames.Goals as goal
 
 pub loop-i-init : goal.loop-i-init

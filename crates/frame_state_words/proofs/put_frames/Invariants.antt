@@ -1,12 +1,9 @@
 -- What is left to put, put from here, gives the whole. Assumes nothing.
 use Rattle.base_words.specs.Splice.{splice}
 use Rattle.frame_word_layout.specs.Words.{record_words, records_at, frames_words}
-use Rattle.frame_word_layout.proofs.Laws.{frames-turn, frames-end}
 use lib.ListN.{length, drop}
-use Prim.Native.Nat.{◌+◌, ◌-◌, ◌*◌, ◌≤◌, zero-le}
-use native.Mathlib.Omega.{arith}
-use mathlib.Core.Path.{◌≡◌, refl, sym, ◌∙◌}
-use borrow.Author.Rules.{rules}
+use Prim.Native.Nat.{◌+◌, ◌-◌, ◌*◌, ◌≤◌}
+use mathlib.Core.Path.{◌≡◌}
 use Rattle.frame_state_words.proofs.put_frames.Given as goal
 
 abbrev pub invariant-loop-i : goal.invariant-loop-i

@@ -3,7 +3,6 @@ use Rattle.frame_word_layout.proofs.Laws.{registers-put, length-register-words}
 use lib.ListN.{length-set}
 use native.Mathlib.Omega.{arith}
 use mathlib.Core.Path.{◌∙◌}
-use borrow.Author.Rules.{rules}
 use Rattle.frame_state_words.proofs.put_registers.Goals as goal
 
 pub bounds-words-69 : goal.bounds-words-69

@@ -2,7 +2,6 @@
 use Rattle.frame_word_layout.proofs.Laws.{state-put}
 use lib.ListN.{length-set}
 use mathlib.Core.Path.{◌∙◌}
-use borrow.Author.Rules.{rules}
 use Rattle.frame_state_words.proofs.put_state.Goals as goal
 
 pub put_frames-requires : goal.put_frames-requires

@@ -6,7 +6,6 @@ use lib.ListN.{replicate}
 use Prim.Native.Nat.{◌+◌}
 use native.Mathlib.Omega.{arith}
 use mathlib.Core.Path.{◌≡◌, ◌∙◌}
-use borrow.Author.Rules.{rules}
 use Rattle.frame_state_words.proofs.registers_in.Goals as goal
 
 pub returns : goal.returns

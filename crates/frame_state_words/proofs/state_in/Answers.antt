@@ -1,6 +1,5 @@
 -- By the parts of the definition. Assumes nothing.
 use Rattle.frame_word_layout.specs.Words.{state_in}
-use borrow.Author.Rules.{rules}
 use Rattle.frame_state_words.proofs.state_in.Goals as goal
 
 pub returns : goal.returns

@@ -1,7 +1,6 @@
 -- The machine's own call of the state read, which it leaves as it is. Assumes nothing.
 use Rattle.frame_machine.specs.declared.FrameOutcome.{FrameOutcome}
 use mathlib.Core.Path.{ap}
-use borrow.Author.Rules.{rules}
 use Rattle.frame_word_calls.proofs.write_memory.Goals as goal
 
 pub returns : goal.returns

@@ -3,7 +3,6 @@ use Rattle.frame_machine.specs.declared.FrameOutcome.{FrameOutcome}
 use Rattle.frame_word_layout.proofs.Laws.{write-yes-words, write-no-words}
 use lib.ListN.{length}
 use mathlib.Core.Path.{sym, ap, ◌∙◌}
-use borrow.Author.Rules.{rules}
 use Rattle.frame_word_calls.proofs.write_register.Goals as goal
 
 pub returns-in-Refused : goal.returns-in-Refused

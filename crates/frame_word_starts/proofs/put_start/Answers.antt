@@ -7,7 +7,6 @@ use Rattle.frame_machine.specs.declared.FrameRefusal.{FrameRefusal}
 use Rattle.frame_machine.specs.declared.FrameAnswer.{FrameAnswer}
 use Rattle.frame_machine.specs.declared.FrameAnswer.TheVariants.{Accepted, Refused}
 use Rattle.frame_machine.specs.Answers.{settle}
-use borrow.Author.Rules.{rules}
 use Rattle.frame_word_starts.proofs.put_start.Goals as goal
 
 settle-yes : (a : FrameAnswer) (ws vs : List ℕ) → a ≡ Accepted → ws ≡ settle a ws vs

@@ -1,7 +1,6 @@
 -- The start of the registers read, and all its words. Assumes nothing.
-use mathlib.Core.List.{List}
 use mathlib.Core.Path.{ap, ◌∙◌}
-use lib.ListN.{length, get_or, set}
+use lib.ListN.{length}
 use Rattle.base_conventions.specs.declared.Convention.TheVariants.{Z}
 use Rattle.frame_machine.specs.declared.FrameOutcome.{FrameOutcome}
 use Rattle.frame_word_layout.proofs.Laws.{start-words}

@@ -3,7 +3,6 @@ use Rattle.frame_rules.specs.Frames.{writable_field}
 use borrow.Author.Tests.{lt-leb, le-leb, not-true, not-false}
 use native.Mathlib.Omega.{arith}
 use mathlib.Core.Path.{sym, ◌∙◌}
-use borrow.Author.Rules.{rules}
 use Rattle.frame_writing.proofs.field_writable.Goals as goal
 
 pub returns-then-not-has_condition : goal.returns-then-not-has_condition

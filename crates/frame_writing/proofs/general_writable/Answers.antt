@@ -2,7 +2,6 @@
 use Rattle.frame_rules.specs.Frames.{writable_register}
 use borrow.Author.Tests.{not-true, not-false}
 use mathlib.Core.Path.{sym, ◌∙◌}
-use borrow.Author.Rules.{rules}
 use Rattle.frame_writing.proofs.general_writable.Goals as goal
 
 pub returns-then-not-bank_writable : goal.returns-then-not-bank_writable

@@ -2,7 +2,6 @@
 use Rattle.frame_writing.proofs.Fields.{two-left, two-right}
 use native.Mathlib.Omega.{arith}
 use mathlib.Core.Path.{sym, ◌∙◌}
-use borrow.Author.Rules.{rules}
 use Rattle.frame_writing.proofs.in_spans.Goals as goal
 
 pub returns-then-in_span : goal.returns-then-in_span

@@ -2,7 +2,6 @@
 use Rattle.frame_rules.specs.Frames.{writable_register}
 use borrow.Author.Tests.{not-true, not-false}
 use mathlib.Core.Path.{sym, ◌∙◌}
-use borrow.Author.Rules.{rules}
 use Rattle.frame_writing.proofs.link_writable.Goals as goal
 
 pub returns-then-not-has_condition : goal.returns-then-not-has_condition

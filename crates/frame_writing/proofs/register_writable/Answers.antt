@@ -2,7 +2,6 @@
 use Rattle.frame_rules.specs.declared.RegisterBank.{RegisterBank}
 use Rattle.frame_rules.specs.Frames.{writable_register}
 use mathlib.Core.Path.{sym, ap, ◌∙◌}
-use borrow.Author.Rules.{rules}
 use Rattle.frame_writing.proofs.register_writable.Goals as goal
 
 pub returns-in-General : goal.returns-in-General

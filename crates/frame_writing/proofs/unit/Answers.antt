@@ -1,6 +1,5 @@
 use Rattle.frame_writing.proofs.Fields.{unit-bounds, unit-turn}
 use Rattle.frame_rules.specs.Frames.{unit_of}
-use Prim.Native.Nat.{◌≤◌}
 use native.Mathlib.Omega.{arith}
 use mathlib.Core.Path.{◌≡◌, refl, sym, ap, ◌∙◌}
 use Rattle.frame_writing.proofs.unit.Goals as goal

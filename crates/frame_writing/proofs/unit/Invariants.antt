@@ -1,9 +1,7 @@
 -- From field 7 down to field n the weight grows by 16 at each turn. Assumes nothing.
-use Rattle.frame_writing.proofs.Fields.{unit-bounds, unit-turn}
 use Rattle.frame_rules.specs.Frames.{unit_of}
 use Prim.Native.Nat.{◌≤◌}
-use native.Mathlib.Omega.{arith}
-use mathlib.Core.Path.{◌≡◌, refl, sym, ap, ◌∙◌}
+use mathlib.Core.Path.{◌≡◌}
 use Rattle.frame_writing.proofs.unit.Given as goal
 
 abbrev pub invariant-loop-i : goal.invariant-loop-i

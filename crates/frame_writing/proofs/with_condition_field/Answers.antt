@@ -4,7 +4,6 @@ use Rattle.frame_rules.proofs.Writing.{field_fit}
 use Rattle.frame_writing.proofs.Fields.{field-parts}
 use Rattle.frame_rules.specs.Frames.{with_condition_field}
 use native.Mathlib.Omega.{arith}
-use borrow.Author.Rules.{rules}
 use Rattle.frame_writing.proofs.with_condition_field.Goals as goal
 
 pub overflow_mul-result-3 : goal.overflow_mul-result-3

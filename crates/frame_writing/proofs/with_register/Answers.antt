@@ -5,7 +5,6 @@ use Rattle.frame_rules.specs.declared.RegisterBank.{RegisterBank}
 use Rattle.frame_rules.specs.Frames.{with_register}
 use native.Mathlib.Omega.{arith}
 use mathlib.Core.Path.{sym, ap, subst}
-use borrow.Author.Rules.{rules}
 use Rattle.frame_writing.proofs.with_register.Goals as goal
 
 pub offset_bounds-q-n : goal.offset_bounds-q-n

@@ -1,5 +1,4 @@
 -- Thirteen stores are the entry.
-use borrow.Author.Rules.{rules}
 use mathlib.Core.Path.{refl}
 use native.Mathlib.Omega.{arith}
 use lib.ListN.{length-set}

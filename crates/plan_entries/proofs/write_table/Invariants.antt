@@ -1,12 +1,8 @@
 -- A word a turn: the table has the first i words that are kept at its head.
-use borrow.Author.Rules.{rules}
-use mathlib.Core.Path.{◌≡◌, ap, ◌∙◌}
-use Prim.Native.Nat.{ℕ, ◌-◌, ◌≤◌}
-use native.Mathlib.Omega.{arith}
-use lib.ListN.{length, take}
+use mathlib.Core.Path.{◌≡◌}
+use Prim.Native.Nat.{◌-◌, ◌≤◌}
+use lib.ListN.{take}
 use Rattle.base_words.specs.Splice.{overlay}
-use Rattle.base_words.proofs.Splices.{length-overlay}
-use Rattle.plan_entries.proofs.Copies.{copy_start, copy_more, copy-none, copy-all}
 use Rattle.plan_entries.proofs.write_table.Given as goal
 
 abbrev pub invariant-loop-i : goal.invariant-loop-i

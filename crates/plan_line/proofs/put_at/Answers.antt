@@ -1,5 +1,4 @@
 -- The mark, then the number.
-use borrow.Author.Rules.{rules}
 use Rattle.plan_line.proofs.put_at.Goals as goal
 
 pub returns : goal.returns

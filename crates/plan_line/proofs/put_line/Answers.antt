@@ -2,7 +2,6 @@
 use Rattle.plan_text.proofs.Writing.{wrote_then}
 use Rattle.plan_line.specs.Line.{line_text}
 use native.Mathlib.Omega.{arith}
-use borrow.Author.Rules.{rules}
 use Rattle.plan_line.proofs.put_line.Goals as goal
 
 pub returns : goal.returns

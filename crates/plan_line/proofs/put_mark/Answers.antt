@@ -1,6 +1,5 @@
 -- By cases on the bank.
 use native.Mathlib.Omega.{arith}
-use borrow.Author.Rules.{rules}
 use Rattle.plan_line.proofs.put_mark.Goals as goal
 
 pub returns-in-General : goal.returns-in-General

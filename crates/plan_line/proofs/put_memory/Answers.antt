@@ -2,7 +2,6 @@
 use Rattle.plan_text.proofs.Writing.{wrote_nothing}
 use borrow.Author.Tests.{lt-ltb, le-ltb}
 use native.Mathlib.Omega.{arith}
-use borrow.Author.Rules.{rules}
 use Rattle.plan_line.proofs.put_memory.Goals as goal
 
 pub returns-then-memory-gt0 : goal.returns-then-memory-gt0

@@ -1,7 +1,6 @@
 -- A register is its bank's mark and its number.
 use Rattle.plan_text.proofs.Writing.{wrote_then}
 use native.Mathlib.Omega.{arith}
-use borrow.Author.Rules.{rules}
 use Rattle.plan_line.proofs.put_place.Goals as goal
 
 pub returns-in-Register : goal.returns-in-Register

@@ -1,7 +1,6 @@
 -- By the mark.
 use Rattle.plan_text.proofs.Writing.{wrote_nothing}
 use native.Mathlib.Omega.{arith}
-use borrow.Author.Rules.{rules}
 use Rattle.plan_line.proofs.put_reference.Goals as goal
 
 pub returns-then-indirect : goal.returns-then-indirect

@@ -1,14 +1,11 @@
 use Rattle.plan_line.proofs.Places.{wrote-place}
 use Rattle.plan_text.proofs.Writing.{wrote-length, wrote_nothing}
-use Rattle.plan_text.specs.Writing.{Wrote}
 use Rattle.plan_line.specs.Line.{places_text}
 use Rattle.plan_places.proofs.Registers.{length-registers}
 use Rattle.plan_places.specs.Places.{registers_of}
 use lib.Seq.{take_all}
-use lib.ListN.{take}
-use borrow.Author.Rules.{rules}
 use native.Mathlib.Omega.{arith}
-use Prim.Native.Nat.{◌+◌, ◌-◌, ◌*◌, ◌≤◌}
+use Prim.Native.Nat.{◌-◌}
 use Rattle.plan_line.proofs.put_registers.Goals as goal
 
 pub loop-i-init : goal.loop-i-init

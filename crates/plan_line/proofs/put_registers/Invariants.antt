@@ -1,14 +1,8 @@
 -- The registers so far are written.
-use Rattle.plan_line.proofs.Places.{wrote-place}
-use Rattle.plan_text.proofs.Writing.{wrote-length, wrote_nothing}
 use Rattle.plan_text.specs.Writing.{Wrote}
 use Rattle.plan_line.specs.Line.{places_text}
-use Rattle.plan_places.proofs.Registers.{length-registers}
 use Rattle.plan_places.specs.Places.{registers_of}
-use lib.Seq.{take_all}
 use lib.ListN.{take}
-use borrow.Author.Rules.{rules}
-use native.Mathlib.Omega.{arith}
 use Prim.Native.Nat.{◌+◌, ◌-◌, ◌*◌, ◌≤◌}
 use Rattle.plan_line.proofs.put_registers.Given as goal
 

@@ -6,7 +6,6 @@ use lib.ListN.{length}
 use Prim.Native.Nat.{◌≤◌, ◌<◌}
 use borrow.Author.Tests.{lt-ltb, le-ltb}
 use native.Mathlib.Omega.{arith}
-use borrow.Author.Rules.{rules}
 use Rattle.plan_listing.proofs.listing.Goals as goal
 
 pub put_plan-length-requires : goal.put_plan-length-requires

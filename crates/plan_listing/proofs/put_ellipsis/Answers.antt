@@ -1,7 +1,6 @@
 -- By the mark.
 use Rattle.plan_text.proofs.Writing.{wrote_nothing}
 use native.Mathlib.Omega.{arith}
-use borrow.Author.Rules.{rules}
 use Rattle.plan_listing.proofs.put_ellipsis.Goals as goal
 
 pub returns-then-ellipsis : goal.returns-then-ellipsis

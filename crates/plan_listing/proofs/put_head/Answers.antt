@@ -2,7 +2,6 @@
 use Rattle.plan_text.proofs.Writing.{wrote_then}
 use Rattle.plan_listing.specs.Text.{head_text}
 use native.Mathlib.Omega.{arith}
-use borrow.Author.Rules.{rules}
 use Rattle.plan_listing.proofs.put_head.Goals as goal
 
 pub returns : goal.returns

@@ -1,14 +1,8 @@
 -- The lines so far are written.
-use Rattle.plan_listing.proofs.Lines.{wrote-line}
-use Rattle.plan_text.proofs.Writing.{wrote-length, wrote_nothing, wrote_then}
 use Rattle.plan_text.specs.Writing.{Wrote}
-use Rattle.plan_listing.specs.Text.{accepted_text, lines_text}
-use Rattle.plan_plans.specs.Plan.{no_span}
-use lib.Seq.{take_all, length-take-le, get_or-take}
+use Rattle.plan_listing.specs.Text.{lines_text}
 use lib.ListN.{take}
-use native.Mathlib.Omega.{arith}
 use Prim.Native.Nat.{◌+◌, ◌-◌, ◌*◌, ◌≤◌}
-use mathlib.Core.Path.{sym}
 use Rattle.plan_listing.proofs.put_lines.Given as goal
 
 abbrev pub invariant-loop-i : goal.invariant-loop-i

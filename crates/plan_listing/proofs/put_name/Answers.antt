@@ -1,6 +1,5 @@
 -- By cases on the convention.
 use native.Mathlib.Omega.{arith}
-use borrow.Author.Rules.{rules}
 use Rattle.plan_listing.proofs.put_name.Goals as goal
 
 pub returns-in-Ppc64 : goal.returns-in-Ppc64

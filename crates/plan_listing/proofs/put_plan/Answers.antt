@@ -1,6 +1,5 @@
 -- By cases on the outcome.
 use Rattle.plan_listing.specs.Text.{plan_text_of, accepted_text}
-use borrow.Author.Rules.{rules}
 use Rattle.plan_listing.proofs.put_plan.Goals as goal
 
 pub returns-in-Accepted : goal.returns-in-Accepted

@@ -1,7 +1,6 @@
 -- Each part in its turn.
 use Rattle.plan_text.proofs.Writing.{wrote_then}
 use Rattle.plan_listing.specs.Text.{refusal_text}
-use borrow.Author.Rules.{rules}
 use Rattle.plan_listing.proofs.put_refusal.Goals as goal
 
 pub returns : goal.returns

@@ -3,7 +3,6 @@ use Rattle.plan_text.proofs.Writing.{wrote_then}
 use Rattle.plan_places.specs.Helpers.{ResultNumbered}
 use native.Mathlib.Omega.{arith}
 use mathlib.Core.Path.{subst}
-use borrow.Author.Rules.{rules}
 use Rattle.plan_listing.proofs.put_result_places.Goals as goal
 
 pub put_registers-requires : goal.put_registers-requires

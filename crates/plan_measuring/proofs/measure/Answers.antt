@@ -1,5 +1,4 @@
 -- What comes before the arguments, then the arguments, and then the first unclear one.
-use borrow.Author.Rules.{rules}
 use native.Mathlib.Omega.{arith}
 use mathlib.Core.Path.{sym, ◌∙◌}
 use Rattle.sig_signatures.proofs.Laws.{signature-refused}

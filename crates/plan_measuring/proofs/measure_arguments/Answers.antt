@@ -1,4 +1,3 @@
-use borrow.Author.Rules.{rules}
 use native.Mathlib.Omega.{arith}
 use Prim.Native.Nat.{◌-◌}
 use mathlib.Core.Path.{ap, ◌∙◌}
@@ -9,7 +8,7 @@ use Rattle.sig_signatures.proofs.Loop.{turn-full, turn-no}
 use Rattle.plan_places.proofs.Bounds.{rules-lawful}
 use Rattle.plan_plans.specs.Plan.{refused_plan, measure_of}
 use Rattle.plan_plans.proofs.Fold.{reached-roomy}
-use Rattle.plan_plans.proofs.Measures.{Measuring, measuring-start, measuring-more, measure-no, measure-trailing, measure-end, unclear-no, unclear-trailing, unclear-end}
+use Rattle.plan_plans.proofs.Measures.{measuring-start, measuring-more, measure-no, measure-trailing, measure-end, unclear-no, unclear-trailing, unclear-end}
 use Rattle.plan_measuring.proofs.measure_arguments.Goals as goal
 
 pub loop-next-init : goal.loop-next-init

@@ -1,8 +1,5 @@
 -- Where the rules are always clear no argument is unclear; else the first one is known, and judged.
-use borrow.Author.Rules.{rules}
 use mathlib.Core.Path.{sym, ap, ◌∙◌}
-use mathlib.Core.List.{List}
-use Prim.Native.Nat.{ℕ}
 use lib.ListN.{length}
 use Rattle.sig_signatures.specs.Read.{arguments_in, signature_of}
 use Rattle.plan_places.specs.Helpers.{always_clear}

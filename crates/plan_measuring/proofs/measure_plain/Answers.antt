@@ -1,4 +1,3 @@
-use borrow.Author.Rules.{rules}
 use native.Mathlib.Omega.{arith}
 use Prim.Native.Nat.{◌-◌}
 use mathlib.Core.Path.{ap, ◌∙◌}
@@ -10,7 +9,7 @@ use Rattle.plan_places.proofs.Bounds.{rules-lawful}
 use Rattle.plan_plans.specs.Plan.{refused_plan, measure_of}
 use Rattle.plan_plans.proofs.Fold.{reached-roomy}
 use Rattle.plan_plans.proofs.Measures.{measuring-start, measure-no, measure-trailing, measure-end}
-use Rattle.plan_measuring.proofs.Sizing.{Sizing, sizing-more}
+use Rattle.plan_measuring.proofs.Sizing.{sizing-more}
 use Rattle.plan_measuring.proofs.measure_plain.Goals as goal
 
 pub loop-place-init : goal.loop-place-init

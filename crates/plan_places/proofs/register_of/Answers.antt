@@ -2,7 +2,6 @@
 use Rattle.plan_places.proofs.Registers.{register-floating, register-general}
 use native.Mathlib.Omega.{arith}
 use mathlib.Core.Path.{sym}
-use borrow.Author.Rules.{rules}
 use Rattle.plan_places.proofs.register_of.Goals as goal
 
 pub returns-then-i-floats : goal.returns-then-i-floats

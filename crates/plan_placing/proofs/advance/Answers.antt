@@ -2,7 +2,6 @@
 use Rattle.plan_places.specs.Helpers.{LawfulCalls}
 use native.Mathlib.Omega.{arith}
 use mathlib.Core.Path.{subst}
-use borrow.Author.Rules.{rules}
 use Rattle.plan_placing.proofs.advance.Goals as goal
 
 pub advance-requires : goal.advance-requires

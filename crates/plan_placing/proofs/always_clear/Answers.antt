@@ -1,6 +1,5 @@
 -- By cases on the family.
 use Rattle.plan_places.specs.Helpers.{always_clear}
-use borrow.Author.Rules.{rules}
 use Rattle.plan_placing.proofs.always_clear.Goals as goal
 
 pub returns-in-Power : goal.returns-in-Power

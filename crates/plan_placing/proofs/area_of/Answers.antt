@@ -1,6 +1,5 @@
 -- The definition's own numbers.
 use Rattle.plan_places.specs.Step.{area_of}
-use borrow.Author.Rules.{rules}
 use Rattle.plan_placing.proofs.area_of.Goals as goal
 
 pub returns : goal.returns

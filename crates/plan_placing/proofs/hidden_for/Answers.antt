@@ -1,6 +1,5 @@
 -- By cases on the type and, for a float, on the family and the format.
 use Rattle.plan_places.specs.Step.{hidden_for}
-use borrow.Author.Rules.{rules}
 use Rattle.plan_placing.proofs.hidden_for.Goals as goal
 
 pub returns-in-Integer : goal.returns-in-Integer

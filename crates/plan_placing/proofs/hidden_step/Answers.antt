@@ -2,7 +2,6 @@
 use Rattle.plan_places.proofs.Bounds.{rules-lawful, fresh-roomy, word-most}
 use Rattle.plan_places.specs.Step.{rules_of}
 use native.Mathlib.Omega.{arith}
-use borrow.Author.Rules.{rules}
 use Rattle.plan_placing.proofs.hidden_step.Goals as goal
 
 pub step-requires : goal.step-requires

@@ -1,10 +1,7 @@
 -- The step of a first argument that is a pointer, computed.
-use borrow.Author.Rules.{rules}
-use mathlib.Core.Path.{sym, ap, ◌∙◌}
+use mathlib.Core.Path.{sym, ◌∙◌}
 use native.Mathlib.Omega.{arith}
-use Rattle.plan_places.specs.Step.{rules_of, fresh_cursor, start_of}
-use mathlib.Core.Bool.{true}
-use Rattle.plan_places.specs.declared.CallRules.{CallRules}
+use Rattle.plan_places.specs.Step.{rules_of}
 use Rattle.plan_places.proofs.Bounds.{rules-lawful, fresh-roomy}
 use Rattle.plan_placing.proofs.Address.{power-past, z-past}
 use Rattle.plan_placing.proofs.past_address.Goals as goal

@@ -2,7 +2,6 @@
 use Rattle.plan_places.proofs.Bounds.{rules-lawful, returning-lawful, fresh-roomy}
 use Rattle.plan_places.specs.Step.{result_of, placed}
 use mathlib.Core.Path.{sym, ◌∙◌}
-use borrow.Author.Rules.{rules}
 use Rattle.plan_placing.proofs.result_places.Goals as goal
 
 pub returns-then-hidden_for : goal.returns-then-hidden_for

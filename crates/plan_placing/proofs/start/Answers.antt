@@ -1,6 +1,5 @@
 -- The hidden address comes first, or nothing does.
 use Rattle.plan_places.specs.Step.{start_of}
-use borrow.Author.Rules.{rules}
 use Rattle.plan_placing.proofs.start.Goals as goal
 
 pub returns-then-hidden : goal.returns-then-hidden

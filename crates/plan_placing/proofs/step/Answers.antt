@@ -2,7 +2,6 @@
 use Rattle.plan_places.specs.Helpers.{LawfulCalls}
 use native.Mathlib.Omega.{arith}
 use mathlib.Core.Path.{subst}
-use borrow.Author.Rules.{rules}
 use Rattle.plan_placing.proofs.step.Goals as goal
 
 pub step-requires : goal.step-requires

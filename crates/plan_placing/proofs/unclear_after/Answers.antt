@@ -4,7 +4,6 @@ use mathlib.Core.Bool.{Bool, false}
 use mathlib.Core.Path.{◌≡◌, refl, sym, ◌∙◌}
 use Rattle.plan_places.specs.Helpers.{unclear_after}
 use Rattle.plan_places.proofs.Written.{always-clear}
-use borrow.Author.Rules.{rules}
 use Rattle.plan_placing.proofs.unclear_after.Goals as goal
 
 stays : (u i : ℕ) (b : Bool) → b ≡ false → u ≡ unclear_after u b i

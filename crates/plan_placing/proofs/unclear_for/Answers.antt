@@ -1,6 +1,5 @@
 -- By cases on the family.
 use Rattle.plan_places.specs.Step.{unclear_for}
-use borrow.Author.Rules.{rules}
 use Rattle.plan_placing.proofs.unclear_for.Goals as goal
 
 pub returns-in-Power : goal.returns-in-Power

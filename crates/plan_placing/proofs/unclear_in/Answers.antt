@@ -2,7 +2,6 @@
 use native.Mathlib.Omega.{arith}
 use mathlib.Core.Path.{sym, ◌∙◌}
 use Rattle.plan_places.proofs.Bounds.{unclear-kept, unclear-found, unclear-none}
-use borrow.Author.Rules.{rules}
 use Rattle.plan_placing.proofs.unclear_in.Goals as goal
 
 pub returns-then-unclear-ne0 : goal.returns-then-unclear-ne0

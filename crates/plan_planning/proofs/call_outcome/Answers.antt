@@ -1,7 +1,6 @@
 -- Rules that are always clear leave the reading's outcome.
 use mathlib.Core.Path.{sym, ◌∙◌}
 use Rattle.plan_plans.proofs.Calls.{none-unclear, clear-outcome}
-use borrow.Author.Rules.{rules}
 use Rattle.plan_planning.proofs.call_outcome.Goals as goal
 
 pub returns-then-always_clear : goal.returns-then-always_clear

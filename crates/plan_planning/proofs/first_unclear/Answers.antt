@@ -2,11 +2,9 @@ use mathlib.Core.Path.{sym, ◌∙◌}
 use Prim.Native.Nat.{◌-◌}
 use native.Mathlib.Omega.{arith}
 use Rattle.plan_places.proofs.Bounds.{rules-lawful}
-use Rattle.sig_signatures.specs.Types.{types_in}
 use Rattle.sig_signatures.proofs.Types.{length_types, types-drop}
 use Rattle.plan_plans.proofs.Fold.{reached-roomy}
-use Rattle.plan_plans.proofs.Calls.{none-unclear, Clearing, clearing-start, clearing-more, clearing-end}
-use borrow.Author.Rules.{rules}
+use Rattle.plan_plans.proofs.Calls.{none-unclear, clearing-start, clearing-more, clearing-end}
 use Rattle.plan_planning.proofs.first_unclear.Goals as goal
 
 pub returns-then-always_clear : goal.returns-then-always_clear

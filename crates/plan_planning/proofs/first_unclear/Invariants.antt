@@ -1,12 +1,7 @@
 -- The loop looks at one argument a turn; what it found and what is left give the first of all (`Clearing`).
-use mathlib.Core.Path.{sym, ◌∙◌}
 use Prim.Native.Nat.{◌-◌}
-use native.Mathlib.Omega.{arith}
-use Rattle.plan_places.proofs.Bounds.{rules-lawful}
 use Rattle.sig_signatures.specs.Types.{types_in}
-use Rattle.sig_signatures.proofs.Types.{length_types, types-drop}
-use Rattle.plan_plans.proofs.Fold.{reached-roomy}
-use Rattle.plan_plans.proofs.Calls.{none-unclear, Clearing, clearing-start, clearing-more, clearing-end}
+use Rattle.plan_plans.proofs.Calls.{Clearing}
 use borrow.Author.Rules.{rules}
 use Rattle.plan_planning.proofs.first_unclear.Given as goal
 

@@ -1,6 +1,5 @@
 -- By cases on the result.
 use mathlib.Core.Path.{◌∙◌}
-use borrow.Author.Rules.{rules}
 use Rattle.plan_planning.proofs.hidden_in.Goals as goal
 
 pub returns-in-Value : goal.returns-in-Value

@@ -5,7 +5,6 @@ use Prim.Native.Nat.{suc, ◌-◌}
 use Rattle.sig_signatures.specs.declared.Outcome.{Outcome}
 use Rattle.sig_signatures.proofs.Types.{answer-plannable}
 use Rattle.plan_plans.proofs.Calls.{clear-outcome, unclear-outcome}
-use borrow.Author.Rules.{rules}
 use Rattle.plan_planning.proofs.later_outcome.Goals as goal
 
 pub first_unclear-unclear-requires : goal.first_unclear-unclear-requires

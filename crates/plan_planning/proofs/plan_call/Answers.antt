@@ -5,7 +5,6 @@ use Prim.Native.Nat.{suc, ◌-◌}
 use Rattle.plan_plans.specs.Plan.{refused_plan}
 use Rattle.sig_signatures.proofs.Types.{answer-plannable}
 use Rattle.plan_plans.proofs.Calls.{clear-plan, unclear-plan}
-use borrow.Author.Rules.{rules}
 use Rattle.plan_planning.proofs.plan_call.Goals as goal
 
 pub first_unclear-unclear-requires : goal.first_unclear-unclear-requires

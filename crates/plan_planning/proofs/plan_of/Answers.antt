@@ -1,6 +1,4 @@
 -- The reader's answer, planned.
-use mathlib.Core.Path.{ap, ◌∙◌}
-use borrow.Author.Rules.{rules}
 use Rattle.plan_planning.proofs.plan_of.Goals as goal
 
 pub plan_call-requires : goal.plan_call-requires

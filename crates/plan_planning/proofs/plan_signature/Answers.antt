@@ -1,6 +1,6 @@
 use Rattle.sig_signatures.proofs.Types.{length_types, types-drop}
 use Rattle.sig_signatures.specs.Types.{types_in}
-use Rattle.plan_plans.proofs.Turns.{Going, Kept, going-marked, going_more, going_end, gone-plan}
+use Rattle.plan_plans.proofs.Turns.{going-marked, going_more, going_end, gone-plan}
 use Rattle.plan_plans.specs.Helpers.{planned}
 use Rattle.plan_plans.specs.declared.Plan.{Plan}
 use Rattle.plan_plans.proofs.Fold.{reached-roomy}

@@ -1,17 +1,8 @@
 -- The loop plans one argument a turn; what it has planned and what is left make up the whole fold (`Going`).
-use Rattle.sig_signatures.proofs.Types.{length_types, types-drop}
 use Rattle.sig_signatures.specs.Types.{types_in}
-use Rattle.plan_plans.proofs.Turns.{Going, Kept, going-marked, going_more, going_end, gone-plan}
-use Rattle.plan_plans.specs.Helpers.{planned}
-use Rattle.plan_plans.specs.declared.Plan.{Plan}
-use Rattle.plan_plans.proofs.Fold.{reached-roomy}
-use Rattle.plan_places.proofs.Bounds.{rules-lawful}
-use Rattle.plan_places.proofs.Marked.{lawful-marked}
-use Rattle.plan_places.specs.Step.{rules_of, with_ellipsis, start_of, placed}
+use Rattle.plan_plans.proofs.Turns.{Going, Kept}
 use borrow.Author.Rules.{rules}
-use native.Mathlib.Omega.{arith}
 use Prim.Native.Nat.{◌-◌}
-use mathlib.Core.Path.{refl, sym, ap, ◌∙◌}
 use Rattle.plan_planning.proofs.plan_signature.Given as goal
 
 abbrev pub invariant-loop-i : goal.invariant-loop-i

@@ -1,7 +1,6 @@
 -- By cases on the result.
 use Rattle.sig_signatures.specs.Helpers.{SmallResult}
 use mathlib.Core.Path.{subst, ◌∙◌}
-use borrow.Author.Rules.{rules}
 use Rattle.plan_planning.proofs.result_in.Goals as goal
 
 pub result_places-requires : goal.result_places-requires

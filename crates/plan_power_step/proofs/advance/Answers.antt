@@ -1,6 +1,5 @@
 -- The next cursor of what the argument takes without an ellipsis, which moves none.
 use mathlib.Core.Path.{◌∙◌}
-use borrow.Author.Rules.{rules}
 use Rattle.plan_places.proofs.Marked.{next-plain}
 use Rattle.plan_power_step.proofs.advance.Goals as goal
 

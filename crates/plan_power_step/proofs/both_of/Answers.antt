@@ -1,6 +1,5 @@
 -- Words in every way, FPRs where they are left.
 use Rattle.plan_places.proofs.Shares.{share-both, share-none}
-use borrow.Author.Rules.{rules}
 use Rattle.plan_power_step.proofs.both_of.Goals as goal
 
 pub returns-then-room-m : goal.returns-then-room-m

@@ -1,7 +1,6 @@
 -- By cases on the type and, for a long double, on the edition.
 use Rattle.plan_places.specs.Power.{fprs}
 use native.Mathlib.Omega.{arith}
-use borrow.Author.Rules.{rules}
 use Rattle.plan_power_step.proofs.fprs_of.Goals as goal
 
 pub returns-in-Integer : goal.returns-in-Integer

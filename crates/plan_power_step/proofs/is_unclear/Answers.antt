@@ -5,7 +5,6 @@ use mathlib.Core.Path.{sym}
 use borrow.Author.Tests.{lt-ltb, le-ltb}
 use Rattle.plan_places.specs.Power.{unclear}
 use Rattle.plan_places.proofs.Written.{earlier-clear}
-use borrow.Author.Rules.{rules}
 use Rattle.plan_power_step.proofs.is_unclear.Goals as goal
 
 pub returns-then-left-eq0 : goal.returns-then-left-eq0

@@ -1,5 +1,4 @@
 -- The GPRs that the argument uses up are those of its words.
-use borrow.Author.Rules.{rules}
 use Rattle.plan_power_step.proofs.next_of.Goals as goal
 
 pub returns : goal.returns

@@ -1,7 +1,6 @@
 -- The words in memory are the last of the argument's, so that all its parts lie within its home.
 use Rattle.base_words.proofs.Basics.{words-split}
 use native.Mathlib.Omega.{arith}
-use borrow.Author.Rules.{rules}
 use Rattle.plan_power_step.proofs.place.Goals as goal
 
 pub overflow_mul-word-2 : goal.overflow_mul-word-2

@@ -2,7 +2,6 @@
 use mathlib.Core.Path.{◌∙◌}
 use Rattle.plan_places.proofs.Shares.{share-words, share-memory, share-float}
 use native.Mathlib.Omega.{arith}
-use borrow.Author.Rules.{rules}
 use Rattle.plan_power_step.proofs.share_of.Goals as goal
 
 pub returns-then-m-eq0 : goal.returns-then-m-eq0

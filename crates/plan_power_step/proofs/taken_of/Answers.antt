@@ -3,7 +3,6 @@ use Rattle.plan_places.proofs.Shares.{share-shared}
 use Rattle.plan_places.specs.Power.{power_share}
 use Prim.Native.Nat.{◌-◌}
 use native.Mathlib.Omega.{arith}
-use borrow.Author.Rules.{rules}
 use Rattle.plan_power_step.proofs.taken_of.Goals as goal
 
 pub returns : goal.returns

@@ -4,7 +4,6 @@ use mathlib.Core.Path.{refl}
 use Prim.Native.Nat.{ℕ, ◌+◌, ◌-◌, ◌/◌}
 use native.Mathlib.Nat.{div-mul-le_self, mul_comm}
 use native.Mathlib.Omega.{arith}
-use borrow.Author.Rules.{rules}
 use Rattle.plan_power_step.proofs.words_of.Goals as goal
 
 pub returns-then-word-eq8 : goal.returns-then-word-eq8

@@ -1,9 +1,9 @@
 use mathlib.Core.Path.{◌≡◌, sym, ◌∙◌}
-use Prim.Native.Nat.{◌-◌, ◌+◌, ◌≤◌, ◌<◌}
+use Prim.Native.Nat.{◌-◌, ◌+◌}
 use native.Mathlib.Omega.{arith}
 use lib.Seq.{length-take-le, get_or-take}
-use lib.ListN.{length, take}
-use Rattle.plan_stored.proofs.Alike.{Even, even-start, even-more, even-differs, even-short, even-long}
+use lib.ListN.{take}
+use Rattle.plan_stored.proofs.Alike.{even-start, even-more, even-differs, even-short, even-long}
 use Rattle.plan_stored.proofs.alike_from.Goals as goal
 
 pub loop-i-init : goal.loop-i-init

@@ -1,10 +1,7 @@
 -- The bytes so far are the same.
-use mathlib.Core.Path.{◌≡◌, sym, ◌∙◌}
-use Prim.Native.Nat.{◌-◌, ◌+◌, ◌≤◌, ◌<◌}
-use native.Mathlib.Omega.{arith}
-use lib.Seq.{length-take-le, get_or-take}
-use lib.ListN.{length, take}
-use Rattle.plan_stored.proofs.Alike.{Even, even-start, even-more, even-differs, even-short, even-long}
+use Prim.Native.Nat.{◌-◌, ◌≤◌}
+use lib.ListN.{take}
+use Rattle.plan_stored.proofs.Alike.{Even}
 use Rattle.plan_stored.proofs.alike_from.Given as goal
 
 abbrev pub invariant-loop-i : goal.invariant-loop-i

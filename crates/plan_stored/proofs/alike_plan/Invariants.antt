@@ -1,20 +1,12 @@
 -- What was made so far is in the stored bytes.
-use native.Mathlib.Omega.{arith}
 use borrow.Author.Rules.{rules}
-use Prim.Native.Nat.{ℕ, ◌+◌, ◌-◌, ◌≤◌}
-use mathlib.Core.Path.{◌≡◌, sym, ap, subst, ◌∙◌}
-use mathlib.Core.List.{List, ◌++◌}
+use Prim.Native.Nat.{◌+◌, ◌-◌, ◌≤◌}
+use mathlib.Core.Path.{◌≡◌}
+use mathlib.Core.List.{◌++◌}
 use lib.ListN.{length, take, drop}
-use lib.Seq.{take-length, length-take-le, get_or-take}
-use Rattle.plan_plans.specs.Plan.{no_span}
-use Rattle.plan_places.proofs.Bounds.{rules-lawful}
-use Rattle.plan_places.specs.Step.{rules_of}
-use Rattle.plan_places.specs.Helpers.{LawfulCalls}
-use Rattle.plan_text.proofs.Writing.{wrote-length}
 use Rattle.plan_stored_items.specs.Places.{result_item}
-use Rattle.plan_stored.specs.Stored.{argument_items, plan_bytes, alike}
-use Rattle.plan_stored.proofs.Items.{items-next, items-none, plan-start}
-use Rattle.plan_stored.proofs.Alike.{Abreast, abreast-more, abreast-stops, made_more, made-stops, made-end}
+use Rattle.plan_stored.specs.Stored.{argument_items, plan_bytes}
+use Rattle.plan_stored.proofs.Alike.{Abreast}
 use Rattle.plan_stored.proofs.alike_plan.Given as goal
 
 abbrev pub invariant-loop-i : goal.invariant-loop-i

@@ -1,6 +1,5 @@
 -- By cases on the outcome.
 use Rattle.plan_stored.proofs.Outcomes.{writable, short, check-refused, check-accepted}
-use borrow.Author.Rules.{rules}
 use Rattle.plan_stored.proofs.check_plan.Goals as goal
 
 pub compare_plan-requires : goal.compare_plan-requires

@@ -1,7 +1,6 @@
 -- By the common bytes and both lengths.
 use native.Mathlib.Omega.{arith}
 use Rattle.plan_stored.proofs.Alike.{compared-long, compared-short, compared-all}
-use borrow.Author.Rules.{rules}
 use Rattle.plan_stored.proofs.compare_plan.Goals as goal
 
 pub returns-then-place-stored : goal.returns-then-place-stored

@@ -1,11 +1,10 @@
 use mathlib.Core.List.{◌++◌}
 use Rattle.plan_stored_items.specs.Places.{argument_item, result_item}
 use Rattle.plan_places.specs.Helpers.{LawfulCalls}
-use borrow.Author.Rules.{rules}
-use mathlib.Core.Path.{◌≡◌, sym, ap, subst, ◌∙◌}
-use Prim.Native.Nat.{ℕ, ◌-◌, ◌+◌, ◌*◌, ◌≤◌, ◌<◌}
+use mathlib.Core.Path.{sym, ap, subst}
+use Prim.Native.Nat.{◌-◌, ◌+◌}
 use native.Mathlib.Omega.{arith}
-use lib.ListN.{length, take, get_or, length-append}
+use lib.ListN.{length, take, length-append}
 use lib.Seq.{length-take-le, get_or-take, take_all}
 use Rattle.plan_plans.specs.Plan.{no_span}
 use Rattle.plan_places.proofs.Bounds.{rules-lawful}

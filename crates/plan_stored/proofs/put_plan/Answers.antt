@@ -1,15 +1,12 @@
 use native.Mathlib.Omega.{arith}
-use borrow.Author.Rules.{rules}
-use Prim.Native.Nat.{◌+◌, ◌-◌, ◌*◌, ◌≤◌}
+use Prim.Native.Nat.{◌-◌}
 use mathlib.Core.Path.{sym, subst}
 use lib.ListN.{take}
 use lib.Seq.{take_all, length-take-le, get_or-take}
 use Rattle.plan_plans.specs.Plan.{no_span}
 use Rattle.plan_places.proofs.Bounds.{rules-lawful}
-use Rattle.plan_places.specs.Step.{rules_of}
 use Rattle.plan_places.specs.Helpers.{LawfulCalls}
 use Rattle.sig_items.specs.Encode.{item}
-use Rattle.plan_text.specs.Writing.{Wrote}
 use Rattle.plan_text.proofs.Writing.{wrote-length, wrote_nothing, wrote_then}
 use Rattle.plan_stored.specs.Stored.{argument_items, plan_bytes}
 use Rattle.plan_stored.proofs.Items.{wrote-item}

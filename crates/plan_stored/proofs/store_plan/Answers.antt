@@ -1,7 +1,6 @@
 -- By cases on the outcome.
 use Rattle.plan_stored.proofs.Outcomes.{writable, short, store-refused, store-short, store-accepted}
 use native.Mathlib.Omega.{arith}
-use borrow.Author.Rules.{rules}
 use Rattle.plan_stored.proofs.store_plan.Goals as goal
 
 pub plan_length-n-requires : goal.plan_length-n-requires

@@ -1,6 +1,5 @@
 -- By cases on the outcome.
 use Rattle.plan_stored.proofs.Outcomes.{writable, short, length-refused, length-accepted}
-use borrow.Author.Rules.{rules}
 use Rattle.plan_stored.proofs.stored_length.Goals as goal
 
 pub plan_length-n-requires : goal.plan_length-n-requires

@@ -1,5 +1,5 @@
 -- The runs' counts say it.
-use mathlib.Core.Path.{sym, ◌∙◌}
+use mathlib.Core.Path.{sym}
 use native.Mathlib.Omega.{arith}
 use Rattle.base_words.proofs.Tests.{flag-le, flag-pick}
 use Rattle.plan_stored_items.specs.Places.{floating_run, general_run, memory_run, copy_run}

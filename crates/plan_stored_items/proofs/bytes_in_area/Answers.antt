@@ -1,6 +1,5 @@
 -- By the family of conventions.
 use Rattle.plan_stored_items.specs.Places.{bytes_in_area}
-use borrow.Author.Rules.{rules}
 use Rattle.plan_stored_items.proofs.bytes_in_area.Goals as goal
 
 pub returns-in-Power : goal.returns-in-Power

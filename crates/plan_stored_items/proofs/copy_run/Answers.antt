@@ -2,7 +2,6 @@
 use Rattle.base_words.proofs.Tests.{flag-pick}
 use Rattle.plan_stored_items.proofs.Laws.{copy_run_lem}
 use Rattle.plan_stored_items.specs.Places.{copy_run}
-use borrow.Author.Rules.{rules}
 use Rattle.plan_stored_items.proofs.copy_run.Goals as goal
 
 pub returns : goal.returns

@@ -2,7 +2,6 @@
 use native.Mathlib.Omega.{arith}
 use mathlib.Core.Path.{refl}
 use Rattle.plan_stored_items.specs.Places.{listed_from}
-use borrow.Author.Rules.{rules}
 use Rattle.plan_stored_items.proofs.listed_from.Goals as goal
 
 pub returns-in-Power : goal.returns-in-Power

@@ -1,5 +1,4 @@
 -- Each part is the definition's.
-use native.Mathlib.Omega.{arith}
 use Rattle.plan_stored_items.proofs.Laws.{memory-run}
 use Rattle.plan_stored_items.specs.Places.{memory_run}
 use borrow.Author.Rules.{rules}

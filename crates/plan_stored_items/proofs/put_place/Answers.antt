@@ -2,7 +2,6 @@
 use Rattle.plan_stored_items.specs.Places.{place_bytes}
 use Rattle.plan_text.proofs.Writing.{wrote_then}
 use native.Mathlib.Omega.{arith}
-use borrow.Author.Rules.{rules}
 use Rattle.plan_stored_items.proofs.put_place.Goals as goal
 
 pub returns : goal.returns

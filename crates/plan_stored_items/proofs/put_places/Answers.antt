@@ -1,7 +1,5 @@
 use Rattle.plan_text.proofs.Writing.{wrote-length}
-use Rattle.plan_stored_items.specs.Places.{place_run}
-use Rattle.plan_stored_items.proofs.Laws.{Going, going_start, going_more, going_end}
-use borrow.Author.Rules.{rules}
+use Rattle.plan_stored_items.proofs.Laws.{going_start, going_more, going_end}
 use native.Mathlib.Omega.{arith}
 use Rattle.plan_stored_items.proofs.put_places.Goals as goal
 

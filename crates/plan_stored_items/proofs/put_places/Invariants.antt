@@ -1,9 +1,6 @@
 -- The places so far are written.
-use Rattle.plan_text.proofs.Writing.{wrote-length}
 use Rattle.plan_stored_items.specs.Places.{place_run}
-use Rattle.plan_stored_items.proofs.Laws.{Going, going_start, going_more, going_end}
-use borrow.Author.Rules.{rules}
-use native.Mathlib.Omega.{arith}
+use Rattle.plan_stored_items.proofs.Laws.{Going}
 use Rattle.plan_stored_items.proofs.put_places.Given as goal
 
 abbrev pub invariant-loop-left : goal.invariant-loop-left

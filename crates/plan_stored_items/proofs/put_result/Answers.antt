@@ -2,7 +2,6 @@
 use Rattle.plan_text.proofs.Writing.{wrote_then}
 use Rattle.plan_stored_items.proofs.Laws.{wrote-result}
 use native.Mathlib.Omega.{arith}
-use borrow.Author.Rules.{rules}
 use Rattle.plan_stored_items.proofs.put_result.Goals as goal
 
 pub returns : goal.returns

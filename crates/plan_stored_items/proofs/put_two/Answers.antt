@@ -1,7 +1,6 @@
 -- A byte after the other.
 use Rattle.plan_text.proofs.Writing.{wrote_then}
 use native.Mathlib.Omega.{arith}
-use borrow.Author.Rules.{rules}
 use Rattle.plan_stored_items.proofs.put_two.Goals as goal
 
 pub returns : goal.returns

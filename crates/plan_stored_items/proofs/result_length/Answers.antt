@@ -1,8 +1,7 @@
 -- The runs' counts say it.
-use mathlib.Core.Path.{sym, ◌∙◌}
+use mathlib.Core.Path.{sym}
 use native.Mathlib.Omega.{arith}
 use Rattle.plan_stored_items.proofs.Laws.{length-result}
-use borrow.Author.Rules.{rules}
 use Rattle.plan_stored_items.proofs.result_length.Goals as goal
 
 pub returns : goal.returns

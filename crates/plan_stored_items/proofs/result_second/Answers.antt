@@ -1,7 +1,6 @@
 -- By cases on the result.
 use mathlib.Core.Path.{◌∙◌}
 use Rattle.plan_stored_items.proofs.Laws.{result-second-run}
-use borrow.Author.Rules.{rules}
 use Rattle.plan_stored_items.proofs.result_second.Goals as goal
 
 pub returns-in-Nothing : goal.returns-in-Nothing

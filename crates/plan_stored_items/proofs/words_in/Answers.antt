@@ -1,5 +1,5 @@
 -- A quotient times its divisor is at most the dividend.
-use Prim.Native.Nat.{ℕ, ◌/◌, ◌≤◌}
+use Prim.Native.Nat.{ℕ, ◌/◌}
 use Rattle.plan_places.specs.Step.{word_of}
 use mathlib.Core.Path.{◌≡◌, sym, ap, ◌∙◌}
 use native.Mathlib.Omega.{arith}

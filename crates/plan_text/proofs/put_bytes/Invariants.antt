@@ -1,9 +1,6 @@
 -- The bytes so far are written.
-use Rattle.plan_text.proofs.Writing.{wrote-length, wrote_nothing, wrote-more}
 use Rattle.plan_text.specs.Writing.{Wrote}
-use lib.Seq.{take_all}
 use lib.ListN.{length, take}
-use native.Mathlib.Omega.{arith}
 use Prim.Native.Nat.{◌+◌, ◌-◌, ◌≤◌}
 use mathlib.Core.Path.{◌≡◌}
 use Rattle.plan_text.proofs.put_bytes.Given as goal

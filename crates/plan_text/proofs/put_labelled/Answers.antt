@@ -1,7 +1,6 @@
 -- The label, then the number.
 use Rattle.plan_text.proofs.Writing.{wrote_then}
 use native.Mathlib.Omega.{arith}
-use borrow.Author.Rules.{rules}
 use Rattle.plan_text.proofs.put_labelled.Goals as goal
 
 pub returns : goal.returns

@@ -1,5 +1,4 @@
 -- The words of no result.
-use borrow.Author.Rules.{rules}
 use Rattle.plan_words.proofs.no_plan.Goals as goal
 
 pub returns : goal.returns

@@ -1,5 +1,4 @@
-use borrow.Author.Rules.{rules}
-use mathlib.Core.Path.{refl, sym, ap, ◌∙◌}
+use mathlib.Core.Path.{refl, ap, ◌∙◌}
 use native.Mathlib.Omega.{arith}
 use Prim.Native.Nat.{◌+◌, ◌-◌}
 use Rattle.base_words.specs.Splice.{overlay_whole}
@@ -13,7 +12,7 @@ use Rattle.plan_places.proofs.Marked.{lawful-marked}
 use Rattle.plan_plans.specs.Plan.{refused_plan}
 use Rattle.plan_plans.proofs.Fold.{reached-roomy}
 use Rattle.plan_words.specs.Planned.{planned_of}
-use Rattle.plan_words.proofs.Turns.{Keeping, keeping_start, keeping-more, keeping-length, plan-no, rows-no, plan-trailing, rows-trailing, plan-end, rows_end, plan-unclear, rows-unclear}
+use Rattle.plan_words.proofs.Turns.{keeping_start, keeping-more, keeping-length, plan-no, rows-no, plan-trailing, rows-trailing, plan-end, rows_end, plan-unclear, rows-unclear}
 use Rattle.plan_words.proofs.plan_arguments.Goals as goal
 
 pub loop-next-init : goal.loop-next-init

@@ -1,5 +1,4 @@
 -- What comes before the arguments, then the arguments; their rows are the whole reading's entries.
-use borrow.Author.Rules.{rules}
 use mathlib.Core.Path.{sym, ap, ◌∙◌}
 use native.Mathlib.Omega.{arith}
 use Rattle.base_words.specs.Splice.{overlay_whole}

@@ -1,5 +1,4 @@
 -- Of nothing, or of a type.
-use borrow.Author.Rules.{rules}
 use Rattle.plan_words.proofs.result_words.Goals as goal
 
 pub returns-in-Value : goal.returns-in-Value

@@ -1,9 +1,7 @@
 -- By the type: each way has its law.
-use borrow.Author.Rules.{rules}
-use mathlib.Core.Path.{sym, ap, ◌∙◌}
+use mathlib.Core.Path.{sym, ◌∙◌}
 use Rattle.base_conventions.specs.Numbers.{word_bytes}
-use Rattle.sig_types.specs.Sizes.{size_of, integer_size}
-use Rattle.plan_places.specs.Step.{rules_of, fresh_cursor, result_of}
+use Rattle.sig_types.specs.Sizes.{integer_size}
 use Rattle.plan_words.proofs.Returned.{single-result, double-result, long-power, long-z, struct-result, integer-result}
 use Rattle.plan_words.proofs.value_words.Goals as goal
 

@@ -1,7 +1,6 @@
 -- The next cursor of what the class takes.
 use Rattle.plan_places.specs.Step.{next_of}
 use mathlib.Core.Path.{sym, ◌∙◌}
-use borrow.Author.Rules.{rules}
 use Rattle.plan_z_step.proofs.advance.Goals as goal
 
 pub returns : goal.returns

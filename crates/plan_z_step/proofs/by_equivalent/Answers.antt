@@ -1,5 +1,4 @@
 -- By cases on the equivalent float.
-use borrow.Author.Rules.{rules}
 use Rattle.plan_z_step.proofs.by_equivalent.Goals as goal
 
 pub returns-in-Nothing : goal.returns-in-Nothing

@@ -1,6 +1,5 @@
 -- By cases on the type.
 use Rattle.plan_places.specs.ZSeries.{z_class}
-use borrow.Author.Rules.{rules}
 use Rattle.plan_z_step.proofs.class_of.Goals as goal
 
 pub returns-in-Integer : goal.returns-in-Integer

@@ -1,5 +1,4 @@
 -- Each part is the definition's, at the same numbers.
-use borrow.Author.Rules.{rules}
 use Rattle.plan_z_step.proofs.next_of.Goals as goal
 
 pub returns : goal.returns

@@ -1,6 +1,5 @@
 -- The span and the next cursor of what the class takes.
 use Rattle.plan_places.specs.Step.{placed, span_of, next_of}
-use borrow.Author.Rules.{rules}
 use Rattle.plan_z_step.proofs.step.Goals as goal
 
 pub returns : goal.returns

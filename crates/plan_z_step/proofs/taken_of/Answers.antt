@@ -3,7 +3,6 @@ use Rattle.base_words.specs.Basics.{round_up}
 use Rattle.plan_places.specs.ZSeries.{z_span_of, z_next_of}
 use native.Mathlib.Nat.{add-zero}
 use native.Mathlib.Omega.{arith}
-use borrow.Author.Rules.{rules}
 use Rattle.plan_z_step.proofs.taken_of.Goals as goal
 
 pub returns-in-Float : goal.returns-in-Float

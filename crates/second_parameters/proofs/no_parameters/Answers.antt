@@ -1,5 +1,4 @@
 -- Each is made of runs of nothing.
-use borrow.Author.Rules.{rules}
 use Rattle.second_parameters.proofs.no_parameters.Goals as goal
 
 pub returns : goal.returns

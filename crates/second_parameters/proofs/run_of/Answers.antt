@@ -1,6 +1,5 @@
 -- By the law for each way.
 use Rattle.second_parameters.proofs.Laws.{run_none, run-some}
-use Rattle.second_parameters.specs.Values.{run_of}
 use Rattle.second_parameters.proofs.run_of.Goals as goal
 
 pub returns-then-count-eq0 : goal.returns-then-count-eq0

@@ -5,7 +5,6 @@ use native.Mathlib.Omega.{arith}
 use Rattle.sig_signatures.proofs.Types.{answer-plannable}
 use Rattle.second_planner.specs.Answer.{no_plan}
 use Rattle.second_planner.proofs.Answers.{answer-clear, answer-straddling}
-use borrow.Author.Rules.{rules}
 use Rattle.second_planner.proofs.clear_plan.Goals as goal
 
 pub straddling_in-straddling-requires : goal.straddling_in-straddling-requires

@@ -1,5 +1,4 @@
 -- The table is the one of no parameters.
-use borrow.Author.Rules.{rules}
 use Rattle.second_planner.proofs.no_plan.Goals as goal
 
 pub returns : goal.returns

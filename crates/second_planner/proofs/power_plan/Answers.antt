@@ -4,7 +4,6 @@ use Rattle.sig_signatures.proofs.Types.{length_types}
 use Rattle.second_structure.specs.Structure.{hidden_words, power_hidden}
 use Rattle.second_structure.proofs.Turns.{fields-bounded, over-table}
 use Rattle.second_planner.specs.Answer.{power_plan, power_parameters}
-use borrow.Author.Rules.{rules}
 use Rattle.second_planner.proofs.power_plan.Goals as goal
 
 pub lay_registers-laid-requires : goal.lay_registers-laid-requires

@@ -1,7 +1,6 @@
 -- By cases on the outcome.
 use mathlib.Core.Path.{◌∙◌}
 use Rattle.second_planner.proofs.Answers.{answer-refused}
-use borrow.Author.Rules.{rules}
 use Rattle.second_planner.proofs.second.Goals as goal
 
 pub clear_plan-requires : goal.clear_plan-requires

@@ -1,5 +1,4 @@
 -- The reader's answer, planned.
-use borrow.Author.Rules.{rules}
 use Rattle.second_planner.proofs.second_plan_of.Goals as goal
 
 pub second-requires : goal.second-requires

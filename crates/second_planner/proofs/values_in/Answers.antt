@@ -1,8 +1,7 @@
-use Rattle.sig_signatures.specs.Types.{values_of, types_in}
+use Rattle.sig_signatures.specs.Types.{values_of}
 use Prim.Native.Nat.{◌-◌}
-use Rattle.second_planner.proofs.Turns.{Adding, adding-start, adding-more}
+use Rattle.second_planner.proofs.Turns.{adding-start, adding-more}
 use Rattle.second_parameters.proofs.Turns.{here, gone}
-use borrow.Author.Rules.{rules}
 use native.Mathlib.Omega.{arith}
 use Rattle.second_planner.proofs.values_in.Goals as goal
 

@@ -1,10 +1,7 @@
 -- The sum so far and what is left make up the whole.
-use Rattle.sig_signatures.specs.Types.{values_of, types_in}
+use Rattle.sig_signatures.specs.Types.{types_in}
 use Prim.Native.Nat.{◌-◌}
-use Rattle.second_planner.proofs.Turns.{Adding, adding-start, adding-more}
-use Rattle.second_parameters.proofs.Turns.{here, gone}
-use borrow.Author.Rules.{rules}
-use native.Mathlib.Omega.{arith}
+use Rattle.second_planner.proofs.Turns.{Adding}
 use Rattle.second_planner.proofs.values_in.Given as goal
 
 abbrev pub invariant-loop-i : goal.invariant-loop-i

@@ -1,7 +1,6 @@
 -- Each part is the definition's.
 use Rattle.second_planner.specs.Answer.{z_plan}
 use Rattle.sig_signatures.proofs.Types.{length_types}
-use borrow.Author.Rules.{rules}
 use Rattle.second_planner.proofs.z_plan.Goals as goal
 
 pub returns : goal.returns

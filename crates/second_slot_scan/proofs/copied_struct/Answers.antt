@@ -1,5 +1,4 @@
 -- By cases on the float.
-use borrow.Author.Rules.{rules}
 use Rattle.second_slot_scan.proofs.copied_struct.Goals as goal
 
 pub returns-in-Nothing : goal.returns-in-Nothing

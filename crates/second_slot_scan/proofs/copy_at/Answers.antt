@@ -1,7 +1,6 @@
 -- By cases on the mark.
 use Rattle.base_words.specs.Basics.{round_up}
 use native.Mathlib.Omega.{arith}
-use borrow.Author.Rules.{rules}
 use Rattle.second_slot_scan.proofs.copy_at.Goals as goal
 
 pub overflow_add-result : goal.overflow_add-result

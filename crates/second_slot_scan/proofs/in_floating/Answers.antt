@@ -1,6 +1,5 @@
 -- Each part is the definition's.
 use Rattle.second_parameters.specs.Values.{run_of}
-use borrow.Author.Rules.{rules}
 use Rattle.second_slot_scan.proofs.in_floating.Goals as goal
 
 pub returns : goal.returns

@@ -1,9 +1,7 @@
-use Rattle.second_slot_scan.specs.Slots.{initial, slots_from, scanned_to}
-use Rattle.sig_signatures.specs.Types.{types_in}
+use Rattle.second_slot_scan.specs.Slots.{slots_from, scanned_to}
 use Prim.Native.Nat.{◌-◌}
-use Rattle.second_slot_scan.proofs.Turns.{Scanning, scanning-start, scanning-more, near-roomy}
+use Rattle.second_slot_scan.proofs.Turns.{scanning-start, scanning-more, near-roomy}
 use Rattle.second_parameters.proofs.Turns.{table-whole, here, gone}
-use borrow.Author.Rules.{rules}
 use native.Mathlib.Omega.{arith}
 use Rattle.second_slot_scan.proofs.scan_all.Goals as goal
 

@@ -1,11 +1,8 @@
 -- 001's SCAN, argument by argument.
-use Rattle.second_slot_scan.specs.Slots.{initial, slots_from, scanned_to}
+use Rattle.second_slot_scan.specs.Slots.{initial}
 use Rattle.sig_signatures.specs.Types.{types_in}
 use Prim.Native.Nat.{◌-◌}
-use Rattle.second_slot_scan.proofs.Turns.{Scanning, scanning-start, scanning-more, near-roomy}
-use Rattle.second_parameters.proofs.Turns.{table-whole, here, gone}
-use borrow.Author.Rules.{rules}
-use native.Mathlib.Omega.{arith}
+use Rattle.second_slot_scan.proofs.Turns.{Scanning}
 use Rattle.second_slot_scan.proofs.scan_all.Given as goal
 
 abbrev pub invariant-loop-i : goal.invariant-loop-i

@@ -2,8 +2,6 @@
 use Rattle.second_slot_scan.proofs.Laws.{float-other, float-floating, simple-other, simple-general}
 use mathlib.Core.Path.{sym, ◌∙◌}
 use native.Mathlib.Omega.{arith}
-use Rattle.second_slot_scan.specs.Slots.{slot_by}
-use borrow.Author.Rules.{rules}
 use Rattle.second_slot_scan.proofs.slot_by.Goals as goal
 
 pub returns-then-s-gt6 : goal.returns-then-s-gt6

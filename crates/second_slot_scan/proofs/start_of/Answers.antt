@@ -1,5 +1,4 @@
 -- By cases on the mark.
-use borrow.Author.Rules.{rules}
 use Rattle.second_slot_scan.specs.Slots.{initial}
 use Rattle.second_slot_scan.proofs.start_of.Goals as goal
 

@@ -1,7 +1,6 @@
 -- By cases on the result.
 use mathlib.Core.Path.{ap}
 use Rattle.second_parameters.specs.declared.Returned.{Returned}
-use borrow.Author.Rules.{rules}
 use Rattle.second_slot_scan.proofs.z_returned.Goals as goal
 
 pub returns-in-Integer : goal.returns-in-Integer

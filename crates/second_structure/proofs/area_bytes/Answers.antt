@@ -1,6 +1,5 @@
 -- The definition's product.
 use Rattle.second_structure.specs.Structure.{area_bytes}
-use borrow.Author.Rules.{rules}
 use Rattle.second_structure.proofs.area_bytes.Goals as goal
 
 pub returns : goal.returns

@@ -1,7 +1,6 @@
 -- At most 8 times 2 ^ 20.
 use native.Mathlib.Nat.{mul-le-mul}
 use native.Mathlib.Omega.{arith}
-use borrow.Author.Rules.{rules}
 use Rattle.second_structure.proofs.bytes_of.Goals as goal
 
 pub overflow_mul-result : goal.overflow_mul-result

@@ -1,10 +1,8 @@
 use mathlib.Core.Path.{sym, ◌∙◌}
 use Prim.Native.Nat.{◌-◌}
 use native.Mathlib.Omega.{arith}
-use Rattle.sig_signatures.specs.Types.{types_in}
 use Rattle.second_parameters.proofs.Turns.{here, gone}
-use Rattle.second_structure.proofs.Turns.{Looking, looking-start, looking-found, looking-more, looking-end}
-use borrow.Author.Rules.{rules}
+use Rattle.second_structure.proofs.Turns.{looking-start, looking-found, looking-more, looking-end}
 use Rattle.second_structure.proofs.first_straddling.Goals as goal
 
 pub loop-i-init : goal.loop-i-init

@@ -1,11 +1,7 @@
 -- The loop looks at one parameter a turn (`Looking`).
-use mathlib.Core.Path.{sym, ◌∙◌}
 use Prim.Native.Nat.{◌-◌}
-use native.Mathlib.Omega.{arith}
 use Rattle.sig_signatures.specs.Types.{types_in}
-use Rattle.second_parameters.proofs.Turns.{here, gone}
-use Rattle.second_structure.proofs.Turns.{Looking, looking-start, looking-found, looking-more, looking-end}
-use borrow.Author.Rules.{rules}
+use Rattle.second_structure.proofs.Turns.{Looking}
 use Rattle.second_structure.proofs.first_straddling.Given as goal
 
 abbrev pub invariant-loop-i : goal.invariant-loop-i

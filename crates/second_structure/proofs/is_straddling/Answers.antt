@@ -1,8 +1,5 @@
 -- By the law for each way.
-use mathlib.Core.Path.{◌∙◌}
-use native.Mathlib.Omega.{arith}
 use Rattle.second_structure.proofs.Laws.{straddles-some, straddles-none}
-use borrow.Author.Rules.{rules}
 use Rattle.second_structure.proofs.is_straddling.Goals as goal
 
 pub returns-then-earlier-lt13 : goal.returns-then-earlier-lt13

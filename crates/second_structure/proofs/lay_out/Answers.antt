@@ -1,10 +1,7 @@
-use Prim.Native.Nat.{◌≤◌}
 use Rattle.second_structure.specs.Structure.{fields_from, words_to}
-use Rattle.sig_signatures.specs.Types.{types_in}
 use Prim.Native.Nat.{◌-◌}
-use Rattle.second_structure.proofs.Turns.{Laying, laying-start, laying-more}
+use Rattle.second_structure.proofs.Turns.{laying-start, laying-more}
 use Rattle.second_parameters.proofs.Turns.{table-whole, here, gone}
-use borrow.Author.Rules.{rules}
 use native.Mathlib.Omega.{arith}
 use Rattle.second_structure.proofs.lay_out.Goals as goal
 

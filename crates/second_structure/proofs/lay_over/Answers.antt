@@ -2,8 +2,6 @@
 use mathlib.Core.Path.{sym, ◌∙◌}
 use Rattle.second_structure.proofs.Laws.{laid-words, laid-nothing, laid-open, laid-floats, laid_both}
 use native.Mathlib.Omega.{arith}
-use Rattle.second_structure.specs.Structure.{laid_over}
-use borrow.Author.Rules.{rules}
 use Rattle.second_structure.proofs.lay_over.Goals as goal
 
 pub returns-then-asked-eq0 : goal.returns-then-asked-eq0

@@ -1,11 +1,9 @@
 use lib.Seq.{drop-cons}
 use Rattle.second_structure.specs.Structure.{registers_over}
 use Rattle.second_parameters.specs.Values.{no_run}
-use Rattle.sig_signatures.specs.Types.{types_in}
 use Prim.Native.Nat.{◌-◌}
-use Rattle.second_structure.proofs.Turns.{Covering, covering-start, covering-more}
+use Rattle.second_structure.proofs.Turns.{covering-start, covering-more}
 use Rattle.second_parameters.proofs.Turns.{table-whole, here, gone}
-use borrow.Author.Rules.{rules}
 use native.Mathlib.Omega.{arith}
 use Rattle.second_structure.proofs.lay_registers.Goals as goal
 

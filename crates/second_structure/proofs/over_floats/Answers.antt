@@ -1,6 +1,5 @@
 -- Each part is the definition's.
 use Rattle.second_structure.specs.Structure.{over_floats}
-use borrow.Author.Rules.{rules}
 use Rattle.second_structure.proofs.over_floats.Goals as goal
 
 pub returns : goal.returns

@@ -1,7 +1,6 @@
 -- Each part is the definition's.
 use Rattle.second_structure.specs.Structure.{over_words}
 use Rattle.second_parameters.specs.Values.{run_of}
-use borrow.Author.Rules.{rules}
 use Rattle.second_structure.proofs.over_words.Goals as goal
 
 pub returns : goal.returns

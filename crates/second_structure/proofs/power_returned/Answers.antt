@@ -2,7 +2,6 @@
 use Rattle.second_parameters.proofs.Laws.{small-value}
 use mathlib.Core.Path.{ap, ◌∙◌}
 use Rattle.second_parameters.specs.declared.Returned.{Returned}
-use borrow.Author.Rules.{rules}
 use Rattle.second_structure.proofs.power_returned.Goals as goal
 
 pub words_in-n-requires : goal.words_in-n-requires

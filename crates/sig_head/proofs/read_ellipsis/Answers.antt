@@ -1,5 +1,4 @@
 -- One byte, then the header, then the length.
-use borrow.Author.Rules.{rules}
 use mathlib.Core.Path.{sym, ap, ◌∙◌}
 use native.Mathlib.Omega.{arith}
 use Rattle.sig_signatures.specs.Answer.{ellipsis_answer}

@@ -1,5 +1,4 @@
 -- The length first, then the items in order.
-use borrow.Author.Rules.{rules}
 use mathlib.Core.Path.{sym, ap, ◌∙◌}
 use native.Mathlib.Omega.{arith}
 use Rattle.sig_signatures.specs.Answer.{head_answer}

@@ -1,5 +1,4 @@
 -- The result, then the ellipsis, then the last item's header.
-use borrow.Author.Rules.{rules}
 use mathlib.Core.Path.{sym, ap, ◌∙◌}
 use native.Mathlib.Omega.{arith}
 use Rattle.sig_signatures.specs.declared.HeadRead.{HeadRead}

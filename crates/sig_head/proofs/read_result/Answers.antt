@@ -1,5 +1,4 @@
 -- The header, then the body.
-use borrow.Author.Rules.{rules}
 use mathlib.Core.Path.{sym, ap, ◌∙◌}
 use native.Mathlib.Omega.{arith}
 use Rattle.sig_items.proofs.Sound.{body-framed}

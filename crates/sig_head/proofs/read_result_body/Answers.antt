@@ -1,5 +1,4 @@
 -- No body is no result; else one type, and nothing after it.
-use borrow.Author.Rules.{rules}
 use mathlib.Core.Path.{sym, ap, ◌∙◌}
 use native.Mathlib.Omega.{arith}
 use Rattle.sig_items.proofs.Loop.{item-answered, fault-answered}

@@ -1,5 +1,4 @@
 -- The tests are the definition's, in its order.
-use borrow.Author.Rules.{rules}
 use mathlib.Core.Path.{sym}
 use native.Mathlib.Omega.{arith}
 use Rattle.sig_items.proofs.Laws.{body-short, body-low, body-high, body-past, body-to}

@@ -1,5 +1,4 @@
 -- The size is the rounded end, and it decides.
-use borrow.Author.Rules.{rules}
 use mathlib.Core.Path.{sym}
 use native.Mathlib.Omega.{arith}
 use Rattle.sig_types.specs.Structs.{shape_of}

@@ -1,5 +1,4 @@
 -- Each part of the answer is what a callee gives.
-use borrow.Author.Rules.{rules}
 use native.Mathlib.Omega.{arith}
 use Rattle.sig_types.specs.Structs.{with_field}
 use Rattle.base_words.proofs.Basics.{round-up-most}

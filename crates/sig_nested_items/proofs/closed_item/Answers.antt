@@ -1,5 +1,4 @@
 -- By what closing the fields finds.
-use borrow.Author.Rules.{rules}
 use mathlib.Core.Path.{sym, ap, ◌∙◌}
 use native.Mathlib.Omega.{arith}
 use Rattle.sig_items.specs.Answer.{closed_answer}

@@ -2,7 +2,6 @@
 use mathlib.Core.Path.{sym, ◌∙◌}
 use Rattle.sig_types.specs.Trees.{type_of}
 use Rattle.sig_items.specs.Read.{float_of}
-use borrow.Author.Rules.{rules}
 use Rattle.sig_nested_items.proofs.float_item.Goals as goal
 
 pub returns-then-lacks_float : goal.returns-then-lacks_float

@@ -1,5 +1,4 @@
 -- The length, then the code.
-use borrow.Author.Rules.{rules}
 use mathlib.Core.Path.{sym, ◌∙◌}
 use native.Mathlib.Omega.{arith}
 use Rattle.sig_items.specs.declared.IntegerCode.{IntegerCode}

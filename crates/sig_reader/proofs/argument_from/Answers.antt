@@ -1,4 +1,3 @@
-use borrow.Author.Rules.{rules}
 use mathlib.Core.Path.{ap, ◌∙◌}
 use native.Mathlib.Omega.{arith}
 use Prim.Native.Nat.{◌-◌}
@@ -6,7 +5,7 @@ use Rattle.sig_items.proofs.Laws.{later-later}
 use Rattle.sig_items.proofs.Loop.{item-answered, fault-answered}
 use Rattle.sig_signatures.proofs.Loop.{turn-full, turn-no}
 use Rattle.sig_reader.specs.declared.ArgumentRead.{ArgumentRead}
-use Rattle.sig_reader.proofs.Found.{Noting, noting-start, noting-more, noting-trailing, noting-end, noting-no, part-read}
+use Rattle.sig_reader.proofs.Found.{noting-start, noting-more, noting-trailing, noting-end, noting-no, part-read}
 use Rattle.sig_reader.proofs.argument_from.Goals as goal
 
 pub loop-next-init : goal.loop-next-init

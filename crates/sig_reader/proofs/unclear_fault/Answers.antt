@@ -4,7 +4,6 @@ use Rattle.sig_items.specs.Reading.{fault}
 use Rattle.sig_reader.specs.Argument.{item_in}
 use Prim.Native.Nat.{ℕ}
 use mathlib.Core.Path.{ap, ◌∙◌}
-use borrow.Author.Rules.{rules}
 use Rattle.sig_reader.proofs.unclear_fault.Goals as goal
 
 pub returns : goal.returns

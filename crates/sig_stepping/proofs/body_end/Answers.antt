@@ -1,5 +1,4 @@
 -- The header's end, where it is not refused.
-use borrow.Author.Rules.{rules}
 use Rattle.sig_stepping.proofs.Laws.{end-found, end_refused}
 use Rattle.sig_stepping.proofs.body_end.Goals as goal
 

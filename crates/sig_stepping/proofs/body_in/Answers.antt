@@ -1,5 +1,4 @@
 -- "1 first"; a place past the end is a header with no room; else the covered reader's header.
-use borrow.Author.Rules.{rules}
 use native.Mathlib.Omega.{arith}
 use Rattle.sig_stepping.proofs.Laws.{end-inside, body-long, body-past, body-here}
 use Rattle.sig_stepping.proofs.body_in.Goals as goal

@@ -1,5 +1,4 @@
 -- The tag of a header that is not refused.
-use borrow.Author.Rules.{rules}
 use mathlib.Core.Path.{sym, ◌∙◌}
 use native.Mathlib.Omega.{arith}
 use Rattle.sig_stepping.proofs.Laws.{body-inside, header-found, header_refused}

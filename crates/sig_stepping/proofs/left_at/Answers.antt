@@ -1,5 +1,4 @@
 -- What is from the place to the end.
-use borrow.Author.Rules.{rules}
 use Rattle.sig_stepping.proofs.Laws.{left-none, left-some}
 use Rattle.sig_stepping.proofs.left_at.Goals as goal
 

@@ -1,6 +1,5 @@
 -- "1 first"; a place past the end is a header with no room; else the covered reader's type item.
 use mathlib.Core.Path.{◌∙◌}
-use borrow.Author.Rules.{rules}
 use native.Mathlib.Omega.{arith}
 use Rattle.sig_stepping.proofs.Laws.{end-inside, type-long, type-past, type-here}
 use Rattle.sig_stepping.proofs.type_in.Goals as goal

@@ -1,5 +1,4 @@
 -- Of a convention the word alone matters, and there are two.
-use borrow.Author.Rules.{rules}
 use mathlib.Core.Path.{sym, ◌∙◌}
 use Rattle.base_conventions.specs.declared.Convention.{Convention}
 use Rattle.sig_types.proofs.Laws.{integer-by-word, wide_word}

@@ -1,5 +1,4 @@
 -- By cases on the type.
-use borrow.Author.Rules.{rules}
 use mathlib.Core.Path.{sym, ap, ◌∙◌}
 use Rattle.sig_types.specs.Sizes.{size_of}
 use Rattle.sig_types.proofs.size_of.Goals as goal

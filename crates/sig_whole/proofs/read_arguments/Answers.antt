@@ -1,11 +1,10 @@
 use mathlib.Core.Path.{ap, ◌∙◌}
 use Prim.Native.Nat.{◌-◌}
-use borrow.Author.Rules.{rules}
 use native.Mathlib.Omega.{arith}
 use Rattle.sig_items.proofs.Loop.{item-answered, fault-answered}
 use Rattle.sig_items.proofs.Laws.{later-later}
 use Rattle.sig_signatures.specs.Answer.{refused_signature}
-use Rattle.sig_signatures.proofs.Loop.{Tabled, turn-full, turn-no, tabled_start, tabled-more, tabled-trailing, tabled-end, arguments-no}
+use Rattle.sig_signatures.proofs.Loop.{turn-full, turn-no, tabled_start, tabled-more, tabled-trailing, tabled-end, arguments-no}
 use Rattle.sig_whole.proofs.read_arguments.Goals as goal
 
 pub loop-next-init : goal.loop-next-init

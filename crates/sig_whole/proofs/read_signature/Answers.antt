@@ -1,5 +1,4 @@
 -- What comes before the arguments, then the arguments.
-use borrow.Author.Rules.{rules}
 use mathlib.Core.Path.{sym, ap, ◌∙◌}
 use native.Mathlib.Omega.{arith}
 use Rattle.sig_signatures.specs.Answer.{signature_answer}

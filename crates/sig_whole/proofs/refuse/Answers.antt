@@ -1,5 +1,4 @@
 -- The table is the one with no arguments.
-use borrow.Author.Rules.{rules}
 use Rattle.sig_whole.proofs.refuse.Goals as goal
 
 pub returns : goal.returns

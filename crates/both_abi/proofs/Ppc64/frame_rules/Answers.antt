@@ -1,5 +1,4 @@
 -- The associated constants, and the other numbers as they stand, are the convention's. Assumes nothing.
-use borrow.Author.Rules.{rules}
 use Rattle.both_abi.proofs.Ppc64.frame_rules.Goals as goal
 
 pub returns : goal.returns

@@ -1,5 +1,4 @@
 -- The start of this convention. Assumes nothing.
-use borrow.Author.Rules.{rules}
 use Rattle.both_abi.proofs.Ppc64.start.Goals as goal
 
 pub start-requires : goal.start-requires
