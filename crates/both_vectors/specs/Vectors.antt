@@ -321,7 +321,7 @@ table-10-text =
     ∷ 114 ∷ 101 ∷ 115 ∷ 117 ∷ 108 ∷ 116 ∷ 32 ∷ 114 ∷ 50 ∷ 10
     ∷ []
 
--- 004's moo_func(i1, f1, d1, s1, d2, c1, s2, f2, i2), on AIX
+-- 004's mooFunc(i1, f1, d1, s1, d2, c1, s2, f2, i2), on AIX
 unfoldable pub moo-func : List ℕ
 moo-func =
     -- the convention

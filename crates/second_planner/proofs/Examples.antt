@@ -52,7 +52,7 @@ double = ValueType.Float FloatFormat.Double
 abbrev long_double : ValueType
 long_double = ValueType.Float FloatFormat.LongDouble
 
--- 004, figure 5: moo_func (SInt32 i1, float f1, double d1, SInt16 s1, double d2, UInt8 c1, UInt16 s2, float f2, SInt32 i2)
+-- 004, figure 5: mooFunc (SInt32 i1, float f1, double d1, SInt16 s1, double d2, UInt8 c1, UInt16 s2, float f2, SInt32 i2)
 abbrev moo_func : List ValueType
 moo_func =
     int ∷ single ∷ double ∷ ValueType.Integer IntegerKind.I16 ∷ double ∷ ValueType.Integer IntegerKind.U8
