@@ -78,12 +78,12 @@ map-append f [] m = refl
 map-append {A} {B} f (x ∷ l) m = ap (λ (t : List B). f x ∷ t) (map-append f l m)
 
 -- a list that is filled up with what stands past its end
-pub get_d-filled : {A : Type 0} (x : A) (l : List A) (n i : ℕ) → get_or (l ++ replicate n x) i x ≡ get_or l i x
-get_d-filled x [] zero i = refl
-get_d-filled x [] (suc n) zero = refl
-get_d-filled x [] (suc n) (suc i) = get_d-filled x [] n i
-get_d-filled x (y ∷ l) n zero = refl
-get_d-filled x (y ∷ l) n (suc i) = get_d-filled x l n i
+pub get_or-filled : {A : Type 0} (x : A) (l : List A) (n i : ℕ) → get_or (l ++ replicate n x) i x ≡ get_or l i x
+get_or-filled x [] zero i = refl
+get_or-filled x [] (suc n) zero = refl
+get_or-filled x [] (suc n) (suc i) = get_or-filled x [] n i
+get_or-filled x (y ∷ l) n zero = refl
+get_or-filled x (y ∷ l) n (suc i) = get_or-filled x l n i
 
 pub take_short : (n : ℕ) (l : List ℕ) → length (take n l) ≤ n
 take_short n l = omega (arith, length-take n l)

@@ -7,7 +7,7 @@ use native.Mathlib.Omega.{arith}
 use borrow.Author.Tests.{ltb-true, ltb-false}
 use lib.Dec.{ltb}
 use lib.ListN.{length, get_or}
-use Rattle.base_words.proofs.Basics.{get_d-filled}
+use Rattle.base_words.proofs.Basics.{get_or-filled}
 use Rattle.base_conventions.specs.declared.Convention.{Convention}
 use Rattle.sig_types.specs.declared.ValueType.{ValueType}
 use Rattle.sig_types.specs.Sizes.{size_of}
@@ -28,7 +28,7 @@ use Rattle.plan_plans.proofs.Fold.{last-forward}
 
 pub in_table : (l : List Span) (i : ℕ) → get_or (table_of l) i no_span ≡ get_or l i no_span
 unfolding table_of
-in_table l i = get_d-filled no_span l (max_arguments - length l) i
+in_table l i = get_or-filled no_span l (max_arguments - length l) i
 
 -- ---- one span
 

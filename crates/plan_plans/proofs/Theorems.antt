@@ -6,7 +6,7 @@ use Prim.Native.Nat.{ℕ, ◌<◌}
 use native.Mathlib.Omega.{arith}
 use lib.ListN.{get_or, replicate}
 use Rattle.base_words.specs.Basics.{pick}
-use Rattle.base_words.proofs.Basics.{get_d-filled}
+use Rattle.base_words.proofs.Basics.{get_or-filled}
 use Rattle.base_conventions.specs.declared.Convention.{Convention}
 use Rattle.sig_types.specs.declared.ValueType.{ValueType}
 use Rattle.sig_types.specs.Sizes.{size_of}
@@ -145,7 +145,7 @@ module _ (n : ℕ) (c : Convention) (v : Bool) (r : ResultType) (ts : List Value
 -- ---- a refused one
 
 none-at : (i : ℕ) → get_or (replicate max_arguments no_span) i no_span ≡ no_span
-none-at i = get_d-filled no_span [] max_arguments i
+none-at i = get_or-filled no_span [] max_arguments i
 
 none : (i : ℕ) (x : Spot) → Owns (get_or (replicate max_arguments no_span) i no_span) x → ⊥
 none i x o = none_owned x (subst (λ (s : Span). Owns s x) (none-at i) o)

@@ -6,7 +6,7 @@ use Prim.Native.Nat.{ℕ, zero, suc, ◌+◌, ◌≤◌}
 use native.Mathlib.Omega.{arith}
 use lib.ListN.{length, get_or}
 use Rattle.base_words.specs.Basics.{All}
-use Rattle.base_words.proofs.Basics.{get_d-filled}
+use Rattle.base_words.proofs.Basics.{get_or-filled}
 use Rattle.base_conventions.specs.declared.Convention.{Convention}
 use Rattle.sig_types.specs.declared.ValueType.{ValueType}
 use Rattle.sig_types.specs.Sizes.{size_of}
@@ -76,7 +76,7 @@ plan-storable n c v r ts small few i =
     subst Storable (sym (in_table (spans_of c rules (start_in c r) ts) i)) (spans-storable c rules (start_in c r) 0 0 ts lawful small (omega arith) start i)
 
 refused-storable : (f : Fault) (i : ℕ) → Storable (span_at (refused_plan f) i)
-refused-storable f i = subst Storable (sym (get_d-filled no_span [] max_arguments i)) none-storable
+refused-storable f i = subst Storable (sym (get_or-filled no_span [] max_arguments i)) none-storable
 
 spans-read : (s : List ℕ) (x : Reading Signature) → call_of s ≡ x → (i : ℕ) → Storable (span_at (plan_answer x) i)
 unfolding plan_answer

@@ -5,7 +5,7 @@ use mathlib.Core.List.{List, [], ◌∷◌, map}
 use Prim.Native.Nat.{ℕ, zero, suc, ◌+◌, ◌-◌, ◌*◌, ◌<◌, min, max}
 use native.Mathlib.Omega.{arith}
 use lib.ListN.{length, get_or, replicate}
-use Rattle.base_words.proofs.Basics.{get_d-filled}
+use Rattle.base_words.proofs.Basics.{get_or-filled}
 use Rattle.base_conventions.specs.declared.Convention.{Convention}
 use Rattle.base_conventions.specs.Numbers.{word_bytes, least_words}
 use Rattle.sig_types.specs.declared.FloatFormat.{FloatFormat}
@@ -56,7 +56,7 @@ get_d_map (s ∷ l) (suc i) = get_d_map l i
 table-agrees : (ps : List Parameter) (l : List Span) → ps ≡ map parameter_of l → (i : ℕ) → get_or (table_with no_parameter ps) i no_parameter ≡ parameter_of (get_or (table_of l) i no_span)
 unfolding table_with
 table-agrees ps l e i =
-    get_d-filled no_parameter ps (max_arguments - length ps) i
+    get_or-filled no_parameter ps (max_arguments - length ps) i
     ∙ ap (λ (q : List Parameter). get_or q i no_parameter) e
     ∙ get_d_map l i
     ∙ sym (ap parameter_of (in_table l i))

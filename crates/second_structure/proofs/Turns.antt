@@ -7,7 +7,7 @@ use native.Mathlib.Omega.{arith}
 use native.Mathlib.Numerals.{add-one}
 use lib.ListN.{length, get_or, set, drop, replicate, length-append, length-replicate}
 use Rattle.base_words.specs.Basics.{pick}
-use Rattle.base_words.proofs.Basics.{get_d-filled}
+use Rattle.base_words.proofs.Basics.{get_or-filled}
 use Rattle.base_words.proofs.Tables.{Table, table-start, table_more}
 use Rattle.base_conventions.specs.declared.Convention.{Convention}
 use Rattle.sig_types.specs.declared.ValueType.{ValueType}
@@ -107,7 +107,7 @@ pub fields-bounded : (c : Convention) (w at : ℕ) (ts : List ValueType) → wor
 unfolding table_with
 fields-bounded c w at ts h = record {
   room = simp (length-append, length-replicate) (omega arith);
-  ends = λ i. rw (get_d-filled no_run (fields_from c w at ts) (max_arguments - length (fields_from c w at ts)) i) (omega (arith, fields-end c w at ts i));
+  ends = λ i. rw (get_or-filled no_run (fields_from c w at ts) (max_arguments - length (fields_from c w at ts)) i) (omega (arith, fields-end c w at ts i));
 }
 
 -- ---- places of the table past the last field are not looked at

@@ -14,7 +14,6 @@ use borrow.Author.Tests.{not-true, not-false}
 use Prim.Native.Nat.{◌+◌, ◌-◌}
 use native.Mathlib.Omega.{arith}
 use mathlib.Core.Path.{◌≡◌, sym, ◌∙◌}
-use borrow.Author.Rules.{rules}
 use Rattle.frame_starting.proofs.start.Goals as goal
 
 pub memory_ok-requires : goal.memory_ok-requires
