@@ -119,11 +119,11 @@ all-at P [] (suc i) p qs e h = let z : ◌≡◌ {A = ℕ} 0 1 = cc in absurd (o
 all-at P (x ∷ ps) zero p qs e h = let q : x ≡ p = cc in subst P q h.0
 all-at P (x ∷ ps) (suc i) p qs e h = all-at P ps i p qs e h.1
 
-pub get_d_at : (ps : List Placement) (i : ℕ) (p none : Placement) (qs : List Placement) → drop i ps ≡ p ∷ qs → get_or ps i none ≡ p
-get_d_at [] zero p none qs e = let z : ◌≡◌ {A = ℕ} 0 1 = cc in absurd (omega arith)
-get_d_at [] (suc i) p none qs e = let z : ◌≡◌ {A = ℕ} 0 1 = cc in absurd (omega arith)
-get_d_at (x ∷ ps) zero p none qs e = cc
-get_d_at (x ∷ ps) (suc i) p none qs e = get_d_at ps i p none qs e
+pub get_or-at : (ps : List Placement) (i : ℕ) (p none : Placement) (qs : List Placement) → drop i ps ≡ p ∷ qs → get_or ps i none ≡ p
+get_or-at [] zero p none qs e = let z : ◌≡◌ {A = ℕ} 0 1 = cc in absurd (omega arith)
+get_or-at [] (suc i) p none qs e = let z : ◌≡◌ {A = ℕ} 0 1 = cc in absurd (omega arith)
+get_or-at (x ∷ ps) zero p none qs e = cc
+get_or-at (x ∷ ps) (suc i) p none qs e = get_or-at ps i p none qs e
 
 -- the value's own bytes in its home
 pub own-homed : (r : CallRules) (p : Placement) (a : ℕ) → Held r p → Homed r a p → p.span.home.start + own_start r p.ty p.size + p.size ≤ a

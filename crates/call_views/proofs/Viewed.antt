@@ -27,7 +27,7 @@ use Rattle.call_slots.proofs.Answered.{Carried, carried_same}
 use Rattle.call_slots.proofs.Marked.{own-marked, held-marked}
 use Rattle.call_slots.proofs.Turns.{argument_at, next-argument}
 use Rattle.call_slots.proofs.Refusals.{first_done}
-use Rattle.call_home_slot.proofs.Homed.{homed_all, all-at, get_d_at, own-homed}
+use Rattle.call_home_slot.proofs.Homed.{homed_all, all-at, get_or-at, own-homed}
 use Rattle.call_home_slot.proofs.Marked.{homeless-marked, homed-marked}
 use Rattle.call_views.specs.declared.ViewPart.{ViewPart}
 use Rattle.call_home_slot.specs.Homes.{homeless}
@@ -92,7 +92,7 @@ hand s have index g p a read plan e d =
       room = v.room;
       held = held-marked g.ellipsis r _ (all-at (Held (rules_in g)) (placements_in g p) index (argument_at g p index) _ next c.held);
       homed = homed-marked g.ellipsis r _ _ (all-at (Homed (rules_in g) p.area) (placements_in g p) index (argument_at g p index) _ next homes);
-      at = ap₂ (λ (g : SignatureRead) (p : Plan). get_or (placements_in g p) index no_argument) (sym read) (sym plan) ∙ get_d_at (placements_in g p) index (argument_at g p index) no_argument _ next;
+      at = ap₂ (λ (g : SignatureRead) (p : Plan). get_or (placements_in g p) index no_argument) (sym read) (sym plan) ∙ get_or-at (placements_in g p) index (argument_at g p index) no_argument _ next;
     }
 
 -- ---- the part that is viewed

@@ -47,18 +47,18 @@ use Rattle.second_agreement.proofs.ZSeries.{cursor_of, Even}
 
 -- ---- the tables
 
-get_d_map : (l : List Span) (i : ℕ) → get_or (map parameter_of l) i no_parameter ≡ parameter_of (get_or l i no_span)
+get_or-map : (l : List Span) (i : ℕ) → get_or (map parameter_of l) i no_parameter ≡ parameter_of (get_or l i no_span)
 unfolding parameter_of run_of
-get_d_map [] i = refl
-get_d_map (s ∷ l) zero = refl
-get_d_map (s ∷ l) (suc i) = get_d_map l i
+get_or-map [] i = refl
+get_or-map (s ∷ l) zero = refl
+get_or-map (s ∷ l) (suc i) = get_or-map l i
 
 table-agrees : (ps : List Parameter) (l : List Span) → ps ≡ map parameter_of l → (i : ℕ) → get_or (table_with no_parameter ps) i no_parameter ≡ parameter_of (get_or (table_of l) i no_span)
 unfolding table_with
 table-agrees ps l e i =
     get_or-filled no_parameter ps (max_arguments - length ps) i
     ∙ ap (λ (q : List Parameter). get_or q i no_parameter) e
-    ∙ get_d_map l i
+    ∙ get_or-map l i
     ∙ sym (ap parameter_of (in_table l i))
 
 -- ---- PowerPC, once over the word width, the edition and the ellipsis
