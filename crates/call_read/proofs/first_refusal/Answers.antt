@@ -30,14 +30,14 @@ pub argument_answer-answer-requires : goal.argument_answer-answer-requires
 unfolding kept_at
 argument_answer-answer-requires c =
     let ready : InBuffers c.args.rules (length c.args.image.now) (length c.args.area.now) (placement c.type_at-t.result c.size_of-n.result c.span_at-s.result) =
-      rw (c.size_of-n.ensures, c.type_at-t.ensures, c.span_at-s.ensures) (checking-ready _ _ _ _ (kept_at c.args.convention c.args.kept.now c.loop-i.i) (kept-hand c.args.convention c.args.kept.now c.loop-i.i c.args.count c.loop-i-test.true) c.loop-i.invariant) in
+    rw (c.size_of-n.ensures, c.type_at-t.ensures, c.span_at-s.ensures) (checking-ready _ _ _ _ (kept_at c.args.convention c.args.kept.now c.loop-i.i) (kept-hand c.args.convention c.args.kept.now c.loop-i.i c.args.count c.loop-i-test.true) c.loop-i.invariant) in
     ready
 
 pub returns-then-is_refused : goal.returns-then-is_refused
 unfolding arguments_answer kept_at
 returns-then-is_refused c =
     let asked : c.argument_answer-answer.result ≡ argument_answer c.args.rules c.args.base (kept_at c.args.convention c.args.kept.now c.loop-i.i) (buffers c.args.image.now c.args.area.now c.args.copies.now) =
-      c.argument_answer-answer.ensures ∙ rw (c.size_of-n.ensures, c.type_at-t.ensures, c.span_at-s.ensures) in
+    c.argument_answer-answer.ensures ∙ rw (c.size_of-n.ensures, c.type_at-t.ensures, c.span_at-s.ensures) in
     checking-refused _ _ _ _ (kept_at c.args.convention c.args.kept.now c.loop-i.i) (kept-hand c.args.convention c.args.kept.now c.loop-i.i c.args.count c.loop-i-test.true) c.loop-i.invariant _ asked (sym c.is_refused.ensures ∙ c.if-is_refused.true)
 
 pub overflow_add-i : goal.overflow_add-i
@@ -52,13 +52,13 @@ loop-i-preserved c =
     let hand = kept_at c.args.convention c.args.kept.now c.loop-i.i in
     let next = kept-hand c.args.convention c.args.kept.now c.loop-i.i c.args.count c.loop-i-test.true in
     elim c.if-asks.branch [
-      then-asks w ↦
-        let asked : w.argument_answer-answer.result ≡ argument_answer c.args.rules c.args.base hand (buffers c.args.image.now c.args.area.now c.args.copies.now) =
+      | then-asks w ↦
+          let asked : w.argument_answer-answer.result ≡ argument_answer c.args.rules c.args.base hand (buffers c.args.image.now c.args.area.now c.args.copies.now) =
           w.argument_answer-answer.ensures ∙ rw (w.size_of-n.ensures, w.type_at-t.ensures, c.span_at-s.ensures) in
-        checking-more _ _ _ _ hand next c.loop-i.invariant _ asked (sym w.is_refused.ensures ∙ w.if-is_refused.false)
-    | else-asks w ↦
-        let unasked = nothing-asked c.args.rules c.args.base hand (buffers c.args.image.now c.args.area.now c.args.copies.now) (ap asks (sym c.span_at-s.ensures) ∙ sym c.asks.ensures ∙ w.if-asks.false) in
-        checking-more _ _ _ _ hand next c.loop-i.invariant CallAnswer.Done unasked refl
+          checking-more _ _ _ _ hand next c.loop-i.invariant _ asked (sym w.is_refused.ensures ∙ w.if-is_refused.false)
+      | else-asks w ↦
+          let unasked = nothing-asked c.args.rules c.args.base hand (buffers c.args.image.now c.args.area.now c.args.copies.now) (ap asks (sym c.span_at-s.ensures) ∙ sym c.asks.ensures ∙ w.if-asks.false) in
+          checking-more _ _ _ _ hand next c.loop-i.invariant CallAnswer.Done unasked refl
     ]
 
 pub returns : goal.returns

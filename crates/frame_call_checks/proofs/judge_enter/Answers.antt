@@ -30,7 +30,7 @@ pub returns-then-u : goal.returns-then-u
 unfolding enter_answer judge
 returns-then-u c =
     let acc : judge (state_tests c.args.k c.args.s c.args.n) ≡ Accepted = sym c.judge_state-a.ensures ∙ c.in-Accepted.is in
-    let leaf : (top c.args.k c.args.s).leaf ≡ true = ap (λ (c.args.f : Frame). c.args.f.leaf) (sym c.top_frame-u.ensures) ∙ c.if-u.true in
+    let leaf : (top c.args.k c.args.s).leaf ≡ true = ap (λ (f : Frame). f.leaf) (sym c.top_frame-u.ensures) ∙ c.if-u.true in
     sym (judge-next (state_tests c.args.k c.args.s c.args.n) (enter_tests c.args.k c.args.s c.args.f) acc ∙ rw (
       sym c.request_ok.ensures ∙ not-false c.request_ok.result c.if-not-request_ok.false-raw,
       leaf,
@@ -40,7 +40,7 @@ pub returns-then-s-ge-MAX_ENTERED : goal.returns-then-s-ge-MAX_ENTERED
 unfolding enter_answer judge
 returns-then-s-ge-MAX_ENTERED c =
     let acc : judge (state_tests c.args.k c.args.s c.args.n) ≡ Accepted = sym c.judge_state-a.ensures ∙ c.in-Accepted.is in
-    let leaf : (top c.args.k c.args.s).leaf ≡ false = ap (λ (c.args.f : Frame). c.args.f.leaf) (sym c.top_frame-u.ensures) ∙ c.if-u.false in
+    let leaf : (top c.args.k c.args.s).leaf ≡ false = ap (λ (f : Frame). f.leaf) (sym c.top_frame-u.ensures) ∙ c.if-u.false in
     sym (judge-next (state_tests c.args.k c.args.s c.args.n) (enter_tests c.args.k c.args.s c.args.f) acc ∙ rw (
       sym c.request_ok.ensures ∙ not-false c.request_ok.result c.if-not-request_ok.false-raw,
       leaf,
@@ -71,7 +71,7 @@ pub returns-then-p-s : goal.returns-then-p-s
 unfolding enter_answer judge
 returns-then-p-s c =
     let acc : judge (state_tests c.args.k c.args.s c.args.n) ≡ Accepted = sym c.judge_state-a.ensures ∙ c.in-Accepted.is in
-    let leaf : (top c.args.k c.args.s).leaf ≡ false = ap (λ (c.args.f : Frame). c.args.f.leaf) (sym c.top_frame-u.ensures) ∙ c.if-u.false in
+    let leaf : (top c.args.k c.args.s).leaf ≡ false = ap (λ (f : Frame). f.leaf) (sym c.top_frame-u.ensures) ∙ c.if-u.false in
     let no : leb (c.args.s.base + frame_size c.args.k c.args.f + c.args.k.floor) (stack_pointer c.args.k c.args.s) ≡ false
     = lt-leb (c.args.s.base + frame_size c.args.k c.args.f + c.args.k.floor) (stack_pointer c.args.k c.args.s) (omega (arith, c.stack_pointer-p.ensures, c.frame_size-z.ensures, (state-yes c.args.k c.args.s c.args.n acc).over)) in
     sym (judge-next (state_tests c.args.k c.args.s c.args.n) (enter_tests c.args.k c.args.s c.args.f) acc ∙ rw (
@@ -90,7 +90,7 @@ pub returns-else-p-s : goal.returns-else-p-s
 unfolding enter_answer judge
 returns-else-p-s c =
     let acc : judge (state_tests c.args.k c.args.s c.args.n) ≡ Accepted = sym c.judge_state-a.ensures ∙ c.in-Accepted.is in
-    let leaf : (top c.args.k c.args.s).leaf ≡ false = ap (λ (c.args.f : Frame). c.args.f.leaf) (sym c.top_frame-u.ensures) ∙ c.if-u.false in
+    let leaf : (top c.args.k c.args.s).leaf ≡ false = ap (λ (f : Frame). f.leaf) (sym c.top_frame-u.ensures) ∙ c.if-u.false in
     let yes : leb (c.args.s.base + frame_size c.args.k c.args.f + c.args.k.floor) (stack_pointer c.args.k c.args.s) ≡ true
     = le-leb (c.args.s.base + frame_size c.args.k c.args.f + c.args.k.floor) (stack_pointer c.args.k c.args.s) (omega (arith, c.stack_pointer-p.ensures, c.frame_size-z.ensures, (state-yes c.args.k c.args.s c.args.n acc).over)) in
     sym (judge-next (state_tests c.args.k c.args.s c.args.n) (enter_tests c.args.k c.args.s c.args.f) acc ∙ rw (

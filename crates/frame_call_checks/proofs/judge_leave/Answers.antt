@@ -103,10 +103,10 @@ returns-then-load-p c =
     let acc : judge (state_tests c.args.k c.args.s (length c.args.memory.now)) ≡ Accepted = sym c.judge_state-a.ensures ∙ c.in-Accepted.is in
     let sound = state-yes c.args.k c.args.s (length c.args.memory.now) acc in
     let size : c.frame_size-z.result ≡ frame_size c.args.k (top c.args.k c.args.s) = c.frame_size-z.ensures ∙ ap (frame_size c.args.k) c.top_frame-f.ensures in
-    let held : c.load.result ≡ load c.args.memory.now (c.link_at-at c.args.k.linkage c.args.k (offset c.args.k c.args.s) (offset c.args.k c.args.s + frame_size c.args.k (top c.args.k c.args.s))) c.args.k.word
+    let held : c.load.result ≡ load c.args.memory.now (link_at c.args.k.linkage c.args.k (offset c.args.k c.args.s) (offset c.args.k c.args.s + frame_size c.args.k (top c.args.k c.args.s))) c.args.k.word
     = c.load.ensures ∙ rw (c.link_at-at.ensures, c.frame_size-z.ensures, c.top_frame-f.ensures, c.stack_pointer-p.ensures) in
     let solid : (top c.args.k c.args.s).leaf ≡ false = ap (λ (f : Frame). f.leaf) (sym c.top_frame-f.ensures) ∙ c.if-f.false in
-    sym (judge-next (state_tests c.args.k c.args.s (length c.args.memory.now)) (leave_tests c.args.k c.args.s c.args.memory.now) acc ∙ rw (lt-ltb 0 c.args.s.depth (omega (arith, c.if-s-eq0.false)), ne_eqb (load c.args.memory.now (c.link_at-at c.args.k.linkage c.args.k (offset c.args.k c.args.s) (offset c.args.k c.args.s + frame_size c.args.k (top c.args.k c.args.s))) c.args.k.word) (stack_pointer c.args.k c.args.s + frame_size c.args.k (top c.args.k c.args.s)) (λ e. omega (arith, held, size, c.stack_pointer-p.ensures, c.if-load-p.true)), solid))
+    sym (judge-next (state_tests c.args.k c.args.s (length c.args.memory.now)) (leave_tests c.args.k c.args.s c.args.memory.now) acc ∙ rw (lt-ltb 0 c.args.s.depth (omega (arith, c.if-s-eq0.false)), ne_eqb (load c.args.memory.now (link_at c.args.k.linkage c.args.k (offset c.args.k c.args.s) (offset c.args.k c.args.s + frame_size c.args.k (top c.args.k c.args.s))) c.args.k.word) (stack_pointer c.args.k c.args.s + frame_size c.args.k (top c.args.k c.args.s)) (λ e. omega (arith, held, size, c.stack_pointer-p.ensures, c.if-load-p.true)), solid))
 
 pub returns-in-Refused : goal.returns-in-Refused
 unfolding leave_answer
@@ -119,7 +119,7 @@ returns-else-load-p c =
     let acc : judge (state_tests c.args.k c.args.s (length c.args.memory.now)) ≡ Accepted = sym c.judge_state-a.ensures ∙ c.in-Accepted.is in
     let sound = state-yes c.args.k c.args.s (length c.args.memory.now) acc in
     let size : c.frame_size-z.result ≡ frame_size c.args.k (top c.args.k c.args.s) = c.frame_size-z.ensures ∙ ap (frame_size c.args.k) c.top_frame-f.ensures in
-    let held : c.load.result ≡ load c.args.memory.now (c.link_at-at c.args.k.linkage c.args.k (offset c.args.k c.args.s) (offset c.args.k c.args.s + frame_size c.args.k (top c.args.k c.args.s))) c.args.k.word
+    let held : c.load.result ≡ load c.args.memory.now (link_at c.args.k.linkage c.args.k (offset c.args.k c.args.s) (offset c.args.k c.args.s + frame_size c.args.k (top c.args.k c.args.s))) c.args.k.word
     = c.load.ensures ∙ rw (c.link_at-at.ensures, c.frame_size-z.ensures, c.top_frame-f.ensures, c.stack_pointer-p.ensures) in
     let solid : (top c.args.k c.args.s).leaf ≡ false = ap (λ (f : Frame). f.leaf) (sym c.top_frame-f.ensures) ∙ c.if-f.false in
-    sym (judge-next (state_tests c.args.k c.args.s (length c.args.memory.now)) (leave_tests c.args.k c.args.s c.args.memory.now) acc ∙ rw (lt-ltb 0 c.args.s.depth (omega (arith, c.if-s-eq0.false)), eq-eqb (load c.args.memory.now (c.link_at-at c.args.k.linkage c.args.k (offset c.args.k c.args.s) (offset c.args.k c.args.s + frame_size c.args.k (top c.args.k c.args.s))) c.args.k.word) (stack_pointer c.args.k c.args.s + frame_size c.args.k (top c.args.k c.args.s)) (omega (arith, held, size, c.stack_pointer-p.ensures, c.if-load-p.false)), solid))
+    sym (judge-next (state_tests c.args.k c.args.s (length c.args.memory.now)) (leave_tests c.args.k c.args.s c.args.memory.now) acc ∙ rw (lt-ltb 0 c.args.s.depth (omega (arith, c.if-s-eq0.false)), eq-eqb (load c.args.memory.now (link_at c.args.k.linkage c.args.k (offset c.args.k c.args.s) (offset c.args.k c.args.s + frame_size c.args.k (top c.args.k c.args.s))) c.args.k.word) (stack_pointer c.args.k c.args.s + frame_size c.args.k (top c.args.k c.args.s)) (omega (arith, held, size, c.stack_pointer-p.ensures, c.if-load-p.false)), solid))
