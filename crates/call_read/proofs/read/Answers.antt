@@ -28,10 +28,7 @@ pub read_part-requires : goal.read_part-requires
 read_part-requires c = (sym c.read_head.ensures ∙ c.in-Head.is, λ i few within. omega (arith, c.if-end-at-le-FEW_BYTES.true))
 
 pub returns-then-end-at-le-FEW_BYTES : goal.returns-then-end-at-le-FEW_BYTES
-returns-then-end-at-le-FEW_BYTES c = let told = c.read_part.ensures in record {
-  value = told.0;
-  values_after = told.1;
-}
+returns-then-end-at-le-FEW_BYTES c = c.read_part.ensures
 
 pub read_part-requires-in-Head : goal.read_part-requires-in-Head
 read_part-requires-in-Head c = (sym c.read_head.ensures ∙ c.in-Head.is, λ i few within. omega arith)
@@ -44,7 +41,4 @@ returns-in-Refused c = record {
 }
 
 pub returns-else-end-at-le-FEW_BYTES : goal.returns-else-end-at-le-FEW_BYTES
-returns-else-end-at-le-FEW_BYTES c = let told = c.read_part-in-Head.ensures in record {
-  value = told.0;
-  values_after = told.1;
-}
+returns-else-end-at-le-FEW_BYTES c = c.read_part-in-Head.ensures

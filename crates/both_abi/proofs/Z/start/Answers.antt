@@ -5,7 +5,4 @@ pub start-requires : goal.start-requires
 start-requires c = c.frame_rules.ensures
 
 pub returns : goal.returns
-returns c = let told = c.start.ensures in record {
-  value = told.0;
-  memory_after = told.1;
-}
+returns c = c.start.ensures
