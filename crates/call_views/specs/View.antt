@@ -36,19 +36,19 @@ abbrev pub no_argument : Placement
 no_argument = placement (ValueType.Integer IntegerKind.I8) 1 no_span
 
 -- where an argument's own bytes start in the area
-abbrev pub field_own : CallRules → Placement → ℕ
-field_own r p = p.span.home.start + own_start r p.ty p.size
+abbrev pub own_at : CallRules → Placement → ℕ
+own_at r p = p.span.home.start + own_start r p.ty p.size
 
 -- an argument's own bytes in its home
 abbrev pub own_bytes : CallRules → Placement → List ℕ → List ℕ
-own_bytes r p area = part (field_own r p) p.size area
+own_bytes r p area = part (own_at r p) p.size area
 
 unfoldable pub view_of : List ℕ → List ℕ → ℕ → List ℕ
 view_of s area index = pick (is_done (view_answer s (length area) index)) (own_bytes (rules_for s) (get_or (arguments_of s) index no_argument) area) []
 
 -- the same bytes by their start and length
 abbrev pub own_part : CallAnswer → CallRules → Placement → ViewPart
-own_part a r p = record { answer = a; start = pick (is_done a) (field_own r p) 0; length = pick (is_done a) p.size 0 }
+own_part a r p = record { answer = a; start = pick (is_done a) (own_at r p) 0; length = pick (is_done a) p.size 0 }
 
 unfoldable pub view_part : List ℕ → ℕ → ℕ → ViewPart
 view_part s have index = own_part (view_answer s have index) (rules_for s) (get_or (arguments_of s) index no_argument)

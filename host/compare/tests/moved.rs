@@ -1,16 +1,19 @@
-//! `scripts/moved` on two small trees, `data/moved/before` and `data/moved/after`: what it prints is
-//! stored beside them. Their files end in `.txt`, so that no tool takes them for crates.
+//! `scripts/moved` on two small trees, `data/moved/before` and `data/moved/after`, and on two with proofs
+//! in Invariants.antt and Answers.antt, in `data/moved_answers`: what it prints is stored beside them.
+//! Their files end in `.txt`, so that no tool takes them for crates.
 
 use std::fs;
 use std::path::{Path, PathBuf};
 use std::process::Command;
 
-fn data() -> PathBuf {
-    Path::new(env!("CARGO_MANIFEST_DIR")).join("data/moved")
+fn data(pair: &str) -> PathBuf {
+    Path::new(env!("CARGO_MANIFEST_DIR"))
+        .join("data")
+        .join(pair)
 }
 
-fn expected(name: &str) -> String {
-    fs::read_to_string(data().join(name)).expect("a stored output")
+fn expected(pair: &str, name: &str) -> String {
+    fs::read_to_string(data(pair).join(name)).expect("a stored output")
 }
 
 /// Copies the files of a stored tree, without `.txt`.
@@ -46,13 +49,13 @@ impl Repository {
         repository
     }
 
-    /// Makes the crates those of a stored tree.
-    fn put(&self, tree: &str) {
+    /// Makes the crates those of a stored tree, one of a pair.
+    fn put(&self, pair: &str, tree: &str) {
         let crates = self.0.join("crates");
         if crates.exists() {
             fs::remove_dir_all(&crates).expect("the earlier tree removed");
         }
-        copy(&data().join(tree), &crates);
+        copy(&data(pair).join(tree), &crates);
     }
 
     fn commit(&self, message: &str) {
@@ -99,30 +102,43 @@ impl Repository {
     }
 }
 
-#[test]
-fn what_moved_between_two_trees() {
-    let repository = Repository::new("moved");
-    repository.put("before");
+/// What `scripts/moved` prints of a pair of trees is what is stored beside them.
+fn moves(pair: &str) {
+    let repository = Repository::new(pair);
+    repository.put(pair, "before");
     repository.commit("before");
-    let unmoved = expected("unmoved.txt");
+    let unmoved = expected(pair, "unmoved.txt");
     repository.says(&["HEAD", "HEAD"], &unmoved);
     repository.says(&["--worktree", "HEAD"], &unmoved);
 
     // files that git does not know yet are files of the working tree
-    repository.put("after");
+    repository.put(pair, "after");
     repository.says(&["HEAD"], &unmoved);
-    repository.says(&["--worktree", "HEAD"], &expected("moved.txt"));
+    repository.says(&["--worktree", "HEAD"], &expected(pair, "moved.txt"));
 
     repository.commit("after");
-    repository.says(&["HEAD~1"], &expected("moved.txt"));
-    repository.says(&["HEAD~1", "HEAD"], &expected("moved.txt"));
-    repository.says(&["HEAD~1", "HEAD", "--markdown"], &expected("moved.md"));
+    repository.says(&["HEAD~1"], &expected(pair, "moved.txt"));
+    repository.says(&["HEAD~1", "HEAD"], &expected(pair, "moved.txt"));
+    repository.says(
+        &["HEAD~1", "HEAD", "--markdown"],
+        &expected(pair, "moved.md"),
+    );
+}
+
+#[test]
+fn what_moved_between_two_trees() {
+    moves("moved");
+}
+
+#[test]
+fn what_moved_between_two_trees_with_answers() {
+    moves("moved_answers");
 }
 
 #[test]
 fn wrong_words_are_refused() {
     let repository = Repository::new("moved-words");
-    repository.put("before");
+    repository.put("moved", "before");
     repository.commit("before");
     let wrong: [&[&str]; 5] = [
         &[],

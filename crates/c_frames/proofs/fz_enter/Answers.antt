@@ -6,6 +6,6 @@ use Rattle.c_frames.proofs.fz_enter.Goals as goal
 pub returns : goal.returns
 returns c = record {
   value = c.answer_of.ensures ∙ ap frame_answer c.enter-a.ensures.value;
-  machine_after = (c.enter-a.ensures.words_after).0;
-  memory_after = (c.enter-a.ensures.words_after).1;
+  machine_after = c.enter-a.ensures.words_after;
+  memory_after = c.enter-a.ensures.memory_after;
 }

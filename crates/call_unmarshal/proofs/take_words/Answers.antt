@@ -62,4 +62,4 @@ returns c =
     ap (put_mid (c.args.word * c.args.s.general.count - c.args.lo) (length c.take_registers-2.new.out - (c.args.word * c.args.s.general.count - c.args.lo)) c.take_registers-2.new.out) c.take_part-2.ensures ∙ lent-tail c.take_registers-2.new.out (c.args.word * c.args.s.general.count - c.args.lo) second
     ∙ ap (λ (t : List ℕ). splice t (c.args.word * c.args.s.general.count - c.args.lo) second) c.take_registers-2.ensures
     ∙ ap (λ (z : ℕ). splice (overlay c.args.out.now first) z second) (sym short) ∙ sym (overlay-append c.args.out.now first second)
-    ∙ ap (overlay c.args.out.now) (rw held c.args.s.memory.start both)
+    ∙ ap (overlay c.args.out.now) (rw held at both)
