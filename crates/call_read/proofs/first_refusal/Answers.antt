@@ -15,7 +15,7 @@ use Rattle.call_read.specs.Read.{argument_answer, arguments_answer}
 use Rattle.call_read.specs.Helpers.{asks}
 use Rattle.call_read.proofs.Arguments.{nothing-asked}
 use Rattle.call_read.proofs.first_refusal.Goals as goal
-use Rattle.call_read.proofs.first_refusal.Goals.{then-asks, else-asks}
+use Rattle.call_read.proofs.first_refusal.Goals.{then-asks+else-is_refused, else-asks}
 
 pub loop-i-init : goal.loop-i-init
 loop-i-init c = checking-start _ _ _ c.requires.each
@@ -52,7 +52,7 @@ loop-i-preserved c =
     let hand = kept_at c.args.convention c.args.kept.now c.loop-i.i in
     let next = kept-hand c.args.convention c.args.kept.now c.loop-i.i c.args.count c.loop-i-test.true in
     elim c.if-asks.branch [
-      | then-asks w ↦
+      | then-asks+else-is_refused w ↦
           let asked : w.argument_answer-answer.result ≡ argument_answer c.args.rules c.args.base hand (buffers c.args.image.now c.args.area.now c.args.copies.now) =
           w.argument_answer-answer.ensures ∙ rw (w.size_of-n.ensures, w.type_at-t.ensures, c.span_at-s.ensures) in
           checking-more _ _ _ _ hand next c.loop-i.invariant _ asked (sym w.is_refused.ensures ∙ w.if-is_refused.false)
