@@ -19,7 +19,7 @@ use Rattle.base_words.proofs.Tests.{by-pick}
 use Rattle.base_conventions.specs.declared.Convention.{Convention}
 use Rattle.sig_types.specs.declared.Equivalent.{Equivalent}
 use Rattle.sig_types.specs.declared.ValueType.{ValueType}
-use Rattle.sig_types.specs.Sizes.{equivalent_of}
+use Rattle.sig_types.specs.Sizes.{equivalent_of, size_of}
 use Rattle.sig_items.specs.Reading.{Reading, got, no}
 use Rattle.sig_signatures.specs.Signature.{Signature}
 use Rattle.sig_signatures.specs.Limits.{max_arguments}
@@ -30,7 +30,7 @@ use Rattle.plan_places.specs.declared.Cursor.{Cursor}
 use Rattle.plan_places.specs.declared.CallRules.{CallRules}
 use Rattle.plan_places.specs.declared.Span.{Span}
 use Rattle.plan_places.specs.declared.ResultPlaces.{ResultPlaces}
-use Rattle.plan_places.specs.Step.{rules_of, with_ellipsis, word_of}
+use Rattle.plan_places.specs.Step.{rules_of, with_ellipsis, word_of, next_of}
 use Rattle.plan_places.proofs.Marked.{word-marked}
 use Rattle.plan_plans.specs.declared.Plan.{Plan}
 use Rattle.plan_plans.specs.Plan.{spans_of, no_span, table_of, start_in, plan_in, plan_answer}
@@ -186,7 +186,7 @@ module _ (P : Register → Type 0) where
       → All (OfSpan P) (spans_of c r k ts)
   unfolding placements spans_of All
   fold-each c r k [] h = tt
-  fold-each c r k (t ∷ ts) h = (h.0, fold-each c r _ ts h.1)
+  fold-each c r k (t ∷ ts) h = (h.0, fold-each c r (next_of r k t (size_of c t)) ts h.1)
 
   table-each : (x : Reading Signature) → All (λ (p : Placement). OfSpan P p.span) (placements_in (signature_answer x) (plan_answer x)) → All (OfSpan P) (plan_answer x).spans
   unfolding plan_answer plan_in table_of

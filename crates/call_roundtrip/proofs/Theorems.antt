@@ -78,7 +78,7 @@ step-behind r k t n v named held size =
 all-put : (c : Convention) (r : CallRules) (base a m : ℕ) (k : Cursor) (ts : List ValueType) (v : List ℕ) (b : Buffers) → Named r k
     → Roomy r base (placements c ts (spans_of c r k ts)) a m v b
     → AllPut r base (placements c ts (spans_of c r k ts)) v (put_all (slots_of_all r base (placements c ts (spans_of c r k ts)) v) b)
-unfolding placements spans_of slots_of_all EachValue All sizes_of
+unfolding placements spans_of slots_of_all EachValue All sizes_of slots_of put_all
 all-put c r base a m k [] v b named h = tt
 all-put c r base a m k (t ∷ ts) v b named h =
     let n : ℕ = size_of c t in

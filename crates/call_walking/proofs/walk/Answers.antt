@@ -24,6 +24,6 @@ returns-in-Refused c = let E = walk_refused c.args.words.now c.args.item.now c.a
 pub returns-in-Item : goal.returns-in-Item
 returns-in-Item c = let E = walk-item c.args.words.now c.args.item.now c.args.base _ c.args.value.now _ (sym c.in-Walker.is ∙ c.walker_in.ensures) _ _ _ (sym c.in-Item.is ∙ c.read_type.ensures) in record {
   value = c.step.ensures.value ∙ ap (λ (o : WalkerOutcome). o.answer) E;
-  words_after = c.step.ensures.words_after.0 ∙ ap (λ (o : WalkerOutcome). o.words) E;
-  value_after = c.step.ensures.words_after.1 ∙ ap (λ (o : WalkerOutcome). o.value) E;
+  words_after = c.step.ensures.words_after ∙ ap (λ (o : WalkerOutcome). o.words) E;
+  value_after = c.step.ensures.value_after ∙ ap (λ (o : WalkerOutcome). o.value) E;
 }
