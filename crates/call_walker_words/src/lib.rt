@@ -95,6 +95,7 @@ fn is_lost(w: Walker) -> bool
     !is_possible(r, w.hidden, k)
 }
 
+#[tactic(auto, using(crate::proofs::Marks::first_mark))]
 fn walker_by(c: Convention, words: &[u64; WALKER_WORDS]) -> WalkerRead
     ensures { result ≡ walker_by (Known c) words.now }
 {

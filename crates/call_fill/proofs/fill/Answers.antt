@@ -15,7 +15,7 @@ pub overflow_sub-end : goal.overflow_sub-end
 overflow_sub-end c = let k = head-bounded _ _ _ _ _ _ _ _ c.read_head.ensures c.in-Head.is in omega arith
 
 pub fill_part-requires : goal.fill_part-requires
-fill_part-requires c = (sym c.read_head.ensures ∙ c.in-Head.is, λ i few within. omega (arith, c.if-end-at-le-FEW_BYTES.true))
+fill_part-requires c = (sym c.read_head.ensures ∙ c.in-Head.is, λ i few within. omega arith)
 
 pub fill_part-requires-in-Head : goal.fill_part-requires-in-Head
 fill_part-requires-in-Head c = (sym c.read_head.ensures ∙ c.in-Head.is, λ i few within. omega arith)

@@ -25,10 +25,7 @@ pub overflow_sub-end : goal.overflow_sub-end
 overflow_sub-end c = let k = head-bounded _ _ _ _ _ _ _ _ c.read_head.ensures c.in-Head.is in omega arith
 
 pub read_part-requires : goal.read_part-requires
-read_part-requires c = (sym c.read_head.ensures ∙ c.in-Head.is, λ i few within. omega (arith, c.if-end-at-le-FEW_BYTES.true))
-
-pub returns-then-end-at-le-FEW_BYTES : goal.returns-then-end-at-le-FEW_BYTES
-returns-then-end-at-le-FEW_BYTES c = c.read_part.ensures
+read_part-requires c = (sym c.read_head.ensures ∙ c.in-Head.is, λ i few within. omega arith)
 
 pub read_part-requires-in-Head : goal.read_part-requires-in-Head
 read_part-requires-in-Head c = (sym c.read_head.ensures ∙ c.in-Head.is, λ i few within. omega arith)
@@ -39,6 +36,3 @@ returns-in-Refused c = record {
   value = answer-unread _ _ _ _ _ (signature-refused _ _ c.read_head.ensures _ c.in-Refused.is);
   values_after = refl;
 }
-
-pub returns-else-end-at-le-FEW_BYTES : goal.returns-else-end-at-le-FEW_BYTES
-returns-else-end-at-le-FEW_BYTES c = c.read_part-in-Head.ensures

@@ -1,0 +1,9 @@
+-- A mark over 1 is 23. Assumes nothing.
+use Rattle.std.proofs.Common.{◌≡◌, ℕ, ◌<◌, refl, leb, ◌&&◌}
+use Rattle.std.proofs.lemmas.Bool.{lt-leb}
+use Rattle.base_words.specs.Basics.{pick}
+use Rattle.call_walker.specs.declared.WalkerRead.{WalkerRead}
+
+-- the first mark is tested first
+pub first_mark : (e h : ℕ) (x : WalkerRead) → 1 < e → WalkerRead.Lost ≡ pick (leb e 1 && leb h 1) x WalkerRead.Lost
+first_mark e h x over = rw (lt-leb e 1 over)
