@@ -34,6 +34,8 @@ fn lower(m: u64, xs: [u64; 32]) -> [u64; 32]
 }
 
 // The registers less the high halves of the general ones and of LR.
+// Never inlined: its stack is given back before the next function's begins, so a call keeps to the stack that the header states.
+#[inline(never)]
 fn clear(k: FrameRules, r: Registers) -> Registers
     ensures { result ≡ cleared k r }
 {

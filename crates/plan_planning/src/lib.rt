@@ -86,6 +86,8 @@ pub fn result_in(c: Convention, res: ResultType) -> ResultPlaces
 }
 
 // The plan of a signature that was read.
+// Never inlined: its stack is given back before the next function's begins, so a call keeps to the stack that the header states.
+#[inline(never)]
 pub fn plan_signature(g: SignatureRead) -> Plan
     requires { Plannable g }
     ensures { result ≡ planned g }

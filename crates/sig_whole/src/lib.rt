@@ -84,6 +84,8 @@ fn read_arguments(
 }
 
 // A signature: any bytes at all.
+// Never inlined: its stack is given back before the next function's begins, so a call keeps to the stack that the header states.
+#[inline(never)]
 pub fn read_signature(s: &[u8]) -> SignatureRead
     ensures { result ≡ signature_answer (signature_of s.now) }
 {

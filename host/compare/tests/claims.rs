@@ -243,6 +243,6 @@ fn misquotations_are_found() {
 fn the_readme_names_the_toolchain() {
     let file = |name| fs::read_to_string(root().join(name)).expect(name);
     let (toolchain, readme) = (file("toolchain.txt"), file("README.md"));
-    let line = format!("    {}", toolchain.trim_end());
-    assert!(readme.lines().any(|there| there == line), "{line}");
+    let named = format!("`{}`", toolchain.trim_end());
+    assert!(readme.contains(&named), "{named}");
 }
